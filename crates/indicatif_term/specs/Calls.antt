@@ -1,0 +1,72 @@
+-- The calls of a terminal as bytes, by ECMA-48, and what is known of a terminal.
+use Rattle.std.specs.Prelude.{◌≡◌, ℕ, ◌+◌, ◌%◌, ◌^◌, ◌==◌, List, [], ◌∷◌, ◌++◌, if◌then◌else◌, decimal, Result, MatchResult}
+use Rattle.indicatif_term.specs.Terminal.{Terminal, after}
+
+-- ---- the bytes of the calls
+
+-- the last characters of the moves: `A`, `B`, `C`, `D`
+abbrev pub UP : ℕ
+UP = 0x41
+
+abbrev pub DOWN : ℕ
+DOWN = 0x42
+
+abbrev pub RIGHT : ℕ
+RIGHT = 0x43
+
+abbrev pub LEFT : ℕ
+LEFT = 0x44
+
+-- ESC [ n and the letter; nothing for a move by 0
+abbrev pub move_bytes : ℕ → ℕ → List ℕ
+move_bytes letter n = if n == 0 then [] else 0x1B ∷ 0x5B ∷ (decimal n ++ letter ∷ [])
+
+-- the text, CR, LF
+abbrev pub line_bytes : List ℕ → List ℕ
+line_bytes text = text ++ 0x0D ∷ 0x0A ∷ []
+
+-- CR, ESC [ 2 K
+abbrev pub clear_bytes : List ℕ
+clear_bytes = 0x0D ∷ 0x1B ∷ 0x5B ∷ 0x32 ∷ 0x4B ∷ []
+
+-- ---- what is known of a terminal
+
+-- what a terminal tells of itself: its state, the bytes that it was given, or nothing
+pub data Told : Type 0 where
+  State : (terminal : Terminal) → Told
+  Bytes : (bytes : List ℕ) → Told
+  Nothing : Told
+
+-- what it tells after these bytes
+abbrev pub led_on : Told → List ℕ → Told
+led_on (State t) bytes = State (after t bytes)
+led_on (Bytes old) bytes = Bytes (old ++ bytes)
+led_on Nothing bytes = Nothing
+
+-- what contracts see of a terminal: what it tells, its size, and how often a call has failed, modulo 2^64
+pub record TermView : Type 0 where
+  pub told : Told
+  pub columns : ℕ
+  pub rows : ℕ
+  pub faults : ℕ
+
+-- these bytes led from the one to the other, and nothing else changed
+pub record LeadsOn (bytes : List ℕ) (old new : TermView) : Type 0 where
+  pub told_is : new.told ≡ led_on old.told bytes
+  pub columns_are : new.columns ≡ old.columns
+  pub rows_are : new.rows ≡ old.rows
+  pub faults_are : new.faults ≡ old.faults
+
+-- a beginning of these bytes did, and one more fault
+pub record BreaksOff (bytes : List ℕ) (old new : TermView) : Type 0 where
+  pub front : List ℕ
+  pub rest : List ℕ
+  pub whole : front ++ rest ≡ bytes
+  pub told_is : new.told ≡ led_on old.told front
+  pub columns_are : new.columns ≡ old.columns
+  pub rows_are : new.rows ≡ old.rows
+  pub faults_are : new.faults ≡ (old.faults + 1) % 2 ^ 64
+
+-- a call that writes these bytes: all of them, or a beginning of them where it fails
+abbrev pub Writes : {E : Type 0} → List ℕ → TermView → TermView → Result Unit E → Type 0
+Writes bytes old new result = MatchResult result (λ _. LeadsOn bytes old new) (λ _. BreaksOff bytes old new)

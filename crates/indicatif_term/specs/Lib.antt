@@ -1,0 +1,3 @@
+pub mod Screen
+pub mod Terminal
+pub mod Calls

@@ -1,0 +1,118 @@
+-- A terminal of cells. A cursor in the column after the last one waits.
+use Rattle.std.specs.Prelude.{ℕ, ◌+◌, ◌-◌, min, max, Bool, true, false, ◌==◌, nat_le, nat_lt, List, [], ◌∷◌, ◌++◌, reverse, length, take, drop, slice_set, slice_index_or, Option, Some, None, if◌then◌else◌}
+use Rattle.unicode_width.specs.Width.{char_width}
+use Rattle.indicatif_text.specs.Columns.{Cell, Blank, Written, Continued, Glyph, glyph_cells, blank_row}
+
+pub record Screen : Type 0 where
+  pub columns : ℕ
+  pub height : ℕ
+  -- those scrolled away, then those of the window, which are the last `height` rows
+  pub rows : List (List Cell)
+  -- the cursor's row, counted from the first of the rows
+  pub row : ℕ
+  pub column : ℕ
+
+-- the first row of the window
+abbrev pub top : Screen → ℕ
+top s = length s.rows - s.height
+
+abbrev pub cursor_row : Screen → List Cell
+cursor_row s = slice_index_or s.rows s.row []
+
+-- ---- writing into a row
+
+abbrev pub is_continued : Cell → Bool
+is_continued Continued = true
+is_continued Blank = false
+is_continued (Written g) = false
+
+-- blanks in the place of the continued cells at the front
+abbrev pub emptied_front : List Cell → List Cell
+emptied_front [] = []
+emptied_front (Continued ∷ cs) = Blank ∷ emptied_front cs
+emptied_front (Blank ∷ cs) = Blank ∷ cs
+emptied_front (Written g ∷ cs) = Written g ∷ cs
+
+-- the same and in the place of the glyph after them
+abbrev pub emptied_glyph : List Cell → List Cell
+emptied_glyph [] = []
+emptied_glyph (Continued ∷ cs) = Blank ∷ emptied_glyph cs
+emptied_glyph (c ∷ cs) = Blank ∷ cs
+
+-- the cells before column n, with a wide glyph that goes on at column n emptied
+abbrev pub cut_before : ℕ → List Cell → List Cell
+cut_before n row =
+    if is_continued (slice_index_or row n Blank) then reverse (emptied_glyph (reverse (take n row))) else take n row
+
+-- the row with these cells at column n; a wide glyph of which a cell is written over is emptied
+abbrev pub written_at : ℕ → List Cell → List Cell → List Cell
+written_at n cells row = cut_before n row ++ cells ++ emptied_front (drop (n + length cells) row)
+
+-- ---- joining a character of no columns to the glyph before the cursor
+
+abbrev pub with_mark : ℕ → Glyph → Glyph
+with_mark c g = record g { marks = g.marks ++ c ∷ [] }
+
+-- the mark joined to the glyph at the end of the cells, read from their end, if they end with one
+abbrev pub joined_back : ℕ → List Cell → List Cell
+joined_back c [] = []
+joined_back c (Continued ∷ cs) = Continued ∷ joined_back c cs
+joined_back c (Written g ∷ cs) = Written (with_mark c g) ∷ cs
+joined_back c (Blank ∷ cs) = Blank ∷ cs
+
+abbrev pub joined_at : ℕ → ℕ → List Cell → List Cell
+joined_at n c row = reverse (joined_back c (reverse (take n row))) ++ drop n row
+
+-- ---- what a terminal does
+
+pub data Op : Type 0 where
+  Put : (c : ℕ) → Op
+  Return : Op
+  LineFeed : Op
+  Up : (n : ℕ) → Op
+  Down : (n : ℕ) → Op
+  Right : (n : ℕ) → Op
+  Left : (n : ℕ) → Op
+  EmptyRow : Op
+
+abbrev pub with_row : Screen → List Cell → Screen
+with_row s r = record s { rows = slice_set s.rows s.row r }
+
+-- one row down at the same column; after the last row comes a blank one, and the window scrolls
+abbrev pub line_feed : Screen → Screen
+line_feed s = record s {
+  rows = if nat_lt (s.row + 1) (length s.rows) then s.rows else s.rows ++ blank_row s.columns ∷ [];
+  row = s.row + 1;
+}
+
+-- a glyph of w columns that fits into the row
+abbrev pub put_here : Glyph → ℕ → Screen → Screen
+put_here g w s = record (with_row s (written_at s.column (glyph_cells g) (cursor_row s))) { column = s.column + w }
+
+-- a character of w columns
+abbrev pub put_wide : ℕ → ℕ → Screen → Screen
+put_wide c w s =
+    if nat_lt s.columns w then s
+    else put_here (record { base = c; marks = [] }) w
+    (if nat_le (s.column + w) s.columns then s else line_feed (record s { column = 0 }))
+
+abbrev pub put_mark : ℕ → Screen → Screen
+put_mark c s = with_row s (joined_at s.column c (cursor_row s))
+
+abbrev pub put_sized : ℕ → Option ℕ → Screen → Screen
+put_sized c None s = s
+put_sized c (Some w) s = if w == 0 then put_mark c s else put_wide c w s
+
+abbrev pub performed : Op → Screen → Screen
+performed (Put c) s = put_sized c (char_width false c) s
+performed Return s = record s { column = 0 }
+performed LineFeed s = line_feed s
+performed (Up n) s = record s { row = max (s.row - n) (top s) }
+performed (Down n) s = record s { row = min (s.row + n) (length s.rows - 1) }
+performed (Right n) s = if s.column == s.columns then s else record s { column = min (s.column + n) (s.columns - 1) }
+performed (Left n) s = record s { column = s.column - n }
+performed EmptyRow s = with_row s (blank_row s.columns)
+
+abbrev pub performed_all : List Op → Screen → Screen
+performed_all [] s = s
+performed_all (op ∷ ops) s = performed_all ops (performed op s)

@@ -1,0 +1,107 @@
+-- A terminal as it reads bytes: UTF-8 first, escape sequences next. What can't be understood changes nothing.
+use Rattle.std.specs.Prelude.{ℕ, ◌+◌, ◌-◌, ◌*◌, Bool, ◌&&◌, ◌||◌, ◌==◌, nat_le, nat_lt, List, [], ◌∷◌, ◌++◌, chars, Option, Some, None, if◌then◌else◌, slice_index}
+use Rattle.std.specs.Str.{is_utf8}
+use Rattle.indicatif_text.specs.Columns.{is_parameter}
+use Rattle.indicatif_term.specs.Screen.{Screen, Op, Put, Return, LineFeed, Up, Down, Right, Left, EmptyRow, performed_all}
+
+-- ---- characters
+
+-- where in an escape sequence the next character stands
+pub data Place : Type 0 where
+  Plain : Place
+  -- after ESC
+  Escaped : Place
+  -- after ESC [ and these digits and semicolons
+  Sequence : (parameters : List ℕ) → Place
+
+abbrev pub is_digit : ℕ → Bool
+is_digit c = nat_le 0x30 c && nat_le c 0x39
+
+-- the number that digits spell; None where something else stands among them
+abbrev pub number_from : ℕ → List ℕ → Option ℕ
+number_from n [] = Some n
+number_from n (c ∷ cs) = if is_digit c then number_from (10 * n + (c - 0x30)) cs else None
+
+-- a count, where a missing one or 0 counts as 1
+abbrev pub at_least_one : ℕ → ℕ
+at_least_one n = if n == 0 then 1 else n
+
+-- what the sequence with these parameters and this last character asks for
+abbrev pub sequence_ops : Option ℕ → ℕ → List Op
+sequence_ops None c = []
+sequence_ops (Some n) c =
+    if c == 0x41 then Up (at_least_one n) ∷ []
+    else if c == 0x42 then Down (at_least_one n) ∷ []
+    else if c == 0x43 then Right (at_least_one n) ∷ []
+    else if c == 0x44 then Left (at_least_one n) ∷ []
+    else if (c == 0x4B) && (n == 2) then EmptyRow ∷ []
+    else []
+
+-- a character outside a sequence: what it asks for, and where the next one stands
+abbrev pub plain_ops : ℕ → List Op
+plain_ops c = if c == 0x1B then [] else if c == 0x0D then Return ∷ [] else if c == 0x0A then LineFeed ∷ [] else Put c ∷ []
+
+abbrev pub plain_place : ℕ → Place
+plain_place c = if c == 0x1B then Escaped else Plain
+
+-- the same at any place
+abbrev pub char_ops : Place → ℕ → List Op
+char_ops Plain c = plain_ops c
+char_ops Escaped c = if c == 0x5B then [] else plain_ops c
+char_ops (Sequence ps) c = if is_parameter c then [] else sequence_ops (number_from 0 ps) c
+
+abbrev pub char_place : Place → ℕ → Place
+char_place Plain c = plain_place c
+char_place Escaped c = if c == 0x5B then Sequence [] else plain_place c
+char_place (Sequence ps) c = if is_parameter c then Sequence (ps ++ c ∷ []) else Plain
+
+-- ---- bytes
+
+pub record Reader : Type 0 where
+  pub place : Place
+  -- the bytes since the last character, or since one that can begin a character
+  pub spelling : List ℕ
+
+abbrev pub idle : Reader
+idle = record { place = Plain; spelling = [] }
+
+-- whether a byte can begin a character
+abbrev pub is_leading : ℕ → Bool
+is_leading b = nat_lt b 0x80 || nat_le 0xC0 b
+
+abbrev pub spelling_with : List ℕ → ℕ → List ℕ
+spelling_with spelling b = (if is_leading b then [] else spelling) ++ b ∷ []
+
+abbrev pub first_char : List ℕ → ℕ
+first_char bytes = slice_index (chars bytes) 0
+
+-- what a byte asks for, and the reader after it; bytes that spell no character are passed over
+abbrev pub byte_ops : Reader → ℕ → List Op
+byte_ops r b =
+    let bytes = spelling_with r.spelling b in
+    if is_utf8 bytes then char_ops r.place (first_char bytes) else []
+
+abbrev pub byte_reader : Reader → ℕ → Reader
+byte_reader r b =
+    let bytes = spelling_with r.spelling b in
+    if is_utf8 bytes then record { place = char_place r.place (first_char bytes); spelling = [] }
+    else record { place = r.place; spelling = bytes }
+
+-- what bytes ask for, and the reader after them
+abbrev pub ops_of : Reader → List ℕ → List Op
+ops_of r [] = []
+ops_of r (b ∷ bytes) = byte_ops r b ++ ops_of (byte_reader r b) bytes
+
+abbrev pub reader_after : Reader → List ℕ → Reader
+reader_after r [] = r
+reader_after r (b ∷ bytes) = reader_after (byte_reader r b) bytes
+
+-- ---- a terminal
+
+pub record Terminal : Type 0 where
+  pub screen : Screen
+  pub reader : Reader
+
+-- the terminal after these bytes
+unfoldable pub after : Terminal → List ℕ → Terminal
+after t bytes = record { screen = performed_all (ops_of t.reader bytes) t.screen; reader = reader_after t.reader bytes }

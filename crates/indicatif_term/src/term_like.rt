@@ -1,0 +1,108 @@
+//! What a terminal has to offer: its size, its faults, and eight calls, each by the bytes that it writes.
+ghost use Rattle.std.specs.Prelude.{◌≡◌, ◌^◌, ◌<◌, []};
+ghost use Rattle.indicatif_term.specs.Calls.{TermView, Writes, move_bytes, line_bytes, clear_bytes, UP, DOWN, RIGHT, LEFT};
+
+use std::io;
+
+/// A terminal that bars can be drawn on.
+///
+/// Each call that answers an `io::Result` writes the bytes of ECMA-48 that stand beside it. One that succeeds leads the
+/// terminal on by exactly these bytes and changes nothing else, the size included. One that fails has written a
+/// beginning of them, and adds 1 modulo 2^64 to `faults`; no other call changes it.
+pub trait TermLike {
+    /// What contracts see of it: what it tells of itself, its size, and how often a call has failed.
+    ghost view: { Self → TermView };
+
+    /// Columns.
+    fn width(&self) -> u16
+        ensures { result ≡ (view self.now).columns };
+
+    /// Rows.
+    fn height(&self) -> u16
+        ensures { result ≡ (view self.now).rows };
+
+    /// How often a call has failed, modulo 2^64.
+    fn faults(&self) -> u64
+        ensures { result ≡ (view self.now).faults };
+
+    /// Up `n` rows: ESC `[` n `A`, and nothing where `n` is 0.
+    fn move_cursor_up(&mut self, n: usize) -> io::Result<()>
+        ensures { Writes (move_bytes UP n) (view self.old) (view self.new) result };
+
+    /// Down `n` rows: ESC `[` n `B`, and nothing where `n` is 0.
+    fn move_cursor_down(&mut self, n: usize) -> io::Result<()>
+        ensures { Writes (move_bytes DOWN n) (view self.old) (view self.new) result };
+
+    /// Right `n` columns: ESC `[` n `C`, and nothing where `n` is 0.
+    fn move_cursor_right(&mut self, n: usize) -> io::Result<()>
+        ensures { Writes (move_bytes RIGHT n) (view self.old) (view self.new) result };
+
+    /// Left `n` columns: ESC `[` n `D`, and nothing where `n` is 0.
+    fn move_cursor_left(&mut self, n: usize) -> io::Result<()>
+        ensures { Writes (move_bytes LEFT n) (view self.old) (view self.new) result };
+
+    /// The text, then CR LF.
+    fn write_line(&mut self, s: &str) -> io::Result<()>
+        ensures { Writes (line_bytes s.now) (view self.old) (view self.new) result };
+
+    /// The text.
+    fn write_str(&mut self, s: &str) -> io::Result<()>
+        ensures { Writes s.now (view self.old) (view self.new) result };
+
+    /// Empties the cursor's row and goes to its front: CR, ESC `[2K`.
+    fn clear_line(&mut self) -> io::Result<()>
+        ensures { Writes clear_bytes (view self.old) (view self.new) result };
+
+    /// Hands on what is held back; no bytes of its own.
+    fn flush(&mut self) -> io::Result<()>
+        ensures { Writes [] (view self.old) (view self.new) result };
+}
+
+/// A boxed terminal is the terminal in the box. The box is made by the caller.
+impl TermLike for Box<dyn TermLike + Drop> {
+    ghost view = { λ b. (TermLike-box b).view b.value };
+
+    fn width(&self) -> u16 {
+        (**self).width()
+    }
+
+    fn height(&self) -> u16 {
+        (**self).height()
+    }
+
+    fn faults(&self) -> u64 {
+        (**self).faults()
+    }
+
+    fn move_cursor_up(&mut self, n: usize) -> io::Result<()> {
+        (**self).move_cursor_up(n)
+    }
+
+    fn move_cursor_down(&mut self, n: usize) -> io::Result<()> {
+        (**self).move_cursor_down(n)
+    }
+
+    fn move_cursor_right(&mut self, n: usize) -> io::Result<()> {
+        (**self).move_cursor_right(n)
+    }
+
+    fn move_cursor_left(&mut self, n: usize) -> io::Result<()> {
+        (**self).move_cursor_left(n)
+    }
+
+    fn write_line(&mut self, s: &str) -> io::Result<()> {
+        (**self).write_line(s)
+    }
+
+    fn write_str(&mut self, s: &str) -> io::Result<()> {
+        (**self).write_str(s)
+    }
+
+    fn clear_line(&mut self) -> io::Result<()> {
+        (**self).clear_line()
+    }
+
+    fn flush(&mut self) -> io::Result<()> {
+        (**self).flush()
+    }
+}

@@ -1,0 +1,33 @@
+//! Moments and clocks.
+ghost use Rattle.std.specs.Prelude.{◌≡◌, ◌+◌, ◌-◌, ◌^◌, min};
+
+/// Nanoseconds since an opening that the caller fixes.
+pub type Moment = u64;
+
+/// Tells the moment. The library never asks the machine for the time: its callers hand a clock in.
+pub trait Clock {
+    /// The moment now.
+    fn now(&mut self) -> Moment;
+}
+
+/// A clock that answers `next` and then goes on by `step` nanoseconds, up to 2^64 - 1.
+#[derive(Clone, Copy, Debug, Drop)]
+pub struct StepClock {
+    /// The moment that the next reading answers.
+    pub next: Moment,
+    /// How far a reading leads the clock on, in nanoseconds.
+    pub step: u64,
+}
+
+impl Clock for StepClock {
+    /// `next`; the clock is `step` later then, at most at 2^64 - 1.
+    fn now(&mut self) -> Moment
+        ensures moment { result ≡ self.old.next }
+        ensures next { self.new.next ≡ min (self.old.next + self.old.step) (2 ^ 64 - 1) }
+        ensures step { self.new.step ≡ self.old.step }
+    {
+        let moment = self.next;
+        self.next = moment.saturating_add(self.step);
+        moment
+    }
+}
