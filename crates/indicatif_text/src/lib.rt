@@ -3,8 +3,13 @@
 //! - `moment`: moments in nanoseconds, and clocks that are handed in.
 //! - `refusal`: why a call was refused, and what became of a draw.
 //! - `columns`: colour sequences, columns and rows of a line.
+//! - `style_words`: colours and attributes by their words, and what they write (`columns::Style`).
+//! - `template`: the grammar of templates, and what a template is made of.
 #![tactic(auto)]
 
 pub mod columns;
 pub mod moment;
 pub mod refusal;
+mod runs;
+pub mod style_words;
+pub mod template;
