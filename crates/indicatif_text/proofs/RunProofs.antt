@@ -112,8 +112,11 @@ module _ (p : ℕ → Bool) (past_ascii : (c : ℕ) → 128 ≤ c → p c ≡ p 
     pub rest_chars : chars (drop (prefix_len p bs) bs) ≡ after_run p (chars bs)
     rest_chars = ap chars rest_encodes ∙ chars-encodes (after_run p (chars bs)) rest_scalars
 
+    pub rest_utf8 : IsUtf8 (drop (prefix_len p bs) bs)
+    rest_utf8 = (after_run p (chars bs), (rest_scalars, sym rest_encodes))
+
     pub run_boundary : IsCharBoundary bs (prefix_len p bs)
-    run_boundary = IsCharBoundary-from_drop bs (prefix_len p bs) (prefix_len-le-length p bs) (after_run p (chars bs), (rest_scalars, sym rest_encodes))
+    run_boundary = IsCharBoundary-from_drop bs (prefix_len p bs) (prefix_len-le-length p bs) rest_utf8
 
 -- characters past ASCII belong to a run or don't, all of them
 pub past_ascii : (run : Run) (c : ℕ) → 128 ≤ c → belongs run c ≡ belongs run 128

@@ -1,6 +1,6 @@
 -- Styles of text: the colours and attributes that a dotted text names, and what they write. Texts are lists of characters.
-use Rattle.std.specs.Prelude.{ℕ, ◌+◌, Bool, true, false, not, ◌==◌, nat_eq, List, [], ◌∷◌, ◌++◌, drop, Option, Some, None, if◌then◌else◌, codes, decimal, flat_map, filter_map, option_map, option_to_list, position, bytes_eq}
-use Rattle.std.specs.List.{slice_split, last_or, list_any, starts_with}
+use Rattle.std.specs.Prelude.{ℕ, ◌+◌, Bool, true, false, not, ◌==◌, List, [], ◌∷◌, ◌++◌, map, Option, Some, None, if◌then◌else◌, codes, decimal, flat_map, filter_map, option_map, option_to_list, position, bytes_eq}
+use Rattle.std.specs.List.{slice_split, last_or, list_any}
 use Rattle.indicatif_text.specs.declared.style_words.Colour.{Colour}
 use Rattle.indicatif_text.specs.declared.style_words.Colour.TheVariants.{Black, Red, Green, Yellow, Blue, Magenta, Cyan, White}
 use Rattle.indicatif_text.specs.declared.style_words.Style.{Style}
@@ -13,17 +13,17 @@ colour_words = codes "black" ∷ codes "red" ∷ codes "green" ∷ codes "yellow
 abbrev pub attribute_words : List (List ℕ × ℕ)
 attribute_words = (codes "bold", 1) ∷ (codes "dim", 2) ∷ (codes "underlined", 4) ∷ (codes "blink", 5) ∷ (codes "reverse", 7) ∷ (codes "hidden", 8) ∷ []
 
--- the place of a colour's word among the eight
-abbrev pub colour_place : List ℕ → Option ℕ
-colour_place word = position (bytes_eq word) colour_words
+-- the words of the eight backgrounds: those of the colours with `on_` before
+abbrev pub background_words : List (List ℕ)
+background_words = map (λ word. codes "on_" ++ word) colour_words
 
 -- the number of a foreground word
 abbrev pub foreground_of : List ℕ → Option ℕ
-foreground_of word = option_map (λ k. 30 + k) (colour_place word)
+foreground_of word = option_map (λ k. 30 + k) (position (bytes_eq word) colour_words)
 
 -- the number of a background word
 abbrev pub background_of : List ℕ → Option ℕ
-background_of word = if starts_with nat_eq word (codes "on_") then option_map (λ k. 40 + k) (colour_place (drop 3 word)) else None
+background_of word = option_map (λ k. 40 + k) (position (bytes_eq word) background_words)
 
 -- a character of a word
 abbrev pub is_word_char : ℕ → Bool
@@ -35,11 +35,15 @@ style_words = slice_split (λ c. c == 0x2E)
 
 -- whether a word stands among the words
 abbrev pub has_word : List (List ℕ) → List ℕ → Bool
-has_word words word = list_any (bytes_eq word) words
+has_word words word = list_any (λ w. bytes_eq w word) words
+
+-- a number that is written where a test holds
+abbrev pub number_if : Bool → ℕ → List ℕ
+number_if test number = if test then number ∷ [] else []
 
 -- the numbers of the attributes that stand among the words
 abbrev pub attributes_of : List (List ℕ) → List ℕ
-attributes_of words = filter_map (λ (word, number). if has_word words word then Some number else None) attribute_words
+attributes_of words = flat_map (λ (word, number). number_if (has_word words word) number) attribute_words
 
 -- a style as the numbers that it writes: the last foreground, the last background, the attributes
 unfoldable pub style_of : List ℕ → List ℕ
@@ -70,12 +74,16 @@ place_of Magenta = 5
 place_of Cyan = 6
 place_of White = 7
 
--- a number that is written where a flag is set
-abbrev pub flag_number : Bool → ℕ → List ℕ
-flag_number flag number = if flag then number ∷ [] else []
+-- the number of a style's foreground
+abbrev pub foreground_number : Style → Option ℕ
+foreground_number s = option_map (λ c. 30 + place_of c) s.foreground
+
+-- the number of a style's background
+abbrev pub background_number : Style → Option ℕ
+background_number s = option_map (λ c. 40 + place_of c) s.background
 
 -- the numbers that a style writes
 unfoldable pub numbers_of : Style → List ℕ
 numbers_of s =
-    option_to_list (option_map (λ c. 30 + place_of c) s.foreground) ++ option_to_list (option_map (λ c. 40 + place_of c) s.background)
-    ++ (flag_number s.bold 1 ++ flag_number s.dim 2 ++ flag_number s.underlined 4 ++ flag_number s.blink 5 ++ flag_number s.reverse 7 ++ flag_number s.hidden 8)
+    option_to_list (foreground_number s) ++ option_to_list (background_number s)
+    ++ (number_if s.bold 1 ++ (number_if s.dim 2 ++ (number_if s.underlined 4 ++ (number_if s.blink 5 ++ (number_if s.reverse 7 ++ (number_if s.hidden 8 ++ []))))))

@@ -1,5 +1,5 @@
 //! Cutting a text at the first character that doesn't belong to a run.
-ghost use Rattle.std.specs.Prelude.{◌≡◌, ◌∷◌, [], ◌≤◌, chars, length, take_while, MatchOption};
+ghost use Rattle.std.specs.Prelude.{◌≡◌, ◌∷◌, [], ◌≤◌, chars, length, take_while, MatchOption, IfSome, IsUtf8};
 ghost use Rattle.std.specs.List.{prefix_len};
 ghost use Rattle.indicatif_text.specs.Runs.{belongs};
 ghost use Rattle.indicatif_text.specs.Template.{after_run};
@@ -51,6 +51,7 @@ fn run_len(bytes: &[u8], run: Run) -> usize
 pub(crate) fn split_run(text: &str, run: Run) -> (&str, &str)
     ensures run { chars result.0.now ≡ take_while (belongs run) (chars text.now) }
     ensures rest { chars result.1.now ≡ after_run (belongs run) (chars text.now) }
+    ensures utf8 { IsUtf8 result.1.now }
 {
     let end = run_len(text.as_bytes(), run);
     text.split_at(end)
@@ -58,7 +59,8 @@ pub(crate) fn split_run(text: &str, run: Run) -> (&str, &str)
 
 /// The first character of `text` and what follows it; none where it's empty.
 pub(crate) fn split_first(text: &str) -> Option<(char, &str)>
-    ensures { MatchOption result (chars text.now ≡ []) (λ r. chars text.now ≡ r.0 ∷ chars r.1.now) }
+    ensures first { MatchOption result (chars text.now ≡ []) (λ r. chars text.now ≡ r.0 ∷ chars r.1.now) }
+    ensures utf8 { IfSome result (λ r. IsUtf8 r.1.now) }
 {
     let mut rest = text.chars();
     let first = rest.next()?;

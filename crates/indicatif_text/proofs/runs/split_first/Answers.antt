@@ -4,8 +4,8 @@ use Rattle.std.specs.Str.Iter.{chars_rest}
 use Rattle.indicatif_text.proofs.Wrapping.{past}
 use Rattle.indicatif_text.proofs.runs.split_first.Goals as goal
 
-pub returns : goal.returns
-returns c =
+pub returns-clause-first : goal.returns-clause-first
+returns-clause-first c =
     let bs = chars_rest c.chars-rest.result in
     let rest = chars_rest c.next.new.self in
     let first = c.in_ok-first.first in

@@ -1,8 +1,8 @@
 use Rattle.std.proofs.Common.{◌≡◌, ◌∙◌, ap, sym, subst, take, drop}
-use Rattle.std.specs.Prelude.{chars, IsCharBoundary}
+use Rattle.std.specs.Prelude.{chars, IsUtf8, IsCharBoundary}
 use Rattle.std.specs.List.{prefix_len}
 use Rattle.indicatif_text.specs.Runs.{belongs}
-use Rattle.indicatif_text.proofs.RunProofs.{past_ascii, run_chars, rest_chars, run_boundary}
+use Rattle.indicatif_text.proofs.RunProofs.{past_ascii, run_chars, rest_chars, rest_utf8, run_boundary}
 use Rattle.indicatif_text.proofs.runs.split_run.Goals as goal
 
 pub split_at-requires : goal.split_at-requires
@@ -20,4 +20,5 @@ returns c =
     record {
       run = ap chars (c.split_at.ensures.front ∙ ap (λ k. take k text) n) ∙ run_chars test (past_ascii c.args.run) text c.utf8.text;
       rest = ap chars (c.split_at.ensures.back ∙ ap (λ k. drop k text) n) ∙ rest_chars test (past_ascii c.args.run) text c.utf8.text;
+      utf8 = subst IsUtf8 (sym (c.split_at.ensures.back ∙ ap (λ k. drop k text) n)) (rest_utf8 test (past_ascii c.args.run) text c.utf8.text);
     }
