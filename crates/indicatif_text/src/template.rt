@@ -7,6 +7,7 @@ use crate::refusal::{Refusal, TemplateState};
 use crate::style_words::Style;
 
 pub mod laws;
+mod reading;
 
 /// Where a placeholder's text stands in its width.
 #[derive(Clone, Copy, Debug, Drop, PartialEq, Eq)]
