@@ -1,0 +1,41 @@
+-- What a template was read as decides both sides of its contract.
+use Rattle.std.proofs.Common.{◌≡◌, ℕ, ◌⊎◌, inl, inr, List, sym, ◌∙◌, ap, subst}
+use Rattle.std.specs.Prelude.{◌≢◌, ◌↔◌, Result, Ok, Err, IfErr, IsErrAnd}
+use Rattle.indicatif_text.specs.declared.template.TemplateError.{TemplateError}
+use Rattle.indicatif_text.specs.declared.template.TemplateError.TheVariants.{Memory}
+use Rattle.indicatif_text.specs.Parts.{TemplatePart}
+use Rattle.indicatif_text.specs.Template.{Parses, IsRefused}
+use Rattle.indicatif_text.proofs.TemplateProofs.{never_both, one_list, one_place}
+
+abbrev pub Parsed : List ℕ → Result (List TemplatePart) TemplateError → Type 0
+Parsed text r = (parts : List TemplatePart) → r ≢ Err Memory → ((r ≡ Ok parts) ↔ Parses text parts)
+
+abbrev pub Refused : List ℕ → Result (List TemplatePart) TemplateError → Type 0
+Refused text r = (error : TemplateError) → r ≢ Err Memory → ((r ≡ Err error) ↔ IsRefused text error)
+
+different : (parts : List TemplatePart) (error : TemplateError) (r : Result (List TemplatePart) TemplateError) → r ≡ Ok parts → r ≡ Err error → ⊥
+different parts error r e d = let w : Ok parts ≡ Err error = sym e ∙ d in cc w
+
+ok_same : (a b : List TemplatePart) → ◌≡◌ {A = Result (List TemplatePart) TemplateError} (Ok a) (Ok b) → a ≡ b
+ok_same a b e = cc e
+
+err_same : (a b : TemplateError) → ◌≡◌ {A = Result (List TemplatePart) TemplateError} (Err a) (Err b) → a ≡ b
+err_same a b e = cc e
+
+module _ (text : List ℕ) (made : List TemplatePart) (p : Parses text made) (r : Result (List TemplatePart) TemplateError) (e : r ≡ Ok made) where
+  pub parsed_ok : Parsed text r
+  parsed_ok parts _ = ((λ d. subst (Parses text) (ok_same made parts (sym e ∙ d)) p), (λ q. e ∙ ap Ok (one_list text made parts p q)))
+
+  pub refused_ok : Refused text r
+  refused_ok error _ = ((λ d. absurd (different made error r e d)), (λ q. absurd (never_both text made q.0 error p q.1)))
+
+module _ (text : List ℕ) (x : TemplateError) (h : (x ≡ Memory) ⊎ IsRefused text x) (r : Result (List TemplatePart) TemplateError) (e : r ≡ Err x) where
+  found : r ≢ Err Memory → IsRefused text x
+  found other = elim h [ | inl memory ↦ absurd (other (e ∙ ap Err memory)) | inr is ↦ is ]
+
+  pub parsed_err : Parsed text r
+  parsed_err parts other = ((λ d. absurd (different parts x r d e)), (λ p. let is = found other in absurd (never_both text parts is.0 x p is.1)))
+
+  pub refused_err : Refused text r
+  refused_err error other =
+      ((λ d. subst (IsRefused text) (err_same x error (sym e ∙ d)) (found other)), (λ q. let is = found other in e ∙ ap Err (one_place text is.0 q.0 x error is.1 q.1).1))
