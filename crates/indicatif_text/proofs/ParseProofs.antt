@@ -1,10 +1,13 @@
 -- What a template was read as decides both sides of its contract.
-use Rattle.std.proofs.Common.{◌≡◌, ℕ, ◌⊎◌, inl, inr, List, sym, ◌∙◌, ap, subst}
-use Rattle.std.specs.Prelude.{◌≢◌, ◌↔◌, Result, Ok, Err, IfErr, IsErrAnd}
+use Rattle.std.proofs.Common.{◌≡◌, ℕ, zero, suc, ◌<◌, ◌⊎◌, inl, inr, false, List, length, eqb, sym, ◌∙◌, ap, subst, arith}
+use Rattle.std.specs.Prelude.{◌≢◌, ◌↔◌, ◌==◌, chars, IsUtf8, Result, Ok, Err, IfErr, IsErrAnd}
 use Rattle.indicatif_text.specs.declared.template.TemplateError.{TemplateError}
 use Rattle.indicatif_text.specs.declared.template.TemplateError.TheVariants.{Memory}
 use Rattle.indicatif_text.specs.Parts.{TemplatePart}
 use Rattle.indicatif_text.specs.Template.{Parses, IsRefused}
+use Rattle.std.proofs.lemmas.Bool.{false≢true}
+use Rattle.indicatif_text.specs.Reading.{Sketch, empty_sketch, Leads}
+use Rattle.indicatif_text.proofs.TokenProofs.{has_chars}
 use Rattle.indicatif_text.proofs.TemplateProofs.{never_both, one_list, one_place}
 
 abbrev pub Parsed : List ℕ → Result (List TemplatePart) TemplateError → Type 0
@@ -39,3 +42,19 @@ module _ (text : List ℕ) (x : TemplateError) (h : (x ≡ Memory) ⊎ IsRefused
   pub refused_err : Refused text r
   refused_err error other =
       ((λ d. subst (IsRefused text) (err_same x error (sym e ∙ d)) (found other)), (λ q. let is = found other in e ∙ ap Err (one_place text is.0 q.0 x error is.1 q.1).1))
+
+-- ---- from the reader's words
+
+pub is_error : (x : TemplateError) (r : Result (List TemplatePart) TemplateError) → IsErrAnd r (λ e. e ≡ x) → r ≡ Err x
+is_error x (Ok y) h = absurd h
+is_error x (Err y) h = ap Err h
+
+pub handed_back : (text rest : List ℕ) (s : Sketch) (x : TemplateError) → Leads empty_sketch text s rest → (x ≡ Memory) ⊎ IsRefused rest x → (x ≡ Memory) ⊎ IsRefused text x
+handed_back text rest s x leads h = elim h [ | inl memory ↦ inl memory | inr t ↦ inr (t.0, leads.refuses t.0 x t.1) ]
+
+positive : (n : ℕ) → eqb n 0 ≡ false → 0 < n
+positive zero e = absurd (false≢true (sym e))
+positive (suc n) e = omega arith
+
+pub some_length : (bs : List ℕ) → IsUtf8 bs → false ≡ (length bs == 0) → 0 < length (chars bs)
+some_length bs u some = let test : eqb (length (chars bs)) 0 ≡ false = has_chars bs u some in positive (length (chars bs)) test
