@@ -147,3 +147,17 @@ impl<T: Drop> From<AllocFailed<T>> for TemplateError {
         TemplateError::Memory
     }
 }
+
+/// A template's error is the refusal of the same name.
+impl From<TemplateError> for Refusal {
+    ghost use Rattle.indicatif_text.specs.TemplateErrors.{refusal_of};
+    ghost from_gives = { λ e r. r ≡ refusal_of e };
+
+    fn from(error: TemplateError) -> Refusal {
+        match error {
+            TemplateError::Unexpected { next, state } => Refusal::Template { next, state },
+            TemplateError::WidthTooLarge => Refusal::WidthTooLarge,
+            TemplateError::Memory => Refusal::Memory,
+        }
+    }
+}
