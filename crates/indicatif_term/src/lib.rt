@@ -7,5 +7,6 @@ pub mod counts;
 pub mod draw_target;
 pub mod layout;
 pub mod settle;
+pub mod target;
 pub mod term_like;
 pub mod writing;
