@@ -17,7 +17,7 @@ use Rattle.indicatif_term.proofs.Standing.{screen_at, screen_after, resting_belo
 use Rattle.indicatif_term.proofs.Reading.{chars_read, char_list_ops, place_after, ops_of-append, reader_after-append}
 use Rattle.indicatif_term.proofs.Texts.{IsShown, Puts, reads}
 use Rattle.indicatif_term.proofs.Rows.{with_row_at}
-use Rattle.indicatif_term.proofs.Lines.{text_put}
+use Rattle.indicatif_term.proofs.WrittenLines.{text_put}
 
 -- what bytes ask of a terminal between characters, which stays one
 pub record Asks (bytes : List ℕ) (ops : List Op) : Type 0 where

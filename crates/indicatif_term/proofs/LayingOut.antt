@@ -1,20 +1,21 @@
 -- A frame is laid out line by line.
-use Rattle.std.proofs.Common.{◌≡◌, ℕ, zero, suc, ◌+◌, ◌-◌, ◌<◌, ◌≤◌, Bool, true, false, cond, List, [], ◌∷◌, ◌++◌, ◌||◌, length, map, take, drop, get_or, refl, sym, ◌∙◌, ap, subst, arith, append_assoc, append-nil, length-append, chars, string_bytes, slice_index_or, slice_set, eqb, Result, Err}
+use Rattle.std.proofs.Common.{◌≡◌, ℕ, zero, suc, ◌+◌, ◌-◌, ◌<◌, ◌≤◌, Bool, true, false, cond, List, [], ◌∷◌, ◌++◌, ◌||◌, length, map, take, drop, get_or, refl, sym, ◌∙◌, ap, subst, arith, append_assoc, append-nil, length-append, chars, slice_index_or, slice_set, eqb, Result, Err}
 use Rattle.std.specs.Prelude.{nat_le}
 use Rattle.std.proofs.lemmas.Bool.{le-leb, lt-leb, ne_eqb, eq-eqb}
 use Rattle.std.proofs.lemmas.List.{length-map, map-append, take_more, take-append-le, take-append-drop, length-take-le, take_all}
 use Rattle.std.proofs.Math.ListN.{get_or-map}
-use Rattle.std.proofs.Common.{String, Vec, Global}
+use Rattle.std.proofs.Common.{Vec, Global}
 use Rattle.std.proofs.lemmas.List.Concat.{length-flat_map}
 use Rattle.std.proofs.lemmas.List.Folds.{list_any-append}
 use Rattle.std.proofs.lemmas.List.Sums.{sum_by-cons, sum_by_push, fold-append}
 use Rattle.std.proofs.lemmas.Grind.{flat_map-append}
 use Rattle.indicatif_text.specs.Columns.{rows_of, has_wide}
 use Rattle.indicatif_term.specs.Lists.{BarRows, BarLines, segments_height, shown_rows, fitting, grouped, onto_segments, lines_of}
-use Rattle.indicatif_term.specs.Frames.{bar_lines, row_count, all_lines, some_wide, IsLaidOut, IsSummed, IsPlaced, IsPlan, Measured, IsWithheld}
+use Rattle.indicatif_term.specs.Frames.{bar_lines, row_count, all_lines, some_wide, IsLaidOut, IsSummed, IsPlaced, IsPlan, Measured, IsWithheld, line_text}
 use Rattle.indicatif_term.specs.declared.layout.RowCount.{RowCount}
 use Rattle.indicatif_term.specs.declared.layout.Plan.{Plan}
-use Rattle.indicatif_term.specs.declared.layout.Segment.{Segment}
+use Rattle.indicatif_term.specs.declared.lines.Segment.{Segment}
+use Rattle.indicatif_term.specs.declared.lines.LineType.{LineType}
 use Rattle.indicatif_text.specs.declared.refusal.Refusal.{Refusal}
 use Rattle.indicatif_term.proofs.ShownRows.{line_segments, grouped_rows}
 use Rattle.indicatif_term.proofs.Measuring.{one_of, or_true, withheld_by}
@@ -140,11 +141,11 @@ line_step w bar j lines line h e =
     ap (map f) (take_more lines j line h ∙ ap (λ x. take j lines ++ x ∷ []) e) ∙ map-append f (take j lines) (line ∷ [])
 
 -- a line of a member, from the string in its place
-pub string_at : (s : Segment) (items : List (String Global)) (j : ℕ) (x : String Global) → items ≡ s.lines.items → j < length items → get_or items j x ≡ x →
-    (j < length (bar_lines s).lines) × (get_or (bar_lines s).lines j (chars (string_bytes x)) ≡ chars (string_bytes x))
+pub string_at : (s : Segment) (items : List (LineType)) (j : ℕ) (x : LineType) → items ≡ s.lines.items → j < length items → get_or items j x ≡ x →
+    (j < length (bar_lines s).lines) × (get_or (bar_lines s).lines j (chars (line_text x)) ≡ chars (line_text x))
 string_at s items j x e within at = (
-  omega (arith, length-map s.lines.items (λ (x : String Global). chars (string_bytes x)), ap length e),
-  get_or-map (λ (x : String Global). chars (string_bytes x)) s.lines.items j x ∙ ap (λ (x : String Global). chars (string_bytes x)) (ap (λ xs. get_or xs j x) (sym e) ∙ at),
+  omega (arith, length-map s.lines.items (λ (x : LineType). chars (line_text x)), ap length e),
+  get_or-map (λ (x : LineType). chars (line_text x)) s.lines.items j x ∙ ap (λ (x : LineType). chars (line_text x)) (ap (λ xs. get_or xs j x) (sym e) ∙ at),
 )
 
 module _ (w h : ℕ) (s : Segment) (j : ℕ) (line : List ℕ) (within : j < length (bar_lines s).lines) (at : get_or (bar_lines s).lines j line ≡ line) where

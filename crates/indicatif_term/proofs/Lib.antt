@@ -3,7 +3,7 @@ pub mod Rows
 pub mod Glyphs
 pub mod Reading
 pub mod Texts
-pub mod Lines
+pub mod WrittenLines
 pub mod Calls
 pub mod Stays
 pub mod CallsInTurn

@@ -17,13 +17,15 @@ use Rattle.indicatif_term.specs.Calls.{TermView, Writes}
 use Rattle.indicatif_term.specs.Shows.{Shows, Keeps, IsOpening, resting}
 use Rattle.indicatif_term.specs.Lists.{Lists, opening_lists, Live, BarLines, live_of_frame, live_height, live_rows, lines_of, fitting, shown_rows, drawn, cleared, logged, blanks_for, segments_height}
 use Rattle.indicatif_term.specs.Bytes.{paint_bytes, next_row}
-use Rattle.indicatif_term.specs.Frames.{bar_lines, all_lines, are_plain, some_wide, frame_lines, CountsOf, IsPlan, text_lines, text_height, IsWithheld}
+use Rattle.indicatif_term.specs.Frames.{bar_lines, all_lines, are_plain, some_wide, frame_lines, CountsOf, IsPlan, text_lines, text_height, IsWithheld, line_text}
 use Rattle.indicatif_term.specs.Engines.{Repaints, RepaintsAnew, Remembers, Answers}
 use Rattle.indicatif_term.specs.declared.draw_target.Engine.{Engine}
 use Rattle.indicatif_text.specs.declared.refusal.Refusal.{Refusal}
 use Rattle.indicatif_text.specs.declared.refusal.Refusal.TheVariants.{Terminal as Refused}
 use Rattle.indicatif_term.proofs.Measuring.{withheld_by, or_true}
-use Rattle.indicatif_term.specs.declared.layout.Segment.{Segment}
+use Rattle.indicatif_term.specs.declared.lines.Segment.{Segment}
+use Rattle.indicatif_term.specs.declared.lines.LineType.{LineType}
+use Rattle.indicatif_term.specs.declared.lines.LineType.TheVariants.{Text, Bar, Empty}
 use Rattle.indicatif_term.specs.declared.counts.Counts.{Counts}
 use Rattle.indicatif_term.specs.declared.layout.Plan.{Plan}
 use Rattle.indicatif_term.proofs.Paints.{IsDrawable, AreDrawable, keeps_front}
@@ -126,9 +128,19 @@ pub strings_utf8 : {Z : Type 0} (xs : List (String Z)) → AllByRecursion IsUtf8
 strings_utf8 [] = tt
 strings_utf8 (x ∷ xs) = (IsUtf8-string_bytes x, strings_utf8 xs)
 
+-- the bytes of a bar's lines
+line_utf8 : (line : LineType) → IsUtf8 (line_text line)
+line_utf8 (Text s) = IsUtf8-string_bytes s
+line_utf8 (Bar s) = IsUtf8-string_bytes s
+line_utf8 Empty = IsUtf8-nil
+
+lines_utf8 : (lines : List LineType) → AllByRecursion IsUtf8 (map line_text lines)
+lines_utf8 [] = tt
+lines_utf8 (line ∷ lines) = (line_utf8 line, lines_utf8 lines)
+
 frame_utf8 : (frame : List Segment) → AllByRecursion IsUtf8 (frame_lines frame)
 frame_utf8 [] = tt
-frame_utf8 (s ∷ frame) = all_append IsUtf8 (map string_bytes s.lines.items) (frame_lines frame) (strings_utf8 s.lines.items) (frame_utf8 frame)
+frame_utf8 (s ∷ frame) = all_append IsUtf8 (map line_text s.lines.items) (frame_lines frame) (lines_utf8 s.lines.items) (frame_utf8 frame)
 
 lines_drawable : (w : ℕ) (lines : List (List ℕ)) → AllByRecursion IsUtf8 lines → are_plain (text_lines lines) ≡ true → some_wide w (text_lines lines) ≡ false → AreDrawable w lines
 lines_drawable w [] u p n = tt

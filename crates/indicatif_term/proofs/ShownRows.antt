@@ -1,5 +1,5 @@
 -- The rows of the lines that a frame shows.
-use Rattle.std.proofs.Common.{◌≡◌, ℕ, zero, suc, ◌-◌, ◌≤◌, List, [], ◌∷◌, ◌++◌, length, map, take, replicate, refl, sym, ◌∙◌, ap, arith, append_assoc, append-nil, length-append, chars, string_bytes, eqb}
+use Rattle.std.proofs.Common.{◌≡◌, ℕ, zero, suc, ◌-◌, ◌≤◌, List, [], ◌∷◌, ◌++◌, length, map, take, replicate, refl, sym, ◌∙◌, ap, arith, append_assoc, append-nil, length-append, chars, eqb}
 use Rattle.std.specs.Prelude.{flat_map, fold, nat_le}
 use Rattle.std.proofs.lemmas.Bool.{cond_both, leb-true}
 use Rattle.std.proofs.lemmas.Grind.{flat_map-append}
@@ -9,8 +9,8 @@ use Rattle.std.proofs.lemmas.List.Concat.{length-flat_map}
 use Rattle.std.proofs.lemmas.Str.{chars-nil}
 use Rattle.indicatif_text.specs.Columns.{Cell, Blank, blank_row, visible, rows_of}
 use Rattle.indicatif_term.specs.Lists.{BarRows, BarLines, segments_height, live_rows, shown_rows, fitting, grouped, onto_segments, lines_of}
-use Rattle.indicatif_term.specs.Frames.{bar_lines, all_lines, text_lines, frame_lines}
-use Rattle.indicatif_term.specs.declared.layout.Segment.{Segment}
+use Rattle.indicatif_term.specs.Frames.{bar_lines, all_lines, text_lines, frame_lines, line_text}
+use Rattle.indicatif_term.specs.declared.lines.Segment.{Segment}
 
 abbrev pub rows_in : List BarRows → List (List Cell)
 rows_in ss = flat_map (λ (s : BarRows). s.rows) ss
@@ -92,12 +92,12 @@ pub text_rows : (w : ℕ) (text : List (List ℕ)) → lines_rows w text ≡ fla
 text_rows w [] = refl
 text_rows w (line ∷ text) = ap (λ rs. rows_of w (chars line) ++ rs) (text_rows w text)
 
-same_lines : (s : Segment) → map chars (map string_bytes s.lines.items) ≡ (bar_lines s).lines
-same_lines s = map-map chars string_bytes s.lines.items
+same_lines : (s : Segment) → map chars (map line_text s.lines.items) ≡ (bar_lines s).lines
+same_lines s = map-map chars line_text s.lines.items
 
 pub frame_chars : (frame : List Segment) → text_lines (frame_lines frame) ≡ all_lines (map bar_lines frame)
 frame_chars [] = refl
-frame_chars (s ∷ frame) = map-append chars (map string_bytes s.lines.items) (frame_lines frame) ∙ ap (λ xs. xs ++ text_lines (frame_lines frame)) (same_lines s)
+frame_chars (s ∷ frame) = map-append chars (map line_text s.lines.items) (frame_lines frame) ∙ ap (λ xs. xs ++ text_lines (frame_lines frame)) (same_lines s)
     ∙ ap (λ xs. (bar_lines s).lines ++ xs) (frame_chars frame)
 
 pub blank_rows : (w k : ℕ) → lines_rows w (replicate k []) ≡ replicate k (blank_row w)

@@ -18,7 +18,7 @@ use Rattle.indicatif_term.specs.Shows.{Stands, Keeps, IsOpening, resting}
 use Rattle.indicatif_term.proofs.Standing.{screen_at, resting_below, IsText, IsPrintable}
 use Rattle.indicatif_term.proofs.Rows.{made, same_screen}
 use Rattle.indicatif_term.proofs.Glyphs.{pieces_some}
-use Rattle.indicatif_term.proofs.Lines.{line_feed_after}
+use Rattle.indicatif_term.proofs.WrittenLines.{line_feed_after}
 use Rattle.indicatif_term.proofs.Calls.{after_asks, end_asks, text_written, row_cleared, moved_up}
 use Rattle.indicatif_term.proofs.Stays.{clear_keeps, end_keeps, text_keeps, up_keeps}
 

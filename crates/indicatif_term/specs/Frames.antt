@@ -6,7 +6,9 @@ use Rattle.indicatif_text.specs.Refusals.{number_of}
 use Rattle.indicatif_text.specs.declared.refusal.Refusal.{Refusal}
 use Rattle.indicatif_text.specs.declared.refusal.Refusal.TheVariants.{NoColumns, TooWide, Terminal, Memory}
 use Rattle.indicatif_term.specs.Lists.{Lists, BarLines, BarRows, shown_rows, fitting, grouped, lines_of, segments_height, Fate, NoRow, First, Later}
-use Rattle.indicatif_term.specs.declared.layout.Segment.{Segment}
+use Rattle.indicatif_term.specs.declared.lines.Segment.{Segment}
+use Rattle.indicatif_term.specs.declared.lines.LineType.{LineType}
+use Rattle.indicatif_term.specs.declared.lines.LineType.TheVariants.{Text, Bar, Empty}
 use Rattle.indicatif_term.specs.declared.layout.RowCount.{RowCount}
 use Rattle.indicatif_term.specs.declared.layout.Plan.{Plan}
 use Rattle.indicatif_term.specs.declared.counts.Counts.{Counts}
@@ -18,8 +20,14 @@ use Rattle.indicatif_term.specs.declared.counts.Keep.TheVariants.{Absent, Passed
 abbrev pub text_lines : List (List ℕ) → List (List ℕ)
 text_lines text = map chars text
 
+-- the bytes of a line
+abbrev pub line_text : LineType → List ℕ
+line_text (Text s) = string_bytes s
+line_text (Bar s) = string_bytes s
+line_text Empty = []
+
 abbrev pub bar_lines : Segment → BarLines
-bar_lines s = record { bar = s.bar; lines = map (λ x. chars (string_bytes x)) s.lines.items }
+bar_lines s = record { bar = s.bar; lines = map (λ line. chars (line_text line)) s.lines.items }
 
 abbrev pub all_lines : List BarLines → List (List ℕ)
 all_lines frame = flat_map (λ (s : BarLines). s.lines) frame
@@ -35,7 +43,7 @@ text_height w text = sum_by (λ line. length (rows_of w line)) text
 
 -- the bytes of the lines
 abbrev pub frame_lines : List Segment → List (List ℕ)
-frame_lines frame = flat_map (λ (s : Segment). map string_bytes s.lines.items) frame
+frame_lines frame = flat_map (λ (s : Segment). map line_text s.lines.items) frame
 
 -- ---- refusals
 

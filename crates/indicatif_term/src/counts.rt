@@ -1,7 +1,7 @@
 //! What an engine remembers of its rows: their counts.
 ghost use Rattle.std.specs.Prelude.{◌≡◌, ℕ, ◌+◌, ◌-◌, ◌<◌, ◌≤◌, ◌^◌, map, min, length, List, IfOk, IfErr, IsTrue, sum_by};
 
-use crate::layout::{RowCount, Plan};
+use crate::layout::{Plan, RowCount};
 use crate::settle::{blanks_of, rows_of, settled_counts};
 use indicatif_text::columns::Refusal;
 use std::alloc::Global;

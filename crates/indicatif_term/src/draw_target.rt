@@ -4,7 +4,8 @@ ghost use Rattle.indicatif_term.specs.Lists.{opening_lists};
 ghost use Rattle.indicatif_term.specs.Frames.{CountsOf};
 
 use crate::counts::{Counts, Keep};
-use crate::layout::{Segment, laid_out, texts_height};
+use crate::layout::{laid_out, texts_height};
+pub use crate::lines::{LineType, Segment};
 use crate::settle::{blanks_of, kept_counts};
 use crate::term_like::TermLike;
 use crate::writing::paint;

@@ -3,15 +3,10 @@ ghost use Rattle.std.specs.Prelude.{◌≡◌, ◌+◌, ◌<◌, ◌≤◌, ◌+
 ghost use Rattle.indicatif_term.specs.Lists.{BarRows, onto_segments};
 ghost use Rattle.indicatif_term.specs.Frames.{IsSummed, IsLaidOut, IsPlaced, Measured, MeasuredLine, MeasuredText, bar_lines, row_count};
 
+use crate::lines::Segment;
 use indicatif_text::columns::{Refusal, wrapped};
 use std::alloc::Global;
-
-/// The lines that one bar shows.
-#[derive(Drop)]
-pub struct Segment {
-    pub bar: u64,
-    pub lines: Vec<String>,
-}
+use std::convert::AsStr;
 
 /// How many rows of a bar are shown_rows.
 #[derive(Clone, Copy, Debug, Drop)]
@@ -79,7 +74,7 @@ fn place_member(
     ensures placed { (before : List BarRows) → IsLaidOut height before plan.old → IsPlaced width height before (bar_lines member.now) plan.new result }
 {
     for line in &member.lines {
-        let rows = rows_of_line(line, width)?;
+        let rows = rows_of_line(line.as_str(), width)?;
         place(plan, member.bar, rows, height)?;
     }
     Ok(())

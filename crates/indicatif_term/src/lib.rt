@@ -6,6 +6,7 @@
 pub mod counts;
 pub mod draw_target;
 pub mod layout;
+pub mod lines;
 pub mod settle;
 pub mod target;
 pub mod term_like;

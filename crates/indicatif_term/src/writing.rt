@@ -2,10 +2,11 @@
 ghost use Rattle.std.specs.Prelude.{◌≡◌, ◌^◌, ◌<◌, ◌≤◌, ◌+◌, ◌-◌, [], ◌++◌, List, ℕ, map, take, length, replicate, flat_map, string_bytes, Bool, true, if◌then◌else◌, not, ◌&&◌, ◌||◌, ◌==◌, nat_lt};
 ghost use Rattle.indicatif_term.specs.Calls.{TermView, Writes, move_bytes, clear_bytes};
 ghost use Rattle.indicatif_term.specs.Bytes.{back_bytes, lines_bytes, paint_bytes, next_row};
-ghost use Rattle.indicatif_term.specs.Frames.{frame_lines};
+ghost use Rattle.indicatif_term.specs.Frames.{frame_lines, line_text};
 
-use crate::layout::Segment;
+use crate::lines::{LineType, Segment};
 use crate::term_like::TermLike;
+use std::convert::AsStr;
 use std::io;
 
 /// Empties the cursor's row, or the one above.
@@ -54,6 +55,18 @@ pub fn put_all<T: TermLike>(term: &mut T, at_end: bool, lines: &[String]) -> io:
     Ok(())
 }
 
+/// Writes each line of a bar on a row of its own.
+pub fn put_lines<T: TermLike>(term: &mut T, at_end: bool, lines: &[LineType]) -> io::Result<()>
+    ensures { Writes (lines_bytes at_end (map line_text lines.now)) (T.view term.old) (T.view term.new) result }
+{
+    let mut started = at_end;
+    for line in lines {
+        put(term, started, line.as_str())?;
+        started = true;
+    }
+    Ok(())
+}
+
 /// Writes empty lines.
 pub fn put_blanks<T: TermLike>(term: &mut T, at_end: bool, count: usize) -> io::Result<()>
     ensures { Writes (lines_bytes at_end (replicate count [])) (T.view term.old) (T.view term.new) result }
@@ -79,7 +92,7 @@ pub fn put_frame<T: TermLike>(
     let mut started = at_end;
     for member in frame {
         let n = left.min(member.lines.len());
-        put_all(term, started, &member.lines[..n])?;
+        put_lines(term, started, &member.lines[..n])?;
         started = ends_row(started, n);
         left -= n;
     }
