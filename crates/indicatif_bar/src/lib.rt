@@ -5,6 +5,6 @@
 //! - `lone`: a bar with its engine, and runs of calls.
 #![tactic(auto)]
 
-//pub mod lone;
+pub mod lone;
 pub mod state;
 mod style;
