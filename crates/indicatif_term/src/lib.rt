@@ -9,4 +9,5 @@ pub mod layout;
 pub mod lines;
 pub mod settle;
 pub mod term_like;
+pub mod worked;
 pub mod writing;
