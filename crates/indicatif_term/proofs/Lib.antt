@@ -4,6 +4,8 @@ pub mod Glyphs
 pub mod Reading
 pub mod Texts
 pub mod WrittenLines
+pub mod ReadLines
+pub mod LoggedLines
 pub mod Calls
 pub mod Stays
 pub mod CallsInTurn

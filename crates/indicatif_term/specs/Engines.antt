@@ -38,9 +38,9 @@ module _ {T : Type 0} where
       (λ e. (IsTrue (is_fault e) → Fits new opening_lists × (has_failed new ≡ true)) × (IsFalse (is_fault e) → new ≡ old))
 
   -- what an engine remembers after writing
-  abbrev pub Remembers : {E : Type 0} → Counts → Result Unit E → Result Unit Refusal → Engine T → Type 0
-  Remembers next (Ok u) result new = (result ≡ Ok tt) × (new.counts ≡ next) × (has_failed new ≡ false)
-  Remembers next (Err e) result new = ((kind : ErrorKind) × (result ≡ Err (Terminal kind))) × CountsOf new.counts opening_lists × (has_failed new ≡ true)
+  abbrev pub Remembers : Counts → Result Unit Refusal → Engine T → Type 0
+  Remembers next result new = MatchResult result (λ _. (new.counts ≡ next) × (has_failed new ≡ false))
+      (λ e. ((kind : ErrorKind) × (e ≡ Terminal kind)) × CountsOf new.counts opening_lists × (has_failed new ≡ true))
 
 -- what an answer says of the lines that were to be written on a terminal of w columns
 abbrev pub Answers : ℕ → List (List ℕ) → Result Unit Refusal → Type 0

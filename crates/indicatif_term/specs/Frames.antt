@@ -1,6 +1,8 @@
 -- A frame and what it shows, as the code counts it.
-use Rattle.std.specs.Prelude.{◌≡◌, ℕ, ◌+◌, ◌-◌, ◌<◌, ◌≤◌, ◌^◌, min, Bool, true, false, IsTrue, IsFalse, List, [], ◌∷◌, ◌++◌, map, length, flat_map, sum_by, take, chars, string_bytes, Result, MatchResult, ◌&&◌, max, nat_lt, ◌==◌}
+use Rattle.std.specs.Prelude.{◌≡◌, ℕ, ◌+◌, ◌-◌, ◌<◌, ◌≤◌, ◌^◌, min, Bool, true, false, IsTrue, IsFalse, List, [], ◌∷◌, ◌++◌, map, length, flat_map, sum_by, take, chars, string_bytes, Option, Some, None, Result, MatchResult, ◌&&◌, max, nat_lt, ◌==◌}
 use Rattle.std.specs.List.{list_any, list_all}
+use Rattle.std.specs.Str.Lines.{lines}
+use Rattle.std.specs.Borrow.{Bor}
 use Rattle.indicatif_text.specs.Columns.{has_wide, is_plain, rows_of}
 use Rattle.indicatif_text.specs.Refusals.{number_of}
 use Rattle.indicatif_text.specs.declared.refusal.Refusal.{Refusal}
@@ -17,6 +19,17 @@ use Rattle.indicatif_term.specs.declared.counts.Keep.TheVariants.{Absent, Passed
 
 -- ---- lines
 
+-- the lines of a text that is logged, ended by LF or CR LF; an empty text is one empty line
+abbrev pub logged_lines : List ℕ → List (List ℕ)
+logged_lines [] = [] ∷ []
+logged_lines (b ∷ text) = lines (b ∷ text)
+
+-- the lines of the text that is logged, if any is
+abbrev pub lines_above : Option (Bor (List ℕ)) → List (List ℕ)
+lines_above None = []
+lines_above (Some text) = logged_lines text.now
+
+-- lines as characters
 abbrev pub text_lines : List (List ℕ) → List (List ℕ)
 text_lines text = map chars text
 

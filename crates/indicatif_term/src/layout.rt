@@ -1,7 +1,7 @@
 //! Which lines of a frame are shown_rows, and how many rows they take.
-ghost use Rattle.std.specs.Prelude.{◌≡◌, ◌+◌, ◌<◌, ◌≤◌, ◌++◌, ◌∷◌, [], map, length, chars, string_bytes, List, IfOk, IfErr, sum_by};
+ghost use Rattle.std.specs.Prelude.{◌≡◌, ◌+◌, ◌<◌, ◌≤◌, ◌++◌, ◌∷◌, [], map, length, chars, List, IfOk, IfErr, sum_by};
 ghost use Rattle.indicatif_term.specs.Lists.{BarRows, onto_segments};
-ghost use Rattle.indicatif_term.specs.Frames.{IsSummed, IsLaidOut, IsPlaced, Measured, MeasuredLine, MeasuredText, bar_lines, row_count};
+ghost use Rattle.indicatif_term.specs.Frames.{IsSummed, IsLaidOut, IsPlaced, Measured, MeasuredLine, MeasuredText, bar_lines, logged_lines, row_count};
 
 use crate::lines::Segment;
 use indicatif_text::columns::{Refusal, wrapped};
@@ -131,15 +131,18 @@ fn rows_of_line(line: &str, width: usize) -> Result<usize, Refusal>
     }
 }
 
-/// The rows of text lines, or 2^64 - 1 where there are more.
-pub fn texts_height(text: &[String], width: usize) -> Result<usize, Refusal>
-    ensures { MeasuredText width (map string_bytes text.now) result }
+/// The rows of the lines of a text that is logged, or 2^64 - 1 where there are more.
+pub fn text_height(text: &str, width: usize) -> Result<usize, Refusal>
+    ensures { MeasuredText width (logged_lines text.now) result }
 {
     if width == 0 {
         return Err(Refusal::NoColumns);
     }
+    if text.is_empty() {
+        return Ok(1);
+    }
     let mut rows: usize = 0;
-    for line in text {
+    for line in text.lines() {
         rows = rows.saturating_add(rows_of_line(line, width)?);
     }
     Ok(rows)

@@ -10,4 +10,5 @@ pub mod lines;
 pub mod settle;
 pub mod target;
 pub mod term_like;
+pub mod worked;
 pub mod writing;
