@@ -224,12 +224,12 @@ module _ {T : Type 0} (view : T → TermView) (call : Call) (now : ℕ) (s : Lon
   drew_err _ d = absurd d.answers
 
 -- lines as they were laid out
-pub laid_frame : (number : ℕ) (items : Vec LineType Global) (now : ℕ) (view : TermView) (bar : Bar) (s : LoneState) (width : ℕ) → number ≡ 0 → width ≡ view.columns → bar ≡ s.bar →
-    map line_text items.items ≡ lines_of_bar now width bar →
+pub laid_frame : (number : ℕ) (items : Vec LineType Global) (now : ℕ) (view : TermView) (bar : Bar) (s : LoneState) → number ≡ 0 → bar ≡ s.bar →
+    map line_text items.items ≡ lines_of_bar now view.columns bar →
     bar_lines (record { bar = number; lines = items }) ≡ record { bar = 0; lines = (laid_out (target_of (Some view)) now s).stored }
-laid_frame number items now view bar s width first w same e =
+laid_frame number items now view bar s first same e =
     let lines : map (λ line. chars (line_text line)) items.items ≡ map chars (lines_of_bar now view.columns s.bar) =
-    sym (map-map chars line_text items.items) ∙ ap (map chars) (e ∙ ap (λ n. lines_of_bar now n bar) w ∙ ap (lines_of_bar now view.columns) same) in
+    sym (map-map chars line_text items.items) ∙ ap (map chars) (e ∙ ap (lines_of_bar now view.columns) same) in
     cc
 
 -- an unmade draw of an engine that stays as it was
@@ -258,3 +258,14 @@ call_short old call now s = record {
   steps = inr (inl (record { answer_is = refl; next_is = inl refl }));
   writes = writes_nothing old call s.failed s.lists (Err Memory) s (λ e. cc) refl;
 }
+
+-- the lines were not laid out: no columns, or no memory
+pub drew_withheld : {T : Type 0} (view : T → TermView) (call : Call) (now : ℕ) (s : LoneState) (engine : Engine T) (frame : Segment) (answer : Result Drawn Refusal) (e : Refusal) → answer ≡ Err e →
+    is_no (asks call) ≡ false → ((e ≡ NoColumns) × ((view (terminal engine)).columns ≡ 0)) ⊎ (e ≡ Memory) →
+    bar_lines frame ≡ record { bar = 0; lines = s.stored } → Fits engine s.lists → has_failed engine ≡ s.failed → Drew view call now s engine engine frame answer
+drew_withheld view call now s engine frame answer e r asked (inl none) a b c =
+    let v : Option TermView = Some (view (terminal engine)) in
+    rw (r, none.0) (drew_nothing view call now s engine frame (Err NoColumns) a b c
+    (drawn_nothing v call now s (Err NoColumns) (λ q. cc) refl (outcome-no_columns (target_of v) call now s asked refl none.1)))
+drew_withheld view call now s engine frame answer e r asked (inr short) a b c =
+    rw (r, short) (drew_nothing view call now s engine frame (Err Memory) a b c (short_nothing (Some (view (terminal engine))) call now s))

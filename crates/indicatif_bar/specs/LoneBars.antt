@@ -3,10 +3,10 @@ use Rattle.std.specs.Prelude.{◌≡◌, ℕ, List, map, string_bytes, Option, M
 use Rattle.indicatif_term.specs.Frames.{bar_lines}
 use Rattle.indicatif_term.specs.Engines.{terminal, Fits, has_failed}
 use Rattle.indicatif_bar.specs.Bars.{Bar, Tick, SetMessage, ForceDraw}
-use Rattle.indicatif_bar.specs.Runs.{LoneState, Call, Change}
+use Rattle.indicatif_bar.specs.Runs.{LoneState, Call, Change, Log}
 use Rattle.indicatif_bar.specs.declared.lone.LoneBar.{LoneBar}
 use Rattle.indicatif_bar.specs.declared.lone.LoneCall.{LoneCall}
-use Rattle.indicatif_bar.specs.declared.lone.LoneCall.TheVariants.{Bar as BarCall}
+use Rattle.indicatif_bar.specs.declared.lone.LoneCall.TheVariants.{Bar as BarCall, Log as LogCall}
 use Rattle.indicatif_bar.specs.declared.state.BarCommand.TheVariants.{Tick as TickCommand, SetMessage as MessageCommand, ForceDraw as DrawCommand}
 
 module _ {T : Type 0} where
@@ -29,3 +29,4 @@ abbrev pub call_of : LoneCall → Call
 call_of (BarCall TickCommand) = Change Tick
 call_of (BarCall (MessageCommand text)) = Change (SetMessage (string_bytes text))
 call_of (BarCall DrawCommand) = Change ForceDraw
+call_of (LogCall text) = Log (string_bytes text)

@@ -10,9 +10,9 @@ use Rattle.std.specs.declared.io.ErrorKind.{ErrorKind}
 use Rattle.indicatif_term.specs.Screen.{Screen}
 use Rattle.indicatif_term.specs.Terminal.{Terminal, after}
 use Rattle.indicatif_term.specs.Calls.{TermView, led_on}
-use Rattle.indicatif_term.specs.Lists.{Lists, BarLines, opening_lists, drawn}
+use Rattle.indicatif_term.specs.Lists.{Lists, BarLines, opening_lists, drawn, logged}
 use Rattle.indicatif_term.specs.Shows.{Shows, Keeps}
-use Rattle.indicatif_term.specs.Frames.{all_lines, are_plain, some_wide, is_fault}
+use Rattle.indicatif_term.specs.Frames.{all_lines, text_lines, logged_lines, are_plain, some_wide, is_fault}
 use Rattle.indicatif_bar.specs.Bars.{Bar, Command, changed, asked, lines_of_bar}
 use Rattle.indicatif_bar.specs.declared.state.Ask.{Ask}
 use Rattle.indicatif_bar.specs.declared.state.Ask.TheVariants.{No, Unforced, Forced}
@@ -47,11 +47,15 @@ opening_state bar = record { bar = bar; stored = []; lists = opening_lists; fail
 -- ---- calls
 
 pub data Call : Type 0 where
+  -- a command of the bar
   Change : (command : Command) → Call
+  -- lines of text above the bar
+  Log : (text : List ℕ) → Call
 
 -- the lines of text that a call writes above the bar
 abbrev pub lines_above : Call → List (List ℕ)
 lines_above (Change command) = []
+lines_above (Log text) = text_lines (logged_lines text)
 
 -- the bar as the one member of a frame
 abbrev pub frame_of : LoneState → List BarLines
@@ -64,12 +68,14 @@ lines_by call s = lines_above call ++ all_lines (frame_of s)
 -- whether it asks for a draw
 abbrev pub asks : Call → Ask
 asks (Change command) = asked command
+asks (Log text) = Forced
 
 -- ---- the stages of a call
 
 -- the bar's numbers change
 abbrev pub numbered : Call → ℕ → LoneState → LoneState
 numbered (Change command) now s = record s { bar = changed command now s.bar }
+numbered (Log text) now s = s
 
 -- the bar's lines are laid out and stored
 abbrev pub laid_out : Target → ℕ → LoneState → LoneState
@@ -78,6 +84,8 @@ laid_out target now s = record s { stored = map chars (lines_of_bar now target.c
 -- the terminal is written
 abbrev pub written : Target → Call → LoneState → LoneState
 written target (Change command) s = record s { lists = drawn target.columns target.rows false 0 (frame_of s) s.lists; failed = false }
+written target (Log text) s =
+    record s { lists = logged target.columns target.rows false (text_lines (logged_lines text)) (frame_of s) s.lists; failed = false }
 
 pub record Outcome : Type 0 where
   pub answer : Result Drawn Refusal

@@ -1,9 +1,9 @@
 //! A bar that stands alone on its target.
-ghost use Rattle.std.specs.Prelude.{◌≡◌, ℕ, Option, option_map, false};
-ghost use Rattle.indicatif_term.specs.Frames.{bar_lines};
-ghost use Rattle.indicatif_term.specs.Engines.{Fits, has_failed};
-ghost use Rattle.indicatif_bar.specs.Bars.{Command, asked};
-ghost use Rattle.indicatif_bar.specs.Runs.{LoneState, Change, is_no};
+ghost use Rattle.std.specs.Prelude.{◌≡◌, ℕ, ◌<◌, ◌⊎◌, Option, option_map, false, map, IfOk, IfErr};
+ghost use Rattle.indicatif_term.specs.Frames.{bar_lines, line_text};
+ghost use Rattle.indicatif_term.specs.Engines.{terminal, Fits, has_failed};
+ghost use Rattle.indicatif_bar.specs.Bars.{Command, asked, lines_of_bar};
+ghost use Rattle.indicatif_bar.specs.Runs.{LoneState, Change, Log, is_no};
 ghost use Rattle.indicatif_bar.specs.Draws.{Drew};
 
 use crate::state::{Ask, BarCommand, BarState};
@@ -21,6 +21,8 @@ use std::slice;
 pub enum LoneCall {
     /// A command of the bar.
     Bar(BarCommand),
+    /// Lines of text above the bar.
+    Log(String),
 }
 
 /// A bar with its engine.
@@ -102,6 +104,18 @@ impl<T: TermLike + Drop> LoneBar<T> {
         self.draw(ask, now)
     }
 
+    /// Writes the text's lines above the bar, by force. A line is ended by `\n` or `\r\n`; an empty text is one empty
+    /// line; tabs stay as they are. The bar's lines are laid out anew. On a hidden target the text is dropped.
+    pub fn println(&mut self, text: &str, now: Moment) -> Result<Drawn, Refusal>
+        ensures { (s : LoneState) → IsIn self.old s → (next : LoneState) × IsIn self.new next ×
+            CallMade (option_map T.view (terminal_of self.old)) (option_map T.view (terminal_of self.new)) (Log text.now) now s result next }
+    {
+        match &mut self.engine {
+            Some(engine) => log_on(engine, &self.bar, &mut self.frame, text, now),
+            None => Ok(Drawn::Hidden),
+        }
+    }
+
     /// A call as a value.
     pub fn call(&mut self, call: LoneCall, now: Moment) -> Result<Drawn, Refusal>
         ensures { (s : LoneState) → IsIn self.old s → (next : LoneState) × IsIn self.new next ×
@@ -111,6 +125,7 @@ impl<T: TermLike + Drop> LoneBar<T> {
             LoneCall::Bar(BarCommand::Tick) => self.tick(now),
             LoneCall::Bar(BarCommand::SetMessage(text)) => self.set_message(text.as_str(), now),
             LoneCall::Bar(BarCommand::ForceDraw) => self.force_draw(now),
+            LoneCall::Log(text) => self.println(text.as_str(), now),
         }
     }
 
@@ -139,6 +154,23 @@ fn is_no(ask: Ask) -> bool
     }
 }
 
+/// The bar's lines at this moment, on the engine's terminal.
+fn lay_out<T: TermLike + Drop>(
+    engine: &Engine<T>,
+    bar: &BarState,
+    now: Moment,
+) -> Result<Vec<LineType>, Refusal>
+    ensures lines { let columns = (T.view (terminal engine.now)).columns in
+        IfOk result (λ v. (0 < columns) × (map line_text v.items ≡ lines_of_bar now columns bar.now)) }
+    ensures refused { IfErr result (λ e. ((e ≡ Refusal.NoColumns) × ((T.view (terminal engine.now)).columns ≡ 0)) ⊎ (e ≡ Refusal.Memory)) }
+{
+    let width = engine.term().width();
+    if width == 0 {
+        return Err(Refusal::NoColumns);
+    }
+    bar.lines(now, width)
+}
+
 /// Lays the bar's lines out into the frame, and draws them.
 fn draw_on<T: TermLike + Drop>(
     engine: &mut Engine<T>,
@@ -150,11 +182,24 @@ fn draw_on<T: TermLike + Drop>(
         bar_lines frame.old ≡ record { bar = 0; lines = s.stored } → Fits engine.old s.lists → has_failed engine.old ≡ s.failed →
         Drew T.view (Change command) now s engine.old engine.new frame.new result }
 {
-    let width = engine.term().width();
-    if width == 0 {
-        return Err(Refusal::NoColumns);
-    }
-    frame.lines = bar.lines(now, width)?;
+    frame.lines = lay_out(engine, bar, now)?;
     engine.draw(slice::from_ref(frame), 0, MultiProgressAlignment::Top)?;
+    Ok(Drawn::Yes)
+}
+
+/// Lays the bar's lines out into the frame, and writes the text above them.
+fn log_on<T: TermLike + Drop>(
+    engine: &mut Engine<T>,
+    bar: &BarState,
+    frame: &mut Segment,
+    text: &str,
+    now: Moment,
+) -> Result<Drawn, Refusal>
+    ensures { (s : LoneState) → bar.now ≡ s.bar →
+        bar_lines frame.old ≡ record { bar = 0; lines = s.stored } → Fits engine.old s.lists → has_failed engine.old ≡ s.failed →
+        Drew T.view (Log text.now) now s engine.old engine.new frame.new result }
+{
+    frame.lines = lay_out(engine, bar, now)?;
+    engine.log(text, slice::from_ref(frame), MultiProgressAlignment::Top)?;
     Ok(Drawn::Yes)
 }
