@@ -5,7 +5,7 @@ use Rattle.std.proofs.lemmas.Iterator.Consumers.{YieldsList-turn, YieldsList-end
 use Rattle.std.proofs.lemmas.List.{map-id}
 use Rattle.indicatif_bar.specs.Runs.{Runs}
 use Rattle.indicatif_bar.specs.LoneBars.{terminal_of, timed}
-use Rattle.indicatif_bar.proofs.Showing.{runs-push}
+use Rattle.indicatif_bar.proofs.Showing.{runs-push, headline}
 use Rattle.indicatif_bar.proofs.lone.LoneBar.run.Goals as goal
 
 pub loop-call-init : goal.loop-call-init
@@ -34,5 +34,8 @@ pub returns-clause-run : goal.returns-clause-run
 returns-clause-run g c =
     let t = YieldsList-end (YieldsList-from_vec c.args.calls.items c.into_iter-call-iterator.ensures.into_iter_gives.0 (omega (arith, c.into_iter-call-iterator.ensures.into_iter_gives.1, c.args.calls.ok))) c.loop-call.yielded c.loop-call.call-iterator c.loop-call.yielded_by c.next.result c.next.new.self c.in-None.is c.next.ensures.steps in
     λ s inside.
+    let old = option_map g.T.TermLike.view (terminal_of c.args.self.now) in
+    let new = option_map g.T.TermLike.view (terminal_of c.loop-call.self) in
     let all = c.loop-call.invariant.ran s inside in
-    (all.0, all.1, subst (λ xs. Runs (map timed xs) c.loop-call.answers.items (option_map g.T.TermLike.view (terminal_of c.args.self.now)) s (option_map g.T.TermLike.view (terminal_of c.loop-call.self)) all.0) (sym (map-id c.loop-call.yielded) ∙ t.0) all.2)
+    let run = subst (λ xs. Runs (map timed xs) c.loop-call.answers.items old s new all.0) (sym (map-id c.loop-call.yielded) ∙ t.0) all.2 in
+    (all.0, all.1, run, headline (map timed c.args.calls.items) c.loop-call.answers.items old s new all.0 run)
