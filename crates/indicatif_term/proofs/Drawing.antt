@@ -10,7 +10,7 @@ use Rattle.indicatif_term.specs.Screen.{Screen}
 use Rattle.indicatif_term.specs.Terminal.{Terminal, after}
 use Rattle.indicatif_term.specs.Shows.{Shows, IsOpening, Keeps, resting}
 use Rattle.indicatif_term.specs.Lists.{Lists, Live, BarRows, BarLines, passed, cleared, drawn, logged, kept_of, lists_height, live_height, segments_height, live_rows, all_rows, live_of_frame, shown_rows, opening_lists, is_first}
-use Rattle.indicatif_term.specs.Bytes.{paint_bytes}
+use Rattle.indicatif_term.specs.Inside.Bytes.{paint_bytes}
 use Rattle.indicatif_term.proofs.ShownRows.{lines_rows, shown-height}
 use Rattle.indicatif_term.proofs.TerminalSteps.{Leads}
 use Rattle.indicatif_term.proofs.Rows.{made as made_screen}

@@ -11,7 +11,9 @@ use Rattle.std.proofs.lemmas.List.Sums.{sum_by-cons, sum_by_push, fold-append}
 use Rattle.std.proofs.lemmas.Grind.{flat_map-append}
 use Rattle.indicatif_text.specs.Columns.{rows_of, has_wide}
 use Rattle.indicatif_term.specs.Lists.{BarRows, BarLines, segments_height, shown_rows, fitting, grouped, onto_segments, lines_of}
-use Rattle.indicatif_term.specs.Frames.{bar_lines, row_count, all_lines, some_wide, IsLaidOut, IsSummed, IsPlaced, IsPlan, Measured, IsWithheld, line_text}
+use Rattle.indicatif_term.specs.Frames.{bar_lines, all_lines, some_wide, line_text}
+use Rattle.indicatif_term.specs.Inside.Counted.{row_count}
+use Rattle.indicatif_term.specs.Inside.Plans.{IsLaidOut, IsSummed, IsPlaced, IsPlan, Measured, IsWithheld}
 use Rattle.indicatif_term.specs.declared.layout.RowCount.{RowCount}
 use Rattle.indicatif_term.specs.declared.layout.Plan.{Plan}
 use Rattle.indicatif_term.specs.declared.lines.Segment.{Segment}

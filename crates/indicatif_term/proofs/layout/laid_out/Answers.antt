@@ -1,7 +1,8 @@
 use Rattle.std.proofs.Common.{arith, ◌≡◌, ◌∙◌, refl, sym, ap, subst, Err, length, map, take, List, ◌+◌}
 use Rattle.std.proofs.lemmas.Result.{err_from_is_err_and}
 use Rattle.std.proofs.lemmas.List.{take_all}
-use Rattle.indicatif_term.specs.Frames.{bar_lines, IsSummed, IsLaidOut}
+use Rattle.indicatif_term.specs.Frames.{bar_lines}
+use Rattle.indicatif_term.specs.Inside.Plans.{IsSummed, IsLaidOut}
 use Rattle.indicatif_term.specs.Lists.{BarLines, lines_of, shown_rows}
 use Rattle.indicatif_term.specs.declared.layout.Plan.{Plan}
 use Rattle.indicatif_term.proofs.LayingOut.{nothing_laid, lines_step, narrow_step, frame_refused, passing_more, passing_same, planned}

@@ -1,6 +1,7 @@
 use Rattle.std.proofs.Common.{◌≡◌, false, length, map, take}
 use Rattle.indicatif_term.specs.Lists.{lines_of, shown_rows}
-use Rattle.indicatif_term.specs.Frames.{IsSummed, IsLaidOut, bar_lines, all_lines, some_wide}
+use Rattle.indicatif_term.specs.Frames.{bar_lines, all_lines, some_wide}
+use Rattle.indicatif_term.specs.Inside.Plans.{IsSummed, IsLaidOut}
 use Rattle.indicatif_term.proofs.layout.laid_out.Given as goal
 
 abbrev pub invariant-loop-member : goal.invariant-loop-member
