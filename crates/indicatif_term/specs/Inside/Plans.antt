@@ -58,6 +58,11 @@ abbrev pub IsPlaced : ℕ → ℕ → List BarRows → BarLines → Plan → Res
 IsPlaced w h before member p result =
     MatchResult result (λ _. IsFalse (some_wide w member.lines) × IsLaidOut h (before ++ lines_of w (member ∷ [])) p) (λ e. IsWithheld w member.lines e)
 
+-- the same with the lines of members after them
+abbrev pub ArePlaced : ℕ → ℕ → List BarRows → List BarLines → Plan → Result Unit Refusal → Type 0
+ArePlaced w h before members p result =
+    MatchResult result (λ _. IsFalse (some_wide w (all_lines members)) × IsLaidOut h (before ++ lines_of w members) p) (λ e. IsWithheld w (all_lines members) e)
+
 -- a plan, or why there is none
 abbrev pub Measured : ℕ → ℕ → ℕ → List BarLines → Result Plan Refusal → Type 0
 Measured w h pass frame result =
