@@ -1,6 +1,10 @@
 //! The terminal, and the engine that draws on it.
 //!
 //! - `term_like`: what a terminal has to offer, each call by its bytes.
+//! - `draw_target`: the engine, which draws the lines of bars and takes back those that it may still change.
+//! - `lines`: the lines of bars.
+//! - `layout`, `counts`, `settle`, `writing`: the engine's parts. They plan a frame, count its rows, and write it.
+//! - `worked`: worked cases of the definitions.
 #![tactic(auto)]
 
 pub mod counts;
