@@ -1,8 +1,9 @@
 //! The rows of a terminal, and its cursor: what each operation does to them.
-ghost use Rattle.std.specs.Prelude.{◌≡◌, ◌-◌, ◌<◌, IfOk, IfErr, OnOk, OnErr, length, encode_utf8_all, string_bytes, map};
-ghost use Rattle.indicatif_term.specs.Screen.{performed, blank_screen, line_feed, put_wide, put_mark, top};
+ghost use Rattle.std.specs.Prelude.{◌≡◌, ◌+◌, ◌-◌, ◌<◌, ◌≤◌, [], false, IfOk, IfErr, OnOk, OnErr, length, encode_utf8_all, string_bytes, map};
+ghost use Rattle.indicatif_term.specs.Screen.{Put, Return, Up, Down, Right, Left, EmptyRow, performed, blank_screen, line_feed, put_wide, put_mark, put_here, top};
 ghost use Rattle.indicatif_term.specs.Pictures.{contents_text, picture_text};
 ghost use Rattle.indicatif_term.specs.Grids.{op_of};
+ghost use Rattle.unicode_width.specs.Width.{char_width};
 
 use crate::in_memory::row::Row;
 use indicatif_text::refusal::Refusal;
@@ -98,5 +99,143 @@ impl Grid {
     {
         let top = self.rows.len() - usize::from(self.height);
         ((self.row - top) as u16, self.column)
+    }
+
+    /// Carries out an operation. Refused: `Memory`; all is unchanged then.
+    pub(crate) fn perform(&mut self, op: Op) -> Result<(), Refusal>
+        ensures ok { OnOk result (self.new ≡ performed (op_of op) self.old) }
+        ensures err { OnErr result (self.new ≡ self.old) }
+        ensures refused { IfErr result (λ e. e ≡ Refusal.Memory) }
+    {
+        match op {
+            Op::Put(c) => return self.put(c),
+            Op::LineFeed => return self.feed_line(),
+            Op::Return => self.go_to_front(),
+            Op::Up(rows) => self.go_up(rows),
+            Op::Down(rows) => self.go_down(rows),
+            Op::Right(columns) => self.go_right(columns),
+            Op::Left(columns) => self.go_left(columns),
+            Op::EmptyRow => self.empty_row(),
+        }
+        Ok(())
+    }
+
+    /// To the front of the row.
+    fn go_to_front(&mut self)
+        ensures { self.new ≡ performed Return self.old }
+    {
+        self.column = 0;
+    }
+
+    /// This many rows up, to the first row of the window at most.
+    fn go_up(&mut self, rows: u16)
+        ensures { self.new ≡ performed (Up rows) self.old }
+    {
+        let top = self.rows.len() - usize::from(self.height);
+        self.row = self.row.saturating_sub(usize::from(rows)).max(top);
+    }
+
+    /// This many rows down, to the last row of the window at most.
+    fn go_down(&mut self, rows: u16)
+        ensures { self.new ≡ performed (Down rows) self.old }
+    {
+        let room = self.rows.len() - 1 - self.row;
+        self.row += usize::from(rows).min(room);
+    }
+
+    /// This many columns right, to the last column at most; a waiting cursor stays.
+    fn go_right(&mut self, columns: u16)
+        ensures { self.new ≡ performed (Right columns) self.old }
+    {
+        if self.column < self.columns {
+            let room = self.columns - 1 - self.column;
+            self.column += columns.min(room);
+        }
+    }
+
+    /// This many columns left, to the first column at most.
+    fn go_left(&mut self, columns: u16)
+        ensures { self.new ≡ performed (Left columns) self.old }
+    {
+        self.column = self.column.saturating_sub(columns);
+    }
+
+    /// Empties the cursor's row.
+    fn empty_row(&mut self)
+        ensures { self.new ≡ performed EmptyRow self.old }
+    {
+        let row = &mut self.rows[self.row];
+        row.empty();
+    }
+
+    /// One row down; after the last row comes a blank one. Refused: `Memory`; all is unchanged then.
+    fn feed_line(&mut self) -> Result<(), Refusal>
+        ensures ok { OnOk result (self.new ≡ line_feed self.old) }
+        ensures err { OnErr result (self.new ≡ self.old) }
+        ensures refused { IfErr result (λ e. e ≡ Refusal.Memory) }
+    {
+        if self.row + 1 == self.rows.len() {
+            let row = Row::blank(self.alloc, self.columns)?;
+            self.rows.push(row)?;
+        }
+        self.row += 1;
+        Ok(())
+    }
+
+    /// Shows a character at the cursor. Refused: `Memory`; all is unchanged then.
+    fn put(&mut self, c: char) -> Result<(), Refusal>
+        ensures ok { OnOk result (self.new ≡ performed (Put c) self.old) }
+        ensures err { OnErr result (self.new ≡ self.old) }
+        ensures refused { IfErr result (λ e. e ≡ Refusal.Memory) }
+    {
+        match c.width() {
+            None => Ok(()),
+            Some(0) => self.put_mark(c),
+            Some(columns) => self.put_wide(c, columns),
+        }
+    }
+
+    /// Joins a mark to the character before the cursor, if there is one. Refused: `Memory`; all is unchanged then.
+    fn put_mark(&mut self, mark: char) -> Result<(), Refusal>
+        ensures ok { OnOk result (self.new ≡ put_mark mark self.old) }
+        ensures err { OnErr result (self.new ≡ self.old) }
+        ensures refused { IfErr result (λ e. e ≡ Refusal.Memory) }
+    {
+        let at = usize::from(self.column);
+        let row = &mut self.rows[self.row];
+        row.join(self.alloc, at, mark)
+    }
+
+    /// Shows a character of this many columns. Refused: `Memory`; all is unchanged then.
+    fn put_wide(&mut self, c: char, columns: usize) -> Result<(), Refusal>
+        requires some { 0 < columns }
+        requires columns { char_width false c ≡ Some columns }
+        ensures ok { OnOk result (self.new ≡ put_wide c columns self.old) }
+        ensures err { OnErr result (self.new ≡ self.old) }
+        ensures refused { IfErr result (λ e. e ≡ Refusal.Memory) }
+    {
+        let all = usize::from(self.columns);
+        if columns > all {
+            return Ok(());
+        }
+        if usize::from(self.column) + columns > all {
+            self.feed_line()?;
+            self.go_to_front();
+        }
+        self.put_here(c, columns);
+        Ok(())
+    }
+
+    /// Shows a character of this many columns, which fits into the row.
+    fn put_here(&mut self, c: char, columns: usize)
+        requires some { 0 < columns }
+        requires columns { char_width false c ≡ Some columns }
+        requires fits { self.old.column + columns ≤ self.old.columns }
+        ensures { self.new ≡ put_here (record { base = c; marks = [] }) columns self.old }
+    {
+        let at = usize::from(self.column);
+        let row = &mut self.rows[self.row];
+        row.write(at, c, columns);
+        self.column += columns as u16;
     }
 }
