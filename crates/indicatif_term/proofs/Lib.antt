@@ -1,2 +1,3 @@
 pub mod RowEdits
+pub mod Spelled
 pub mod Wholes

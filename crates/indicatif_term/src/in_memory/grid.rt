@@ -1,7 +1,8 @@
 //! The rows of a terminal, and its cursor: what each operation does to them.
-ghost use Rattle.std.specs.Prelude.{◌≡◌, ◌+◌, ◌-◌, ◌<◌, ◌≤◌, [], false, IfOk, IfErr, OnOk, OnErr, length, encode_utf8_all, string_bytes, map};
+ghost use Rattle.std.specs.Prelude.{◌≡◌, ◌+◌, ◌-◌, ◌<◌, ◌≤◌, [], false, IfOk, IfErr, OnOk, OnErr, length, take, string_bytes, map};
+ghost use Rattle.std.specs.List.{join_with_byte};
 ghost use Rattle.indicatif_term.specs.Screen.{Put, Return, Up, Down, Right, Left, EmptyRow, performed, blank_screen, line_feed, put_wide, put_mark, put_here, top};
-ghost use Rattle.indicatif_term.specs.Pictures.{contents_text, picture_text};
+ghost use Rattle.indicatif_term.specs.Pictures.{contents_text, picture_text, row_text, written_rows};
 ghost use Rattle.indicatif_term.specs.Grids.{op_of};
 ghost use Rattle.unicode_width.specs.Width.{char_width};
 
@@ -99,6 +100,26 @@ impl Grid {
     {
         let top = self.rows.len() - usize::from(self.height);
         ((self.row - top) as u16, self.column)
+    }
+
+    /// The texts of all rows. Refused: `Memory`.
+    pub(crate) fn picture(&self) -> Result<Vec<String>, Refusal>
+        ensures picture { IfOk result (λ v. map (λ t. string_bytes t) v.items ≡ picture_text self.now) }
+        ensures refused { IfErr result (λ e. e ≡ Refusal.Memory) }
+    {
+        texts_of(self.alloc, &self.rows)
+    }
+
+    /// The texts of the window's rows up to the last one with a written cell, joined by line feeds. Refused: `Memory`.
+    pub(crate) fn contents(&self) -> Result<String, Refusal>
+        ensures contents { IfOk result (λ t. string_bytes t ≡ contents_text self.now) }
+        ensures refused { IfErr result (λ e. e ≡ Refusal.Memory) }
+    {
+        let top = self.rows.len() - usize::from(self.height);
+        let window = &self.rows[top..];
+        let mut text = String::new(self.alloc);
+        show_joined(&window[..written_length(window)], &mut text)?;
+        Ok(text)
     }
 
     /// Carries out an operation. Refused: `Memory`; all is unchanged then.
@@ -238,4 +259,48 @@ impl Grid {
         row.write(at, c, columns);
         self.column += columns as u16;
     }
+}
+
+/// The texts of rows. Refused: `Memory`.
+fn texts_of(alloc: Global, rows: &[Row]) -> Result<Vec<String>, Refusal>
+    ensures texts { IfOk result (λ v. map (λ t. string_bytes t) v.items ≡ map row_text rows.now) }
+    ensures refused { IfErr result (λ e. e ≡ Refusal.Memory) }
+{
+    let mut texts = Vec::with_capacity(alloc, rows.len())?;
+    for row in rows {
+        let mut text = String::new(alloc);
+        row.show(&mut text)?;
+        texts.push(text)?;
+    }
+    Ok(texts)
+}
+
+/// How many rows there are up to the last one with a written cell.
+fn written_length(rows: &[Row]) -> usize
+    ensures within { result ≤ length rows.now }
+    ensures written { take result rows.now ≡ written_rows rows.now }
+{
+    let mut written = rows.len();
+    while written > 0 {
+        if rows[written - 1].has_written() {
+            return written;
+        }
+        written -= 1;
+    }
+    0
+}
+
+/// Appends the texts of rows to `out`, a line feed between each two. Refused: `Memory`.
+fn show_joined(rows: &[Row], out: &mut String) -> Result<(), Refusal>
+    requires { string_bytes out.old ≡ [] }
+    ensures shown { OnOk result (string_bytes out.new ≡ join_with_byte 0x0A (map row_text rows.now)) }
+    ensures refused { IfErr result (λ e. e ≡ Refusal.Memory) }
+{
+    for (place, row) in rows.iter().enumerate() {
+        if place > 0 {
+            out.push('\n')?;
+        }
+        row.show(out)?;
+    }
+    Ok(())
 }
