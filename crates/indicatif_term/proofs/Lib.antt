@@ -1,3 +1,5 @@
+pub mod Fed
 pub mod RowEdits
+pub mod Shown
 pub mod Spelled
 pub mod Wholes

@@ -71,8 +71,9 @@ impl Cells {
         ensures refused { IfErr result (λ e. e ≡ Refusal.Memory) }
     {
         let reading = self.scanner.read(byte);
-        if let Some(op) = reading.op {
-            self.grid.perform(op)?;
+        match reading.op {
+            Some(op) => self.grid.perform(op)?,
+            None => {}
         }
         self.scanner = reading.next;
         Ok(())
