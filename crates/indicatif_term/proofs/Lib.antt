@@ -1,4 +1,5 @@
 pub mod Fed
+pub mod MoveTexts
 pub mod RowEdits
 pub mod Shown
 pub mod Spelled

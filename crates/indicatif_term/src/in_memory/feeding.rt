@@ -106,6 +106,14 @@ impl Cells {
         self.grid.contents()
     }
 
+    /// As made anew, with no memory taken.
+    pub(crate) fn reset(&mut self)
+        ensures { self.new ≡ blank_terminal self.old.screen.height self.old.screen.columns }
+    {
+        self.grid.reset();
+        self.scanner = Scanner::new();
+    }
+
     /// Columns.
     pub(crate) fn columns(&self) -> u16
         ensures { result ≡ self.now.screen.columns }

@@ -1,6 +1,7 @@
 //! The rows of a terminal, and its cursor: what each operation does to them.
-ghost use Rattle.std.specs.Prelude.{◌≡◌, ◌+◌, ◌-◌, ◌<◌, ◌≤◌, [], false, IfOk, IfErr, OnOk, OnErr, length, take, string_bytes, map};
+ghost use Rattle.std.specs.Prelude.{◌≡◌, ℕ, ◌+◌, ◌-◌, ◌<◌, ◌≤◌, [], false, IfOk, IfErr, OnOk, OnErr, length, take, replicate, slice_index_or, string_bytes, map};
 ghost use Rattle.std.specs.List.{join_with_byte};
+ghost use Rattle.indicatif_text.specs.Columns.{blank_row};
 ghost use Rattle.indicatif_term.specs.Screen.{Put, Return, Up, Down, Right, Left, EmptyRow, performed, blank_screen, line_feed, put_wide, put_mark, put_here, top};
 ghost use Rattle.indicatif_term.specs.Pictures.{contents_text, picture_text, row_text, written_rows};
 ghost use Rattle.indicatif_term.specs.Grids.{op_of};
@@ -120,6 +121,16 @@ impl Grid {
         let mut text = String::new(self.alloc);
         show_joined(&window[..written_length(window)], &mut text)?;
         Ok(text)
+    }
+
+    /// As made anew, with no memory taken: the rows that scrolled away are given up, the others emptied.
+    pub(crate) fn reset(&mut self)
+        ensures { self.new ≡ blank_screen self.old.height self.old.columns }
+    {
+        self.rows.truncate(usize::from(self.height));
+        empty_rows(&mut self.rows, self.columns);
+        self.row = 0;
+        self.column = 0;
     }
 
     /// Carries out an operation. Refused: `Memory`; all is unchanged then.
@@ -303,4 +314,14 @@ fn show_joined(rows: &[Row], out: &mut String) -> Result<(), Refusal>
         row.show(out)?;
     }
     Ok(())
+}
+
+/// Empties each cell of rows that have this many.
+fn empty_rows(rows: &mut [Row], columns: u16)
+    requires { (k : ℕ) → k < length rows.old → length (slice_index_or rows.old k []) ≡ columns }
+    ensures { rows.new ≡ replicate (length rows.old) (blank_row columns) }
+{
+    for row in rows.iter_mut() {
+        row.empty();
+    }
 }
