@@ -1,5 +1,5 @@
 -- A terminal that is fed bytes.
-use Rattle.std.proofs.Common.{◌≡◌, ℕ, List, [], ◌∷◌, ◌++◌, length, take, get_or, refl, sym, ◌∙◌, ap, append_assoc, arith, ◌+◌, ◌<◌}
+use Rattle.std.proofs.Common.{◌≡◌, ℕ, List, [], ◌∷◌, ◌++◌, length, take, get_or, refl, sym, ◌∙◌, ap, append_assoc, ◌+◌, ◌<◌}
 use Rattle.std.proofs.lemmas.List.{take_more}
 use Rattle.indicatif_term.specs.Screen.{Screen, Op, performed, performed_all}
 use Rattle.indicatif_term.specs.Terminal.{Terminal, Reader, byte_ops, byte_reader, ops_of, reader_after, after}

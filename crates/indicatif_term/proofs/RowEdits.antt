@@ -1,11 +1,10 @@
 -- Single steps of an edit of a row.
-use Rattle.std.proofs.Common.{◌≡◌, ℕ, zero, suc, ◌+◌, ◌-◌, ◌<◌, ◌≤◌, Bool, true, false, List, [], ◌∷◌, ◌++◌, length, get_or, set, take, drop, replicate, reverse, refl, sym, ◌∙◌, ap, arith, append_assoc, append-nil, add-one, length-append, length-drop, length-take}
+use Rattle.std.proofs.Common.{◌≡◌, ℕ, zero, suc, ◌+◌, ◌<◌, ◌≤◌, Bool, true, false, List, [], ◌∷◌, ◌++◌, length, get_or, set, take, drop, reverse, refl, sym, ◌∙◌, ap, arith, append_assoc, append-nil, add-one, length-append, length-drop}
 use Rattle.std.specs.Prelude.{if◌then◌else◌}
-use Rattle.std.proofs.lemmas.List.{take_more, take-set, drop-set, set_split, reverse-append, reverse-reverse, length-reverse, take-append-drop, drop-drop, take-take, replicate_more, length-replicate, take-append-le, take-set-le, drop-set-lt, take_more_set, length-take-le, take_all, drop_all, set_at, set-get_or, get_or_read}
+use Rattle.std.proofs.lemmas.List.{take_more, take-set, drop-set, set_split, reverse-append, reverse-reverse, length-reverse, take-append-drop, drop-drop, take-take, take-append-le, drop-set-lt, take_more_set, length-take-le, take_all, drop_all, set_at, set-get_or, get_or_read}
 use Rattle.std.proofs.Math.Seq.{drop-cons, drop-append_seam, take-append_seam, drop-append-add}
-use Rattle.std.proofs.lemmas.Grind.{common_steps}
-use Rattle.indicatif_text.specs.Columns.{Cell, Blank, Written, Continued, Glyph}
-use Rattle.indicatif_term.specs.Screen.{is_continued, emptied_front, emptied_glyph, cut_before, written_at, with_mark, joined_back, joined_at}
+use Rattle.indicatif_text.specs.Columns.{Cell, Blank, Written, Continued}
+use Rattle.indicatif_term.specs.Screen.{is_continued, emptied_front, emptied_glyph, cut_before, written_at, joined_back, joined_at}
 use Rattle.std.specs.List.{list_all}
 use Rattle.std.proofs.lemmas.List.Folds.{list_all_at}
 use Rattle.indicatif_term.specs.Pictures.{is_blank, trimmed}

@@ -1,7 +1,7 @@
 -- Screens whose rows all have their cells.
-use Rattle.std.proofs.Common.{◌≡◌, ℕ, zero, suc, ◌+◌, ◌-◌, ◌<◌, ◌≤◌, Bool, true, false, List, [], ◌∷◌, ◌++◌, length, get_or, set, take, drop, replicate, reverse, refl, sym, ◌∙◌, ap, arith, append_assoc, length-append, length-drop}
+use Rattle.std.proofs.Common.{◌≡◌, ℕ, zero, suc, ◌+◌, ◌-◌, ◌<◌, ◌≤◌, Bool, true, false, List, [], ◌∷◌, ◌++◌, length, get_or, set, take, drop, replicate, reverse, refl, sym, ◌∙◌, ap, arith, length-append, length-drop}
 use Rattle.std.specs.Prelude.{if◌then◌else◌}
-use Rattle.std.proofs.lemmas.List.{length-set, length-reverse, length-take-le, length-replicate, take-append-drop, get_or_read, take_more_set, replicate_more}
+use Rattle.std.proofs.lemmas.List.{length-set, length-reverse, length-replicate, take-append-drop, get_or_read, take_more_set, replicate_more}
 use Rattle.indicatif_text.specs.Columns.{Cell, Blank, Written, Continued, blank_row}
 use Rattle.indicatif_term.specs.Screen.{Screen, written_at, joined_at, joined_back, cut_before, emptied_front}
 use Rattle.indicatif_term.specs.Slots.{character_cells}
@@ -73,6 +73,7 @@ pub emptied_more : (w i : ℕ) (rows : List (List Cell)) (r new : List Cell) →
     (take (i + 1) (set rows i new) ≡ replicate (i + 1) (blank_row w)) × AllOf w (set rows i new)
 emptied_more w i rows r new h at all e done =
     let full : length (get_or rows i r) ≡ w = ap length (sym at ∙ get_or_read rows i r h at []) ∙ all i h in
-    let is : new ≡ blank_row w = e ∙ ap blank_row full in
-    (take_more_set rows i new h ∙ ap (λ rs. rs ++ new ∷ []) done ∙ ap (λ y. replicate i (blank_row w) ++ y ∷ []) is ∙ replicate_more i (blank_row w),
-    all-set w rows i new all (ap length is ∙ length-replicate w Blank))
+    let is : new ≡ blank_row w = e ∙ ap blank_row full in (
+      take_more_set rows i new h ∙ ap (λ rs. rs ++ new ∷ []) done ∙ ap (λ y. replicate i (blank_row w) ++ y ∷ []) is ∙ replicate_more i (blank_row w),
+      all-set w rows i new all (ap length is ∙ length-replicate w Blank),
+    )

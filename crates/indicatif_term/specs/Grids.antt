@@ -1,5 +1,5 @@
 -- The rows of a terminal as they are kept.
-use Rattle.std.specs.Prelude.{◌≡◌, ℕ, ◌-◌, ◌<◌, ◌≤◌, length, slice_index_or, []}
+use Rattle.std.specs.Prelude.{◌≡◌, ℕ, ◌<◌, ◌≤◌, length, slice_index_or, []}
 use Rattle.indicatif_term.specs.Screen.{Screen, Op, Put, Return, LineFeed, Up, Down, Right, Left, EmptyRow, top}
 use Rattle.indicatif_term.specs.declared.in_memory.grid.Grid.TheInside.{Inside}
 use Rattle.indicatif_term.specs.declared.in_memory.grid.Op as kept

@@ -1,7 +1,7 @@
 -- What a screen shows, as text. An empty cell and a written space are the same blank.
-use Rattle.std.specs.Prelude.{ℕ, ◌+◌, ◌-◌, Bool, true, false, ◌&&◌, ◌==◌, not, List, [], ◌∷◌, map, drop, flat_map, encode_utf8_all, if◌then◌else◌}
+use Rattle.std.specs.Prelude.{ℕ, Bool, true, false, ◌&&◌, ◌==◌, List, [], ◌∷◌, map, drop, flat_map, encode_utf8_all, if◌then◌else◌}
 use Rattle.std.specs.List.{list_any, list_all, join_with_byte}
-use Rattle.indicatif_text.specs.Columns.{Cell, Blank, Written, Continued, Glyph}
+use Rattle.indicatif_text.specs.Columns.{Cell, Blank, Written, Continued}
 use Rattle.indicatif_term.specs.Screen.{Screen, top}
 
 -- the characters of a cell: a blank one for an empty cell

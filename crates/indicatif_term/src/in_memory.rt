@@ -9,7 +9,7 @@
 //! - `moves`: the calls as text, and the bytes of a move.
 //!
 //! `InMemoryTerm` is that terminal as a bar's target.
-ghost use Rattle.std.specs.Prelude.{◌≡◌, ◌-◌, ◌++◌, ◌==◌, ◌⊎◌, ◌↔◌, [], if◌then◌else◌, map, codes, IfOk, IfErr, OnOk, OnErr, string_bytes};
+ghost use Rattle.std.specs.Prelude.{◌≡◌, ◌-◌, ◌++◌, ◌==◌, ◌⊎◌, ◌↔◌, [], if◌then◌else◌, map, codes, IfOk, IsOkAnd, IfErr, OnOk, OnErr, string_bytes};
 ghost use Rattle.std.specs.IoError.{error_kind};
 ghost use Rattle.indicatif_term.specs.Screen.{top};
 ghost use Rattle.indicatif_term.specs.Terminal.{after, blank_terminal};
@@ -25,16 +25,14 @@ mod scanner;
 mod slot;
 mod spelling;
 
-pub use feeding::Cells;
-
 use crate::in_memory::moves::{MoveBytes, ended_line, move_line, own_line, text_line};
 use crate::term_like::TermLike;
+pub use feeding::Cells;
 use indicatif_text::refusal::Refusal;
 use std::alloc::Global;
-use std::io;
 use std::io::ErrorKind;
 use std::marker::Model;
-use std::mem;
+use std::{io, mem};
 
 /// A terminal in memory, on which bars can be drawn. It tells its state, and keeps the calls that it was given as
 /// text. Rows that scroll away are kept.
@@ -129,7 +127,7 @@ impl InMemoryTerm {
     /// Keeps the text of a call, then reads its bytes: `bytes` and `end`.
     fn play(&mut self, line: Result<String, Refusal>, bytes: &[u8], end: &[u8]) -> io::Result<()>
         ensures writes { Writes (bytes.now ++ end.now) (view_of self.old) (view_of self.new) result }
-        ensures kept { OnOk result (IfOk line (λ t. self.new.moves ≡ self.old.moves ++ string_bytes t)) }
+        ensures kept { OnOk result (IsOkAnd line (λ t. self.new.moves ≡ self.old.moves ++ string_bytes t)) }
         ensures kind { IfErr result (λ e. error_kind e ≡ ErrorKind.OutOfMemory) }
     {
         match self.try_play(line, bytes, end) {
@@ -142,11 +140,16 @@ impl InMemoryTerm {
     }
 
     /// The same, without the count of faults.
-    fn try_play(&mut self, line: Result<String, Refusal>, bytes: &[u8], end: &[u8]) -> Result<(), Refusal>
+    fn try_play(
+        &mut self,
+        line: Result<String, Refusal>,
+        bytes: &[u8],
+        end: &[u8],
+    ) -> Result<(), Refusal>
         ensures read { OnOk result (self.new.terminal ≡ after self.old.terminal (bytes.now ++ end.now)) }
         ensures stopped { OnErr result (ReadsBeginning (bytes.now ++ end.now) self.old.terminal self.new.terminal) }
         ensures faults { self.new.faults ≡ self.old.faults }
-        ensures kept { OnOk result (IfOk line (λ t. self.new.moves ≡ self.old.moves ++ string_bytes t)) }
+        ensures kept { OnOk result (IsOkAnd line (λ t. self.new.moves ≡ self.old.moves ++ string_bytes t)) }
     {
         let line = line?;
         self.moves.push_str(&line)?;
@@ -161,10 +164,10 @@ impl InMemoryTerm {
         ensures faults { self.new.faults ≡ self.old.faults }
         ensures moves { self.new.moves ≡ self.old.moves }
     {
-        match self.cells.feed(bytes) {
-            Ok(()) => Ok(()),
-            Err((_, refusal)) => Err(refusal),
+        if let Err((_, refusal)) = self.cells.feed(bytes) {
+            return Err(refusal);
         }
+        Ok(())
     }
 }
 

@@ -152,5 +152,9 @@ fn hex_digit(value: u32) -> char
     requires { value < 16 }
     ensures { result ≡ hex_digit value }
 {
-    if value < 10 { char::from(48 + value as u8) } else { char::from(87 + value as u8) }
+    if value < 10 {
+        char::from(48 + value as u8)
+    } else {
+        char::from(87 + value as u8)
+    }
 }

@@ -27,13 +27,7 @@ impl Stage {
     {
         match self {
             Stage::Outside => plain_op(c),
-            Stage::AfterEscape => {
-                if c == '[' {
-                    None
-                } else {
-                    plain_op(c)
-                }
-            }
+            Stage::AfterEscape => { if c == '[' { None } else { plain_op(c) } }
             Stage::InSequence(number) => {
                 if is_parameter(c) {
                     None

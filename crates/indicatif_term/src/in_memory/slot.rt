@@ -9,7 +9,6 @@ use indicatif_text::refusal::Refusal;
 use std::alloc::Global;
 use std::marker::Model;
 
-
 /// A character with the marks joined to it, of which there is one at least.
 #[derive(Drop)]
 struct Marked {

@@ -64,7 +64,11 @@ impl Spelling {
         ensures kept { result ≡ kept self }
         ensures short { length result < 4 }
     {
-        if self.len < 4 { self } else { Spelling::empty() }
+        if self.len < 4 {
+            self
+        } else {
+            Spelling::empty()
+        }
     }
 }
 

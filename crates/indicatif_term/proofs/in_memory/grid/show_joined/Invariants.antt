@@ -1,4 +1,4 @@
-use Rattle.std.proofs.Common.{◌≡◌, ◌+◌, ◌-◌, ◌≤◌, ◌++◌, length, take, drop, map, string_bytes, false}
+use Rattle.std.proofs.Common.{◌≡◌, take, map, string_bytes}
 use Rattle.std.specs.List.{join_with_byte}
 use Rattle.indicatif_term.specs.Pictures.{row_text}
 use Rattle.indicatif_term.proofs.in_memory.grid.show_joined.Given as goal

@@ -1,4 +1,4 @@
-use Rattle.std.proofs.Common.{◌≡◌, ◌∙◌, ◌-◌, ◌+◌, ◌<◌, suc, true, false, length, take, drop, sym, ap, arith}
+use Rattle.std.proofs.Common.{◌≡◌, ◌∙◌, ◌-◌, suc, true, take, drop, sym, ap, arith}
 use Rattle.std.specs.List.{list_any}
 use Rattle.indicatif_term.specs.Pictures.{has_written}
 use Rattle.indicatif_term.proofs.Shown.{written_last, written_rows-none}

@@ -1,4 +1,4 @@
-use Rattle.std.proofs.Common.{◌≡◌, ◌+◌, ◌-◌, ◌≤◌, ◌++◌, length, take, drop, map, string_bytes, false}
+use Rattle.std.proofs.Common.{◌≡◌, ◌≤◌, length, drop, false}
 use Rattle.std.specs.List.{list_any}
 use Rattle.indicatif_term.specs.Pictures.{has_written}
 use Rattle.indicatif_term.proofs.in_memory.grid.written_length.Given as goal

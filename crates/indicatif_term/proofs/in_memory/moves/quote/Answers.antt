@@ -1,4 +1,4 @@
-use Rattle.std.proofs.Common.{◌≡◌, ◌∙◌, ◌++◌, ◌∷◌, ap, sym, chars, append_assoc, append-nil, encode_utf8_all, string_bytes}
+use Rattle.std.proofs.Common.{◌∙◌, ◌++◌, ap, sym, chars, append_assoc, append-nil, encode_utf8_all, string_bytes}
 use Rattle.std.specs.Prelude.{flat_map}
 use Rattle.std.specs.Str.{IsUtf8}
 use Rattle.std.specs.Str.Iter.{chars_rest}
@@ -26,8 +26,8 @@ loop-c-preserved c =
     record {
       utf8 = IsUtf8-past_char bs rest c.in-Some.c u e;
       quoted = ap (λ t. t ++ encode_utf8_all more) c.in_ok-quote_character.ensures.quoted
-      ∙ append_assoc out (encode_utf8_all q) (encode_utf8_all more) ∙ ap (λ t. out ++ t) (sym (encodes-append q more))
-      ∙ ap (λ cs. out ++ encode_utf8_all (flat_map quoted_char cs)) (sym (chars_past_char bs rest c.in-Some.c u e)) ∙ c.loop-c.invariant.quoted;
+          ∙ append_assoc out (encode_utf8_all q) (encode_utf8_all more) ∙ ap (λ t. out ++ t) (sym (encodes-append q more))
+          ∙ ap (λ cs. out ++ encode_utf8_all (flat_map quoted_char cs)) (sym (chars_past_char bs rest c.in-Some.c u e)) ∙ c.loop-c.invariant.quoted;
     }
 
 pub returns-clause-quoted : goal.returns-clause-quoted

@@ -1,4 +1,4 @@
-use Rattle.std.proofs.Common.{◌≡◌, ◌+◌, ◌-◌, ◌≤◌, ◌++◌, length, take, drop, replicate, encode_utf8_all, string_bytes, false}
+use Rattle.std.proofs.Common.{◌≡◌, take, replicate}
 use Rattle.indicatif_text.specs.Columns.{Blank}
 use Rattle.indicatif_term.proofs.in_memory.row.empty_all.Given as goal
 

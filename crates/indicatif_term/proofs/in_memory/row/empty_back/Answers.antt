@@ -1,4 +1,4 @@
-use Rattle.std.proofs.Common.{◌≡◌, ◌∙◌, ◌-◌, ◌+◌, ◌<◌, length, set, false, sym, ap, arith}
+use Rattle.std.proofs.Common.{◌≡◌, ◌∙◌, ◌-◌, ◌+◌, set, false, sym, ap, arith}
 use Rattle.indicatif_term.specs.Screen.{is_continued}
 use Rattle.indicatif_term.specs.Slots.{emptied_back}
 use Rattle.indicatif_term.proofs.RowEdits.{back_last}

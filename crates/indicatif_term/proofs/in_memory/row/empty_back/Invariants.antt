@@ -1,4 +1,4 @@
-use Rattle.std.proofs.Common.{◌≡◌, ◌+◌, ◌-◌, ◌≤◌, ◌++◌, length, take, drop, replicate, encode_utf8_all, string_bytes, false}
+use Rattle.std.proofs.Common.{◌≡◌, ◌≤◌, length}
 use Rattle.indicatif_term.specs.Slots.{emptied_back}
 use Rattle.indicatif_term.proofs.in_memory.row.empty_back.Given as goal
 

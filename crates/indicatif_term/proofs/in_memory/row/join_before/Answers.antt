@@ -1,4 +1,4 @@
-use Rattle.std.proofs.Common.{◌≡◌, ◌∙◌, ◌-◌, ◌+◌, ◌<◌, length, set, false, sym, ap, arith}
+use Rattle.std.proofs.Common.{◌≡◌, ◌∙◌, ◌-◌, ◌+◌, false, sym, ap, arith}
 use Rattle.indicatif_term.specs.Screen.{is_continued, joined_at}
 use Rattle.indicatif_term.proofs.RowEdits.{join_last, kept_or}
 use Rattle.indicatif_term.proofs.in_memory.row.join_before.Goals as goal

@@ -1,4 +1,4 @@
-use Rattle.std.proofs.Common.{◌≡◌, ◌∙◌, ◌-◌, ◌+◌, ◌<◌, ◌≤◌, [], ◌∷◌, ◌++◌, length, replicate, set, sym, ap, refl, arith}
+use Rattle.std.proofs.Common.{◌≡◌, ◌∙◌, ◌-◌, ◌+◌, [], ◌∷◌, replicate, set, sym, ap, arith}
 use Rattle.std.proofs.lemmas.List.{length-replicate, replicate_more}
 use Rattle.indicatif_text.specs.Columns.{Written, Continued}
 use Rattle.indicatif_term.specs.Slots.{overwritten, character_cells}

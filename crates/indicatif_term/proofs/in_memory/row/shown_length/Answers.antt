@@ -1,4 +1,4 @@
-use Rattle.std.proofs.Common.{◌≡◌, ◌∙◌, ◌-◌, ◌+◌, ◌<◌, suc, true, false, length, take, drop, sym, ap, arith}
+use Rattle.std.proofs.Common.{◌≡◌, ◌∙◌, ◌-◌, suc, false, take, drop, sym, ap, arith}
 use Rattle.std.specs.List.{list_all}
 use Rattle.indicatif_term.specs.Pictures.{is_blank}
 use Rattle.indicatif_term.proofs.RowEdits.{trimmed_last, trimmed-all}

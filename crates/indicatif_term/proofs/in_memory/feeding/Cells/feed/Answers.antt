@@ -1,4 +1,4 @@
-use Rattle.std.proofs.Common.{sym, arith}
+use Rattle.std.proofs.Common.{sym}
 use Rattle.indicatif_term.proofs.Fed.{after-nil, after_more}
 use Rattle.indicatif_term.proofs.in_memory.feeding.Cells.feed.Goals as goal
 

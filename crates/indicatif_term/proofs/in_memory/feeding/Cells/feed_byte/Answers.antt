@@ -1,6 +1,5 @@
-use Rattle.std.proofs.Common.{◌≡◌, ◌∙◌, ◌∷◌, [], ap, sym, refl}
+use Rattle.std.proofs.Common.{◌≡◌, ◌∙◌, ◌∷◌, [], ap, sym}
 use Rattle.std.specs.Prelude.{map, option_to_list}
-use Rattle.indicatif_term.specs.Screen.{Op}
 use Rattle.indicatif_term.specs.Terminal.{Terminal, byte_ops, after}
 use Rattle.indicatif_term.specs.Grids.{op_of}
 use Rattle.indicatif_term.proofs.Fed.{fed_one, fed_none}

@@ -1,4 +1,4 @@
-use Rattle.std.proofs.Common.{◌≡◌, ◌∙◌, length, ap, refl, arith}
+use Rattle.std.proofs.Common.{◌≡◌, ◌∙◌, length, ap, refl}
 use Rattle.std.specs.Prelude.{is_ok}
 use Rattle.indicatif_term.specs.Grids.{screen_of}
 use Rattle.indicatif_term.proofs.Wholes.{cursor_full, row_written, length-joined_or}

@@ -1,4 +1,4 @@
-use Rattle.std.proofs.Common.{◌≡◌, ◌∙◌, ◌≤◌, ◌++◌, ◌<◌, ◌^◌, length, ap, refl, arith, rules}
+use Rattle.std.proofs.Common.{◌∙◌, ◌≤◌, ◌++◌, length, ap, refl, arith, rules}
 use Rattle.std.specs.Prelude.{decimal}
 use Rattle.std.proofs.lemmas.Fmt.{length-decimal-le}
 use Rattle.indicatif_term.proofs.MoveTexts.{built}

@@ -1,4 +1,4 @@
-use Rattle.std.proofs.Common.{◌≡◌, ◌+◌, ◌-◌, ◌≤◌, ◌++◌, length, take, drop, replicate, encode_utf8_all, string_bytes, false}
+use Rattle.std.proofs.Common.{◌≡◌, take, false}
 use Rattle.std.specs.List.{list_any}
 use Rattle.indicatif_term.specs.Pictures.{is_written}
 use Rattle.indicatif_term.proofs.in_memory.row.Row.has_written.Given as goal

@@ -1,4 +1,4 @@
-use Rattle.std.proofs.Common.{◌≡◌, ◌+◌, ◌-◌, ◌≤◌, ◌++◌, length, take, drop, replicate, encode_utf8_all, string_bytes, false}
+use Rattle.std.proofs.Common.{◌≡◌, ◌++◌, take, encode_utf8_all, string_bytes}
 use Rattle.std.specs.Prelude.{flat_map}
 use Rattle.indicatif_term.specs.Pictures.{cell_text}
 use Rattle.indicatif_term.proofs.in_memory.row.Row.show.Given as goal

@@ -1,4 +1,4 @@
-use Rattle.std.proofs.Common.{◌≡◌, ◌∙◌, ◌-◌, ◌+◌, ◌<◌, ◌≤◌, length, sym, ap, arith}
+use Rattle.std.proofs.Common.{◌≡◌, ◌∙◌, ◌-◌, ◌+◌, ◌≤◌, length, ap, arith}
 use Rattle.std.proofs.lemmas.List.{length-replicate}
 use Rattle.indicatif_text.specs.Columns.{Continued}
 use Rattle.indicatif_term.specs.Screen.{written_at}

@@ -1,4 +1,4 @@
-use Rattle.std.proofs.Common.{◌≡◌, ◌∙◌, length, take, ap, sym, subst, arith}
+use Rattle.std.proofs.Common.{◌∙◌, sym, subst}
 use Rattle.std.specs.Str.{IsUtf8}
 use Rattle.indicatif_term.proofs.Spelled.{spelled, not_spelled}
 use Rattle.indicatif_term.proofs.in_memory.spelling.Spelling.character.Goals as goal
