@@ -4,13 +4,13 @@ use Rattle.std.proofs.lemmas.List.{take_more}
 use Rattle.indicatif_term.specs.Screen.{Screen, Op, performed, performed_all}
 use Rattle.indicatif_term.specs.Terminal.{Terminal, Reader, byte_ops, byte_reader, ops_of, reader_after, after}
 
-ops_of-append : (r : Reader) (xs ys : List ℕ) → ops_of r (xs ++ ys) ≡ ops_of r xs ++ ops_of (reader_after r xs) ys
+pub ops_of-append : (r : Reader) (xs ys : List ℕ) → ops_of r (xs ++ ys) ≡ ops_of r xs ++ ops_of (reader_after r xs) ys
 ops_of-append r [] ys = refl
 ops_of-append r (x ∷ xs) ys =
     ap (λ ops. byte_ops r x ++ ops) (ops_of-append (byte_reader r x) xs ys)
     ∙ sym (append_assoc (byte_ops r x) (ops_of (byte_reader r x) xs) (ops_of (reader_after (byte_reader r x) xs) ys))
 
-reader_after-append : (r : Reader) (xs ys : List ℕ) → reader_after r (xs ++ ys) ≡ reader_after (reader_after r xs) ys
+pub reader_after-append : (r : Reader) (xs ys : List ℕ) → reader_after r (xs ++ ys) ≡ reader_after (reader_after r xs) ys
 reader_after-append r [] ys = refl
 reader_after-append r (x ∷ xs) ys = reader_after-append (byte_reader r x) xs ys
 

@@ -4,5 +4,13 @@
 //! - `in_memory`: a terminal in memory.
 #![tactic(auto)]
 
+pub mod counts;
+pub mod draw_target;
 pub mod in_memory;
+pub mod layout;
+pub mod lines;
+pub mod settle;
+pub mod target;
 pub mod term_like;
+pub mod worked;
+pub mod writing;
