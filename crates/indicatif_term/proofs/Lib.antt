@@ -1,3 +1,10 @@
+pub mod Fed
+pub mod MemoryLaws
+pub mod MoveTexts
+pub mod RowEdits
+pub mod Shown
+pub mod Spelled
+pub mod Wholes
 pub mod Standing
 pub mod Rows
 pub mod Glyphs

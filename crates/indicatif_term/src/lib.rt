@@ -5,10 +5,12 @@
 //! - `lines`: the lines of bars.
 //! - `layout`, `counts`, `settle`, `writing`: the engine's parts. They plan a frame, count its rows, and write it.
 //! - `worked`: worked cases of the definitions.
+//! - `in_memory`: a terminal in memory.
 #![tactic(auto)]
 
 pub mod counts;
 pub mod draw_target;
+pub mod in_memory;
 pub mod layout;
 pub mod lines;
 pub mod settle;
