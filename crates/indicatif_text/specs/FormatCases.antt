@@ -1,19 +1,19 @@
 -- Worked cases of the formatters' texts.
 use Rattle.std.specs.Prelude.{◌≡◌, ℕ, ◌*◌, ◌^◌, ◌-◌, codes}
-use Rattle.indicatif_text.specs.Format.{second, human_duration, short_duration, formatted_duration, binary_bytes, decimal_bytes, human_count, human_float_count}
+use Rattle.indicatif_text.specs.Format.{nanos_per_second, human_duration, short_duration, formatted_duration, binary_bytes, decimal_bytes, human_count, human_float_count}
 
 abbrev pub DurationCases : Type 0
 DurationCases = (human_duration 89499000000 ≡ codes "89 seconds") × (human_duration 89500000000 ≡ codes "2 minutes")
     × (human_duration 0 ≡ codes "0 seconds") × (human_duration 499000000 ≡ codes "0 seconds") × (human_duration 500000000 ≡ codes "1 second")
-    × (human_duration 1499000000 ≡ codes "1 second") × (human_duration (365 * 86400 * second) ≡ codes "52 weeks")
+    × (human_duration 1499000000 ≡ codes "1 second") × (human_duration (365 * 86400 * nanos_per_second) ≡ codes "52 weeks")
     × (human_duration (2 ^ 64 - 1) ≡ codes "585 years")
 
 abbrev pub ShortDurationCases : Type 0
-ShortDurationCases = (short_duration (4 * second) ≡ codes "4s") × (short_duration (2 ^ 64 - 1) ≡ codes "585y")
+ShortDurationCases = (short_duration (4 * nanos_per_second) ≡ codes "4s") × (short_duration (2 ^ 64 - 1) ≡ codes "585y")
 
 abbrev pub FormattedDurationCases : Type 0
-FormattedDurationCases = (formatted_duration (90061 * second) ≡ codes "1d 01:01:01") × (formatted_duration 0 ≡ codes "00:00:00")
-    × (formatted_duration (86400 * second - 1) ≡ codes "23:59:59") × (formatted_duration (2 ^ 64 - 1) ≡ codes "213503d 23:34:33")
+FormattedDurationCases = (formatted_duration (90061 * nanos_per_second) ≡ codes "1d 01:01:01") × (formatted_duration 0 ≡ codes "00:00:00")
+    × (formatted_duration (86400 * nanos_per_second - 1) ≡ codes "23:59:59") × (formatted_duration (2 ^ 64 - 1) ≡ codes "213503d 23:34:33")
 
 abbrev pub BinaryBytesCases : Type 0
 BinaryBytesCases = (binary_bytes 0 ≡ codes "0 B") × (binary_bytes 1023 ≡ codes "1023 B") × (binary_bytes 1024 ≡ codes "1.00 KiB")

@@ -1,12 +1,110 @@
-//! Numbers as texts for people: durations, bytes and counts, each written in one piece and without memory.
-ghost use Rattle.std.specs.Prelude.{Some};
-ghost use Rattle.indicatif_text.specs.Format.{human_count};
+//! Numbers as texts for people: durations, bytes and counts.
+//!
+//! Each value is exact: quotients are of whole numbers and rounded once, to nearest. To print one takes no memory, and is
+//! one write; the options of a hole, as a width, change nothing.
+ghost use Rattle.std.specs.Prelude.{◌≡◌, ◌++◌, Some, OnOk, OnErr, IfErr};
+ghost use Rattle.std.specs.String.{string_bytes};
+ghost use Rattle.indicatif_text.specs.Format.{formatted_duration, human_duration, short_duration, binary_bytes, decimal_bytes, human_count};
 
+mod bytes;
 mod cases;
+mod durations;
+mod rounding;
 mod short_text;
 
+use crate::refusal::Refusal;
 use short_text::ShortText;
 use std::fmt;
+
+/// A duration in nanoseconds, as hours, minutes and seconds of two digits, `HH:MM:SS`, after `Dd ` where there are D
+/// whole days. What is less than a second is left out.
+#[derive(Clone, Copy, Debug, Drop, PartialEq, Eq)]
+pub struct FormattedDuration(pub u64);
+
+impl fmt::Display for FormattedDuration {
+    ghost output = { λ duration. Some (formatted_duration duration.0) };
+
+    ghost styled_output = { λ duration _. Some (formatted_duration duration.0) };
+
+    fn fmt<W: fmt::Write>(&self, f: &mut fmt::Formatter<W>) -> fmt::Result {
+        f.write_str(durations::formatted_text(self.0).as_str())
+    }
+}
+
+/// A duration in nanoseconds, as so many years (of 365 days), weeks, days, hours, minutes or seconds.
+///
+/// The unit is the first of which the duration, with half of the next smaller unit, is at least one and a half; or else
+/// seconds. The count is rounded to nearest, a half up, and is at least 2 but for seconds: `89 seconds`, `2 minutes`.
+#[derive(Clone, Copy, Debug, Drop, PartialEq, Eq)]
+pub struct HumanDuration(pub u64);
+
+impl fmt::Display for HumanDuration {
+    ghost output = { λ duration. Some (human_duration duration.0) };
+
+    ghost styled_output = { λ duration _. Some (human_duration duration.0) };
+
+    fn fmt<W: fmt::Write>(&self, f: &mut fmt::Formatter<W>) -> fmt::Result {
+        f.write_str(durations::words_text(self.0).as_str())
+    }
+}
+
+impl HumanDuration {
+    /// Appends the short form to `out`: the count and the unit's first letter, as `89s`.
+    ///
+    /// Refused: `Memory`, and then `out` is as before.
+    pub fn write_short(&self, out: &mut String) -> Result<(), Refusal>
+        ensures written { OnOk result (string_bytes out.new ≡ string_bytes out.old ++ short_duration self.now.0) }
+        ensures unchanged { OnErr result (string_bytes out.new ≡ string_bytes out.old) }
+        ensures memory { IfErr result (λ e. e ≡ Refusal.Memory) }
+    {
+        out.push_str(durations::letter_text(self.0).as_str())?;
+        Ok(())
+    }
+}
+
+/// A number of bytes by powers of 1024: below that `n B`, else two decimals and the greatest prefix of `Ki`, `Mi`, `Gi`,
+/// `Ti`, `Pi` and `Ei` that leaves at least 1, chosen before rounding. The quotient is rounded to nearest, ties to even.
+#[derive(Clone, Copy, Debug, Drop, PartialEq, Eq)]
+pub struct HumanBytes(pub u64);
+
+impl fmt::Display for HumanBytes {
+    ghost output = { λ bytes. Some (binary_bytes bytes.0) };
+
+    ghost styled_output = { λ bytes _. Some (binary_bytes bytes.0) };
+
+    fn fmt<W: fmt::Write>(&self, f: &mut fmt::Formatter<W>) -> fmt::Result {
+        f.write_str(bytes::binary_text(self.0).as_str())
+    }
+}
+
+/// A number of bytes by powers of 1000: below that `n B`, else two decimals and the greatest prefix of `k`, `M`, `G`, `T`,
+/// `P` and `E` that leaves at least 1, chosen before rounding. The quotient is rounded to nearest, ties to even.
+#[derive(Clone, Copy, Debug, Drop, PartialEq, Eq)]
+pub struct DecimalBytes(pub u64);
+
+impl fmt::Display for DecimalBytes {
+    ghost output = { λ bytes. Some (decimal_bytes bytes.0) };
+
+    ghost styled_output = { λ bytes _. Some (decimal_bytes bytes.0) };
+
+    fn fmt<W: fmt::Write>(&self, f: &mut fmt::Formatter<W>) -> fmt::Result {
+        f.write_str(bytes::decimal_text(self.0).as_str())
+    }
+}
+
+/// A number of bytes by powers of 1024, as `HumanBytes` writes it.
+#[derive(Clone, Copy, Debug, Drop, PartialEq, Eq)]
+pub struct BinaryBytes(pub u64);
+
+impl fmt::Display for BinaryBytes {
+    ghost output = { λ bytes. Some (binary_bytes bytes.0) };
+
+    ghost styled_output = { λ bytes _. Some (binary_bytes bytes.0) };
+
+    fn fmt<W: fmt::Write>(&self, f: &mut fmt::Formatter<W>) -> fmt::Result {
+        f.write_str(bytes::binary_text(self.0).as_str())
+    }
+}
 
 /// A count as its decimal numeral, with a comma before every third digit from the right except at the front.
 #[derive(Clone, Copy, Debug, Drop, PartialEq, Eq)]
