@@ -39,6 +39,11 @@ after_point (d ∷ ds) = 0x2E ∷ d ∷ ds
 unfoldable pub human_count : ℕ → List ℕ
 human_count n = with_commas (decimal n)
 
+-- a quotient of whole numbers
+pub record Quotient : Type 0 where
+  pub num : ℕ
+  pub den : ℕ
+
 -- `HumanFloatCount` of num / den, rounded at so many decimals
 unfoldable pub human_float_count : ℕ → ℕ → ℕ → List ℕ
 human_float_count num den places =

@@ -2,19 +2,21 @@
 //!
 //! Each value is exact: quotients are of whole numbers and rounded once, to nearest. To print one takes no memory, and is
 //! one write; the options of a hole, as a width, change nothing.
-ghost use Rattle.std.specs.Prelude.{◌≡◌, ◌++◌, Some, OnOk, OnErr, IfErr};
+ghost use Rattle.std.specs.Prelude.{◌≡◌, ◌<◌, ◌++◌, ◌↔◌, Some, IfSome, OnOk, OnErr, IfErr};
 ghost use Rattle.std.specs.String.{string_bytes};
-ghost use Rattle.indicatif_text.specs.Format.{formatted_duration, human_duration, short_duration, binary_bytes, decimal_bytes, human_count};
+ghost use Rattle.indicatif_text.specs.Format.{formatted_duration, human_duration, short_duration, binary_bytes, decimal_bytes, human_count, Quotient, human_float_count};
 
 mod bytes;
 mod cases;
 mod durations;
+mod quotients;
 mod rounding;
 mod short_text;
 
 use crate::refusal::Refusal;
 use short_text::ShortText;
 use std::fmt;
+use std::marker::Model;
 
 /// A duration in nanoseconds, as hours, minutes and seconds of two digits, `HH:MM:SS`, after `Dd ` where there are D
 /// whole days. What is less than a second is left out.
@@ -119,5 +121,45 @@ impl fmt::Display for HumanCount {
         let mut text = ShortText::new();
         text.prepend_count(self.0);
         f.write_str(text.as_str())
+    }
+}
+
+/// A quotient of whole numbers, rounded at four decimals: to nearest, ties to even. The whole part has commas as
+/// `HumanCount`; zeros at the end are dropped, and so is the point if nothing follows it.
+#[derive(Debug, Drop)]
+pub struct HumanFloatCount {
+    num: u128,
+    den: u64,
+}
+
+/// A count is its quotient.
+impl Model for HumanFloatCount {
+    ghost Value = { Quotient };
+
+    ghost view = { λ count. record { num = count.num; den = count.den } };
+
+    ghost invariant = { λ count. 0 < count.den };
+}
+
+impl fmt::Display for HumanFloatCount {
+    ghost output = { λ count. Some (human_float_count count.num count.den 4) };
+
+    ghost styled_output = { λ count _. Some (human_float_count count.num count.den 4) };
+
+    fn fmt<W: fmt::Write>(&self, f: &mut fmt::Formatter<W>) -> fmt::Result {
+        f.write_str(quotients::four_decimals_text(self.num, self.den).as_str())
+    }
+}
+
+impl HumanFloatCount {
+    /// The quotient `num / den`; none exactly if `den` is 0.
+    pub fn new(num: u128, den: u64) -> Option<HumanFloatCount>
+        ensures none { (result ≡ None) ↔ (den ≡ 0) }
+        ensures quotient { IfSome result (λ count. (count.num ≡ num) × (count.den ≡ den)) }
+    {
+        if den == 0 {
+            return None;
+        }
+        Some(HumanFloatCount { num, den })
     }
 }

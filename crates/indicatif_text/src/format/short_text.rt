@@ -64,10 +64,20 @@ impl ShortText {
         requires ascii { IsAscii text.now }
         ensures { self.new ≡ text.now ++ self.old }
     {
+        self.prepend_bytes(text.as_bytes());
+    }
+
+    /// Puts bytes of ASCII in front.
+    #[inline(always)]
+    pub(crate) fn prepend_bytes(&mut self, text: &[u8])
+        requires room { length text.now + length self.old ≤ 64 }
+        requires ascii { IsAscii text.now }
+        ensures { self.new ≡ text.now ++ self.old }
+    {
         let end = self.start;
         self.start -= text.len();
         let bytes = &mut self.bytes[..];
-        bytes[self.start..end].copy_from_slice(text.as_bytes());
+        bytes[self.start..end].copy_from_slice(text);
     }
 
     /// Puts the decimal numeral of a number in front.
@@ -111,5 +121,19 @@ impl ShortText {
             left /= 1000;
         }
         self.prepend_number(left);
+    }
+
+    /// The same for numbers of 128 bits.
+    pub(crate) fn prepend_wide_count(&mut self, n: u128)
+        requires { length (human_count n) + length self.old ≤ 64 }
+        ensures { self.new ≡ human_count n ++ self.old }
+    {
+        let mut left = n;
+        while left > u128::from(u64::MAX) {
+            self.prepend_three_digits((left % 1000) as u64);
+            self.prepend(b',');
+            left /= 1000;
+        }
+        self.prepend_count(left as u64);
     }
 }
