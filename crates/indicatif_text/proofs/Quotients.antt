@@ -6,6 +6,7 @@ use Rattle.std.proofs.Math.Nat.{pow-zero, pow-succ', one-le-pow, mul-add-div_rig
 use Rattle.std.proofs.Math.Seq.{set-append_seam}
 use Rattle.std.proofs.lemmas.Nat.{div-add-mod', mul-mod_first, pow-add}
 use Rattle.std.proofs.lemmas.Grind.{pow_more}
+use Rattle.std.proofs.lemmas.List.{take-append-le}
 use Rattle.std.proofs.lemmas.Bool.{ne_eqb, eq-eqb, false≢true}
 use Rattle.std.proofs.lemmas.Str.{IsAscii-append}
 use Rattle.std.proofs.lemmas.Str.Ascii.{IsAscii-cons, IsAscii-nil}
@@ -272,3 +273,11 @@ length-behind (d ∷ ds) = omega arith
 pub empty : (n : ℕ) → (n == 0) ≡ true → n ≡ 0
 empty zero e = refl
 empty (suc n) e = absurd (false≢true (sym (ne_eqb (suc n) 0 (λ z. omega arith)) ∙ e))
+
+-- digits that were filled in place, read back
+pub digits_back : (view out rest : List ℕ) (len n m : ℕ) → view ≡ take len (out ++ rest) → out ≡ last_digits n m → n ≡ len → view ≡ last_digits n m
+digits_back view out rest len n m is filled e =
+    let long : length out ≡ n = ap length filled ∙ length-last_digits n m in
+    let fits : len ≤ length out = omega arith in
+    let all : length out ≤ len = omega arith in
+    is ∙ take-append-le len out rest fits ∙ take_all len out all ∙ filled

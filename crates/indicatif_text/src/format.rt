@@ -162,4 +162,17 @@ impl HumanFloatCount {
         }
         Some(HumanFloatCount { num, den })
     }
+
+    /// Appends the quotient to `out`, rounded at so many decimals in place of four.
+    ///
+    /// Refused: `Memory`, and then `out` is as before.
+    pub fn with_decimals(&self, decimals: u16, out: &mut String) -> Result<(), Refusal>
+        ensures written { OnOk result (string_bytes out.new
+            ≡ string_bytes out.old ++ human_float_count self.now.num self.now.den decimals) }
+        ensures unchanged { OnErr result (string_bytes out.new ≡ string_bytes out.old) }
+        ensures memory { IfErr result (λ e. e ≡ Refusal.Memory) }
+    {
+        quotients::push_text(self.num, self.den, decimals, out)?;
+        Ok(())
+    }
 }

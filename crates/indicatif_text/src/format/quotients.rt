@@ -1,10 +1,12 @@
 //! Quotients with decimals, by long division.
-ghost use Rattle.std.specs.Prelude.{◌≡◌, ◌≢◌, ◌+◌, ◌*◌, ◌/◌, ◌%◌, ◌<◌, ◌≤◌, ◌++◌, ◌⊎◌, length, true, if◌then◌else◌, IsAscii};
+ghost use Rattle.std.specs.Prelude.{◌≡◌, ◌≢◌, ◌+◌, ◌*◌, ◌/◌, ◌%◌, ◌<◌, ◌≤◌, ◌++◌, ◌⊎◌, length, true, if◌then◌else◌, IsAscii, OnOk, OnErr};
+ghost use Rattle.std.specs.String.{string_bytes};
 ghost use Rattle.indicatif_text.specs.Format.{last_digits, after_point, human_count, human_float_count};
 ghost use Rattle.indicatif_text.specs.Quotients.{below, raised};
 
 use crate::format::rounding::rounds_up;
-use crate::format::short_text::ShortText;
+use crate::format::short_text::{ShortText, ascii_text};
+use std::alloc::AllocError;
 
 /// A long division: what is left after each decimal.
 #[derive(Drop)]
@@ -151,4 +153,30 @@ fn joined(whole: u128, decimals: &[u8]) -> ShortText
     }
     text.prepend_wide_count(whole);
     text
+}
+
+/// Appends the text of a quotient at so many decimals. All memory comes first, so that a refusal leaves `out` as before.
+pub(crate) fn push_text(
+    num: u128,
+    den: u64,
+    decimals: u16,
+    out: &mut String,
+) -> Result<(), AllocError>
+    requires { 0 < den }
+    ensures written { OnOk result (string_bytes out.new ≡ string_bytes out.old ++ human_float_count num den decimals) }
+    ensures unchanged { OnErr result (string_bytes out.new ≡ string_bytes out.old) }
+{
+    let rounded = Rounded::of(num, den, decimals);
+    let mut whole = ShortText::new();
+    whole.prepend_wide_count(rounded.whole);
+    let kept = rounded.kept as usize;
+    if kept == 0 {
+        return out.push_str(whole.as_str());
+    }
+    let mut digits = vec![in *out.allocator(); 0u8; kept]?;
+    fill_decimals(num, den, rounded.up, digits.as_mut_slice());
+    out.reserve(whole.as_str().len() + 1 + kept)?;
+    out.push_str(whole.as_str())?;
+    out.push('.')?;
+    out.push_str(ascii_text(digits.as_slice()))
 }

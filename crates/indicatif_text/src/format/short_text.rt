@@ -10,6 +10,15 @@ use std::str::from_utf8_unchecked;
 /// The bytes that a text has room for.
 const ROOM: usize = 64;
 
+/// Bytes of ASCII as a text.
+#[inline(always)]
+pub(crate) fn ascii_text(bytes: &[u8]) -> &str
+    requires { IsAscii bytes.now }
+    ensures { result.now ≡ bytes.now }
+{
+    unsafe { from_utf8_unchecked(bytes) }
+}
+
 /// A text of at most 64 bytes of ASCII, written from its end to its front.
 #[derive(Drop)]
 pub(crate) struct ShortText {
@@ -43,7 +52,7 @@ impl ShortText {
     pub(crate) fn as_str(&self) -> &str
         ensures { result.now ≡ self.now }
     {
-        unsafe { from_utf8_unchecked(&self.bytes[self.start..]) }
+        ascii_text(&self.bytes[self.start..])
     }
 
     /// Puts a byte of ASCII in front.
