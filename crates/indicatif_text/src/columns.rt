@@ -4,6 +4,7 @@ ghost use Rattle.indicatif_text.specs.Columns.{width_of, colour_length, is_param
 
 pub use crate::moment::{Clock, Moment, StepClock};
 pub use crate::refusal::{Drawn, Refusal, TemplateState};
+pub use crate::style_words::Style;
 
 use unicode_width::UnicodeWidthChar;
 

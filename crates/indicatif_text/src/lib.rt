@@ -4,9 +4,14 @@
 //! - `refusal`: why a call was refused, and what became of a draw.
 //! - `columns`: colour sequences, columns and rows of a line.
 //! - `format`: numbers as texts for people: durations, bytes and counts.
+//! - `style_words`: colours and attributes by their words, and what they write (`columns::Style`).
+//! - `template`: the grammar of templates, and what a template is made of.
 #![tactic(auto)]
 
 pub mod columns;
 pub mod format;
 pub mod moment;
 pub mod refusal;
+mod runs;
+pub mod style_words;
+pub mod template;
