@@ -2,9 +2,11 @@
 //!
 //! - `moment`: moments in nanoseconds, and clocks that are handed in.
 //! - `refusal`: why a call was refused, and what became of a draw.
-//! - `columns`: colour sequences, columns and rows of a line.
+//! - `pieces`: a text as colour sequences and what stands between them.
+//! - `columns`: columns and rows of a line.
 #![tactic(auto)]
 
 pub mod columns;
 pub mod moment;
+pub mod pieces;
 pub mod refusal;
