@@ -2,6 +2,7 @@
 ghost use Rattle.std.specs.Prelude.{◌≡◌, ◌<◌, ◌⊎◌, ◌↔◌, chars, length, IsTrue, IfSome, IfOk, IfErr};
 ghost use Rattle.indicatif_text.specs.Columns.{width_of, columns_of, rows_of, last_columns, has_wide};
 ghost use Rattle.indicatif_text.specs.Pieces.{pieces_of_text};
+ghost use Rattle.indicatif_text.specs.ColumnCases.{WideOneGoesDown, EmptyIsOneRow, ColoursTakeNone, RunsAndColours};
 
 pub use crate::moment::{Clock, Moment, StepClock};
 use crate::pieces::Visible;
@@ -96,3 +97,11 @@ fn measured(line: &str, width: usize) -> Option<Metrics>
         last_line_width: column,
     })
 }
+
+/// Cases of the definitions, worked out.
+pub fn worked_cases()
+    ensures wide { WideOneGoesDown }
+    ensures empty { EmptyIsOneRow }
+    ensures colours { ColoursTakeNone }
+    ensures pieces { RunsAndColours }
+{}

@@ -3,7 +3,7 @@ ghost use Rattle.std.specs.Prelude.{◌≡◌, ◌≤◌, ◌<◌, ◌∷◌, Li
 ghost use Rattle.std.specs.Str.{IsAscii, IsCharBoundary};
 ghost use Rattle.std.specs.Iterator.{YieldsFirst, YieldsFirstBy, item_count};
 ghost use Rattle.indicatif_text.specs.Columns.{colour_length, is_parameter, visible};
-ghost use Rattle.indicatif_text.specs.Pieces.{TextPiece, pieces_of_text};
+ghost use Rattle.indicatif_text.specs.Pieces.{TextPiece, pieces_of_text, PiecesJoin, RunsAreVisible, PiecesAreExact, NoEmptyPieces, RunsAreLongest};
 ghost use Rattle.indicatif_text.specs.Shown.{shown, after_run};
 
 use std::marker::Model;
@@ -178,3 +178,13 @@ fn is_parameter(c: char) -> bool
 {
     c.is_ascii_digit() || c == ';'
 }
+
+/// What holds of the pieces of every text: joined they are the text, and the runs joined are what is visible; each is
+/// exactly one colour sequence, or a run at no place of which one begins; none is empty, and no run follows a run.
+pub fn laws_of_pieces()
+    ensures join { PiecesJoin }
+    ensures visible { RunsAreVisible }
+    ensures exact { PiecesAreExact }
+    ensures no_empty { NoEmptyPieces }
+    ensures longest { RunsAreLongest }
+{}
