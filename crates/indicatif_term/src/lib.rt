@@ -3,4 +3,11 @@
 //! - `term_like`: what a terminal has to offer, each call by its bytes.
 #![tactic(auto)]
 
+pub mod counts;
+pub mod draw_target;
+pub mod layout;
+pub mod lines;
+pub mod settle;
+pub mod target;
 pub mod term_like;
+pub mod writing;
