@@ -17,3 +17,4 @@ pub mod LayingOut
 pub mod Keeping
 pub mod Drawing
 pub mod Pictured
+pub mod Sending
