@@ -6,6 +6,7 @@
 //! - `layout`, `counts`, `settle`, `writing`: the engine's parts. They plan a frame, count its rows, and write it.
 //! - `worked`: worked cases of the definitions.
 //! - `in_memory`: a terminal in memory.
+//! - `term`: a terminal behind a writer of bytes.
 #![tactic(auto)]
 
 pub mod counts;
@@ -15,6 +16,7 @@ pub mod layout;
 pub mod lines;
 pub mod settle;
 pub mod target;
+pub mod term;
 pub mod term_like;
 pub mod worked;
 pub mod writing;
