@@ -3,10 +3,12 @@
 //!
 //! - `measured`: what a measurement tells, and the values that it works on.
 //! - `format_benches`: the formatters, each written into one `String`.
+//! - `template_benches`: the grammar of templates.
 #![tactic(auto)]
 
 mod format_benches;
 mod measured;
+mod template_benches;
 
 use anyhow::{Result, bail};
 use std::env;
@@ -21,7 +23,12 @@ fn main(rt: HostRuntime) -> Result<()> {
         Some(word) => word.as_str().parse()?,
         None => bail!("usage: bench NAME N"),
     };
-    let Some(measured) = format_benches::run(&rt, name.as_str(), count)? else {
+    let name = name.as_str();
+    let mut measured = format_benches::run(&rt, name, count)?;
+    if measured.is_none() {
+        measured = template_benches::run(&rt, name, count)?;
+    }
+    let Some(measured) = measured else {
         bail!("no measurement of this name");
     };
     println!(rt; "{name} {count} {measured}")?;
@@ -31,6 +38,9 @@ fn main(rt: HostRuntime) -> Result<()> {
 /// Prints the names of the measurements.
 fn names(rt: &HostRuntime) -> Result<()> {
     for name in format_benches::NAMES {
+        println!(rt; "{name}")?;
+    }
+    for name in template_benches::NAMES {
         println!(rt; "{name}")?;
     }
     Ok(())

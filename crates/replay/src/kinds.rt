@@ -1,5 +1,6 @@
 //! The kinds of rows, each with a function that asks the product and compares.
 use crate::rows::{BadRow, Row};
+use crate::template;
 use indicatif_text::columns::{columns, wrapped};
 use std::alloc::Global;
 
@@ -8,6 +9,8 @@ use std::alloc::Global;
 pub enum Kind {
     /// The columns and the rows of a text.
     Text,
+    /// The parts of a template, or its refusal.
+    Template,
 }
 
 /// What became of a row.
@@ -26,6 +29,7 @@ impl Kind {
     pub fn named(name: &str) -> Option<Kind> {
         match name {
             "text" => Some(Kind::Text),
+            "template" => Some(Kind::Template),
             _ => None,
         }
     }
@@ -34,6 +38,7 @@ impl Kind {
     pub fn agrees(self, alloc: Global, row: Row<'_>) -> Result<Verdict, BadRow> {
         match self {
             Kind::Text => text_agrees(alloc, row),
+            Kind::Template => template_agrees(alloc, row),
         }
     }
 }
@@ -63,4 +68,12 @@ fn text_agrees(alloc: Global, mut row: Row<'_>) -> Result<Verdict, BadRow> {
         Err(refusal) => format!(in alloc; "{columns}\tE{}", refusal.number())?,
     };
     Ok(compared(wanted.as_str(), got))
+}
+
+/// A template and its parts or its refusal.
+fn template_agrees(alloc: Global, mut row: Row<'_>) -> Result<Verdict, BadRow> {
+    let template = row.text(alloc)?;
+    let wanted = row.column()?;
+    let got = template::answer(alloc, template.as_str())?;
+    Ok(compared(wanted, got))
 }

@@ -5,10 +5,12 @@
 //!
 //! - `rows`: the rows of a file, their columns and escapes.
 //! - `kinds`: the kinds of rows, and how each is asked.
+//! - `template`: templates, spelt as in a row.
 #![tactic(auto)]
 
 mod kinds;
 mod rows;
+mod template;
 
 use anyhow::{Context, Result, anyhow};
 use kinds::{Kind, Verdict};
