@@ -1,6 +1,6 @@
 -- Texts of drafts.
-use Rattle.std.proofs.Common.{◌≡◌, ◌<◌, inl, inr, length-drop, ℕ, Bool, true, false, List, [], ◌∷◌, ◌++◌, length, refl, sym, ◌∙◌, ap, subst, arith, eqb, append-nil, append_assoc}
-use Rattle.std.specs.Prelude.{String, ◌==◌, string_bytes, string_len, IsUtf8, map, if◌then◌else◌}
+use Rattle.std.proofs.Common.{◌≡◌, ◌<◌, inr, length-drop, ℕ, true, false, List, [], ◌∷◌, ◌++◌, length, refl, sym, ◌∙◌, ap, subst, arith, append-nil, append_assoc}
+use Rattle.std.specs.Prelude.{String, ◌==◌, string_bytes, string_len}
 use Rattle.std.specs.Prelude.{◌⊎◌, Result, Ok, Err, IfErr, IsErrAnd, take_while}
 use Rattle.std.specs.Str.{chars}
 use Rattle.std.specs.List.{prefix_len}

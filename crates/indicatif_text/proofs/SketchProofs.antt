@@ -1,16 +1,15 @@
 -- A sketch of a template, led on piece by piece.
-use Rattle.std.proofs.Common.{◌≡◌, ℕ, zero, suc, ◌+◌, ◌<◌, ◌≤◌, inl, inr, Bool, true, false, List, [], ◌∷◌, ◌++◌, length, refl, sym, ◌∙◌, ap, subst, arith, eqb, append-nil, append_assoc}
-use Rattle.std.specs.Prelude.{⊤, ◌==◌, ◌||◌, not, chars, if◌then◌else◌, take_while}
+use Rattle.std.proofs.Common.{◌≡◌, ℕ, suc, ◌+◌, inl, inr, Bool, true, false, List, [], ◌∷◌, ◌++◌, length, refl, sym, ◌∙◌, ap, subst, arith, eqb, append-nil, append_assoc}
+use Rattle.std.specs.Prelude.{⊤, ◌==◌, ◌||◌, not, if◌then◌else◌, take_while}
 use Rattle.std.specs.List.{prefix_len}
 use Rattle.std.specs.Char.{is_ascii_whitespace}
-use Rattle.std.proofs.lemmas.Bool.{cases_Bool, cond_both, eqb-true, ne_eqb, false≢true}
+use Rattle.std.proofs.lemmas.Bool.{cases_Bool, cond_both, false≢true}
 use Rattle.indicatif_text.specs.declared.refusal.TemplateState.TheVariants.{MaybeOpen, DoubleClose}
-use Rattle.indicatif_text.specs.declared.template.TemplateError.{TemplateError}
 use Rattle.indicatif_text.specs.declared.template.TemplateError.TheVariants.{Unexpected}
 use Rattle.indicatif_text.specs.Parts.{Layout, TemplatePart, LiteralText, LineBreak, KeyText}
 use Rattle.indicatif_text.specs.Reading.{Sketch, empty_sketch, literal_part, sketched_parts, with_part, added, after_text, completed, Leads}
 use Rattle.indicatif_text.specs.Runs.{is_literal_char}
-use Rattle.indicatif_text.specs.Template.{Piece, Char, Break, SpacedBrace, Keyed, LastBrace, LastKey, Front, Takes, Stops, after_run, plain_layout, with_options, keyed, unfinished, key_ends, is_key_char, opened, closed, front, Reads, end, piece, Refuses, here, later, is_open_run, without_open_run, onto_literal, joined_parts, parts_of, Parses, IsRefused}
+use Rattle.indicatif_text.specs.Template.{Piece, Char, Break, SpacedBrace, Keyed, LastBrace, LastKey, Front, Takes, Stops, after_run, plain_layout, with_options, keyed, unfinished, key_ends, is_key_char, opened, closed, front, Reads, end, piece, later, is_open_run, without_open_run, onto_literal, joined_parts, parts_of, Parses}
 
 -- ---- parts with a text in front
 
@@ -147,7 +146,7 @@ fits_key_ends key (c ∷ cs) =
     let found : Front Piece = if length key == 0 then Stops (c ∷ cs) (Unexpected c MaybeOpen) else slot in
     cond_both (is_ascii_whitespace c) (Takes cs (SpacedBrace ((0x7B ∷ key) ++ c ∷ []))) found FitsFront (λ e. tt)
     (λ e. cond_both (eqb (length key) 0) (Stops (c ∷ cs) (Unexpected c MaybeOpen)) slot FitsFront (λ f. tt)
-        (λ f. cond_both (eqb c 0x7D) (Takes cs (Keyed key plain_layout)) (keyed key (with_options cs)) FitsFront (λ g. tt) (λ g. fits_keyed key (with_options cs))))
+    (λ f. cond_both (eqb c 0x7D) (Takes cs (Keyed key plain_layout)) (keyed key (with_options cs)) FitsFront (λ g. tt) (λ g. fits_keyed key (with_options cs))))
 
 fits_opened : (text : List ℕ) → FitsFront (opened text)
 fits_opened [] = refl

@@ -1,16 +1,16 @@
 -- Words of styles: as bytes and as characters, and gathered one by one.
-use Rattle.std.proofs.Common.{◌≡◌, ℕ, zero, suc, ◌+◌, ◌<◌, ◌≤◌, inl, inr, Bool, true, false, List, [], ◌∷◌, ◌++◌, length, drop, take, refl, sym, ◌∙◌, ap, subst, arith, eqb, Option, Some, None, append-nil, append_assoc, length-append}
+use Rattle.std.proofs.Common.{◌≡◌, ℕ, zero, suc, ◌+◌, ◌<◌, inl, inr, Bool, true, false, List, [], ◌∷◌, ◌++◌, length, refl, sym, ◌∙◌, ap, subst, arith, eqb, Option, Some, None, append-nil, append_assoc, length-append}
 use Rattle.std.specs.Fmt.{digits}
 use Rattle.std.proofs.lemmas.Grind.{flat_map-append}
-use Rattle.std.specs.Prelude.{◌||◌, ◌&&◌, ◌==◌, cond, not, nat_lt, chars, bytes_eq, codes, IsUtf8, IsAscii, option_map, option_to_list, filter_map, position, if◌then◌else◌, take_while, flat_map}
-use Rattle.std.specs.List.{last_or, cons_option, list_all, list_any, slice_split, onto_first, prefix_len}
-use Rattle.std.proofs.Math.Utf8.{encode, encodes}
+use Rattle.std.specs.Prelude.{◌||◌, ◌&&◌, nat_lt, chars, bytes_eq, codes, IsUtf8, IsAscii, option_to_list, filter_map, if◌then◌else◌, take_while, flat_map}
+use Rattle.std.specs.List.{last_or, cons_option, list_all, onto_first, prefix_len}
+use Rattle.std.proofs.Math.Utf8.{encodes}
 use Rattle.std.proofs.lemmas.Bool.{cases_Bool, false≢true, ltb-true}
 use Rattle.std.proofs.lemmas.Bool.Decides.{same_from_decides}
 use Rattle.std.proofs.lemmas.Slice.Eq.{bytes_eq-Decides}
 use Rattle.std.proofs.lemmas.Str.{encodes-chars, encodes-IsAscii, chars-IsAscii}
 use Rattle.indicatif_text.specs.declared.style_words.Style.{Style}
-use Rattle.indicatif_text.specs.Styles.{style_of, style_words, is_word_char, has_word, number_if, attributes_of, numbers_of, sequence_of, styled, foreground_number, background_number, foreground_of, background_of, colour_words, background_words}
+use Rattle.indicatif_text.specs.Styles.{style_of, style_words, is_word_char, has_word, number_if, numbers_of, sequence_of, styled, foreground_number, background_number, foreground_of, background_of}
 use Rattle.indicatif_text.specs.Template.{after_run}
 
 -- ---- a word as bytes and as characters
@@ -42,7 +42,7 @@ module _ (bs name : List ℕ) (u : IsUtf8 bs) (e : is_ascii_text name ≡ true) 
       same_from_decides (bytes_eq bs name) (bytes_eq (chars bs) name) by_bytes ((λ t. bytes_name (by_chars.0 t)), (λ h. by_chars.1 (chars_name h)))
 
   pub other_word : (bs ≡ name → ⊥) → bytes_eq (chars bs) name ≡ false
-  other_word other = elim (cases_Bool (bytes_eq (chars bs) name)) [ | inl same ↦ absurd (other (bytes_name ((bytes_eq-Decides (chars bs) name).0 same))) | inr differs ↦ differs ]
+  other_word other = elim (cases_Bool (bytes_eq (chars bs) name)) [ inl same ↦ absurd (other (bytes_name ((bytes_eq-Decides (chars bs) name).0 same))) | inr differs ↦ differs ]
 
 -- ---- words gathered one by one
 

@@ -1,6 +1,6 @@
 -- Tokens in front of a text are its pieces.
-use Rattle.std.proofs.Common.{◌≡◌, ℕ, ◌<◌, inl, inr, Bool, true, false, List, [], ◌∷◌, ◌++◌, length, refl, sym, ◌∙◌, ap, subst, arith, eqb}
-use Rattle.std.specs.Prelude.{◌==◌, Result, Ok, Err, MatchResult, IsErrAnd, chars, IsUtf8, take_while, not}
+use Rattle.std.proofs.Common.{◌≡◌, ℕ, inl, inr, true, false, List, ◌∷◌, length, refl, sym, ◌∙◌, ap, subst, arith, eqb}
+use Rattle.std.specs.Prelude.{◌==◌, Result, Ok, Err, MatchResult, IsErrAnd, chars, IsUtf8, take_while}
 use denote.Ref.{Bor}
 use Rattle.std.specs.Char.{is_ascii_whitespace}
 use Rattle.std.proofs.lemmas.Bool.{cases_Bool, eqb-true, eq-eqb, ne_eqb, false≢true}
@@ -10,7 +10,6 @@ use Rattle.indicatif_text.specs.declared.refusal.TemplateState.TheVariants.{Mayb
 use Rattle.indicatif_text.specs.declared.template.TemplateError.{TemplateError}
 use Rattle.indicatif_text.specs.declared.template.TemplateError.TheVariants.{Unexpected}
 use Rattle.indicatif_text.specs.declared.template.reading.Token.{Token}
-use Rattle.indicatif_text.specs.Parts.{Layout}
 use Rattle.indicatif_text.specs.Reading.{piece_of}
 use Rattle.indicatif_text.specs.Template.{Piece, Char, Break, Keyed, Front, Takes, Stops, after_run, plain_layout, with_options, keyed, key_ends, is_key_char, opened, closed, front}
 

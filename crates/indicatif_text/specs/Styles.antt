@@ -1,5 +1,5 @@
 -- Styles of text: the colours and attributes that a dotted text names, and what they write. Texts are lists of characters.
-use Rattle.std.specs.Prelude.{ℕ, ◌+◌, Bool, true, false, not, ◌==◌, List, [], ◌∷◌, ◌++◌, map, Option, Some, None, if◌then◌else◌, codes, decimal, flat_map, filter_map, option_map, option_to_list, position, bytes_eq}
+use Rattle.std.specs.Prelude.{ℕ, ◌+◌, Bool, true, false, not, ◌==◌, List, [], ◌∷◌, ◌++◌, map, Option, None, if◌then◌else◌, codes, decimal, flat_map, filter_map, option_map, option_to_list, position, bytes_eq}
 use Rattle.std.specs.List.{slice_split, last_or, list_any}
 use Rattle.indicatif_text.specs.declared.style_words.Colour.{Colour}
 use Rattle.indicatif_text.specs.declared.style_words.Colour.TheVariants.{Black, Red, Green, Yellow, Blue, Magenta, Cyan, White}

@@ -1,7 +1,7 @@
-use Rattle.std.proofs.Common.{◌≡◌, ◌∙◌, ◌<◌, ◌++◌, length, ap, sym, arith, append_assoc}
+use Rattle.std.proofs.Common.{◌<◌, length, arith}
 use Rattle.std.specs.Prelude.{flat_map, string_bytes}
 use Rattle.indicatif_text.specs.Styles.{numbers_of, sequence_of}
-use Rattle.indicatif_text.proofs.StyleProofs.{styled_some, styled_none, last_sequence, regrouped_ends}
+use Rattle.indicatif_text.proofs.StyleProofs.{styled_some, last_sequence, regrouped_ends}
 use Rattle.indicatif_text.proofs.style_words.Style.apply_to.Goals as goal
 
 pub returns-then-is_styled-clause-ok : goal.returns-then-is_styled-clause-ok

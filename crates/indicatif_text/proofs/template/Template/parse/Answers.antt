@@ -1,4 +1,4 @@
-use Rattle.std.proofs.Common.{◌∙◌, ap, sym, subst, refl}
+use Rattle.std.proofs.Common.{◌∙◌, sym, subst, refl}
 use Rattle.std.specs.Prelude.{chars, map}
 use Rattle.indicatif_text.specs.Parts.{part_of}
 use Rattle.indicatif_text.specs.Reading.{sketch_of}

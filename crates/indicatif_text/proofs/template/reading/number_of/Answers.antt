@@ -1,11 +1,11 @@
-use Rattle.std.proofs.Common.{◌≡◌, ◌∙◌, ◌+◌, ◌-◌, ◌*◌, ◌<◌, Some, sym, ap, subst, chars, refl, arith}
-use Rattle.std.specs.Prelude.{filter, unwrap_or}
-use Rattle.std.specs.Char.{is_ascii_digit, digit_value}
+use Rattle.std.proofs.Common.{◌∙◌, ◌+◌, ◌-◌, ◌*◌, sym, ap, subst, chars, refl}
+use Rattle.std.specs.Prelude.{filter}
+use Rattle.std.specs.Char.{is_ascii_digit}
 use Rattle.std.specs.Str.{IsUtf8}
 use Rattle.std.specs.Str.Iter.{chars_rest}
-use Rattle.indicatif_text.specs.Template.{number_of, is_too_wide}
+use Rattle.indicatif_text.specs.Template.{is_too_wide}
 use Rattle.indicatif_text.proofs.Wrapping.{past, past_utf8, chars_none}
-use Rattle.indicatif_text.proofs.ReadingProofs.{number_after, number_from_none, number_digit, number_other, stays_wide, below_wide, digit_of}
+use Rattle.indicatif_text.proofs.ReadingProofs.{number_after, number_from_none, number_digit, number_other, stays_wide, below_wide}
 use Rattle.indicatif_text.proofs.template.reading.number_of.Goals as goal
 
 pub loop-c-init : goal.loop-c-init

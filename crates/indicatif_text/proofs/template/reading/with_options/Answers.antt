@@ -1,6 +1,5 @@
-use Rattle.std.proofs.Common.{◌≡◌, ◌∙◌, ◌∷◌, sym, ap, subst}
+use Rattle.std.proofs.Common.{sym}
 use Rattle.std.specs.Prelude.{chars}
-use Rattle.indicatif_text.specs.Template.{with_options}
 use Rattle.indicatif_text.proofs.ReadingProofs.{options_none, options_plain, options_aligned}
 use Rattle.indicatif_text.proofs.template.reading.with_options.Goals as goal
 

@@ -1,5 +1,5 @@
 use Rattle.std.proofs.Common.{◌∙◌, ap}
-use Rattle.std.specs.Prelude.{chars, string_bytes, map}
+use Rattle.std.specs.Prelude.{chars, map}
 use Rattle.std.proofs.lemmas.Str.{chars-nil}
 use Rattle.indicatif_text.specs.Parts.{part_of}
 use Rattle.indicatif_text.specs.Reading.{sketch_of, empty_sketch}

@@ -1,4 +1,3 @@
-use Rattle.std.proofs.Common.{◌≡◌, ◌∙◌, sym, subst}
 use Rattle.std.specs.Prelude.{chars}
 use Rattle.indicatif_text.specs.Reading.{sketch_of, piece_of}
 use Rattle.indicatif_text.proofs.DraftProofs.{reads_run, reads_piece, refused_here, refused_error, read_shorter}
@@ -16,7 +15,7 @@ returns-in_err-token-clause-refused c =
     let led = reads_run (sketch_of c.args.self.now) (sketch_of c.push_run.new.self) text (chars c.split_run.result.0.now) marked c.in_ok-push_run.ensures c.split_run.ensures.run c.split_run.ensures.rest in
     refused_error text c.in_err-token.field-0.0
     (refused_here (sketch_of c.args.self.now) (sketch_of c.push_run.new.self) text marked (chars c.in-Some.after.now) c.in_err-token.ensures.value.0 c.in-Some.first c.in_err-token.field-0.0
-        led c.in-Some.ensures.first c.in_err-token.ensures.value.1)
+    led c.in-Some.ensures.first c.in_err-token.ensures.value.1)
     c.from_residual-in_err-token.result c.from_residual-in_err-token.ensures.1
 
 pub returns-clause-leads : goal.returns-clause-leads
