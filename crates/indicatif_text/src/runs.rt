@@ -22,6 +22,7 @@ pub(crate) enum Run {
 }
 
 /// Whether a byte of a text belongs to the run; those of characters past ASCII do or don't together.
+#[inline(always)]
 fn belongs(run: Run, byte: u8) -> bool
     ensures { result ≡ belongs run byte }
 {
@@ -36,6 +37,7 @@ fn belongs(run: Run, byte: u8) -> bool
 }
 
 /// How many bytes in front belong to the run.
+#[inline(always)]
 fn run_len(bytes: &[u8], run: Run) -> usize
     ensures { result ≡ prefix_len (belongs run) bytes.now }
 {
@@ -48,6 +50,7 @@ fn run_len(bytes: &[u8], run: Run) -> usize
 }
 
 /// The longest beginning of `text` that belongs to the run, and what follows it.
+#[inline(always)]
 pub(crate) fn split_run(text: &str, run: Run) -> (&str, &str)
     ensures run { chars result.0.now ≡ take_while (belongs run) (chars text.now) }
     ensures rest { chars result.1.now ≡ after_run (belongs run) (chars text.now) }
@@ -58,6 +61,7 @@ pub(crate) fn split_run(text: &str, run: Run) -> (&str, &str)
 }
 
 /// The first character of `text` and what follows it; none where it's empty.
+#[inline]
 pub(crate) fn split_first(text: &str) -> Option<(char, &str)>
     ensures first { MatchOption result (chars text.now ≡ []) (λ r. chars text.now ≡ r.0 ∷ chars r.1.now) }
     ensures utf8 { IfSome result (λ r. IsUtf8 r.1.now) }

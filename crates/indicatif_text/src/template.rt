@@ -91,7 +91,7 @@ impl Template {
         ensures refused { (error : TemplateError) → result ≢ Err TemplateError.Memory →
             ((result ≡ Err error) ↔ IsRefused (chars text.now) error) }
     {
-        let mut draft = Draft::new(alloc);
+        let mut draft = Draft::new(alloc, text.len())?;
         let mut rest = text;
         while !rest.is_empty() {
             rest = draft.read(rest)?;

@@ -21,16 +21,17 @@ pub(super) struct Draft {
 }
 
 impl Draft {
-    /// Nothing so far. It takes no memory.
-    pub(super) fn new(alloc: Global) -> Draft
-        ensures { sketch_of result ≡ empty_sketch }
+    /// Nothing so far, with room for a part to every eight bytes of a text of `len` bytes.
+    pub(super) fn new(alloc: Global, len: usize) -> Result<Draft, AllocError>
+        ensures { IfOk result (λ draft. sketch_of draft ≡ empty_sketch) }
     {
-        Draft {
+        let parts = Vec::with_capacity(alloc, len / 8 + 1)?;
+        Ok(Draft {
             alloc,
-            parts: Vec::new(alloc),
+            parts,
             kept: String::new(alloc),
             run: String::new(alloc),
-        }
+        })
     }
 
     /// Puts the literal run to the text that stays.

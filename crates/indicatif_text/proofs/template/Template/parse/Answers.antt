@@ -13,14 +13,14 @@ returns-in_err-rest-clause-parses c =
     let text = chars c.args.text.now in
     let x = c.in_err-rest.field-0.0 in
     parsed_err text x (handed_back text (chars c.loop-rest.rest.now) (sketch_of c.loop-rest.draft) x c.loop-rest.invariant.1 c.in_err-rest.ensures.refused)
-    c.from_residual.result (is_error x c.from_residual.result c.from_residual.ensures.1)
+    c.from_residual-in_err-rest.result (is_error x c.from_residual-in_err-rest.result c.from_residual-in_err-rest.ensures.1)
 
 pub returns-in_err-rest-clause-refused : goal.returns-in_err-rest-clause-refused
 returns-in_err-rest-clause-refused c =
     let text = chars c.args.text.now in
     let x = c.in_err-rest.field-0.0 in
     refused_err text x (handed_back text (chars c.loop-rest.rest.now) (sketch_of c.loop-rest.draft) x c.loop-rest.invariant.1 c.in_err-rest.ensures.refused)
-    c.from_residual.result (is_error x c.from_residual.result c.from_residual.ensures.1)
+    c.from_residual-in_err-rest.result (is_error x c.from_residual-in_err-rest.result c.from_residual-in_err-rest.ensures.1)
 
 pub loop-rest-smaller : goal.loop-rest-smaller
 loop-rest-smaller c = c.in_ok-rest.ensures.shorter (some_length c.loop-rest.rest.now c.loop-rest.invariant.0 (sym c.loop-rest-test.true ∙ c.is_empty.ensures))

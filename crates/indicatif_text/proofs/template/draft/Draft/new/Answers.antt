@@ -8,4 +8,4 @@ use Rattle.indicatif_text.proofs.template.draft.Draft.new.Goals as goal
 
 pub returns : goal.returns
 unfolding sketch_of
-returns c = same_sketch _ empty_sketch (ap (map part_of) c.new.ensures.items) (ap chars c.new-2.ensures.bytes ∙ chars-nil) (ap chars c.new-3.ensures.bytes ∙ chars-nil)
+returns c = same_sketch _ empty_sketch (ap (map part_of) c.in_ok-parts.ensures.items) (ap chars c.new.ensures.bytes ∙ chars-nil) (ap chars c.new-2.ensures.bytes ∙ chars-nil)
