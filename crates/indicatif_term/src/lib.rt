@@ -4,6 +4,7 @@
 //! - `draw_target`: the engine, which draws the lines of bars and takes back those that it may still change.
 //! - `lines`: the lines of bars.
 //! - `layout`, `counts`, `settle`, `writing`: the engine's parts. They plan a frame, count its rows, and write it.
+//! - `laws`: laws of the definitions.
 //! - `worked`: worked cases of the definitions.
 //! - `in_memory`: a terminal in memory.
 //! - `term`: a terminal behind a writer of bytes.
@@ -12,6 +13,7 @@
 pub mod counts;
 pub mod draw_target;
 pub mod in_memory;
+pub mod laws;
 pub mod layout;
 pub mod lines;
 pub mod settle;
