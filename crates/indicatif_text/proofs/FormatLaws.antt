@@ -1,13 +1,13 @@
 -- The laws of the formatters' texts.
-use Rattle.std.proofs.Common.{◌≡◌, ℕ, zero, suc, ◌+◌, ◌-◌, ◌*◌, ◌/◌, ◌%◌, ◌^◌, ◌<◌, ◌≤◌, ◌⊎◌, inl, inr, Bool, true, false, ◌&&◌, List, [], ◌∷◌, ◌++◌, length, take, drop, replicate, refl, sym, ap, ◌∙◌, subst, arith, add-one, append_assoc, length-append, if◌then◌else◌, filter}
-use Rattle.std.specs.Prelude.{◌==◌, ◌≢◌, not, nat_le, IsTrue, codes, max}
+use Rattle.std.proofs.Common.{◌≡◌, ℕ, zero, suc, ◌+◌, ◌-◌, ◌*◌, ◌/◌, ◌%◌, ◌^◌, ◌<◌, ◌≤◌, ◌⊎◌, inl, inr, Bool, true, false, ◌&&◌, List, [], ◌∷◌, ◌++◌, length, take, drop, replicate, refl, sym, ap, ◌∙◌, subst, arith, append_assoc, append-nil, length-append, if◌then◌else◌, filter}
+use Rattle.std.specs.Prelude.{◌==◌, not, nat_le, IsTrue, codes}
 use Rattle.std.specs.Str.Parse.{digits_value}
 use Rattle.std.specs.Char.{digit_value}
 use Rattle.std.specs.Fmt.{decimal}
-use Rattle.std.proofs.Math.Nat.{pow-suc, one-le-pow}
+use Rattle.std.proofs.Math.Nat.{pow-suc, pow-succ', one-le-pow, div-div-eq-div-mul}
 use Rattle.std.proofs.Math.Seq.{drop-append_seam, take-append_seam}
 use Rattle.std.proofs.lemmas.Nat.{div-add-mod', mod-mul-add, mod_below}
-use Rattle.std.proofs.lemmas.Bool.{leb-true, leb-false, eqb-true, eqb-false, le-leb, lt-leb, lt-ltb, le-ltb, ltb-true, eq-eqb, ne_eqb, false≢true, cases_Bool, cases_lt, cases_order, cond_both, and_parts}
+use Rattle.std.proofs.lemmas.Bool.{leb-true, leb-false, eqb-true, eqb-false, le-leb, lt-ltb, le-ltb, eq-eqb, ne_eqb, false≢true, cases_Bool, cases_lt, cases_order, cond_both, and_parts}
 use Rattle.std.proofs.lemmas.Str.{digit_value_digit}
 use Rattle.std.proofs.lemmas.Int.Digits.{digits_value_push}
 use Rattle.std.proofs.lemmas.Fmt.{decimal_by_steps_wide, decimal_is_IsNumeral_wide}
@@ -15,7 +15,7 @@ use Rattle.std.proofs.lemmas.List.Elements.{filter-append}
 use Rattle.std.proofs.lemmas.List.{nil_from_length}
 use Rattle.indicatif_text.specs.Format.{round, rounds_up, last_digits, with_commas, without_trailing_zeros, human_count, prefix_exponent, formatted_duration, TimeSpan, year, week, day, hour, minute, second, reaches, told, nanos_per_second}
 use Rattle.indicatif_text.specs.FormatLaws.{seconds_told, IsNotPast, IsReached}
-use Rattle.indicatif_text.proofs.Counts.{stands_before, count_more, count_few}
+use Rattle.indicatif_text.proofs.Counts.{stands_before, count_more}
 use Rattle.indicatif_text.proofs.ByteTexts.{power_one}
 use Rattle.indicatif_text.proofs.Durations.{told-years, told-weeks, told-days, told-hours, told-minutes, told-seconds}
 use Rattle.indicatif_text.proofs.Rounding.{rounded_by}
@@ -88,6 +88,18 @@ digits_value-last (suc k) n =
     digits_value_push 10 (last_digits k (n / 10)) (48 + n % 10)
     ∙ ap (λ d. digits_value 10 (last_digits k (n / 10)) * 10 + d) (digit_value-digit (n % 10) (omega arith))
     ∙ ap (λ v. v * 10 + n % 10) (digits_value-last k (n / 10)) ∙ sym (rest_more (10 ^ k) n (one-le-pow k 10 (omega arith))) ∙ ap (λ x. n % x) (sym (pow-suc 10 k))
+
+pub digits_spell : (k n : ℕ) → n < 10 ^ 64 → digits_value 10 (decimal (n / 10 ^ k) ++ last_digits k n) ≡ n
+digits_spell zero n small =
+    let whole : n / 10 ^ 0 ≡ n = omega arith in
+    ap (λ xs. digits_value 10 xs) (append-nil (decimal (n / 10 ^ 0))) ∙ ap (λ m. digits_value 10 (decimal m)) whole ∙ (decimal_is_IsNumeral_wide n small).1
+digits_spell (suc k) n small =
+    let front : n / 10 ^ suc k ≡ n / 10 / 10 ^ k = ap (λ x. n / x) (pow-succ' 10 k) ∙ sym (div-div-eq-div-mul n 10 (10 ^ k)) in
+    let ds = decimal (n / 10 / 10 ^ k) ++ last_digits k (n / 10) in
+    ap (λ m. digits_value 10 (decimal m ++ last_digits (suc k) n)) front
+    ∙ ap (λ xs. digits_value 10 xs) (sym (append_assoc (decimal (n / 10 / 10 ^ k)) (last_digits k (n / 10)) ((48 + n % 10) ∷ [])))
+    ∙ digits_value_push 10 ds (48 + n % 10) ∙ ap (λ d. digits_value 10 ds * 10 + d) (digit_value-digit (n % 10) (omega arith))
+    ∙ omega (arith, digits_spell k (n / 10) (omega arith))
 
 -- ---- commas
 
@@ -219,8 +231,8 @@ tells_seconds n small =
           let text : formatted_duration n ≡ front ++ clock seconds = formatted_is n ∙ rw (ne_eqb days 0 (λ e. omega arith)) refl in
           let long : length front - 2 ≡ length (decimal days) = omega (arith, length-append (decimal days) (codes "d ")) in
           let number : digits_value 10 (take (length front - 2) (front ++ clock seconds)) ≡ days =
-              ap (λ k. digits_value 10 (take k (front ++ clock seconds))) long ∙ ap (λ xs. digits_value 10 (take (length (decimal days)) xs)) (append_assoc (decimal days) (codes "d ") (clock seconds))
-              ∙ ap (λ xs. digits_value 10 xs) (take-append_seam (decimal days) (codes "d " ++ clock seconds)) ∙ (decimal_is_IsNumeral_wide days (omega arith)).1 in
+          ap (λ k. digits_value 10 (take k (front ++ clock seconds))) long ∙ ap (λ xs. digits_value 10 (take (length (decimal days)) xs)) (append_assoc (decimal days) (codes "d ") (clock seconds))
+          ∙ ap (λ xs. digits_value 10 xs) (take-append_seam (decimal days) (codes "d " ++ clock seconds)) ∙ (decimal_is_IsNumeral_wide days (omega arith)).1 in
           ap seconds_told text ∙ told_after front (clock seconds) (eight seconds) ∙ omega (arith, number, told)
       | inr none ↦
           let text : formatted_duration n ≡ [] ++ clock seconds = formatted_is n ∙ rw (eq-eqb days 0 (omega arith)) refl in

@@ -37,6 +37,10 @@ abbrev pub CommasByThousands : Type 0
 CommasByThousands = (n : ℕ) → n < 2 ^ 128
     → (n < 1000 → human_count n ≡ decimal n) × (1000 ≤ n → human_count n ≡ human_count (n / 1000) ++ (0x2C ∷ last_digits 3 n))
 
+-- the digits before and behind the point, read as one numeral, are the rounded quotient in units of the last place
+abbrev pub DigitsSpell : Type 0
+DigitsSpell = (k n : ℕ) → n < 2 ^ 128 → digits_value 10 (decimal (n / 10 ^ k) ++ last_digits k n) ≡ n
+
 -- dropping zeros drops zeros at the end alone, and all of them
 abbrev pub OnlyZerosDropped : Type 0
 OnlyZerosDropped = (ds : List ℕ) → (k : ℕ) × (without_trailing_zeros ds ++ replicate k 48 ≡ ds)

@@ -1,5 +1,6 @@
+use Rattle.std.proofs.Common.{arith}
 use Rattle.indicatif_text.proofs.Quotients.{length-last_digits}
-use Rattle.indicatif_text.proofs.FormatLaws.{digits_value-last, only_zeros, no_zero_left}
+use Rattle.indicatif_text.proofs.FormatLaws.{digits_value-last, digits_spell, only_zeros, no_zero_left}
 use Rattle.indicatif_text.proofs.format.laws.decimals.Goals as goal
 
 pub returns-clause-rest : goal.returns-clause-rest
@@ -10,3 +11,6 @@ returns-clause-only_zeros c = λ ds. only_zeros ds
 
 pub returns-clause-all_zeros : goal.returns-clause-all_zeros
 returns-clause-all_zeros c = λ ds es e. no_zero_left ds es e
+
+pub returns-clause-spell : goal.returns-clause-spell
+returns-clause-spell c = λ k n small. digits_spell k n (omega arith)
