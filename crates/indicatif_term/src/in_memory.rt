@@ -1,6 +1,7 @@
 //! A terminal in memory: the cells that bytes lead to.
 //!
 //! - `feeding`: the terminal as a machine over bytes, `Cells`.
+//! - `front`: whole characters at the front of bytes, which most bytes are.
 //! - `scanner`: what bytes ask for: characters first, escape sequences next.
 //! - `spelling`: the bytes of a character that isn't whole.
 //! - `grid`: the rows and the cursor, and what each operation does to them.
@@ -18,6 +19,7 @@ ghost use Rattle.indicatif_term.specs.Calls.{Writes, move_bytes, line_bytes, cle
 ghost use Rattle.indicatif_term.specs.Memory.{view_of, ReadsBeginning, move_text, written_text};
 
 mod feeding;
+mod front;
 mod grid;
 mod moves;
 mod row;

@@ -215,7 +215,8 @@ impl Grid {
     }
 
     /// Shows a character at the cursor. Refused: `Memory`; all is unchanged then.
-    fn put(&mut self, c: char) -> Result<(), Refusal>
+    #[inline]
+    pub(crate) fn put(&mut self, c: char) -> Result<(), Refusal>
         ensures ok { OnOk result (self.new ≡ performed (Put c) self.old) }
         ensures err { OnErr result (self.new ≡ self.old) }
         ensures refused { IfErr result (λ e. e ≡ Refusal.Memory) }
@@ -239,6 +240,7 @@ impl Grid {
     }
 
     /// Shows a character of this many columns. Refused: `Memory`; all is unchanged then.
+    #[inline]
     fn put_wide(&mut self, c: char, columns: usize) -> Result<(), Refusal>
         requires some { 0 < columns }
         requires columns { char_width false c ≡ Some columns }
@@ -259,6 +261,7 @@ impl Grid {
     }
 
     /// Shows a character of this many columns, which fits into the row.
+    #[inline]
     fn put_here(&mut self, c: char, columns: usize)
         requires some { 0 < columns }
         requires columns { char_width false c ≡ Some columns }

@@ -1,5 +1,5 @@
 //! What bytes ask of a terminal: characters first, escape sequences next.
-ghost use Rattle.std.specs.Prelude.{◌≡◌, ◌<◌, [], map, length, option_to_list};
+ghost use Rattle.std.specs.Prelude.{◌≡◌, ◌<◌, [], map, length, IsTrue, option_to_list};
 ghost use Rattle.indicatif_text.specs.Columns.{is_parameter};
 ghost use Rattle.indicatif_term.specs.Terminal.{idle, byte_ops, byte_reader, char_ops, char_place, plain_ops, plain_place, sequence_ops, number_with, at_least_one, is_digit};
 ghost use Rattle.indicatif_term.specs.Grids.{op_of};
@@ -156,6 +156,17 @@ impl Scanner {
         Scanner {
             stage: Stage::Outside,
             spelling: Spelling::empty(),
+        }
+    }
+
+    /// Whether nothing was read.
+    #[inline]
+    pub(crate) fn is_idle(&self) -> bool
+        ensures { IsTrue result → self.now ≡ idle }
+    {
+        match self.stage {
+            Stage::Outside => self.spelling.is_empty(),
+            _ => false,
         }
     }
 

@@ -47,6 +47,7 @@ impl Model for Slot {
 
 impl Slot {
     /// A cell that is empty.
+    #[inline]
     pub(crate) fn empty() -> Slot
         ensures { result ≡ Blank }
     {
@@ -54,6 +55,7 @@ impl Slot {
     }
 
     /// A further cell of the wide character at its left.
+    #[inline]
     pub(crate) fn further() -> Slot
         ensures { result ≡ Continued }
     {
@@ -63,6 +65,7 @@ impl Slot {
     }
 
     /// The first cell of a character.
+    #[inline]
     pub(crate) fn plain(c: char) -> Slot
         ensures { result ≡ Written (record { base = c; marks = [] }) }
     {
@@ -72,6 +75,7 @@ impl Slot {
     }
 
     /// Whether it is a further cell of the wide character at its left.
+    #[inline]
     pub(crate) fn is_further(&self) -> bool
         ensures { result ≡ is_continued self.now }
     {
