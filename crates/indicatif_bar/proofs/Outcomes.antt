@@ -54,11 +54,11 @@ nothing_counted v answer e = record { columns_stay = refl; rows_stay = refl; fau
 
 -- ---- nothing was written
 
-after_nothing : (t : Terminal) → after t [] ≡ t
+pub after_nothing : (t : Terminal) → after t [] ≡ t
 unfolding after
 after_nothing t = refl
 
-led_nowhere : (told : Told) → led_on told [] ≡ told
+pub led_nowhere : (told : Told) → led_on told [] ≡ told
 led_nowhere (State t) = ap State (after_nothing t)
 led_nowhere (Bytes old) = ap Bytes (append-nil old)
 led_nowhere Nothing = refl
@@ -67,7 +67,7 @@ take_none : (k : ℕ) → take {A = ℕ} k [] ≡ []
 take_none zero = refl
 take_none (suc k) = refl
 
-nothing_keeps : (n : ℕ) (t : Terminal) → Keeps n t []
+pub nothing_keeps : (n : ℕ) (t : Terminal) → Keeps n t []
 nothing_keeps n t k = ap (λ u. take n u.screen.rows) (ap (after t) (take_none k) ∙ after_nothing t)
 
 pub repaints_nothing : (v : TermView) (answer : Result Drawn Refusal) (l l' : Lists) → (answer ≡ Ok Yes → ⊥) → Repaints v v answer l l'

@@ -30,3 +30,7 @@ call_of (BarCall TickCommand) = Change Tick
 call_of (BarCall (MessageCommand text)) = Change (SetMessage (string_bytes text))
 call_of (BarCall DrawCommand) = Change ForceDraw
 call_of (LogCall text) = Log (string_bytes text)
+
+-- the same with its moment
+abbrev pub timed : LoneCall × ℕ → Call × ℕ
+timed c = (call_of c.0, c.1)

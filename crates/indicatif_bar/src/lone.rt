@@ -1,5 +1,5 @@
 //! A bar that stands alone on its target.
-ghost use Rattle.std.specs.Prelude.{◌≡◌, ℕ, ◌<◌, ◌⊎◌, Option, option_map, false, map, IfOk, IfErr};
+ghost use Rattle.std.specs.Prelude.{◌≡◌, ℕ, ◌<◌, ◌⊎◌, Option, Some, option_map, false, map, IfOk, IfErr, OnErr};
 ghost use Rattle.indicatif_term.specs.Frames.{bar_lines, line_text};
 ghost use Rattle.indicatif_term.specs.Engines.{terminal, Fits, has_failed};
 ghost use Rattle.indicatif_bar.specs.Bars.{Command, asked, lines_of_bar};
@@ -36,14 +36,19 @@ pub struct LoneBar<T: Drop> {
 
 impl<T: TermLike + Drop> LoneBar<T> {
     ghost use Rattle.indicatif_bar.specs.Bars.{Tick, SetMessage, ForceDraw};
+    ghost use Rattle.indicatif_term.specs.Screen.{Screen};
+    ghost use Rattle.indicatif_term.specs.Lists.{opening_lists};
+    ghost use Rattle.indicatif_term.specs.Shows.{Shows, IsOpening, resting};
     ghost use Rattle.indicatif_bar.specs.Draws.{DrawMade};
-    ghost use Rattle.indicatif_bar.specs.Runs.{Call, CallMade, opening_state, numbered, asks};
-    ghost use Rattle.indicatif_bar.specs.LoneBars.{IsIn, record_of, terminal_of, call_of};
+    ghost use Rattle.indicatif_bar.specs.Runs.{Call, CallMade, Runs, opening_state, numbered, asks};
+    ghost use Rattle.indicatif_bar.specs.Headline.{Headline};
+    ghost use Rattle.indicatif_bar.specs.LoneBars.{IsIn, record_of, terminal_of, call_of, timed};
 
     /// The bar on this target. Takes no memory, and writes nothing.
     pub fn new(alloc: Global, bar: BarState, target: ProgressDrawTarget<T>) -> Self
         ensures state { IsIn result (opening_state bar) }
         ensures terminal { terminal_of result ≡ target }
+        ensures opening { (term : T) (w h : ℕ) (opening : Screen) → target ≡ Some term → IsOpening w h opening → Shows w h opening opening_lists (resting opening) }
     {
         let engine = match target.into_parts() {
             Some(term) => Some(Engine::new(alloc, term)),
@@ -127,6 +132,24 @@ impl<T: TermLike + Drop> LoneBar<T> {
             LoneCall::Bar(BarCommand::ForceDraw) => self.force_draw(now),
             LoneCall::Log(text) => self.println(text.as_str(), now),
         }
+    }
+
+    /// Makes the calls one after another, each at its moment, and answers what each answered.
+    ///
+    /// Refused: `Memory` for the answers alone, and nothing is run.
+    pub fn run(&mut self, calls: Vec<(LoneCall, Moment)>) -> Result<Vec<Result<Drawn, Refusal>>, Refusal>
+        ensures run { (s : LoneState) → IsIn self.old s → let old = option_map T.view (terminal_of self.old) in let new = option_map T.view (terminal_of self.new) in
+            IfOk result (λ answers. (next : LoneState) × IsIn self.new next ×
+            (run : Runs (map timed calls.items) answers.items old s new next) × Headline (map timed calls.items) answers.items old s new next run) }
+        ensures memory { IfErr result (λ e. e ≡ Refusal.Memory) }
+        ensures unrun { OnErr result (self.new ≡ self.old) }
+    {
+        let mut answers = Vec::with_capacity(self.alloc, calls.len())?;
+        for (call, now) in calls {
+            let answer = self.call(call, now);
+            answers.push_reserved(answer);
+        }
+        Ok(answers)
     }
 
     /// Draws the bar's lines, if asked.

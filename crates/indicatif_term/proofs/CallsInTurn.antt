@@ -10,8 +10,8 @@ use Rattle.indicatif_term.specs.Calls.{Told, State, Bytes, Nothing, led_on, Term
 use Rattle.std.specs.Prelude.{not, ◌&&◌, ◌==◌}
 use Rattle.std.proofs.Common.{replicate}
 use Rattle.std.proofs.lemmas.List.{length-replicate}
-use Rattle.indicatif_term.specs.Bytes.{paint_bytes, painting_bytes, lines_bytes, next_row, rows_back, back_bytes}
-use Rattle.indicatif_term.specs.Frames.{frame_lines, lines_above}
+use Rattle.indicatif_term.specs.Inside.Bytes.{paint_bytes, painting_bytes, lines_bytes, next_row, rows_back, back_bytes}
+use Rattle.indicatif_term.specs.Inside.Plans.{frame_lines, lines_above}
 use Rattle.indicatif_term.specs.declared.writing.Painting.{Painting}
 use Rattle.indicatif_term.proofs.LoggedLines.{lines_above_some}
 

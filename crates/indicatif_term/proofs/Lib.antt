@@ -27,3 +27,4 @@ pub mod LayingOut
 pub mod Keeping
 pub mod Drawing
 pub mod Pictured
+pub mod Sending

@@ -11,7 +11,8 @@ use Rattle.std.proofs.lemmas.Str.{IsUtf8-take, IsUtf8-drop, IsCharBoundary-befor
 use Rattle.std.proofs.Common.{⊎_elim}
 use Rattle.std.proofs.lemmas.Bool.{cond_both, cases_lt}
 use Rattle.std.proofs.lemmas.Bool.Decides.{nat_tests}
-use Rattle.indicatif_term.specs.Frames.{logged_lines, lines_above}
+use Rattle.indicatif_term.specs.Frames.{logged_lines}
+use Rattle.indicatif_term.specs.Inside.Plans.{lines_above}
 
 pub logged_some : (text : List ℕ) → (length text == 0) ≡ false → logged_lines text ≡ lines text
 logged_some [] e = cc

@@ -16,9 +16,12 @@ use Rattle.indicatif_term.specs.Terminal.{Terminal, after}
 use Rattle.indicatif_term.specs.Calls.{TermView, Writes}
 use Rattle.indicatif_term.specs.Shows.{Shows, Keeps, IsOpening, resting}
 use Rattle.indicatif_term.specs.Lists.{Lists, opening_lists, Live, BarLines, live_of_frame, live_height, live_rows, lines_of, fitting, shown_rows, drawn, cleared, logged, blanks_for, segments_height}
-use Rattle.indicatif_term.specs.Bytes.{paint_bytes, next_row}
-use Rattle.indicatif_term.specs.Frames.{bar_lines, all_lines, are_plain, some_wide, frame_lines, CountsOf, IsPlan, text_lines, text_height, IsWithheld, line_text}
-use Rattle.indicatif_term.specs.Engines.{Repaints, RepaintsAnew, Remembers, Answers}
+use Rattle.indicatif_term.specs.Inside.Bytes.{paint_bytes, next_row}
+use Rattle.indicatif_term.specs.Frames.{bar_lines, all_lines, are_plain, some_wide, text_lines, line_text}
+use Rattle.indicatif_term.specs.Inside.Plans.{frame_lines, IsPlan, text_height, IsWithheld}
+use Rattle.indicatif_term.specs.Inside.Counted.{CountsOf}
+use Rattle.indicatif_term.specs.Engines.{Repaints, RepaintsAnew, Answers}
+use Rattle.indicatif_term.specs.Inside.Remembering.{Remembers}
 use Rattle.indicatif_term.specs.declared.draw_target.Engine.{Engine}
 use Rattle.indicatif_text.specs.declared.refusal.Refusal.{Refusal}
 use Rattle.indicatif_text.specs.declared.refusal.Refusal.TheVariants.{Terminal as Refused}

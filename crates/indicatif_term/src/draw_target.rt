@@ -1,7 +1,7 @@
 //! Drawing rows on a terminal.
 ghost use Rattle.std.specs.Prelude.{◌≡◌, ◌↔◌, map, length, ◌≤◌, IsOk, IsTrue, false, ◌++◌, [], ℕ};
 ghost use Rattle.indicatif_term.specs.Lists.{opening_lists};
-ghost use Rattle.indicatif_term.specs.Frames.{CountsOf};
+ghost use Rattle.indicatif_term.specs.Inside.Counted.{CountsOf};
 
 use crate::counts::{Counts, Keep};
 use crate::layout::{laid_out, text_height};
@@ -44,9 +44,11 @@ pub struct Engine<T: Drop> {
 impl<T: TermLike + Drop> Engine<T> {
     ghost use Rattle.indicatif_term.specs.Lists.{Lists, drawn, logged, cleared, kept_of, fate};
     ghost use Rattle.indicatif_term.specs.Calls.{Writes};
-    ghost use Rattle.indicatif_term.specs.Bytes.{painting_bytes};
-    ghost use Rattle.indicatif_term.specs.Frames.{bar_lines, all_lines, are_plain, logged_lines, text_lines, frame_lines, IsFate};
-    ghost use Rattle.indicatif_term.specs.Engines.{is_bottom, terminal, Fits, has_failed, Outcome, Answers, Counted, Repaints, RepaintsAnew, Remembers};
+    ghost use Rattle.indicatif_term.specs.Inside.Bytes.{painting_bytes};
+    ghost use Rattle.indicatif_term.specs.Frames.{bar_lines, all_lines, are_plain, logged_lines, text_lines, IsFate};
+    ghost use Rattle.indicatif_term.specs.Inside.Plans.{frame_lines};
+    ghost use Rattle.indicatif_term.specs.Engines.{is_bottom, terminal, Fits, has_failed, Outcome, Answers, Counted, Repaints, RepaintsAnew};
+    ghost use Rattle.indicatif_term.specs.Inside.Remembering.{Remembers};
     ghost use Rattle.indicatif_term.specs.Shows.{Shows, IsOpening, resting};
     ghost use Rattle.indicatif_term.specs.Screen.{Screen};
     ghost use Rattle.indicatif_term.specs.Terminal.{Terminal};

@@ -1,6 +1,6 @@
 -- The rows of a line, character by character.
-use Rattle.std.proofs.Common.{◌≡◌, ℕ, zero, suc, ◌+◌, ◌-◌, ◌<◌, ◌≤◌, Bool, true, false, List, [], ◌∷◌, ◌++◌, ◌||◌, length, refl, sym, ◌∙◌, ap, subst, arith, eqb, length-append, Option, Some, None, inl, inr, if◌then◌else◌}
-use Rattle.std.specs.Prelude.{nat_le, nat_lt, take_while, ◌==◌, is_some, unwrap_or, option_map, chars, not, nat_eq, MatchOption, IsFalse}
+use Rattle.std.proofs.Common.{◌≡◌, ℕ, ◌+◌, ◌<◌, ◌≤◌, Bool, true, false, List, [], ◌∷◌, ◌++◌, ◌||◌, length, refl, sym, ◌∙◌, ap, subst, arith, eqb, length-append, Option, Some, None, inl, inr, if◌then◌else◌}
+use Rattle.std.specs.Prelude.{nat_le, nat_lt, take_while, ◌==◌, chars, not, nat_eq, MatchOption}
 use Rattle.std.specs.List.{list_any}
 use Rattle.std.specs.Str.{IsUtf8}
 use Rattle.std.proofs.Math.Utf8.{encode}
@@ -8,9 +8,8 @@ use Rattle.std.proofs.lemmas.Str.{chars_past_char, IsUtf8-past_char, chars-nil, 
 use Rattle.std.specs.Option.{option_eq}
 use Rattle.std.proofs.lemmas.List.{length-map, nil_from_length}
 use Rattle.std.proofs.lemmas.List.Sums.{sum_by_push}
-use Rattle.std.proofs.lemmas.Bool.{cases_Bool, eqb-true, false≢true, cond_both, le-leb, lt-leb, ne_eqb, eq-eqb, lt-ltb, le-ltb}
-use Rattle.unicode_width.specs.Width.{char_width}
-use Rattle.indicatif_text.specs.Columns.{Glyph, width_of, glyph_width, glyphs_of, columns_in, pieces_after, pieces_of, row_of, rows_of, visible, visible_from, columns_of_last, last_columns, has_wide, colour_length, parameters_length, is_parameter}
+use Rattle.std.proofs.lemmas.Bool.{cases_Bool, eqb-true, false≢true, cond_both, le-leb, lt-leb, ne_eqb, lt-ltb, le-ltb}
+use Rattle.indicatif_text.specs.Columns.{Glyph, width_of, glyph_width, glyphs_of, columns_in, pieces_after, pieces_of, row_of, rows_of, visible, columns_of_last, last_columns, has_wide}
 
 -- ---- rows by columns
 
@@ -75,11 +74,11 @@ pub record Reads (w height column : ℕ) (line rest : List ℕ) : Type 0 where
   pub last_is : columns_of_last (pieces_of w (glyphs_of (visible line))) ≡ lasts w column rest
   pub wide_is : has_wide w line ≡ some_wider w rest
 
-pub reads_whole : (w : ℕ) (line : List ℕ) → Reads w 1 0 line (visible_from 0 line)
-unfolding rows_of has_wide visible
+pub reads_whole : (w : ℕ) (line : List ℕ) → Reads w 1 0 line (visible line)
+unfolding rows_of has_wide
 reads_whole w line =
-    let p = pieces w [] (visible_from 0 line) in
-    record { rows_are = omega (arith, p.count, length-map (pieces_of w (glyphs_of (visible_from 0 line))) (row_of w)); last_is = p.last; wide_is = refl }
+    let p = pieces w [] (visible line) in
+    record { rows_are = omega (arith, p.count, length-map (pieces_of w (glyphs_of (visible line))) (row_of w)); last_is = p.last; wide_is = refl }
 
 module _ (w height column : ℕ) (line : List ℕ) (c : ℕ) (rest : List ℕ) (r : Reads w height column line (c ∷ rest)) where
   pub reads_narrow : column + width_of c ≤ w → Reads w height (column + width_of c) line rest
@@ -119,40 +118,7 @@ module _ (w height column : ℕ) (line : List ℕ) (c : ℕ) (rest : List ℕ) (
   pub reads_wide : w < width_of c → has_wide w line ≡ true
   reads_wide over = r.wide_is ∙ ap (λ b. b || some_wider w rest) (lt-ltb w (width_of c) over)
 
--- ---- colour sequences
-
-none_visible : (n : ℕ) → visible_from n [] ≡ []
-none_visible zero = refl
-none_visible (suc n) = refl
-
-seen : (c : ℕ) (cs : List ℕ) → (c ≡ 0x1B → ⊥) → visible_from 0 (c ∷ cs) ≡ c ∷ visible_from 0 cs
-seen c [] other = refl
-seen c (d ∷ cs) other = let test : eqb c 0x1B ≡ false = ne_eqb c 0x1B other in rw test refl
-
-pub reads_seen : (w height column : ℕ) (line : List ℕ) (c : ℕ) (cs : List ℕ) {n : ℕ} {ds : List ℕ} → (c ≡ 0x1B → ⊥) → n ≡ 0 → ds ≡ c ∷ cs →
-    Reads w height column line (visible_from n ds) → Reads w height column line (c ∷ visible_from 0 cs)
-reads_seen w height column line c cs {n} {ds} other none at r =
-    subst (Reads w height column line) (ap (λ n. visible_from n ds) none ∙ ap (visible_from 0) at ∙ seen c cs other) r
-
-escape_narrow : width_of 0x1B ≡ 0
-unfolding char_width
-escape_narrow = refl
-
-escape_by : (w height column : ℕ) (line cs : List ℕ) (o : Option ℕ) → column ≤ w →
-    Reads w height column line (if is_some o then visible_from (unwrap_or o 1 - 1) cs else 0x1B ∷ visible_from 0 cs) → Reads w height column line (visible_from (unwrap_or o 1 - 1) cs)
-escape_by w height column line cs (Some n) fits r = r
-escape_by w height column line cs None fits r =
-    let same : column + width_of 0x1B ≡ column = omega (arith, escape_narrow) in
-    subst (λ k. Reads w height k line (visible_from 0 cs)) same (reads_narrow w height column line 0x1B (visible_from 0 cs) r (omega (arith, escape_narrow)))
-
-pub reads_escape : (w height column c : ℕ) (line cs : List ℕ) → c ≡ 0x1B → column ≤ w → Reads w height column line (visible_from 0 (c ∷ cs)) →
-    Reads w height column line (visible_from (unwrap_or (colour_length (0x1B ∷ cs)) 1 - 1) cs)
-reads_escape w height column c line cs e fits r =
-    escape_by w height column line cs (colour_length (0x1B ∷ cs)) fits (subst (λ x. Reads w height column line (visible_from 0 (x ∷ cs))) e r)
-
-pub reads_skipped : (w height column n c : ℕ) (line cs : List ℕ) → 0 < n → Reads w height column line (visible_from n (c ∷ cs)) → Reads w height column line (visible_from (n - 1) cs)
-reads_skipped w height column zero c line cs some r = absurd (omega arith)
-reads_skipped w height column (suc n) c line cs some r = subst (λ k. Reads w height column line (visible_from k cs)) (let e : n ≡ suc n - 1 = omega arith in e) r
+-- ---- the end of the line
 
 -- the whole line was read
 pub record Whole (w height column : ℕ) (line : List ℕ) : Type 0 where
@@ -160,37 +126,11 @@ pub record Whole (w height column : ℕ) (line : List ℕ) : Type 0 where
   pub height_is : height ≡ length (rows_of w line)
   pub last_is : column ≡ last_columns w line
 
-pub reads_end : (w height column n : ℕ) (line cs : List ℕ) → cs ≡ [] → Reads w height column line (visible_from n cs) → Whole w height column line
+pub reads_end : (w height column : ℕ) (line rest : List ℕ) → rest ≡ [] → Reads w height column line rest → Whole w height column line
 unfolding last_columns
-reads_end w height column n line cs e r =
-    let f : visible_from n cs ≡ [] = ap (visible_from n) e ∙ none_visible n in
-    let q : Reads w height column line [] = subst (Reads w height column line) f r in
+reads_end w height column line rest e r =
+    let q : Reads w height column line [] = subst (Reads w height column line) e r in
     record { narrow = q.wide_is; height_is = omega (arith, q.rows_are); last_is = sym q.last_is }
-
--- ---- the end of a colour sequence
-
-abbrev pub found : ℕ → List ℕ → ℕ
-found count cs = unwrap_or (option_map (λ n. n + count) (parameters_length cs)) 0
-
-opened_by : (o : Option ℕ) → unwrap_or (option_map (λ n. n + 2) o) 1 - 1 ≡ unwrap_or (option_map (λ n. n + 1) o) 0
-opened_by None = refl
-opened_by (Some n) = omega arith
-
-pub opened : (cs : List ℕ) → unwrap_or (colour_length (0x1B ∷ 0x5B ∷ cs)) 1 - 1 ≡ found 1 cs
-opened cs = opened_by (parameters_length cs)
-
-pub found_end : (count c : ℕ) (cs : List ℕ) → c ≡ 0x6D → found count (c ∷ cs) ≡ count + 1
-found_end count c cs e = let test : eqb c 0x6D ≡ true = eq-eqb c 0x6D e in rw test (omega arith)
-
-more_by : (count : ℕ) (o : Option ℕ) → unwrap_or (option_map (λ n. n + count) (option_map (λ n. n + 1) o)) 0 ≡ unwrap_or (option_map (λ n. n + (count + 1)) o) 0
-more_by count None = refl
-more_by count (Some n) = omega arith
-
-pub found_more : (count c : ℕ) (cs : List ℕ) → (c ≡ 0x6D → ⊥) → is_parameter c ≡ true → found count (c ∷ cs) ≡ found (count + 1) cs
-found_more count c cs other is = let test : eqb c 0x6D ≡ false = ne_eqb c 0x6D other in rw (test, is) (more_by count (parameters_length cs))
-
-pub found_none : (count c : ℕ) (cs : List ℕ) → (c ≡ 0x6D → ⊥) → is_parameter c ≡ false → found count (c ∷ cs) ≡ 0
-found_none count c cs other is = let test : eqb c 0x6D ≡ false = ne_eqb c 0x6D other in rw (test, is) refl
 
 -- ---- a text that is read character by character
 

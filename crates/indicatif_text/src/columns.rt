@@ -1,9 +1,14 @@
 //! Text as a terminal shows it: colour sequences, columns and rows.
-ghost use Rattle.std.specs.Prelude.{◌≡◌, ◌-◌, ◌<◌, ◌⊎◌, ◌↔◌, ◌∷◌, chars, unwrap_or, length, IsTrue, IfSome, IfOk, IfErr};
-ghost use Rattle.indicatif_text.specs.Columns.{width_of, colour_length, is_parameter, rows_of, last_columns, has_wide};
+ghost use Rattle.std.specs.Prelude.{◌≡◌, ◌<◌, ◌⊎◌, ◌↔◌, chars, length, IsTrue, IfSome, IfOk, IfErr};
+ghost use Rattle.indicatif_text.specs.Columns.{width_of, columns_of, rows_of, last_columns, has_wide};
+ghost use Rattle.indicatif_text.specs.Pieces.{pieces_of_text};
+ghost use Rattle.indicatif_text.specs.ColumnCases.{WideOneGoesDown, EmptyIsOneRow, ColoursTakeNone, RunsAndColours};
 
 pub use crate::moment::{Clock, Moment, StepClock};
+use crate::pieces::Visible;
+pub use crate::pieces::{Piece, Pieces};
 pub use crate::refusal::{Drawn, Refusal, TemplateState};
+pub use crate::style_words::Style;
 
 use unicode_width::UnicodeWidthChar;
 
@@ -13,6 +18,28 @@ pub fn width(c: char) -> usize
     ensures { result ≡ width_of c }
 {
     c.width().unwrap_or(0)
+}
+
+/// The pieces of a text: its colour sequences (ESC `[`, digits and semicolons, `m`), and the longest runs between them.
+///
+/// They come in order, each is a slice of the text, and joined they are the text. No memory.
+pub fn pieces(text: &str) -> Pieces<'_>
+    ensures { result ≡ pieces_of_text (chars text.now) }
+{
+    Pieces::of(text)
+}
+
+/// The columns of a text: the sum of its characters' widths outside colour sequences.
+///
+/// Widths are those of Unicode's East Asian Width (UAX #11), character by character. One pass, no memory.
+pub fn columns(text: &str) -> usize
+    ensures { result ≡ columns_of (chars text.now) }
+{
+    let mut columns: usize = 0;
+    for c in Visible::of(text) {
+        columns += width(c);
+    }
+    columns
 }
 
 /// How many rows a line takes on a terminal, and how many columns of the last one.
@@ -55,24 +82,16 @@ fn measured(line: &str, width: usize) -> Option<Metrics>
 {
     let mut height: usize = 1;
     let mut column: usize = 0;
-    let mut skipped: usize = 0;
-    let mut rest = line.chars();
-    while let Some(c) = rest.next() {
-        if skipped > 0 {
-            skipped -= 1;
-        } else if c == '\u{1B}' {
-            skipped = after_escape(rest.as_str());
+    for c in Visible::of(line) {
+        let columns = self::width(c);
+        if columns > width {
+            return None;
+        }
+        if columns > width - column {
+            height += 1;
+            column = columns;
         } else {
-            let columns = self::width(c);
-            if columns > width {
-                return None;
-            }
-            if columns > width - column {
-                height += 1;
-                column = columns;
-            } else {
-                column += columns;
-            }
+            column += columns;
         }
     }
     Some(Metrics {
@@ -81,30 +100,10 @@ fn measured(line: &str, width: usize) -> Option<Metrics>
     })
 }
 
-/// Whether a character is a digit or a semicolon.
-fn is_parameter(c: char) -> bool
-    ensures { result ≡ is_parameter c }
-{
-    c.is_ascii_digit() || c == ';'
-}
-
-/// How many characters after an ESC belong to its colour sequence; 0 where there is none.
-fn after_escape(text: &str) -> usize
-    ensures { result ≡ unwrap_or (colour_length (0x1B ∷ chars text.now)) 1 - 1 }
-{
-    let mut rest = text.chars();
-    if rest.next() != Some('[') {
-        return 0;
-    }
-    let mut count: usize = 1;
-    while let Some(c) = rest.next() {
-        count += 1;
-        if c == 'm' {
-            return count;
-        }
-        if !is_parameter(c) {
-            return 0;
-        }
-    }
-    0
-}
+/// Cases of the definitions, worked out.
+pub fn worked_cases()
+    ensures wide { WideOneGoesDown }
+    ensures empty { EmptyIsOneRow }
+    ensures colours { ColoursTakeNone }
+    ensures pieces { RunsAndColours }
+{}

@@ -1,5 +1,6 @@
 use Rattle.std.proofs.Common.{◌≡◌, ◌-◌, ◌^◌, false, map, min}
-use Rattle.indicatif_term.specs.Frames.{some_wide, text_lines, text_height}
+use Rattle.indicatif_term.specs.Frames.{some_wide, text_lines}
+use Rattle.indicatif_term.specs.Inside.Plans.{text_height}
 use Rattle.indicatif_term.proofs.layout.text_height.Given as goal
 
 abbrev pub invariant-loop-line : goal.invariant-loop-line

@@ -6,7 +6,7 @@ use Rattle.std.proofs.Math.Bool.{or-false}
 use Rattle.std.proofs.lemmas.List.{map-append, length-map}
 use Rattle.std.proofs.lemmas.Iterator.Splits.{YieldsList-from_lines}
 use Rattle.indicatif_term.specs.Calls.{Writes, LeadsOn}
-use Rattle.indicatif_term.specs.Bytes.{lines_bytes}
+use Rattle.indicatif_term.specs.Inside.Bytes.{lines_bytes}
 use Rattle.indicatif_term.specs.Frames.{logged_lines}
 use Rattle.indicatif_term.proofs.CallsInTurn.{reaches_none, came_reaches, came_fails, or_lt_last}
 use Rattle.indicatif_term.proofs.ReadLines.{parted, next_came, all_came}

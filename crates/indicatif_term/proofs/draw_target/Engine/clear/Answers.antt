@@ -1,5 +1,5 @@
 use Rattle.std.proofs.Common.{arith, ◌+◌, [], false}
-use Rattle.indicatif_term.specs.Bytes.{paint_bytes}
+use Rattle.indicatif_term.specs.Inside.Bytes.{paint_bytes}
 use Rattle.indicatif_term.specs.Lists.{opening_lists}
 use Rattle.indicatif_term.specs.Engines.{terminal}
 use Rattle.indicatif_term.proofs.Pictured.{repaints_nothing, repaints_by, anew_nothing, anew_by, paint_anew, clear_paints}

@@ -1,7 +1,8 @@
 use Rattle.std.proofs.Common.{map, false, [], ◌++◌, replicate, take}
 use Rattle.indicatif_term.specs.Lists.{opening_lists}
-use Rattle.indicatif_term.specs.Bytes.{paint_bytes}
-use Rattle.indicatif_term.specs.Frames.{bar_lines, frame_lines}
+use Rattle.indicatif_term.specs.Inside.Bytes.{paint_bytes}
+use Rattle.indicatif_term.specs.Frames.{bar_lines}
+use Rattle.indicatif_term.specs.Inside.Plans.{frame_lines}
 use Rattle.indicatif_term.specs.Engines.{terminal, is_bottom}
 use Rattle.indicatif_term.proofs.Pictured.{repaints_nothing, repaints_by, anew_nothing, anew_by, paint_anew, not_ok, draw_paints}
 use Rattle.indicatif_term.proofs.ShownRows.{frame_lines_le}

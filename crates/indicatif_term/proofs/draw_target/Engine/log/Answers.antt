@@ -1,8 +1,9 @@
 use Rattle.std.proofs.Common.{◌∙◌, ap, map, string_bytes, Err, ◌+◌, [], ◌++◌, false, replicate, take}
 use Rattle.std.proofs.lemmas.Result.{err_from_is_err_and}
 use Rattle.indicatif_term.specs.Lists.{opening_lists}
-use Rattle.indicatif_term.specs.Bytes.{paint_bytes}
-use Rattle.indicatif_term.specs.Frames.{bar_lines, logged_lines, text_lines, all_lines, frame_lines}
+use Rattle.indicatif_term.specs.Inside.Bytes.{paint_bytes}
+use Rattle.indicatif_term.specs.Frames.{bar_lines, logged_lines, text_lines, all_lines}
+use Rattle.indicatif_term.specs.Inside.Plans.{frame_lines}
 use Rattle.indicatif_term.specs.Engines.{terminal, is_bottom}
 use Rattle.indicatif_term.proofs.Pictured.{repaints_nothing, repaints_by, anew_nothing, anew_by, paint_anew, not_ok, log_paints, answer_withheld, wide_left, wide_right, narrow_both, answer_made}
 use Rattle.indicatif_term.proofs.LoggedLines.{logged_utf8}

@@ -1,0 +1,177 @@
+//! A terminal behind a writer of bytes.
+ghost use Rattle.std.specs.Prelude.{◌≡◌, ◌<◌, ◌≤◌, ◌+◌, ◌%◌, ◌^◌, if◌then◌else◌, drop};
+ghost use Rattle.std.specs.Result.{is_err};
+ghost use Rattle.indicatif_term.specs.Calls.{Writes, move_bytes};
+ghost use Rattle.indicatif_term.specs.Writers.{Behind, IsSteady, view_behind, AppendsAllOrFront};
+
+use crate::term_like::TermLike;
+use itoa::write_digits;
+use std::io;
+use std::io::{ErrorKind, Write};
+use std::marker::Model;
+
+/// A terminal whose calls write their bytes to a writer. Its size is what it was made with.
+///
+/// A call that fails has written a beginning of its bytes, and adds 1 modulo 2^64 to `faults`.
+#[derive(Drop)]
+pub struct Term<W: Write> {
+    writer: W,
+    columns: u16,
+    rows: u16,
+    faults: u64,
+}
+
+impl<W: Write> Model for Term<W> {
+    ghost use Rattle.indicatif_term.specs.Writers.{Behind, IsSteady};
+
+    ghost Value = { Behind W };
+
+    ghost view = { λ t. record { writer = t.writer; columns = t.columns; rows = t.rows; faults = t.faults } };
+
+    ghost invariant = { λ _. IsSteady W.contents };
+}
+
+impl<W: Write> Term<W> {
+    /// A terminal of `rows` rows and `cols` columns behind `w`, of which no call has failed.
+    ///
+    /// Contracts have to know the writer's bytes at all times, as those of a `Vec<u8>`, or at none.
+    pub fn new(w: W, rows: u16, cols: u16) -> Term<W>
+        requires { IsSteady W.contents }
+        ensures { result ≡ record { writer = w; columns = cols; rows = rows; faults = 0 } }
+    {
+        Term {
+            writer: w,
+            columns: cols,
+            rows,
+            faults: 0,
+        }
+    }
+
+    /// The writer.
+    pub fn writer(&self) -> &W
+        ensures { result.now ≡ self.now.writer }
+    {
+        &self.writer
+    }
+
+    /// Writes these bytes.
+    fn send(&mut self, bytes: &[u8]) -> io::Result<()>
+        ensures { Writes bytes.now (view_behind W.contents self.old) (view_behind W.contents self.new) result }
+    {
+        let sent = write_whole(&mut self.writer, bytes);
+        self.counted(sent)
+    }
+
+    /// Writes what moves the cursor by `n`, where `letter` says which way.
+    fn send_move(&mut self, letter: u8, n: usize) -> io::Result<()>
+        ensures { Writes (move_bytes letter n) (view_behind W.contents self.old) (view_behind W.contents self.new) result }
+    {
+        if n == 0 {
+            return Ok(());
+        }
+        let mut bytes = [0; LONGEST_MOVE];
+        let start = spell_move(letter, n, &mut bytes);
+        self.send(&bytes[start..])
+    }
+
+    /// Hands on what became of a call, and counts a failure.
+    fn counted(&mut self, done: io::Result<()>) -> io::Result<()>
+        ensures same { result ≡ done }
+        ensures counts { self.new
+            ≡ record self.old { faults = if is_err done then (self.old.faults + 1) % 2 ^ 64 else self.old.faults } }
+    {
+        if done.is_err() {
+            self.faults = self.faults.wrapping_add(1);
+        }
+        done
+    }
+}
+
+impl<W: Write> TermLike for Term<W> {
+    ghost view = { λ t. view_behind W.contents t };
+
+    fn width(&self) -> u16 {
+        self.columns
+    }
+
+    fn height(&self) -> u16 {
+        self.rows
+    }
+
+    fn faults(&self) -> u64 {
+        self.faults
+    }
+
+    fn move_cursor_up(&mut self, n: usize) -> io::Result<()> {
+        self.send_move(b'A', n)
+    }
+
+    fn move_cursor_down(&mut self, n: usize) -> io::Result<()> {
+        self.send_move(b'B', n)
+    }
+
+    fn move_cursor_right(&mut self, n: usize) -> io::Result<()> {
+        self.send_move(b'C', n)
+    }
+
+    fn move_cursor_left(&mut self, n: usize) -> io::Result<()> {
+        self.send_move(b'D', n)
+    }
+
+    fn write_line(&mut self, s: &str) -> io::Result<()> {
+        self.send(s.as_bytes())?;
+        self.send(b"\r\n")
+    }
+
+    fn write_str(&mut self, s: &str) -> io::Result<()> {
+        self.send(s.as_bytes())
+    }
+
+    fn clear_line(&mut self) -> io::Result<()> {
+        self.send(b"\r\x1B[2K")
+    }
+
+    fn flush(&mut self) -> io::Result<()> {
+        let flushed = self.writer.flush();
+        self.counted(flushed)
+    }
+}
+
+/// The bytes of the longest move: ESC `[`, twenty digits and a letter.
+const LONGEST_MOVE: usize = 23;
+
+/// Spells a move at the end of `bytes`, and tells where it begins.
+fn spell_move(letter: u8, n: usize, bytes: &mut [u8; LONGEST_MOVE]) -> usize
+    requires { 0 < n }
+    ensures within { result ≤ LONGEST_MOVE }
+    ensures spelt { drop result bytes.new ≡ move_bytes letter n }
+{
+    let last = LONGEST_MOVE - 1;
+    bytes[last] = letter;
+    let digits = write_digits(n as u64, bytes, last);
+    bytes[digits - 1] = b'[';
+    bytes[digits - 2] = 0x1B;
+    digits - 2
+}
+
+/// Writes all of these bytes, or a beginning of them where the writer fails or takes no more.
+fn write_whole<W: Write>(writer: &mut W, bytes: &[u8]) -> io::Result<()>
+    ensures { AppendsAllOrFront (W.contents writer.old) (W.contents writer.new) bytes.now result }
+{
+    let mut rest = bytes;
+    for _ in 0..u64::MAX {
+        if rest.is_empty() {
+            return Ok(());
+        }
+        match writer.write(rest) {
+            Ok(0) => return Err(io::Error::from(ErrorKind::WriteZero)),
+            Ok(n) => rest = &rest[n..],
+            Err(e) => {
+                if e.kind() != ErrorKind::Interrupted {
+                    return Err(e);
+                }
+            }
+        }
+    }
+    Err(io::Error::from(ErrorKind::TimedOut))
+}

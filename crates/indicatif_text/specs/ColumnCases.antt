@@ -1,0 +1,31 @@
+-- Texts whose columns, rows and pieces are worked out.
+use Rattle.std.specs.Prelude.{◌≡◌, ℕ, true, false, [], ◌∷◌, ◌++◌, List, codes, length}
+use Rattle.indicatif_text.specs.Columns.{columns_of, rows_of, last_columns, has_wide}
+use Rattle.indicatif_text.specs.Pieces.{Colour, Run, pieces_of_text}
+
+abbrev pub escape : List ℕ
+escape = 0x1B ∷ []
+
+-- a wide character between narrow ones
+abbrev pub digits_and_a_wide_one : List ℕ
+digits_and_a_wide_one = codes "123456789" ++ 0x56FD ∷ codes "123456789"
+
+-- the wide one doesn't fit into the tenth column, so nine columns are followed by two and eight, and by one
+abbrev pub WideOneGoesDown : Type 0
+WideOneGoesDown = (length (rows_of 10 digits_and_a_wide_one) ≡ 3) × (last_columns 10 digits_and_a_wide_one ≡ 1)
+    × (has_wide 10 digits_and_a_wide_one ≡ false) × (has_wide 1 digits_and_a_wide_one ≡ true)
+
+-- an empty line is one row
+abbrev pub EmptyIsOneRow : Type 0
+EmptyIsOneRow = (length (rows_of 4 []) ≡ 1) × (last_columns 4 [] ≡ 0)
+
+-- a colour takes no columns, other sequences do, and so does one that is cut off
+abbrev pub ColoursTakeNone : Type 0
+ColoursTakeNone = (columns_of (escape ++ codes "[1;31mab" ++ escape ++ codes "[0m") ≡ 2)
+    × (columns_of (escape ++ codes "[2Ja") ≡ 4) × (columns_of (codes "a" ++ escape ++ codes "[31") ≡ 4)
+    × (columns_of digits_and_a_wide_one ≡ 20)
+
+-- the pieces of a text that begins and ends with a run
+abbrev pub RunsAndColours : Type 0
+RunsAndColours = pieces_of_text (codes "a" ++ escape ++ codes "[2Jb" ++ escape ++ codes "[31m" ++ escape ++ codes "[0m" ++ escape ++ codes "[1")
+    ≡ Run (codes "a" ++ escape ++ codes "[2Jb") ∷ Colour (escape ++ codes "[31m") ∷ Colour (escape ++ codes "[0m") ∷ Run (escape ++ codes "[1") ∷ []

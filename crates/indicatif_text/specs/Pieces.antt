@@ -1,0 +1,73 @@
+-- A text as colour sequences and what stands between them. Texts are lists of characters.
+use Rattle.std.specs.Prelude.{◌≡◌, ℕ, zero, suc, ◌-◌, ⊤, List, [], ◌∷◌, take, drop, flat_map, Some, None, All, length}
+use Rattle.indicatif_text.specs.Columns.{colour_length, visible}
+
+pub data TextPiece : Type 0 where
+  -- a colour sequence
+  Colour : (sequence : List ℕ) → TextPiece
+  -- a longest run without one
+  Run : (text : List ℕ) → TextPiece
+
+-- the pieces with a character before them that begins no colour sequence: it joins the run at their front, or is one
+abbrev pub joined_to : ℕ → List TextPiece → List TextPiece
+joined_to c [] = Run (c ∷ []) ∷ []
+joined_to c (Run text ∷ ps) = Run (c ∷ text) ∷ ps
+joined_to c (Colour sequence ∷ ps) = Run (c ∷ []) ∷ Colour sequence ∷ ps
+
+-- the pieces of what follows the first n characters
+abbrev pub pieces_from : ℕ → List ℕ → List TextPiece
+pieces_from n [] = []
+pieces_from (suc n) (c ∷ cs) = pieces_from n cs
+pieces_from zero (c ∷ cs) =
+    elim (colour_length (c ∷ cs)) [ None ↦ joined_to c (pieces_from 0 cs) | Some n ↦ Colour (take n (c ∷ cs)) ∷ pieces_from (n - 1) cs ]
+
+-- the pieces of a text
+unfoldable pub pieces_of_text : List ℕ → List TextPiece
+pieces_of_text = pieces_from 0
+
+-- ---- what they are
+
+-- the characters of a piece
+abbrev pub piece_text : TextPiece → List ℕ
+piece_text (Colour sequence) = sequence
+piece_text (Run text) = text
+
+-- the characters of a run
+abbrev pub run_text : TextPiece → List ℕ
+run_text (Colour sequence) = []
+run_text (Run text) = text
+
+-- the pieces join to the text
+abbrev pub PiecesJoin : Type 0
+PiecesJoin = (text : List ℕ) → flat_map piece_text (pieces_of_text text) ≡ text
+
+-- the runs are what is visible
+abbrev pub RunsAreVisible : Type 0
+RunsAreVisible = (text : List ℕ) → flat_map run_text (pieces_of_text text) ≡ visible text
+
+-- a colour sequence from end to end, or a run at no place of which one begins
+abbrev pub IsExact : TextPiece → Type 0
+IsExact (Colour sequence) = colour_length sequence ≡ Some (length sequence)
+IsExact (Run text) = (place : ℕ) → colour_length (drop place text) ≡ None
+
+-- colour pieces are exactly one colour sequence, and no run holds one
+abbrev pub PiecesAreExact : Type 0
+PiecesAreExact = (text : List ℕ) → All IsExact (pieces_of_text text)
+
+-- no piece is empty
+abbrev pub IsNoEmptyPiece : TextPiece → Type 0
+IsNoEmptyPiece piece = ◌≡◌ (piece_text piece) [] → ⊥
+
+abbrev pub NoEmptyPieces : Type 0
+NoEmptyPieces = (text : List ℕ) → All IsNoEmptyPiece (pieces_of_text text)
+
+-- no run follows a run
+abbrev pub NoRunsAdjoin : List TextPiece → Type 0
+NoRunsAdjoin [] = ⊤
+NoRunsAdjoin (Colour sequence ∷ ps) = NoRunsAdjoin ps
+NoRunsAdjoin (Run text ∷ []) = ⊤
+NoRunsAdjoin (Run text ∷ Run next ∷ ps) = ⊥
+NoRunsAdjoin (Run text ∷ Colour sequence ∷ ps) = NoRunsAdjoin ps
+
+abbrev pub RunsAreLongest : Type 0
+RunsAreLongest = (text : List ℕ) → NoRunsAdjoin (pieces_of_text text)

@@ -1,0 +1,91 @@
+//! Asks the product for the answers of recorded rows: `replay KIND FILE [KIND FILE ..]`.
+//!
+//! Each row that disagrees is printed with what was got, and last the counts. The exit status is 1 if a row disagreed, and
+//! 2 where a file or a row can't be read, or where standard output fails.
+//!
+//! - `rows`: the rows of a file, their columns and escapes.
+//! - `kinds`: the kinds of rows, and how each is asked.
+#![tactic(auto)]
+
+mod kinds;
+mod rows;
+
+use anyhow::{Context, Result, anyhow};
+use kinds::{Kind, Verdict};
+use rows::Row;
+use std::fs::File;
+use std::io::{BufRead, BufReader};
+use std::process::ExitCode;
+use std::{env, io};
+
+/// How many rows agreed, disagreed and weren't asked.
+#[derive(Clone, Copy, Debug, Default)]
+struct Tally {
+    passed: u64,
+    failed: u64,
+    skipped: u64,
+}
+
+fn main(rt: HostRuntime) -> ExitCode {
+    match replay(rt) {
+        Ok(tally) if tally.failed == 0 => ExitCode::SUCCESS,
+        Ok(_) => ExitCode::FAILURE,
+        Err(e) => {
+            let _ = eprintln!(rt; "replay: {e:#}");
+            ExitCode::from(2)
+        }
+    }
+}
+
+/// Asks every row of the files that the arguments name, and prints the counts.
+fn replay(rt: HostRuntime) -> Result<Tally> {
+    let mut tally = Tally::default();
+    let mut words = env::args(&rt)?.skip(1);
+    while let Some(word) = words.next() {
+        let kind = Kind::named(word.as_str()).ok_or(anyhow!("{} is no kind of rows", word))?;
+        let path = words.next().ok_or(anyhow!("no file for {}", word))?;
+        replay_file(rt, kind, path.as_str(), &mut tally)?;
+    }
+    print_counts(rt, tally).context("output failed")?;
+    Ok(tally)
+}
+
+fn print_counts(rt: HostRuntime, tally: Tally) -> io::Result<()> {
+    let Tally {
+        passed,
+        failed,
+        skipped,
+    } = tally;
+    if skipped == 0 {
+        println!(rt; "{passed} passed, {failed} failed")
+    } else {
+        println!(rt; "{passed} passed, {failed} failed, {skipped} skipped")
+    }
+}
+
+/// Asks every row of a file, and prints those that disagree.
+fn replay_file(rt: HostRuntime, kind: Kind, path: &str, tally: &mut Tally) -> Result<()> {
+    let file = File::open(&rt, path).context(format_args!("{path}"))?;
+    let mut number: u64 = 0;
+    for line in BufReader::new(rt.alloc(), file)?.lines(rt.alloc()) {
+        number = number.saturating_add(1);
+        let line = line.context(format_args!("{path}, line {number}"))?;
+        if line.as_str().starts_with('#') {
+            continue;
+        }
+        let verdict = kind
+            .agrees(rt.alloc(), Row::of(line.as_str()))
+            .context(format_args!("{path}, line {number}"))?;
+        match verdict {
+            Verdict::Agrees => tally.passed = tally.passed.saturating_add(1),
+            Verdict::Skipped => tally.skipped = tally.skipped.saturating_add(1),
+            Verdict::Differs(got) => {
+                tally.failed = tally.failed.saturating_add(1);
+                println!(rt; "{path}, line {number}: {line}\n  got {got}").context(
+                    "output failed",
+                )?;
+            }
+        }
+    }
+    Ok(())
+}
