@@ -7,7 +7,7 @@ use Rattle.std.proofs.lemmas.List.{take_all}
 use Rattle.std.proofs.lemmas.Bool.{and_parts, ne_eqb, le-ltb, lt-ltb}
 use Rattle.indicatif_term.specs.Screen.{Screen, Op, Put, performed, performed_all}
 use Rattle.indicatif_term.specs.Terminal.{Plain, Reader, Terminal, idle, plain_ops, plain_place, ops_of, reader_after, after}
-use Rattle.indicatif_term.specs.Scanners.{IsFront}
+use Rattle.indicatif_term.specs.Inside.Scanners.{IsFront}
 use Rattle.indicatif_term.proofs.Fed.{after-append}
 use Rattle.indicatif_term.proofs.Reading.{Spells, char_read}
 

@@ -8,6 +8,7 @@
 //! - `row`: a row of cells, and what writing into it does to its wide characters.
 //! - `slot`: a cell of a row, with the marks joined to it.
 //! - `moves`: the calls as text, and the bytes of a move.
+//! - `worked`: worked cases of the definitions.
 //!
 //! `InMemoryTerm` is that terminal as a bar's target.
 ghost use Rattle.std.specs.Prelude.{◌≡◌, ◌-◌, ◌++◌, ◌==◌, ◌⊎◌, ◌↔◌, [], if◌then◌else◌, map, codes, IfOk, IsOkAnd, IfErr, OnOk, OnErr, string_bytes};
@@ -26,6 +27,7 @@ mod row;
 mod scanner;
 mod slot;
 mod spelling;
+pub mod worked;
 
 use crate::in_memory::moves::{MoveBytes, ended_line, move_line, own_line, text_line};
 use crate::term_like::TermLike;

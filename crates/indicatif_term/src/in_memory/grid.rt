@@ -4,7 +4,7 @@ ghost use Rattle.std.specs.List.{join_with_byte};
 ghost use Rattle.indicatif_text.specs.Columns.{blank_row};
 ghost use Rattle.indicatif_term.specs.Screen.{Put, Return, Up, Down, Right, Left, EmptyRow, performed, blank_screen, line_feed, put_wide, put_mark, put_here, top};
 ghost use Rattle.indicatif_term.specs.Pictures.{contents_text, picture_text, row_text, written_rows};
-ghost use Rattle.indicatif_term.specs.Grids.{op_of};
+ghost use Rattle.indicatif_term.specs.Inside.Grids.{op_of};
 ghost use Rattle.unicode_width.specs.Width.{char_width};
 
 use crate::in_memory::row::Row;
@@ -50,7 +50,7 @@ impl Model for Grid {
 
     ghost Value = { Screen };
 
-    ghost use Rattle.indicatif_term.specs.Grids.{screen_of, IsSound};
+    ghost use Rattle.indicatif_term.specs.Inside.Grids.{screen_of, IsSound};
 
     ghost view = { screen_of };
 

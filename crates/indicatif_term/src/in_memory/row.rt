@@ -4,7 +4,7 @@ ghost use Rattle.std.specs.List.{list_any, list_all};
 ghost use Rattle.indicatif_text.specs.Columns.{blank_row};
 ghost use Rattle.indicatif_term.specs.Screen.{cut_before, written_at, joined_at, is_continued};
 ghost use Rattle.indicatif_term.specs.Pictures.{is_blank, is_written, has_written, row_text, trimmed};
-ghost use Rattle.indicatif_term.specs.Slots.{emptied_back, emptied_on, overwritten, character_cells};
+ghost use Rattle.indicatif_term.specs.Inside.Slots.{emptied_back, emptied_on, overwritten, character_cells};
 
 use crate::in_memory::slot::Slot;
 use indicatif_text::refusal::Refusal;

@@ -3,7 +3,7 @@ ghost use Rattle.std.specs.Prelude.{◌≡◌, ◌++◌, [], if◌then◌else◌
 ghost use Rattle.indicatif_text.specs.Columns.{Blank, Written, Continued};
 ghost use Rattle.indicatif_term.specs.Screen.{is_continued};
 ghost use Rattle.indicatif_term.specs.Pictures.{cell_text, is_blank, is_written};
-ghost use Rattle.indicatif_term.specs.Slots.{with_mark_at};
+ghost use Rattle.indicatif_term.specs.Inside.Slots.{with_mark_at};
 
 use indicatif_text::refusal::Refusal;
 use std::alloc::Global;
@@ -40,7 +40,7 @@ impl Model for Slot {
 
     ghost Value = { Cell };
 
-    ghost use Rattle.indicatif_term.specs.Slots.{cell_of};
+    ghost use Rattle.indicatif_term.specs.Inside.Slots.{cell_of};
 
     ghost view = { λ s. cell_of s.kind };
 }
