@@ -2,9 +2,11 @@
 //!
 //! - `style`: a message as lines.
 //! - `state`: a bar's record and commands.
+//! - `laws`: what follows from a run.
 //! - `lone`: a bar with its engine, and runs of calls.
 #![tactic(auto)]
 
-//pub mod lone;
+pub mod laws;
+pub mod lone;
 pub mod state;
 mod style;

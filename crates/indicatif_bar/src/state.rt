@@ -1,8 +1,10 @@
 //! A bar's record and its commands.
 ghost use Rattle.std.specs.Prelude.{◌≡◌, IfOk, OnErr, IfErr, map, string_bytes};
+ghost use Rattle.indicatif_term.specs.Frames.{line_text};
 ghost use Rattle.indicatif_bar.specs.Bars.{Bar, Progress, Tick, SetMessage, ForceDraw, changed, asked, new_bar, lines_of_bar};
 
 use crate::style;
+use indicatif_term::lines::LineType;
 use indicatif_text::moment::Moment;
 use indicatif_text::refusal::Refusal;
 use std::alloc::Global;
@@ -128,8 +130,8 @@ impl BarState {
     /// message's pieces between newlines.
     ///
     /// Refused: `Memory`.
-    pub fn lines(&self, now: Moment, width: u16) -> Result<Vec<String>, Refusal>
-        ensures lines { IfOk result (λ v. map string_bytes v.items ≡ lines_of_bar now width self.now) }
+    pub fn lines(&self, now: Moment, width: u16) -> Result<Vec<LineType>, Refusal>
+        ensures lines { IfOk result (λ v. map line_text v.items ≡ lines_of_bar now width self.now) }
         ensures memory { IfErr result (λ e. e ≡ Refusal.Memory) }
     {
         style::lines_of(self.alloc, self.message.as_str())

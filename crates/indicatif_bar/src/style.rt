@@ -1,7 +1,9 @@
 //! A message as lines: tabs expanded, parted at newlines.
-ghost use Rattle.std.specs.Prelude.{◌≡◌, IfOk, IfErr, map, string_bytes, chars};
+ghost use Rattle.std.specs.Prelude.{◌≡◌, IfOk, IfErr, map, string_bytes};
+ghost use Rattle.indicatif_term.specs.Frames.{line_text};
 ghost use Rattle.indicatif_bar.specs.Bars.{expanded, message_lines};
 
+use indicatif_term::lines::LineType;
 use indicatif_text::refusal::Refusal;
 use std::alloc::Global;
 
@@ -26,8 +28,8 @@ pub fn tabs_expanded(alloc: Global, text: &str) -> Result<String, Refusal>
 }
 
 /// The lines of a message: none of an empty one, else its pieces between newlines.
-pub fn lines_of(alloc: Global, message: &str) -> Result<Vec<String>, Refusal>
-    ensures lines { IfOk result (λ v. map string_bytes v.items ≡ message_lines message.now) }
+pub fn lines_of(alloc: Global, message: &str) -> Result<Vec<LineType>, Refusal>
+    ensures lines { IfOk result (λ v. map line_text v.items ≡ message_lines message.now) }
     ensures memory { IfErr result (λ e. e ≡ Refusal.Memory) }
 {
     let mut lines = Vec::new(alloc);
@@ -35,7 +37,7 @@ pub fn lines_of(alloc: Global, message: &str) -> Result<Vec<String>, Refusal>
         return Ok(lines);
     }
     for piece in message.split('\n') {
-        lines.push(String::from_str(alloc, piece)?)?;
+        lines.push(LineType::Bar(String::from_str(alloc, piece)?))?;
     }
     Ok(lines)
 }

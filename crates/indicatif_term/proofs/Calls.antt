@@ -1,5 +1,5 @@
 -- What a terminal shows after each call.
-use Rattle.std.proofs.Common.{◌≡◌, ℕ, ◌+◌, ◌-◌, ◌*◌, ◌/◌, ◌%◌, ◌^◌, ◌<◌, ◌≤◌, true, false, List, [], ◌∷◌, ◌++◌, length, refl, sym, ◌∙◌, ap, subst, append_assoc, append-nil, arith, map, eqb, Some}
+use Rattle.std.proofs.Common.{◌≡◌, ℕ, ◌+◌, ◌-◌, ◌*◌, ◌/◌, ◌%◌, ◌^◌, ◌<◌, ◌≤◌, min, true, false, List, [], ◌∷◌, ◌++◌, length, refl, ◌∙◌, ap, subst, arith, map, eqb, Option, Some}
 use Rattle.std.specs.Prelude.{decimal}
 use Rattle.std.specs.List.{AllByRecursion}
 use Rattle.std.proofs.Math.Utf8.{low_scalar, scalars, encode, encodes}
@@ -10,11 +10,12 @@ use Rattle.std.proofs.lemmas.Fmt.{decimal_by_steps}
 use Rattle.std.proofs.lemmas.Str.{encode_ascii}
 use Rattle.indicatif_text.specs.Columns.{Cell, visible, glyphs_of, pieces_of, row_of, rows_of, blank_row, is_parameter, columns_of_last}
 use Rattle.indicatif_term.specs.Screen.{Screen, Op, Put, Return, LineFeed, Up, EmptyRow, performed, performed_all}
-use Rattle.indicatif_term.specs.Terminal.{Plain, Sequence, Reader, idle, ops_of, reader_after, after, is_digit, number_from, sequence_ops}
+use Rattle.indicatif_term.specs.Terminal.{Plain, Sequence, Reader, idle, ops_of, reader_after, after, is_digit, number_with, GREATEST, sequence_ops}
 use Rattle.indicatif_term.specs.Calls.{clear_bytes, move_bytes}
 use Rattle.indicatif_term.specs.Shows.{resting}
 use Rattle.indicatif_term.proofs.Standing.{screen_at, screen_after, resting_below, IsPrintable, IsText}
-use Rattle.indicatif_term.proofs.Reading.{chars_read, char_list_ops, place_after, ops_of-append, reader_after-append}
+use Rattle.indicatif_term.proofs.Reading.{chars_read, char_list_ops, place_after}
+use Rattle.indicatif_term.proofs.Fed.{ops_of-append, reader_after-append}
 use Rattle.indicatif_term.proofs.Texts.{IsShown, Puts, reads}
 use Rattle.indicatif_term.proofs.Rows.{with_row_at}
 use Rattle.indicatif_term.proofs.WrittenLines.{text_put}
@@ -60,15 +61,21 @@ is_digit_at d h = rw (le-leb 48 d h.0, le-leb d 57 h.1) refl
 is_parameter_at : (d : ℕ) → IsDigit d → is_parameter d ≡ true
 is_parameter_at d h = rw (le-leb 48 d h.0, le-leb d 57 h.1) refl
 
-number_push : (m : ℕ) (ds : List ℕ) (v d : ℕ) → AllByRecursion IsDigit ds → number_from m ds ≡ Some v → d < 10 → number_from m (ds ++ (48 + d) ∷ []) ≡ Some (10 * v + d)
-number_push m [] v d all e small =
-    let same : m ≡ v = cc in
-    rw (is_digit_at (48 + d) (omega arith, omega arith)) (ap (λ k. Some k) (omega arith))
-number_push m (c ∷ ds) v d all e small = rw (is_digit_at c all.0) (number_push (10 * m + (c - 48)) ds v d all.1 (rw (is_digit_at c all.0) at e) small)
+-- a number with more digits
+abbrev number_after : Option ℕ → List ℕ → Option ℕ
+number_after number [] = number
+number_after number (c ∷ cs) = number_after (number_with number c) cs
+
+number_after-append : (number : Option ℕ) (xs ys : List ℕ) → number_after number (xs ++ ys) ≡ number_after (number_after number xs) ys
+number_after-append number [] ys = refl
+number_after-append number (x ∷ xs) ys = number_after-append (number_with number x) xs ys
+
+one_digit : (v d : ℕ) → d < 10 → number_with (Some (min v GREATEST)) (48 + d) ≡ Some (min (10 * v + d) GREATEST)
+one_digit v d small = rw (is_digit_at (48 + d) (omega arith, omega arith)) (ap (λ k. Some k) (omega arith))
 
 record IsNumber (n : ℕ) (ds : List ℕ) : Type 0 where
   digits : AllByRecursion IsDigit ds
-  value : number_from 0 ds ≡ Some n
+  value : number_after (Some 0) ds ≡ Some (min n GREATEST)
 
 digits_push : (ds : List ℕ) (d : ℕ) → AllByRecursion IsDigit ds → d < 10 → AllByRecursion IsDigit (ds ++ (48 + d) ∷ [])
 digits_push [] d all small = ((omega arith, omega arith), tt)
@@ -76,10 +83,11 @@ digits_push (c ∷ ds) d all small = (all.0, digits_push ds d all.1 small)
 
 number : (n : ℕ) → n < 2 ^ 64 → IsNumber n (decimal n)
 number = decimal_by_steps IsNumber
-    (λ n small. record { digits = ((omega arith, omega arith), tt); value = rw (is_digit_at (48 + n) (omega arith, omega arith)) (ap (λ k. Some k) (omega arith)) })
+    (λ n small. record { digits = ((omega arith, omega arith), tt); value = one_digit 0 n small ∙ ap (λ k. Some (min k GREATEST)) (omega arith) })
     (λ n ds large h. record {
       digits = digits_push ds (n % 10) h.digits (omega arith);
-      value = number_push 0 ds (n / 10) (n % 10) h.digits h.value (omega arith) ∙ ap (λ k. Some k) (omega arith);
+      value = number_after-append (Some 0) ds ((48 + n % 10) ∷ []) ∙ ap (λ v. number_with v (48 + n % 10)) h.value
+          ∙ one_digit (n / 10) (n % 10) (omega arith) ∙ ap (λ k. Some (min k GREATEST)) (omega arith);
     })
 
 digits_scalars : (ds : List ℕ) → AllByRecursion IsDigit ds → scalars (ds ++ 0x41 ∷ []) ≡ true
@@ -91,28 +99,26 @@ unfolding encode
 digits_encodes [] all = refl
 digits_encodes (d ∷ ds) all = rw (encode_ascii d (omega (arith, all.0))) (ap (λ xs. d ∷ xs) (digits_encodes ds all.1))
 
-record IsMove (ps ds : List ℕ) : Type 0 where
-  ops : char_list_ops (Sequence ps) (ds ++ 0x41 ∷ []) ≡ sequence_ops (number_from 0 (ps ++ ds)) 0x41 ++ []
-  place : place_after (Sequence ps) (ds ++ 0x41 ∷ []) ≡ Plain
+record IsMove (number : Option ℕ) (ds : List ℕ) : Type 0 where
+  ops : char_list_ops (Sequence number) (ds ++ 0x41 ∷ []) ≡ sequence_ops (number_after number ds) 0x41 ++ []
+  place : place_after (Sequence number) (ds ++ 0x41 ∷ []) ≡ Plain
 
-digits_read : (ps ds : List ℕ) → AllByRecursion IsDigit ds → IsMove ps ds
-digits_read ps [] all = record { ops = ap (λ xs. sequence_ops (number_from 0 xs) 0x41 ++ []) (sym (append-nil ps)); place = refl }
-digits_read ps (d ∷ ds) all =
-    let rest : IsMove (ps ++ d ∷ []) ds = digits_read (ps ++ d ∷ []) ds all.1 in
-    record {
-      ops = rw (is_parameter_at d all.0) (rest.ops ∙ ap (λ xs. sequence_ops (number_from 0 xs) 0x41 ++ []) (append_assoc ps (d ∷ []) ds));
-      place = rw (is_parameter_at d all.0, place_after) rest.place;
-    }
+digits_read : (number : Option ℕ) (ds : List ℕ) → AllByRecursion IsDigit ds → IsMove number ds
+digits_read number [] all = record { ops = refl; place = refl }
+digits_read number (d ∷ ds) all =
+    let rest : IsMove (number_with number d) ds = digits_read (number_with number d) ds all.1 in
+    record { ops = rw (is_parameter_at d all.0) rest.ops; place = rw (is_parameter_at d all.0, place_after) rest.place }
 
-pub up_asks : (k : ℕ) → 0 < k → k < 2 ^ 64 → Asks (move_bytes 0x41 k) (Up k ∷ [])
+pub up_asks : (k : ℕ) → 0 < k → k < 2 ^ 64 → Asks (move_bytes 0x41 k) (Up (min k GREATEST) ∷ [])
 unfolding encode
 up_asks k some small =
     let is : IsNumber k (decimal k) = number k small in
-    let read : IsMove [] (decimal k) = digits_read [] (decimal k) is.digits in
+    let read : IsMove (Some 0) (decimal k) = digits_read (Some 0) (decimal k) is.digits in
     let not_zero : eqb k 0 ≡ false = ne_eqb k 0 (λ e. omega arith) in
+    let counts : eqb (min k GREATEST) 0 ≡ false = ne_eqb (min k GREATEST) 0 (λ e. omega arith) in
     let bytes : encodes (0x1B ∷ 0x5B ∷ (decimal k ++ 0x41 ∷ [])) ≡ move_bytes 0x41 k = rw not_zero (ap (λ xs. 0x1B ∷ 0x5B ∷ xs) (digits_encodes (decimal k) is.digits)) in
-    subst (λ bs. Asks bs (Up k ∷ [])) bytes
-    (asks_chars (0x1B ∷ 0x5B ∷ (decimal k ++ 0x41 ∷ [])) (Up k ∷ []) (digits_scalars (decimal k) is.digits) (read.ops ∙ rw (is.value, not_zero) refl) read.place)
+    subst (λ bs. Asks bs (Up (min k GREATEST) ∷ [])) bytes
+    (asks_chars (0x1B ∷ 0x5B ∷ (decimal k ++ 0x41 ∷ [])) (Up (min k GREATEST) ∷ []) (digits_scalars (decimal k) is.digits) (read.ops ∙ rw (is.value, counts) refl) read.place)
 
 -- ---- after a call
 
@@ -135,5 +141,5 @@ pub row_cleared : (w h : ℕ) (above : List (List Cell)) (here : List Cell) (n c
 row_cleared w h above here n column =
     after_asks _ _ clear_bytes (Return ∷ EmptyRow ∷ []) clear_asks (with_row_at w h above here n 0 (blank_row w))
 
-pub moved_up : (s : Screen) (k : ℕ) → 0 < k → k < 2 ^ 64 → after (resting s) (move_bytes 0x41 k) ≡ resting (performed (Up k) s)
-moved_up s k some small = after_asks s (performed (Up k) s) (move_bytes 0x41 k) (Up k ∷ []) (up_asks k some small) refl
+pub moved_up : (s : Screen) (k : ℕ) → 0 < k → k < 2 ^ 64 → after (resting s) (move_bytes 0x41 k) ≡ resting (performed (Up (min k GREATEST)) s)
+moved_up s k some small = after_asks s (performed (Up (min k GREATEST)) s) (move_bytes 0x41 k) (Up (min k GREATEST) ∷ []) (up_asks k some small) refl

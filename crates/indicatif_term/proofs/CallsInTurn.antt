@@ -1,6 +1,6 @@
 -- Calls of a terminal one after another.
 use Rattle.std.proofs.Common.{◌≡◌, ℕ, zero, suc, ◌+◌, ◌<◌, Bool, true, false, ◌||◌, List, [], ◌∷◌, ◌++◌, length, take, Result, Ok, Err, refl, sym, ◌∙◌, ap, append_assoc, append-nil, length-append, arith, add-zero, add-suc, subst, ◌-◌, ◌≤◌, drop, get_or, length-take-le, if◌then◌else◌}
-use Rattle.std.specs.Prelude.{nat_lt, IsErr}
+use Rattle.std.specs.Prelude.{nat_lt, is_some, IsErr}
 use Rattle.std.proofs.Math.Bool.{or-false}
 use Rattle.std.proofs.lemmas.List.{take_more, take-append-drop}
 use Rattle.std.proofs.lemmas.Bool.Decides.{nat_tests}
@@ -8,7 +8,12 @@ use Rattle.indicatif_term.specs.Terminal.{after}
 use Rattle.indicatif_term.proofs.Stays.{after-append}
 use Rattle.indicatif_term.specs.Calls.{Told, State, Bytes, Nothing, led_on, TermView, LeadsOn, BreaksOff, Writes, clear_bytes, move_bytes}
 use Rattle.std.specs.Prelude.{not, ◌&&◌, ◌==◌}
-use Rattle.indicatif_term.specs.Bytes.{paint_bytes, lines_bytes, next_row, rows_back, back_bytes}
+use Rattle.std.proofs.Common.{replicate}
+use Rattle.std.proofs.lemmas.List.{length-replicate}
+use Rattle.indicatif_term.specs.Inside.Bytes.{paint_bytes, painting_bytes, lines_bytes, next_row, rows_back, back_bytes}
+use Rattle.indicatif_term.specs.Inside.Plans.{frame_lines, lines_above}
+use Rattle.indicatif_term.specs.declared.writing.Painting.{Painting}
+use Rattle.indicatif_term.proofs.LoggedLines.{lines_above_some}
 
 pub led_on-append : (told : Told) (a b : List ℕ) → led_on (led_on told a) b ≡ led_on told (a ++ b)
 led_on-append (State t) a b = ap State (sym (after-append t a b))
@@ -73,6 +78,10 @@ pub or_lt_after : (b : Bool) (n : ℕ) → (b || nat_lt 0 (suc n)) ≡ true
 or_lt_after true n = refl
 or_lt_after false n = lt_after n
 
+pub or_lt_last : (b : Bool) (n : ℕ) → (b || nat_lt 0 (n + 1)) ≡ true
+or_lt_last true n = refl
+or_lt_last false n = grind (arith, nat_tests)
+
 pub lines-append : (at_end : Bool) (a b : List (List ℕ)) → lines_bytes at_end (a ++ b) ≡ lines_bytes at_end a ++ lines_bytes (at_end || nat_lt 0 (length a)) b
 lines-append at_end [] b = ap (λ x. lines_bytes x b) (sym (or-false at_end))
 lines-append at_end (x ∷ a) b = ap (λ y. ((if at_end then next_row else []) ++ x) ++ y) (lines-append true a b)
@@ -107,6 +116,17 @@ pub line_fails : {E : Type 0} (b started : Bool) (ys : List (List ℕ)) (i : ℕ
 line_fails b started ys i y {s} u r a h e k p q =
     let w = writes_fail (lines_bytes (b || nat_lt 0 (length (take (i + 1) ys))) (drop (i + 1) ys)) r k (breaks_then p (rw a at q)) in
     rw (lines_rest b ys i y h e) w
+
+-- a line after those that came, and a failure there
+pub came_reaches : (b started : Bool) (came : List (List ℕ)) (y : List ℕ) {s t u : TermView} → started ≡ (b || nat_lt 0 (length came)) →
+    LeadsOn (lines_bytes b came) s t → LeadsOn ((if started then next_row else []) ++ y) t u → LeadsOn (lines_bytes b (came ++ y ∷ [])) s u
+came_reaches b started came y a p q = rw (lines_more b came y) (reaches_then p (rw a at q))
+
+pub came_fails : {E : Type 0} (b started : Bool) (all came : List (List ℕ)) (y : List ℕ) (rest : List (List ℕ)) {s t : TermView} (u : TermView) (r : Result Unit E) → started ≡ (b || nat_lt 0 (length came)) →
+    all ≡ (came ++ y ∷ []) ++ rest → IsErr r → LeadsOn (lines_bytes b came) s t → BreaksOff ((if started then next_row else []) ++ y) t u → Writes (lines_bytes b all) s u r
+came_fails b started all came y rest {s} u r a e k p q =
+    let w = writes_fail (lines_bytes (b || nat_lt 0 (length (came ++ y ∷ []))) rest) r k (breaks_then p (rw a at q)) in
+    rw (e, lines-append b (came ++ y ∷ []) rest, lines_more b came y) w
 
 -- ---- rows taken back
 
@@ -156,3 +176,12 @@ paint_split anew below ends taken text blanks frame e0 e1 e2 e3 m n k a b c d f 
     ap (λ y. e0 || nat_lt 0 y) (length-append (text ++ blanks) frame ∙ ap (λ y. y + length frame) (length-append text blanks))
     ∙ or_lt_sum e0 (length text + length blanks) (length frame) ∙ ap (λ y. y || nat_lt 0 (length frame)) (or_lt_sum e0 (length text) (length blanks)) ∙ rw (h, g, f, b, c, d) refl in
     rw (← a, x1, x2) (simp (append_assoc, append-nil))
+
+-- the bytes of a drawing, call by call
+pub painting_split : (p : Painting) (e0 e1 e2 e3 : Bool) → e0 ≡ (not p.below && (p.taken == 0)) → e1 ≡ (e0 || is_some p.text) → e2 ≡ (e1 || nat_lt 0 p.blanks) → e3 ≡ (e2 || nat_lt 0 p.lines) →
+    p.lines ≤ length (frame_lines p.frame.now) →
+    painting_bytes p ≡ (if p.anew then next_row else []) ++ (back_bytes p.below p.taken ++ (lines_bytes e0 (lines_above p.text)
+    ++ (lines_bytes e1 (replicate p.blanks []) ++ (lines_bytes e2 (take p.lines (frame_lines p.frame.now)) ++ ((if p.ends_below && e3 then next_row else []) ++ [])))))
+painting_split p e0 e1 e2 e3 a b c d h =
+    paint_split p.anew p.below p.ends_below p.taken (lines_above p.text) (replicate p.blanks []) (take p.lines (frame_lines p.frame.now)) e0 e1 e2 e3 (length (lines_above p.text)) p.blanks p.lines
+    a refl (sym (length-replicate p.blanks [])) (sym (length-take-le p.lines (frame_lines p.frame.now) h)) (b ∙ ap (λ t. e0 || t) (sym (lines_above_some p.text))) c d

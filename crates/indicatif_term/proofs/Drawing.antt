@@ -1,16 +1,17 @@
 -- What a drawing's bytes do to a terminal that shows the lists.
-use Rattle.std.proofs.Common.{◌≡◌, ℕ, zero, suc, ◌+◌, ◌-◌, ◌<◌, ◌≤◌, max, Bool, true, false, ◌&&◌, ◌||◌, not, List, [], ◌∷◌, ◌++◌, length, take, drop, replicate, refl, sym, ◌∙◌, ap, arith, append_assoc, append-nil, add-zero, length-append, take-take, if◌then◌else◌}
-use Rattle.std.specs.Prelude.{flat_map, nat_lt, ◌==◌}
+use Rattle.std.proofs.Common.{◌≡◌, ℕ, zero, suc, ◌+◌, ◌-◌, ◌<◌, ◌≤◌, max, Bool, true, false, ◌&&◌, ◌||◌, not, List, [], ◌∷◌, ◌++◌, length, take, map, subst, drop, replicate, refl, sym, ◌∙◌, ap, arith, append_assoc, append-nil, add-zero, length-append, take-take, if◌then◌else◌}
+use Rattle.std.specs.Prelude.{IsTrue, flat_map, nat_lt, ◌==◌}
 use Rattle.std.proofs.lemmas.Bool.Decides.{nat_tests}
-use Rattle.std.proofs.lemmas.List.{take-append-drop}
+use Rattle.std.proofs.lemmas.List.{take-append-drop, take-append-le, take-map, map-append, length-map, length-drop, length-take-le, take_all}
 use Rattle.std.proofs.lemmas.List.Sums.{sum_by-take-drop}
 use Rattle.indicatif_term.proofs.CallsInTurn.{or_lt_after}
 use Rattle.indicatif_text.specs.Columns.{Cell, blank_row, rows_of}
 use Rattle.indicatif_term.specs.Screen.{Screen}
 use Rattle.indicatif_term.specs.Terminal.{Terminal, after}
-use Rattle.indicatif_term.specs.Shows.{Shows, IsOpening, Keeps, resting}
+use Rattle.indicatif_term.specs.Shows.{Shows, IsOpening, Keeps, look, looks_of, resting, resting_row}
+use Rattle.indicatif_term.proofs.Standing.{Stands}
 use Rattle.indicatif_term.specs.Lists.{Lists, Live, BarRows, BarLines, passed, cleared, drawn, logged, kept_of, lists_height, live_height, segments_height, live_rows, all_rows, live_of_frame, shown_rows, opening_lists, is_first}
-use Rattle.indicatif_term.specs.Bytes.{paint_bytes}
+use Rattle.indicatif_term.specs.Inside.Bytes.{paint_bytes}
 use Rattle.indicatif_term.proofs.ShownRows.{lines_rows, shown-height}
 use Rattle.indicatif_term.proofs.TerminalSteps.{Leads}
 use Rattle.indicatif_term.proofs.Rows.{made as made_screen}
@@ -33,6 +34,48 @@ pub record Replaces (w h : ℕ) (l l' : Lists) (more gone : List (List Cell)) (l
   pub below_is : l'.below ≡ ((live_height l'.live == 0) && nat_lt (lists_height l') l'.reach)
   pub movable : l'.reach ≤ length l'.above + h
   pub none : length lines ≡ 0 → live_height l'.live ≡ 0
+
+-- ---- looks
+
+looks-append : (a b : List (List Cell)) → looks_of (a ++ b) ≡ looks_of a ++ looks_of b
+looks-append a b = map-append (map look) a b
+
+-- rows that look like two lists of rows
+looks_split : (shown base gone : List (List Cell)) → looks_of shown ≡ looks_of (base ++ gone) →
+    (length (take (length base) shown) ≡ length base) × (length (drop (length base) shown) ≡ length gone) × (looks_of (take (length base) shown) ≡ looks_of base)
+looks_split shown base gone e =
+    let n = length base in
+    let size : length shown ≡ length base + length gone = sym (length-map shown (map look)) ∙ ap length e ∙ length-map (base ++ gone) (map look) ∙ length-append base gone in (
+      length-take-le n shown (omega arith),
+      length-drop n shown ∙ omega arith,
+      sym (take-map (map look) n shown) ∙ ap (take n) e ∙ take-map (map look) n (base ++ gone) ∙ ap looks_of (take-append-le n base gone (omega arith) ∙ take_all n base (omega arith)),
+    )
+
+at_front_is : (below : Bool) (column : ℕ) → (below ≡ true → column ≡ 0) → IsTrue below → column ≡ 0
+at_front_is below column f h = f h
+
+stands_from : {w h : ℕ} {opening : Screen} {l : Lists} {t : Terminal} (s : Shows w h opening l t) → Stands w h opening s.shown (resting_row l) l.reach l.below t
+stands_from {l = l} s = record { opens = s.opens; below = s.blank; column = s.column; is = s.terminal_is; in_rows = s.in_rows; at_front = at_front_is l.below s.column s.at_front; scrolled = s.scrolled }
+
+shows_from : (w h : ℕ) (opening : Screen) (l : Lists) (t : Terminal) (shown : List (List Cell)) → Stands w h opening shown (resting_row l) l.reach l.below t → looks_of shown ≡ looks_of (all_rows w l) →
+    lists_height l ≤ l.reach → (l.below ≡ true → lists_height l < l.reach) → (l.below ≡ false → 0 < lists_height l) → l.reach ≤ length l.above + h → Shows w h opening l t
+shows_from w h opening l t shown s e a b c d = record {
+  opens = s.opens;
+  shown = shown;
+  blank = s.below;
+  column = s.column;
+  terminal_is = s.is;
+  looks = e;
+  in_rows = s.in_rows;
+  at_front = s.at_front;
+  scrolled = s.scrolled;
+  reached = a;
+  below_reached = b;
+  on_a_row = c;
+  movable = d;
+}
+
+-- ---- where the cursor rests
 
 below_true : (live height reach : ℕ) (below : Bool) → below ≡ ((live == 0) && nat_lt height reach) → below ≡ true → height < reach
 below_true live height reach below e f = grind (arith, nat_tests)
@@ -72,6 +115,16 @@ module _ (w h : ℕ) (opening : Screen) (l l' : Lists) (more gone : List (List C
   abbrev base : List (List Cell)
   base = l.above ++ more
 
+  -- the rows that look like these
+  abbrev front : List (List Cell)
+  front = take (length base) s.shown
+
+  abbrev taken : List (List Cell)
+  taken = drop (length base) s.shown
+
+  parts : (length front ≡ length base) × (length taken ≡ length gone) × (looks_of front ≡ looks_of base)
+  parts = looks_split s.shown base gone (s.looks ∙ ap looks_of (sym g.before))
+
   before_height : length base + length gone ≡ lists_height l
   before_height = sym (length-append base gone) ∙ ap length g.before ∙ all-height w l
 
@@ -85,33 +138,44 @@ module _ (w h : ℕ) (opening : Screen) (l l' : Lists) (more gone : List (List C
       let r : l'.reach ≡ max l.reach (lists_height l') = g.reach_is in
       omega (arith, after_height)
 
-  leads : Leads w h opening base t (paint_bytes false l.below (length gone) lines l'.below) (base ++ lines_rows w lines)
-      (row_for (not l'.below) (length base + length (lines_rows w lines))) (max l.reach (length base + length (lines_rows w lines))) l'.below
-  leads = paint_leads w h opening base gone lines l.below l'.below t l.reach p d
-      (let a : l.reach ≤ length l.above + h = s.movable in simp length-append (omega arith))
-      (let a : lists_height l ≤ l.reach = s.reached in omega (arith, before_height))
-      (λ e. let c = at_end_parts l.below (length gone) e in let b : 0 < lists_height l = s.rests_on c.0 in omega (arith, before_height, c.1))
-      (λ e. let a : lists_height l' < l'.reach = below_true (live_height l'.live) (lists_height l') l'.reach l'.below g.below_is e in omega (arith, after_height, g.reach_is))
-      (λ b. at_end_from l.below (length gone) (length lines)
-      (λ e. untrue l.below (λ q. let a : lists_height l < l.reach = s.rests q in let k : l.reach ≤ length base = low_reach e b in omega (arith, before_height)))
-      (λ e. let a : lists_height l ≤ l.reach = s.reached in let k : l.reach ≤ length base = low_reach e b in omega (arith, before_height)))
-      (restand w h opening base t _ _ _ _ l.reach l.reach l.below l.below (sym g.before) (ap (λ n. if l.below then n else (n - 1)) (sym before_height)) refl refl s.stands)
+  leads_taken : Leads w h opening front t (paint_bytes false l.below (length taken) lines l'.below) (front ++ lines_rows w lines)
+      (row_for (not l'.below) (length front + length (lines_rows w lines))) (max l.reach (length front + length (lines_rows w lines))) l'.below
+  leads_taken =
+      let f = parts.0 in
+      let k = parts.1 in
+      paint_leads w h opening front taken lines l.below l'.below t l.reach p d
+      (let a : l.reach ≤ length l.above + h = s.movable in omega (arith, f, length-append l.above more))
+      (let a : lists_height l ≤ l.reach = s.reached in omega (arith, before_height, f, k))
+      (λ e. let c = at_end_parts l.below (length taken) e in let b : 0 < lists_height l = s.on_a_row c.0 in omega (arith, before_height, c.1, f, k))
+      (λ e. let a : lists_height l' < l'.reach = below_true (live_height l'.live) (lists_height l') l'.reach l'.below g.below_is e in omega (arith, after_height, g.reach_is, f))
+      (λ b. at_end_from l.below (length taken) (length lines)
+      (λ e. untrue l.below (λ q. let a : lists_height l < l.reach = s.below_reached q in let r : l.reach ≤ length base = low_reach e b in omega (arith, before_height)))
+      (λ e. let a : lists_height l ≤ l.reach = s.reached in let r : l.reach ≤ length base = low_reach e b in omega (arith, before_height, k)))
+      (restand w h opening front t _ _ _ _ l.reach l.reach l.below l.below (sym (take-append-drop (length base) s.shown)) (ap (λ n. if l.below then n else (n - 1)) (omega (arith, before_height, f, k))) refl refl
+      (stands_from s))
+
+  leads : Leads w h opening front t (paint_bytes false l.below (length gone) lines l'.below) (front ++ lines_rows w lines)
+      (row_for (not l'.below) (length front + length (lines_rows w lines))) (max l.reach (length front + length (lines_rows w lines))) l'.below
+  leads = subst (λ n. Leads w h opening front t (paint_bytes false l.below n lines l'.below) (front ++ lines_rows w lines)
+      (row_for (not l'.below) (length front + length (lines_rows w lines))) (max l.reach (length front + length (lines_rows w lines))) l'.below) parts.1 leads_taken
 
   pub onward_shows : Shows w h opening l' (after t (paint_bytes false l.below (length gone) lines l'.below))
   onward_shows =
       let bytes = paint_bytes false l.below (length gone) lines l'.below in
-      let r : l'.reach ≡ max l.reach (lists_height l') = g.reach_is in record {
-        stands = restand w h opening base (after t bytes) _ _ _ _ _ _ l'.below l'.below g.afterwards (row_is l'.below _ _ after_height) (ap (λ n. max l.reach n) after_height ∙ sym r) refl leads.stands;
-        reached = omega arith;
-        rests = λ e. below_true (live_height l'.live) (lists_height l') l'.reach l'.below g.below_is e;
-        rests_on = λ e. below_pos (live_height l'.live) (lists_height l') l'.reach l'.below g.below_is e (omega arith)
-            (let q : 0 < l.reach = reach_pos l.below (lists_height l) l.reach s.reached s.rests s.rests_on in omega arith);
-        movable = g.movable;
-      }
+      let r : l'.reach ≡ max l.reach (lists_height l') = g.reach_is in
+      let n : length front + length (lines_rows w lines) ≡ lists_height l' = omega (arith, after_height, parts.0) in
+      shows_from w h opening l' (after t bytes) (front ++ lines_rows w lines)
+      (restand w h opening front (after t bytes) _ _ _ _ _ _ l'.below l'.below refl (row_is l'.below _ _ n) (ap (λ n. max l.reach n) n ∙ sym r) refl leads.stands)
+      (looks-append front (lines_rows w lines) ∙ ap (λ rs. rs ++ looks_of (lines_rows w lines)) parts.2 ∙ sym (looks-append base (lines_rows w lines)) ∙ ap looks_of g.afterwards)
+      (omega arith)
+      (λ e. below_true (live_height l'.live) (lists_height l') l'.reach l'.below g.below_is e)
+      (λ e. below_pos (live_height l'.live) (lists_height l') l'.reach l'.below g.below_is e (omega arith)
+      (let q : 0 < l.reach = reach_pos l.below (lists_height l) l.reach s.reached s.below_reached s.on_a_row in omega arith))
+      g.movable
 
   pub onward_keeps : Keeps (opening.row + length l.above) t (paint_bytes false l.below (length gone) lines l'.below)
-  onward_keeps = keeps_fewer (opening.row + length l.above) (opening.row + length base) t (paint_bytes false l.below (length gone) lines l'.below)
-      (omega (arith, length-append l.above more)) leads.keeps
+  onward_keeps = keeps_fewer (opening.row + length l.above) (opening.row + length front) t (paint_bytes false l.below (length gone) lines l'.below)
+      (omega (arith, length-append l.above more, parts.0)) leads.keeps
 
 -- ---- a draw
 
@@ -228,13 +292,14 @@ passed_shows w h n opening l t s =
     let e : lists_height (passed w n l) ≡ lists_height l = passed-height w n l in
     let r : (passed w n l).reach ≡ l.reach = passed-reach w n l in
     let b : (passed w n l).below ≡ l.below = passed-below w n l in
-    let a : (passed w n l).above ≡ l.above = passed-above w n l in record {
-      stands = restand w h opening l.above t _ _ _ _ _ _ _ _ (sym (passed-rows w n l)) (cc) (sym r) (sym b) s.stands;
-      reached = rw (e, r) s.reached;
-      rests = λ q. rw (e, r) (s.rests (sym b ∙ q));
-      rests_on = λ q. rw e (s.rests_on (sym b ∙ q));
-      movable = rw (r, a) s.movable;
-    }
+    let a : (passed w n l).above ≡ l.above = passed-above w n l in
+    shows_from w h opening (passed w n l) t s.shown
+    (restand w h opening l.above t _ _ _ _ _ _ _ _ refl (cc) (sym r) (sym b) (stands_from s))
+    (s.looks ∙ ap looks_of (sym (passed-rows w n l)))
+    (rw (e, r) s.reached)
+    (λ q. rw (e, r) (s.below_reached (sym b ∙ q)))
+    (λ q. rw e (s.on_a_row (sym b ∙ q)))
+    (rw (r, a) s.movable)
 
 pub kept_shows : (w h : ℕ) (opening : Screen) (l : Lists) (bar : ℕ) (t : Terminal) → Shows w h opening l t → Shows w h opening (kept_of w bar l) t
 unfolding kept_of
@@ -251,17 +316,17 @@ opening_shows w h s o =
     let rows : s.rows ≡ take s.row s.rows ++ [] ++ replicate below (blank_row w) =
     sym (take-append-drop s.row s.rows) ∙ cc (o.empty_below, append-nil (take s.row s.rows)) in
     record {
-      stands = record {
-        opens = o;
-        below = below;
-        column = 0;
-        is = ap (λ s. resting s) (opened w h s _ _ o.columns o.height rows (sym (add-zero s.row)) o.front);
-        in_rows = omega (arith, o.in_rows);
-        at_front = λ e. refl;
-        scrolled = omega (arith, o.in_rows);
-      };
+      opens = o;
+      shown = [];
+      blank = below;
+      column = 0;
+      terminal_is = ap (λ s. resting s) (opened w h s _ _ o.columns o.height rows (sym (add-zero s.row)) o.front);
+      looks = refl;
+      in_rows = omega (arith, o.in_rows);
+      at_front = λ e. refl;
+      scrolled = omega (arith, o.in_rows);
       reached = omega arith;
-      rests = λ e. omega arith;
-      rests_on = λ e. cc;
+      below_reached = λ e. omega arith;
+      on_a_row = λ e. cc;
       movable = omega (arith, o.in_window, o.in_rows, o.height);
     }

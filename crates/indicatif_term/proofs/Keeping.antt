@@ -5,7 +5,7 @@ use Rattle.std.specs.List.{list_any}
 use Rattle.std.proofs.lemmas.Bool.{ne_eqb, eq-eqb}
 use Rattle.indicatif_term.specs.declared.layout.RowCount.{RowCount}
 use Rattle.indicatif_term.specs.declared.counts.Counts.{Counts}
-use Rattle.indicatif_term.specs.Frames.{CountsOf, row_count}
+use Rattle.indicatif_term.specs.Inside.Counted.{CountsOf, row_count}
 use Rattle.indicatif_term.specs.Lists.{Lists, BarRows, NoRow, First, Later, fate, kept_of, is_first, has_rows, segments_height, live_rows}
 use Rattle.indicatif_term.proofs.TerminalSteps.{or_none}
 use Rattle.indicatif_term.proofs.Onward.{drop-held, length-live}
@@ -69,7 +69,7 @@ module _ (bar : ℕ) (l : Lists) (c : Counts) (o : CountsOf c l) where
     passes e = rw (first e) refl
 
     pub passed_counts : (w : ℕ) (c' : Counts) → x.bar ≡ bar → c'.kept ≡ c.kept + (c.blanks + x.rows) → c'.blanks ≡ 0 → c'.segments.items ≡ drop 1 c.segments.items →
-        c'.low ≡ c.low → c'.below ≡ c.below → CountsOf c' (kept_of w bar l)
+        c'.reached ≡ c.reached → c'.below ≡ c.below → CountsOf c' (kept_of w bar l)
     unfolding kept_of
     passed_counts w c' e k b s r f = rw (first e) (record {
       kept_is = k ∙ omega (
@@ -82,6 +82,6 @@ module _ (bar : ℕ) (l : Lists) (c : Counts) (o : CountsOf c l) where
       );
       blanks_are = b;
       segments_are = s ∙ ap (drop 1) o.segments_are ∙ drop-held 1 l.live.segments;
-      low_is = rw r o.low_is;
+      reached_is = rw r o.reached_is;
       below_is = f ∙ o.below_is;
     })

@@ -1,8 +1,8 @@
 -- A frame is laid out line by line.
-use Rattle.std.proofs.Common.{◌≡◌, ℕ, zero, suc, ◌+◌, ◌-◌, ◌<◌, ◌≤◌, Bool, true, false, cond, List, [], ◌∷◌, ◌++◌, ◌||◌, length, map, take, drop, get_or, refl, sym, ◌∙◌, ap, subst, arith, append_assoc, append-nil, length-append, chars, slice_index_or, slice_set, eqb, Result, Err}
+use Rattle.std.proofs.Common.{◌≡◌, ℕ, zero, suc, ◌+◌, ◌-◌, ◌<◌, ◌≤◌, Bool, true, false, cond, List, [], ◌∷◌, ◌++◌, ◌||◌, length, map, take, drop, min, get_or, refl, sym, ◌∙◌, ap, subst, arith, append_assoc, append-nil, length-append, chars, slice_index_or, slice_set, eqb, Result, Err}
 use Rattle.std.specs.Prelude.{nat_le}
 use Rattle.std.proofs.lemmas.Bool.{le-leb, lt-leb, ne_eqb, eq-eqb}
-use Rattle.std.proofs.lemmas.List.{length-map, map-append, take_more, take-append-le, take-append-drop, length-take-le, take_all}
+use Rattle.std.proofs.lemmas.List.{length-map, map-append, take_more, take-append-le, take-append-drop, take_all, take-map, take_min, length-drop}
 use Rattle.std.proofs.Math.ListN.{get_or-map}
 use Rattle.std.proofs.Common.{Vec, Global}
 use Rattle.std.proofs.lemmas.List.Concat.{length-flat_map}
@@ -11,7 +11,9 @@ use Rattle.std.proofs.lemmas.List.Sums.{sum_by-cons, sum_by_push, fold-append}
 use Rattle.std.proofs.lemmas.Grind.{flat_map-append}
 use Rattle.indicatif_text.specs.Columns.{rows_of, has_wide}
 use Rattle.indicatif_term.specs.Lists.{BarRows, BarLines, segments_height, shown_rows, fitting, grouped, onto_segments, lines_of}
-use Rattle.indicatif_term.specs.Frames.{bar_lines, row_count, all_lines, some_wide, IsLaidOut, IsSummed, IsPlaced, IsPlan, Measured, IsWithheld, line_text}
+use Rattle.indicatif_term.specs.Frames.{bar_lines, all_lines, some_wide, line_text}
+use Rattle.indicatif_term.specs.Inside.Counted.{row_count}
+use Rattle.indicatif_term.specs.Inside.Plans.{IsLaidOut, IsSummed, IsPlaced, IsPlan, ArePlaced, Measured, IsWithheld}
 use Rattle.indicatif_term.specs.declared.layout.RowCount.{RowCount}
 use Rattle.indicatif_term.specs.declared.layout.Plan.{Plan}
 use Rattle.indicatif_term.specs.declared.lines.Segment.{Segment}
@@ -165,18 +167,19 @@ member_refused w h s j line before p e r q within at m = rw q (withheld_by w (li
 
 -- ---- the members of a frame
 
-take_nothing : (n : ℕ) → take n (map bar_lines []) ≡ []
-take_nothing zero = refl
-take_nothing (suc n) = refl
+lines_of-append : (w : ℕ) (a b : List BarLines) → lines_of w (a ++ b) ≡ lines_of w a ++ lines_of w b
+unfolding lines_of
+lines_of-append w a b = flat_map-append (λ (s : BarLines). line_segments w s.bar s.lines) a b
 
 module _ (w h : ℕ) (frame : List Segment) (i : ℕ) (s : Segment) (within : i < length frame) (at : get_or frame i s ≡ s) where
   members_step : map bar_lines (take (i + 1) frame) ≡ map bar_lines (take i frame) ++ bar_lines s ∷ []
   members_step = ap (map bar_lines) (take_more frame i s within ∙ ap (λ x. take i frame ++ x ∷ []) at) ∙ map-append bar_lines (take i frame) (s ∷ [])
 
-  pub lines_step : (p : Plan) → IsLaidOut h (lines_of w (map bar_lines (take i frame)) ++ lines_of w (bar_lines s ∷ [])) p → IsLaidOut h (lines_of w (map bar_lines (take (i + 1) frame))) p
-  unfolding lines_of
-  lines_step p o = subst (λ ls. IsLaidOut h ls p)
-      (sym (ap (lines_of w) members_step ∙ flat_map-append (λ (s : BarLines). line_segments w s.bar s.lines) (map bar_lines (take i frame)) (bar_lines s ∷ []))) o
+  pub lines_step : (before : List BarRows) (p : Plan) → IsLaidOut h ((before ++ lines_of w (map bar_lines (take i frame))) ++ lines_of w (bar_lines s ∷ [])) p →
+      IsLaidOut h (before ++ lines_of w (map bar_lines (take (i + 1) frame))) p
+  lines_step before p o = subst (λ ls. IsLaidOut h ls p)
+      (append_assoc before (lines_of w (map bar_lines (take i frame))) (lines_of w (bar_lines s ∷ []))
+      ∙ ap (λ ls. before ++ ls) (sym (ap (lines_of w) members_step ∙ lines_of-append w (map bar_lines (take i frame)) (bar_lines s ∷ [])))) o
 
   pub narrow_step : some_wide w (all_lines (map bar_lines (take i frame))) ≡ false → some_wide w (bar_lines s).lines ≡ false → some_wide w (all_lines (map bar_lines (take (i + 1) frame))) ≡ false
   narrow_step a b = ap (λ ms. some_wide w (all_lines ms)) members_step
@@ -194,36 +197,17 @@ module _ (w h : ℕ) (frame : List Segment) (i : ℕ) (s : Segment) (within : i 
       ∙ ap (λ b. some_wide w (all_lines (map bar_lines (take i frame))) || b) (list_any-append (has_wide w) (bar_lines s).lines (all_lines (map bar_lines (drop (i + 1) frame))) ∙ rw e refl)
       ∙ or_true (some_wide w (all_lines (map bar_lines (take i frame))))
 
-  pub frame_refused : (before : List BarRows) (p : Plan) (pass : ℕ) (e : Refusal) (r : Result Plan Refusal) → r ≡ Err e → IsPlaced w h before (bar_lines s) p (Err e) → Measured w h pass (map bar_lines frame) r
-  frame_refused before p pass e r q m = rw q (withheld_by w (bar_lines s).lines (all_lines (map bar_lines frame)) e wide_member m)
-
-  -- how many segments are passed on
-  module _ (pass : ℕ) (p : Plan) (n : ℕ) (f : IsSummed h p) (o : IsLaidOut h (lines_of w (map bar_lines (take (i + 1) frame))) p) where
-    pub passing_more : i < pass → n ≡ length p.segments.items → let p' : Plan = record p { passing = n } in
-        IsSummed h p' × IsLaidOut h (lines_of w (map bar_lines (take (i + 1) frame))) p' × (n ≡ length (shown_rows w h (take pass (map bar_lines (take (i + 1) frame)))))
-    unfolding shown_rows
-    passing_more before e =
-        let size : length (map bar_lines (take (i + 1) frame)) ≡ i + 1 = length-map (take (i + 1) frame) bar_lines ∙ length-take-le (i + 1) frame (omega arith) in (
-          record { rows_are = f.rows_are; fit = f.fit; lines_fit = f.lines_fit; passing_in = omega arith },
-          record { segments_are = o.segments_are; rows_are = o.rows_are; lines_are = o.lines_are; all_fit = o.all_fit; none_more = o.none_more },
-          e ∙ ap length o.segments_are ∙ length-map (grouped (fitting h (lines_of w (map bar_lines (take (i + 1) frame))))) row_count
-              ∙ ap (λ ms. length (grouped (fitting h (lines_of w ms)))) (sym (take_all pass (map bar_lines (take (i + 1) frame)) (omega (arith, size)))),
-        )
-
-    pub passing_same : pass ≤ i → p.passing ≡ length (shown_rows w h (take pass (map bar_lines (take i frame)))) → p.passing ≡ length (shown_rows w h (take pass (map bar_lines (take (i + 1) frame))))
-    passing_same before e =
-        let size : length (map bar_lines (take i frame)) ≡ i = length-map (take i frame) bar_lines ∙ length-take-le i frame (omega arith) in
-        e ∙ ap (λ ms. length (shown_rows w h ms)) (sym (ap (take pass) members_step ∙ take-append-le pass (map bar_lines (take i frame)) (bar_lines s ∷ []) (omega (arith, size))))
+  pub members_refused : (before : List BarRows) (p : Plan) (e : Refusal) (r : Result Unit Refusal) → r ≡ Err e → IsPlaced w h before (bar_lines s) p (Err e) → ArePlaced w h before (map bar_lines frame) p r
+  members_refused before p e r q m = rw q (withheld_by w (bar_lines s).lines (all_lines (map bar_lines frame)) e wide_member m)
 
 -- nothing yet
-pub nothing_laid : (w h pass : ℕ) (v : Vec RowCount Global) → v.items ≡ [] →
+pub nothing_laid : (h : ℕ) (v : Vec RowCount Global) → v.items ≡ [] →
     let p : Plan = record { segments = v; rows = 0; lines = 0; full = false; passing = 0 } in
-    IsSummed h p × IsLaidOut h (lines_of w []) p × (0 ≡ length (shown_rows w h (take pass (map bar_lines []))))
-unfolding shown_rows fitting grouped lines_of
-nothing_laid w h pass v e = (
+    IsSummed h p × IsLaidOut h [] p
+unfolding fitting grouped
+nothing_laid h v e = (
   record { rows_are = rw e refl; fit = omega arith; lines_fit = omega arith; passing_in = omega arith },
   record { segments_are = e; rows_are = refl; lines_are = refl; all_fit = λ x. refl; none_more = λ x. cc },
-  ap (λ ms. length (grouped (fitting h (lines_of w ms)))) (sym (take_nothing pass)),
 )
 
 -- the plan of all members
@@ -235,3 +219,50 @@ planned w h pass frame p o e = record {
   lines_are = o.lines_are;
   passing_is = e;
 }
+
+pub nothing_of : (w h : ℕ) (before : List BarRows) (p : Plan) → IsLaidOut h before p → IsLaidOut h (before ++ lines_of w []) p
+unfolding lines_of
+nothing_of w h before p o = subst (λ ls. IsLaidOut h ls p) (sym (append-nil before)) o
+
+-- ---- the members that are passed on, and the others
+
+pub still_summed : (h n : ℕ) (p : Plan) → IsSummed h p → n ≤ length p.segments.items → IsSummed h (record p { passing = n })
+still_summed h n p s e = record { rows_are = s.rows_are; fit = s.fit; lines_fit = s.lines_fit; passing_in = e }
+
+pub still_laid : (h n : ℕ) (lines : List BarRows) (p : Plan) → IsLaidOut h lines p → IsLaidOut h lines (record p { passing = n })
+still_laid h n lines p o = record { segments_are = o.segments_are; rows_are = o.rows_are; lines_are = o.lines_are; all_fit = o.all_fit; none_more = o.none_more }
+
+pub rest_whole : (k : ℕ) (frame : List Segment) → take (length frame - k) (drop k frame) ≡ drop k frame
+rest_whole k frame = take_all (length frame - k) (drop k frame) (omega (arith, length-drop k frame))
+
+module _ (w h pass k : ℕ) (frame : List Segment) (k_is : k ≡ min pass (length frame)) where
+  both_parts : map bar_lines frame ≡ map bar_lines (take k frame) ++ map bar_lines (drop k frame)
+  both_parts = ap (map bar_lines) (sym (take-append-drop k frame)) ∙ map-append bar_lines (take k frame) (drop k frame)
+
+  wide_parts : some_wide w (all_lines (map bar_lines frame)) ≡ (some_wide w (all_lines (map bar_lines (take k frame))) || some_wide w (all_lines (map bar_lines (drop k frame))))
+  wide_parts = ap (λ ms. some_wide w (all_lines ms)) both_parts
+      ∙ ap (some_wide w) (flat_map-append (λ (s : BarLines). s.lines) (map bar_lines (take k frame)) (map bar_lines (drop k frame)))
+      ∙ list_any-append (has_wide w) (all_lines (map bar_lines (take k frame))) (all_lines (map bar_lines (drop k frame)))
+
+  pub front_refused : (e : Refusal) (r : Result Plan Refusal) → r ≡ Err e → IsWithheld w (all_lines (map bar_lines (take k frame))) e → Measured w h pass (map bar_lines frame) r
+  front_refused e r q m = rw q (withheld_by w (all_lines (map bar_lines (take k frame))) (all_lines (map bar_lines frame)) e (λ t. wide_parts ∙ rw t refl) m)
+
+  pub rest_refused : (e : Refusal) (r : Result Plan Refusal) → r ≡ Err e → IsWithheld w (all_lines (map bar_lines (drop k frame))) e → Measured w h pass (map bar_lines frame) r
+  rest_refused e r q m = rw q (withheld_by w (all_lines (map bar_lines (drop k frame))) (all_lines (map bar_lines frame)) e (λ t. wide_parts ∙ rw t (or_true (some_wide w (all_lines (map bar_lines (take k frame)))))) m)
+
+  same_front : map bar_lines (take k frame) ≡ take pass (map bar_lines frame)
+  same_front = sym (take-map bar_lines k frame) ∙ ap (λ n. take n (map bar_lines frame)) (k_is ∙ ap (min pass) (sym (length-map frame bar_lines))) ∙ take_min pass (map bar_lines frame)
+
+  -- the plan of them all
+  pub both_planned : (p p' : Plan) → IsLaidOut h (lines_of w (map bar_lines (take k frame))) p → IsLaidOut h (lines_of w (map bar_lines (take k frame)) ++ lines_of w (map bar_lines (drop k frame))) p' →
+      p'.passing ≡ length p.segments.items → IsPlan w h pass (map bar_lines frame) p'
+  unfolding shown_rows
+  both_planned p p' o o' e =
+      let whole : lines_of w (map bar_lines (take k frame)) ++ lines_of w (map bar_lines (drop k frame)) ≡ lines_of w (map bar_lines frame) =
+      sym (ap (lines_of w) both_parts ∙ lines_of-append w (map bar_lines (take k frame)) (map bar_lines (drop k frame))) in
+      planned w h pass (map bar_lines frame) p' (subst (λ ls. IsLaidOut h ls p') whole o')
+      (e ∙ ap length o.segments_are ∙ length-map (grouped (fitting h (lines_of w (map bar_lines (take k frame))))) row_count
+      ∙ ap (λ ms. length (grouped (fitting h (lines_of w ms)))) same_front)
+
+  pub both_narrow : some_wide w (all_lines (map bar_lines (take k frame))) ≡ false → some_wide w (all_lines (map bar_lines (drop k frame))) ≡ false → some_wide w (all_lines (map bar_lines frame)) ≡ false
+  both_narrow a b = wide_parts ∙ rw (a, b) refl

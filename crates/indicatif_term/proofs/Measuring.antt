@@ -1,15 +1,15 @@
 -- Lines that are measured one after another.
-use Rattle.std.proofs.Common.{◌≡◌, ℕ, zero, suc, ◌+◌, ◌<◌, Bool, true, false, List, [], ◌∷◌, ◌++◌, ◌||◌, length, map, take, get_or, refl, sym, ◌∙◌, ap, arith, chars, string_bytes, Result, Err}
-use Rattle.std.specs.declared.string.String.{String}
-use Rattle.std.proofs.lemmas.List.{take_more, length-map}
+use Rattle.std.proofs.Common.{◌≡◌, ℕ, zero, suc, ◌+◌, ◌<◌, Bool, true, false, List, [], ◌∷◌, ◌++◌, ◌||◌, length, map, take, get_or, refl, sym, ◌∙◌, ap, arith, chars, Result, Err, Bor}
+use Rattle.std.proofs.lemmas.Str.{chars-nil}
+use Rattle.std.proofs.lemmas.List.{take_more, map-append}
 use Rattle.std.proofs.Math.Bool.{or-false}
-use Rattle.std.proofs.Math.ListN.{get_or-map}
 use Rattle.std.proofs.lemmas.List.Folds.{list_any-append}
 use Rattle.std.proofs.lemmas.List.Sums.{sum_by_push}
-use Rattle.indicatif_text.specs.Columns.{has_wide, rows_of}
+use Rattle.indicatif_text.specs.Columns.{has_wide, rows_of, visible}
 use Rattle.indicatif_text.specs.declared.refusal.Refusal.{Refusal}
 use Rattle.indicatif_text.specs.declared.refusal.Refusal.TheVariants.{NoColumns, TooWide, Terminal, Memory}
-use Rattle.indicatif_term.specs.Frames.{some_wide, text_lines, text_height, MeasuredText, IsWithheld}
+use Rattle.indicatif_term.specs.Frames.{some_wide, text_lines}
+use Rattle.indicatif_term.specs.Inside.Plans.{text_height, MeasuredText, IsWithheld}
 
 module _ (w : ℕ) (lines : List (List ℕ)) (i : ℕ) (line : List ℕ) (h : i < length lines) (e : get_or lines i line ≡ line) where
   one_more : take (i + 1) lines ≡ take i lines ++ line ∷ []
@@ -42,13 +42,33 @@ withheld_by w a b _ f m = absurd m.1
 pub one_of : (w : ℕ) (lines : List (List ℕ)) (i : ℕ) (line : List ℕ) → i < length lines → get_or lines i line ≡ line → some_wide w (line ∷ []) ≡ true → some_wide w lines ≡ true
 one_of w lines i line h e t = wide_at w lines i line h e (sym (or-false (has_wide w line)) ∙ t)
 
-pub text_refused : (w : ℕ) (text : List (List ℕ)) (i : ℕ) (line : List ℕ) (e : Refusal) (r : Result ℕ Refusal) → r ≡ Err e → i < length (text_lines text) → get_or (text_lines text) i line ≡ line →
-    IsWithheld w (line ∷ []) e → MeasuredText w text r
-text_refused w text i line e r q h f m = rw q (withheld_by w (line ∷ []) (text_lines text) e (one_of w (text_lines text) i line h f) m)
+-- ---- lines of a text, as they come
 
--- the lines of strings
-pub lines_length : {Z : Type 0} (text : List (String Z)) → length (text_lines (map string_bytes text)) ≡ length text
-lines_length text = length-map (map string_bytes text) chars ∙ length-map text string_bytes
+pub came_lines : (came : List (Bor (List ℕ))) (x : Bor (List ℕ)) → text_lines (map (λ line. line.now) (came ++ x ∷ [])) ≡ text_lines (map (λ line. line.now) came) ++ chars x.now ∷ []
+came_lines came x = ap text_lines (map-append (λ (line : Bor (List ℕ)). line.now) came (x ∷ [])) ∙ map-append chars (map (λ line. line.now) came) (x.now ∷ [])
 
-pub line_at : {Z : Type 0} (text : List (String Z)) (i : ℕ) (s : String Z) → get_or text i s ≡ s → get_or (text_lines (map string_bytes text)) i (chars (string_bytes s)) ≡ chars (string_bytes s)
-line_at text i s e = get_or-map chars (map string_bytes text) i (string_bytes s) ∙ ap chars (get_or-map string_bytes text i s ∙ ap string_bytes e)
+module _ (w : ℕ) (came : List (List ℕ)) (line : List ℕ) where
+  pub narrow_after : some_wide w came ≡ false → has_wide w line ≡ false → some_wide w (came ++ line ∷ []) ≡ false
+  narrow_after a b = list_any-append (has_wide w) came (line ∷ []) ∙ rw (a, b) refl
+
+  pub height_after : text_height w (came ++ line ∷ []) ≡ text_height w came + length (rows_of w line)
+  height_after = sum_by_push (λ line. length (rows_of w line)) came line
+
+wide_among : (w : ℕ) (came : List (List ℕ)) (line : List ℕ) (rest : List (List ℕ)) → some_wide w (line ∷ []) ≡ true → some_wide w ((came ++ line ∷ []) ++ rest) ≡ true
+wide_among w came line rest e = list_any-append (has_wide w) (came ++ line ∷ []) rest ∙ ap (λ b. b || some_wide w rest) (list_any-append (has_wide w) came (line ∷ []) ∙ ap (λ b. some_wide w came || b) e ∙ or_true (some_wide w came))
+
+pub text_refused : (w : ℕ) (text : List (List ℕ)) (came : List (Bor (List ℕ))) (x : Bor (List ℕ)) (rest : List (List ℕ)) (e : Refusal) (r : Result ℕ Refusal) → r ≡ Err e →
+    text ≡ map (λ line. line.now) (came ++ x ∷ []) ++ rest → IsWithheld w (chars x.now ∷ []) e → MeasuredText w text r
+text_refused w text came x rest e r q whole m =
+    let lines : text_lines text ≡ (text_lines (map (λ line. line.now) came) ++ chars x.now ∷ []) ++ text_lines rest =
+    ap text_lines whole ∙ map-append chars (map (λ line. line.now) (came ++ x ∷ [])) rest ∙ ap (λ ls. ls ++ text_lines rest) (came_lines came x) in
+    rw q (withheld_by w (chars x.now ∷ []) (text_lines text) e (λ t. ap (some_wide w) lines ∙ wide_among w (text_lines (map (λ line. line.now) came)) (chars x.now) (text_lines rest) t) m)
+
+-- an empty text
+pub empty_height : (w : ℕ) → text_height w (text_lines ([] ∷ [])) ≡ 1
+unfolding rows_of visible
+empty_height w = rw chars-nil refl
+
+pub empty_narrow : (w : ℕ) → some_wide w (text_lines ([] ∷ [])) ≡ false
+unfolding has_wide visible
+empty_narrow w = rw chars-nil refl

@@ -4,8 +4,9 @@ use Rattle.std.specs.Prelude.{nat_lt, IsErr}
 use Rattle.std.proofs.lemmas.Grind.{flat_map-append}
 use Rattle.std.proofs.lemmas.List.{take_more, take-append-drop, take_min, take-map, length-map}
 use Rattle.indicatif_term.specs.Calls.{TermView, LeadsOn, BreaksOff, Writes}
-use Rattle.indicatif_term.specs.Bytes.{lines_bytes}
-use Rattle.indicatif_term.specs.Frames.{frame_lines, line_text}
+use Rattle.indicatif_term.specs.Inside.Bytes.{lines_bytes}
+use Rattle.indicatif_term.specs.Frames.{line_text}
+use Rattle.indicatif_term.specs.Inside.Plans.{frame_lines}
 use Rattle.indicatif_term.specs.declared.lines.Segment.{Segment}
 use Rattle.indicatif_term.proofs.CallsInTurn.{lines-append, reaches_then, breaks_then, writes_fail, or_lt_sum}
 

@@ -9,7 +9,8 @@ use Rattle.indicatif_text.specs.Columns.{blank_row, rows_of}
 use Rattle.indicatif_term.specs.declared.layout.RowCount.{RowCount}
 use Rattle.indicatif_term.specs.declared.layout.Plan.{Plan}
 use Rattle.indicatif_term.specs.declared.counts.Counts.{Counts}
-use Rattle.indicatif_term.specs.Frames.{CountsOf, SettledCounts, IsPlan, row_count, text_height}
+use Rattle.indicatif_term.specs.Inside.Counted.{CountsOf, SettledCounts, row_count}
+use Rattle.indicatif_term.specs.Inside.Plans.{IsPlan, text_height}
 use Rattle.indicatif_term.specs.Lists.{Lists, Live, BarRows, BarLines, settled, rested, passed, cleared, drawn, logged, lists_height, live_height, segments_height, live_rows, all_rows, live_of_frame, shown_rows, blanks_for}
 
 -- settling moves no row
@@ -77,23 +78,23 @@ pub settled_counts_of : (h low kept blanks live : ℕ) (segments : List RowCount
     CountsOf c (rested (settled h l))
 settled_counts_of h low kept blanks live segments l c s a b d e f =
     let k : c.kept ≡ length (settled h l).kept = s.kept_is ∙ simp (a, e) (sym (settled-kept h low l f)) in
-    let m : c.low + length (settled h l).above ≡ (settled h l).reach = rw (s.low_is, a, e) (settled-low h low l f) in
+    let m : c.reached + length (settled h l).above ≡ (settled h l).reach = rw (s.reached_is, a, e) (settled-low h low l f) in
     record {
       kept_is = k;
       blanks_are = s.blanks_are ∙ b;
       segments_are = s.segments_are ∙ d;
-      low_is = m;
-      below_is = s.below_is ∙ rw e (below_same (live_height l.live) c.kept c.low (length (settled h l).above) (settled h l).reach (lists_height (settled h l)) m (rw k refl));
+      reached_is = m;
+      below_is = s.below_is ∙ rw e (below_same (live_height l.live) c.kept c.reached (length (settled h l).above) (settled h l).reach (lists_height (settled h l)) m (rw k refl));
     }
 
-pub cleared_counts_of : (l : Lists) (c c' : Counts) → CountsOf c l → c'.kept ≡ 0 → c'.blanks ≡ 0 → c'.segments.items ≡ [] → c'.low ≡ c.low → c'.below ≡ nat_lt 0 c.low → CountsOf c' (cleared l)
+pub cleared_counts_of : (l : Lists) (c c' : Counts) → CountsOf c l → c'.kept ≡ 0 → c'.blanks ≡ 0 → c'.segments.items ≡ [] → c'.reached ≡ c.reached → c'.below ≡ nat_lt 0 c.reached → CountsOf c' (cleared l)
 unfolding cleared
 cleared_counts_of l c c' o a b d e f = record {
   kept_is = a;
   blanks_are = b;
   segments_are = d;
-  low_is = rw e o.low_is;
-  below_is = f ∙ below_clear c.low (length l.above) l.reach o.low_is;
+  reached_is = rw e o.reached_is;
+  below_is = f ∙ below_clear c.reached (length l.above) l.reach o.reached_is;
 }
 
 pub segments_height-map : (segments : List BarRows) → sum_by (λ (s : RowCount). s.rows) (map row_count segments) ≡ segments_height segments
@@ -119,8 +120,8 @@ live_of c l o = c.live_is ∙ rw (o.blanks_are, o.segments_are) (ap (λ n. l.liv
 -- a draw's counts
 module _ (w h pass : ℕ) (bottom : Bool) (frame : List BarLines) (l : Lists) (c c' : Counts) (p : Plan) (o : CountsOf c l) (q : IsPlan w h pass frame p)
     (s1 : 0 < p.passing → let rows = sum_by (λ (s : RowCount). s.rows) (take p.passing p.segments.items) in
-    SettledCounts c.low h (c.kept + (blanks_for bottom c.live 0 p.rows + rows)) 0 (drop p.passing p.segments.items) (p.rows - rows) c')
-    (s2 : p.passing ≡ 0 → SettledCounts c.low h c.kept (blanks_for bottom c.live 0 p.rows) p.segments.items (blanks_for bottom c.live 0 p.rows + p.rows) c') where
+    SettledCounts c.reached h (c.kept + (blanks_for bottom c.live 0 p.rows + rows)) 0 (drop p.passing p.segments.items) (p.rows - rows) c')
+    (s2 : p.passing ≡ 0 → SettledCounts c.reached h c.kept (blanks_for bottom c.live 0 p.rows) p.segments.items (blanks_for bottom c.live 0 p.rows + p.rows) c') where
   abbrev next_live : Live
   next_live = live_of_frame w h bottom (live_height l.live) 0 frame
 
@@ -128,8 +129,8 @@ module _ (w h pass : ℕ) (bottom : Bool) (frame : List BarLines) (l : Lists) (c
   same_blanks = rw (live_of c l o, q.rows_are) refl
 
   go : (n : ℕ) → p.passing ≡ n → CountsOf c' (rested (settled h (passed w n (record l { live = next_live }))))
-  go zero e = settled_counts_of h c.low c.kept (blanks_for bottom c.live 0 p.rows) (blanks_for bottom c.live 0 p.rows + p.rows) p.segments.items (record l { live = next_live }) c' (s2 e)
-      o.kept_is same_blanks q.segments_are (rw (same_blanks, q.rows_are) refl) (let m : c.low + length l.above ≡ l.reach = o.low_is in omega arith)
+  go zero e = settled_counts_of h c.reached c.kept (blanks_for bottom c.live 0 p.rows) (blanks_for bottom c.live 0 p.rows + p.rows) p.segments.items (record l { live = next_live }) c' (s2 e)
+      o.kept_is same_blanks q.segments_are (rw (same_blanks, q.rows_are) refl) (let m : c.reached + length l.above ≡ l.reach = o.reached_is in omega arith)
   go (suc n) e =
       let first = take (suc n) next_live.segments in
       let sum : segments_height first + segments_height (drop (suc n) next_live.segments) ≡ segments_height next_live.segments =
@@ -137,13 +138,13 @@ module _ (w h pass : ℕ) (bottom : Bool) (frame : List BarLines) (l : Lists) (c
       let passing_rows = sum_by (λ (s : RowCount). s.rows) (take p.passing p.segments.items) in
       let pr : passing_rows ≡ segments_height first = rw (e, q.segments_are) (ap (sum_by (λ (s : RowCount). s.rows)) (take-map row_count (suc n) next_live.segments) ∙ segments_height-map first) in
       let rs : p.rows ≡ segments_height next_live.segments = q.rows_are in
-      settled_counts_of h c.low (c.kept + (blanks_for bottom c.live 0 p.rows + passing_rows)) 0 (p.rows - passing_rows) (drop p.passing p.segments.items)
+      settled_counts_of h c.reached (c.kept + (blanks_for bottom c.live 0 p.rows + passing_rows)) 0 (p.rows - passing_rows) (drop p.passing p.segments.items)
       (passed w (suc n) (record l { live = next_live })) c' (s1 (omega arith))
       (rw (o.kept_is, same_blanks, pr) (sym (length-append l.kept (live_rows w (record { blanks = next_live.blanks; segments = first })) ∙ ap (λ x. length l.kept + x) (length-live w (record { blanks = next_live.blanks; segments = first })))))
       refl
       (rw (e, q.segments_are) (drop-held (suc n) next_live.segments))
       (rw (rs, pr) (omega (arith, sum)))
-      (let m : c.low + length l.above ≡ l.reach = o.low_is in omega arith)
+      (let m : c.reached + length l.above ≡ l.reach = o.reached_is in omega arith)
 
   pub drawn_counts_of : CountsOf c' (drawn w h bottom pass frame l)
   unfolding drawn
@@ -160,20 +161,20 @@ module _ (w h text : ℕ) (bottom : Bool) (lines : List (List ℕ)) (frame : Lis
 
   pub same_blanks_log : blanks_for bottom (c.kept + c.live) text p.rows ≡ blanks_for bottom (length l.kept + live_height l.live) (length (flat_map (rows_of w) lines)) (segments_height (shown_rows w h frame))
   same_blanks_log =
-      let small : c.kept + c.live ≤ 65535 = let f : c.kept + c.live ≤ c.low = c.fits in let k : c.low ≤ 65535 = c.small in omega arith in
+      let small : c.kept + c.live ≤ 65535 = let f : c.kept + c.live ≤ c.reached = c.fits in let k : c.reached ≤ 65535 = c.small in omega arith in
       capped (bottom && nat_lt 0 p.rows) (c.kept + c.live) text (length (flat_map (rows_of w) lines)) p.rows small (e ∙ rw rows_written refl)
       ∙ rw (o.kept_is, live_of c l o, q.rows_are) refl
 
 -- a log's counts
 module _ (w h text : ℕ) (bottom : Bool) (lines : List (List ℕ)) (frame : List BarLines) (l : Lists) (c c' : Counts) (p : Plan) (o : CountsOf c l) (q : IsPlan w h 0 frame p)
     (e : text ≡ min (text_height w lines) (2 ^ 64 - 1)) (fits : p.rows ≤ 65535)
-    (s : SettledCounts (c.low - text) h 0 (blanks_for bottom (c.kept + c.live) text p.rows) p.segments.items (blanks_for bottom (c.kept + c.live) text p.rows + p.rows) c') where
+    (s : SettledCounts (c.reached - text) h 0 (blanks_for bottom (c.kept + c.live) text p.rows) p.segments.items (blanks_for bottom (c.kept + c.live) text p.rows + p.rows) c') where
   pub logged_counts_of : CountsOf c' (logged w h bottom lines frame l)
   unfolding logged
   logged_counts_of =
       let same : blanks_for bottom (c.kept + c.live) text p.rows ≡ blanks_for bottom (length l.kept + live_height l.live) (length (flat_map (rows_of w) lines)) (segments_height (shown_rows w h frame)) =
       same_blanks_log w h text bottom lines frame l c p o q e in
-      settled_counts_of h (c.low - text) 0 (blanks_for bottom (c.kept + c.live) text p.rows) (blanks_for bottom (c.kept + c.live) text p.rows + p.rows) p.segments.items
+      settled_counts_of h (c.reached - text) 0 (blanks_for bottom (c.kept + c.live) text p.rows) (blanks_for bottom (c.kept + c.live) text p.rows + p.rows) p.segments.items
       (record l { above = l.above ++ flat_map (rows_of w) lines; kept = []; live = live_of_frame w h bottom (length l.kept + live_height l.live) (length (flat_map (rows_of w) lines)) frame }) c' s
       refl same q.segments_are (rw (same, q.rows_are) refl)
-      (let m : c.low + length l.above ≡ l.reach = o.low_is in let k : c.low ≤ 65535 = c.small in let r : length (flat_map (rows_of w) lines) ≡ text_height w lines = rows_written w h text bottom lines frame l c p o q e in simp length-append (rw r (omega arith)))
+      (let m : c.reached + length l.above ≡ l.reach = o.reached_is in let k : c.reached ≤ 65535 = c.small in let r : length (flat_map (rows_of w) lines) ≡ text_height w lines = rows_written w h text bottom lines frame l c p o q e in simp length-append (rw r (omega arith)))

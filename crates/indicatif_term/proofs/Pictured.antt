@@ -16,9 +16,12 @@ use Rattle.indicatif_term.specs.Terminal.{Terminal, after}
 use Rattle.indicatif_term.specs.Calls.{TermView, Writes}
 use Rattle.indicatif_term.specs.Shows.{Shows, Keeps, IsOpening, resting}
 use Rattle.indicatif_term.specs.Lists.{Lists, opening_lists, Live, BarLines, live_of_frame, live_height, live_rows, lines_of, fitting, shown_rows, drawn, cleared, logged, blanks_for, segments_height}
-use Rattle.indicatif_term.specs.Bytes.{paint_bytes, next_row}
-use Rattle.indicatif_term.specs.Frames.{bar_lines, all_lines, are_plain, some_wide, frame_lines, CountsOf, IsPlan, text_lines, text_height, IsWithheld, line_text}
-use Rattle.indicatif_term.specs.Engines.{Repaints, RepaintsAnew, Remembers, Answers}
+use Rattle.indicatif_term.specs.Inside.Bytes.{paint_bytes, next_row}
+use Rattle.indicatif_term.specs.Frames.{bar_lines, all_lines, are_plain, some_wide, text_lines, line_text}
+use Rattle.indicatif_term.specs.Inside.Plans.{frame_lines, IsPlan, text_height, IsWithheld}
+use Rattle.indicatif_term.specs.Inside.Counted.{CountsOf}
+use Rattle.indicatif_term.specs.Engines.{Repaints, RepaintsAnew, Answers}
+use Rattle.indicatif_term.specs.Inside.Remembering.{Remembers}
 use Rattle.indicatif_term.specs.declared.draw_target.Engine.{Engine}
 use Rattle.indicatif_text.specs.declared.refusal.Refusal.{Refusal}
 use Rattle.indicatif_text.specs.declared.refusal.Refusal.TheVariants.{Terminal as Refused}
@@ -50,14 +53,14 @@ pub record Paints (w h : ℕ) (l l' : Lists) (bytes : List ℕ) : Type 0 where
   pub keeps : (opening : Screen) (t : Terminal) → Shows w h opening l t → Keeps (opening.row + length l.above) t bytes
 
 -- bytes that were written, or a beginning of them
-pub repaints_by : {E : Type 0} (s s' : TermView) (outcome : Result Unit E) (made : Type 0) (l l' : Lists) (bytes : List ℕ) → Writes bytes s s' outcome → (made → IsOk outcome) →
-    Paints s.columns s.rows l l' bytes → Repaints s s' made l l'
-repaints_by s s' (Ok u) made l l' bytes q m p = record { written = bytes; told_is = q.told_is; keeps = p.keeps; shows = λ _. p.shows }
-repaints_by s s' (Err e) made l l' bytes q m p = record {
+pub repaints_by : {E : Type 0} (s s' : TermView) (result : Result Unit E) (l l' : Lists) (bytes : List ℕ) → Writes bytes s s' result →
+    Paints s.columns s.rows l l' bytes → Repaints s s' (IsOk result) l l'
+repaints_by s s' (Ok u) l l' bytes q p = record { written = bytes; told_is = q.told_is; keeps = p.keeps; shows = λ _. p.shows }
+repaints_by s s' (Err e) l l' bytes q p = record {
   written = q.front;
   told_is = q.told_is;
   keeps = λ opening t h. keeps_front (opening.row + length l.above) t bytes q.front q.rest q.whole (p.keeps opening t h);
-  shows = λ h. let k : false ≡ true = m h in cc;
+  shows = λ h. cc;
 }
 
 -- ---- after a failure
@@ -85,19 +88,19 @@ module _ (w h : ℕ) (l : Lists) (bytes : List ℕ) (p : Paints w h opening_list
   anew_shows : Shows w h opening l (after (resting s) (next_row ++ bytes))
   anew_shows = subst (Shows w h opening l) (ap (λ t. after t bytes) (sym e) ∙ sym (after-append (resting s) next_row bytes)) (p.shows opening (resting opening) (opening_shows w h opening o))
 
-pub anew_by : {E : Type 0} (s s' : TermView) (outcome : Result Unit E) (made : Type 0) (l : Lists) (bytes : List ℕ) → Writes (next_row ++ bytes) s s' outcome → (made → IsOk outcome) →
-    Paints s.columns s.rows opening_lists l bytes → RepaintsAnew s s' made l
-anew_by s s' (Ok u) made l bytes q m p = record {
+pub anew_by : {E : Type 0} (s s' : TermView) (result : Result Unit E) (l : Lists) (bytes : List ℕ) → Writes (next_row ++ bytes) s s' result →
+    Paints s.columns s.rows opening_lists l bytes → RepaintsAnew s s' (IsOk result) l
+anew_by s s' (Ok u) l bytes q p = record {
   written = next_row ++ bytes;
   told_is = q.told_is;
   keeps = λ r opening e o. anew_keeps s.columns s.rows l bytes p r opening e o;
   shows = λ _ r opening e o. anew_shows s.columns s.rows l bytes p r opening e o;
 }
-anew_by s s' (Err e) made l bytes q m p = record {
+anew_by s s' (Err e) l bytes q p = record {
   written = q.front;
   told_is = q.told_is;
   keeps = λ r opening e o. keeps_front opening.row (resting r) (next_row ++ bytes) q.front q.rest q.whole (anew_keeps s.columns s.rows l bytes p r opening e o);
-  shows = λ h. let k : false ≡ true = m h in cc;
+  shows = λ h. cc;
 }
 
 pub anew_nothing : (s : TermView) (made : Type 0) (l : Lists) → (made → ⊥) → RepaintsAnew s s made l
@@ -122,11 +125,6 @@ all_take : {A : Type 0} (P : A → Type 0) (k : ℕ) (xs : List A) → AllByRecu
 all_take P zero xs p = tt
 all_take P (suc k) [] p = tt
 all_take P (suc k) (x ∷ xs) p = (p.0, all_take P k xs p.1)
-
--- the bytes of strings
-pub strings_utf8 : {Z : Type 0} (xs : List (String Z)) → AllByRecursion IsUtf8 (map string_bytes xs)
-strings_utf8 [] = tt
-strings_utf8 (x ∷ xs) = (IsUtf8-string_bytes x, strings_utf8 xs)
 
 -- the bytes of a bar's lines
 line_utf8 : (line : LineType) → IsUtf8 (line_text line)
@@ -181,10 +179,6 @@ draw_paints w h l c next pass blanks bottom frame plan p1 p2 p3 o q o' b =
       keeps = λ opening t x. onward_keeps w h opening l l' l.kept gone lines t x (goes opening t x) p1 d;
     })
 
-pub goes_ok : {T E : Type 0} (next : Counts) (o : Result Unit E) (r : Result Unit Refusal) (new : Engine T) → Remembers next o r new → IsOk r → IsOk o
-goes_ok next (Ok u) r new g k = refl
-goes_ok next (Err e) r new g k = let q : r ≡ Err (Refused g.0.0) = g.0.1 in let z : is_ok r ≡ true = k in cc
-
 sum_same : (c : Counts) (l : Lists) → CountsOf c l → length l.kept + live_height l.live ≡ c.kept + c.live
 sum_same c l o = let v : c.live ≡ live_height l.live = live_of c l o in let k : c.kept ≡ length l.kept = o.kept_is in omega arith
 
@@ -213,10 +207,10 @@ wide_left w a b t = some_wide-append w a b ∙ rw t refl
 pub wide_right : (w : ℕ) (a b : List (List ℕ)) → some_wide w b ≡ true → some_wide w (a ++ b) ≡ true
 wide_right w a b t = some_wide-append w a b ∙ rw t (or_true (some_wide w a))
 
-pub answer_made : {T E : Type 0} (w : ℕ) (lines : List (List ℕ)) (next : Counts) (o : Result Unit E) (r : Result Unit Refusal) (new : Engine T) → Remembers next o r new →
+pub answer_made : {T : Type 0} (w : ℕ) (lines : List (List ℕ)) (next : Counts) (r : Result Unit Refusal) (new : Engine T) → Remembers next r new →
     0 < w → IsFalse (some_wide w lines) → Answers w lines r
-answer_made w lines next (Ok u) r new g p m = rw g.0 (p, m)
-answer_made w lines next (Err e) r new g p m = rw g.0.1 (p, m)
+answer_made w lines next (Ok u) new g p m = (p, m)
+answer_made w lines next (Err e) new g p m = rw g.0.1 (p, m)
 
 pub narrow_both : (w : ℕ) (a b : List (List ℕ)) → IsFalse (some_wide w a) → IsFalse (some_wide w b) → IsFalse (some_wide w (a ++ b))
 narrow_both w a b m n = let f : some_wide w a ≡ false = m in some_wide-append w a b ∙ rw f n

@@ -1,12 +1,12 @@
 -- A terminal with nothing below the cursor's row.
-use Rattle.std.specs.Prelude.{◌≡◌, ℕ, ◌-◌, ◌<◌, ◌≤◌, true, false, is_some, List, ◌∷◌, ◌++◌, map, length, replicate, Some}
+use Rattle.std.specs.Prelude.{◌≡◌, ℕ, ◌+◌, ◌-◌, ◌<◌, ◌≤◌, max, Bool, true, false, is_some, IsTrue, List, ◌∷◌, ◌++◌, map, length, replicate, take, Some}
 use Rattle.std.specs.List.{All}
 use Rattle.std.specs.Str.{all_scalars}
 use Rattle.unicode_width.specs.Width.{char_width}
 use Rattle.indicatif_text.specs.Columns.{Cell, Glyph, width_of, glyph_width, visible, blank_row}
 use Rattle.indicatif_term.specs.Screen.{Screen, Op, Put}
 use Rattle.indicatif_term.specs.Terminal.{Terminal}
-use Rattle.indicatif_term.specs.Shows.{resting}
+use Rattle.indicatif_term.specs.Shows.{IsOpening, resting}
 
 -- the rows above the cursor's row, that row, and n blank rows below it
 abbrev pub screen_at : ℕ → ℕ → List (List Cell) → List Cell → ℕ → ℕ → Screen
@@ -57,3 +57,21 @@ pub record IsBelow (n : ℕ) (s : Screen) : Type 0 where
   pub below : n ≤ s.row
   pub in_rows : s.row < length s.rows
   pub window : 0 < s.height
+
+-- after an opening: the rows before its cursor's, these rows, and blank rows; the cursor is on the row of that number,
+-- at its front where that is said; `reach` rows were reached
+pub record Stands (w h : ℕ) (opening : Screen) (rows : List (List Cell)) (row reach : ℕ) (front : Bool) (now : Terminal) : Type 0 where
+  pub opens : IsOpening w h opening
+  pub below : ℕ
+  pub column : ℕ
+  pub is : now ≡ resting (record {
+    columns = w;
+    height = h;
+    rows = take opening.row opening.rows ++ rows ++ replicate below (blank_row w);
+    row = opening.row + row;
+    column = column;
+  })
+  pub in_rows : row < length rows + below
+  pub at_front : IsTrue front → column ≡ 0
+  -- how far the window has scrolled
+  pub scrolled : opening.row + length rows + below ≡ max (length opening.rows) (opening.row + reach)

@@ -12,7 +12,7 @@ use Rattle.indicatif_term.specs.Calls.{line_bytes, clear_bytes, move_bytes}
 use Rattle.indicatif_term.specs.Shows.{Keeps, resting}
 use Rattle.indicatif_term.proofs.Standing.{IsBelow, IsText}
 use Rattle.indicatif_term.proofs.Glyphs.{performed_all-append}
-use Rattle.indicatif_term.proofs.Reading.{ops_of-append, reader_after-append}
+use Rattle.indicatif_term.proofs.Fed.{ops_of-append, reader_after-append}
 use Rattle.indicatif_term.proofs.Calls.{Asks, end_asks, text_asks, clear_asks, up_asks}
 
 -- the first n rows are the same, and the cursor is still below them

@@ -13,8 +13,9 @@ use Rattle.indicatif_text.specs.Columns.{Cell, blank_row, width_of, visible, gly
 use Rattle.indicatif_term.specs.Screen.{Screen, Return, LineFeed, line_feed}
 use Rattle.indicatif_term.specs.Terminal.{Terminal, after}
 use Rattle.indicatif_term.specs.Calls.{move_bytes, clear_bytes}
-use Rattle.indicatif_term.specs.Bytes.{next_row}
-use Rattle.indicatif_term.specs.Shows.{Stands, Keeps, IsOpening, resting}
+use Rattle.indicatif_term.specs.Inside.Bytes.{next_row}
+use Rattle.indicatif_term.specs.Shows.{Keeps, IsOpening, resting}
+use Rattle.indicatif_term.proofs.Standing.{Stands}
 use Rattle.indicatif_term.proofs.Standing.{screen_at, resting_below, IsText, IsPrintable}
 use Rattle.indicatif_term.proofs.Rows.{made, same_screen}
 use Rattle.indicatif_term.proofs.Glyphs.{pieces_some}

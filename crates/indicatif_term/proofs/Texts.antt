@@ -1,12 +1,12 @@
 -- What the characters of a text ask of a terminal.
-use Rattle.std.proofs.Common.{◌≡◌, ℕ, suc, ◌+◌, ◌-◌, true, false, List, [], ◌∷◌, ◌++◌, refl, sym, ◌∙◌, ap, subst, arith, map, eqb, Some, None, Option, inl, inr}
+use Rattle.std.proofs.Common.{◌≡◌, ℕ, suc, ◌+◌, ◌-◌, true, false, List, [], ◌∷◌, refl, sym, ◌∙◌, ap, subst, arith, map, eqb, Some, None, Option, inl, inr}
 use Rattle.std.specs.Prelude.{if◌then◌else◌, ◌&&◌, is_some, unwrap_or, option_map}
 use Rattle.std.specs.List.{AllByRecursion}
 use Rattle.std.proofs.lemmas.Bool.{cases_Bool, eqb-true, and_parts, false≢true, false_from_ne_true}
 use Rattle.unicode_width.specs.Width.{char_width}
 use Rattle.indicatif_text.specs.Columns.{is_parameter, parameters_length, colour_length, visible_from}
 use Rattle.indicatif_term.specs.Screen.{Put}
-use Rattle.indicatif_term.specs.Terminal.{Place, Plain, Sequence, plain_ops, plain_place, sequence_ops, number_from}
+use Rattle.indicatif_term.specs.Terminal.{Place, Plain, Sequence, plain_ops, plain_place, sequence_ops, number_with}
 use Rattle.indicatif_term.proofs.Reading.{char_list_ops, place_after}
 
 -- a character that a terminal shows
@@ -46,7 +46,7 @@ none_some e = cc
 
 pub record Reads (text : List ℕ) : Type 0 where
   pub plain : AllByRecursion IsShown (visible_from 0 text) → Puts Plain text (visible_from 0 text)
-  pub inside : (ps : List ℕ) (n : ℕ) → parameters_length text ≡ Some n → AllByRecursion IsShown (visible_from n text) → Puts (Sequence ps) text (visible_from n text)
+  pub inside : (number : Option ℕ) (n : ℕ) → parameters_length text ≡ Some n → AllByRecursion IsShown (visible_from n text) → Puts (Sequence number) text (visible_from n text)
 
 put_more : (c : ℕ) (cs shown_rows : List ℕ) → IsShown c → Puts Plain cs shown_rows → Puts Plain (c ∷ cs) (c ∷ shown_rows)
 put_more c cs shown_rows h rest =
@@ -57,27 +57,27 @@ mapped : (k : ℕ) (o : Option ℕ) (n : ℕ) → option_map (λ m. m + k) o ≡
 mapped k None n e = cc
 mapped k (Some m) n e = (m, refl, cc)
 
-parameter_more : (ps : List ℕ) (c : ℕ) (cs shown_rows : List ℕ) → is_parameter c ≡ true → Puts (Sequence (ps ++ c ∷ [])) cs shown_rows → Puts (Sequence ps) (c ∷ cs) shown_rows
-parameter_more ps c cs shown_rows holds rest = record { ops = rw holds rest.ops; after = rw holds rest.after }
+parameter_more : (number : Option ℕ) (c : ℕ) (cs shown_rows : List ℕ) → is_parameter c ≡ true → Puts (Sequence (number_with number c)) cs shown_rows → Puts (Sequence number) (c ∷ cs) shown_rows
+parameter_more number c cs shown_rows holds rest = record { ops = rw holds rest.ops; after = rw holds rest.after }
 
-inside_more : (c : ℕ) (cs : List ℕ) → Reads cs → (ps : List ℕ) (n : ℕ) → parameters_length (c ∷ cs) ≡ Some n → AllByRecursion IsShown (visible_from n (c ∷ cs)) →
-    Puts (Sequence ps) (c ∷ cs) (visible_from n (c ∷ cs))
-inside_more c cs rest ps n e all = elim (cases_Bool (eqb c 0x6D)) [
+inside_more : (c : ℕ) (cs : List ℕ) → Reads cs → (number : Option ℕ) (n : ℕ) → parameters_length (c ∷ cs) ≡ Some n → AllByRecursion IsShown (visible_from n (c ∷ cs)) →
+    Puts (Sequence number) (c ∷ cs) (visible_from n (c ∷ cs))
+inside_more c cs rest number n e all = elim (cases_Bool (eqb c 0x6D)) [
   | inl holds ↦
       let one : 1 ≡ n = some_same (rw holds at e) in
       let is : c ≡ 0x6D = eqb-true c 0x6D holds in
       let after : Puts Plain cs (visible_from 0 cs) = rest.plain (subst (λ k. AllByRecursion IsShown (visible_from k (c ∷ cs))) (sym one) all) in
-      subst (λ k. Puts (Sequence ps) (c ∷ cs) (visible_from k (c ∷ cs))) one
-      (subst (λ d. Puts (Sequence ps) (d ∷ cs) (visible_from 0 cs)) (sym is)
-      (record { ops = rw (colour_end (number_from 0 ps)) after.ops; after = after.after }))
+      subst (λ k. Puts (Sequence number) (c ∷ cs) (visible_from k (c ∷ cs))) one
+      (subst (λ d. Puts (Sequence number) (d ∷ cs) (visible_from 0 cs)) (sym is)
+      (record { ops = rw (colour_end number) after.ops; after = after.after }))
   | inr not_end ↦ elim (cases_Bool (is_parameter c)) [
     | inl holds ↦
         let m = mapped 1 (parameters_length cs) n (rw (not_end, holds) at e) in
         let more : suc m.0 ≡ n = omega (arith, m.2) in
-        let after : Puts (Sequence (ps ++ c ∷ [])) cs (visible_from m.0 cs) =
-        rest.inside (ps ++ c ∷ []) m.0 m.1 (subst (λ k. AllByRecursion IsShown (visible_from k (c ∷ cs))) (sym more) all) in
-        subst (λ k. Puts (Sequence ps) (c ∷ cs) (visible_from k (c ∷ cs))) more
-        (parameter_more ps c cs (visible_from m.0 cs) holds after)
+        let after : Puts (Sequence (number_with number c)) cs (visible_from m.0 cs) =
+        rest.inside (number_with number c) m.0 m.1 (subst (λ k. AllByRecursion IsShown (visible_from k (c ∷ cs))) (sym more) all) in
+        subst (λ k. Puts (Sequence number) (c ∷ cs) (visible_from k (c ∷ cs))) more
+        (parameter_more number c cs (visible_from m.0 cs) holds after)
     | inr other ↦ absurd (none_some (rw (not_end, other) at e))
   ]
 ]
@@ -94,8 +94,8 @@ plain_more c d ds next rest (Some n) e all = elim (cases_Bool (eqb c 0x1B && eqb
       let is = and_parts (eqb c 0x1B) (eqb d 0x5B) holds in
       let m = mapped 2 (parameters_length ds) n (rw holds at e) in
       let more : suc m.0 ≡ n - 1 = omega (arith, m.2) in
-      let after : Puts (Sequence []) ds (visible_from m.0 ds) =
-      rest.inside [] m.0 m.1 (subst (λ k. AllByRecursion IsShown (visible_from k (d ∷ ds))) (sym more) all) in
+      let after : Puts (Sequence (Some 0)) ds (visible_from m.0 ds) =
+      rest.inside (Some 0) m.0 m.1 (subst (λ k. AllByRecursion IsShown (visible_from k (d ∷ ds))) (sym more) all) in
       subst (λ k. Puts Plain (c ∷ d ∷ ds) (visible_from k (d ∷ ds))) more
       (subst (λ x. Puts Plain (x ∷ d ∷ ds) (visible_from m.0 ds)) (sym (eqb-true c 0x1B is.0))
       (subst (λ x. Puts Plain (0x1B ∷ x ∷ ds) (visible_from m.0 ds)) (sym (eqb-true d 0x5B is.1))
@@ -104,7 +104,7 @@ plain_more c d ds next rest (Some n) e all = elim (cases_Bool (eqb c 0x1B && eqb
 ]
 
 pub reads : (text : List ℕ) → Reads text
-reads [] = record { plain = λ _. record { ops = refl; after = refl }; inside = λ ps n e all. absurd (none_some e) }
+reads [] = record { plain = λ _. record { ops = refl; after = refl }; inside = λ number n e all. absurd (none_some e) }
 reads (c ∷ []) = record {
   plain = λ all. put_more c [] [] all.0 (record { ops = refl; after = refl });
   inside = inside_more c [] (reads []);

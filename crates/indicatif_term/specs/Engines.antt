@@ -7,7 +7,8 @@ use Rattle.indicatif_term.specs.Screen.{Screen}
 use Rattle.indicatif_term.specs.Terminal as cells
 use Rattle.indicatif_term.specs.Calls.{led_on, TermView, line_bytes}
 use Rattle.indicatif_term.specs.Shows.{Shows, Keeps, IsOpening, resting}
-use Rattle.indicatif_term.specs.Frames.{CountsOf, some_wide, Refuses, is_fault}
+use Rattle.indicatif_term.specs.Frames.{some_wide, Refuses, is_fault}
+use Rattle.indicatif_term.specs.Inside.Counted.{CountsOf}
 use Rattle.indicatif_term.specs.declared.draw_target.Engine.{Engine}
 use Rattle.indicatif_term.specs.declared.counts.Counts.{Counts}
 use Rattle.std.specs.declared.io.ErrorKind.{ErrorKind}
@@ -36,11 +37,6 @@ module _ {T : Type 0} where
   Outcome result old new l =
       MatchResult result (λ _. Fits new l × (has_failed new ≡ false))
       (λ e. (IsTrue (is_fault e) → Fits new opening_lists × (has_failed new ≡ true)) × (IsFalse (is_fault e) → new ≡ old))
-
-  -- what an engine remembers after writing
-  abbrev pub Remembers : {E : Type 0} → Counts → Result Unit E → Result Unit Refusal → Engine T → Type 0
-  Remembers next (Ok u) result new = (result ≡ Ok tt) × (new.counts ≡ next) × (has_failed new ≡ false)
-  Remembers next (Err e) result new = ((kind : ErrorKind) × (result ≡ Err (Terminal kind))) × CountsOf new.counts opening_lists × (has_failed new ≡ true)
 
 -- what an answer says of the lines that were to be written on a terminal of w columns
 abbrev pub Answers : ℕ → List (List ℕ) → Result Unit Refusal → Type 0

@@ -55,7 +55,7 @@ settled h l =
 abbrev pub rested : Lists → Lists
 rested l = record l { below = (live_height l.live == 0) && nat_lt (lists_height l) l.reach }
 
--- ---- a frame: the bar_lines lines of the members in order
+-- ---- a frame: the stored lines of the members in order
 
 pub record BarLines : Type 0 where
   pub bar : ℕ

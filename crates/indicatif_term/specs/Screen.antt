@@ -1,5 +1,5 @@
 -- A terminal of cells. A cursor in the column after the last one waits.
-use Rattle.std.specs.Prelude.{ℕ, ◌+◌, ◌-◌, min, max, Bool, true, false, ◌==◌, nat_le, nat_lt, List, [], ◌∷◌, ◌++◌, reverse, length, take, drop, slice_set, slice_index_or, Option, Some, None, if◌then◌else◌}
+use Rattle.std.specs.Prelude.{ℕ, ◌+◌, ◌-◌, min, max, Bool, true, false, ◌==◌, nat_le, nat_lt, List, [], ◌∷◌, ◌++◌, reverse, length, take, drop, replicate, slice_set, slice_index_or, Option, Some, None, if◌then◌else◌}
 use Rattle.unicode_width.specs.Width.{char_width}
 use Rattle.indicatif_text.specs.Columns.{Cell, Blank, Written, Continued, Glyph, glyph_cells, blank_row}
 
@@ -18,6 +18,10 @@ top s = length s.rows - s.height
 
 abbrev pub cursor_row : Screen → List Cell
 cursor_row s = slice_index_or s.rows s.row []
+
+-- blank rows, the cursor at the front of the first
+abbrev pub blank_screen : ℕ → ℕ → Screen
+blank_screen rows columns = record { columns = columns; height = rows; rows = replicate rows (blank_row columns); row = 0; column = 0 }
 
 -- ---- writing into a row
 

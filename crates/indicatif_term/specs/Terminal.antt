@@ -1,8 +1,8 @@
 -- A terminal as it reads bytes: UTF-8 first, escape sequences next. What can't be understood changes nothing.
-use Rattle.std.specs.Prelude.{ℕ, ◌+◌, ◌-◌, ◌*◌, Bool, ◌&&◌, ◌||◌, ◌==◌, nat_le, nat_lt, List, [], ◌∷◌, ◌++◌, chars, Option, Some, None, if◌then◌else◌, slice_index}
+use Rattle.std.specs.Prelude.{ℕ, ◌+◌, ◌-◌, ◌*◌, min, Bool, ◌&&◌, ◌||◌, ◌==◌, nat_le, nat_lt, List, [], ◌∷◌, ◌++◌, length, chars, Option, Some, None, if◌then◌else◌, slice_index}
 use Rattle.std.specs.Str.{is_utf8}
 use Rattle.indicatif_text.specs.Columns.{is_parameter}
-use Rattle.indicatif_term.specs.Screen.{Screen, Op, Put, Return, LineFeed, Up, Down, Right, Left, EmptyRow, performed_all}
+use Rattle.indicatif_term.specs.Screen.{Screen, Op, Put, Return, LineFeed, Up, Down, Right, Left, EmptyRow, performed_all, blank_screen}
 
 -- ---- characters
 
@@ -11,22 +11,26 @@ pub data Place : Type 0 where
   Plain : Place
   -- after ESC
   Escaped : Place
-  -- after ESC [ and these digits and semicolons
-  Sequence : (parameters : List ℕ) → Place
+  -- after ESC [ and the digits of this number, which is 0 before the first; None after a semicolon
+  Sequence : (number : Option ℕ) → Place
 
 abbrev pub is_digit : ℕ → Bool
 is_digit c = nat_le 0x30 c && nat_le c 0x39
 
--- the number that digits spell; None where something else stands among them
-abbrev pub number_from : ℕ → List ℕ → Option ℕ
-number_from n [] = Some n
-number_from n (c ∷ cs) = if is_digit c then number_from (10 * n + (c - 0x30)) cs else None
+-- the greatest size of a terminal: a greater number counts as this one
+abbrev pub GREATEST : ℕ
+GREATEST = 65535
+
+-- a number with one more digit; none with a semicolon
+abbrev pub number_with : Option ℕ → ℕ → Option ℕ
+number_with None c = None
+number_with (Some n) c = if is_digit c then Some (min (10 * n + (c - 0x30)) GREATEST) else None
 
 -- a count, where a missing one or 0 counts as 1
 abbrev pub at_least_one : ℕ → ℕ
 at_least_one n = if n == 0 then 1 else n
 
--- what the sequence with these parameters and this last character asks for
+-- what the sequence with this number and this last character asks for
 abbrev pub sequence_ops : Option ℕ → ℕ → List Op
 sequence_ops None c = []
 sequence_ops (Some n) c =
@@ -48,18 +52,18 @@ plain_place c = if c == 0x1B then Escaped else Plain
 abbrev pub char_ops : Place → ℕ → List Op
 char_ops Plain c = plain_ops c
 char_ops Escaped c = if c == 0x5B then [] else plain_ops c
-char_ops (Sequence ps) c = if is_parameter c then [] else sequence_ops (number_from 0 ps) c
+char_ops (Sequence number) c = if is_parameter c then [] else sequence_ops number c
 
 abbrev pub char_place : Place → ℕ → Place
 char_place Plain c = plain_place c
-char_place Escaped c = if c == 0x5B then Sequence [] else plain_place c
-char_place (Sequence ps) c = if is_parameter c then Sequence (ps ++ c ∷ []) else Plain
+char_place Escaped c = if c == 0x5B then Sequence (Some 0) else plain_place c
+char_place (Sequence number) c = if is_parameter c then Sequence (number_with number c) else Plain
 
 -- ---- bytes
 
 pub record Reader : Type 0 where
   pub place : Place
-  -- the bytes since the last character, or since one that can begin a character
+  -- the bytes of a character that isn't whole: those since the last one that can begin a character
   pub spelling : List ℕ
 
 abbrev pub idle : Reader
@@ -71,6 +75,10 @@ is_leading b = nat_lt b 0x80 || nat_le 0xC0 b
 
 abbrev pub spelling_with : List ℕ → ℕ → List ℕ
 spelling_with spelling b = (if is_leading b then [] else spelling) ++ b ∷ []
+
+-- what is kept of bytes that spell no character: nothing once they are four, as many as a character has
+abbrev pub kept : List ℕ → List ℕ
+kept bytes = if nat_lt (length bytes) 4 then bytes else []
 
 abbrev pub first_char : List ℕ → ℕ
 first_char bytes = slice_index (chars bytes) 0
@@ -85,7 +93,7 @@ abbrev pub byte_reader : Reader → ℕ → Reader
 byte_reader r b =
     let bytes = spelling_with r.spelling b in
     if is_utf8 bytes then record { place = char_place r.place (first_char bytes); spelling = [] }
-    else record { place = r.place; spelling = bytes }
+    else record { place = r.place; spelling = kept bytes }
 
 -- what bytes ask for, and the reader after them
 abbrev pub ops_of : Reader → List ℕ → List Op
@@ -105,3 +113,7 @@ pub record Terminal : Type 0 where
 -- the terminal after these bytes
 unfoldable pub after : Terminal → List ℕ → Terminal
 after t bytes = record { screen = performed_all (ops_of t.reader bytes) t.screen; reader = reader_after t.reader bytes }
+
+-- a terminal of blank rows, the cursor at the front of the first
+abbrev pub blank_terminal : ℕ → ℕ → Terminal
+blank_terminal rows columns = record { screen = blank_screen rows columns; reader = idle }

@@ -2,7 +2,7 @@
 ghost use Rattle.std.specs.Prelude.{◌≡◌, ℕ, ◌+◌, ◌-◌, ◌<◌, ◌≤◌, ◌^◌, map, min, length, List, IfOk, IfErr, IsTrue, sum_by};
 
 use crate::layout::{Plan, RowCount};
-use crate::settle::{blanks_of, rows_of, settled_counts};
+use crate::settle::{NextRows, blanks_of, rows_of, settled_counts};
 use indicatif_text::columns::Refusal;
 use std::alloc::Global;
 
@@ -25,18 +25,19 @@ pub struct Counts {
     /// All rows of live.
     pub live: usize,
     /// The rows reached, counted from the first kept row.
-    pub low: usize,
+    pub reached: usize,
     /// Whether the cursor rests at the front of the row after the lists.
     pub below: bool,
     pub ghost live_is: { live ≡ blanks + sum_by (λ s. s.rows) segments.items },
-    pub ghost fits: { kept + live ≤ low },
-    pub ghost small: { low ≤ 65535 },
-    pub ghost rests: { IsTrue below → kept + live < low },
+    pub ghost fits: { kept + live ≤ reached },
+    pub ghost small: { reached ≤ 65535 },
+    pub ghost rests: { IsTrue below → kept + live < reached },
 }
 
 impl Counts {
     ghost use Rattle.indicatif_term.specs.Lists.{Lists, BarLines, opening_lists, drawn, logged, cleared};
-    ghost use Rattle.indicatif_term.specs.Frames.{CountsOf, IsPlan, IsSummed, text_height};
+    ghost use Rattle.indicatif_term.specs.Inside.Counted.{CountsOf};
+    ghost use Rattle.indicatif_term.specs.Inside.Plans.{IsPlan, IsSummed, text_height};
 
     pub fn new(alloc: Global) -> Counts
         ensures { CountsOf result opening_lists }
@@ -46,7 +47,7 @@ impl Counts {
             blanks: 0,
             segments: Vec::new(alloc),
             live: 0,
-            low: 1,
+            reached: 1,
             below: true,
         }
     }
@@ -67,23 +68,21 @@ impl Counts {
         };
         if plan.passing > 0 {
             let passing_rows = rows_of(&plan.segments);
-            Ok(settled_counts(
-                self.low,
-                height,
-                self.kept + (blanks + passing_rows),
-                0,
+            let rows = NextRows {
+                kept: self.kept + (blanks + passing_rows),
+                blanks: 0,
                 segments,
-                plan.rows - passing_rows,
-            ))
+                live: plan.rows - passing_rows,
+            };
+            Ok(settled_counts(rows, self.reached, height))
         } else {
-            Ok(settled_counts(
-                self.low,
-                height,
-                self.kept,
+            let rows = NextRows {
+                kept: self.kept,
                 blanks,
                 segments,
-                blanks + plan.rows,
-            ))
+                live: blanks + plan.rows,
+            };
+            Ok(settled_counts(rows, self.reached, height))
         }
     }
 
@@ -95,14 +94,13 @@ impl Counts {
             text ≡ min (text_height w lines) (2 ^ 64 - 1) → CountsOf result (logged w height bottom lines frame l) }
     {
         let blanks = blanks_of(bottom, self.kept + self.live, text, plan.rows);
-        settled_counts(
-            self.low.saturating_sub(text),
-            height,
-            0,
+        let rows = NextRows {
+            kept: 0,
             blanks,
-            plan.segments,
-            blanks + plan.rows,
-        )
+            segments: plan.segments,
+            live: blanks + plan.rows,
+        };
+        settled_counts(rows, self.reached.saturating_sub(text), height)
     }
 
     /// The counts after a clear.
@@ -114,8 +112,8 @@ impl Counts {
             blanks: 0,
             segments: Vec::new(alloc),
             live: 0,
-            low: self.low,
-            below: self.low > 0,
+            reached: self.reached,
+            below: self.reached > 0,
         }
     }
 }

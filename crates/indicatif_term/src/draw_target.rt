@@ -1,17 +1,16 @@
 //! Drawing rows on a terminal.
-ghost use Rattle.std.specs.Prelude.{◌≡◌, ◌↔◌, map, string_bytes, IsOk, IsTrue, false, ◌++◌, [], ℕ};
+ghost use Rattle.std.specs.Prelude.{◌≡◌, ◌↔◌, map, length, ◌≤◌, IsOk, IsTrue, false, ◌++◌, [], ℕ};
 ghost use Rattle.indicatif_term.specs.Lists.{opening_lists};
-ghost use Rattle.indicatif_term.specs.Frames.{CountsOf};
+ghost use Rattle.indicatif_term.specs.Inside.Counted.{CountsOf};
 
 use crate::counts::{Counts, Keep};
-use crate::layout::{laid_out, texts_height};
+use crate::layout::{laid_out, text_height};
 pub use crate::lines::{LineType, Segment};
 use crate::settle::{blanks_of, kept_counts};
 use crate::term_like::TermLike;
-use crate::writing::paint;
+use crate::writing::{Painting, paint};
 use indicatif_text::columns::Refusal;
 use std::alloc::Global;
-use std::io;
 use std::mem::replace;
 
 /// Where the bars stand while there are fewer rows than before.
@@ -44,8 +43,12 @@ pub struct Engine<T: Drop> {
 
 impl<T: TermLike + Drop> Engine<T> {
     ghost use Rattle.indicatif_term.specs.Lists.{Lists, drawn, logged, cleared, kept_of, fate};
-    ghost use Rattle.indicatif_term.specs.Frames.{bar_lines, all_lines, are_plain, text_lines, IsFate};
-    ghost use Rattle.indicatif_term.specs.Engines.{is_bottom, terminal, Fits, has_failed, Outcome, Answers, Counted, Repaints, RepaintsAnew, Remembers};
+    ghost use Rattle.indicatif_term.specs.Calls.{Writes};
+    ghost use Rattle.indicatif_term.specs.Inside.Bytes.{painting_bytes};
+    ghost use Rattle.indicatif_term.specs.Frames.{bar_lines, all_lines, are_plain, logged_lines, text_lines, IsFate};
+    ghost use Rattle.indicatif_term.specs.Inside.Plans.{frame_lines};
+    ghost use Rattle.indicatif_term.specs.Engines.{is_bottom, terminal, Fits, has_failed, Outcome, Answers, Counted, Repaints, RepaintsAnew};
+    ghost use Rattle.indicatif_term.specs.Inside.Remembering.{Remembers};
     ghost use Rattle.indicatif_term.specs.Shows.{Shows, IsOpening, resting};
     ghost use Rattle.indicatif_term.specs.Screen.{Screen};
     ghost use Rattle.indicatif_term.specs.Terminal.{Terminal};
@@ -101,67 +104,66 @@ impl<T: TermLike + Drop> Engine<T> {
         let plan = laid_out(self.alloc, frame, pass, width, height)?;
         let bottom = alignment.is_bottom();
         let lines = plan.lines;
-        let blanks = blanks_of(bottom, self.counts.live, 0, plan.rows);
+        let taken = self.counts.live;
+        let blanks = blanks_of(bottom, taken, 0, plan.rows);
         let next = self.counts.drawn(plan, bottom, height)?;
-        let outcome = paint(
-            &mut self.term,
-            self.failed,
-            self.counts.below,
-            self.counts.live,
-            &[],
+        let painting = Painting {
+            anew: self.failed,
+            below: self.counts.below,
+            taken,
+            text: None,
             blanks,
             frame,
             lines,
-            next.below,
-        );
-        self.remember(next, outcome)
+            ends_below: next.below,
+        };
+        self.repaint(next, &painting)
     }
 
     /// Writes lines of text above the frame, and draws the frame. Kept rows go away.
     pub fn log(
         &mut self,
-        text: &[String],
+        text: &str,
         frame: &[Segment],
         alignment: MultiProgressAlignment,
     ) -> Result<(), Refusal>
         ensures lists { (l : Lists) → Fits self.old l → let s = T.view (terminal self.old) in
             Outcome result self.old self.new
-            (logged s.columns s.rows (is_bottom alignment) (text_lines (map string_bytes text.now)) (map bar_lines frame.now) l) }
+            (logged s.columns s.rows (is_bottom alignment) (text_lines (logged_lines text.now)) (map bar_lines frame.now) l) }
         ensures answer { Answers (T.view (terminal self.old)).columns
-            (text_lines (map string_bytes text.now) ++ all_lines (map bar_lines frame.now)) result }
+            (text_lines (logged_lines text.now) ++ all_lines (map bar_lines frame.now)) result }
         ensures counted { Counted (T.view (terminal self.old)) (T.view (terminal self.new)) result }
         ensures picture { (l : Lists) → Fits self.old l → has_failed self.old ≡ false →
-            IsTrue (are_plain (text_lines (map string_bytes text.now) ++ all_lines (map bar_lines frame.now))) →
+            IsTrue (are_plain (text_lines (logged_lines text.now) ++ all_lines (map bar_lines frame.now))) →
             let s = T.view (terminal self.old) in
             Repaints s (T.view (terminal self.new)) (IsOk result) l
-            (logged s.columns s.rows (is_bottom alignment) (text_lines (map string_bytes text.now)) (map bar_lines frame.now) l) }
+            (logged s.columns s.rows (is_bottom alignment) (text_lines (logged_lines text.now)) (map bar_lines frame.now) l) }
         ensures anew { IsTrue (has_failed self.old) →
-            IsTrue (are_plain (text_lines (map string_bytes text.now) ++ all_lines (map bar_lines frame.now))) →
+            IsTrue (are_plain (text_lines (logged_lines text.now) ++ all_lines (map bar_lines frame.now))) →
             let s = T.view (terminal self.old) in
             RepaintsAnew s (T.view (terminal self.new)) (IsOk result)
-            (logged s.columns s.rows (is_bottom alignment) (text_lines (map string_bytes text.now)) (map bar_lines frame.now) opening_lists) }
+            (logged s.columns s.rows (is_bottom alignment) (text_lines (logged_lines text.now)) (map bar_lines frame.now) opening_lists) }
     {
         let width = self.term.width() as usize;
         let height = self.term.height() as usize;
-        let rows = texts_height(text, width)?;
+        let rows = text_height(text, width)?;
         let plan = laid_out(self.alloc, frame, 0, width, height)?;
         let bottom = alignment.is_bottom();
         let lines = plan.lines;
         let taken = self.counts.kept + self.counts.live;
         let blanks = blanks_of(bottom, taken, rows, plan.rows);
         let next = self.counts.logged(plan, rows, bottom, height);
-        let outcome = paint(
-            &mut self.term,
-            self.failed,
-            self.counts.below,
+        let painting = Painting {
+            anew: self.failed,
+            below: self.counts.below,
             taken,
-            text,
+            text: Some(text),
             blanks,
             frame,
             lines,
-            next.below,
-        );
-        self.remember(next, outcome)
+            ends_below: next.below,
+        };
+        self.repaint(next, &painting)
     }
 
     /// Takes back all rows that it may still change.
@@ -179,18 +181,17 @@ impl<T: TermLike + Drop> Engine<T> {
         }
         let taken = self.counts.kept + self.counts.live;
         let next = self.counts.cleared(self.alloc);
-        let outcome = paint(
-            &mut self.term,
-            self.failed,
-            self.counts.below,
+        let painting = Painting {
+            anew: self.failed,
+            below: self.counts.below,
             taken,
-            &[],
-            0,
-            &[],
-            0,
-            next.below,
-        );
-        self.remember(next, outcome)
+            text: None,
+            blanks: 0,
+            frame: &[],
+            lines: 0,
+            ends_below: next.below,
+        };
+        self.repaint(next, &painting)
     }
 
     /// The rows of a dropped bar become kept rows, if they are the first of live.
@@ -208,12 +209,13 @@ impl<T: TermLike + Drop> Engine<T> {
         outcome
     }
 
-    /// Remembers the next counts, or after a failure none.
-    fn remember(&mut self, next: Counts, outcome: io::Result<()>) -> Result<(), Refusal>
-        ensures terminal { terminal self.new ≡ terminal self.old }
-        ensures remembers { Remembers next outcome result self.new }
+    /// Paints, and remembers the next counts; after a failure, that a call has failed.
+    fn repaint(&mut self, next: Counts, painting: &Painting<'_>) -> Result<(), Refusal>
+        requires { painting.now.lines ≤ length (frame_lines painting.now.frame.now) }
+        ensures writes { Writes (painting_bytes painting.now) (T.view (terminal self.old)) (T.view (terminal self.new)) result }
+        ensures remembers { Remembers next result self.new }
     {
-        match outcome {
+        match paint(&mut self.term, painting) {
             Ok(()) => {
                 self.counts = next;
                 self.failed = false;

@@ -1,14 +1,16 @@
-//! Which lines of a frame are shown_rows, and how many rows they take.
-ghost use Rattle.std.specs.Prelude.{◌≡◌, ◌+◌, ◌<◌, ◌≤◌, ◌++◌, ◌∷◌, [], map, length, chars, string_bytes, List, IfOk, IfErr, sum_by};
+//! Which lines of a frame are shown, and how many rows they take.
+ghost use Rattle.std.specs.Prelude.{◌≡◌, ◌+◌, ◌<◌, ◌≤◌, ◌++◌, ◌∷◌, [], map, length, chars, List, IfOk, IfErr, sum_by};
 ghost use Rattle.indicatif_term.specs.Lists.{BarRows, onto_segments};
-ghost use Rattle.indicatif_term.specs.Frames.{IsSummed, IsLaidOut, IsPlaced, Measured, MeasuredLine, MeasuredText, bar_lines, row_count};
+ghost use Rattle.indicatif_term.specs.Frames.{bar_lines, logged_lines};
+ghost use Rattle.indicatif_term.specs.Inside.Plans.{IsSummed, IsLaidOut, IsPlaced, ArePlaced, Measured, MeasuredLine, MeasuredText};
+ghost use Rattle.indicatif_term.specs.Inside.Counted.{row_count};
 
 use crate::lines::Segment;
 use indicatif_text::columns::{Refusal, wrapped};
 use std::alloc::Global;
 use std::convert::AsStr;
 
-/// How many rows of a bar are shown_rows.
+/// How many rows of a bar are shown.
 #[derive(Clone, Copy, Debug, Drop)]
 pub struct RowCount {
     pub bar: u64,
@@ -22,7 +24,7 @@ pub struct Plan {
     pub segments: Vec<RowCount>,
     pub rows: usize,
     pub lines: usize,
-    /// Whether a line did not fit, so that none after it is shown_rows.
+    /// Whether a line did not fit, so that none after it is shown.
     pub full: bool,
     /// The segments of the members to be dropped.
     pub passing: usize,
@@ -49,15 +51,30 @@ pub fn laid_out(
         full: false,
         passing: 0,
     };
-    let mut i: usize = 0;
-    for member in frame {
-        place_member(&mut plan, member, width, height)?;
-        if i < pass {
-            plan.passing = plan.segments.len();
-        }
-        i += 1;
-    }
+    let passing = pass.min(frame.len());
+    place_members(&mut plan, &frame[..passing], width, height)?;
+    plan.passing = plan.segments.len();
+    place_members(&mut plan, &frame[passing..], width, height)?;
     Ok(plan)
+}
+
+/// The lines of some members.
+fn place_members(
+    plan: &mut Plan,
+    members: &[Segment],
+    width: usize,
+    height: usize,
+) -> Result<(), Refusal>
+    requires summed { IsSummed height plan.old }
+    requires small { height ≤ 65535 }
+    ensures summed { IfOk result (λ _. IsSummed height plan.new) }
+    ensures passing { plan.new.passing ≡ plan.old.passing }
+    ensures placed { (before : List BarRows) → IsLaidOut height before plan.old → ArePlaced width height before (map bar_lines members.now) plan.new result }
+{
+    for member in members {
+        place_member(plan, member, width, height)?;
+    }
+    Ok(())
 }
 
 /// The lines of one member.
@@ -131,15 +148,18 @@ fn rows_of_line(line: &str, width: usize) -> Result<usize, Refusal>
     }
 }
 
-/// The rows of text lines, or 2^64 - 1 where there are more.
-pub fn texts_height(text: &[String], width: usize) -> Result<usize, Refusal>
-    ensures { MeasuredText width (map string_bytes text.now) result }
+/// The rows of the lines of a text that is logged, or 2^64 - 1 where there are more.
+pub fn text_height(text: &str, width: usize) -> Result<usize, Refusal>
+    ensures { MeasuredText width (logged_lines text.now) result }
 {
     if width == 0 {
         return Err(Refusal::NoColumns);
     }
+    if text.is_empty() {
+        return Ok(1);
+    }
     let mut rows: usize = 0;
-    for line in text {
+    for line in text.lines() {
         rows = rows.saturating_add(rows_of_line(line, width)?);
     }
     Ok(rows)

@@ -1,15 +1,22 @@
 //! The terminal, and the engine that draws on it.
 //!
 //! - `term_like`: what a terminal has to offer, each call by its bytes.
+//! - `draw_target`: the engine, which draws the lines of bars and takes back those that it may still change.
+//! - `lines`: the lines of bars.
+//! - `layout`, `counts`, `settle`, `writing`: the engine's parts. They plan a frame, count its rows, and write it.
+//! - `worked`: worked cases of the definitions.
+//! - `in_memory`: a terminal in memory.
 //! - `term`: a terminal behind a writer of bytes.
 #![tactic(auto)]
 
 pub mod counts;
 pub mod draw_target;
+pub mod in_memory;
 pub mod layout;
 pub mod lines;
 pub mod settle;
 pub mod target;
 pub mod term;
 pub mod term_like;
+pub mod worked;
 pub mod writing;

@@ -2,7 +2,8 @@
 ghost use Rattle.std.specs.Prelude.{◌≡◌, ℕ, ◌+◌, ◌≤◌, ◌==◌, sum_by};
 ghost use Rattle.std.specs.List.{list_any};
 ghost use Rattle.indicatif_term.specs.Lists.{Lists, blanks_for, kept_of, fate};
-ghost use Rattle.indicatif_term.specs.Frames.{CountsOf, SettledCounts, IsFate};
+ghost use Rattle.indicatif_term.specs.Frames.{IsFate};
+ghost use Rattle.indicatif_term.specs.Inside.Counted.{CountsOf, SettledCounts};
 
 use crate::counts::{Counts, Keep};
 use crate::layout::RowCount;
@@ -24,7 +25,7 @@ pub fn kept_counts(counts: Counts, bar: u64) -> (Keep, Counts)
         blanks,
         mut segments,
         live,
-        low,
+        reached,
         below,
     } = counts;
     segments.remove(0);
@@ -33,7 +34,7 @@ pub fn kept_counts(counts: Counts, bar: u64) -> (Keep, Counts)
         blanks: 0,
         segments,
         live: live - (blanks + first.rows),
-        low,
+        reached,
         below,
     };
     (Keep::Passed, next)
@@ -65,32 +66,35 @@ pub fn rows_of(segments: &[RowCount]) -> usize
     segments.iter().map(|s| s.rows).sum()
 }
 
-/// The counts where kept rows that have scrolled away join those above.
-pub fn settled_counts(
-    low: usize,
-    height: usize,
-    kept: usize,
-    blanks: usize,
-    segments: Vec<RowCount>,
-    live: usize,
-) -> Counts
-    requires live_is { live ≡ blanks + sum_by (λ s. s.rows) segments.items }
-    requires low_small { low ≤ 65535 }
+/// The rows after a drawing, before those that have scrolled away join the ones above.
+#[derive(Drop)]
+pub struct NextRows {
+    pub kept: usize,
+    pub blanks: usize,
+    pub segments: Vec<RowCount>,
+    /// All rows of live.
+    pub live: usize,
+}
+
+/// The counts where kept rows that have scrolled away join those above. So many rows were reached before.
+pub fn settled_counts(rows: NextRows, reached: usize, height: usize) -> Counts
+    requires live_is { rows.live ≡ rows.blanks + sum_by (λ s. s.rows) rows.segments.items }
+    requires reached_small { reached ≤ 65535 }
     requires height_small { height ≤ 65535 }
-    requires live_small { live ≤ 65535 }
-    requires kept_small { kept ≤ low + 65535 }
-    ensures { SettledCounts low height kept blanks segments.items live result }
+    requires live_small { rows.live ≤ 65535 }
+    requires kept_small { rows.kept ≤ reached + 65535 }
+    ensures { SettledCounts reached height rows.kept rows.blanks rows.segments.items rows.live result }
 {
-    let reached = low.max(kept + live);
-    let gone = reached.saturating_sub(height).min(kept);
-    let kept = kept - gone;
-    let low = reached - gone;
+    let reached = reached.max(rows.kept + rows.live);
+    let gone = reached.saturating_sub(height).min(rows.kept);
+    let kept = rows.kept - gone;
+    let reached = reached - gone;
     Counts {
         kept,
-        blanks,
-        segments,
-        live,
-        low,
-        below: live == 0 && kept < low,
+        blanks: rows.blanks,
+        segments: rows.segments,
+        live: rows.live,
+        reached,
+        below: rows.live == 0 && kept < reached,
     }
 }

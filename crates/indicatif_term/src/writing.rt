@@ -1,8 +1,9 @@
 //! Rows taken back, and lines written.
-ghost use Rattle.std.specs.Prelude.{◌≡◌, ◌^◌, ◌<◌, ◌≤◌, ◌+◌, ◌-◌, [], ◌++◌, List, ℕ, map, take, length, replicate, flat_map, string_bytes, Bool, true, if◌then◌else◌, not, ◌&&◌, ◌||◌, ◌==◌, nat_lt};
+ghost use Rattle.std.specs.Prelude.{◌≡◌, ◌^◌, ◌<◌, ◌≤◌, ◌+◌, ◌-◌, [], ◌++◌, List, ℕ, map, take, length, replicate, flat_map, string_bytes, Bool, true, if◌then◌else◌, not, ◌&&◌, ◌||◌, ◌==◌, nat_lt, is_some};
 ghost use Rattle.indicatif_term.specs.Calls.{TermView, Writes, move_bytes, clear_bytes};
-ghost use Rattle.indicatif_term.specs.Bytes.{back_bytes, lines_bytes, paint_bytes, next_row};
-ghost use Rattle.indicatif_term.specs.Frames.{frame_lines, line_text};
+ghost use Rattle.indicatif_term.specs.Inside.Bytes.{back_bytes, lines_bytes, painting_bytes, next_row};
+ghost use Rattle.indicatif_term.specs.Frames.{line_text, logged_lines};
+ghost use Rattle.indicatif_term.specs.Inside.Plans.{frame_lines, lines_above};
 
 use crate::lines::{LineType, Segment};
 use crate::term_like::TermLike;
@@ -43,16 +44,29 @@ pub fn put<T: TermLike>(term: &mut T, at_end: bool, line: &str) -> io::Result<()
     term.write_str(line)
 }
 
-/// Writes each line on a row of its own.
-pub fn put_all<T: TermLike>(term: &mut T, at_end: bool, lines: &[String]) -> io::Result<()>
-    ensures { Writes (lines_bytes at_end (map string_bytes lines.now)) (T.view term.old) (T.view term.new) result }
+/// Writes each line of the text on a row of its own; an empty text is one empty line.
+pub fn put_text<T: TermLike>(term: &mut T, at_end: bool, text: &str) -> io::Result<()>
+    ensures { Writes (lines_bytes at_end (logged_lines text.now)) (T.view term.old) (T.view term.new) result }
 {
+    if text.is_empty() {
+        return put(term, at_end, "");
+    }
     let mut started = at_end;
-    for line in lines {
+    for line in text.lines() {
         put(term, started, line)?;
         started = true;
     }
     Ok(())
+}
+
+/// Writes the lines of the text that is logged, if any is.
+pub fn put_logged<T: TermLike>(term: &mut T, at_end: bool, text: Option<&str>) -> io::Result<()>
+    ensures { Writes (lines_bytes at_end (lines_above text.entry)) (T.view term.old) (T.view term.new) result }
+{
+    match text {
+        Some(text) => put_text(term, at_end, text),
+        None => Ok(()),
+    }
 }
 
 /// Writes each line of a bar on a row of its own.
@@ -99,31 +113,41 @@ pub fn put_frame<T: TermLike>(
     Ok(())
 }
 
+/// What a drawing does on the terminal, from its first byte to its last.
+#[derive(Clone, Copy)]
+pub struct Painting<'a> {
+    /// Whether it begins on a new row.
+    pub anew: bool,
+    /// Whether the cursor stands on the row after those taken back.
+    pub below: bool,
+    /// The rows taken back.
+    pub taken: usize,
+    /// The text that is logged, if any is.
+    pub text: Option<&'a str>,
+    /// The blank rows above the bars.
+    pub blanks: usize,
+    /// The bars, and how many of their lines are written.
+    pub frame: &'a [Segment],
+    pub lines: usize,
+    /// Whether it ends at the front of the row after all these.
+    pub ends_below: bool,
+}
+
 /// Takes rows back, writes lines of text, blank rows and lines of the frame, and goes below them if asked.
-pub fn paint<T: TermLike>(
-    term: &mut T,
-    anew: bool,
-    below: bool,
-    taken: usize,
-    text: &[String],
-    blanks: usize,
-    frame: &[Segment],
-    count: usize,
-    ends_below: bool,
-) -> io::Result<()>
-    requires { count ≤ length (frame_lines frame.now) }
-    ensures { Writes (paint_bytes anew below taken (map string_bytes text.now ++ replicate blanks [] ++ take count (frame_lines frame.now)) ends_below)
-        (T.view term.old) (T.view term.new) result }
+pub fn paint<T: TermLike>(term: &mut T, painting: &Painting<'_>) -> io::Result<()>
+    requires { painting.now.lines ≤ length (frame_lines painting.now.frame.now) }
+    ensures { Writes (painting_bytes painting.now) (T.view term.old) (T.view term.new) result }
 {
-    new_row(term, anew)?;
-    take_back(term, below, taken)?;
-    let at_end = is_left_at_end(below, taken);
-    put_all(term, at_end, text)?;
-    let at_end = ends_row(at_end, text.len());
-    put_blanks(term, at_end, blanks)?;
-    let at_end = ends_row(at_end, blanks);
-    put_frame(term, at_end, frame, count)?;
-    new_row(term, ends_below_row(ends_below, ends_row(at_end, count)))?;
+    new_row(term, painting.anew)?;
+    take_back(term, painting.below, painting.taken)?;
+    let at_end = is_left_at_end(painting.below, painting.taken);
+    put_logged(term, at_end, painting.text)?;
+    let at_end = ends_logged(at_end, painting.text);
+    put_blanks(term, at_end, painting.blanks)?;
+    let at_end = ends_row(at_end, painting.blanks);
+    put_frame(term, at_end, painting.frame, painting.lines)?;
+    let at_end = ends_row(at_end, painting.lines);
+    new_row(term, is_left_below(painting.ends_below, at_end))?;
     term.flush()
 }
 
@@ -148,7 +172,15 @@ fn ends_row(at_end: bool, count: usize) -> bool
     at_end || count > 0
 }
 
-fn ends_below_row(ends_below: bool, at_end: bool) -> bool
+/// The same after a text that is logged.
+fn ends_logged(at_end: bool, text: Option<&str>) -> bool
+    ensures { result ≡ (at_end || is_some text.entry) }
+{
+    at_end || text.is_some()
+}
+
+/// Whether a new row is left for the cursor to go to.
+fn is_left_below(ends_below: bool, at_end: bool) -> bool
     ensures { result ≡ (ends_below && at_end) }
 {
     ends_below && at_end

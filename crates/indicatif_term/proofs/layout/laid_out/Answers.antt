@@ -1,61 +1,40 @@
-use Rattle.std.proofs.Common.{arith, ◌≡◌, ◌∙◌, refl, sym, ap, subst, Err, length, map, take, List, ◌+◌}
+use Rattle.std.proofs.Common.{arith, ◌≡◌, ◌∙◌, ap, Err, map, take, length, []}
 use Rattle.std.proofs.lemmas.Result.{err_from_is_err_and}
-use Rattle.std.proofs.lemmas.List.{take_all}
-use Rattle.indicatif_term.specs.Frames.{bar_lines, IsSummed, IsLaidOut}
-use Rattle.indicatif_term.specs.Lists.{BarLines, lines_of, shown_rows}
-use Rattle.indicatif_term.specs.declared.layout.Plan.{Plan}
-use Rattle.indicatif_term.proofs.LayingOut.{nothing_laid, lines_step, narrow_step, frame_refused, passing_more, passing_same, planned}
+use Rattle.indicatif_term.specs.Lists.{lines_of}
+use Rattle.indicatif_term.specs.Frames.{bar_lines}
+use Rattle.indicatif_term.proofs.LayingOut.{nothing_laid, still_laid, rest_whole, front_refused, rest_refused, both_planned, both_narrow}
 use Rattle.indicatif_term.proofs.layout.laid_out.Goals as goal
-use Rattle.indicatif_term.proofs.layout.laid_out.Goals.{then-i-pass, else-i-pass}
 
-pub loop-member-init : goal.loop-member-init
-loop-member-init c =
-    let empty = nothing_laid c.args.width c.args.height c.args.pass c.new.result c.new.ensures.items in
-    record { summed = empty.0; counted = refl; narrow = refl; laid_out = empty.1; passing_is = empty.2 }
-
-pub place_member-requires-clause-summed : goal.place_member-requires-clause-summed
-place_member-requires-clause-summed c = c.loop-member.invariant.summed
-
-pub returns-in_err-place_member : goal.returns-in_err-place_member
-returns-in_err-place_member c =
+pub returns-in_err-place_members : goal.returns-in_err-place_members
+returns-in_err-place_members c =
     let x = err_from_is_err_and c.from_residual.result c.from_residual.ensures.1 in
-    frame_refused c.args.width c.args.height c.args.frame.now c.loop-member.member-index c.member-item.result (omega arith) (sym c.member-item.is)
-    (lines_of c.args.width (map bar_lines (take c.loop-member.member-index c.args.frame.now))) c.place_member.new.plan c.args.pass c.in_err-place_member.field-0.0 c.from_residual.result (x.1 ∙ ap Err x.2) (c.in_err-place_member.ensures.placed _ c.loop-member.invariant.laid_out)
+    let empty = nothing_laid c.args.height c.new.result c.new.ensures.items in
+    front_refused c.args.width c.args.height c.args.pass c.min-passing.result c.args.frame.now c.min-passing.ensures c.in_err-place_members.field-0.0 c.from_residual.result (x.1 ∙ ap Err x.2)
+    (c.in_err-place_members.ensures.placed [] empty.1)
 
-pub overflow_add-i : goal.overflow_add-i
-overflow_add-i c = omega (arith, c.loop-member.invariant.counted)
-
-pub loop-member-preserved : goal.loop-member-preserved
-loop-member-preserved c =
-    let i = c.loop-member.member-index in
-    let begun : List BarLines = map bar_lines (take (i + 1) c.args.frame.now) in
-    let placed = c.in_ok-place_member.ensures.placed (lines_of c.args.width (map bar_lines (take i c.args.frame.now))) c.loop-member.invariant.laid_out in
-    let laid : IsLaidOut c.args.height (lines_of c.args.width begun) c.place_member.new.plan =
-    lines_step c.args.width c.args.height c.args.frame.now i c.member-item.result (omega arith) (sym c.member-item.is) c.place_member.new.plan placed.1 in
-    let now = λ (p : Plan). IsSummed c.args.height p × IsLaidOut c.args.height (lines_of c.args.width begun) p × (p.passing ≡ length (shown_rows c.args.width c.args.height (take c.args.pass begun))) in
-    let after : now c.if-i-pass.plan = elim c.if-i-pass.branch [
-      | then-i-pass w ↦ subst now (sym w.plan-is) (passing_more c.args.width c.args.height c.args.frame.now i c.member-item.result (omega arith) (sym c.member-item.is) c.args.pass c.place_member.new.plan w.len.result
-          c.in_ok-place_member.ensures.summed laid (omega (arith, c.loop-member.invariant.counted, w.if-i-pass.true)) (omega (arith, w.len.ensures)))
-      | else-i-pass w ↦ subst now (sym w.plan-is) (
-        c.in_ok-place_member.ensures.summed,
-        laid,
-        passing_same c.args.width c.args.height c.args.frame.now i c.member-item.result (omega arith) (sym c.member-item.is) c.args.pass c.place_member.new.plan 0
-            c.in_ok-place_member.ensures.summed laid (omega (arith, c.loop-member.invariant.counted, w.if-i-pass.false)) (c.place_member.ensures.passing ∙ c.loop-member.invariant.passing_is),
-      )
-    ] in
-    record {
-      summed = after.0;
-      counted = omega (arith, c.loop-member.invariant.counted);
-      narrow = narrow_step c.args.width c.args.height c.args.frame.now i c.member-item.result (omega arith) (sym c.member-item.is) c.loop-member.invariant.narrow placed.0;
-      laid_out = after.1;
-      passing_is = after.2;
-    }
+pub returns-in_err-place_members-2 : goal.returns-in_err-place_members-2
+returns-in_err-place_members-2 c =
+    let x = err_from_is_err_and c.from_residual-in_err-place_members-2.result c.from_residual-in_err-place_members-2.ensures.1 in
+    let k = c.min-passing.result in
+    let empty = nothing_laid c.args.height c.new.result c.new.ensures.items in
+    let front = c.in_ok-place_members.ensures.placed [] empty.1 in
+    let lines = lines_of c.args.width (map bar_lines (take k c.args.frame.now)) in
+    let rest = c.in_err-place_members-2.ensures.placed lines (still_laid c.args.height c.len.result lines c.place_members.new.plan front.1) in
+    rest_refused c.args.width c.args.height c.args.pass k c.args.frame.now c.min-passing.ensures c.in_err-place_members-2.field-0.0 c.from_residual-in_err-place_members-2.result (x.1 ∙ ap Err x.2)
+    (rw (rest_whole k c.args.frame.now) at rest)
 
 pub returns : goal.returns
 returns c =
-    let all : take c.loop-member.member-index c.args.frame.now ≡ c.args.frame.now = take_all c.loop-member.member-index c.args.frame.now (omega arith) in (
+    let k = c.min-passing.result in
+    let frame = c.args.frame.now in
+    let empty = nothing_laid c.args.height c.new.result c.new.ensures.items in
+    let front = c.in_ok-place_members.ensures.placed [] empty.1 in
+    let lines = lines_of c.args.width (map bar_lines (take k frame)) in
+    let laid = c.in_ok-place_members-2.ensures.placed lines (still_laid c.args.height c.len.result lines c.place_members.new.plan front.1) in
+    let rest = rw (rest_whole k frame) at laid in
+    let counted : c.place_members-2.new.plan.passing ≡ length c.place_members.new.plan.segments.items = omega (arith, c.place_members-2.ensures.passing, c.len.ensures) in (
       omega arith,
-      rw all at c.loop-member.invariant.narrow,
-      planned c.args.width c.args.height c.args.pass (map bar_lines c.args.frame.now) c.loop-member.plan (rw all at c.loop-member.invariant.laid_out) (rw all at c.loop-member.invariant.passing_is),
-      c.loop-member.invariant.summed,
+      both_narrow c.args.width c.args.height c.args.pass k frame c.min-passing.ensures front.0 rest.0,
+      both_planned c.args.width c.args.height c.args.pass k frame c.min-passing.ensures c.place_members.new.plan c.place_members-2.new.plan front.1 rest.1 counted,
+      c.in_ok-place_members-2.ensures.summed,
     )

@@ -1,7 +1,8 @@
 use Rattle.std.proofs.Common.{arith, ◌≤◌, ◌∙◌, refl, sym, ap, subst, append-nil, chars, Err, length, [], ◌∷◌}
 use Rattle.std.proofs.lemmas.Result.{err_from_is_err_and}
 use Rattle.std.proofs.lemmas.List.{length-map, take_all}
-use Rattle.indicatif_term.specs.Frames.{bar_lines, line_text, IsLaidOut, IsWithheld}
+use Rattle.indicatif_term.specs.Frames.{bar_lines, line_text}
+use Rattle.indicatif_term.specs.Inside.Plans.{IsLaidOut, IsWithheld}
 use Rattle.indicatif_term.proofs.TerminalSteps.{rows_some}
 use Rattle.indicatif_term.proofs.Measuring.{narrow_more}
 use Rattle.indicatif_term.proofs.LayingOut.{line_placed, member_placed, member_refused, string_at}

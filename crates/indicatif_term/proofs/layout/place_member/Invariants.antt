@@ -1,6 +1,7 @@
 use Rattle.std.proofs.Common.{◌≡◌, ◌++◌, false, List, take}
 use Rattle.indicatif_term.specs.Lists.{BarRows}
-use Rattle.indicatif_term.specs.Frames.{IsSummed, IsLaidOut, bar_lines, some_wide}
+use Rattle.indicatif_term.specs.Frames.{bar_lines, some_wide}
+use Rattle.indicatif_term.specs.Inside.Plans.{IsSummed, IsLaidOut}
 use Rattle.indicatif_term.proofs.ShownRows.{line_segments}
 use Rattle.indicatif_term.proofs.layout.place_member.Given as goal
 

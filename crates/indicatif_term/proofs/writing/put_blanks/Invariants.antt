@@ -1,7 +1,7 @@
 use Rattle.std.proofs.Common.{◌≡◌, [], ◌||◌, take, replicate}
 use Rattle.std.specs.Prelude.{nat_lt}
 use Rattle.indicatif_term.specs.Calls.{LeadsOn}
-use Rattle.indicatif_term.specs.Bytes.{lines_bytes}
+use Rattle.indicatif_term.specs.Inside.Bytes.{lines_bytes}
 use Rattle.indicatif_term.proofs.writing.put_blanks.Given as goal
 
 abbrev pub invariant-loop-i : goal.invariant-loop-i

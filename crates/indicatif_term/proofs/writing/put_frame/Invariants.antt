@@ -1,8 +1,8 @@
 use Rattle.std.proofs.Common.{◌≡◌, ◌-◌, ◌||◌, length, take}
 use Rattle.std.specs.Prelude.{nat_lt}
 use Rattle.indicatif_term.specs.Calls.{LeadsOn}
-use Rattle.indicatif_term.specs.Bytes.{lines_bytes}
-use Rattle.indicatif_term.specs.Frames.{frame_lines}
+use Rattle.indicatif_term.specs.Inside.Bytes.{lines_bytes}
+use Rattle.indicatif_term.specs.Inside.Plans.{frame_lines}
 use Rattle.indicatif_term.proofs.writing.put_frame.Given as goal
 
 abbrev pub invariant-loop-member : goal.invariant-loop-member

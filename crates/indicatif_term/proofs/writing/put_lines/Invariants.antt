@@ -2,7 +2,7 @@ use Rattle.std.proofs.Common.{◌≡◌, ◌||◌, map, take}
 use Rattle.std.specs.Prelude.{nat_lt}
 use Rattle.indicatif_term.specs.Calls.{LeadsOn}
 use Rattle.indicatif_term.specs.Frames.{line_text}
-use Rattle.indicatif_term.specs.Bytes.{lines_bytes}
+use Rattle.indicatif_term.specs.Inside.Bytes.{lines_bytes}
 use Rattle.indicatif_term.proofs.writing.put_lines.Given as goal
 
 abbrev pub invariant-loop-line : goal.invariant-loop-line

@@ -1,6 +1,6 @@
 use Rattle.std.proofs.Common.{[], ◌++◌, ◌-◌, if◌then◌else◌}
 use Rattle.indicatif_term.specs.Calls.{LeadsOn, move_bytes, clear_bytes}
-use Rattle.indicatif_term.specs.Bytes.{rows_back}
+use Rattle.indicatif_term.specs.Inside.Bytes.{rows_back}
 use Rattle.indicatif_term.proofs.writing.take_back.Given as goal
 
 abbrev pub invariant-loop-i : goal.invariant-loop-i

@@ -1,8 +1,8 @@
 use Rattle.std.proofs.Common.{arith, ◌+◌, [], false}
-use Rattle.indicatif_term.specs.Bytes.{paint_bytes}
+use Rattle.indicatif_term.specs.Inside.Bytes.{paint_bytes}
 use Rattle.indicatif_term.specs.Lists.{opening_lists}
 use Rattle.indicatif_term.specs.Engines.{terminal}
-use Rattle.indicatif_term.proofs.Pictured.{repaints_nothing, repaints_by, anew_nothing, anew_by, paint_anew, clear_paints, goes_ok}
+use Rattle.indicatif_term.proofs.Pictured.{repaints_nothing, repaints_by, anew_nothing, anew_by, paint_anew, clear_paints}
 use Rattle.indicatif_term.proofs.draw_target.Engine.clear.Goals as goal
 
 pub returns-then-width-eq0-clause-picture : goal.returns-then-width-eq0-clause-picture
@@ -15,19 +15,15 @@ pub returns-clause-picture : goal.returns-clause-picture
 returns-clause-picture g c = λ l o i.
     let s = g.T.TermLike.view (terminal c.args.self.now) in
     let old = c.args.self.now.counts in
-    rw c.remember.ensures.terminal
-    (repaints_by s (g.T.TermLike.view c.paint-outcome.new.term) c.paint-outcome.result _ l _ (paint_bytes false old.below (old.kept + old.live) [] c.cleared-next.result.below)
-    (rw i at c.paint-outcome.ensures)
-    (goes_ok c.cleared-next.result c.paint-outcome.result c.remember.result c.remember.new.self c.remember.ensures.remembers)
-    (clear_paints s.columns s.rows l old c.cleared-next.result (omega (arith, c.width.ensures)) o (c.cleared-next.ensures l o)))
+    repaints_by s (g.T.TermLike.view (terminal c.repaint.new.self)) c.repaint.result l _ (paint_bytes false old.below (old.kept + old.live) [] c.cleared-next.result.below)
+    (rw i at c.repaint.ensures.writes)
+    (clear_paints s.columns s.rows l old c.cleared-next.result (omega (arith, c.width.ensures)) o (c.cleared-next.ensures l o))
 
 pub returns-clause-anew : goal.returns-clause-anew
 returns-clause-anew g c = λ f.
     let s = g.T.TermLike.view (terminal c.args.self.now) in
     let old = c.args.self.now.counts in
     let o = c.args.self.now.forgets f in
-    rw c.remember.ensures.terminal
-    (anew_by s (g.T.TermLike.view c.paint-outcome.new.term) c.paint-outcome.result _ _ (paint_bytes false old.below (old.kept + old.live) [] c.cleared-next.result.below)
-    (rw (f, paint_anew) at c.paint-outcome.ensures)
-    (goes_ok c.cleared-next.result c.paint-outcome.result c.remember.result c.remember.new.self c.remember.ensures.remembers)
-    (clear_paints s.columns s.rows opening_lists old c.cleared-next.result (omega (arith, c.width.ensures)) o (c.cleared-next.ensures opening_lists o)))
+    anew_by s (g.T.TermLike.view (terminal c.repaint.new.self)) c.repaint.result _ (paint_bytes false old.below (old.kept + old.live) [] c.cleared-next.result.below)
+    (rw (f, paint_anew) at c.repaint.ensures.writes)
+    (clear_paints s.columns s.rows opening_lists old c.cleared-next.result (omega (arith, c.width.ensures)) o (c.cleared-next.ensures opening_lists o))

@@ -1,0 +1,5 @@
+//! Tests that cross crates, with values from outside.
+#![tactic(auto)]
+
+#[cfg(test)]
+mod format;

@@ -1,0 +1,43 @@
+//! The formatters, each written into one `String`.
+use crate::measured::{Measured, Values};
+use anyhow::Result;
+use indicatif_text::format::{HumanBytes, HumanCount, HumanDuration};
+use std::fmt::Display;
+use std::time::Instant;
+
+pub const NAMES: [&str; 3] = ["human_bytes", "human_count", "human_duration"];
+
+/// The measurement of a name, if it is one of this module.
+pub fn run(rt: &HostRuntime, name: &str, count: u64) -> Result<Option<Measured>> {
+    match name {
+        "human_bytes" => Ok(Some(written(rt, count, HumanBytes)?)),
+        "human_count" => Ok(Some(written(rt, count, HumanCount)?)),
+        "human_duration" => Ok(Some(written(rt, count, HumanDuration)?)),
+        _ => Ok(None),
+    }
+}
+
+/// Writes each value into one `String`, which is emptied before.
+fn written<D: Display + Drop, F: Fn(u64) -> D + Drop>(
+    rt: &HostRuntime,
+    count: u64,
+    shown: F,
+) -> Result<Measured>
+    requires { F.IsAlwaysCallable shown }
+{
+    let mut values = Values::new();
+    let mut text = String::new(rt.alloc());
+    let mut bytes: u64 = 0;
+    let start = Instant::now(rt)?;
+    for _ in 0..count {
+        text.clear();
+        text.write(shown(values.next_value()))?;
+        bytes = bytes.wrapping_add(text.len() as u64);
+    }
+    let nanos = start.elapsed(rt)?.as_nanos();
+    Ok(Measured {
+        count,
+        nanos: u64::try_from(nanos).unwrap_or(u64::MAX),
+        bytes,
+    })
+}

@@ -1,0 +1,48 @@
+//! What a measurement tells, and the values that it works on.
+use std::fmt;
+
+/// How long a piece of work took, done so many times.
+#[derive(Clone, Copy, Drop)]
+pub struct Measured {
+    /// How often it was done.
+    pub count: u64,
+    /// The time in nanoseconds.
+    pub nanos: u64,
+    /// The bytes that were written in all, modulo 2^64.
+    pub bytes: u64,
+}
+
+impl fmt::Display for Measured {
+    fn fmt<W: fmt::Write>(&self, f: &mut fmt::Formatter<W>) -> fmt::Result {
+        let seconds = self.nanos / 1_000_000_000;
+        let micros = self.nanos % 1_000_000_000 / 1_000;
+        let tenths = u128::from(self.nanos) * 10 / u128::from(self.count.max(1));
+        let whole = tenths / 10;
+        let tenth = tenths % 10;
+        let bytes = self.bytes;
+        write!(
+            f,
+            "{seconds}.{micros:06} {whole}.{tenth} bytes={bytes}"
+        )
+    }
+}
+
+/// Numbers of all lengths: `x` goes to `x * 6364136223846793005 + 1442695040888963407` modulo 2^64, and gives
+/// `x.rotate_left(17) >> (x >> 58)`.
+#[derive(Clone, Copy, Drop)]
+pub struct Values(u64);
+
+impl Values {
+    pub fn new() -> Values {
+        Values(0x9E37_79B9_7F4A_7C15)
+    }
+
+    pub fn next_value(&mut self) -> u64 {
+        let x = self
+            .0
+            .wrapping_mul(6_364_136_223_846_793_005)
+            .wrapping_add(1_442_695_040_888_963_407);
+        self.0 = x;
+        x.rotate_left(17) >> (x >> 58)
+    }
+}

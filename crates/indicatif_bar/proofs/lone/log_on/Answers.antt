@@ -1,0 +1,53 @@
+use Rattle.std.proofs.Common.{◌≡◌, ℕ, [], false, ◌∷◌, ◌++◌, map, refl, ◌∙◌, ap, Ok, Err}
+use Rattle.std.proofs.lemmas.Result.{err_from_is_err_and}
+use Rattle.indicatif_text.specs.declared.refusal.Refusal.{Refusal}
+use Rattle.indicatif_term.specs.Frames.{bar_lines, all_lines, text_lines, logged_lines}
+use Rattle.indicatif_term.specs.Lists.{BarLines, logged}
+use Rattle.indicatif_term.specs.Engines.{terminal}
+use Rattle.indicatif_bar.specs.Runs.{Log}
+use Rattle.indicatif_bar.proofs.Outcomes.{drawing_of, drew_ok, drew_err, drew_withheld, laid_frame}
+use Rattle.indicatif_bar.proofs.lone.log_on.Goals as goal
+
+pub returns-in_err-frame : goal.returns-in_err-frame
+returns-in_err-frame g c = λ s same lines fits failed.
+    let x = err_from_is_err_and c.from_residual.result c.from_residual.ensures.1 in
+    drew_withheld g.T.TermLike.view (Log c.args.text.now) c.args.now s c.args.engine.now c.args.frame.now c.from_residual.result c.in_err-frame.field-0.0 (x.1 ∙ ap Err x.2)
+    refl c.in_err-frame.ensures.refused lines fits failed
+
+pub returns-in_err-log : goal.returns-in_err-log
+returns-in_err-log g c = λ s same lines fits failed.
+    let old = c.args.engine.now in
+    let new = c.log.new.self in
+    let view = g.T.TermLike.view (terminal old) in
+    let frame = record c.args.frame.now { lines = c.in_ok-frame.field-0 } in
+    let ready = c.in_ok-frame.ensures.lines in
+    let laid = laid_frame c.args.frame.now.bar c.in_ok-frame.field-0 c.args.now view c.args.bar.now s (ap (λ x. x.bar) lines) same ready.1 in
+    let x = err_from_is_err_and c.from_residual-in_err-log.result c.from_residual-in_err-log.ensures.1 in
+    let members = ap (map bar_lines) c.from_ref.ensures.value ∙ ap (λ x. x ∷ []) laid in
+    let e : Refusal = c.in_err-log.field-0.0 in
+    rw (x.1 ∙ ap Err x.2) (drew_err g.T.TermLike.view (Log c.args.text.now) c.args.now s old new frame refl ready.0 fits failed laid e
+    (drawing_of g.T.TermLike.view (Log c.args.text.now) c.args.now s old new frame refl ready.0 fits failed laid (map bar_lines c.from_ref.result.now) (λ m. text_lines (logged_lines c.args.text.now) ++ all_lines m)
+    (λ m. logged view.columns view.rows false (text_lines (logged_lines c.args.text.now)) m s.lists) (Err e) members refl refl (record {
+      lists = c.in_err-log.ensures.lists s.lists fits;
+      answer = c.in_err-log.ensures.answer;
+      count = c.in_err-log.ensures.counted;
+      paint = c.in_err-log.ensures.picture s.lists fits;
+    })))
+
+pub returns : goal.returns
+returns g c = λ s same lines fits failed.
+    let old = c.args.engine.now in
+    let new = c.log.new.self in
+    let view = g.T.TermLike.view (terminal old) in
+    let frame = record c.args.frame.now { lines = c.in_ok-frame.field-0 } in
+    let ready = c.in_ok-frame.ensures.lines in
+    let laid = laid_frame c.args.frame.now.bar c.in_ok-frame.field-0 c.args.now view c.args.bar.now s (ap (λ x. x.bar) lines) same ready.1 in
+    let members = ap (map bar_lines) c.from_ref.ensures.value ∙ ap (λ x. x ∷ []) laid in
+    drew_ok g.T.TermLike.view (Log c.args.text.now) c.args.now s old new frame refl ready.0 fits failed laid
+    (drawing_of g.T.TermLike.view (Log c.args.text.now) c.args.now s old new frame refl ready.0 fits failed laid (map bar_lines c.from_ref.result.now) (λ m. text_lines (logged_lines c.args.text.now) ++ all_lines m)
+    (λ m. logged view.columns view.rows false (text_lines (logged_lines c.args.text.now)) m s.lists) (Ok tt) members refl refl (record {
+      lists = c.in_ok-log.ensures.lists s.lists fits;
+      answer = c.in_ok-log.ensures.answer;
+      count = c.in_ok-log.ensures.counted;
+      paint = c.in_ok-log.ensures.picture s.lists fits;
+    })) refl refl

@@ -1,0 +1,21 @@
+use Rattle.std.proofs.Common.{◌≡◌, ◌∙◌, ◌∷◌, [], ap, sym}
+use Rattle.std.specs.Prelude.{map, option_to_list}
+use Rattle.indicatif_term.specs.Terminal.{Terminal, byte_ops, after}
+use Rattle.indicatif_term.specs.Grids.{op_of}
+use Rattle.indicatif_term.proofs.Fed.{fed_one, fed_none}
+use Rattle.indicatif_term.proofs.in_memory.feeding.Cells.feed_byte.Goals.{in-Some+in_ok-perform-in-Some, in-None}
+use Rattle.indicatif_term.proofs.in_memory.feeding.Cells.feed_byte.Goals as goal
+
+pub returns-clause-fed : goal.returns-clause-fed
+returns-clause-fed c =
+    let t : Terminal = record { screen = c.self.inside.grid; reader = c.self.inside.scanner } in
+    let same = ap (λ u. after u (c.args.byte ∷ [])) c.self.view_is in
+    elim c.match-reading.branch [
+      | in-Some+in_ok-perform-in-Some w ↦
+          let asked : op_of w.in-Some.op ∷ [] ≡ byte_ops t.reader c.args.byte = sym (ap (λ o. map op_of (option_to_list o)) w.in-Some.is) ∙ c.read-reading.ensures.op in
+          fed_one t c.args.byte (op_of w.in-Some.op) _ _ asked (ap (λ i. i.grid) w.self-inside-is ∙ w.in_ok-perform-in-Some.ensures.ok) c.read-reading.ensures.next ∙ same
+      | in-None w ↦
+          let asked : [] ≡ byte_ops t.reader c.args.byte = sym (ap (λ o. map op_of (option_to_list o)) w.in-None.is) ∙ c.read-reading.ensures.op in
+          ap (λ i. let u : Terminal = record { screen = i.grid; reader = c.read-reading.result.next } in u) w.self-inside-is
+          ∙ fed_none t c.args.byte _ asked c.read-reading.ensures.next ∙ same
+    ]

@@ -1,0 +1,7 @@
+use Rattle.std.proofs.Common.{◌≡◌, take, false}
+use Rattle.std.specs.List.{list_any}
+use Rattle.indicatif_term.specs.Pictures.{is_written}
+use Rattle.indicatif_term.proofs.in_memory.row.Row.has_written.Given as goal
+
+abbrev pub invariant-loop-slot : goal.invariant-loop-slot
+invariant-loop-slot l = list_any is_written (take l.slot-index l.slot-items) ≡ false

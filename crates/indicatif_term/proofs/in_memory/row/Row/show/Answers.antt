@@ -1,0 +1,7 @@
+use Rattle.std.proofs.Common.{arith, append-nil, append_assoc}
+use Rattle.std.proofs.lemmas.Grind.{common_steps, flat_map-append}
+use Rattle.std.proofs.lemmas.Str.{encodes-append}
+use Rattle.indicatif_term.proofs.in_memory.row.Row.show.Goals as goal
+
+pub loop-slot-preserved : goal.loop-slot-preserved
+loop-slot-preserved c = grind (arith, common_steps, encodes-append, flat_map-append, append-nil, append_assoc, c.in_ok-show.ensures.shown, c.slot-item.is)

@@ -1,0 +1,6 @@
+use Rattle.std.proofs.Common.{◌≡◌, ◌-◌}
+use Rattle.indicatif_term.specs.Slots.{overwritten, character_cells}
+use Rattle.indicatif_term.proofs.in_memory.row.overwrite.Given as goal
+
+abbrev pub invariant-loop-column : goal.invariant-loop-column
+invariant-loop-column l = l.slots ≡ overwritten l.at (character_cells l.fn.c (l.column - l.at)) l.fn.slots

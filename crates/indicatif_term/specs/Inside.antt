@@ -1,0 +1,5 @@
+-- What only the contracts of private functions cite.
+pub mod Counted
+pub mod Plans
+pub mod Bytes
+pub mod Remembering

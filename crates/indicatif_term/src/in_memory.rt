@@ -1,0 +1,264 @@
+//! A terminal in memory: the cells that bytes lead to.
+//!
+//! - `feeding`: the terminal as a machine over bytes, `Cells`.
+//! - `scanner`: what bytes ask for: characters first, escape sequences next.
+//! - `spelling`: the bytes of a character that isn't whole.
+//! - `grid`: the rows and the cursor, and what each operation does to them.
+//! - `row`: a row of cells, and what writing into it does to its wide characters.
+//! - `slot`: a cell of a row, with the marks joined to it.
+//! - `moves`: the calls as text, and the bytes of a move.
+//!
+//! `InMemoryTerm` is that terminal as a bar's target.
+ghost use Rattle.std.specs.Prelude.{◌≡◌, ◌-◌, ◌++◌, ◌==◌, ◌⊎◌, ◌↔◌, [], if◌then◌else◌, map, codes, IfOk, IsOkAnd, IfErr, OnOk, OnErr, string_bytes};
+ghost use Rattle.std.specs.IoError.{error_kind};
+ghost use Rattle.indicatif_term.specs.Screen.{top};
+ghost use Rattle.indicatif_term.specs.Terminal.{after, blank_terminal};
+ghost use Rattle.indicatif_term.specs.Pictures.{contents_text, picture_text};
+ghost use Rattle.indicatif_term.specs.Calls.{Writes, move_bytes, line_bytes, clear_bytes, UP, DOWN, RIGHT, LEFT};
+ghost use Rattle.indicatif_term.specs.Memory.{view_of, ReadsBeginning, move_text, written_text};
+
+mod feeding;
+mod grid;
+mod moves;
+mod row;
+mod scanner;
+mod slot;
+mod spelling;
+
+use crate::in_memory::moves::{MoveBytes, ended_line, move_line, own_line, text_line};
+use crate::term_like::TermLike;
+pub use feeding::Cells;
+use indicatif_text::refusal::Refusal;
+use std::alloc::Global;
+use std::io::ErrorKind;
+use std::marker::Model;
+use std::{io, mem};
+
+/// A terminal in memory, on which bars can be drawn. It tells its state, and keeps the calls that it was given as
+/// text. Rows that scroll away are kept.
+///
+/// A call that finds no memory fails with an error of kind `OutOfMemory`, counts it in `faults`, and has read a
+/// beginning of its bytes. The memory for the text of a call is taken before the cells change.
+#[derive(Drop)]
+pub struct InMemoryTerm {
+    alloc: Global,
+    cells: Cells,
+    faults: u64,
+    moves: String,
+}
+
+impl Model for InMemoryTerm {
+    ghost use Rattle.indicatif_term.specs.Memory.{MemoryTerm};
+
+    ghost Value = { MemoryTerm };
+
+    ghost use Rattle.std.specs.Prelude.{string_bytes};
+
+    ghost view = { λ t. record { terminal = t.cells; faults = t.faults; moves = string_bytes t.moves } };
+}
+
+impl InMemoryTerm {
+    /// A terminal of `rows` rows and `cols` columns, all blank, the cursor at the front of the first row, no faults and
+    /// no calls.
+    ///
+    /// Refused: `ZeroSize` where `rows` or `cols` is 0, with nothing made; `Memory`.
+    pub fn new(alloc: Global, rows: u16, cols: u16) -> Result<Self, Refusal>
+        ensures blank { IfOk result (λ t. t ≡ record { terminal = blank_terminal rows cols; faults = 0; moves = [] }) }
+        ensures zero_size { (result ≡ Err Refusal.ZeroSize) ↔ ((rows ≡ 0) ⊎ (cols ≡ 0)) }
+        ensures no_other { IfErr result (λ e. (e ≡ Refusal.ZeroSize) ⊎ (e ≡ Refusal.Memory)) }
+    {
+        let cells = Cells::new(alloc, rows, cols)?;
+        Ok(InMemoryTerm {
+            alloc,
+            cells,
+            faults: 0,
+            moves: String::new(alloc),
+        })
+    }
+
+    /// As made anew; `faults` stays. No memory is taken.
+    pub fn reset(&mut self)
+        ensures terminal { self.new.terminal
+            ≡ blank_terminal self.old.terminal.screen.height self.old.terminal.screen.columns }
+        ensures faults { self.new.faults ≡ self.old.faults }
+        ensures moves { self.new.moves ≡ [] }
+    {
+        self.cells.reset();
+        self.moves.clear();
+    }
+
+    /// The window's rows as text, up to the last one with a written cell, each without the blanks at its end (empty
+    /// cells and spaces), joined by line feeds. A space that was written is a written cell. Refused: `Memory`.
+    pub fn contents(&self) -> Result<String, Refusal>
+        ensures contents { IfOk result (λ t. string_bytes t ≡ contents_text self.now.terminal.screen) }
+        ensures refused { IfErr result (λ e. e ≡ Refusal.Memory) }
+    {
+        self.cells.contents()
+    }
+
+    /// The cursor's row, counted from the first of the window, and its column. In the column after the last one it
+    /// waits.
+    pub fn cursor(&self) -> (u16, u16)
+        ensures row { result.0 ≡ self.now.terminal.screen.row - top self.now.terminal.screen }
+        ensures column { result.1 ≡ self.now.terminal.screen.column }
+    {
+        self.cells.cursor()
+    }
+
+    /// The rows that scrolled away, then those of the window, each as text without the blanks at its end: empty cells
+    /// and spaces. Refused: `Memory`.
+    pub fn picture(&self) -> Result<Vec<String>, Refusal>
+        ensures picture { IfOk result (λ v.
+            map (λ t. string_bytes t) v.items ≡ picture_text self.now.terminal.screen) }
+        ensures refused { IfErr result (λ e. e ≡ Refusal.Memory) }
+    {
+        self.cells.picture()
+    }
+
+    /// The calls since the last check, one a line: `Up(n)`, `Down(n)`, `Left(n)`, `Right(n)`, `Str("..")`, `NewLine`,
+    /// `Clear`, `Flush`. `write_line` is `Str` and `NewLine`; a move by 0 is none. No memory is taken.
+    pub fn moves_since_last_check(&mut self) -> String
+        ensures moves { string_bytes result ≡ self.old.moves }
+        ensures after { self.new ≡ record self.old { moves = [] } }
+    {
+        mem::replace(&mut self.moves, String::new(self.alloc))
+    }
+
+    /// Keeps the text of a call, then reads its bytes: `bytes` and `end`.
+    fn play(&mut self, line: Result<String, Refusal>, bytes: &[u8], end: &[u8]) -> io::Result<()>
+        ensures writes { Writes (bytes.now ++ end.now) (view_of self.old) (view_of self.new) result }
+        ensures kept { OnOk result (IsOkAnd line (λ t. self.new.moves ≡ self.old.moves ++ string_bytes t)) }
+        ensures kind { IfErr result (λ e. error_kind e ≡ ErrorKind.OutOfMemory) }
+    {
+        match self.try_play(line, bytes, end) {
+            Ok(()) => Ok(()),
+            Err(_) => {
+                self.faults = self.faults.wrapping_add(1);
+                Err(io::Error::from(ErrorKind::OutOfMemory))
+            }
+        }
+    }
+
+    /// The same, without the count of faults.
+    fn try_play(
+        &mut self,
+        line: Result<String, Refusal>,
+        bytes: &[u8],
+        end: &[u8],
+    ) -> Result<(), Refusal>
+        ensures read { OnOk result (self.new.terminal ≡ after self.old.terminal (bytes.now ++ end.now)) }
+        ensures stopped { OnErr result (ReadsBeginning (bytes.now ++ end.now) self.old.terminal self.new.terminal) }
+        ensures faults { self.new.faults ≡ self.old.faults }
+        ensures kept { OnOk result (IsOkAnd line (λ t. self.new.moves ≡ self.old.moves ++ string_bytes t)) }
+    {
+        let line = line?;
+        self.moves.push_str(&line)?;
+        self.read(bytes)?;
+        self.read(end)
+    }
+
+    /// Reads bytes, and forgets how many where memory is refused.
+    fn read(&mut self, bytes: &[u8]) -> Result<(), Refusal>
+        ensures read { OnOk result (self.new.terminal ≡ after self.old.terminal bytes.now) }
+        ensures stopped { OnErr result (ReadsBeginning bytes.now self.old.terminal self.new.terminal) }
+        ensures faults { self.new.faults ≡ self.old.faults }
+        ensures moves { self.new.moves ≡ self.old.moves }
+    {
+        if let Err((_, refusal)) = self.cells.feed(bytes) {
+            return Err(refusal);
+        }
+        Ok(())
+    }
+}
+
+impl TermLike for InMemoryTerm {
+    ghost view = { view_of };
+
+    fn width(&self) -> u16 {
+        self.cells.columns()
+    }
+
+    fn height(&self) -> u16 {
+        self.cells.height()
+    }
+
+    fn faults(&self) -> u64 {
+        self.faults
+    }
+
+    fn move_cursor_up(&mut self, n: usize) -> io::Result<()>
+        ensures writes { Writes (move_bytes UP n) (view_of self.old) (view_of self.new) result }
+        ensures kept { OnOk result (self.new.moves ≡ self.old.moves ++ (if n == 0 then [] else move_text (codes "Up") n)) }
+    {
+        if n == 0 {
+            return Ok(());
+        }
+        let line = move_line(self.alloc, "Up", n);
+        self.play(line, MoveBytes::new(b'A', n).as_slice(), b"")
+    }
+
+    fn move_cursor_down(&mut self, n: usize) -> io::Result<()>
+        ensures writes { Writes (move_bytes DOWN n) (view_of self.old) (view_of self.new) result }
+        ensures kept { OnOk result (self.new.moves ≡ self.old.moves ++ (if n == 0 then [] else move_text (codes "Down") n)) }
+    {
+        if n == 0 {
+            return Ok(());
+        }
+        let line = move_line(self.alloc, "Down", n);
+        self.play(line, MoveBytes::new(b'B', n).as_slice(), b"")
+    }
+
+    fn move_cursor_right(&mut self, n: usize) -> io::Result<()>
+        ensures writes { Writes (move_bytes RIGHT n) (view_of self.old) (view_of self.new) result }
+        ensures kept { OnOk result (self.new.moves ≡ self.old.moves ++ (if n == 0 then [] else move_text (codes "Right") n)) }
+    {
+        if n == 0 {
+            return Ok(());
+        }
+        let line = move_line(self.alloc, "Right", n);
+        self.play(line, MoveBytes::new(b'C', n).as_slice(), b"")
+    }
+
+    fn move_cursor_left(&mut self, n: usize) -> io::Result<()>
+        ensures writes { Writes (move_bytes LEFT n) (view_of self.old) (view_of self.new) result }
+        ensures kept { OnOk result (self.new.moves ≡ self.old.moves ++ (if n == 0 then [] else move_text (codes "Left") n)) }
+    {
+        if n == 0 {
+            return Ok(());
+        }
+        let line = move_line(self.alloc, "Left", n);
+        self.play(line, MoveBytes::new(b'D', n).as_slice(), b"")
+    }
+
+    fn write_line(&mut self, s: &str) -> io::Result<()>
+        ensures writes { Writes (line_bytes s.now) (view_of self.old) (view_of self.new) result }
+        ensures kept { OnOk result (self.new.moves ≡ self.old.moves ++ written_text s.now ++ codes "NewLine\n") }
+    {
+        let line = ended_line(self.alloc, s);
+        self.play(line, s.as_bytes(), b"\r\n")
+    }
+
+    fn write_str(&mut self, s: &str) -> io::Result<()>
+        ensures writes { Writes s.now (view_of self.old) (view_of self.new) result }
+        ensures kept { OnOk result (self.new.moves ≡ self.old.moves ++ written_text s.now) }
+    {
+        let line = text_line(self.alloc, s);
+        self.play(line, s.as_bytes(), b"")
+    }
+
+    fn clear_line(&mut self) -> io::Result<()>
+        ensures writes { Writes clear_bytes (view_of self.old) (view_of self.new) result }
+        ensures kept { OnOk result (self.new.moves ≡ self.old.moves ++ codes "Clear\n") }
+    {
+        let line = own_line(self.alloc, "Clear\n");
+        self.play(line, b"\r\x1B[2K", b"")
+    }
+
+    fn flush(&mut self) -> io::Result<()>
+        ensures writes { Writes [] (view_of self.old) (view_of self.new) result }
+        ensures kept { OnOk result (self.new.moves ≡ self.old.moves ++ codes "Flush\n") }
+    {
+        let line = own_line(self.alloc, "Flush\n");
+        self.play(line, b"", b"")
+    }
+}

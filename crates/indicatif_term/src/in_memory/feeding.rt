@@ -1,0 +1,130 @@
+//! The cell terminal: a machine over bytes.
+ghost use Rattle.std.specs.Prelude.{◌≡◌, ◌∷◌, [], ◌⊎◌, ◌↔◌, ◌-◌, ◌<◌, take, map, length, IfOk, IfErr, OnOk, OnErr, string_bytes};
+ghost use Rattle.indicatif_term.specs.Screen.{top};
+ghost use Rattle.indicatif_term.specs.Terminal.{after, blank_terminal};
+ghost use Rattle.indicatif_term.specs.Pictures.{contents_text, picture_text};
+
+use crate::in_memory::grid::Grid;
+use crate::in_memory::scanner::Scanner;
+use indicatif_text::refusal::Refusal;
+use std::alloc::Global;
+use std::marker::Model;
+
+/// A terminal of cells, which is fed bytes: UTF-8 first, escape sequences (ECMA-48) next. What can't be understood
+/// changes nothing. Contracts see its screen, and what it has read of a character and of a sequence.
+///
+/// Rows that scroll away are kept, so memory grows with them.
+#[derive(Drop)]
+pub struct Cells {
+    grid: Grid,
+    scanner: Scanner,
+}
+
+impl Model for Cells {
+    ghost use Rattle.indicatif_term.specs.Terminal.{Terminal};
+
+    ghost Value = { Terminal };
+
+    ghost view = { λ c. record { screen = c.grid; reader = c.scanner } };
+}
+
+impl Cells {
+    /// A terminal of `rows` rows and `cols` columns, all blank, the cursor at the front of the first row.
+    ///
+    /// Refused: `ZeroSize` where `rows` or `cols` is 0, which is tested before memory is taken; `Memory`.
+    pub fn new(alloc: Global, rows: u16, cols: u16) -> Result<Self, Refusal>
+        ensures blank { IfOk result (λ c. c ≡ blank_terminal rows cols) }
+        ensures zero_size { (result ≡ Err Refusal.ZeroSize) ↔ ((rows ≡ 0) ⊎ (cols ≡ 0)) }
+        ensures no_other { IfErr result (λ e. (e ≡ Refusal.ZeroSize) ⊎ (e ≡ Refusal.Memory)) }
+    {
+        if rows == 0 || cols == 0 {
+            return Err(Refusal::ZeroSize);
+        }
+        let grid = Grid::new(alloc, rows, cols)?;
+        Ok(Cells {
+            grid,
+            scanner: Scanner::new(),
+        })
+    }
+
+    /// Reads these bytes. Any cut of the same bytes gives the same cells.
+    ///
+    /// Refused: `Memory`, with how many bytes were read; the terminal is the one after these.
+    pub fn feed(&mut self, bytes: &[u8]) -> Result<(), (usize, Refusal)>
+        ensures fed { OnOk result (self.new ≡ after self.old bytes.now) }
+        ensures stopped { IfErr result (λ e. self.new ≡ after self.old (take e.0 bytes.now)) }
+        ensures within { IfErr result (λ e. e.0 < length bytes.now) }
+        ensures refused { IfErr result (λ e. e.1 ≡ Refusal.Memory) }
+    {
+        for (read, byte) in bytes.iter().enumerate() {
+            if let Err(refusal) = self.feed_byte(*byte) {
+                return Err((read, refusal));
+            }
+        }
+        Ok(())
+    }
+
+    /// Reads a byte. Refused: `Memory`; all is unchanged then.
+    fn feed_byte(&mut self, byte: u8) -> Result<(), Refusal>
+        ensures fed { OnOk result (self.new ≡ after self.old (byte ∷ [])) }
+        ensures err { OnErr result (self.new ≡ self.old) }
+        ensures refused { IfErr result (λ e. e ≡ Refusal.Memory) }
+    {
+        let reading = self.scanner.read(byte);
+        match reading.op {
+            Some(op) => self.grid.perform(op)?,
+            None => {}
+        }
+        self.scanner = reading.next;
+        Ok(())
+    }
+
+    /// The cursor's row, counted from the first of the window, and its column. In the column after the last one it
+    /// waits.
+    pub fn cursor(&self) -> (u16, u16)
+        ensures row { result.0 ≡ self.now.screen.row - top self.now.screen }
+        ensures column { result.1 ≡ self.now.screen.column }
+    {
+        self.grid.cursor()
+    }
+
+    /// The rows that scrolled away, then those of the window, each as text without the blanks at its end: empty cells
+    /// and spaces. Refused: `Memory`.
+    pub fn picture(&self) -> Result<Vec<String>, Refusal>
+        ensures picture { IfOk result (λ v. map (λ t. string_bytes t) v.items ≡ picture_text self.now.screen) }
+        ensures refused { IfErr result (λ e. e ≡ Refusal.Memory) }
+    {
+        self.grid.picture()
+    }
+
+    /// The window's rows as text, up to the last one with a written cell, each without the blanks at its end, joined
+    /// by line feeds. Refused: `Memory`.
+    pub(crate) fn contents(&self) -> Result<String, Refusal>
+        ensures contents { IfOk result (λ t. string_bytes t ≡ contents_text self.now.screen) }
+        ensures refused { IfErr result (λ e. e ≡ Refusal.Memory) }
+    {
+        self.grid.contents()
+    }
+
+    /// As made anew, with no memory taken.
+    pub(crate) fn reset(&mut self)
+        ensures { self.new ≡ blank_terminal self.old.screen.height self.old.screen.columns }
+    {
+        self.grid.reset();
+        self.scanner = Scanner::new();
+    }
+
+    /// Columns.
+    pub(crate) fn columns(&self) -> u16
+        ensures { result ≡ self.now.screen.columns }
+    {
+        self.grid.columns()
+    }
+
+    /// Rows of the window.
+    pub(crate) fn height(&self) -> u16
+        ensures { result ≡ self.now.screen.height }
+    {
+        self.grid.height()
+    }
+}

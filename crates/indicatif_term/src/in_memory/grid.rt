@@ -1,0 +1,327 @@
+//! The rows of a terminal, and its cursor: what each operation does to them.
+ghost use Rattle.std.specs.Prelude.{◌≡◌, ℕ, ◌+◌, ◌-◌, ◌<◌, ◌≤◌, [], false, IfOk, IfErr, OnOk, OnErr, length, take, replicate, slice_index_or, string_bytes, map};
+ghost use Rattle.std.specs.List.{join_with_byte};
+ghost use Rattle.indicatif_text.specs.Columns.{blank_row};
+ghost use Rattle.indicatif_term.specs.Screen.{Put, Return, Up, Down, Right, Left, EmptyRow, performed, blank_screen, line_feed, put_wide, put_mark, put_here, top};
+ghost use Rattle.indicatif_term.specs.Pictures.{contents_text, picture_text, row_text, written_rows};
+ghost use Rattle.indicatif_term.specs.Grids.{op_of};
+ghost use Rattle.unicode_width.specs.Width.{char_width};
+
+use crate::in_memory::row::Row;
+use indicatif_text::refusal::Refusal;
+use std::alloc::Global;
+use std::marker::Model;
+use unicode_width::UnicodeWidthChar;
+
+/// What a terminal does.
+#[derive(Clone, Copy, Drop)]
+pub(crate) enum Op {
+    /// Shows a character at the cursor.
+    Put(char),
+    /// To the front of the row.
+    Return,
+    /// One row down.
+    LineFeed,
+    /// This many rows up, to the first row of the window at most.
+    Up(u16),
+    /// This many rows down, to the last row of the window at most.
+    Down(u16),
+    /// This many columns right, to the last column at most; a waiting cursor stays.
+    Right(u16),
+    /// This many columns left, to the first column at most.
+    Left(u16),
+    /// Empties the cursor's row.
+    EmptyRow,
+}
+
+/// The rows that scrolled away, those of the window, and the cursor.
+#[derive(Drop)]
+pub(crate) struct Grid {
+    alloc: Global,
+    columns: u16,
+    height: u16,
+    rows: Vec<Row>,
+    row: usize,
+    column: u16,
+}
+
+impl Model for Grid {
+    ghost use Rattle.indicatif_term.specs.Screen.{Screen};
+
+    ghost Value = { Screen };
+
+    ghost use Rattle.indicatif_term.specs.Grids.{screen_of, IsSound};
+
+    ghost view = { screen_of };
+
+    ghost invariant = { IsSound };
+}
+
+impl Grid {
+    /// Blank rows, the cursor at the front of the first. Refused: `ZeroSize` where there would be no row or no column,
+    /// and `Memory`.
+    pub(crate) fn new(alloc: Global, height: u16, columns: u16) -> Result<Grid, Refusal>
+        requires rows { 0 < height }
+        requires columns { 0 < columns }
+        ensures blank { IfOk result (λ g. g ≡ blank_screen height columns) }
+        ensures refused { IfErr result (λ e. e ≡ Refusal.Memory) }
+    {
+        let mut rows = Vec::with_capacity(alloc, usize::from(height))?;
+        for _row in 0..height {
+            rows.push(Row::blank(alloc, columns)?)?;
+        }
+        Ok(Grid {
+            alloc,
+            columns,
+            height,
+            rows,
+            row: 0,
+            column: 0,
+        })
+    }
+
+    /// Columns.
+    pub(crate) fn columns(&self) -> u16
+        ensures { result ≡ self.now.columns }
+    {
+        self.columns
+    }
+
+    /// Rows of the window.
+    pub(crate) fn height(&self) -> u16
+        ensures { result ≡ self.now.height }
+    {
+        self.height
+    }
+
+    /// The cursor's row, counted from the first of the window, and its column; in the column after the last it waits.
+    pub(crate) fn cursor(&self) -> (u16, u16)
+        ensures row { result.0 ≡ self.now.row - top self.now }
+        ensures column { result.1 ≡ self.now.column }
+    {
+        let top = self.rows.len() - usize::from(self.height);
+        ((self.row - top) as u16, self.column)
+    }
+
+    /// The texts of all rows. Refused: `Memory`.
+    pub(crate) fn picture(&self) -> Result<Vec<String>, Refusal>
+        ensures picture { IfOk result (λ v. map (λ t. string_bytes t) v.items ≡ picture_text self.now) }
+        ensures refused { IfErr result (λ e. e ≡ Refusal.Memory) }
+    {
+        texts_of(self.alloc, &self.rows)
+    }
+
+    /// The texts of the window's rows up to the last one with a written cell, joined by line feeds. Refused: `Memory`.
+    pub(crate) fn contents(&self) -> Result<String, Refusal>
+        ensures contents { IfOk result (λ t. string_bytes t ≡ contents_text self.now) }
+        ensures refused { IfErr result (λ e. e ≡ Refusal.Memory) }
+    {
+        let top = self.rows.len() - usize::from(self.height);
+        let window = &self.rows[top..];
+        let mut text = String::new(self.alloc);
+        show_joined(&window[..written_length(window)], &mut text)?;
+        Ok(text)
+    }
+
+    /// As made anew, with no memory taken: the rows that scrolled away are given up, the others emptied.
+    pub(crate) fn reset(&mut self)
+        ensures { self.new ≡ blank_screen self.old.height self.old.columns }
+    {
+        self.rows.truncate(usize::from(self.height));
+        empty_rows(&mut self.rows, self.columns);
+        self.row = 0;
+        self.column = 0;
+    }
+
+    /// Carries out an operation. Refused: `Memory`; all is unchanged then.
+    pub(crate) fn perform(&mut self, op: Op) -> Result<(), Refusal>
+        ensures ok { OnOk result (self.new ≡ performed (op_of op) self.old) }
+        ensures err { OnErr result (self.new ≡ self.old) }
+        ensures refused { IfErr result (λ e. e ≡ Refusal.Memory) }
+    {
+        match op {
+            Op::Put(c) => return self.put(c),
+            Op::LineFeed => return self.feed_line(),
+            Op::Return => self.go_to_front(),
+            Op::Up(rows) => self.go_up(rows),
+            Op::Down(rows) => self.go_down(rows),
+            Op::Right(columns) => self.go_right(columns),
+            Op::Left(columns) => self.go_left(columns),
+            Op::EmptyRow => self.empty_row(),
+        }
+        Ok(())
+    }
+
+    /// To the front of the row.
+    fn go_to_front(&mut self)
+        ensures { self.new ≡ performed Return self.old }
+    {
+        self.column = 0;
+    }
+
+    /// This many rows up, to the first row of the window at most.
+    fn go_up(&mut self, rows: u16)
+        ensures { self.new ≡ performed (Up rows) self.old }
+    {
+        let top = self.rows.len() - usize::from(self.height);
+        self.row = self.row.saturating_sub(usize::from(rows)).max(top);
+    }
+
+    /// This many rows down, to the last row of the window at most.
+    fn go_down(&mut self, rows: u16)
+        ensures { self.new ≡ performed (Down rows) self.old }
+    {
+        let room = self.rows.len() - 1 - self.row;
+        self.row += usize::from(rows).min(room);
+    }
+
+    /// This many columns right, to the last column at most; a waiting cursor stays.
+    fn go_right(&mut self, columns: u16)
+        ensures { self.new ≡ performed (Right columns) self.old }
+    {
+        if self.column < self.columns {
+            let room = self.columns - 1 - self.column;
+            self.column += columns.min(room);
+        }
+    }
+
+    /// This many columns left, to the first column at most.
+    fn go_left(&mut self, columns: u16)
+        ensures { self.new ≡ performed (Left columns) self.old }
+    {
+        self.column = self.column.saturating_sub(columns);
+    }
+
+    /// Empties the cursor's row.
+    fn empty_row(&mut self)
+        ensures { self.new ≡ performed EmptyRow self.old }
+    {
+        let row = &mut self.rows[self.row];
+        row.empty();
+    }
+
+    /// One row down; after the last row comes a blank one. Refused: `Memory`; all is unchanged then.
+    fn feed_line(&mut self) -> Result<(), Refusal>
+        ensures ok { OnOk result (self.new ≡ line_feed self.old) }
+        ensures err { OnErr result (self.new ≡ self.old) }
+        ensures refused { IfErr result (λ e. e ≡ Refusal.Memory) }
+    {
+        if self.row + 1 == self.rows.len() {
+            let row = Row::blank(self.alloc, self.columns)?;
+            self.rows.push(row)?;
+        }
+        self.row += 1;
+        Ok(())
+    }
+
+    /// Shows a character at the cursor. Refused: `Memory`; all is unchanged then.
+    fn put(&mut self, c: char) -> Result<(), Refusal>
+        ensures ok { OnOk result (self.new ≡ performed (Put c) self.old) }
+        ensures err { OnErr result (self.new ≡ self.old) }
+        ensures refused { IfErr result (λ e. e ≡ Refusal.Memory) }
+    {
+        match c.width() {
+            None => Ok(()),
+            Some(0) => self.put_mark(c),
+            Some(columns) => self.put_wide(c, columns),
+        }
+    }
+
+    /// Joins a mark to the character before the cursor, if there is one. Refused: `Memory`; all is unchanged then.
+    fn put_mark(&mut self, mark: char) -> Result<(), Refusal>
+        ensures ok { OnOk result (self.new ≡ put_mark mark self.old) }
+        ensures err { OnErr result (self.new ≡ self.old) }
+        ensures refused { IfErr result (λ e. e ≡ Refusal.Memory) }
+    {
+        let at = usize::from(self.column);
+        let row = &mut self.rows[self.row];
+        row.join(self.alloc, at, mark)
+    }
+
+    /// Shows a character of this many columns. Refused: `Memory`; all is unchanged then.
+    fn put_wide(&mut self, c: char, columns: usize) -> Result<(), Refusal>
+        requires some { 0 < columns }
+        requires columns { char_width false c ≡ Some columns }
+        ensures ok { OnOk result (self.new ≡ put_wide c columns self.old) }
+        ensures err { OnErr result (self.new ≡ self.old) }
+        ensures refused { IfErr result (λ e. e ≡ Refusal.Memory) }
+    {
+        let all = usize::from(self.columns);
+        if columns > all {
+            return Ok(());
+        }
+        if usize::from(self.column) + columns > all {
+            self.feed_line()?;
+            self.go_to_front();
+        }
+        self.put_here(c, columns);
+        Ok(())
+    }
+
+    /// Shows a character of this many columns, which fits into the row.
+    fn put_here(&mut self, c: char, columns: usize)
+        requires some { 0 < columns }
+        requires columns { char_width false c ≡ Some columns }
+        requires fits { self.old.column + columns ≤ self.old.columns }
+        ensures { self.new ≡ put_here (record { base = c; marks = [] }) columns self.old }
+    {
+        let at = usize::from(self.column);
+        let row = &mut self.rows[self.row];
+        row.write(at, c, columns);
+        self.column += columns as u16;
+    }
+}
+
+/// The texts of rows. Refused: `Memory`.
+fn texts_of(alloc: Global, rows: &[Row]) -> Result<Vec<String>, Refusal>
+    ensures texts { IfOk result (λ v. map (λ t. string_bytes t) v.items ≡ map row_text rows.now) }
+    ensures refused { IfErr result (λ e. e ≡ Refusal.Memory) }
+{
+    let mut texts = Vec::with_capacity(alloc, rows.len())?;
+    for row in rows {
+        let mut text = String::new(alloc);
+        row.show(&mut text)?;
+        texts.push(text)?;
+    }
+    Ok(texts)
+}
+
+/// How many rows there are up to the last one with a written cell.
+fn written_length(rows: &[Row]) -> usize
+    ensures within { result ≤ length rows.now }
+    ensures written { take result rows.now ≡ written_rows rows.now }
+{
+    let mut written = rows.len();
+    while written > 0 {
+        if rows[written - 1].has_written() {
+            return written;
+        }
+        written -= 1;
+    }
+    0
+}
+
+/// Appends the texts of rows to `out`, a line feed between each two. Refused: `Memory`.
+fn show_joined(rows: &[Row], out: &mut String) -> Result<(), Refusal>
+    requires { string_bytes out.old ≡ [] }
+    ensures shown { OnOk result (string_bytes out.new ≡ join_with_byte 0x0A (map row_text rows.now)) }
+    ensures refused { IfErr result (λ e. e ≡ Refusal.Memory) }
+{
+    for (place, row) in rows.iter().enumerate() {
+        if place > 0 {
+            out.push('\n')?;
+        }
+        row.show(out)?;
+    }
+    Ok(())
+}
+
+/// Empties each cell of rows that have this many.
+fn empty_rows(rows: &mut [Row], columns: u16)
+    requires { (k : ℕ) → k < length rows.old → length (slice_index_or rows.old k []) ≡ columns }
+    ensures { rows.new ≡ replicate (length rows.old) (blank_row columns) }
+{
+    for row in rows.iter_mut() {
+        row.empty();
+    }
+}

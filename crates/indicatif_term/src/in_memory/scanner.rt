@@ -1,0 +1,177 @@
+//! What bytes ask of a terminal: characters first, escape sequences next.
+ghost use Rattle.std.specs.Prelude.{◌≡◌, ◌<◌, [], map, length, option_to_list};
+ghost use Rattle.indicatif_text.specs.Columns.{is_parameter};
+ghost use Rattle.indicatif_term.specs.Terminal.{idle, byte_ops, byte_reader, char_ops, char_place, plain_ops, plain_place, sequence_ops, number_with, at_least_one, is_digit};
+ghost use Rattle.indicatif_term.specs.Grids.{op_of};
+ghost use Rattle.indicatif_term.specs.Scanners.{place_of};
+
+use crate::in_memory::grid::Op;
+use crate::in_memory::spelling::Spelling;
+use std::marker::Model;
+
+/// Where in an escape sequence the next character stands.
+#[derive(Clone, Copy, Drop)]
+pub(crate) enum Stage {
+    /// Outside.
+    Outside,
+    /// After ESC.
+    AfterEscape,
+    /// After ESC `[` and the digits of this number, at most 65,535; none after a semicolon.
+    InSequence(Option<u16>),
+}
+
+impl Stage {
+    /// What a character asks for.
+    pub(crate) fn op(self, c: char) -> Option<Op>
+        ensures { map op_of (option_to_list result) ≡ char_ops (place_of self) c }
+    {
+        match self {
+            Stage::Outside => plain_op(c),
+            Stage::AfterEscape => { if c == '[' { None } else { plain_op(c) } }
+            Stage::InSequence(number) => {
+                if is_parameter(c) {
+                    None
+                } else {
+                    sequence_op(number, c)
+                }
+            }
+        }
+    }
+
+    /// Where the character after this one stands.
+    pub(crate) fn after(self, c: char) -> Stage
+        ensures { place_of result ≡ char_place (place_of self) c }
+    {
+        match self {
+            Stage::Outside => plain_stage(c),
+            Stage::AfterEscape => {
+                if c == '[' {
+                    Stage::InSequence(Some(0))
+                } else {
+                    plain_stage(c)
+                }
+            }
+            Stage::InSequence(number) => {
+                if is_parameter(c) {
+                    Stage::InSequence(number_with(number, c))
+                } else {
+                    Stage::Outside
+                }
+            }
+        }
+    }
+}
+
+/// What a character outside a sequence asks for.
+fn plain_op(c: char) -> Option<Op>
+    ensures { map op_of (option_to_list result) ≡ plain_ops c }
+{
+    match c {
+        '\u{1B}' => None,
+        '\r' => Some(Op::Return),
+        '\n' => Some(Op::LineFeed),
+        _ => Some(Op::Put(c)),
+    }
+}
+
+/// Where the character after one outside a sequence stands.
+fn plain_stage(c: char) -> Stage
+    ensures { place_of result ≡ plain_place c }
+{
+    if c == '\u{1B}' {
+        Stage::AfterEscape
+    } else {
+        Stage::Outside
+    }
+}
+
+/// Whether a character is a digit or a semicolon.
+fn is_parameter(c: char) -> bool
+    ensures { result ≡ is_parameter c }
+{
+    c.is_ascii_digit() || c == ';'
+}
+
+/// A number with one more digit, at most 65,535; none with a semicolon.
+fn number_with(number: Option<u16>, c: char) -> Option<u16>
+    ensures { result ≡ number_with number c }
+{
+    match number {
+        Some(n) if c.is_ascii_digit() => {
+            let more = u32::from(n) * 10 + (c as u32 - '0' as u32);
+            Some(more.min(65535) as u16)
+        }
+        _ => None,
+    }
+}
+
+/// What the sequence with this number and this last character asks for.
+fn sequence_op(number: Option<u16>, c: char) -> Option<Op>
+    ensures { map op_of (option_to_list result) ≡ sequence_ops number c }
+{
+    let n = number?;
+    let count = if n == 0 { 1 } else { n };
+    match c {
+        'A' => Some(Op::Up(count)),
+        'B' => Some(Op::Down(count)),
+        'C' => Some(Op::Right(count)),
+        'D' => Some(Op::Left(count)),
+        'K' if n == 2 => Some(Op::EmptyRow),
+        _ => None,
+    }
+}
+
+/// What a byte asks for, and the scanner after it.
+#[derive(Drop)]
+pub(crate) struct Reading {
+    pub(crate) op: Option<Op>,
+    pub(crate) next: Scanner,
+}
+
+/// What was read of a character and of a sequence.
+#[derive(Drop)]
+pub(crate) struct Scanner {
+    stage: Stage,
+    spelling: Spelling,
+}
+
+impl Model for Scanner {
+    ghost use Rattle.std.specs.Prelude.{◌<◌, length};
+    ghost use Rattle.indicatif_term.specs.Terminal.{Reader};
+
+    ghost Value = { Reader };
+
+    ghost use Rattle.indicatif_term.specs.Scanners.{place_of};
+
+    ghost view = { λ s. record { place = place_of s.stage; spelling = s.spelling } };
+
+    ghost invariant = { λ s. length s.spelling < 4 };
+}
+
+impl Scanner {
+    /// Nothing was read.
+    pub(crate) fn new() -> Scanner
+        ensures { result ≡ idle }
+    {
+        Scanner {
+            stage: Stage::Outside,
+            spelling: Spelling::empty(),
+        }
+    }
+
+    /// What a byte asks for, and the scanner after it.
+    pub(crate) fn read(&self, byte: u8) -> Reading
+        ensures op { map op_of (option_to_list result.op) ≡ byte_ops self.now byte }
+        ensures next { result.next ≡ byte_reader self.now byte }
+    {
+        let spelling = self.spelling.with(byte);
+        let (op, stage, spelling) = match spelling.character() {
+            Some(c) => (self.stage.op(c), self.stage.after(c), Spelling::empty()),
+            None => (None, self.stage, spelling.kept()),
+        };
+        Reading {
+            op,
+            next: Scanner { stage, spelling },
+        }
+    }
+}

@@ -1,0 +1,194 @@
+-- Words of styles: as bytes and as characters, and gathered one by one.
+use Rattle.std.proofs.Common.{◌≡◌, ℕ, zero, suc, ◌+◌, ◌<◌, ◌≤◌, inl, inr, Bool, true, false, List, [], ◌∷◌, ◌++◌, length, drop, take, refl, sym, ◌∙◌, ap, subst, arith, eqb, Option, Some, None, append-nil, append_assoc, length-append}
+use Rattle.std.specs.Fmt.{digits}
+use Rattle.std.proofs.lemmas.Grind.{flat_map-append}
+use Rattle.std.specs.Prelude.{◌||◌, ◌&&◌, ◌==◌, cond, not, nat_lt, chars, bytes_eq, codes, IsUtf8, IsAscii, option_map, option_to_list, filter_map, position, if◌then◌else◌, take_while, flat_map}
+use Rattle.std.specs.List.{last_or, cons_option, list_all, list_any, slice_split, onto_first, prefix_len}
+use Rattle.std.proofs.Math.Utf8.{encode, encodes}
+use Rattle.std.proofs.lemmas.Bool.{cases_Bool, false≢true, ltb-true}
+use Rattle.std.proofs.lemmas.Bool.Decides.{same_from_decides}
+use Rattle.std.proofs.lemmas.Slice.Eq.{bytes_eq-Decides}
+use Rattle.std.proofs.lemmas.Str.{encodes-chars, encodes-IsAscii, chars-IsAscii}
+use Rattle.indicatif_text.specs.declared.style_words.Style.{Style}
+use Rattle.indicatif_text.specs.Styles.{style_of, style_words, is_word_char, has_word, number_if, attributes_of, numbers_of, sequence_of, styled, foreground_number, background_number, foreground_of, background_of, colour_words, background_words}
+use Rattle.indicatif_text.specs.Template.{after_run}
+
+-- ---- a word as bytes and as characters
+
+abbrev pub is_ascii_text : List ℕ → Bool
+is_ascii_text name = list_all (λ b. nat_lt b 128) name
+
+both_true : (a b : Bool) → (a && b) ≡ true → (a ≡ true) × (b ≡ true)
+both_true true b e = (refl, e)
+both_true false b e = absurd (false≢true e)
+
+ascii : (name : List ℕ) → is_ascii_text name ≡ true → IsAscii name
+ascii [] e i = omega arith
+ascii (b ∷ bs) e zero = let h : b < 128 = ltb-true b 128 (both_true (nat_lt b 128) (is_ascii_text bs) e).0 in h
+ascii (b ∷ bs) e (suc i) = ascii bs (both_true (nat_lt b 128) (is_ascii_text bs) e).1 i
+
+module _ (bs name : List ℕ) (u : IsUtf8 bs) (e : is_ascii_text name ≡ true) where
+  chars_name : bs ≡ name → chars bs ≡ name
+  chars_name same = ap chars same ∙ chars-IsAscii name (ascii name e)
+
+  bytes_name : chars bs ≡ name → bs ≡ name
+  bytes_name same = sym (encodes-chars bs u) ∙ ap encodes same ∙ encodes-IsAscii name (ascii name e)
+
+  -- a word is a name as characters where it is one as bytes
+  pub same_word : bytes_eq bs name ≡ bytes_eq (chars bs) name
+  same_word =
+      let by_bytes = bytes_eq-Decides bs name in
+      let by_chars = bytes_eq-Decides (chars bs) name in
+      same_from_decides (bytes_eq bs name) (bytes_eq (chars bs) name) by_bytes ((λ t. bytes_name (by_chars.0 t)), (λ h. by_chars.1 (chars_name h)))
+
+  pub other_word : (bs ≡ name → ⊥) → bytes_eq (chars bs) name ≡ false
+  other_word other = elim (cases_Bool (bytes_eq (chars bs) name)) [ | inl same ↦ absurd (other (bytes_name ((bytes_eq-Decides (chars bs) name).0 same))) | inr differs ↦ differs ]
+
+-- ---- words gathered one by one
+
+-- a style with a further word
+pub record Adds (s : Style) (word : List ℕ) (t : Style) : Type 0 where
+  pub foreground : foreground_number t ≡ last_or (foreground_number s) (option_to_list (foreground_of word))
+  pub background : background_number t ≡ last_or (background_number s) (option_to_list (background_of word))
+  pub bold : t.bold ≡ (s.bold || bytes_eq word (codes "bold"))
+  pub dim : t.dim ≡ (s.dim || bytes_eq word (codes "dim"))
+  pub underlined : t.underlined ≡ (s.underlined || bytes_eq word (codes "underlined"))
+  pub blink : t.blink ≡ (s.blink || bytes_eq word (codes "blink"))
+  pub reverse : t.reverse ≡ (s.reverse || bytes_eq word (codes "reverse"))
+  pub hidden : t.hidden ≡ (s.hidden || bytes_eq word (codes "hidden"))
+
+-- a style of some words, where the others are left
+pub record Gathers (all : List (List ℕ)) (s : Style) (left : List (List ℕ)) : Type 0 where
+  pub foreground : last_or None (filter_map foreground_of all) ≡ last_or (foreground_number s) (filter_map foreground_of left)
+  pub background : last_or None (filter_map background_of all) ≡ last_or (background_number s) (filter_map background_of left)
+  pub bold : has_word all (codes "bold") ≡ (s.bold || has_word left (codes "bold"))
+  pub dim : has_word all (codes "dim") ≡ (s.dim || has_word left (codes "dim"))
+  pub underlined : has_word all (codes "underlined") ≡ (s.underlined || has_word left (codes "underlined"))
+  pub blink : has_word all (codes "blink") ≡ (s.blink || has_word left (codes "blink"))
+  pub reverse : has_word all (codes "reverse") ≡ (s.reverse || has_word left (codes "reverse"))
+  pub hidden : has_word all (codes "hidden") ≡ (s.hidden || has_word left (codes "hidden"))
+
+last_more : (o p : Option ℕ) (xs : List ℕ) → last_or o (cons_option p xs) ≡ last_or (last_or o (option_to_list p)) xs
+last_more o None xs = refl
+last_more o (Some x) xs = refl
+
+or_more : (s t b h : Bool) → t ≡ (s || b) → (s || (b || h)) ≡ (t || h)
+or_more true t b h e = ap (λ x. x || h) (sym e)
+or_more false t b h e = ap (λ x. x || h) (sym e)
+
+or_false : (b : Bool) → (b || false) ≡ b
+or_false true = refl
+or_false false = refl
+
+gathers_more : (all : List (List ℕ)) (s t : Style) (word : List ℕ) (left : List (List ℕ)) → Gathers all s (word ∷ left) → Adds s word t → Gathers all t left
+gathers_more all s t word left g a = record {
+  foreground = g.foreground ∙ last_more (foreground_number s) (foreground_of word) (filter_map foreground_of left) ∙ ap (λ o. last_or o (filter_map foreground_of left)) (sym a.foreground);
+  background = g.background ∙ last_more (background_number s) (background_of word) (filter_map background_of left) ∙ ap (λ o. last_or o (filter_map background_of left)) (sym a.background);
+  bold = g.bold ∙ or_more s.bold t.bold _ (has_word left (codes "bold")) a.bold;
+  dim = g.dim ∙ or_more s.dim t.dim _ (has_word left (codes "dim")) a.dim;
+  underlined = g.underlined ∙ or_more s.underlined t.underlined _ (has_word left (codes "underlined")) a.underlined;
+  blink = g.blink ∙ or_more s.blink t.blink _ (has_word left (codes "blink")) a.blink;
+  reverse = g.reverse ∙ or_more s.reverse t.reverse _ (has_word left (codes "reverse")) a.reverse;
+  hidden = g.hidden ∙ or_more s.hidden t.hidden _ (has_word left (codes "hidden")) a.hidden;
+}
+
+-- the words after the first one
+abbrev pub words_left : List ℕ → List (List ℕ)
+words_left [] = []
+words_left (c ∷ cs) = style_words cs
+
+words_front : (cs : List ℕ) → style_words cs ≡ take_while is_word_char cs ∷ words_left (after_run is_word_char cs)
+words_front [] = refl
+words_front (c ∷ cs) = elim (cases_Bool (eqb c 0x2E)) [
+  | inl dot ↦ rw dot refl
+  | inr other ↦
+      let one : 1 + prefix_len is_word_char cs ≡ suc (prefix_len is_word_char cs) = omega arith in
+      rw (other, one) (ap (onto_first c) (words_front cs))
+]
+
+pub gathers_word : (all : List (List ℕ)) (s t : Style) (text word rest : List ℕ) → Gathers all s (style_words text) → word ≡ take_while is_word_char text → rest ≡ after_run is_word_char text →
+    Adds s word t → Gathers all t (words_left rest)
+gathers_word all s t text word rest g w r a =
+    let parts : style_words text ≡ word ∷ words_left rest = words_front text ∙ cc (w, r) in
+    gathers_more all s t word (words_left rest) (subst (Gathers all s) parts g) a
+
+pub gathers_all : (text : List ℕ) (s : Style) (rest : List ℕ) → rest ≡ [] → Gathers (style_words text) s (words_left rest) → numbers_of s ≡ style_of text
+unfolding numbers_of style_of
+gathers_all text s rest e h =
+    let g : Gathers (style_words text) s [] = subst (λ r. Gathers (style_words text) s (words_left r)) e h in
+    let bold : has_word (style_words text) (codes "bold") ≡ s.bold = g.bold ∙ or_false s.bold in
+    let dim : has_word (style_words text) (codes "dim") ≡ s.dim = g.dim ∙ or_false s.dim in
+    let underlined : has_word (style_words text) (codes "underlined") ≡ s.underlined = g.underlined ∙ or_false s.underlined in
+    let blink : has_word (style_words text) (codes "blink") ≡ s.blink = g.blink ∙ or_false s.blink in
+    let reverse : has_word (style_words text) (codes "reverse") ≡ s.reverse = g.reverse ∙ or_false s.reverse in
+    let hidden : has_word (style_words text) (codes "hidden") ≡ s.hidden = g.hidden ∙ or_false s.hidden in
+    let foreground : last_or None (filter_map foreground_of (style_words text)) ≡ foreground_number s = g.foreground in
+    let background : last_or None (filter_map background_of (style_words text)) ≡ background_number s = g.background in
+    rw (foreground, background, bold, dim, underlined, blink, reverse, hidden) refl
+
+-- the style of no words
+abbrev pub plain : Style
+plain = record { foreground = None; background = None; bold = false; dim = false; underlined = false; blink = false; reverse = false; hidden = false }
+
+-- ---- what a style writes
+
+-- the sequences of a style, one by one
+pub sequences_are : (s : Style) →
+    flat_map sequence_of (numbers_of s)
+    ≡ flat_map sequence_of (option_to_list (foreground_number s)) ++ (flat_map sequence_of (option_to_list (background_number s))
+    ++ (flat_map sequence_of (number_if s.bold 1) ++ (flat_map sequence_of (number_if s.dim 2) ++ (flat_map sequence_of (number_if s.underlined 4)
+    ++ (flat_map sequence_of (number_if s.blink 5) ++ (flat_map sequence_of (number_if s.reverse 7) ++ flat_map sequence_of (number_if s.hidden 8)))))))
+unfolding numbers_of
+sequences_are s = simp (flat_map-append, append-nil, append_assoc)
+
+pub sequence_set : (set : Bool) (number : ℕ) (bytes : List ℕ) → bytes ≡ sequence_of number → (if set then bytes else []) ≡ flat_map sequence_of (number_if set number)
+sequence_set true number bytes e = e ∙ sym (append-nil (sequence_of number))
+sequence_set false number bytes e = refl
+
+-- a style with a number, round a text
+pub styled_some : (numbers text : List ℕ) → 0 < length (flat_map sequence_of numbers) → styled true numbers text ≡ flat_map sequence_of numbers ++ text ++ sequence_of 0
+styled_some [] text some = absurd (omega (arith, some))
+styled_some (n ∷ ns) text some = refl
+
+-- a style with none
+pub styled_none : (numbers text : List ℕ) → length (flat_map sequence_of numbers) ≡ 0 → flat_map sequence_of numbers ++ text ≡ styled true numbers text
+styled_none [] text none = refl
+styled_none (n ∷ ns) text none = absurd (omega (arith, none))
+
+pub last_sequence : (0x1B ∷ codes "[0m") ≡ sequence_of 0
+unfolding digits
+last_sequence = refl
+
+pub bold_sequence : (0x1B ∷ codes "[1m") ≡ sequence_of 1
+unfolding digits
+bold_sequence = refl
+
+pub dim_sequence : (0x1B ∷ codes "[2m") ≡ sequence_of 2
+unfolding digits
+dim_sequence = refl
+
+pub underlined_sequence : (0x1B ∷ codes "[4m") ≡ sequence_of 4
+unfolding digits
+underlined_sequence = refl
+
+pub blink_sequence : (0x1B ∷ codes "[5m") ≡ sequence_of 5
+unfolding digits
+blink_sequence = refl
+
+pub reverse_sequence : (0x1B ∷ codes "[7m") ≡ sequence_of 7
+unfolding digits
+reverse_sequence = refl
+
+pub hidden_sequence : (0x1B ∷ codes "[8m") ≡ sequence_of 8
+unfolding digits
+hidden_sequence = refl
+
+pub regrouped : (o a b c d e f g h : List ℕ) → (((((((o ++ a) ++ b) ++ c) ++ d) ++ e) ++ f) ++ g) ++ h ≡ o ++ (a ++ (b ++ (c ++ (d ++ (e ++ (f ++ (g ++ h)))))))
+regrouped o a b c d e f g h = simp append_assoc
+
+pub regrouped_length : (a b c d e f g h : List ℕ) →
+    length (a ++ (b ++ (c ++ (d ++ (e ++ (f ++ (g ++ h))))))) ≡ length a + (length b + (length c + (length d + (length e + (length f + (length g + length h))))))
+regrouped_length a b c d e f g h = simp length-append
+
+pub regrouped_ends : (o a b c : List ℕ) → ((o ++ a) ++ b) ++ c ≡ o ++ (a ++ b ++ c)
+regrouped_ends o a b c = simp append_assoc

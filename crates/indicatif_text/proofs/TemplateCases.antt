@@ -1,0 +1,46 @@
+-- The worked cases of the grammar, read piece by piece.
+use Rattle.std.proofs.Common.{◌≡◌, ℕ, List, refl}
+use Rattle.indicatif_text.specs.Parts.{TemplatePart}
+use Rattle.indicatif_text.specs.Template.{Piece, front, Reads, end, piece, here, Parses, parts_of, with_alternative, with_style, with_width, with_options}
+use Rattle.indicatif_text.specs.Styles.{style_of}
+use Rattle.indicatif_text.specs.TemplateRows.{Templates}
+
+parses_by : {text : List ℕ} {parts : List TemplatePart} {pieces : List Piece} → Reads text pieces → parts_of pieces ≡ parts → Parses text parts
+parses_by {pieces} reads makes = record { pieces = pieces; reads = reads; makes = makes }
+
+pub templates : Templates
+unfolding front parts_of style_of with_alternative with_style with_width with_options
+templates = (
+  parses_by (piece refl (piece refl (piece refl end))) refl,
+  parses_by (piece refl (piece refl (piece refl end))) refl,
+  parses_by (piece refl end) refl,
+  parses_by (piece refl end) refl,
+  here refl,
+  here refl,
+  here refl,
+  parses_by (piece refl end) refl,
+  parses_by (piece refl (piece refl (piece refl end))) refl,
+  parses_by (piece refl (piece refl (piece refl (piece refl (piece refl end))))) refl,
+  parses_by (piece refl (piece refl (piece refl (piece refl (piece refl end))))) refl,
+  parses_by (piece refl (piece refl (piece refl end))) refl,
+  parses_by (piece refl (piece refl (piece refl (piece refl end)))) refl,
+  parses_by (piece refl end) refl,
+  here refl,
+  parses_by (piece refl end) refl,
+  parses_by (piece refl end) refl,
+  here refl,
+  here refl,
+  here refl,
+  here refl,
+  here refl,
+  here refl,
+  here refl,
+  here refl,
+  parses_by (piece refl end) refl,
+  parses_by (piece refl end) refl,
+  parses_by (piece refl end) refl,
+  parses_by (piece refl end) refl,
+  parses_by (piece refl end) refl,
+  parses_by (piece refl end) refl,
+  parses_by (piece refl (piece refl (piece refl (piece refl (piece refl (piece refl end)))))) refl,
+)

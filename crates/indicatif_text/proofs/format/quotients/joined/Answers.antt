@@ -1,0 +1,25 @@
+use Rattle.std.proofs.Common.{◌≡◌, ◌≤◌, ◌∷◌, [], length, ap, sym, ◌∙◌, arith, append-nil}
+use Rattle.indicatif_text.specs.Format.{human_count, after_point}
+use Rattle.indicatif_text.proofs.Counts.{length-count}
+use Rattle.indicatif_text.proofs.Quotients.{behind_point, nothing_behind, not_empty, empty, length-behind}
+use Rattle.indicatif_text.proofs.format.quotients.joined.Goals as goal
+use Rattle.indicatif_text.proofs.format.quotients.joined.Goals.{then-not-is_empty, else-not-is_empty}
+
+pub prepend_wide_count-requires : goal.prepend_wide_count-requires
+prepend_wide_count-requires c =
+    let whole = length-count 39 c.args.whole (omega arith) (omega arith) (omega arith) in
+    let behind : c.if-not-is_empty.text ≡ after_point c.args.decimals.now = elim c.if-not-is_empty.branch [
+      | then-not-is_empty w ↦ w.text-is ∙ w.prepend.ensures ∙ ap (λ ds. 46 ∷ ds) (w.prepend_bytes.ensures ∙ rw c.new-text.ensures (append-nil c.args.decimals.now))
+          ∙ behind_point c.args.decimals.now (not_empty (length c.args.decimals.now) (sym c.is_empty.ensures ∙ w.if-not-is_empty.true))
+      | else-not-is_empty w ↦ w.text-is ∙ c.new-text.ensures ∙ nothing_behind c.args.decimals.now (empty (length c.args.decimals.now) (sym c.is_empty.ensures ∙ w.if-not-is_empty.false))
+    ] in
+    omega (arith, whole, ap length behind, length-behind c.args.decimals.now, c.requires.short)
+
+pub returns : goal.returns
+returns c =
+    let behind : c.if-not-is_empty.text ≡ after_point c.args.decimals.now = elim c.if-not-is_empty.branch [
+      | then-not-is_empty w ↦ w.text-is ∙ w.prepend.ensures ∙ ap (λ ds. 46 ∷ ds) (w.prepend_bytes.ensures ∙ rw c.new-text.ensures (append-nil c.args.decimals.now))
+          ∙ behind_point c.args.decimals.now (not_empty (length c.args.decimals.now) (sym c.is_empty.ensures ∙ w.if-not-is_empty.true))
+      | else-not-is_empty w ↦ w.text-is ∙ c.new-text.ensures ∙ nothing_behind c.args.decimals.now (empty (length c.args.decimals.now) (sym c.is_empty.ensures ∙ w.if-not-is_empty.false))
+    ] in
+    rw behind at c.prepend_wide_count.ensures

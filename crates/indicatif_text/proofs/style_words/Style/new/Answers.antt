@@ -1,0 +1,7 @@
+use Rattle.std.proofs.Common.{refl}
+use Rattle.indicatif_text.specs.Styles.{numbers_of}
+use Rattle.indicatif_text.proofs.style_words.Style.new.Goals as goal
+
+pub returns : goal.returns
+unfolding numbers_of
+returns c = refl

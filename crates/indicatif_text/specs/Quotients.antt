@@ -1,0 +1,14 @@
+-- What long division finds, for the functions behind `HumanFloatCount`.
+use Rattle.std.specs.Prelude.{ℕ, ◌+◌, ◌*◌, ◌/◌, ◌%◌, ◌^◌, Bool, if◌then◌else◌}
+
+-- num / den at so many decimals, rounded down
+unfoldable pub below : ℕ → ℕ → ℕ → ℕ
+below num den places = num * 10 ^ places / den
+
+-- and what is left of it
+unfoldable pub left_over : ℕ → ℕ → ℕ → ℕ
+left_over num den places = num * 10 ^ places % den
+
+-- the number, or the next one
+abbrev pub raised : Bool → ℕ → ℕ
+raised up n = if up then n + 1 else n

@@ -1,0 +1,178 @@
+//! Numbers as texts for people: durations, bytes and counts.
+//!
+//! Each value is exact: quotients are of whole numbers and rounded once, to nearest. To print one takes no memory, and is
+//! one write; the options of a hole, as a width, change nothing.
+ghost use Rattle.std.specs.Prelude.{◌≡◌, ◌<◌, ◌++◌, ◌↔◌, Some, IfSome, OnOk, OnErr, IfErr};
+ghost use Rattle.std.specs.String.{string_bytes};
+ghost use Rattle.indicatif_text.specs.Format.{formatted_duration, human_duration, short_duration, binary_bytes, decimal_bytes, human_count, Quotient, human_float_count};
+
+mod bytes;
+mod cases;
+mod durations;
+mod quotients;
+mod rounding;
+mod short_text;
+
+use crate::refusal::Refusal;
+use short_text::ShortText;
+use std::fmt;
+use std::marker::Model;
+
+/// A duration in nanoseconds, as hours, minutes and seconds of two digits, `HH:MM:SS`, after `Dd ` where there are D
+/// whole days. What is less than a second is left out.
+#[derive(Clone, Copy, Debug, Drop, PartialEq, Eq)]
+pub struct FormattedDuration(pub u64);
+
+impl fmt::Display for FormattedDuration {
+    ghost output = { λ duration. Some (formatted_duration duration.0) };
+
+    ghost styled_output = { λ duration _. Some (formatted_duration duration.0) };
+
+    fn fmt<W: fmt::Write>(&self, f: &mut fmt::Formatter<W>) -> fmt::Result {
+        f.write_str(durations::formatted_text(self.0).as_str())
+    }
+}
+
+/// A duration in nanoseconds, as so many years (of 365 days), weeks, days, hours, minutes or seconds.
+///
+/// The unit is the first of which the duration, with half of the next smaller unit, is at least one and a half; or else
+/// seconds. The count is rounded to nearest, a half up, and is at least 2 but for seconds: `89 seconds`, `2 minutes`.
+#[derive(Clone, Copy, Debug, Drop, PartialEq, Eq)]
+pub struct HumanDuration(pub u64);
+
+impl fmt::Display for HumanDuration {
+    ghost output = { λ duration. Some (human_duration duration.0) };
+
+    ghost styled_output = { λ duration _. Some (human_duration duration.0) };
+
+    fn fmt<W: fmt::Write>(&self, f: &mut fmt::Formatter<W>) -> fmt::Result {
+        f.write_str(durations::words_text(self.0).as_str())
+    }
+}
+
+impl HumanDuration {
+    /// Appends the short form to `out`: the count and the unit's first letter, as `89s`.
+    ///
+    /// Refused: `Memory`, and then `out` is as before.
+    pub fn write_short(&self, out: &mut String) -> Result<(), Refusal>
+        ensures written { OnOk result (string_bytes out.new ≡ string_bytes out.old ++ short_duration self.now.0) }
+        ensures unchanged { OnErr result (string_bytes out.new ≡ string_bytes out.old) }
+        ensures memory { IfErr result (λ e. e ≡ Refusal.Memory) }
+    {
+        out.push_str(durations::letter_text(self.0).as_str())?;
+        Ok(())
+    }
+}
+
+/// A number of bytes by powers of 1024: below that `n B`, else two decimals and the greatest prefix of `Ki`, `Mi`, `Gi`,
+/// `Ti`, `Pi` and `Ei` that leaves at least 1, chosen before rounding. The quotient is rounded to nearest, ties to even.
+#[derive(Clone, Copy, Debug, Drop, PartialEq, Eq)]
+pub struct HumanBytes(pub u64);
+
+impl fmt::Display for HumanBytes {
+    ghost output = { λ bytes. Some (binary_bytes bytes.0) };
+
+    ghost styled_output = { λ bytes _. Some (binary_bytes bytes.0) };
+
+    fn fmt<W: fmt::Write>(&self, f: &mut fmt::Formatter<W>) -> fmt::Result {
+        f.write_str(bytes::binary_text(self.0).as_str())
+    }
+}
+
+/// A number of bytes by powers of 1000: below that `n B`, else two decimals and the greatest prefix of `k`, `M`, `G`, `T`,
+/// `P` and `E` that leaves at least 1, chosen before rounding. The quotient is rounded to nearest, ties to even.
+#[derive(Clone, Copy, Debug, Drop, PartialEq, Eq)]
+pub struct DecimalBytes(pub u64);
+
+impl fmt::Display for DecimalBytes {
+    ghost output = { λ bytes. Some (decimal_bytes bytes.0) };
+
+    ghost styled_output = { λ bytes _. Some (decimal_bytes bytes.0) };
+
+    fn fmt<W: fmt::Write>(&self, f: &mut fmt::Formatter<W>) -> fmt::Result {
+        f.write_str(bytes::decimal_text(self.0).as_str())
+    }
+}
+
+/// A number of bytes by powers of 1024, as `HumanBytes` writes it.
+#[derive(Clone, Copy, Debug, Drop, PartialEq, Eq)]
+pub struct BinaryBytes(pub u64);
+
+impl fmt::Display for BinaryBytes {
+    ghost output = { λ bytes. Some (binary_bytes bytes.0) };
+
+    ghost styled_output = { λ bytes _. Some (binary_bytes bytes.0) };
+
+    fn fmt<W: fmt::Write>(&self, f: &mut fmt::Formatter<W>) -> fmt::Result {
+        f.write_str(bytes::binary_text(self.0).as_str())
+    }
+}
+
+/// A count as its decimal numeral, with a comma before every third digit from the right except at the front.
+#[derive(Clone, Copy, Debug, Drop, PartialEq, Eq)]
+pub struct HumanCount(pub u64);
+
+impl fmt::Display for HumanCount {
+    ghost output = { λ count. Some (human_count count.0) };
+
+    ghost styled_output = { λ count _. Some (human_count count.0) };
+
+    fn fmt<W: fmt::Write>(&self, f: &mut fmt::Formatter<W>) -> fmt::Result {
+        let mut text = ShortText::new();
+        text.prepend_count(self.0);
+        f.write_str(text.as_str())
+    }
+}
+
+/// A quotient of whole numbers, rounded at four decimals: to nearest, ties to even. The whole part has commas as
+/// `HumanCount`; zeros at the end are dropped, and so is the point if nothing follows it.
+#[derive(Debug, Drop)]
+pub struct HumanFloatCount {
+    num: u128,
+    den: u64,
+}
+
+/// A count is its quotient.
+impl Model for HumanFloatCount {
+    ghost Value = { Quotient };
+
+    ghost view = { λ count. record { num = count.num; den = count.den } };
+
+    ghost invariant = { λ count. 0 < count.den };
+}
+
+impl fmt::Display for HumanFloatCount {
+    ghost output = { λ count. Some (human_float_count count.num count.den 4) };
+
+    ghost styled_output = { λ count _. Some (human_float_count count.num count.den 4) };
+
+    fn fmt<W: fmt::Write>(&self, f: &mut fmt::Formatter<W>) -> fmt::Result {
+        f.write_str(quotients::four_decimals_text(self.num, self.den).as_str())
+    }
+}
+
+impl HumanFloatCount {
+    /// The quotient `num / den`; none exactly if `den` is 0.
+    pub fn new(num: u128, den: u64) -> Option<HumanFloatCount>
+        ensures none { (result ≡ None) ↔ (den ≡ 0) }
+        ensures quotient { IfSome result (λ count. (count.num ≡ num) × (count.den ≡ den)) }
+    {
+        if den == 0 {
+            return None;
+        }
+        Some(HumanFloatCount { num, den })
+    }
+
+    /// Appends the quotient to `out`, rounded at so many decimals in place of four.
+    ///
+    /// Refused: `Memory`, and then `out` is as before.
+    pub fn with_decimals(&self, decimals: u16, out: &mut String) -> Result<(), Refusal>
+        ensures written { OnOk result (string_bytes out.new
+            ≡ string_bytes out.old ++ human_float_count self.now.num self.now.den decimals) }
+        ensures unchanged { OnErr result (string_bytes out.new ≡ string_bytes out.old) }
+        ensures memory { IfErr result (λ e. e ≡ Refusal.Memory) }
+    {
+        quotients::push_text(self.num, self.den, decimals, out)?;
+        Ok(())
+    }
+}

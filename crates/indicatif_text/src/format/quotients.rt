@@ -1,0 +1,182 @@
+//! Quotients with decimals, by long division.
+ghost use Rattle.std.specs.Prelude.{◌≡◌, ◌≢◌, ◌+◌, ◌*◌, ◌/◌, ◌%◌, ◌<◌, ◌≤◌, ◌++◌, ◌⊎◌, length, true, if◌then◌else◌, IsAscii, OnOk, OnErr};
+ghost use Rattle.std.specs.String.{string_bytes};
+ghost use Rattle.indicatif_text.specs.Format.{last_digits, after_point, human_count, human_float_count};
+ghost use Rattle.indicatif_text.specs.Quotients.{below, raised};
+
+use crate::format::rounding::rounds_up;
+use crate::format::short_text::{ShortText, ascii_text};
+use std::alloc::AllocError;
+
+/// A long division: what is left after each decimal.
+#[derive(Drop)]
+struct LongDivision {
+    rest: u64,
+    den: u64,
+    ghost proper: { rest < den },
+}
+
+impl LongDivision {
+    /// The division behind the point.
+    fn new(num: u128, den: u64) -> LongDivision
+        requires { 0 < den }
+        ensures rest { result.rest ≡ num % den }
+        ensures den { result.den ≡ den }
+    {
+        LongDivision {
+            rest: (num % u128::from(den)) as u64,
+            den,
+        }
+    }
+
+    /// The next decimal.
+    #[inline(always)]
+    fn next_digit(&mut self) -> u8
+        ensures digit { result ≡ self.old.rest * 10 / self.old.den }
+        ensures small { result < 10 }
+        ensures rest { self.new.rest ≡ self.old.rest * 10 % self.old.den }
+        ensures den { self.new.den ≡ self.old.den }
+    {
+        let den = self.den;
+        if self.rest <= u64::MAX / 10 {
+            let tenfold = self.rest * 10;
+            self.rest = tenfold % den;
+            return (tenfold / den) as u8;
+        }
+        let tenfold = u128::from(self.rest) * 10;
+        let wide_den = u128::from(den);
+        self.rest = (tenfold % wide_den) as u64;
+        (tenfold / wide_den) as u8
+    }
+}
+
+/// A quotient rounded at some decimals, to nearest, ties to even.
+#[derive(Clone, Copy, Drop)]
+pub(crate) struct Rounded {
+    /// What stands before the point.
+    pub(crate) whole: u128,
+    /// How many decimals stand behind it, without the zeros at the end.
+    pub(crate) kept: u16,
+    /// Whether the last of them is one more than the division gives; without decimals, whether `whole` is.
+    pub(crate) up: bool,
+}
+
+impl Rounded {
+    /// One pass over the decimals: the last that is no zero ends a number that isn't raised, the last that is no nine one
+    /// that is.
+    pub(crate) fn of(num: u128, den: u64, decimals: u16) -> Rounded
+        requires { 0 < den }
+        ensures kept { result.kept ≤ decimals }
+        ensures text { human_float_count num den decimals ≡ human_count result.whole
+            ++ after_point (last_digits result.kept (raised result.up (below num den result.kept))) }
+        ensures no_carry { result.up ≡ true → (result.kept ≡ 0) ⊎ (below num den result.kept % 10 < 9) }
+    {
+        let whole = num / u128::from(den);
+        let mut division = LongDivision::new(num, den);
+        let mut odd = whole % 2 == 1;
+        let mut nonzero: u16 = 0;
+        let mut not_nine: u16 = 0;
+        for place in 0..decimals {
+            let digit = division.next_digit();
+            nonzero = last_place(digit == 0, nonzero, place + 1);
+            not_nine = last_place(digit == 9, not_nine, place + 1);
+            odd = digit % 2 == 1;
+        }
+        if !rounds_up(odd, division.rest, den) {
+            return Rounded {
+                whole,
+                kept: nonzero,
+                up: false,
+            };
+        }
+        if not_nine == 0 {
+            return Rounded {
+                whole: whole + 1,
+                kept: 0,
+                up: true,
+            };
+        }
+        Rounded {
+            whole,
+            kept: not_nine,
+            up: true,
+        }
+    }
+}
+
+/// The last place so far that counts: `place`, unless its digit is passed over.
+#[inline(always)]
+fn last_place(is_passed_over: bool, before: u16, place: u16) -> u16
+    ensures { result ≡ (if is_passed_over then before else place) }
+{
+    if is_passed_over { before } else { place }
+}
+
+/// Fills `out` with the first decimals of a quotient, the last of them raised by one if `up`.
+pub(crate) fn fill_decimals(num: u128, den: u64, up: bool, out: &mut [u8])
+    requires den { 0 < den }
+    requires no_carry { up ≡ true → (length out.old ≡ 0) ⊎ (below num den (length out.old) % 10 < 9) }
+    ensures { out.new ≡ last_digits (length out.old) (raised up (below num den (length out.old))) }
+{
+    let mut division = LongDivision::new(num, den);
+    for digit in out.iter_mut() {
+        *digit = b'0' + division.next_digit();
+    }
+    if up && !out.is_empty() {
+        let last = out.len() - 1;
+        out[last] += 1;
+    }
+}
+
+/// The text of a quotient at four decimals.
+pub(crate) fn four_decimals_text(num: u128, den: u64) -> ShortText
+    requires { 0 < den }
+    ensures { result ≡ human_float_count num den 4 }
+{
+    let rounded = Rounded::of(num, den, 4);
+    let mut digits = [0u8; 4];
+    let decimals = &mut digits[..rounded.kept as usize];
+    fill_decimals(num, den, rounded.up, decimals);
+    joined(rounded.whole, decimals)
+}
+
+/// What stands before the point, and what stands behind it.
+fn joined(whole: u128, decimals: &[u8]) -> ShortText
+    requires short { length decimals.now ≤ 4 }
+    requires ascii { IsAscii decimals.now }
+    ensures { result ≡ human_count whole ++ after_point decimals.now }
+{
+    let mut text = ShortText::new();
+    if !decimals.is_empty() {
+        text.prepend_bytes(decimals);
+        text.prepend(b'.');
+    }
+    text.prepend_wide_count(whole);
+    text
+}
+
+/// Appends the text of a quotient at so many decimals. All memory comes first, so that a refusal leaves `out` as before.
+pub(crate) fn push_text(
+    num: u128,
+    den: u64,
+    decimals: u16,
+    out: &mut String,
+) -> Result<(), AllocError>
+    requires { 0 < den }
+    ensures written { OnOk result (string_bytes out.new ≡ string_bytes out.old ++ human_float_count num den decimals) }
+    ensures unchanged { OnErr result (string_bytes out.new ≡ string_bytes out.old) }
+{
+    let rounded = Rounded::of(num, den, decimals);
+    let mut whole = ShortText::new();
+    whole.prepend_wide_count(rounded.whole);
+    let kept = rounded.kept as usize;
+    if kept == 0 {
+        return out.push_str(whole.as_str());
+    }
+    let mut digits = vec![in *out.allocator(); 0u8; kept]?;
+    fill_decimals(num, den, rounded.up, digits.as_mut_slice());
+    out.reserve(whole.as_str().len() + 1 + kept)?;
+    out.push_str(whole.as_str())?;
+    out.push('.')?;
+    out.push_str(ascii_text(digits.as_slice()))
+}
