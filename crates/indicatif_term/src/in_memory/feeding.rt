@@ -99,7 +99,7 @@ impl Cells {
 
     /// The window's rows as text, up to the last one with a written cell, each without the blanks at its end, joined
     /// by line feeds. Refused: `Memory`.
-    pub(crate) fn contents(&self) -> Result<String, Refusal>
+    pub fn contents(&self) -> Result<String, Refusal>
         ensures contents { IfOk result (λ t. string_bytes t ≡ contents_text self.now.screen) }
         ensures refused { IfErr result (λ e. e ≡ Refusal.Memory) }
     {
