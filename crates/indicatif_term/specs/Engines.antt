@@ -12,6 +12,7 @@ use Rattle.indicatif_term.specs.declared.draw_target.Engine.{Engine}
 use Rattle.indicatif_term.specs.declared.draw_target.MultiProgressAlignment.{MultiProgressAlignment}
 use Rattle.indicatif_term.specs.declared.draw_target.MultiProgressAlignment.TheVariants.{Top, Bottom}
 
+-- whether bars stand at the bottom
 abbrev pub is_bottom : MultiProgressAlignment → Bool
 is_bottom Top = false
 is_bottom Bottom = true

@@ -7,11 +7,11 @@
 //! - `worked`: worked cases of the definitions.
 #![tactic(auto)]
 
-pub mod counts;
+mod counts;
 pub mod draw_target;
-pub mod layout;
+mod layout;
 pub mod lines;
-pub mod settle;
+mod settle;
 pub mod term_like;
 pub mod worked;
-pub mod writing;
+mod writing;
