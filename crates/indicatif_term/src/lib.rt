@@ -10,15 +10,15 @@
 //! - `term`: a terminal behind a writer of bytes.
 #![tactic(auto)]
 
-pub mod counts;
+mod counts;
 pub mod draw_target;
 pub mod in_memory;
 pub mod laws;
-pub mod layout;
+mod layout;
 pub mod lines;
-pub mod settle;
+mod settle;
 pub mod target;
 pub mod term;
 pub mod term_like;
 pub mod worked;
-pub mod writing;
+mod writing;
