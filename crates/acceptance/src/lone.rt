@@ -22,11 +22,7 @@ fn bar_below(
     }
     let mut state = BarState::new(alloc);
     state.set_message(message, 0)?;
-    Ok(LoneBar::new(
-        alloc,
-        state,
-        ProgressDrawTarget::term_like(term),
-    ))
+    Ok(LoneBar::new(alloc, state, ProgressDrawTarget::term_like(term)))
 }
 
 /// What stands in the window.
@@ -137,7 +133,10 @@ fn the_bytes_of_a_bar_and_a_log(rt: HostRuntime) -> Result<(), Fail> {
     for byte in term.writer() {
         assert!(rt; single.feed(&[*byte]).is_ok());
     }
-    assert_eq!(rt; joined(rt.alloc(), single.picture()?)?.as_str(), "l\nab\n\n");
+    assert_eq!(rt;
+        joined(rt.alloc(), single.picture()?)?.as_str(),
+        "l\nab\n\n"
+    );
     Ok(())
 }
 

@@ -34,7 +34,7 @@ module _ (text : List ℕ) (made : List TemplatePart) (p : Parses text made) (r 
 
 module _ (text : List ℕ) (x : TemplateError) (h : (x ≡ Memory) ⊎ IsRefused text x) (r : Result (List TemplatePart) TemplateError) (e : r ≡ Err x) where
   found : r ≢ Err Memory → IsRefused text x
-  found other = elim h [ | inl memory ↦ absurd (other (e ∙ ap Err memory)) | inr is ↦ is ]
+  found other = elim h [ inl memory ↦ absurd (other (e ∙ ap Err memory)) | inr is ↦ is ]
 
   pub parsed_err : Parsed text r
   parsed_err parts other = ((λ d. absurd (different parts x r d e)), (λ p. let is = found other in absurd (never_both text parts is.0 x p is.1)))
@@ -50,7 +50,7 @@ is_error x (Ok y) h = absurd h
 is_error x (Err y) h = ap Err h
 
 pub handed_back : (text rest : List ℕ) (s : Sketch) (x : TemplateError) → Leads empty_sketch text s rest → (x ≡ Memory) ⊎ IsRefused rest x → (x ≡ Memory) ⊎ IsRefused text x
-handed_back text rest s x leads h = elim h [ | inl memory ↦ inl memory | inr t ↦ inr (t.0, leads.refuses t.0 x t.1) ]
+handed_back text rest s x leads h = elim h [ inl memory ↦ inl memory | inr t ↦ inr (t.0, leads.refuses t.0 x t.1) ]
 
 positive : (n : ℕ) → eqb n 0 ≡ false → 0 < n
 positive zero e = absurd (false≢true (sym e))

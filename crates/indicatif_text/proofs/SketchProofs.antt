@@ -147,7 +147,7 @@ fits_key_ends key (c ∷ cs) =
     let found : Front Piece = if length key == 0 then Stops (c ∷ cs) (Unexpected c MaybeOpen) else slot in
     cond_both (is_ascii_whitespace c) (Takes cs (SpacedBrace ((0x7B ∷ key) ++ c ∷ []))) found FitsFront (λ e. tt)
     (λ e. cond_both (eqb (length key) 0) (Stops (c ∷ cs) (Unexpected c MaybeOpen)) slot FitsFront (λ f. tt)
-        (λ f. cond_both (eqb c 0x7D) (Takes cs (Keyed key plain_layout)) (keyed key (with_options cs)) FitsFront (λ g. tt) (λ g. fits_keyed key (with_options cs))))
+    (λ f. cond_both (eqb c 0x7D) (Takes cs (Keyed key plain_layout)) (keyed key (with_options cs)) FitsFront (λ g. tt) (λ g. fits_keyed key (with_options cs))))
 
 fits_opened : (text : List ℕ) → FitsFront (opened text)
 fits_opened [] = refl

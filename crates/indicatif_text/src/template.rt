@@ -4,13 +4,12 @@ ghost use Rattle.indicatif_text.specs.declared.template.TemplateError.{TemplateE
 ghost use Rattle.indicatif_text.specs.Parts.{TemplatePart, part_of};
 ghost use Rattle.indicatif_text.specs.Template.{Parses, IsRefused};
 
-use std::alloc::{AllocError, AllocFailed, Global};
-use std::marker::Model;
-use thiserror::Error;
-
 use crate::refusal::{Refusal, TemplateState};
 use crate::style_words::Style;
 use crate::template::draft::Draft;
+use std::alloc::{AllocError, AllocFailed, Global};
+use std::marker::Model;
+use thiserror::Error;
 
 mod draft;
 pub mod laws;
@@ -131,6 +130,7 @@ pub enum TemplateError {
 /// Memory that was refused is `TemplateError::Memory`.
 impl From<AllocError> for TemplateError {
     ghost use Rattle.indicatif_text.specs.declared.template.TemplateError.TheVariants.{Memory};
+
     ghost from_gives = { λ _ e. e ≡ Memory };
 
     fn from(_e: AllocError) -> TemplateError {
@@ -141,6 +141,7 @@ impl From<AllocError> for TemplateError {
 /// Memory that was refused for a value is `TemplateError::Memory`; the value is given up.
 impl<T: Drop> From<AllocFailed<T>> for TemplateError {
     ghost use Rattle.indicatif_text.specs.declared.template.TemplateError.TheVariants.{Memory};
+
     ghost from_gives = { λ _ e. e ≡ Memory };
 
     fn from(_e: AllocFailed<T>) -> TemplateError {
@@ -151,6 +152,7 @@ impl<T: Drop> From<AllocFailed<T>> for TemplateError {
 /// A template's error is the refusal of the same name.
 impl From<TemplateError> for Refusal {
     ghost use Rattle.indicatif_text.specs.TemplateErrors.{refusal_of};
+
     ghost from_gives = { λ e r. r ≡ refusal_of e };
 
     fn from(error: TemplateError) -> Refusal {

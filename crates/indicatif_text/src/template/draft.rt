@@ -4,12 +4,11 @@ ghost use Rattle.indicatif_text.specs.Parts.{part_of};
 ghost use Rattle.indicatif_text.specs.Reading.{Leads, sketch_of, empty_sketch, sketched_parts, closed_sketch, with_part, with_run, added, piece_of, layout_of};
 ghost use Rattle.indicatif_text.specs.Template.{Char, SpacedBrace, Keyed, LastBrace, IsRefused};
 
-use std::alloc::{AllocError, Global};
-use std::mem;
-
 use crate::runs::{Run, split_first, split_run};
 use crate::template::reading::{Options, Token, front};
 use crate::template::{Part, TemplateError};
+use std::alloc::{AllocError, Global};
+use std::mem;
 
 /// The parts so far, the literal text that stays whatever follows, and the literal run behind it, which an opening brace
 /// at the end would take away.

@@ -109,7 +109,13 @@ fn with_alternative<'a>(options: Options, text: &'a str) -> (Options, &'a str)
         None => (options, after),
         Some((_brace, rest)) => {
             let alternative = style_named(named);
-            (Options { alternative, ..options }, rest)
+            (
+                Options {
+                    alternative,
+                    ..options
+                },
+                rest,
+            )
         }
     }
 }
@@ -137,7 +143,11 @@ fn with_style<'a>(options: Options, text: &'a str) -> (Options, &'a str)
 /// Digits and exclamation marks, what may follow them up to the closing brace, and what follows the brace.
 ///
 /// Refused: `Unexpected` at a character that fits no case, in `state` where it's the first here; `WidthTooLarge`.
-fn with_width<'a>(options: Options, state: TemplateState, text: &'a str) -> Result<(Options, &'a str), TemplateError>
+fn with_width<'a>(
+    options: Options,
+    state: TemplateState,
+    text: &'a str,
+) -> Result<(Options, &'a str), TemplateError>
     ensures value { MatchResult result
         (λ r. with_width (layout_of options) state (chars text.now) ≡ Takes (chars r.1.now) (layout_of r.0))
         (λ e. (place : List ℕ) × (with_width (layout_of options) state (chars text.now) ≡ Stops place e)) }
@@ -145,7 +155,10 @@ fn with_width<'a>(options: Options, state: TemplateState, text: &'a str) -> Resu
 {
     let (mix, after) = split_run(text, Run::Width);
     let truncate = has_mark(mix);
-    let marked = Options { truncate, ..options };
+    let marked = Options {
+        truncate,
+        ..options
+    };
     let Some((next, rest)) = split_first(after) else {
         return Ok((marked, after));
     };

@@ -5,10 +5,11 @@ use Rattle.indicatif_text.proofs.TokenProofs.{no_chars, has_chars, key_missing, 
 use Rattle.indicatif_text.proofs.template.reading.key_ends.Goals as goal
 
 pub returns-then-is_empty-clause-value : goal.returns-then-is_empty-clause-value
-returns-then-is_empty-clause-value c =
-    (c.in-Some.end ∷ chars c.in-Some.rest.now,
-    key_missing (chars c.args.key.now) (chars c.args.after.now) c.in-Some.end (chars c.in-Some.rest.now) c.in-Some.ensures.first
-        (sym c.is_ascii_whitespace.ensures.value ∙ c.if-is_ascii_whitespace.false) (no_chars c.args.key.now c.if-is_empty.ensures))
+returns-then-is_empty-clause-value c = (
+  c.in-Some.end ∷ chars c.in-Some.rest.now,
+  key_missing (chars c.args.key.now) (chars c.args.after.now) c.in-Some.end (chars c.in-Some.rest.now) c.in-Some.ensures.first
+      (sym c.is_ascii_whitespace.ensures.value ∙ c.if-is_ascii_whitespace.false) (no_chars c.args.key.now c.if-is_empty.ensures),
+)
 
 pub returns-then-end-eq125-clause-value : goal.returns-then-end-eq125-clause-value
 returns-then-end-eq125-clause-value c =
@@ -25,6 +26,6 @@ pub returns-in_err-options-clause-value : goal.returns-in_err-options-clause-val
 returns-in_err-options-clause-value c =
     gives_handed (key_ends (chars c.args.key.now) (chars c.args.after.now)) c.in_err-options.ensures.value.0 c.in_err-options.field-0.0
     (key_options (chars c.args.key.now) (chars c.args.after.now) c.in-Some.end (chars c.in-Some.rest.now) c.in-Some.ensures.first
-        (sym c.is_ascii_whitespace.ensures.value ∙ c.if-is_ascii_whitespace.false) (has_chars c.args.key.now c.utf8.key c.if-is_empty.ensures) c.if-end-eq125.false
-        ∙ ap (keyed (chars c.args.key.now)) c.in_err-options.ensures.value.1)
+    (sym c.is_ascii_whitespace.ensures.value ∙ c.if-is_ascii_whitespace.false) (has_chars c.args.key.now c.utf8.key c.if-is_empty.ensures) c.if-end-eq125.false
+    ∙ ap (keyed (chars c.args.key.now)) c.in_err-options.ensures.value.1)
     c.from_residual.result c.from_residual.ensures.1

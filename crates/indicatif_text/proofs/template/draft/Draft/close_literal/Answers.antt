@@ -22,7 +22,7 @@ returns c =
     let old = sketch_of c.args.self.now in
     let literal = chars (string_bytes c.replace-literal.result) in
     let part : LiteralText literal ∷ [] ≡ literal_part (old.kept ++ old.run) =
-        ap (λ s. LiteralText (chars (string_bytes s)) ∷ []) c.replace-literal.ensures.value ∙ closed_some c.keep_run.new.self.kept c.if-is_empty.ensures ∙ ap literal_part c.in_ok-keep_run.ensures.kept in
+    ap (λ s. LiteralText (chars (string_bytes s)) ∷ []) c.replace-literal.ensures.value ∙ closed_some c.keep_run.new.self.kept c.if-is_empty.ensures ∙ ap literal_part c.in_ok-keep_run.ensures.kept in
     same_sketch _ (closed_sketch old)
     (ap (map part_of) c.in_ok-push.ensures.items ∙ map-append part_of _ (Literal c.replace-literal.result ∷ [])
     ∙ ap (λ done. done ++ LiteralText literal ∷ []) (ap (map part_of) c.in_ok-keep_run.ensures.parts) ∙ ap (λ parts. old.done ++ parts) part)

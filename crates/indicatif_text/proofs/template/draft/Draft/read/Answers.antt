@@ -16,7 +16,7 @@ returns-in_err-token-clause-refused c =
     let led = reads_run (sketch_of c.args.self.now) (sketch_of c.push_run.new.self) text (chars c.split_run.result.0.now) marked c.in_ok-push_run.ensures c.split_run.ensures.run c.split_run.ensures.rest in
     refused_error text c.in_err-token.field-0.0
     (refused_here (sketch_of c.args.self.now) (sketch_of c.push_run.new.self) text marked (chars c.in-Some.after.now) c.in_err-token.ensures.value.0 c.in-Some.first c.in_err-token.field-0.0
-        led c.in-Some.ensures.first c.in_err-token.ensures.value.1)
+    led c.in-Some.ensures.first c.in_err-token.ensures.value.1)
     c.from_residual-in_err-token.result c.from_residual-in_err-token.ensures.1
 
 pub returns-clause-leads : goal.returns-clause-leads
