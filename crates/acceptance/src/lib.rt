@@ -4,4 +4,6 @@
 #[cfg(test)]
 mod format;
 #[cfg(test)]
+mod lone;
+#[cfg(test)]
 mod template;

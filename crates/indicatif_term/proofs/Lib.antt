@@ -1,4 +1,5 @@
 pub mod Fed
+pub mod Fronts
 pub mod MemoryLaws
 pub mod MoveTexts
 pub mod RowEdits

@@ -8,7 +8,7 @@ use Rattle.indicatif_term.specs.Screen.{is_continued, emptied_front, emptied_gly
 use Rattle.std.specs.List.{list_all}
 use Rattle.std.proofs.lemmas.List.Folds.{list_all_at}
 use Rattle.indicatif_term.specs.Pictures.{is_blank, trimmed}
-use Rattle.indicatif_term.specs.Slots.{emptied_back, emptied_on, overwritten, with_mark_at}
+use Rattle.indicatif_term.specs.Inside.Slots.{emptied_back, emptied_on, overwritten, with_mark_at}
 
 pub continued_by : (x : Cell) → is_continued x ≡ true → x ≡ Continued
 continued_by Continued e = refl

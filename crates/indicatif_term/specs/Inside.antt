@@ -3,3 +3,6 @@ pub mod Counted
 pub mod Plans
 pub mod Bytes
 pub mod Remembering
+pub mod Slots
+pub mod Grids
+pub mod Scanners

@@ -1,12 +1,14 @@
 //! A terminal in memory: the cells that bytes lead to.
 //!
 //! - `feeding`: the terminal as a machine over bytes, `Cells`.
+//! - `front`: whole characters at the front of bytes, which most bytes are.
 //! - `scanner`: what bytes ask for: characters first, escape sequences next.
 //! - `spelling`: the bytes of a character that isn't whole.
 //! - `grid`: the rows and the cursor, and what each operation does to them.
 //! - `row`: a row of cells, and what writing into it does to its wide characters.
 //! - `slot`: a cell of a row, with the marks joined to it.
 //! - `moves`: the calls as text, and the bytes of a move.
+//! - `worked`: worked cases of the definitions.
 //!
 //! `InMemoryTerm` is that terminal as a bar's target.
 ghost use Rattle.std.specs.Prelude.{◌≡◌, ◌-◌, ◌++◌, ◌==◌, ◌⊎◌, ◌↔◌, [], if◌then◌else◌, map, codes, IfOk, IsOkAnd, IfErr, OnOk, OnErr, string_bytes};
@@ -18,12 +20,14 @@ ghost use Rattle.indicatif_term.specs.Calls.{Writes, move_bytes, line_bytes, cle
 ghost use Rattle.indicatif_term.specs.Memory.{view_of, ReadsBeginning, move_text, written_text};
 
 mod feeding;
+mod front;
 mod grid;
 mod moves;
 mod row;
 mod scanner;
 mod slot;
 mod spelling;
+pub mod worked;
 
 use crate::in_memory::moves::{MoveBytes, ended_line, move_line, own_line, text_line};
 use crate::term_like::TermLike;

@@ -1,9 +1,10 @@
 //! The cell terminal: a machine over bytes.
-ghost use Rattle.std.specs.Prelude.{◌≡◌, ◌∷◌, [], ◌⊎◌, ◌↔◌, ◌-◌, ◌<◌, take, map, length, IfOk, IfErr, OnOk, OnErr, string_bytes};
+ghost use Rattle.std.specs.Prelude.{◌≡◌, ◌∷◌, [], ◌⊎◌, ◌↔◌, ◌-◌, ◌<◌, ◌≤◌, take, map, length, IfOk, IfErr, OnOk, OnErr, string_bytes};
 ghost use Rattle.indicatif_term.specs.Screen.{top};
 ghost use Rattle.indicatif_term.specs.Terminal.{after, blank_terminal};
 ghost use Rattle.indicatif_term.specs.Pictures.{contents_text, picture_text};
 
+use crate::in_memory::front::front_of;
 use crate::in_memory::grid::Grid;
 use crate::in_memory::scanner::Scanner;
 use indicatif_text::refusal::Refusal;
@@ -56,12 +57,33 @@ impl Cells {
         ensures within { IfErr result (λ e. e.0 < length bytes.now) }
         ensures refused { IfErr result (λ e. e.1 ≡ Refusal.Memory) }
     {
-        for (read, byte) in bytes.iter().enumerate() {
-            if let Err(refusal) = self.feed_byte(*byte) {
-                return Err((read, refusal));
+        let mut read = 0;
+        while read < bytes.len() {
+            match self.feed_front(&bytes[read..]) {
+                Ok(taken) => read += taken,
+                Err(refusal) => return Err((read, refusal)),
             }
         }
         Ok(())
+    }
+
+    /// Reads a character or a byte, and tells how many bytes. Refused: `Memory`; all is unchanged then.
+    fn feed_front(&mut self, bytes: &[u8]) -> Result<usize, Refusal>
+        requires { 0 < length bytes.now }
+        ensures fed { IfOk result (λ n. self.new ≡ after self.old (take n bytes.now)) }
+        ensures some { IfOk result (λ n. 0 < n) }
+        ensures within { IfOk result (λ n. n ≤ length bytes.now) }
+        ensures err { OnErr result (self.new ≡ self.old) }
+        ensures refused { IfErr result (λ e. e ≡ Refusal.Memory) }
+    {
+        if self.scanner.is_idle() {
+            if let Some(front) = front_of(bytes) {
+                self.grid.put(front.character)?;
+                return Ok(front.len);
+            }
+        }
+        self.feed_byte(bytes[0])?;
+        Ok(1)
     }
 
     /// Reads a byte. Refused: `Memory`; all is unchanged then.
@@ -99,7 +121,7 @@ impl Cells {
 
     /// The window's rows as text, up to the last one with a written cell, each without the blanks at its end, joined
     /// by line feeds. Refused: `Memory`.
-    pub(crate) fn contents(&self) -> Result<String, Refusal>
+    pub fn contents(&self) -> Result<String, Refusal>
         ensures contents { IfOk result (λ t. string_bytes t ≡ contents_text self.now.screen) }
         ensures refused { IfErr result (λ e. e ≡ Refusal.Memory) }
     {

@@ -4,7 +4,7 @@ ghost use Rattle.std.specs.List.{join_with_byte};
 ghost use Rattle.indicatif_text.specs.Columns.{blank_row};
 ghost use Rattle.indicatif_term.specs.Screen.{Put, Return, Up, Down, Right, Left, EmptyRow, performed, blank_screen, line_feed, put_wide, put_mark, put_here, top};
 ghost use Rattle.indicatif_term.specs.Pictures.{contents_text, picture_text, row_text, written_rows};
-ghost use Rattle.indicatif_term.specs.Grids.{op_of};
+ghost use Rattle.indicatif_term.specs.Inside.Grids.{op_of};
 ghost use Rattle.unicode_width.specs.Width.{char_width};
 
 use crate::in_memory::row::Row;
@@ -50,7 +50,7 @@ impl Model for Grid {
 
     ghost Value = { Screen };
 
-    ghost use Rattle.indicatif_term.specs.Grids.{screen_of, IsSound};
+    ghost use Rattle.indicatif_term.specs.Inside.Grids.{screen_of, IsSound};
 
     ghost view = { screen_of };
 
@@ -215,7 +215,8 @@ impl Grid {
     }
 
     /// Shows a character at the cursor. Refused: `Memory`; all is unchanged then.
-    fn put(&mut self, c: char) -> Result<(), Refusal>
+    #[inline]
+    pub(crate) fn put(&mut self, c: char) -> Result<(), Refusal>
         ensures ok { OnOk result (self.new ≡ performed (Put c) self.old) }
         ensures err { OnErr result (self.new ≡ self.old) }
         ensures refused { IfErr result (λ e. e ≡ Refusal.Memory) }
@@ -239,6 +240,7 @@ impl Grid {
     }
 
     /// Shows a character of this many columns. Refused: `Memory`; all is unchanged then.
+    #[inline]
     fn put_wide(&mut self, c: char, columns: usize) -> Result<(), Refusal>
         requires some { 0 < columns }
         requires columns { char_width false c ≡ Some columns }
@@ -259,6 +261,7 @@ impl Grid {
     }
 
     /// Shows a character of this many columns, which fits into the row.
+    #[inline]
     fn put_here(&mut self, c: char, columns: usize)
         requires some { 0 < columns }
         requires columns { char_width false c ≡ Some columns }

@@ -4,7 +4,7 @@ ghost use Rattle.std.specs.List.{list_any, list_all};
 ghost use Rattle.indicatif_text.specs.Columns.{blank_row};
 ghost use Rattle.indicatif_term.specs.Screen.{cut_before, written_at, joined_at, is_continued};
 ghost use Rattle.indicatif_term.specs.Pictures.{is_blank, is_written, has_written, row_text, trimmed};
-ghost use Rattle.indicatif_term.specs.Slots.{emptied_back, emptied_on, overwritten, character_cells};
+ghost use Rattle.indicatif_term.specs.Inside.Slots.{emptied_back, emptied_on, overwritten, character_cells};
 
 use crate::in_memory::slot::Slot;
 use indicatif_text::refusal::Refusal;
@@ -47,6 +47,7 @@ impl Row {
     }
 
     /// Writes a character of `columns` columns at column `at`, and empties the wide characters of which it takes a cell.
+    #[inline]
     pub(crate) fn write(&mut self, at: usize, c: char, columns: usize)
         requires some { 0 < columns }
         requires fits { at + columns ≤ length self.old }
@@ -134,6 +135,7 @@ fn empty_all(slots: &mut [Slot])
 }
 
 /// Empties the cells before column `at` of a wide character that goes on there.
+#[inline]
 fn empty_before(slots: &mut [Slot], at: usize)
     requires { at ≤ length slots.old }
     ensures { slots.new ≡ cut_before at slots.old ++ drop at slots.old }
@@ -160,6 +162,7 @@ fn empty_back(slots: &mut [Slot], at: usize)
 }
 
 /// Empties the further cells of a wide character from column `at` on.
+#[inline]
 fn empty_on(slots: &mut [Slot], at: usize)
     ensures { slots.new ≡ emptied_on at slots.old }
 {
@@ -174,6 +177,7 @@ fn empty_on(slots: &mut [Slot], at: usize)
 }
 
 /// Puts the cells of a character at column `at`.
+#[inline]
 fn overwrite(slots: &mut [Slot], at: usize, c: char, columns: usize)
     requires some { 0 < columns }
     requires fits { at + columns ≤ length slots.old }

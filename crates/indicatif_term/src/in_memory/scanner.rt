@@ -1,9 +1,9 @@
 //! What bytes ask of a terminal: characters first, escape sequences next.
-ghost use Rattle.std.specs.Prelude.{◌≡◌, ◌<◌, [], map, length, option_to_list};
+ghost use Rattle.std.specs.Prelude.{◌≡◌, ◌<◌, [], map, length, IsTrue, option_to_list};
 ghost use Rattle.indicatif_text.specs.Columns.{is_parameter};
 ghost use Rattle.indicatif_term.specs.Terminal.{idle, byte_ops, byte_reader, char_ops, char_place, plain_ops, plain_place, sequence_ops, number_with, at_least_one, is_digit};
-ghost use Rattle.indicatif_term.specs.Grids.{op_of};
-ghost use Rattle.indicatif_term.specs.Scanners.{place_of};
+ghost use Rattle.indicatif_term.specs.Inside.Grids.{op_of};
+ghost use Rattle.indicatif_term.specs.Inside.Scanners.{place_of};
 
 use crate::in_memory::grid::Op;
 use crate::in_memory::spelling::Spelling;
@@ -141,7 +141,7 @@ impl Model for Scanner {
 
     ghost Value = { Reader };
 
-    ghost use Rattle.indicatif_term.specs.Scanners.{place_of};
+    ghost use Rattle.indicatif_term.specs.Inside.Scanners.{place_of};
 
     ghost view = { λ s. record { place = place_of s.stage; spelling = s.spelling } };
 
@@ -156,6 +156,17 @@ impl Scanner {
         Scanner {
             stage: Stage::Outside,
             spelling: Spelling::empty(),
+        }
+    }
+
+    /// Whether nothing was read.
+    #[inline]
+    pub(crate) fn is_idle(&self) -> bool
+        ensures { IsTrue result → self.now ≡ idle }
+    {
+        match self.stage {
+            Stage::Outside => self.spelling.is_empty(),
+            _ => false,
         }
     }
 

@@ -3,7 +3,7 @@ ghost use Rattle.std.specs.Prelude.{◌≡◌, ◌++◌, [], if◌then◌else◌
 ghost use Rattle.indicatif_text.specs.Columns.{Blank, Written, Continued};
 ghost use Rattle.indicatif_term.specs.Screen.{is_continued};
 ghost use Rattle.indicatif_term.specs.Pictures.{cell_text, is_blank, is_written};
-ghost use Rattle.indicatif_term.specs.Slots.{with_mark_at};
+ghost use Rattle.indicatif_term.specs.Inside.Slots.{with_mark_at};
 
 use indicatif_text::refusal::Refusal;
 use std::alloc::Global;
@@ -40,13 +40,14 @@ impl Model for Slot {
 
     ghost Value = { Cell };
 
-    ghost use Rattle.indicatif_term.specs.Slots.{cell_of};
+    ghost use Rattle.indicatif_term.specs.Inside.Slots.{cell_of};
 
     ghost view = { λ s. cell_of s.kind };
 }
 
 impl Slot {
     /// A cell that is empty.
+    #[inline]
     pub(crate) fn empty() -> Slot
         ensures { result ≡ Blank }
     {
@@ -54,6 +55,7 @@ impl Slot {
     }
 
     /// A further cell of the wide character at its left.
+    #[inline]
     pub(crate) fn further() -> Slot
         ensures { result ≡ Continued }
     {
@@ -63,6 +65,7 @@ impl Slot {
     }
 
     /// The first cell of a character.
+    #[inline]
     pub(crate) fn plain(c: char) -> Slot
         ensures { result ≡ Written (record { base = c; marks = [] }) }
     {
@@ -72,6 +75,7 @@ impl Slot {
     }
 
     /// Whether it is a further cell of the wide character at its left.
+    #[inline]
     pub(crate) fn is_further(&self) -> bool
         ensures { result ≡ is_continued self.now }
     {

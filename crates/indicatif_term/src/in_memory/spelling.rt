@@ -1,5 +1,5 @@
 //! The bytes of a character that isn't whole.
-ghost use Rattle.std.specs.Prelude.{◌≡◌, ◌<◌, [], if◌then◌else◌, length, Some, None};
+ghost use Rattle.std.specs.Prelude.{◌≡◌, ◌<◌, [], if◌then◌else◌, length, IsTrue, Some, None};
 ghost use Rattle.std.specs.Str.{is_utf8};
 ghost use Rattle.indicatif_term.specs.Terminal.{is_leading, spelling_with, first_char, kept};
 
@@ -32,6 +32,14 @@ impl Spelling {
             bytes: [0; 4],
             len: 0,
         }
+    }
+
+    /// Whether there are none.
+    #[inline]
+    pub(crate) fn is_empty(&self) -> bool
+        ensures { IsTrue result → self.now ≡ [] }
+    {
+        self.len == 0
     }
 
     /// These bytes and one more; that one alone where it can begin a character.

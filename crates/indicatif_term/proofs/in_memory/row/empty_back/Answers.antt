@@ -1,6 +1,6 @@
 use Rattle.std.proofs.Common.{◌≡◌, ◌∙◌, ◌-◌, ◌+◌, set, false, sym, ap, arith}
 use Rattle.indicatif_term.specs.Screen.{is_continued}
-use Rattle.indicatif_term.specs.Slots.{emptied_back}
+use Rattle.indicatif_term.specs.Inside.Slots.{emptied_back}
 use Rattle.indicatif_term.proofs.RowEdits.{back_last}
 use Rattle.indicatif_term.proofs.in_memory.row.empty_back.Goals as goal
 

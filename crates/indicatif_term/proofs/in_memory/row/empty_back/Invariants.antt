@@ -1,5 +1,5 @@
 use Rattle.std.proofs.Common.{◌≡◌, ◌≤◌, length}
-use Rattle.indicatif_term.specs.Slots.{emptied_back}
+use Rattle.indicatif_term.specs.Inside.Slots.{emptied_back}
 use Rattle.indicatif_term.proofs.in_memory.row.empty_back.Given as goal
 
 abbrev pub invariant-loop-left : goal.invariant-loop-left

@@ -1,5 +1,5 @@
 use Rattle.std.proofs.Common.{◌≡◌, ◌-◌, length}
-use Rattle.indicatif_term.specs.Slots.{emptied_on}
+use Rattle.indicatif_term.specs.Inside.Slots.{emptied_on}
 use Rattle.indicatif_term.proofs.in_memory.row.empty_on.Given as goal
 
 abbrev pub invariant-loop-column : goal.invariant-loop-column

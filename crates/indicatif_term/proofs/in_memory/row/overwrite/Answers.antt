@@ -1,7 +1,7 @@
 use Rattle.std.proofs.Common.{◌≡◌, ◌∙◌, ◌-◌, ◌+◌, [], ◌∷◌, replicate, set, sym, ap, arith}
 use Rattle.std.proofs.lemmas.List.{length-replicate, replicate_more}
 use Rattle.indicatif_text.specs.Columns.{Written, Continued}
-use Rattle.indicatif_term.specs.Slots.{overwritten, character_cells}
+use Rattle.indicatif_term.specs.Inside.Slots.{overwritten, character_cells}
 use Rattle.indicatif_term.proofs.RowEdits.{one_written, one_more_written}
 use Rattle.indicatif_term.proofs.in_memory.row.overwrite.Goals as goal
 

@@ -1,5 +1,5 @@
 use Rattle.std.proofs.Common.{◌≡◌, ◌-◌}
-use Rattle.indicatif_term.specs.Slots.{overwritten, character_cells}
+use Rattle.indicatif_term.specs.Inside.Slots.{overwritten, character_cells}
 use Rattle.indicatif_term.proofs.in_memory.row.overwrite.Given as goal
 
 abbrev pub invariant-loop-column : goal.invariant-loop-column

@@ -1,6 +1,6 @@
 use Rattle.std.proofs.Common.{◌≡◌, ◌∙◌, ◌+◌, ◌≤◌, length, ap, refl, arith}
-use Rattle.indicatif_term.specs.Slots.{character_cells}
-use Rattle.indicatif_term.specs.Grids.{screen_of}
+use Rattle.indicatif_term.specs.Inside.Slots.{character_cells}
+use Rattle.indicatif_term.specs.Inside.Grids.{screen_of}
 use Rattle.indicatif_term.proofs.Wholes.{cursor_full, row_written, length-written_at, length-character_cells}
 use Rattle.indicatif_term.proofs.in_memory.grid.Grid.put_here.Goals as goal
 

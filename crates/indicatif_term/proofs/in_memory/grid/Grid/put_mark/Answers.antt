@@ -1,6 +1,6 @@
 use Rattle.std.proofs.Common.{◌≡◌, ◌∙◌, length, ap, refl}
 use Rattle.std.specs.Prelude.{is_ok}
-use Rattle.indicatif_term.specs.Grids.{screen_of}
+use Rattle.indicatif_term.specs.Inside.Grids.{screen_of}
 use Rattle.indicatif_term.proofs.Wholes.{cursor_full, row_written, length-joined_or}
 use Rattle.indicatif_term.proofs.in_memory.grid.Grid.put_mark.Goals as goal
 

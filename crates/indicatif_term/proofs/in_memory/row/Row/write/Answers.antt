@@ -2,7 +2,7 @@ use Rattle.std.proofs.Common.{◌≡◌, ◌∙◌, ◌-◌, ◌+◌, ◌≤◌,
 use Rattle.std.proofs.lemmas.List.{length-replicate}
 use Rattle.indicatif_text.specs.Columns.{Continued}
 use Rattle.indicatif_term.specs.Screen.{written_at}
-use Rattle.indicatif_term.specs.Slots.{emptied_on, character_cells}
+use Rattle.indicatif_term.specs.Inside.Slots.{emptied_on, character_cells}
 use Rattle.indicatif_term.proofs.RowEdits.{in_turn, whole_again}
 use Rattle.indicatif_term.proofs.in_memory.row.Row.write.Goals as goal
 

@@ -1,0 +1,20 @@
+-- The reader of bytes as it is kept.
+use Rattle.std.specs.Prelude.{◌≡◌, ℕ, ◌<◌, ◌≤◌, true, List, [], ◌∷◌, length, take, encode_utf8}
+use Rattle.std.specs.Str.{all_scalars}
+use Rattle.indicatif_term.specs.Terminal.{Place, Plain, Escaped, Sequence}
+use Rattle.indicatif_term.specs.declared.in_memory.scanner.Stage.{Stage}
+use Rattle.indicatif_term.specs.declared.in_memory.scanner.Stage.TheVariants.{Outside, AfterEscape, InSequence}
+
+-- the place
+abbrev pub place_of : Stage → Place
+place_of Outside = Plain
+place_of AfterEscape = Escaped
+place_of (InSequence number) = Sequence number
+
+-- this character, which is no control character of ASCII, is spelt by as many bytes at the front
+pub record IsFront (bytes : List ℕ) (c len : ℕ) : Type 0 where
+  pub some : 0 < len
+  pub within : len ≤ length bytes
+  pub spelled : take len bytes ≡ encode_utf8 c
+  pub scalar : all_scalars (c ∷ []) ≡ true
+  pub printable : 0x20 ≤ c

@@ -1,0 +1,54 @@
+//! Worked cases of the cell terminal: each clause computes.
+ghost use Rattle.std.specs.Prelude.{◌≡◌, [], ◌∷◌, ◌++◌, codes};
+ghost use Rattle.indicatif_term.specs.Worked.{contents_after, cursor_after, picture_after, ESC};
+
+/// Lines that are longer than a row.
+pub fn long_lines()
+    ensures contents { contents_after 10 5 (codes "A\r\nB\r\nLonger than cols\r\n")
+        ≡ codes "A\nB\nLonge\nr tha\nn col\ns" }
+    ensures cursor { cursor_after 10 5 (codes "A\r\nB\r\nLonger than cols\r\n") ≡ (6, 0) }
+{}
+
+/// A cursor in the column after the last one waits: a move right leaves it there, a move left takes it back.
+pub fn waiting()
+    ensures waits { cursor_after 2 2 (codes "ab") ≡ (0, 2) }
+    ensures right { contents_after 2 2 (codes "ab" ++ ESC ++ codes "[5Cc") ≡ codes "ab\nc" }
+    ensures left { contents_after 2 2 (codes "ab" ++ ESC ++ codes "[1Dc") ≡ codes "ac" }
+{}
+
+/// What scrolls away stays in the picture; the contents are the window's. Spaces at a row's end are blanks, but a row
+/// with a written space is a row.
+pub fn scrolled()
+    ensures picture { picture_after 2 3 (codes "a\r\nb\r\nc") ≡ codes "a" ∷ codes "b" ∷ codes "c" ∷ [] }
+    ensures contents { contents_after 2 3 (codes "a\r\nb\r\nc") ≡ codes "b\nc" }
+    ensures space { contents_after 3 3 (codes "a \r\n ") ≡ codes "a\n" }
+    ensures blank { contents_after 3 3 (codes "a\r\n") ≡ codes "a" }
+{}
+
+/// Sequences that are no moves, and bytes that spell no character.
+pub fn odd_sequences()
+    ensures no_bracket { contents_after 1 4 (ESC ++ codes "Ma") ≡ codes "Ma" }
+    ensures twice { contents_after 1 4 (codes "ab\r" ++ ESC ++ ESC ++ codes "[2Kc") ≡ codes "c" }
+    ensures swallowed { contents_after 1 4 (ESC ++ codes "[?25l") ≡ codes "25l" }
+    ensures semicolon { contents_after 2 4 (codes "a\r\nb" ++ ESC ++ codes "[1;1Ac") ≡ codes "a\nbc" }
+    ensures zeros { contents_after 2 4 (codes "a\r\nb" ++ ESC ++ codes "[007Ac") ≡ codes "ac\nb" }
+    ensures huge { contents_after 2 4 (codes "a\r\nb" ++ ESC ++ codes "[99999999999999999999999Ac") ≡ codes "ac\nb" }
+    ensures cut_short { contents_after 1 4 (0xE5 ∷ 0x9B ∷ codes "a") ≡ codes "a" }
+    ensures stray { contents_after 1 4 (codes "a" ++ 0x80 ∷ 0x80 ∷ 0x80 ∷ 0x80 ∷ 0x80 ∷ codes "b") ≡ codes "ab" }
+{}
+
+/// A wide character of which a cell is written over is emptied; one that doesn't fit goes to the next row; one that is
+/// wider than the terminal is left out.
+pub fn wide()
+    ensures over { contents_after 1 4 (0xE5 ∷ 0x9B ∷ 0xBD ∷ (ESC ++ codes "[1Dx")) ≡ codes " x" }
+    ensures next_row { picture_after 2 3 (codes "ab" ++ 0xE5 ∷ 0x9B ∷ 0xBD ∷ []) ≡ codes "ab" ∷ (0xE5 ∷ 0x9B ∷ 0xBD ∷ []) ∷ [] }
+    ensures too_wide { cursor_after 2 1 (0xE5 ∷ 0x9B ∷ 0xBD ∷ []) ≡ (0, 0) }
+    ensures three { cursor_after 1 4 (0xE1 ∷ 0x9F ∷ 0x98 ∷ []) ≡ (0, 3) }
+{}
+
+/// A mark joins the character before the cursor; at the front of a row it is left out.
+pub fn marks()
+    ensures joined { contents_after 1 4 (codes "a" ++ 0xCC ∷ 0x88 ∷ codes "b") ≡ codes "a" ++ 0xCC ∷ 0x88 ∷ codes "b" }
+    ensures front { contents_after 1 4 (0xCC ∷ 0x88 ∷ codes "a") ≡ codes "a" }
+    ensures after_empty { contents_after 1 4 (ESC ++ codes "[1C" ++ 0xCC ∷ 0x88 ∷ codes "a") ≡ codes " a" }
+{}
