@@ -3,3 +3,5 @@
 
 #[cfg(test)]
 mod format;
+#[cfg(test)]
+mod in_memory;
