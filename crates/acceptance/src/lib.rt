@@ -5,3 +5,5 @@
 mod format;
 #[cfg(test)]
 mod in_memory;
+#[cfg(test)]
+mod lone;

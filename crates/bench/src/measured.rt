@@ -20,10 +20,7 @@ impl fmt::Display for Measured {
         let whole = tenths / 10;
         let tenth = tenths % 10;
         let bytes = self.bytes;
-        write!(
-            f,
-            "{seconds}.{micros:06} {whole}.{tenth} bytes={bytes}"
-        )
+        write!(f, "{seconds}.{micros:06} {whole}.{tenth} bytes={bytes}")
     }
 }
 

@@ -174,11 +174,15 @@ module _ {T : Type 0} (view : T → TermView) (call : Call) (now : ℕ) (s : Lon
         failed_is = d.onward.1 ∙ ap (λ x. x.failed) (sym whole);
         made = record {
           steps = inl (record { answer_is = ap (λ o. o.answer) (sym e); next_is = ap (λ o. o.state) (sym e) });
-          writes = (v', refl, record {
-            counted = counted_as v v' (Ok tt) (Ok Yes) d.counted refl;
-            silent = λ denied. absurd (denied refl);
-            repaints = λ f p. repaints_more v v' made_ok (Ok Yes) s.lists lists' lists' (λ yes. (refl, refl)) (d.picture (failed ∙ f) (subst (λ ls. IsTrue (are_plain ls)) same p));
-          });
+          writes = (
+            v',
+            refl,
+            record {
+              counted = counted_as v v' (Ok tt) (Ok Yes) d.counted refl;
+              silent = λ denied. absurd (denied refl);
+              repaints = λ f p. repaints_more v v' made_ok (Ok Yes) s.lists lists' lists' (λ yes. (refl, refl)) (d.picture (failed ∙ f) (subst (λ ls. IsTrue (are_plain ls)) same p));
+            },
+          );
         };
       }
 
@@ -214,11 +218,15 @@ module _ {T : Type 0} (view : T → TermView) (call : Call) (now : ℕ) (s : Lon
         failed_is = (d.onward.0 refl).1;
         made = record {
           steps = inr (inr (record { kind = kind; answer_is = refl; was_written = ap (λ o. o.answer) o; next_is = refl }));
-          writes = (v', refl, record {
-            counted = counted_as v v' (Err (Failure kind)) (Err (Failure kind)) d.counted refl;
-            silent = λ denied k. let q : true ≡ false = k in cc;
-            repaints = λ f p. repaints_more v v' (made_err (Failure kind)) (Err (Failure kind)) s.lists lists' opening_lists (λ yes. absurd (cc)) (d.picture (failed ∙ f) p);
-          });
+          writes = (
+            v',
+            refl,
+            record {
+              counted = counted_as v v' (Err (Failure kind)) (Err (Failure kind)) d.counted refl;
+              silent = λ denied k. let q : true ≡ false = k in cc;
+              repaints = λ f p. repaints_more v v' (made_err (Failure kind)) (Err (Failure kind)) s.lists lists' opening_lists (λ yes. absurd (cc)) (d.picture (failed ∙ f) p);
+            },
+          );
         };
       }
   drew_err _ d = absurd d.answers

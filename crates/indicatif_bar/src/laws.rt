@@ -13,5 +13,4 @@ ghost use Rattle.indicatif_bar.specs.Headline.{Headline};
 pub fn what_a_run_shows()
     ensures { (calls : List (Call × ℕ)) (answers : List (Result Drawn Refusal)) (old : Option TermView) (s : LoneState) (new : Option TermView) (next : LoneState)
         (run : Runs calls answers old s new next) → Headline calls answers old s new next run }
-{
-}
+{}

@@ -137,7 +137,10 @@ impl<T: TermLike + Drop> LoneBar<T> {
     /// Makes the calls one after another, each at its moment, and answers what each answered.
     ///
     /// Refused: `Memory` for the answers alone, and nothing is run.
-    pub fn run(&mut self, calls: Vec<(LoneCall, Moment)>) -> Result<Vec<Result<Drawn, Refusal>>, Refusal>
+    pub fn run(
+        &mut self,
+        calls: Vec<(LoneCall, Moment)>,
+    ) -> Result<Vec<Result<Drawn, Refusal>>, Refusal>
         ensures run { (s : LoneState) → IsIn self.old s → let old = option_map T.view (terminal_of self.old) in let new = option_map T.view (terminal_of self.new) in
             IfOk result (λ answers. (next : LoneState) × IsIn self.new next ×
             (run : Runs (map timed calls.items) answers.items old s new next) × Headline (map timed calls.items) answers.items old s new next run) }

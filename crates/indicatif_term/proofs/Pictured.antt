@@ -1,13 +1,12 @@
 -- A drawing's calls, and what the terminal then shows.
-use Rattle.std.proofs.Common.{◌≡◌, ℕ, zero, suc, ◌+◌, ◌-◌, ◌<◌, ◌≤◌, Bool, true, false, List, [], ◌∷◌, ◌++◌, length, map, take, replicate, refl, sym, ◌∙◌, ap, subst, arith, length-append, append_assoc, Result, Ok, Err, string_bytes, chars}
-use Rattle.std.specs.Prelude.{IsTrue, IsFalse, IsOk, IsErr, is_ok, nat_lt, flat_map, ◌||◌, min, ◌^◌}
+use Rattle.std.proofs.Common.{◌≡◌, ℕ, zero, suc, ◌+◌, ◌-◌, ◌<◌, ◌≤◌, Bool, true, false, List, [], ◌∷◌, ◌++◌, length, map, take, replicate, refl, sym, ◌∙◌, ap, subst, arith, length-append, append_assoc, Result, Ok, Err, chars}
+use Rattle.std.specs.Prelude.{IsTrue, IsFalse, IsOk, IsErr, nat_lt, flat_map, ◌||◌, min, ◌^◌}
 use Rattle.std.specs.Str.{IsUtf8}
 use Rattle.std.specs.List.{AllByRecursion}
 use Rattle.std.proofs.lemmas.Bool.{and_parts, cond_both}
 use Rattle.std.proofs.lemmas.Str.{IsUtf8-nil, IsUtf8-string_bytes, chars-nil}
 use Rattle.std.proofs.lemmas.List.Folds.{list_any-append, list_all-append}
 use Rattle.indicatif_term.proofs.TerminalSteps.{or_none}
-use Rattle.std.specs.declared.string.String.{String}
 use Rattle.indicatif_text.specs.Columns.{rows_of, has_wide, is_plain, visible}
 use Rattle.indicatif_term.specs.Screen.{Screen, Return, LineFeed, line_feed}
 use Rattle.indicatif_text.specs.Columns.{blank_row}
@@ -15,7 +14,7 @@ use Rattle.indicatif_term.proofs.Calls.{after_asks, end_asks}
 use Rattle.indicatif_term.specs.Terminal.{Terminal, after}
 use Rattle.indicatif_term.specs.Calls.{TermView, Writes}
 use Rattle.indicatif_term.specs.Shows.{Shows, Keeps, IsOpening, resting}
-use Rattle.indicatif_term.specs.Lists.{Lists, opening_lists, Live, BarLines, live_of_frame, live_height, live_rows, lines_of, fitting, shown_rows, drawn, cleared, logged, blanks_for, segments_height}
+use Rattle.indicatif_term.specs.Lists.{Lists, opening_lists, Live, live_of_frame, live_height, live_rows, lines_of, fitting, shown_rows, drawn, cleared, logged, blanks_for, segments_height}
 use Rattle.indicatif_term.specs.Inside.Bytes.{paint_bytes, next_row}
 use Rattle.indicatif_term.specs.Frames.{bar_lines, all_lines, are_plain, some_wide, text_lines, line_text}
 use Rattle.indicatif_term.specs.Inside.Plans.{frame_lines, IsPlan, text_height, IsWithheld}
@@ -24,7 +23,6 @@ use Rattle.indicatif_term.specs.Engines.{Repaints, RepaintsAnew, Answers}
 use Rattle.indicatif_term.specs.Inside.Remembering.{Remembers}
 use Rattle.indicatif_term.specs.declared.draw_target.Engine.{Engine}
 use Rattle.indicatif_text.specs.declared.refusal.Refusal.{Refusal}
-use Rattle.indicatif_text.specs.declared.refusal.Refusal.TheVariants.{Terminal as Refused}
 use Rattle.indicatif_term.proofs.Measuring.{withheld_by, or_true}
 use Rattle.indicatif_term.specs.declared.lines.Segment.{Segment}
 use Rattle.indicatif_term.specs.declared.lines.LineType.{LineType}

@@ -1,5 +1,5 @@
 -- Items that an iterator gives one after another.
-use Rattle.std.proofs.Common.{◌≡◌, ℕ, zero, suc, ◌+◌, List, [], ◌∷◌, ◌++◌, length, map, refl, sym, ◌∙◌, ap, subst, arith, append_assoc, append-nil, Option, Some, None, Bor}
+use Rattle.std.proofs.Common.{◌≡◌, List, [], ◌∷◌, ◌++◌, map, refl, sym, ◌∙◌, ap, subst, append_assoc, append-nil, Option, Some, None}
 use Rattle.std.specs.Iterator.{Yields, AlwaysYields}
 use Rattle.std.proofs.lemmas.List.{map-append}
 

@@ -1,7 +1,6 @@
 -- What contracts see of an engine: its terminal, and whether its rows are those of given lists.
 use Rattle.std.specs.Prelude.{◌≡◌, ℕ, ◌+◌, ◌<◌, ◌%◌, ◌^◌, Bool, true, false, IsTrue, IsFalse, List, [], length, Result, Ok, Err, MatchResult, if◌then◌else◌}
 use Rattle.indicatif_text.specs.declared.refusal.Refusal.{Refusal}
-use Rattle.indicatif_text.specs.declared.refusal.Refusal.TheVariants.{Terminal}
 use Rattle.indicatif_term.specs.Lists.{Lists, opening_lists}
 use Rattle.indicatif_term.specs.Screen.{Screen}
 use Rattle.indicatif_term.specs.Terminal as cells
@@ -10,11 +9,10 @@ use Rattle.indicatif_term.specs.Shows.{Shows, Keeps, IsOpening, resting}
 use Rattle.indicatif_term.specs.Frames.{some_wide, Refuses, is_fault}
 use Rattle.indicatif_term.specs.Inside.Counted.{CountsOf}
 use Rattle.indicatif_term.specs.declared.draw_target.Engine.{Engine}
-use Rattle.indicatif_term.specs.declared.counts.Counts.{Counts}
-use Rattle.std.specs.declared.io.ErrorKind.{ErrorKind}
 use Rattle.indicatif_term.specs.declared.draw_target.MultiProgressAlignment.{MultiProgressAlignment}
 use Rattle.indicatif_term.specs.declared.draw_target.MultiProgressAlignment.TheVariants.{Top, Bottom}
 
+-- whether bars stand at the bottom
 abbrev pub is_bottom : MultiProgressAlignment → Bool
 is_bottom Top = false
 is_bottom Bottom = true

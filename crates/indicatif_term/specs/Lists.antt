@@ -1,4 +1,5 @@
--- The rows of a drawing: those above, those kept, and the live ones. Rows are lists of cells.
+-- The three lists of rows: those above, which never change again; those kept, of bars that are gone; and the live ones, of
+-- the last frame. Rows are lists of cells.
 use Rattle.std.specs.Prelude.{ℕ, zero, suc, ◌+◌, ◌-◌, max, Bool, true, false, ◌&&◌, ◌==◌, nat_le, nat_lt, List, [], ◌∷◌, ◌++◌, map, length, replicate, take, drop, sum_by, fold, flat_map, if◌then◌else◌}
 use Rattle.std.specs.List.{list_any}
 use Rattle.indicatif_text.specs.Columns.{Cell, blank_row, rows_of}
@@ -13,6 +14,7 @@ pub record Live : Type 0 where
   pub blanks : ℕ
   pub segments : List BarRows
 
+-- the three lists, and what they need to know of the cursor
 pub record Lists : Type 0 where
   pub above : List (List Cell)
   pub kept : List (List Cell)
@@ -22,18 +24,23 @@ pub record Lists : Type 0 where
   -- whether the cursor rests at the front of the row after the lists, and not on their last row
   pub below : Bool
 
+-- no live row
 abbrev pub no_live : Live
 no_live = record { blanks = 0; segments = [] }
 
+-- nothing drawn: the cursor is at the front of the first row
 abbrev pub opening_lists : Lists
 opening_lists = record { above = []; kept = []; live = no_live; reach = 1; below = true }
 
+-- how many rows segments have
 abbrev pub segments_height : List BarRows → ℕ
 segments_height segments = sum_by (λ s. length s.rows) segments
 
+-- how many rows are live
 abbrev pub live_height : Live → ℕ
 live_height live = live.blanks + segments_height live.segments
 
+-- how many rows the lists have
 abbrev pub lists_height : Lists → ℕ
 lists_height l = length l.above + length l.kept + live_height l.live
 
@@ -41,6 +48,7 @@ lists_height l = length l.above + length l.kept + live_height l.live
 abbrev pub live_rows : ℕ → Live → List (List Cell)
 live_rows w live = replicate live.blanks (blank_row w) ++ flat_map (λ s. s.rows) live.segments
 
+-- the rows of the lists on a terminal of w columns, from the top
 abbrev pub all_rows : ℕ → Lists → List (List Cell)
 all_rows w l = l.above ++ l.kept ++ live_rows w l.live
 
@@ -57,6 +65,7 @@ rested l = record l { below = (live_height l.live == 0) && nat_lt (lists_height 
 
 -- ---- a frame: the stored lines of the members in order
 
+-- a bar with its lines, each a list of characters
 pub record BarLines : Type 0 where
   pub bar : ℕ
   pub lines : List (List ℕ)
@@ -80,6 +89,7 @@ onto_segments (t ∷ u ∷ ts) s = t ∷ onto_segments (u ∷ ts) s
 unfoldable pub grouped : List BarRows → List BarRows
 grouped segments = fold onto_segments [] segments
 
+-- the rows of a frame on a terminal of w columns and h rows, by bar
 unfoldable pub shown_rows : ℕ → ℕ → List BarLines → List BarRows
 shown_rows w h frame = grouped (fitting h (lines_of w frame))
 
@@ -87,6 +97,7 @@ shown_rows w h frame = grouped (fitting h (lines_of w frame))
 abbrev pub blanks_for : Bool → ℕ → ℕ → ℕ → ℕ
 blanks_for bottom taken text bars = if bottom && nat_lt 0 bars then taken - (text + bars) else 0
 
+-- the live rows of a frame, where so many rows are taken back and so many rows of text are written
 abbrev pub live_of_frame : ℕ → ℕ → Bool → ℕ → ℕ → List BarLines → Live
 live_of_frame w h bottom taken text frame =
     let segments = shown_rows w h frame in
@@ -117,6 +128,7 @@ logged w h bottom text frame l =
       live = live_of_frame w h bottom taken (length rows) frame;
     }))
 
+-- a clear
 unfoldable pub cleared : Lists → Lists
 cleared l = rested (record l { kept = []; live = no_live })
 
@@ -131,18 +143,22 @@ pub data Fate : Type 0 where
   -- another bar's rows stand before
   Later : Fate
 
+-- whether a bar has a row among these
 abbrev pub has_rows : ℕ → List BarRows → Bool
 has_rows bar segments = list_any (λ s. s.bar == bar) segments
 
+-- whether the first of these is a bar's
 abbrev pub is_first : ℕ → List BarRows → Bool
 is_first bar [] = false
 is_first bar (s ∷ ss) = s.bar == bar
 
+-- what becomes of the rows of a bar that is dropped
 unfoldable pub fate : ℕ → Lists → Fate
 fate bar l =
     if is_first bar l.live.segments then First
     else if has_rows bar l.live.segments then Later
     else NoRow
 
+-- the lists after it: its rows pass to kept where live's first segment is its own
 unfoldable pub kept_of : ℕ → ℕ → Lists → Lists
 kept_of w bar l = if is_first bar l.live.segments then passed w 1 l else l

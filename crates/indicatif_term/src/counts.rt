@@ -6,23 +6,27 @@ use crate::settle::{NextRows, blanks_of, rows_of, settled_counts};
 use indicatif_text::columns::Refusal;
 use std::alloc::Global;
 
-/// What became of a bar's rows.
-#[derive(Clone, Copy, Debug, Drop)]
+/// What became of the rows of a bar that is gone.
+#[derive(Clone, Copy, Debug, Drop, PartialEq, Eq)]
 pub enum Keep {
-    /// It has no row in live.
+    /// It has no live row. Nothing changed.
     Absent,
-    /// Live's first segment was its own, and passed to kept.
+    /// The first live rows were its own, and are kept rows now.
     Passed,
-    /// Another bar's rows stand before.
+    /// Another bar's rows stand before its own. Nothing changed.
     Behind,
 }
 
+/// The counts of the rows that may still change.
 #[derive(Drop)]
 pub struct Counts {
+    /// Rows of bars that are gone.
     pub kept: usize,
+    /// Blank rows above the bars.
     pub blanks: usize,
+    /// The rows of the last frame, by bar.
     pub segments: Vec<RowCount>,
-    /// All rows of live.
+    /// The blank rows and those of the bars.
     pub live: usize,
     /// The rows reached, counted from the first kept row.
     pub reached: usize,
@@ -39,6 +43,7 @@ impl Counts {
     ghost use Rattle.indicatif_term.specs.Inside.Counted.{CountsOf};
     ghost use Rattle.indicatif_term.specs.Inside.Plans.{IsPlan, IsSummed, text_height};
 
+    /// Nothing drawn: the cursor is on the first row, at its front.
     pub fn new(alloc: Global) -> Counts
         ensures { CountsOf result opening_lists }
     {
@@ -52,7 +57,7 @@ impl Counts {
         }
     }
 
-    /// The counts after a draw.
+    /// The counts after a draw of this plan on a terminal of so many rows.
     pub fn drawn(&self, plan: Plan, bottom: bool, height: usize) -> Result<Counts, Refusal>
         requires plan { IsSummed height plan }
         requires small { height ≤ 65535 }
@@ -86,7 +91,7 @@ impl Counts {
         }
     }
 
-    /// The counts after a log of so many rows.
+    /// The counts after a log of a text of so many rows above this plan.
     pub fn logged(&self, plan: Plan, text: usize, bottom: bool, height: usize) -> Counts
         requires plan { IsSummed height plan }
         requires small { height ≤ 65535 }

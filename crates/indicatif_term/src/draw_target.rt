@@ -1,9 +1,15 @@
-//! Drawing rows on a terminal.
+//! Drawing the lines of bars on a terminal, below text that stays.
+//!
+//! The rows that an engine has written are of three kinds, from the top: those *above*, which never change again; those
+//! *kept*, of bars that are gone; and the *live* ones, of the last frame. An engine remembers their counts and no text, so
+//! what it needs does not grow with what is logged. It takes kept and live rows back from the last one up, and writes the
+//! new ones in their place, so that the rows above stand at every moment.
 ghost use Rattle.std.specs.Prelude.{◌≡◌, ◌↔◌, map, length, ◌≤◌, IsOk, IsTrue, false, ◌++◌, [], ℕ};
 ghost use Rattle.indicatif_term.specs.Lists.{opening_lists};
 ghost use Rattle.indicatif_term.specs.Inside.Counted.{CountsOf};
 
-use crate::counts::{Counts, Keep};
+use crate::counts::Counts;
+pub use crate::counts::Keep;
 use crate::layout::{laid_out, text_height};
 pub use crate::lines::{LineType, Segment};
 use crate::settle::{blanks_of, kept_counts};
@@ -13,10 +19,12 @@ use indicatif_text::columns::Refusal;
 use std::alloc::Global;
 use std::mem::replace;
 
-/// Where the bars stand while there are fewer rows than before.
-#[derive(Clone, Copy, Debug, Drop)]
+/// Where the bars stand when a drawing has fewer rows than it takes back.
+#[derive(Clone, Copy, Debug, Drop, PartialEq, Eq)]
 pub enum MultiProgressAlignment {
+    /// At the place of the first row taken back.
     Top,
+    /// At the place of the last one, below blank rows.
     Bottom,
 }
 
@@ -30,7 +38,15 @@ impl MultiProgressAlignment {
     }
 }
 
-/// Draws rows on a terminal, and takes back those that it may still change.
+/// Draws the lines of bars on a terminal, and takes back those that it may still change.
+///
+/// It begins on the cursor's row, which has to be empty, as all below it, with the cursor at its front; it may be any row of
+/// the window. Lines are to hold printable characters and colour sequences alone; a line wraps where its row is full, and a
+/// wide character that does not fit goes to the next row. Nobody else may write to the terminal, and its size stays.
+///
+/// A call that is refused with `NoColumns`, `TooWide` or `Memory` has written nothing and changed nothing; it can be made
+/// again. After `Terminal`, with the kind of the terminal's own failure, some beginning of the drawing was written: the rows
+/// are forgotten, and the next drawing begins on a new row, by `write_line("")`, below whatever stands there.
 #[derive(Drop)]
 pub struct Engine<T: Drop> {
     term: T,
@@ -53,6 +69,7 @@ impl<T: TermLike + Drop> Engine<T> {
     ghost use Rattle.indicatif_term.specs.Screen.{Screen};
     ghost use Rattle.indicatif_term.specs.Terminal.{Terminal};
 
+    /// An engine that has drawn nothing yet. It takes no memory and writes nothing.
     pub fn new(alloc: Global, term: T) -> Self
         ensures terminal { terminal result ≡ term }
         ensures sound { has_failed result ≡ false }
@@ -67,19 +84,28 @@ impl<T: TermLike + Drop> Engine<T> {
         }
     }
 
+    /// The terminal.
     pub fn term(&self) -> &T
         ensures { result.now ≡ terminal self.now }
     {
         &self.term
     }
 
+    /// The terminal; what was drawn stays on it.
     pub fn into_term(self) -> T
         ensures { result ≡ terminal self }
     {
         self.term
     }
 
-    /// Draws the frame. The rows of its first `pass` members become kept rows.
+    /// Draws the frame in the place of the live rows. The rows of its first `pass` members then become kept rows, with the
+    /// blank rows above them.
+    ///
+    /// As many lines from the front are written as have at most the terminal's rows together. One pass over the frame
+    /// before the first byte, one while writing; memory for the counts of its bars, taken before the first byte.
+    ///
+    /// Refused: `NoColumns` where the terminal has no columns; `TooWide` where any line, also one past the terminal's
+    /// rows, holds a character wider than the terminal; `Memory`, also in place of `TooWide`; then `Terminal`.
     pub fn draw(
         &mut self,
         frame: &[Segment],
@@ -120,7 +146,13 @@ impl<T: TermLike + Drop> Engine<T> {
         self.repaint(next, &painting)
     }
 
-    /// Writes lines of text above the frame, and draws the frame. Kept rows go away.
+    /// Writes the lines of the text, which stay, in the place of the kept and the live rows, and draws the frame below
+    /// them.
+    ///
+    /// The lines are ended by LF or CR LF; an empty text is one empty line. Tabs in it are not expanded. The text is lent:
+    /// it is measured in one pass and written in one.
+    ///
+    /// Refused as `draw`, with the text's lines among those that may be too wide.
     pub fn log(
         &mut self,
         text: &str,
@@ -166,7 +198,9 @@ impl<T: TermLike + Drop> Engine<T> {
         self.repaint(next, &painting)
     }
 
-    /// Takes back all rows that it may still change.
+    /// Takes back the kept and the live rows. Takes no memory.
+    ///
+    /// Refused: `NoColumns` where the terminal has no columns; then `Terminal`.
     pub fn clear(&mut self) -> Result<(), Refusal>
         ensures lists { (l : Lists) → Fits self.old l → Outcome result self.old self.new (cleared l) }
         ensures answer { Answers (T.view (terminal self.old)).columns [] result }
@@ -194,7 +228,8 @@ impl<T: TermLike + Drop> Engine<T> {
         self.repaint(next, &painting)
     }
 
-    /// The rows of a dropped bar become kept rows, if they are the first of live.
+    /// The rows of a bar that is gone become kept rows, with the blank rows above them, if they are the first live ones of a
+    /// bar. Writes nothing. An engine that has failed has no rows.
     pub fn keep(&mut self, bar: u64) -> Keep
         ensures fate { (l : Lists) → Fits self.old l → IsFate result (fate bar l) }
         ensures lists { (w : ℕ) (l : Lists) → Fits self.old l → Fits self.new (kept_of w bar l) }

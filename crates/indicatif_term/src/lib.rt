@@ -4,19 +4,21 @@
 //! - `draw_target`: the engine, which draws the lines of bars and takes back those that it may still change.
 //! - `lines`: the lines of bars.
 //! - `layout`, `counts`, `settle`, `writing`: the engine's parts. They plan a frame, count its rows, and write it.
+//! - `laws`: laws of the definitions.
 //! - `worked`: worked cases of the definitions.
 //! - `in_memory`: a terminal in memory.
 //! - `term`: a terminal behind a writer of bytes.
 #![tactic(auto)]
 
-pub mod counts;
+mod counts;
 pub mod draw_target;
 pub mod in_memory;
-pub mod layout;
+pub mod laws;
+mod layout;
 pub mod lines;
-pub mod settle;
+mod settle;
 pub mod target;
 pub mod term;
 pub mod term_like;
 pub mod worked;
-pub mod writing;
+mod writing;

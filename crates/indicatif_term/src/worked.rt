@@ -1,6 +1,7 @@
 //! Worked cases of the definitions: each clause computes.
 ghost use Rattle.std.specs.Prelude.{◌≡◌, [], ◌∷◌, codes};
 ghost use Rattle.indicatif_term.specs.Frames.{logged_lines};
+ghost use Rattle.indicatif_term.specs.WorkedLists.{LongLine, ThreeOnTwo, LogAbove, AtTheBottom, KeptScrollsAway, ClearLeavesAbove};
 
 /// The lines of texts that are logged.
 pub fn logged_texts()
@@ -11,4 +12,14 @@ pub fn logged_texts()
     ensures blank { logged_lines (codes "a\n\nb") ≡ codes "a" ∷ [] ∷ codes "b" ∷ [] }
     ensures line_feed { logged_lines (codes "\n") ≡ [] ∷ [] }
     ensures bare_return { logged_lines (codes "a\rb\r") ≡ codes "a\rb\r" ∷ [] }
+{}
+
+/// Bars that are drawn, logged above, dropped and cleared.
+pub fn drawings()
+    ensures long_line { LongLine }
+    ensures three_on_two { ThreeOnTwo }
+    ensures log_above { LogAbove }
+    ensures at_the_bottom { AtTheBottom }
+    ensures kept_scrolls_away { KeptScrollsAway }
+    ensures clear_leaves_above { ClearLeavesAbove }
 {}

@@ -1,5 +1,5 @@
 -- The prefix of a number of bytes, and its text.
-use Rattle.std.proofs.Common.{◌≡◌, ℕ, zero, suc, ◌+◌, ◌-◌, ◌*◌, ◌/◌, ◌%◌, ◌^◌, ◌<◌, ◌≤◌, ◌⊎◌, inl, inr, List, [], ◌∷◌, ◌++◌, length, get_or, refl, sym, ap, ◌∙◌, subst, arith, eq-zero-or-pos, add-one, append_assoc, append-nil, take, drop-cons}
+use Rattle.std.proofs.Common.{◌≡◌, ℕ, zero, suc, ◌+◌, ◌-◌, ◌*◌, ◌/◌, ◌^◌, ◌<◌, ◌≤◌, ◌⊎◌, inl, inr, List, [], ◌∷◌, ◌++◌, length, get_or, refl, sym, ap, ◌∙◌, subst, arith, eq-zero-or-pos, add-one, append_assoc, append-nil, take, drop-cons}
 use Rattle.std.specs.Prelude.{codes, nat_le}
 use Rattle.std.specs.Fmt.{decimal}
 use Rattle.std.proofs.Math.Nat.{pow-le-pow_right, pow-suc, pow-zero, lt-div-mul-add}
@@ -52,7 +52,7 @@ unfolding bytes_text fixed_point
 prefixed letters tail base n k h size enough k_is size_is h_is inside =
     let shape : ℕ → List ℕ = λ k. fixed_point n (base ^ k) 2 ++ codes " " ++ prefix_letter k letters ++ tail in
     let here : decimal (h / 100) ++ (0x2E ∷ (last_digits 2 h ++ (0x20 ∷ get_or letters (k - 1) 0 ∷ (tail ++ [])))) ≡ shape k =
-        rw (h_is, size_is, letter_at k letters inside) (simp (append_assoc, append-nil)) in
+    rw (h_is, size_is, letter_at k letters inside) (simp (append_assoc, append-nil)) in
     rw (le-ltb n base enough) (here ∙ ap shape k_is)
 
 -- below the base

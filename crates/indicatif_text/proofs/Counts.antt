@@ -1,7 +1,7 @@
 -- Numerals with commas, three digits at a time.
-use Rattle.std.proofs.Common.{◌≡◌, ℕ, zero, suc, ◌+◌, ◌-◌, ◌*◌, ◌/◌, ◌%◌, ◌^◌, ◌<◌, ◌≤◌, Bool, true, false, ◌&&◌, List, [], ◌∷◌, ◌++◌, length, refl, sym, ap, ◌∙◌, inl, inr, arith, append_assoc, length-append, ◌⊎◌, eq-zero-or-pos, if◌then◌else◌}
+use Rattle.std.proofs.Common.{◌≡◌, ℕ, zero, suc, ◌+◌, ◌-◌, ◌/◌, ◌%◌, ◌^◌, ◌<◌, ◌≤◌, Bool, true, false, ◌&&◌, List, [], ◌∷◌, ◌++◌, length, refl, sym, ap, ◌∙◌, inl, inr, arith, append_assoc, length-append, ◌⊎◌, eq-zero-or-pos, if◌then◌else◌}
 use Rattle.std.specs.Prelude.{nat_lt, ◌==◌}
-use Rattle.std.proofs.lemmas.Bool.{lt-ltb, ne_eqb, eq-eqb, cases_Bool, false≢true}
+use Rattle.std.proofs.lemmas.Bool.{lt-ltb, ne_eqb, eq-eqb, cases_Bool, cases_lt, false≢true}
 use Rattle.std.proofs.lemmas.Fmt.{decimal_digit, decimal_step_wide, length-decimal-le_wide}
 use Rattle.std.specs.Fmt.{decimal}
 use Rattle.indicatif_text.specs.Format.{last_digits, with_commas, human_count}
@@ -38,7 +38,7 @@ commas_more (d ∷ []) es some three = rw three (ap (λ l. d ∷ 0x2C ∷ l) (co
 commas_more (d ∷ e ∷ ds) es some three =
     let n : length ((e ∷ ds) ++ es) ≡ length (e ∷ ds) + 3 = length-append (e ∷ ds) es ∙ ap (λ k. length (e ∷ ds) + k) three in
     let same : stands_before (length ((e ∷ ds) ++ es)) ≡ stands_before (length (e ∷ ds)) =
-        ap stands_before n ∙ before_three_more (length (e ∷ ds)) (omega arith) in
+    ap stands_before n ∙ before_three_more (length (e ∷ ds)) (omega arith) in
     ap (λ b. if b then d ∷ 0x2C ∷ with_commas ((e ∷ ds) ++ es) else d ∷ with_commas ((e ∷ ds) ++ es)) same
     ∙ joined (stands_before (length (e ∷ ds))) d _ _ _ (commas_more (e ∷ ds) es (omega arith) three)
 
@@ -48,14 +48,21 @@ decimal_three n lo hi =
     let b : n / 10 / 10 % 10 ≡ n % 1000 / 10 / 10 % 10 = omega arith in
     let c : n / 10 % 10 ≡ n % 1000 / 10 % 10 = omega arith in
     let d : n % 10 ≡ n % 1000 % 10 = omega arith in
-    rw (decimal_step_wide n (omega arith) hi, decimal_step_wide (n / 10) (omega arith) (omega arith),
-    decimal_step_wide (n / 10 / 10) (omega arith) (omega arith), append_assoc, append_assoc, append_assoc, a, b, c, d) refl
-
-pub below_or_not : (a b : ℕ) → (a < b) ⊎ (b ≤ a)
-below_or_not a b = elim (eq-zero-or-pos (b - a)) [ inl none ↦ inr (omega arith) | inr some ↦ inl (omega arith) ]
+    rw (
+      decimal_step_wide n (omega arith) hi,
+      decimal_step_wide (n / 10) (omega arith) (omega arith),
+      decimal_step_wide (n / 10 / 10) (omega arith) (omega arith),
+      append_assoc,
+      append_assoc,
+      append_assoc,
+      a,
+      b,
+      c,
+      d,
+    ) refl
 
 pub decimal_some : (n : ℕ) → n < 10 ^ 64 → 0 < length (decimal n)
-decimal_some n hi = elim (below_or_not n 10) [
+decimal_some n hi = elim (cases_lt n 10) [
   | inl one ↦ rw (decimal_digit n one) (omega arith)
   | inr more ↦ rw (decimal_step_wide n more hi) (omega (arith, length-append (decimal (n / 10)) ((48 + n % 10) ∷ [])))
 ]
@@ -70,7 +77,7 @@ unfolding human_count
 count_few n few = commas_few _ (length-decimal-le_wide 3 n (omega arith) (omega arith) (omega arith))
 
 before_three : (n : ℕ) → stands_before n ≡ true → (0 < n) × (n % 3 ≡ 0)
-before_three n is = elim (below_or_not 0 n) [
+before_three n is = elim (cases_lt 0 n) [
   | inl some ↦ elim (eq-zero-or-pos (n % 3)) [
     | inl whole ↦ (some, whole)
     | inr rest ↦ absurd (false≢true (sym (rw (lt-ltb 0 n some, ne_eqb (n % 3) 0 (λ e. omega arith)) refl) ∙ is))
@@ -79,7 +86,7 @@ before_three n is = elim (below_or_not 0 n) [
 ]
 
 not_before : (n : ℕ) → stands_before n ≡ false → (n ≡ 0) ⊎ (0 < n % 3)
-not_before n is = elim (below_or_not 0 n) [
+not_before n is = elim (cases_lt 0 n) [
   | inl some ↦ elim (eq-zero-or-pos (n % 3)) [
     | inl whole ↦ absurd (false≢true (sym is ∙ rw (lt-ltb 0 n some, eq-eqb (n % 3) 0 whole) refl))
     | inr rest ↦ inr rest

@@ -1,5 +1,5 @@
 -- Long division, digit by digit, against the rounded quotient.
-use Rattle.std.proofs.Common.{◌≡◌, ◌≢◌, ℕ, zero, suc, ◌+◌, ◌-◌, ◌*◌, ◌/◌, ◌%◌, ◌^◌, ◌<◌, ◌≤◌, ◌⊎◌, inl, inr, Bool, true, false, ◌&&◌, List, [], ◌∷◌, ◌++◌, length, take, set, get_or, take_all, refl, sym, ap, ◌∙◌, subst, arith, add-one, length-append, eq-zero-or-pos, if◌then◌else◌}
+use Rattle.std.proofs.Common.{◌≡◌, ℕ, zero, suc, ◌+◌, ◌-◌, ◌*◌, ◌/◌, ◌%◌, ◌^◌, ◌<◌, ◌≤◌, ◌⊎◌, inl, inr, Bool, true, false, ◌&&◌, List, [], ◌∷◌, ◌++◌, length, take, set, get_or, take_all, refl, sym, ap, ◌∙◌, arith, add-one, length-append, eq-zero-or-pos, if◌then◌else◌}
 use Rattle.std.specs.Prelude.{◌==◌}
 use Rattle.std.specs.Str.{IsAscii}
 use Rattle.std.proofs.Math.Nat.{pow-zero, pow-succ', one-le-pow, mul-add-div_right, mul-div-mul_left, div-div-eq-div-mul, mul_comm, mul_assoc, mul_right_comm}
@@ -136,10 +136,10 @@ by_decimals num den places kept m within is ends =
     let all : places ≡ j + kept = omega arith in
     let turned : places ≡ kept + j = omega arith in
     let whole : m * 10 ^ j / 10 ^ places ≡ m / 10 ^ kept =
-        ap (λ k. m * 10 ^ j / 10 ^ k) all ∙ ap (λ x. m * 10 ^ j / x) (pow-add 10 j kept) ∙ ap (λ x. x / (10 ^ j * 10 ^ kept)) (mul_comm m (10 ^ j))
-        ∙ mul-div-mul_left m (10 ^ kept) (some_power j) in
+    ap (λ k. m * 10 ^ j / 10 ^ k) all ∙ ap (λ x. m * 10 ^ j / x) (pow-add 10 j kept) ∙ ap (λ x. x / (10 ^ j * 10 ^ kept)) (mul_comm m (10 ^ j))
+    ∙ mul-div-mul_left m (10 ^ kept) (some_power j) in
     let decimals : without_trailing_zeros (last_digits places (m * 10 ^ j)) ≡ last_digits kept m =
-        ap (λ k. without_trailing_zeros (last_digits k (m * 10 ^ j))) turned ∙ trimmed kept j m ends in
+    ap (λ k. without_trailing_zeros (last_digits k (m * 10 ^ j))) turned ∙ trimmed kept j m ends in
     ap (λ x. human_count (x / 10 ^ places) ++ after_point (without_trailing_zeros (last_digits places x))) is
     ∙ ap (λ x. human_count x ++ after_point (without_trailing_zeros (last_digits places (m * 10 ^ j)))) whole
     ∙ ap (λ ds. human_count (m / 10 ^ kept) ++ after_point ds) decimals
@@ -188,7 +188,7 @@ pub text_carried : (num den places kept : ℕ) → kept ≡ 0 → EndsAt num den
     → human_float_count num den places ≡ human_count (num / den + 1) ++ []
 text_carried num den places zero none at is =
     let whole : (below num den 0 + 1) / 10 ^ 0 ≡ num / den + 1 =
-        ap (λ x. (below num den 0 + 1) / x) (pow-zero 10) ∙ omega (arith, below_none num den) in
+    ap (λ x. (below num den 0 + 1) / x) (pow-zero 10) ∙ omega (arith, below_none num den) in
     zeros_of num den 1 places 0 at is ∙ ap (λ w. human_count w ++ []) whole
 text_carried num den places (suc kept) none at is = absurd (omega arith)
 
@@ -250,8 +250,8 @@ raised_in_place out (suc k) m some is low =
     let front = last_digits k (m / 10) in
     let at : suc k - 1 ≡ k = omega arith in
     let here : get_or (last_digits (suc k) m) k 0 + 1 ≡ 49 + m % 10 =
-        ap (λ i. get_or (last_digits (suc k) m) i 0 + 1) (sym (length-last_digits k (m / 10)))
-        ∙ ap (λ d. d + 1) (get_or-append_right_zero front (48 + m % 10)) ∙ omega arith in
+    ap (λ i. get_or (last_digits (suc k) m) i 0 + 1) (sym (length-last_digits k (m / 10)))
+    ∙ ap (λ d. d + 1) (get_or-append_right_zero front (48 + m % 10)) ∙ omega arith in
     ap (λ i. set out i (get_or out i 0 + 1)) at ∙ ap (λ ds. set ds k (get_or ds k 0 + 1)) is ∙ digit_raised k m _ low here
 
 -- what a loop over all of a slice has filled

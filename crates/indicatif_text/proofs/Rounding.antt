@@ -1,5 +1,5 @@
 -- Rounded quotients.
-use Rattle.std.proofs.Common.{◌≡◌, ℕ, ◌+◌, ◌*◌, ◌/◌, ◌%◌, Bool, true, false, ◌∙◌, sym, ap, if◌then◌else◌}
+use Rattle.std.proofs.Common.{◌≡◌, ℕ, ◌+◌, ◌/◌, ◌%◌, Bool, ap, if◌then◌else◌}
 use Rattle.std.specs.Prelude.{◌==◌}
 use Rattle.indicatif_text.specs.Format.{rounds_up, round}
 

@@ -42,7 +42,7 @@ module _ (bs name : List ℕ) (u : IsUtf8 bs) (e : is_ascii_text name ≡ true) 
       same_from_decides (bytes_eq bs name) (bytes_eq (chars bs) name) by_bytes ((λ t. bytes_name (by_chars.0 t)), (λ h. by_chars.1 (chars_name h)))
 
   pub other_word : (bs ≡ name → ⊥) → bytes_eq (chars bs) name ≡ false
-  other_word other = elim (cases_Bool (bytes_eq (chars bs) name)) [ | inl same ↦ absurd (other (bytes_name ((bytes_eq-Decides (chars bs) name).0 same))) | inr differs ↦ differs ]
+  other_word other = elim (cases_Bool (bytes_eq (chars bs) name)) [ inl same ↦ absurd (other (bytes_name ((bytes_eq-Decides (chars bs) name).0 same))) | inr differs ↦ differs ]
 
 -- ---- words gathered one by one
 

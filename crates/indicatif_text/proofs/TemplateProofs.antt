@@ -87,7 +87,7 @@ within_width_ends layout width state (c ∷ cs) =
     (if c == 0x2E then (if is_too_wide width then wide else with_style sized cs) else Stops (c ∷ cs) (Unexpected c state)) P
     (λ e. cond_both (is_too_wide width) wide (Takes cs sized) P (λ f. tt) (λ f. omega arith))
     (λ e. cond_both (eqb c 0x2E) (if is_too_wide width then wide else with_style sized cs) (Stops (c ∷ cs) (Unexpected c state)) P
-        (λ f. cond_both (is_too_wide width) wide (with_style sized cs) P (λ g. tt) (λ g. wider (omega arith) _ (within_style sized cs))) (λ f. tt))
+    (λ f. cond_both (is_too_wide width) wide (with_style sized cs) P (λ g. tt) (λ g. wider (omega arith) _ (within_style sized cs))) (λ f. tt))
 
 within_width : (layout : Layout) (state : TemplateState) (text : List ℕ) → Within (length text) (with_width layout state text)
 unfolding with_width
@@ -114,8 +114,8 @@ within_key_ends key (c ∷ cs) =
     let found : Front Piece = if length key == 0 then Stops (c ∷ cs) (Unexpected c MaybeOpen) else slot in
     cond_both (is_ascii_whitespace c) (Takes cs (SpacedBrace ((0x7B ∷ key) ++ c ∷ []))) found P (λ e. omega arith)
     (λ e. cond_both (eqb (length key) 0) (Stops (c ∷ cs) (Unexpected c MaybeOpen)) slot P (λ f. tt)
-        (λ f. cond_both (eqb c 0x7D) (Takes cs (Keyed key plain_layout)) (keyed key (with_options cs)) P (λ g. omega arith)
-            (λ g. within_keyed key _ (with_options cs) (wider (omega arith) _ (within_options cs)))))
+    (λ f. cond_both (eqb c 0x7D) (Takes cs (Keyed key plain_layout)) (keyed key (with_options cs)) P (λ g. omega arith)
+    (λ g. within_keyed key _ (with_options cs) (wider (omega arith) _ (within_options cs)))))
 
 within_opened : (text : List ℕ) → Within (length text) (opened text)
 within_opened [] = omega arith
@@ -135,7 +135,7 @@ within_front c cs =
     let closing : Front Piece = if c == 0x7D then closed cs else Takes cs (Char c) in
     cond_both (eqb c 0x0A) (Takes cs Break) (if c == 0x7B then opened cs else closing) P (λ e. omega arith)
     (λ e. cond_both (eqb c 0x7B) (opened cs) closing P (λ f. within_opened cs)
-        (λ f. cond_both (eqb c 0x7D) (closed cs) (Takes cs (Char c)) P (λ g. within_closed cs) (λ g. omega arith)))
+    (λ f. cond_both (eqb c 0x7D) (closed cs) (Takes cs (Char c)) P (λ g. within_closed cs) (λ g. omega arith)))
 
 pub rest_shorter : (c : ℕ) (cs : List ℕ) {rest : List ℕ} {p : Piece} → front c cs ≡ Takes rest p → length rest ≤ length cs
 rest_shorter c cs {rest} {p} e = let w : Within (length cs) (Takes rest p) = subst (Within (length cs)) e (within_front c cs) in w

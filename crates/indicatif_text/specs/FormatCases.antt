@@ -1,5 +1,5 @@
 -- Worked cases of the formatters' texts.
-use Rattle.std.specs.Prelude.{◌≡◌, ℕ, ◌*◌, ◌^◌, ◌-◌, codes}
+use Rattle.std.specs.Prelude.{◌≡◌, ◌*◌, ◌^◌, ◌-◌, codes}
 use Rattle.indicatif_text.specs.Format.{nanos_per_second, human_duration, short_duration, formatted_duration, binary_bytes, decimal_bytes, human_count, human_float_count}
 
 abbrev pub DurationCases : Type 0

@@ -9,7 +9,6 @@ use crate::pieces::Visible;
 pub use crate::pieces::{Piece, Pieces};
 pub use crate::refusal::{Drawn, Refusal, TemplateState};
 pub use crate::style_words::Style;
-
 use unicode_width::UnicodeWidthChar;
 
 /// The columns of one character by Unicode's East Asian Width (UAX #11): 0 to 3; one without a width, as a control

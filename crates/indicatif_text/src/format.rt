@@ -9,6 +9,7 @@ ghost use Rattle.indicatif_text.specs.Format.{formatted_duration, human_duration
 mod bytes;
 mod cases;
 mod durations;
+mod laws;
 mod quotients;
 mod rounding;
 mod short_text;

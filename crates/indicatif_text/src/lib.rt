@@ -7,7 +7,6 @@
 //! - `style_words`: colours and attributes by their words, and what they write (`columns::Style`).
 //! - `template`: the grammar of templates, and what a template is made of.
 //! - `pieces`: a text as colour sequences and what stands between them.
-//! - `columns`: columns and rows of a line.
 #![tactic(auto)]
 
 pub mod columns;

@@ -1,11 +1,17 @@
 //! Templates: a text with placeholders, read into its parts.
-ghost use Rattle.std.specs.Prelude.{◌≡◌};
-
-use thiserror::Error;
+ghost use Rattle.std.specs.Prelude.{◌≡◌, ◌≢◌, ◌↔◌, List, map, chars};
+ghost use Rattle.indicatif_text.specs.declared.template.TemplateError.{TemplateError};
+ghost use Rattle.indicatif_text.specs.Parts.{TemplatePart, part_of};
+ghost use Rattle.indicatif_text.specs.Template.{Parses, IsRefused};
 
 use crate::refusal::{Refusal, TemplateState};
 use crate::style_words::Style;
+use crate::template::draft::Draft;
+use std::alloc::{AllocError, AllocFailed, Global};
+use std::marker::Model;
+use thiserror::Error;
 
+mod draft;
 pub mod laws;
 mod reading;
 
@@ -44,6 +50,64 @@ pub enum Part {
     },
 }
 
+/// A text with placeholders, read into its parts. Neighbouring literal texts are one part.
+#[derive(Debug, Drop)]
+pub struct Template {
+    parts: Vec<Part>,
+}
+
+impl Model for Template {
+    ghost use Rattle.std.specs.Prelude.{List, map};
+    ghost use Rattle.indicatif_text.specs.Parts.{TemplatePart, part_of};
+
+    ghost Value = { List TemplatePart };
+
+    ghost view = { λ t. map part_of t.parts.items };
+}
+
+impl Template {
+    /// Reads a template.
+    ///
+    /// `{{` and `}}` are literal braces, and so is a `}` at the end. A `{`, key characters or none and one ASCII white
+    /// space stay as they are. Else a `{` begins a placeholder: a key of at least one character, which has no `:`, `}`
+    /// or ASCII white space and doesn't begin with `{`; then a `}`, or a `:`, options and a `}`. The options are, in
+    /// order: one of `<`, `^` and `>`, or none; digits, which join to the width, and `!`, which means that a longer
+    /// text is cut, in any mix; a `.` and a style, or none, with a `/` and an alternative style behind it, or none.
+    /// A newline is a part of its own.
+    ///
+    /// A text that ends inside a placeholder is a template. A last `{` goes away, with the literal text since the last
+    /// newline, placeholder or `{` with a white space. An unfinished key goes away alone. Behind the `:`, the
+    /// placeholder has what was finished: a width, a style or an alternative style counts only where something ends it.
+    ///
+    /// One pass; the memory is that of the parts.
+    ///
+    /// Refused, at the first character in reading order: `Unexpected` where the character fits no case, with its state:
+    /// `MaybeOpen` for a `}` or a `:` right behind a `{`, `DoubleClose` for another character behind a single `}`,
+    /// `Align` right behind the `:` of a placeholder, `Width` later in its options before a `.`; `WidthTooLarge` where
+    /// a width past 65,535 ends. `Memory`: nothing is made.
+    pub fn parse(alloc: Global, text: &str) -> Result<Template, TemplateError>
+        ensures parses { (parts : List TemplatePart) → result ≢ Err TemplateError.Memory →
+            ((result ≡ Ok parts) ↔ Parses (chars text.now) parts) }
+        ensures refused { (error : TemplateError) → result ≢ Err TemplateError.Memory →
+            ((result ≡ Err error) ↔ IsRefused (chars text.now) error) }
+    {
+        let mut draft = Draft::new(alloc);
+        let mut rest = text;
+        while !rest.is_empty() {
+            rest = draft.read(rest)?;
+        }
+        let parts = draft.finish()?;
+        Ok(Template { parts })
+    }
+
+    /// The parts, in order.
+    pub fn parts(&self) -> &[Part]
+        ensures { map part_of result.now ≡ self.now }
+    {
+        self.parts.as_slice()
+    }
+}
+
 /// Why a text is no template.
 #[derive(Clone, Copy, Debug, Drop, PartialEq, Eq, Error)]
 pub enum TemplateError {
@@ -61,4 +125,41 @@ pub enum TemplateError {
     /// Memory was refused.
     #[error("TemplateError: out of memory")]
     Memory,
+}
+
+/// Memory that was refused is `TemplateError::Memory`.
+impl From<AllocError> for TemplateError {
+    ghost use Rattle.indicatif_text.specs.declared.template.TemplateError.TheVariants.{Memory};
+
+    ghost from_gives = { λ _ e. e ≡ Memory };
+
+    fn from(_e: AllocError) -> TemplateError {
+        TemplateError::Memory
+    }
+}
+
+/// Memory that was refused for a value is `TemplateError::Memory`; the value is given up.
+impl<T: Drop> From<AllocFailed<T>> for TemplateError {
+    ghost use Rattle.indicatif_text.specs.declared.template.TemplateError.TheVariants.{Memory};
+
+    ghost from_gives = { λ _ e. e ≡ Memory };
+
+    fn from(_e: AllocFailed<T>) -> TemplateError {
+        TemplateError::Memory
+    }
+}
+
+/// A template's error is the refusal of the same name.
+impl From<TemplateError> for Refusal {
+    ghost use Rattle.indicatif_text.specs.TemplateErrors.{refusal_of};
+
+    ghost from_gives = { λ e r. r ≡ refusal_of e };
+
+    fn from(error: TemplateError) -> Refusal {
+        match error {
+            TemplateError::Unexpected { next, state } => Refusal::Template { next, state },
+            TemplateError::WidthTooLarge => Refusal::WidthTooLarge,
+            TemplateError::Memory => Refusal::Memory,
+        }
+    }
 }

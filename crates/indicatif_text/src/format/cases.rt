@@ -6,19 +6,16 @@ pub fn durations()
     ensures words { DurationCases }
     ensures short { ShortDurationCases }
     ensures formatted { FormattedDurationCases }
-{
-}
+{}
 
 /// Bytes with binary and with decimal prefixes.
 pub fn bytes()
     ensures binary { BinaryBytesCases }
     ensures decimal { DecimalBytesCases }
-{
-}
+{}
 
 /// Counts with commas, whole ones and rounded ones.
 pub fn counts()
     ensures whole { CountCases }
     ensures rounded { FloatCountCases }
-{
-}
+{}

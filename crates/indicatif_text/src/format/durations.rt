@@ -7,10 +7,15 @@ use crate::format::rounding::rounded_half_up;
 use crate::format::short_text::ShortText;
 
 const SECOND: u64 = 1_000_000_000;
+
 const MINUTE: u64 = 60 * SECOND;
+
 const HOUR: u64 = 60 * MINUTE;
+
 const DAY: u64 = 24 * HOUR;
+
 const WEEK: u64 = 7 * DAY;
+
 const YEAR: u64 = 365 * DAY;
 
 /// A unit of time.

@@ -37,5 +37,9 @@ pub(crate) fn rounded_half_up(nanos: u64, unit: u64) -> u64
 {
     let whole = nanos / unit;
     let rest = nanos % unit;
-    if rest >= unit - rest { whole + 1 } else { whole }
+    if rest >= unit - rest {
+        whole + 1
+    } else {
+        whole
+    }
 }

@@ -3,8 +3,8 @@ ghost use Rattle.std.specs.Prelude.{◌≡◌, ◌==◌, ℕ, List, true, false,
 ghost use Rattle.std.specs.List.{list_any};
 ghost use Rattle.std.specs.Char.{is_ascii_digit};
 ghost use Rattle.indicatif_text.specs.Styles.{numbers_of};
-ghost use Rattle.indicatif_text.specs.Template.{Takes, Stops, style_named, state_after, number_of, is_too_wide, alignment_of, with_alternative, with_style, with_width, with_options};
-ghost use Rattle.indicatif_text.specs.Reading.{layout_of};
+ghost use Rattle.indicatif_text.specs.Template.{Takes, Stops, style_named, state_after, number_of, is_too_wide, alignment_of, with_alternative, with_style, with_width, with_options, unfinished, key_ends, opened, closed, front};
+ghost use Rattle.indicatif_text.specs.Reading.{layout_of, piece_of};
 
 use crate::refusal::TemplateState;
 use crate::runs::{Run, split_first, split_run};
@@ -109,7 +109,13 @@ fn with_alternative<'a>(options: Options, text: &'a str) -> (Options, &'a str)
         None => (options, after),
         Some((_brace, rest)) => {
             let alternative = style_named(named);
-            (Options { alternative, ..options }, rest)
+            (
+                Options {
+                    alternative,
+                    ..options
+                },
+                rest,
+            )
         }
     }
 }
@@ -137,7 +143,11 @@ fn with_style<'a>(options: Options, text: &'a str) -> (Options, &'a str)
 /// Digits and exclamation marks, what may follow them up to the closing brace, and what follows the brace.
 ///
 /// Refused: `Unexpected` at a character that fits no case, in `state` where it's the first here; `WidthTooLarge`.
-fn with_width<'a>(options: Options, state: TemplateState, text: &'a str) -> Result<(Options, &'a str), TemplateError>
+fn with_width<'a>(
+    options: Options,
+    state: TemplateState,
+    text: &'a str,
+) -> Result<(Options, &'a str), TemplateError>
     ensures value { MatchResult result
         (λ r. with_width (layout_of options) state (chars text.now) ≡ Takes (chars r.1.now) (layout_of r.0))
         (λ e. (place : List ℕ) × (with_width (layout_of options) state (chars text.now) ≡ Stops place e)) }
@@ -145,7 +155,10 @@ fn with_width<'a>(options: Options, state: TemplateState, text: &'a str) -> Resu
 {
     let (mix, after) = split_run(text, Run::Width);
     let truncate = has_mark(mix);
-    let marked = Options { truncate, ..options };
+    let marked = Options {
+        truncate,
+        ..options
+    };
     let Some((next, rest)) = split_first(after) else {
         return Ok((marked, after));
     };
@@ -182,5 +195,115 @@ pub(super) fn with_options(text: &str) -> Result<(Options, &str), TemplateError>
                 with_width(aligned, TemplateState::Width, rest)
             }
         },
+    }
+}
+
+/// What stands in front of a text.
+#[derive(Clone, Copy, Debug, Drop)]
+pub(super) enum Token<'a> {
+    /// A character that stands for itself.
+    Literal(char),
+    /// The end of a line.
+    NewLine,
+    /// An opening brace, key characters or none and a white space, which stay as they are.
+    Spaced(&'a str, char),
+    /// A key with its options.
+    Placeholder(&'a str, Options),
+    /// An opening brace at the end of the text.
+    OpenBrace,
+    /// An opening brace and a part of a key at the end of the text.
+    OpenKey,
+}
+
+/// What an opening brace and the key characters behind it are at the end of the text.
+fn unfinished(key: &str) -> Token<'_>
+    ensures { piece_of result ≡ unfinished (chars key.now) }
+{
+    if key.is_empty() {
+        Token::OpenBrace
+    } else {
+        Token::OpenKey
+    }
+}
+
+/// What an opening brace begins, by the key characters behind it and the text after them.
+///
+/// Refused: `Unexpected` in `MaybeOpen` where there is no key; what the options refuse.
+fn key_ends<'a>(key: &'a str, after: &'a str) -> Result<(Token<'a>, &'a str), TemplateError>
+    ensures value { MatchResult result
+        (λ r. key_ends (chars key.now) (chars after.now) ≡ Takes (chars r.1.now) (piece_of r.0))
+        (λ e. (place : List ℕ) × (key_ends (chars key.now) (chars after.now) ≡ Stops place e)) }
+    ensures utf8 { IfOk result (λ r. IsUtf8 r.1.now) }
+{
+    let Some((end, rest)) = split_first(after) else {
+        return Ok((unfinished(key), after));
+    };
+    if end.is_ascii_whitespace() {
+        Ok((Token::Spaced(key, end), rest))
+    } else if key.is_empty() {
+        let state = TemplateState::MaybeOpen;
+        Err(TemplateError::Unexpected { next: end, state })
+    } else if end == '}' {
+        Ok((Token::Placeholder(key, Options::PLAIN), rest))
+    } else {
+        let (options, left) = with_options(rest)?;
+        Ok((Token::Placeholder(key, options), left))
+    }
+}
+
+/// What an opening brace begins, before this text.
+fn opened(text: &str) -> Result<(Token<'_>, &str), TemplateError>
+    ensures value { MatchResult result
+        (λ r. opened (chars text.now) ≡ Takes (chars r.1.now) (piece_of r.0))
+        (λ e. (place : List ℕ) × (opened (chars text.now) ≡ Stops place e)) }
+    ensures utf8 { IfOk result (λ r. IsUtf8 r.1.now) }
+{
+    let Some((first, rest)) = split_first(text) else {
+        return Ok((Token::OpenBrace, text));
+    };
+    if first == '{' {
+        return Ok((Token::Literal('{'), rest));
+    }
+    let (key, after) = split_run(text, Run::Key);
+    key_ends(key, after)
+}
+
+/// What a closing brace begins, before this text.
+///
+/// Refused: `Unexpected` in `DoubleClose` where another character follows.
+fn closed(text: &str) -> Result<(Token<'_>, &str), TemplateError>
+    ensures value { MatchResult result
+        (λ r. closed (chars text.now) ≡ Takes (chars r.1.now) (piece_of r.0))
+        (λ e. (place : List ℕ) × (closed (chars text.now) ≡ Stops place e)) }
+    ensures utf8 { IfOk result (λ r. IsUtf8 r.1.now) }
+{
+    let Some((next, rest)) = split_first(text) else {
+        return Ok((Token::Literal('}'), text));
+    };
+    if next == '}' {
+        Ok((Token::Literal('}'), rest))
+    } else {
+        let state = TemplateState::DoubleClose;
+        Err(TemplateError::Unexpected { next, state })
+    }
+}
+
+/// What stands in front of a character and the text behind it, and what follows that.
+///
+/// Refused: `Unexpected` at a character that fits no case; `WidthTooLarge`.
+pub(super) fn front(first: char, text: &str) -> Result<(Token<'_>, &str), TemplateError>
+    ensures value { MatchResult result
+        (λ r. front first (chars text.now) ≡ Takes (chars r.1.now) (piece_of r.0))
+        (λ e. (place : List ℕ) × (front first (chars text.now) ≡ Stops place e)) }
+    ensures utf8 { IfOk result (λ r. IsUtf8 r.1.now) }
+{
+    if first == '\n' {
+        Ok((Token::NewLine, text))
+    } else if first == '{' {
+        opened(text)
+    } else if first == '}' {
+        closed(text)
+    } else {
+        Ok((Token::Literal(first), text))
     }
 }

@@ -1,9 +1,6 @@
-use Rattle.std.proofs.Common.{arith, ◌≡◌, ◌∙◌, ◌++◌, refl, sym, ap, subst, append-nil, Err, map, take}
+use Rattle.std.proofs.Common.{arith, ◌≡◌, ◌∙◌, refl, sym, ap, Err, take}
 use Rattle.std.proofs.lemmas.Result.{err_from_is_err_and}
 use Rattle.std.proofs.lemmas.List.{take_all}
-use Rattle.indicatif_term.specs.Lists.{lines_of}
-use Rattle.indicatif_term.specs.Frames.{bar_lines}
-use Rattle.indicatif_term.specs.Inside.Plans.{IsLaidOut}
 use Rattle.indicatif_term.proofs.LayingOut.{nothing_of, lines_step, narrow_step, members_refused}
 use Rattle.indicatif_term.proofs.layout.place_members.Goals as goal
 

@@ -1,13 +1,10 @@
-use Rattle.std.proofs.Common.{◌≡◌, ◌∙◌, ◌++◌, ◌∷◌, [], List, ℕ, ap, sym, map, subst, length, length-append, append-nil, Bor, ◌||◌}
+use Rattle.std.proofs.Common.{◌∙◌, ◌++◌, ◌∷◌, [], List, ℕ, ap, sym, map, length, length-append, append-nil, Bor, ◌||◌}
 use Rattle.std.specs.Prelude.{nat_lt}
 use Rattle.std.specs.Str.Iter.{lines_steps}
 use Rattle.std.specs.Str.Lines.{lines}
 use Rattle.std.proofs.Math.Bool.{or-false}
 use Rattle.std.proofs.lemmas.List.{map-append, length-map}
 use Rattle.std.proofs.lemmas.Iterator.Splits.{YieldsList-from_lines}
-use Rattle.indicatif_term.specs.Calls.{Writes, LeadsOn}
-use Rattle.indicatif_term.specs.Inside.Bytes.{lines_bytes}
-use Rattle.indicatif_term.specs.Frames.{logged_lines}
 use Rattle.indicatif_term.proofs.CallsInTurn.{reaches_none, came_reaches, came_fails, or_lt_last}
 use Rattle.indicatif_term.proofs.ReadLines.{parted, next_came, all_came}
 use Rattle.indicatif_term.proofs.LoggedLines.{logged_some, logged_none}

@@ -1,4 +1,4 @@
-use Rattle.std.proofs.Common.{◌∙◌, ap, map, string_bytes, Err, ◌+◌, [], ◌++◌, false, replicate, take}
+use Rattle.std.proofs.Common.{◌∙◌, ap, map, Err, ◌+◌, [], ◌++◌, false, replicate, take}
 use Rattle.std.proofs.lemmas.Result.{err_from_is_err_and}
 use Rattle.indicatif_term.specs.Lists.{opening_lists}
 use Rattle.indicatif_term.specs.Inside.Bytes.{paint_bytes}

@@ -1,6 +1,4 @@
-use Rattle.std.proofs.Common.{◌≡◌, ◌+◌, ◌*◌, ◌^◌, ◌<◌, ◌≤◌, ◌⊎◌, inl, inr, refl, sym, arith, subst, add-one}
-use Rattle.std.proofs.Math.Nat.{pow-suc}
-use Rattle.std.proofs.lemmas.Nat.{div_below}
+use Rattle.std.proofs.Common.{◌≡◌, ◌^◌, ◌≤◌, ◌⊎◌, inl, inr, refl, sym, arith}
 use Rattle.indicatif_text.proofs.ByteTexts.{exponent_found, past_power, power_one}
 use Rattle.indicatif_text.proofs.format.bytes.prefix_power.Goals as goal
 

@@ -1,4 +1,4 @@
-use Rattle.std.proofs.Common.{◌≡◌, ◌+◌, ◌≤◌, ◌∙◌, length, arith, ap, length-append, [], ◌/◌}
+use Rattle.std.proofs.Common.{◌∙◌, arith, length-append, [], ◌/◌}
 use Rattle.std.proofs.lemmas.Fmt.{length-decimal-le}
 use Rattle.indicatif_text.proofs.ByteTexts.{power_low, prefixed, unprefixed}
 use Rattle.indicatif_text.proofs.format.bytes.prefixed_text.Goals as goal

@@ -1,6 +1,5 @@
-use Rattle.std.proofs.Common.{refl, ◌≡◌, ◌++◌, ◌∷◌, [], ◌∙◌, sym, ap, length, take, arith}
+use Rattle.std.proofs.Common.{refl, arith}
 use Rattle.std.proofs.lemmas.Fmt.{length-decimal-le}
-use Rattle.std.specs.Fmt.{decimal}
 use Rattle.indicatif_text.specs.Format.{short_duration}
 use Rattle.indicatif_text.proofs.format.durations.letter_text.Goals as goal
 

@@ -1,9 +1,8 @@
-use Rattle.std.proofs.Common.{refl, ◌≡◌, ◌+◌, ◌++◌, ◌∷◌, ◌≤◌, [], List, ℕ, ◌∙◌, sym, ap, subst, length, arith, append_assoc, length-append, if◌then◌else◌}
+use Rattle.std.proofs.Common.{refl, ◌≡◌, ◌≤◌, [], ap, length, arith, append_assoc, length-append, if◌then◌else◌}
 use Rattle.std.specs.Prelude.{codes, ◌==◌}
 use Rattle.std.proofs.lemmas.Bool.{ne_eqb, eq-eqb}
 use Rattle.std.proofs.lemmas.Fmt.{length-decimal-le}
-use Rattle.std.specs.Fmt.{decimal}
-use Rattle.indicatif_text.specs.Format.{human_duration, told}
+use Rattle.indicatif_text.specs.Format.{human_duration}
 use Rattle.indicatif_text.proofs.format.durations.words_text.Goals as goal
 use Rattle.indicatif_text.proofs.format.durations.words_text.Goals.{then-told-ne1, else-told-ne1}
 

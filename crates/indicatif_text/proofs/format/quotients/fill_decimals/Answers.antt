@@ -1,8 +1,8 @@
-use Rattle.std.proofs.Common.{◌≡◌, ◌+◌, ◌*◌, ◌/◌, ◌%◌, ◌^◌, ap, sym, ◌∙◌, subst, arith, refl}
+use Rattle.std.proofs.Common.{◌≡◌, ◌+◌, ◌*◌, ◌%◌, ap, sym, ◌∙◌, arith, refl}
 use Rattle.std.proofs.Common.{take, set, add-one, ◌++◌, ◌∷◌, [], length, inl, inr, ◌<◌}
 use Rattle.indicatif_text.specs.Format.{last_digits}
 use Rattle.std.proofs.Math.Seq.{take-suc-set}
-use Rattle.indicatif_text.specs.Quotients.{below, left_over, raised}
+use Rattle.indicatif_text.specs.Quotients.{below}
 use Rattle.indicatif_text.proofs.Quotients.{below_next, left_next, left_none, digit_more, not_empty, raised_in_place, all_filled}
 use Rattle.indicatif_text.proofs.format.quotients.fill_decimals.Goals as goal
 
@@ -21,7 +21,7 @@ loop-digit-preserved c =
     let before = c.loop-digit.invariant in
     let digit = c.next_digit in
     let next : below num den (place + 1) ≡ below num den place * 10 + digit.result =
-        below_next num den place c.requires.den ∙ sym (ap (λ d. below num den place * 10 + d) (rw (before.rest_is, before.den_is) at digit.ensures.digit)) in
+    below_next num den place c.requires.den ∙ sym (ap (λ d. below num den place * 10 + d) (rw (before.rest_is, before.den_is) at digit.ensures.digit)) in
     record {
       rest_is = digit.ensures.rest ∙ rw (before.rest_is, before.den_is) (sym (left_next num den place));
       den_is = digit.ensures.den ∙ before.den_is;

@@ -1,4 +1,4 @@
-use Rattle.std.proofs.Common.{◌≡◌, ◌≤◌, ◌++◌, ◌∷◌, [], length, ap, sym, ◌∙◌, length-take-le}
+use Rattle.std.proofs.Common.{◌≡◌, ◌++◌, ◌∷◌, [], ap, sym, ◌∙◌, length-take-le}
 use Rattle.indicatif_text.specs.Quotients.{raised, below}
 use Rattle.indicatif_text.specs.Format.{last_digits, human_count, after_point}
 use Rattle.indicatif_text.proofs.Quotients.{IsAscii-last_digits}
@@ -8,12 +8,12 @@ pub joined-requires-clause-ascii : goal.joined-requires-clause-ascii
 joined-requires-clause-ascii c =
     let found = c.of-rounded.result in
     let filled : c.fill_decimals.new.out ≡ last_digits found.kept (raised found.up (below c.args.num c.args.den found.kept)) =
-        c.fill_decimals.ensures ∙ ap (λ n. last_digits n (raised found.up (below c.args.num c.args.den n))) (length-take-le found.kept (0 ∷ 0 ∷ 0 ∷ 0 ∷ []) c.of-rounded.ensures.kept) in
+    c.fill_decimals.ensures ∙ ap (λ n. last_digits n (raised found.up (below c.args.num c.args.den n))) (length-take-le found.kept (0 ∷ 0 ∷ 0 ∷ 0 ∷ []) c.of-rounded.ensures.kept) in
     rw filled (IsAscii-last_digits found.kept (raised found.up (below c.args.num c.args.den found.kept)))
 
 pub returns : goal.returns
 returns c =
     let found = c.of-rounded.result in
     let filled : c.fill_decimals.new.out ≡ last_digits found.kept (raised found.up (below c.args.num c.args.den found.kept)) =
-        c.fill_decimals.ensures ∙ ap (λ n. last_digits n (raised found.up (below c.args.num c.args.den n))) (length-take-le found.kept (0 ∷ 0 ∷ 0 ∷ 0 ∷ []) c.of-rounded.ensures.kept) in
+    c.fill_decimals.ensures ∙ ap (λ n. last_digits n (raised found.up (below c.args.num c.args.den n))) (length-take-le found.kept (0 ∷ 0 ∷ 0 ∷ 0 ∷ []) c.of-rounded.ensures.kept) in
     c.joined.ensures ∙ ap (λ ds. human_count found.whole ++ after_point ds) filled ∙ sym c.of-rounded.ensures.text

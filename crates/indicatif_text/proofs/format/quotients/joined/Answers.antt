@@ -1,5 +1,5 @@
-use Rattle.std.proofs.Common.{◌≡◌, ◌≤◌, ◌∷◌, [], length, ap, sym, ◌∙◌, arith, append-nil}
-use Rattle.indicatif_text.specs.Format.{human_count, after_point}
+use Rattle.std.proofs.Common.{◌≡◌, ◌∷◌, length, ap, sym, ◌∙◌, arith, append-nil}
+use Rattle.indicatif_text.specs.Format.{after_point}
 use Rattle.indicatif_text.proofs.Counts.{length-count}
 use Rattle.indicatif_text.proofs.Quotients.{behind_point, nothing_behind, not_empty, empty, length-behind}
 use Rattle.indicatif_text.proofs.format.quotients.joined.Goals as goal

@@ -1,5 +1,4 @@
-use Rattle.std.proofs.Common.{◌≤◌, length, ap, arith}
-use Rattle.std.specs.Str.{IsAscii}
+use Rattle.std.proofs.Common.{length, ap, arith}
 use Rattle.indicatif_text.specs.Quotients.{raised, below}
 use Rattle.indicatif_text.proofs.Counts.{length-count}
 use Rattle.indicatif_text.proofs.Quotients.{IsAscii-last_digits, digits_back}

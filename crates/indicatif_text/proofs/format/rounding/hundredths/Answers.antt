@@ -1,5 +1,4 @@
-use Rattle.std.proofs.Common.{◌≡◌, ◌*◌, ◌/◌, ◌%◌, ◌∙◌, sym, ap}
-use Rattle.std.specs.Prelude.{if◌then◌else◌, ◌+◌, ℕ}
+use Rattle.std.proofs.Common.{◌*◌}
 use Rattle.indicatif_text.proofs.Rounding.{rounded_by}
 use Rattle.indicatif_text.proofs.format.rounding.hundredths.Goals as goal
 

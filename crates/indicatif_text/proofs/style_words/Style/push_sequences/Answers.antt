@@ -32,6 +32,6 @@ returns-clause-len c =
     let reverse : c.sequence_if-5.result.now ≡ flat_map sequence_of (number_if s.reverse 7) = c.sequence_if-5.ensures ∙ sequence_set s.reverse 7 _ reverse_sequence in
     let hidden : c.sequence_if-6.result.now ≡ flat_map sequence_of (number_if s.hidden 8) = c.sequence_if-6.ensures ∙ sequence_set s.hidden 8 _ hidden_sequence in
     let same : flat_map sequence_of (numbers_of s)
-        ≡ c.foreground_if.result.now ++ (c.background_if.result.now ++ (c.sequence_if.result.now ++ (c.sequence_if-2.result.now ++ (c.sequence_if-3.result.now ++ (c.sequence_if-4.result.now ++ (c.sequence_if-5.result.now ++ c.sequence_if-6.result.now)))))) = cc all in
+    ≡ c.foreground_if.result.now ++ (c.background_if.result.now ++ (c.sequence_if.result.now ++ (c.sequence_if-2.result.now ++ (c.sequence_if-3.result.now ++ (c.sequence_if-4.result.now ++ (c.sequence_if-5.result.now ++ c.sequence_if-6.result.now)))))) = cc all in
     let together = regrouped_length c.foreground_if.result.now c.background_if.result.now c.sequence_if.result.now c.sequence_if-2.result.now c.sequence_if-3.result.now c.sequence_if-4.result.now c.sequence_if-5.result.now c.sequence_if-6.result.now in
     omega (arith, ap length same, together)

@@ -35,8 +35,9 @@ returns-in_ok-width-2-clause-value c =
     c.in_ok-width-2.width c.if-next-eq46.true c.in_ok-width-2.ensures.0 c.in_ok-width-2.ensures.1 ∙ c.with_style.ensures.value
 
 pub returns-else-next-eq46-clause-value : goal.returns-else-next-eq46-clause-value
-returns-else-next-eq46-clause-value c =
-    ((c.in-Some.next ∷ chars c.in-Some.rest.now),
-    width_unexpected (layout_of c.args.options) c.args.state (chars c.args.text.now) (chars c.split_run.result.0.now) (chars c.split_run.result.1.now) c.has_mark-truncate.result
-    c.split_run.ensures.run c.split_run.ensures.rest c.has_mark-truncate.ensures c.in-Some.next (chars c.in-Some.rest.now) c.in-Some.ensures.first
-    c.state_after-state.result c.if-next-eq125.false c.if-next-eq46.false c.state_after-state.ensures)
+returns-else-next-eq46-clause-value c = (
+  (c.in-Some.next ∷ chars c.in-Some.rest.now),
+  width_unexpected (layout_of c.args.options) c.args.state (chars c.args.text.now) (chars c.split_run.result.0.now) (chars c.split_run.result.1.now) c.has_mark-truncate.result
+      c.split_run.ensures.run c.split_run.ensures.rest c.has_mark-truncate.ensures c.in-Some.next (chars c.in-Some.rest.now) c.in-Some.ensures.first
+      c.state_after-state.result c.if-next-eq125.false c.if-next-eq46.false c.state_after-state.ensures,
+)

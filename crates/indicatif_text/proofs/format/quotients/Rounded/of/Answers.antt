@@ -1,7 +1,5 @@
-use Rattle.std.proofs.Common.{◌≡◌, ◌+◌, ◌*◌, ◌/◌, ◌%◌, ◌^◌, Bool, true, false, ap, sym, ◌∙◌, subst, arith, refl, if◌then◌else◌}
-use Rattle.std.specs.Prelude.{◌==◌}
-use Rattle.indicatif_text.specs.Format.{round}
-use Rattle.indicatif_text.specs.Quotients.{below, left_over, raised}
+use Rattle.std.proofs.Common.{◌≡◌, ◌+◌, ◌*◌, ap, sym, ◌∙◌, arith, refl}
+use Rattle.indicatif_text.specs.Quotients.{below}
 use Rattle.indicatif_text.proofs.Quotients.{below_next, left_next, below_none, left_none, rounded_at, ends_none, plain_step, above_step, odd_step, text_plain, text_raised, text_carried}
 use Rattle.indicatif_text.proofs.format.quotients.Rounded.of.Goals as goal
 
@@ -22,7 +20,7 @@ loop-place-preserved c =
     let before = c.loop-place.invariant in
     let digit = c.next_digit-digit in
     let next : below num den (place + 1) ≡ below num den place * 10 + digit.result =
-        below_next num den place c.requires ∙ sym (ap (λ d. below num den place * 10 + d) (rw (before.rest_is, before.den_is) at digit.ensures.digit)) in
+    below_next num den place c.requires ∙ sym (ap (λ d. below num den place * 10 + d) (rw (before.rest_is, before.den_is) at digit.ensures.digit)) in
     record {
       rest_is = digit.ensures.rest ∙ rw (before.rest_is, before.den_is) (sym (left_next num den place));
       den_is = digit.ensures.den ∙ before.den_is;

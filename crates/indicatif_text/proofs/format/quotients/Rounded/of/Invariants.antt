@@ -1,4 +1,4 @@
-use Rattle.std.proofs.Common.{◌≡◌, ◌≤◌, ◌%◌}
+use Rattle.std.proofs.Common.{◌≡◌, ◌%◌}
 use Rattle.std.specs.Prelude.{◌==◌}
 use Rattle.indicatif_text.specs.Quotients.{below, left_over}
 use Rattle.indicatif_text.proofs.Quotients.{EndsAt}

@@ -1,0 +1,10 @@
+-- The refusal of a template's error.
+use Rattle.indicatif_text.specs.declared.refusal.Refusal.{Refusal}
+use Rattle.indicatif_text.specs.declared.refusal.Refusal.TheVariants as refusal
+use Rattle.indicatif_text.specs.declared.template.TemplateError.{TemplateError}
+use Rattle.indicatif_text.specs.declared.template.TemplateError.TheVariants as error
+
+abbrev pub refusal_of : TemplateError → Refusal
+refusal_of (error.Unexpected next state) = refusal.Template next state
+refusal_of error.WidthTooLarge = refusal.WidthTooLarge
+refusal_of error.Memory = refusal.Memory

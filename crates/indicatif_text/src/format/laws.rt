@@ -1,0 +1,41 @@
+//! What the formatters' texts say, apart from how the definitions make them: each law is the contract of a function that does
+//! nothing.
+ghost use Rattle.indicatif_text.specs.FormatLaws.{RoundsByHalf, TiesToEven, RoundsHalfUp, LastDigitsAreRest, DigitsSpell, CommasAside, NumeralSpells, CommasByThousands, OnlyZerosDropped, NoZeroLeft, GreatestPrefix, TellsSeconds, NoLongerUnit, ReachesUnit};
+
+/// A rounded quotient is the nearest whole number, the even one of two.
+pub fn quotients()
+    ensures near { RoundsByHalf }
+    ensures even { TiesToEven }
+{}
+
+/// A count is its numeral, with a comma before every third digit from the right.
+pub fn counts()
+    ensures digits { CommasAside }
+    ensures spells { NumeralSpells }
+    ensures commas { CommasByThousands }
+{}
+
+/// Decimals are the rest by a power of ten, without zeros at the end.
+pub fn decimals()
+    ensures rest { LastDigitsAreRest }
+    ensures spell { DigitsSpell }
+    ensures only_zeros { OnlyZerosDropped }
+    ensures all_zeros { NoZeroLeft }
+{}
+
+/// The prefix of a number of bytes is the greatest that leaves at least 1.
+pub fn prefixes()
+    ensures { GreatestPrefix }
+{}
+
+/// A duration by the clock gives back its whole seconds.
+pub fn clocks()
+    ensures { TellsSeconds }
+{}
+
+/// A duration in words is told in the longest unit that it reaches, rounded half up.
+pub fn units()
+    ensures longest { NoLongerUnit }
+    ensures reached { ReachesUnit }
+    ensures near { RoundsHalfUp }
+{}

@@ -1,0 +1,164 @@
+//! A template that is half read.
+ghost use Rattle.std.specs.Prelude.{◌≡◌, ◌∷◌, ◌++◌, [], ◌⊎◌, ◌<◌, ℕ, map, chars, string_bytes, length, MatchResult, OnOk, IfOk, IfErr, IsUtf8};
+ghost use Rattle.indicatif_text.specs.Parts.{part_of};
+ghost use Rattle.indicatif_text.specs.Reading.{Leads, sketch_of, empty_sketch, sketched_parts, closed_sketch, with_part, with_run, added, piece_of, layout_of};
+ghost use Rattle.indicatif_text.specs.Template.{Char, SpacedBrace, Keyed, LastBrace, IsRefused};
+
+use crate::runs::{Run, split_first, split_run};
+use crate::template::reading::{Options, Token, front};
+use crate::template::{Part, TemplateError};
+use std::alloc::{AllocError, Global};
+use std::mem;
+
+/// The parts so far, the literal text that stays whatever follows, and the literal run behind it, which an opening brace
+/// at the end would take away.
+#[derive(Drop)]
+pub(super) struct Draft {
+    alloc: Global,
+    parts: Vec<Part>,
+    kept: String,
+    run: String,
+}
+
+impl Draft {
+    /// Nothing so far. It takes no memory.
+    pub(super) fn new(alloc: Global) -> Draft
+        ensures { sketch_of result ≡ empty_sketch }
+    {
+        Draft {
+            alloc,
+            parts: Vec::new(alloc),
+            kept: String::new(alloc),
+            run: String::new(alloc),
+        }
+    }
+
+    /// Puts the literal run to the text that stays.
+    fn keep_run(&mut self) -> Result<(), AllocError>
+        ensures kept { OnOk result (chars (string_bytes self.new.kept) ≡ chars (string_bytes self.old.kept) ++ chars (string_bytes self.old.run)) }
+        ensures run { OnOk result (chars (string_bytes self.new.run) ≡ []) }
+        ensures parts { OnOk result (self.new.parts.items ≡ self.old.parts.items) }
+    {
+        let run = mem::replace(&mut self.run, String::new(self.alloc));
+        if self.kept.is_empty() {
+            self.kept = run;
+        } else {
+            self.kept.push_str(run.as_str())?;
+        }
+        Ok(())
+    }
+
+    /// Makes a part of the literal text, if there is one.
+    fn close_literal(&mut self) -> Result<(), AllocError>
+        ensures { OnOk result (sketch_of self.new ≡ closed_sketch (sketch_of self.old)) }
+    {
+        self.keep_run()?;
+        if self.kept.is_empty() {
+            return Ok(());
+        }
+        let literal = mem::replace(&mut self.kept, String::new(self.alloc));
+        self.parts.push(Part::Literal(literal))?;
+        Ok(())
+    }
+
+    /// Puts a part behind the literal text.
+    fn push_part(&mut self, part: Part) -> Result<(), AllocError>
+        ensures { OnOk result (sketch_of self.new ≡ with_part (sketch_of self.old) (part_of part)) }
+    {
+        self.close_literal()?;
+        self.parts.push(part)?;
+        Ok(())
+    }
+
+    /// Adds characters that stand for themselves.
+    fn push_run(&mut self, text: &str) -> Result<(), AllocError>
+        ensures { OnOk result (sketch_of self.new ≡ with_run (sketch_of self.old) (chars text.now)) }
+    {
+        self.run.push_str(text)?;
+        Ok(())
+    }
+
+    /// Adds a character that stands for itself.
+    fn push_literal(&mut self, c: char) -> Result<(), AllocError>
+        ensures { OnOk result (sketch_of self.new ≡ added (sketch_of self.old) (Char c)) }
+    {
+        self.run.push(c)?;
+        Ok(())
+    }
+
+    /// Drops the literal run.
+    fn drop_run(&mut self)
+        ensures { sketch_of self.new ≡ added (sketch_of self.old) LastBrace }
+    {
+        self.run.clear();
+    }
+
+    /// Adds an opening brace that a white space makes literal.
+    fn push_spaced(&mut self, key: &str, space: char) -> Result<(), AllocError>
+        ensures { OnOk result (sketch_of self.new ≡ added (sketch_of self.old) (SpacedBrace ((0x7B ∷ chars key.now) ++ space ∷ []))) }
+    {
+        self.run.push('{')?;
+        self.run.push_str(key)?;
+        self.run.push(space)?;
+        self.keep_run()?;
+        Ok(())
+    }
+
+    /// Adds a placeholder.
+    fn push_placeholder(&mut self, key: &str, options: Options) -> Result<(), AllocError>
+        ensures { OnOk result (sketch_of self.new ≡ added (sketch_of self.old) (Keyed (chars key.now) (layout_of options))) }
+    {
+        let key = String::from_str(self.alloc, key)?;
+        self.push_part(Part::Placeholder {
+            key,
+            align: options.align,
+            width: options.width,
+            truncate: options.truncate,
+            style: options.style,
+            alternative: options.alternative,
+        })
+    }
+
+    /// Adds a token.
+    fn push_token(&mut self, token: Token<'_>) -> Result<(), AllocError>
+        ensures { OnOk result (sketch_of self.new ≡ added (sketch_of self.old) (piece_of token.entry)) }
+    {
+        match token {
+            Token::Literal(c) => self.push_literal(c),
+            Token::NewLine => self.push_part(Part::NewLine),
+            Token::Spaced(key, space) => self.push_spaced(key, space),
+            Token::Placeholder(key, options) => self.push_placeholder(key, options),
+            Token::OpenBrace => {
+                self.drop_run();
+                Ok(())
+            }
+            Token::OpenKey => Ok(()),
+        }
+    }
+
+    /// Reads a run of literal characters and the piece behind it, and answers what is left of the text.
+    ///
+    /// Refused: what the grammar refuses in this piece; `Memory`.
+    pub(super) fn read<'a>(&mut self, text: &'a str) -> Result<&'a str, TemplateError>
+        ensures leads { IfOk result (λ rest. Leads (sketch_of self.old) (chars text.now) (sketch_of self.new) (chars rest.now)) }
+        ensures refused { IfErr result (λ e. (e ≡ TemplateError.Memory) ⊎ IsRefused (chars text.now) e) }
+        ensures shorter { IfOk result (λ rest. 0 < length (chars text.now) → length (chars rest.now) < length (chars text.now)) }
+    {
+        let (run, marked) = split_run(text, Run::Literal);
+        self.push_run(run)?;
+        let Some((first, after)) = split_first(marked) else {
+            return Ok(marked);
+        };
+        let (token, rest) = front(first, after)?;
+        self.push_token(token)?;
+        Ok(rest)
+    }
+
+    /// The parts of a text that was read to its end.
+    pub(super) fn finish(mut self) -> Result<Vec<Part>, AllocError>
+        ensures { IfOk result (λ parts. map part_of parts.items ≡ sketched_parts (sketch_of self)) }
+    {
+        self.close_literal()?;
+        Ok(self.parts)
+    }
+}
