@@ -4,11 +4,14 @@
 //! 2 where a file or a row can't be read, or where standard output fails.
 //!
 //! - `rows`: the rows of a file, their columns and escapes.
-//! - `kinds`: the kinds of rows, and how each is asked.
+//! - `kinds`: the kinds of rows, and how each is asked: `texts`, `formats`, `cells`.
 #![tactic(auto)]
 
+mod cells;
+mod formats;
 mod kinds;
 mod rows;
+mod texts;
 
 use anyhow::{Context, Result, anyhow};
 use kinds::{Kind, Verdict};
