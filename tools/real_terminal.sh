@@ -19,7 +19,7 @@ fi
 folder=$(mktemp -d) || exit 2
 socket=$folder/tmux
 export LC_ALL=C.UTF-8
-printf '%s\n' 'set -g status off' 'set -g window-size manual' 'set -g default-terminal screen-256color' > "$folder/conf"
+printf '%s\n' 'set -g status off' 'set -g exit-empty off' 'set -g default-terminal screen-256color' > "$folder/conf"
 mux() { tmux -u -f "$folder/conf" -S "$socket" "$@"; }
 clean_up() { mux kill-server 2> /dev/null; rm -rf "$folder"; }
 trap clean_up EXIT
@@ -30,12 +30,14 @@ trimmed() { sed 's/ *$//' | sed -e :a -e '/^\n*$/{$d;N;ba' -e '}'; }
 # the rows of a pane of this size after the bytes in a file
 shown() {
   local rows=$1 cols=$2 bytes=$3 wanted=$4 got= tries
-  mux new-session -d -s case -x "$cols" -y "$rows" "stty raw -echo; cat '$bytes'; exec sleep 1000" || return 1
+  mux new-session -d -s case -x "$cols" -y "$rows" "stty raw -echo; cat '$bytes'; tmux wait-for -S written; exec sleep 1000" || return 1
+  mux wait-for written
   for tries in $(seq 60); do
-    got=$(mux capture-pane -p -t case | trimmed)
-    [ "$got" = "$wanted" ] && break
+    [ "$(mux capture-pane -p -t case | trimmed)" = "$wanted" ] && break
     sleep 0.05
   done
+  sleep 0.05
+  got=$(mux capture-pane -p -t case | trimmed)
   mux display-message -p -t case '#{pane_width} #{pane_height}' > "$folder/size"
   mux kill-session -t case
   printf '%s' "$got"

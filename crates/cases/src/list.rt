@@ -32,6 +32,9 @@ pub enum Step {
 }
 
 /// The cases.
+///
+/// tmux 3.3a leaves a wide character at the front of a row standing where its second cell is written over; the cell
+/// terminal empties it, as tmux does everywhere else. No case has it.
 pub static CASES: [Case; 32] = [
     Case {
         name: "full_row_waits",
@@ -91,7 +94,7 @@ pub static CASES: [Case; 32] = [
         name: "narrow_over_a_wide_back",
         rows: 2,
         cols: 6,
-        source: Source::Bytes("国国\r\u{1B}[1Cx"),
+        source: Source::Bytes("a国国\r\u{1B}[2Cx"),
     },
     Case {
         name: "wide_over_two_wide",
@@ -175,19 +178,13 @@ pub static CASES: [Case; 32] = [
         name: "bar_changes",
         rows: 4,
         cols: 10,
-        source: Source::Bar(&[
-            Step::Message("progress bars"),
-            Step::Message("x"),
-        ]),
+        source: Source::Bar(&[Step::Message("progress bars"), Step::Message("x")]),
     },
     Case {
         name: "bar_below_a_log",
         rows: 3,
         cols: 5,
-        source: Source::Bar(&[
-            Step::Message("ab"),
-            Step::Log("l"),
-        ]),
+        source: Source::Bar(&[Step::Message("ab"), Step::Log("l")]),
     },
     Case {
         name: "bar_scrolls_under_logs",
@@ -259,10 +256,6 @@ pub static CASES: [Case; 32] = [
         name: "bar_too_narrow",
         rows: 3,
         cols: 1,
-        source: Source::Bar(&[
-            Step::Message("a"),
-            Step::Message("国"),
-            Step::Log("b"),
-        ]),
+        source: Source::Bar(&[Step::Message("a"), Step::Message("国"), Step::Log("b")]),
     },
 ];

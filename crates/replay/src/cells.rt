@@ -48,8 +48,12 @@ fn shown(alloc: Global, size: Size, bytes: &[u8], part: usize) -> Result<String,
             cells.feed(byte).map_err(|e| e.1)?;
         }
     } else {
-        cells.feed(&bytes[..part.min(bytes.len())]).map_err(|e| e.1)?;
-        cells.feed(&bytes[part.min(bytes.len())..]).map_err(|e| e.1)?;
+        cells
+            .feed(&bytes[..part.min(bytes.len())])
+            .map_err(|e| e.1)?;
+        cells
+            .feed(&bytes[part.min(bytes.len())..])
+            .map_err(|e| e.1)?;
     }
     let picture = picture_of(alloc, &cells)?;
     let contents = cells.contents()?;
