@@ -68,10 +68,7 @@ impl Counts {
     {
         let mut plan = plan;
         let blanks = blanks_of(bottom, self.live, 0, plan.rows);
-        let segments = match plan.segments.split_off(plan.passing) {
-            Ok(segments) => segments,
-            Err(_) => return Err(Refusal::Memory),
-        };
+        let segments = plan.segments.split_off(plan.passing)?;
         if plan.passing > 0 {
             let passing_rows = rows_of(&plan.segments);
             let rows = NextRows {

@@ -137,10 +137,8 @@ fn push_rows(segments: &mut Vec<RowCount>, bar: u64, rows: usize) -> Result<(), 
         segments[count - 1].rows += rows;
         return Ok(());
     }
-    match segments.push(RowCount { bar, rows }) {
-        Ok(()) => Ok(()),
-        Err(_) => Err(Refusal::Memory),
-    }
+    segments.push(RowCount { bar, rows })?;
+    Ok(())
 }
 
 /// The rows of a line.
