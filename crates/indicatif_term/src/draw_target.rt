@@ -4,7 +4,7 @@
 //! *kept*, of bars that are gone; and the *live* ones, of the last frame. An engine remembers their counts and no text, so
 //! what it needs does not grow with what is logged. It takes kept and live rows back from the last one up, and writes the
 //! new ones in their place, so that the rows above stand at every moment.
-ghost use Rattle.std.specs.Prelude.{◌≡◌, ◌↔◌, map, length, ◌≤◌, IsOk, IsTrue, false, ◌++◌, [], ℕ};
+ghost use Rattle.std.specs.Prelude.{◌≡◌, ◌≢◌, ◌↔◌, map, length, ◌≤◌, IsOk, IsTrue, false, ◌++◌, [], ℕ};
 ghost use Rattle.indicatif_term.specs.Lists.{opening_lists};
 ghost use Rattle.indicatif_term.specs.Inside.Counted.{CountsOf};
 
@@ -216,6 +216,7 @@ impl<T: TermLike + Drop> Engine<T> {
         ensures lists { (l : Lists) → Fits self.old l →
             Outcome result self.old self.new (cleared l) }
         ensures answer { Answers (T.view (terminal self.old)).columns [] result }
+        ensures no_memory { result ≢ Err Refusal.Memory }
         ensures counted { Counted (T.view (terminal self.old)) (T.view (terminal self.new)) result }
         ensures picture { (l : Lists) → Fits self.old l → has_failed self.old ≡ false →
             let s = T.view (terminal self.old) in
