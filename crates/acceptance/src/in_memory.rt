@@ -23,9 +23,17 @@ fn long_lines(rt: HostRuntime) -> Result<(), Fail> {
 fn sizes_of_zero(rt: HostRuntime) {
     for (rows, cols) in [(0, 5), (3, 0), (0, 0)] {
         let term = InMemoryTerm::new(rt.alloc(), rows, cols);
-        assert_eq!(rt; term.err(), Some(Refusal::ZeroSize), "{rows} rows, {cols} columns");
+        assert_eq!(rt;
+            term.err(),
+            Some(Refusal::ZeroSize),
+            "{rows} rows, {cols} columns"
+        );
         let cells = Cells::new(rt.alloc(), rows, cols);
-        assert_eq!(rt; cells.err(), Some(Refusal::ZeroSize), "{rows} rows, {cols} columns");
+        assert_eq!(rt;
+            cells.err(),
+            Some(Refusal::ZeroSize),
+            "{rows} rows, {cols} columns"
+        );
     }
 }
 
@@ -41,7 +49,8 @@ fn calls_as_text(rt: HostRuntime) -> Result<(), Fail> {
     term.move_cursor_left(3)?;
     term.move_cursor_down(12)?;
     term.flush()?;
-    let wanted = "Str(\"ABC \\\"d\\\\\\\"\\t\\u{1b}[0m\")\nNewLine\nUp(1)\nRight(2)\nClear\nStr(\"DEF\")\nLeft(3)\nDown(12)\nFlush\n";
+    let wanted =
+        "Str(\"ABC \\\"d\\\\\\\"\\t\\u{1b}[0m\")\nNewLine\nUp(1)\nRight(2)\nClear\nStr(\"DEF\")\nLeft(3)\nDown(12)\nFlush\n";
     assert_eq!(rt; term.moves_since_last_check().as_str(), wanted);
     assert_eq!(rt; term.moves_since_last_check().as_str(), "");
     assert_eq!(rt; term.contents()?.as_str(), "DEF");

@@ -1,10 +1,9 @@
 //! A bar that stands alone, on terminals in memory and behind writers.
 use indicatif_bar::lone::{LoneBar, LoneCall};
 use indicatif_bar::state::{BarCommand, BarState};
+use indicatif_term::draw_target::ProgressDrawTarget;
 use indicatif_term::in_memory::{Cells, InMemoryTerm};
-use indicatif_term::target::ProgressDrawTarget;
-use indicatif_term::term::Term;
-use indicatif_term::term_like::TermLike;
+use indicatif_term::term_like::{Term, TermLike};
 use indicatif_text::refusal::{Drawn, Refusal};
 use std::alloc::Global;
 use std::test::Fail;

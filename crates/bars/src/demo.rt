@@ -1,8 +1,8 @@
 //! A bar on a terminal of 4 rows and 10 columns.
 use indicatif_bar::lone::LoneBar;
 use indicatif_bar::state::BarState;
+use indicatif_term::draw_target::ProgressDrawTarget;
 use indicatif_term::in_memory::InMemoryTerm;
-use indicatif_term::target::ProgressDrawTarget;
 use indicatif_text::refusal::Refusal;
 use std::alloc::Global;
 

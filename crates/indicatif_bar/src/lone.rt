@@ -7,9 +7,9 @@ ghost use Rattle.indicatif_bar.specs.Runs.{LoneState, Change, Log, is_no};
 ghost use Rattle.indicatif_bar.specs.Draws.{Drew};
 
 use crate::state::{Ask, BarCommand, BarState};
-use indicatif_term::draw_target::{Engine, MultiProgressAlignment};
-use indicatif_term::lines::{LineType, Segment};
-use indicatif_term::target::ProgressDrawTarget;
+use indicatif_term::draw_target::{
+    Engine, LineType, MultiProgressAlignment, ProgressDrawTarget, Segment,
+};
 use indicatif_term::term_like::TermLike;
 use indicatif_text::moment::Moment;
 use indicatif_text::refusal::{Drawn, Refusal};

@@ -13,6 +13,7 @@ pub use crate::counts::Keep;
 use crate::layout::{laid_out, text_height};
 pub use crate::lines::{LineType, Segment};
 use crate::settle::{blanks_of, kept_counts};
+pub use crate::target::{ProgressDrawTarget, Setup};
 use crate::term_like::TermLike;
 use crate::writing::{Painting, paint};
 use indicatif_text::columns::Refusal;
