@@ -76,10 +76,7 @@ fn templates(rt: HostRuntime) -> Result<(), Fail> {
             "{k:^!.red/blue}",
             "[k Center None true \"\\u{1b}[31m\\u{1b}[0m\" \"\\u{1b}[34m\\u{1b}[0m\"]",
         ),
-        (
-            "a\nb{c\nd}",
-            "[\"a\"][|][\"b{c\\nd}\"]",
-        ),
+        ("a\nb{c\nd}", "[\"a\"][|][\"b{c\\nd}\"]"),
         ("ü{ü:>2}ü", "[\"ü\"][ü Right Some(2) false][\"ü\"]"),
     ];
     for (text, parts) in table {
@@ -103,7 +100,11 @@ fn refusals(rt: HostRuntime) -> Result<(), Fail> {
     ];
     for (text, next, state) in table {
         let error = Template::parse(rt.alloc(), text).err().ok_or("parsed")?;
-        assert_eq!(rt; error, TemplateError::Unexpected { next, state }, "at {text}");
+        assert_eq!(rt;
+            error,
+            TemplateError::Unexpected { next, state },
+            "at {text}"
+        );
     }
     for text in ["{bar:70000}", "{k:65536}", "{k:99999.red", "{k:70000}}x"] {
         let error = Template::parse(rt.alloc(), text).err().ok_or("parsed")?;
@@ -131,7 +132,10 @@ fn errors_as_texts(rt: HostRuntime) -> Result<(), Fail> {
         let got = error.to_string(rt.alloc())?;
         assert_eq!(rt; got.as_str(), text);
     }
-    assert_eq!(rt; Refusal::from(unexpected), Refusal::Template { next: 'x', state });
+    assert_eq!(rt;
+        Refusal::from(unexpected),
+        Refusal::Template { next: 'x', state }
+    );
     Ok(())
 }
 

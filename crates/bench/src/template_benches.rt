@@ -6,7 +6,8 @@ use std::time::Instant;
 
 pub const NAMES: [&str; 1] = ["template_parse"];
 
-const TEMPLATE: &str = "{spinner:.green} [{elapsed_precise}] [{wide_bar:.cyan/blue}] {bytes}/{total_bytes} ({eta})";
+const TEMPLATE: &str =
+    "{spinner:.green} [{elapsed_precise}] [{wide_bar:.cyan/blue}] {bytes}/{total_bytes} ({eta})";
 
 /// The measurement of a name, if it is one of this module.
 pub fn run(rt: &HostRuntime, name: &str, count: u64) -> Result<Option<Measured>> {
