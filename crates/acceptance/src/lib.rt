@@ -4,6 +4,8 @@
 #[cfg(test)]
 mod format;
 #[cfg(test)]
+mod in_memory;
+#[cfg(test)]
 mod lone;
 #[cfg(test)]
 mod template;

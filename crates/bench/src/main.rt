@@ -4,11 +4,13 @@
 //! - `measured`: what a measurement tells, and the values that it works on.
 //! - `format_benches`: the formatters, each written into one `String`.
 //! - `template_benches`: the grammar of templates.
+//! - `terminal_benches`: the cell terminal.
 #![tactic(auto)]
 
 mod format_benches;
 mod measured;
 mod template_benches;
+mod terminal_benches;
 
 use anyhow::{Result, bail};
 use std::env;
@@ -28,6 +30,9 @@ fn main(rt: HostRuntime) -> Result<()> {
     if measured.is_none() {
         measured = template_benches::run(&rt, name, count)?;
     }
+    if measured.is_none() {
+        measured = terminal_benches::run(&rt, name, count)?;
+    }
     let Some(measured) = measured else {
         bail!("no measurement of this name");
     };
@@ -41,6 +46,9 @@ fn names(rt: &HostRuntime) -> Result<()> {
         println!(rt; "{name}")?;
     }
     for name in template_benches::NAMES {
+        println!(rt; "{name}")?;
+    }
+    for name in terminal_benches::NAMES {
         println!(rt; "{name}")?;
     }
     Ok(())

@@ -1,7 +1,7 @@
 -- Worked cases of the three lists.
-use Rattle.std.specs.Prelude.{◌≡◌, ℕ, true, false, List, [], ◌∷◌, ◌++◌, flat_map, codes}
+use Rattle.std.specs.Prelude.{◌≡◌, ℕ, true, false, List, [], ◌∷◌, flat_map, codes}
 use Rattle.indicatif_text.specs.Columns.{Cell, rows_of}
-use Rattle.indicatif_term.specs.Lists.{Lists, BarLines, opening_lists, all_rows, drawn, logged, cleared, kept_of}
+use Rattle.indicatif_term.specs.Lists.{BarLines, opening_lists, all_rows, drawn, logged, cleared, kept_of}
 
 -- a bar of one line
 abbrev pub bar : ℕ → List ℕ → BarLines

@@ -62,15 +62,13 @@ impl Counts {
         requires plan { IsSummed height plan }
         requires small { height ≤ 65535 }
         ensures memory { IfErr result (λ e. e ≡ Refusal.Memory) }
-        ensures counts { (w pass : ℕ) (frame : List BarLines) (l : Lists) → CountsOf self.now l → IsPlan w height pass frame plan →
+        ensures counts { (w pass : ℕ) (frame : List BarLines) (l : Lists) →
+            CountsOf self.now l → IsPlan w height pass frame plan →
             IfOk result (λ c. CountsOf c (drawn w height bottom pass frame l)) }
     {
         let mut plan = plan;
         let blanks = blanks_of(bottom, self.live, 0, plan.rows);
-        let segments = match plan.segments.split_off(plan.passing) {
-            Ok(segments) => segments,
-            Err(_) => return Err(Refusal::Memory),
-        };
+        let segments = plan.segments.split_off(plan.passing)?;
         if plan.passing > 0 {
             let passing_rows = rows_of(&plan.segments);
             let rows = NextRows {
@@ -95,8 +93,10 @@ impl Counts {
     pub fn logged(&self, plan: Plan, text: usize, bottom: bool, height: usize) -> Counts
         requires plan { IsSummed height plan }
         requires small { height ≤ 65535 }
-        ensures { (w : ℕ) (lines : List (List ℕ)) (frame : List BarLines) (l : Lists) → CountsOf self.now l → IsPlan w height 0 frame plan →
-            text ≡ min (text_height w lines) (2 ^ 64 - 1) → CountsOf result (logged w height bottom lines frame l) }
+        ensures { (w : ℕ) (lines : List (List ℕ)) (frame : List BarLines) (l : Lists) →
+            CountsOf self.now l → IsPlan w height 0 frame plan →
+            text ≡ min (text_height w lines) (2 ^ 64 - 1) →
+            CountsOf result (logged w height bottom lines frame l) }
     {
         let blanks = blanks_of(bottom, self.kept + self.live, text, plan.rows);
         let rows = NextRows {

@@ -4,7 +4,7 @@
 //! *kept*, of bars that are gone; and the *live* ones, of the last frame. An engine remembers their counts and no text, so
 //! what it needs does not grow with what is logged. It takes kept and live rows back from the last one up, and writes the
 //! new ones in their place, so that the rows above stand at every moment.
-ghost use Rattle.std.specs.Prelude.{◌≡◌, ◌↔◌, map, length, ◌≤◌, IsOk, IsTrue, false, ◌++◌, [], ℕ};
+ghost use Rattle.std.specs.Prelude.{◌≡◌, ◌≢◌, ◌↔◌, map, length, ◌≤◌, IsOk, IsTrue, false, ◌++◌, [], ℕ};
 ghost use Rattle.indicatif_term.specs.Lists.{opening_lists};
 ghost use Rattle.indicatif_term.specs.Inside.Counted.{CountsOf};
 
@@ -74,7 +74,8 @@ impl<T: TermLike + Drop> Engine<T> {
         ensures terminal { terminal result ≡ term }
         ensures sound { has_failed result ≡ false }
         ensures lists { Fits result opening_lists }
-        ensures shows { (w h : ℕ) (opening : Screen) → IsOpening w h opening → Shows w h opening opening_lists (resting opening) }
+        ensures shows { (w h : ℕ) (opening : Screen) → IsOpening w h opening →
+            Shows w h opening opening_lists (resting opening) }
     {
         Engine {
             term,
@@ -113,17 +114,22 @@ impl<T: TermLike + Drop> Engine<T> {
         alignment: MultiProgressAlignment,
     ) -> Result<(), Refusal>
         ensures lists { (l : Lists) → Fits self.old l → let s = T.view (terminal self.old) in
-            Outcome result self.old self.new (drawn s.columns s.rows (is_bottom alignment) pass (map bar_lines frame.now) l) }
-        ensures answer { Answers (T.view (terminal self.old)).columns (all_lines (map bar_lines frame.now)) result }
+            Outcome result self.old self.new
+            (drawn s.columns s.rows (is_bottom alignment) pass (map bar_lines frame.now) l) }
+        ensures answer { Answers (T.view (terminal self.old)).columns
+            (all_lines (map bar_lines frame.now)) result }
         ensures counted { Counted (T.view (terminal self.old)) (T.view (terminal self.new)) result }
-        ensures picture { (l : Lists) → Fits self.old l → has_failed self.old ≡ false → IsTrue (are_plain (all_lines (map bar_lines frame.now))) →
+        ensures picture { (l : Lists) → Fits self.old l → has_failed self.old ≡ false →
+            IsTrue (are_plain (all_lines (map bar_lines frame.now))) →
             let s = T.view (terminal self.old) in
             Repaints s (T.view (terminal self.new)) (IsOk result) l
             (drawn s.columns s.rows (is_bottom alignment) pass (map bar_lines frame.now) l) }
-        ensures anew { IsTrue (has_failed self.old) → IsTrue (are_plain (all_lines (map bar_lines frame.now))) →
+        ensures anew { IsTrue (has_failed self.old) →
+            IsTrue (are_plain (all_lines (map bar_lines frame.now))) →
             let s = T.view (terminal self.old) in
             RepaintsAnew s (T.view (terminal self.new)) (IsOk result)
-            (drawn s.columns s.rows (is_bottom alignment) pass (map bar_lines frame.now) opening_lists) }
+            (drawn s.columns s.rows (is_bottom alignment) pass
+            (map bar_lines frame.now) opening_lists) }
     {
         let width = self.term.width() as usize;
         let height = self.term.height() as usize;
@@ -161,20 +167,25 @@ impl<T: TermLike + Drop> Engine<T> {
     ) -> Result<(), Refusal>
         ensures lists { (l : Lists) → Fits self.old l → let s = T.view (terminal self.old) in
             Outcome result self.old self.new
-            (logged s.columns s.rows (is_bottom alignment) (text_lines (logged_lines text.now)) (map bar_lines frame.now) l) }
+            (logged s.columns s.rows (is_bottom alignment)
+            (text_lines (logged_lines text.now)) (map bar_lines frame.now) l) }
         ensures answer { Answers (T.view (terminal self.old)).columns
             (text_lines (logged_lines text.now) ++ all_lines (map bar_lines frame.now)) result }
         ensures counted { Counted (T.view (terminal self.old)) (T.view (terminal self.new)) result }
         ensures picture { (l : Lists) → Fits self.old l → has_failed self.old ≡ false →
-            IsTrue (are_plain (text_lines (logged_lines text.now) ++ all_lines (map bar_lines frame.now))) →
+            IsTrue (are_plain
+            (text_lines (logged_lines text.now) ++ all_lines (map bar_lines frame.now))) →
             let s = T.view (terminal self.old) in
             Repaints s (T.view (terminal self.new)) (IsOk result) l
-            (logged s.columns s.rows (is_bottom alignment) (text_lines (logged_lines text.now)) (map bar_lines frame.now) l) }
+            (logged s.columns s.rows (is_bottom alignment)
+            (text_lines (logged_lines text.now)) (map bar_lines frame.now) l) }
         ensures anew { IsTrue (has_failed self.old) →
-            IsTrue (are_plain (text_lines (logged_lines text.now) ++ all_lines (map bar_lines frame.now))) →
+            IsTrue (are_plain
+            (text_lines (logged_lines text.now) ++ all_lines (map bar_lines frame.now))) →
             let s = T.view (terminal self.old) in
             RepaintsAnew s (T.view (terminal self.new)) (IsOk result)
-            (logged s.columns s.rows (is_bottom alignment) (text_lines (logged_lines text.now)) (map bar_lines frame.now) opening_lists) }
+            (logged s.columns s.rows (is_bottom alignment)
+            (text_lines (logged_lines text.now)) (map bar_lines frame.now) opening_lists) }
     {
         let width = self.term.width() as usize;
         let height = self.term.height() as usize;
@@ -202,13 +213,17 @@ impl<T: TermLike + Drop> Engine<T> {
     ///
     /// Refused: `NoColumns` where the terminal has no columns; then `Terminal`.
     pub fn clear(&mut self) -> Result<(), Refusal>
-        ensures lists { (l : Lists) → Fits self.old l → Outcome result self.old self.new (cleared l) }
+        ensures lists { (l : Lists) → Fits self.old l →
+            Outcome result self.old self.new (cleared l) }
         ensures answer { Answers (T.view (terminal self.old)).columns [] result }
+        ensures no_memory { result ≢ Err Refusal.Memory }
         ensures counted { Counted (T.view (terminal self.old)) (T.view (terminal self.new)) result }
         ensures picture { (l : Lists) → Fits self.old l → has_failed self.old ≡ false →
-            Repaints (T.view (terminal self.old)) (T.view (terminal self.new)) (IsOk result) l (cleared l) }
+            let s = T.view (terminal self.old) in
+            Repaints s (T.view (terminal self.new)) (IsOk result) l (cleared l) }
         ensures anew { IsTrue (has_failed self.old) →
-            RepaintsAnew (T.view (terminal self.old)) (T.view (terminal self.new)) (IsOk result) (cleared opening_lists) }
+            let s = T.view (terminal self.old) in
+            RepaintsAnew s (T.view (terminal self.new)) (IsOk result) (cleared opening_lists) }
     {
         if self.term.width() == 0 {
             return Err(Refusal::NoColumns);
@@ -247,7 +262,8 @@ impl<T: TermLike + Drop> Engine<T> {
     /// Paints, and remembers the next counts; after a failure, that a call has failed.
     fn repaint(&mut self, next: Counts, painting: &Painting<'_>) -> Result<(), Refusal>
         requires { painting.now.lines ≤ length (frame_lines painting.now.frame.now) }
-        ensures writes { Writes (painting_bytes painting.now) (T.view (terminal self.old)) (T.view (terminal self.new)) result }
+        ensures writes { Writes (painting_bytes painting.now)
+            (T.view (terminal self.old)) (T.view (terminal self.new)) result }
         ensures remembers { Remembers next result self.new }
     {
         match paint(&mut self.term, painting) {

@@ -69,7 +69,8 @@ fn place_members(
     requires small { height ≤ 65535 }
     ensures summed { IfOk result (λ _. IsSummed height plan.new) }
     ensures passing { plan.new.passing ≡ plan.old.passing }
-    ensures placed { (before : List BarRows) → IsLaidOut height before plan.old → ArePlaced width height before (map bar_lines members.now) plan.new result }
+    ensures placed { (before : List BarRows) → IsLaidOut height before plan.old →
+        ArePlaced width height before (map bar_lines members.now) plan.new result }
 {
     for member in members {
         place_member(plan, member, width, height)?;
@@ -88,7 +89,8 @@ fn place_member(
     requires small { height ≤ 65535 }
     ensures summed { IfOk result (λ _. IsSummed height plan.new) }
     ensures passing { plan.new.passing ≡ plan.old.passing }
-    ensures placed { (before : List BarRows) → IsLaidOut height before plan.old → IsPlaced width height before (bar_lines member.now) plan.new result }
+    ensures placed { (before : List BarRows) → IsLaidOut height before plan.old →
+        IsPlaced width height before (bar_lines member.now) plan.new result }
 {
     for line in &member.lines {
         let rows = rows_of_line(line.as_str(), width)?;
@@ -105,7 +107,8 @@ fn place(plan: &mut Plan, bar: u64, rows: usize, height: usize) -> Result<(), Re
     ensures memory { IfErr result (λ e. e ≡ Refusal.Memory) }
     ensures summed { IfOk result (λ _. IsSummed height plan.new) }
     ensures passing { plan.new.passing ≡ plan.old.passing }
-    ensures placed { (before : List BarRows) (s : BarRows) → s.bar ≡ bar → length s.rows ≡ rows → IsLaidOut height before plan.old →
+    ensures placed { (before : List BarRows) (s : BarRows) → s.bar ≡ bar → length s.rows ≡ rows →
+        IsLaidOut height before plan.old →
         IfOk result (λ _. IsLaidOut height (before ++ s ∷ []) plan.new) }
 {
     if plan.full || height - plan.rows < rows {
@@ -123,8 +126,10 @@ fn push_rows(segments: &mut Vec<RowCount>, bar: u64, rows: usize) -> Result<(), 
     requires { sum_by (λ s. s.rows) segments.old.items + rows ≤ 65535 }
     ensures memory { IfErr result (λ e. e ≡ Refusal.Memory) }
     ensures more { length segments.old.items ≤ length segments.new.items }
-    ensures rows { IfOk result (λ _. sum_by (λ s. s.rows) segments.new.items ≡ sum_by (λ s. s.rows) segments.old.items + rows) }
-    ensures onto { (ss : List BarRows) (s : BarRows) → s.bar ≡ bar → length s.rows ≡ rows → segments.old.items ≡ map row_count ss →
+    ensures rows { IfOk result (λ _. sum_by (λ s. s.rows) segments.new.items
+        ≡ sum_by (λ s. s.rows) segments.old.items + rows) }
+    ensures onto { (ss : List BarRows) (s : BarRows) → s.bar ≡ bar → length s.rows ≡ rows →
+        segments.old.items ≡ map row_count ss →
         IfOk result (λ _. segments.new.items ≡ map row_count (onto_segments ss s)) }
 {
     let count = segments.len();
@@ -132,10 +137,8 @@ fn push_rows(segments: &mut Vec<RowCount>, bar: u64, rows: usize) -> Result<(), 
         segments[count - 1].rows += rows;
         return Ok(());
     }
-    match segments.push(RowCount { bar, rows }) {
-        Ok(()) => Ok(()),
-        Err(_) => Err(Refusal::Memory),
-    }
+    segments.push(RowCount { bar, rows })?;
+    Ok(())
 }
 
 /// The rows of a line.

@@ -53,7 +53,7 @@ pub trait TermLike {
     fn clear_line(&mut self) -> io::Result<()>
         ensures { Writes clear_bytes (view self.old) (view self.new) result };
 
-    /// Hands on what is row_count back; no bytes of its own.
+    /// Hands on what is held back; no bytes of its own.
     fn flush(&mut self) -> io::Result<()>
         ensures { Writes [] (view self.old) (view self.new) result };
 }

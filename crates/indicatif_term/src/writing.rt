@@ -12,7 +12,8 @@ use std::io;
 
 /// Empties the cursor's row, or the one above.
 pub fn empty_row<T: TermLike>(term: &mut T, above: bool) -> io::Result<()>
-    ensures { Writes ((if above then move_bytes 0x41 1 else []) ++ clear_bytes) (T.view term.old) (T.view term.new) result }
+    ensures { Writes ((if above then move_bytes 0x41 1 else []) ++ clear_bytes)
+        (T.view term.old) (T.view term.new) result }
 {
     if above {
         term.move_cursor_up(1)?;
@@ -36,7 +37,8 @@ pub fn take_back<T: TermLike>(term: &mut T, below: bool, rows: usize) -> io::Res
 
 /// Writes a line on a row of its own.
 pub fn put<T: TermLike>(term: &mut T, at_end: bool, line: &str) -> io::Result<()>
-    ensures { Writes ((if at_end then next_row else []) ++ line.now) (T.view term.old) (T.view term.new) result }
+    ensures { Writes ((if at_end then next_row else []) ++ line.now)
+        (T.view term.old) (T.view term.new) result }
 {
     if at_end {
         term.write_line("")?;
@@ -46,7 +48,8 @@ pub fn put<T: TermLike>(term: &mut T, at_end: bool, line: &str) -> io::Result<()
 
 /// Writes each line of the text on a row of its own; an empty text is one empty line.
 pub fn put_text<T: TermLike>(term: &mut T, at_end: bool, text: &str) -> io::Result<()>
-    ensures { Writes (lines_bytes at_end (logged_lines text.now)) (T.view term.old) (T.view term.new) result }
+    ensures { Writes (lines_bytes at_end (logged_lines text.now))
+        (T.view term.old) (T.view term.new) result }
 {
     if text.is_empty() {
         return put(term, at_end, "");
@@ -61,7 +64,8 @@ pub fn put_text<T: TermLike>(term: &mut T, at_end: bool, text: &str) -> io::Resu
 
 /// Writes the lines of the text that is logged, if any is.
 pub fn put_logged<T: TermLike>(term: &mut T, at_end: bool, text: Option<&str>) -> io::Result<()>
-    ensures { Writes (lines_bytes at_end (lines_above text.entry)) (T.view term.old) (T.view term.new) result }
+    ensures { Writes (lines_bytes at_end (lines_above text.entry))
+        (T.view term.old) (T.view term.new) result }
 {
     match text {
         Some(text) => put_text(term, at_end, text),
@@ -71,7 +75,8 @@ pub fn put_logged<T: TermLike>(term: &mut T, at_end: bool, text: Option<&str>) -
 
 /// Writes each line of a bar on a row of its own.
 pub fn put_lines<T: TermLike>(term: &mut T, at_end: bool, lines: &[LineType]) -> io::Result<()>
-    ensures { Writes (lines_bytes at_end (map line_text lines.now)) (T.view term.old) (T.view term.new) result }
+    ensures { Writes (lines_bytes at_end (map line_text lines.now))
+        (T.view term.old) (T.view term.new) result }
 {
     let mut started = at_end;
     for line in lines {
@@ -83,7 +88,8 @@ pub fn put_lines<T: TermLike>(term: &mut T, at_end: bool, lines: &[LineType]) ->
 
 /// Writes empty lines.
 pub fn put_blanks<T: TermLike>(term: &mut T, at_end: bool, count: usize) -> io::Result<()>
-    ensures { Writes (lines_bytes at_end (replicate count [])) (T.view term.old) (T.view term.new) result }
+    ensures { Writes (lines_bytes at_end (replicate count []))
+        (T.view term.old) (T.view term.new) result }
 {
     let mut started = at_end;
     for i in 0..count {
@@ -100,7 +106,8 @@ pub fn put_frame<T: TermLike>(
     frame: &[Segment],
     count: usize,
 ) -> io::Result<()>
-    ensures { Writes (lines_bytes at_end (take count (frame_lines frame.now))) (T.view term.old) (T.view term.new) result }
+    ensures { Writes (lines_bytes at_end (take count (frame_lines frame.now)))
+        (T.view term.old) (T.view term.new) result }
 {
     let mut left = count;
     let mut started = at_end;

@@ -3,7 +3,6 @@
 use crate::kinds::Verdict;
 use crate::rows::{BadRow, Row};
 use indicatif_term::in_memory::Cells;
-use indicatif_text::refusal::Refusal;
 use std::alloc::Global;
 
 /// A terminal of this size.
@@ -43,46 +42,40 @@ fn size_of(number: usize) -> Result<u16, BadRow> {
 /// The picture, the contents and the cursor after these bytes, fed in two parts of which the first has `part` bytes;
 /// where that is none, byte by byte.
 fn shown(alloc: Global, size: Size, bytes: &[u8], part: usize) -> Result<String, BadRow> {
-    let mut cells = Cells::new(alloc, size.rows, size.cols).map_err(|e| refused(e))?;
+    let mut cells = Cells::new(alloc, size.rows, size.cols)?;
     if part == 0 {
         for byte in bytes.chunks(1) {
-            cells.feed(byte).map_err(|e| refused(e.1))?;
+            cells.feed(byte).map_err(|e| e.1)?;
         }
     } else {
         cells
             .feed(&bytes[..part.min(bytes.len())])
-            .map_err(|e| refused(e.1))?;
+            .map_err(|e| e.1)?;
         cells
             .feed(&bytes[part.min(bytes.len())..])
-            .map_err(|e| refused(e.1))?;
+            .map_err(|e| e.1)?;
     }
     let picture = picture_of(alloc, &cells)?;
-    let contents = cells.contents().map_err(|e| refused(e))?;
+    let contents = cells.contents()?;
     let (row, column) = cells.cursor();
     Ok(format!(in alloc; "{picture}\t{contents}\t{row} {column}")?)
 }
 
 /// The rows of the picture up to the last one that isn't empty, each ended by a line feed.
 fn picture_of(alloc: Global, cells: &Cells) -> Result<String, BadRow> {
-    let mut rows = cells.picture().map_err(|e| refused(e))?;
-    while let Some(row) = rows.pop() {
-        if !row.is_empty() {
-            rows.push(row)?;
-            break;
-        }
-    }
     let mut picture = String::new(alloc);
-    for row in &rows {
+    let mut empty: usize = 0;
+    for row in &cells.picture()? {
+        if row.is_empty() {
+            empty = empty.saturating_add(1);
+            continue;
+        }
+        for _ in 0..empty {
+            picture.push('\n')?;
+        }
+        empty = 0;
         picture.push_str(row)?;
         picture.push('\n')?;
     }
     Ok(picture)
-}
-
-/// What a refusal says of a row: a size of 0, or want of memory.
-fn refused(refusal: Refusal) -> BadRow {
-    match refusal {
-        Refusal::ZeroSize => BadRow::Number,
-        _ => BadRow::Memory,
-    }
 }

@@ -1,7 +1,9 @@
-//! The kinds of rows, each with a function that asks the product and compares.
+//! The kinds of rows, and how each is asked. A kind's module has one function that asks the product and compares.
+use crate::cells::cells_agree;
+use crate::formats::format_agrees;
 use crate::rows::{BadRow, Row};
-use crate::template;
-use indicatif_text::columns::{columns, wrapped};
+use crate::templates::template_agrees;
+use crate::texts::text_agrees;
 use std::alloc::Global;
 
 /// What rows of a file record.
@@ -9,8 +11,12 @@ use std::alloc::Global;
 pub enum Kind {
     /// The columns and the rows of a text.
     Text,
+    /// A number as a text.
+    Format,
     /// The parts of a template, or its refusal.
     Template,
+    /// What a terminal shows after some bytes.
+    Cells,
 }
 
 /// What became of a row.
@@ -29,7 +35,9 @@ impl Kind {
     pub fn named(name: &str) -> Option<Kind> {
         match name {
             "text" => Some(Kind::Text),
+            "format" => Some(Kind::Format),
             "template" => Some(Kind::Template),
+            "cells" => Some(Kind::Cells),
             _ => None,
         }
     }
@@ -38,42 +46,20 @@ impl Kind {
     pub fn agrees(self, alloc: Global, row: Row<'_>) -> Result<Verdict, BadRow> {
         match self {
             Kind::Text => text_agrees(alloc, row),
+            Kind::Format => format_agrees(alloc, row),
             Kind::Template => template_agrees(alloc, row),
+            Kind::Cells => cells_agree(alloc, row),
         }
     }
 }
 
-/// That the answer is what the row records, or the answer.
-fn compared(wanted: &str, got: String) -> Verdict {
-    if got.as_str() == wanted {
-        Verdict::Agrees
-    } else {
-        Verdict::Differs(got)
+impl Verdict {
+    /// What becomes of a row where the product gave this.
+    pub fn of(wanted: &str, got: String) -> Verdict {
+        if got.as_str() == wanted {
+            Verdict::Agrees
+        } else {
+            Verdict::Differs(got)
+        }
     }
-}
-
-/// A text, a width, two columns for a range, and then what is asked: the columns, and height and last width or the
-/// refusal.
-fn text_agrees(alloc: Global, mut row: Row<'_>) -> Result<Verdict, BadRow> {
-    let text = row.text(alloc)?;
-    let width = row.number()?;
-    row.column()?;
-    row.column()?;
-    let wide = row.column()?;
-    let rows = row.column()?;
-    let wanted = format!(in alloc; "{wide}\t{rows}")?;
-    let columns = columns(text.as_str());
-    let got = match wrapped(text.as_str(), width) {
-        Ok(rows) => format!(in alloc; "{columns}\t{} {}", rows.height, rows.last_line_width)?,
-        Err(refusal) => format!(in alloc; "{columns}\tE{}", refusal.number())?,
-    };
-    Ok(compared(wanted.as_str(), got))
-}
-
-/// A template and its parts or its refusal.
-fn template_agrees(alloc: Global, mut row: Row<'_>) -> Result<Verdict, BadRow> {
-    let template = row.text(alloc)?;
-    let wanted = row.column()?;
-    let got = template::answer(alloc, template.as_str())?;
-    Ok(compared(wanted, got))
 }

@@ -4,13 +4,16 @@
 //! 2 where a file or a row can't be read, or where standard output fails.
 //!
 //! - `rows`: the rows of a file, their columns and escapes.
-//! - `kinds`: the kinds of rows, and how each is asked.
-//! - `template`: templates, spelt as in a row.
+//! - `kinds`: the kinds of rows, and how each is asked: `texts`, `formats`, `templates`,
+//!   `cells`.
 #![tactic(auto)]
 
+mod cells;
+mod formats;
 mod kinds;
 mod rows;
-mod template;
+mod templates;
+mod texts;
 
 use anyhow::{Context, Result, anyhow};
 use kinds::{Kind, Verdict};

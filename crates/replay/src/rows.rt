@@ -3,8 +3,9 @@ ghost use Rattle.std.specs.Prelude.{◌≡◌, ◌<◌, ◌≤◌, length, IfOk}
 ghost use Rattle.std.specs.Str.Iter.{chars_rest};
 ghost use Rattle.replay.specs.declared.rows.BadRow.TheVariants.{Memory};
 
+use indicatif_text::refusal::Refusal;
 use std::alloc::{AllocError, AllocFailed, Global};
-use std::str::Chars;
+use std::str::{Chars, FromStr};
 use thiserror::Error;
 
 /// Why a row can't be read.
@@ -22,6 +23,12 @@ pub enum BadRow {
     /// A column that is no text where one belongs.
     #[error("a text is expected")]
     Text,
+    /// A name that its kind doesn't know.
+    #[error("an unknown name")]
+    Unknown,
+    /// The product refused to be asked.
+    #[error("refused: {0}")]
+    Refused(Refusal),
     /// Memory was refused.
     #[error("out of memory")]
     Memory,
@@ -40,6 +47,15 @@ impl<T: Drop> From<AllocFailed<T>> for BadRow {
 
     fn from(_e: AllocFailed<T>) -> BadRow {
         BadRow::Memory
+    }
+}
+
+impl From<Refusal> for BadRow {
+    fn from(refusal: Refusal) -> BadRow {
+        match refusal {
+            Refusal::Memory => BadRow::Memory,
+            refusal => BadRow::Refused(refusal),
+        }
     }
 }
 
@@ -72,7 +88,7 @@ impl<'a> Row<'a> {
 
     /// The next column as a number.
     pub fn number(&mut self) -> Result<usize, BadRow> {
-        self.column()?.parse::<usize>().map_err(|_| BadRow::Number)
+        parsed(self.column()?)
     }
 
     /// The bytes that the next column stands for.
@@ -84,6 +100,14 @@ impl<'a> Row<'a> {
     pub fn text(&mut self, alloc: Global) -> Result<String, BadRow> {
         String::from_utf8(self.bytes(alloc)?).map_err(|_| BadRow::Text)
     }
+}
+
+/// The number that a text spells.
+pub fn parsed<N: FromStr>(text: &str) -> Result<N, BadRow>
+where
+    N::Err: Drop,
+{
+    text.parse::<N>().map_err(|_| BadRow::Number)
 }
 
 /// The bytes of a text with escapes: `\\`, `\n`, `\t`, `\r`, `\0`, `\e`, `\xHH` for a byte and `\u{HEX}`.

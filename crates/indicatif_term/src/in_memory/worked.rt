@@ -1,6 +1,6 @@
-//! Worked cases of the cell terminal: each clause computes.
+//! Worked cases of the cell terminal, each of which computes, and two laws of it.
 ghost use Rattle.std.specs.Prelude.{◌≡◌, [], ◌∷◌, ◌++◌, codes};
-ghost use Rattle.indicatif_term.specs.Worked.{contents_after, cursor_after, picture_after, ESC};
+ghost use Rattle.indicatif_term.specs.Worked.{contents_after, cursor_after, picture_after, ESC, AnyCut, FarMoves};
 
 /// Lines that are longer than a row.
 pub fn long_lines()
@@ -51,4 +51,14 @@ pub fn marks()
     ensures joined { contents_after 1 4 (codes "a" ++ 0xCC ∷ 0x88 ∷ codes "b") ≡ codes "a" ++ 0xCC ∷ 0x88 ∷ codes "b" }
     ensures front { contents_after 1 4 (0xCC ∷ 0x88 ∷ codes "a") ≡ codes "a" }
     ensures after_empty { contents_after 1 4 (ESC ++ codes "[1C" ++ 0xCC ∷ 0x88 ∷ codes "a") ≡ codes " a" }
+{}
+
+/// Any cut of the same bytes gives the same cells.
+pub fn any_cut()
+    ensures { AnyCut }
+{}
+
+/// A number past any size counts as the greatest size: no terminal is larger.
+pub fn far_moves()
+    ensures { FarMoves }
 {}

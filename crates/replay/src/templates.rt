@@ -1,13 +1,22 @@
-//! Templates, spelt as in a row.
+//! Rows of templates: a template, and its parts or its refusal.
+use crate::kinds::Verdict;
+use crate::rows::{BadRow, Row};
 use indicatif_text::columns::Style;
 use indicatif_text::template::{Alignment, Part, Template, TemplateError};
 use std::alloc::{AllocError, Global};
+
+/// Asks for the parts or the refusal.
+pub fn template_agrees(alloc: Global, mut row: Row<'_>) -> Result<Verdict, BadRow> {
+    let template = row.text(alloc)?;
+    let wanted = row.column()?;
+    Ok(Verdict::of(wanted, answer(alloc, template.as_str())?))
+}
 
 /// The parts of a template with ` | ` between them, or `E6 character state`, or `E7`.
 ///
 /// A part is `L text`, `N`, or `P key align width ! style alternative`, with `-` for what isn't there and styles as the
 /// numbers that they write.
-pub fn answer(alloc: Global, template: &str) -> Result<String, AllocError> {
+fn answer(alloc: Global, template: &str) -> Result<String, AllocError> {
     match Template::parse(alloc, template) {
         Ok(template) => spelt_parts(alloc, template.parts()),
         Err(TemplateError::Unexpected { next, state }) => {
