@@ -39,8 +39,8 @@ def page_of(path):
     for number, line in enumerate(lines):
         found = DEFINITION.match(line.strip())
         if found:
-            words = words_of(lines, number) or "its name says it"
-            rows.append(f"- `{found.group(1)}`: {words}")
+            words = words_of(lines, number) or ""
+            rows.append(f"- `{found.group(1)}`: {words}" if words else f"- `{found.group(1)}`")
     return about, rows
 
 

@@ -13,14 +13,17 @@ use Rattle.indicatif_term.specs.declared.draw_target.Engine.{Engine}
 use Rattle.indicatif_term.specs.declared.lines.Segment.{Segment}
 use Rattle.indicatif_bar.specs.Runs.{Target, LoneState, Call, WritesOn, outcome_from, laid_out, target_of}
 
+-- the outcome
 pub record IsDrawn (target : Target) (call : Call) (now : ℕ) (s : LoneState) (answer : Result Drawn Refusal) (next : LoneState) : Type 0 where
   pub answer_is : answer ≡ (outcome_from target call now s).answer
   pub next_is : next ≡ (outcome_from target call now s).state
 
+-- memory was refused, before or after the lines were laid out
 pub record IsDrawnShort (target : Target) (now : ℕ) (s : LoneState) (answer : Result Drawn Refusal) (next : LoneState) : Type 0 where
   pub answer_is : answer ≡ Err Memory
   pub next_is : (next ≡ s) ⊎ (next ≡ laid_out target now s)
 
+-- the terminal failed while it was written
 pub record IsDrawFailed (target : Target) (call : Call) (now : ℕ) (s : LoneState) (answer : Result Drawn Refusal) (next : LoneState) : Type 0 where
   pub kind : ErrorKind
   pub answer_is : answer ≡ Err (Failure kind)

@@ -46,6 +46,7 @@ opening_state bar = record { bar = bar; stored = []; lists = opening_lists; fail
 
 -- ---- calls
 
+-- what a lone bar can be asked
 pub data Call : Type 0 where
   -- a command of the bar
   Change : (command : Command) → Call
@@ -87,6 +88,7 @@ written target (Change command) s = record s { lists = drawn target.columns targ
 written target (Log text) s =
     record s { lists = logged target.columns target.rows false (text_lines (logged_lines text)) (frame_of s) s.lists; failed = false }
 
+-- an answer and the state then
 pub record Outcome : Type 0 where
   pub answer : Result Drawn Refusal
   pub state : LoneState
@@ -163,6 +165,7 @@ pub record Writes (v v' : TermView) (call : Call) (failed : Bool) (l : Lists) (a
   -- where each line consists of characters with a width and colour sequences
   pub repaints : failed ≡ false → IsTrue (are_plain (lines_by call next)) → Repaints v v' answer l next.lists
 
+-- the same of a target; nothing is known of a hidden one but that it stays hidden
 abbrev pub WritesOn : Option TermView → Option TermView → Call → Bool → Lists → Result Drawn Refusal → LoneState → Type 0
 WritesOn None new call failed l answer next = new ≡ None
 WritesOn (Some v) new call failed l answer next = (v' : TermView) × (new ≡ Some v') × Writes v v' call failed l answer next

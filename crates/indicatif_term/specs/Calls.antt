@@ -8,12 +8,15 @@ use Rattle.indicatif_term.specs.Terminal.{Terminal, after}
 abbrev pub UP : ℕ
 UP = 0x41
 
+-- of a move down
 abbrev pub DOWN : ℕ
 DOWN = 0x42
 
+-- of a move to the right
 abbrev pub RIGHT : ℕ
 RIGHT = 0x43
 
+-- of a move to the left
 abbrev pub LEFT : ℕ
 LEFT = 0x44
 

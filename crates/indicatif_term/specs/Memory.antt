@@ -3,6 +3,7 @@ use Rattle.std.specs.Prelude.{◌≡◌, ℕ, ◌+◌, ◌/◌, ◌%◌, ◌==�
 use Rattle.indicatif_term.specs.Terminal.{Terminal, after}
 use Rattle.indicatif_term.specs.Calls.{TermView, State}
 
+-- what contracts see of a terminal in memory
 pub record MemoryTerm : Type 0 where
   pub terminal : Terminal
   -- how often a call has failed, modulo 2^64
@@ -27,6 +28,7 @@ pub record ReadsBeginning (bytes : List ℕ) (old new : Terminal) : Type 0 where
 abbrev pub move_text : List ℕ → ℕ → List ℕ
 move_text name n = name ++ codes "(" ++ decimal n ++ codes ")\n"
 
+-- a digit of base 16
 abbrev pub hex_digit : ℕ → ℕ
 hex_digit d = if nat_lt d 10 then 0x30 + d else 0x57 + d
 

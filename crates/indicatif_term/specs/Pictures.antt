@@ -10,6 +10,7 @@ cell_text Blank = 0x20 ∷ []
 cell_text (Written g) = g.base ∷ g.marks
 cell_text Continued = []
 
+-- whether nothing stands in a list
 abbrev pub is_empty : List ℕ → Bool
 is_empty [] = true
 is_empty (c ∷ cs) = false
@@ -39,6 +40,7 @@ is_written Blank = false
 is_written (Written g) = true
 is_written Continued = true
 
+-- whether some cell of a row was written
 abbrev pub has_written : List Cell → Bool
 has_written row = list_any is_written row
 

@@ -3,6 +3,7 @@ use Rattle.std.specs.Prelude.{ℕ, ◌+◌, ◌-◌, min, max, Bool, true, false
 use Rattle.unicode_width.specs.Width.{char_width}
 use Rattle.indicatif_text.specs.Columns.{Cell, Blank, Written, Continued, Glyph, glyph_cells, blank_row}
 
+-- rows of cells and a cursor
 pub record Screen : Type 0 where
   pub columns : ℕ
   pub height : ℕ
@@ -16,6 +17,7 @@ pub record Screen : Type 0 where
 abbrev pub top : Screen → ℕ
 top s = length s.rows - s.height
 
+-- the row that the cursor is on
 abbrev pub cursor_row : Screen → List Cell
 cursor_row s = slice_index_or s.rows s.row []
 
@@ -25,6 +27,7 @@ blank_screen rows columns = record { columns = columns; height = rows; rows = re
 
 -- ---- writing into a row
 
+-- whether a cell continues a wide glyph
 abbrev pub is_continued : Cell → Bool
 is_continued Continued = true
 is_continued Blank = false
@@ -54,6 +57,7 @@ written_at n cells row = cut_before n row ++ cells ++ emptied_front (drop (n + l
 
 -- ---- joining a character of no columns to the glyph before the cursor
 
+-- the glyph with one more mark
 abbrev pub with_mark : ℕ → Glyph → Glyph
 with_mark c g = record g { marks = g.marks ++ c ∷ [] }
 
@@ -64,11 +68,13 @@ joined_back c (Continued ∷ cs) = Continued ∷ joined_back c cs
 joined_back c (Written g ∷ cs) = Written (with_mark c g) ∷ cs
 joined_back c (Blank ∷ cs) = Blank ∷ cs
 
+-- the row with the mark joined to the glyph that ends at column n
 abbrev pub joined_at : ℕ → ℕ → List Cell → List Cell
 joined_at n c row = reverse (joined_back c (reverse (take n row))) ++ drop n row
 
 -- ---- what a terminal does
 
+-- what a terminal is asked to do
 pub data Op : Type 0 where
   Put : (c : ℕ) → Op
   Return : Op
@@ -79,6 +85,7 @@ pub data Op : Type 0 where
   Left : (n : ℕ) → Op
   EmptyRow : Op
 
+-- the screen with this row in the place of the cursor's
 abbrev pub with_row : Screen → List Cell → Screen
 with_row s r = record s { rows = slice_set s.rows s.row r }
 
@@ -100,13 +107,16 @@ put_wide c w s =
     else put_here (record { base = c; marks = [] }) w
     (if nat_le (s.column + w) s.columns then s else line_feed (record s { column = 0 }))
 
+-- a character of no columns
 abbrev pub put_mark : ℕ → Screen → Screen
 put_mark c s = with_row s (joined_at s.column c (cursor_row s))
 
+-- a character by its columns; one without a width is ignored
 abbrev pub put_sized : ℕ → Option ℕ → Screen → Screen
 put_sized c None s = s
 put_sized c (Some w) s = if w == 0 then put_mark c s else put_wide c w s
 
+-- the screen after what was asked
 abbrev pub performed : Op → Screen → Screen
 performed (Put c) s = put_sized c (char_width false c) s
 performed Return s = record s { column = 0 }
@@ -117,6 +127,7 @@ performed (Right n) s = if s.column == s.columns then s else record s { column =
 performed (Left n) s = record s { column = s.column - n }
 performed EmptyRow s = with_row s (blank_row s.columns)
 
+-- the screen after all that was asked
 abbrev pub performed_all : List Op → Screen → Screen
 performed_all [] s = s
 performed_all (op ∷ ops) s = performed_all ops (performed op s)

@@ -14,6 +14,7 @@ pub data Place : Type 0 where
   -- after ESC [ and the digits of this number, which is 0 before the first; None after a semicolon
   Sequence : (number : Option ℕ) → Place
 
+-- a digit from 0 to 9
 abbrev pub is_digit : ℕ → Bool
 is_digit c = nat_le 0x30 c && nat_le c 0x39
 
@@ -45,6 +46,7 @@ sequence_ops (Some n) c =
 abbrev pub plain_ops : ℕ → List Op
 plain_ops c = if c == 0x1B then [] else if c == 0x0D then Return ∷ [] else if c == 0x0A then LineFeed ∷ [] else Put c ∷ []
 
+-- where the character after one outside a sequence stands
 abbrev pub plain_place : ℕ → Place
 plain_place c = if c == 0x1B then Escaped else Plain
 
@@ -54,6 +56,7 @@ char_ops Plain c = plain_ops c
 char_ops Escaped c = if c == 0x5B then [] else plain_ops c
 char_ops (Sequence number) c = if is_parameter c then [] else sequence_ops number c
 
+-- where the character after one at any place stands
 abbrev pub char_place : Place → ℕ → Place
 char_place Plain c = plain_place c
 char_place Escaped c = if c == 0x5B then Sequence (Some 0) else plain_place c
@@ -61,11 +64,13 @@ char_place (Sequence number) c = if is_parameter c then Sequence (number_with nu
 
 -- ---- bytes
 
+-- where a terminal is in the bytes that it reads
 pub record Reader : Type 0 where
   pub place : Place
   -- the bytes of a character that isn't whole: those since the last one that can begin a character
   pub spelling : List ℕ
 
+-- between two characters, outside a sequence
 abbrev pub idle : Reader
 idle = record { place = Plain; spelling = [] }
 
@@ -73,6 +78,7 @@ idle = record { place = Plain; spelling = [] }
 abbrev pub is_leading : ℕ → Bool
 is_leading b = nat_lt b 0x80 || nat_le 0xC0 b
 
+-- the bytes with one more; one that can begin a character begins anew
 abbrev pub spelling_with : List ℕ → ℕ → List ℕ
 spelling_with spelling b = (if is_leading b then [] else spelling) ++ b ∷ []
 
@@ -80,6 +86,7 @@ spelling_with spelling b = (if is_leading b then [] else spelling) ++ b ∷ []
 abbrev pub kept : List ℕ → List ℕ
 kept bytes = if nat_lt (length bytes) 4 then bytes else []
 
+-- the character that bytes spell
 abbrev pub first_char : List ℕ → ℕ
 first_char bytes = slice_index (chars bytes) 0
 
@@ -89,6 +96,7 @@ byte_ops r b =
     let bytes = spelling_with r.spelling b in
     if is_utf8 bytes then char_ops r.place (first_char bytes) else []
 
+-- the reader after a byte
 abbrev pub byte_reader : Reader → ℕ → Reader
 byte_reader r b =
     let bytes = spelling_with r.spelling b in
@@ -100,12 +108,14 @@ abbrev pub ops_of : Reader → List ℕ → List Op
 ops_of r [] = []
 ops_of r (b ∷ bytes) = byte_ops r b ++ ops_of (byte_reader r b) bytes
 
+-- the reader after bytes
 abbrev pub reader_after : Reader → List ℕ → Reader
 reader_after r [] = r
 reader_after r (b ∷ bytes) = reader_after (byte_reader r b) bytes
 
 -- ---- a terminal
 
+-- a screen, and where in the bytes it is
 pub record Terminal : Type 0 where
   pub screen : Screen
   pub reader : Reader

@@ -39,6 +39,7 @@ visible = visible_from 0
 abbrev pub width_of : ℕ → ℕ
 width_of c = unwrap_or (char_width false c) 0
 
+-- the columns of a text: those of its visible characters
 abbrev pub columns_of : List ℕ → ℕ
 columns_of text = sum_by width_of (visible text)
 
@@ -49,6 +50,7 @@ pub record Glyph : Type 0 where
   pub base : ℕ
   pub marks : List ℕ
 
+-- the columns of a glyph: those of its first character
 abbrev pub glyph_width : Glyph → ℕ
 glyph_width g = width_of g.base
 
@@ -68,6 +70,7 @@ pub data Cell : Type 0 where
   -- a further cell of the wide glyph at its left
   Continued : Cell
 
+-- a glyph as cells: its first one, and a continued one for each further column
 abbrev pub glyph_cells : Glyph → List Cell
 glyph_cells g = Written g ∷ replicate (glyph_width g - 1) Continued
 
@@ -82,9 +85,11 @@ pieces_after w piece (g ∷ gs) =
     if nat_le (columns_in piece + glyph_width g) w then pieces_after w (piece ++ g ∷ []) gs
     else piece ∷ pieces_after w (g ∷ []) gs
 
+-- glyphs cut into pieces of at most w columns, each as long as can be
 abbrev pub pieces_of : ℕ → List Glyph → List (List Glyph)
 pieces_of w gs = pieces_after w [] gs
 
+-- a row of w empty cells
 abbrev pub blank_row : ℕ → List Cell
 blank_row w = replicate w Blank
 

@@ -83,6 +83,7 @@ decimal_bytes = bytes_text 1000 (codes "kMGTPE") (codes "B")
 
 -- ---- durations, in nanoseconds
 
+-- how many nanoseconds a second has
 abbrev pub nanos_per_second : ℕ
 nanos_per_second = 1000000000
 
@@ -99,21 +100,27 @@ pub record TimeSpan : Type 0 where
   pub nanos : ℕ
   pub name : List ℕ
 
+-- a year of 365 days
 abbrev pub year : TimeSpan
 year = record { nanos = 365 * 86400 * nanos_per_second; name = codes "year" }
 
+-- a week of 7 days
 abbrev pub week : TimeSpan
 week = record { nanos = 7 * 86400 * nanos_per_second; name = codes "week" }
 
+-- a day of 24 hours
 abbrev pub day : TimeSpan
 day = record { nanos = 86400 * nanos_per_second; name = codes "day" }
 
+-- an hour of 60 minutes
 abbrev pub hour : TimeSpan
 hour = record { nanos = 3600 * nanos_per_second; name = codes "hour" }
 
+-- a minute of 60 seconds
 abbrev pub minute : TimeSpan
 minute = record { nanos = 60 * nanos_per_second; name = codes "minute" }
 
+-- a second
 abbrev pub second : TimeSpan
 second = record { nanos = nanos_per_second; name = codes "second" }
 

@@ -45,6 +45,7 @@ DigitsSpell = (k n : ℕ) → n < 2 ^ 128 → digits_value 10 (decimal (n / 10 ^
 abbrev pub OnlyZerosDropped : Type 0
 OnlyZerosDropped = (ds : List ℕ) → (k : ℕ) × (without_trailing_zeros ds ++ replicate k 48 ≡ ds)
 
+-- no zero is left at the end
 abbrev pub NoZeroLeft : Type 0
 NoZeroLeft = (ds es : List ℕ) → without_trailing_zeros ds ≢ es ++ (48 ∷ [])
 
@@ -74,6 +75,7 @@ TellsSeconds = (n : ℕ) → n < 2 ^ 64 → seconds_told (formatted_duration n) 
 abbrev pub IsNotPast : ℕ → TimeSpan → TimeSpan → Type 0
 IsNotPast n unit next = IsTrue (reaches n unit next) → unit.nanos ≤ (told n).1.nanos
 
+-- no unit that a duration reaches is longer than the one that it is told in
 abbrev pub NoLongerUnit : Type 0
 NoLongerUnit = (n : ℕ)
     → IsNotPast n year week × IsNotPast n week day × IsNotPast n day hour × IsNotPast n hour minute × IsNotPast n minute second

@@ -14,6 +14,7 @@ pub record Layout : Type 0 where
   pub style : Option (List ℕ)
   pub alternative : Option (List ℕ)
 
+-- a part of a template
 pub data TemplatePart : Type 0 where
   LiteralText : (text : List ℕ) → TemplatePart
   LineBreak : TemplatePart

@@ -2,6 +2,7 @@
 use Rattle.std.specs.Prelude.{◌≡◌, ℕ, zero, suc, ◌-◌, ⊤, List, [], ◌∷◌, take, drop, flat_map, Some, None, All, length}
 use Rattle.indicatif_text.specs.Columns.{colour_length, visible}
 
+-- a piece of a text
 pub data TextPiece : Type 0 where
   -- a colour sequence
   Colour : (sequence : List ℕ) → TextPiece
@@ -58,6 +59,7 @@ PiecesAreExact = (text : List ℕ) → All IsExact (pieces_of_text text)
 abbrev pub IsNoEmptyPiece : TextPiece → Type 0
 IsNoEmptyPiece piece = ◌≡◌ (piece_text piece) [] → ⊥
 
+-- no piece of a text is empty
 abbrev pub NoEmptyPieces : Type 0
 NoEmptyPieces = (text : List ℕ) → All IsNoEmptyPiece (pieces_of_text text)
 
@@ -69,5 +71,6 @@ NoRunsAdjoin (Run text ∷ []) = ⊤
 NoRunsAdjoin (Run text ∷ Run next ∷ ps) = ⊥
 NoRunsAdjoin (Run text ∷ Colour sequence ∷ ps) = NoRunsAdjoin ps
 
+-- no run follows a run
 abbrev pub RunsAreLongest : Type 0
 RunsAreLongest = (text : List ℕ) → NoRunsAdjoin (pieces_of_text text)

@@ -30,9 +30,11 @@ pub record Sketch : Type 0 where
   pub kept : List ℕ
   pub run : List ℕ
 
+-- what the code has drafted, in the words of the grammar
 unfoldable pub sketch_of : Draft → Sketch
 sketch_of d = record { done = map part_of d.parts.items; kept = chars (string_bytes d.kept); run = chars (string_bytes d.run) }
 
+-- nothing drafted yet
 abbrev pub empty_sketch : Sketch
 empty_sketch = record { done = []; kept = []; run = [] }
 

@@ -14,6 +14,7 @@ use Rattle.indicatif_text.specs.Styles.{style_of}
 
 -- ---- pieces
 
+-- what stands whole at the front of a text
 pub data Piece : Type 0 where
   -- a literal character, also of a doubled or a last brace
   Char : (c : ℕ) → Piece
@@ -66,10 +67,12 @@ style_named (c ∷ cs) = Some (style_of (c ∷ cs))
 abbrev pub is_alternative_char : ℕ → Bool
 is_alternative_char c = not (c == 0x7D)
 
+-- what stands behind an alternative style: its closing brace, or the end of the text
 abbrev pub alternative_ends : Layout → List ℕ → List ℕ → Front Layout
 alternative_ends layout text [] = Takes [] layout
 alternative_ends layout text (c ∷ cs) = Takes cs (record layout { alternative = style_named text })
 
+-- an alternative style and what ends it
 unfoldable pub with_alternative : Layout → List ℕ → Front Layout
 with_alternative layout text =
     alternative_ends layout (take_while is_alternative_char text) (after_run is_alternative_char text)
@@ -78,12 +81,14 @@ with_alternative layout text =
 abbrev pub is_style_char : ℕ → Bool
 is_style_char c = not (c == 0x2F || (c == 0x7D))
 
+-- what stands behind a style: a closing brace, a slash and the alternative, or the end of the text
 abbrev pub style_ends : Layout → List ℕ → List ℕ → Front Layout
 style_ends layout text [] = Takes [] layout
 style_ends layout text (c ∷ cs) =
     let named = record layout { style = style_named text } in
     if c == 0x7D then Takes cs named else with_alternative named cs
 
+-- a style and what ends it
 unfoldable pub with_style : Layout → List ℕ → Front Layout
 with_style layout text = style_ends layout (take_while is_style_char text) (after_run is_style_char text)
 
@@ -91,6 +96,7 @@ with_style layout text = style_ends layout (take_while is_style_char text) (afte
 abbrev pub is_width_char : ℕ → Bool
 is_width_char c = is_ascii_digit c || (c == 0x21)
 
+-- what stands behind a width: a closing brace, a dot and the style, the end of the text, or a character that is refused
 abbrev pub width_ends : Layout → Option ℕ → TemplateState → List ℕ → Front Layout
 width_ends layout width state [] = Takes [] layout
 width_ends layout width state (c ∷ cs) =
@@ -104,6 +110,7 @@ abbrev pub state_after : TemplateState → List ℕ → TemplateState
 state_after state [] = state
 state_after state (c ∷ cs) = Width
 
+-- a width and what ends it
 unfoldable pub with_width : Layout → TemplateState → List ℕ → Front Layout
 with_width layout state text =
     let mix = take_while is_width_char text in

@@ -5,6 +5,7 @@ use Rattle.indicatif_term.specs.declared.in_memory.grid.Grid.TheInside.{Inside}
 use Rattle.indicatif_term.specs.declared.in_memory.grid.Op as kept
 use Rattle.indicatif_term.specs.declared.in_memory.grid.Op.TheVariants as variants
 
+-- the screen that a grid stands for
 abbrev pub screen_of : Inside → Screen
 screen_of g = record { columns = g.columns; height = g.height; rows = g.rows.items; row = g.row; column = g.column }
 
@@ -18,6 +19,7 @@ pub record IsWhole (s : Screen) : Type 0 where
   pub in_columns : s.column ≤ s.columns
   pub full_rows : (k : ℕ) → k < length s.rows → length (slice_index_or s.rows k []) ≡ s.columns
 
+-- a grid whose rows have its columns, and whose cursor stands on one of them
 abbrev pub IsSound : Inside → Type 0
 IsSound g = IsWhole (screen_of g)
 
