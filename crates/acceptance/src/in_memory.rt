@@ -100,10 +100,10 @@ fn want_of_memory(rt: HostRuntime) -> Result<(), Fail> {
             return Ok(());
         }
     };
-    let mut failed = 0;
+    let mut failed: u64 = 0;
     for text in ["abcdef", "\u{56FD}", "e\u{308}", "\r\n\r\nx"] {
         if let Err(e) = term.write_str(text) {
-            failed += 1;
+            failed = failed.saturating_add(1);
             assert_eq!(rt; e.kind(), ErrorKind::OutOfMemory);
         }
         assert_eq!(rt; term.faults(), failed);
