@@ -1,5 +1,5 @@
 -- What the code of templates holds while it reads, in the words of the grammar. For the code's own functions.
-use Rattle.std.specs.Prelude.{◌≡◌, ℕ, List, [], ◌∷◌, ◌++◌, map, option_map, string_bytes, if◌then◌else◌}
+use Rattle.std.specs.Prelude.{◌≡◌, ℕ, List, [], ◌∷◌, ◌++◌, map, option_map, take, drop, string_bytes, if◌then◌else◌}
 use Rattle.std.specs.Str.{chars}
 use Rattle.indicatif_text.specs.declared.template.TemplateError.{TemplateError}
 use Rattle.indicatif_text.specs.declared.template.reading.Options.{Options}
@@ -30,9 +30,14 @@ pub record Sketch : Type 0 where
   pub kept : List ℕ
   pub run : List ℕ
 
--- what the code has drafted, in the words of the grammar
+-- what the code has drafted, in the words of the grammar: the first bytes of its literal text, as many as it keeps, stay
+-- whatever follows; the others are the run
 unfoldable pub sketch_of : Draft → Sketch
-sketch_of d = record { done = map part_of d.parts.items; kept = chars (string_bytes d.kept); run = chars (string_bytes d.run) }
+sketch_of d = record {
+  done = map part_of d.parts.items;
+  kept = chars (take d.kept (string_bytes d.literal));
+  run = chars (drop d.kept (string_bytes d.literal));
+}
 
 -- nothing drafted yet
 abbrev pub empty_sketch : Sketch
@@ -46,6 +51,10 @@ literal_part (c ∷ cs) = LiteralText (c ∷ cs) ∷ []
 -- the parts of a sketch
 abbrev pub sketched_parts : Sketch → List TemplatePart
 sketched_parts s = s.done ++ literal_part (s.kept ++ s.run)
+
+-- a sketch whose literal run stays whatever follows
+abbrev pub kept_sketch : Sketch → Sketch
+kept_sketch s = record s { kept = s.kept ++ s.run; run = [] }
 
 -- a sketch whose literal text was made a part
 abbrev pub closed_sketch : Sketch → Sketch

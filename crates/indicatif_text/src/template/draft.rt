@@ -1,8 +1,5 @@
 //! A template that is half read.
-ghost use Rattle.std.specs.Prelude.{◌≡◌, ◌∷◌, ◌++◌, [], ◌⊎◌, ◌<◌, ℕ, map, chars, string_bytes, length, MatchResult, OnOk, IfOk, IfErr, IsUtf8};
-ghost use Rattle.indicatif_text.specs.Parts.{part_of};
-ghost use Rattle.indicatif_text.specs.Reading.{Leads, sketch_of, empty_sketch, sketched_parts, closed_sketch, with_part, with_run, added, piece_of, layout_of};
-ghost use Rattle.indicatif_text.specs.Template.{Char, SpacedBrace, Keyed, LastBrace, IsRefused};
+ghost use Rattle.std.specs.Prelude.{◌≡◌, ◌∷◌, ◌++◌, [], ◌⊎◌, ◌<◌, map, chars, string_bytes, length, OnOk, IfOk, IfErr, IsCharBoundary};
 
 use crate::runs::{Run, split_first, split_run};
 use crate::template::reading::{Options, Token, front};
@@ -10,17 +7,22 @@ use crate::template::{Part, TemplateError};
 use std::alloc::{AllocError, Global};
 use std::mem;
 
-/// The parts so far, the literal text that stays whatever follows, and the literal run behind it, which an opening brace
-/// at the end would take away.
+/// The parts so far and the literal text behind them. The first `kept` bytes of the text stay whatever follows; the others
+/// are the literal run, which an opening brace at the end would take away.
 #[derive(Drop)]
 pub(super) struct Draft {
     alloc: Global,
     parts: Vec<Part>,
-    kept: String,
-    run: String,
+    literal: String,
+    kept: usize,
+    ghost kept_whole: { IsCharBoundary (string_bytes literal) kept },
 }
 
 impl Draft {
+    ghost use Rattle.indicatif_text.specs.Parts.{part_of};
+    ghost use Rattle.indicatif_text.specs.Reading.{Leads, sketch_of, empty_sketch, sketched_parts, kept_sketch, closed_sketch, with_part, with_run, added, piece_of, layout_of};
+    ghost use Rattle.indicatif_text.specs.Template.{Char, SpacedBrace, Keyed, LastBrace, IsRefused};
+
     /// Nothing so far, with room for a part to every eight bytes of a text of `len` bytes.
     pub(super) fn new(alloc: Global, len: usize) -> Result<Draft, AllocError>
         ensures { IfOk result (λ draft. sketch_of draft ≡ empty_sketch) }
@@ -29,35 +31,27 @@ impl Draft {
         Ok(Draft {
             alloc,
             parts,
-            kept: String::new(alloc),
-            run: String::new(alloc),
+            literal: String::new(alloc),
+            kept: 0,
         })
     }
 
     /// Puts the literal run to the text that stays.
-    fn keep_run(&mut self) -> Result<(), AllocError>
-        ensures kept { OnOk result (chars (string_bytes self.new.kept) ≡ chars (string_bytes self.old.kept) ++ chars (string_bytes self.old.run)) }
-        ensures run { OnOk result (chars (string_bytes self.new.run) ≡ []) }
-        ensures parts { OnOk result (self.new.parts.items ≡ self.old.parts.items) }
+    fn keep_run(&mut self)
+        ensures { sketch_of self.new ≡ kept_sketch (sketch_of self.old) }
     {
-        let run = mem::replace(&mut self.run, String::new(self.alloc));
-        if self.kept.is_empty() {
-            self.kept = run;
-        } else {
-            self.kept.push_str(run.as_str())?;
-        }
-        Ok(())
+        self.kept = self.literal.len();
     }
 
     /// Makes a part of the literal text, if there is one.
     fn close_literal(&mut self) -> Result<(), AllocError>
         ensures { OnOk result (sketch_of self.new ≡ closed_sketch (sketch_of self.old)) }
     {
-        self.keep_run()?;
-        if self.kept.is_empty() {
+        if self.literal.is_empty() {
             return Ok(());
         }
-        let literal = mem::replace(&mut self.kept, String::new(self.alloc));
+        let literal = mem::replace(&mut self.literal, String::new(self.alloc));
+        self.kept = 0;
         self.parts.push(Part::Literal(literal))?;
         Ok(())
     }
@@ -75,7 +69,7 @@ impl Draft {
     fn push_run(&mut self, text: &str) -> Result<(), AllocError>
         ensures { OnOk result (sketch_of self.new ≡ with_run (sketch_of self.old) (chars text.now)) }
     {
-        self.run.push_str(text)?;
+        self.literal.push_str(text)?;
         Ok(())
     }
 
@@ -83,7 +77,7 @@ impl Draft {
     fn push_literal(&mut self, c: char) -> Result<(), AllocError>
         ensures { OnOk result (sketch_of self.new ≡ added (sketch_of self.old) (Char c)) }
     {
-        self.run.push(c)?;
+        self.literal.push(c)?;
         Ok(())
     }
 
@@ -91,17 +85,17 @@ impl Draft {
     fn drop_run(&mut self)
         ensures { sketch_of self.new ≡ added (sketch_of self.old) LastBrace }
     {
-        self.run.clear();
+        self.literal.truncate(self.kept);
     }
 
     /// Adds an opening brace that a white space makes literal.
     fn push_spaced(&mut self, key: &str, space: char) -> Result<(), AllocError>
         ensures { OnOk result (sketch_of self.new ≡ added (sketch_of self.old) (SpacedBrace ((0x7B ∷ chars key.now) ++ space ∷ []))) }
     {
-        self.run.push('{')?;
-        self.run.push_str(key)?;
-        self.run.push(space)?;
-        self.keep_run()?;
+        self.push_literal('{')?;
+        self.push_run(key)?;
+        self.push_literal(space)?;
+        self.keep_run();
         Ok(())
     }
 

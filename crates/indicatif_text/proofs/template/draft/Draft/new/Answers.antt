@@ -1,5 +1,5 @@
 use Rattle.std.proofs.Common.{◌∙◌, ap}
-use Rattle.std.specs.Prelude.{chars, map}
+use Rattle.std.specs.Prelude.{chars, map, take, drop}
 use Rattle.std.proofs.lemmas.Str.{chars-nil}
 use Rattle.indicatif_text.specs.Parts.{part_of}
 use Rattle.indicatif_text.specs.Reading.{sketch_of, empty_sketch}
@@ -8,4 +8,6 @@ use Rattle.indicatif_text.proofs.template.draft.Draft.new.Goals as goal
 
 pub returns : goal.returns
 unfolding sketch_of
-returns c = same_sketch _ empty_sketch (ap (map part_of) c.in_ok-parts.ensures.items) (ap chars c.new.ensures.bytes ∙ chars-nil) (ap chars c.new-2.ensures.bytes ∙ chars-nil)
+returns c =
+    same_sketch _ empty_sketch (ap (map part_of) c.in_ok-parts.ensures.items)
+    (ap (λ bs. chars (take 0 bs)) c.new.ensures.bytes ∙ chars-nil) (ap (λ bs. chars (drop 0 bs)) c.new.ensures.bytes ∙ chars-nil)
