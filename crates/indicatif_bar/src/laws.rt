@@ -6,6 +6,14 @@ ghost use Rattle.indicatif_text.specs.declared.refusal.Drawn.{Drawn};
 ghost use Rattle.indicatif_term.specs.Calls.{TermView};
 ghost use Rattle.indicatif_bar.specs.Runs.{Call, LoneState, Runs};
 ghost use Rattle.indicatif_bar.specs.Headline.{Headline, WholeRun, OneOutcome};
+ghost use Rattle.indicatif_bar.specs.Says.{EachSays};
+
+/// When a call of a lone bar gives which answer: `Limited` exactly where no draw is asked, `Hidden` exactly on a hidden
+/// target, `NoColumns` exactly at width 0, `TooWide` exactly where a line is; the terminal's failure exactly where its faults
+/// grew; and nothing was written with any other answer than `Yes` and that.
+pub fn what_an_answer_says()
+    ensures { EachSays }
+{}
 
 /// The headline: after each call of any list to a lone bar, up to the first that the terminal breaks off, where each line
 /// consists of characters with a width and colour sequences, the terminal's rows are the untouched rows, the rows above, the
