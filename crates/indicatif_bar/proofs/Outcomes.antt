@@ -89,13 +89,16 @@ repaints_nothing_anew v answer l' denied = record {
 pub writes_nothing : (old : Option TermView) (call : Call) (failed : Bool) (l : Lists) (answer : Result Drawn Refusal) (next : LoneState) → (answer ≡ Ok Yes → ⊥) → is_failure answer ≡ false →
     WritesOn old old call failed l answer next
 writes_nothing None call failed l answer next denied none = refl
-writes_nothing (Some v) call failed l answer next denied none =
-    (v, refl, record {
-      counted = nothing_counted v answer none;
-      silent = λ a b. refl;
-      repaints = λ a b. repaints_nothing v answer l next.lists denied;
-      anew = λ a b p. repaints_nothing_anew v answer next.lists denied;
-    })
+writes_nothing (Some v) call failed l answer next denied none = (
+  v,
+  refl,
+  record {
+    counted = nothing_counted v answer none;
+    silent = λ a b. refl;
+    repaints = λ a b. repaints_nothing v answer l next.lists denied;
+    anew = λ a b p. repaints_nothing_anew v answer next.lists denied;
+  },
+)
 
 -- a draw that wrote nothing, and its outcome
 pub drawn_nothing : (old : Option TermView) (call : Call) (now : ℕ) (s : LoneState) (answer : Result Drawn Refusal) → (answer ≡ Ok Yes → ⊥) → is_failure answer ≡ false →
