@@ -7,18 +7,18 @@ use Rattle.indicatif_text.specs.declared.refusal.Refusal.TheVariants.{NoColumns,
 use Rattle.indicatif_text.specs.declared.refusal.Drawn.{Drawn}
 use Rattle.indicatif_text.specs.declared.refusal.Drawn.TheVariants.{Yes, Limited, Hidden}
 use Rattle.indicatif_term.specs.Terminal.{Terminal, after}
-use Rattle.indicatif_term.specs.Shows.{Shows, Keeps}
+use Rattle.indicatif_term.specs.Shows.{Shows, Keeps, resting}
 use Rattle.indicatif_term.specs.Calls.{TermView, Told, State, Bytes, Nothing, led_on}
 use Rattle.indicatif_term.specs.Lists.{Lists, BarLines, opening_lists, drawn}
 use Rattle.indicatif_term.specs.Frames.{bar_lines, all_lines, are_plain, some_wide, is_fault}
-use Rattle.indicatif_term.specs.Engines.{terminal, Fits, has_failed, Outcome as Onward, Answers, Counted, faults_after, Repaints as EngineRepaints}
+use Rattle.indicatif_term.specs.Engines.{terminal, Fits, has_failed, Outcome as Onward, Answers, Counted, faults_after, Repaints, RepaintsAnew}
 use Rattle.indicatif_term.specs.declared.draw_target.Engine.{Engine}
 use Rattle.indicatif_bar.specs.Bars.{Bar, Command, lines_of_bar}
 use Rattle.std.proofs.Common.{Vec, Global, chars}
 use Rattle.std.proofs.lemmas.Simd.{map-map}
 use Rattle.indicatif_term.specs.Frames.{line_text}
 use Rattle.indicatif_term.specs.declared.lines.LineType.{LineType}
-use Rattle.indicatif_bar.specs.Runs.{Target, target_of, LoneState, Call, CallMade, numbered, asks, is_no, laid_out, frame_of, lines_by, written, Outcome, outcome_from, CountsFaults, is_failure, Repaints, Writes, WritesOn}
+use Rattle.indicatif_bar.specs.Runs.{Target, target_of, LoneState, Call, CallMade, numbered, asks, is_no, laid_out, frame_of, lines_by, written, Outcome, outcome_from, lays_out, CountsFaults, is_failure, Writes, WritesOn}
 use Rattle.indicatif_bar.specs.Draws.{IsDrawn, IsDrawnShort, IsDrawFailed, DrawMade, Drew}
 use Rattle.indicatif_term.specs.declared.lines.Segment.{Segment}
 
@@ -70,19 +70,35 @@ take_none (suc k) = refl
 pub nothing_keeps : (n : ℕ) (t : Terminal) → Keeps n t []
 nothing_keeps n t k = ap (λ u. take n u.screen.rows) (ap (after t) (take_none k) ∙ after_nothing t)
 
-pub repaints_nothing : (v : TermView) (answer : Result Drawn Refusal) (l l' : Lists) → (answer ≡ Ok Yes → ⊥) → Repaints v v answer l l'
+pub repaints_nothing : (v : TermView) (answer : Result Drawn Refusal) (l l' : Lists) → (answer ≡ Ok Yes → ⊥) → Repaints v v (answer ≡ Ok Yes) l l'
 repaints_nothing v answer l l' denied = record {
-  bytes = [];
+  written = [];
   told_is = sym (led_nowhere v.told);
   keeps = λ opening t s. nothing_keeps (opening.row + length l.above) t;
+  shows = λ yes. absurd (denied yes);
+}
+
+repaints_nothing_anew : (v : TermView) (answer : Result Drawn Refusal) (l' : Lists) → (answer ≡ Ok Yes → ⊥) → RepaintsAnew v v (answer ≡ Ok Yes) l'
+repaints_nothing_anew v answer l' denied = record {
+  written = [];
+  told_is = sym (led_nowhere v.told);
+  keeps = λ s opening a b. nothing_keeps opening.row (resting s);
   shows = λ yes. absurd (denied yes);
 }
 
 pub writes_nothing : (old : Option TermView) (call : Call) (failed : Bool) (l : Lists) (answer : Result Drawn Refusal) (next : LoneState) → (answer ≡ Ok Yes → ⊥) → is_failure answer ≡ false →
     WritesOn old old call failed l answer next
 writes_nothing None call failed l answer next denied none = refl
-writes_nothing (Some v) call failed l answer next denied none =
-    (v, refl, record { counted = nothing_counted v answer none; silent = λ a b. refl; repaints = λ a b. repaints_nothing v answer l next.lists denied })
+writes_nothing (Some v) call failed l answer next denied none = (
+  v,
+  refl,
+  record {
+    counted = nothing_counted v answer none;
+    silent = λ a b. refl;
+    repaints = λ a b. repaints_nothing v answer l next.lists denied;
+    anew = λ a b p. repaints_nothing_anew v answer next.lists denied;
+  },
+)
 
 -- a draw that wrote nothing, and its outcome
 pub drawn_nothing : (old : Option TermView) (call : Call) (now : ℕ) (s : LoneState) (answer : Result Drawn Refusal) → (answer ≡ Ok Yes → ⊥) → is_failure answer ≡ false →
@@ -101,16 +117,29 @@ short_nothing old call now s = record {
 
 -- ---- the engine drew
 
-repaints_more : (v v' : TermView) (made : Type 0) (answer : Result Drawn Refusal) (l l' m : Lists) → (answer ≡ Ok Yes → made × (l' ≡ m)) → EngineRepaints v v' made l l' → Repaints v v' answer l m
+-- what was written, of another answer and other lists
+repaints_more : (v v' : TermView) (made : Type 0) (answer : Result Drawn Refusal) (l l' m : Lists) → (answer ≡ Ok Yes → made × (l' ≡ m)) → Repaints v v' made l l' → Repaints v v' (answer ≡ Ok Yes) l m
 repaints_more v v' made answer l l' m f r = record {
-  bytes = r.written;
+  written = r.written;
   told_is = r.told_is;
   keeps = r.keeps;
   shows = λ yes opening t s. let g = f yes in subst (λ x. Shows v.columns v.rows opening x (after t r.written)) g.1 (r.shows g.0 opening t s);
 }
 
+anew_more : (v v' : TermView) (made : Type 0) (answer : Result Drawn Refusal) (l' m : Lists) → (answer ≡ Ok Yes → made × (l' ≡ m)) → RepaintsAnew v v' made l' → RepaintsAnew v v' (answer ≡ Ok Yes) m
+anew_more v v' made answer l' m f r = record {
+  written = r.written;
+  told_is = r.told_is;
+  keeps = r.keeps;
+  shows = λ yes s opening a b. let g = f yes in subst (λ x. Shows v.columns v.rows opening x (after (resting s) r.written)) g.1 (r.shows g.0 s opening a b);
+}
+
 counted_as : (v v' : TermView) (r : Result Unit Refusal) (answer : Result Drawn Refusal) → Counted v v' r → faults_after v.faults r ≡ (if is_failure answer then ((v.faults + 1) % 2 ^ 64) else v.faults) → CountsFaults v v' answer
 counted_as v v' r answer c e = record { columns_stay = c.columns_stay; rows_stay = c.rows_stay; faults_are = c.faults_are ∙ e }
+
+-- a terminal with columns is drawn on
+lays_out-shown : (v : TermView) (call : Call) → is_no (asks call) ≡ false → 0 < v.columns → lays_out (target_of (Some v)) call ≡ true
+lays_out-shown v call asked some = let columns : eqb v.columns 0 ≡ false = ne_eqb v.columns 0 (λ e. omega (arith, e)) in rw (asked, columns) refl
 
 module _ {T : Type 0} (view : T → TermView) (call : Call) (now : ℕ) (s : LoneState) (old new : Engine T)
     (frame : Segment)
@@ -142,24 +171,28 @@ module _ {T : Type 0} (view : T → TermView) (call : Call) (now : ℕ) (s : Lon
     pub onward : Onward r old new lists'
     pub answers : Answers v.columns (lines_by call ready) r
     pub counted : Counted v v' r
-    pub picture : has_failed old ≡ false → IsTrue (are_plain (lines_by call ready)) → EngineRepaints v v' (IsOk r) s.lists lists'
+    pub picture : has_failed old ≡ false → IsTrue (are_plain (lines_by call ready)) → Repaints v v' (IsOk r) s.lists lists'
+    pub anew : has_failed old ≡ true → s.lists ≡ opening_lists → IsTrue (are_plain (lines_by call ready)) → RepaintsAnew v v' (IsOk r) lists'
 
   -- what its clauses say, of these members and lists
-  pub record Says (members : List BarLines) (lines : List BarLines → List (List ℕ)) (after : List BarLines → Lists) (r : Result Unit Refusal) : Type 0 where
-    pub lists : Onward r old new (after members)
+  pub record Says (members : List BarLines) (lines : List BarLines → List (List ℕ)) (after : List BarLines → Lists → Lists) (r : Result Unit Refusal) : Type 0 where
+    pub lists : Onward r old new (after members s.lists)
     pub answer : Answers v.columns (lines members) r
     pub count : Counted v v' r
-    pub paint : has_failed old ≡ false → IsTrue (are_plain (lines members)) → EngineRepaints v v' (IsOk r) s.lists (after members)
+    pub paint : has_failed old ≡ false → IsTrue (are_plain (lines members)) → Repaints v v' (IsOk r) s.lists (after members s.lists)
+    pub afresh : has_failed old ≡ true → IsTrue (are_plain (lines members)) → RepaintsAnew v v' (IsOk r) (after members opening_lists)
 
-  pub drawing_of : (members : List BarLines) (lines : List BarLines → List (List ℕ)) (after : List BarLines → Lists) (r : Result Unit Refusal) → members ≡ frame_of ready →
-      lines (frame_of ready) ≡ lines_by call ready → after (frame_of ready) ≡ lists' → Says members lines after r → Drawing r
+  pub drawing_of : (members : List BarLines) (lines : List BarLines → List (List ℕ)) (after : List BarLines → Lists → Lists) (r : Result Unit Refusal) → members ≡ frame_of ready →
+      lines (frame_of ready) ≡ lines_by call ready → after (frame_of ready) s.lists ≡ lists' → Says members lines after r → Drawing r
   drawing_of members lines after r e f g says =
       let q = subst (λ m. Says m lines after r) e says in
       record {
         onward = subst (Onward r old new) g q.lists;
         answers = subst (λ ls. Answers v.columns ls r) f q.answer;
         counted = q.count;
-        picture = λ a b. subst (EngineRepaints v v' (IsOk r) s.lists) g (q.paint a (subst (λ ls. IsTrue (are_plain ls)) (sym f) b));
+        picture = λ a b. subst (Repaints v v' (IsOk r) s.lists) g (q.paint a (subst (λ ls. IsTrue (are_plain ls)) (sym f) b));
+        anew = λ a o b.
+            subst (RepaintsAnew v v' (IsOk r)) (ap (after (frame_of ready)) (sym o) ∙ g) (q.afresh a (subst (λ ls. IsTrue (are_plain ls)) (sym f) b));
       }
 
   pub drew_ok : Drawing (Ok tt) → written target call ready ≡ record ready { lists = lists'; failed = false } → lines_by call (written target call ready) ≡ lines_by call ready →
@@ -181,13 +214,14 @@ module _ {T : Type 0} (view : T → TermView) (call : Call) (now : ℕ) (s : Lon
               counted = counted_as v v' (Ok tt) (Ok Yes) d.counted refl;
               silent = λ denied. absurd (denied refl);
               repaints = λ f p. repaints_more v v' made_ok (Ok Yes) s.lists lists' lists' (λ yes. (refl, refl)) (d.picture (failed ∙ f) (subst (λ ls. IsTrue (are_plain ls)) same p));
+              anew = λ f o p. anew_more v v' made_ok (Ok Yes) lists' lists' (λ yes. (refl, refl)) (d.anew (failed ∙ f) o (subst (λ ls. IsTrue (are_plain ls)) same p));
             },
           );
         };
       }
 
   -- refused with nothing written
-  drew_same : (e : Refusal) → is_fault e ≡ false → new ≡ old → (IsDrawn target call now s (Err e) ready ⊎ (IsDrawnShort target now s (Err e) ready ⊎ IsDrawFailed target call now s (Err e) ready)) →
+  drew_same : (e : Refusal) → is_fault e ≡ false → new ≡ old → (IsDrawn target call now s (Err e) ready ⊎ (IsDrawnShort target call now s (Err e) ready ⊎ IsDrawFailed target call now s (Err e) ready)) →
       Drew view call now s old new frame (Err e)
   drew_same e denied same steps = record {
     next = ready;
@@ -207,7 +241,7 @@ module _ {T : Type 0} (view : T → TermView) (call : Call) (now : ℕ) (s : Lon
   drew_err TooWide d =
       let o = outcome-too_wide target call now s asked refl some d.answers.1 in
       drew_same TooWide refl (d.onward.1 refl) (inl (record { answer_is = ap (λ o. o.answer) (sym o); next_is = ap (λ o. o.state) (sym o) }))
-  drew_err Memory d = drew_same Memory refl (d.onward.1 refl) (inr (inl (record { answer_is = refl; next_is = inr refl })))
+  drew_err Memory d = drew_same Memory refl (d.onward.1 refl) (inr (inl (record { answer_is = refl; next_is = inr (lays_out-shown v call asked some, refl) })))
   drew_err (Failure kind) d =
       let o = outcome-yes target call now s asked refl some d.answers.1 in
       record {
@@ -225,6 +259,7 @@ module _ {T : Type 0} (view : T → TermView) (call : Call) (now : ℕ) (s : Lon
               counted = counted_as v v' (Err (Failure kind)) (Err (Failure kind)) d.counted refl;
               silent = λ denied k. let q : true ≡ false = k in cc;
               repaints = λ f p. repaints_more v v' (made_err (Failure kind)) (Err (Failure kind)) s.lists lists' opening_lists (λ yes. absurd (cc)) (d.picture (failed ∙ f) p);
+              anew = λ f o p. anew_more v v' (made_err (Failure kind)) (Err (Failure kind)) lists' opening_lists (λ yes. absurd (cc)) (d.anew (failed ∙ f) o p);
             },
           );
         };

@@ -1,8 +1,8 @@
 -- What a run of calls leaves on the terminal, call by call.
-use Rattle.std.proofs.Common.{◌≡◌, ℕ, zero, suc, ◌+◌, ◌-◌, ◌<◌, ◌≤◌, Bool, true, false, List, [], ◌∷◌, ◌++◌, length, take, max, map, refl, sym, ◌∙◌, ap, subst, arith, length-append, append_assoc, append-nil, Result, Ok, Err, Option, Some, None, inl, inr, ◌⊎◌, if◌then◌else◌}
+use Rattle.std.proofs.Common.{◌≡◌, ℕ, zero, suc, ◌+◌, ◌-◌, ◌<◌, ◌≤◌, Bool, true, false, List, [], ◌∷◌, ◌++◌, length, take, max, map, refl, sym, ◌∙◌, ap, subst, arith, length-append, append_assoc, append-nil, Result, Ok, Err, Option, Some, None, option_map, inl, inr, ◌⊎◌, if◌then◌else◌}
 use Rattle.std.specs.Prelude.{IsTrue, flat_map, fold, ◌==◌}
 use Rattle.std.specs.List.{AllByRecursion}
-use Rattle.std.proofs.lemmas.Bool.{cond_both}
+use Rattle.std.proofs.lemmas.Bool.{cond_both, cases_Bool, false≢true}
 use Rattle.std.proofs.lemmas.List.Elements.{recursion_from_All}
 use Rattle.std.proofs.lemmas.List.{take-append-le, take_all, take-append-drop}
 use Rattle.std.proofs.Common.{take-take}
@@ -17,9 +17,9 @@ use Rattle.indicatif_term.specs.Shows.{Shows, Keeps}
 use Rattle.indicatif_term.specs.Calls.{TermView, led_on}
 use Rattle.indicatif_term.specs.Lists.{Lists, BarLines, drawn, logged, passed, settled, rested, shown_rows, live_of_frame, live_height, lists_height}
 use Rattle.indicatif_term.specs.Frames.{are_plain, some_wide, text_lines, logged_lines}
-use Rattle.indicatif_bar.specs.Runs.{Target, target_of, LoneState, Call, Change, Log, CallMade, Steps, IsMade, asks, is_no, numbered, laid_out, written, lines_by, outcome_from, outcome, Outcome, is_failure, Writes, WritesOn, Runs, frame_of}
+use Rattle.indicatif_bar.specs.Runs.{Target, target_of, LoneState, Call, Change, Log, CallMade, Steps, IsMade, asks, is_no, numbered, laid_out, written, lines_by, outcome_from, outcome, Outcome, outcomes, is_failure, Writes, WritesOn, Runs, frame_of}
 use Rattle.indicatif_bar.proofs.Outcomes.{led_nowhere, nothing_keeps, after_nothing}
-use Rattle.indicatif_bar.specs.Headline.{AllPlain, KeepsThrough, ShowsOn, Headline}
+use Rattle.indicatif_bar.specs.Headline.{AllPlain, KeepsThrough, RunLeaves, WholeRun, ShowsOn, ShowsEach, Headline, is_undisturbed, OneOutcome}
 
 -- one call more at the end
 pub runs-push : (calls : List (Call × ℕ)) (answers : List (Result Drawn Refusal)) (old : Option TermView) (s : LoneState) (v : Option TermView) (m : LoneState) (new : Option TermView) (next : LoneState) (call : Call × ℕ) (answer : Result Drawn Refusal) →
@@ -116,7 +116,7 @@ call_leaves target call now s answer next (inr (inl short)) fine = elim short.ne
   | inl same ↦ same_leaves target call now s answer next (ap (λ x. x.lists) same) (ap (λ x. x.failed) same)
   | inr later ↦ elim later [
     | inl changed ↦ same_leaves target call now s answer next (ap (λ x. x.lists) changed ∙ numbered-lists call now s) (ap (λ x. x.failed) changed ∙ numbered-failed call now s)
-    | inr laid ↦ same_leaves target call now s answer next (ap (λ x. x.lists) laid ∙ numbered-lists call now s) (ap (λ x. x.failed) laid ∙ numbered-failed call now s)
+    | inr laid ↦ same_leaves target call now s answer next (ap (λ x. x.lists) laid.1 ∙ numbered-lists call now s) (ap (λ x. x.failed) laid.1 ∙ numbered-failed call now s)
   ]
 ]
 call_leaves target call now s answer next (inr (inr broken)) fine = let q : is_failure answer ≡ true = ap is_failure broken.answer_is in cc
@@ -153,7 +153,7 @@ step_shows v new call now s answer next made sound fine plain opening t shows =
         columns_stay = w.counted.columns_stay;
         rows_stay = w.counted.rows_stay;
         failed_is = leaves.failed_is sound;
-        bytes = r.bytes;
+        bytes = r.written;
         told_is = r.told_is;
         shows = r.shows drawn_now opening t shows;
         keeps = r.keeps opening t shows;
@@ -189,11 +189,11 @@ resized a b c d opening l t e f shows = subst (λ n. Shows n d opening l t) e (s
 
 -- what the rest of a run shows, wherever its first call left the terminal
 abbrev Rest : (calls : List (Call × ℕ)) (answers : List (Result Drawn Refusal)) (m : LoneState) (new : Option TermView) (next : LoneState) (opening : Screen) (u : Terminal) (v : TermView) → Option TermView → Type 0
-Rest calls answers m new next opening u v old = (run : Runs calls answers old m new next) → AllPlain calls answers old m new next run → ShowsOn v new m next opening u
+Rest calls answers m new next opening u v old = (run : Runs calls answers old m new next) → AllPlain calls answers old m new next run → RunLeaves v new m next opening u
 
 pub run_shows : (calls : List (Call × ℕ)) (answers : List (Result Drawn Refusal)) (v : TermView) (s : LoneState) (new : Option TermView) (next : LoneState) (run : Runs calls answers (Some v) s new next) →
     s.failed ≡ false → AllByRecursion (λ answer. is_failure answer ≡ false) answers → AllPlain calls answers (Some v) s new next run →
-    (opening : Screen) (t : Terminal) → Shows v.columns v.rows opening s.lists t → ShowsOn v new s next opening t
+    (opening : Screen) (t : Terminal) → Shows v.columns v.rows opening s.lists t → RunLeaves v new s next opening t
 run_shows [] [] v s new next run sound fine plain opening t shows = record {
   v' = v;
   new_is = run.0;
@@ -224,8 +224,79 @@ run_shows (call ∷ calls) (answer ∷ answers) v s new next run sound fine plai
 run_shows [] (answer ∷ answers) v s new next run sound fine plain opening t shows = absurd run
 run_shows (call ∷ calls) [] v s new next run sound fine plain opening t shows = absurd run
 
+pub whole_run : (calls : List (Call × ℕ)) (answers : List (Result Drawn Refusal)) (old : Option TermView) (s : LoneState) (new : Option TermView) (next : LoneState) (run : Runs calls answers old s new next) →
+    WholeRun calls answers old s new next run
+whole_run calls answers None s new next run = tt
+whole_run calls answers (Some v) s new next run = λ sound fine plain opening t shows.
+    run_shows calls answers v s new next run sound (recursion_from_All (λ answer. is_failure answer ≡ false) answers fine) plain opening t shows
+
+-- ---- each call of a run
+
+-- what the rest of a run shows call by call, wherever its first call left the terminal
+abbrev EachRest : (calls : List (Call × ℕ)) (answers : List (Result Drawn Refusal)) (m : LoneState) (new : Option TermView) (next : LoneState) (opening : Screen) (u : Terminal) → Option TermView → Type 0
+EachRest calls answers m new next opening u old = (run : Runs calls answers old m new next) → ShowsEach calls answers old m new next run opening u
+
+run_shows_each : (calls : List (Call × ℕ)) (answers : List (Result Drawn Refusal)) (v : TermView) (s : LoneState) (new : Option TermView) (next : LoneState) (run : Runs calls answers (Some v) s new next) →
+    s.failed ≡ false → (opening : Screen) (t : Terminal) → Shows v.columns v.rows opening s.lists t → ShowsEach calls answers (Some v) s new next run opening t
+run_shows_each [] [] v s new next run sound opening t shows = tt
+run_shows_each [] (answer ∷ answers) v s new next run sound opening t shows = tt
+run_shows_each (call ∷ calls) [] v s new next run sound opening t shows = tt
+run_shows_each (call ∷ calls) (answer ∷ answers) v s new next run sound opening t shows = λ plain.
+    let m = run.1 in
+    let later = λ (v' : TermView) (u : Terminal) (sound' : m.failed ≡ false) (shows' : Shows v'.columns v'.rows opening m.lists u) (r : Runs calls answers (Some v') m new next).
+    run_shows_each calls answers v' m new next r sound' opening u shows' in
+    elim (cases_Bool (is_failure answer)) [
+      | inl broken ↦
+          let w = run.2.writes in
+          let r = w.2.repaints sound plain in (
+            r.written,
+            record { told_is = ap (option_map (λ x. x.told)) w.1 ∙ ap Some r.told_is; keeps = r.keeps opening t shows },
+            λ fine. absurd (false≢true (sym fine ∙ broken)),
+          )
+      | inr fine ↦
+          let x = step_shows v run.0 call.0 call.1 s answer m run.2 sound fine plain opening t shows in
+          let u = after t x.bytes in
+          let shown = resized v.columns v.rows x.v'.columns x.v'.rows opening m.lists u (sym x.columns_stay) (sym x.rows_stay) x.shows in (
+            x.bytes,
+            record { told_is = ap (option_map (λ z. z.told)) x.new_is ∙ ap Some x.told_is; keeps = x.keeps },
+            λ _. (
+              record { shows = subst (λ known. ShowsOn known opening m.lists u) (sym x.new_is) shown; added = x.added; above_is = x.above_is },
+              subst (EachRest calls answers m new next opening u) (sym x.new_is) (later x.v' u x.failed_is shown) run.3,
+            ),
+          )
+    ]
+
 pub headline : (calls : List (Call × ℕ)) (answers : List (Result Drawn Refusal)) (old : Option TermView) (s : LoneState) (new : Option TermView) (next : LoneState) (run : Runs calls answers old s new next) →
     Headline calls answers old s new next run
 headline calls answers None s new next run = tt
-headline calls answers (Some v) s new next run = λ sound fine plain opening t shows.
-    run_shows calls answers v s new next run sound (recursion_from_All (λ answer. is_failure answer ≡ false) answers fine) plain opening t shows
+headline calls answers (Some v) s new next run = λ sound opening t shows. run_shows_each calls answers v s new next run sound opening t shows
+
+-- ---- one outcome
+
+target_stays : (old new : Option TermView) (call : Call) (failed : Bool) (l : Lists) (answer : Result Drawn Refusal) (next : LoneState) → WritesOn old new call failed l answer next → target_of new ≡ target_of old
+target_stays None new call failed l answer next w = ap target_of w
+target_stays (Some v) new call failed l answer next w =
+    let columns : w.0.columns ≡ v.columns = w.2.counted.columns_stay in
+    let rows : w.0.rows ≡ v.rows = w.2.counted.rows_stay in
+    ap target_of w.1 ∙ rw (columns, rows) refl
+
+made_of : (target : Target) (call : Call) (now : ℕ) (s : LoneState) (answer : Result Drawn Refusal) (next : LoneState) → Steps target call now s answer next → is_undisturbed answer ≡ true → IsMade target call now s answer next
+made_of target call now s answer next (inl made) fine = made
+made_of target call now s answer next (inr (inl short)) fine = let e : is_undisturbed answer ≡ false = ap is_undisturbed short.answer_is in absurd (false≢true (sym e ∙ fine))
+made_of target call now s answer next (inr (inr broken)) fine = let e : is_undisturbed answer ≡ false = ap is_undisturbed broken.answer_is in absurd (false≢true (sym e ∙ fine))
+
+runs_once : (calls : List (Call × ℕ)) (answers : List (Result Drawn Refusal)) (old : Option TermView) (s : LoneState) (new : Option TermView) (next : LoneState) → Runs calls answers old s new next →
+    AllByRecursion (λ answer. is_undisturbed answer ≡ true) answers → outcomes (target_of old) calls s ≡ (answers, next)
+runs_once [] [] old s new next run fine = ap (λ n. ([], n)) (sym run.1)
+runs_once (call ∷ calls) (answer ∷ answers) old s new next run fine =
+    let made = made_of (target_of old) call.0 call.1 s answer run.1 run.2.steps fine.0 in
+    let others = runs_once calls answers run.0 run.1 new next run.3 fine.1 in
+    let target = target_stays old run.0 call.0 s.failed s.lists answer run.1 run.2.writes in
+    let same : outcomes (target_of old) calls (outcome (target_of old) call.0 call.1 s).state ≡ (answers, next) =
+    ap (λ t. outcomes t calls (outcome (target_of old) call.0 call.1 s).state) (sym target) ∙ ap (outcomes (target_of run.0) calls) (sym made.next_is) ∙ others in
+    ap (λ o. ((outcome (target_of old) call.0 call.1 s).answer ∷ o.0, o.1)) same ∙ ap (λ a. (a ∷ answers, next)) (sym made.answer_is)
+runs_once [] (answer ∷ answers) old s new next run fine = absurd run
+runs_once (call ∷ calls) [] old s new next run fine = absurd run
+
+pub one_outcome : OneOutcome
+one_outcome calls answers old s new next run fine = runs_once calls answers old s new next run (recursion_from_All (λ answer. is_undisturbed answer ≡ true) answers fine)

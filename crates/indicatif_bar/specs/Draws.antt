@@ -1,5 +1,5 @@
 -- What a lone bar's draw says, once the bar's numbers have changed. For private functions alone.
-use Rattle.std.specs.Prelude.{◌≡◌, ℕ, Option, Some, Result, Ok, Err, ◌⊎◌, true}
+use Rattle.std.specs.Prelude.{◌≡◌, ℕ, Option, Some, Result, Ok, Err, ◌⊎◌, true, IsTrue}
 use Rattle.std.specs.declared.io.ErrorKind.{ErrorKind}
 use Rattle.indicatif_text.specs.declared.refusal.Refusal.{Refusal}
 use Rattle.indicatif_text.specs.declared.refusal.Refusal.TheVariants.{Memory, Terminal as Failure}
@@ -11,7 +11,7 @@ use Rattle.indicatif_term.specs.Frames.{bar_lines}
 use Rattle.indicatif_term.specs.Engines.{terminal, Fits, has_failed}
 use Rattle.indicatif_term.specs.declared.draw_target.Engine.{Engine}
 use Rattle.indicatif_term.specs.declared.lines.Segment.{Segment}
-use Rattle.indicatif_bar.specs.Runs.{Target, LoneState, Call, WritesOn, outcome_from, laid_out, target_of}
+use Rattle.indicatif_bar.specs.Runs.{Target, LoneState, Call, WritesOn, outcome_from, lays_out, laid_out, target_of}
 
 -- the outcome
 pub record IsDrawn (target : Target) (call : Call) (now : ℕ) (s : LoneState) (answer : Result Drawn Refusal) (next : LoneState) : Type 0 where
@@ -19,9 +19,9 @@ pub record IsDrawn (target : Target) (call : Call) (now : ℕ) (s : LoneState) (
   pub next_is : next ≡ (outcome_from target call now s).state
 
 -- memory was refused, before or after the lines were laid out
-pub record IsDrawnShort (target : Target) (now : ℕ) (s : LoneState) (answer : Result Drawn Refusal) (next : LoneState) : Type 0 where
+pub record IsDrawnShort (target : Target) (call : Call) (now : ℕ) (s : LoneState) (answer : Result Drawn Refusal) (next : LoneState) : Type 0 where
   pub answer_is : answer ≡ Err Memory
-  pub next_is : (next ≡ s) ⊎ (next ≡ laid_out target now s)
+  pub next_is : (next ≡ s) ⊎ (IsTrue (lays_out target call) × (next ≡ laid_out target now s))
 
 -- the terminal failed while it was written
 pub record IsDrawFailed (target : Target) (call : Call) (now : ℕ) (s : LoneState) (answer : Result Drawn Refusal) (next : LoneState) : Type 0 where
@@ -32,7 +32,7 @@ pub record IsDrawFailed (target : Target) (call : Call) (now : ℕ) (s : LoneSta
 
 -- a draw that led a lone bar from one state to the next
 pub record DrawMade (old new : Option TermView) (call : Call) (now : ℕ) (s : LoneState) (answer : Result Drawn Refusal) (next : LoneState) : Type 0 where
-  pub steps : IsDrawn (target_of old) call now s answer next ⊎ (IsDrawnShort (target_of old) now s answer next ⊎ IsDrawFailed (target_of old) call now s answer next)
+  pub steps : IsDrawn (target_of old) call now s answer next ⊎ (IsDrawnShort (target_of old) call now s answer next ⊎ IsDrawFailed (target_of old) call now s answer next)
   pub writes : WritesOn old new call s.failed s.lists answer next
 
 -- what a draw of a bar in a state made of its engine and of the lines that were laid out

@@ -1,17 +1,15 @@
 -- Calls of a lone bar: what each answers, what stands in its lists then, and what was written. The order of a call is:
 -- the bar's numbers change; no draw is asked; the target is hidden; it has no columns; the bar's lines are laid out and
 -- stored; a line is too wide; the terminal is written. There is no limiter: each draw that is asked is made.
-use Rattle.std.specs.Prelude.{◌≡◌, ℕ, ◌+◌, ◌%◌, ◌^◌, ◌<◌, Bool, true, false, IsTrue, IsFalse, ◌==◌, List, [], ◌∷◌, ◌++◌, map, length, chars, Option, Some, None, Result, Ok, Err, IfErr, if◌then◌else◌, ◌⊎◌}
+use Rattle.std.specs.Prelude.{◌≡◌, ℕ, ◌+◌, ◌%◌, ◌^◌, Bool, true, false, not, ◌&&◌, IsTrue, IsFalse, ◌==◌, List, [], ◌∷◌, ◌++◌, map, length, chars, Option, Some, None, Result, Ok, Err, IfErr, if◌then◌else◌, ◌⊎◌}
 use Rattle.indicatif_text.specs.declared.refusal.Refusal.{Refusal}
 use Rattle.indicatif_text.specs.declared.refusal.Refusal.TheVariants.{NoColumns, TooWide, Memory, Terminal as Failure}
 use Rattle.indicatif_text.specs.declared.refusal.Drawn.{Drawn}
 use Rattle.indicatif_text.specs.declared.refusal.Drawn.TheVariants.{Yes, Limited, Hidden}
 use Rattle.std.specs.declared.io.ErrorKind.{ErrorKind}
-use Rattle.indicatif_term.specs.Screen.{Screen}
-use Rattle.indicatif_term.specs.Terminal.{Terminal, after}
-use Rattle.indicatif_term.specs.Calls.{TermView, led_on}
+use Rattle.indicatif_term.specs.Calls.{TermView}
 use Rattle.indicatif_term.specs.Lists.{Lists, BarLines, opening_lists, drawn, logged}
-use Rattle.indicatif_term.specs.Shows.{Shows, Keeps}
+use Rattle.indicatif_term.specs.Engines.{Repaints, RepaintsAnew}
 use Rattle.indicatif_term.specs.Frames.{all_lines, text_lines, logged_lines, are_plain, some_wide, is_fault}
 use Rattle.indicatif_bar.specs.Bars.{Bar, Command, changed, asked, lines_of_bar}
 use Rattle.indicatif_bar.specs.declared.state.Ask.{Ask}
@@ -99,6 +97,10 @@ is_no No = true
 is_no Unforced = false
 is_no Forced = false
 
+-- whether a call comes as far as the bar's lines: a draw is asked, and the target is shown and has columns
+abbrev pub lays_out : Target → Call → Bool
+lays_out target call = not (is_no (asks call)) && not target.hidden && not (target.columns == 0)
+
 -- the answer and the state after a call, once the bar's numbers have changed
 unfoldable pub outcome_from : Target → Call → ℕ → LoneState → Outcome
 outcome_from target call now s =
@@ -113,6 +115,14 @@ outcome_from target call now s =
 abbrev pub outcome : Target → Call → ℕ → LoneState → Outcome
 outcome target call now s = outcome_from target call now (numbered call now s)
 
+-- the same of calls with their moments, one after another: the answers and the last state
+abbrev pub outcomes : Target → List (Call × ℕ) → LoneState → List (Result Drawn Refusal) × LoneState
+outcomes target [] s = ([], s)
+outcomes target (call ∷ calls) s =
+    let first = outcome target call.0 call.1 s in
+    let others = outcomes target calls first.state in
+    (first.answer ∷ others.0, others.1)
+
 -- ---- a step, whatever the terminal and the memory do
 
 -- the outcome
@@ -120,10 +130,10 @@ pub record IsMade (target : Target) (call : Call) (now : ℕ) (s : LoneState) (a
   pub answer_is : answer ≡ (outcome target call now s).answer
   pub next_is : next ≡ (outcome target call now s).state
 
--- memory was refused after some of the stages; nothing was written
+-- memory was refused: before the bar's numbers changed, after it, or with its lines laid out; nothing was written
 pub record IsShort (target : Target) (call : Call) (now : ℕ) (s : LoneState) (answer : Result Drawn Refusal) (next : LoneState) : Type 0 where
   pub answer_is : answer ≡ Err Memory
-  pub next_is : (next ≡ s) ⊎ ((next ≡ numbered call now s) ⊎ (next ≡ laid_out target now (numbered call now s)))
+  pub next_is : (next ≡ s) ⊎ ((next ≡ numbered call now s) ⊎ (IsTrue (lays_out target call) × (next ≡ laid_out target now (numbered call now s))))
 
 -- the terminal failed while it was written; the rows are forgotten
 pub record IsFailed (target : Target) (call : Call) (now : ℕ) (s : LoneState) (answer : Result Drawn Refusal) (next : LoneState) : Type 0 where
@@ -149,21 +159,16 @@ pub record CountsFaults (v v' : TermView) (answer : Result Drawn Refusal) : Type
   pub rows_stay : v'.rows ≡ v.rows
   pub faults_are : v'.faults ≡ (if is_failure answer then ((v.faults + 1) % 2 ^ 64) else v.faults)
 
--- some bytes were written; from a terminal that shows the lists l: after each beginning of them the untouched rows and the
--- rows above stand as before, and where the answer is Yes the terminal shows the lists l'
-pub record Repaints (v v' : TermView) (answer : Result Drawn Refusal) (l l' : Lists) : Type 0 where
-  pub bytes : List ℕ
-  pub told_is : v'.told ≡ led_on v.told bytes
-  pub keeps : (opening : Screen) (t : Terminal) → Shows v.columns v.rows opening l t → Keeps (opening.row + length l.above) t bytes
-  pub shows : answer ≡ Ok Yes → (opening : Screen) (t : Terminal) → Shows v.columns v.rows opening l t → Shows v.columns v.rows opening l' (after t bytes)
-
 -- what a call did to the terminal, from lists l before it
 pub record Writes (v v' : TermView) (call : Call) (failed : Bool) (l : Lists) (answer : Result Drawn Refusal) (next : LoneState) : Type 0 where
   pub counted : CountsFaults v v' answer
   -- only a draw that is made and one that the terminal breaks off write
   pub silent : (answer ≡ Ok Yes → ⊥) → IsFalse (is_failure answer) → v' ≡ v
-  -- where each line consists of characters with a width and colour sequences
-  pub repaints : failed ≡ false → IsTrue (are_plain (lines_by call next)) → Repaints v v' answer l next.lists
+  -- where each line consists of characters with a width and colour sequences: from a terminal that shows the lists, what
+  -- was written keeps the rows above, and where the answer is Yes it shows the lists of the next state
+  pub repaints : failed ≡ false → IsTrue (are_plain (lines_by call next)) → Repaints v v' (answer ≡ Ok Yes) l next.lists
+  -- and after a failure, when the rows were forgotten, the same from an opening on a new row
+  pub anew : failed ≡ true → l ≡ opening_lists → IsTrue (are_plain (lines_by call next)) → RepaintsAnew v v' (answer ≡ Ok Yes) next.lists
 
 -- the same of a target; nothing is known of a hidden one but that it stays hidden
 abbrev pub WritesOn : Option TermView → Option TermView → Call → Bool → Lists → Result Drawn Refusal → LoneState → Type 0

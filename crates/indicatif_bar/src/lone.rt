@@ -25,7 +25,28 @@ pub enum LoneCall {
     Log(String),
 }
 
-/// A bar with its engine.
+/// A bar that stands alone on its target: a terminal, or none.
+///
+/// It is made where the terminal's cursor is at the front of a row with nothing in that row or below. From then on the
+/// rows above that one stay as they are; the text lines that were logged follow them; then comes the bar. Nobody else
+/// writes to the terminal while the bar lives, and its lines hold printable characters and colour sequences alone.
+///
+/// Each call has a moment, in nanoseconds, and goes these steps, of which the first that ends it gives the answer:
+///
+/// 1. The bar's numbers and texts change. `Memory` if a text finds no room; nothing has changed then.
+/// 2. No draw is asked: `Limited`.
+/// 3. The target is hidden: `Hidden`. A text that was to be logged is dropped.
+/// 4. The terminal has no columns: `NoColumns`. The bar's lines are as before.
+/// 5. The bar's lines are laid out and kept. `Memory` if they find no room; nothing was written then.
+/// 6. A line of the text or of the bar holds a character wider than the terminal: `TooWide`. Nothing was written.
+/// 7. The lines are written in the place of the bar's earlier rows: `Yes`; or a call of the terminal fails: `Terminal`. The
+///    rows are forgotten then, and the next draw begins on a new row.
+///
+/// ```
+/// let mut bar = LoneBar::new(alloc, BarState::new(alloc), ProgressDrawTarget::term_like(term));
+/// bar.set_message("copying", now)?; // draws the bar's row
+/// bar.println("a.txt", now)?; // stands above it from now on
+/// ```
 #[derive(Drop)]
 pub struct LoneBar<T: Drop> {
     alloc: Global,
@@ -36,19 +57,15 @@ pub struct LoneBar<T: Drop> {
 
 impl<T: TermLike + Drop> LoneBar<T> {
     ghost use Rattle.indicatif_bar.specs.Bars.{Tick, SetMessage, ForceDraw};
-    ghost use Rattle.indicatif_term.specs.Screen.{Screen};
-    ghost use Rattle.indicatif_term.specs.Lists.{opening_lists};
-    ghost use Rattle.indicatif_term.specs.Shows.{Shows, IsOpening, resting};
     ghost use Rattle.indicatif_bar.specs.Draws.{DrawMade};
-    ghost use Rattle.indicatif_bar.specs.Runs.{Call, CallMade, Runs, opening_state, numbered, asks};
+    ghost use Rattle.indicatif_bar.specs.Runs.{Runs, opening_state};
     ghost use Rattle.indicatif_bar.specs.Headline.{Headline};
-    ghost use Rattle.indicatif_bar.specs.LoneBars.{IsIn, record_of, terminal_of, call_of, timed};
+    ghost use Rattle.indicatif_bar.specs.LoneBars.{IsIn, record_of, terminal_of, known, LeadsBy, call_of, timed};
 
-    /// The bar on this target. Takes no memory, and writes nothing.
+    /// The bar on this target. It takes no memory and writes nothing.
     pub fn new(alloc: Global, bar: BarState, target: ProgressDrawTarget<T>) -> Self
         ensures state { IsIn result (opening_state bar) }
         ensures terminal { terminal_of result ≡ target }
-        ensures opening { (term : T) (w h : ℕ) (opening : Screen) → target ≡ Some term → IsOpening w h opening → Shows w h opening opening_lists (resting opening) }
     {
         let engine = match target.into_parts() {
             Some(term) => Some(Engine::new(alloc, term)),
@@ -82,28 +99,32 @@ impl<T: TermLike + Drop> LoneBar<T> {
         }
     }
 
-    /// One more tick, and a draw.
+    /// One more tick, up to 2^64 - 1, and a draw.
+    ///
+    /// Refused: `NoColumns`, `TooWide`, `Terminal` or `Memory`, as `LoneBar` says; the tick counts all the same.
     pub fn tick(&mut self, now: Moment) -> Result<Drawn, Refusal>
-        ensures { (s : LoneState) → IsIn self.old s → (next : LoneState) × IsIn self.new next ×
-            CallMade (option_map T.view (terminal_of self.old)) (option_map T.view (terminal_of self.new)) (Change Tick) now s result next }
+        ensures { LeadsBy T.view self.old self.new (Change Tick) now result }
     {
         let ask = self.bar.tick(now);
         self.draw(ask, now)
     }
 
-    /// The text as message, and a draw. Refused for want of memory, the message stays.
+    /// The text as message, with eight spaces in the place of each tab, and a draw.
+    ///
+    /// Refused: `NoColumns`, `TooWide` or `Terminal`, with the new message; `Memory`, with the earlier message where the new
+    /// one found no room, else with the new one.
     pub fn set_message(&mut self, text: &str, now: Moment) -> Result<Drawn, Refusal>
-        ensures { (s : LoneState) → IsIn self.old s → (next : LoneState) × IsIn self.new next ×
-            CallMade (option_map T.view (terminal_of self.old)) (option_map T.view (terminal_of self.new)) (Change (SetMessage text.now)) now s result next }
+        ensures { LeadsBy T.view self.old self.new (Change (SetMessage text.now)) now result }
     {
         let ask = self.bar.set_message(text, now)?;
         self.draw(ask, now)
     }
 
-    /// A draw by force.
+    /// A draw by force. Nothing of the bar changes.
+    ///
+    /// Refused: `NoColumns`, `TooWide`, `Terminal` or `Memory`, as `LoneBar` says.
     pub fn force_draw(&mut self, now: Moment) -> Result<Drawn, Refusal>
-        ensures { (s : LoneState) → IsIn self.old s → (next : LoneState) × IsIn self.new next ×
-            CallMade (option_map T.view (terminal_of self.old)) (option_map T.view (terminal_of self.new)) (Change ForceDraw) now s result next }
+        ensures { LeadsBy T.view self.old self.new (Change ForceDraw) now result }
     {
         let ask = self.bar.force_draw(now);
         self.draw(ask, now)
@@ -111,9 +132,10 @@ impl<T: TermLike + Drop> LoneBar<T> {
 
     /// Writes the text's lines above the bar, by force. A line is ended by `\n` or `\r\n`; an empty text is one empty
     /// line; tabs stay as they are. The bar's lines are laid out anew. On a hidden target the text is dropped.
+    ///
+    /// Refused: `NoColumns`, `TooWide`, `Terminal` or `Memory`, as `LoneBar` says; nothing of the text is kept.
     pub fn println(&mut self, text: &str, now: Moment) -> Result<Drawn, Refusal>
-        ensures { (s : LoneState) → IsIn self.old s → (next : LoneState) × IsIn self.new next ×
-            CallMade (option_map T.view (terminal_of self.old)) (option_map T.view (terminal_of self.new)) (Log text.now) now s result next }
+        ensures { LeadsBy T.view self.old self.new (Log text.now) now result }
     {
         match &mut self.engine {
             Some(engine) => log_on(engine, &self.bar, &mut self.frame, text, now),
@@ -121,10 +143,9 @@ impl<T: TermLike + Drop> LoneBar<T> {
         }
     }
 
-    /// A call as a value.
+    /// A call as a value: what the method of the same name does and refuses.
     pub fn call(&mut self, call: LoneCall, now: Moment) -> Result<Drawn, Refusal>
-        ensures { (s : LoneState) → IsIn self.old s → (next : LoneState) × IsIn self.new next ×
-            CallMade (option_map T.view (terminal_of self.old)) (option_map T.view (terminal_of self.new)) (call_of call) now s result next }
+        ensures { LeadsBy T.view self.old self.new (call_of call) now result }
     {
         match call {
             LoneCall::Bar(BarCommand::Tick) => self.tick(now),
@@ -141,9 +162,11 @@ impl<T: TermLike + Drop> LoneBar<T> {
         &mut self,
         calls: Vec<(LoneCall, Moment)>,
     ) -> Result<Vec<Result<Drawn, Refusal>>, Refusal>
-        ensures run { (s : LoneState) → IsIn self.old s → let old = option_map T.view (terminal_of self.old) in let new = option_map T.view (terminal_of self.new) in
-            IfOk result (λ answers. (next : LoneState) × IsIn self.new next ×
-            (run : Runs (map timed calls.items) answers.items old s new next) × Headline (map timed calls.items) answers.items old s new next run) }
+        ensures run { (s : LoneState) → IsIn self.old s →
+            let old = known T.view self.old in let new = known T.view self.new in
+            IfOk result (λ answers. (next : LoneState) × IsIn self.new next
+            × (run : Runs (map timed calls.items) answers.items old s new next)
+            × Headline (map timed calls.items) answers.items old s new next run) }
         ensures memory { IfErr result (λ e. e ≡ Refusal.Memory) }
         ensures unrun { OnErr result (self.new ≡ self.old) }
     {
@@ -157,8 +180,9 @@ impl<T: TermLike + Drop> LoneBar<T> {
 
     /// Draws the bar's lines, if asked.
     fn draw(&mut self, ask: Ask, now: Moment) -> Result<Drawn, Refusal>
-        ensures { (command : Command) (s : LoneState) → asked command ≡ ask → IsIn self.old s → (next : LoneState) × IsIn self.new next ×
-            DrawMade (option_map T.view (terminal_of self.old)) (option_map T.view (terminal_of self.new)) (Change command) now s result next }
+        ensures { (command : Command) (s : LoneState) → asked command ≡ ask → IsIn self.old s →
+            (next : LoneState) × IsIn self.new next
+            × DrawMade (known T.view self.old) (known T.view self.new) (Change command) now s result next }
     {
         if is_no(ask) {
             return Ok(Drawn::Limited);

@@ -1,10 +1,10 @@
 -- The options of placeholders, read piece by piece.
-use Rattle.std.proofs.Common.{◌≡◌, ℕ, ◌+◌, ◌-◌, ◌*◌, ◌<◌, ◌≤◌, Bool, true, false, List, [], ◌∷◌, length, refl, sym, ◌∙◌, ap, subst, arith, eqb, Option, Some, None}
+use Rattle.std.proofs.Common.{◌≡◌, ℕ, ◌+◌, ◌-◌, ◌*◌, ◌<◌, ◌≤◌, true, false, List, [], ◌∷◌, length, refl, sym, ◌∙◌, ap, subst, arith, eqb, Option, Some, None}
 use Rattle.std.specs.Prelude.{◌==◌, chars, filter, IsUtf8, take_while, unwrap_or}
 use Rattle.std.specs.List.{list_any}
 use Rattle.std.specs.Char.{is_ascii_digit, digit_value}
 use Rattle.std.specs.Str.Parse.{digits_value_after}
-use Rattle.std.specs.Prelude.{Result, Ok, Err, MatchResult, IsErrAnd}
+use Rattle.std.specs.Prelude.{Result, MatchResult}
 use denote.Ref.{Bor}
 use Rattle.std.proofs.Math.Utf8.{encodes}
 use Rattle.std.proofs.lemmas.Bool.{eqb-true, eq-eqb, ne_eqb, lt-ltb, le-ltb, false≢true}
@@ -13,17 +13,24 @@ use Rattle.std.proofs.lemmas.Str.{encodes-chars}
 use Rattle.indicatif_text.specs.declared.refusal.TemplateState.{TemplateState}
 use Rattle.indicatif_text.specs.declared.refusal.TemplateState.TheVariants.{Align, Width}
 use Rattle.indicatif_text.specs.declared.template.Alignment.{Alignment}
+use Rattle.indicatif_text.specs.declared.template.reading.Mix.{Mix}
 use Rattle.indicatif_text.specs.declared.template.reading.Options.{Options}
 use Rattle.indicatif_text.specs.declared.template.TemplateError.{TemplateError}
 use Rattle.indicatif_text.specs.declared.template.TemplateError.TheVariants.{Unexpected, WidthTooLarge}
 use Rattle.indicatif_text.proofs.Wrapping.{chars_none}
+use Rattle.indicatif_text.specs.Styles.{style_of}
 use Rattle.indicatif_text.specs.Parts.{Layout}
-use Rattle.indicatif_text.specs.Reading.{layout_of}
+use Rattle.indicatif_text.specs.Reading.{layout_of, number_after, IsMix}
 use Rattle.indicatif_text.specs.Template.{with_options, plain_layout, alignment_of, aligned, Front, Takes, Stops, after_run, is_alternative_char, alternative_ends, with_alternative, is_style_char, style_ends, with_style, is_width_char, width_ends, with_width, style_named, number_of, is_too_wide, state_after}
 
 -- a text with no characters has no bytes
 pub some_chars : (bs : List ℕ) → IsUtf8 bs → chars bs ≡ [] → length bs ≡ 0
 some_chars bs u e = ap length (sym (encodes-chars bs u) ∙ ap encodes e)
+
+-- a style text with a character is a style
+pub some_style : (cs : List ℕ) → (cs ≡ [] → ⊥) → Some (style_of cs) ≡ style_named cs
+some_style [] some = absurd (some refl)
+some_style (c ∷ cs) some = refl
 
 -- ---- an alternative style
 
@@ -32,12 +39,11 @@ module _ (layout : Layout) (text after : List ℕ) (a : after ≡ after_run is_a
   unfolding with_alternative
   alternative_open none = ap (alternative_ends layout (take_while is_alternative_char text)) (sym a ∙ none) ∙ ap (λ r. Takes r layout) (sym none)
 
-  pub alternative_closed : (run rest : List ℕ) (c : ℕ) (s : Option (List ℕ)) → run ≡ take_while is_alternative_char text → after ≡ c ∷ rest → s ≡ style_named run →
+  pub alternative_closed : (rest : List ℕ) (c : ℕ) (s : Option (List ℕ)) → after ≡ c ∷ rest → s ≡ style_named (take_while is_alternative_char text) →
       with_alternative layout text ≡ Takes rest (record layout { alternative = s })
   unfolding with_alternative
-  alternative_closed run rest c s r e named =
-      ap (alternative_ends layout (take_while is_alternative_char text)) (sym a ∙ e)
-      ∙ ap (λ o. Takes rest (record layout { alternative = o })) (sym (named ∙ ap style_named r))
+  alternative_closed rest c s e named =
+      ap (alternative_ends layout (take_while is_alternative_char text)) (sym a ∙ e) ∙ ap (λ o. Takes rest (record layout { alternative = o })) (sym named)
 
 -- ---- a style
 
@@ -46,10 +52,10 @@ module _ (layout : Layout) (text after : List ℕ) (a : after ≡ after_run is_s
   unfolding with_style
   style_open none = ap (style_ends layout (take_while is_style_char text)) (sym a ∙ none) ∙ ap (λ r. Takes r layout) (sym none)
 
-  module _ (run rest : List ℕ) (c : ℕ) (s : Option (List ℕ)) (r : run ≡ take_while is_style_char text) (e : after ≡ c ∷ rest) (named : s ≡ style_named run) where
-    ends_at : with_style layout text ≡ style_ends layout run (c ∷ rest)
+  module _ (rest : List ℕ) (c : ℕ) (s : Option (List ℕ)) (e : after ≡ c ∷ rest) (named : s ≡ style_named (take_while is_style_char text)) where
+    ends_at : with_style layout text ≡ style_ends layout (take_while is_style_char text) (c ∷ rest)
     unfolding with_style
-    ends_at = ap (style_ends layout (take_while is_style_char text)) (sym a ∙ e) ∙ ap (λ x. style_ends layout x (c ∷ rest)) (sym r)
+    ends_at = ap (style_ends layout (take_while is_style_char text)) (sym a ∙ e)
 
     pub style_closed : c ≡ 0x7D → with_style layout text ≡ Takes rest (record layout { style = s })
     style_closed brace =
@@ -63,60 +69,69 @@ module _ (layout : Layout) (text after : List ℕ) (a : after ≡ after_run is_s
 
 -- ---- a width
 
-module _ (layout : Layout) (state : TemplateState) (text mix after : List ℕ) (marked : Bool) (m : mix ≡ take_while is_width_char text) (a : after ≡ after_run is_width_char text)
-    (t : marked ≡ list_any (λ c. c == 0x21) mix) where
-  width_by : with_width layout state text ≡ width_ends (record layout { truncate = marked }) (number_of (filter is_ascii_digit mix)) (state_after state mix) after
+module _ (layout : Layout) (state : TemplateState) (text after : List ℕ) (mix : Mix) (m : IsMix state (take_while is_width_char text) mix) (a : after ≡ after_run is_width_char text) where
+  width_by : with_width layout state text ≡ width_ends (record layout { truncate = mix.truncate }) (number_of (filter is_ascii_digit (take_while is_width_char text))) mix.state after
   unfolding with_width
   width_by =
-      ap (λ x. width_ends (record layout { truncate = list_any (λ c. c == 0x21) x }) (number_of (filter is_ascii_digit x)) (state_after state x) (after_run is_width_char text)) (sym m)
-      ∙ ap (λ b. width_ends (record layout { truncate = b }) (number_of (filter is_ascii_digit mix)) (state_after state mix) (after_run is_width_char text)) (sym t)
-      ∙ ap (width_ends (record layout { truncate = marked }) (number_of (filter is_ascii_digit mix)) (state_after state mix)) (sym a)
+      let run = take_while is_width_char text in
+      let number = number_of (filter is_ascii_digit run) in
+      ap (λ b. width_ends (record layout { truncate = b }) number (state_after state run) (after_run is_width_char text)) (sym m.truncate_is)
+      ∙ ap (λ s. width_ends (record layout { truncate = mix.truncate }) number s (after_run is_width_char text)) (sym m.state_is)
+      ∙ ap (width_ends (record layout { truncate = mix.truncate }) number mix.state) (sym a)
 
-  pub width_open : after ≡ [] → with_width layout state text ≡ Takes after (record layout { truncate = marked })
+  pub width_open : after ≡ [] → with_width layout state text ≡ Takes after (record layout { truncate = mix.truncate })
   width_open none =
-      width_by ∙ ap (width_ends (record layout { truncate = marked }) (number_of (filter is_ascii_digit mix)) (state_after state mix)) none
-      ∙ ap (λ r. Takes r (record layout { truncate = marked })) (sym none)
+      width_by ∙ ap (width_ends (record layout { truncate = mix.truncate }) (number_of (filter is_ascii_digit (take_while is_width_char text))) mix.state) none
+      ∙ ap (λ r. Takes r (record layout { truncate = mix.truncate })) (sym none)
 
   module _ (c : ℕ) (rest : List ℕ) (e : after ≡ c ∷ rest) where
-    width_at : with_width layout state text ≡ width_ends (record layout { truncate = marked }) (number_of (filter is_ascii_digit mix)) (state_after state mix) (c ∷ rest)
-    width_at = width_by ∙ ap (width_ends (record layout { truncate = marked }) (number_of (filter is_ascii_digit mix)) (state_after state mix)) e
+    width_at : with_width layout state text ≡ width_ends (record layout { truncate = mix.truncate }) (number_of (filter is_ascii_digit (take_while is_width_char text))) mix.state (c ∷ rest)
+    width_at = width_by ∙ ap (width_ends (record layout { truncate = mix.truncate }) (number_of (filter is_ascii_digit (take_while is_width_char text))) mix.state) e
 
-    pub width_closed : (w : Option ℕ) → c ≡ 0x7D → w ≡ number_of (filter is_ascii_digit mix) → is_too_wide w ≡ false →
-        with_width layout state text ≡ Takes rest (record layout { truncate = marked; width = w })
-    width_closed w brace is fits =
-        let test : eqb c 0x7D ≡ true = eq-eqb c 0x7D brace in
-        width_at ∙ ap (λ o. width_ends (record layout { truncate = marked }) o (state_after state mix) (c ∷ rest)) (sym is) ∙ rw (test, fits) refl
+    module _ (fits : mix.too_large ≡ false) where
+      sized_at : (is_too_wide mix.width ≡ false) × (with_width layout state text ≡ width_ends (record layout { truncate = mix.truncate }) mix.width mix.state (c ∷ rest))
+      sized_at = (
+        ap is_too_wide (m.width_is fits) ∙ sym m.too_large_is ∙ fits,
+        width_at ∙ ap (λ o. width_ends (record layout { truncate = mix.truncate }) o mix.state (c ∷ rest)) (sym (m.width_is fits)),
+      )
 
-    pub width_styled : (w : Option ℕ) → c ≡ 0x2E → w ≡ number_of (filter is_ascii_digit mix) → is_too_wide w ≡ false →
-        with_width layout state text ≡ with_style (record layout { truncate = marked; width = w }) rest
-    width_styled w dot is fits =
-        let other : eqb c 0x7D ≡ false = ne_eqb c 0x7D (λ brace. absurd (omega (arith, brace, dot))) in
-        let test : eqb c 0x2E ≡ true = eq-eqb c 0x2E dot in
-        width_at ∙ ap (λ o. width_ends (record layout { truncate = marked }) o (state_after state mix) (c ∷ rest)) (sym is) ∙ rw (other, test, fits) refl
+      pub width_closed : c ≡ 0x7D → with_width layout state text ≡ Takes rest (record layout { truncate = mix.truncate; width = mix.width })
+      width_closed brace =
+          let test : eqb c 0x7D ≡ true = eq-eqb c 0x7D brace in
+          let narrow : is_too_wide mix.width ≡ false = sized_at.0 in
+          sized_at.1 ∙ rw (test, narrow) refl
 
-    pub width_closed_wide : c ≡ 0x7D → is_too_wide (number_of (filter is_ascii_digit mix)) ≡ true → with_width layout state text ≡ Stops (c ∷ rest) WidthTooLarge
-    width_closed_wide brace wide =
-        let test : eqb c 0x7D ≡ true = eq-eqb c 0x7D brace in
-        width_at ∙ rw (test, wide) refl
+      pub width_styled : c ≡ 0x2E → with_width layout state text ≡ with_style (record layout { truncate = mix.truncate; width = mix.width }) rest
+      width_styled dot =
+          let other : eqb c 0x7D ≡ false = ne_eqb c 0x7D (λ brace. absurd (omega (arith, brace, dot))) in
+          let test : eqb c 0x2E ≡ true = eq-eqb c 0x2E dot in
+          let narrow : is_too_wide mix.width ≡ false = sized_at.0 in
+          sized_at.1 ∙ rw (other, test, narrow) refl
 
-    pub width_styled_wide : c ≡ 0x2E → is_too_wide (number_of (filter is_ascii_digit mix)) ≡ true → with_width layout state text ≡ Stops (c ∷ rest) WidthTooLarge
-    width_styled_wide dot wide =
-        let other : eqb c 0x7D ≡ false = ne_eqb c 0x7D (λ brace. absurd (omega (arith, brace, dot))) in
-        let test : eqb c 0x2E ≡ true = eq-eqb c 0x2E dot in
-        width_at ∙ rw (other, test, wide) refl
+    module _ (large : mix.too_large ≡ true) where
+      wide : is_too_wide (number_of (filter is_ascii_digit (take_while is_width_char text))) ≡ true
+      wide = sym m.too_large_is ∙ large
 
-    pub width_unexpected : (s : TemplateState) → (c ≡ 0x7D → ⊥) → (c ≡ 0x2E → ⊥) → s ≡ state_after state mix → with_width layout state text ≡ Stops (c ∷ rest) (Unexpected c s)
-    width_unexpected s no_brace no_dot is =
+      pub width_closed_wide : c ≡ 0x7D → with_width layout state text ≡ Stops (c ∷ rest) WidthTooLarge
+      width_closed_wide brace =
+          let test : eqb c 0x7D ≡ true = eq-eqb c 0x7D brace in
+          let too_wide : is_too_wide (number_of (filter is_ascii_digit (take_while is_width_char text))) ≡ true = wide in
+          width_at ∙ rw (test, too_wide) refl
+
+      pub width_styled_wide : c ≡ 0x2E → with_width layout state text ≡ Stops (c ∷ rest) WidthTooLarge
+      width_styled_wide dot =
+          let other : eqb c 0x7D ≡ false = ne_eqb c 0x7D (λ brace. absurd (omega (arith, brace, dot))) in
+          let test : eqb c 0x2E ≡ true = eq-eqb c 0x2E dot in
+          let too_wide : is_too_wide (number_of (filter is_ascii_digit (take_while is_width_char text))) ≡ true = wide in
+          width_at ∙ rw (other, test, too_wide) refl
+
+    pub width_unexpected : (c ≡ 0x7D → ⊥) → (c ≡ 0x2E → ⊥) → with_width layout state text ≡ Stops (c ∷ rest) (Unexpected c mix.state)
+    width_unexpected no_brace no_dot =
         let brace : eqb c 0x7D ≡ false = ne_eqb c 0x7D no_brace in
         let dot : eqb c 0x2E ≡ false = ne_eqb c 0x2E no_dot in
-        width_at ∙ rw (brace, dot) (ap (λ x. Stops (c ∷ rest) (Unexpected c x)) (sym is))
+        width_at ∙ rw (brace, dot) refl
 
 -- ---- numbers
-
--- a number that further digits follow
-abbrev pub number_after : Option ℕ → List ℕ → Option ℕ
-number_after w [] = w
-number_after w (d ∷ ds) = number_after (Some (unwrap_or w 0 * 10 + digit_value d)) ds
 
 number_after_some : (n : ℕ) (ds : List ℕ) → number_after (Some n) ds ≡ Some (digits_value_after 10 n ds)
 number_after_some n [] = refl
@@ -191,9 +206,3 @@ unfolding with_options
 options_aligned text c cs e align is r g =
     let same : with_width (record plain_layout { align = align }) Width cs ≡ with_options text = ap (aligned c cs) (sym is) ∙ ap with_options (sym e) in
     subst (λ f. Gives f r) same g
-
--- an error that is handed on
-pub gives_error : (f : Front Layout) (place : List ℕ) (x : TemplateError) → f ≡ Stops place WidthTooLarge → x ≡ WidthTooLarge → (r : Result (Options × Bor (List ℕ)) TemplateError) →
-    IsErrAnd r (λ e. e ≡ x) → Gives f r
-gives_error f place x e is (Ok y) h = absurd h
-gives_error f place x e is (Err y) h = (place, e ∙ ap (λ z. Stops place z) (sym (h ∙ is)))

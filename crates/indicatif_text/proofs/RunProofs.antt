@@ -6,7 +6,8 @@ use Rattle.std.proofs.Math.Utf8.{encode, encodes, scalar, scalars}
 use Rattle.std.proofs.lemmas.Bool.{cases_Bool, cases_lt, false≢true}
 use Rattle.std.proofs.lemmas.Bool.Decides.{nat_tests}
 use Rattle.indicatif_text.specs.declared.runs.Run.{Run}
-use Rattle.indicatif_text.specs.declared.runs.Run.TheVariants.{Literal, Key, Width, Style, Alternative, Word}
+use Rattle.indicatif_text.specs.declared.runs.Run.TheVariants.{Literal, Key, Word}
+use Rattle.indicatif_text.specs.declared.runs.Words.TheVariants.{All, Style, Alternative}
 use Rattle.std.proofs.lemmas.List.Sums.{prefix_len-le-length}
 use Rattle.std.proofs.lemmas.Str.{encode_ascii, inside_one, length-encode, len_utf8_bounds, chars-encodes, scalars-chars, encodes-chars, IsCharBoundary-from_drop}
 use Rattle.indicatif_text.specs.Runs.{belongs}
@@ -122,7 +123,6 @@ module _ (p : ℕ → Bool) (past_ascii : (c : ℕ) → 128 ≤ c → p c ≡ p 
 pub past_ascii : (run : Run) (c : ℕ) → 128 ≤ c → belongs run c ≡ belongs run 128
 past_ascii Literal c h = grind (arith, nat_tests)
 past_ascii Key c h = grind (arith, nat_tests)
-past_ascii Width c h = grind (arith, nat_tests)
-past_ascii Style c h = grind (arith, nat_tests)
-past_ascii Alternative c h = grind (arith, nat_tests)
-past_ascii Word c h = grind (arith, nat_tests)
+past_ascii (Word All) c h = grind (arith, nat_tests)
+past_ascii (Word Style) c h = grind (arith, nat_tests)
+past_ascii (Word Alternative) c h = grind (arith, nat_tests)

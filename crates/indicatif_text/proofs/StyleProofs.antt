@@ -2,16 +2,20 @@
 use Rattle.std.proofs.Common.{◌≡◌, ℕ, zero, suc, ◌+◌, ◌<◌, inl, inr, Bool, true, false, List, [], ◌∷◌, ◌++◌, length, refl, sym, ◌∙◌, ap, subst, arith, eqb, Option, Some, None, append-nil, append_assoc, length-append}
 use Rattle.std.specs.Fmt.{digits}
 use Rattle.std.proofs.lemmas.Grind.{flat_map-append}
-use Rattle.std.specs.Prelude.{◌||◌, ◌&&◌, nat_lt, chars, bytes_eq, codes, IsUtf8, IsAscii, option_to_list, filter_map, if◌then◌else◌, take_while, flat_map}
+use Rattle.std.specs.Prelude.{◌||◌, ◌&&◌, not, nat_lt, chars, bytes_eq, codes, IsUtf8, IsAscii, option_to_list, filter_map, if◌then◌else◌, take_while, flat_map}
 use Rattle.std.specs.List.{last_or, cons_option, list_all, onto_first, prefix_len}
 use Rattle.std.proofs.Math.Utf8.{encodes}
-use Rattle.std.proofs.lemmas.Bool.{cases_Bool, false≢true, ltb-true}
+use Rattle.std.proofs.lemmas.Bool.{cases_Bool, false≢true, ltb-true, ne_eqb}
 use Rattle.std.proofs.lemmas.Bool.Decides.{same_from_decides}
 use Rattle.std.proofs.lemmas.Slice.Eq.{bytes_eq-Decides}
 use Rattle.std.proofs.lemmas.Str.{encodes-chars, encodes-IsAscii, chars-IsAscii}
 use Rattle.indicatif_text.specs.declared.style_words.Style.{Style}
 use Rattle.indicatif_text.specs.Styles.{style_of, style_words, is_word_char, has_word, number_if, numbers_of, sequence_of, styled, foreground_number, background_number, foreground_of, background_of}
+use Rattle.indicatif_text.specs.declared.runs.Words.{Words}
+use Rattle.indicatif_text.specs.declared.runs.Words.TheVariants as words
+use Rattle.indicatif_text.specs.Runs.{in_words}
 use Rattle.indicatif_text.specs.Template.{after_run}
+use Rattle.indicatif_text.proofs.Prefixes.{run_more, run_ends, left_more, left_ends, left_fails, both, word_within, left_within, left_past}
 
 -- ---- a word as bytes and as characters
 
@@ -129,6 +133,67 @@ gathers_all text s rest e h =
 -- the style of no words
 abbrev pub plain : Style
 plain = record { foreground = None; background = None; bold = false; dim = false; underlined = false; blink = false; reverse = false; hidden = false }
+
+-- ---- words read from the front of a text
+
+-- these words were read from a text, where this rest is left
+pub record WordsRead (p : ℕ → Bool) (text : List ℕ) (s : Style) (rest : List ℕ) : Type 0 where
+  pub gathers : Gathers (style_words (take_while p text)) s (words_left (take_while p rest))
+  pub past : after_run p text ≡ after_run p rest
+  pub stops : (c : ℕ) (cs : List ℕ) → rest ≡ c ∷ cs → (p c && is_word_char c) ≡ false
+
+-- dots stand between words
+pub dot_within : (words : Words) → in_words words 0x2E ≡ true
+dot_within words.All = refl
+dot_within words.Style = refl
+dot_within words.Alternative = refl
+
+and_true_right : (b : Bool) → (b && true) ≡ b
+and_true_right true = refl
+and_true_right false = refl
+
+-- what is known at the end of the words
+pub record StyleRead (p : ℕ → Bool) (text : List ℕ) (s : Style) (rest : List ℕ) : Type 0 where
+  pub style : numbers_of s ≡ style_of (take_while p text)
+  pub past : rest ≡ after_run p text
+
+module _ (p : ℕ → Bool) (text : List ℕ) where
+  word_read : (s t : Style) (words word more : List ℕ) → Gathers (style_words (take_while p text)) s (style_words (take_while p words)) → after_run p text ≡ after_run p words →
+      word ≡ take_while (both p is_word_char) words → more ≡ after_run (both p is_word_char) words → Adds s word t → WordsRead p text t more
+  word_read s t words word more g past w m a = record {
+    gathers =
+        gathers_word (style_words (take_while p text)) s t (take_while p words) word (take_while p more) g
+        (w ∙ sym (word_within p is_word_char words)) (ap (take_while p) m ∙ sym (left_within p is_word_char words)) a;
+    past = past ∙ left_past p is_word_char words ∙ ap (after_run p) (sym m);
+    stops = λ c cs e. left_fails (both p is_word_char) words c cs (sym m ∙ e);
+  }
+
+  pub first_read : (t : Style) (word more : List ℕ) → word ≡ take_while (both p is_word_char) text → more ≡ after_run (both p is_word_char) text → Adds plain word t → WordsRead p text t more
+  first_read t word more w m a =
+      word_read plain t text word more (record { foreground = refl; background = refl; bold = refl; dim = refl; underlined = refl; blink = refl; reverse = refl; hidden = refl }) refl w m a
+
+  pub next_read : p 0x2E ≡ true → (s t : Style) (rest words word more : List ℕ) (c : ℕ) → WordsRead p text s rest → rest ≡ c ∷ words → c ≡ 0x2E →
+      word ≡ take_while (both p is_word_char) words → more ≡ after_run (both p is_word_char) words → Adds s word t → WordsRead p text t more
+  next_read dot s t rest words word more c r e is w m a =
+      let passes : p c ≡ true = ap p is ∙ dot in
+      let gathered : Gathers (style_words (take_while p text)) s (style_words (take_while p words)) =
+      subst (λ xs. Gathers (style_words (take_while p text)) s (words_left xs)) (ap (take_while p) e ∙ run_more p c words passes) r.gathers in
+      word_read s t words word more gathered (r.past ∙ ap (after_run p) e ∙ left_more p c words passes) w m a
+
+  all_read : (s : Style) (rest : List ℕ) → WordsRead p text s rest → take_while p rest ≡ [] → after_run p rest ≡ rest → StyleRead p text s rest
+  all_read s rest r none left = record {
+    style = gathers_all (take_while p text) s (take_while p rest) none r.gathers;
+    past = sym (r.past ∙ left);
+  }
+
+  pub read_to_end : (s : Style) (rest : List ℕ) → WordsRead p text s rest → rest ≡ [] → StyleRead p text s rest
+  read_to_end s rest r e = all_read s rest r (ap (take_while p) e) (ap (after_run p) e ∙ sym e)
+
+  pub read_to_stop : (s : Style) (rest : List ℕ) (c : ℕ) (cs : List ℕ) → WordsRead p text s rest → rest ≡ c ∷ cs → (c ≡ 0x2E → ⊥) → StyleRead p text s rest
+  read_to_stop s rest c cs r e other =
+      let word : is_word_char c ≡ true = ap not (ne_eqb c 0x2E other) in
+      let fails : p c ≡ false = sym (and_true_right (p c)) ∙ ap (λ b. p c && b) (sym word) ∙ r.stops c cs e in
+      all_read s rest r (ap (take_while p) e ∙ run_ends p c cs fails) (ap (after_run p) e ∙ left_ends p c cs fails ∙ sym e)
 
 -- ---- what a style writes
 

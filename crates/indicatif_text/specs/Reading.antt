@@ -1,14 +1,18 @@
 -- What the code of templates holds while it reads, in the words of the grammar. For the code's own functions.
-use Rattle.std.specs.Prelude.{◌≡◌, ℕ, List, [], ◌∷◌, ◌++◌, map, option_map, take, drop, string_bytes, if◌then◌else◌}
+use Rattle.std.specs.Prelude.{◌≡◌, ℕ, ◌+◌, ◌*◌, ◌==◌, ◌||◌, false, List, [], ◌∷◌, ◌++◌, map, filter, Option, Some, option_map, unwrap_or, take, drop, string_bytes, if◌then◌else◌}
+use Rattle.std.specs.List.{list_any}
+use Rattle.std.specs.Char.{is_ascii_digit, digit_value}
 use Rattle.std.specs.Str.{chars}
+use Rattle.indicatif_text.specs.declared.refusal.TemplateState.{TemplateState}
 use Rattle.indicatif_text.specs.declared.template.TemplateError.{TemplateError}
+use Rattle.indicatif_text.specs.declared.template.reading.Mix.{Mix}
 use Rattle.indicatif_text.specs.declared.template.reading.Options.{Options}
 use Rattle.indicatif_text.specs.declared.template.reading.Token.{Token}
 use Rattle.indicatif_text.specs.declared.template.reading.Token.TheVariants.{Literal, NewLine, Spaced, Placeholder, OpenBrace, OpenKey}
 use Rattle.indicatif_text.specs.declared.template.draft.Draft.{Draft}
 use Rattle.indicatif_text.specs.Styles.{numbers_of}
 use Rattle.indicatif_text.specs.Parts.{Layout, TemplatePart, LiteralText, LineBreak, KeyText, part_of}
-use Rattle.indicatif_text.specs.Template.{Piece, Char, Break, SpacedBrace, Keyed, LastBrace, LastKey, Reads, Refuses, is_open_run, without_open_run, onto_literal, joined_parts}
+use Rattle.indicatif_text.specs.Template.{Piece, Char, Break, SpacedBrace, Keyed, LastBrace, LastKey, number_of, is_too_wide, state_after, Reads, Refuses, is_open_run, without_open_run, onto_literal, joined_parts}
 
 -- the layout of options
 abbrev pub layout_of : Options → Layout
@@ -22,6 +26,30 @@ piece_of (Spaced key c) = SpacedBrace ((0x7B ∷ chars key.now) ++ c ∷ [])
 piece_of (Placeholder key options) = Keyed (chars key.now) (layout_of options)
 piece_of OpenBrace = LastBrace
 piece_of OpenKey = LastKey
+
+-- what a mix holds of digits and exclamation marks whose first is met in this state
+pub record IsMix (state : TemplateState) (run : List ℕ) (mix : Mix) : Type 0 where
+  pub too_large_is : mix.too_large ≡ is_too_wide (number_of (filter is_ascii_digit run))
+  pub width_is : mix.too_large ≡ false → mix.width ≡ number_of (filter is_ascii_digit run)
+  pub truncate_is : mix.truncate ≡ list_any (λ c. c == 0x21) run
+  pub state_is : mix.state ≡ state_after state run
+
+-- a number that further digits follow
+abbrev pub number_after : Option ℕ → List ℕ → Option ℕ
+number_after number [] = number
+number_after number (d ∷ ds) = number_after (Some (unwrap_or number 0 * 10 + digit_value d)) ds
+
+-- what a mix holds where these characters of the run are left
+pub record IsMixBefore (state : TemplateState) (run : List ℕ) (mix : Mix) (left : List ℕ) : Type 0 where
+  pub fits : is_too_wide mix.width ≡ false
+  pub too_large_is : (mix.too_large || is_too_wide (number_after mix.width (filter is_ascii_digit left))) ≡ is_too_wide (number_of (filter is_ascii_digit run))
+  pub width_is : mix.too_large ≡ false → number_after mix.width (filter is_ascii_digit left) ≡ number_of (filter is_ascii_digit run)
+  pub truncate_is : (mix.truncate || list_any (λ c. c == 0x21) left) ≡ list_any (λ c. c == 0x21) run
+  pub state_is : state_after mix.state left ≡ state_after state run
+
+-- a longer mix has taken up the first character of those that were left
+abbrev pub TakesUp : Mix → ℕ → Mix → Type 0
+TakesUp mix c longer = (state : TemplateState) (run left : List ℕ) → IsMixBefore state run mix (c ∷ left) → IsMixBefore state run longer left
 
 -- a template that is half read: its parts so far, the literal text that stays whatever follows, and the literal run that an
 -- opening brace at the end would take away

@@ -1,8 +1,19 @@
 //! Cutting a text at the first character that doesn't belong to a run.
 ghost use Rattle.std.specs.Prelude.{◌≡◌, ◌∷◌, [], ◌≤◌, chars, length, take_while, MatchOption, IfSome, IsUtf8};
 ghost use Rattle.std.specs.List.{prefix_len};
-ghost use Rattle.indicatif_text.specs.Runs.{belongs};
+ghost use Rattle.indicatif_text.specs.Runs.{belongs, in_words};
 ghost use Rattle.indicatif_text.specs.Template.{after_run};
+
+/// How far the words of a style go. What ends them is always ASCII.
+#[derive(Clone, Copy, Debug, Drop, PartialEq, Eq)]
+pub(crate) enum Words {
+    /// To the end of the text.
+    All,
+    /// Up to a slash or a closing brace.
+    Style,
+    /// Up to a closing brace.
+    Alternative,
+}
 
 /// The characters that a run is made of. What ends a run is always ASCII.
 #[derive(Clone, Copy, Debug, Drop, PartialEq, Eq)]
@@ -11,14 +22,20 @@ pub(crate) enum Run {
     Literal,
     /// All but colons, closing braces and ASCII white space.
     Key,
-    /// Digits and exclamation marks.
-    Width,
-    /// All but slashes and closing braces.
-    Style,
-    /// All but closing braces.
-    Alternative,
-    /// All but dots.
-    Word,
+    /// All but dots and what ends these words.
+    Word(Words),
+}
+
+/// Whether a byte of a text stands in the words or between them.
+#[inline(always)]
+fn in_words(words: Words, byte: u8) -> bool
+    ensures { result ≡ in_words words byte }
+{
+    match words {
+        Words::All => true,
+        Words::Style => !(byte == b'/' || byte == b'}'),
+        Words::Alternative => byte != b'}',
+    }
 }
 
 /// Whether a byte of a text belongs to the run; those of characters past ASCII do or don't together.
@@ -29,10 +46,7 @@ fn belongs(run: Run, byte: u8) -> bool
     match run {
         Run::Literal => !(byte == b'\n' || byte == b'{' || byte == b'}'),
         Run::Key => !(byte == b':' || byte == b'}' || byte.is_ascii_whitespace()),
-        Run::Width => byte.is_ascii_digit() || byte == b'!',
-        Run::Style => !(byte == b'/' || byte == b'}'),
-        Run::Alternative => byte != b'}',
-        Run::Word => byte != b'.',
+        Run::Word(words) => in_words(words, byte) && byte != b'.',
     }
 }
 

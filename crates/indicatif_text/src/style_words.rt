@@ -1,10 +1,12 @@
 //! Styles of text: the colours and attributes that a dotted text names, and what they write.
-ghost use Rattle.std.specs.Prelude.{◌≡◌, ◌+◌, ◌≤◌, ◌||◌, ◌++◌, [], ◌∷◌, chars, bytes_eq, option_map, option_to_list, flat_map, position, string_bytes, string_len, string_capacity, length, codes, nat_lt, OnOk, OnErr, IfErr, if◌then◌else◌, IsTrue};
+ghost use Rattle.std.specs.Prelude.{◌≡◌, ◌+◌, ◌≤◌, ◌||◌, ◌++◌, [], ◌∷◌, chars, bytes_eq, option_map, option_to_list, flat_map, position, take_while, IsUtf8, string_bytes, string_len, string_capacity, length, codes, nat_lt, OnOk, OnErr, IfErr, if◌then◌else◌, IsTrue};
 ghost use Rattle.std.specs.List.{last_or, list_all};
 ghost use Rattle.indicatif_text.specs.Styles.{style_of, styled, sequence_of, numbers_of, foreground_number, background_number, foreground_of, background_of, place_of};
+ghost use Rattle.indicatif_text.specs.Runs.{in_words};
+ghost use Rattle.indicatif_text.specs.Template.{after_run};
 
 use crate::refusal::Refusal;
-use crate::runs::{Run, split_first, split_run};
+use crate::runs::{Run, Words, split_first, split_run};
 
 /// One of the eight colours of a terminal, in the order of their numbers (ECMA-48, SGR 30 to 37 and 40 to 47).
 #[derive(Clone, Copy, Debug, Drop, PartialEq, Eq)]
@@ -59,14 +61,26 @@ impl Style {
     pub fn from_dotted_str(text: &str) -> Style
         ensures { numbers_of result ≡ style_of (chars text.now) }
     {
-        let (word, mut rest) = split_run(text, Run::Word);
+        Style::read(text, Words::All).0
+    }
+
+    /// The style that the words in front of `text` name, and what follows them.
+    pub(crate) fn read(text: &str, words: Words) -> (Style, &str)
+        ensures style { numbers_of result.0 ≡ style_of (take_while (in_words words) (chars text.now)) }
+        ensures rest { chars result.1.now ≡ after_run (in_words words) (chars text.now) }
+        ensures utf8 { IsUtf8 result.1.now }
+    {
+        let (word, mut rest) = split_run(text, Run::Word(words));
         let mut style = Style::PLAIN.with_word(word);
-        while let Some((_dot, words)) = split_first(rest) {
-            let (word, more) = split_run(words, Run::Word);
+        while let Some((end, left)) = split_first(rest) {
+            if end != '.' {
+                break;
+            }
+            let (word, more) = split_run(left, Run::Word(words));
             style = style.with_word(word);
             rest = more;
         }
-        style
+        (style, rest)
     }
 
     /// Appends `text` as it looks in this style. With `colours` on, the sequences stand before it: foreground,

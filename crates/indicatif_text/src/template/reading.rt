@@ -1,13 +1,12 @@
 //! What stands in front of a text that is read as a template. Nothing here takes memory.
-ghost use Rattle.std.specs.Prelude.{◌≡◌, ◌==◌, ℕ, List, true, false, chars, filter, option_map, MatchResult, IfOk, IsUtf8};
-ghost use Rattle.std.specs.List.{list_any};
-ghost use Rattle.std.specs.Char.{is_ascii_digit};
+ghost use Rattle.std.specs.Prelude.{◌≡◌, ◌∷◌, ℕ, List, true, false, chars, option_map, take_while, MatchResult, MatchOption, IfOk, IsUtf8};
+ghost use Rattle.indicatif_text.specs.Runs.{in_words};
 ghost use Rattle.indicatif_text.specs.Styles.{numbers_of};
-ghost use Rattle.indicatif_text.specs.Template.{Takes, Stops, style_named, state_after, number_of, is_too_wide, alignment_of, with_alternative, with_style, with_width, with_options, unfinished, key_ends, opened, closed, front};
-ghost use Rattle.indicatif_text.specs.Reading.{layout_of, piece_of};
+ghost use Rattle.indicatif_text.specs.Template.{Takes, Stops, after_run, is_width_char, style_named, alignment_of, with_alternative, with_style, with_width, with_options, unfinished, key_ends, opened, closed, front};
+ghost use Rattle.indicatif_text.specs.Reading.{layout_of, piece_of, IsMix, TakesUp};
 
 use crate::refusal::TemplateState;
-use crate::runs::{Run, split_first, split_run};
+use crate::runs::{Run, Words, split_first, split_run};
 use crate::style_words::Style;
 use crate::template::{Alignment, TemplateError};
 
@@ -31,60 +30,83 @@ impl Options {
     };
 }
 
-/// The style that a text names; an empty text is none.
-fn style_named(text: &str) -> Option<Style>
-    ensures { option_map numbers_of result ≡ style_named (chars text.now) }
+/// The style that the words in front of a text name, and what follows them; no text is no style.
+fn style_named<'a>(text: &'a str, words: Words) -> (Option<Style>, &'a str)
+    ensures style { option_map numbers_of result.0 ≡ style_named (take_while (in_words words) (chars text.now)) }
+    ensures rest { chars result.1.now ≡ after_run (in_words words) (chars text.now) }
+    ensures utf8 { IsUtf8 result.1.now }
 {
-    if text.is_empty() {
-        return None;
+    let (style, after) = Style::read(text, words);
+    if after.len() == text.len() {
+        return (None, after);
     }
-    Some(Style::from_dotted_str(text))
+    (Some(style), after)
 }
 
-/// The number of the digits in a text, if it has any; other characters are passed over.
-///
-/// Refused: `WidthTooLarge` where it's past 65,535.
-fn number_of(text: &str) -> Result<Option<u16>, TemplateError>
-    ensures { MatchResult result
-        (λ width. (width ≡ number_of (filter is_ascii_digit (chars text.now))) × (is_too_wide width ≡ false))
-        (λ e. (e ≡ TemplateError.WidthTooLarge) × (is_too_wide (number_of (filter is_ascii_digit (chars text.now))) ≡ true)) }
-{
-    let mut width: Option<u16> = None;
-    let mut rest = text.chars();
-    while let Some(c) = rest.next() {
-        if c.is_ascii_digit() {
-            let number = u32::from(width.unwrap_or(0)) * 10 + (c as u32 - 48);
-            if number > 65_535 {
-                return Err(TemplateError::WidthTooLarge);
-            }
-            width = Some(number as u16);
-        }
-    }
-    Ok(width)
+/// Digits and exclamation marks, in any mix.
+#[derive(Clone, Copy, Debug, Drop)]
+struct Mix {
+    /// The number of the digits, if there are any; it counts only where it isn't too large.
+    width: Option<u16>,
+    /// Whether the number is past 65,535.
+    too_large: bool,
+    /// Whether an exclamation mark stands among them.
+    truncate: bool,
+    /// The state of the character behind them.
+    state: TemplateState,
 }
 
-/// Whether an exclamation mark stands in a text.
-fn has_mark(text: &str) -> bool
-    ensures { result ≡ list_any (λ c. c == 0x21) (chars text.now) }
-{
-    let mut rest = text.chars();
-    while let Some(c) = rest.next() {
+impl Mix {
+    /// The mix with a further character; none where that is neither a digit nor an exclamation mark.
+    fn with(self, c: char) -> Option<Mix>
+        ensures { MatchOption result (is_width_char c ≡ false) (λ longer. (is_width_char c ≡ true) × TakesUp self c longer) }
+    {
+        let longer = Mix {
+            state: TemplateState::Width,
+            ..self
+        };
         if c == '!' {
-            return true;
+            return Some(Mix {
+                truncate: true,
+                ..longer
+            });
         }
+        if !c.is_ascii_digit() {
+            return None;
+        }
+        let number = u32::from(self.width.unwrap_or(0)) * 10 + (c as u32 - 48);
+        if number > 65_535 {
+            return Some(Mix {
+                too_large: true,
+                ..longer
+            });
+        }
+        let width = Some(number as u16);
+        Some(Mix { width, ..longer })
     }
-    false
 }
 
-/// The state at the character after `mix`: the one given where nothing stands before it.
-fn state_after(state: TemplateState, mix: &str) -> TemplateState
-    ensures { result ≡ state_after state (chars mix.now) }
+/// The digits and exclamation marks in front of a text, whose first character is met in `state`, and what follows them.
+fn read_mix(state: TemplateState, text: &str) -> (Mix, &str)
+    ensures mix { IsMix state (take_while is_width_char (chars text.now)) result.0 }
+    ensures rest { chars result.1.now ≡ after_run is_width_char (chars text.now) }
+    ensures utf8 { IsUtf8 result.1.now }
 {
-    if mix.is_empty() {
-        state
-    } else {
-        TemplateState::Width
+    let mut mix = Mix {
+        width: None,
+        too_large: false,
+        truncate: false,
+        state,
+    };
+    let mut rest = text;
+    while let Some((c, after)) = split_first(rest) {
+        let Some(longer) = mix.with(c) else {
+            break;
+        };
+        mix = longer;
+        rest = after;
     }
+    (mix, rest)
 }
 
 /// The alignment that a character names.
@@ -104,19 +126,16 @@ fn with_alternative<'a>(options: Options, text: &'a str) -> (Options, &'a str)
     ensures value { with_alternative (layout_of options) (chars text.now) ≡ Takes (chars result.1.now) (layout_of result.0) }
     ensures utf8 { IsUtf8 result.1.now }
 {
-    let (named, after) = split_run(text, Run::Alternative);
+    let (alternative, after) = style_named(text, Words::Alternative);
     match split_first(after) {
         None => (options, after),
-        Some((_brace, rest)) => {
-            let alternative = style_named(named);
-            (
-                Options {
-                    alternative,
-                    ..options
-                },
-                rest,
-            )
-        }
+        Some((_brace, rest)) => (
+            Options {
+                alternative,
+                ..options
+            },
+            rest,
+        ),
     }
 }
 
@@ -125,11 +144,10 @@ fn with_style<'a>(options: Options, text: &'a str) -> (Options, &'a str)
     ensures value { with_style (layout_of options) (chars text.now) ≡ Takes (chars result.1.now) (layout_of result.0) }
     ensures utf8 { IsUtf8 result.1.now }
 {
-    let (named, after) = split_run(text, Run::Style);
+    let (style, after) = style_named(text, Words::Style);
     match split_first(after) {
         None => (options, after),
         Some((end, rest)) => {
-            let style = style_named(named);
             let styled = Options { style, ..options };
             if end == '}' {
                 (styled, rest)
@@ -153,25 +171,29 @@ fn with_width<'a>(
         (λ e. (place : List ℕ) × (with_width (layout_of options) state (chars text.now) ≡ Stops place e)) }
     ensures utf8 { IfOk result (λ r. IsUtf8 r.1.now) }
 {
-    let (mix, after) = split_run(text, Run::Width);
-    let truncate = has_mark(mix);
+    let (mix, after) = read_mix(state, text);
     let marked = Options {
-        truncate,
+        truncate: mix.truncate,
         ..options
     };
     let Some((next, rest)) = split_first(after) else {
         return Ok((marked, after));
     };
-    if next == '}' {
-        let width = number_of(mix)?;
-        Ok((Options { width, ..marked }, rest))
-    } else if next == '.' {
-        let width = number_of(mix)?;
-        Ok(with_style(Options { width, ..marked }, rest))
-    } else {
-        let state = state_after(state, mix);
-        Err(TemplateError::Unexpected { next, state })
+    if next != '}' && next != '.' {
+        let state = mix.state;
+        return Err(TemplateError::Unexpected { next, state });
     }
+    if mix.too_large {
+        return Err(TemplateError::WidthTooLarge);
+    }
+    let sized = Options {
+        width: mix.width,
+        ..marked
+    };
+    if next == '}' {
+        return Ok((sized, rest));
+    }
+    Ok(with_style(sized, rest))
 }
 
 /// The options of a placeholder up to the closing brace, and what follows it.

@@ -27,11 +27,12 @@ returns-in_err-draw g c = λ command s asks same lines fits failed.
     let e : Refusal = c.in_err-draw.field-0.0 in
     rw (x.1 ∙ ap Err x.2) (drew_err g.T.TermLike.view (Change command) c.args.now s old new frame asks ready.0 fits failed laid e
     (drawing_of g.T.TermLike.view (Change command) c.args.now s old new frame asks ready.0 fits failed laid (map bar_lines c.from_ref.result.now) all_lines
-    (λ m. drawn view.columns view.rows false 0 m s.lists) (Err e) members refl refl (record {
+    (λ m l. drawn view.columns view.rows false 0 m l) (Err e) members refl refl (record {
       lists = c.in_err-draw.ensures.lists s.lists fits;
       answer = c.in_err-draw.ensures.answer;
       count = c.in_err-draw.ensures.counted;
       paint = c.in_err-draw.ensures.picture s.lists fits;
+      afresh = c.in_err-draw.ensures.anew;
     })))
 
 pub returns : goal.returns
@@ -45,9 +46,10 @@ returns g c = λ command s asks same lines fits failed.
     let members = ap (map bar_lines) c.from_ref.ensures.value ∙ ap (λ x. x ∷ []) laid in
     drew_ok g.T.TermLike.view (Change command) c.args.now s old new frame asks ready.0 fits failed laid
     (drawing_of g.T.TermLike.view (Change command) c.args.now s old new frame asks ready.0 fits failed laid (map bar_lines c.from_ref.result.now) all_lines
-    (λ m. drawn view.columns view.rows false 0 m s.lists) (Ok tt) members refl refl (record {
+    (λ m l. drawn view.columns view.rows false 0 m l) (Ok tt) members refl refl (record {
       lists = c.in_ok-draw.ensures.lists s.lists fits;
       answer = c.in_ok-draw.ensures.answer;
       count = c.in_ok-draw.ensures.counted;
       paint = c.in_ok-draw.ensures.picture s.lists fits;
+      afresh = c.in_ok-draw.ensures.anew;
     })) refl refl

@@ -27,11 +27,12 @@ returns-in_err-log g c = λ s same lines fits failed.
     let e : Refusal = c.in_err-log.field-0.0 in
     rw (x.1 ∙ ap Err x.2) (drew_err g.T.TermLike.view (Log c.args.text.now) c.args.now s old new frame refl ready.0 fits failed laid e
     (drawing_of g.T.TermLike.view (Log c.args.text.now) c.args.now s old new frame refl ready.0 fits failed laid (map bar_lines c.from_ref.result.now) (λ m. text_lines (logged_lines c.args.text.now) ++ all_lines m)
-    (λ m. logged view.columns view.rows false (text_lines (logged_lines c.args.text.now)) m s.lists) (Err e) members refl refl (record {
+    (λ m l. logged view.columns view.rows false (text_lines (logged_lines c.args.text.now)) m l) (Err e) members refl refl (record {
       lists = c.in_err-log.ensures.lists s.lists fits;
       answer = c.in_err-log.ensures.answer;
       count = c.in_err-log.ensures.counted;
       paint = c.in_err-log.ensures.picture s.lists fits;
+      afresh = c.in_err-log.ensures.anew;
     })))
 
 pub returns : goal.returns
@@ -45,9 +46,10 @@ returns g c = λ s same lines fits failed.
     let members = ap (map bar_lines) c.from_ref.ensures.value ∙ ap (λ x. x ∷ []) laid in
     drew_ok g.T.TermLike.view (Log c.args.text.now) c.args.now s old new frame refl ready.0 fits failed laid
     (drawing_of g.T.TermLike.view (Log c.args.text.now) c.args.now s old new frame refl ready.0 fits failed laid (map bar_lines c.from_ref.result.now) (λ m. text_lines (logged_lines c.args.text.now) ++ all_lines m)
-    (λ m. logged view.columns view.rows false (text_lines (logged_lines c.args.text.now)) m s.lists) (Ok tt) members refl refl (record {
+    (λ m l. logged view.columns view.rows false (text_lines (logged_lines c.args.text.now)) m l) (Ok tt) members refl refl (record {
       lists = c.in_ok-log.ensures.lists s.lists fits;
       answer = c.in_ok-log.ensures.answer;
       count = c.in_ok-log.ensures.counted;
       paint = c.in_ok-log.ensures.picture s.lists fits;
+      afresh = c.in_ok-log.ensures.anew;
     })) refl refl

@@ -1,14 +1,16 @@
-use Rattle.std.proofs.Common.{List, ℕ, Option, Some, ap, sym, ◌∙◌, refl}
-use Rattle.std.specs.Prelude.{chars}
-use Rattle.indicatif_text.specs.Styles.{style_of}
+use Rattle.std.proofs.Common.{Some, sym, ap, ◌∙◌, chars}
+use Rattle.std.specs.Prelude.{take_while}
+use Rattle.indicatif_text.specs.Runs.{in_words}
 use Rattle.indicatif_text.specs.Template.{style_named}
-use Rattle.indicatif_text.proofs.ReadingProofs.{is_no_text, some_text}
+use Rattle.indicatif_text.proofs.Prefixes.{nothing_before, something_before}
+use Rattle.indicatif_text.proofs.ReadingProofs.{some_style}
 use Rattle.indicatif_text.proofs.template.reading.style_named.Goals as goal
 
-pub returns-then-is_empty : goal.returns-then-is_empty
-returns-then-is_empty c = ap style_named (sym (is_no_text c.args.text.now c.if-is_empty.ensures))
+pub returns-then-after-text-clause-style : goal.returns-then-after-text-clause-style
+returns-then-after-text-clause-style c =
+    ap style_named (sym (nothing_before (in_words c.args.words) c.args.text.now c.read.result.1.now c.utf8.text c.read.ensures.utf8 c.read.ensures.rest c.if-after-text.true))
 
-pub returns : goal.returns
-returns c =
-    let text = c.args.text.now in
-    ap Some c.from_dotted_str.ensures ∙ some_text (Option (List ℕ)) (λ cs. Some (style_of cs)) style_named (λ c cs. refl) text (chars text) c.utf8.text refl c.if-is_empty.ensures
+pub returns-clause-style : goal.returns-clause-style
+returns-clause-style c =
+    ap Some c.read.ensures.style
+    ∙ some_style (take_while (in_words c.args.words) (chars c.args.text.now)) (something_before (in_words c.args.words) c.args.text.now c.read.result.1.now c.utf8.text c.read.ensures.utf8 c.read.ensures.rest c.if-after-text.false)

@@ -1,43 +1,45 @@
-use Rattle.std.proofs.Common.{◌∙◌, ◌∷◌}
+use Rattle.std.proofs.Common.{◌∷◌, ◌∙◌}
 use Rattle.std.specs.Prelude.{chars}
 use Rattle.indicatif_text.specs.Reading.{layout_of}
-use Rattle.indicatif_text.specs.Template.{with_width}
-use Rattle.indicatif_text.proofs.ReadingProofs.{width_open, width_closed, width_styled, width_closed_wide, width_styled_wide, width_unexpected, gives_error}
+use Rattle.indicatif_text.proofs.ReadingProofs.{width_open, width_closed, width_styled, width_closed_wide, width_styled_wide, width_unexpected}
 use Rattle.indicatif_text.proofs.template.reading.with_width.Goals as goal
+use Rattle.indicatif_text.proofs.template.reading.with_width.Goals.{else-next-ne125-via-then-next-ne125+else-next-ne46, else-next-ne125-via-else-next-ne125}
 
 pub returns-in_default-clause-value : goal.returns-in_default-clause-value
 returns-in_default-clause-value c =
-    width_open (layout_of c.args.options) c.args.state (chars c.args.text.now) (chars c.split_run.result.0.now) (chars c.split_run.result.1.now) c.has_mark-truncate.result
-    c.split_run.ensures.run c.split_run.ensures.rest c.has_mark-truncate.ensures c.in_default.ensures.first
+    width_open (layout_of c.args.options) c.args.state (chars c.args.text.now) (chars c.read_mix.result.1.now) c.read_mix.result.0
+    c.read_mix.ensures.mix c.read_mix.ensures.rest c.in_default.ensures.first
 
-pub returns-in_err-width-clause-value : goal.returns-in_err-width-clause-value
-returns-in_err-width-clause-value c =
-    gives_error (with_width (layout_of c.args.options) c.args.state (chars c.args.text.now)) (c.in-Some.next ∷ chars c.in-Some.rest.now) c.in_err-width.field-0.0
-    (width_closed_wide (layout_of c.args.options) c.args.state (chars c.args.text.now) (chars c.split_run.result.0.now) (chars c.split_run.result.1.now) c.has_mark-truncate.result
-    c.split_run.ensures.run c.split_run.ensures.rest c.has_mark-truncate.ensures c.in-Some.next (chars c.in-Some.rest.now) c.in-Some.ensures.first c.if-next-eq125.true c.in_err-width.ensures.1) c.in_err-width.ensures.0 c.from_residual.result c.from_residual.ensures.1
-
-pub returns-in_err-width-2-clause-value : goal.returns-in_err-width-2-clause-value
-returns-in_err-width-2-clause-value c =
-    gives_error (with_width (layout_of c.args.options) c.args.state (chars c.args.text.now)) (c.in-Some.next ∷ chars c.in-Some.rest.now) c.in_err-width-2.field-0.0
-    (width_styled_wide (layout_of c.args.options) c.args.state (chars c.args.text.now) (chars c.split_run.result.0.now) (chars c.split_run.result.1.now) c.has_mark-truncate.result
-    c.split_run.ensures.run c.split_run.ensures.rest c.has_mark-truncate.ensures c.in-Some.next (chars c.in-Some.rest.now) c.in-Some.ensures.first c.if-next-eq46.true c.in_err-width-2.ensures.1) c.in_err-width-2.ensures.0 c.from_residual-in_err-width-2.result c.from_residual-in_err-width-2.ensures.1
-
-pub returns-in_ok-width-clause-value : goal.returns-in_ok-width-clause-value
-returns-in_ok-width-clause-value c =
-    width_closed (layout_of c.args.options) c.args.state (chars c.args.text.now) (chars c.split_run.result.0.now) (chars c.split_run.result.1.now) c.has_mark-truncate.result
-    c.split_run.ensures.run c.split_run.ensures.rest c.has_mark-truncate.ensures c.in-Some.next (chars c.in-Some.rest.now) c.in-Some.ensures.first
-    c.in_ok-width.width c.if-next-eq125.true c.in_ok-width.ensures.0 c.in_ok-width.ensures.1
-
-pub returns-in_ok-width-2-clause-value : goal.returns-in_ok-width-2-clause-value
-returns-in_ok-width-2-clause-value c =
-    width_styled (layout_of c.args.options) c.args.state (chars c.args.text.now) (chars c.split_run.result.0.now) (chars c.split_run.result.1.now) c.has_mark-truncate.result
-    c.split_run.ensures.run c.split_run.ensures.rest c.has_mark-truncate.ensures c.in-Some.next (chars c.in-Some.rest.now) c.in-Some.ensures.first
-    c.in_ok-width-2.width c.if-next-eq46.true c.in_ok-width-2.ensures.0 c.in_ok-width-2.ensures.1 ∙ c.with_style.ensures.value
-
-pub returns-else-next-eq46-clause-value : goal.returns-else-next-eq46-clause-value
-returns-else-next-eq46-clause-value c = (
-  (c.in-Some.next ∷ chars c.in-Some.rest.now),
-  width_unexpected (layout_of c.args.options) c.args.state (chars c.args.text.now) (chars c.split_run.result.0.now) (chars c.split_run.result.1.now) c.has_mark-truncate.result
-      c.split_run.ensures.run c.split_run.ensures.rest c.has_mark-truncate.ensures c.in-Some.next (chars c.in-Some.rest.now) c.in-Some.ensures.first
-      c.state_after-state.result c.if-next-eq125.false c.if-next-eq46.false c.state_after-state.ensures,
+pub returns-then-next-ne46-clause-value : goal.returns-then-next-ne46-clause-value
+returns-then-next-ne46-clause-value c = (
+  c.in-Some.next ∷ chars c.in-Some.rest.now,
+  width_unexpected (layout_of c.args.options) c.args.state (chars c.args.text.now) (chars c.read_mix.result.1.now) c.read_mix.result.0
+      c.read_mix.ensures.mix c.read_mix.ensures.rest c.in-Some.next (chars c.in-Some.rest.now) c.in-Some.ensures.first c.if-next-ne125.true c.if-next-ne46.true,
 )
+
+pub returns-then-mix-clause-value : goal.returns-then-mix-clause-value
+returns-then-mix-clause-value c = (
+  c.in-Some.next ∷ chars c.in-Some.rest.now,
+  elim c.else-next-ne125.branch [
+    | else-next-ne125-via-then-next-ne125+else-next-ne46 w ↦
+        width_styled_wide (layout_of c.args.options) c.args.state (chars c.args.text.now) (chars c.read_mix.result.1.now) c.read_mix.result.0
+        c.read_mix.ensures.mix c.read_mix.ensures.rest c.in-Some.next (chars c.in-Some.rest.now) c.in-Some.ensures.first c.if-mix.true w.if-next-ne46.false
+    | else-next-ne125-via-else-next-ne125 w ↦
+        width_closed_wide (layout_of c.args.options) c.args.state (chars c.args.text.now) (chars c.read_mix.result.1.now) c.read_mix.result.0
+        c.read_mix.ensures.mix c.read_mix.ensures.rest c.in-Some.next (chars c.in-Some.rest.now) c.in-Some.ensures.first c.if-mix.true w.if-next-ne125.false
+  ],
+)
+
+pub returns-then-next-eq125-clause-value : goal.returns-then-next-eq125-clause-value
+returns-then-next-eq125-clause-value c =
+    width_closed (layout_of c.args.options) c.args.state (chars c.args.text.now) (chars c.read_mix.result.1.now) c.read_mix.result.0
+    c.read_mix.ensures.mix c.read_mix.ensures.rest c.in-Some.next (chars c.in-Some.rest.now) c.in-Some.ensures.first c.if-mix.false c.if-next-eq125.true
+
+pub returns-clause-value : goal.returns-clause-value
+returns-clause-value c = elim c.else-next-ne125.branch [
+  | else-next-ne125-via-then-next-ne125+else-next-ne46 w ↦
+      width_styled (layout_of c.args.options) c.args.state (chars c.args.text.now) (chars c.read_mix.result.1.now) c.read_mix.result.0
+      c.read_mix.ensures.mix c.read_mix.ensures.rest c.in-Some.next (chars c.in-Some.rest.now) c.in-Some.ensures.first c.if-mix.false w.if-next-ne46.false
+      ∙ c.with_style.ensures.value
+  | else-next-ne125-via-else-next-ne125 w ↦ absurd (c.if-next-eq125.false w.if-next-ne125.false)
+]
