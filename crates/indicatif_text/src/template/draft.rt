@@ -7,6 +7,9 @@ use crate::template::{Part, TemplateError};
 use std::alloc::{AllocError, Global};
 use std::mem;
 
+/// The most parts for which room is taken before they come.
+const FIRST_PARTS: usize = 16;
+
 /// The parts so far and the literal text behind them. The first `kept` bytes of the text stay whatever follows; the others
 /// are the literal run, which an opening brace at the end would take away.
 #[derive(Drop)]
@@ -23,11 +26,11 @@ impl Draft {
     ghost use Rattle.indicatif_text.specs.Reading.{Leads, sketch_of, empty_sketch, sketched_parts, kept_sketch, closed_sketch, with_part, with_run, added, piece_of, layout_of};
     ghost use Rattle.indicatif_text.specs.Template.{Char, SpacedBrace, Keyed, LastBrace, IsRefused};
 
-    /// Nothing so far, with room for a part to every eight bytes of a text of `len` bytes.
+    /// Nothing so far, with room for a part to every eight bytes of a text of `len` bytes, but for a few alone.
     pub(super) fn new(alloc: Global, len: usize) -> Result<Draft, AllocError>
         ensures { IfOk result (λ draft. sketch_of draft ≡ empty_sketch) }
     {
-        let parts = Vec::with_capacity(alloc, len / 8 + 1)?;
+        let parts = Vec::with_capacity(alloc, (len / 8 + 1).min(FIRST_PARTS))?;
         Ok(Draft {
             alloc,
             parts,
