@@ -6,7 +6,7 @@ use Rattle.indicatif_text.specs.declared.refusal.Drawn.{Drawn}
 use Rattle.indicatif_text.specs.Columns.{Cell}
 use Rattle.indicatif_term.specs.Screen.{Screen}
 use Rattle.indicatif_term.specs.Terminal.{Terminal, after}
-use Rattle.indicatif_term.specs.Calls.{TermView, led_on}
+use Rattle.indicatif_term.specs.Calls.{TermView, tells, led_on}
 use Rattle.indicatif_term.specs.Shows.{Shows, Keeps}
 use Rattle.indicatif_term.specs.Frames.{are_plain}
 use Rattle.indicatif_bar.specs.Runs.{LoneState, Call, Runs, lines_by, is_failure}
@@ -33,7 +33,7 @@ pub record ShowsOn (v : TermView) (new : Option TermView) (s next : LoneState) (
   pub v' : TermView
   pub new_is : new ≡ Some v'
   pub writes : List (List ℕ)
-  pub told_is : v'.told ≡ fold led_on v.told writes
+  pub told_is : IsTrue (tells v.told) → v'.told ≡ fold led_on v.told writes
   pub shows : Shows v.columns v.rows opening next.lists (fold after t writes)
   pub keeps : KeepsThrough (opening.row + length s.lists.above) t writes
   pub added : List (List Cell)

@@ -9,7 +9,7 @@ use Rattle.indicatif_text.specs.declared.refusal.Drawn.TheVariants.{Yes, Limited
 use Rattle.std.specs.declared.io.ErrorKind.{ErrorKind}
 use Rattle.indicatif_term.specs.Screen.{Screen}
 use Rattle.indicatif_term.specs.Terminal.{Terminal, after}
-use Rattle.indicatif_term.specs.Calls.{TermView, led_on}
+use Rattle.indicatif_term.specs.Calls.{TermView, tells, led_on}
 use Rattle.indicatif_term.specs.Lists.{Lists, BarLines, opening_lists, drawn, logged}
 use Rattle.indicatif_term.specs.Shows.{Shows, Keeps}
 use Rattle.indicatif_term.specs.Frames.{all_lines, text_lines, logged_lines, are_plain, some_wide, is_fault}
@@ -153,7 +153,7 @@ pub record CountsFaults (v v' : TermView) (answer : Result Drawn Refusal) : Type
 -- rows above stand as before, and where the answer is Yes the terminal shows the lists l'
 pub record Repaints (v v' : TermView) (answer : Result Drawn Refusal) (l l' : Lists) : Type 0 where
   pub bytes : List ℕ
-  pub told_is : v'.told ≡ led_on v.told bytes
+  pub told_is : IsTrue (tells v.told) → v'.told ≡ led_on v.told bytes
   pub keeps : (opening : Screen) (t : Terminal) → Shows v.columns v.rows opening l t → Keeps (opening.row + length l.above) t bytes
   pub shows : answer ≡ Ok Yes → (opening : Screen) (t : Terminal) → Shows v.columns v.rows opening l t → Shows v.columns v.rows opening l' (after t bytes)
 
