@@ -4,6 +4,10 @@
 #[cfg(test)]
 mod columns;
 #[cfg(test)]
+mod failing_term;
+#[cfg(test)]
+mod faults;
+#[cfg(test)]
 mod format;
 #[cfg(test)]
 mod in_memory;

@@ -8,7 +8,7 @@ use Rattle.indicatif_text.specs.declared.refusal.Drawn.{Drawn}
 use Rattle.indicatif_text.specs.declared.refusal.Drawn.TheVariants.{Yes, Limited, Hidden}
 use Rattle.indicatif_term.specs.Terminal.{Terminal, after}
 use Rattle.indicatif_term.specs.Shows.{Shows, Keeps, resting}
-use Rattle.indicatif_term.specs.Calls.{TermView, Told, State, Bytes, Nothing, led_on}
+use Rattle.indicatif_term.specs.Calls.{TermView, Told, State, Bytes, Nothing, tells, led_on}
 use Rattle.indicatif_term.specs.Lists.{Lists, BarLines, opening_lists, drawn}
 use Rattle.indicatif_term.specs.Frames.{bar_lines, all_lines, are_plain, some_wide, is_fault}
 use Rattle.indicatif_term.specs.Engines.{terminal, Fits, has_failed, Outcome as Onward, Answers, Counted, faults_after, Repaints, RepaintsAnew}
@@ -63,6 +63,12 @@ led_nowhere (State t) = ap State (after_nothing t)
 led_nowhere (Bytes old) = ap Bytes (append-nil old)
 led_nowhere Nothing = refl
 
+-- a terminal that tells something still does
+pub still_tells : (told : Told) (bytes : List ℕ) → IsTrue (tells told) → IsTrue (tells (led_on told bytes))
+still_tells (State t) bytes h = refl
+still_tells (Bytes old) bytes h = refl
+still_tells Nothing bytes h = h
+
 take_none : (k : ℕ) → take {A = ℕ} k [] ≡ []
 take_none zero = refl
 take_none (suc k) = refl
@@ -73,7 +79,7 @@ nothing_keeps n t k = ap (λ u. take n u.screen.rows) (ap (after t) (take_none k
 pub repaints_nothing : (v : TermView) (answer : Result Drawn Refusal) (l l' : Lists) → (answer ≡ Ok Yes → ⊥) → Repaints v v (answer ≡ Ok Yes) l l'
 repaints_nothing v answer l l' denied = record {
   written = [];
-  told_is = sym (led_nowhere v.told);
+  told_is = λ h. sym (led_nowhere v.told);
   keeps = λ opening t s. nothing_keeps (opening.row + length l.above) t;
   shows = λ yes. absurd (denied yes);
 }
@@ -81,7 +87,7 @@ repaints_nothing v answer l l' denied = record {
 repaints_nothing_anew : (v : TermView) (answer : Result Drawn Refusal) (l' : Lists) → (answer ≡ Ok Yes → ⊥) → RepaintsAnew v v (answer ≡ Ok Yes) l'
 repaints_nothing_anew v answer l' denied = record {
   written = [];
-  told_is = sym (led_nowhere v.told);
+  told_is = λ h. sym (led_nowhere v.told);
   keeps = λ s opening a b. nothing_keeps opening.row (resting s);
   shows = λ yes. absurd (denied yes);
 }

@@ -9,6 +9,7 @@ use Rattle.indicatif_text.specs.declared.refusal.Drawn.TheVariants.{Yes, Limited
 use Rattle.indicatif_term.specs.Calls.{TermView}
 use Rattle.indicatif_term.specs.Frames.{some_wide}
 use Rattle.indicatif_bar.specs.Runs.{Target, target_of, LoneState, Call, CallMade, Steps, asks, is_no, lays_out, numbered, laid_out, written, lines_by, outcome_from, outcome, Outcome, is_failure, WritesOn}
+use Rattle.indicatif_bar.proofs.Showing.{same_view}
 use Rattle.indicatif_bar.specs.Says.{Decided, Says, EachSays}
 
 clash : (b : Bool) → b ≡ true → b ≡ false → ⊥
@@ -108,9 +109,6 @@ one_more n e = omega (arith, e)
 faults_tell : (n m : ℕ) (failed : Bool) → m ≡ (if failed then ((n + 1) % 2 ^ 64) else n) → (failed ≡ true) ↔ (m ≡ n → ⊥)
 faults_tell n m true e = ((λ t same. one_more n (sym e ∙ same)), (λ other. refl))
 faults_tell n m false e = ((λ t. absurd (false≢true t)), (λ other. absurd (other e)))
-
-same_view : (v w : TermView) → Some v ≡ Some w → v ≡ w
-same_view v w e = cc
 
 module _ (call : Call) (failed : Bool) (s : LoneState) (answer : Result Drawn Refusal) (next : LoneState) where
   fault_said : (old new : Option TermView) → WritesOn old new call failed s.lists answer next → (v v' : TermView) → old ≡ Some v → new ≡ Some v' → (is_failure answer ≡ true) ↔ (v'.faults ≡ v.faults → ⊥)

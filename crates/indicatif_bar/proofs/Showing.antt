@@ -14,11 +14,11 @@ use Rattle.indicatif_text.specs.Columns.{Cell, rows_of}
 use Rattle.indicatif_term.specs.Screen.{Screen}
 use Rattle.indicatif_term.specs.Terminal.{Terminal, after}
 use Rattle.indicatif_term.specs.Shows.{Shows, Keeps}
-use Rattle.indicatif_term.specs.Calls.{TermView, led_on}
+use Rattle.indicatif_term.specs.Calls.{Told, TermView, tells, led_on}
 use Rattle.indicatif_term.specs.Lists.{Lists, BarLines, drawn, logged, passed, settled, rested, shown_rows, live_of_frame, live_height, lists_height}
 use Rattle.indicatif_term.specs.Frames.{are_plain, some_wide, text_lines, logged_lines}
 use Rattle.indicatif_bar.specs.Runs.{Target, target_of, LoneState, Call, Change, Log, CallMade, Steps, IsMade, asks, is_no, numbered, laid_out, written, lines_by, outcome_from, outcome, Outcome, outcomes, is_failure, Writes, WritesOn, Runs, frame_of}
-use Rattle.indicatif_bar.proofs.Outcomes.{led_nowhere, nothing_keeps, after_nothing}
+use Rattle.indicatif_bar.proofs.Outcomes.{led_nowhere, still_tells, nothing_keeps, after_nothing}
 use Rattle.indicatif_bar.specs.Headline.{AllPlain, KeepsThrough, RunLeaves, WholeRun, ShowsOn, ShowsEach, Headline, is_undisturbed, OneOutcome}
 
 -- one call more at the end
@@ -135,7 +135,7 @@ pub record StepShows (v : TermView) (new : Option TermView) (s next : LoneState)
   pub rows_stay : v'.rows ≡ v.rows
   pub failed_is : next.failed ≡ false
   pub bytes : List ℕ
-  pub told_is : v'.told ≡ led_on v.told bytes
+  pub told_is : IsTrue (tells v.told) → v'.told ≡ led_on v.told bytes
   pub shows : Shows v.columns v.rows opening next.lists (after t bytes)
   pub keeps : Keeps (opening.row + length s.lists.above) t bytes
   pub added : List (List Cell)
@@ -167,7 +167,7 @@ step_shows v new call now s answer next made sound fine plain opening t shows =
         rows_stay = w.counted.rows_stay;
         failed_is = leaves.failed_is sound;
         bytes = [];
-        told_is = ap (λ x. x.told) (w.silent denied fine) ∙ sym (led_nowhere v.told);
+        told_is = λ h. ap (λ x. x.told) (w.silent denied fine) ∙ sym (led_nowhere v.told);
         shows = subst (Shows v.columns v.rows opening next.lists) (sym (after_nothing t)) (subst (λ l. Shows v.columns v.rows opening l t) (sym (leaves.stays denied)) shows);
         keeps = nothing_keeps (opening.row + length s.lists.above) t;
         added = leaves.added;
@@ -187,6 +187,13 @@ through_fewer m n t (bytes ∷ writes) h k = (keeps_fewer m n t bytes h k.0, thr
 resized : (a b c d : ℕ) (opening : Screen) (l : Lists) (t : Terminal) → a ≡ c → b ≡ d → Shows a b opening l t → Shows c d opening l t
 resized a b c d opening l t e f shows = subst (λ n. Shows n d opening l t) e (subst (λ n. Shows a n opening l t) f shows)
 
+-- a write, then more of them
+told_through : (s t u : Told) (bytes : List ℕ) (writes : List (List ℕ)) → (IsTrue (tells s) → t ≡ led_on s bytes) → (IsTrue (tells t) → u ≡ fold led_on t writes) →
+    IsTrue (tells s) → u ≡ fold led_on s (bytes ∷ writes)
+told_through s t u bytes writes p q h =
+    let e = p h in
+    q (subst (λ x. IsTrue (tells x)) (sym e) (still_tells s bytes h)) ∙ ap (λ x. fold led_on x writes) e
+
 -- what the rest of a run shows, wherever its first call left the terminal
 abbrev Rest : (calls : List (Call × ℕ)) (answers : List (Result Drawn Refusal)) (m : LoneState) (new : Option TermView) (next : LoneState) (opening : Screen) (u : Terminal) (v : TermView) → Option TermView → Type 0
 Rest calls answers m new next opening u v old = (run : Runs calls answers old m new next) → AllPlain calls answers old m new next run → RunLeaves v new m next opening u
@@ -198,7 +205,7 @@ run_shows [] [] v s new next run sound fine plain opening t shows = record {
   v' = v;
   new_is = run.0;
   writes = [];
-  told_is = refl;
+  told_is = λ h. refl;
   shows = subst (λ x. Shows v.columns v.rows opening x.lists t) (sym run.1) shows;
   keeps = tt;
   added = [];
@@ -215,7 +222,7 @@ run_shows (call ∷ calls) (answer ∷ answers) v s new next run sound fine plai
       v' = rest.v';
       new_is = rest.new_is;
       writes = x.bytes ∷ rest.writes;
-      told_is = rest.told_is ∙ ap (λ z. fold led_on z rest.writes) x.told_is;
+      told_is = told_through v.told x.v'.told rest.v'.told x.bytes rest.writes x.told_is rest.told_is;
       shows = resized x.v'.columns x.v'.rows v.columns v.rows opening next.lists (fold after u rest.writes) x.columns_stay x.rows_stay rest.shows;
       keeps = (x.keeps, through_fewer (opening.row + length s.lists.above) (opening.row + length m.lists.above) u rest.writes (omega (arith, ap length x.above_is, length-append s.lists.above x.added)) rest.keeps);
       added = x.added ++ rest.added;
@@ -231,6 +238,15 @@ whole_run calls answers (Some v) s new next run = λ sound fine plain opening t 
     run_shows calls answers v s new next run sound (recursion_from_All (λ answer. is_failure answer ≡ false) answers fine) plain opening t shows
 
 -- ---- each call of a run
+
+pub same_view : (v w : TermView) → Some v ≡ Some w → v ≡ w
+same_view v w e = cc
+
+told_of : (v v' : TermView) (new : Option TermView) (bytes : List ℕ) → new ≡ Some v' → (IsTrue (tells v.told) → v'.told ≡ led_on v.told bytes) →
+    (x : TermView) → Some v ≡ Some x → IsTrue (tells x.told) → option_map (λ w. w.told) new ≡ Some (led_on x.told bytes)
+told_of v v' new bytes e told x same h =
+    let views = same_view v x same in
+    ap (option_map (λ w. w.told)) e ∙ ap Some (told (subst (λ y. IsTrue (tells y.told)) (sym views) h)) ∙ ap (λ y. Some (led_on y.told bytes)) views
 
 -- what the rest of a run shows call by call, wherever its first call left the terminal
 abbrev EachRest : (calls : List (Call × ℕ)) (answers : List (Result Drawn Refusal)) (m : LoneState) (new : Option TermView) (next : LoneState) (opening : Screen) (u : Terminal) → Option TermView → Type 0
@@ -250,7 +266,7 @@ run_shows_each (call ∷ calls) (answer ∷ answers) v s new next run sound open
           let w = run.2.writes in
           let r = w.2.repaints sound plain in (
             r.written,
-            record { told_is = ap (option_map (λ x. x.told)) w.1 ∙ ap Some r.told_is; keeps = r.keeps opening t shows },
+            record { told_is = told_of v w.0 run.0 r.written w.1 r.told_is; keeps = r.keeps opening t shows },
             λ fine. absurd (false≢true (sym fine ∙ broken)),
           )
       | inr fine ↦
@@ -258,7 +274,7 @@ run_shows_each (call ∷ calls) (answer ∷ answers) v s new next run sound open
           let u = after t x.bytes in
           let shown = resized v.columns v.rows x.v'.columns x.v'.rows opening m.lists u (sym x.columns_stay) (sym x.rows_stay) x.shows in (
             x.bytes,
-            record { told_is = ap (option_map (λ z. z.told)) x.new_is ∙ ap Some x.told_is; keeps = x.keeps },
+            record { told_is = told_of v x.v' run.0 x.bytes x.new_is x.told_is; keeps = x.keeps },
             λ _. (
               record { shows = subst (λ known. ShowsOn known opening m.lists u) (sym x.new_is) shown; added = x.added; above_is = x.above_is },
               subst (EachRest calls answers m new next opening u) (sym x.new_is) (later x.v' u x.failed_is shown) run.3,

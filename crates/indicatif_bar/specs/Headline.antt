@@ -7,7 +7,7 @@ use Rattle.indicatif_text.specs.declared.refusal.Drawn.{Drawn}
 use Rattle.indicatif_text.specs.Columns.{Cell}
 use Rattle.indicatif_term.specs.Screen.{Screen}
 use Rattle.indicatif_term.specs.Terminal.{Terminal, after}
-use Rattle.indicatif_term.specs.Calls.{TermView, led_on}
+use Rattle.indicatif_term.specs.Calls.{TermView, tells, led_on}
 use Rattle.indicatif_term.specs.Lists.{Lists}
 use Rattle.indicatif_term.specs.Shows.{Shows, Keeps}
 use Rattle.indicatif_term.specs.Frames.{are_plain}
@@ -17,10 +17,10 @@ use Rattle.indicatif_bar.specs.Runs.{LoneState, Call, Runs, target_of, lines_by,
 abbrev pub ShowsOn : Option TermView → Screen → Lists → Terminal → Type 0
 ShowsOn known opening l t = Shows (target_of known).columns (target_of known).rows opening l t
 
--- the bytes that a call wrote: what the terminal tells is led on by them, and after each beginning of them the untouched rows
--- and the rows above are those of the call's start
+-- the bytes that a call wrote: what the terminal tells, if it does, is led on by them, and after each beginning of them the
+-- untouched rows and the rows above are those of the call's start
 pub record Wrote (old new : Option TermView) (s : LoneState) (opening : Screen) (t : Terminal) (bytes : List ℕ) : Type 0 where
-  pub told_is : option_map (λ v. v.told) new ≡ option_map (λ v. led_on v.told bytes) old
+  pub told_is : (v : TermView) → old ≡ Some v → IsTrue (tells v.told) → option_map (λ w. w.told) new ≡ Some (led_on v.told bytes)
   pub keeps : Keeps (opening.row + length s.lists.above) t bytes
 
 -- what stands at a call's exit: the lists of the state then; and rows above were only added, at their end
@@ -72,7 +72,7 @@ pub record RunLeaves (v : TermView) (new : Option TermView) (s next : LoneState)
   pub v' : TermView
   pub new_is : new ≡ Some v'
   pub writes : List (List ℕ)
-  pub told_is : v'.told ≡ fold led_on v.told writes
+  pub told_is : IsTrue (tells v.told) → v'.told ≡ fold led_on v.told writes
   pub shows : Shows v.columns v.rows opening next.lists (fold after t writes)
   pub keeps : KeepsThrough (opening.row + length s.lists.above) t writes
   pub added : List (List Cell)

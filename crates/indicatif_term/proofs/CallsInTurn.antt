@@ -1,12 +1,12 @@
 -- Calls of a terminal one after another.
 use Rattle.std.proofs.Common.{◌≡◌, ℕ, zero, suc, ◌+◌, ◌<◌, Bool, true, false, ◌||◌, List, [], ◌∷◌, ◌++◌, length, take, Result, Ok, Err, refl, sym, ◌∙◌, ap, append_assoc, append-nil, length-append, arith, add-zero, add-suc, subst, ◌-◌, ◌≤◌, drop, get_or, length-take-le, if◌then◌else◌}
-use Rattle.std.specs.Prelude.{nat_lt, is_some, IsErr}
+use Rattle.std.specs.Prelude.{nat_lt, is_some, IsErr, IsTrue}
 use Rattle.std.proofs.Math.Bool.{or-false}
 use Rattle.std.proofs.lemmas.List.{take_more, take-append-drop}
 use Rattle.std.proofs.lemmas.Bool.Decides.{nat_tests}
 use Rattle.indicatif_term.specs.Terminal.{after}
 use Rattle.indicatif_term.proofs.Stays.{after-append}
-use Rattle.indicatif_term.specs.Calls.{Told, State, Bytes, Nothing, led_on, TermView, LeadsOn, BreaksOff, Writes, clear_bytes, move_bytes}
+use Rattle.indicatif_term.specs.Calls.{Told, State, Bytes, Nothing, tells, led_on, TermView, LeadsOn, BreaksOff, Writes, clear_bytes, move_bytes}
 use Rattle.std.specs.Prelude.{not, ◌&&◌, ◌==◌}
 use Rattle.std.proofs.Common.{replicate}
 use Rattle.std.proofs.lemmas.List.{length-replicate}
@@ -26,12 +26,24 @@ led_on-nil (State t) = refl
 led_on-nil (Bytes old) = ap Bytes (append-nil old)
 led_on-nil Nothing = refl
 
+-- a terminal that tells something still does
+pub still_tells : (told : Told) (bytes : List ℕ) → IsTrue (tells told) → IsTrue (tells (led_on told bytes))
+still_tells (State t) bytes h = refl
+still_tells (Bytes old) bytes h = refl
+still_tells Nothing bytes h = h
+
+-- bytes after bytes
+pub told_then : (a b : List ℕ) (s t u : Told) → (IsTrue (tells s) → t ≡ led_on s a) → (IsTrue (tells t) → u ≡ led_on t b) → IsTrue (tells s) → u ≡ led_on s (a ++ b)
+told_then a b s t u p q h =
+    let e = p h in
+    q (subst (λ x. IsTrue (tells x)) (sym e) (still_tells s a h)) ∙ ap (λ x. led_on x b) e ∙ led_on-append s a b
+
 pub reaches_none : (s : TermView) → LeadsOn [] s s
-reaches_none s = record { told_is = sym (led_on-nil s.told); columns_are = refl; rows_are = refl; faults_are = refl }
+reaches_none s = record { told_is = λ h. sym (led_on-nil s.told); columns_are = refl; rows_are = refl; faults_are = refl }
 
 pub reaches_then : {a b : List ℕ} {s t u : TermView} → LeadsOn a s t → LeadsOn b t u → LeadsOn (a ++ b) s u
 reaches_then {a} {b} {s} {t} {u} p q = record {
-  told_is = q.told_is ∙ ap (λ x. led_on x b) p.told_is ∙ led_on-append s.told a b;
+  told_is = told_then a b s.told t.told u.told p.told_is q.told_is;
   columns_are = q.columns_are ∙ p.columns_are;
   rows_are = q.rows_are ∙ p.rows_are;
   faults_are = q.faults_are ∙ p.faults_are;
@@ -42,7 +54,7 @@ breaks_then {a} {b} {s} {t} {u} p q = record {
   front = a ++ q.front;
   rest = q.rest;
   whole = append_assoc a q.front q.rest ∙ ap (λ x. a ++ x) q.whole;
-  told_is = q.told_is ∙ ap (λ x. led_on x q.front) p.told_is ∙ led_on-append s.told a q.front;
+  told_is = told_then a q.front s.told t.told u.told p.told_is q.told_is;
   columns_are = q.columns_are ∙ p.columns_are;
   rows_are = q.rows_are ∙ p.rows_are;
   faults_are = rw (← p.faults_are) q.faults_are;

@@ -87,7 +87,7 @@ pub leads_on : (old new : MemoryTerm) (bytes : List ℕ) → new.terminal ≡ af
 leads_on old new bytes e f =
     let size = after_size old.terminal bytes in
     record {
-      told_is = ap (λ t. State t) e;
+      told_is = λ h. ap (λ t. State t) e;
       columns_are = ap (λ t. t.screen.columns) e ∙ size.columns;
       rows_are = ap (λ t. t.screen.height) e ∙ size.height;
       faults_are = f;
@@ -100,7 +100,7 @@ breaks_off old new bytes r f =
       front = r.front;
       rest = r.rest;
       whole = r.whole;
-      told_is = ap (λ t. State t) r.is;
+      told_is = λ h. ap (λ t. State t) r.is;
       columns_are = ap (λ t. t.screen.columns) r.is ∙ size.columns;
       rows_are = ap (λ t. t.screen.height) r.is ∙ size.height;
       faults_are = f;

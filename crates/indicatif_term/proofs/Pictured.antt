@@ -40,7 +40,7 @@ use Rattle.indicatif_term.proofs.Drawing.{opening_shows, lines_none, drawn_goes,
 pub repaints_nothing : (s : TermView) (made : Type 0) (l l' : Lists) → (made → ⊥) → Repaints s s made l l'
 repaints_nothing s made l l' n = record {
   written = [];
-  told_is = sym (led_on-nil s.told);
+  told_is = λ h. sym (led_on-nil s.told);
   keeps = λ opening t x. nothing_keeps (opening.row + length l.above) t;
   shows = λ h. absurd (n h);
 }
@@ -104,7 +104,7 @@ anew_by s s' (Err e) l bytes q p = record {
 pub anew_nothing : (s : TermView) (made : Type 0) (l : Lists) → (made → ⊥) → RepaintsAnew s s made l
 anew_nothing s made l n = record {
   written = [];
-  told_is = sym (led_on-nil s.told);
+  told_is = λ h. sym (led_on-nil s.told);
   keeps = λ r opening e o. nothing_keeps opening.row (resting r);
   shows = λ h. absurd (n h);
 }

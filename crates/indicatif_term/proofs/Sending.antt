@@ -1,13 +1,13 @@
 -- What a terminal behind a writer tells once bytes were sent to the writer.
 use Rattle.std.proofs.Common.{◌≡◌, ℕ, ◌+◌, ◌-◌, ◌%◌, ◌^◌, length, eqb, if◌then◌else◌, ◌<◌, ◌≤◌, arith, drop_of_length-le, length-drop, length-append, false, List, [], ◌∷◌, ◌++◌, Option, Some, None, Result, Ok, Err, refl, sym, ◌∙◌, ap, subst, append_assoc, append-nil, take, drop, take-append-drop}
-use Rattle.std.specs.Prelude.{is_some, decimal, slice_set}
+use Rattle.std.specs.Prelude.{IsTrue, decimal, slice_set}
 use Rattle.std.specs.Result.{is_err}
 use Rattle.std.specs.Io.KnownBytes.{Appends, Keeps}
 use Rattle.std.proofs.lemmas.Bool.{false≢true, ne_eqb}
 use Rattle.std.proofs.lemmas.List.{take_rest, drop-set}
 use Rattle.std.proofs.Math.ListN.{length-set}
-use Rattle.indicatif_term.specs.Calls.{Bytes, led_on, TermView, Writes, move_bytes}
-use Rattle.indicatif_term.specs.Writers.{Behind, IsSteady, told_by, view_behind, AppendsAllOrFront}
+use Rattle.indicatif_term.specs.Calls.{Bytes, tells, led_on, TermView, Writes, move_bytes}
+use Rattle.indicatif_term.specs.Writers.{Behind, told_by, view_behind, AppendsAllOrFront}
 
 -- ---- what a writer holds
 
@@ -31,11 +31,10 @@ pub appends_none : (a : Option (List ℕ)) → Appends a a []
 appends_none None = tt
 appends_none (Some x) = sym (append-nil x)
 
-told_appended : (old new : Option (List ℕ)) (bytes : List ℕ) → is_some old ≡ is_some new → Appends old new bytes → told_by new ≡ led_on (told_by old) bytes
-told_appended None None bytes same p = refl
-told_appended None (Some y) bytes same p = absurd (false≢true same)
-told_appended (Some x) None bytes same p = absurd p
-told_appended (Some x) (Some y) bytes same p = ap Bytes p
+told_appended : (old new : Option (List ℕ)) (bytes : List ℕ) → Appends old new bytes → IsTrue (tells (told_by old)) → told_by new ≡ led_on (told_by old) bytes
+told_appended None new bytes p h = absurd (false≢true h)
+told_appended (Some x) None bytes p h = absurd p
+told_appended (Some x) (Some y) bytes p h = ap Bytes p
 
 pub kept_all : {E : Type 0} (a b : Option (List ℕ)) (r : Result Unit E) → Keeps a b → AppendsAllOrFront a b [] r
 kept_all a b (Ok u) k = appends_kept a a b [] (appends_none a) k
@@ -43,7 +42,7 @@ kept_all a b (Err e) k = record { front = []; rest = []; whole = refl; appended 
 
 -- ---- what the terminal tells
 
-module _ {W : Type 0} (contents : W → Option (List ℕ)) (steady : IsSteady contents) (w w' : W) (columns rows faults : ℕ) (bytes : List ℕ) where
+module _ {W : Type 0} (contents : W → Option (List ℕ)) (w w' : W) (columns rows faults : ℕ) (bytes : List ℕ) where
   abbrev before : TermView
   before = view_behind contents (record { writer = w; columns = columns; rows = rows; faults = faults })
 
@@ -51,12 +50,12 @@ module _ {W : Type 0} (contents : W → Option (List ℕ)) (steady : IsSteady co
   after n = view_behind contents (record { writer = w'; columns = columns; rows = rows; faults = n })
 
   written : {E : Type 0} (r : Result Unit E) → AppendsAllOrFront (contents w) (contents w') bytes r → Writes bytes before (after (if is_err r then (faults + 1) % 2 ^ 64 else faults)) r
-  written (Ok u) p = record { told_is = told_appended (contents w) (contents w') bytes (steady w w') p; columns_are = refl; rows_are = refl; faults_are = refl }
+  written (Ok u) p = record { told_is = told_appended (contents w) (contents w') bytes p; columns_are = refl; rows_are = refl; faults_are = refl }
   written (Err x) p = record {
     front = p.front;
     rest = p.rest;
     whole = p.whole;
-    told_is = told_appended (contents w) (contents w') p.front (steady w w') p.appended;
+    told_is = told_appended (contents w) (contents w') p.front p.appended;
     columns_are = refl;
     rows_are = refl;
     faults_are = refl;

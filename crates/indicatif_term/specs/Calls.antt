@@ -1,5 +1,5 @@
 -- The calls of a terminal as bytes, by ECMA-48, and what is known of a terminal.
-use Rattle.std.specs.Prelude.{◌≡◌, ℕ, ◌+◌, ◌%◌, ◌^◌, ◌==◌, List, [], ◌∷◌, ◌++◌, if◌then◌else◌, decimal, Result, MatchResult}
+use Rattle.std.specs.Prelude.{◌≡◌, ℕ, ◌+◌, ◌%◌, ◌^◌, ◌==◌, Bool, true, false, IsTrue, List, [], ◌∷◌, ◌++◌, if◌then◌else◌, decimal, Result, MatchResult}
 use Rattle.indicatif_term.specs.Terminal.{Terminal, after}
 
 -- ---- the bytes of the calls
@@ -40,6 +40,12 @@ pub data Told : Type 0 where
   Bytes : (bytes : List ℕ) → Told
   Nothing : Told
 
+-- whether it tells anything
+abbrev pub tells : Told → Bool
+tells (State t) = true
+tells (Bytes bytes) = true
+tells Nothing = false
+
 -- what it tells after these bytes
 abbrev pub led_on : Told → List ℕ → Told
 led_on (State t) bytes = State (after t bytes)
@@ -53,9 +59,9 @@ pub record TermView : Type 0 where
   pub rows : ℕ
   pub faults : ℕ
 
--- these bytes led from the one to the other, and nothing else changed
+-- these bytes led from the one to the other, where the one tells anything, and nothing else changed
 pub record LeadsOn (bytes : List ℕ) (old new : TermView) : Type 0 where
-  pub told_is : new.told ≡ led_on old.told bytes
+  pub told_is : IsTrue (tells old.told) → new.told ≡ led_on old.told bytes
   pub columns_are : new.columns ≡ old.columns
   pub rows_are : new.rows ≡ old.rows
   pub faults_are : new.faults ≡ old.faults
@@ -65,7 +71,7 @@ pub record BreaksOff (bytes : List ℕ) (old new : TermView) : Type 0 where
   pub front : List ℕ
   pub rest : List ℕ
   pub whole : front ++ rest ≡ bytes
-  pub told_is : new.told ≡ led_on old.told front
+  pub told_is : IsTrue (tells old.told) → new.told ≡ led_on old.told front
   pub columns_are : new.columns ≡ old.columns
   pub rows_are : new.rows ≡ old.rows
   pub faults_are : new.faults ≡ (old.faults + 1) % 2 ^ 64

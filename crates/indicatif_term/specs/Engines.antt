@@ -4,7 +4,7 @@ use Rattle.indicatif_text.specs.declared.refusal.Refusal.{Refusal}
 use Rattle.indicatif_term.specs.Lists.{Lists, opening_lists}
 use Rattle.indicatif_term.specs.Screen.{Screen}
 use Rattle.indicatif_term.specs.Terminal as cells
-use Rattle.indicatif_term.specs.Calls.{led_on, TermView, line_bytes}
+use Rattle.indicatif_term.specs.Calls.{tells, led_on, TermView, line_bytes}
 use Rattle.indicatif_term.specs.Shows.{Shows, Keeps, IsOpening, resting}
 use Rattle.indicatif_term.specs.Frames.{some_wide, Refuses, is_fault}
 use Rattle.indicatif_term.specs.Inside.Counted.{CountsOf}
@@ -55,7 +55,7 @@ pub record Counted (old new : TermView) (result : Result Unit Refusal) : Type 0 
 -- lists' kept ones are as they were, and where the drawing is made the terminal shows the lists `l'`
 pub record Repaints (old new : TermView) (made : Type 0) (l l' : Lists) : Type 0 where
   pub written : List ℕ
-  pub told_is : new.told ≡ led_on old.told written
+  pub told_is : IsTrue (tells old.told) → new.told ≡ led_on old.told written
   pub keeps : (opening : Screen) (t : cells.Terminal) → Shows old.columns old.rows opening l t → Keeps (opening.row + length l.above) t written
   pub shows : made → (opening : Screen) (t : cells.Terminal) → Shows old.columns old.rows opening l t →
       Shows old.columns old.rows opening l' (cells.after t written)
@@ -64,7 +64,7 @@ pub record Repaints (old new : TermView) (made : Type 0) (l l' : Lists) : Type 0
 -- before that opening are as they were, and where the drawing is made the terminal shows the lists `l` after that opening
 pub record RepaintsAnew (old new : TermView) (made : Type 0) (l : Lists) : Type 0 where
   pub written : List ℕ
-  pub told_is : new.told ≡ led_on old.told written
+  pub told_is : IsTrue (tells old.told) → new.told ≡ led_on old.told written
   pub keeps : (s opening : Screen) → cells.after (resting s) (line_bytes []) ≡ resting opening → IsOpening old.columns old.rows opening →
       Keeps opening.row (resting s) written
   pub shows : made → (s opening : Screen) → cells.after (resting s) (line_bytes []) ≡ resting opening → IsOpening old.columns old.rows opening →

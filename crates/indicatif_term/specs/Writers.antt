@@ -1,5 +1,5 @@
 -- A terminal behind a writer, and what is known of the writer's bytes.
-use Rattle.std.specs.Prelude.{◌≡◌, ℕ, List, ◌++◌, Option, Some, None, is_some, Result, MatchResult}
+use Rattle.std.specs.Prelude.{◌≡◌, ℕ, List, ◌++◌, Option, Some, None, Result, MatchResult}
 use Rattle.std.specs.Io.KnownBytes.{Appends}
 use Rattle.indicatif_term.specs.Calls.{Told, Bytes, Nothing, TermView}
 
@@ -9,10 +9,6 @@ pub record Behind (W : Type 0) : Type 0 where
   pub columns : ℕ
   pub rows : ℕ
   pub faults : ℕ
-
--- a writer tells its bytes at all times, or at none
-abbrev pub IsSteady : {W : Type 0} → (W → Option (List ℕ)) → Type 0
-IsSteady {W} contents = (v w : W) → is_some (contents v) ≡ is_some (contents w)
 
 -- the bytes that a writer tells, or nothing
 abbrev pub told_by : Option (List ℕ) → Told

@@ -2,7 +2,7 @@
 ghost use Rattle.std.specs.Prelude.{◌≡◌, ◌<◌, ◌≤◌, ◌+◌, ◌%◌, ◌^◌, if◌then◌else◌, drop};
 ghost use Rattle.std.specs.Result.{is_err};
 ghost use Rattle.indicatif_term.specs.Calls.{Writes, move_bytes};
-ghost use Rattle.indicatif_term.specs.Writers.{Behind, IsSteady, view_behind, AppendsAllOrFront};
+ghost use Rattle.indicatif_term.specs.Writers.{Behind, view_behind, AppendsAllOrFront};
 
 use crate::term_like::TermLike;
 use itoa::write_digits;
@@ -22,21 +22,16 @@ pub struct Term<W: Write> {
 }
 
 impl<W: Write> Model for Term<W> {
-    ghost use Rattle.indicatif_term.specs.Writers.{Behind, IsSteady};
+    ghost use Rattle.indicatif_term.specs.Writers.{Behind};
 
     ghost Value = { Behind W };
 
     ghost view = { λ t. record { writer = t.writer; columns = t.columns; rows = t.rows; faults = t.faults } };
-
-    ghost invariant = { λ _. IsSteady W.contents };
 }
 
 impl<W: Write> Term<W> {
     /// A terminal of `rows` rows and `cols` columns behind `w`, of which no call has failed.
-    ///
-    /// Contracts have to know the writer's bytes at all times, as those of a `Vec<u8>`, or at none.
     pub fn new(w: W, rows: u16, cols: u16) -> Term<W>
-        requires { IsSteady W.contents }
         ensures { result ≡ record { writer = w; columns = cols; rows = rows; faults = 0 } }
     {
         Term {

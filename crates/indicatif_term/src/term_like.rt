@@ -9,7 +9,8 @@ use std::io;
 ///
 /// Each call that answers an `io::Result` writes the bytes of ECMA-48 that stand beside it. One that succeeds leads the
 /// terminal on by exactly these bytes and changes nothing else, the size included. One that fails has written a
-/// beginning of them, and adds 1 modulo 2^64 to `faults`; no other call changes it.
+/// beginning of them, and adds 1 modulo 2^64 to `faults`; no other call changes it. Of the bytes of a terminal that tells
+/// nothing, nothing is claimed.
 pub trait TermLike {
     /// What contracts see of it: what it tells of itself, its size, and how often a call has failed.
     ghost view: { Self → TermView };
