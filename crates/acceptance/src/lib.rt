@@ -15,3 +15,5 @@ mod in_memory;
 mod lone;
 #[cfg(test)]
 mod template;
+#[cfg(test)]
+mod writers;
