@@ -7,9 +7,9 @@ ghost use Rattle.std.specs.String.{string_bytes};
 ghost use Rattle.indicatif_text.specs.Format.{formatted_duration, human_duration, short_duration, binary_bytes, decimal_bytes, human_count, Quotient, human_float_count};
 
 mod bytes;
-mod cases;
+pub mod cases;
 mod durations;
-mod laws;
+pub mod laws;
 mod quotients;
 mod rounding;
 mod short_text;

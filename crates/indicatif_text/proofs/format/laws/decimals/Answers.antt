@@ -13,4 +13,4 @@ pub returns-clause-all_zeros : goal.returns-clause-all_zeros
 returns-clause-all_zeros c = λ ds es e. no_zero_left ds es e
 
 pub returns-clause-spell : goal.returns-clause-spell
-returns-clause-spell c = λ k n small. digits_spell k n (omega arith)
+returns-clause-spell c = λ k n small. digits_spell k n small
