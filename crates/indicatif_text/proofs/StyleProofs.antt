@@ -6,7 +6,7 @@ use Rattle.std.specs.Prelude.{◌||◌, ◌&&◌, not, nat_lt, chars, bytes_eq, 
 use Rattle.std.specs.List.{last_or, cons_option, list_all, onto_first, prefix_len}
 use Rattle.std.proofs.Math.Utf8.{encodes}
 use Rattle.std.proofs.Math.Bool.{or-false, and-true}
-use Rattle.std.proofs.lemmas.Bool.{cases_Bool, false≢true, ltb-true, ne_eqb, and_parts}
+use Rattle.std.proofs.lemmas.Bool.{cases_Bool, ltb-true, ne_eqb, and_parts}
 use Rattle.std.proofs.lemmas.Bool.Decides.{same_from_decides}
 use Rattle.std.proofs.lemmas.Slice.Eq.{bytes_eq-Decides}
 use Rattle.std.proofs.lemmas.Str.{encodes-chars, encodes-IsAscii, chars-IsAscii}

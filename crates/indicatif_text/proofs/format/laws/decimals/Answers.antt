@@ -1,4 +1,3 @@
-use Rattle.std.proofs.Common.{arith}
 use Rattle.indicatif_text.proofs.Quotients.{length-last_digits}
 use Rattle.indicatif_text.proofs.FormatLaws.{digits_value-last, digits_spell, only_zeros, no_zero_left}
 use Rattle.indicatif_text.proofs.format.laws.decimals.Goals as goal
