@@ -10,4 +10,6 @@ mod in_memory;
 #[cfg(test)]
 mod lone;
 #[cfg(test)]
+mod refusal;
+#[cfg(test)]
 mod template;

@@ -56,7 +56,8 @@ impl HumanDuration {
     ///
     /// Refused: `Memory`, and then `out` is as before.
     pub fn write_short(&self, out: &mut String) -> Result<(), Refusal>
-        ensures written { OnOk result (string_bytes out.new ≡ string_bytes out.old ++ short_duration self.now.0) }
+        ensures written { OnOk result (string_bytes out.new
+            ≡ string_bytes out.old ++ short_duration self.now.0) }
         ensures unchanged { OnErr result (string_bytes out.new ≡ string_bytes out.old) }
         ensures memory { IfErr result (λ e. e ≡ Refusal.Memory) }
     {
