@@ -14,6 +14,8 @@ mod in_memory;
 #[cfg(test)]
 mod lone;
 #[cfg(test)]
+mod refusal;
+#[cfg(test)]
 mod template;
 #[cfg(test)]
 mod writers;

@@ -89,26 +89,28 @@ digits_value-last (suc k) n =
     ∙ ap (λ d. digits_value 10 (last_digits k (n / 10)) * 10 + d) (digit_value-digit (n % 10) (omega arith))
     ∙ ap (λ v. v * 10 + n % 10) (digits_value-last k (n / 10)) ∙ sym (rest_more (10 ^ k) n (one-le-pow k 10 (omega arith))) ∙ ap (λ x. n % x) (sym (pow-suc 10 k))
 
-pub digits_spell : (k n : ℕ) → n < 10 ^ 64 → digits_value 10 (decimal (n / 10 ^ k) ++ last_digits k n) ≡ n
+pub digits_spell : (k n : ℕ) → n / 10 ^ k < 10 ^ 64 → digits_value 10 (decimal (n / 10 ^ k) ++ last_digits k n) ≡ n
 digits_spell zero n small =
     let whole : n / 10 ^ 0 ≡ n = omega arith in
-    ap (λ xs. digits_value 10 xs) (append-nil (decimal (n / 10 ^ 0))) ∙ ap (λ m. digits_value 10 (decimal m)) whole ∙ (decimal_is_IsNumeral_wide n small).1
+    ap (λ xs. digits_value 10 xs) (append-nil (decimal (n / 10 ^ 0))) ∙ (decimal_is_IsNumeral_wide (n / 10 ^ 0) small).1 ∙ whole
 digits_spell (suc k) n small =
     let front : n / 10 ^ suc k ≡ n / 10 / 10 ^ k = ap (λ x. n / x) (pow-succ' 10 k) ∙ sym (div-div-eq-div-mul n 10 (10 ^ k)) in
     let ds = decimal (n / 10 / 10 ^ k) ++ last_digits k (n / 10) in
     ap (λ m. digits_value 10 (decimal m ++ last_digits (suc k) n)) front
     ∙ ap (λ xs. digits_value 10 xs) (sym (append_assoc (decimal (n / 10 / 10 ^ k)) (last_digits k (n / 10)) ((48 + n % 10) ∷ [])))
     ∙ digits_value_push 10 ds (48 + n % 10) ∙ ap (λ d. digits_value 10 ds * 10 + d) (digit_value-digit (n % 10) (omega arith))
-    ∙ omega (arith, digits_spell k (n / 10) (omega arith))
+    ∙ omega (arith, digits_spell k (n / 10) (subst (λ m. m < 10 ^ 64) front small))
 
 -- ---- commas
 
-aside : (ds : List ℕ) → filter (λ d. not (d == 0x2C)) (with_commas ds) ≡ filter (λ d. not (d == 0x2C)) ds
-aside [] = refl
-aside (d ∷ ds) =
-    let same = ap (λ xs. if not (d == 0x2C) then d ∷ xs else xs) (aside ds) in
+-- a test that leaves commas out
+pub aside : (p : ℕ → Bool) → p 0x2C ≡ false → (ds : List ℕ) → filter p (with_commas ds) ≡ filter p ds
+aside p off [] = refl
+aside p off (d ∷ ds) =
+    let same : filter p (d ∷ with_commas ds) ≡ filter p (d ∷ ds) = ap (λ xs. if p d then d ∷ xs else xs) (aside p off ds) in
+    let past : filter p (0x2C ∷ with_commas ds) ≡ filter p (with_commas ds) = rw off refl in
     cond_both (stands_before (length ds)) (d ∷ 0x2C ∷ with_commas ds) (d ∷ with_commas ds)
-    (λ xs. filter (λ d. not (d == 0x2C)) xs ≡ filter (λ d. not (d == 0x2C)) (d ∷ ds)) (λ e. same) (λ e. same)
+    (λ xs. filter p xs ≡ filter p (d ∷ ds)) (λ e. ap (λ xs. if p d then d ∷ xs else xs) past ∙ same) (λ e. same)
 
 one_kept : (d : ℕ) → filter (λ d. not (d == 0x2C)) ((48 + d) ∷ []) ≡ (48 + d) ∷ []
 one_kept d = rw (ne_eqb (48 + d) 0x2C (λ e. omega arith)) refl
@@ -119,7 +121,7 @@ numeral_kept n small = decimal_by_steps_wide (λ n ds. filter (λ d. not (d == 0
 
 pub commas_aside : (n : ℕ) → n < 10 ^ 64 → filter (λ d. not (d == 0x2C)) (human_count n) ≡ decimal n
 unfolding human_count
-commas_aside n small = aside (decimal n) ∙ numeral_kept n small
+commas_aside n small = aside (λ d. not (d == 0x2C)) refl (decimal n) ∙ numeral_kept n small
 
 pub by_thousands : (n : ℕ) → 1000 ≤ n → n < 10 ^ 64 → human_count n ≡ human_count (n / 1000) ++ (0x2C ∷ last_digits 3 n)
 by_thousands n more small =

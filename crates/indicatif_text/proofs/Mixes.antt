@@ -1,7 +1,8 @@
 -- Digits and exclamation marks, taken up one by one.
-use Rattle.std.proofs.Common.{◌≡◌, ℕ, ◌+◌, ◌-◌, ◌*◌, ◌<◌, ◌≤◌, Bool, true, false, List, [], ◌∷◌, refl, sym, ◌∙◌, ap, subst, Some, None}
+use Rattle.std.proofs.Common.{◌≡◌, ℕ, ◌+◌, ◌-◌, ◌*◌, ◌<◌, ◌≤◌, true, false, List, [], ◌∷◌, refl, sym, ◌∙◌, ap, subst, Some, None}
 use Rattle.std.specs.Prelude.{◌==◌, ◌||◌, filter, take_while, unwrap_or}
 use Rattle.std.specs.Char.{is_ascii_digit}
+use Rattle.std.proofs.Math.Bool.{or-true, or-false}
 use Rattle.std.proofs.lemmas.Bool.{ne_eqb, false≢true}
 use Rattle.indicatif_text.specs.declared.refusal.TemplateState.{TemplateState}
 use Rattle.indicatif_text.specs.declared.refusal.TemplateState.TheVariants.{Width}
@@ -10,14 +11,6 @@ use Rattle.indicatif_text.specs.Reading.{IsMix, IsMixBefore, TakesUp, number_aft
 use Rattle.indicatif_text.specs.Template.{after_run, is_width_char, is_too_wide, state_after}
 use Rattle.indicatif_text.proofs.Prefixes.{run_more, run_ends, left_more, left_ends}
 use Rattle.indicatif_text.proofs.ReadingProofs.{number_from_none, stays_wide, mark_here, mark_later, number_digit, number_other, below_wide}
-
-or_true : (b : Bool) → (b || true) ≡ true
-or_true true = refl
-or_true false = refl
-
-or_false : (b : Bool) → (b || false) ≡ b
-or_false true = refl
-or_false false = refl
 
 state_stays : (left : List ℕ) → state_after Width left ≡ Width
 state_stays [] = refl
@@ -36,9 +29,9 @@ mix_begins state run = record {
 -- behind the last
 pub mix_ends : (state : TemplateState) (run : List ℕ) (mix : Mix) → IsMixBefore state run mix [] → IsMix state run mix
 mix_ends state run mix b = record {
-  too_large_is = sym (or_false mix.too_large) ∙ ap (λ x. mix.too_large || x) (sym b.fits) ∙ b.too_large_is;
+  too_large_is = sym (or-false mix.too_large) ∙ ap (λ x. mix.too_large || x) (sym b.fits) ∙ b.too_large_is;
   width_is = b.width_is;
-  truncate_is = sym (or_false mix.truncate) ∙ b.truncate_is;
+  truncate_is = sym (or-false mix.truncate) ∙ b.truncate_is;
   state_is = b.state_is;
 }
 
@@ -51,7 +44,7 @@ module _ (mix : Mix) (c : ℕ) where
         fits = b.fits;
         too_large_is = ap (λ ds. mix.too_large || is_too_wide (number_after mix.width ds)) (sym digits) ∙ b.too_large_is;
         width_is = λ h. ap (number_after mix.width) (sym digits) ∙ b.width_is h;
-        truncate_is = sym (ap (λ x. mix.truncate || x) (mark_here c left e) ∙ or_true mix.truncate) ∙ b.truncate_is;
+        truncate_is = sym (ap (λ x. mix.truncate || x) (mark_here c left e) ∙ or-true mix.truncate) ∙ b.truncate_is;
         state_is = state_stays left ∙ b.state_is;
       }
 
@@ -62,7 +55,7 @@ module _ (mix : Mix) (c : ℕ) where
         let more = number_digit mix.width c left n digit is in
         record {
           fits = b.fits;
-          too_large_is = sym (ap (λ x. mix.too_large || is_too_wide x) more ∙ ap (λ x. mix.too_large || x) (stays_wide n ds wide) ∙ or_true mix.too_large) ∙ b.too_large_is;
+          too_large_is = sym (ap (λ x. mix.too_large || is_too_wide x) more ∙ ap (λ x. mix.too_large || x) (stays_wide n ds wide) ∙ or-true mix.too_large) ∙ b.too_large_is;
           width_is = λ h. absurd (false≢true (sym h));
           truncate_is = ap (λ x. mix.truncate || x) (sym (mark_later c left other)) ∙ b.truncate_is;
           state_is = state_stays left ∙ b.state_is;

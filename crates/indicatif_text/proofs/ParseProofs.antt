@@ -1,11 +1,12 @@
 -- What a template was read as decides both sides of its contract.
-use Rattle.std.proofs.Common.{◌≡◌, ℕ, zero, suc, ◌<◌, ◌⊎◌, inl, inr, false, List, length, eqb, sym, ◌∙◌, ap, subst, arith}
+use Rattle.std.proofs.Common.{◌≡◌, ℕ, ◌<◌, ◌⊎◌, inl, inr, false, List, length, sym, ◌∙◌, ap, subst}
 use Rattle.std.specs.Prelude.{◌≢◌, ◌↔◌, ◌==◌, chars, IsUtf8, Result, Ok, Err, IsErrAnd}
 use Rattle.indicatif_text.specs.declared.template.TemplateError.{TemplateError}
 use Rattle.indicatif_text.specs.declared.template.TemplateError.TheVariants.{Memory}
 use Rattle.indicatif_text.specs.Parts.{TemplatePart}
 use Rattle.indicatif_text.specs.Template.{Parses, IsRefused}
-use Rattle.std.proofs.lemmas.Bool.{false≢true}
+use Rattle.std.proofs.Math.Nat.{pos_of_ne-zero}
+use Rattle.std.proofs.lemmas.Bool.{eqb-false}
 use Rattle.indicatif_text.specs.Reading.{Sketch, empty_sketch, Leads}
 use Rattle.indicatif_text.proofs.TokenProofs.{has_chars}
 use Rattle.indicatif_text.proofs.TemplateProofs.{never_both, one_list, one_place}
@@ -52,9 +53,5 @@ is_error x (Err y) h = ap Err h
 pub handed_back : (text rest : List ℕ) (s : Sketch) (x : TemplateError) → Leads empty_sketch text s rest → (x ≡ Memory) ⊎ IsRefused rest x → (x ≡ Memory) ⊎ IsRefused text x
 handed_back text rest s x leads h = elim h [ inl memory ↦ inl memory | inr t ↦ inr (t.0, leads.refuses t.0 x t.1) ]
 
-positive : (n : ℕ) → eqb n 0 ≡ false → 0 < n
-positive zero e = absurd (false≢true (sym e))
-positive (suc n) e = omega arith
-
 pub some_length : (bs : List ℕ) → IsUtf8 bs → false ≡ (length bs == 0) → 0 < length (chars bs)
-some_length bs u some = let test : eqb (length (chars bs)) 0 ≡ false = has_chars bs u some in positive (length (chars bs)) test
+some_length bs u some = pos_of_ne-zero (eqb-false (length (chars bs)) 0 (has_chars bs u some))

@@ -4,7 +4,7 @@ use Rattle.std.specs.Prelude.{◌==◌, ◌&&◌, flat_map, option_map, is_some,
 use Rattle.std.specs.List.{AllByRecursion}
 use Rattle.std.proofs.lemmas.List.Elements.{All-from_recursion}
 use Rattle.indicatif_text.specs.Columns.{colour_length, parameters_length, is_parameter, visible, visible_from}
-use Rattle.indicatif_text.proofs.Scanning.{hidden}
+use Rattle.indicatif_text.proofs.Scanning.{hidden, visible_none}
 use Rattle.indicatif_text.specs.Pieces.{TextPiece, Run, Colour, joined_to, pieces_from, pieces_of_text, piece_text, run_text, PiecesJoin, RunsAreVisible, IsExact, PiecesAreExact, IsNoEmptyPiece, NoEmptyPieces, NoRunsAdjoin, RunsAreLongest}
 
 -- ---- sequences by their rules
@@ -86,10 +86,6 @@ sequence_some : {cs : List ℕ} {n : ℕ} → Sequence cs n → ◌≡◌ (take 
 sequence_some (Opened c d k cs opened rest) e = cc e
 
 -- ---- what a character or a sequence in front makes of what is visible
-
-visible_none : visible [] ≡ []
-unfolding visible
-visible_none = refl
 
 visible_past : (c : ℕ) (cs : List ℕ) → colour_length (c ∷ cs) ≡ None → c ∷ visible cs ≡ visible (c ∷ cs)
 unfolding visible

@@ -3,11 +3,11 @@ use Rattle.std.proofs.Common.{◌≡◌, ℕ, zero, suc, ◌+◌, ◌-◌, ◌*�
 use Rattle.std.specs.Prelude.{◌==◌}
 use Rattle.std.specs.Str.{IsAscii}
 use Rattle.std.proofs.Math.Nat.{pow-zero, pow-succ', one-le-pow, mul-add-div_right, mul-div-mul_left, div-div-eq-div-mul, mul_comm, mul_assoc, mul_right_comm}
-use Rattle.std.proofs.Math.Seq.{set-append_seam}
+use Rattle.std.proofs.Math.Seq.{set-append_seam, get_or-append_seam}
 use Rattle.std.proofs.lemmas.Nat.{div-add-mod', mul-mod_first, pow-add}
 use Rattle.std.proofs.lemmas.Grind.{pow_more}
 use Rattle.std.proofs.lemmas.List.{take-append-le}
-use Rattle.std.proofs.lemmas.Bool.{ne_eqb, eq-eqb, false≢true}
+use Rattle.std.proofs.lemmas.Bool.{ne_eqb, eq-eqb}
 use Rattle.std.proofs.lemmas.Str.{IsAscii-append}
 use Rattle.std.proofs.lemmas.Str.Ascii.{IsAscii-cons, IsAscii-nil}
 use Rattle.indicatif_text.specs.Format.{round, rounds_up, last_digits, without_trailing_zeros, after_point, human_count, human_float_count}
@@ -235,14 +235,6 @@ digit_raised k n d low is =
     ap (λ i. set (last_digits (suc k) n) i d) (sym (length-last_digits k (n / 10))) ∙ set-append_seam (last_digits k (n / 10)) (48 + n % 10) [] d
     ∙ ap (λ x. last_digits k x ++ (d ∷ [])) front ∙ ap (λ y. last_digits k ((n + 1) / 10) ++ (y ∷ [])) last
 
-pub not_empty : (n : ℕ) → (n == 0) ≡ false → 0 < n
-not_empty zero e = absurd (false≢true (sym e))
-not_empty (suc n) e = omega arith
-
-get_or-append_right_zero : (xs : List ℕ) (x : ℕ) → get_or (xs ++ (x ∷ [])) (length xs) 0 ≡ x
-get_or-append_right_zero [] x = refl
-get_or-append_right_zero (y ∷ xs) x = get_or-append_right_zero xs x
-
 -- the last of the digits is raised by one
 pub raised_in_place : (out : List ℕ) (n m : ℕ) → 0 < n → out ≡ last_digits n m → m % 10 < 9 → set out (n - 1) (get_or out (n - 1) 0 + 1) ≡ last_digits n (m + 1)
 raised_in_place out zero m some is low = absurd (omega arith)
@@ -251,7 +243,7 @@ raised_in_place out (suc k) m some is low =
     let at : suc k - 1 ≡ k = omega arith in
     let here : get_or (last_digits (suc k) m) k 0 + 1 ≡ 49 + m % 10 =
     ap (λ i. get_or (last_digits (suc k) m) i 0 + 1) (sym (length-last_digits k (m / 10)))
-    ∙ ap (λ d. d + 1) (get_or-append_right_zero front (48 + m % 10)) ∙ omega arith in
+    ∙ ap (λ d. d + 1) (get_or-append_seam front (48 + m % 10) [] 0) ∙ omega arith in
     ap (λ i. set out i (get_or out i 0 + 1)) at ∙ ap (λ ds. set ds k (get_or ds k 0 + 1)) is ∙ digit_raised k m _ low here
 
 -- what a loop over all of a slice has filled
@@ -269,10 +261,6 @@ nothing_behind (d ∷ ds) none = absurd (omega arith)
 pub length-behind : (ds : List ℕ) → length (after_point ds) ≤ length ds + 1
 length-behind [] = omega arith
 length-behind (d ∷ ds) = omega arith
-
-pub empty : (n : ℕ) → (n == 0) ≡ true → n ≡ 0
-empty zero e = refl
-empty (suc n) e = absurd (false≢true (sym (ne_eqb (suc n) 0 (λ z. omega arith)) ∙ e))
 
 -- digits that were filled in place, read back
 pub digits_back : (view out rest : List ℕ) (len n m : ℕ) → view ≡ take len (out ++ rest) → out ≡ last_digits n m → n ≡ len → view ≡ last_digits n m

@@ -1,9 +1,10 @@
 -- A run of characters is a run of bytes.
 use Rattle.std.proofs.Common.{◌≡◌, ℕ, zero, suc, ◌+◌, ◌<◌, ◌≤◌, inl, inr, Bool, true, false, List, [], ◌∷◌, ◌++◌, length, get_or, take, drop, refl, sym, ◌∙◌, ap, arith, append-nil}
-use Rattle.std.specs.Prelude.{◌&&◌, take_while, chars, IsUtf8, IsCharBoundary}
+use Rattle.std.specs.Prelude.{take_while, chars, IsUtf8, IsCharBoundary}
 use Rattle.std.specs.List.{prefix_len}
 use Rattle.std.proofs.Math.Utf8.{encode, encodes, scalar, scalars}
-use Rattle.std.proofs.lemmas.Bool.{cases_Bool, cases_lt, false≢true}
+use Rattle.std.proofs.Math.Seq.{take-append-add, drop-append-add}
+use Rattle.std.proofs.lemmas.Bool.{cases_Bool, cases_lt, and_parts, and_from}
 use Rattle.std.proofs.lemmas.Bool.Decides.{nat_tests}
 use Rattle.indicatif_text.specs.declared.runs.Run.{Run}
 use Rattle.indicatif_text.specs.declared.runs.Run.TheVariants.{Literal, Key, Word}
@@ -24,36 +25,17 @@ prefix_none : (p : ℕ → Bool) (xs ys : List ℕ) → 0 < length xs → p (get
 prefix_none p [] ys some first = absurd (omega (arith, some))
 prefix_none p (x ∷ xs) ys some first = rw first refl
 
-take_onto : (xs ys : List ℕ) (n : ℕ) → take (length xs + n) (xs ++ ys) ≡ xs ++ take n ys
-take_onto [] ys n = let e : 0 + n ≡ n = omega arith in ap (λ k. take k ys) e
-take_onto (x ∷ xs) ys n =
-    let e : suc (length xs) + n ≡ suc (length xs + n) = omega arith in
-    ap (λ k. take k (x ∷ (xs ++ ys))) e ∙ ap (λ zs. x ∷ zs) (take_onto xs ys n)
-
-drop_onto : (xs ys : List ℕ) (n : ℕ) → drop (length xs + n) (xs ++ ys) ≡ drop n ys
-drop_onto [] ys n = let e : 0 + n ≡ n = omega arith in ap (λ k. drop k ys) e
-drop_onto (x ∷ xs) ys n =
-    let e : suc (length xs) + n ≡ suc (length xs + n) = omega arith in
-    ap (λ k. drop k (x ∷ (xs ++ ys))) e ∙ drop_onto xs ys n
-
-both_true : (a b : Bool) → (a && b) ≡ true → (a ≡ true) × (b ≡ true)
-both_true true b e = (refl, e)
-both_true false b e = absurd (false≢true e)
-
-and_true : (a b : Bool) → a ≡ true → b ≡ true → (a && b) ≡ true
-and_true a b e d = rw (e, d) refl
-
 scalars_take : (n : ℕ) (cs : List ℕ) → scalars cs ≡ true → scalars (take n cs) ≡ true
 scalars_take zero [] s = refl
 scalars_take (suc n) [] s = refl
 scalars_take zero (c ∷ cs) s = refl
-scalars_take (suc n) (c ∷ cs) s = let b = both_true (scalar c) (scalars cs) s in and_true (scalar c) (scalars (take n cs)) b.0 (scalars_take n cs b.1)
+scalars_take (suc n) (c ∷ cs) s = let b = and_parts (scalar c) (scalars cs) s in and_from (scalar c) (scalars (take n cs)) b.0 (scalars_take n cs b.1)
 
 scalars_drop : (n : ℕ) (cs : List ℕ) → scalars cs ≡ true → scalars (drop n cs) ≡ true
 scalars_drop zero [] s = refl
 scalars_drop (suc n) [] s = refl
 scalars_drop zero (c ∷ cs) s = s
-scalars_drop (suc n) (c ∷ cs) s = scalars_drop n cs (both_true (scalar c) (scalars cs) s).1
+scalars_drop (suc n) (c ∷ cs) s = scalars_drop n cs (and_parts (scalar c) (scalars cs) s).1
 
 module _ (p : ℕ → Bool) (past_ascii : (c : ℕ) → 128 ≤ c → p c ≡ p 128) where
   -- the bytes of a character pass where the character does
@@ -87,8 +69,8 @@ module _ (p : ℕ → Bool) (past_ascii : (c : ℕ) → 128 ≤ c → p c ≡ p 
             let n : prefix_len p (encode c ++ encodes cs) ≡ length (encode c) + prefix_len p (encodes cs) = prefix_all p (encode c) (encodes cs) (λ k h. byte_passes c k h ∙ passes) in
             let one : 1 + prefix_len p cs ≡ suc (prefix_len p cs) = omega arith in
             record {
-              front = rw (passes, one) (ap (λ k. take k (encode c ++ encodes cs)) n ∙ take_onto (encode c) (encodes cs) (prefix_len p (encodes cs)) ∙ ap (λ xs. encode c ++ xs) more.front);
-              back = rw (passes, one) (ap (λ k. drop k (encode c ++ encodes cs)) n ∙ drop_onto (encode c) (encodes cs) (prefix_len p (encodes cs)) ∙ more.back);
+              front = rw (passes, one) (ap (λ k. take k (encode c ++ encodes cs)) n ∙ take-append-add (encode c) (encodes cs) (prefix_len p (encodes cs)) ∙ ap (λ xs. encode c ++ xs) more.front);
+              back = rw (passes, one) (ap (λ k. drop k (encode c ++ encodes cs)) n ∙ drop-append-add (encode c) (encodes cs) (prefix_len p (encodes cs)) ∙ more.back);
             }
         | inr fails ↦
             let n : prefix_len p (encode c ++ encodes cs) ≡ 0 = prefix_none p (encode c) (encodes cs) (encode_some c) (byte_passes c 0 (encode_some c) ∙ fails) in

@@ -151,7 +151,7 @@ seen : (c : ℕ) (cs : List ℕ) → colour_length (c ∷ cs) ≡ None → visib
 unfolding visible
 seen c cs e = ap (λ o. if is_some o then visible_from (unwrap_or o 1 - 1) cs else c ∷ visible_from 0 cs) e
 
-visible_none : visible [] ≡ []
+pub visible_none : visible [] ≡ []
 unfolding visible
 visible_none = refl
 

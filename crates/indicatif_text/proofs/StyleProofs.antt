@@ -5,7 +5,8 @@ use Rattle.std.proofs.lemmas.Grind.{flat_map-append}
 use Rattle.std.specs.Prelude.{◌||◌, ◌&&◌, not, nat_lt, chars, bytes_eq, codes, IsUtf8, IsAscii, option_to_list, filter_map, if◌then◌else◌, take_while, flat_map}
 use Rattle.std.specs.List.{last_or, cons_option, list_all, onto_first, prefix_len}
 use Rattle.std.proofs.Math.Utf8.{encodes}
-use Rattle.std.proofs.lemmas.Bool.{cases_Bool, false≢true, ltb-true, ne_eqb}
+use Rattle.std.proofs.Math.Bool.{or-false, and-true}
+use Rattle.std.proofs.lemmas.Bool.{cases_Bool, ltb-true, ne_eqb, and_parts}
 use Rattle.std.proofs.lemmas.Bool.Decides.{same_from_decides}
 use Rattle.std.proofs.lemmas.Slice.Eq.{bytes_eq-Decides}
 use Rattle.std.proofs.lemmas.Str.{encodes-chars, encodes-IsAscii, chars-IsAscii}
@@ -22,14 +23,10 @@ use Rattle.indicatif_text.proofs.Prefixes.{run_more, run_ends, left_more, left_e
 abbrev pub is_ascii_text : List ℕ → Bool
 is_ascii_text name = list_all (λ b. nat_lt b 128) name
 
-both_true : (a b : Bool) → (a && b) ≡ true → (a ≡ true) × (b ≡ true)
-both_true true b e = (refl, e)
-both_true false b e = absurd (false≢true e)
-
 ascii : (name : List ℕ) → is_ascii_text name ≡ true → IsAscii name
 ascii [] e i = omega arith
-ascii (b ∷ bs) e zero = let h : b < 128 = ltb-true b 128 (both_true (nat_lt b 128) (is_ascii_text bs) e).0 in h
-ascii (b ∷ bs) e (suc i) = ascii bs (both_true (nat_lt b 128) (is_ascii_text bs) e).1 i
+ascii (b ∷ bs) e zero = let h : b < 128 = ltb-true b 128 (and_parts (nat_lt b 128) (is_ascii_text bs) e).0 in h
+ascii (b ∷ bs) e (suc i) = ascii bs (and_parts (nat_lt b 128) (is_ascii_text bs) e).1 i
 
 module _ (bs name : List ℕ) (u : IsUtf8 bs) (e : is_ascii_text name ≡ true) where
   chars_name : bs ≡ name → chars bs ≡ name
@@ -80,10 +77,6 @@ or_more : (s t b h : Bool) → t ≡ (s || b) → (s || (b || h)) ≡ (t || h)
 or_more true t b h e = ap (λ x. x || h) (sym e)
 or_more false t b h e = ap (λ x. x || h) (sym e)
 
-or_false : (b : Bool) → (b || false) ≡ b
-or_false true = refl
-or_false false = refl
-
 gathers_more : (all : List (List ℕ)) (s t : Style) (word : List ℕ) (left : List (List ℕ)) → Gathers all s (word ∷ left) → Adds s word t → Gathers all t left
 gathers_more all s t word left g a = record {
   foreground = g.foreground ∙ last_more (foreground_number s) (foreground_of word) (filter_map foreground_of left) ∙ ap (λ o. last_or o (filter_map foreground_of left)) (sym a.foreground);
@@ -120,12 +113,12 @@ pub gathers_all : (text : List ℕ) (s : Style) (rest : List ℕ) → rest ≡ [
 unfolding numbers_of style_of
 gathers_all text s rest e h =
     let g : Gathers (style_words text) s [] = subst (λ r. Gathers (style_words text) s (words_left r)) e h in
-    let bold : has_word (style_words text) (codes "bold") ≡ s.bold = g.bold ∙ or_false s.bold in
-    let dim : has_word (style_words text) (codes "dim") ≡ s.dim = g.dim ∙ or_false s.dim in
-    let underlined : has_word (style_words text) (codes "underlined") ≡ s.underlined = g.underlined ∙ or_false s.underlined in
-    let blink : has_word (style_words text) (codes "blink") ≡ s.blink = g.blink ∙ or_false s.blink in
-    let reverse : has_word (style_words text) (codes "reverse") ≡ s.reverse = g.reverse ∙ or_false s.reverse in
-    let hidden : has_word (style_words text) (codes "hidden") ≡ s.hidden = g.hidden ∙ or_false s.hidden in
+    let bold : has_word (style_words text) (codes "bold") ≡ s.bold = g.bold ∙ or-false s.bold in
+    let dim : has_word (style_words text) (codes "dim") ≡ s.dim = g.dim ∙ or-false s.dim in
+    let underlined : has_word (style_words text) (codes "underlined") ≡ s.underlined = g.underlined ∙ or-false s.underlined in
+    let blink : has_word (style_words text) (codes "blink") ≡ s.blink = g.blink ∙ or-false s.blink in
+    let reverse : has_word (style_words text) (codes "reverse") ≡ s.reverse = g.reverse ∙ or-false s.reverse in
+    let hidden : has_word (style_words text) (codes "hidden") ≡ s.hidden = g.hidden ∙ or-false s.hidden in
     let foreground : last_or None (filter_map foreground_of (style_words text)) ≡ foreground_number s = g.foreground in
     let background : last_or None (filter_map background_of (style_words text)) ≡ background_number s = g.background in
     rw (foreground, background, bold, dim, underlined, blink, reverse, hidden) refl
@@ -147,10 +140,6 @@ pub dot_within : (words : Words) → in_words words 0x2E ≡ true
 dot_within words.All = refl
 dot_within words.Style = refl
 dot_within words.Alternative = refl
-
-and_true_right : (b : Bool) → (b && true) ≡ b
-and_true_right true = refl
-and_true_right false = refl
 
 -- what is known at the end of the words
 pub record StyleRead (p : ℕ → Bool) (text : List ℕ) (s : Style) (rest : List ℕ) : Type 0 where
@@ -192,7 +181,7 @@ module _ (p : ℕ → Bool) (text : List ℕ) where
   pub read_to_stop : (s : Style) (rest : List ℕ) (c : ℕ) (cs : List ℕ) → WordsRead p text s rest → rest ≡ c ∷ cs → (c ≡ 0x2E → ⊥) → StyleRead p text s rest
   read_to_stop s rest c cs r e other =
       let word : is_word_char c ≡ true = ap not (ne_eqb c 0x2E other) in
-      let fails : p c ≡ false = sym (and_true_right (p c)) ∙ ap (λ b. p c && b) (sym word) ∙ r.stops c cs e in
+      let fails : p c ≡ false = sym (and-true (p c)) ∙ ap (λ b. p c && b) (sym word) ∙ r.stops c cs e in
       all_read s rest r (ap (take_while p) e ∙ run_ends p c cs fails) (ap (after_run p) e ∙ left_ends p c cs fails ∙ sym e)
 
 -- ---- what a style writes

@@ -1,7 +1,31 @@
 -- What the formatters' texts say, apart from how the definitions make them.
-use Rattle.std.specs.Prelude.{◌≡◌, ◌≢◌, ℕ, ◌+◌, ◌-◌, ◌*◌, ◌/◌, ◌%◌, ◌^◌, ◌<◌, ◌≤◌, ◌⊎◌, ◌==◌, not, List, [], ◌∷◌, ◌++◌, length, take, drop, replicate, filter, IsTrue, decimal}
+use Rattle.std.specs.Prelude.{◌≡◌, ◌≢◌, ℕ, ◌+◌, ◌-◌, ◌*◌, ◌/◌, ◌%◌, ◌^◌, ◌<◌, ◌≤◌, ◌⊎◌, ◌==◌, not, List, [], ◌∷◌, ◌++◌, length, take, drop, replicate, filter, slice_get, Some, IsTrue, decimal, codes}
+use Rattle.std.specs.Char.{is_ascii_digit}
+use Rattle.std.specs.List.{before_first, after_first}
 use Rattle.std.specs.Str.Parse.{digits_value}
-use Rattle.indicatif_text.specs.Format.{round, last_digits, without_trailing_zeros, human_count, prefix_exponent, nanos_per_second, formatted_duration, TimeSpan, year, week, day, hour, minute, second, rounded_half_up, reaches, told}
+use Rattle.indicatif_text.specs.Format.{round, last_digits, without_trailing_zeros, human_count, human_float_count, prefix_exponent, binary_bytes, decimal_bytes, nanos_per_second, formatted_duration, human_duration, short_duration, TimeSpan, year, week, day, hour, minute, second, rounded_half_up, reaches, told}
+
+-- ---- the parts of a text
+
+-- the digits of a text, in order
+abbrev pub digits_in : List ℕ → List ℕ
+digits_in text = filter is_ascii_digit text
+
+-- what stands before the point; all where there is none
+abbrev pub whole_in : List ℕ → List ℕ
+whole_in text = before_first (λ c. c == 0x2E) text
+
+-- what stands behind the point; nothing where there is none
+abbrev pub decimals_in : List ℕ → List ℕ
+decimals_in text = after_first (λ c. c == 0x2E) text
+
+-- what stands before the first space
+abbrev pub number_in : List ℕ → List ℕ
+number_in text = before_first (λ c. c == 0x20) text
+
+-- what stands behind it
+abbrev pub unit_in : List ℕ → List ℕ
+unit_in text = after_first (λ c. c == 0x20) text
 
 -- ---- rounding
 
@@ -24,22 +48,24 @@ RoundsHalfUp = (nanos unit : ℕ) → 0 < unit
 abbrev pub LastDigitsAreRest : Type 0
 LastDigitsAreRest = (k n : ℕ) → (length (last_digits k n) ≡ k) × (digits_value 10 (last_digits k n) ≡ n % 10 ^ k)
 
--- a count without its commas is the number's decimal numeral
+-- a count without its commas is the number's decimal numeral; `decimal` gives a number's last 64 digits, so here as below the
+-- numbers are those of at most 64, as all of 128 bits are
 abbrev pub CommasAside : Type 0
-CommasAside = (n : ℕ) → n < 2 ^ 128 → filter (λ d. not (d == 0x2C)) (human_count n) ≡ decimal n
+CommasAside = (n : ℕ) → n < 10 ^ 64 → filter (λ d. not (d == 0x2C)) (human_count n) ≡ decimal n
 
 -- which spells the number
 abbrev pub NumeralSpells : Type 0
-NumeralSpells = (n : ℕ) → n < 2 ^ 128 → digits_value 10 (decimal n) ≡ n
+NumeralSpells = (n : ℕ) → n < 10 ^ 64 → digits_value 10 (decimal n) ≡ n
 
 -- a count of up to three digits has no comma; a greater one is that of its thousands, a comma and the last three digits
 abbrev pub CommasByThousands : Type 0
-CommasByThousands = (n : ℕ) → n < 2 ^ 128
+CommasByThousands = (n : ℕ) → n < 10 ^ 64
     → (n < 1000 → human_count n ≡ decimal n) × (1000 ≤ n → human_count n ≡ human_count (n / 1000) ++ (0x2C ∷ last_digits 3 n))
 
--- the digits before and behind the point, read as one numeral, are the rounded quotient in units of the last place
+-- the digits before and behind the point, read as one numeral, are the rounded quotient in units of the last place, however
+-- many decimals there are; the whole part alone has at most 64
 abbrev pub DigitsSpell : Type 0
-DigitsSpell = (k n : ℕ) → n < 2 ^ 128 → digits_value 10 (decimal (n / 10 ^ k) ++ last_digits k n) ≡ n
+DigitsSpell = (k n : ℕ) → n / 10 ^ k < 10 ^ 64 → digits_value 10 (decimal (n / 10 ^ k) ++ last_digits k n) ≡ n
 
 -- dropping zeros drops zeros at the end alone, and all of them
 abbrev pub OnlyZerosDropped : Type 0
@@ -49,6 +75,25 @@ OnlyZerosDropped = (ds : List ℕ) → (k : ℕ) × (without_trailing_zeros ds +
 abbrev pub NoZeroLeft : Type 0
 NoZeroLeft = (ds es : List ℕ) → without_trailing_zeros ds ≢ es ++ (48 ∷ [])
 
+-- ---- counts with decimals
+
+-- the digits of a quotient's text, put to as many decimals as were asked, are the rounded quotient in units of the last place
+abbrev pub FloatCountSpells : Type 0
+FloatCountSpells = (num den places : ℕ) → num < 2 ^ 128 →
+    let text = human_float_count num den places in
+    (length (decimals_in text) ≤ places)
+    × (digits_value 10 (digits_in text) * 10 ^ (places - length (decimals_in text)) ≡ round (num * 10 ^ places) den)
+
+-- before its point stands a count
+abbrev pub FloatCountCounts : Type 0
+FloatCountCounts = (num den places : ℕ) → num < 2 ^ 128
+    → whole_in (human_float_count num den places) ≡ human_count (round (num * 10 ^ places) den / 10 ^ places)
+
+-- and its end is no zero behind the point, and no point
+abbrev pub FloatCountEnds : Type 0
+FloatCountEnds = (num den places : ℕ) (front : List ℕ) → num < 2 ^ 128 →
+    let text = human_float_count num den places in (decimals_in text ≢ front ++ (48 ∷ [])) × (text ≢ front ++ (0x2E ∷ []))
+
 -- ---- bytes
 
 -- the prefix's power is the greatest of the first six that is at most the number
@@ -56,6 +101,32 @@ abbrev pub GreatestPrefix : Type 0
 GreatestPrefix = (base n : ℕ) → 0 < base → base ≤ n
     → (1 ≤ prefix_exponent base 6 n) × (prefix_exponent base 6 n ≤ 6) × (base ^ prefix_exponent base 6 n ≤ n)
     × ((k : ℕ) → k ≤ 6 → base ^ k ≤ n → k ≤ prefix_exponent base 6 n)
+
+-- the units of numbers of bytes by powers of 1024, from the power 0 on
+abbrev pub binary_units : List (List ℕ)
+binary_units = codes "B" ∷ codes "KiB" ∷ codes "MiB" ∷ codes "GiB" ∷ codes "TiB" ∷ codes "PiB" ∷ codes "EiB" ∷ []
+
+-- and by powers of 1000
+abbrev pub decimal_units : List (List ℕ)
+decimal_units = codes "B" ∷ codes "kB" ∷ codes "MB" ∷ codes "GB" ∷ codes "TB" ∷ codes "PB" ∷ codes "EB" ∷ []
+
+-- the text tells n bytes in the k-th of these units, the greatest that leaves at least 1: below the base by their numeral, and
+-- else rounded to hundredths, with two decimals
+pub record TellsBytes (base : ℕ) (units : List (List ℕ)) (n k : ℕ) (text : List ℕ) : Type 0 where
+  pub reached : 0 < k → base ^ k ≤ n
+  pub greatest : (j : ℕ) → j ≤ 6 → base ^ j ≤ n → j ≤ k
+  pub unit : slice_get units k ≡ Some (unit_in text)
+  pub whole : k ≡ 0 → number_in text ≡ decimal n
+  pub decimals : 0 < k → length (decimals_in (number_in text)) ≡ 2
+  pub spells : 0 < k → digits_value 10 (digits_in (number_in text)) ≡ round (n * 100) (base ^ k)
+
+-- of binary bytes
+abbrev pub BinaryBytesTell : Type 0
+BinaryBytesTell = (n : ℕ) → n < 2 ^ 64 → (k : ℕ) × TellsBytes 1024 binary_units n k (binary_bytes n)
+
+-- and of decimal ones
+abbrev pub DecimalBytesTell : Type 0
+DecimalBytesTell = (n : ℕ) → n < 2 ^ 64 → (k : ℕ) × TellsBytes 1000 decimal_units n k (decimal_bytes n)
 
 -- ---- durations
 
@@ -88,3 +159,14 @@ IsReached n unit next = ((told n).1 ≡ unit) × IsTrue (reaches n unit next)
 abbrev pub ReachesUnit : Type 0
 ReachesUnit = (n : ℕ)
     → IsReached n year week ⊎ (IsReached n week day ⊎ (IsReached n day hour ⊎ (IsReached n hour minute ⊎ (IsReached n minute second ⊎ ((told n).1 ≡ second)))))
+
+-- before the space of a duration in words stands the count's numeral, and behind it the unit, with an `s` unless the count is 1
+abbrev pub WordsTell : Type 0
+WordsTell = (n : ℕ) → n < 2 ^ 64 →
+    let text = human_duration n in
+    (digits_value 10 (number_in text) ≡ (told n).0) × (number_in text ≡ decimal (told n).0)
+    × ((told n).0 ≡ 1 → unit_in text ≡ (told n).1.name) × ((told n).0 ≢ 1 → unit_in text ≡ (told n).1.name ++ codes "s")
+
+-- the short form is the count and the first letter of what stands behind the space
+abbrev pub ShortIsWords : Type 0
+ShortIsWords = (n : ℕ) → n < 2 ^ 64 → short_duration n ≡ number_in (human_duration n) ++ take 1 (unit_in (human_duration n))

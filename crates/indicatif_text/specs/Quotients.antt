@@ -1,5 +1,5 @@
 -- What long division finds, for the functions behind `HumanFloatCount`.
-use Rattle.std.specs.Prelude.{ℕ, ◌+◌, ◌*◌, ◌/◌, ◌%◌, ◌^◌, Bool, if◌then◌else◌}
+use Rattle.std.specs.Prelude.{◌≡◌, ℕ, ◌+◌, ◌*◌, ◌/◌, ◌%◌, ◌^◌, ◌<◌, ◌⊎◌, Bool, true, if◌then◌else◌}
 
 -- num / den at so many decimals, rounded down
 unfoldable pub below : ℕ → ℕ → ℕ → ℕ
@@ -12,3 +12,7 @@ left_over num den places = num * 10 ^ places % den
 -- the number, or the next one
 abbrev pub raised : Bool → ℕ → ℕ
 raised up n = if up then n + 1 else n
+
+-- a last decimal that is raised is no nine
+abbrev pub NeedsNoCarry : Bool → ℕ → ℕ → ℕ → Type 0
+NeedsNoCarry up num den places = up ≡ true → (places ≡ 0) ⊎ (below num den places % 10 < 9)

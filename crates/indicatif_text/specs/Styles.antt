@@ -25,6 +25,14 @@ foreground_of word = option_map (λ k. 30 + k) (position (bytes_eq word) colour_
 abbrev pub background_of : List ℕ → Option ℕ
 background_of word = option_map (λ k. 40 + k) (position (bytes_eq word) background_words)
 
+-- the foreground's number behind a further word
+abbrev pub foreground_after : Option ℕ → List ℕ → Option ℕ
+foreground_after before word = last_or before (option_to_list (foreground_of word))
+
+-- the background's number behind a further word
+abbrev pub background_after : Option ℕ → List ℕ → Option ℕ
+background_after before word = last_or before (option_to_list (background_of word))
+
 -- a character of a word
 abbrev pub is_word_char : ℕ → Bool
 is_word_char c = not (c == 0x2E)
@@ -54,6 +62,10 @@ style_of text =
 -- the colour sequence of a number
 abbrev pub sequence_of : ℕ → List ℕ
 sequence_of number = (0x1B ∷ 0x5B ∷ []) ++ decimal number ++ codes "m"
+
+-- the colour sequence of a number, if there is one
+abbrev pub sequence_if : Option ℕ → List ℕ
+sequence_if number = flat_map sequence_of (option_to_list number)
 
 -- what is written for a text in a style: with colours on, the sequences stand before it, and one that ends them behind it
 abbrev pub styled : Bool → List ℕ → List ℕ → List ℕ

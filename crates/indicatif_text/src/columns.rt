@@ -60,7 +60,8 @@ pub fn wrapped(line: &str, width: usize) -> Result<Metrics, Refusal>
     ensures height { IfOk result (λ m. m.height ≡ length (rows_of width (chars line.now))) }
     ensures last { IfOk result (λ m. m.last_line_width ≡ last_columns width (chars line.now)) }
     ensures no_columns { (result ≡ Err Refusal.NoColumns) ↔ (width ≡ 0) }
-    ensures too_wide { (result ≡ Err Refusal.TooWide) ↔ ((0 < width) × IsTrue (has_wide width (chars line.now))) }
+    ensures too_wide { (result ≡ Err Refusal.TooWide)
+        ↔ ((0 < width) × IsTrue (has_wide width (chars line.now))) }
     ensures no_other { IfErr result (λ e. (e ≡ Refusal.NoColumns) ⊎ (e ≡ Refusal.TooWide)) }
 {
     if width == 0 {

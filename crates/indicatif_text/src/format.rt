@@ -7,9 +7,9 @@ ghost use Rattle.std.specs.String.{string_bytes};
 ghost use Rattle.indicatif_text.specs.Format.{formatted_duration, human_duration, short_duration, binary_bytes, decimal_bytes, human_count, Quotient, human_float_count};
 
 mod bytes;
-mod cases;
+pub mod cases;
 mod durations;
-mod laws;
+pub mod laws;
 mod quotients;
 mod rounding;
 mod short_text;
@@ -56,7 +56,8 @@ impl HumanDuration {
     ///
     /// Refused: `Memory`, and then `out` is as before.
     pub fn write_short(&self, out: &mut String) -> Result<(), Refusal>
-        ensures written { OnOk result (string_bytes out.new ≡ string_bytes out.old ++ short_duration self.now.0) }
+        ensures written { OnOk result (string_bytes out.new
+            ≡ string_bytes out.old ++ short_duration self.now.0) }
         ensures unchanged { OnErr result (string_bytes out.new ≡ string_bytes out.old) }
         ensures memory { IfErr result (λ e. e ≡ Refusal.Memory) }
     {

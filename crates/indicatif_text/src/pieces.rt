@@ -98,7 +98,8 @@ impl Iterator for Visible<'_> {
 /// The first piece of a text that is not empty, and what follows it.
 fn split_piece(text: &str) -> (Piece<'_>, &str)
     requires { 0 < length text.now }
-    ensures { pieces_of_text (chars text.now) ≡ shown result.0 ∷ pieces_of_text (chars result.1.now) }
+    ensures { pieces_of_text (chars text.now)
+        ≡ shown result.0 ∷ pieces_of_text (chars result.1.now) }
 {
     let sequence = colour_len(text);
     if sequence > 0 {

@@ -77,7 +77,8 @@ pub(crate) fn split_run(text: &str, run: Run) -> (&str, &str)
 /// The first character of `text` and what follows it; none where it's empty.
 #[inline]
 pub(crate) fn split_first(text: &str) -> Option<(char, &str)>
-    ensures first { MatchOption result (chars text.now ≡ []) (λ r. chars text.now ≡ r.0 ∷ chars r.1.now) }
+    ensures first { MatchOption result (chars text.now ≡ [])
+        (λ r. chars text.now ≡ r.0 ∷ chars r.1.now) }
     ensures utf8 { IfSome result (λ r. IsUtf8 r.1.now) }
 {
     let mut rest = text.chars();

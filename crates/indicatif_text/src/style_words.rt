@@ -1,7 +1,7 @@
 //! Styles of text: the colours and attributes that a dotted text names, and what they write.
-ghost use Rattle.std.specs.Prelude.{◌≡◌, ◌+◌, ◌≤◌, ◌||◌, ◌++◌, [], ◌∷◌, chars, bytes_eq, option_map, option_to_list, flat_map, position, take_while, IsUtf8, string_bytes, string_len, string_capacity, length, codes, nat_lt, OnOk, OnErr, IfErr, if◌then◌else◌, IsTrue};
-ghost use Rattle.std.specs.List.{last_or, list_all};
-ghost use Rattle.indicatif_text.specs.Styles.{style_of, styled, sequence_of, numbers_of, foreground_number, background_number, foreground_of, background_of, place_of};
+ghost use Rattle.std.specs.Prelude.{◌≡◌, ◌+◌, ◌≤◌, ◌||◌, ◌++◌, [], ◌∷◌, chars, bytes_eq, option_map, flat_map, position, take_while, IsUtf8, string_bytes, string_len, string_capacity, length, codes, nat_lt, OnOk, OnErr, IfErr, if◌then◌else◌, IsTrue};
+ghost use Rattle.std.specs.List.{list_all};
+ghost use Rattle.indicatif_text.specs.Styles.{style_of, styled, sequence_of, sequence_if, numbers_of, foreground_number, background_number, foreground_of, background_of, foreground_after, background_after, place_of};
 ghost use Rattle.indicatif_text.specs.Runs.{in_words};
 ghost use Rattle.indicatif_text.specs.Template.{after_run};
 
@@ -66,7 +66,8 @@ impl Style {
 
     /// The style that the words in front of `text` name, and what follows them.
     pub(crate) fn read(text: &str, words: Words) -> (Style, &str)
-        ensures style { numbers_of result.0 ≡ style_of (take_while (in_words words) (chars text.now)) }
+        ensures style { numbers_of result.0
+            ≡ style_of (take_while (in_words words) (chars text.now)) }
         ensures rest { chars result.1.now ≡ after_run (in_words words) (chars text.now) }
         ensures utf8 { IsUtf8 result.1.now }
     {
@@ -90,7 +91,8 @@ impl Style {
     ///
     /// Refused: `Memory`; `out` is as before then.
     pub fn apply_to(&self, colours: bool, text: &str, out: &mut String) -> Result<(), Refusal>
-        ensures ok { OnOk result (string_bytes out.new ≡ string_bytes out.old ++ styled colours (numbers_of self.now) text.now) }
+        ensures ok { OnOk result (string_bytes out.new
+            ≡ string_bytes out.old ++ styled colours (numbers_of self.now) text.now) }
         ensures memory { IfErr result (λ e. e ≡ Refusal.Memory) }
         ensures err { OnErr result (string_bytes out.new ≡ string_bytes out.old) }
     {
@@ -115,8 +117,10 @@ impl Style {
     /// Appends the sequences that stand before a text; there is room for them.
     fn push_sequences(&self, out: &mut String)
         requires { string_len out.old + 34 ≤ string_capacity out.old }
-        ensures bytes { string_bytes out.new ≡ string_bytes out.old ++ flat_map sequence_of (numbers_of self.now) }
-        ensures len { string_len out.new ≡ string_len out.old + length (flat_map sequence_of (numbers_of self.now)) }
+        ensures bytes { string_bytes out.new
+            ≡ string_bytes out.old ++ flat_map sequence_of (numbers_of self.now) }
+        ensures len { string_len out.new
+            ≡ string_len out.old + length (flat_map sequence_of (numbers_of self.now)) }
         ensures short { string_len out.new ≤ string_len out.old + 34 }
         ensures capacity { string_capacity out.old ≤ string_capacity out.new }
     {
@@ -132,14 +136,19 @@ impl Style {
 
     /// The style with a further word, where it is one.
     fn with_word(self, word: &str) -> Style
-        ensures foreground { foreground_number result ≡ last_or (foreground_number self) (option_to_list (foreground_of (chars word.now))) }
-        ensures background { background_number result ≡ last_or (background_number self) (option_to_list (background_of (chars word.now))) }
+        ensures foreground { foreground_number result
+            ≡ foreground_after (foreground_number self) (chars word.now) }
+        ensures background { background_number result
+            ≡ background_after (background_number self) (chars word.now) }
         ensures bold { result.bold ≡ (self.bold || bytes_eq (chars word.now) (codes "bold")) }
         ensures dim { result.dim ≡ (self.dim || bytes_eq (chars word.now) (codes "dim")) }
-        ensures underlined { result.underlined ≡ (self.underlined || bytes_eq (chars word.now) (codes "underlined")) }
+        ensures underlined { result.underlined
+            ≡ (self.underlined || bytes_eq (chars word.now) (codes "underlined")) }
         ensures blink { result.blink ≡ (self.blink || bytes_eq (chars word.now) (codes "blink")) }
-        ensures reverse { result.reverse ≡ (self.reverse || bytes_eq (chars word.now) (codes "reverse")) }
-        ensures hidden { result.hidden ≡ (self.hidden || bytes_eq (chars word.now) (codes "hidden")) }
+        ensures reverse { result.reverse
+            ≡ (self.reverse || bytes_eq (chars word.now) (codes "reverse")) }
+        ensures hidden { result.hidden
+            ≡ (self.hidden || bytes_eq (chars word.now) (codes "hidden")) }
     {
         Style {
             foreground: foreground_of(word).or(self.foreground),
@@ -208,7 +217,7 @@ fn append(out: &mut String, text: &str)
 
 /// The sequence of a foreground; nothing for none.
 fn foreground_if(colour: Option<Colour>) -> &'static str
-    ensures sequence { result.now ≡ flat_map sequence_of (option_to_list (option_map (λ c. 30 + place_of c) colour)) }
+    ensures sequence { result.now ≡ sequence_if (option_map (λ c. 30 + place_of c) colour) }
     ensures short { length result.now ≤ 5 }
 {
     match colour {
@@ -236,7 +245,7 @@ fn foreground_sequence(colour: Colour) -> &'static str
 
 /// The sequence of a background; nothing for none.
 fn background_if(colour: Option<Colour>) -> &'static str
-    ensures sequence { result.now ≡ flat_map sequence_of (option_to_list (option_map (λ c. 40 + place_of c) colour)) }
+    ensures sequence { result.now ≡ sequence_if (option_map (λ c. 40 + place_of c) colour) }
     ensures short { length result.now ≤ 5 }
 {
     match colour {

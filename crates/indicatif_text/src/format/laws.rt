@@ -1,6 +1,6 @@
 //! What the formatters' texts say, apart from how the definitions make them: each law is the contract of a function that does
 //! nothing.
-ghost use Rattle.indicatif_text.specs.FormatLaws.{RoundsByHalf, TiesToEven, RoundsHalfUp, LastDigitsAreRest, DigitsSpell, CommasAside, NumeralSpells, CommasByThousands, OnlyZerosDropped, NoZeroLeft, GreatestPrefix, TellsSeconds, NoLongerUnit, ReachesUnit};
+ghost use Rattle.indicatif_text.specs.FormatLaws.{RoundsByHalf, TiesToEven, RoundsHalfUp, LastDigitsAreRest, DigitsSpell, CommasAside, NumeralSpells, CommasByThousands, OnlyZerosDropped, NoZeroLeft, FloatCountSpells, FloatCountCounts, FloatCountEnds, GreatestPrefix, BinaryBytesTell, DecimalBytesTell, TellsSeconds, NoLongerUnit, ReachesUnit, WordsTell, ShortIsWords};
 
 /// A rounded quotient is the nearest whole number, the even one of two.
 pub fn quotients()
@@ -23,9 +23,22 @@ pub fn decimals()
     ensures all_zeros { NoZeroLeft }
 {}
 
+/// The text of a rounded quotient spells it, with a count before the point and no zero or point at its end.
+pub fn float_counts()
+    ensures spells { FloatCountSpells }
+    ensures counts { FloatCountCounts }
+    ensures ends { FloatCountEnds }
+{}
+
 /// The prefix of a number of bytes is the greatest that leaves at least 1.
 pub fn prefixes()
     ensures { GreatestPrefix }
+{}
+
+/// The text of a number of bytes tells it in the unit that it names.
+pub fn byte_texts()
+    ensures binary { BinaryBytesTell }
+    ensures decimal { DecimalBytesTell }
 {}
 
 /// A duration by the clock gives back its whole seconds.
@@ -38,4 +51,10 @@ pub fn units()
     ensures longest { NoLongerUnit }
     ensures reached { ReachesUnit }
     ensures near { RoundsHalfUp }
+{}
+
+/// A duration in words is its count and its unit, and the short form is what stands first in them.
+pub fn words()
+    ensures words { WordsTell }
+    ensures short { ShortIsWords }
 {}

@@ -1,8 +1,8 @@
 //! Quotients with decimals, by long division.
-ghost use Rattle.std.specs.Prelude.{◌≡◌, ◌≢◌, ◌+◌, ◌*◌, ◌/◌, ◌%◌, ◌<◌, ◌≤◌, ◌++◌, ◌⊎◌, length, true, if◌then◌else◌, IsAscii, OnOk, OnErr};
+ghost use Rattle.std.specs.Prelude.{◌≡◌, ◌≢◌, ◌+◌, ◌*◌, ◌/◌, ◌%◌, ◌<◌, ◌≤◌, ◌++◌, length, true, if◌then◌else◌, IsAscii, OnOk, OnErr};
 ghost use Rattle.std.specs.String.{string_bytes};
 ghost use Rattle.indicatif_text.specs.Format.{last_digits, after_point, human_count, human_float_count};
-ghost use Rattle.indicatif_text.specs.Quotients.{below, raised};
+ghost use Rattle.indicatif_text.specs.Quotients.{below, raised, NeedsNoCarry};
 
 use crate::format::rounding::rounds_up;
 use crate::format::short_text::{ShortText, ascii_text};
@@ -69,7 +69,7 @@ impl Rounded {
         ensures kept { result.kept ≤ decimals }
         ensures text { human_float_count num den decimals ≡ human_count result.whole
             ++ after_point (last_digits result.kept (raised result.up (below num den result.kept))) }
-        ensures no_carry { result.up ≡ true → (result.kept ≡ 0) ⊎ (below num den result.kept % 10 < 9) }
+        ensures no_carry { NeedsNoCarry result.up num den result.kept }
     {
         let whole = num / u128::from(den);
         let mut division = LongDivision::new(num, den);
@@ -115,7 +115,7 @@ fn last_place(is_passed_over: bool, before: u16, place: u16) -> u16
 /// Fills `out` with the first decimals of a quotient, the last of them raised by one if `up`.
 pub(crate) fn fill_decimals(num: u128, den: u64, up: bool, out: &mut [u8])
     requires den { 0 < den }
-    requires no_carry { up ≡ true → (length out.old ≡ 0) ⊎ (below num den (length out.old) % 10 < 9) }
+    requires no_carry { NeedsNoCarry up num den (length out.old) }
     ensures { out.new ≡ last_digits (length out.old) (raised up (below num den (length out.old))) }
 {
     let mut division = LongDivision::new(num, den);
@@ -163,7 +163,8 @@ pub(crate) fn push_text(
     out: &mut String,
 ) -> Result<(), AllocError>
     requires { 0 < den }
-    ensures written { OnOk result (string_bytes out.new ≡ string_bytes out.old ++ human_float_count num den decimals) }
+    ensures written { OnOk result (string_bytes out.new
+        ≡ string_bytes out.old ++ human_float_count num den decimals) }
     ensures unchanged { OnErr result (string_bytes out.new ≡ string_bytes out.old) }
 {
     let rounded = Rounded::of(num, den, decimals);

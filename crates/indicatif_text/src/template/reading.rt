@@ -1,8 +1,9 @@
 //! What stands in front of a text that is read as a template. Nothing here takes memory.
-ghost use Rattle.std.specs.Prelude.{◌≡◌, ◌∷◌, ℕ, List, true, false, chars, option_map, take_while, MatchResult, MatchOption, IfOk, IsUtf8};
+ghost use Rattle.std.specs.Prelude.{◌≡◌, true, false, chars, option_map, take_while, MatchOption, IfOk, IsUtf8};
 ghost use Rattle.indicatif_text.specs.Runs.{in_words};
 ghost use Rattle.indicatif_text.specs.Styles.{numbers_of};
-ghost use Rattle.indicatif_text.specs.Template.{Takes, Stops, after_run, is_width_char, style_named, alignment_of, with_alternative, with_style, with_width, with_options, unfinished, key_ends, opened, closed, front};
+ghost use Rattle.indicatif_text.specs.Template.{Takes, after_run, is_width_char, style_named, alignment_of, with_alternative, with_style, with_width, with_options, unfinished, key_ends, opened, closed, front};
+ghost use Rattle.indicatif_text.specs.Fronts.{IsFront};
 ghost use Rattle.indicatif_text.specs.Reading.{layout_of, piece_of, IsMix, TakesUp};
 
 use crate::refusal::TemplateState;
@@ -32,7 +33,8 @@ impl Options {
 
 /// The style that the words in front of a text name, and what follows them; no text is no style.
 fn style_named<'a>(text: &'a str, words: Words) -> (Option<Style>, &'a str)
-    ensures style { option_map numbers_of result.0 ≡ style_named (take_while (in_words words) (chars text.now)) }
+    ensures style { option_map numbers_of result.0
+        ≡ style_named (take_while (in_words words) (chars text.now)) }
     ensures rest { chars result.1.now ≡ after_run (in_words words) (chars text.now) }
     ensures utf8 { IsUtf8 result.1.now }
 {
@@ -59,7 +61,8 @@ struct Mix {
 impl Mix {
     /// The mix with a further character; none where that is neither a digit nor an exclamation mark.
     fn with(self, c: char) -> Option<Mix>
-        ensures { MatchOption result (is_width_char c ≡ false) (λ longer. (is_width_char c ≡ true) × TakesUp self c longer) }
+        ensures { MatchOption result (is_width_char c ≡ false)
+            (λ longer. (is_width_char c ≡ true) × TakesUp self c longer) }
     {
         let longer = Mix {
             state: TemplateState::Width,
@@ -123,7 +126,8 @@ fn alignment_of(c: char) -> Option<Alignment>
 
 /// An alternative style up to the closing brace, and what follows it.
 fn with_alternative<'a>(options: Options, text: &'a str) -> (Options, &'a str)
-    ensures value { with_alternative (layout_of options) (chars text.now) ≡ Takes (chars result.1.now) (layout_of result.0) }
+    ensures value { with_alternative (layout_of options) (chars text.now)
+        ≡ Takes (chars result.1.now) (layout_of result.0) }
     ensures utf8 { IsUtf8 result.1.now }
 {
     let (alternative, after) = style_named(text, Words::Alternative);
@@ -141,7 +145,8 @@ fn with_alternative<'a>(options: Options, text: &'a str) -> (Options, &'a str)
 
 /// A style up to the closing brace, with an alternative one behind a slash, and what follows the brace.
 fn with_style<'a>(options: Options, text: &'a str) -> (Options, &'a str)
-    ensures value { with_style (layout_of options) (chars text.now) ≡ Takes (chars result.1.now) (layout_of result.0) }
+    ensures value { with_style (layout_of options) (chars text.now)
+        ≡ Takes (chars result.1.now) (layout_of result.0) }
     ensures utf8 { IsUtf8 result.1.now }
 {
     let (style, after) = style_named(text, Words::Style);
@@ -166,9 +171,8 @@ fn with_width<'a>(
     state: TemplateState,
     text: &'a str,
 ) -> Result<(Options, &'a str), TemplateError>
-    ensures value { MatchResult result
-        (λ r. with_width (layout_of options) state (chars text.now) ≡ Takes (chars r.1.now) (layout_of r.0))
-        (λ e. (place : List ℕ) × (with_width (layout_of options) state (chars text.now) ≡ Stops place e)) }
+    ensures value { IsFront layout_of
+        (with_width (layout_of options) state (chars text.now)) result }
     ensures utf8 { IfOk result (λ r. IsUtf8 r.1.now) }
 {
     let (mix, after) = read_mix(state, text);
@@ -200,9 +204,7 @@ fn with_width<'a>(
 ///
 /// Refused: `Unexpected` at a character that fits no case; `WidthTooLarge`.
 pub(super) fn with_options(text: &str) -> Result<(Options, &str), TemplateError>
-    ensures value { MatchResult result
-        (λ r. with_options (chars text.now) ≡ Takes (chars r.1.now) (layout_of r.0))
-        (λ e. (place : List ℕ) × (with_options (chars text.now) ≡ Stops place e)) }
+    ensures value { IsFront layout_of (with_options (chars text.now)) result }
     ensures utf8 { IfOk result (λ r. IsUtf8 r.1.now) }
 {
     match split_first(text) {
@@ -252,9 +254,7 @@ fn unfinished(key: &str) -> Token<'_>
 ///
 /// Refused: `Unexpected` in `MaybeOpen` where there is no key; what the options refuse.
 fn key_ends<'a>(key: &'a str, after: &'a str) -> Result<(Token<'a>, &'a str), TemplateError>
-    ensures value { MatchResult result
-        (λ r. key_ends (chars key.now) (chars after.now) ≡ Takes (chars r.1.now) (piece_of r.0))
-        (λ e. (place : List ℕ) × (key_ends (chars key.now) (chars after.now) ≡ Stops place e)) }
+    ensures value { IsFront piece_of (key_ends (chars key.now) (chars after.now)) result }
     ensures utf8 { IfOk result (λ r. IsUtf8 r.1.now) }
 {
     let Some((end, rest)) = split_first(after) else {
@@ -275,9 +275,7 @@ fn key_ends<'a>(key: &'a str, after: &'a str) -> Result<(Token<'a>, &'a str), Te
 
 /// What an opening brace begins, before this text.
 fn opened(text: &str) -> Result<(Token<'_>, &str), TemplateError>
-    ensures value { MatchResult result
-        (λ r. opened (chars text.now) ≡ Takes (chars r.1.now) (piece_of r.0))
-        (λ e. (place : List ℕ) × (opened (chars text.now) ≡ Stops place e)) }
+    ensures value { IsFront piece_of (opened (chars text.now)) result }
     ensures utf8 { IfOk result (λ r. IsUtf8 r.1.now) }
 {
     let Some((first, rest)) = split_first(text) else {
@@ -294,9 +292,7 @@ fn opened(text: &str) -> Result<(Token<'_>, &str), TemplateError>
 ///
 /// Refused: `Unexpected` in `DoubleClose` where another character follows.
 fn closed(text: &str) -> Result<(Token<'_>, &str), TemplateError>
-    ensures value { MatchResult result
-        (λ r. closed (chars text.now) ≡ Takes (chars r.1.now) (piece_of r.0))
-        (λ e. (place : List ℕ) × (closed (chars text.now) ≡ Stops place e)) }
+    ensures value { IsFront piece_of (closed (chars text.now)) result }
     ensures utf8 { IfOk result (λ r. IsUtf8 r.1.now) }
 {
     let Some((next, rest)) = split_first(text) else {
@@ -314,9 +310,7 @@ fn closed(text: &str) -> Result<(Token<'_>, &str), TemplateError>
 ///
 /// Refused: `Unexpected` at a character that fits no case; `WidthTooLarge`.
 pub(super) fn front(first: char, text: &str) -> Result<(Token<'_>, &str), TemplateError>
-    ensures value { MatchResult result
-        (λ r. front first (chars text.now) ≡ Takes (chars r.1.now) (piece_of r.0))
-        (λ e. (place : List ℕ) × (front first (chars text.now) ≡ Stops place e)) }
+    ensures value { IsFront piece_of (front first (chars text.now)) result }
     ensures utf8 { IfOk result (λ r. IsUtf8 r.1.now) }
 {
     if first == '\n' {

@@ -1,4 +1,3 @@
-use Rattle.std.proofs.Common.{arith}
 use Rattle.indicatif_text.proofs.Quotients.{length-last_digits}
 use Rattle.indicatif_text.proofs.FormatLaws.{digits_value-last, digits_spell, only_zeros, no_zero_left}
 use Rattle.indicatif_text.proofs.format.laws.decimals.Goals as goal
@@ -13,4 +12,4 @@ pub returns-clause-all_zeros : goal.returns-clause-all_zeros
 returns-clause-all_zeros c = λ ds es e. no_zero_left ds es e
 
 pub returns-clause-spell : goal.returns-clause-spell
-returns-clause-spell c = λ k n small. digits_spell k n (omega arith)
+returns-clause-spell c = λ k n small. digits_spell k n small

@@ -1,9 +1,11 @@
 use Rattle.std.proofs.Common.{◌≡◌, ◌+◌, ◌*◌, ◌%◌, ap, sym, ◌∙◌, arith, refl}
 use Rattle.std.proofs.Common.{take, set, add-one, ◌++◌, ◌∷◌, [], length, inl, inr, ◌<◌}
 use Rattle.indicatif_text.specs.Format.{last_digits}
+use Rattle.std.proofs.Math.Nat.{pos_of_ne-zero}
 use Rattle.std.proofs.Math.Seq.{take-suc-set}
+use Rattle.std.proofs.lemmas.Bool.{eqb-false}
 use Rattle.indicatif_text.specs.Quotients.{below}
-use Rattle.indicatif_text.proofs.Quotients.{below_next, left_next, left_none, digit_more, not_empty, raised_in_place, all_filled}
+use Rattle.indicatif_text.proofs.Quotients.{below_next, left_next, left_none, digit_more, raised_in_place, all_filled}
 use Rattle.indicatif_text.proofs.format.quotients.fill_decimals.Goals as goal
 
 pub loop-digit-init : goal.loop-digit-init
@@ -36,6 +38,6 @@ returns-then-not-is_empty c =
     let m = below c.args.num c.args.den n in
     let done : loop.digit-index ≡ n = omega arith in
     let filled : loop.out ≡ last_digits n m = all_filled loop.out _ n loop.auto.out (rw done at loop.invariant.filled) in
-    let some : 0 < n = omega (arith, loop.auto.out, not_empty (length loop.out) (sym c.is_empty.ensures ∙ c.if-not-is_empty.true)) in
+    let some : 0 < n = omega (arith, loop.auto.out, pos_of_ne-zero (eqb-false (length loop.out) 0 (sym c.is_empty.ensures ∙ c.if-not-is_empty.true))) in
     let low : m % 10 < 9 = elim (c.requires.no_carry c.if-up.true) [ inl none ↦ absurd (omega arith) | inr h ↦ h ] in
     rw (c.if-up.true, loop.auto.out) (raised_in_place loop.out n m some filled low)
