@@ -4,6 +4,8 @@
 #[cfg(test)]
 mod columns;
 #[cfg(test)]
+mod differences;
+#[cfg(test)]
 mod first;
 #[cfg(test)]
 mod format;
