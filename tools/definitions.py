@@ -80,6 +80,7 @@ SOURCES = {
         "Draws": (OWN, {}),
         "Headline": (OWN, {}),
         "LoneBars": (OWN, {}),
+        "Says": (OWN, {}),
         "Runs": (OWN, {}),
     },
 }
