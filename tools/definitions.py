@@ -1,59 +1,172 @@
 #!/usr/bin/env python3
-"""Writes docs/DEFINITIONS.md: each definition of the crates' specs/ beside the plain words above it.
+"""Writes docs/DEFINITIONS.md: each definition of the crates' specs/ beside the plain words above it, and the standard
+that it comes from.
 
 usage: tools/definitions.py   (at the root of the repository)
+
+It ends with 1 and writes nothing where a file has no source below, or where a source is given for a definition that is
+not there.
 """
 import pathlib
 import re
+import sys
 
-HEAD = """# Definitions
+ORDER = ["indicatif_text", "indicatif_term", "indicatif_bar"]
+
+WIDTHS = "UAX #11"
+SEQUENCES = "ECMA-48"
+UNICODE = "UTF-8"
+CRATE = "`indicatif`"
+OWN = "own rule"
+CASES = "worked cases of the definitions that they name, with no source of their own"
+LAWS = "what follows from the definitions that they name, with no source of their own"
+
+HEAD = f"""# Definitions
 
 Each definition that a contract may cite, beside the plain words that stand above it in its file. Texts are lists of
 characters (`chars` of UTF-8 bytes) or of bytes, as each file says; numbers are whole and have no upper limit. This page is
-written by `tools/definitions.py` from the files themselves.
+written by `tools/definitions.py` from the files themselves, and the sources from the table in it.
 
-Where they come from: widths of characters and rows, Unicode's East Asian Width (UAX #11) character by character; colour
-sequences, moves and erasing, ECMA-48; UTF-8, Unicode; the formatters, templates, style words and the order of a draw, the
-documentation of the crate `indicatif` 0.18.6; the three lists of rows and the cell terminal are this project's own words
-for what the crate promises. Files under `Inside/` and those whose first line says so are cited by private functions alone.
+Below a file's name stands the source of its definitions; one that comes from another has that behind its name.
+
+- {WIDTHS}: Unicode's East Asian Width, character by character, as the kit's crate `unicode_width` states it.
+- {SEQUENCES}: colour sequences, moves, erasing and the ends of lines, as far as they are used here.
+- {UNICODE}: the encoding form of The Unicode Standard.
+- {CRATE}: the documentation of the crate `indicatif` 0.18.6 and of what it sends its reader to, and the crate's answers
+  where these are silent.
+- {OWN}: this project's own, or its own words for what the crate promises.
+
+Files under `Inside/` and those whose first words say so are cited by private functions alone.
 """
 
+# For each file the source of its definitions, and of those that come from another. A file of a folder `Inside/` that isn't
+# named, and one that holds worked cases or laws by its name, needs no line.
+SOURCES = {
+    "indicatif_text": {
+        "Columns": (OWN, {SEQUENCES: "is_parameter parameters_length colour_length", WIDTHS: "width_of"}),
+        "Format": (CRATE + "; that quotients are exact and rounded once is this project's own rule",
+                   {OWN: "rounds_up round Quotient nanos_per_second"}),
+        "Parts": (CRATE, {OWN: "part_of"}),
+        "Pieces": (OWN, {}),
+        "Quotients": (OWN, {}),
+        "Reading": (OWN, {}),
+        "Refusals": (OWN, {}),
+        "Runs": (OWN, {}),
+        "Shown": (OWN, {}),
+        "Styles": (CRATE, {SEQUENCES: "sequence_of",
+                           f"{CRATE}, its numbers {SEQUENCES}": "attribute_words foreground_of background_of",
+                           OWN: "place_of foreground_number background_number numbers_of"}),
+        "Template": (CRATE + "; that a brace before white space keeps its order is this project's own rule",
+                     {OWN: "is_too_wide"}),
+        "TemplateErrors": (OWN, {}),
+        "TimeUnits": (OWN, {}),
+    },
+    "indicatif_term": {
+        "Calls": (SEQUENCES, {OWN: "Told led_on TermView LeadsOn BreaksOff Writes"}),
+        "Engines": (OWN, {}),
+        "Frames": (OWN, {CRATE: "line_text logged_lines"}),
+        "Lists": (OWN, {}),
+        "Memory": (OWN, {CRATE: "move_text hex_digit code_text quoted_char written_text"}),
+        "Pictures": (OWN, {}),
+        "Screen": (OWN, {SEQUENCES: "line_feed performed", WIDTHS: "put_sized"}),
+        "Shows": (OWN, {}),
+        "Terminal": (OWN + ", above all what is passed over",
+                     {SEQUENCES: "is_digit number_with at_least_one sequence_ops",
+                      UNICODE: "is_leading spelling_with kept first_char"}),
+        "Writers": (OWN, {}),
+    },
+    "indicatif_bar": {
+        "Bars": (CRATE, {OWN: "Progress Bar lines_of_bar"}),
+        "Draws": (OWN, {}),
+        "Headline": (OWN, {}),
+        "LoneBars": (OWN, {}),
+        "Says": (OWN, {}),
+        "Runs": (OWN, {}),
+    },
+}
+
 DEFINITION = re.compile(r"^(?:abbrev pub|unfoldable pub|pub record|pub data) (\S+)")
-ORDER = ["indicatif_text", "indicatif_term", "indicatif_bar"]
+
+
+def is_words(line):
+    """Whether a line is a comment in plain words, and no heading."""
+    line = line.strip()
+    return line.startswith("-- ") and not line.startswith("-- ----")
+
+
+def joined(lines):
+    """Comment lines as one text."""
+    return " ".join(line.strip()[3:] for line in lines)
 
 
 def words_of(lines, start):
-    """The comment right above a line, as one text."""
-    words = []
-    at = start - 1
-    while at >= 0 and lines[at].lstrip().startswith("-- ") and not lines[at].lstrip().startswith("-- ----"):
-        words.insert(0, lines[at].strip()[3:])
+    """The comment right above a line."""
+    at = start
+    while at > 0 and is_words(lines[at - 1]):
         at -= 1
-    return " ".join(words)
+    return joined(lines[at:start])
 
 
-def page_of(path):
-    lines = path.read_text().splitlines()
-    about = lines[0][3:] if lines and lines[0].startswith("-- ") else ""
-    rows = []
+def intro_of(lines):
+    """The comment that a file begins with."""
+    end = 0
+    while end < len(lines) and is_words(lines[end]):
+        end += 1
+    return joined(lines[:end])
+
+
+def definitions_of(lines):
+    """The names of a file's definitions with the words above them."""
+    found = []
     for number, line in enumerate(lines):
-        found = DEFINITION.match(line.strip())
-        if found:
-            words = words_of(lines, number) or ""
-            rows.append(f"- `{found.group(1)}`: {words}" if words else f"- `{found.group(1)}`")
-    return about, rows
+        match = DEFINITION.match(line.strip())
+        if match:
+            found.append((match.group(1), words_of(lines, number)))
+    return found
+
+
+def source_of(crate, path):
+    """The source of a file's definitions, and of those that come from another; None where nobody has named it."""
+    named = SOURCES[crate].get(path.stem)
+    if named:
+        return named
+    if re.search(r"^Worked|(Cases|Rows)$", path.stem):
+        return CASES, {}
+    if path.stem.endswith("Laws"):
+        return LAWS, {}
+    return (OWN, {}) if path.parent.name == "Inside" else None
+
+
+def page_of(crate, path, faults):
+    """A file's part of the page."""
+    lines = path.read_text().splitlines()
+    found = definitions_of(lines)
+    if not found:
+        return []
+    named = source_of(crate, path)
+    if named is None:
+        faults.append(f"{path}: no source in SOURCES")
+        return []
+    source, others = named
+    elsewhere = {name: other for other, names in others.items() for name in names.split()}
+    for name in sorted(elsewhere.keys() - {name for name, _ in found}):
+        faults.append(f"{path}: has no {name}, of which SOURCES speaks")
+    rows = []
+    for name, words in found:
+        behind = f" ({elsewhere[name]})" if name in elsewhere else ""
+        rows.append(f"- `{name}`{behind}" + (f": {words}" if words else ""))
+    below = path.relative_to(pathlib.Path("crates") / crate / "specs")
+    return [f"### specs/{below}\n\n{intro_of(lines)}\n\nSource: {source}.\n", "\n".join(rows) + "\n"]
 
 
 def main():
-    text = [HEAD]
+    text, faults = [HEAD], []
     for crate in ORDER:
-        specs = pathlib.Path("crates") / crate / "specs"
         text.append(f"## {crate}\n")
-        for path in sorted(specs.rglob("*.antt")):
-            about, rows = page_of(path)
-            if rows:
-                text.append(f"### specs/{path.relative_to(specs)}\n\n{about}\n")
-                text.append("\n".join(rows) + "\n")
+        for path in sorted((pathlib.Path("crates") / crate / "specs").rglob("*.antt")):
+            text += page_of(crate, path, faults)
+    if faults:
+        sys.exit("\n".join(faults))
     pathlib.Path("docs/DEFINITIONS.md").write_text("\n".join(text))
 
 

@@ -40,7 +40,7 @@ fn sizes_of_zero(rt: HostRuntime) {
 #[test]
 fn calls_as_text(rt: HostRuntime) -> Result<(), Fail> {
     let mut term = InMemoryTerm::new(rt.alloc(), 10, 80)?;
-    term.write_line("ABC \"d\\\"\t\u{1B}[0m")?;
+    term.write_line("ABC \"d\\\"\t\0\u{1B}[0m")?;
     term.move_cursor_up(1)?;
     term.move_cursor_up(0)?;
     term.move_cursor_right(2)?;
@@ -50,7 +50,7 @@ fn calls_as_text(rt: HostRuntime) -> Result<(), Fail> {
     term.move_cursor_down(12)?;
     term.flush()?;
     let wanted =
-        "Str(\"ABC \\\"d\\\\\\\"\\t\\u{1b}[0m\")\nNewLine\nUp(1)\nRight(2)\nClear\nStr(\"DEF\")\nLeft(3)\nDown(12)\nFlush\n";
+        "Str(\"ABC \\\"d\\\\\\\"\\t\\0\\u{1b}[0m\")\nNewLine\nUp(1)\nRight(2)\nClear\nStr(\"DEF\")\nLeft(3)\nDown(12)\nFlush\n";
     assert_eq!(rt; term.moves_since_last_check().as_str(), wanted);
     assert_eq!(rt; term.moves_since_last_check().as_str(), "");
     assert_eq!(rt; term.contents()?.as_str(), "DEF");
@@ -89,8 +89,8 @@ fn rows_that_scroll_away(rt: HostRuntime) -> Result<(), Fail> {
     Ok(())
 }
 
-/// Want of memory is a fault of its kind, counted once, and leaves a terminal that goes on; tried with each allocation
-/// failing in turn.
+/// Want of memory is a fault of its kind, counted once, and leaves a terminal that goes on. The gate runs this with ample
+/// memory; that it holds with each allocation failing in turn is tried by hand, by `rt try --test --fail-alloc N`.
 #[test]
 fn want_of_memory(rt: HostRuntime) -> Result<(), Fail> {
     let mut term = match InMemoryTerm::new(rt.alloc(), 2, 4) {

@@ -4,9 +4,13 @@
 #[cfg(test)]
 mod columns;
 #[cfg(test)]
+mod differences;
+#[cfg(test)]
 mod failing_term;
 #[cfg(test)]
 mod faults;
+#[cfg(test)]
+mod first;
 #[cfg(test)]
 mod format;
 #[cfg(test)]

@@ -1,5 +1,5 @@
 //! The formatters, each written into one `String`.
-use crate::measured::{Measured, Values};
+use crate::measured::{Made, Measured, Values};
 use anyhow::Result;
 use indicatif_text::format::{HumanBytes, HumanCount, HumanDuration};
 use std::fmt::Display;
@@ -38,6 +38,6 @@ fn written<D: Display + Drop, F: Fn(u64) -> D + Drop>(
     Ok(Measured {
         count,
         nanos: u64::try_from(nanos).unwrap_or(u64::MAX),
-        bytes,
+        made: Made::Bytes(bytes),
     })
 }

@@ -1,5 +1,6 @@
 //! Measurements: `bench NAME N` does a piece of work N times and prints `NAME N seconds ns_per_op bytes=..`, where the
-//! bytes are what was written in all; `bench` alone prints the names, one a line.
+//! bytes are what was written or read in all; `template_parse` has `parts=..` in their place, the parts that it made.
+//! `bench` alone prints the names, one a line.
 //!
 //! - `measured`: what a measurement tells, and the values that it works on.
 //! - `format_benches`: the formatters, each written into one `String`.

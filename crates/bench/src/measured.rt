@@ -8,8 +8,26 @@ pub struct Measured {
     pub count: u64,
     /// The time in nanoseconds.
     pub nanos: u64,
-    /// The bytes that were written in all, modulo 2^64.
-    pub bytes: u64,
+    /// What the work made in all, modulo 2^64.
+    pub made: Made,
+}
+
+/// What a piece of work makes.
+#[derive(Clone, Copy, Drop)]
+pub enum Made {
+    /// So many bytes, written or read.
+    Bytes(u64),
+    /// So many parts of templates.
+    Parts(u64),
+}
+
+impl fmt::Display for Made {
+    fn fmt<W: fmt::Write>(&self, f: &mut fmt::Formatter<W>) -> fmt::Result {
+        match *self {
+            Made::Bytes(bytes) => write!(f, "bytes={bytes}"),
+            Made::Parts(parts) => write!(f, "parts={parts}"),
+        }
+    }
 }
 
 impl fmt::Display for Measured {
@@ -19,8 +37,8 @@ impl fmt::Display for Measured {
         let tenths = u128::from(self.nanos) * 10 / u128::from(self.count.max(1));
         let whole = tenths / 10;
         let tenth = tenths % 10;
-        let bytes = self.bytes;
-        write!(f, "{seconds}.{micros:06} {whole}.{tenth} bytes={bytes}")
+        let made = self.made;
+        write!(f, "{seconds}.{micros:06} {whole}.{tenth} {made}")
     }
 }
 

@@ -1,5 +1,5 @@
 //! The grammar of templates.
-use crate::measured::Measured;
+use crate::measured::{Made, Measured};
 use anyhow::Result;
 use indicatif_text::template::Template;
 use std::time::Instant;
@@ -29,6 +29,6 @@ fn template_parse(rt: &HostRuntime, count: u64) -> Result<Measured> {
     Ok(Measured {
         count,
         nanos: u64::try_from(nanos).unwrap_or(u64::MAX),
-        bytes: parts,
+        made: Made::Parts(parts),
     })
 }

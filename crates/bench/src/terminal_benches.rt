@@ -1,5 +1,5 @@
 //! The cell terminal, fed with what boards write: the text of `typical.txt`, which lies where the program runs.
-use crate::measured::Measured;
+use crate::measured::{Made, Measured};
 use anyhow::{Result, anyhow};
 use indicatif_term::in_memory::Cells;
 use std::fs;
@@ -43,6 +43,6 @@ fn term_feed(rt: &HostRuntime, count: u64) -> Result<Measured> {
     Ok(Measured {
         count,
         nanos: u64::try_from(nanos).unwrap_or(u64::MAX),
-        bytes,
+        made: Made::Bytes(bytes),
     })
 }

@@ -1,7 +1,8 @@
 //! Asks the product for the answers of recorded rows: `replay KIND FILE [KIND FILE ..]`.
 //!
-//! Each row that disagrees is printed with what was got, and last the counts. The exit status is 1 if a row disagreed, and
-//! 2 where a file or a row can't be read, or where standard output fails.
+//! A first line that begins with `#` is the file's heading. Each row that disagrees is printed with what was got, and last
+//! the counts. The exit status is 1 if a row disagreed, and 2 where a file or a row can't be read, where standard output
+//! fails, or where no file is named, which prints the usage to standard error.
 //!
 //! - `rows`: the rows of a file, their columns and escapes.
 //! - `kinds`: the kinds of rows, and how each is asked: `texts`, `formats`, `templates`,
@@ -33,8 +34,12 @@ struct Tally {
 
 fn main(rt: HostRuntime) -> ExitCode {
     match replay(rt) {
-        Ok(tally) if tally.failed == 0 => ExitCode::SUCCESS,
-        Ok(_) => ExitCode::FAILURE,
+        Ok(Some(tally)) if tally.failed == 0 => ExitCode::SUCCESS,
+        Ok(Some(_)) => ExitCode::FAILURE,
+        Ok(None) => {
+            let _ = eprintln!(rt; "usage: replay KIND FILE [KIND FILE ..]");
+            ExitCode::from(2)
+        }
         Err(e) => {
             let _ = eprintln!(rt; "replay: {e:#}");
             ExitCode::from(2)
@@ -42,17 +47,22 @@ fn main(rt: HostRuntime) -> ExitCode {
     }
 }
 
-/// Asks every row of the files that the arguments name, and prints the counts.
-fn replay(rt: HostRuntime) -> Result<Tally> {
+/// Asks every row of the files that the arguments name, and prints the counts; none where they name no file.
+fn replay(rt: HostRuntime) -> Result<Option<Tally>> {
     let mut tally = Tally::default();
+    let mut is_named = false;
     let mut words = env::args(&rt)?.skip(1);
     while let Some(word) = words.next() {
         let kind = Kind::named(word.as_str()).ok_or(anyhow!("{} is no kind of rows", word))?;
         let path = words.next().ok_or(anyhow!("no file for {}", word))?;
         replay_file(rt, kind, path.as_str(), &mut tally)?;
+        is_named = true;
+    }
+    if !is_named {
+        return Ok(None);
     }
     print_counts(rt, tally).context("output failed")?;
-    Ok(tally)
+    Ok(Some(tally))
 }
 
 fn print_counts(rt: HostRuntime, tally: Tally) -> io::Result<()> {
@@ -75,7 +85,7 @@ fn replay_file(rt: HostRuntime, kind: Kind, path: &str, tally: &mut Tally) -> Re
     for line in BufReader::new(rt.alloc(), file)?.lines(rt.alloc()) {
         number = number.saturating_add(1);
         let line = line.context(format_args!("{path}, line {number}"))?;
-        if line.as_str().starts_with('#') {
+        if number == 1 && line.as_str().starts_with('#') {
             continue;
         }
         let verdict = kind
