@@ -4,6 +4,8 @@
 #[cfg(test)]
 mod columns;
 #[cfg(test)]
+mod engine;
+#[cfg(test)]
 mod format;
 #[cfg(test)]
 mod in_memory;
@@ -11,3 +13,5 @@ mod in_memory;
 mod lone;
 #[cfg(test)]
 mod template;
+#[cfg(test)]
+mod term;

@@ -21,9 +21,10 @@ use std::alloc::Global;
 use std::mem::replace;
 
 /// Where the bars stand when a drawing has fewer rows than it takes back.
-#[derive(Clone, Copy, Debug, Drop, PartialEq, Eq)]
+#[derive(Clone, Copy, Debug, Default, Drop, PartialEq, Eq)]
 pub enum MultiProgressAlignment {
     /// At the place of the first row taken back.
+    #[default]
     Top,
     /// At the place of the last one, below blank rows.
     Bottom,

@@ -43,7 +43,7 @@ use std::{io, mem};
 ///
 /// A call that finds no memory fails with an error of kind `OutOfMemory`, counts it in `faults`, and has read a
 /// beginning of its bytes. The memory for the text of a call is taken before the cells change.
-#[derive(Drop)]
+#[derive(Debug, Drop)]
 pub struct InMemoryTerm {
     alloc: Global,
     cells: Cells,

@@ -10,7 +10,7 @@ use crate::in_memory::spelling::Spelling;
 use std::marker::Model;
 
 /// Where in an escape sequence the next character stands.
-#[derive(Clone, Copy, Drop)]
+#[derive(Clone, Copy, Debug, Drop)]
 pub(crate) enum Stage {
     /// Outside.
     Outside,
@@ -129,7 +129,7 @@ pub(crate) struct Reading {
 }
 
 /// What was read of a character and of a sequence.
-#[derive(Drop)]
+#[derive(Debug, Drop)]
 pub(crate) struct Scanner {
     stage: Stage,
     spelling: Spelling,
