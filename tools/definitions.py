@@ -44,6 +44,7 @@ Files under `Inside/` and those whose first words say so are cited by private fu
 SOURCES = {
     "indicatif_text": {
         "Columns": (OWN, {SEQUENCES: "is_parameter parameters_length colour_length", WIDTHS: "width_of"}),
+        "Fronts": (OWN, {}),
         "Format": (CRATE + "; that quotients are exact and rounded once is this project's own rule",
                    {OWN: "rounds_up round Quotient nanos_per_second"}),
         "Parts": (CRATE, {OWN: "part_of"}),
@@ -62,7 +63,8 @@ SOURCES = {
         "TimeUnits": (OWN, {}),
     },
     "indicatif_term": {
-        "Calls": (SEQUENCES, {OWN: "Told led_on TermView LeadsOn BreaksOff Writes"}),
+        "Calls": (SEQUENCES, {OWN: "Told tells led_on TermView LeadsOn BreaksOff Writes"}),
+        "Counts": (OWN, {}),
         "Engines": (OWN, {}),
         "Frames": (OWN, {CRATE: "line_text logged_lines"}),
         "Lists": (OWN, {}),

@@ -6,6 +6,8 @@ mod columns;
 #[cfg(test)]
 mod differences;
 #[cfg(test)]
+mod engine;
+#[cfg(test)]
 mod failing_term;
 #[cfg(test)]
 mod faults;
@@ -21,5 +23,7 @@ mod lone;
 mod refusal;
 #[cfg(test)]
 mod template;
+#[cfg(test)]
+mod term;
 #[cfg(test)]
 mod writers;

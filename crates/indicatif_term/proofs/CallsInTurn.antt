@@ -5,7 +5,7 @@ use Rattle.std.proofs.Math.Bool.{or-false}
 use Rattle.std.proofs.lemmas.List.{take_more, take-append-drop}
 use Rattle.std.proofs.lemmas.Bool.Decides.{nat_tests}
 use Rattle.indicatif_term.specs.Terminal.{after}
-use Rattle.indicatif_term.proofs.Stays.{after-append}
+use Rattle.indicatif_term.proofs.Fed.{after-append}
 use Rattle.indicatif_term.specs.Calls.{Told, State, Bytes, Nothing, tells, led_on, TermView, LeadsOn, BreaksOff, Writes, clear_bytes, move_bytes}
 use Rattle.std.specs.Prelude.{not, ◌&&◌, ◌==◌}
 use Rattle.std.proofs.Common.{replicate}
@@ -190,10 +190,10 @@ paint_split anew below ends taken text blanks frame e0 e1 e2 e3 m n k a b c d f 
     rw (← a, x1, x2) (simp (append_assoc, append-nil))
 
 -- the bytes of a drawing, call by call
-pub painting_split : (p : Painting) (e0 e1 e2 e3 : Bool) → e0 ≡ (not p.below && (p.taken == 0)) → e1 ≡ (e0 || is_some p.text) → e2 ≡ (e1 || nat_lt 0 p.blanks) → e3 ≡ (e2 || nat_lt 0 p.lines) →
-    p.lines ≤ length (frame_lines p.frame.now) →
-    painting_bytes p ≡ (if p.anew then next_row else []) ++ (back_bytes p.below p.taken ++ (lines_bytes e0 (lines_above p.text)
-    ++ (lines_bytes e1 (replicate p.blanks []) ++ (lines_bytes e2 (take p.lines (frame_lines p.frame.now)) ++ ((if p.ends_below && e3 then next_row else []) ++ [])))))
+pub painting_split : (p : Painting) (e0 e1 e2 e3 : Bool) → e0 ≡ (not p.below && (p.taken == 0)) → e1 ≡ (e0 || is_some p.drawing.text) → e2 ≡ (e1 || nat_lt 0 p.drawing.blanks) → e3 ≡ (e2 || nat_lt 0 p.drawing.lines) →
+    p.drawing.lines ≤ length (frame_lines p.drawing.frame.now) →
+    painting_bytes p ≡ (if p.anew then next_row else []) ++ (back_bytes p.below p.taken ++ (lines_bytes e0 (lines_above p.drawing.text)
+    ++ (lines_bytes e1 (replicate p.drawing.blanks []) ++ (lines_bytes e2 (take p.drawing.lines (frame_lines p.drawing.frame.now)) ++ ((if p.ends_below && e3 then next_row else []) ++ [])))))
 painting_split p e0 e1 e2 e3 a b c d h =
-    paint_split p.anew p.below p.ends_below p.taken (lines_above p.text) (replicate p.blanks []) (take p.lines (frame_lines p.frame.now)) e0 e1 e2 e3 (length (lines_above p.text)) p.blanks p.lines
-    a refl (sym (length-replicate p.blanks [])) (sym (length-take-le p.lines (frame_lines p.frame.now) h)) (b ∙ ap (λ t. e0 || t) (sym (lines_above_some p.text))) c d
+    paint_split p.anew p.below p.ends_below p.taken (lines_above p.drawing.text) (replicate p.drawing.blanks []) (take p.drawing.lines (frame_lines p.drawing.frame.now)) e0 e1 e2 e3 (length (lines_above p.drawing.text)) p.drawing.blanks p.drawing.lines
+    a refl (sym (length-replicate p.drawing.blanks [])) (sym (length-take-le p.drawing.lines (frame_lines p.drawing.frame.now) h)) (b ∙ ap (λ t. e0 || t) (sym (lines_above_some p.drawing.text))) c d

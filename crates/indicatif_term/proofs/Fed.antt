@@ -14,11 +14,11 @@ pub reader_after-append : (r : Reader) (xs ys : List ℕ) → reader_after r (xs
 reader_after-append r [] ys = refl
 reader_after-append r (x ∷ xs) ys = reader_after-append (byte_reader r x) xs ys
 
-performed_all-append : (xs ys : List Op) (s : Screen) → performed_all (xs ++ ys) s ≡ performed_all ys (performed_all xs s)
+pub performed_all-append : (xs ys : List Op) (s : Screen) → performed_all (xs ++ ys) s ≡ performed_all ys (performed_all xs s)
 performed_all-append [] ys s = refl
 performed_all-append (x ∷ xs) ys s = performed_all-append xs ys (performed x s)
 
-same_terminal : (s s' : Screen) (r r' : Reader) → s ≡ s' → r ≡ r' → ◌≡◌ {A = Terminal} (record { screen = s; reader = r }) (record { screen = s'; reader = r' })
+pub same_terminal : (s s' : Screen) (r r' : Reader) → s ≡ s' → r ≡ r' → ◌≡◌ {A = Terminal} (record { screen = s; reader = r }) (record { screen = s'; reader = r' })
 same_terminal s s' r r' e e' = cc
 
 -- any cut of the bytes gives the same terminal

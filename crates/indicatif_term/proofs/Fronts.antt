@@ -8,7 +8,7 @@ use Rattle.std.proofs.lemmas.Bool.{and_parts, ne_eqb, le-ltb, lt-ltb}
 use Rattle.indicatif_term.specs.Screen.{Screen, Op, Put, performed, performed_all}
 use Rattle.indicatif_term.specs.Terminal.{Plain, Reader, Terminal, idle, plain_ops, plain_place, ops_of, reader_after, after}
 use Rattle.indicatif_term.specs.Inside.Scanners.{IsFront}
-use Rattle.indicatif_term.proofs.Fed.{after-append}
+use Rattle.indicatif_term.proofs.Fed.{after-append, same_terminal}
 use Rattle.indicatif_term.proofs.Reading.{Spells, char_read}
 
 -- three bytes
@@ -41,9 +41,6 @@ asked c h =
     let return : eqb c 0x0D ≡ false = ne_eqb c 0x0D (λ e. omega arith) in
     let feed : eqb c 0x0A ≡ false = ne_eqb c 0x0A (λ e. omega arith) in
     (rw (escape, return, feed) refl, rw escape refl)
-
-same_terminal : (s s' : Screen) (r r' : Reader) → s ≡ s' → r ≡ r' → ◌≡◌ {A = Terminal} (record { screen = s; reader = r }) (record { screen = s'; reader = r' })
-same_terminal s s' r r' e e' = cc
 
 fed_character : (s new : Screen) (c : ℕ) → scalar c ≡ true → 0x20 ≤ c → new ≡ performed (Put c) s →
     ◌≡◌ {A = Terminal} (record { screen = new; reader = idle }) (after (record { screen = s; reader = idle }) (encode c))

@@ -11,6 +11,7 @@ use Rattle.unicode_width.specs.Width.{char_width}
 use Rattle.indicatif_text.specs.Columns.{Cell, width_of, Blank, Continued, Glyph, glyph_cells, glyph_width, columns_in, row_of, pieces_after, blank_row, columns_of_last}
 use Rattle.indicatif_term.specs.Screen.{Screen, Op, Put, joined_at, with_mark, put_here, put_sized, line_feed, performed, performed_all}
 use Rattle.indicatif_term.proofs.Standing.{screen_at, screen_after, glyph_ops, IsSized}
+use Rattle.indicatif_term.proofs.Fed.{performed_all-append}
 use Rattle.indicatif_term.proofs.Rows.{written, joined, cursor_row_at, with_row_at, line_feed_at}
 
 -- ---- one glyph
@@ -129,10 +130,6 @@ glyph_put_next w h above piece n g sized is full =
     ∙ glyph_put w h (above ++ row_of w piece ∷ []) [] (n - 1) g sized refl (let f : glyph_width g ≤ w = sized.fits in omega arith)
 
 -- ---- many glyphs
-
-pub performed_all-append : (xs ys : List Op) (s : Screen) → performed_all (xs ++ ys) s ≡ performed_all ys (performed_all xs s)
-performed_all-append [] ys s = refl
-performed_all-append (x ∷ xs) ys s = performed_all-append xs ys (performed x s)
 
 pub pieces_some : (w : ℕ) (piece : List Glyph) (gs : List Glyph) → 0 < length (pieces_after w piece gs)
 pieces_some w piece [] = omega arith

@@ -2,12 +2,11 @@
 use Rattle.std.proofs.Common.{◌≡◌, ℕ, ◌+◌, true, false, List, [], ◌∷◌, length, map, take, drop, refl, sym, ◌∙◌, ap, arith, length-append, slice_index_or}
 use Rattle.std.specs.Prelude.{◌==◌, ◌||◌}
 use Rattle.std.specs.List.{list_any}
-use Rattle.std.proofs.lemmas.Bool.{ne_eqb, eq-eqb}
+use Rattle.std.proofs.lemmas.Bool.{ne_eqb, eq-eqb, or_parts}
 use Rattle.indicatif_term.specs.declared.layout.RowCount.{RowCount}
 use Rattle.indicatif_term.specs.declared.counts.Counts.{Counts}
-use Rattle.indicatif_term.specs.Inside.Counted.{CountsOf, row_count}
+use Rattle.indicatif_term.specs.Counts.{CountsOf, row_count}
 use Rattle.indicatif_term.specs.Lists.{Lists, BarRows, NoRow, First, Later, fate, kept_of, is_first, has_rows, segments_height, live_rows}
-use Rattle.indicatif_term.proofs.TerminalSteps.{or_none}
 use Rattle.indicatif_term.proofs.Onward.{drop-held, length-live}
 
 held_rows : (bar : ℕ) (segments : List BarRows) → list_any (λ (s : RowCount). s.bar == bar) (map row_count segments) ≡ has_rows bar segments
@@ -16,7 +15,7 @@ held_rows bar (s ∷ segments) = ap (λ b. (s.bar == bar) || b) (held_rows bar s
 
 not_first : (bar : ℕ) (segments : List BarRows) → has_rows bar segments ≡ false → is_first bar segments ≡ false
 not_first bar [] e = refl
-not_first bar (s ∷ segments) e = (or_none (s.bar == bar) (has_rows bar segments) e).0
+not_first bar (s ∷ segments) e = (or_parts (s.bar == bar) (has_rows bar segments) e).0
 
 -- whether the first counts are of this bar
 first_bar : (bar : ℕ) (segments : List BarRows) (x : RowCount) → has_rows bar segments ≡ true → x ≡ slice_index_or (map row_count segments) 0 x → is_first bar segments ≡ (x.bar == bar)

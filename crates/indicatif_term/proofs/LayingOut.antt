@@ -1,6 +1,7 @@
 -- A frame is laid out line by line.
 use Rattle.std.proofs.Common.{◌≡◌, ℕ, zero, suc, ◌+◌, ◌-◌, ◌<◌, ◌≤◌, Bool, true, false, cond, List, [], ◌∷◌, ◌++◌, ◌||◌, length, map, take, drop, min, get_or, refl, sym, ◌∙◌, ap, subst, arith, append_assoc, append-nil, length-append, chars, slice_index_or, slice_set, eqb, Result, Err}
 use Rattle.std.specs.Prelude.{nat_le}
+use Rattle.std.proofs.Math.Bool.{or-true}
 use Rattle.std.proofs.lemmas.Bool.{le-leb, lt-leb, ne_eqb, eq-eqb}
 use Rattle.std.proofs.lemmas.List.{length-map, map-append, take_more, take-append-drop, take_all, take-map, take_min, length-drop}
 use Rattle.std.proofs.Math.ListN.{get_or-map}
@@ -12,7 +13,7 @@ use Rattle.std.proofs.lemmas.Grind.{flat_map-append}
 use Rattle.indicatif_text.specs.Columns.{rows_of, has_wide}
 use Rattle.indicatif_term.specs.Lists.{BarRows, BarLines, segments_height, shown_rows, fitting, grouped, onto_segments, lines_of}
 use Rattle.indicatif_term.specs.Frames.{bar_lines, all_lines, some_wide, line_text}
-use Rattle.indicatif_term.specs.Inside.Counted.{row_count}
+use Rattle.indicatif_term.specs.Counts.{row_count}
 use Rattle.indicatif_term.specs.Inside.Plans.{IsLaidOut, IsSummed, IsPlaced, IsPlan, ArePlaced, Measured, IsWithheld}
 use Rattle.indicatif_term.specs.declared.layout.RowCount.{RowCount}
 use Rattle.indicatif_term.specs.declared.layout.Plan.{Plan}
@@ -20,7 +21,7 @@ use Rattle.indicatif_term.specs.declared.lines.Segment.{Segment}
 use Rattle.indicatif_term.specs.declared.lines.LineType.{LineType}
 use Rattle.indicatif_text.specs.declared.refusal.Refusal.{Refusal}
 use Rattle.indicatif_term.proofs.ShownRows.{line_segments, grouped_rows}
-use Rattle.indicatif_term.proofs.Measuring.{one_of, or_true, withheld_by}
+use Rattle.indicatif_term.proofs.Measuring.{one_of, withheld_by}
 
 -- ---- one more segment
 
@@ -195,7 +196,7 @@ module _ (w h : ℕ) (frame : List Segment) (i : ℕ) (s : Segment) (within : i 
       ∙ append_assoc (all_lines (map bar_lines (take i frame))) (bar_lines s).lines (all_lines (map bar_lines (drop (i + 1) frame))) in
       ap (some_wide w) whole ∙ list_any-append (has_wide w) (all_lines (map bar_lines (take i frame))) ((bar_lines s).lines ++ all_lines (map bar_lines (drop (i + 1) frame)))
       ∙ ap (λ b. some_wide w (all_lines (map bar_lines (take i frame))) || b) (list_any-append (has_wide w) (bar_lines s).lines (all_lines (map bar_lines (drop (i + 1) frame))) ∙ rw e refl)
-      ∙ or_true (some_wide w (all_lines (map bar_lines (take i frame))))
+      ∙ or-true (some_wide w (all_lines (map bar_lines (take i frame))))
 
   pub members_refused : (before : List BarRows) (p : Plan) (e : Refusal) (r : Result Unit Refusal) → r ≡ Err e → IsPlaced w h before (bar_lines s) p (Err e) → ArePlaced w h before (map bar_lines frame) p r
   members_refused before p e r q m = rw q (withheld_by w (bar_lines s).lines (all_lines (map bar_lines frame)) e wide_member m)
@@ -248,7 +249,7 @@ module _ (w h pass k : ℕ) (frame : List Segment) (k_is : k ≡ min pass (lengt
   front_refused e r q m = rw q (withheld_by w (all_lines (map bar_lines (take k frame))) (all_lines (map bar_lines frame)) e (λ t. wide_parts ∙ rw t refl) m)
 
   pub rest_refused : (e : Refusal) (r : Result Plan Refusal) → r ≡ Err e → IsWithheld w (all_lines (map bar_lines (drop k frame))) e → Measured w h pass (map bar_lines frame) r
-  rest_refused e r q m = rw q (withheld_by w (all_lines (map bar_lines (drop k frame))) (all_lines (map bar_lines frame)) e (λ t. wide_parts ∙ rw t (or_true (some_wide w (all_lines (map bar_lines (take k frame)))))) m)
+  rest_refused e r q m = rw q (withheld_by w (all_lines (map bar_lines (drop k frame))) (all_lines (map bar_lines frame)) e (λ t. wide_parts ∙ rw t (or-true (some_wide w (all_lines (map bar_lines (take k frame)))))) m)
 
   same_front : map bar_lines (take k frame) ≡ take pass (map bar_lines frame)
   same_front = sym (take-map bar_lines k frame) ∙ ap (λ n. take n (map bar_lines frame)) (k_is ∙ ap (min pass) (sym (length-map frame bar_lines))) ∙ take_min pass (map bar_lines frame)

@@ -2,7 +2,7 @@
 use Rattle.std.proofs.Common.{◌≡◌, ℕ, zero, suc, ◌+◌, ◌<◌, Bool, true, false, List, [], ◌∷◌, ◌++◌, ◌||◌, length, map, take, get_or, refl, sym, ◌∙◌, ap, arith, chars, Result, Err, Bor}
 use Rattle.std.proofs.lemmas.Str.{chars-nil}
 use Rattle.std.proofs.lemmas.List.{take_more, map-append}
-use Rattle.std.proofs.Math.Bool.{or-false}
+use Rattle.std.proofs.Math.Bool.{or-true, or-false}
 use Rattle.std.proofs.lemmas.List.Folds.{list_any-append}
 use Rattle.std.proofs.lemmas.List.Sums.{sum_by_push}
 use Rattle.indicatif_text.specs.Columns.{has_wide, rows_of, visible}
@@ -21,14 +21,10 @@ module _ (w : ℕ) (lines : List (List ℕ)) (i : ℕ) (line : List ℕ) (h : i 
   pub height_more : text_height w (take (i + 1) lines) ≡ text_height w (take i lines) + length (rows_of w line)
   height_more = ap (text_height w) one_more ∙ sum_by_push (λ line. length (rows_of w line)) (take i lines) line
 
-pub or_true : (b : Bool) → (b || true) ≡ true
-or_true true = refl
-or_true false = refl
-
 pub wide_at : (w : ℕ) (lines : List (List ℕ)) (i : ℕ) (line : List ℕ) → i < length lines → get_or lines i line ≡ line → has_wide w line ≡ true → some_wide w lines ≡ true
 wide_at w [] i line h e t = absurd (omega arith)
 wide_at w (x ∷ lines) zero line h e t = let t' : has_wide w x ≡ true = ap (has_wide w) e ∙ t in rw t' refl
-wide_at w (x ∷ lines) (suc i) line h e t = rw (wide_at w lines i line (omega arith) e t) (or_true (has_wide w x))
+wide_at w (x ∷ lines) (suc i) line h e t = rw (wide_at w lines i line (omega arith) e t) (or-true (has_wide w x))
 
 -- why some lines are withheld is why more of them are
 pub withheld_by : (w : ℕ) (a b : List (List ℕ)) (e : Refusal) → (some_wide w a ≡ true → some_wide w b ≡ true) → IsWithheld w a e → IsWithheld w b e
@@ -55,7 +51,7 @@ module _ (w : ℕ) (came : List (List ℕ)) (line : List ℕ) where
   height_after = sum_by_push (λ line. length (rows_of w line)) came line
 
 wide_among : (w : ℕ) (came : List (List ℕ)) (line : List ℕ) (rest : List (List ℕ)) → some_wide w (line ∷ []) ≡ true → some_wide w ((came ++ line ∷ []) ++ rest) ≡ true
-wide_among w came line rest e = list_any-append (has_wide w) (came ++ line ∷ []) rest ∙ ap (λ b. b || some_wide w rest) (list_any-append (has_wide w) came (line ∷ []) ∙ ap (λ b. some_wide w came || b) e ∙ or_true (some_wide w came))
+wide_among w came line rest e = list_any-append (has_wide w) (came ++ line ∷ []) rest ∙ ap (λ b. b || some_wide w rest) (list_any-append (has_wide w) came (line ∷ []) ∙ ap (λ b. some_wide w came || b) e ∙ or-true (some_wide w came))
 
 pub text_refused : (w : ℕ) (text : List (List ℕ)) (came : List (Bor (List ℕ))) (x : Bor (List ℕ)) (rest : List (List ℕ)) (e : Refusal) (r : Result ℕ Refusal) → r ≡ Err e →
     text ≡ map (λ line. line.now) (came ++ x ∷ []) ++ rest → IsWithheld w (chars x.now ∷ []) e → MeasuredText w text r

@@ -28,10 +28,6 @@ take_both (suc n) [] ys = let e : suc n ≡ suc n - 0 = omega arith in ap (λ k.
 take_both zero (x ∷ xs) ys = let e : 0 ≡ zero - suc (length xs) = omega arith in ap (λ k. take k ys) e
 take_both (suc n) (x ∷ xs) ys = let e : n - length xs ≡ suc n - suc (length xs) = omega arith in ap (λ zs. x ∷ zs) (take_both n xs ys ∙ ap (λ k. take n xs ++ take k ys) e)
 
-pub take_none : (n : ℕ) → take n (frame_lines []) ≡ []
-take_none zero = refl
-take_none (suc n) = refl
-
 module _ (count : ℕ) (frame : List Segment) (at_end started : Bool) (i left n : ℕ) (s : Segment) (h : i < length frame) (e : get_or frame i s ≡ s)
     (left_is : left ≡ count - length (frame_lines (take i frame))) (n_is : n ≡ min left (length s.lines.items))
     (started_is : started ≡ (at_end || nat_lt 0 (length (take count (frame_lines (take i frame)))))) where

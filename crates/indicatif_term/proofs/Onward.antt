@@ -9,7 +9,8 @@ use Rattle.indicatif_text.specs.Columns.{blank_row, rows_of}
 use Rattle.indicatif_term.specs.declared.layout.RowCount.{RowCount}
 use Rattle.indicatif_term.specs.declared.layout.Plan.{Plan}
 use Rattle.indicatif_term.specs.declared.counts.Counts.{Counts}
-use Rattle.indicatif_term.specs.Inside.Counted.{CountsOf, SettledCounts, row_count}
+use Rattle.indicatif_term.specs.Counts.{CountsOf, row_count}
+use Rattle.indicatif_term.specs.Inside.Counted.{SettledCounts}
 use Rattle.indicatif_term.specs.Inside.Plans.{IsPlan, text_height}
 use Rattle.indicatif_term.specs.Lists.{Lists, Live, BarRows, BarLines, settled, rested, passed, cleared, drawn, logged, lists_height, live_height, segments_height, live_rows, all_rows, live_of_frame, shown_rows, blanks_for}
 

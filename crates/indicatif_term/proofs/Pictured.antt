@@ -3,10 +3,10 @@ use Rattle.std.proofs.Common.{◌≡◌, ℕ, zero, suc, ◌+◌, ◌-◌, ◌<�
 use Rattle.std.specs.Prelude.{IsTrue, IsFalse, IsOk, IsErr, nat_lt, flat_map, ◌||◌, min, ◌^◌}
 use Rattle.std.specs.Str.{IsUtf8}
 use Rattle.std.specs.List.{AllByRecursion}
-use Rattle.std.proofs.lemmas.Bool.{and_parts, cond_both}
+use Rattle.std.proofs.lemmas.Bool.{and_parts, or_parts, cond_both}
+use Rattle.std.proofs.Math.Bool.{or-true}
 use Rattle.std.proofs.lemmas.Str.{IsUtf8-nil, IsUtf8-string_bytes, chars-nil}
 use Rattle.std.proofs.lemmas.List.Folds.{list_any-append, list_all-append}
-use Rattle.indicatif_term.proofs.TerminalSteps.{or_none}
 use Rattle.indicatif_text.specs.Columns.{rows_of, has_wide, is_plain, visible}
 use Rattle.indicatif_term.specs.Screen.{Screen, Return, LineFeed, line_feed}
 use Rattle.indicatif_text.specs.Columns.{blank_row}
@@ -18,19 +18,20 @@ use Rattle.indicatif_term.specs.Lists.{Lists, opening_lists, Live, live_of_frame
 use Rattle.indicatif_term.specs.Inside.Bytes.{paint_bytes, next_row}
 use Rattle.indicatif_term.specs.Frames.{bar_lines, all_lines, are_plain, some_wide, text_lines, line_text}
 use Rattle.indicatif_term.specs.Inside.Plans.{frame_lines, IsPlan, text_height, IsWithheld}
-use Rattle.indicatif_term.specs.Inside.Counted.{CountsOf}
+use Rattle.indicatif_term.specs.Counts.{CountsOf}
 use Rattle.indicatif_term.specs.Engines.{Repaints, RepaintsAnew, Answers}
 use Rattle.indicatif_term.specs.Inside.Remembering.{Remembers}
 use Rattle.indicatif_term.specs.declared.draw_target.Engine.{Engine}
 use Rattle.indicatif_text.specs.declared.refusal.Refusal.{Refusal}
-use Rattle.indicatif_term.proofs.Measuring.{withheld_by, or_true}
+use Rattle.indicatif_term.proofs.Measuring.{withheld_by}
 use Rattle.indicatif_term.specs.declared.lines.Segment.{Segment}
 use Rattle.indicatif_term.specs.declared.lines.LineType.{LineType}
 use Rattle.indicatif_term.specs.declared.lines.LineType.TheVariants.{Text, Bar, Empty}
 use Rattle.indicatif_term.specs.declared.counts.Counts.{Counts}
 use Rattle.indicatif_term.specs.declared.layout.Plan.{Plan}
 use Rattle.indicatif_term.proofs.Paints.{IsDrawable, AreDrawable, keeps_front}
-use Rattle.indicatif_term.proofs.Stays.{nothing_keeps, end_keeps, both_keep, after-append}
+use Rattle.indicatif_term.proofs.Stays.{nothing_keeps, end_keeps, both_keep}
+use Rattle.indicatif_term.proofs.Fed.{after-append}
 use Rattle.indicatif_term.proofs.ShownRows.{lines_rows, frame_chars, frame_rows, log_rows}
 use Rattle.indicatif_term.proofs.CallsInTurn.{led_on-nil}
 use Rattle.indicatif_term.proofs.Onward.{length-live, live_of, same_blanks_log}
@@ -142,7 +143,7 @@ lines_drawable : (w : ℕ) (lines : List (List ℕ)) → AllByRecursion IsUtf8 l
 lines_drawable w [] u p n = tt
 lines_drawable w (line ∷ lines) u p n =
     let a = and_parts (is_plain (chars line)) (are_plain (text_lines lines)) p in
-    let b = or_none (has_wide w (chars line)) (some_wide w (text_lines lines)) n in
+    let b = or_parts (has_wide w (chars line)) (some_wide w (text_lines lines)) n in
     (record { utf8 = u.0; plain = a.0; narrow = b.0 }, lines_drawable w lines u.1 a.1 b.1)
 
 blanks_drawable : (w n : ℕ) → AreDrawable w (replicate n [])
@@ -203,7 +204,7 @@ pub wide_left : (w : ℕ) (a b : List (List ℕ)) → some_wide w a ≡ true →
 wide_left w a b t = some_wide-append w a b ∙ rw t refl
 
 pub wide_right : (w : ℕ) (a b : List (List ℕ)) → some_wide w b ≡ true → some_wide w (a ++ b) ≡ true
-wide_right w a b t = some_wide-append w a b ∙ rw t (or_true (some_wide w a))
+wide_right w a b t = some_wide-append w a b ∙ rw t (or-true (some_wide w a))
 
 pub answer_made : {T : Type 0} (w : ℕ) (lines : List (List ℕ)) (next : Counts) (r : Result Unit Refusal) (new : Engine T) → Remembers next r new →
     0 < w → IsFalse (some_wide w lines) → Answers w lines r

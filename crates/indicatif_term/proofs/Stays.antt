@@ -1,5 +1,5 @@
 -- That the calls leave the rows above alone.
-use Rattle.std.proofs.Common.{◌≡◌, ℕ, zero, suc, ◌+◌, ◌-◌, ◌<◌, ◌≤◌, false, List, [], ◌∷◌, ◌++◌, length, take, drop, refl, sym, ◌∙◌, ap, subst, arith, length-append, map, eqb, Some, None, Option, inl, inr, ⊎_elim, ◌⊎◌}
+use Rattle.std.proofs.Common.{◌≡◌, ℕ, zero, suc, ◌+◌, ◌-◌, ◌<◌, ◌≤◌, false, List, [], ◌∷◌, ◌++◌, length, take, drop, refl, sym, ◌∙◌, ap, subst, arith, length-append, map, eqb, Some, None, Option, ⊎_elim}
 use Rattle.std.specs.Prelude.{nat_lt, nat_le, encode_utf8_all}
 use Rattle.std.specs.List.{AllByRecursion}
 use Rattle.std.proofs.lemmas.List.{take-set-le, take-append-le, take-append-drop, take_all, length-set}
@@ -11,8 +11,7 @@ use Rattle.indicatif_term.specs.Terminal.{Terminal, idle, ops_of, reader_after, 
 use Rattle.indicatif_term.specs.Calls.{line_bytes, clear_bytes, move_bytes}
 use Rattle.indicatif_term.specs.Shows.{Keeps, resting}
 use Rattle.indicatif_term.proofs.Standing.{IsBelow, IsText}
-use Rattle.indicatif_term.proofs.Glyphs.{performed_all-append}
-use Rattle.indicatif_term.proofs.Fed.{ops_of-append, reader_after-append}
+use Rattle.indicatif_term.proofs.Fed.{ops_of-append, after-append}
 use Rattle.indicatif_term.proofs.Calls.{Asks, end_asks, text_asks, clear_asks, up_asks}
 
 -- the first n rows are the same, and the cursor is still below them
@@ -110,15 +109,10 @@ take_past k [] ys h = ap (λ j. take j ys) (omega arith)
 take_past zero (x ∷ xs) ys h = absurd (omega arith)
 take_past (suc k) (x ∷ xs) ys h = ap (λ zs. x ∷ zs) (take_past k xs ys (omega arith) ∙ ap (λ j. xs ++ take j ys) (omega arith))
 
-pub after-append : (t : Terminal) (xs ys : List ℕ) → after t (xs ++ ys) ≡ after (after t xs) ys
-unfolding after
-after-append t xs ys = cc (ops_of-append t.reader xs ys, reader_after-append t.reader xs ys, performed_all-append (ops_of t.reader xs) (ops_of (reader_after t.reader xs) ys) t.screen)
-
-cases_le : (k m : ℕ) → (m ≤ k) ⊎ (k < m)
-cases_le k m = ⊎_elim (λ h. inr h) (λ h. inl h) (cases_lt k m)
-
 pub both_keep : (n : ℕ) (t : Terminal) (xs ys : List ℕ) → Keeps n t xs → Keeps n (after t xs) ys → Keeps n t (xs ++ ys)
 both_keep n t xs ys h₁ h₂ k = ⊎_elim
+    (λ h. let front : k ≤ length xs = omega arith in
+    ap (λ bytes. take n (after t bytes).screen.rows) (take-append-le k xs ys front) ∙ h₁ k)
     (λ h. let within : length xs ≤ k = h in
     let zs = take (k - length xs) ys in
     ap (λ bytes. take n (after t bytes).screen.rows) (take_past k xs ys within)
@@ -126,9 +120,7 @@ both_keep n t xs ys h₁ h₂ k = ⊎_elim
     ∙ h₂ (k - length xs)
     ∙ ap (λ bytes. take n (after t bytes).screen.rows) (sym (take_all (length xs) xs (omega arith)))
     ∙ h₁ (length xs))
-    (λ h. let front : k ≤ length xs = omega arith in
-    ap (λ bytes. take n (after t bytes).screen.rows) (take-append-le k xs ys front) ∙ h₁ k)
-    (cases_le k (length xs))
+    (cases_lt k (length xs))
 
 pub puts_only : (cs : List ℕ) → AllByRecursion IsLevel (map (λ c. Put c) cs)
 puts_only [] = tt

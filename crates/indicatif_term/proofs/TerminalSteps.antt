@@ -4,7 +4,7 @@ use Rattle.std.specs.Prelude.{IsTrue, IsFalse, ◌||◌, max, chars, nat_lt, is_
 use Rattle.std.specs.Str.{IsUtf8}
 use Rattle.std.specs.List.{list_any, list_all, AllByRecursion}
 use Rattle.std.proofs.lemmas.List.{length-take-le, length-map, length-replicate}
-use Rattle.std.proofs.lemmas.Bool.{and_parts, ltb-false}
+use Rattle.std.proofs.lemmas.Bool.{and_parts, or_parts, ltb-false}
 use Rattle.std.proofs.lemmas.Str.{encodes-chars, scalars-chars}
 use Rattle.std.proofs.Math.Utf8.{encodes}
 use Rattle.std.proofs.lemmas.List.Elements.{All-from_recursion}
@@ -99,16 +99,12 @@ module _ (w h : ℕ) (opening : Screen) where
       ∙ same_screen _ _ _ _ _ _ _ _ refl base_length refl))
       (omega (arith, count)) (λ e. refl) (omega (arith, s.scrolled, count))
 
-pub or_none : (a b : Bool) → (a || b) ≡ false → (a ≡ false) × (b ≡ false)
-or_none true b e = cc
-or_none false b e = (refl, e)
-
 -- a line of characters that fit
 printable : (w : ℕ) (cs : List ℕ) → list_all (λ c. is_some (char_width false c)) cs ≡ true → list_any (λ c. nat_lt w (width_of c)) cs ≡ false → AllByRecursion (IsPrintable w) cs
 printable w [] p n = tt
 printable w (c ∷ cs) p n =
     let a = and_parts (is_some (char_width false c)) (list_all (λ c. is_some (char_width false c)) cs) p in
-    let b = or_none (nat_lt w (width_of c)) (list_any (λ c. nat_lt w (width_of c)) cs) n in
+    let b = or_parts (nat_lt w (width_of c)) (list_any (λ c. nat_lt w (width_of c)) cs) n in
     (record { shown_rows = a.0; fits = ltb-false w (width_of c) b.0 }, printable w cs a.1 b.1)
 
 is_text : (w : ℕ) (line : List ℕ) → IsUtf8 line → IsTrue (is_plain (chars line)) → IsFalse (has_wide w (chars line)) → IsText w (chars line)

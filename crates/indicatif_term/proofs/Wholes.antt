@@ -3,9 +3,8 @@ use Rattle.std.proofs.Common.{◌≡◌, ℕ, zero, suc, ◌+◌, ◌-◌, ◌<�
 use Rattle.std.specs.Prelude.{if◌then◌else◌}
 use Rattle.std.proofs.lemmas.List.{length-set, length-reverse, length-replicate, take-append-drop, get_or_read, take_more_set, replicate_more}
 use Rattle.indicatif_text.specs.Columns.{Cell, Blank, Written, Continued, blank_row}
-use Rattle.indicatif_term.specs.Screen.{Screen, written_at, joined_at, joined_back, cut_before, emptied_front}
+use Rattle.indicatif_term.specs.Screen.{Screen, IsWhole, written_at, joined_at, joined_back, cut_before, emptied_front}
 use Rattle.indicatif_term.specs.Inside.Slots.{character_cells}
-use Rattle.indicatif_term.specs.Inside.Grids.{IsWhole}
 use Rattle.indicatif_term.proofs.RowEdits.{length-cut_before, length-emptied_front}
 
 abbrev pub AllOf : ℕ → List (List Cell) → Type 0

@@ -9,7 +9,8 @@ use Rattle.indicatif_text.specs.Columns.{Cell, Glyph, width_of, glyphs_of, piece
 use Rattle.indicatif_term.specs.Screen.{Put, performed_all, put_sized, line_feed}
 use Rattle.indicatif_term.proofs.Standing.{screen_at, screen_after, glyph_ops, IsSized, IsPrintable}
 use Rattle.indicatif_term.proofs.Rows.{same_screen, cursor_row_at, with_row_at}
-use Rattle.indicatif_term.proofs.Glyphs.{no_piece, glyphs_put, screen_with, performed_all-append}
+use Rattle.indicatif_term.proofs.Glyphs.{no_piece, glyphs_put, screen_with}
+use Rattle.indicatif_term.proofs.Fed.{performed_all-append}
 
 -- ---- glyphs and visible characters
 

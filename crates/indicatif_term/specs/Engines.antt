@@ -7,7 +7,7 @@ use Rattle.indicatif_term.specs.Terminal as cells
 use Rattle.indicatif_term.specs.Calls.{tells, led_on, TermView, line_bytes}
 use Rattle.indicatif_term.specs.Shows.{Shows, Keeps, IsOpening, resting}
 use Rattle.indicatif_term.specs.Frames.{some_wide, Refuses, is_fault}
-use Rattle.indicatif_term.specs.Inside.Counted.{CountsOf}
+use Rattle.indicatif_term.specs.Counts.{CountsOf}
 use Rattle.indicatif_term.specs.declared.draw_target.Engine.{Engine}
 use Rattle.indicatif_term.specs.declared.draw_target.MultiProgressAlignment.{MultiProgressAlignment}
 use Rattle.indicatif_term.specs.declared.draw_target.MultiProgressAlignment.TheVariants.{Top, Bottom}

@@ -1,5 +1,5 @@
 -- A terminal in memory: its cells, its faults, and the calls that it was given, as text.
-use Rattle.std.specs.Prelude.{◌≡◌, ℕ, ◌+◌, ◌/◌, ◌%◌, ◌==◌, ◌||◌, nat_lt, List, [], ◌∷◌, ◌++◌, flat_map, decimal, codes, chars, encode_utf8_all, if◌then◌else◌}
+use Rattle.std.specs.Prelude.{◌≡◌, ◌⊎◌, ℕ, ◌+◌, ◌/◌, ◌%◌, ◌==◌, ◌||◌, nat_lt, List, [], ◌∷◌, ◌++◌, flat_map, decimal, codes, chars, encode_utf8_all, if◌then◌else◌, Result, MatchResult}
 use Rattle.indicatif_term.specs.Terminal.{Terminal, after}
 use Rattle.indicatif_term.specs.Calls.{TermView, State}
 
@@ -21,6 +21,11 @@ pub record ReadsBeginning (bytes : List ℕ) (old new : Terminal) : Type 0 where
   pub rest : List ℕ
   pub whole : front ++ rest ≡ bytes
   pub is : new ≡ after old front
+
+-- what becomes of the calls' text: this one's is put at its end; where the call fails, that is so too, or all stays as it was
+abbrev pub Records : {E : Type 0} → List ℕ → MemoryTerm → MemoryTerm → Result Unit E → Type 0
+Records text old new result =
+    MatchResult result (λ _. new.moves ≡ old.moves ++ text) (λ _. (new.moves ≡ old.moves) ⊎ (new.moves ≡ old.moves ++ text))
 
 -- ---- the text of the calls
 

@@ -1,5 +1,5 @@
 -- A terminal of cells. A cursor in the column after the last one waits.
-use Rattle.std.specs.Prelude.{ℕ, ◌+◌, ◌-◌, min, max, Bool, true, false, ◌==◌, nat_le, nat_lt, List, [], ◌∷◌, ◌++◌, reverse, length, take, drop, replicate, slice_set, slice_index_or, Option, Some, None, if◌then◌else◌}
+use Rattle.std.specs.Prelude.{◌≡◌, ℕ, ◌+◌, ◌-◌, ◌<◌, ◌≤◌, min, max, Bool, true, false, ◌==◌, nat_le, nat_lt, List, [], ◌∷◌, ◌++◌, reverse, length, take, drop, replicate, slice_set, slice_index_or, Option, Some, None, if◌then◌else◌}
 use Rattle.unicode_width.specs.Width.{char_width}
 use Rattle.indicatif_text.specs.Columns.{Cell, Blank, Written, Continued, Glyph, glyph_cells, blank_row}
 
@@ -16,6 +16,16 @@ pub record Screen : Type 0 where
 -- the first row of the window
 abbrev pub top : Screen → ℕ
 top s = length s.rows - s.height
+
+-- the cursor is in the window, and each row has its cells
+pub record IsWhole (s : Screen) : Type 0 where
+  pub some_rows : 0 < s.height
+  pub some_columns : 0 < s.columns
+  pub enough_rows : s.height ≤ length s.rows
+  pub in_rows : s.row < length s.rows
+  pub in_window : top s ≤ s.row
+  pub in_columns : s.column ≤ s.columns
+  pub full_rows : (k : ℕ) → k < length s.rows → length (slice_index_or s.rows k []) ≡ s.columns
 
 -- the row that the cursor is on
 abbrev pub cursor_row : Screen → List Cell

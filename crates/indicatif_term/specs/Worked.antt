@@ -1,9 +1,8 @@
 -- What a blank terminal shows after bytes.
 use Rattle.std.specs.Prelude.{◌≡◌, ℕ, ◌-◌, ◌≤◌, min, List, [], ◌∷◌, ◌++◌}
-use Rattle.indicatif_term.specs.Screen.{Screen, Up, Down, Right, Left, performed, top}
+use Rattle.indicatif_term.specs.Screen.{Screen, IsWhole, Up, Down, Right, Left, performed, top}
 use Rattle.indicatif_term.specs.Terminal.{Terminal, GREATEST, after, blank_terminal}
 use Rattle.indicatif_term.specs.Pictures.{contents_text, picture_text}
-use Rattle.indicatif_term.specs.Inside.Grids.{IsWhole}
 
 abbrev pub ESC : List ℕ
 ESC = 0x1B ∷ []

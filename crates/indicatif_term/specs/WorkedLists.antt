@@ -1,7 +1,11 @@
 -- Worked cases of the three lists.
-use Rattle.std.specs.Prelude.{◌≡◌, ℕ, true, false, List, [], ◌∷◌, flat_map, codes}
+use Rattle.std.specs.Prelude.{◌≡◌, ℕ, true, false, List, [], ◌∷◌, ◌++◌, drop, flat_map, codes}
 use Rattle.indicatif_text.specs.Columns.{Cell, rows_of}
-use Rattle.indicatif_term.specs.Lists.{BarLines, opening_lists, all_rows, drawn, logged, cleared, kept_of}
+use Rattle.indicatif_term.specs.Lists.{BarLines, opening_lists, all_rows, drawn, logged, cleared, kept_of, fate, NoRow, First, Later}
+use Rattle.indicatif_term.specs.Calls.{line_bytes, clear_bytes}
+use Rattle.indicatif_term.specs.Terminal.{Terminal, after, blank_terminal}
+use Rattle.indicatif_term.specs.Pictures.{contents_text, picture_text}
+use Rattle.indicatif_term.specs.Shows.{looks_of}
 
 -- a bar of one line
 abbrev pub bar : ℕ → List ℕ → BarLines
@@ -49,3 +53,29 @@ KeptScrollsAway = let two = drawn 9 2 false 0 (bar 1 (codes "k") ∷ bar 2 (code
 abbrev pub ClearLeavesAbove : Type 0
 ClearLeavesAbove = let shown = logged 5 3 false (codes "l" ∷ []) (bar 0 (codes "x") ∷ []) opening_lists in
     all_rows 5 (cleared shown) ≡ written 5 (codes "l" ∷ [])
+
+-- of two bars that are shown the first stands first, the second later, and a third has no row; where the first is dropped its row
+-- is no live one, and the second stands first
+abbrev pub FatesOfBars : Type 0
+FatesOfBars = let two = drawn 9 4 false 0 (bar 1 (codes "a") ∷ bar 2 (codes "b") ∷ []) opening_lists in
+    (fate 1 two ≡ First) × (fate 2 two ≡ Later) × (fate 3 two ≡ NoRow) × (fate 1 opening_lists ≡ NoRow)
+    × (kept_of 9 2 two ≡ two) × (kept_of 9 3 two ≡ two)
+    × (fate 1 (kept_of 9 1 two) ≡ NoRow) × (fate 2 (kept_of 9 1 two) ≡ First)
+
+-- a terminal of 3 rows with the cursor on the last one, below two rows that were there before
+abbrev pub below_two : Terminal
+below_two = after (blank_terminal 3 5) (codes "u1\r\nu2\r\n")
+
+-- a bar is drawn there, and a text is logged above it: the first row scrolls away, and all below the two are those of the lists
+abbrev pub LogScrolls : Type 0
+LogScrolls = let x = bar 0 (codes "x") ∷ [] in
+    let first = drawn 5 3 false 0 x opening_lists in
+    let second = logged 5 3 false (codes "l" ∷ []) x first in
+    let shown = after below_two (codes "x") in
+    let next = after shown (clear_bytes ++ line_bytes (codes "l") ++ codes "x") in
+    (second.above ≡ written 5 (codes "l" ∷ [])) × (all_rows 5 second ≡ written 5 (codes "l" ∷ codes "x" ∷ []))
+    × (picture_text shown.screen ≡ codes "u1" ∷ codes "u2" ∷ codes "x" ∷ [])
+    × (looks_of (drop 2 shown.screen.rows) ≡ looks_of (all_rows 5 first))
+    × (picture_text next.screen ≡ codes "u1" ∷ codes "u2" ∷ codes "l" ∷ codes "x" ∷ [])
+    × (looks_of (drop 2 next.screen.rows) ≡ looks_of (all_rows 5 second))
+    × (contents_text next.screen ≡ codes "u2\nl\nx")

@@ -40,7 +40,7 @@ pub struct Counts {
 
 impl Counts {
     ghost use Rattle.indicatif_term.specs.Lists.{Lists, BarLines, opening_lists, drawn, logged, cleared};
-    ghost use Rattle.indicatif_term.specs.Inside.Counted.{CountsOf};
+    ghost use Rattle.indicatif_term.specs.Counts.{CountsOf};
     ghost use Rattle.indicatif_term.specs.Inside.Plans.{IsPlan, IsSummed, text_height};
 
     /// Nothing drawn: the cursor is on the first row, at its front.

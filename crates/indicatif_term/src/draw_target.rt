@@ -6,7 +6,7 @@
 //! new ones in their place, so that the rows above stand at every moment.
 ghost use Rattle.std.specs.Prelude.{◌≡◌, ◌≢◌, ◌↔◌, map, length, ◌≤◌, IsOk, IsTrue, false, ◌++◌, [], ℕ};
 ghost use Rattle.indicatif_term.specs.Lists.{opening_lists};
-ghost use Rattle.indicatif_term.specs.Inside.Counted.{CountsOf};
+ghost use Rattle.indicatif_term.specs.Counts.{CountsOf};
 
 use crate::counts::Counts;
 pub use crate::counts::Keep;
@@ -15,15 +15,16 @@ pub use crate::lines::{LineType, Segment};
 use crate::settle::{blanks_of, kept_counts};
 pub use crate::target::{ProgressDrawTarget, Setup};
 use crate::term_like::TermLike;
-use crate::writing::{Painting, paint};
+use crate::writing::{Drawing, Painting, paint};
 use indicatif_text::columns::Refusal;
 use std::alloc::Global;
 use std::mem::replace;
 
 /// Where the bars stand when a drawing has fewer rows than it takes back.
-#[derive(Clone, Copy, Debug, Drop, PartialEq, Eq)]
+#[derive(Clone, Copy, Debug, Default, Drop, PartialEq, Eq)]
 pub enum MultiProgressAlignment {
     /// At the place of the first row taken back.
+    #[default]
     Top,
     /// At the place of the last one, below blank rows.
     Bottom,
@@ -61,7 +62,7 @@ pub struct Engine<T: Drop> {
 impl<T: TermLike + Drop> Engine<T> {
     ghost use Rattle.indicatif_term.specs.Lists.{Lists, drawn, logged, cleared, kept_of, fate};
     ghost use Rattle.indicatif_term.specs.Calls.{Writes};
-    ghost use Rattle.indicatif_term.specs.Inside.Bytes.{painting_bytes};
+    ghost use Rattle.indicatif_term.specs.Inside.Bytes.{paint_bytes, drawing_lines};
     ghost use Rattle.indicatif_term.specs.Frames.{bar_lines, all_lines, are_plain, logged_lines, text_lines, IsFate};
     ghost use Rattle.indicatif_term.specs.Inside.Plans.{frame_lines};
     ghost use Rattle.indicatif_term.specs.Engines.{is_bottom, terminal, Fits, has_failed, Outcome, Answers, Counted, Repaints, RepaintsAnew};
@@ -140,17 +141,13 @@ impl<T: TermLike + Drop> Engine<T> {
         let taken = self.counts.live;
         let blanks = blanks_of(bottom, taken, 0, plan.rows);
         let next = self.counts.drawn(plan, bottom, height)?;
-        let painting = Painting {
-            anew: self.failed,
-            below: self.counts.below,
-            taken,
+        let drawing = Drawing {
             text: None,
             blanks,
             frame,
             lines,
-            ends_below: next.below,
         };
-        self.repaint(next, &painting)
+        self.repaint(next, taken, &drawing)
     }
 
     /// Writes the lines of the text, which stay, in the place of the kept and the live rows, and draws the frame below
@@ -197,17 +194,13 @@ impl<T: TermLike + Drop> Engine<T> {
         let taken = self.counts.kept + self.counts.live;
         let blanks = blanks_of(bottom, taken, rows, plan.rows);
         let next = self.counts.logged(plan, rows, bottom, height);
-        let painting = Painting {
-            anew: self.failed,
-            below: self.counts.below,
-            taken,
+        let drawing = Drawing {
             text: Some(text),
             blanks,
             frame,
             lines,
-            ends_below: next.below,
         };
-        self.repaint(next, &painting)
+        self.repaint(next, taken, &drawing)
     }
 
     /// Takes back the kept and the live rows. Takes no memory.
@@ -231,17 +224,13 @@ impl<T: TermLike + Drop> Engine<T> {
         }
         let taken = self.counts.kept + self.counts.live;
         let next = self.counts.cleared(self.alloc);
-        let painting = Painting {
-            anew: self.failed,
-            below: self.counts.below,
-            taken,
+        let nothing = Drawing {
             text: None,
             blanks: 0,
             frame: &[],
             lines: 0,
-            ends_below: next.below,
         };
-        self.repaint(next, &painting)
+        self.repaint(next, taken, &nothing)
     }
 
     /// The rows of a bar that is gone become kept rows, with the blank rows above them, if they are the first live ones of a
@@ -260,14 +249,23 @@ impl<T: TermLike + Drop> Engine<T> {
         outcome
     }
 
-    /// Paints, and remembers the next counts; after a failure, that a call has failed.
-    fn repaint(&mut self, next: Counts, painting: &Painting<'_>) -> Result<(), Refusal>
-        requires { painting.now.lines ≤ length (frame_lines painting.now.frame.now) }
-        ensures writes { Writes (painting_bytes painting.now)
+    /// Takes so many rows back, writes the drawing in their place, and remembers the next counts; after a failure, that a
+    /// call has failed.
+    fn repaint(&mut self, next: Counts, taken: usize, drawing: &Drawing<'_>) -> Result<(), Refusal>
+        requires { drawing.now.lines ≤ length (frame_lines drawing.now.frame.now) }
+        ensures writes { Writes
+            (paint_bytes (has_failed self.old) self.old.counts.below taken (drawing_lines drawing.now) next.below)
             (T.view (terminal self.old)) (T.view (terminal self.new)) result }
         ensures remembers { Remembers next result self.new }
     {
-        match paint(&mut self.term, painting) {
+        let painting = Painting {
+            anew: self.failed,
+            below: self.counts.below,
+            taken,
+            drawing: *drawing,
+            ends_below: next.below,
+        };
+        match paint(&mut self.term, &painting) {
             Ok(()) => {
                 self.counts = next;
                 self.failed = false;

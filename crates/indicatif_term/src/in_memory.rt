@@ -17,7 +17,7 @@ ghost use Rattle.indicatif_term.specs.Screen.{top};
 ghost use Rattle.indicatif_term.specs.Terminal.{after, blank_terminal};
 ghost use Rattle.indicatif_term.specs.Pictures.{contents_text, picture_text};
 ghost use Rattle.indicatif_term.specs.Calls.{Writes, move_bytes, line_bytes, clear_bytes, UP, DOWN, RIGHT, LEFT};
-ghost use Rattle.indicatif_term.specs.Memory.{view_of, ReadsBeginning, move_text, written_text};
+ghost use Rattle.indicatif_term.specs.Memory.{view_of, ReadsBeginning, Records, move_text, written_text};
 
 mod feeding;
 mod front;
@@ -42,8 +42,11 @@ use std::{io, mem};
 /// text. Rows that scroll away are kept.
 ///
 /// A call that finds no memory fails with an error of kind `OutOfMemory`, counts it in `faults`, and has read a
-/// beginning of its bytes. The memory for the text of a call is taken before the cells change.
-#[derive(Drop)]
+/// beginning of its bytes. The memory for the text of a call is taken before the cells change, so a call that fails has
+/// left the text as it was, or with this call at its end.
+///
+/// That text grows with all that is written, until `moves_since_last_check` hands it out or `reset` empties it.
+#[derive(Debug, Drop)]
 pub struct InMemoryTerm {
     alloc: Global,
     cells: Cells,
@@ -132,6 +135,8 @@ impl InMemoryTerm {
     fn play(&mut self, line: Result<String, Refusal>, bytes: &[u8], end: &[u8]) -> io::Result<()>
         ensures writes { Writes (bytes.now ++ end.now) (view_of self.old) (view_of self.new) result }
         ensures kept { OnOk result (IsOkAnd line (λ t. self.new.moves ≡ self.old.moves ++ string_bytes t)) }
+        ensures left { OnErr result ((self.new.moves ≡ self.old.moves)
+            ⊎ IsOkAnd line (λ t. self.new.moves ≡ self.old.moves ++ string_bytes t)) }
         ensures kind { IfErr result (λ e. error_kind e ≡ ErrorKind.OutOfMemory) }
     {
         match self.try_play(line, bytes, end) {
@@ -154,6 +159,8 @@ impl InMemoryTerm {
         ensures stopped { OnErr result (ReadsBeginning (bytes.now ++ end.now) self.old.terminal self.new.terminal) }
         ensures faults { self.new.faults ≡ self.old.faults }
         ensures kept { OnOk result (IsOkAnd line (λ t. self.new.moves ≡ self.old.moves ++ string_bytes t)) }
+        ensures left { OnErr result ((self.new.moves ≡ self.old.moves)
+            ⊎ IsOkAnd line (λ t. self.new.moves ≡ self.old.moves ++ string_bytes t)) }
     {
         let line = line?;
         self.moves.push_str(&line)?;
@@ -192,7 +199,7 @@ impl TermLike for InMemoryTerm {
 
     fn move_cursor_up(&mut self, n: usize) -> io::Result<()>
         ensures writes { Writes (move_bytes UP n) (view_of self.old) (view_of self.new) result }
-        ensures kept { OnOk result (self.new.moves ≡ self.old.moves ++ (if n == 0 then [] else move_text (codes "Up") n)) }
+        ensures kept { Records (if n == 0 then [] else move_text (codes "Up") n) self.old self.new result }
     {
         if n == 0 {
             return Ok(());
@@ -203,7 +210,7 @@ impl TermLike for InMemoryTerm {
 
     fn move_cursor_down(&mut self, n: usize) -> io::Result<()>
         ensures writes { Writes (move_bytes DOWN n) (view_of self.old) (view_of self.new) result }
-        ensures kept { OnOk result (self.new.moves ≡ self.old.moves ++ (if n == 0 then [] else move_text (codes "Down") n)) }
+        ensures kept { Records (if n == 0 then [] else move_text (codes "Down") n) self.old self.new result }
     {
         if n == 0 {
             return Ok(());
@@ -214,7 +221,7 @@ impl TermLike for InMemoryTerm {
 
     fn move_cursor_right(&mut self, n: usize) -> io::Result<()>
         ensures writes { Writes (move_bytes RIGHT n) (view_of self.old) (view_of self.new) result }
-        ensures kept { OnOk result (self.new.moves ≡ self.old.moves ++ (if n == 0 then [] else move_text (codes "Right") n)) }
+        ensures kept { Records (if n == 0 then [] else move_text (codes "Right") n) self.old self.new result }
     {
         if n == 0 {
             return Ok(());
@@ -225,7 +232,7 @@ impl TermLike for InMemoryTerm {
 
     fn move_cursor_left(&mut self, n: usize) -> io::Result<()>
         ensures writes { Writes (move_bytes LEFT n) (view_of self.old) (view_of self.new) result }
-        ensures kept { OnOk result (self.new.moves ≡ self.old.moves ++ (if n == 0 then [] else move_text (codes "Left") n)) }
+        ensures kept { Records (if n == 0 then [] else move_text (codes "Left") n) self.old self.new result }
     {
         if n == 0 {
             return Ok(());
@@ -236,7 +243,7 @@ impl TermLike for InMemoryTerm {
 
     fn write_line(&mut self, s: &str) -> io::Result<()>
         ensures writes { Writes (line_bytes s.now) (view_of self.old) (view_of self.new) result }
-        ensures kept { OnOk result (self.new.moves ≡ self.old.moves ++ written_text s.now ++ codes "NewLine\n") }
+        ensures kept { Records (written_text s.now ++ codes "NewLine\n") self.old self.new result }
     {
         let line = ended_line(self.alloc, s);
         self.play(line, s.as_bytes(), b"\r\n")
@@ -244,7 +251,7 @@ impl TermLike for InMemoryTerm {
 
     fn write_str(&mut self, s: &str) -> io::Result<()>
         ensures writes { Writes s.now (view_of self.old) (view_of self.new) result }
-        ensures kept { OnOk result (self.new.moves ≡ self.old.moves ++ written_text s.now) }
+        ensures kept { Records (written_text s.now) self.old self.new result }
     {
         let line = text_line(self.alloc, s);
         self.play(line, s.as_bytes(), b"")
@@ -252,7 +259,7 @@ impl TermLike for InMemoryTerm {
 
     fn clear_line(&mut self) -> io::Result<()>
         ensures writes { Writes clear_bytes (view_of self.old) (view_of self.new) result }
-        ensures kept { OnOk result (self.new.moves ≡ self.old.moves ++ codes "Clear\n") }
+        ensures kept { Records (codes "Clear\n") self.old self.new result }
     {
         let line = own_line(self.alloc, "Clear\n");
         self.play(line, b"\r\x1B[2K", b"")
@@ -260,7 +267,7 @@ impl TermLike for InMemoryTerm {
 
     fn flush(&mut self) -> io::Result<()>
         ensures writes { Writes [] (view_of self.old) (view_of self.new) result }
-        ensures kept { OnOk result (self.new.moves ≡ self.old.moves ++ codes "Flush\n") }
+        ensures kept { Records (codes "Flush\n") self.old self.new result }
     {
         let line = own_line(self.alloc, "Flush\n");
         self.play(line, b"", b"")

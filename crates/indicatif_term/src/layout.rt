@@ -3,7 +3,7 @@ ghost use Rattle.std.specs.Prelude.{◌≡◌, ◌+◌, ◌<◌, ◌≤◌, ◌+
 ghost use Rattle.indicatif_term.specs.Lists.{BarRows, onto_segments};
 ghost use Rattle.indicatif_term.specs.Frames.{bar_lines, logged_lines};
 ghost use Rattle.indicatif_term.specs.Inside.Plans.{IsSummed, IsLaidOut, IsPlaced, ArePlaced, Measured, MeasuredLine, MeasuredText};
-ghost use Rattle.indicatif_term.specs.Inside.Counted.{row_count};
+ghost use Rattle.indicatif_term.specs.Counts.{row_count};
 
 use crate::lines::Segment;
 use indicatif_text::columns::{Refusal, wrapped};

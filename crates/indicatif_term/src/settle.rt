@@ -3,7 +3,8 @@ ghost use Rattle.std.specs.Prelude.{◌≡◌, ℕ, ◌+◌, ◌≤◌, ◌==◌
 ghost use Rattle.std.specs.List.{list_any};
 ghost use Rattle.indicatif_term.specs.Lists.{Lists, blanks_for, kept_of, fate};
 ghost use Rattle.indicatif_term.specs.Frames.{IsFate};
-ghost use Rattle.indicatif_term.specs.Inside.Counted.{CountsOf, SettledCounts};
+ghost use Rattle.indicatif_term.specs.Counts.{CountsOf};
+ghost use Rattle.indicatif_term.specs.Inside.Counted.{SettledCounts};
 
 use crate::counts::{Counts, Keep};
 use crate::layout::RowCount;

@@ -42,7 +42,8 @@ impl<T: Drop> ProgressDrawTarget<T> {
     pub fn into_parts(self) -> Option<T>
         ensures { result ≡ self }
     {
-        self.term
+        let ProgressDrawTarget { term } = self;
+        term
     }
 }
 

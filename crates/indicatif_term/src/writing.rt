@@ -120,6 +120,18 @@ pub fn put_frame<T: TermLike>(
     Ok(())
 }
 
+/// What a drawing writes: a text that stays, blank rows, and bars.
+#[derive(Clone, Copy)]
+pub struct Drawing<'a> {
+    /// The text that is logged, if any is.
+    pub text: Option<&'a str>,
+    /// The blank rows above the bars.
+    pub blanks: usize,
+    /// The bars, and how many of their lines are written.
+    pub frame: &'a [Segment],
+    pub lines: usize,
+}
+
 /// What a drawing does on the terminal, from its first byte to its last.
 #[derive(Clone, Copy)]
 pub struct Painting<'a> {
@@ -129,31 +141,26 @@ pub struct Painting<'a> {
     pub below: bool,
     /// The rows taken back.
     pub taken: usize,
-    /// The text that is logged, if any is.
-    pub text: Option<&'a str>,
-    /// The blank rows above the bars.
-    pub blanks: usize,
-    /// The bars, and how many of their lines are written.
-    pub frame: &'a [Segment],
-    pub lines: usize,
+    /// What it writes in their place.
+    pub drawing: Drawing<'a>,
     /// Whether it ends at the front of the row after all these.
     pub ends_below: bool,
 }
 
 /// Takes rows back, writes lines of text, blank rows and lines of the frame, and goes below them if asked.
 pub fn paint<T: TermLike>(term: &mut T, painting: &Painting<'_>) -> io::Result<()>
-    requires { painting.now.lines ≤ length (frame_lines painting.now.frame.now) }
+    requires { painting.now.drawing.lines ≤ length (frame_lines painting.now.drawing.frame.now) }
     ensures { Writes (painting_bytes painting.now) (T.view term.old) (T.view term.new) result }
 {
     new_row(term, painting.anew)?;
     take_back(term, painting.below, painting.taken)?;
     let at_end = is_left_at_end(painting.below, painting.taken);
-    put_logged(term, at_end, painting.text)?;
-    let at_end = ends_logged(at_end, painting.text);
-    put_blanks(term, at_end, painting.blanks)?;
-    let at_end = ends_row(at_end, painting.blanks);
-    put_frame(term, at_end, painting.frame, painting.lines)?;
-    let at_end = ends_row(at_end, painting.lines);
+    put_logged(term, at_end, painting.drawing.text)?;
+    let at_end = ends_logged(at_end, painting.drawing.text);
+    put_blanks(term, at_end, painting.drawing.blanks)?;
+    let at_end = ends_row(at_end, painting.drawing.blanks);
+    put_frame(term, at_end, painting.drawing.frame, painting.drawing.lines)?;
+    let at_end = ends_row(at_end, painting.drawing.lines);
     new_row(term, is_left_below(painting.ends_below, at_end))?;
     term.flush()
 }

@@ -2,7 +2,7 @@
 ghost use Rattle.std.specs.Prelude.{◌≡◌, ◌<◌, ◌⊎◌, ◌↔◌, chars, length, IsTrue, IfSome, IfOk, IfErr};
 ghost use Rattle.indicatif_text.specs.Columns.{width_of, columns_of, rows_of, last_columns, has_wide};
 ghost use Rattle.indicatif_text.specs.Pieces.{pieces_of_text};
-ghost use Rattle.indicatif_text.specs.ColumnCases.{WideOneGoesDown, EmptyIsOneRow, ColoursTakeNone, RunsAndColours};
+ghost use Rattle.indicatif_text.specs.ColumnCases.{WideOneGoesDown, EmptyIsOneRow, WholeRows, WideRows, MarkedRows, ColoursTakeNone, RunsAndColours};
 
 pub use crate::moment::{Clock, Moment, StepClock};
 use crate::pieces::Visible;
@@ -104,6 +104,9 @@ fn measured(line: &str, width: usize) -> Option<Metrics>
 pub fn worked_cases()
     ensures wide { WideOneGoesDown }
     ensures empty { EmptyIsOneRow }
+    ensures whole_rows { WholeRows }
+    ensures wide_rows { WideRows }
+    ensures marked_rows { MarkedRows }
     ensures colours { ColoursTakeNone }
     ensures pieces { RunsAndColours }
 {}

@@ -173,8 +173,8 @@ fn colour_len(text: &str) -> usize
     0
 }
 
-/// Whether a character is a digit or a semicolon.
-fn is_parameter(c: char) -> bool
+/// Whether a character stands in the parameters of an escape sequence: a digit or a semicolon.
+pub fn is_parameter(c: char) -> bool
     ensures { result ≡ is_parameter c }
 {
     c.is_ascii_digit() || c == ';'

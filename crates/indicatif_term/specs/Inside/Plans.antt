@@ -5,7 +5,7 @@ use Rattle.indicatif_text.specs.Columns.{has_wide, rows_of}
 use Rattle.indicatif_text.specs.declared.refusal.Refusal.{Refusal}
 use Rattle.indicatif_term.specs.Lists.{BarLines, BarRows, shown_rows, fitting, grouped, lines_of, segments_height}
 use Rattle.indicatif_term.specs.Frames.{line_text, all_lines, text_lines, logged_lines, some_wide, Refuses, is_fault}
-use Rattle.indicatif_term.specs.Inside.Counted.{row_count}
+use Rattle.indicatif_term.specs.Counts.{row_count}
 use Rattle.indicatif_term.specs.declared.lines.Segment.{Segment}
 use Rattle.indicatif_term.specs.declared.layout.RowCount.{RowCount}
 use Rattle.indicatif_term.specs.declared.layout.Plan.{Plan}

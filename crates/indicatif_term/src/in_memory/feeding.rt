@@ -15,7 +15,7 @@ use std::marker::Model;
 /// changes nothing. Contracts see its screen, and what it has read of a character and of a sequence.
 ///
 /// Rows that scroll away are kept, so memory grows with them.
-#[derive(Drop)]
+#[derive(Debug, Drop)]
 pub struct Cells {
     grid: Grid,
     scanner: Scanner,

@@ -35,7 +35,7 @@ pub(crate) enum Op {
 }
 
 /// The rows that scrolled away, those of the window, and the cursor.
-#[derive(Drop)]
+#[derive(Debug, Drop)]
 pub(crate) struct Grid {
     alloc: Global,
     columns: u16,

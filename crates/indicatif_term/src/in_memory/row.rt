@@ -12,7 +12,7 @@ use std::alloc::Global;
 use std::marker::Model;
 
 /// A row of cells.
-#[derive(Drop)]
+#[derive(Debug, Drop)]
 pub(crate) struct Row {
     slots: Vec<Slot>,
 }

@@ -1,16 +1,16 @@
 //! What bytes ask of a terminal: characters first, escape sequences next.
 ghost use Rattle.std.specs.Prelude.{◌≡◌, ◌<◌, [], map, length, IsTrue, option_to_list};
-ghost use Rattle.indicatif_text.specs.Columns.{is_parameter};
 ghost use Rattle.indicatif_term.specs.Terminal.{idle, byte_ops, byte_reader, char_ops, char_place, plain_ops, plain_place, sequence_ops, number_with, at_least_one, is_digit};
 ghost use Rattle.indicatif_term.specs.Inside.Grids.{op_of};
 ghost use Rattle.indicatif_term.specs.Inside.Scanners.{place_of};
 
 use crate::in_memory::grid::Op;
 use crate::in_memory::spelling::Spelling;
+use indicatif_text::pieces::is_parameter;
 use std::marker::Model;
 
 /// Where in an escape sequence the next character stands.
-#[derive(Clone, Copy, Drop)]
+#[derive(Clone, Copy, Debug, Drop)]
 pub(crate) enum Stage {
     /// Outside.
     Outside,
@@ -85,13 +85,6 @@ fn plain_stage(c: char) -> Stage
     }
 }
 
-/// Whether a character is a digit or a semicolon.
-fn is_parameter(c: char) -> bool
-    ensures { result ≡ is_parameter c }
-{
-    c.is_ascii_digit() || c == ';'
-}
-
 /// A number with one more digit, at most 65,535; none with a semicolon.
 fn number_with(number: Option<u16>, c: char) -> Option<u16>
     ensures { result ≡ number_with number c }
@@ -129,7 +122,7 @@ pub(crate) struct Reading {
 }
 
 /// What was read of a character and of a sequence.
-#[derive(Drop)]
+#[derive(Debug, Drop)]
 pub(crate) struct Scanner {
     stage: Stage,
     spelling: Spelling,

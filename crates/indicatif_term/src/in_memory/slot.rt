@@ -10,14 +10,14 @@ use std::alloc::Global;
 use std::marker::Model;
 
 /// A character with the marks joined to it, of which there is one at least.
-#[derive(Drop)]
+#[derive(Debug, Drop)]
 struct Marked {
     base: char,
     marks: Vec<char>,
 }
 
 /// What stands in a cell.
-#[derive(Drop)]
+#[derive(Debug, Drop)]
 enum Kind {
     /// Nothing.
     Empty,
@@ -30,7 +30,7 @@ enum Kind {
 }
 
 /// A cell of a row.
-#[derive(Drop)]
+#[derive(Debug, Drop)]
 pub(crate) struct Slot {
     kind: Kind,
 }

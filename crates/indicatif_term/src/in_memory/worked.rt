@@ -1,5 +1,6 @@
 //! Worked cases of the cell terminal, each of which computes, and two laws of it.
 ghost use Rattle.std.specs.Prelude.{◌≡◌, [], ◌∷◌, ◌++◌, codes};
+ghost use Rattle.indicatif_term.specs.Memory.{move_text, quoted_char, written_text};
 ghost use Rattle.indicatif_term.specs.Worked.{contents_after, cursor_after, picture_after, ESC, AnyCut, FarMoves};
 
 /// Lines that are longer than a row.
@@ -51,6 +52,25 @@ pub fn marks()
     ensures joined { contents_after 1 4 (codes "a" ++ 0xCC ∷ 0x88 ∷ codes "b") ≡ codes "a" ++ 0xCC ∷ 0x88 ∷ codes "b" }
     ensures front { contents_after 1 4 (0xCC ∷ 0x88 ∷ codes "a") ≡ codes "a" }
     ensures after_empty { contents_after 1 4 (ESC ++ codes "[1C" ++ 0xCC ∷ 0x88 ∷ codes "a") ≡ codes " a" }
+{}
+
+/// The calls as text: what stands between quotation marks is escaped as in Rust's own text of a string.
+pub fn calls_as_text()
+    ensures up { move_text (codes "Up") 2 ≡ codes "Up(2)\n" }
+    ensures down { move_text (codes "Down") 10 ≡ codes "Down(10)\n" }
+    ensures letter { quoted_char 0x61 ≡ 0x61 ∷ [] }
+    ensures quote { quoted_char 0x22 ≡ 0x5C ∷ 0x22 ∷ [] }
+    ensures backslash { quoted_char 0x5C ≡ 0x5C ∷ 0x5C ∷ [] }
+    ensures line_feed { quoted_char 0x0A ≡ 0x5C ∷ 0x6E ∷ [] }
+    ensures carriage_return { quoted_char 0x0D ≡ 0x5C ∷ 0x72 ∷ [] }
+    ensures tab { quoted_char 0x09 ≡ 0x5C ∷ 0x74 ∷ [] }
+    ensures nul { quoted_char 0x00 ≡ 0x5C ∷ 0x30 ∷ [] }
+    ensures bell { quoted_char 0x07 ≡ 0x5C ∷ codes "u{7}" }
+    ensures escape { quoted_char 0x1B ≡ 0x5C ∷ codes "u{1b}" }
+    ensures delete { quoted_char 0x7F ≡ 0x5C ∷ codes "u{7f}" }
+    ensures text { written_text (codes "ab") ≡ codes "Str(\"ab\")\n" }
+    ensures escaped { written_text (codes "a\"\n" ++ 0x00 ∷ codes "b") ≡ codes "Str(\"a\\\"\\n\\0b\")\n" }
+    ensures wide { written_text (0xE5 ∷ 0x9B ∷ 0xBD ∷ []) ≡ codes "Str(\"" ++ 0xE5 ∷ 0x9B ∷ 0xBD ∷ codes "\")\n" }
 {}
 
 /// Any cut of the same bytes gives the same cells.

@@ -7,4 +7,4 @@ use Rattle.indicatif_text.proofs.columns.worked_cases.Goals as goal
 
 pub returns : goal.returns
 unfolding char_width unicode_width visible rows_of last_columns has_wide pieces_of_text
-returns c = record { wide = (refl, refl, refl, refl); empty = (refl, refl); colours = (refl, refl, refl, refl); pieces = refl }
+returns c = record { wide = (refl, refl, refl, refl); empty = (refl, refl); whole_rows = (refl, refl, refl); wide_rows = (refl, refl); marked_rows = (refl, refl, refl); colours = (refl, refl, refl, refl); pieces = refl }
