@@ -48,8 +48,8 @@ RoundsHalfUp = (nanos unit : ℕ) → 0 < unit
 abbrev pub LastDigitsAreRest : Type 0
 LastDigitsAreRest = (k n : ℕ) → (length (last_digits k n) ≡ k) × (digits_value 10 (last_digits k n) ≡ n % 10 ^ k)
 
--- a count without its commas is the number's decimal numeral; `decimal` gives a number's last 64 digits, so here as below the
--- numbers are those of at most 64, as all of 128 bits are
+-- a count without its commas is the number's decimal numeral. `decimal` gives the last 64 digits, so these laws are of numbers
+-- with at most 64, as all of 128 bits are
 abbrev pub CommasAside : Type 0
 CommasAside = (n : ℕ) → n < 10 ^ 64 → filter (λ d. not (d == 0x2C)) (human_count n) ≡ decimal n
 
@@ -62,8 +62,8 @@ abbrev pub CommasByThousands : Type 0
 CommasByThousands = (n : ℕ) → n < 10 ^ 64
     → (n < 1000 → human_count n ≡ decimal n) × (1000 ≤ n → human_count n ≡ human_count (n / 1000) ++ (0x2C ∷ last_digits 3 n))
 
--- the digits before and behind the point, read as one numeral, are the rounded quotient in units of the last place, however
--- many decimals there are; the whole part alone has at most 64
+-- the digits before and behind the point, read as one numeral, are the rounded quotient in units of the last place: with as
+-- many decimals as one likes, where the whole part has at most 64 digits
 abbrev pub DigitsSpell : Type 0
 DigitsSpell = (k n : ℕ) → n / 10 ^ k < 10 ^ 64 → digits_value 10 (decimal (n / 10 ^ k) ++ last_digits k n) ≡ n
 
@@ -77,7 +77,8 @@ NoZeroLeft = (ds es : List ℕ) → without_trailing_zeros ds ≢ es ++ (48 ∷ 
 
 -- ---- counts with decimals
 
--- the digits of a quotient's text, put to as many decimals as were asked, are the rounded quotient in units of the last place
+-- the digits of a quotient's text, with zeros up to the decimals that were asked, spell the rounded quotient in units of the
+-- last place
 abbrev pub FloatCountSpells : Type 0
 FloatCountSpells = (num den places : ℕ) → num < 2 ^ 128 →
     let text = human_float_count num den places in
@@ -92,7 +93,8 @@ FloatCountCounts = (num den places : ℕ) → num < 2 ^ 128
 -- and its end is no zero behind the point, and no point
 abbrev pub FloatCountEnds : Type 0
 FloatCountEnds = (num den places : ℕ) (front : List ℕ) → num < 2 ^ 128 →
-    let text = human_float_count num den places in (decimals_in text ≢ front ++ (48 ∷ [])) × (text ≢ front ++ (0x2E ∷ []))
+    let text = human_float_count num den places in
+    (decimals_in text ≢ front ++ (48 ∷ [])) × (text ≢ front ++ (0x2E ∷ []))
 
 -- ---- bytes
 
@@ -110,8 +112,8 @@ binary_units = codes "B" ∷ codes "KiB" ∷ codes "MiB" ∷ codes "GiB" ∷ cod
 abbrev pub decimal_units : List (List ℕ)
 decimal_units = codes "B" ∷ codes "kB" ∷ codes "MB" ∷ codes "GB" ∷ codes "TB" ∷ codes "PB" ∷ codes "EB" ∷ []
 
--- the text tells n bytes in the k-th of these units, the greatest that leaves at least 1: below the base by their numeral, and
--- else rounded to hundredths, with two decimals
+-- the text tells n bytes in the k-th of these units, the greatest that leaves at least 1: below the base by their numeral,
+-- and else rounded to hundredths, with two decimals
 pub record TellsBytes (base : ℕ) (units : List (List ℕ)) (n k : ℕ) (text : List ℕ) : Type 0 where
   pub reached : 0 < k → base ^ k ≤ n
   pub greatest : (j : ℕ) → j ≤ 6 → base ^ j ≤ n → j ≤ k
@@ -160,7 +162,8 @@ abbrev pub ReachesUnit : Type 0
 ReachesUnit = (n : ℕ)
     → IsReached n year week ⊎ (IsReached n week day ⊎ (IsReached n day hour ⊎ (IsReached n hour minute ⊎ (IsReached n minute second ⊎ ((told n).1 ≡ second)))))
 
--- before the space of a duration in words stands the count's numeral, and behind it the unit, with an `s` unless the count is 1
+-- before the space of a duration in words stands the count's numeral, and behind it the unit, with an `s` unless the count
+-- is 1
 abbrev pub WordsTell : Type 0
 WordsTell = (n : ℕ) → n < 2 ^ 64 →
     let text = human_duration n in
@@ -169,4 +172,5 @@ WordsTell = (n : ℕ) → n < 2 ^ 64 →
 
 -- the short form is the count and the first letter of what stands behind the space
 abbrev pub ShortIsWords : Type 0
-ShortIsWords = (n : ℕ) → n < 2 ^ 64 → short_duration n ≡ number_in (human_duration n) ++ take 1 (unit_in (human_duration n))
+ShortIsWords = (n : ℕ) → n < 2 ^ 64 →
+    let text = human_duration n in short_duration n ≡ number_in text ++ take 1 (unit_in text)
