@@ -68,21 +68,3 @@ module _ {W : Type 0} (contents : W → Option (List ℕ)) (w w' : W) (columns r
       subst (λ x. Writes bytes (view_behind contents old) (view_behind contents new) x) (sym same)
       (subst (λ x. Writes bytes (view_behind contents old) (view_behind contents x) done) (sym to)
       (subst (λ x. Writes bytes (view_behind contents x) (after (if is_err done then (faults + 1) % 2 ^ 64 else faults)) done) at (written done p)))
-
--- ---- a move, spelt at the end of a buffer
-
-pub spelt : (first bytes : List ℕ) (letter n at : ℕ) → length first ≡ 23 → at + length (decimal n) ≡ 22 → 2 ≤ at → 0 < n
-    → drop at bytes ≡ decimal n ++ drop 22 (slice_set first 22 letter) → drop (at - 2) (slice_set (slice_set bytes (at - 1) 0x5B) (at - 2) 0x1B) ≡ move_bytes letter n
-spelt first bytes letter n at long0 start room some digits =
-    let xs = slice_set bytes (at - 1) 0x5B in
-    let none : drop (22 + 1) first ≡ [] = drop_of_length-le first {i = 23} (omega arith) in
-    let last : drop 22 (slice_set first 22 letter) ≡ letter ∷ [] = drop-set first 22 letter (omega arith) ∙ ap (λ x. letter ∷ x) none in
-    let long1 : length bytes ≡ 23 = omega (arith, length-drop at bytes, ap length digits, length-append (decimal n) (drop 22 (slice_set first 22 letter)), ap length last) in
-    let long2 : length xs ≡ 23 = length-set bytes (at - 1) 0x5B ∙ long1 in
-    let test : eqb n 0 ≡ false = ne_eqb n 0 (λ e. omega (arith, e)) in
-    let next : at - 2 + 1 ≡ at - 1 = omega arith in
-    let after_next : at - 1 + 1 ≡ at = omega arith in
-    drop-set xs (at - 2) 0x1B (omega arith) ∙ ap (λ k. 0x1B ∷ drop k xs) next
-    ∙ ap (λ x. 0x1B ∷ x) (drop-set bytes (at - 1) 0x5B (omega arith) ∙ ap (λ k. 0x5B ∷ drop k bytes) after_next)
-    ∙ ap (λ x. 0x1B ∷ 0x5B ∷ x) (digits ∙ ap (λ x. decimal n ++ x) last)
-    ∙ sym (ap (λ b. if b then [] else 0x1B ∷ 0x5B ∷ (decimal n ++ letter ∷ [])) test)

@@ -7,7 +7,7 @@
 //! - `grid`: the rows and the cursor, and what each operation does to them.
 //! - `row`: a row of cells, and what writing into it does to its wide characters.
 //! - `slot`: a cell of a row, with the marks joined to it.
-//! - `moves`: the calls as text, and the bytes of a move.
+//! - `moves`: the calls as text.
 //! - `worked`: worked cases of the definitions.
 //!
 //! `InMemoryTerm` is that terminal as a bar's target.
@@ -29,7 +29,8 @@ mod slot;
 mod spelling;
 pub mod worked;
 
-use crate::in_memory::moves::{MoveBytes, ended_line, move_line, own_line, text_line};
+use crate::in_memory::moves::{ended_line, move_line, own_line, text_line};
+use crate::move_bytes::MoveBytes;
 use crate::term_like::TermLike;
 pub use feeding::Cells;
 use indicatif_text::refusal::Refusal;

@@ -8,6 +8,7 @@
 //! - `worked`: worked cases of the definitions.
 //! - `in_memory`: a terminal in memory.
 //! - `term`: a terminal behind a writer of bytes.
+//! - `move_bytes`: the moves of the cursor as bytes, for both.
 #![tactic(auto)]
 
 mod counts;
@@ -16,6 +17,7 @@ pub mod in_memory;
 pub mod laws;
 mod layout;
 pub mod lines;
+mod move_bytes;
 mod settle;
 pub mod target;
 pub mod term;

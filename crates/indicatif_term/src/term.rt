@@ -1,11 +1,11 @@
 //! A terminal behind a writer of bytes.
-ghost use Rattle.std.specs.Prelude.{◌≡◌, ◌<◌, ◌≤◌, ◌+◌, ◌%◌, ◌^◌, if◌then◌else◌, drop};
+ghost use Rattle.std.specs.Prelude.{◌≡◌, ◌+◌, ◌%◌, ◌^◌, if◌then◌else◌};
 ghost use Rattle.std.specs.Result.{is_err};
 ghost use Rattle.indicatif_term.specs.Calls.{Writes, move_bytes};
 ghost use Rattle.indicatif_term.specs.Writers.{Behind, view_behind, AppendsAllOrFront};
 
+use crate::move_bytes::MoveBytes;
 use crate::term_like::TermLike;
-use itoa::write_digits;
 use std::io;
 use std::io::{ErrorKind, Write};
 use std::marker::Model;
@@ -64,9 +64,7 @@ impl<W: Write> Term<W> {
         if n == 0 {
             return Ok(());
         }
-        let mut bytes = [0; LONGEST_MOVE];
-        let start = spell_move(letter, n, &mut bytes);
-        self.send(&bytes[start..])
+        self.send(MoveBytes::new(letter, n).as_slice())
     }
 
     /// Hands on what became of a call, and counts a failure.
@@ -130,23 +128,6 @@ impl<W: Write> TermLike for Term<W> {
         let flushed = self.writer.flush();
         self.counted(flushed)
     }
-}
-
-/// The bytes of the longest move: ESC `[`, twenty digits and a letter.
-const LONGEST_MOVE: usize = 23;
-
-/// Spells a move at the end of `bytes`, and tells where it begins.
-fn spell_move(letter: u8, n: usize, bytes: &mut [u8; LONGEST_MOVE]) -> usize
-    requires { 0 < n }
-    ensures within { result ≤ LONGEST_MOVE }
-    ensures spelt { drop result bytes.new ≡ move_bytes letter n }
-{
-    let last = LONGEST_MOVE - 1;
-    bytes[last] = letter;
-    let digits = write_digits(n as u64, bytes, last);
-    bytes[digits - 1] = b'[';
-    bytes[digits - 2] = 0x1B;
-    digits - 2
 }
 
 /// Writes all of these bytes, or a beginning of them where the writer fails or takes no more.

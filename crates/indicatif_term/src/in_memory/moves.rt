@@ -1,54 +1,9 @@
-//! The calls of a terminal in memory as text, and the bytes of its moves.
+//! The calls of a terminal in memory as text.
 ghost use Rattle.std.specs.Prelude.{◌≡◌, ◌+◌, ◌<◌, ◌++◌, ◌∷◌, ◌^◌, IfOk, IfErr, OnOk, [], codes, chars, length, decimal, drop, flat_map, take, encode_utf8_all, string_bytes};
-ghost use Rattle.indicatif_term.specs.Calls.{move_bytes};
 ghost use Rattle.indicatif_term.specs.Memory.{move_text, written_text, quoted_char, code_text, hex_digit};
 
 use indicatif_text::refusal::Refusal;
-use itoa::write_digits;
 use std::alloc::Global;
-use std::marker::Model;
-
-/// The bytes of a move, built without memory.
-#[derive(Drop)]
-pub(crate) struct MoveBytes {
-    bytes: [u8; 24],
-    start: usize,
-}
-
-impl Model for MoveBytes {
-    ghost use Rattle.std.specs.Prelude.{List, ℕ, ◌≤◌, drop};
-
-    ghost Value = { List ℕ };
-
-    ghost view = { λ m. drop m.start m.bytes };
-
-    ghost invariant = { λ m. m.start ≤ 24 };
-}
-
-impl MoveBytes {
-    /// ESC `[`, the number and the letter.
-    pub(crate) fn new(letter: u8, n: usize) -> MoveBytes
-        requires { 0 < n }
-        ensures { result ≡ move_bytes letter n }
-    {
-        let mut bytes = [0; 24];
-        bytes[23] = letter;
-        let start = write_digits(n as u64, &mut bytes, 23);
-        bytes[start - 1] = b'[';
-        bytes[start - 2] = 0x1B;
-        MoveBytes {
-            bytes,
-            start: start - 2,
-        }
-    }
-
-    /// The bytes.
-    pub(crate) fn as_slice(&self) -> &[u8]
-        ensures { result.now ≡ self.now }
-    {
-        &self.bytes[self.start..]
-    }
-}
 
 /// A line for a move by `n`. Refused: `Memory`.
 pub(crate) fn move_line(alloc: Global, name: &str, n: usize) -> Result<String, Refusal>

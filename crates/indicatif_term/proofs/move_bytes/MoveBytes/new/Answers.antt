@@ -2,7 +2,7 @@ use Rattle.std.proofs.Common.{◌∙◌, ◌≤◌, ◌++◌, length, ap, refl, 
 use Rattle.std.specs.Prelude.{decimal}
 use Rattle.std.proofs.lemmas.Fmt.{length-decimal-le}
 use Rattle.indicatif_term.proofs.MoveTexts.{built}
-use Rattle.indicatif_term.proofs.in_memory.moves.MoveBytes.new.Goals as goal
+use Rattle.indicatif_term.proofs.move_bytes.MoveBytes.new.Goals as goal
 
 pub write_digits-start-requires : goal.write_digits-start-requires
 write_digits-start-requires c =
