@@ -1,6 +1,6 @@
 -- The outcome of a draw, case by case, and what the engine's answer makes of it.
-use Rattle.std.proofs.Common.{◌≡◌, ℕ, zero, suc, ◌+◌, ◌<◌, ◌%◌, ◌^◌, Bool, true, false, List, [], ◌∷◌, ◌++◌, map, refl, sym, ◌∙◌, ap, subst, arith, Result, Ok, Err, Option, Some, None, inl, inr, ◌⊎◌, eqb, append-nil, take, length, if◌then◌else◌}
-use Rattle.std.specs.Prelude.{IsTrue, IsFalse, IsOk, is_ok, ◌==◌}
+use Rattle.std.proofs.Common.{◌≡◌, ℕ, zero, suc, ◌+◌, ◌<◌, ◌%◌, ◌^◌, Bool, true, false, List, [], map, refl, sym, ◌∙◌, ap, subst, arith, Result, Ok, Err, Option, Some, None, inl, inr, ◌⊎◌, eqb, append-nil, take, length, if◌then◌else◌}
+use Rattle.std.specs.Prelude.{IsTrue, IsOk}
 use Rattle.std.proofs.lemmas.Bool.{ne_eqb}
 use Rattle.indicatif_text.specs.declared.refusal.Refusal.{Refusal}
 use Rattle.indicatif_text.specs.declared.refusal.Refusal.TheVariants.{NoColumns, TooWide, Memory, Terminal as Failure}
@@ -9,16 +9,16 @@ use Rattle.indicatif_text.specs.declared.refusal.Drawn.TheVariants.{Yes, Limited
 use Rattle.indicatif_term.specs.Terminal.{Terminal, after}
 use Rattle.indicatif_term.specs.Shows.{Shows, Keeps, resting}
 use Rattle.indicatif_term.specs.Calls.{TermView, Told, State, Bytes, Nothing, tells, led_on}
-use Rattle.indicatif_term.specs.Lists.{Lists, BarLines, opening_lists, drawn}
-use Rattle.indicatif_term.specs.Frames.{bar_lines, all_lines, are_plain, some_wide, is_fault}
+use Rattle.indicatif_term.specs.Lists.{Lists, BarLines, opening_lists}
+use Rattle.indicatif_term.specs.Frames.{bar_lines, are_plain, some_wide, is_fault}
 use Rattle.indicatif_term.specs.Engines.{terminal, Fits, has_failed, Outcome as Onward, Answers, Counted, faults_after, Repaints, RepaintsAnew}
 use Rattle.indicatif_term.specs.declared.draw_target.Engine.{Engine}
-use Rattle.indicatif_bar.specs.Bars.{Bar, Command, lines_of_bar}
+use Rattle.indicatif_bar.specs.Bars.{Bar, lines_of_bar}
 use Rattle.std.proofs.Common.{Vec, Global, chars}
 use Rattle.std.proofs.lemmas.Simd.{map-map}
 use Rattle.indicatif_term.specs.Frames.{line_text}
 use Rattle.indicatif_term.specs.declared.lines.LineType.{LineType}
-use Rattle.indicatif_bar.specs.Runs.{Target, target_of, LoneState, Call, CallMade, numbered, asks, is_no, laid_out, frame_of, lines_by, written, Outcome, outcome_from, lays_out, CountsFaults, is_failure, Writes, WritesOn}
+use Rattle.indicatif_bar.specs.Runs.{Target, target_of, LoneState, Call, CallMade, numbered, asks, is_no, laid_out, frame_of, lines_by, written, outcome_from, lays_out, CountsFaults, is_failure, WritesOn}
 use Rattle.indicatif_bar.specs.Draws.{IsDrawn, IsDrawnShort, IsDrawFailed, DrawMade, Drew}
 use Rattle.indicatif_term.specs.declared.lines.Segment.{Segment}
 

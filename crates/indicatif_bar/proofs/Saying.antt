@@ -1,16 +1,16 @@
 -- When a call gives which answer.
-use Rattle.std.proofs.Common.{◌≡◌, ℕ, ◌+◌, ◌<◌, ◌%◌, ◌^◌, Bool, true, false, refl, sym, ◌∙◌, ap, subst, arith, eqb, Result, Ok, Err, Option, Some, None, inl, inr, if◌then◌else◌}
-use Rattle.std.specs.Prelude.{◌≢◌, ◌↔◌, ◌==◌, IsTrue, IsFalse}
-use Rattle.std.proofs.lemmas.Bool.{cond_both, false≢true, cases_Bool, eqb-true, eqb-false, eq-eqb, ne_eqb}
+use Rattle.std.proofs.Common.{◌≡◌, ℕ, ◌+◌, ◌%◌, ◌^◌, Bool, true, false, refl, sym, ◌∙◌, ap, subst, arith, Result, Ok, Err, Option, Some, None, inl, inr, if◌then◌else◌}
+use Rattle.std.specs.Prelude.{◌↔◌, ◌==◌}
+use Rattle.std.proofs.lemmas.Bool.{cond_both, false≢true, eqb-true, eq-eqb}
 use Rattle.indicatif_text.specs.declared.refusal.Refusal.{Refusal}
-use Rattle.indicatif_text.specs.declared.refusal.Refusal.TheVariants.{NoColumns, TooWide, Memory, Terminal as Failure}
+use Rattle.indicatif_text.specs.declared.refusal.Refusal.TheVariants.{NoColumns, TooWide, Memory}
 use Rattle.indicatif_text.specs.declared.refusal.Drawn.{Drawn}
 use Rattle.indicatif_text.specs.declared.refusal.Drawn.TheVariants.{Yes, Limited, Hidden}
 use Rattle.indicatif_term.specs.Calls.{TermView}
 use Rattle.indicatif_term.specs.Frames.{some_wide}
-use Rattle.indicatif_bar.specs.Runs.{Target, target_of, LoneState, Call, CallMade, Steps, asks, is_no, lays_out, numbered, laid_out, written, lines_by, outcome_from, outcome, Outcome, is_failure, WritesOn}
+use Rattle.indicatif_bar.specs.Runs.{Target, target_of, LoneState, Call, Steps, asks, is_no, lays_out, numbered, laid_out, written, lines_by, outcome_from, outcome, Outcome, is_failure, WritesOn}
 use Rattle.indicatif_bar.proofs.Showing.{same_view}
-use Rattle.indicatif_bar.specs.Says.{Decided, Says, EachSays}
+use Rattle.indicatif_bar.specs.Says.{Decided, EachSays}
 
 clash : (b : Bool) → b ≡ true → b ≡ false → ⊥
 clash b t f = false≢true (sym f ∙ t)

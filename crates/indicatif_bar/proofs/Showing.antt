@@ -1,13 +1,12 @@
 -- What a run of calls leaves on the terminal, call by call.
-use Rattle.std.proofs.Common.{◌≡◌, ℕ, zero, suc, ◌+◌, ◌-◌, ◌<◌, ◌≤◌, Bool, true, false, List, [], ◌∷◌, ◌++◌, length, take, max, map, refl, sym, ◌∙◌, ap, subst, arith, length-append, append_assoc, append-nil, Result, Ok, Err, Option, Some, None, option_map, inl, inr, ◌⊎◌, if◌then◌else◌}
+use Rattle.std.proofs.Common.{◌≡◌, ℕ, zero, suc, ◌+◌, ◌-◌, ◌≤◌, Bool, true, false, List, [], ◌∷◌, ◌++◌, length, take, max, refl, sym, ◌∙◌, ap, subst, arith, length-append, append_assoc, append-nil, Result, Ok, Err, Option, Some, None, option_map, inl, inr, ◌⊎◌}
 use Rattle.std.specs.Prelude.{IsTrue, flat_map, fold, ◌==◌}
 use Rattle.std.specs.List.{AllByRecursion}
 use Rattle.std.proofs.lemmas.Bool.{cond_both, cases_Bool, false≢true}
 use Rattle.std.proofs.lemmas.List.Elements.{recursion_from_All}
-use Rattle.std.proofs.lemmas.List.{take-append-le, take_all, take-append-drop}
 use Rattle.std.proofs.Common.{take-take}
 use Rattle.indicatif_text.specs.declared.refusal.Refusal.{Refusal}
-use Rattle.indicatif_text.specs.declared.refusal.Refusal.TheVariants.{NoColumns, TooWide, Memory, Terminal as Failure}
+use Rattle.indicatif_text.specs.declared.refusal.Refusal.TheVariants.{NoColumns, TooWide}
 use Rattle.indicatif_text.specs.declared.refusal.Drawn.{Drawn}
 use Rattle.indicatif_text.specs.declared.refusal.Drawn.TheVariants.{Yes, Limited, Hidden}
 use Rattle.indicatif_text.specs.Columns.{Cell, rows_of}
@@ -15,9 +14,9 @@ use Rattle.indicatif_term.specs.Screen.{Screen}
 use Rattle.indicatif_term.specs.Terminal.{Terminal, after}
 use Rattle.indicatif_term.specs.Shows.{Shows, Keeps}
 use Rattle.indicatif_term.specs.Calls.{Told, TermView, tells, led_on}
-use Rattle.indicatif_term.specs.Lists.{Lists, BarLines, drawn, logged, passed, settled, rested, shown_rows, live_of_frame, live_height, lists_height}
+use Rattle.indicatif_term.specs.Lists.{Lists, BarLines, drawn, logged, passed, shown_rows, live_of_frame, live_height, lists_height}
 use Rattle.indicatif_term.specs.Frames.{are_plain, some_wide, text_lines, logged_lines}
-use Rattle.indicatif_bar.specs.Runs.{Target, target_of, LoneState, Call, Change, Log, CallMade, Steps, IsMade, asks, is_no, numbered, laid_out, written, lines_by, outcome_from, outcome, Outcome, outcomes, is_failure, Writes, WritesOn, Runs, frame_of}
+use Rattle.indicatif_bar.specs.Runs.{Target, target_of, LoneState, Call, Change, Log, CallMade, Steps, IsMade, asks, is_no, numbered, laid_out, written, lines_by, outcome_from, outcome, Outcome, outcomes, is_failure, WritesOn, Runs, frame_of}
 use Rattle.indicatif_bar.proofs.Outcomes.{led_nowhere, still_tells, nothing_keeps, after_nothing}
 use Rattle.indicatif_bar.specs.Headline.{AllPlain, KeepsThrough, RunLeaves, WholeRun, ShowsOn, ShowsEach, Headline, is_undisturbed, OneOutcome}
 

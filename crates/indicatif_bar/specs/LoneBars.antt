@@ -1,5 +1,5 @@
 -- What contracts see of a lone bar: its record, its terminal, whether it is in a given state, and what a call leads to.
-use Rattle.std.specs.Prelude.{◌≡◌, ℕ, List, map, string_bytes, Option, MatchOption, option_map, Result}
+use Rattle.std.specs.Prelude.{◌≡◌, ℕ, string_bytes, Option, MatchOption, option_map, Result}
 use Rattle.indicatif_text.specs.declared.refusal.Refusal.{Refusal}
 use Rattle.indicatif_text.specs.declared.refusal.Drawn.{Drawn}
 use Rattle.indicatif_term.specs.Calls.{TermView}

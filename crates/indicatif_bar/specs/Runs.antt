@@ -1,7 +1,7 @@
 -- Calls of a lone bar: what each answers, what stands in its lists then, and what was written. The order of a call is:
 -- the bar's numbers change; no draw is asked; the target is hidden; it has no columns; the bar's lines are laid out and
 -- stored; a line is too wide; the terminal is written. There is no limiter: each draw that is asked is made.
-use Rattle.std.specs.Prelude.{◌≡◌, ℕ, ◌+◌, ◌%◌, ◌^◌, Bool, true, false, not, ◌&&◌, IsTrue, IsFalse, ◌==◌, List, [], ◌∷◌, ◌++◌, map, length, chars, Option, Some, None, Result, Ok, Err, IfErr, if◌then◌else◌, ◌⊎◌}
+use Rattle.std.specs.Prelude.{◌≡◌, ℕ, ◌+◌, ◌%◌, ◌^◌, Bool, true, false, not, ◌&&◌, IsTrue, IsFalse, ◌==◌, List, [], ◌∷◌, ◌++◌, map, chars, Option, Some, None, Result, Ok, Err, if◌then◌else◌, ◌⊎◌}
 use Rattle.indicatif_text.specs.declared.refusal.Refusal.{Refusal}
 use Rattle.indicatif_text.specs.declared.refusal.Refusal.TheVariants.{NoColumns, TooWide, Memory, Terminal as Failure}
 use Rattle.indicatif_text.specs.declared.refusal.Drawn.{Drawn}

@@ -1,12 +1,12 @@
 -- Worked cases of a lone bar: what calls at the moment 0 answer, and the rows that stand then. The terminal never fails.
-use Rattle.std.specs.Prelude.{◌≡◌, ℕ, ◌-◌, ◌^◌, true, false, List, [], ◌∷◌, ◌++◌, map, flat_map, codes, Result, Ok, Err}
+use Rattle.std.specs.Prelude.{◌≡◌, ℕ, ◌-◌, ◌^◌, true, false, List, [], ◌∷◌, map, flat_map, codes, Result, Ok, Err}
 use Rattle.indicatif_text.specs.declared.refusal.Refusal.{Refusal}
 use Rattle.indicatif_text.specs.declared.refusal.Refusal.TheVariants.{NoColumns, TooWide}
 use Rattle.indicatif_text.specs.declared.refusal.Drawn.{Drawn}
 use Rattle.indicatif_text.specs.declared.refusal.Drawn.TheVariants.{Yes, Hidden}
 use Rattle.indicatif_text.specs.Columns.{Cell, rows_of}
 use Rattle.indicatif_term.specs.Lists.{opening_lists, all_rows}
-use Rattle.indicatif_bar.specs.Bars.{Bar, new_bar, Tick, SetMessage, ForceDraw, expanded, message_lines, changed}
+use Rattle.indicatif_bar.specs.Bars.{new_bar, Tick, SetMessage, ForceDraw, expanded, message_lines, changed}
 use Rattle.indicatif_bar.specs.Runs.{Target, LoneState, Call, Change, Log, opening_state, outcomes}
 
 -- ---- messages

@@ -1,12 +1,11 @@
 -- Whole characters at the front of bytes.
-use Rattle.std.proofs.Common.{◌≡◌, ℕ, ◌+◌, ◌-◌, ◌*◌, ◌/◌, ◌%◌, ◌<◌, ◌≤◌, true, false, List, [], ◌∷◌, ◌++◌, length, take, drop, refl, sym, ◌∙◌, ap, arith, eqb, ltb, length-drop}
-use Rattle.std.specs.Str.{all_scalars}
+use Rattle.std.proofs.Common.{◌≡◌, ℕ, ◌+◌, ◌-◌, ◌*◌, ◌/◌, ◌≤◌, true, false, List, [], ◌∷◌, length, take, drop, refl, sym, ◌∙◌, ap, arith, eqb, ltb, length-drop}
 use Rattle.std.proofs.Math.Utf8.{scalar, encode, next}
 use Rattle.std.proofs.Math.Seq.{take-add}
 use Rattle.std.proofs.lemmas.List.{take_all}
 use Rattle.std.proofs.lemmas.Bool.{and_parts, ne_eqb, le-ltb, lt-ltb}
-use Rattle.indicatif_term.specs.Screen.{Screen, Op, Put, performed, performed_all}
-use Rattle.indicatif_term.specs.Terminal.{Plain, Reader, Terminal, idle, plain_ops, plain_place, ops_of, reader_after, after}
+use Rattle.indicatif_term.specs.Screen.{Screen, Put, performed, performed_all}
+use Rattle.indicatif_term.specs.Terminal.{Plain, Reader, Terminal, idle, plain_ops, plain_place, after}
 use Rattle.indicatif_term.specs.Inside.Scanners.{IsFront}
 use Rattle.indicatif_term.proofs.Fed.{after-append, same_terminal}
 use Rattle.indicatif_term.proofs.Reading.{Spells, char_read}

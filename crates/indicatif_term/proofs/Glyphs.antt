@@ -9,7 +9,7 @@ use Rattle.std.proofs.lemmas.Grind.{flat_map-append}
 use Rattle.std.specs.List.{AllByRecursion}
 use Rattle.unicode_width.specs.Width.{char_width}
 use Rattle.indicatif_text.specs.Columns.{Cell, width_of, Blank, Continued, Glyph, glyph_cells, glyph_width, columns_in, row_of, pieces_after, blank_row, columns_of_last}
-use Rattle.indicatif_term.specs.Screen.{Screen, Op, Put, joined_at, with_mark, put_here, put_sized, line_feed, performed, performed_all}
+use Rattle.indicatif_term.specs.Screen.{Screen, Put, joined_at, with_mark, put_here, put_sized, line_feed, performed, performed_all}
 use Rattle.indicatif_term.proofs.Standing.{screen_at, screen_after, glyph_ops, IsSized}
 use Rattle.indicatif_term.proofs.Fed.{performed_all-append}
 use Rattle.indicatif_term.proofs.Rows.{written, joined, cursor_row_at, with_row_at, line_feed_at}

@@ -1,5 +1,5 @@
 -- Lines that are measured one after another.
-use Rattle.std.proofs.Common.{◌≡◌, ℕ, zero, suc, ◌+◌, ◌<◌, Bool, true, false, List, [], ◌∷◌, ◌++◌, ◌||◌, length, map, take, get_or, refl, sym, ◌∙◌, ap, arith, chars, Result, Err, Bor}
+use Rattle.std.proofs.Common.{◌≡◌, ℕ, zero, suc, ◌+◌, ◌<◌, true, false, List, [], ◌∷◌, ◌++◌, ◌||◌, length, map, take, get_or, refl, sym, ◌∙◌, ap, arith, chars, Result, Err, Bor}
 use Rattle.std.proofs.lemmas.Str.{chars-nil}
 use Rattle.std.proofs.lemmas.List.{take_more, map-append}
 use Rattle.std.proofs.Math.Bool.{or-true, or-false}

@@ -1,12 +1,11 @@
 -- What a terminal behind a writer tells once bytes were sent to the writer.
-use Rattle.std.proofs.Common.{◌≡◌, ℕ, ◌+◌, ◌-◌, ◌%◌, ◌^◌, length, eqb, if◌then◌else◌, ◌<◌, ◌≤◌, arith, drop_of_length-le, length-drop, length-append, false, List, [], ◌∷◌, ◌++◌, Option, Some, None, Result, Ok, Err, refl, sym, ◌∙◌, ap, subst, append_assoc, append-nil, take, drop, take-append-drop}
-use Rattle.std.specs.Prelude.{IsTrue, decimal, slice_set}
+use Rattle.std.proofs.Common.{◌≡◌, ℕ, ◌+◌, ◌-◌, ◌%◌, ◌^◌, length, if◌then◌else◌, List, [], ◌++◌, Option, Some, None, Result, Ok, Err, refl, sym, ◌∙◌, ap, subst, append_assoc, append-nil, take, drop, take-append-drop}
+use Rattle.std.specs.Prelude.{IsTrue}
 use Rattle.std.specs.Result.{is_err}
 use Rattle.std.specs.Io.KnownBytes.{Appends, Keeps}
-use Rattle.std.proofs.lemmas.Bool.{false≢true, ne_eqb}
-use Rattle.std.proofs.lemmas.List.{take_rest, drop-set}
-use Rattle.std.proofs.Math.ListN.{length-set}
-use Rattle.indicatif_term.specs.Calls.{Bytes, tells, led_on, TermView, Writes, move_bytes}
+use Rattle.std.proofs.lemmas.Bool.{false≢true}
+use Rattle.std.proofs.lemmas.List.{take_rest}
+use Rattle.indicatif_term.specs.Calls.{Bytes, tells, led_on, TermView, Writes}
 use Rattle.indicatif_term.specs.Writers.{Behind, told_by, view_behind, AppendsAllOrFront}
 
 -- ---- what a writer holds

@@ -1,6 +1,6 @@
 -- What single calls do to a terminal that shows given rows.
 use Rattle.std.proofs.Common.{◌≡◌, ℕ, suc, ◌+◌, ◌-◌, ◌<◌, ◌≤◌, Bool, true, false, List, [], ◌∷◌, ◌++◌, length, take, replicate, refl, sym, ◌∙◌, ap, subst, arith, length-append, append_assoc}
-use Rattle.std.specs.Prelude.{IsTrue, IsFalse, ◌||◌, max, chars, nat_lt, is_some}
+use Rattle.std.specs.Prelude.{IsTrue, IsFalse, max, chars, nat_lt, is_some}
 use Rattle.std.specs.Str.{IsUtf8}
 use Rattle.std.specs.List.{list_any, list_all, AllByRecursion}
 use Rattle.std.proofs.lemmas.List.{length-take-le, length-map, length-replicate}

@@ -1,8 +1,8 @@
-use Rattle.std.proofs.Common.{◌≡◌, ℕ, [], false, ◌∷◌, map, refl, ◌∙◌, ap, Ok, Err}
+use Rattle.std.proofs.Common.{[], false, ◌∷◌, map, refl, ◌∙◌, ap, Ok, Err}
 use Rattle.std.proofs.lemmas.Result.{err_from_is_err_and}
 use Rattle.indicatif_text.specs.declared.refusal.Refusal.{Refusal}
 use Rattle.indicatif_term.specs.Frames.{bar_lines, all_lines}
-use Rattle.indicatif_term.specs.Lists.{BarLines, drawn}
+use Rattle.indicatif_term.specs.Lists.{drawn}
 use Rattle.indicatif_term.specs.Engines.{terminal}
 use Rattle.indicatif_bar.specs.Runs.{Change}
 use Rattle.indicatif_bar.proofs.Outcomes.{drawing_of, drew_ok, drew_err, drew_withheld, laid_frame}

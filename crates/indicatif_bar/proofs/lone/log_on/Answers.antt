@@ -1,8 +1,8 @@
-use Rattle.std.proofs.Common.{◌≡◌, ℕ, [], false, ◌∷◌, ◌++◌, map, refl, ◌∙◌, ap, Ok, Err}
+use Rattle.std.proofs.Common.{[], false, ◌∷◌, ◌++◌, map, refl, ◌∙◌, ap, Ok, Err}
 use Rattle.std.proofs.lemmas.Result.{err_from_is_err_and}
 use Rattle.indicatif_text.specs.declared.refusal.Refusal.{Refusal}
 use Rattle.indicatif_term.specs.Frames.{bar_lines, all_lines, text_lines, logged_lines}
-use Rattle.indicatif_term.specs.Lists.{BarLines, logged}
+use Rattle.indicatif_term.specs.Lists.{logged}
 use Rattle.indicatif_term.specs.Engines.{terminal}
 use Rattle.indicatif_bar.specs.Runs.{Log}
 use Rattle.indicatif_bar.proofs.Outcomes.{drawing_of, drew_ok, drew_err, drew_withheld, laid_frame}

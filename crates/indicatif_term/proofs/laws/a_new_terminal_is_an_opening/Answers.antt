@@ -1,4 +1,4 @@
-use Rattle.std.proofs.Common.{◌≡◌, ℕ, ◌-◌, ◌<◌, refl, sym, ◌∙◌, ap, arith, replicate, drop, length}
+use Rattle.std.proofs.Common.{◌≡◌, ℕ, ◌-◌, ◌<◌, refl, ap, arith, replicate, length}
 use Rattle.std.proofs.lemmas.List.{length-replicate}
 use Rattle.indicatif_text.specs.Columns.{blank_row}
 use Rattle.indicatif_term.specs.Screen.{blank_screen}

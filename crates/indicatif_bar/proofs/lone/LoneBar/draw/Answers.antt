@@ -1,8 +1,7 @@
-use Rattle.std.proofs.Common.{◌≡◌, Option, Some, None, option_map, false, refl, sym, ◌∙◌, ap, subst, Ok}
+use Rattle.std.proofs.Common.{◌≡◌, Some, None, option_map, refl, sym, ◌∙◌, ap, subst, Ok}
 use Rattle.std.specs.Prelude.{MatchOption}
 use Rattle.indicatif_text.specs.declared.refusal.Drawn.TheVariants.{Hidden}
 use Rattle.indicatif_term.specs.Engines.{terminal, Fits, has_failed}
-use Rattle.indicatif_term.specs.declared.draw_target.Engine.{Engine}
 use Rattle.indicatif_bar.specs.Runs.{Change, is_no, target_of}
 use Rattle.indicatif_bar.specs.Draws.{DrawMade}
 use Rattle.indicatif_bar.proofs.Outcomes.{drawn_nothing, outcome-hidden}

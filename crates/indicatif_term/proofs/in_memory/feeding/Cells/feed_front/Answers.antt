@@ -1,4 +1,4 @@
-use Rattle.std.proofs.Common.{◌≡◌, ◌∙◌, ap, take}
+use Rattle.std.proofs.Common.{◌∙◌, ap, take}
 use Rattle.indicatif_term.specs.Terminal.{Terminal, after}
 use Rattle.indicatif_term.proofs.Fronts.{fed_front}
 use Rattle.indicatif_term.proofs.in_memory.feeding.Cells.feed_front.Goals as goal
