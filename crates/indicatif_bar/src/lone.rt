@@ -1,5 +1,5 @@
 //! A bar that stands alone on its target.
-ghost use Rattle.std.specs.Prelude.{◌≡◌, ℕ, ◌<◌, ◌⊎◌, Option, Some, option_map, false, map, IfOk, IfErr, OnErr};
+ghost use Rattle.std.specs.Prelude.{◌≡◌, ◌<◌, ◌⊎◌, Option, Some, option_map, false, map, IfOk, IfErr, OnErr};
 ghost use Rattle.indicatif_term.specs.Frames.{bar_lines, line_text};
 ghost use Rattle.indicatif_term.specs.Engines.{terminal, Fits, has_failed};
 ghost use Rattle.indicatif_bar.specs.Bars.{Command, asked, lines_of_bar};

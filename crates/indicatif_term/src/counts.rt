@@ -1,5 +1,5 @@
 //! What an engine remembers of its rows: their counts.
-ghost use Rattle.std.specs.Prelude.{◌≡◌, ℕ, ◌+◌, ◌-◌, ◌<◌, ◌≤◌, ◌^◌, map, min, length, List, IfOk, IfErr, IsTrue, sum_by};
+ghost use Rattle.std.specs.Prelude.{◌≡◌, ℕ, ◌+◌, ◌-◌, ◌<◌, ◌≤◌, ◌^◌, min, List, IfOk, IfErr, IsTrue, sum_by};
 
 use crate::layout::{Plan, RowCount};
 use crate::settle::{NextRows, blanks_of, rows_of, settled_counts};

@@ -4,7 +4,7 @@
 //! *kept*, of bars that are gone; and the *live* ones, of the last frame. An engine remembers their counts and no text, so
 //! what it needs does not grow with what is logged. It takes kept and live rows back from the last one up, and writes the
 //! new ones in their place, so that the rows above stand at every moment.
-ghost use Rattle.std.specs.Prelude.{◌≡◌, ◌≢◌, ◌↔◌, map, length, ◌≤◌, IsOk, IsTrue, false, ◌++◌, [], ℕ};
+ghost use Rattle.std.specs.Prelude.{◌≡◌, ◌≢◌, map, length, ◌≤◌, IsOk, IsTrue, false, ◌++◌, [], ℕ};
 ghost use Rattle.indicatif_term.specs.Lists.{opening_lists};
 ghost use Rattle.indicatif_term.specs.Counts.{CountsOf};
 

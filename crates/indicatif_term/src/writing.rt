@@ -1,6 +1,6 @@
 //! Rows taken back, and lines written.
-ghost use Rattle.std.specs.Prelude.{◌≡◌, ◌^◌, ◌<◌, ◌≤◌, ◌+◌, ◌-◌, [], ◌++◌, List, ℕ, map, take, length, replicate, flat_map, string_bytes, Bool, true, if◌then◌else◌, not, ◌&&◌, ◌||◌, ◌==◌, nat_lt, is_some};
-ghost use Rattle.indicatif_term.specs.Calls.{TermView, Writes, move_bytes, clear_bytes};
+ghost use Rattle.std.specs.Prelude.{◌≡◌, ◌<◌, ◌≤◌, ◌+◌, ◌-◌, [], ◌++◌, map, take, length, replicate, true, if◌then◌else◌, not, ◌&&◌, ◌||◌, ◌==◌, nat_lt, is_some};
+ghost use Rattle.indicatif_term.specs.Calls.{Writes, move_bytes, clear_bytes};
 ghost use Rattle.indicatif_term.specs.Inside.Bytes.{back_bytes, lines_bytes, painting_bytes, next_row};
 ghost use Rattle.indicatif_term.specs.Frames.{line_text, logged_lines};
 ghost use Rattle.indicatif_term.specs.Inside.Plans.{frame_lines, lines_above};

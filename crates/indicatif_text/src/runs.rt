@@ -1,5 +1,5 @@
 //! Cutting a text at the first character that doesn't belong to a run.
-ghost use Rattle.std.specs.Prelude.{◌≡◌, ◌∷◌, [], ◌≤◌, chars, length, take_while, MatchOption, IfSome, IsUtf8};
+ghost use Rattle.std.specs.Prelude.{◌≡◌, ◌∷◌, [], chars, take_while, MatchOption, IfSome, IsUtf8};
 ghost use Rattle.std.specs.List.{prefix_len};
 ghost use Rattle.indicatif_text.specs.Runs.{belongs, in_words};
 ghost use Rattle.indicatif_text.specs.Template.{after_run};

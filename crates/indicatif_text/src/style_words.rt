@@ -1,5 +1,5 @@
 //! Styles of text: the colours and attributes that a dotted text names, and what they write.
-ghost use Rattle.std.specs.Prelude.{◌≡◌, ◌+◌, ◌≤◌, ◌||◌, ◌++◌, [], ◌∷◌, chars, bytes_eq, option_map, flat_map, position, take_while, IsUtf8, string_bytes, string_len, string_capacity, length, codes, nat_lt, OnOk, OnErr, IfErr, if◌then◌else◌, IsTrue};
+ghost use Rattle.std.specs.Prelude.{◌≡◌, ◌+◌, ◌≤◌, ◌||◌, ◌++◌, [], chars, bytes_eq, option_map, flat_map, take_while, IsUtf8, string_bytes, string_len, string_capacity, length, codes, nat_lt, OnOk, OnErr, IfErr, if◌then◌else◌, IsTrue};
 ghost use Rattle.std.specs.List.{list_all};
 ghost use Rattle.indicatif_text.specs.Styles.{style_of, styled, sequence_of, sequence_if, numbers_of, foreground_number, background_number, foreground_of, background_of, foreground_after, background_after, place_of};
 ghost use Rattle.indicatif_text.specs.Runs.{in_words};

@@ -1,5 +1,5 @@
 //! Printable characters at the front of bytes, of the lengths that most texts have: ASCII, and three bytes.
-ghost use Rattle.std.specs.Prelude.{◌≡◌, ◌<◌, ◌≤◌, ◌∷◌, [], IfSome};
+ghost use Rattle.std.specs.Prelude.{◌<◌, ◌≤◌, ◌∷◌, [], IfSome};
 ghost use Rattle.indicatif_term.specs.Inside.Scanners.{IsFront};
 
 /// A character and how many bytes spell it.

@@ -1,5 +1,5 @@
 //! The calls of a terminal in memory as text.
-ghost use Rattle.std.specs.Prelude.{◌≡◌, ◌+◌, ◌<◌, ◌++◌, ◌∷◌, ◌^◌, IfOk, IfErr, OnOk, [], codes, chars, length, decimal, drop, flat_map, take, encode_utf8_all, string_bytes};
+ghost use Rattle.std.specs.Prelude.{◌≡◌, ◌+◌, ◌<◌, ◌++◌, ◌∷◌, IfOk, IfErr, OnOk, [], codes, chars, flat_map, encode_utf8_all, string_bytes};
 ghost use Rattle.indicatif_term.specs.Memory.{move_text, written_text, quoted_char, code_text, hex_digit};
 
 use indicatif_text::refusal::Refusal;

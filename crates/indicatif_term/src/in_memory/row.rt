@@ -1,8 +1,7 @@
 //! A row of cells, and what writing into it does to its wide characters.
 ghost use Rattle.std.specs.Prelude.{◌≡◌, ◌+◌, ◌<◌, ◌≤◌, ◌++◌, if◌then◌else◌, is_ok, IfOk, IfErr, OnOk, length, drop, take, string_bytes};
-ghost use Rattle.std.specs.List.{list_any, list_all};
 ghost use Rattle.indicatif_text.specs.Columns.{blank_row};
-ghost use Rattle.indicatif_term.specs.Screen.{cut_before, written_at, joined_at, is_continued};
+ghost use Rattle.indicatif_term.specs.Screen.{cut_before, written_at, joined_at};
 ghost use Rattle.indicatif_term.specs.Pictures.{is_blank, is_written, has_written, row_text, trimmed};
 ghost use Rattle.indicatif_term.specs.Inside.Slots.{emptied_back, emptied_on, overwritten, character_cells};
 

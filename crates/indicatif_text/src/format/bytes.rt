@@ -1,5 +1,5 @@
 //! Numbers of bytes with a prefix.
-ghost use Rattle.std.specs.Prelude.{◌≡◌, ◌^◌, ◌≤◌, length, codes, IsAscii};
+ghost use Rattle.std.specs.Prelude.{◌≡◌, ◌^◌, ◌≤◌, length, IsAscii};
 ghost use Rattle.indicatif_text.specs.Format.{prefix_exponent, bytes_text, binary_bytes, decimal_bytes};
 
 use crate::format::rounding::hundredths;

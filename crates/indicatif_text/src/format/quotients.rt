@@ -1,5 +1,5 @@
 //! Quotients with decimals, by long division.
-ghost use Rattle.std.specs.Prelude.{◌≡◌, ◌≢◌, ◌+◌, ◌*◌, ◌/◌, ◌%◌, ◌<◌, ◌≤◌, ◌++◌, length, true, if◌then◌else◌, IsAscii, OnOk, OnErr};
+ghost use Rattle.std.specs.Prelude.{◌≡◌, ◌+◌, ◌*◌, ◌/◌, ◌%◌, ◌<◌, ◌≤◌, ◌++◌, length, true, if◌then◌else◌, IsAscii, OnOk, OnErr};
 ghost use Rattle.std.specs.String.{string_bytes};
 ghost use Rattle.indicatif_text.specs.Format.{last_digits, after_point, human_count, human_float_count};
 ghost use Rattle.indicatif_text.specs.Quotients.{below, raised, NeedsNoCarry};
