@@ -11,7 +11,7 @@ import pathlib
 import re
 import sys
 
-ORDER = ["indicatif_text", "indicatif_term", "indicatif_bar"]
+ORDER = ["indicatif_text", "indicatif_term", "indicatif_bar", "indicatif_board", "indicatif"]
 
 WIDTHS = "UAX #11"
 SEQUENCES = "ECMA-48"
@@ -44,29 +44,23 @@ Files under `Inside/` and those whose first words say so are cited by private fu
 SOURCES = {
     "indicatif_text": {
         "Columns": (OWN, {SEQUENCES: "is_parameter parameters_length colour_length", WIDTHS: "width_of"}),
-        "Fronts": (OWN, {}),
         "Format": (CRATE + "; that quotients are exact and rounded once is this project's own rule",
                    {OWN: "rounds_up round Quotient nanos_per_second"}),
-        "Parts": (CRATE, {OWN: "part_of"}),
         "Pieces": (OWN, {}),
-        "Quotients": (OWN, {}),
-        "Reading": (OWN, {}),
-        "Refusals": (OWN, {}),
-        "Runs": (OWN, {}),
-        "Shown": (OWN, {}),
-        "Styles": (CRATE, {SEQUENCES: "sequence_of",
-                           f"{CRATE}, its numbers {SEQUENCES}": "attribute_words foreground_of background_of",
-                           OWN: "place_of foreground_number background_number numbers_of"}),
+        "Range": (CRATE, {OWN: "Appends"}),
+        "Refusal": (OWN, {}),
+        "StyleWords": (CRATE, {SEQUENCES: "sequence_of",
+                               f"{CRATE}, its numbers {SEQUENCES}": "attribute_words foreground_of background_of",
+                               OWN: "colour_place foreground_number background_number numbers_of"}),
         "Template": (CRATE + "; that a brace before white space keeps its order is this project's own rule",
-                     {OWN: "is_too_wide"}),
-        "TemplateErrors": (OWN, {}),
-        "TimeUnits": (OWN, {}),
+                     {OWN: "is_too_wide part_of refusal_of"}),
     },
     "indicatif_term": {
         "Calls": (SEQUENCES, {OWN: "Told tells led_on TermView LeadsOn BreaksOff Writes"}),
         "Counts": (OWN, {}),
         "Engines": (OWN, {}),
         "Frames": (OWN, {CRATE: "line_text logged_lines"}),
+        "Limiters": (CRATE, {}),
         "Lists": (OWN, {}),
         "Memory": (OWN, {CRATE: "move_text hex_digit code_text quoted_char written_text"}),
         "Pictures": (OWN, {}),
@@ -78,12 +72,40 @@ SOURCES = {
         "Writers": (OWN, {}),
     },
     "indicatif_bar": {
-        "Bars": (CRATE, {OWN: "Progress Bar lines_of_bar"}),
-        "Draws": (OWN, {}),
-        "Headline": (OWN, {}),
+        "BarStyles": (CRATE, {}),
+        "Bars": (OWN, {}),
+        "Bounds": (OWN, {}),
+        "Builders": (CRATE, {}),
+        "Commands": (CRATE, {}),
+        "Finishes": (CRATE, {}),
+        "Keys": (CRATE, {}),
+        "Kinds": (OWN, {}),
+        "Layout": (CRATE, {}),
+        "Lone": (OWN, {}),
         "LoneBars": (OWN, {}),
-        "Says": (OWN, {}),
+        "Machines": (OWN, {}),
+        "Measures": (CRATE + "; that quotients are exact, and the rate a plain mean, is this project's own rule", {}),
+        "PositionLimiters": (CRATE, {}),
+        "Progress": (CRATE, {}),
         "Runs": (OWN, {}),
+        "Says": (OWN, {}),
+        "Tabs": (CRATE, {}),
+        "Trackers": (OWN, {}),
+    },
+    "indicatif_board": {
+        "BoardBars": (OWN, {}),
+        "BoardValues": (OWN, {}),
+        "Boards": (CRATE + ", and this project's own rule where its documents are silent", {}),
+        "Candidates": (OWN, {}),
+        "Done": (OWN, {}),
+        "Members": (CRATE, {}),
+        "Multi": (OWN, {}),
+    },
+    "indicatif": {
+        "Moves": (OWN, {}),
+        "Ring": (CRATE, {}),
+        "Seek": (CRATE, {}),
+        "Wrap": (OWN, {}),
     },
 }
 
@@ -129,14 +151,15 @@ def definitions_of(lines):
 
 def source_of(crate, path):
     """The source of a file's definitions, and of those that come from another; None where nobody has named it."""
-    named = SOURCES[crate].get(path.stem)
+    inside = path.parent.name == "Inside"
+    named = SOURCES[crate].get(f"Inside/{path.stem}" if inside else path.stem)
     if named:
         return named
     if re.search(r"^Worked|(Cases|Rows)$", path.stem):
         return CASES, {}
     if path.stem.endswith("Laws"):
         return LAWS, {}
-    return (OWN, {}) if path.parent.name == "Inside" else None
+    return (OWN, {}) if inside else None
 
 
 def page_of(crate, path, faults):

@@ -2,16 +2,19 @@
 # Compares a real terminal, tmux, with the cell terminal on a list of cases: each case's bytes go to a pane of its size,
 # and the rows that the pane shows are compared with those that the cell terminal shows after the same bytes.
 #
-# usage: tools/real_terminal.sh PROGRAM [CASE ..]
-#   PROGRAM  the program `cases` (crates/cases): `PROGRAM` lists the cases, `PROGRAM NAME bytes` and `PROGRAM NAME rows`
+# usage: tools/real_terminal.sh [CASE ..]
 #   CASE     the cases to try; all of them if none is named
 #
-# It installs Debian's package tmux if there is none. Rows are compared up to the last written one, without the blanks at
-# their ends. The exit status is 1 if a case differs.
+# It builds the program `real_terminal` (crates/real_terminal), of which `real_terminal` lists the cases, `real_terminal NAME
+# bytes` has a case's bytes and `real_terminal NAME rows` its rows, and installs Debian's package tmux if there is none. Rows are
+# compared up to the last written one, without the blanks at their ends. The exit status is 1 if a case differs.
 set -u
-[ $# -ge 1 ] || { sed -n '5,7s/^# //p' "$0" >&2; exit 2; }
-program=$(realpath "$1") || exit 2
-shift
+crate=$(cd "$(dirname "$0")/../crates/real_terminal" && pwd) || exit 2
+if ! built=$(cd "$crate" && rt run 2>&1); then
+  printf '%s\n' "$built" | tail -5 >&2
+  exit 2
+fi
+program=$crate/out/real_terminal
 if ! command -v tmux > /dev/null; then
   apt-get update -qq && apt-get install -y -qq tmux > /dev/null || { echo "no tmux" >&2; exit 2; }
 fi

@@ -2,7 +2,7 @@
 use indicatif_term::draw_target::{Engine, Keep, LineType, MultiProgressAlignment, Segment};
 use indicatif_term::in_memory::InMemoryTerm;
 use indicatif_term::term_like::{Term, TermLike};
-use indicatif_text::refusal::Refusal;
+use indicatif_text::columns::Refusal;
 use std::alloc::Global;
 use std::test::Fail;
 

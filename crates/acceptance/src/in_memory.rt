@@ -1,7 +1,7 @@
 //! The terminal in memory, with the answers of the Rust crate where it has any.
 use indicatif_term::in_memory::{Cells, InMemoryTerm};
 use indicatif_term::term_like::TermLike;
-use indicatif_text::refusal::Refusal;
+use indicatif_text::columns::Refusal;
 use std::io::ErrorKind;
 use std::test::Fail;
 

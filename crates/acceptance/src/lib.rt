@@ -6,19 +6,17 @@ mod columns;
 #[cfg(test)]
 mod differences;
 #[cfg(test)]
+mod done_tests;
+#[cfg(test)]
 mod engine;
-#[cfg(test)]
-mod failing_term;
-#[cfg(test)]
-mod faults;
-#[cfg(test)]
-mod first;
 #[cfg(test)]
 mod format;
 #[cfg(test)]
 mod in_memory;
 #[cfg(test)]
-mod lone;
+mod limiter_tests;
+#[cfg(test)]
+mod places;
 #[cfg(test)]
 mod refusal;
 #[cfg(test)]
@@ -26,4 +24,4 @@ mod template;
 #[cfg(test)]
 mod term;
 #[cfg(test)]
-mod writers;
+mod wrapped;

@@ -1,5 +1,5 @@
 //! The refusals: their numbers and what they print, by the list of refusals.
-use indicatif_text::refusal::{Refusal, TemplateState};
+use indicatif_text::columns::{Refusal, TemplateState};
 use indicatif_text::template::TemplateError;
 use std::io::ErrorKind;
 use std::test::Fail;

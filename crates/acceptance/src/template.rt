@@ -1,6 +1,5 @@
 //! The grammar of templates and the words of styles, on the worked cases and as the Rust crate writes.
-use indicatif_text::columns::{Refusal, Style};
-use indicatif_text::refusal::TemplateState;
+use indicatif_text::columns::{Refusal, Style, TemplateState};
 use indicatif_text::template::{Alignment, Part, Template, TemplateError};
 use std::alloc::{AllocError, Global};
 use std::test::Fail;

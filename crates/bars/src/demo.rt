@@ -1,17 +1,23 @@
 //! A bar on a terminal of 4 rows and 10 columns.
 use indicatif_bar::lone::LoneBar;
 use indicatif_bar::state::BarState;
+use indicatif_bar::style::{NoTracker, ProgressStyle};
 use indicatif_term::draw_target::ProgressDrawTarget;
 use indicatif_term::in_memory::InMemoryTerm;
-use indicatif_text::refusal::Refusal;
+use indicatif_text::columns::Refusal;
 use std::alloc::Global;
 
 /// What stands on the terminal after the bar ticked thrice, and how often it ticked.
 pub fn shown(alloc: Global) -> Result<(String, u64), Refusal> {
     let target = ProgressDrawTarget::term_like(InMemoryTerm::new(alloc, 4, 10)?);
-    let mut state = BarState::new(alloc);
+    let mut state = BarState::<NoTracker>::styled(
+        alloc,
+        ProgressStyle::with_template(alloc, "{msg}")?,
+        None,
+        0,
+    )?;
     state.set_message("hello", 0)?;
-    let mut bar = LoneBar::new(alloc, state, target);
+    let mut bar = LoneBar::new(state, target);
     bar.tick(0)?;
     bar.set_message("progress bars", 0)?;
     bar.tick(0)?;

@@ -1,19 +1,23 @@
 //! Bars on a terminal in memory, to be seen: `bars demo`.
 //!
-//! The exit status is 0; 1 after a refusal, which is printed as `bars: E` and its number; and 2 after wrong arguments, for
-//! which the usage is printed, or where standard output fails.
+//! The exit status is 0; 1 after a refusal, which is printed to standard error as `bars: E` and its number; and 2 after wrong
+//! arguments, for which the usage is printed there, or where standard output fails.
+//!
+//! - `arguments`: what is asked for.
+//! - `demo`: what the demo shows.
 #![tactic(auto)]
 
+mod arguments;
 mod demo;
 
-use indicatif_text::refusal::Refusal;
-use std::env;
+use arguments::is_demo;
+use indicatif_text::columns::Refusal;
 use std::process::ExitCode;
 
-const USAGE: &str = "usage: bars demo | bars run ROWS COLS [bottom]";
+const USAGE: &str = "usage: bars demo";
 
 fn main(rt: HostRuntime) -> ExitCode {
-    match is_demo(rt) {
+    match is_demo(&rt) {
         Ok(true) => print_demo(rt),
         Ok(false) => {
             let _ = eprintln!(rt; "{USAGE}");
@@ -21,15 +25,6 @@ fn main(rt: HostRuntime) -> ExitCode {
         }
         Err(refusal) => print_refusal(rt, refusal),
     }
-}
-
-/// Whether the one argument is `demo`.
-fn is_demo(rt: HostRuntime) -> Result<bool, Refusal> {
-    let mut words = env::args(&rt).map_err(|_| Refusal::Memory)?.skip(1);
-    let Some(word) = words.next() else {
-        return Ok(false);
-    };
-    Ok(word.as_str() == "demo" && words.next().is_none())
 }
 
 /// Prints what the demo shows.

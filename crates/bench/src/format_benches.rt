@@ -34,10 +34,5 @@ fn written<D: Display + Drop, F: Fn(u64) -> D + Drop>(
         text.write(shown(values.next_value()))?;
         bytes = bytes.wrapping_add(text.len() as u64);
     }
-    let nanos = start.elapsed(rt)?.as_nanos();
-    Ok(Measured {
-        count,
-        nanos: u64::try_from(nanos).unwrap_or(u64::MAX),
-        made: Made::Bytes(bytes),
-    })
+    Ok(Measured::since(rt, start, count, Made::Bytes(bytes))?)
 }

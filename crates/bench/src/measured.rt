@@ -1,5 +1,6 @@
 //! What a measurement tells, and the values that it works on.
-use std::fmt;
+use std::time::Instant;
+use std::{fmt, io};
 
 /// How long a piece of work took, done so many times.
 #[derive(Clone, Copy, Drop)]
@@ -19,6 +20,22 @@ pub enum Made {
     Bytes(u64),
     /// So many parts of templates.
     Parts(u64),
+    /// So many rows that lines take.
+    Rows(u64),
+    /// So many bytes written, in so many drawings.
+    Drawn { bytes: u64, draws: u64 },
+}
+
+impl Measured {
+    /// That this was made since the start, by doing a piece of work so many times.
+    pub fn since(rt: &HostRuntime, start: Instant, count: u64, made: Made) -> io::Result<Measured> {
+        let nanos = start.elapsed(rt)?.as_nanos();
+        Ok(Measured {
+            count,
+            nanos: u64::try_from(nanos).unwrap_or(u64::MAX),
+            made,
+        })
+    }
 }
 
 impl fmt::Display for Made {
@@ -26,6 +43,8 @@ impl fmt::Display for Made {
         match *self {
             Made::Bytes(bytes) => write!(f, "bytes={bytes}"),
             Made::Parts(parts) => write!(f, "parts={parts}"),
+            Made::Rows(rows) => write!(f, "rows={rows}"),
+            Made::Drawn { bytes, draws } => write!(f, "bytes={bytes} draws={draws}"),
         }
     }
 }

@@ -25,10 +25,5 @@ fn template_parse(rt: &HostRuntime, count: u64) -> Result<Measured> {
         let template = Template::parse(rt.alloc(), TEMPLATE)?;
         parts = parts.wrapping_add(template.parts().len() as u64);
     }
-    let nanos = start.elapsed(rt)?.as_nanos();
-    Ok(Measured {
-        count,
-        nanos: u64::try_from(nanos).unwrap_or(u64::MAX),
-        made: Made::Parts(parts),
-    })
+    Ok(Measured::since(rt, start, count, Made::Parts(parts))?)
 }

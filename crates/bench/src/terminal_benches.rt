@@ -39,10 +39,5 @@ fn term_feed(rt: &HostRuntime, count: u64) -> Result<Measured> {
             break;
         }
     }
-    let nanos = start.elapsed(rt)?.as_nanos();
-    Ok(Measured {
-        count,
-        nanos: u64::try_from(nanos).unwrap_or(u64::MAX),
-        made: Made::Bytes(bytes),
-    })
+    Ok(Measured::since(rt, start, count, Made::Bytes(bytes))?)
 }

@@ -1,48 +1,90 @@
 -- What contracts see of a lone bar: its record, its terminal, whether it is in a given state, and what a call leads to.
-use Rattle.std.specs.Prelude.{◌≡◌, ℕ, string_bytes, Option, MatchOption, option_map, Result}
+use Rattle.std.specs.Prelude.{◌≡◌, ◌⊎◌, ℕ, IsTrue, IsFalse, string_bytes, Option, MatchOption, option_map, [], ◌∷◌, Result, Ok, Err}
 use Rattle.indicatif_text.specs.declared.refusal.Refusal.{Refusal}
+use Rattle.indicatif_text.specs.declared.refusal.Refusal.TheVariants.{Memory, ElapsedBeyondClock}
 use Rattle.indicatif_text.specs.declared.refusal.Drawn.{Drawn}
 use Rattle.indicatif_term.specs.Calls.{TermView}
-use Rattle.indicatif_term.specs.Frames.{bar_lines}
-use Rattle.indicatif_term.specs.Engines.{terminal, Fits, has_failed}
-use Rattle.indicatif_bar.specs.Bars.{Bar, Tick, SetMessage, ForceDraw}
-use Rattle.indicatif_bar.specs.Runs.{LoneState, Call, Change, Log, CallMade}
+use Rattle.indicatif_term.specs.Engines.{terminal, Fits}
+use Rattle.indicatif_bar.specs.Trackers.{Tracking}
+use Rattle.indicatif_bar.specs.Commands.{BarRecord, Command, ForceDraw, after, command_of, is_beyond_clock, takes_memory}
+use Rattle.indicatif_bar.specs.Bars.{bar_kind}
+use Rattle.indicatif_bar.specs.Machines.{Machine}
+use Rattle.indicatif_bar.specs.Runs.{CallMade, Runs, wrote}
+use Rattle.indicatif_bar.specs.Lone.{LoneState, Call, Change, Log, Clear, lone}
+use Rattle.indicatif_bar.specs.Inside.Shown.{Holds}
 use Rattle.indicatif_bar.specs.declared.lone.LoneBar.{LoneBar}
 use Rattle.indicatif_bar.specs.declared.lone.LoneCall.{LoneCall}
-use Rattle.indicatif_bar.specs.declared.lone.LoneCall.TheVariants.{Bar as BarCall, Log as LogCall}
-use Rattle.indicatif_bar.specs.declared.state.BarCommand.TheVariants.{Tick as TickCommand, SetMessage as MessageCommand, ForceDraw as DrawCommand}
+use Rattle.indicatif_bar.specs.declared.lone.LoneCall.TheVariants.{Bar as BarCall, Log as LogCall, Clear as ClearCall}
 
-module _ {T : Type 0} where
+module _ {K T : Type 0} where
   -- its record
-  abbrev pub record_of : LoneBar T → Bar
-  record_of b = b.bar
+  abbrev pub record_of : LoneBar K T → BarRecord K
+  record_of b = b.shown.bar
 
   -- its terminal; none where the target is hidden
-  abbrev pub terminal_of : LoneBar T → Option T
+  abbrev pub terminal_of : LoneBar K T → Option T
   terminal_of b = option_map terminal b.engine
 
-  -- the bar has the state's record and lines, and drew as many rows as its lists have
-  pub record IsIn (b : LoneBar T) (s : LoneState) : Type 0 where
-    pub bar_is : b.bar ≡ s.bar
-    pub lines_are : bar_lines b.frame ≡ record { bar = 0; lines = s.stored }
-    pub rows_fit : MatchOption b.engine (Unit {0}) (λ e. Fits e s.lists × (has_failed e ≡ s.failed))
+  -- the bar may be in this state. Of the rows only the numbers are kept, so many states fit one bar; what is claimed holds of each
+  unfoldable pub IsIn : LoneBar K T → LoneState (BarRecord K) → Type 0
+  IsIn b s = Holds b.shown s × MatchOption b.engine (Unit {0}) (λ e. Fits e s.lists)
 
   -- what is known of its terminal
-  abbrev pub known : (T → TermView) → LoneBar T → Option TermView
+  abbrev pub known : (T → TermView) → LoneBar K T → Option TermView
   known view b = option_map view (terminal_of b)
 
-  -- a call at a moment led the bar, from any state that it was in, to a state that is a step of that call further
-  abbrev pub LeadsBy : (T → TermView) → LoneBar T → LoneBar T → Call → ℕ → Result Drawn Refusal → Type 0
-  LeadsBy view old new call now answer =
-      (s : LoneState) → IsIn old s → (next : LoneState) × IsIn new next × CallMade (known view old) (known view new) call now s answer next
+-- a lone bar whose trackers mean this
+abbrev pub lone_bar : {K : Type 0} → Tracking K → Machine (LoneState (BarRecord K)) (Call (Command K)) (Result Drawn Refusal)
+lone_bar m = lone (bar_kind m)
+
+-- a command is refused: it finds no memory for a text, or its elapsed time is beyond the moment
+abbrev pub RefusesCommand : {K : Type 0} → Command K → BarRecord K → ℕ → Refusal → Type 0
+RefusesCommand command bar now e = ((e ≡ Memory) × IsTrue (takes_memory command bar)) ⊎ ((e ≡ ElapsedBeyondClock) × IsTrue (is_beyond_clock command now))
+
+-- a bar refused a command, and nothing has changed
+abbrev pub Disobeys : {K T : Type 0} → LoneBar K T → LoneBar K T → Command K → ℕ → Result Drawn Refusal → Type 0
+Disobeys old new command now answer = (e : Refusal) × (answer ≡ Err e) × RefusesCommand command (record_of old) now e × (new ≡ old)
+
+module _ {K T : Type 0} (m : Tracking K) (view : T → TermView) (old new : LoneBar K T) where
+  -- whatever state the bar may have been in, there is one that it is in now, and the call led from the one to the other with
+  -- this answer
+  abbrev pub LeadsBy : Call (Command K) → ℕ → Result Drawn Refusal → Type 0
+  LeadsBy call now answer =
+      (s : LoneState (BarRecord K)) → IsIn old s → (next : LoneState (BarRecord K)) × IsIn new next × CallMade (lone_bar m) (known view old) (known view new) (call, now) s answer next
+
+  -- the same of a bar that was suspended: it was cleared and drawn again by force; or the clear was refused, and nothing drawn
+  abbrev pub Suspends : ℕ → Result Drawn Refusal → Type 0
+  Suspends now answer =
+      (s : LoneState (BarRecord K)) → IsIn old s → (next : LoneState (BarRecord K)) × IsIn new next
+      × (((cleared : Drawn) × Runs (lone_bar m) ((Clear, now) ∷ (Change ForceDraw, now) ∷ []) (Ok cleared ∷ answer ∷ []) (known view old) s (known view new) next)
+      ⊎ ((e : Refusal) × (answer ≡ Err e) × Runs (lone_bar m) ((Clear, now) ∷ []) (Err e ∷ []) (known view old) s (known view new) next))
+
+  -- a bar that obeyed a command with this answer
+  pub record Obeys (command : Command K) (now : ℕ) (answer : Result Drawn Refusal) : Type 0 where
+    -- its record is as the command says
+    pub bar : record_of new ≡ (after m command (record_of old) now).0
+    -- where nothing was written, the terminal was not touched
+    pub silent : IsFalse (wrote answer) → terminal_of new ≡ terminal_of old
+    -- its step
+    pub leads : LeadsBy (Change command) now answer
+
+  -- a bar that obeyed a command, or refused it
+  pub record ObeysOrNot (command : Command K) (now : ℕ) (answer : Result Drawn Refusal) : Type 0 where
+    pub bar : (record_of new ≡ (after m command (record_of old) now).0) ⊎ Disobeys old new command now answer
+    pub silent : IsFalse (wrote answer) → terminal_of new ≡ terminal_of old
+    pub leads : LeadsBy (Change command) now answer
+
+-- what became of the bar in a call with this answer: a command made of it what it says, or was refused; else it stays
+abbrev pub CallDone : {K T : Type 0} → Tracking K → LoneBar K T → LoneBar K T → Call (Command K) → ℕ → Result Drawn Refusal → Type 0
+CallDone m old new (Change command) now answer = (record_of new ≡ (after m command (record_of old) now).0) ⊎ Disobeys old new command now answer
+CallDone m old new _ now answer = record_of new ≡ record_of old
 
 -- a call that is a value, as its definition
-abbrev pub call_of : LoneCall → Call
-call_of (BarCall TickCommand) = Change Tick
-call_of (BarCall (MessageCommand text)) = Change (SetMessage (string_bytes text))
-call_of (BarCall DrawCommand) = Change ForceDraw
+abbrev pub call_of : {K : Type 0} → LoneCall K → Call (Command K)
+call_of (BarCall command) = Change (command_of command)
 call_of (LogCall text) = Log (string_bytes text)
+call_of ClearCall = Clear
 
 -- the same with its moment
-abbrev pub timed : LoneCall × ℕ → Call × ℕ
+abbrev pub timed : {K : Type 0} → LoneCall K × ℕ → Call (Command K) × ℕ
 timed c = (call_of c.0, c.1)

@@ -1,28 +1,32 @@
 //! A bar that stands alone on its target.
-ghost use Rattle.std.specs.Prelude.{◌≡◌, ◌<◌, ◌⊎◌, Option, Some, option_map, false, map, IfOk, IfErr, OnErr};
-ghost use Rattle.indicatif_term.specs.Frames.{bar_lines, line_text};
-ghost use Rattle.indicatif_term.specs.Engines.{terminal, Fits, has_failed};
-ghost use Rattle.indicatif_bar.specs.Bars.{Command, asked, lines_of_bar};
-ghost use Rattle.indicatif_bar.specs.Runs.{LoneState, Change, Log, is_no};
-ghost use Rattle.indicatif_bar.specs.Draws.{Drew};
+ghost use Rattle.std.specs.Prelude.{◌≡◌, ◌⊎◌, Bool, Option, Some, None, option_map, IsTrue, IsFalse, ◌↔◌, map, IfOk, IfErr, OnErr, MatchOption};
+ghost use Rattle.std.specs.Fn.{FnOnceReturnsAt};
+ghost use Rattle.indicatif_term.specs.Lists.{opening_lists};
+ghost use Rattle.indicatif_term.specs.Engines.{terminal, Fits};
+ghost use Rattle.indicatif_bar.specs.declared.command.Change.{Change as Changed};
+ghost use Rattle.indicatif_bar.specs.Runs.{wrote};
+ghost use Rattle.indicatif_bar.specs.Machines.{is_no};
+ghost use Rattle.indicatif_bar.specs.Finishes.{AndLeave, WithMessage, AndClear, Abandon, AbandonWithMessage, finish_of};
 
-use crate::state::{Ask, BarCommand, BarState};
-use indicatif_term::draw_target::{
-    Engine, LineType, MultiProgressAlignment, ProgressDrawTarget, Segment,
-};
+use crate::bar_style::ProgressStyle;
+use crate::shown::{ShownBar, Writing};
+use crate::state::{Ask, BarCommand, BarState, Change, ProgressFinish, ProgressState};
+use crate::tracker::ProgressTracker;
+use indicatif_term::draw_target::{Engine, ProgressDrawTarget};
 use indicatif_term::term_like::TermLike;
-use indicatif_text::moment::Moment;
-use indicatif_text::refusal::{Drawn, Refusal};
+use indicatif_text::columns::{Drawn, Moment, Refusal};
 use std::alloc::Global;
-use std::slice;
+use std::mem::replace;
 
 /// A call as a value.
-#[derive(Debug, Drop)]
-pub enum LoneCall {
+#[derive(Drop)]
+pub enum LoneCall<K> {
     /// A command of the bar.
-    Bar(BarCommand),
+    Bar(BarCommand<K>),
     /// Lines of text above the bar.
     Log(String),
+    /// The bar's rows taken back.
+    Clear,
 }
 
 /// A bar that stands alone on its target: a terminal, or none.
@@ -38,55 +42,55 @@ pub enum LoneCall {
 /// 3. The target is hidden: `Hidden`. A text that was to be logged is dropped.
 /// 4. The terminal has no columns: `NoColumns`. The bar's lines are as before.
 /// 5. The bar's lines are laid out and kept. `Memory` if they find no room; nothing was written then.
-/// 6. A line of the text or of the bar holds a character wider than the terminal: `TooWide`. Nothing was written.
-/// 7. The lines are written in the place of the bar's earlier rows: `Yes`; or a call of the terminal fails: `Terminal`. The
-///    rows are forgotten then, and the next draw begins on a new row.
+/// 6. The draw isn't forced, and the limiter doesn't allow it now: `Limited`. A target may have none.
+/// 7. A line of the text or of the bar holds a character wider than the terminal: `TooWide`. Nothing was written.
+/// 8. The lines are written in the place of the bar's earlier rows: `Yes`; or a call of the terminal fails: `Terminal`. The
+///    rows are forgotten then, and the next draw begins on a new row. `Memory` if they find no room; nothing was written
+///    then.
+///
+/// With any answer but `Yes` and `Terminal` the terminal is as it was.
 ///
 /// ```
-/// let mut bar = LoneBar::new(alloc, BarState::new(alloc), ProgressDrawTarget::term_like(term));
+/// let mut bar = LoneBar::new(BarState::new(alloc, Some(10), now)?, ProgressDrawTarget::term_like(term));
 /// bar.set_message("copying", now)?; // draws the bar's row
 /// bar.println("a.txt", now)?; // stands above it from now on
 /// ```
 #[derive(Drop)]
-pub struct LoneBar<T: Drop> {
-    alloc: Global,
-    bar: BarState,
-    frame: Segment,
+pub struct LoneBar<K, T: Drop> {
+    shown: ShownBar<K>,
     engine: Option<Engine<T>>,
 }
 
-impl<T: TermLike + Drop> LoneBar<T> {
-    ghost use Rattle.indicatif_bar.specs.Bars.{Tick, SetMessage, ForceDraw};
-    ghost use Rattle.indicatif_bar.specs.Draws.{DrawMade};
-    ghost use Rattle.indicatif_bar.specs.Runs.{Runs, opening_state};
-    ghost use Rattle.indicatif_bar.specs.Headline.{Headline};
-    ghost use Rattle.indicatif_bar.specs.LoneBars.{IsIn, record_of, terminal_of, known, LeadsBy, call_of, timed};
+impl<K: ProgressTracker, T: TermLike + Drop> LoneBar<K, T> {
+    ghost use Rattle.indicatif_bar.specs.Commands.{Command, Tick, TickerTick, SetTicker, Inc, Dec, SetPosition, Update, SetLength, UnsetLength, IncLength, DecLength, SetMessage, SetPrefix, SetStyle, PutPosition, PutMessage, PutPrefix, PutFinish, PutTabWidth, SetTabWidth, SetElapsed, ResetEta, ResetElapsed, Reset, FinishBy, FinishUsingStyle, ForceDraw, after, command_of};
+    ghost use Rattle.indicatif_bar.specs.Bars.{bar_kind};
+    ghost use Rattle.indicatif_bar.specs.Inside.Draws.{DrewOn};
+    ghost use Rattle.indicatif_bar.specs.Inside.Shown.{writing_as};
+    ghost use Rattle.indicatif_bar.specs.Inside.Obeying.{IsTold, IsToldOrNot};
+    ghost use Rattle.indicatif_bar.specs.Runs.{Runs, Headline};
+    ghost use Rattle.indicatif_bar.specs.Machines.{target_of};
+    ghost use Rattle.indicatif_bar.specs.Lone.{LoneState, Log, Clear, opening_state, draw_asked};
+    ghost use Rattle.indicatif_bar.specs.LoneBars.{IsIn, record_of, terminal_of, known, lone_bar, LeadsBy, Suspends, Obeys, ObeysOrNot, CallDone, call_of, timed};
 
     /// The bar on this target. It takes no memory and writes nothing.
-    pub fn new(alloc: Global, bar: BarState, target: ProgressDrawTarget<T>) -> Self
-        ensures state { IsIn result (opening_state bar) }
+    pub fn new(bar: BarState<K>, target: ProgressDrawTarget<T>) -> Self
+        ensures state { IsIn result (opening_state bar None) }
+        ensures bar { record_of result ≡ bar }
         ensures terminal { terminal_of result ≡ target }
     {
-        let engine = match target.into_parts() {
-            Some(term) => Some(Engine::new(alloc, term)),
-            None => None,
-        };
+        let engine = engine_on(bar.alloc(), target);
         LoneBar {
-            alloc,
-            bar,
-            frame: Segment {
-                bar: 0,
-                lines: Vec::new(alloc),
-            },
+            shown: ShownBar::new(bar, None),
             engine,
         }
     }
 
     /// The bar's record.
-    pub fn bar(&self) -> &BarState
-        ensures { result.now ≡ record_of self.now }
+    pub fn bar(&self) -> &BarState<K>
+        ensures bar { result.now ≡ record_of self.now }
+        ensures state { (s : LoneState _) → IsIn self.now s → result.now ≡ s.bar }
     {
-        &self.bar
+        &self.shown.bar
     }
 
     /// The terminal; `None` where the target is hidden.
@@ -99,59 +103,364 @@ impl<T: TermLike + Drop> LoneBar<T> {
         }
     }
 
-    /// One more tick, up to 2^64 - 1, and a draw.
-    ///
-    /// Refused: `NoColumns`, `TooWide`, `Terminal` or `Memory`, as `LoneBar` says; the tick counts all the same.
-    pub fn tick(&mut self, now: Moment) -> Result<Drawn, Refusal>
-        ensures { LeadsBy T.view self.old self.new (Change Tick) now result }
+    /// The terminal, with what stands on it; `None` where the target is hidden. Nothing is written.
+    pub fn into_term(self) -> Option<T>
+        ensures { result ≡ terminal_of self }
     {
-        let ask = self.bar.tick(now);
-        self.draw(ask, now)
+        let LoneBar { engine, .. } = self;
+        match engine {
+            Some(engine) => Some(engine.into_term()),
+            None => None,
+        }
     }
 
-    /// The text as message, with eight spaces in the place of each tab, and a draw.
-    ///
-    /// Refused: `NoColumns`, `TooWide` or `Terminal`, with the new message; `Memory`, with the earlier message where the new
-    /// one found no room, else with the new one.
-    pub fn set_message(&mut self, text: &str, now: Moment) -> Result<Drawn, Refusal>
-        ensures { LeadsBy T.view self.old self.new (Change (SetMessage text.now)) now result }
+    /// Whether nothing is ever drawn.
+    pub fn is_hidden(&self) -> bool
+        ensures { IsTrue result ↔ (terminal_of self.now ≡ None) }
     {
-        let ask = self.bar.set_message(text, now)?;
-        self.draw(ask, now)
+        self.engine.is_none()
+    }
+
+    /// One more tick, up to 2^64 - 1, unless a steady ticker is installed, and a draw.
+    pub fn tick(&mut self, now: Moment) -> Result<Drawn, Refusal>
+        ensures { Obeys K.means T.view self.old self.new Tick now result }
+    {
+        let ask = self.shown.bar.tick(now);
+        self.obey(ask, now)
+    }
+
+    /// A steady ticker's own tick, and a draw.
+    pub fn ticker_tick(&mut self, now: Moment) -> Result<Drawn, Refusal>
+        ensures { Obeys K.means T.view self.old self.new TickerTick now result }
+    {
+        let ask = self.shown.bar.ticker_tick(now);
+        self.obey(ask, now)
+    }
+
+    /// Whether a steady ticker is installed. No draw is asked.
+    pub fn set_ticker(&mut self, installed: bool, now: Moment) -> Result<Drawn, Refusal>
+        ensures { Obeys K.means T.view self.old self.new (SetTicker installed) now result }
+    {
+        let ask = self.shown.bar.set_ticker(installed, now);
+        self.obey(ask, now)
+    }
+
+    /// The position goes up by `delta`, modulo 2^64; and a tick, as often as the position's limiter allows.
+    pub fn inc(&mut self, delta: u64, now: Moment) -> Result<Drawn, Refusal>
+        ensures { Obeys K.means T.view self.old self.new (Inc delta) now result }
+    {
+        let ask = self.shown.bar.inc(delta, now);
+        self.obey(ask, now)
+    }
+
+    /// The position goes down by `delta`, modulo 2^64; else as `inc`.
+    pub fn dec(&mut self, delta: u64, now: Moment) -> Result<Drawn, Refusal>
+        ensures { Obeys K.means T.view self.old self.new (Dec delta) now result }
+    {
+        let ask = self.shown.bar.dec(delta, now);
+        self.obey(ask, now)
+    }
+
+    /// Another position; else as `inc`.
+    pub fn set_position(&mut self, position: u64, now: Moment) -> Result<Drawn, Refusal>
+        ensures { Obeys K.means T.view self.old self.new (SetPosition position) now result }
+    {
+        let ask = self.shown.bar.set_position(position, now);
+        self.obey(ask, now)
+    }
+
+    /// What workers have counted is added to the position; as `inc`.
+    pub fn absorb(&mut self, sum: u64, now: Moment) -> Result<Drawn, Refusal>
+        ensures { Obeys K.means T.view self.old self.new (Inc sum) now result }
+    {
+        let ask = self.shown.bar.absorb(sum, now);
+        self.obey(ask, now)
+    }
+
+    /// Sets a position and a length, each if there is one; then as `tick`.
+    pub fn set_change(&mut self, change: Change, now: Moment) -> Result<Drawn, Refusal>
+        ensures { Obeys K.means T.view self.old self.new (Update change.pos change.len) now result }
+    {
+        let ask = self.shown.bar.set_change(change, now);
+        self.obey(ask, now)
+    }
+
+    /// Another length, and a draw.
+    pub fn set_length(&mut self, len: u64, now: Moment) -> Result<Drawn, Refusal>
+        ensures { Obeys K.means T.view self.old self.new (SetLength len) now result }
+    {
+        let ask = self.shown.bar.set_length(len, now);
+        self.obey(ask, now)
+    }
+
+    /// No length, and a draw.
+    pub fn unset_length(&mut self, now: Moment) -> Result<Drawn, Refusal>
+        ensures { Obeys K.means T.view self.old self.new UnsetLength now result }
+    {
+        let ask = self.shown.bar.unset_length(now);
+        self.obey(ask, now)
+    }
+
+    /// A length that is longer by `delta`, up to 2^64 - 1, where there is one; and a draw.
+    pub fn inc_length(&mut self, delta: u64, now: Moment) -> Result<Drawn, Refusal>
+        ensures { Obeys K.means T.view self.old self.new (IncLength delta) now result }
+    {
+        let ask = self.shown.bar.inc_length(delta, now);
+        self.obey(ask, now)
+    }
+
+    /// A length that is shorter by `delta`, down to 0, where there is one; and a draw.
+    pub fn dec_length(&mut self, delta: u64, now: Moment) -> Result<Drawn, Refusal>
+        ensures { Obeys K.means T.view self.old self.new (DecLength delta) now result }
+    {
+        let ask = self.shown.bar.dec_length(delta, now);
+        self.obey(ask, now)
+    }
+
+    /// The rate is counted from this moment on. No draw is asked.
+    pub fn reset_eta(&mut self, now: Moment) -> Result<Drawn, Refusal>
+        ensures { Obeys K.means T.view self.old self.new ResetEta now result }
+    {
+        let ask = self.shown.bar.reset_eta(now);
+        self.obey(ask, now)
+    }
+
+    /// The rate and the time are counted from this moment on. No draw is asked.
+    pub fn reset_elapsed(&mut self, now: Moment) -> Result<Drawn, Refusal>
+        ensures { Obeys K.means T.view self.old self.new ResetElapsed now result }
+    {
+        let ask = self.shown.bar.reset_elapsed(now);
+        self.obey(ask, now)
+    }
+
+    /// The bar goes on from position 0, its rate and its time from this moment on; and a draw.
+    pub fn reset(&mut self, now: Moment) -> Result<Drawn, Refusal>
+        ensures { Obeys K.means T.view self.old self.new Reset now result }
+    {
+        let ask = self.shown.bar.reset(now);
+        self.obey(ask, now)
+    }
+
+    /// The bar is finished at its length and stays. A draw by force.
+    pub fn finish(&mut self, now: Moment) -> Result<Drawn, Refusal>
+        ensures { Obeys K.means T.view self.old self.new (FinishBy AndLeave) now result }
+    {
+        let ask = self.shown.bar.finish(now);
+        self.obey(ask, now)
+    }
+
+    /// The bar is finished at its length and has no lines any more. A draw by force.
+    pub fn finish_and_clear(&mut self, now: Moment) -> Result<Drawn, Refusal>
+        ensures { Obeys K.means T.view self.old self.new (FinishBy AndClear) now result }
+    {
+        let ask = self.shown.bar.finish_and_clear(now);
+        self.obey(ask, now)
+    }
+
+    /// The bar is finished where it stands, and stays. A draw by force.
+    pub fn abandon(&mut self, now: Moment) -> Result<Drawn, Refusal>
+        ensures { Obeys K.means T.view self.old self.new (FinishBy Abandon) now result }
+    {
+        let ask = self.shown.bar.abandon(now);
+        self.obey(ask, now)
+    }
+
+    /// Another position. No draw is asked, and the rate doesn't count it.
+    pub fn with_position(&mut self, position: u64, now: Moment) -> Result<Drawn, Refusal>
+        ensures { Obeys K.means T.view self.old self.new (PutPosition position) now result }
+    {
+        let ask = self.shown.bar.with_position(position, now);
+        self.obey(ask, now)
+    }
+
+    /// What finishes the bar by `finish_using_style`. No draw is asked.
+    pub fn with_finish(&mut self, finish: ProgressFinish, now: Moment) -> Result<Drawn, Refusal>
+        ensures { Obeys K.means T.view self.old self.new (PutFinish (finish_of finish)) now result }
+    {
+        let ask = self.shown.bar.with_finish(finish, now);
+        self.obey(ask, now)
     }
 
     /// A draw by force. Nothing of the bar changes.
-    ///
-    /// Refused: `NoColumns`, `TooWide`, `Terminal` or `Memory`, as `LoneBar` says.
     pub fn force_draw(&mut self, now: Moment) -> Result<Drawn, Refusal>
-        ensures { LeadsBy T.view self.old self.new (Change ForceDraw) now result }
+        ensures { Obeys K.means T.view self.old self.new ForceDraw now result }
     {
-        let ask = self.bar.force_draw(now);
-        self.draw(ask, now)
+        let ask = self.shown.bar.force_draw(now);
+        self.obey(ask, now)
+    }
+
+    /// Another message, and a draw.
+    pub fn set_message(&mut self, text: &str, now: Moment) -> Result<Drawn, Refusal>
+        ensures { ObeysOrNot K.means T.view self.old self.new (SetMessage text.now) now result }
+    {
+        let asked = self.shown.bar.set_message(text, now);
+        self.obey_unless(asked, now)
+    }
+
+    /// Another prefix, and a draw.
+    pub fn set_prefix(&mut self, text: &str, now: Moment) -> Result<Drawn, Refusal>
+        ensures { ObeysOrNot K.means T.view self.old self.new (SetPrefix text.now) now result }
+    {
+        let asked = self.shown.bar.set_prefix(text, now);
+        self.obey_unless(asked, now)
+    }
+
+    /// Another style, with the bar's width of tabs. No draw is asked. A style that is refused is given up.
+    pub fn set_style(&mut self, style: ProgressStyle<K>, now: Moment) -> Result<Drawn, Refusal>
+        ensures { ObeysOrNot K.means T.view self.old self.new (SetStyle style) now result }
+    {
+        let asked = self.shown.bar.set_style(style, now);
+        self.obey_unless(asked, now)
+    }
+
+    /// Another message. No draw is asked.
+    pub fn with_message(&mut self, text: &str, now: Moment) -> Result<Drawn, Refusal>
+        ensures { ObeysOrNot K.means T.view self.old self.new (PutMessage text.now) now result }
+    {
+        let asked = self.shown.bar.with_message(text, now);
+        self.obey_unless(asked, now)
+    }
+
+    /// Another prefix. No draw is asked.
+    pub fn with_prefix(&mut self, text: &str, now: Moment) -> Result<Drawn, Refusal>
+        ensures { ObeysOrNot K.means T.view self.old self.new (PutPrefix text.now) now result }
+    {
+        let asked = self.shown.bar.with_prefix(text, now);
+        self.obey_unless(asked, now)
+    }
+
+    /// As many spaces for a tab, in the message, the prefix and the style. No draw is asked.
+    pub fn with_tab_width(&mut self, tab: usize, now: Moment) -> Result<Drawn, Refusal>
+        ensures { ObeysOrNot K.means T.view self.old self.new (PutTabWidth tab) now result }
+    {
+        let asked = self.shown.bar.with_tab_width(tab, now);
+        self.obey_unless(asked, now)
+    }
+
+    /// The same, and a draw by force.
+    pub fn set_tab_width(&mut self, tab: usize, now: Moment) -> Result<Drawn, Refusal>
+        ensures { ObeysOrNot K.means T.view self.old self.new (SetTabWidth tab) now result }
+    {
+        let asked = self.shown.bar.set_tab_width(tab, now);
+        self.obey_unless(asked, now)
+    }
+
+    /// So many nanoseconds have passed since the start: `ElapsedBeyondClock`, exactly where they are more than the moment, and
+    /// nothing has changed then. No draw is asked.
+    pub fn set_elapsed(&mut self, nanos: u64, now: Moment) -> Result<Drawn, Refusal>
+        ensures { ObeysOrNot K.means T.view self.old self.new (SetElapsed nanos) now result }
+    {
+        let asked = self.shown.bar.set_elapsed(nanos, now);
+        self.obey_unless(asked, now)
+    }
+
+    /// As `finish`, with this message.
+    pub fn finish_with_message(&mut self, text: &str, now: Moment) -> Result<Drawn, Refusal>
+        ensures { ObeysOrNot K.means T.view self.old self.new (FinishBy (WithMessage text.now)) now result }
+    {
+        let asked = self.shown.bar.finish_with_message(text, now);
+        self.obey_unless(asked, now)
+    }
+
+    /// As `abandon`, with this message.
+    pub fn abandon_with_message(&mut self, text: &str, now: Moment) -> Result<Drawn, Refusal>
+        ensures { ObeysOrNot K.means T.view self.old self.new (FinishBy (AbandonWithMessage text.now)) now result }
+    {
+        let asked = self.shown.bar.abandon_with_message(text, now);
+        self.obey_unless(asked, now)
+    }
+
+    /// The bar is finished by the finish that `with_finish` stored. A draw by force.
+    pub fn finish_using_style(&mut self, now: Moment) -> Result<Drawn, Refusal>
+        ensures { ObeysOrNot K.means T.view self.old self.new FinishUsingStyle now result }
+    {
+        let asked = self.shown.bar.finish_using_style(now);
+        self.obey_unless(asked, now)
     }
 
     /// Writes the text's lines above the bar, by force. A line is ended by `\n` or `\r\n`; an empty text is one empty
     /// line; tabs stay as they are. The bar's lines are laid out anew. On a hidden target the text is dropped.
-    ///
-    /// Refused: `NoColumns`, `TooWide`, `Terminal` or `Memory`, as `LoneBar` says; nothing of the text is kept.
     pub fn println(&mut self, text: &str, now: Moment) -> Result<Drawn, Refusal>
-        ensures { LeadsBy T.view self.old self.new (Log text.now) now result }
+        ensures bar { record_of self.new ≡ record_of self.old }
+        ensures silent { IsFalse (wrote result) → terminal_of self.new ≡ terminal_of self.old }
+        ensures leads { LeadsBy K.means T.view self.old self.new (Log text.now) now result }
     {
-        match &mut self.engine {
-            Some(engine) => log_on(engine, &self.bar, &mut self.frame, text, now),
-            None => Ok(Drawn::Hidden),
+        self.draw(Ask::Forced, Writing::TextAndFrame(text), now)
+    }
+
+    /// Takes the bar's rows back, by force. The next draw shows them again. Takes no memory.
+    pub fn clear(&mut self, now: Moment) -> Result<Drawn, Refusal>
+        ensures bar { record_of self.new ≡ record_of self.old }
+        ensures silent { IsFalse (wrote result) → terminal_of self.new ≡ terminal_of self.old }
+        ensures leads { LeadsBy K.means T.view self.old self.new Clear now result }
+    {
+        self.draw(Ask::Forced, Writing::NoFrame, now)
+    }
+
+    /// Sets what the closure answers of the state that it is shown; then as `tick`.
+    pub fn update<F: FnOnce(&ProgressState) -> Change>(
+        &mut self,
+        f: F,
+        now: Moment,
+    ) -> Result<Drawn, Refusal>
+        requires { F.IsAlwaysCallable f }
+        ensures { (change : Changed) × FnOnceReturnsAt F.FnOnce f (record_of self.old).progress change
+            × Obeys K.means T.view self.old self.new (Update change.pos change.len) now result }
+    {
+        let ask = self.shown.bar.update(f, now);
+        self.obey(ask, now)
+    }
+
+    /// Clears the bar, calls `f` once, which may write to the terminal's place by other ways, and draws the bar again by
+    /// force, at the same moment. Answers what `f` gave, and what the draw answered; where the clear was refused, `f` is
+    /// called all the same, no draw is made, and the answer is that refusal.
+    pub fn suspend<F: FnOnce() -> A, A>(&mut self, f: F, now: Moment) -> (A, Result<Drawn, Refusal>)
+        requires { F.pre f }
+        ensures value { F.post f result.0 }
+        ensures bar { record_of self.new ≡ record_of self.old }
+        ensures leads { Suspends K.means T.view self.old self.new now result.1 }
+    {
+        let cleared = self.clear(now);
+        let value = f();
+        match cleared {
+            Ok(_) => {
+                let drawn = self.force_draw(now);
+                (value, drawn)
+            }
+            Err(e) => (value, Err(e)),
+        }
+    }
+
+    /// Another target, and the old one. Nothing is written to either: what stands on the old one stays, and on the new one
+    /// the bar begins anew.
+    pub fn set_draw_target(&mut self, target: ProgressDrawTarget<T>) -> ProgressDrawTarget<T>
+        ensures old { result ≡ terminal_of self.old }
+        ensures new { terminal_of self.new ≡ target }
+        ensures bar { record_of self.new ≡ record_of self.old }
+        ensures state { (s : LoneState _) → IsIn self.old s →
+            IsIn self.new (record s { limiter = None; lists = opening_lists }) }
+    {
+        let engine = engine_on(self.shown.bar.alloc(), target);
+        self.shown.set_limiter(None);
+        match replace(&mut self.engine, engine) {
+            Some(engine) => ProgressDrawTarget::term_like(engine.into_term()),
+            None => ProgressDrawTarget::hidden(),
         }
     }
 
     /// A call as a value: what the method of the same name does and refuses.
-    pub fn call(&mut self, call: LoneCall, now: Moment) -> Result<Drawn, Refusal>
-        ensures { LeadsBy T.view self.old self.new (call_of call) now result }
+    pub fn call(&mut self, call: LoneCall<K>, now: Moment) -> Result<Drawn, Refusal>
+        ensures bar { CallDone K.means self.old self.new (call_of call) now result }
+        ensures silent { IsFalse (wrote result) → terminal_of self.new ≡ terminal_of self.old }
+        ensures leads { LeadsBy K.means T.view self.old self.new (call_of call) now result }
     {
         match call {
-            LoneCall::Bar(BarCommand::Tick) => self.tick(now),
-            LoneCall::Bar(BarCommand::SetMessage(text)) => self.set_message(text.as_str(), now),
-            LoneCall::Bar(BarCommand::ForceDraw) => self.force_draw(now),
+            LoneCall::Bar(command) => {
+                let asked = self.shown.bar.apply(command, now);
+                self.obey_unless(asked, now)
+            }
             LoneCall::Log(text) => self.println(text.as_str(), now),
+            LoneCall::Clear => self.clear(now),
         }
     }
 
@@ -160,17 +469,17 @@ impl<T: TermLike + Drop> LoneBar<T> {
     /// Refused: `Memory` for the answers alone, and nothing is run.
     pub fn run(
         &mut self,
-        calls: Vec<(LoneCall, Moment)>,
+        calls: Vec<(LoneCall<K>, Moment)>,
     ) -> Result<Vec<Result<Drawn, Refusal>>, Refusal>
-        ensures run { (s : LoneState) → IsIn self.old s →
+        ensures run { (s : LoneState _) → IsIn self.old s →
             let old = known T.view self.old in let new = known T.view self.new in
-            IfOk result (λ answers. (next : LoneState) × IsIn self.new next
-            × (run : Runs (map timed calls.items) answers.items old s new next)
-            × Headline (map timed calls.items) answers.items old s new next run) }
+            IfOk result (λ answers. (next : LoneState _) × IsIn self.new next
+            × (run : Runs (lone_bar K.means) (map timed calls.items) answers.items old s new next)
+            × Headline (lone_bar K.means) (map timed calls.items) answers.items old s new next run) }
         ensures memory { IfErr result (λ e. e ≡ Refusal.Memory) }
         ensures unrun { OnErr result (self.new ≡ self.old) }
     {
-        let mut answers = Vec::with_capacity(self.alloc, calls.len())?;
+        let mut answers = Vec::with_capacity(self.shown.bar.alloc(), calls.len())?;
         for (call, now) in calls {
             let answer = self.call(call, now);
             answers.push_reserved(answer);
@@ -178,19 +487,51 @@ impl<T: TermLike + Drop> LoneBar<T> {
         Ok(answers)
     }
 
-    /// Draws the bar's lines, if asked.
-    fn draw(&mut self, ask: Ask, now: Moment) -> Result<Drawn, Refusal>
-        ensures { (command : Command) (s : LoneState) → asked command ≡ ask → IsIn self.old s →
-            (next : LoneState) × IsIn self.new next
-            × DrawMade (known T.view self.old) (known T.view self.new) (Change command) now s result next }
+    /// Draws what a command asked, once the bar has changed.
+    fn obey(&mut self, ask: Ask, now: Moment) -> Result<Drawn, Refusal>
+        ensures { (old : LoneBar K T) (command : Command K) → IsTold K.means old self.old command now ask →
+            Obeys K.means T.view old self.new command now result }
+    {
+        self.draw(ask, Writing::Frame, now)
+    }
+
+    /// The same, unless the command was refused.
+    fn obey_unless(&mut self, asked: Result<Ask, Refusal>, now: Moment) -> Result<Drawn, Refusal>
+        ensures { (old : LoneBar K T) (command : Command K) → IsToldOrNot K.means old self.old command now asked →
+            ObeysOrNot K.means T.view old self.new command now result }
+    {
+        let ask = asked?;
+        self.draw(ask, Writing::Frame, now)
+    }
+
+    /// Writes, if asked.
+    fn draw(&mut self, ask: Ask, writing: Writing<'_>, now: Moment) -> Result<Drawn, Refusal>
+        ensures bar { record_of self.new ≡ record_of self.old }
+        ensures silent { IsFalse (wrote result) → terminal_of self.new ≡ terminal_of self.old }
+        ensures drew { (takes : Bool) (s : LoneState _) → IsIn self.old s →
+            let old = known T.view self.old in
+            (next : LoneState _) × IsIn self.new next
+            × DrewOn (lone_bar K.means) old (known T.view self.new)
+            (draw_asked (bar_kind K.means) (target_of old) takes ask now (writing_as writing.entry) s) s.lists result next }
     {
         if is_no(ask) {
             return Ok(Drawn::Limited);
         }
         match &mut self.engine {
-            Some(engine) => draw_on(engine, &self.bar, &mut self.frame, now),
+            Some(engine) => self.shown.draw_on(engine, ask, writing, now),
             None => Ok(Drawn::Hidden),
         }
+    }
+}
+
+/// An engine on this target's terminal; none where it is hidden.
+fn engine_on<T: TermLike + Drop>(alloc: Global, target: ProgressDrawTarget<T>) -> Option<Engine<T>>
+    ensures terminal { option_map terminal result ≡ target }
+    ensures opened { MatchOption result Unit (λ engine. Fits engine opening_lists) }
+{
+    match target.into_parts() {
+        Some(term) => Some(Engine::new(alloc, term)),
+        None => None,
     }
 }
 
@@ -202,54 +543,4 @@ fn is_no(ask: Ask) -> bool
         Ask::No => true,
         Ask::Unforced | Ask::Forced => false,
     }
-}
-
-/// The bar's lines at this moment, on the engine's terminal.
-fn lay_out<T: TermLike + Drop>(
-    engine: &Engine<T>,
-    bar: &BarState,
-    now: Moment,
-) -> Result<Vec<LineType>, Refusal>
-    ensures lines { let columns = (T.view (terminal engine.now)).columns in
-        IfOk result (λ v. (0 < columns) × (map line_text v.items ≡ lines_of_bar now columns bar.now)) }
-    ensures refused { IfErr result (λ e. ((e ≡ Refusal.NoColumns) × ((T.view (terminal engine.now)).columns ≡ 0)) ⊎ (e ≡ Refusal.Memory)) }
-{
-    let width = engine.term().width();
-    if width == 0 {
-        return Err(Refusal::NoColumns);
-    }
-    bar.lines(now, width)
-}
-
-/// Lays the bar's lines out into the frame, and draws them.
-fn draw_on<T: TermLike + Drop>(
-    engine: &mut Engine<T>,
-    bar: &BarState,
-    frame: &mut Segment,
-    now: Moment,
-) -> Result<Drawn, Refusal>
-    ensures { (command : Command) (s : LoneState) → is_no (asked command) ≡ false → bar.now ≡ s.bar →
-        bar_lines frame.old ≡ record { bar = 0; lines = s.stored } → Fits engine.old s.lists → has_failed engine.old ≡ s.failed →
-        Drew T.view (Change command) now s engine.old engine.new frame.new result }
-{
-    frame.lines = lay_out(engine, bar, now)?;
-    engine.draw(slice::from_ref(frame), 0, MultiProgressAlignment::Top)?;
-    Ok(Drawn::Yes)
-}
-
-/// Lays the bar's lines out into the frame, and writes the text above them.
-fn log_on<T: TermLike + Drop>(
-    engine: &mut Engine<T>,
-    bar: &BarState,
-    frame: &mut Segment,
-    text: &str,
-    now: Moment,
-) -> Result<Drawn, Refusal>
-    ensures { (s : LoneState) → bar.now ≡ s.bar →
-        bar_lines frame.old ≡ record { bar = 0; lines = s.stored } → Fits engine.old s.lists → has_failed engine.old ≡ s.failed →
-        Drew T.view (Log text.now) now s engine.old engine.new frame.new result }
-{
-    frame.lines = lay_out(engine, bar, now)?;
-    engine.log(text, slice::from_ref(frame), MultiProgressAlignment::Top)?;
-    Ok(Drawn::Yes)
 }

@@ -32,6 +32,10 @@ line_bytes text = text ++ 0x0D ∷ 0x0A ∷ []
 abbrev pub clear_bytes : List ℕ
 clear_bytes = 0x0D ∷ 0x1B ∷ 0x5B ∷ 0x32 ∷ 0x4B ∷ []
 
+-- the end of a line, and that row emptied: so a drawing begins after a failure
+abbrev pub anew_bytes : List ℕ
+anew_bytes = 0x0D ∷ 0x0A ∷ clear_bytes
+
 -- ---- what is known of a terminal
 
 -- what a terminal tells of itself: its state, the bytes that it was given, or nothing

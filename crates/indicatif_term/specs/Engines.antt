@@ -1,12 +1,13 @@
--- What contracts see of an engine: its terminal, and whether its rows are those of given lists.
-use Rattle.std.specs.Prelude.{◌≡◌, ℕ, ◌+◌, ◌<◌, ◌%◌, ◌^◌, Bool, true, false, IsTrue, IsFalse, List, [], length, Result, Ok, Err, MatchResult, if◌then◌else◌}
+-- What contracts see of an engine: its terminal, and whether its rows are those of given lists; and what a drawing does.
+use Rattle.std.specs.Prelude.{◌≡◌, ℕ, ◌+◌, ◌<◌, ◌%◌, ◌^◌, Bool, true, false, IsTrue, IsFalse, List, ◌++◌, length, Result, Ok, Err, MatchResult, if◌then◌else◌}
 use Rattle.indicatif_text.specs.declared.refusal.Refusal.{Refusal}
-use Rattle.indicatif_term.specs.Lists.{Lists, opening_lists}
+use Rattle.indicatif_text.specs.Columns.{Cell}
+use Rattle.indicatif_term.specs.Lists.{Lists, forgotten_lists}
 use Rattle.indicatif_term.specs.Screen.{Screen}
 use Rattle.indicatif_term.specs.Terminal as cells
-use Rattle.indicatif_term.specs.Calls.{tells, led_on, TermView, line_bytes}
-use Rattle.indicatif_term.specs.Shows.{Shows, Keeps, IsOpening, resting}
-use Rattle.indicatif_term.specs.Frames.{some_wide, Refuses, is_fault}
+use Rattle.indicatif_term.specs.Calls.{tells, led_on, TermView}
+use Rattle.indicatif_term.specs.Shows.{Rests, RowsStay}
+use Rattle.indicatif_term.specs.Frames.{some_wide, RefusesLines, is_fault}
 use Rattle.indicatif_term.specs.Counts.{CountsOf}
 use Rattle.indicatif_term.specs.declared.draw_target.Engine.{Engine}
 use Rattle.indicatif_term.specs.declared.draw_target.MultiProgressAlignment.{MultiProgressAlignment}
@@ -22,50 +23,37 @@ module _ {T : Type 0} where
   abbrev pub terminal : Engine T → T
   terminal e = e.term
 
-  -- the engine's rows are as many, of the same bars, as those of the lists
-  abbrev pub Fits : Engine T → Lists → Type 0
-  Fits e l = CountsOf e.counts l
+  -- the engine's rows are as many, of the same bars, as those of the lists; after a failure of the terminal there are none
+  unfoldable pub Fits : Engine T → Lists → Type 0
+  Fits e l = CountsOf e.counts l × (e.failed ≡ l.failed) × (IsTrue l.failed → l ≡ forgotten_lists)
 
-  -- whether a call of the terminal has failed since the last drawing that was made
-  abbrev pub has_failed : Engine T → Bool
-  has_failed e = e.failed
+-- whether an answer is the terminal's own failure
+abbrev pub is_failure : {A : Type 0} → Result A Refusal → Bool
+is_failure (Ok a) = false
+is_failure (Err e) = is_fault e
 
-  -- how the lists go on: the drawing is made; a call of the terminal failed, and the rows are forgotten; or it is refused, and nothing changes
-  abbrev pub Outcome : Result Unit Refusal → Engine T → Engine T → Lists → Type 0
-  Outcome result old new l =
-      MatchResult result (λ _. Fits new l × (has_failed new ≡ false))
-      (λ e. (IsTrue (is_fault e) → Fits new opening_lists × (has_failed new ≡ true)) × (IsFalse (is_fault e) → new ≡ old))
+-- the terminal's size stays, and its faults grow exactly where that is the answer
+pub record Counted {A : Type 0} (v v' : TermView) (answer : Result A Refusal) : Type 0 where
+  pub columns_stay : v'.columns ≡ v.columns
+  pub rows_stay : v'.rows ≡ v.rows
+  pub faults_are : v'.faults ≡ (if is_failure answer then ((v.faults + 1) % 2 ^ 64) else v.faults)
+
+-- some bytes were written to a terminal at rest: after each beginning of them the untouched rows and the rows above are as
+-- they were; and unless the terminal broke off, it rests with the lists then, and rows above were only added, at their end
+pub record Paints (v v' : TermView) (broke : Bool) (l l' : Lists) : Type 0 where
+  pub written : List ℕ
+  pub told_is : IsTrue (tells v.told) → v'.told ≡ led_on v.told written
+  pub keeps : (opening : Screen) (t : cells.Terminal) → Rests v.columns v.rows opening l t → RowsStay (opening.row + length l.above) t written
+  pub rests : IsFalse broke → (opening : Screen) (t : cells.Terminal) → Rests v.columns v.rows opening l t → Rests v'.columns v'.rows opening l' (cells.after t written)
+  pub added : IsFalse broke → (rows : List (List Cell)) × (l'.above ≡ l.above ++ rows)
+
+-- ---- a drawing
 
 -- what an answer says of the lines that were to be written on a terminal of w columns
 abbrev pub Answers : ℕ → List (List ℕ) → Result Unit Refusal → Type 0
-Answers w lines result = MatchResult result (λ _. (0 < w) × IsFalse (some_wide w lines)) (λ e. Refuses w lines e)
+Answers w lines result = MatchResult result (λ _. (0 < w) × IsFalse (some_wide w lines)) (λ e. RefusesLines w lines e)
 
--- how often a call of the terminal has failed
-abbrev pub faults_after : ℕ → Result Unit Refusal → ℕ
-faults_after n (Ok u) = n
-faults_after n (Err e) = if is_fault e then (n + 1) % 2 ^ 64 else n
-
--- the size stays, and the faults grow exactly where that is the answer
-pub record Counted (old new : TermView) (result : Result Unit Refusal) : Type 0 where
-  pub columns_stay : new.columns ≡ old.columns
-  pub rows_stay : new.rows ≡ old.rows
-  pub faults_are : new.faults ≡ faults_after old.faults result
-
--- some bytes were written; from a terminal that shows the lists `l`: after each beginning of them the rows above those
--- lists' kept ones are as they were, and where the drawing is made the terminal shows the lists `l'`
-pub record Repaints (old new : TermView) (made : Type 0) (l l' : Lists) : Type 0 where
-  pub written : List ℕ
-  pub told_is : IsTrue (tells old.told) → new.told ≡ led_on old.told written
-  pub keeps : (opening : Screen) (t : cells.Terminal) → Shows old.columns old.rows opening l t → Keeps (opening.row + length l.above) t written
-  pub shows : made → (opening : Screen) (t : cells.Terminal) → Shows old.columns old.rows opening l t →
-      Shows old.columns old.rows opening l' (cells.after t written)
-
--- some bytes were written; from a screen where the end of a line leads to an opening: after each beginning of them the rows
--- before that opening are as they were, and where the drawing is made the terminal shows the lists `l` after that opening
-pub record RepaintsAnew (old new : TermView) (made : Type 0) (l : Lists) : Type 0 where
-  pub written : List ℕ
-  pub told_is : IsTrue (tells old.told) → new.told ≡ led_on old.told written
-  pub keeps : (s opening : Screen) → cells.after (resting s) (line_bytes []) ≡ resting opening → IsOpening old.columns old.rows opening →
-      Keeps opening.row (resting s) written
-  pub shows : made → (s opening : Screen) → cells.after (resting s) (line_bytes []) ≡ resting opening → IsOpening old.columns old.rows opening →
-      Shows old.columns old.rows opening l (cells.after (resting s) written)
+-- the lists after a drawing that goes from l to l' where it is made
+abbrev pub lists_after : Result Unit Refusal → Lists → Lists → Lists
+lists_after (Ok u) l l' = l'
+lists_after (Err e) l l' = if is_fault e then forgotten_lists else l

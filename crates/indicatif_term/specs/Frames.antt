@@ -1,17 +1,14 @@
 -- What a drawing is asked to show: the lines of bars, and a text that is logged; and why they are not written.
-use Rattle.std.specs.Prelude.{◌≡◌, ℕ, ◌<◌, Bool, IsTrue, IsFalse, List, [], ◌∷◌, map, flat_map, chars, string_bytes, ◌==◌}
+use Rattle.std.specs.Prelude.{◌≡◌, ℕ, ◌<◌, Bool, IsTrue, IsFalse, List, [], ◌∷◌, map, flat_map, chars, string_bytes, true, false}
 use Rattle.std.specs.List.{list_any, list_all}
 use Rattle.std.specs.Str.Lines.{lines}
 use Rattle.indicatif_text.specs.Columns.{has_wide, is_plain}
-use Rattle.indicatif_text.specs.Refusals.{number_of}
 use Rattle.indicatif_text.specs.declared.refusal.Refusal.{Refusal}
 use Rattle.indicatif_text.specs.declared.refusal.Refusal.TheVariants.{NoColumns, TooWide, Terminal, Memory}
-use Rattle.indicatif_term.specs.Lists.{BarLines, Fate, NoRow, First, Later}
+use Rattle.indicatif_term.specs.Lists.{BarLines}
 use Rattle.indicatif_term.specs.declared.lines.Segment.{Segment}
 use Rattle.indicatif_term.specs.declared.lines.LineType.{LineType}
 use Rattle.indicatif_term.specs.declared.lines.LineType.TheVariants.{Text, Bar, Empty}
-use Rattle.indicatif_term.specs.declared.counts.Keep.{Keep}
-use Rattle.indicatif_term.specs.declared.counts.Keep.TheVariants.{Absent, Passed, Behind}
 
 -- ---- the lines of bars
 
@@ -53,21 +50,14 @@ are_plain lines = list_all is_plain lines
 -- ---- refusals
 
 -- whether a refusal is right where these lines are to be written on a terminal of w columns
-abbrev pub Refuses : ℕ → List (List ℕ) → Refusal → Type 0
-Refuses w lines NoColumns = w ≡ 0
-Refuses w lines TooWide = (0 < w) × IsTrue (some_wide w lines)
-Refuses w lines (Terminal kind) = (0 < w) × IsFalse (some_wide w lines)
-Refuses w lines Memory = Unit {0}
-Refuses w lines _ = ⊥
+abbrev pub RefusesLines : ℕ → List (List ℕ) → Refusal → Type 0
+RefusesLines w lines NoColumns = w ≡ 0
+RefusesLines w lines TooWide = (0 < w) × IsTrue (some_wide w lines)
+RefusesLines w lines (Terminal kind) = (0 < w) × IsFalse (some_wide w lines)
+RefusesLines w lines Memory = Unit {0}
+RefusesLines w lines _ = ⊥
 
 -- whether a refusal is the terminal's own failure
 abbrev pub is_fault : Refusal → Bool
-is_fault e = number_of e == 13
-
--- ---- a bar that is dropped
-
--- the answer that tells what became of its rows
-abbrev pub IsFate : Keep → Fate → Type 0
-IsFate Absent f = f ≡ NoRow
-IsFate Passed f = f ≡ First
-IsFate Behind f = f ≡ Later
+is_fault (Terminal kind) = true
+is_fault _ = false

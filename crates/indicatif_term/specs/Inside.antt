@@ -3,6 +3,10 @@ pub mod Counted
 pub mod Plans
 pub mod Bytes
 pub mod Remembering
-pub mod Slots
+pub mod Marks
+pub mod Rows
 pub mod Grids
 pub mod Scanners
+pub mod Fills
+pub mod Pens
+pub mod Windows

@@ -3,6 +3,8 @@
 use Rattle.std.specs.Prelude.{ℕ, zero, suc, ◌+◌, ◌-◌, max, Bool, true, false, ◌&&◌, ◌==◌, nat_le, nat_lt, List, [], ◌∷◌, ◌++◌, map, length, replicate, take, drop, sum_by, fold, flat_map, if◌then◌else◌}
 use Rattle.std.specs.List.{list_any}
 use Rattle.indicatif_text.specs.Columns.{Cell, blank_row, rows_of}
+use Rattle.indicatif_term.specs.declared.counts.Keep.{Keep}
+use Rattle.indicatif_term.specs.declared.counts.Keep.TheVariants.{Absent, Passed, Behind}
 
 -- the rows that one bar shows
 pub record BarRows : Type 0 where
@@ -23,6 +25,8 @@ pub record Lists : Type 0 where
   pub reach : ℕ
   -- whether the cursor rests at the front of the row after the lists, and not on their last row
   pub below : Bool
+  -- whether the terminal has failed since the last drawing that was made
+  pub failed : Bool
 
 -- no live row
 abbrev pub no_live : Live
@@ -30,7 +34,11 @@ no_live = record { blanks = 0; segments = [] }
 
 -- nothing drawn: the cursor is at the front of the first row
 abbrev pub opening_lists : Lists
-opening_lists = record { above = []; kept = []; live = no_live; reach = 1; below = true }
+opening_lists = record { above = []; kept = []; live = no_live; reach = 1; below = true; failed = false }
+
+-- the same after a failure of the terminal: the rows are forgotten
+abbrev pub forgotten_lists : Lists
+forgotten_lists = record opening_lists { failed = true }
 
 -- how many rows segments have
 abbrev pub segments_height : List BarRows → ℕ
@@ -57,11 +65,11 @@ abbrev pub settled : ℕ → Lists → Lists
 settled h l =
     let reach = max l.reach (lists_height l) in
     let gone = (reach - h) - length l.above in
-    record { above = l.above ++ take gone l.kept; kept = drop gone l.kept; live = l.live; reach = reach; below = l.below }
+    record { above = l.above ++ take gone l.kept; kept = drop gone l.kept; live = l.live; reach = reach; below = l.below; failed = l.failed }
 
 -- at the end of a draw, a log or a clear the cursor rests below the lists where nothing is live and that row was reached
 abbrev pub rested : Lists → Lists
-rested l = record l { below = (live_height l.live == 0) && nat_lt (lists_height l) l.reach }
+rested l = record l { below = (live_height l.live == 0) && nat_lt (lists_height l) l.reach; failed = false }
 
 -- ---- a frame: the stored lines of the members in order
 
@@ -134,15 +142,6 @@ cleared l = rested (record l { kept = []; live = no_live })
 
 -- ---- a bar that is dropped
 
--- what becomes of its rows
-pub data Fate : Type 0 where
-  -- it has no row in live
-  NoRow : Fate
-  -- live's first segment was its own, and passed to kept
-  First : Fate
-  -- another bar's rows stand before
-  Later : Fate
-
 -- whether a bar has a row among these
 abbrev pub has_rows : ℕ → List BarRows → Bool
 has_rows bar segments = list_any (λ s. s.bar == bar) segments
@@ -153,11 +152,11 @@ is_first bar [] = false
 is_first bar (s ∷ ss) = s.bar == bar
 
 -- what becomes of the rows of a bar that is dropped
-unfoldable pub fate : ℕ → Lists → Fate
+unfoldable pub fate : ℕ → Lists → Keep
 fate bar l =
-    if is_first bar l.live.segments then First
-    else if has_rows bar l.live.segments then Later
-    else NoRow
+    if is_first bar l.live.segments then Passed
+    else if has_rows bar l.live.segments then Behind
+    else Absent
 
 -- the lists after it: its rows pass to kept where live's first segment is its own
 unfoldable pub kept_of : ℕ → ℕ → Lists → Lists

@@ -4,18 +4,19 @@
 //! *kept*, of bars that are gone; and the *live* ones, of the last frame. An engine remembers their counts and no text, so
 //! what it needs does not grow with what is logged. It takes kept and live rows back from the last one up, and writes the
 //! new ones in their place, so that the rows above stand at every moment.
-ghost use Rattle.std.specs.Prelude.{◌≡◌, ◌≢◌, map, length, ◌≤◌, IsOk, IsTrue, false, ◌++◌, [], ℕ};
+ghost use Rattle.std.specs.Prelude.{◌≡◌, ◌≢◌, map, length, replicate, ◌≤◌, IfErr, IsTrue, IsFalse, ◌++◌, [], ℕ};
 ghost use Rattle.indicatif_term.specs.Lists.{opening_lists};
-ghost use Rattle.indicatif_term.specs.Counts.{CountsOf};
 
-use crate::counts::Counts;
 pub use crate::counts::Keep;
-use crate::layout::{laid_out, text_height};
+use crate::counts::{Counts, blanks_of};
+use crate::layout::{metrics_of_text, plan_frame};
+pub use crate::limiter::RateLimiter;
 pub use crate::lines::{LineType, Segment};
-use crate::settle::{blanks_of, kept_counts};
+use crate::painting::{Drawing, Painting, paint};
+use crate::spare::SpareCounts;
 pub use crate::target::{ProgressDrawTarget, Setup};
 use crate::term_like::TermLike;
-use crate::writing::{Drawing, Painting, paint};
+use crate::window::Window;
 use indicatif_text::columns::Refusal;
 use std::alloc::Global;
 use std::mem::replace;
@@ -48,41 +49,43 @@ impl MultiProgressAlignment {
 ///
 /// A call that is refused with `NoColumns`, `TooWide` or `Memory` has written nothing and changed nothing; it can be made
 /// again. After `Terminal`, with the kind of the terminal's own failure, some beginning of the drawing was written: the rows
-/// are forgotten, and the next drawing begins on a new row, by `write_line("")`, below whatever stands there.
+/// are forgotten, and the next drawing begins on a new row, by `write_line("")` and `clear_line`, below whatever stands there,
+/// also where the terminal broke off within an escape sequence or a character.
 #[derive(Drop)]
 pub struct Engine<T: Drop> {
     term: T,
     alloc: Global,
     counts: Counts,
-    /// Whether a call has failed, so that the next drawing starts on a new row.
+    /// Room for the next counts.
+    spare: SpareCounts,
+    /// Whether a call has failed, so that the next drawing begins on a new row.
     failed: bool,
-    ghost forgets: { IsTrue failed → CountsOf counts opening_lists },
 }
 
 impl<T: TermLike + Drop> Engine<T> {
     ghost use Rattle.indicatif_term.specs.Lists.{Lists, drawn, logged, cleared, kept_of, fate};
     ghost use Rattle.indicatif_term.specs.Calls.{Writes};
     ghost use Rattle.indicatif_term.specs.Inside.Bytes.{paint_bytes, drawing_lines};
-    ghost use Rattle.indicatif_term.specs.Frames.{bar_lines, all_lines, are_plain, logged_lines, text_lines, IsFate};
+    ghost use Rattle.indicatif_term.specs.Frames.{bar_lines, all_lines, are_plain, logged_lines, text_lines, is_fault};
     ghost use Rattle.indicatif_term.specs.Inside.Plans.{frame_lines};
-    ghost use Rattle.indicatif_term.specs.Engines.{is_bottom, terminal, Fits, has_failed, Outcome, Answers, Counted, Repaints, RepaintsAnew};
+    ghost use Rattle.indicatif_term.specs.Engines.{is_bottom, terminal, Fits, is_failure, Answers, Counted, Paints, lists_after};
     ghost use Rattle.indicatif_term.specs.Inside.Remembering.{Remembers};
-    ghost use Rattle.indicatif_term.specs.Shows.{Shows, IsOpening, resting};
+    ghost use Rattle.indicatif_term.specs.Shows.{IsOpening, Rests, resting};
     ghost use Rattle.indicatif_term.specs.Screen.{Screen};
     ghost use Rattle.indicatif_term.specs.Terminal.{Terminal};
 
     /// An engine that has drawn nothing yet. It takes no memory and writes nothing.
     pub fn new(alloc: Global, term: T) -> Self
         ensures terminal { terminal result ≡ term }
-        ensures sound { has_failed result ≡ false }
         ensures lists { Fits result opening_lists }
-        ensures shows { (w h : ℕ) (opening : Screen) → IsOpening w h opening →
-            Shows w h opening opening_lists (resting opening) }
+        ensures rests { (w h : ℕ) (opening : Screen) → IsOpening w h opening →
+            Rests w h opening opening_lists (resting opening) }
     {
         Engine {
             term,
             alloc,
             counts: Counts::new(alloc),
+            spare: SpareCounts::new(alloc),
             failed: false,
         }
     }
@@ -105,7 +108,8 @@ impl<T: TermLike + Drop> Engine<T> {
     /// blank rows above them.
     ///
     /// As many lines from the front are written as have at most the terminal's rows together. One pass over the frame
-    /// before the first byte, one while writing; memory for the counts of its bars, taken before the first byte.
+    /// before the first byte, one while writing; memory for the counts of its bars, where earlier drawings left no room for
+    /// them, taken before the first byte.
     ///
     /// Refused: `NoColumns` where the terminal has no columns; `TooWide` where any line, also one past the terminal's
     /// rows, holds a character wider than the terminal; `Memory`, also in place of `TooWide`; then `Terminal`.
@@ -115,39 +119,34 @@ impl<T: TermLike + Drop> Engine<T> {
         pass: usize,
         alignment: MultiProgressAlignment,
     ) -> Result<(), Refusal>
-        ensures lists { (l : Lists) → Fits self.old l → let s = T.view (terminal self.old) in
-            Outcome result self.old self.new
-            (drawn s.columns s.rows (is_bottom alignment) pass (map bar_lines frame.now) l) }
         ensures answer { Answers (T.view (terminal self.old)).columns
             (all_lines (map bar_lines frame.now)) result }
         ensures counted { Counted (T.view (terminal self.old)) (T.view (terminal self.new)) result }
-        ensures picture { (l : Lists) → Fits self.old l → has_failed self.old ≡ false →
+        ensures unchanged { IfErr result (λ e. IsFalse (is_fault e) → self.new ≡ self.old) }
+        ensures lists { (l : Lists) → Fits self.old l → let s = T.view (terminal self.old) in
+            Fits self.new (lists_after result l
+            (drawn s.columns s.rows (is_bottom alignment) pass (map bar_lines frame.now) l)) }
+        ensures paints { (l : Lists) → Fits self.old l →
             IsTrue (are_plain (all_lines (map bar_lines frame.now))) →
             let s = T.view (terminal self.old) in
-            Repaints s (T.view (terminal self.new)) (IsOk result) l
-            (drawn s.columns s.rows (is_bottom alignment) pass (map bar_lines frame.now) l) }
-        ensures anew { IsTrue (has_failed self.old) →
-            IsTrue (are_plain (all_lines (map bar_lines frame.now))) →
-            let s = T.view (terminal self.old) in
-            RepaintsAnew s (T.view (terminal self.new)) (IsOk result)
-            (drawn s.columns s.rows (is_bottom alignment) pass
-            (map bar_lines frame.now) opening_lists) }
+            Paints s (T.view (terminal self.new)) (is_failure result) l (lists_after result l
+            (drawn s.columns s.rows (is_bottom alignment) pass (map bar_lines frame.now) l)) }
     {
-        let width = self.term.width() as usize;
-        let height = self.term.height() as usize;
-        let plan = laid_out(self.alloc, frame, pass, width, height)?;
-        let bottom = alignment.is_bottom();
-        let lines = plan.lines;
+        let window = Window::of(&self.term)?;
+        let segments = self.spare.take(self.alloc);
+        let plan = plan_frame(segments, frame, pass, window)?;
         let taken = self.counts.live;
-        let blanks = blanks_of(bottom, taken, 0, plan.rows);
-        let next = self.counts.drawn(plan, bottom, height)?;
+        let blanks = blanks_of(alignment.is_bottom(), taken, plan.rows);
         let drawing = Drawing {
             text: None,
             blanks,
             frame,
-            lines,
+            lines: plan.lines,
         };
-        self.repaint(next, taken, &drawing)
+        let last = plan.last;
+        let next = self.counts.drawn(plan, blanks, window.rows);
+        let fill = next.fill(last, window.columns);
+        self.repaint(next, taken, &drawing, fill)
     }
 
     /// Writes the lines of the text, which stay, in the place of the kept and the live rows, and draws the frame below
@@ -163,65 +162,57 @@ impl<T: TermLike + Drop> Engine<T> {
         frame: &[Segment],
         alignment: MultiProgressAlignment,
     ) -> Result<(), Refusal>
-        ensures lists { (l : Lists) → Fits self.old l → let s = T.view (terminal self.old) in
-            Outcome result self.old self.new
-            (logged s.columns s.rows (is_bottom alignment)
-            (text_lines (logged_lines text.now)) (map bar_lines frame.now) l) }
         ensures answer { Answers (T.view (terminal self.old)).columns
             (text_lines (logged_lines text.now) ++ all_lines (map bar_lines frame.now)) result }
         ensures counted { Counted (T.view (terminal self.old)) (T.view (terminal self.new)) result }
-        ensures picture { (l : Lists) → Fits self.old l → has_failed self.old ≡ false →
+        ensures unchanged { IfErr result (λ e. IsFalse (is_fault e) → self.new ≡ self.old) }
+        ensures lists { (l : Lists) → Fits self.old l → let s = T.view (terminal self.old) in
+            Fits self.new (lists_after result l (logged s.columns s.rows (is_bottom alignment)
+            (text_lines (logged_lines text.now)) (map bar_lines frame.now) l)) }
+        ensures paints { (l : Lists) → Fits self.old l →
             IsTrue (are_plain
             (text_lines (logged_lines text.now) ++ all_lines (map bar_lines frame.now))) →
             let s = T.view (terminal self.old) in
-            Repaints s (T.view (terminal self.new)) (IsOk result) l
+            Paints s (T.view (terminal self.new)) (is_failure result) l (lists_after result l
             (logged s.columns s.rows (is_bottom alignment)
-            (text_lines (logged_lines text.now)) (map bar_lines frame.now) l) }
-        ensures anew { IsTrue (has_failed self.old) →
-            IsTrue (are_plain
-            (text_lines (logged_lines text.now) ++ all_lines (map bar_lines frame.now))) →
-            let s = T.view (terminal self.old) in
-            RepaintsAnew s (T.view (terminal self.new)) (IsOk result)
-            (logged s.columns s.rows (is_bottom alignment)
-            (text_lines (logged_lines text.now)) (map bar_lines frame.now) opening_lists) }
+            (text_lines (logged_lines text.now)) (map bar_lines frame.now) l)) }
     {
-        let width = self.term.width() as usize;
-        let height = self.term.height() as usize;
-        let rows = text_height(text, width)?;
-        let plan = laid_out(self.alloc, frame, 0, width, height)?;
-        let bottom = alignment.is_bottom();
-        let lines = plan.lines;
+        let window = Window::of(&self.term)?;
+        let metrics = metrics_of_text(text, window)?;
+        let segments = self.spare.take(self.alloc);
+        let plan = plan_frame(segments, frame, 0, window)?;
         let taken = self.counts.kept + self.counts.live;
-        let blanks = blanks_of(bottom, taken, rows, plan.rows);
-        let next = self.counts.logged(plan, rows, bottom, height);
+        let free = taken.saturating_sub(metrics.height);
+        let blanks = blanks_of(alignment.is_bottom(), free, plan.rows);
         let drawing = Drawing {
             text: Some(text),
             blanks,
             frame,
-            lines,
+            lines: plan.lines,
         };
-        self.repaint(next, taken, &drawing)
+        let last = plan.last.unwrap_or(metrics.last_line_width);
+        let next = self
+            .counts
+            .logged(metrics.height, plan, blanks, window.rows);
+        let fill = next.fill(Some(last), window.columns);
+        self.repaint(next, taken, &drawing, fill)
     }
 
     /// Takes back the kept and the live rows. Takes no memory.
     ///
     /// Refused: `NoColumns` where the terminal has no columns; then `Terminal`.
     pub fn clear(&mut self) -> Result<(), Refusal>
-        ensures lists { (l : Lists) → Fits self.old l →
-            Outcome result self.old self.new (cleared l) }
         ensures answer { Answers (T.view (terminal self.old)).columns [] result }
         ensures no_memory { result ≢ Err Refusal.Memory }
         ensures counted { Counted (T.view (terminal self.old)) (T.view (terminal self.new)) result }
-        ensures picture { (l : Lists) → Fits self.old l → has_failed self.old ≡ false →
-            let s = T.view (terminal self.old) in
-            Repaints s (T.view (terminal self.new)) (IsOk result) l (cleared l) }
-        ensures anew { IsTrue (has_failed self.old) →
-            let s = T.view (terminal self.old) in
-            RepaintsAnew s (T.view (terminal self.new)) (IsOk result) (cleared opening_lists) }
+        ensures unchanged { IfErr result (λ e. IsFalse (is_fault e) → self.new ≡ self.old) }
+        ensures lists { (l : Lists) → Fits self.old l →
+            Fits self.new (lists_after result l (cleared l)) }
+        ensures paints { (l : Lists) → Fits self.old l →
+            Paints (T.view (terminal self.old)) (T.view (terminal self.new)) (is_failure result) l
+            (lists_after result l (cleared l)) }
     {
-        if self.term.width() == 0 {
-            return Err(Refusal::NoColumns);
-        }
+        Window::of(&self.term)?;
         let taken = self.counts.kept + self.counts.live;
         let next = self.counts.cleared(self.alloc);
         let nothing = Drawing {
@@ -230,31 +221,38 @@ impl<T: TermLike + Drop> Engine<T> {
             frame: &[],
             lines: 0,
         };
-        self.repaint(next, taken, &nothing)
+        self.repaint(next, taken, &nothing, 0)
     }
 
     /// The rows of a bar that is gone become kept rows, with the blank rows above them, if they are the first live ones of a
     /// bar. Writes nothing. An engine that has failed has no rows.
     pub fn keep(&mut self, bar: u64) -> Keep
-        ensures fate { (l : Lists) → Fits self.old l → IsFate result (fate bar l) }
-        ensures lists { (w : ℕ) (l : Lists) → Fits self.old l → Fits self.new (kept_of w bar l) }
+        ensures fate { (l : Lists) → Fits self.old l → result ≡ fate bar l }
+        ensures lists { (l : Lists) → Fits self.old l →
+            Fits self.new (kept_of (T.view (terminal self.old)).columns bar l) }
         ensures terminal { terminal self.new ≡ terminal self.old }
-        ensures failed { has_failed self.new ≡ has_failed self.old }
-        ensures picture { (w h : ℕ) (l : Lists) (opening : Screen) (t : Terminal) →
-            Shows w h opening l t → Shows w h opening (kept_of w bar l) t }
+        ensures rests { (w h : ℕ) (l : Lists) (opening : Screen) (t : Terminal) →
+            Rests w h opening l t → Rests w h opening (kept_of w bar l) t }
     {
         let counts = replace(&mut self.counts, Counts::new(self.alloc));
-        let (outcome, next) = kept_counts(counts, bar);
+        let (outcome, next) = counts.keep(bar);
         self.counts = next;
         outcome
     }
 
-    /// Takes so many rows back, writes the drawing in their place, and remembers the next counts; after a failure, that a
-    /// call has failed.
-    fn repaint(&mut self, next: Counts, taken: usize, drawing: &Drawing<'_>) -> Result<(), Refusal>
+    /// Takes so many rows back, writes the drawing and so many spaces behind it in their place, and remembers the next
+    /// counts; after a failure, that a call has failed.
+    fn repaint(
+        &mut self,
+        next: Counts,
+        taken: usize,
+        drawing: &Drawing<'_>,
+        fill: usize,
+    ) -> Result<(), Refusal>
         requires { drawing.now.lines ≤ length (frame_lines drawing.now.frame.now) }
         ensures writes { Writes
-            (paint_bytes (has_failed self.old) self.old.counts.below taken (drawing_lines drawing.now) next.below)
+            (paint_bytes self.old.failed self.old.counts.below taken (drawing_lines drawing.now) next.below
+            ++ replicate fill 0x20)
             (T.view (terminal self.old)) (T.view (terminal self.new)) result }
         ensures remembers { Remembers next result self.new }
     {
@@ -264,10 +262,12 @@ impl<T: TermLike + Drop> Engine<T> {
             taken,
             drawing: *drawing,
             ends_below: next.below,
+            fill,
         };
         match paint(&mut self.term, &painting) {
             Ok(()) => {
-                self.counts = next;
+                let before = replace(&mut self.counts, next);
+                self.spare.keep(before.segments);
                 self.failed = false;
                 Ok(())
             }

@@ -1,17 +1,18 @@
 //! A terminal in memory: the cells that bytes lead to.
 //!
 //! - `feeding`: the terminal as a machine over bytes, `Cells`.
-//! - `front`: whole characters at the front of bytes, which most bytes are.
+//! - `whole_char`: whole characters at the front of bytes, which most bytes are.
 //! - `scanner`: what bytes ask for: characters first, escape sequences next.
 //! - `spelling`: the bytes of a character that isn't whole.
 //! - `grid`: the rows and the cursor, and what each operation does to them.
 //! - `row`: a row of cells, and what writing into it does to its wide characters.
-//! - `slot`: a cell of a row, with the marks joined to it.
-//! - `moves`: the calls as text.
-//! - `worked`: worked cases of the definitions.
+//! - `cell`: a cell of a row.
+//! - `marks`: the marks of a row, which are joined to its characters.
+//! - `known_width`: the columns of a character, remembered while it comes again.
+//! - `call_log`: the calls as text.
 //!
 //! `InMemoryTerm` is that terminal as a bar's target.
-ghost use Rattle.std.specs.Prelude.{◌≡◌, ◌-◌, ◌++◌, ◌==◌, ◌⊎◌, ◌↔◌, [], if◌then◌else◌, map, codes, IfOk, IsOkAnd, IfErr, OnOk, OnErr, string_bytes};
+ghost use Rattle.std.specs.Prelude.{◌≡◌, ◌-◌, ◌++◌, ◌==◌, ◌⊎◌, ◌↔◌, [], if◌then◌else◌, map, codes, IfOk, IsOk, IsOkAnd, IfErr, OnOk, OnErr, string_bytes};
 ghost use Rattle.std.specs.IoError.{error_kind};
 ghost use Rattle.indicatif_term.specs.Screen.{top};
 ghost use Rattle.indicatif_term.specs.Terminal.{after, blank_terminal};
@@ -19,21 +20,22 @@ ghost use Rattle.indicatif_term.specs.Pictures.{contents_text, picture_text};
 ghost use Rattle.indicatif_term.specs.Calls.{Writes, move_bytes, line_bytes, clear_bytes, UP, DOWN, RIGHT, LEFT};
 ghost use Rattle.indicatif_term.specs.Memory.{view_of, ReadsBeginning, Records, move_text, written_text};
 
+mod call_log;
+mod cell;
 mod feeding;
-mod front;
 mod grid;
-mod moves;
+mod known_width;
+mod marks;
 mod row;
 mod scanner;
-mod slot;
 mod spelling;
-pub mod worked;
+mod whole_char;
 
-use crate::in_memory::moves::{ended_line, move_line, own_line, text_line};
+use crate::in_memory::call_log::{ended_line, move_line, own_line, text_line};
 use crate::move_bytes::MoveBytes;
 use crate::term_like::TermLike;
 pub use feeding::Cells;
-use indicatif_text::refusal::Refusal;
+use indicatif_text::columns::Refusal;
 use std::alloc::Global;
 use std::io::ErrorKind;
 use std::marker::Model;
@@ -41,6 +43,17 @@ use std::{io, mem};
 
 /// A terminal in memory, on which bars can be drawn. It tells its state, and keeps the calls that it was given as
 /// text. Rows that scroll away are kept.
+///
+/// ```
+/// let mut term = InMemoryTerm::new(rt.alloc(), 3, 10)?;
+/// term.write_line("one")?;
+/// term.write_str("two ")?;
+/// // contents: "one\ntwo", cursor: (1, 4), picture: ["one", "two", ""]
+/// // moves_since_last_check: "Str(\"one\")\nNewLine\nStr(\"two \")\n"
+/// ```
+///
+/// Memory is taken for the cells of a row up to the last one that was written, and for each row some 60 bytes: a
+/// terminal of 65,535 rows and columns is made at once and takes 4 MB.
 ///
 /// A call that finds no memory fails with an error of kind `OutOfMemory`, counts it in `faults`, and has read a
 /// beginning of its bytes. The memory for the text of a call is taken before the cells change, so a call that fails has
@@ -70,6 +83,11 @@ impl InMemoryTerm {
     /// no calls.
     ///
     /// Refused: `ZeroSize` where `rows` or `cols` is 0, with nothing made; `Memory`.
+    ///
+    /// ```
+    /// let term = InMemoryTerm::new(rt.alloc(), 24, 80)?;
+    /// // contents: "", cursor: (0, 0); with 0 in the place of 24 or 80: Err(ZeroSize)
+    /// ```
     pub fn new(alloc: Global, rows: u16, cols: u16) -> Result<Self, Refusal>
         ensures blank { IfOk result (λ t. t ≡ record { terminal = blank_terminal rows cols; faults = 0; moves = [] }) }
         ensures zero_size { (result ≡ Err Refusal.ZeroSize) ↔ ((rows ≡ 0) ⊎ (cols ≡ 0)) }
@@ -85,6 +103,12 @@ impl InMemoryTerm {
     }
 
     /// As made anew; `faults` stays. No memory is taken.
+    ///
+    /// ```
+    /// term.write_str("abc")?;
+    /// term.reset();
+    /// // contents: "", cursor: (0, 0), moves_since_last_check: ""
+    /// ```
     pub fn reset(&mut self)
         ensures terminal { self.new.terminal
             ≡ blank_terminal self.old.terminal.screen.height self.old.terminal.screen.columns }
@@ -97,6 +121,15 @@ impl InMemoryTerm {
 
     /// The window's rows as text, up to the last one with a written cell, each without the blanks at its end (empty
     /// cells and spaces), joined by line feeds. A space that was written is a written cell. Refused: `Memory`.
+    ///
+    /// It doesn't say which of a row's last cells are empty and which are spaces, how many rows without a written cell
+    /// follow, what scrolled away, where the cursor is, nor which colours were asked for: a terminal in memory has none,
+    /// and shows the characters of a colour sequence after ESC `[` and its numbers nowhere.
+    ///
+    /// ```
+    /// term.write_str("a  \r\n\r\n ")?;
+    /// // contents: "a\n\n", since a space was written into the third row
+    /// ```
     pub fn contents(&self) -> Result<String, Refusal>
         ensures contents { IfOk result (λ t. string_bytes t ≡ contents_text self.now.terminal.screen) }
         ensures refused { IfErr result (λ e. e ≡ Refusal.Memory) }
@@ -106,6 +139,12 @@ impl InMemoryTerm {
 
     /// The cursor's row, counted from the first of the window, and its column. In the column after the last one it
     /// waits.
+    ///
+    /// ```
+    /// let mut term = InMemoryTerm::new(rt.alloc(), 2, 2)?;
+    /// term.write_str("ab")?;
+    /// // cursor: (0, 2); after one more "c" (1, 1)
+    /// ```
     pub fn cursor(&self) -> (u16, u16)
         ensures row { result.0 ≡ self.now.terminal.screen.row - top self.now.terminal.screen }
         ensures column { result.1 ≡ self.now.terminal.screen.column }
@@ -115,6 +154,12 @@ impl InMemoryTerm {
 
     /// The rows that scrolled away, then those of the window, each as text without the blanks at its end: empty cells
     /// and spaces. Refused: `Memory`.
+    ///
+    /// ```
+    /// let mut term = InMemoryTerm::new(rt.alloc(), 2, 3)?;
+    /// term.write_str("a\r\nb\r\nc")?;
+    /// // picture: ["a", "b", "c"], contents: "b\nc"
+    /// ```
     pub fn picture(&self) -> Result<Vec<String>, Refusal>
         ensures picture { IfOk result (λ v.
             map (λ t. string_bytes t) v.items ≡ picture_text self.now.terminal.screen) }
@@ -124,7 +169,14 @@ impl InMemoryTerm {
     }
 
     /// The calls since the last check, one a line: `Up(n)`, `Down(n)`, `Left(n)`, `Right(n)`, `Str("..")`, `NewLine`,
-    /// `Clear`, `Flush`. `write_line` is `Str` and `NewLine`; a move by 0 is none. No memory is taken.
+    /// `Clear`, `Flush`. `write_line` is `Str` and `NewLine`; a move by 0 is none. What stands between quotation marks is
+    /// escaped as by Rust's `{:?}`. No memory is taken.
+    ///
+    /// ```
+    /// term.move_cursor_up(2)?;
+    /// term.write_line("a\tb")?;
+    /// // moves_since_last_check: "Up(2)\nStr(\"a\\tb\")\nNewLine\n", and right after it ""
+    /// ```
     pub fn moves_since_last_check(&mut self) -> String
         ensures moves { string_bytes result ≡ self.old.moves }
         ensures after { self.new ≡ record self.old { moves = [] } }
@@ -199,7 +251,9 @@ impl TermLike for InMemoryTerm {
     }
 
     fn move_cursor_up(&mut self, n: usize) -> io::Result<()>
+        ensures by_none { n ≡ 0 → IsOk result }
         ensures writes { Writes (move_bytes UP n) (view_of self.old) (view_of self.new) result }
+        ensures kind { IfErr result (λ e. error_kind e ≡ ErrorKind.OutOfMemory) }
         ensures kept { Records (if n == 0 then [] else move_text (codes "Up") n) self.old self.new result }
     {
         if n == 0 {
@@ -210,7 +264,9 @@ impl TermLike for InMemoryTerm {
     }
 
     fn move_cursor_down(&mut self, n: usize) -> io::Result<()>
+        ensures by_none { n ≡ 0 → IsOk result }
         ensures writes { Writes (move_bytes DOWN n) (view_of self.old) (view_of self.new) result }
+        ensures kind { IfErr result (λ e. error_kind e ≡ ErrorKind.OutOfMemory) }
         ensures kept { Records (if n == 0 then [] else move_text (codes "Down") n) self.old self.new result }
     {
         if n == 0 {
@@ -221,7 +277,9 @@ impl TermLike for InMemoryTerm {
     }
 
     fn move_cursor_right(&mut self, n: usize) -> io::Result<()>
+        ensures by_none { n ≡ 0 → IsOk result }
         ensures writes { Writes (move_bytes RIGHT n) (view_of self.old) (view_of self.new) result }
+        ensures kind { IfErr result (λ e. error_kind e ≡ ErrorKind.OutOfMemory) }
         ensures kept { Records (if n == 0 then [] else move_text (codes "Right") n) self.old self.new result }
     {
         if n == 0 {
@@ -232,7 +290,9 @@ impl TermLike for InMemoryTerm {
     }
 
     fn move_cursor_left(&mut self, n: usize) -> io::Result<()>
+        ensures by_none { n ≡ 0 → IsOk result }
         ensures writes { Writes (move_bytes LEFT n) (view_of self.old) (view_of self.new) result }
+        ensures kind { IfErr result (λ e. error_kind e ≡ ErrorKind.OutOfMemory) }
         ensures kept { Records (if n == 0 then [] else move_text (codes "Left") n) self.old self.new result }
     {
         if n == 0 {
@@ -244,6 +304,7 @@ impl TermLike for InMemoryTerm {
 
     fn write_line(&mut self, s: &str) -> io::Result<()>
         ensures writes { Writes (line_bytes s.now) (view_of self.old) (view_of self.new) result }
+        ensures kind { IfErr result (λ e. error_kind e ≡ ErrorKind.OutOfMemory) }
         ensures kept { Records (written_text s.now ++ codes "NewLine\n") self.old self.new result }
     {
         let line = ended_line(self.alloc, s);
@@ -252,6 +313,7 @@ impl TermLike for InMemoryTerm {
 
     fn write_str(&mut self, s: &str) -> io::Result<()>
         ensures writes { Writes s.now (view_of self.old) (view_of self.new) result }
+        ensures kind { IfErr result (λ e. error_kind e ≡ ErrorKind.OutOfMemory) }
         ensures kept { Records (written_text s.now) self.old self.new result }
     {
         let line = text_line(self.alloc, s);
@@ -260,6 +322,7 @@ impl TermLike for InMemoryTerm {
 
     fn clear_line(&mut self) -> io::Result<()>
         ensures writes { Writes clear_bytes (view_of self.old) (view_of self.new) result }
+        ensures kind { IfErr result (λ e. error_kind e ≡ ErrorKind.OutOfMemory) }
         ensures kept { Records (codes "Clear\n") self.old self.new result }
     {
         let line = own_line(self.alloc, "Clear\n");
@@ -268,6 +331,7 @@ impl TermLike for InMemoryTerm {
 
     fn flush(&mut self) -> io::Result<()>
         ensures writes { Writes [] (view_of self.old) (view_of self.new) result }
+        ensures kind { IfErr result (λ e. error_kind e ≡ ErrorKind.OutOfMemory) }
         ensures kept { Records (codes "Flush\n") self.old self.new result }
     {
         let line = own_line(self.alloc, "Flush\n");

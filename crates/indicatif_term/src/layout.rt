@@ -1,13 +1,14 @@
 //! Which lines of a frame are shown, and how many rows they take.
-ghost use Rattle.std.specs.Prelude.{◌≡◌, ◌+◌, ◌<◌, ◌≤◌, ◌++◌, ◌∷◌, [], map, length, chars, List, IfOk, IfErr, sum_by};
+ghost use Rattle.std.specs.Prelude.{◌≡◌, ◌+◌, ◌<◌, ◌≤◌, ◌++◌, ◌∷◌, [], ℕ, map, length, chars, List, IfOk, IfErr, sum_by};
 ghost use Rattle.indicatif_term.specs.Lists.{BarRows, onto_segments};
 ghost use Rattle.indicatif_term.specs.Frames.{bar_lines, logged_lines};
-ghost use Rattle.indicatif_term.specs.Inside.Plans.{IsSummed, IsLaidOut, IsPlaced, ArePlaced, Measured, MeasuredLine, MeasuredText};
+ghost use Rattle.indicatif_term.specs.Inside.Plans.{IsSummed, IsLaidOut, IsPlaced, Measured, MeasuredLine, MeasuredText};
+ghost use Rattle.indicatif_term.specs.Inside.Fills.{PlanEndsAt, member_ends, frame_ends};
 ghost use Rattle.indicatif_term.specs.Counts.{row_count};
 
 use crate::lines::Segment;
-use indicatif_text::columns::{Refusal, wrapped};
-use std::alloc::Global;
+use crate::window::Window;
+use indicatif_text::columns::{Metrics, Refusal, wrapped};
 use std::convert::AsStr;
 
 /// How many rows of a bar are shown.
@@ -24,100 +25,83 @@ pub struct Plan {
     pub segments: Vec<RowCount>,
     pub rows: usize,
     pub lines: usize,
+    /// How many columns the last of these lines takes of its last row.
+    pub last: Option<usize>,
     /// Whether a line did not fit, so that none after it is shown.
     pub full: bool,
     /// The segments of the members to be dropped.
     pub passing: usize,
 }
 
-/// The plan of a frame of which the first `pass` members are dropped.
-pub fn laid_out(
-    alloc: Global,
+/// The plan of a frame of which the first `pass` members are dropped; its segments stand in `segments`.
+pub fn plan_frame(
+    segments: Vec<RowCount>,
     frame: &[Segment],
     pass: usize,
-    width: usize,
-    height: usize,
+    window: Window,
 ) -> Result<Plan, Refusal>
-    requires { height ≤ 65535 }
-    ensures { Measured width height pass (map bar_lines frame.now) result }
+    requires { segments.items ≡ [] }
+    ensures plan { Measured window.columns window.rows pass (map bar_lines frame.now) result }
+    ensures ends { IfOk result (λ p. PlanEndsAt (frame_ends window.columns frame.now) p) }
 {
-    if width == 0 {
-        return Err(Refusal::NoColumns);
-    }
     let mut plan = Plan {
-        segments: Vec::new(alloc),
+        segments,
         rows: 0,
         lines: 0,
+        last: None,
         full: false,
         passing: 0,
     };
-    let passing = pass.min(frame.len());
-    place_members(&mut plan, &frame[..passing], width, height)?;
-    plan.passing = plan.segments.len();
-    place_members(&mut plan, &frame[passing..], width, height)?;
+    let mut left = pass;
+    for member in frame {
+        place_member(&mut plan, member, window)?;
+        if left > 0 {
+            left -= 1;
+            plan.passing = plan.segments.len();
+        }
+    }
     Ok(plan)
 }
 
-/// The lines of some members.
-fn place_members(
-    plan: &mut Plan,
-    members: &[Segment],
-    width: usize,
-    height: usize,
-) -> Result<(), Refusal>
-    requires summed { IsSummed height plan.old }
-    requires small { height ≤ 65535 }
-    ensures summed { IfOk result (λ _. IsSummed height plan.new) }
-    ensures passing { plan.new.passing ≡ plan.old.passing }
-    ensures placed { (before : List BarRows) → IsLaidOut height before plan.old →
-        ArePlaced width height before (map bar_lines members.now) plan.new result }
-{
-    for member in members {
-        place_member(plan, member, width, height)?;
-    }
-    Ok(())
-}
-
 /// The lines of one member.
-fn place_member(
-    plan: &mut Plan,
-    member: &Segment,
-    width: usize,
-    height: usize,
-) -> Result<(), Refusal>
-    requires summed { IsSummed height plan.old }
-    requires small { height ≤ 65535 }
-    ensures summed { IfOk result (λ _. IsSummed height plan.new) }
+fn place_member(plan: &mut Plan, member: &Segment, window: Window) -> Result<(), Refusal>
+    requires { IsSummed window.rows plan.old }
+    ensures summed { IfOk result (λ _. IsSummed window.rows plan.new) }
     ensures passing { plan.new.passing ≡ plan.old.passing }
-    ensures placed { (before : List BarRows) → IsLaidOut height before plan.old →
-        IsPlaced width height before (bar_lines member.now) plan.new result }
+    ensures placed { (before : List BarRows) → IsLaidOut window.rows before plan.old →
+        IsPlaced window.columns window.rows before (bar_lines member.now) plan.new result }
+    ensures ends { (before : List ℕ) → PlanEndsAt before plan.old →
+        IfOk result (λ _. PlanEndsAt (before ++ member_ends window.columns member.now) plan.new) }
 {
     for line in &member.lines {
-        let rows = rows_of_line(line.as_str(), width)?;
-        place(plan, member.bar, rows, height)?;
+        let metrics = metrics_of(line.as_str(), window)?;
+        place(plan, member.bar, metrics, window.rows)?;
     }
     Ok(())
 }
 
 /// One more line.
-fn place(plan: &mut Plan, bar: u64, rows: usize, height: usize) -> Result<(), Refusal>
+fn place(plan: &mut Plan, bar: u64, line: Metrics, height: usize) -> Result<(), Refusal>
     requires summed { IsSummed height plan.old }
     requires small { height ≤ 65535 }
-    requires some { 0 < rows }
+    requires some { 0 < line.height }
     ensures memory { IfErr result (λ e. e ≡ Refusal.Memory) }
     ensures summed { IfOk result (λ _. IsSummed height plan.new) }
     ensures passing { plan.new.passing ≡ plan.old.passing }
-    ensures placed { (before : List BarRows) (s : BarRows) → s.bar ≡ bar → length s.rows ≡ rows →
+    ensures placed { (before : List BarRows) (s : BarRows) → s.bar ≡ bar → length s.rows ≡ line.height →
         IsLaidOut height before plan.old →
         IfOk result (λ _. IsLaidOut height (before ++ s ∷ []) plan.new) }
+    ensures ends { (before : List ℕ) → PlanEndsAt before plan.old →
+        IfOk result (λ _. PlanEndsAt (before ++ line.last_line_width ∷ []) plan.new) }
 {
-    if plan.full || height - plan.rows < rows {
+    if plan.full || height - plan.rows < line.height {
         plan.full = true;
         return Ok(());
     }
-    push_rows(&mut plan.segments, bar, rows)?;
-    plan.rows += rows;
+    push_rows(&mut plan.segments, bar, line.height)?;
+    plan.rows += line.height;
     plan.lines += 1;
+    plan.last = Some(line.last_line_width);
     Ok(())
 }
 
@@ -141,29 +125,31 @@ fn push_rows(segments: &mut Vec<RowCount>, bar: u64, rows: usize) -> Result<(), 
     Ok(())
 }
 
-/// The rows of a line.
-fn rows_of_line(line: &str, width: usize) -> Result<usize, Refusal>
-    ensures { MeasuredLine width (chars line.now) result }
+/// The rows of a line, and how many columns it takes of the last one.
+fn metrics_of(line: &str, window: Window) -> Result<Metrics, Refusal>
+    ensures { MeasuredLine window.columns (chars line.now) result }
 {
-    match wrapped(line, width) {
-        Ok(metrics) => Ok(metrics.height),
-        Err(e) => Err(e),
-    }
+    wrapped(line, window.columns)
 }
 
-/// The rows of the lines of a text that is logged, or 2^64 - 1 where there are more.
-pub fn text_height(text: &str, width: usize) -> Result<usize, Refusal>
-    ensures { MeasuredText width (logged_lines text.now) result }
+/// The rows of the lines of a text that is logged, or 2^64 - 1 where there are more, and how many columns the last line takes
+/// of its last row.
+pub fn metrics_of_text(text: &str, window: Window) -> Result<Metrics, Refusal>
+    ensures { MeasuredText window.columns (logged_lines text.now) result }
 {
-    if width == 0 {
-        return Err(Refusal::NoColumns);
-    }
     if text.is_empty() {
-        return Ok(1);
+        return metrics_of("", window);
     }
-    let mut rows: usize = 0;
+    let mut all = Metrics {
+        height: 0,
+        last_line_width: 0,
+    };
     for line in text.lines() {
-        rows = rows.saturating_add(rows_of_line(line, width)?);
+        let metrics = metrics_of(line, window)?;
+        all = Metrics {
+            height: all.height.saturating_add(metrics.height),
+            last_line_width: metrics.last_line_width,
+        };
     }
-    Ok(rows)
+    Ok(all)
 }

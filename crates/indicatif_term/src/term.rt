@@ -1,7 +1,7 @@
 //! A terminal behind a writer of bytes.
-ghost use Rattle.std.specs.Prelude.{◌≡◌, ◌+◌, ◌%◌, ◌^◌, if◌then◌else◌};
+ghost use Rattle.std.specs.Prelude.{◌≡◌, ◌+◌, ◌%◌, ◌^◌, if◌then◌else◌, IsOk};
 ghost use Rattle.std.specs.Result.{is_err};
-ghost use Rattle.indicatif_term.specs.Calls.{Writes, move_bytes};
+ghost use Rattle.indicatif_term.specs.Calls.{Writes, move_bytes, UP, DOWN, RIGHT, LEFT};
 ghost use Rattle.indicatif_term.specs.Writers.{Behind, view_behind, AppendsAllOrFront};
 
 use crate::move_bytes::MoveBytes;
@@ -12,7 +12,8 @@ use std::marker::Model;
 
 /// A terminal whose calls write their bytes to a writer. Its size is what it was made with.
 ///
-/// A call that fails has written a beginning of its bytes, and adds 1 modulo 2^64 to `faults`.
+/// A call that fails has written a beginning of its bytes, and adds 1 modulo 2^64 to `faults`. A move by 0 writes nothing and
+/// never fails.
 #[derive(Drop)]
 pub struct Term<W: Write> {
     writer: W,
@@ -59,7 +60,8 @@ impl<W: Write> Term<W> {
 
     /// Writes what moves the cursor by `n`, where `letter` says which way.
     fn send_move(&mut self, letter: u8, n: usize) -> io::Result<()>
-        ensures { Writes (move_bytes letter n) (view_behind W.contents self.old) (view_behind W.contents self.new) result }
+        ensures writes { Writes (move_bytes letter n) (view_behind W.contents self.old) (view_behind W.contents self.new) result }
+        ensures none { n ≡ 0 → IsOk result × (self.new ≡ self.old) }
     {
         if n == 0 {
             return Ok(());
@@ -95,19 +97,31 @@ impl<W: Write> TermLike for Term<W> {
         self.faults
     }
 
-    fn move_cursor_up(&mut self, n: usize) -> io::Result<()> {
+    fn move_cursor_up(&mut self, n: usize) -> io::Result<()>
+        ensures writes { Writes (move_bytes UP n) (view_behind W.contents self.old) (view_behind W.contents self.new) result }
+        ensures none { n ≡ 0 → IsOk result × (self.new ≡ self.old) }
+    {
         self.send_move(b'A', n)
     }
 
-    fn move_cursor_down(&mut self, n: usize) -> io::Result<()> {
+    fn move_cursor_down(&mut self, n: usize) -> io::Result<()>
+        ensures writes { Writes (move_bytes DOWN n) (view_behind W.contents self.old) (view_behind W.contents self.new) result }
+        ensures none { n ≡ 0 → IsOk result × (self.new ≡ self.old) }
+    {
         self.send_move(b'B', n)
     }
 
-    fn move_cursor_right(&mut self, n: usize) -> io::Result<()> {
+    fn move_cursor_right(&mut self, n: usize) -> io::Result<()>
+        ensures writes { Writes (move_bytes RIGHT n) (view_behind W.contents self.old) (view_behind W.contents self.new) result }
+        ensures none { n ≡ 0 → IsOk result × (self.new ≡ self.old) }
+    {
         self.send_move(b'C', n)
     }
 
-    fn move_cursor_left(&mut self, n: usize) -> io::Result<()> {
+    fn move_cursor_left(&mut self, n: usize) -> io::Result<()>
+        ensures writes { Writes (move_bytes LEFT n) (view_behind W.contents self.old) (view_behind W.contents self.new) result }
+        ensures none { n ≡ 0 → IsOk result × (self.new ≡ self.old) }
+    {
         self.send_move(b'D', n)
     }
 

@@ -3,6 +3,7 @@ use Rattle.std.specs.Prelude.{◌≡◌, ℕ, true, false, [], ◌∷◌, ◌++�
 use Rattle.indicatif_text.specs.Columns.{Cell, Blank, Written, Continued, columns_of, rows_of, last_columns, has_wide}
 use Rattle.indicatif_text.specs.Pieces.{Colour, Run, pieces_of_text}
 
+-- the character that begins a colour sequence
 abbrev pub escape : List ℕ
 escape = 0x1B ∷ []
 

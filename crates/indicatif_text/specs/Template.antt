@@ -1,33 +1,63 @@
--- The grammar of templates. A text is read from the front, a whole piece at a time; texts are lists of characters.
-use Rattle.std.specs.Prelude.{◌≡◌, ℕ, Bool, true, false, not, ◌||◌, ◌==◌, nat_lt, List, [], ◌∷◌, ◌++◌, length, drop, take_while, filter, Option, Some, None, if◌then◌else◌}
+-- The grammar of templates. A text is read from the front, a whole piece at a time; texts are lists of characters, and a style
+-- is the list of numbers that it writes.
+use Rattle.std.specs.Prelude.{◌≡◌, ℕ, Bool, true, false, not, ◌||◌, ◌==◌, nat_lt, List, [], ◌∷◌, ◌++◌, length, drop, take_while, filter, Option, Some, None, option_map, string_bytes, codes, if◌then◌else◌}
 use Rattle.std.specs.List.{list_any, prefix_len}
 use Rattle.std.specs.Char.{is_ascii_digit, is_ascii_whitespace}
+use Rattle.std.specs.Fmt.{◌++?◌, debug_char}
+use Rattle.std.specs.Str.{chars}
 use Rattle.std.specs.Str.Parse.{digits_value}
+use Rattle.indicatif_text.specs.declared.refusal.Refusal.{Refusal}
+use Rattle.indicatif_text.specs.declared.refusal.Refusal.TheVariants as refusal
 use Rattle.indicatif_text.specs.declared.refusal.TemplateState.{TemplateState}
 use Rattle.indicatif_text.specs.declared.refusal.TemplateState.TheVariants.{MaybeOpen, DoubleClose, Align, Width}
 use Rattle.indicatif_text.specs.declared.template.Alignment.{Alignment}
 use Rattle.indicatif_text.specs.declared.template.Alignment.TheVariants.{Left, Center, Right}
 use Rattle.indicatif_text.specs.declared.template.TemplateError.{TemplateError}
+use Rattle.indicatif_text.specs.declared.template.Part.{Part}
+use Rattle.indicatif_text.specs.declared.template.Part.TheVariants.{Literal, NewLine, Placeholder}
 use Rattle.indicatif_text.specs.declared.template.TemplateError.TheVariants.{Unexpected, WidthTooLarge}
-use Rattle.indicatif_text.specs.Parts.{Layout, TemplatePart, LiteralText, LineBreak, KeyText}
-use Rattle.indicatif_text.specs.Styles.{style_of}
+use Rattle.indicatif_text.specs.declared.template.TemplateError.TheVariants as error
+use Rattle.indicatif_text.specs.StyleWords.{style_of, numbers_of}
+
+-- ---- parts
+
+-- how the text of a placeholder's key is laid out
+pub record Layout : Type 0 where
+  pub align : Alignment
+  pub width : Option ℕ
+  pub truncate : Bool
+  pub style : Option (List ℕ)
+  pub alternative : Option (List ℕ)
+
+-- a part of a template
+pub data TemplatePart : Type 0 where
+  LiteralText : (text : List ℕ) → TemplatePart
+  LineBreak : TemplatePart
+  KeyText : (key : List ℕ) → (layout : Layout) → TemplatePart
+
+-- what a part of a template is
+unfoldable pub part_of : Part → TemplatePart
+part_of (Literal text) = LiteralText (chars (string_bytes text))
+part_of NewLine = LineBreak
+part_of (Placeholder key align width truncate style alternative) =
+    KeyText (chars (string_bytes key)) (record { align = align; width = width; truncate = truncate; style = option_map numbers_of style; alternative = option_map numbers_of alternative })
 
 -- ---- pieces
 
 -- what stands whole at the front of a text
-pub data Piece : Type 0 where
+pub data TemplatePiece : Type 0 where
   -- a literal character, also of a doubled or a last brace
-  Char : (c : ℕ) → Piece
+  Char : (c : ℕ) → TemplatePiece
   -- a newline
-  Break : Piece
+  Break : TemplatePiece
   -- a brace, key characters and a white space, which stay as they are
-  SpacedBrace : (text : List ℕ) → Piece
+  SpacedBrace : (text : List ℕ) → TemplatePiece
   -- a placeholder
-  Keyed : (key : List ℕ) → (layout : Layout) → Piece
+  Keyed : (key : List ℕ) → (layout : Layout) → TemplatePiece
   -- an opening brace at the end of the text
-  LastBrace : Piece
+  LastBrace : TemplatePiece
   -- an opening brace and key characters at the end of the text
-  LastKey : Piece
+  LastKey : TemplatePiece
 
 -- what stands in front of a text: something and the text that is left after it, or an error and the text from its place on
 pub data Front (A : Type 0) : Type 0 where
@@ -133,17 +163,17 @@ abbrev pub is_key_char : ℕ → Bool
 is_key_char c = not (c == 0x3A || (c == 0x7D) || is_ascii_whitespace c)
 
 -- a placeholder of these options
-abbrev pub keyed : List ℕ → Front Layout → Front Piece
+abbrev pub keyed : List ℕ → Front Layout → Front TemplatePiece
 keyed key (Takes rest layout) = Takes rest (Keyed key layout)
 keyed key (Stops place error) = Stops place error
 
 -- an opening brace, and key characters or none, at the end of the text
-abbrev pub unfinished : List ℕ → Piece
+abbrev pub unfinished : List ℕ → TemplatePiece
 unfinished [] = LastBrace
 unfinished (k ∷ key) = LastKey
 
 -- what ends a key: the end of the text, a white space, a closing brace, or a colon and the options; a key has a character
-abbrev pub key_ends : List ℕ → List ℕ → Front Piece
+abbrev pub key_ends : List ℕ → List ℕ → Front TemplatePiece
 key_ends key [] = Takes [] (unfinished key)
 key_ends key (c ∷ cs) =
     if is_ascii_whitespace c then Takes cs (SpacedBrace ((0x7B ∷ key) ++ c ∷ []))
@@ -152,42 +182,42 @@ key_ends key (c ∷ cs) =
     else keyed key (with_options cs)
 
 -- what an opening brace begins, before these characters
-abbrev pub opened : List ℕ → Front Piece
+abbrev pub opened : List ℕ → Front TemplatePiece
 opened [] = Takes [] LastBrace
 opened (c ∷ cs) =
     if c == 0x7B then Takes cs (Char 0x7B)
     else key_ends (take_while is_key_char (c ∷ cs)) (after_run is_key_char (c ∷ cs))
 
 -- what a closing brace begins, before these characters
-abbrev pub closed : List ℕ → Front Piece
+abbrev pub closed : List ℕ → Front TemplatePiece
 closed [] = Takes [] (Char 0x7D)
 closed (c ∷ cs) = if c == 0x7D then Takes cs (Char 0x7D) else Stops (c ∷ cs) (Unexpected c DoubleClose)
 
 -- what stands in front of a character and those after it
-unfoldable pub front : ℕ → List ℕ → Front Piece
+unfoldable pub front : ℕ → List ℕ → Front TemplatePiece
 front c cs =
     if c == 0x0A then Takes cs Break else if c == 0x7B then opened cs else if c == 0x7D then closed cs else Takes cs (Char c)
 
 -- ---- whole texts
 
 -- the pieces of a text
-pub data Reads : List ℕ → List Piece → Type 0 where
+pub data Reads : List ℕ → List TemplatePiece → Type 0 where
   end : Reads [] []
-  piece : {c : ℕ} {cs rest : List ℕ} {p : Piece} {ps : List Piece} → front c cs ≡ Takes rest p → Reads rest ps → Reads (c ∷ cs) (p ∷ ps)
+  piece : {c : ℕ} {cs rest : List ℕ} {p : TemplatePiece} {ps : List TemplatePiece} → front c cs ≡ Takes rest p → Reads rest ps → Reads (c ∷ cs) (p ∷ ps)
 
 -- the text cannot be read: the error, and its place, which is the text that is left there
 pub data Refuses : List ℕ → List ℕ → TemplateError → Type 0 where
   here : {c : ℕ} {cs place : List ℕ} {error : TemplateError} → front c cs ≡ Stops place error → Refuses (c ∷ cs) place error
-  later : {c : ℕ} {cs rest place : List ℕ} {p : Piece} {error : TemplateError} → front c cs ≡ Takes rest p → Refuses rest place error → Refuses (c ∷ cs) place error
+  later : {c : ℕ} {cs rest place : List ℕ} {p : TemplatePiece} {error : TemplateError} → front c cs ≡ Takes rest p → Refuses rest place error → Refuses (c ∷ cs) place error
 
 -- literal characters up to an opening brace at the end
-abbrev pub is_open_run : List Piece → Bool
+abbrev pub is_open_run : List TemplatePiece → Bool
 is_open_run (Char c ∷ ps) = is_open_run ps
 is_open_run (LastBrace ∷ ps) = true
 is_open_run _ = false
 
 -- an opening brace at the end takes the literal characters before it away
-abbrev pub without_open_run : List Piece → List Piece
+abbrev pub without_open_run : List TemplatePiece → List TemplatePiece
 without_open_run [] = []
 without_open_run (p ∷ ps) = if is_open_run (p ∷ ps) then [] else p ∷ without_open_run ps
 
@@ -197,7 +227,7 @@ onto_literal text (LiteralText more ∷ parts) = LiteralText (text ++ more) ∷ 
 onto_literal text parts = LiteralText text ∷ parts
 
 -- the parts of pieces, each for itself; an unfinished key at the end gives none
-abbrev pub joined_parts : List Piece → List TemplatePart
+abbrev pub joined_parts : List TemplatePiece → List TemplatePart
 joined_parts [] = []
 joined_parts (Char c ∷ ps) = onto_literal (c ∷ []) (joined_parts ps)
 joined_parts (Break ∷ ps) = LineBreak ∷ joined_parts ps
@@ -207,15 +237,36 @@ joined_parts (LastBrace ∷ ps) = joined_parts ps
 joined_parts (LastKey ∷ ps) = joined_parts ps
 
 -- the parts that pieces make
-unfoldable pub parts_of : List Piece → List TemplatePart
+unfoldable pub parts_of : List TemplatePiece → List TemplatePart
 parts_of ps = joined_parts (without_open_run ps)
 
 -- the text is a template of these parts
 pub record Parses (text : List ℕ) (parts : List TemplatePart) : Type 0 where
-  pub pieces : List Piece
+  pub pieces : List TemplatePiece
   pub reads : Reads text pieces
   pub makes : parts_of pieces ≡ parts
 
 -- the text is refused with this error
 abbrev pub IsRefused : List ℕ → TemplateError → Type 0
 IsRefused text error = (place : List ℕ) × Refuses text place error
+
+-- ---- refusals
+
+-- the refusal that a template's error is
+abbrev pub refusal_of : TemplateError → Refusal
+refusal_of (error.Unexpected next state) = refusal.Template next state
+refusal_of error.WidthTooLarge = refusal.WidthTooLarge
+refusal_of error.Memory = refusal.Memory
+
+-- the name of a state
+abbrev pub state_name : TemplateState → List ℕ
+state_name MaybeOpen = codes "MaybeOpen"
+state_name DoubleClose = codes "DoubleClose"
+state_name Align = codes "Align"
+state_name Width = codes "Width"
+
+-- the text of a template's error, with the character in quotes as `{:?}` shows it; nothing is said of one past ASCII
+abbrev pub error_text : TemplateError → Option (List ℕ)
+error_text (error.Unexpected next state) = Some (codes "TemplateError: unexpected character ") ++? debug_char next ++? Some (codes " in state ") ++? Some (state_name state)
+error_text error.WidthTooLarge = Some (codes "TemplateError: width too large")
+error_text error.Memory = Some (codes "TemplateError: out of memory")

@@ -1,8 +1,7 @@
 -- Laws of the grammar of templates.
 use Rattle.std.specs.Prelude.{◌≡◌, ℕ, ◌⊎◌, List}
-use Rattle.indicatif_text.specs.Parts.{TemplatePart}
+use Rattle.indicatif_text.specs.Template.{TemplatePart, Parses, Refuses}
 use Rattle.indicatif_text.specs.declared.template.TemplateError.{TemplateError}
-use Rattle.indicatif_text.specs.Template.{Parses, Refuses}
 
 -- each text is a template or is refused
 abbrev pub OneOfBoth : Type 0

@@ -2,17 +2,15 @@
 //!
 //! Each value is exact: quotients are of whole numbers and rounded once, to nearest. To print one takes no memory, and is
 //! one write; the options of a hole, as a width, change nothing.
-ghost use Rattle.std.specs.Prelude.{◌≡◌, ◌<◌, ◌++◌, ◌↔◌, Some, IfSome, OnOk, OnErr, IfErr};
+ghost use Rattle.std.specs.Prelude.{◌≡◌, ◌<◌, ◌+◌, ◌++◌, ◌↔◌, Some, IfSome, OnOk, OnErr, IfErr, length, string_len, string_capacity};
 ghost use Rattle.std.specs.String.{string_bytes};
 ghost use Rattle.indicatif_text.specs.Format.{formatted_duration, human_duration, short_duration, binary_bytes, decimal_bytes, human_count, Quotient, human_float_count};
 
 mod bytes;
-pub mod cases;
 mod durations;
-pub mod laws;
 mod quotients;
 mod rounding;
-mod short_text;
+pub(crate) mod short_text;
 
 use crate::refusal::Refusal;
 use short_text::ShortText;
@@ -21,9 +19,15 @@ use std::marker::Model;
 
 /// A duration in nanoseconds, as hours, minutes and seconds of two digits, `HH:MM:SS`, after `Dd ` where there are D
 /// whole days. What is less than a second is left out.
+///
+/// ```
+/// let text = FormattedDuration(90_061 * 1_000_000_000).to_string(alloc)?;
+/// assert_eq!(text.as_str(), "1d 01:01:01");
+/// ```
 #[derive(Clone, Copy, Debug, Drop, PartialEq, Eq)]
 pub struct FormattedDuration(pub u64);
 
+/// Days, hours, minutes and seconds, in one write; the options of a hole, as a width in `{:>12}`, are ignored.
 impl fmt::Display for FormattedDuration {
     ghost output = { λ duration. Some (formatted_duration duration.0) };
 
@@ -38,9 +42,15 @@ impl fmt::Display for FormattedDuration {
 ///
 /// The unit is the first of which the duration, with half of the next smaller unit, is at least one and a half; or else
 /// seconds. The count is rounded to nearest, a half up, and is at least 2 but for seconds: `89 seconds`, `2 minutes`.
+///
+/// ```
+/// assert_eq!(HumanDuration(89_499_000_000).to_string(alloc)?.as_str(), "89 seconds");
+/// assert_eq!(HumanDuration(89_500_000_000).to_string(alloc)?.as_str(), "2 minutes");
+/// ```
 #[derive(Clone, Copy, Debug, Drop, PartialEq, Eq)]
 pub struct HumanDuration(pub u64);
 
+/// The count and the unit in words, in one write; the options of a hole, as a width in `{:>12}`, are ignored.
 impl fmt::Display for HumanDuration {
     ghost output = { λ duration. Some (human_duration duration.0) };
 
@@ -54,12 +64,19 @@ impl fmt::Display for HumanDuration {
 impl HumanDuration {
     /// Appends the short form to `out`: the count and the unit's first letter, as `89s`.
     ///
-    /// Refused: `Memory`, and then `out` is as before.
+    /// Refused: `Memory`, only where `out` has no room for all of it; `out` is as before then.
+    ///
+    /// ```
+    /// HumanDuration(4_000_000_000).write_short(&mut out)?;
+    /// assert_eq!(out.as_str(), "4s");
+    /// ```
     pub fn write_short(&self, out: &mut String) -> Result<(), Refusal>
         ensures written { OnOk result (string_bytes out.new
             ≡ string_bytes out.old ++ short_duration self.now.0) }
         ensures unchanged { OnErr result (string_bytes out.new ≡ string_bytes out.old) }
         ensures memory { IfErr result (λ e. e ≡ Refusal.Memory) }
+        ensures full { OnErr result (string_capacity out.old
+            < string_len out.old + length (short_duration self.now.0)) }
     {
         out.push_str(durations::letter_text(self.0).as_str())?;
         Ok(())
@@ -68,9 +85,14 @@ impl HumanDuration {
 
 /// A number of bytes by powers of 1024: below that `n B`, else two decimals and the greatest prefix of `Ki`, `Mi`, `Gi`,
 /// `Ti`, `Pi` and `Ei` that leaves at least 1, chosen before rounding. The quotient is rounded to nearest, ties to even.
+///
+/// ```
+/// assert_eq!(HumanBytes(1_500).to_string(alloc)?.as_str(), "1.46 KiB");
+/// ```
 #[derive(Clone, Copy, Debug, Drop, PartialEq, Eq)]
 pub struct HumanBytes(pub u64);
 
+/// The bytes by powers of 1024, in one write; the options of a hole, as a width in `{:>12}`, are ignored.
 impl fmt::Display for HumanBytes {
     ghost output = { λ bytes. Some (binary_bytes bytes.0) };
 
@@ -83,9 +105,14 @@ impl fmt::Display for HumanBytes {
 
 /// A number of bytes by powers of 1000: below that `n B`, else two decimals and the greatest prefix of `k`, `M`, `G`, `T`,
 /// `P` and `E` that leaves at least 1, chosen before rounding. The quotient is rounded to nearest, ties to even.
+///
+/// ```
+/// assert_eq!(DecimalBytes(1_500).to_string(alloc)?.as_str(), "1.50 kB");
+/// ```
 #[derive(Clone, Copy, Debug, Drop, PartialEq, Eq)]
 pub struct DecimalBytes(pub u64);
 
+/// The bytes by powers of 1000, in one write; the options of a hole, as a width in `{:>12}`, are ignored.
 impl fmt::Display for DecimalBytes {
     ghost output = { λ bytes. Some (decimal_bytes bytes.0) };
 
@@ -97,9 +124,14 @@ impl fmt::Display for DecimalBytes {
 }
 
 /// A number of bytes by powers of 1024, as `HumanBytes` writes it.
+///
+/// ```
+/// assert_eq!(BinaryBytes(1_500).to_string(alloc)?.as_str(), "1.46 KiB");
+/// ```
 #[derive(Clone, Copy, Debug, Drop, PartialEq, Eq)]
 pub struct BinaryBytes(pub u64);
 
+/// The bytes by powers of 1024, in one write; the options of a hole, as a width in `{:>12}`, are ignored.
 impl fmt::Display for BinaryBytes {
     ghost output = { λ bytes. Some (binary_bytes bytes.0) };
 
@@ -111,9 +143,14 @@ impl fmt::Display for BinaryBytes {
 }
 
 /// A count as its decimal numeral, with a comma before every third digit from the right except at the front.
+///
+/// ```
+/// assert_eq!(HumanCount(7_654_321).to_string(alloc)?.as_str(), "7,654,321");
+/// ```
 #[derive(Clone, Copy, Debug, Drop, PartialEq, Eq)]
 pub struct HumanCount(pub u64);
 
+/// The count with its commas, in one write; the options of a hole, as a width in `{:>12}`, are ignored.
 impl fmt::Display for HumanCount {
     ghost output = { λ count. Some (human_count count.0) };
 
@@ -128,6 +165,11 @@ impl fmt::Display for HumanCount {
 
 /// A quotient of whole numbers, rounded at four decimals: to nearest, ties to even. The whole part has commas as
 /// `HumanCount`; zeros at the end are dropped, and so is the point if nothing follows it.
+///
+/// ```
+/// let count = HumanFloatCount::new(85, 2).ok_or("a divisor of 0")?;
+/// assert_eq!(count.to_string(alloc)?.as_str(), "42.5");
+/// ```
 #[derive(Debug, Drop)]
 pub struct HumanFloatCount {
     num: u128,
@@ -143,6 +185,7 @@ impl Model for HumanFloatCount {
     ghost invariant = { λ count. 0 < count.den };
 }
 
+/// The quotient at four decimals, in one write; the options of a hole, as a width in `{:>12}`, are ignored.
 impl fmt::Display for HumanFloatCount {
     ghost output = { λ count. Some (human_float_count count.num count.den 4) };
 
@@ -155,6 +198,10 @@ impl fmt::Display for HumanFloatCount {
 
 impl HumanFloatCount {
     /// The quotient `num / den`; none exactly if `den` is 0.
+    ///
+    /// ```
+    /// assert!(HumanFloatCount::new(1, 0).is_none());
+    /// ```
     pub fn new(num: u128, den: u64) -> Option<HumanFloatCount>
         ensures none { (result ≡ None) ↔ (den ≡ 0) }
         ensures quotient { IfSome result (λ count. (count.num ≡ num) × (count.den ≡ den)) }
@@ -167,12 +214,20 @@ impl HumanFloatCount {
 
     /// Appends the quotient to `out`, rounded at so many decimals in place of four.
     ///
-    /// Refused: `Memory`, and then `out` is as before.
+    /// Refused: `Memory`, only where `out` has no room for all of it; `out` is as before then.
+    ///
+    /// ```
+    /// let eighth = HumanFloatCount::new(1, 8).ok_or("a divisor of 0")?;
+    /// eighth.with_decimals(2, &mut out)?;
+    /// assert_eq!(out.as_str(), "0.12");
+    /// ```
     pub fn with_decimals(&self, decimals: u16, out: &mut String) -> Result<(), Refusal>
         ensures written { OnOk result (string_bytes out.new
             ≡ string_bytes out.old ++ human_float_count self.now.num self.now.den decimals) }
         ensures unchanged { OnErr result (string_bytes out.new ≡ string_bytes out.old) }
         ensures memory { IfErr result (λ e. e ≡ Refusal.Memory) }
+        ensures full { OnErr result (string_capacity out.old
+            < string_len out.old + length (human_float_count self.now.num self.now.den decimals)) }
     {
         quotients::push_text(self.num, self.den, decimals, out)?;
         Ok(())

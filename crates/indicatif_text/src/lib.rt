@@ -1,19 +1,27 @@
 //! Text as a terminal sees it, and text as a bar shows it.
 //!
-//! - `moment`: moments in nanoseconds, and clocks that are handed in.
-//! - `refusal`: why a call was refused, and what became of a draw.
-//! - `columns`: colour sequences, columns and rows of a line.
+//! - `columns`: colour sequences, columns and rows of a line; and the names of the private modules.
 //! - `format`: numbers as texts for people: durations, bytes and counts.
-//! - `style_words`: colours and attributes by their words, and what they write (`columns::Style`).
 //! - `template`: the grammar of templates, and what a template is made of.
-//! - `pieces`: a text as colour sequences and what stands between them.
+//! - `laws`: what follows from the definitions. `cases`: the definitions' worked cases.
+//! - `moment` (private): moments in nanoseconds, and clocks that are handed in.
+//! - `refusal` (private): why a call was refused, and what became of a draw.
+//! - `pieces` (private): a text as colour sequences and what stands between them.
+//! - `range` (private): what of a text stands in given columns.
+//! - `style_words` (private): colours and attributes by their words, and what they write.
+//! - `appending` (private): what is put behind a text that has room for it.
+//! - `spans` (private): a text cut at the first character that doesn't belong in front.
 #![tactic(auto)]
 
+mod appending;
+pub mod cases;
 pub mod columns;
 pub mod format;
-pub mod moment;
-pub mod pieces;
-pub mod refusal;
-mod runs;
-pub mod style_words;
+pub mod laws;
+mod moment;
+mod pieces;
+mod range;
+mod refusal;
+mod spans;
+mod style_words;
 pub mod template;

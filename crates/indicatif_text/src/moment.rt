@@ -2,15 +2,30 @@
 ghost use Rattle.std.specs.Prelude.{◌≡◌, ◌+◌, ◌-◌, ◌^◌, min};
 
 /// Nanoseconds since an opening that the caller fixes.
+///
+/// ```
+/// let second: Moment = 1_000_000_000;
+/// ```
 pub type Moment = u64;
 
 /// Tells the moment. The library never asks the machine for the time: its callers hand a clock in.
+///
+/// ```
+/// let opened = clock.now();
+/// bar.tick(opened)?;
+/// ```
 pub trait Clock {
     /// The moment now.
     fn now(&mut self) -> Moment;
 }
 
 /// A clock that answers `next` and then goes on by `step` nanoseconds, up to 2^64 - 1.
+///
+/// ```
+/// let mut clock = StepClock { next: 5, step: 2 };
+/// assert_eq!(clock.now(), 5);
+/// assert_eq!(clock.now(), 7);
+/// ```
 #[derive(Clone, Copy, Debug, Drop)]
 pub struct StepClock {
     /// The moment that the next reading answers.

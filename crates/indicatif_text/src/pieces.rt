@@ -1,14 +1,19 @@
 //! A text as colour sequences and what stands between them.
-ghost use Rattle.std.specs.Prelude.{◌≡◌, ◌≤◌, ◌<◌, ◌∷◌, List, ℕ, take, drop, length, chars, unwrap_or, None};
+ghost use Rattle.std.specs.Prelude.{IsTrue, ◌+◌, ◌++◌, encode_utf8, ◌*◌, ◌≡◌, ◌≤◌, ◌<◌, ◌∷◌, List, ℕ, take, drop, length, chars, unwrap_or, None, All};
 ghost use Rattle.std.specs.Str.{IsAscii, IsCharBoundary};
 ghost use Rattle.std.specs.Iterator.{YieldsFirst, YieldsFirstBy, item_count};
-ghost use Rattle.indicatif_text.specs.Columns.{colour_length, is_parameter, visible};
-ghost use Rattle.indicatif_text.specs.Pieces.{TextPiece, pieces_of_text, PiecesJoin, RunsAreVisible, PiecesAreExact, NoEmptyPieces, RunsAreLongest};
-ghost use Rattle.indicatif_text.specs.Shown.{shown, after_run};
+ghost use Rattle.indicatif_text.specs.Columns.{colour_length, is_parameter, visible, width_of};
+ghost use Rattle.indicatif_text.specs.Pieces.{TextPiece, pieces_of_text, shown};
+ghost use Rattle.indicatif_text.specs.Inside.Pieces.{run_then, times, IsPrintable, PassesNarrow};
 
 use std::marker::Model;
 
 /// A piece of a text: a colour sequence, or a longest run without one.
+///
+/// ```
+/// let first = pieces("\u{1b}[1mb").next();
+/// assert_eq!(first, Some(Piece { text: "\u{1b}[1m", colour: true }));
+/// ```
 #[derive(Clone, Copy, Debug, PartialEq, Eq)]
 pub struct Piece<'a> {
     /// What the piece holds, a slice of the text.
@@ -18,6 +23,14 @@ pub struct Piece<'a> {
 }
 
 /// The pieces of a text, in order.
+///
+/// ```
+/// for piece in pieces(text) {
+///     if !piece.colour {
+///         out.push_str(piece.text)?;
+///     }
+/// }
+/// ```
 #[derive(Drop)]
 pub struct Pieces<'a> {
     rest: &'a str,
@@ -78,6 +91,18 @@ impl<'a> Visible<'a> {
     {
         Visible { rest: text }
     }
+
+    /// Passes characters of one column at the front, first those that are `repeated` and then printable ASCII, and says
+    /// how many that is.
+    #[inline(always)]
+    pub(crate) fn pass_narrow(&mut self, repeated: char) -> usize
+        requires { width_of repeated ≡ 1 }
+        ensures { PassesNarrow self.old result self.new }
+    {
+        let (count, rest) = split_narrow(self.rest, repeated);
+        self.rest = rest;
+        count
+    }
 }
 
 impl Iterator for Visible<'_> {
@@ -87,12 +112,95 @@ impl Iterator for Visible<'_> {
 
     ghost remaining = { item_count (λ left. left) };
 
+    #[inline(always)]
     fn next(&mut self) -> Option<char> {
-        let mut rest = after_colours(self.rest).chars();
-        let c = rest.next();
-        self.rest = rest.as_str();
+        let (c, rest) = first_visible(self.rest);
+        self.rest = rest;
         c
     }
+}
+
+/// The first character of a text outside colour sequences, and what follows it.
+#[inline(always)]
+fn first_visible(text: &str) -> (Option<char>, &str)
+    ensures { YieldsFirst (λ left. left) (visible (chars text.now)) result.0 (visible (chars result.1.now)) }
+{
+    let mut rest = after_colours(text).chars();
+    let c = rest.next();
+    (c, rest.as_str())
+}
+
+/// How many characters of one column, first those that are `repeated` and then printable ASCII, stand at the front of a
+/// text, and what follows them.
+#[inline(always)]
+fn split_narrow(text: &str, repeated: char) -> (usize, &str)
+    requires { width_of repeated ≡ 1 }
+    ensures { PassesNarrow (visible (chars text.now)) result.0 (visible (chars result.1.now)) }
+{
+    let repeats = repeats(text, repeated);
+    let rest = &text[3 * repeats..];
+    let printable = printable_len(rest);
+    (repeats + printable, &rest[printable..])
+}
+
+/// How many times a character of three bytes stands at the front of a text; 0 for one of fewer or more bytes.
+#[inline(always)]
+fn repeats(text: &str, c: char) -> usize
+    ensures repeats { text.now ≡ times result (encode_utf8 c) (drop (3 * result) text.now) }
+    ensures fits { 3 * result ≤ length text.now }
+    ensures boundary { IsCharBoundary text.now (3 * result) }
+{
+    if c.len_utf8() != 3 {
+        return 0;
+    }
+    let mut buffer = [0u8; 4];
+    let unit = c.encode_utf8(&mut buffer).as_bytes();
+    triples(text.as_bytes(), unit)
+}
+
+/// How many times three bytes stand at the front.
+#[inline(always)]
+fn triples(bytes: &[u8], unit: &[u8]) -> usize
+    requires { length unit.now ≡ 3 }
+    ensures repeats { bytes.now ≡ times result unit.now (drop (3 * result) bytes.now) }
+    ensures fits { 3 * result ≤ length bytes.now }
+{
+    let mut at: usize = 0;
+    let mut count: usize = 0;
+    'bytes: while stands_at(bytes, at, unit) {
+        at += 3;
+        count += 1;
+    }
+    count
+}
+
+/// Whether three bytes stand at a place.
+#[inline(always)]
+fn stands_at(bytes: &[u8], at: usize, unit: &[u8]) -> bool
+    requires three { length unit.now ≡ 3 }
+    requires within { at ≤ length bytes.now }
+    ensures stands { IsTrue result → drop at bytes.now ≡ unit.now ++ drop (at + 3) bytes.now }
+    ensures fits { IsTrue result → at + 3 ≤ length bytes.now }
+{
+    bytes.len() - at >= 3
+        && bytes[at] == unit[0]
+        && bytes[at + 1] == unit[1]
+        && bytes[at + 2] == unit[2]
+}
+
+/// How many bytes of printable ASCII stand at the front of a text.
+#[inline(always)]
+fn printable_len(text: &str) -> usize
+    ensures printable { All IsPrintable (take result text.now) }
+    ensures fits { result ≤ length text.now }
+    ensures boundary { IsCharBoundary text.now result }
+{
+    let bytes = text.as_bytes();
+    let mut count: usize = 0;
+    'bytes: while count < bytes.len() && bytes[count] >= 0x20 && bytes[count] <= 0x7E {
+        count += 1;
+    }
+    count
 }
 
 /// The first piece of a text that is not empty, and what follows it.
@@ -120,7 +228,7 @@ fn split_piece(text: &str) -> (Piece<'_>, &str)
 fn run_len(text: &str) -> usize
     ensures boundary { IsCharBoundary text.now result }
     ensures pieces { pieces_of_text (chars text.now)
-        ≡ after_run (chars (take result text.now)) (pieces_of_text (chars (drop result text.now))) }
+        ≡ run_then (chars (take result text.now)) (pieces_of_text (chars (drop result text.now))) }
     ensures some { 0 < length text.now → colour_length (chars text.now) ≡ None → 0 < result }
 {
     let mut rest = text;
@@ -133,6 +241,7 @@ fn run_len(text: &str) -> usize
 }
 
 /// The text after the colour sequences at its front.
+#[inline(always)]
 fn after_colours(text: &str) -> &str
     ensures visible { visible (chars result.now) ≡ visible (chars text.now) }
     ensures front { colour_length (chars result.now) ≡ None }
@@ -147,45 +256,42 @@ fn after_colours(text: &str) -> &str
 }
 
 /// How many bytes the colour sequence at the front of a text takes; 0 where none stands there.
+#[inline(always)]
 fn colour_len(text: &str) -> usize
     ensures len { result ≡ unwrap_or (colour_length (chars text.now)) 0 }
     ensures fits { result ≤ length text.now }
     ensures ascii { IsAscii (take result text.now) }
     ensures boundary { IsCharBoundary text.now result }
 {
-    let mut rest = text.chars();
-    if rest.next() != Some('\u{1B}') {
-        return 0;
-    }
-    if rest.next() != Some('[') {
+    let bytes = text.as_bytes();
+    if bytes.len() < 3 || bytes[0] != 0x1B || bytes[1] != b'[' {
         return 0;
     }
     let mut count: usize = 2;
-    while let Some(c) = rest.next() {
+    'parameters: while count < bytes.len() && is_parameter_byte(bytes[count]) {
         count += 1;
-        if c == 'm' {
-            return count;
-        }
-        if !is_parameter(c) {
-            return 0;
-        }
     }
-    0
+    if count == bytes.len() || bytes[count] != b'm' {
+        return 0;
+    }
+    count + 1
+}
+
+/// The same as `is_parameter`, of a byte.
+#[inline(always)]
+fn is_parameter_byte(byte: u8) -> bool
+    ensures { result ≡ is_parameter byte }
+{
+    byte.is_ascii_digit() || byte == b';'
 }
 
 /// Whether a character stands in the parameters of an escape sequence: a digit or a semicolon.
+///
+/// ```
+/// assert!(is_parameter('7') && is_parameter(';') && !is_parameter('m'));
+/// ```
 pub fn is_parameter(c: char) -> bool
     ensures { result ≡ is_parameter c }
 {
     c.is_ascii_digit() || c == ';'
 }
-
-/// What holds of the pieces of every text: joined they are the text, and the runs joined are what is visible; each is
-/// exactly one colour sequence, or a run at no place of which one begins; none is empty, and no run follows a run.
-pub fn laws_of_pieces()
-    ensures join { PiecesJoin }
-    ensures visible { RunsAreVisible }
-    ensures exact { PiecesAreExact }
-    ensures no_empty { NoEmptyPieces }
-    ensures longest { RunsAreLongest }
-{}

@@ -1,6 +1,7 @@
 //! Why a call was refused, and what became of a draw.
 ghost use Rattle.std.specs.Prelude.{◌≡◌};
-ghost use Rattle.indicatif_text.specs.Refusals.{number_of};
+ghost use Rattle.indicatif_text.specs.Refusal.{refusal_number};
+ghost use Rattle.indicatif_text.specs.Template.{state_name};
 ghost use Rattle.indicatif_text.specs.declared.refusal.Refusal.TheVariants.{Memory};
 
 use std::alloc::{AllocError, AllocFailed};
@@ -8,6 +9,12 @@ use std::io::ErrorKind;
 use thiserror::Error;
 
 /// Where in a template a character was refused.
+///
+/// ```
+/// let state = TemplateState::DoubleClose;
+/// let error = Template::parse(alloc, "}x").err();
+/// assert_eq!(error, Some(TemplateError::Unexpected { next: 'x', state }));
+/// ```
 #[derive(Clone, Copy, Debug, Drop, PartialEq, Eq)]
 pub enum TemplateState {
     /// Right after an opening brace.
@@ -20,8 +27,29 @@ pub enum TemplateState {
     Width,
 }
 
+impl TemplateState {
+    /// The state's name.
+    pub(crate) fn name(self) -> &'static str
+        ensures { result.now ≡ state_name self }
+    {
+        match self {
+            TemplateState::MaybeOpen => "MaybeOpen",
+            TemplateState::DoubleClose => "DoubleClose",
+            TemplateState::Align => "Align",
+            TemplateState::Width => "Width",
+        }
+    }
+}
+
 /// Why a call was refused. Nothing else makes a call fail, and after each refusal the documents of the call say what
 /// has changed.
+///
+/// Its text says what was wrong; the options of a hole, as a width in `{:>12}`, are ignored.
+///
+/// ```
+/// let refusal = Refusal::NoColumns;
+/// assert_eq!(refusal.to_string(alloc)?.as_str(), "a terminal of no columns");
+/// ```
 #[derive(Clone, Copy, Debug, Drop, PartialEq, Eq, Error)]
 pub enum Refusal {
     /// A refresh rate of 0 draws a second. All is unchanged.
@@ -84,8 +112,12 @@ pub enum Refusal {
 
 impl Refusal {
     /// The refusal's number, from 1 for `ZeroRate` to 17 for `RecordedTarget`, in the order above.
+    ///
+    /// ```
+    /// assert_eq!(Refusal::RecordedTarget.number(), 17);
+    /// ```
     pub fn number(&self) -> u8
-        ensures { result ≡ number_of self.now }
+        ensures { result ≡ refusal_number self.now }
     {
         match self {
             Refusal::ZeroRate => 1,
@@ -128,6 +160,11 @@ impl<T: Drop> From<AllocFailed<T>> for Refusal {
 }
 
 /// What became of a draw that was not refused.
+///
+/// ```
+/// let drawn = bar.tick(0)?;
+/// assert_eq!(drawn, Drawn::Hidden);
+/// ```
 #[derive(Clone, Copy, Debug, Drop, PartialEq, Eq)]
 pub enum Drawn {
     /// The terminal was written.

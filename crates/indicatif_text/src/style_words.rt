@@ -1,16 +1,19 @@
 //! Styles of text: the colours and attributes that a dotted text names, and what they write.
-ghost use Rattle.std.specs.Prelude.{◌≡◌, ◌+◌, ◌≤◌, ◌||◌, ◌++◌, [], chars, bytes_eq, option_map, flat_map, take_while, IsUtf8, string_bytes, string_len, string_capacity, length, codes, nat_lt, OnOk, OnErr, IfErr, if◌then◌else◌, IsTrue};
+ghost use Rattle.std.specs.Prelude.{◌≡◌, ℕ, ◌+◌, ◌≤◌, ◌<◌, ◌||◌, ◌++◌, [], chars, bytes_eq, position, option_map, flat_map, take_while, IsUtf8, string_bytes, string_len, string_capacity, length, codes, nat_lt, OnOk, OnErr, IfErr, IfOk, IsTrue};
 ghost use Rattle.std.specs.List.{list_all};
-ghost use Rattle.indicatif_text.specs.Styles.{style_of, styled, sequence_of, sequence_if, numbers_of, foreground_number, background_number, foreground_of, background_of, foreground_after, background_after, place_of};
-ghost use Rattle.indicatif_text.specs.Runs.{in_words};
+ghost use Rattle.indicatif_text.specs.StyleWords.{style_of, styled, opening_of, sequence_of, numbers_of, number_if, foreground_number, background_number, foreground_of, background_of, colour_place, colour_words, background_words};
+ghost use Rattle.indicatif_text.specs.Inside.StyleWords.{closing_of, sequence_if, foreground_after, background_after};
+ghost use Rattle.indicatif_text.specs.Inside.Spans.{in_words};
 ghost use Rattle.indicatif_text.specs.Template.{after_run};
 
+use crate::appending::append;
+use crate::format::short_text::ShortText;
 use crate::refusal::Refusal;
-use crate::runs::{Run, Words, split_first, split_run};
+use crate::spans::{Span, Words, split_first, split_span};
 
 /// One of the eight colours of a terminal, in the order of their numbers (ECMA-48, SGR 30 to 37 and 40 to 47).
 #[derive(Clone, Copy, Debug, Drop, PartialEq, Eq)]
-enum Colour {
+enum BasicColour {
     Black,
     Red,
     Green,
@@ -21,11 +24,36 @@ enum Colour {
     White,
 }
 
+impl BasicColour {
+    /// The colour's place among the eight.
+    fn place(self) -> u64
+        ensures place { result ≡ colour_place self }
+        ensures small { result < 8 }
+    {
+        match self {
+            BasicColour::Black => 0,
+            BasicColour::Red => 1,
+            BasicColour::Green => 2,
+            BasicColour::Yellow => 3,
+            BasicColour::Blue => 4,
+            BasicColour::Magenta => 5,
+            BasicColour::Cyan => 6,
+            BasicColour::White => 7,
+        }
+    }
+}
+
 /// How a text is coloured: at most one foreground, at most one background, and any attributes.
+///
+/// ```
+/// let style = Style::from_dotted_str("red.on_blue");
+/// style.apply_to(true, " XXX ", &mut out)?;
+/// assert_eq!(out.as_str(), "\x1b[31m\x1b[44m XXX \x1b[0m");
+/// ```
 #[derive(Clone, Copy, Debug, Drop, PartialEq, Eq)]
 pub struct Style {
-    foreground: Option<Colour>,
-    background: Option<Colour>,
+    foreground: Option<BasicColour>,
+    background: Option<BasicColour>,
     bold: bool,
     dim: bool,
     underlined: bool,
@@ -47,6 +75,10 @@ impl Style {
     };
 
     /// No colours and no attributes.
+    ///
+    /// ```
+    /// assert_eq!(Style::new(), Style::from_dotted_str(""));
+    /// ```
     pub fn new() -> Style
         ensures { numbers_of result ≡ [] }
     {
@@ -58,6 +90,12 @@ impl Style {
     /// The words are `black`, `red`, `green`, `yellow`, `blue`, `magenta`, `cyan` and `white`, each also with `on_`
     /// before for the background, and `bold`, `dim`, `underlined`, `blink`, `reverse` and `hidden`. A later foreground
     /// or background replaces an earlier one; other words are ignored. One pass, no memory.
+    ///
+    /// ```
+    /// let style = Style::from_dotted_str("red.green");
+    /// style.apply_to(true, "x", &mut out)?;
+    /// assert_eq!(out.as_str(), "\x1b[32mx\x1b[0m");
+    /// ```
     pub fn from_dotted_str(text: &str) -> Style
         ensures { numbers_of result ≡ style_of (chars text.now) }
     {
@@ -71,13 +109,13 @@ impl Style {
         ensures rest { chars result.1.now ≡ after_run (in_words words) (chars text.now) }
         ensures utf8 { IsUtf8 result.1.now }
     {
-        let (word, mut rest) = split_run(text, Run::Word(words));
+        let (word, mut rest) = split_span(text, Span::Word(words));
         let mut style = Style::PLAIN.with_word(word);
         while let Some((end, left)) = split_first(rest) {
             if end != '.' {
                 break;
             }
-            let (word, more) = split_run(left, Run::Word(words));
+            let (word, more) = split_span(left, Span::Word(words));
             style = style.with_word(word);
             rest = more;
         }
@@ -89,49 +127,74 @@ impl Style {
     /// behind it, also behind an empty text, but only if a sequence stands before. With `colours` off it is the text
     /// alone.
     ///
-    /// Refused: `Memory`; `out` is as before then.
+    /// Refused: `Memory`, only where `out` has no room for all of it; `out` is as before then.
+    ///
+    /// ```
+    /// Style::from_dotted_str("hidden.bold.dim").apply_to(true, "", &mut out)?;
+    /// assert_eq!(out.as_str(), "\x1b[1m\x1b[2m\x1b[8m\x1b[0m");
+    /// ```
     pub fn apply_to(&self, colours: bool, text: &str, out: &mut String) -> Result<(), Refusal>
         ensures ok { OnOk result (string_bytes out.new
             ≡ string_bytes out.old ++ styled colours (numbers_of self.now) text.now) }
         ensures memory { IfErr result (λ e. e ≡ Refusal.Memory) }
         ensures err { OnErr result (string_bytes out.new ≡ string_bytes out.old) }
+        ensures full { OnErr result (string_capacity out.old
+            < string_len out.old + length (styled colours (numbers_of self.now) text.now)) }
     {
-        if !colours {
-            out.push_str(text)?;
-            return Ok(());
-        }
-        out.reserve(text.len().saturating_add(Style::SEQUENCES_LEN))?;
-        let start = out.len();
-        self.push_sequences(out);
-        let is_styled = start < out.len();
+        let opening = self.opening(colours);
+        let end = closing(opening.as_str());
+        out.reserve(
+            text.len()
+                .saturating_add(opening.as_str().len() + end.len()),
+        )?;
+        append(out, opening.as_str());
         append(out, text);
-        if is_styled {
-            append(out, "\x1b[0m");
-        }
+        append(out, end);
         Ok(())
     }
 
-    /// The most bytes that all sequences of a style take, with the one that ends them.
-    const SEQUENCES_LEN: usize = 38;
-
-    /// Appends the sequences that stand before a text; there is room for them.
-    fn push_sequences(&self, out: &mut String)
-        requires { string_len out.old + 34 ≤ string_capacity out.old }
-        ensures bytes { string_bytes out.new
-            ≡ string_bytes out.old ++ flat_map sequence_of (numbers_of self.now) }
-        ensures len { string_len out.new
-            ≡ string_len out.old + length (flat_map sequence_of (numbers_of self.now)) }
-        ensures short { string_len out.new ≤ string_len out.old + 34 }
-        ensures capacity { string_capacity out.old ≤ string_capacity out.new }
+    /// Appends the sequences that stand before a text in this style, and says whether any does: then ESC `[0m` belongs
+    /// behind the text.
+    ///
+    /// Refused: `Memory`, only where `out` has no room for them; `out` is as before then.
+    ///
+    /// ```
+    /// let is_open = Style::from_dotted_str("red").open(true, &mut out)?;
+    /// assert!(is_open);
+    /// assert_eq!(out.as_str(), "\x1b[31m");
+    /// ```
+    pub fn open(&self, colours: bool, out: &mut String) -> Result<bool, Refusal>
+        ensures bytes { OnOk result (string_bytes out.new
+            ≡ string_bytes out.old ++ opening_of colours (numbers_of self.now)) }
+        ensures some { IfOk result (λ some. some ≡ nat_lt 0 (length (opening_of colours (numbers_of self.now)))) }
+        ensures memory { IfErr result (λ e. e ≡ Refusal.Memory) }
+        ensures err { OnErr result (string_bytes out.new ≡ string_bytes out.old) }
+        ensures full { OnErr result (string_capacity out.old
+            < string_len out.old + length (opening_of colours (numbers_of self.now))) }
     {
-        append(out, foreground_if(self.foreground));
-        append(out, background_if(self.background));
-        append(out, sequence_if(self.bold, "\x1b[1m"));
-        append(out, sequence_if(self.dim, "\x1b[2m"));
-        append(out, sequence_if(self.underlined, "\x1b[4m"));
-        append(out, sequence_if(self.blink, "\x1b[5m"));
-        append(out, sequence_if(self.reverse, "\x1b[7m"));
-        append(out, sequence_if(self.hidden, "\x1b[8m"));
+        let opening = self.opening(colours);
+        out.push_str(opening.as_str())?;
+        Ok(!opening.as_str().is_empty())
+    }
+
+    /// The sequences that stand before a text; none with `colours` off.
+    fn opening(&self, colours: bool) -> ShortText
+        ensures sequences { result ≡ opening_of colours (numbers_of self.now) }
+        ensures short { length result ≤ 40 }
+    {
+        let mut text = ShortText::new();
+        if !colours {
+            return text;
+        }
+        prepend_attribute(&mut text, self.hidden, 8);
+        prepend_attribute(&mut text, self.reverse, 7);
+        prepend_attribute(&mut text, self.blink, 5);
+        prepend_attribute(&mut text, self.underlined, 4);
+        prepend_attribute(&mut text, self.dim, 2);
+        prepend_attribute(&mut text, self.bold, 1);
+        prepend_colour(&mut text, 40, self.background);
+        prepend_colour(&mut text, 30, self.foreground);
+        text
     }
 
     /// The style with a further word, where it is one.
@@ -151,7 +214,7 @@ impl Style {
             ≡ (self.hidden || bytes_eq (chars word.now) (codes "hidden")) }
     {
         Style {
-            foreground: foreground_of(word).or(self.foreground),
+            foreground: colour_of(word).or(self.foreground),
             background: background_of(word).or(self.background),
             bold: self.bold || is_word(word, "bold"),
             dim: self.dim || is_word(word, "dim"),
@@ -163,38 +226,28 @@ impl Style {
     }
 }
 
-/// The colour of a foreground word.
-fn foreground_of(word: &str) -> Option<Colour>
-    ensures { option_map (λ c. 30 + place_of c) result ≡ foreground_of (chars word.now) }
+/// The colour that a word names.
+fn colour_of(word: &str) -> Option<BasicColour>
+    ensures { option_map colour_place result ≡ position (bytes_eq (chars word.now)) colour_words }
 {
     match word {
-        "black" => Some(Colour::Black),
-        "red" => Some(Colour::Red),
-        "green" => Some(Colour::Green),
-        "yellow" => Some(Colour::Yellow),
-        "blue" => Some(Colour::Blue),
-        "magenta" => Some(Colour::Magenta),
-        "cyan" => Some(Colour::Cyan),
-        "white" => Some(Colour::White),
+        "black" => Some(BasicColour::Black),
+        "red" => Some(BasicColour::Red),
+        "green" => Some(BasicColour::Green),
+        "yellow" => Some(BasicColour::Yellow),
+        "blue" => Some(BasicColour::Blue),
+        "magenta" => Some(BasicColour::Magenta),
+        "cyan" => Some(BasicColour::Cyan),
+        "white" => Some(BasicColour::White),
         _ => None,
     }
 }
 
-/// The colour of a background word.
-fn background_of(word: &str) -> Option<Colour>
-    ensures { option_map (λ c. 40 + place_of c) result ≡ background_of (chars word.now) }
+/// The colour that a word names behind `on_`.
+fn background_of(word: &str) -> Option<BasicColour>
+    ensures { option_map colour_place result ≡ position (bytes_eq (chars word.now)) background_words }
 {
-    match word {
-        "on_black" => Some(Colour::Black),
-        "on_red" => Some(Colour::Red),
-        "on_green" => Some(Colour::Green),
-        "on_yellow" => Some(Colour::Yellow),
-        "on_blue" => Some(Colour::Blue),
-        "on_magenta" => Some(Colour::Magenta),
-        "on_cyan" => Some(Colour::Cyan),
-        "on_white" => Some(Colour::White),
-        _ => None,
-    }
+    colour_of(word.strip_prefix("on_")?)
 }
 
 /// Whether `word` is this name, which is ASCII.
@@ -205,75 +258,45 @@ fn is_word(word: &str, name: &str) -> bool
     word == name
 }
 
-/// Appends a text for which there is room.
-fn append(out: &mut String, text: &str)
-    requires { string_len out.old + length text.now ≤ string_capacity out.old }
-    ensures bytes { string_bytes out.new ≡ string_bytes out.old ++ text.now }
-    ensures len { string_len out.new ≡ string_len out.old + length text.now }
-    ensures capacity { string_capacity out.old ≤ string_capacity out.new }
+/// What stands behind a text that these sequences stand before.
+fn closing(opening: &str) -> &'static str
+    ensures { result.now ≡ closing_of opening.now }
 {
-    out.push_str(text).unwrap();
+    if opening.is_empty() { "" } else { "\x1b[0m" }
 }
 
-/// The sequence of a foreground; nothing for none.
-fn foreground_if(colour: Option<Colour>) -> &'static str
-    ensures sequence { result.now ≡ sequence_if (option_map (λ c. 30 + place_of c) colour) }
-    ensures short { length result.now ≤ 5 }
+/// Puts the sequence of a colour in front, if there is one: `base` and the colour's place are its number.
+fn prepend_colour(text: &mut ShortText, base: u64, colour: Option<BasicColour>)
+    requires room { length text.old ≤ 35 }
+    requires small { base ≤ 40 }
+    ensures text { text.new ≡ sequence_if (option_map (λ c. base + colour_place c) colour) ++ text.old }
+    ensures short { length text.new ≤ length text.old + 5 }
 {
-    match colour {
-        Some(colour) => foreground_sequence(colour),
-        None => "",
+    if let Some(colour) = colour {
+        prepend_sequence(text, base + colour.place());
     }
 }
 
-/// The sequence of a foreground.
-fn foreground_sequence(colour: Colour) -> &'static str
-    ensures sequence { result.now ≡ sequence_of (30 + place_of colour) }
-    ensures short { length result.now ≤ 5 }
+/// Puts the sequence of an attribute's number in front, where it is set.
+fn prepend_attribute(text: &mut ShortText, set: bool, number: u64)
+    requires room { length text.old ≤ 35 }
+    requires small { number < 100 }
+    ensures text { text.new ≡ flat_map sequence_of (number_if set number) ++ text.old }
+    ensures short { length text.new ≤ length text.old + 5 }
 {
-    match colour {
-        Colour::Black => "\x1b[30m",
-        Colour::Red => "\x1b[31m",
-        Colour::Green => "\x1b[32m",
-        Colour::Yellow => "\x1b[33m",
-        Colour::Blue => "\x1b[34m",
-        Colour::Magenta => "\x1b[35m",
-        Colour::Cyan => "\x1b[36m",
-        Colour::White => "\x1b[37m",
+    if set {
+        prepend_sequence(text, number);
     }
 }
 
-/// The sequence of a background; nothing for none.
-fn background_if(colour: Option<Colour>) -> &'static str
-    ensures sequence { result.now ≡ sequence_if (option_map (λ c. 40 + place_of c) colour) }
-    ensures short { length result.now ≤ 5 }
+/// Puts the sequence of a number in front.
+fn prepend_sequence(text: &mut ShortText, number: u64)
+    requires room { length text.old ≤ 35 }
+    requires small { number < 100 }
+    ensures text { text.new ≡ sequence_of number ++ text.old }
+    ensures short { length text.new ≤ length text.old + 5 }
 {
-    match colour {
-        Some(colour) => background_sequence(colour),
-        None => "",
-    }
-}
-
-/// The sequence of a background.
-fn background_sequence(colour: Colour) -> &'static str
-    ensures sequence { result.now ≡ sequence_of (40 + place_of colour) }
-    ensures short { length result.now ≤ 5 }
-{
-    match colour {
-        Colour::Black => "\x1b[40m",
-        Colour::Red => "\x1b[41m",
-        Colour::Green => "\x1b[42m",
-        Colour::Yellow => "\x1b[43m",
-        Colour::Blue => "\x1b[44m",
-        Colour::Magenta => "\x1b[45m",
-        Colour::Cyan => "\x1b[46m",
-        Colour::White => "\x1b[47m",
-    }
-}
-
-/// The sequence where the attribute is set; nothing else.
-fn sequence_if(set: bool, sequence: &'static str) -> &'static str
-    ensures { result.now ≡ (if set then sequence.now else []) }
-{
-    if set { sequence } else { "" }
+    text.prepend(b'm');
+    text.prepend_number(number);
+    text.prepend_str("\x1b[");
 }

@@ -1,21 +1,25 @@
 //! Templates: a text with placeholders, read into its parts.
 ghost use Rattle.std.specs.Prelude.{◌≡◌, ◌≢◌, ◌↔◌, List, map, chars};
 ghost use Rattle.indicatif_text.specs.declared.template.TemplateError.{TemplateError};
-ghost use Rattle.indicatif_text.specs.Parts.{TemplatePart, part_of};
-ghost use Rattle.indicatif_text.specs.Template.{Parses, IsRefused};
+ghost use Rattle.indicatif_text.specs.Template.{TemplatePart, part_of, Parses, IsRefused};
 
 use crate::refusal::{Refusal, TemplateState};
 use crate::style_words::Style;
 use crate::template::draft::Draft;
 use std::alloc::{AllocError, AllocFailed, Global};
+use std::error::Error;
+use std::fmt;
 use std::marker::Model;
-use thiserror::Error;
 
 mod draft;
-pub mod laws;
 mod reading;
 
 /// Where a placeholder's text stands in its width.
+///
+/// ```
+/// // the placeholder of "{k:>2}" stands at the right of two columns
+/// assert_eq!(align, Alignment::Right);
+/// ```
 #[derive(Clone, Copy, Debug, Drop, PartialEq, Eq)]
 pub enum Alignment {
     /// At the left.
@@ -27,6 +31,16 @@ pub enum Alignment {
 }
 
 /// A part of a template.
+///
+/// ```
+/// for part in template.parts() {
+///     match part {
+///         Part::Literal(text) => out.push_str(text.as_str())?,
+///         Part::NewLine => out.push('\n')?,
+///         Part::Placeholder { key, .. } => out.push_str(key.as_str())?,
+///     }
+/// }
+/// ```
 #[derive(Debug, Drop)]
 pub enum Part {
     /// A text that stands as it is.
@@ -51,6 +65,11 @@ pub enum Part {
 }
 
 /// A text with placeholders, read into its parts. Neighbouring literal texts are one part.
+///
+/// ```
+/// let template = Template::parse(alloc, "{foo:5!3}")?;
+/// assert_eq!(template.parts().len(), 1);
+/// ```
 #[derive(Debug, Drop)]
 pub struct Template {
     parts: Vec<Part>,
@@ -58,7 +77,7 @@ pub struct Template {
 
 impl Model for Template {
     ghost use Rattle.std.specs.Prelude.{List, map};
-    ghost use Rattle.indicatif_text.specs.Parts.{TemplatePart, part_of};
+    ghost use Rattle.indicatif_text.specs.Template.{TemplatePart, part_of};
 
     ghost Value = { List TemplatePart };
 
@@ -85,6 +104,11 @@ impl Template {
     /// `MaybeOpen` for a `}` or a `:` right behind a `{`, `DoubleClose` for another character behind a single `}`,
     /// `Align` right behind the `:` of a placeholder, `Width` later in its options before a `.`; `WidthTooLarge` where
     /// a width past 65,535 ends. `Memory`: nothing is made.
+    ///
+    /// ```
+    /// assert_eq!(Template::parse(alloc, "{{x}}")?.parts().len(), 1);
+    /// assert_eq!(Template::parse(alloc, "{k:65536}").err(), Some(TemplateError::WidthTooLarge));
+    /// ```
     pub fn parse(alloc: Global, text: &str) -> Result<Template, TemplateError>
         ensures parses { (parts : List TemplatePart) → result ≢ Err TemplateError.Memory →
             ((result ≡ Ok parts) ↔ Parses (chars text.now) parts) }
@@ -101,6 +125,10 @@ impl Template {
     }
 
     /// The parts, in order.
+    ///
+    /// ```
+    /// assert_eq!(Template::parse(alloc, "a\nb")?.parts().len(), 3);
+    /// ```
     pub fn parts(&self) -> &[Part]
         ensures { map part_of result.now ≡ self.now }
     {
@@ -109,10 +137,16 @@ impl Template {
 }
 
 /// Why a text is no template.
-#[derive(Clone, Copy, Debug, Drop, PartialEq, Eq, Error)]
+///
+/// ```
+/// let state = TemplateState::DoubleClose;
+/// let error = TemplateError::Unexpected { next: 'x', state };
+/// let text = "TemplateError: unexpected character 'x' in state DoubleClose";
+/// assert_eq!(error.to_string(alloc)?.as_str(), text);
+/// ```
+#[derive(Clone, Copy, Debug, Drop, PartialEq, Eq)]
 pub enum TemplateError {
     /// A character that fits no case of the grammar.
-    #[error("TemplateError: unexpected character {next:?} in state {state:?}")]
     Unexpected {
         /// The character.
         next: char,
@@ -120,12 +154,34 @@ pub enum TemplateError {
         state: TemplateState,
     },
     /// A width past 65,535.
-    #[error("TemplateError: width too large")]
     WidthTooLarge,
     /// Memory was refused.
-    #[error("TemplateError: out of memory")]
     Memory,
 }
+
+/// `TemplateError: `, and what was refused: `unexpected character 'x' in state DoubleClose`, `width too large` or
+/// `out of memory`. The options of a hole, as a width in `{:>12}`, are ignored.
+impl fmt::Display for TemplateError {
+    ghost use Rattle.indicatif_text.specs.Template.{error_text};
+
+    ghost output = { error_text };
+
+    fn fmt<W: fmt::Write>(&self, f: &mut fmt::Formatter<W>) -> fmt::Result {
+        match self {
+            TemplateError::Unexpected { next, state } => {
+                let state = state.name();
+                write!(
+                    f,
+                    "TemplateError: unexpected character {next:?} in state {state}"
+                )
+            }
+            TemplateError::WidthTooLarge => f.write_str("TemplateError: width too large"),
+            TemplateError::Memory => f.write_str("TemplateError: out of memory"),
+        }
+    }
+}
+
+impl Error for TemplateError {}
 
 /// Memory that was refused is `TemplateError::Memory`.
 impl From<AllocError> for TemplateError {
@@ -151,7 +207,7 @@ impl<T: Drop> From<AllocFailed<T>> for TemplateError {
 
 /// A template's error is the refusal of the same name.
 impl From<TemplateError> for Refusal {
-    ghost use Rattle.indicatif_text.specs.TemplateErrors.{refusal_of};
+    ghost use Rattle.indicatif_text.specs.Template.{refusal_of};
 
     ghost from_gives = { λ e r. r ≡ refusal_of e };
 

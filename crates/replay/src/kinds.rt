@@ -1,6 +1,8 @@
 //! The kinds of rows, and how each is asked. A kind's module has one function that asks the product and compares.
 use crate::cells::cells_agree;
 use crate::formats::format_agrees;
+use crate::limiters::limiter_agrees;
+use crate::lines::lines_agree;
 use crate::rows::{BadRow, Row};
 use crate::templates::template_agrees;
 use crate::texts::text_agrees;
@@ -17,6 +19,10 @@ pub enum Kind {
     Template,
     /// What a terminal shows after some bytes.
     Cells,
+    /// The lines that a bar shows.
+    Lines,
+    /// What a limiter answers.
+    Limiter,
 }
 
 /// What became of a row.
@@ -38,6 +44,8 @@ impl Kind {
             "format" => Some(Kind::Format),
             "template" => Some(Kind::Template),
             "cells" => Some(Kind::Cells),
+            "lines" => Some(Kind::Lines),
+            "limiter" => Some(Kind::Limiter),
             _ => None,
         }
     }
@@ -49,6 +57,8 @@ impl Kind {
             Kind::Format => format_agrees(alloc, row),
             Kind::Template => template_agrees(alloc, row),
             Kind::Cells => cells_agree(alloc, row),
+            Kind::Lines => lines_agree(alloc, row),
+            Kind::Limiter => limiter_agrees(alloc, row),
         }
     }
 }

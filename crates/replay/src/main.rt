@@ -1,22 +1,23 @@
 //! Asks the product for the answers of recorded rows: `replay KIND FILE [KIND FILE ..]`.
 //!
 //! A first line that begins with `#` is the file's heading. Each row that disagrees is printed with what was got, and last
-//! the counts. The exit status is 1 if a row disagreed, and 2 where a file or a row can't be read, where standard output
-//! fails, or where no file is named, which prints the usage to standard error.
+//! the counts. The exit status is 1 if a row disagreed, and 2 where a file has no rows, where a file or a row can't be read,
+//! where standard output fails, or where no file is named, which prints the usage to standard error.
 //!
 //! - `rows`: the rows of a file, their columns and escapes.
-//! - `kinds`: the kinds of rows, and how each is asked: `texts`, `formats`, `templates`,
-//!   `cells`.
+//! - `kinds`: the kinds of rows, and how each is asked: `texts`, `formats`, `templates`, `cells`, `lines`, `limiters`.
 #![tactic(auto)]
 
 mod cells;
 mod formats;
 mod kinds;
+mod limiters;
+mod lines;
 mod rows;
 mod templates;
 mod texts;
 
-use anyhow::{Context, Result, anyhow};
+use anyhow::{Context, Result, anyhow, bail};
 use kinds::{Kind, Verdict};
 use rows::Row;
 use std::fs::File;
@@ -30,6 +31,18 @@ struct Tally {
     passed: u64,
     failed: u64,
     skipped: u64,
+}
+
+impl Tally {
+    /// Counts a row of which this became.
+    fn count(&mut self, verdict: &Verdict) {
+        let counted = match verdict {
+            Verdict::Agrees => &mut self.passed,
+            Verdict::Differs(_) => &mut self.failed,
+            Verdict::Skipped => &mut self.skipped,
+        };
+        *counted = counted.saturating_add(1);
+    }
 }
 
 fn main(rt: HostRuntime) -> ExitCode {
@@ -81,26 +94,66 @@ fn print_counts(rt: HostRuntime, tally: Tally) -> io::Result<()> {
 /// Asks every row of a file, and prints those that disagree.
 fn replay_file(rt: HostRuntime, kind: Kind, path: &str, tally: &mut Tally) -> Result<()> {
     let file = File::open(&rt, path).context(format_args!("{path}"))?;
+    replay_rows(rt, kind, path, BufReader::new(rt.alloc(), file)?, tally)
+}
+
+/// Asks every row of what `path` holds, and prints those that disagree. Without any row it fails.
+fn replay_rows<R: BufRead + Drop>(
+    rt: HostRuntime,
+    kind: Kind,
+    path: &str,
+    rows: R,
+    tally: &mut Tally,
+) -> Result<()> {
     let mut number: u64 = 0;
-    for line in BufReader::new(rt.alloc(), file)?.lines(rt.alloc()) {
+    let mut is_empty = true;
+    for line in rows.lines(rt.alloc()) {
         number = number.saturating_add(1);
         let line = line.context(format_args!("{path}, line {number}"))?;
         if number == 1 && line.as_str().starts_with('#') {
             continue;
         }
+        is_empty = false;
         let verdict = kind
             .agrees(rt.alloc(), Row::of(line.as_str()))
             .context(format_args!("{path}, line {number}"))?;
-        match verdict {
-            Verdict::Agrees => tally.passed = tally.passed.saturating_add(1),
-            Verdict::Skipped => tally.skipped = tally.skipped.saturating_add(1),
-            Verdict::Differs(got) => {
-                tally.failed = tally.failed.saturating_add(1);
-                println!(rt; "{path}, line {number}: {line}\n  got {got}").context(
-                    "output failed",
-                )?;
-            }
+        if let Verdict::Differs(got) = &verdict {
+            println!(rt; "{path}, line {number}: {line}\n  got {got}").context("output failed")?;
         }
+        tally.count(&verdict);
+    }
+    if is_empty {
+        bail!("{path} has no rows");
     }
     Ok(())
+}
+
+#[cfg(test)]
+mod tests {
+    use super::{Kind, Tally, replay_rows};
+    use std::test::Fail;
+
+    /// What the rows of a text tell: how many agreed, disagreed and weren't asked; nothing where the text is refused.
+    fn told(rt: HostRuntime, kind: Kind, text: &str) -> Option<(u64, u64, u64)> {
+        let mut tally = Tally::default();
+        match replay_rows(rt, kind, "rows", text.as_bytes(), &mut tally) {
+            Ok(()) => Some((tally.passed, tally.failed, tally.skipped)),
+            Err(_) => None,
+        }
+    }
+
+    #[test]
+    fn files_with_and_without_rows(rt: HostRuntime) -> Result<(), Fail> {
+        let table = [
+            ("", None),
+            ("# a heading\n", None),
+            ("HumanCount\t1000\t1,000\n", Some((1, 0, 0))),
+            ("# a heading\nHumanCount\t1000\t1000\n", Some((0, 1, 0))),
+            ("HumanCount\n", None),
+        ];
+        for (text, wanted) in table {
+            assert_eq!(rt; told(rt, Kind::Format, text), wanted, "of {text:?}");
+        }
+        Ok(())
+    }
 }

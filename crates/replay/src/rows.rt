@@ -3,7 +3,7 @@ ghost use Rattle.std.specs.Prelude.{◌≡◌, ◌<◌, ◌≤◌, length, IfOk}
 ghost use Rattle.std.specs.Str.Iter.{chars_rest};
 ghost use Rattle.replay.specs.declared.rows.BadRow.TheVariants.{Memory};
 
-use indicatif_text::refusal::Refusal;
+use indicatif_text::columns::Refusal;
 use std::alloc::{AllocError, AllocFailed, Global};
 use std::str::{Chars, FromStr};
 use thiserror::Error;
@@ -131,6 +131,27 @@ fn unescaped(alloc: Global, text: &str) -> Result<Vec<u8>, BadRow> {
         }
     }
     Ok(bytes)
+}
+
+/// Appends a text as rows spell it.
+pub fn push_spelt(out: &mut String, text: &str) -> Result<(), AllocError> {
+    for c in text.chars() {
+        push_escaped(out, c)?;
+    }
+    Ok(())
+}
+
+/// Appends a character as rows spell it.
+pub fn push_escaped(out: &mut String, c: char) -> Result<(), AllocError> {
+    match c {
+        '\\' => out.push_str("\\\\"),
+        '\n' => out.push_str("\\n"),
+        '\t' => out.push_str("\\t"),
+        '\r' => out.push_str("\\r"),
+        '\0' => out.push_str("\\0"),
+        '\u{1B}' => out.push_str("\\e"),
+        _ => out.push(c),
+    }
 }
 
 fn push_char(bytes: &mut Vec<u8>, c: char) -> Result<(), AllocError> {

@@ -1,6 +1,6 @@
 //! Rows of templates: a template, and its parts or its refusal.
 use crate::kinds::Verdict;
-use crate::rows::{BadRow, Row};
+use crate::rows::{BadRow, Row, push_escaped, push_spelt};
 use indicatif_text::columns::Style;
 use indicatif_text::template::{Alignment, Part, Template, TemplateError};
 use std::alloc::{AllocError, Global};
@@ -46,7 +46,7 @@ fn push_part(alloc: Global, out: &mut String, part: &Part) -> Result<(), AllocEr
     match part {
         Part::Literal(text) => {
             out.push_str("L ")?;
-            push_text(out, text.as_str())
+            push_spelt(out, text.as_str())
         }
         Part::NewLine => out.push_str("N"),
         Part::Placeholder {
@@ -58,7 +58,7 @@ fn push_part(alloc: Global, out: &mut String, part: &Part) -> Result<(), AllocEr
             alternative,
         } => {
             out.push_str("P ")?;
-            push_text(out, key.as_str())?;
+            push_spelt(out, key.as_str())?;
             push_layout(alloc, out, *align, *width)?;
             out.push_str(if *truncate { " !" } else { " -" })?;
             push_style(alloc, out, *style)?;
@@ -110,24 +110,4 @@ fn push_style(alloc: Global, out: &mut String, style: Option<Style>) -> Result<(
         }
     }
     if some { Ok(()) } else { out.push_str("-") }
-}
-
-fn push_text(out: &mut String, text: &str) -> Result<(), AllocError> {
-    for c in text.chars() {
-        push_escaped(out, c)?;
-    }
-    Ok(())
-}
-
-/// A character as rows spell it.
-fn push_escaped(out: &mut String, c: char) -> Result<(), AllocError> {
-    match c {
-        '\\' => out.push_str("\\\\"),
-        '\n' => out.push_str("\\n"),
-        '\t' => out.push_str("\\t"),
-        '\r' => out.push_str("\\r"),
-        '\0' => out.push_str("\\0"),
-        '\u{1B}' => out.push_str("\\e"),
-        _ => out.push(c),
-    }
 }

@@ -1,5 +1,5 @@
 -- Counts that are settled.
-use Rattle.std.specs.Prelude.{◌≡◌, ℕ, ◌+◌, ◌-◌, min, max, ◌&&◌, ◌==◌, nat_lt, List}
+use Rattle.std.specs.Prelude.{◌≡◌, ℕ, ◌+◌, ◌-◌, min, max, ◌&&◌, ◌==◌, nat_lt, List, drop}
 use Rattle.indicatif_term.specs.declared.layout.RowCount.{RowCount}
 use Rattle.indicatif_term.specs.declared.counts.Counts.{Counts}
 
@@ -7,6 +7,6 @@ use Rattle.indicatif_term.specs.declared.counts.Counts.{Counts}
 pub record SettledCounts (reached h kept blanks : ℕ) (segments : List RowCount) (live : ℕ) (c : Counts) : Type 0 where
   pub kept_is : c.kept ≡ kept - min (max reached (kept + live) - h) kept
   pub blanks_are : c.blanks ≡ blanks
-  pub segments_are : c.segments.items ≡ segments
+  pub segments_are : drop c.passed c.segments.items ≡ segments
   pub reached_is : c.reached ≡ max reached (kept + live) - min (max reached (kept + live) - h) kept
   pub below_is : c.below ≡ ((live == 0) && nat_lt c.kept c.reached)

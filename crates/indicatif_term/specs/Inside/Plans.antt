@@ -1,11 +1,13 @@
 -- How a frame is counted before it is written.
-use Rattle.std.specs.Prelude.{◌≡◌, ℕ, ◌-◌, ◌<◌, ◌≤◌, ◌^◌, min, true, false, IsFalse, List, [], ◌∷◌, ◌++◌, map, length, flat_map, sum_by, take, Option, Some, None, Result, MatchResult}
+use Rattle.std.specs.Prelude.{◌≡◌, ℕ, ◌-◌, ◌≤◌, ◌^◌, min, true, false, IsFalse, List, [], ◌∷◌, ◌++◌, map, length, flat_map, sum_by, take, Option, Some, None, Result, MatchResult}
 use Rattle.std.specs.Borrow.{Bor}
-use Rattle.indicatif_text.specs.Columns.{has_wide, rows_of}
+use Rattle.indicatif_text.specs.Columns.{has_wide, rows_of, last_columns}
+use Rattle.indicatif_text.specs.declared.columns.Metrics.{Metrics}
 use Rattle.indicatif_text.specs.declared.refusal.Refusal.{Refusal}
 use Rattle.indicatif_term.specs.Lists.{BarLines, BarRows, shown_rows, fitting, grouped, lines_of, segments_height}
-use Rattle.indicatif_term.specs.Frames.{line_text, all_lines, text_lines, logged_lines, some_wide, Refuses, is_fault}
+use Rattle.indicatif_term.specs.Frames.{line_text, all_lines, text_lines, logged_lines, some_wide, RefusesLines, is_fault}
 use Rattle.indicatif_term.specs.Counts.{row_count}
+use Rattle.indicatif_term.specs.Inside.Fills.{line_end, last_or_none}
 use Rattle.indicatif_term.specs.declared.lines.Segment.{Segment}
 use Rattle.indicatif_term.specs.declared.layout.RowCount.{RowCount}
 use Rattle.indicatif_term.specs.declared.layout.Plan.{Plan}
@@ -17,9 +19,9 @@ abbrev pub frame_lines : List Segment → List (List ℕ)
 frame_lines frame = flat_map (λ (s : Segment). map line_text s.lines.items) frame
 
 -- the lines of the text that is logged, if any is
-abbrev pub lines_above : Option (Bor (List ℕ)) → List (List ℕ)
-lines_above None = []
-lines_above (Some text) = logged_lines text.now
+abbrev pub text_above : Option (Bor (List ℕ)) → List (List ℕ)
+text_above None = []
+text_above (Some text) = logged_lines text.now
 
 -- how many rows lines take
 abbrev pub text_height : ℕ → List (List ℕ) → ℕ
@@ -27,7 +29,7 @@ text_height w text = sum_by (λ line. length (rows_of w line)) text
 
 -- why lines are not written, before a call of the terminal
 abbrev pub IsWithheld : ℕ → List (List ℕ) → Refusal → Type 0
-IsWithheld w lines e = IsFalse (is_fault e) × Refuses w lines e
+IsWithheld w lines e = IsFalse (is_fault e) × RefusesLines w lines e
 
 -- ---- a plan
 
@@ -58,22 +60,18 @@ abbrev pub IsPlaced : ℕ → ℕ → List BarRows → BarLines → Plan → Res
 IsPlaced w h before member p result =
     MatchResult result (λ _. IsFalse (some_wide w member.lines) × IsLaidOut h (before ++ lines_of w (member ∷ [])) p) (λ e. IsWithheld w member.lines e)
 
--- the same with the lines of members after them
-abbrev pub ArePlaced : ℕ → ℕ → List BarRows → List BarLines → Plan → Result Unit Refusal → Type 0
-ArePlaced w h before members p result =
-    MatchResult result (λ _. IsFalse (some_wide w (all_lines members)) × IsLaidOut h (before ++ lines_of w members) p) (λ e. IsWithheld w (all_lines members) e)
-
 -- a plan, or why there is none
 abbrev pub Measured : ℕ → ℕ → ℕ → List BarLines → Result Plan Refusal → Type 0
 Measured w h pass frame result =
-    MatchResult result (λ p. (0 < w) × IsFalse (some_wide w (all_lines frame)) × IsPlan w h pass frame p × IsSummed h p) (λ e. IsWithheld w (all_lines frame) e)
+    MatchResult result (λ p. IsFalse (some_wide w (all_lines frame)) × IsPlan w h pass frame p × IsSummed h p) (λ e. IsWithheld w (all_lines frame) e)
 
--- the rows of a line, or why there are none
-abbrev pub MeasuredLine : ℕ → List ℕ → Result ℕ Refusal → Type 0
+-- a line as it is measured, or why it is not
+abbrev pub MeasuredLine : ℕ → List ℕ → Result Metrics Refusal → Type 0
 MeasuredLine w line result =
-    MatchResult result (λ n. (0 < w) × IsFalse (has_wide w line) × (n ≡ length (rows_of w line))) (λ e. IsWithheld w (line ∷ []) e)
+    MatchResult result (λ m. IsFalse (has_wide w line) × (m.height ≡ length (rows_of w line)) × (m.last_line_width ≡ last_columns w line)) (λ e. IsWithheld w (line ∷ []) e)
 
--- the rows of text lines up to 2^64 - 1, or why there are none
-abbrev pub MeasuredText : ℕ → List (List ℕ) → Result ℕ Refusal → Type 0
+-- text lines as they are measured, their rows up to 2^64 - 1, or why they are not
+abbrev pub MeasuredText : ℕ → List (List ℕ) → Result Metrics Refusal → Type 0
 MeasuredText w text result =
-    MatchResult result (λ n. (0 < w) × IsFalse (some_wide w (text_lines text)) × (n ≡ min (text_height w (text_lines text)) (2 ^ 64 - 1))) (λ e. IsWithheld w (text_lines text) e)
+    MatchResult result (λ m. IsFalse (some_wide w (text_lines text)) × (m.height ≡ min (text_height w (text_lines text)) (2 ^ 64 - 1))
+    × (m.last_line_width ≡ line_end w (last_or_none text))) (λ e. IsWithheld w (text_lines text) e)

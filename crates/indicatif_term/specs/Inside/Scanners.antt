@@ -6,13 +6,13 @@ use Rattle.indicatif_term.specs.declared.in_memory.scanner.Stage.{Stage}
 use Rattle.indicatif_term.specs.declared.in_memory.scanner.Stage.TheVariants.{Outside, AfterEscape, InSequence}
 
 -- the place
-abbrev pub place_of : Stage → Place
-place_of Outside = Plain
-place_of AfterEscape = Escaped
-place_of (InSequence number) = Sequence number
+abbrev pub stage_place : Stage → Place
+stage_place Outside = Plain
+stage_place AfterEscape = Escaped
+stage_place (InSequence number) = Sequence number
 
 -- this character, which is no control character of ASCII, is spelt by as many bytes at the front
-pub record IsFront (bytes : List ℕ) (c len : ℕ) : Type 0 where
+pub record IsWholeChar (bytes : List ℕ) (c len : ℕ) : Type 0 where
   pub some : 0 < len
   pub within : len ≤ length bytes
   pub spelled : take len bytes ≡ encode_utf8 c

@@ -4,17 +4,24 @@ ghost use Rattle.indicatif_term.specs.Screen.{top};
 ghost use Rattle.indicatif_term.specs.Terminal.{after, blank_terminal};
 ghost use Rattle.indicatif_term.specs.Pictures.{contents_text, picture_text};
 
-use crate::in_memory::front::front_of;
 use crate::in_memory::grid::Grid;
 use crate::in_memory::scanner::Scanner;
-use indicatif_text::refusal::Refusal;
+use crate::in_memory::whole_char::whole_char_of;
+use indicatif_text::columns::Refusal;
 use std::alloc::Global;
 use std::marker::Model;
 
 /// A terminal of cells, which is fed bytes: UTF-8 first, escape sequences (ECMA-48) next. What can't be understood
 /// changes nothing. Contracts see its screen, and what it has read of a character and of a sequence.
 ///
-/// Rows that scroll away are kept, so memory grows with them.
+/// ```
+/// let mut cells = Cells::new(rt.alloc(), 2, 4)?;
+/// cells.feed(b"ab\r\ncd\x1B[1A!")?;
+/// // contents: "ab!\ncd", cursor: (0, 3)
+/// ```
+///
+/// Memory grows with what is written: of a row the cells up to the last one that was written are kept. Rows that scroll
+/// away are kept too.
 #[derive(Debug, Drop)]
 pub struct Cells {
     grid: Grid,
@@ -33,6 +40,11 @@ impl Cells {
     /// A terminal of `rows` rows and `cols` columns, all blank, the cursor at the front of the first row.
     ///
     /// Refused: `ZeroSize` where `rows` or `cols` is 0, which is tested before memory is taken; `Memory`.
+    ///
+    /// ```
+    /// let cells = Cells::new(rt.alloc(), 65535, 65535)?;
+    /// // contents: "", cursor: (0, 0)
+    /// ```
     pub fn new(alloc: Global, rows: u16, cols: u16) -> Result<Self, Refusal>
         ensures blank { IfOk result (λ c. c ≡ blank_terminal rows cols) }
         ensures zero_size { (result ≡ Err Refusal.ZeroSize) ↔ ((rows ≡ 0) ⊎ (cols ≡ 0)) }
@@ -49,6 +61,12 @@ impl Cells {
     }
 
     /// Reads these bytes. Any cut of the same bytes gives the same cells.
+    ///
+    /// ```
+    /// cells.feed(b"\xE5\x9B")?;
+    /// cells.feed(b"\xBD")?;
+    /// // contents: "\u{56FD}", of two columns: cursor (0, 2)
+    /// ```
     ///
     /// Refused: `Memory`, with how many bytes were read; the terminal is the one after these.
     pub fn feed(&mut self, bytes: &[u8]) -> Result<(), (usize, Refusal)>
@@ -77,9 +95,9 @@ impl Cells {
         ensures refused { IfErr result (λ e. e ≡ Refusal.Memory) }
     {
         if self.scanner.is_idle() {
-            if let Some(front) = front_of(bytes) {
-                self.grid.put(front.character)?;
-                return Ok(front.len);
+            if let Some(whole) = whole_char_of(bytes) {
+                self.grid.put(whole.character)?;
+                return Ok(whole.len);
             }
         }
         self.feed_byte(bytes[0])?;
@@ -103,6 +121,12 @@ impl Cells {
 
     /// The cursor's row, counted from the first of the window, and its column. In the column after the last one it
     /// waits.
+    ///
+    /// ```
+    /// let mut cells = Cells::new(rt.alloc(), 2, 2)?;
+    /// cells.feed(b"ab")?;
+    /// // cursor: (0, 2)
+    /// ```
     pub fn cursor(&self) -> (u16, u16)
         ensures row { result.0 ≡ self.now.screen.row - top self.now.screen }
         ensures column { result.1 ≡ self.now.screen.column }
@@ -112,6 +136,12 @@ impl Cells {
 
     /// The rows that scrolled away, then those of the window, each as text without the blanks at its end: empty cells
     /// and spaces. Refused: `Memory`.
+    ///
+    /// ```
+    /// let mut cells = Cells::new(rt.alloc(), 1, 3)?;
+    /// cells.feed(b"a\r\nb ")?;
+    /// // picture: ["a", "b"]
+    /// ```
     pub fn picture(&self) -> Result<Vec<String>, Refusal>
         ensures picture { IfOk result (λ v. map (λ t. string_bytes t) v.items ≡ picture_text self.now.screen) }
         ensures refused { IfErr result (λ e. e ≡ Refusal.Memory) }
@@ -121,6 +151,12 @@ impl Cells {
 
     /// The window's rows as text, up to the last one with a written cell, each without the blanks at its end, joined
     /// by line feeds. Refused: `Memory`.
+    ///
+    /// ```
+    /// let mut cells = Cells::new(rt.alloc(), 3, 3)?;
+    /// cells.feed(b"a \r\n ")?;
+    /// // contents: "a\n": the second row has a written space, the third nothing
+    /// ```
     pub fn contents(&self) -> Result<String, Refusal>
         ensures contents { IfOk result (λ t. string_bytes t ≡ contents_text self.now.screen) }
         ensures refused { IfErr result (λ e. e ≡ Refusal.Memory) }

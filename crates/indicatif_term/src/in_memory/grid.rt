@@ -7,11 +7,11 @@ ghost use Rattle.indicatif_term.specs.Pictures.{contents_text, picture_text, row
 ghost use Rattle.indicatif_term.specs.Inside.Grids.{op_of};
 ghost use Rattle.unicode_width.specs.Width.{char_width};
 
+use crate::in_memory::known_width::KnownWidth;
 use crate::in_memory::row::Row;
-use indicatif_text::refusal::Refusal;
+use indicatif_text::columns::Refusal;
 use std::alloc::Global;
 use std::marker::Model;
-use unicode_width::UnicodeWidthChar;
 
 /// What a terminal does.
 #[derive(Clone, Copy, Drop)]
@@ -43,6 +43,7 @@ pub(crate) struct Grid {
     rows: Vec<Row>,
     row: usize,
     column: u16,
+    width: KnownWidth,
 }
 
 impl Model for Grid {
@@ -68,7 +69,7 @@ impl Grid {
     {
         let mut rows = Vec::with_capacity(alloc, usize::from(height))?;
         for _row in 0..height {
-            rows.push(Row::blank(alloc, columns)?)?;
+            rows.push(Row::blank(alloc, columns))?;
         }
         Ok(Grid {
             alloc,
@@ -77,6 +78,7 @@ impl Grid {
             rows,
             row: 0,
             column: 0,
+            width: KnownWidth::new(),
         })
     }
 
@@ -119,7 +121,7 @@ impl Grid {
         let top = self.rows.len() - usize::from(self.height);
         let window = &self.rows[top..];
         let mut text = String::new(self.alloc);
-        show_joined(&window[..written_length(window)], &mut text)?;
+        show_joined(self.alloc, &window[..written_length(window)], &mut text)?;
         Ok(text)
     }
 
@@ -207,7 +209,7 @@ impl Grid {
         ensures refused { IfErr result (λ e. e ≡ Refusal.Memory) }
     {
         if self.row + 1 == self.rows.len() {
-            let row = Row::blank(self.alloc, self.columns)?;
+            let row = Row::blank(self.alloc, self.columns);
             self.rows.push(row)?;
         }
         self.row += 1;
@@ -221,7 +223,7 @@ impl Grid {
         ensures err { OnErr result (self.new ≡ self.old) }
         ensures refused { IfErr result (λ e. e ≡ Refusal.Memory) }
     {
-        match c.width() {
+        match self.width.columns(c) {
             None => Ok(()),
             Some(0) => self.put_mark(c),
             Some(columns) => self.put_wide(c, columns),
@@ -236,7 +238,7 @@ impl Grid {
     {
         let at = usize::from(self.column);
         let row = &mut self.rows[self.row];
-        row.join(self.alloc, at, mark)
+        row.join(at, mark)
     }
 
     /// Shows a character of this many columns. Refused: `Memory`; all is unchanged then.
@@ -253,25 +255,81 @@ impl Grid {
             return Ok(());
         }
         if usize::from(self.column) + columns > all {
-            self.feed_line()?;
-            self.go_to_front();
+            return self.put_below(c, columns);
         }
-        self.put_here(c, columns);
+        self.put_here(c, columns)
+    }
+
+    /// Shows a character of this many columns at the front of the row below. Refused: `Memory`; all is unchanged then.
+    fn put_below(&mut self, c: char, columns: usize) -> Result<(), Refusal>
+        requires some { 0 < columns }
+        requires columns { char_width false c ≡ Some columns }
+        requires fits { columns ≤ self.old.columns }
+        ensures ok { OnOk result (self.new
+            ≡ put_here (record { base = c; marks = [] }) columns (line_feed (record self.old { column = 0 }))) }
+        ensures err { OnErr result (self.new ≡ self.old) }
+        ensures refused { IfErr result (λ e. e ≡ Refusal.Memory) }
+    {
+        if self.row + 1 < self.rows.len() {
+            self.put_on_next_row(c, columns)
+        } else {
+            self.put_on_new_row(c, columns)
+        }
+    }
+
+    /// The same where there is a row below.
+    fn put_on_next_row(&mut self, c: char, columns: usize) -> Result<(), Refusal>
+        requires some { 0 < columns }
+        requires columns { char_width false c ≡ Some columns }
+        requires fits { columns ≤ self.old.columns }
+        requires below { self.old.row + 1 < length self.old.rows }
+        ensures ok { OnOk result (self.new
+            ≡ put_here (record { base = c; marks = [] }) columns (line_feed (record self.old { column = 0 }))) }
+        ensures err { OnErr result (self.new ≡ self.old) }
+        ensures refused { IfErr result (λ e. e ≡ Refusal.Memory) }
+    {
+        let next = self.row + 1;
+        let row = &mut self.rows[next];
+        row.write(0, c, columns)?;
+        self.row = next;
+        self.column = columns as u16;
         Ok(())
     }
 
-    /// Shows a character of this many columns, which fits into the row.
+    /// The same where there is none: the row is made and written before anything changes.
+    fn put_on_new_row(&mut self, c: char, columns: usize) -> Result<(), Refusal>
+        requires some { 0 < columns }
+        requires columns { char_width false c ≡ Some columns }
+        requires fits { columns ≤ self.old.columns }
+        requires last { length self.old.rows ≤ self.old.row + 1 }
+        ensures ok { OnOk result (self.new
+            ≡ put_here (record { base = c; marks = [] }) columns (line_feed (record self.old { column = 0 }))) }
+        ensures err { OnErr result (self.new ≡ self.old) }
+        ensures refused { IfErr result (λ e. e ≡ Refusal.Memory) }
+    {
+        let mut row = Row::blank(self.alloc, self.columns);
+        row.write(0, c, columns)?;
+        self.rows.push(row)?;
+        self.row += 1;
+        self.column = columns as u16;
+        Ok(())
+    }
+
+    /// Shows a character of this many columns, which fits into the row. Refused: `Memory`; all is unchanged then.
     #[inline]
-    fn put_here(&mut self, c: char, columns: usize)
+    fn put_here(&mut self, c: char, columns: usize) -> Result<(), Refusal>
         requires some { 0 < columns }
         requires columns { char_width false c ≡ Some columns }
         requires fits { self.old.column + columns ≤ self.old.columns }
-        ensures { self.new ≡ put_here (record { base = c; marks = [] }) columns self.old }
+        ensures ok { OnOk result (self.new ≡ put_here (record { base = c; marks = [] }) columns self.old) }
+        ensures err { OnErr result (self.new ≡ self.old) }
+        ensures refused { IfErr result (λ e. e ≡ Refusal.Memory) }
     {
         let at = usize::from(self.column);
         let row = &mut self.rows[self.row];
-        row.write(at, c, columns);
+        row.write(at, c, columns)?;
         self.column += columns as u16;
+        Ok(())
     }
 }
 
@@ -283,7 +341,7 @@ fn texts_of(alloc: Global, rows: &[Row]) -> Result<Vec<String>, Refusal>
     let mut texts = Vec::with_capacity(alloc, rows.len())?;
     for row in rows {
         let mut text = String::new(alloc);
-        row.show(&mut text)?;
+        row.show(alloc, &mut text)?;
         texts.push(text)?;
     }
     Ok(texts)
@@ -305,7 +363,7 @@ fn written_length(rows: &[Row]) -> usize
 }
 
 /// Appends the texts of rows to `out`, a line feed between each two. Refused: `Memory`.
-fn show_joined(rows: &[Row], out: &mut String) -> Result<(), Refusal>
+fn show_joined(alloc: Global, rows: &[Row], out: &mut String) -> Result<(), Refusal>
     requires { string_bytes out.old ≡ [] }
     ensures shown { OnOk result (string_bytes out.new ≡ join_with_byte 0x0A (map row_text rows.now)) }
     ensures refused { IfErr result (λ e. e ≡ Refusal.Memory) }
@@ -314,7 +372,7 @@ fn show_joined(rows: &[Row], out: &mut String) -> Result<(), Refusal>
         if place > 0 {
             out.push('\n')?;
         }
-        row.show(out)?;
+        row.show(alloc, out)?;
     }
     Ok(())
 }

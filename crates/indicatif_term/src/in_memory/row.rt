@@ -1,19 +1,23 @@
 //! A row of cells, and what writing into it does to its wide characters.
-ghost use Rattle.std.specs.Prelude.{◌≡◌, ◌+◌, ◌<◌, ◌≤◌, ◌++◌, if◌then◌else◌, is_ok, IfOk, IfErr, OnOk, length, drop, take, string_bytes};
+ghost use Rattle.std.specs.Prelude.{◌≡◌, ◌+◌, ◌<◌, ◌≤◌, ◌++◌, ◌⊎◌, IfErr, OnOk, OnErr, map, length, drop, take, string_bytes, encode_utf8_all, flat_map};
 ghost use Rattle.indicatif_text.specs.Columns.{blank_row};
 ghost use Rattle.indicatif_term.specs.Screen.{cut_before, written_at, joined_at};
-ghost use Rattle.indicatif_term.specs.Pictures.{is_blank, is_written, has_written, row_text, trimmed};
-ghost use Rattle.indicatif_term.specs.Inside.Slots.{emptied_back, emptied_on, overwritten, character_cells};
+ghost use Rattle.indicatif_term.specs.Pictures.{cell_text, is_blank, is_written, has_written, row_text, trimmed};
+ghost use Rattle.indicatif_term.specs.Inside.Rows.{cell_shown, KeepsMarks, BeginTheSame, emptied_back, emptied_on, overwritten, character_cells};
 
-use crate::in_memory::slot::Slot;
-use indicatif_text::refusal::Refusal;
+use crate::in_memory::cell::Cell;
+use crate::in_memory::marks::Mark;
+use indicatif_text::columns::Refusal;
 use std::alloc::Global;
 use std::marker::Model;
 
-/// A row of cells.
+/// A row of cells, of which those up to the last one that was written are kept: a row that nothing was written into
+/// takes no memory of its own.
 #[derive(Debug, Drop)]
 pub(crate) struct Row {
-    slots: Vec<Slot>,
+    columns: u16,
+    cells: Vec<Cell>,
+    marks: Vec<Mark>,
 }
 
 impl Model for Row {
@@ -22,58 +26,76 @@ impl Model for Row {
 
     ghost Value = { List Cell };
 
-    ghost view = { λ r. r.slots.items };
+    ghost use Rattle.indicatif_term.specs.Inside.Rows.{row_kept, IsKept};
+
+    ghost view = { row_kept };
+
+    ghost invariant = { IsKept };
 }
 
 impl Row {
-    /// A row of this many empty cells. Refused: `Memory`.
-    pub(crate) fn blank(alloc: Global, columns: u16) -> Result<Row, Refusal>
-        ensures blank { IfOk result (λ r. r ≡ blank_row columns) }
-        ensures refused { IfErr result (λ e. e ≡ Refusal.Memory) }
+    /// A row of this many empty cells. No memory is taken.
+    pub(crate) fn blank(alloc: Global, columns: u16) -> Row
+        ensures { result ≡ blank_row columns }
     {
-        let mut slots = Vec::with_capacity(alloc, usize::from(columns))?;
-        for _column in 0..columns {
-            slots.push(Slot::empty())?;
+        Row {
+            columns,
+            cells: Vec::new(alloc),
+            marks: Vec::new(alloc),
         }
-        Ok(Row { slots })
     }
 
     /// Empties each cell.
     pub(crate) fn empty(&mut self)
         ensures { self.new ≡ blank_row (length self.old) }
     {
-        empty_all(&mut self.slots);
+        self.cells.clear();
+        self.marks.clear();
     }
 
     /// Writes a character of `columns` columns at column `at`, and empties the wide characters of which it takes a cell.
+    /// Refused: `Memory`; all is unchanged then.
     #[inline]
-    pub(crate) fn write(&mut self, at: usize, c: char, columns: usize)
+    pub(crate) fn write(&mut self, at: usize, c: char, columns: usize) -> Result<(), Refusal>
         requires some { 0 < columns }
         requires fits { at + columns ≤ length self.old }
-        ensures { self.new ≡ written_at at (character_cells c columns) self.old }
+        ensures written { OnOk result (self.new ≡ written_at at (character_cells c columns) self.old) }
+        ensures err { OnErr result (self.new ≡ self.old) }
+        ensures refused { IfErr result (λ e. e ≡ Refusal.Memory) }
     {
-        let slots: &mut [Slot] = &mut self.slots;
-        empty_before(slots, at);
-        empty_on(slots, at + columns);
-        overwrite(slots, at, c, columns);
+        if columns == 1 && at == self.cells.len() {
+            self.cells.push(Cell::plain(c))?;
+            return Ok(());
+        }
+        lengthen(&mut self.cells, at + columns)?;
+        let cells: &mut [Cell] = &mut self.cells;
+        empty_before(cells, at);
+        empty_on(cells, at + columns);
+        overwrite(cells, at, c, columns);
+        Ok(())
     }
 
     /// Joins a mark to the character that ends just before column `at`, if one does. Refused: `Memory`; all is
     /// unchanged then.
-    pub(crate) fn join(&mut self, alloc: Global, at: usize, mark: char) -> Result<(), Refusal>
+    pub(crate) fn join(&mut self, at: usize, mark: char) -> Result<(), Refusal>
         requires { at ≤ length self.old }
-        ensures joined { self.new ≡ (if is_ok result then joined_at at mark self.old else self.old) }
+        ensures joined { OnOk result (self.new ≡ joined_at at mark self.old) }
+        ensures err { OnErr result (self.new ≡ self.old) }
         ensures refused { IfErr result (λ e. e ≡ Refusal.Memory) }
     {
-        join_before(alloc, &mut self.slots, at, mark)
+        if at > self.cells.len() {
+            return Ok(());
+        }
+        join_before(&mut self.cells, &mut self.marks, at, mark)?;
+        Ok(())
     }
 
     /// Whether one of its cells was written and not emptied since.
     pub(crate) fn has_written(&self) -> bool
         ensures { result ≡ has_written self.now }
     {
-        for slot in &self.slots {
-            if slot.is_written() {
+        for cell in &self.cells {
+            if cell.is_written() {
                 return true;
             }
         }
@@ -81,26 +103,40 @@ impl Row {
     }
 
     /// Appends its text to `out`, without the blanks at its end. Refused: `Memory`.
-    pub(crate) fn show(&self, out: &mut String) -> Result<(), Refusal>
+    pub(crate) fn show(&self, alloc: Global, out: &mut String) -> Result<(), Refusal>
         ensures shown { OnOk result (string_bytes out.new ≡ string_bytes out.old ++ row_text self.now) }
         ensures refused { IfErr result (λ e. e ≡ Refusal.Memory) }
     {
-        let end = shown_length(&self.slots);
-        for slot in &self.slots[..end] {
-            slot.show(out)?;
-        }
-        Ok(())
+        let end = shown_length(&self.cells, &self.marks);
+        show_cells(alloc, &self.cells[..end], &self.marks, out)
     }
 }
 
-/// How many cells there are up to the last one that is no blank.
-fn shown_length(slots: &[Slot]) -> usize
-    ensures within { result ≤ length slots.now }
-    ensures shown { take result slots.now ≡ trimmed slots.now }
+/// Appends the text of cells to `out`. Refused: `Memory`.
+fn show_cells(
+    alloc: Global,
+    cells: &[Cell],
+    marks: &[Mark],
+    out: &mut String,
+) -> Result<(), Refusal>
+    ensures shown { OnOk result (string_bytes out.new
+        ≡ string_bytes out.old ++ encode_utf8_all (flat_map cell_text (map (cell_shown marks.now) cells.now))) }
+    ensures refused { IfErr result (λ e. e ≡ Refusal.Memory) }
 {
-    let mut shown = slots.len();
+    for cell in cells {
+        cell.show(alloc, marks, out)?;
+    }
+    Ok(())
+}
+
+/// How many cells there are up to the last one that is no blank.
+fn shown_length(cells: &[Cell], marks: &[Mark]) -> usize
+    ensures within { result ≤ length cells.now }
+    ensures shown { take result (map (cell_shown marks.now) cells.now) ≡ trimmed (map (cell_shown marks.now) cells.now) }
+{
+    let mut shown = cells.len();
     while shown > 0 {
-        if !slots[shown - 1].is_blank() {
+        if !cells[shown - 1].is_blank(marks) {
             return shown;
         }
         shown -= 1;
@@ -108,82 +144,98 @@ fn shown_length(slots: &[Slot]) -> usize
     0
 }
 
-/// Joins a mark to the character that ends just before column `at`, if one does.
-fn join_before(alloc: Global, slots: &mut [Slot], at: usize, mark: char) -> Result<(), Refusal>
-    requires { at ≤ length slots.old }
-    ensures joined { slots.new ≡ (if is_ok result then joined_at at mark slots.old else slots.old) }
+/// Joins a mark to the character that ends just before column `at`, if one does. Refused: `Memory`; all is unchanged
+/// then.
+fn join_before(
+    cells: &mut [Cell],
+    marks: &mut Vec<Mark>,
+    at: usize,
+    mark: char,
+) -> Result<(), Refusal>
+    requires within { at ≤ length cells.old }
+    requires keeps { KeepsMarks marks.old.items cells.old }
+    ensures joined { OnOk result (map (cell_shown marks.new.items) cells.new
+        ≡ joined_at at mark (map (cell_shown marks.old.items) cells.old)) }
+    ensures err { OnErr result (map (cell_shown marks.new.items) cells.new ≡ map (cell_shown marks.old.items) cells.old) }
+    ensures keeps { KeepsMarks marks.new.items cells.new }
     ensures refused { IfErr result (λ e. e ≡ Refusal.Memory) }
 {
     let mut left = at;
     while left > 0 {
         left -= 1;
-        if !slots[left].is_further() {
-            return slots[left].join(alloc, mark);
+        if !cells[left].is_continued() {
+            cells[left].join(marks, mark)?;
+            return Ok(());
         }
     }
     Ok(())
 }
 
-/// Empties each cell.
-fn empty_all(slots: &mut [Slot])
-    ensures { slots.new ≡ blank_row (length slots.old) }
+/// Puts empty cells behind the others, so that there are `end` cells at least. Refused: `Memory`.
+#[inline]
+fn lengthen(cells: &mut Vec<Cell>, end: usize) -> Result<(), Refusal>
+    ensures same { BeginTheSame end cells.new.items cells.old.items }
+    ensures within { (length cells.new.items ≤ end) ⊎ (length cells.new.items ≤ length cells.old.items) }
+    ensures enough { OnOk result (end ≤ length cells.new.items) }
+    ensures refused { IfErr result (λ e. e ≡ Refusal.Memory) }
 {
-    for slot in slots.iter_mut() {
-        *slot = Slot::empty();
+    while cells.len() < end {
+        cells.push(Cell::empty())?;
     }
+    Ok(())
 }
 
 /// Empties the cells before column `at` of a wide character that goes on there.
 #[inline]
-fn empty_before(slots: &mut [Slot], at: usize)
-    requires { at ≤ length slots.old }
-    ensures { slots.new ≡ cut_before at slots.old ++ drop at slots.old }
+fn empty_before(cells: &mut [Cell], at: usize)
+    requires { at ≤ length cells.old }
+    ensures { cells.new ≡ cut_before at cells.old ++ drop at cells.old }
 {
-    if at < slots.len() && slots[at].is_further() {
-        empty_back(slots, at);
+    if at < cells.len() && cells[at].is_continued() {
+        empty_back(cells, at);
     }
 }
 
 /// Empties the character that ends just before column `at`.
-fn empty_back(slots: &mut [Slot], at: usize)
-    requires { at ≤ length slots.old }
-    ensures { slots.new ≡ emptied_back at slots.old }
+fn empty_back(cells: &mut [Cell], at: usize)
+    requires { at ≤ length cells.old }
+    ensures { cells.new ≡ emptied_back at cells.old }
 {
     let mut left = at;
     while left > 0 {
         left -= 1;
-        let further = slots[left].is_further();
-        slots[left] = Slot::empty();
-        if !further {
+        let continued = cells[left].is_continued();
+        cells[left] = Cell::empty();
+        if !continued {
             return;
         }
     }
 }
 
-/// Empties the further cells of a wide character from column `at` on.
+/// Empties the continued cells of a wide character from column `at` on.
 #[inline]
-fn empty_on(slots: &mut [Slot], at: usize)
-    ensures { slots.new ≡ emptied_on at slots.old }
+fn empty_on(cells: &mut [Cell], at: usize)
+    ensures { cells.new ≡ emptied_on at cells.old }
 {
     let mut column = at;
-    while column < slots.len() {
-        if !slots[column].is_further() {
+    while column < cells.len() {
+        if !cells[column].is_continued() {
             return;
         }
-        slots[column] = Slot::empty();
+        cells[column] = Cell::empty();
         column += 1;
     }
 }
 
 /// Puts the cells of a character at column `at`.
 #[inline]
-fn overwrite(slots: &mut [Slot], at: usize, c: char, columns: usize)
+fn overwrite(cells: &mut [Cell], at: usize, c: char, columns: usize)
     requires some { 0 < columns }
-    requires fits { at + columns ≤ length slots.old }
-    ensures { slots.new ≡ overwritten at (character_cells c columns) slots.old }
+    requires fits { at + columns ≤ length cells.old }
+    ensures { cells.new ≡ overwritten at (character_cells c columns) cells.old }
 {
-    slots[at] = Slot::plain(c);
+    cells[at] = Cell::plain(c);
     for column in at + 1..at + columns {
-        slots[column] = Slot::further();
+        cells[column] = Cell::continued();
     }
 }

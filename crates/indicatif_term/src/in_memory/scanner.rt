@@ -2,11 +2,11 @@
 ghost use Rattle.std.specs.Prelude.{◌≡◌, ◌<◌, map, length, IsTrue, option_to_list};
 ghost use Rattle.indicatif_term.specs.Terminal.{idle, byte_ops, byte_reader, char_ops, char_place, plain_ops, plain_place, sequence_ops, number_with};
 ghost use Rattle.indicatif_term.specs.Inside.Grids.{op_of};
-ghost use Rattle.indicatif_term.specs.Inside.Scanners.{place_of};
+ghost use Rattle.indicatif_term.specs.Inside.Scanners.{stage_place};
 
 use crate::in_memory::grid::Op;
 use crate::in_memory::spelling::Spelling;
-use indicatif_text::pieces::is_parameter;
+use indicatif_text::columns::is_parameter;
 use std::marker::Model;
 
 /// Where in an escape sequence the next character stands.
@@ -23,7 +23,7 @@ pub(crate) enum Stage {
 impl Stage {
     /// What a character asks for.
     pub(crate) fn op(self, c: char) -> Option<Op>
-        ensures { map op_of (option_to_list result) ≡ char_ops (place_of self) c }
+        ensures { map op_of (option_to_list result) ≡ char_ops (stage_place self) c }
     {
         match self {
             Stage::Outside => plain_op(c),
@@ -40,7 +40,7 @@ impl Stage {
 
     /// Where the character after this one stands.
     pub(crate) fn after(self, c: char) -> Stage
-        ensures { place_of result ≡ char_place (place_of self) c }
+        ensures { stage_place result ≡ char_place (stage_place self) c }
     {
         match self {
             Stage::Outside => plain_stage(c),
@@ -76,7 +76,7 @@ fn plain_op(c: char) -> Option<Op>
 
 /// Where the character after one outside a sequence stands.
 fn plain_stage(c: char) -> Stage
-    ensures { place_of result ≡ plain_place c }
+    ensures { stage_place result ≡ plain_place c }
 {
     if c == '\u{1B}' {
         Stage::AfterEscape
@@ -134,9 +134,9 @@ impl Model for Scanner {
 
     ghost Value = { Reader };
 
-    ghost use Rattle.indicatif_term.specs.Inside.Scanners.{place_of};
+    ghost use Rattle.indicatif_term.specs.Inside.Scanners.{stage_place};
 
-    ghost view = { λ s. record { place = place_of s.stage; spelling = s.spelling } };
+    ghost view = { λ s. record { place = stage_place s.stage; spelling = s.spelling } };
 
     ghost invariant = { λ s. length s.spelling < 4 };
 }

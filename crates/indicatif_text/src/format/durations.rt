@@ -1,7 +1,7 @@
 //! Durations as texts.
 ghost use Rattle.std.specs.Prelude.{◌≡◌, ◌∷◌, [], ◌≤◌, take, length, max, IsAscii};
 ghost use Rattle.indicatif_text.specs.Format.{told, rounded_half_up, formatted_duration, human_duration, short_duration};
-ghost use Rattle.indicatif_text.specs.TimeUnits.{span_of};
+ghost use Rattle.indicatif_text.specs.Inside.Durations.{span_of};
 
 use crate::format::rounding::rounded_half_up;
 use crate::format::short_text::ShortText;

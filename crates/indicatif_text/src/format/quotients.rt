@@ -1,11 +1,12 @@
 //! Quotients with decimals, by long division.
-ghost use Rattle.std.specs.Prelude.{◌≡◌, ◌+◌, ◌*◌, ◌/◌, ◌%◌, ◌<◌, ◌≤◌, ◌++◌, length, true, if◌then◌else◌, IsAscii, OnOk, OnErr};
+ghost use Rattle.std.specs.Prelude.{◌∷◌, [], string_len, string_capacity, ◌≡◌, ◌+◌, ◌*◌, ◌/◌, ◌%◌, ◌<◌, ◌≤◌, ◌++◌, length, true, if◌then◌else◌, IsAscii, OnOk, OnErr};
 ghost use Rattle.std.specs.String.{string_bytes};
 ghost use Rattle.indicatif_text.specs.Format.{last_digits, after_point, human_count, human_float_count};
-ghost use Rattle.indicatif_text.specs.Quotients.{below, raised, NeedsNoCarry};
+ghost use Rattle.indicatif_text.specs.Inside.Quotients.{below, raised, NeedsNoCarry};
 
+use crate::appending::append;
 use crate::format::rounding::rounds_up;
-use crate::format::short_text::{ShortText, ascii_text};
+use crate::format::short_text::ShortText;
 use std::alloc::AllocError;
 
 /// A long division: what is left after each decimal.
@@ -166,6 +167,8 @@ pub(crate) fn push_text(
     ensures written { OnOk result (string_bytes out.new
         ≡ string_bytes out.old ++ human_float_count num den decimals) }
     ensures unchanged { OnErr result (string_bytes out.new ≡ string_bytes out.old) }
+    ensures full { OnErr result (string_capacity out.old
+        < string_len out.old + length (human_float_count num den decimals)) }
 {
     let rounded = Rounded::of(num, den, decimals);
     let mut whole = ShortText::new();
@@ -174,10 +177,37 @@ pub(crate) fn push_text(
     if kept == 0 {
         return out.push_str(whole.as_str());
     }
-    let mut digits = vec![in *out.allocator(); 0u8; kept]?;
-    fill_decimals(num, den, rounded.up, digits.as_mut_slice());
     out.reserve(whole.as_str().len() + 1 + kept)?;
-    out.push_str(whole.as_str())?;
-    out.push('.')?;
-    out.push_str(ascii_text(digits.as_slice()))
+    append(out, whole.as_str());
+    append(out, ".");
+    append_decimals(num, den, rounded, out);
+    Ok(())
+}
+
+/// Appends the decimals of a rounded quotient, of which there are some and for which there is room.
+fn append_decimals(num: u128, den: u64, rounded: Rounded, out: &mut String)
+    requires den { 0 < den }
+    requires some { 0 < rounded.kept }
+    requires no_carry { NeedsNoCarry rounded.up num den rounded.kept }
+    requires room { string_len out.old + rounded.kept ≤ string_capacity out.old }
+    ensures { string_bytes out.new ≡ string_bytes out.old
+        ++ last_digits rounded.kept (raised rounded.up (below num den rounded.kept)) }
+{
+    let mut division = LongDivision::new(num, den);
+    for place in 0..rounded.kept - 1 {
+        append_digit(out, division.next_digit());
+    }
+    let last = division.next_digit();
+    append_digit(out, if rounded.up { last + 1 } else { last });
+}
+
+/// Appends a decimal digit for which there is room.
+fn append_digit(out: &mut String, digit: u8)
+    requires digit { digit < 10 }
+    requires room { string_len out.old < string_capacity out.old }
+    ensures bytes { string_bytes out.new ≡ string_bytes out.old ++ (48 + digit) ∷ [] }
+    ensures len { string_len out.new ≡ string_len out.old + 1 }
+    ensures capacity { string_capacity out.old ≤ string_capacity out.new }
+{
+    out.push(char::from(b'0' + digit)).unwrap();
 }

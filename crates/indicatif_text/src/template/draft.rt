@@ -1,7 +1,7 @@
 //! A template that is half read.
 ghost use Rattle.std.specs.Prelude.{◌≡◌, ◌∷◌, ◌++◌, [], ◌⊎◌, ◌<◌, map, chars, string_bytes, length, OnOk, IfOk, IfErr, IsCharBoundary};
 
-use crate::runs::{Run, split_first, split_run};
+use crate::spans::{Span, split_first, split_span};
 use crate::template::reading::{Options, Token, front};
 use crate::template::{Part, TemplateError};
 use std::alloc::{AllocError, Global};
@@ -22,9 +22,9 @@ pub(super) struct Draft {
 }
 
 impl Draft {
-    ghost use Rattle.indicatif_text.specs.Parts.{part_of};
-    ghost use Rattle.indicatif_text.specs.Reading.{Leads, sketch_of, empty_sketch, sketched_parts, kept_sketch, closed_sketch, with_part, with_run, added, piece_of, layout_of};
-    ghost use Rattle.indicatif_text.specs.Template.{Char, SpacedBrace, Keyed, LastBrace, IsRefused};
+    ghost use Rattle.indicatif_text.specs.Template.{part_of, Char, SpacedBrace, Keyed, LastBrace, IsRefused};
+    ghost use Rattle.indicatif_text.specs.Inside.Reading.{piece_of, layout_of};
+    ghost use Rattle.indicatif_text.specs.Inside.Draft.{Leads, sketch_of, empty_sketch, sketched_parts, kept_sketch, closed_sketch, with_part, with_run, added};
 
     /// Nothing so far, with room for a part to every eight bytes of a text of `len` bytes, but for a few alone.
     pub(super) fn new(alloc: Global, len: usize) -> Result<Draft, AllocError>
@@ -142,7 +142,7 @@ impl Draft {
         ensures refused { IfErr result (λ e. (e ≡ TemplateError.Memory) ⊎ IsRefused (chars text.now) e) }
         ensures shorter { IfOk result (λ rest. 0 < length (chars text.now) → length (chars rest.now) < length (chars text.now)) }
     {
-        let (run, marked) = split_run(text, Run::Literal);
+        let (run, marked) = split_span(text, Span::Literal);
         self.push_run(run)?;
         let Some((first, after)) = split_first(marked) else {
             return Ok(marked);

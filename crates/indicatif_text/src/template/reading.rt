@@ -1,13 +1,12 @@
 //! What stands in front of a text that is read as a template. Nothing here takes memory.
 ghost use Rattle.std.specs.Prelude.{◌≡◌, true, false, chars, option_map, take_while, MatchOption, IfOk, IsUtf8};
-ghost use Rattle.indicatif_text.specs.Runs.{in_words};
-ghost use Rattle.indicatif_text.specs.Styles.{numbers_of};
+ghost use Rattle.indicatif_text.specs.Inside.Spans.{in_words};
+ghost use Rattle.indicatif_text.specs.StyleWords.{numbers_of};
 ghost use Rattle.indicatif_text.specs.Template.{Takes, after_run, is_width_char, style_named, alignment_of, with_alternative, with_style, with_width, with_options, unfinished, key_ends, opened, closed, front};
-ghost use Rattle.indicatif_text.specs.Fronts.{IsFront};
-ghost use Rattle.indicatif_text.specs.Reading.{layout_of, piece_of, IsMix, TakesUp};
+ghost use Rattle.indicatif_text.specs.Inside.Reading.{IsFront, layout_of, piece_of, IsMix, TakesUp};
 
 use crate::refusal::TemplateState;
-use crate::runs::{Run, Words, split_first, split_run};
+use crate::spans::{Span, Words, split_first, split_span};
 use crate::style_words::Style;
 use crate::template::{Alignment, TemplateError};
 
@@ -284,7 +283,7 @@ fn opened(text: &str) -> Result<(Token<'_>, &str), TemplateError>
     if first == '{' {
         return Ok((Token::Literal('{'), rest));
     }
-    let (key, after) = split_run(text, Run::Key);
+    let (key, after) = split_span(text, Span::Key);
     key_ends(key, after)
 }
 

@@ -3,7 +3,7 @@ use Rattle.std.proofs.lemmas.List.{length-replicate}
 use Rattle.indicatif_text.specs.Columns.{blank_row}
 use Rattle.indicatif_term.specs.Screen.{blank_screen}
 use Rattle.indicatif_term.specs.Shows.{IsOpening}
-use Rattle.indicatif_term.proofs.Drawing.{opening_shows}
+use Rattle.indicatif_term.proofs.DrawingLemmas.{opening_shows}
 use Rattle.indicatif_term.proofs.laws.a_new_terminal_is_an_opening.Goals as goal
 
 blank_opens : (rows columns : ℕ) → 0 < rows → IsOpening columns rows (blank_screen rows columns)

@@ -1,5 +1,5 @@
 use Rattle.std.proofs.Common.{ℕ, List, ◌++◌, ◌∙◌, sym, ap, take, Bor}
-use Rattle.indicatif_term.proofs.Sending.{appends_more, appends_kept, moves_on}
+use Rattle.indicatif_term.proofs.WriterLemmas.{appends_more, appends_kept, moves_on}
 use Rattle.indicatif_term.proofs.term.write_whole.Goals as goal
 use Rattle.indicatif_term.proofs.term.write_whole.Goals.{in-Ok, in-Err+else-ne}
 

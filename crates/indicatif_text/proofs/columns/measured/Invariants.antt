@@ -1,12 +1,13 @@
 use Rattle.std.proofs.Common.{◌+◌, ◌≤◌, length, chars}
-use Rattle.indicatif_text.proofs.Wrapping.{Reads}
+use Rattle.indicatif_text.proofs.WrappingLemmas.{MeasuredTo}
 use Rattle.indicatif_text.proofs.columns.measured.Given as goal
 
-abbrev pub invariant-loop-c : goal.invariant-loop-c
-invariant-loop-c l = record {
-  can : (goal.iterator-loop-c).can_next l.c-iterator;
-  ends : (goal.iterator-loop-c).is_finite l.c-iterator;
-  reads : Reads l.width l.height l.column (chars l.line) l.c-iterator;
+abbrev pub invariant-rest : goal.invariant-rest
+invariant-rest l = record {
+  reads : MeasuredTo l.width l.height l.column (chars l.line) l.rest;
   fits : l.column ≤ l.width;
-  small : l.height + length l.c-iterator ≤ length l.line + 1;
+  small : l.height + length l.rest ≤ length l.line + 1;
 }
+
+abbrev pub decreases-rest : goal.decreases-rest
+decreases-rest l = length l.rest

@@ -1,6 +1,6 @@
 use Rattle.std.proofs.Common.{◌∙◌, sym, subst, chars, arith}
 use Rattle.std.specs.Str.{IsUtf8}
-use Rattle.indicatif_text.proofs.Scanning.{Scanned, scanned_by, hidden_text, no_sequence}
+use Rattle.indicatif_text.proofs.ColourSequenceLemmas.{Scanned, scanned_by, hidden_text, no_sequence}
 use Rattle.indicatif_text.proofs.pieces.after_colours.Goals as goal
 
 pub loop-len-preserved : goal.loop-len-preserved

@@ -1,77 +1,94 @@
-use Rattle.std.proofs.Common.{◌+◌, ◌∷◌, ◌∙◌, sym, ap, subst, arith, chars}
+use Rattle.std.proofs.Common.{◌≡◌, ◌+◌, ◌<◌, ◌≤◌, true, ◌∙◌, inl, inr, sym, ap, subst, arith, drop, take, get_or, length}
 use Rattle.std.specs.Prelude.{unwrap_or}
-use Rattle.std.specs.Str.{IsUtf8}
-use Rattle.std.specs.Str.Iter.{chars_rest}
-use Rattle.std.proofs.lemmas.Str.{IsCharBoundary-start}
-use Rattle.indicatif_text.specs.Columns.{colour_length}
-use Rattle.indicatif_text.proofs.Wrapping.{first_is, past, past_utf8, chars_none}
-use Rattle.indicatif_text.proofs.Scanning.{Scanned, scanned_none, scanned_more, scanned_fits, scanned_ascii, scanned_boundary, no_bracket, found, found_end, found_more, found_none, parameter_small}
+use Rattle.std.specs.Str.{IsAscii, IsCharBoundary}
+use Rattle.std.proofs.lemmas.List.Elements.{All-more}
+use Rattle.std.proofs.lemmas.Str.{IsCharBoundary-start, IsCharBoundary-after_ascii}
+use Rattle.std.proofs.lemmas.Str.Ascii.{IsAscii-from_all}
+use Rattle.indicatif_text.specs.Columns.{colour_length, is_parameter}
+use Rattle.indicatif_text.proofs.ColourSequenceLemmas.{colour_bytes, begun, unbegun, begun_low, found, found_more, found_end, found_none, found_cut, parameter_small}
 use Rattle.indicatif_text.proofs.pieces.colour_len.Goals as goal
+use Rattle.indicatif_text.proofs.pieces.colour_len.Goals.{then-bytes-lt3-via-then-bytes-lt3, then-bytes-lt3-via-else-bytes-lt3+then-bytes-ne27, then-bytes-lt3-via-else-bytes-lt3+else-bytes-ne27+then-bytes-ne91, then-parameters-test+else-is_parameter_byte, else-parameters-test, then-count-bytes-via-then-count-bytes, then-count-bytes-via-else-count-bytes+then-bytes-count-ne109}
 
-pub returns-then-ne-clause-boundary : goal.returns-then-ne-clause-boundary
-returns-then-ne-clause-boundary c = IsCharBoundary-start c.args.text.now c.utf8.text
+pub returns-then-bytes-lt3-clause-len : goal.returns-then-bytes-lt3-clause-len
+returns-then-bytes-lt3-clause-len c =
+    let text = c.args.text.now in
+    let same = c.as_bytes-bytes.ensures.value in
+    sym (ap (λ o. unwrap_or o 0) (sym (colour_bytes text c.utf8.text)) ∙ ap (λ bs. unwrap_or (colour_length bs) 0) (sym same) ∙ unbegun c.as_bytes-bytes.result.now (elim c.then-bytes-lt3.branch [
+      | then-bytes-lt3-via-then-bytes-lt3 w ↦ inl w.if-bytes-lt3.true
+      | then-bytes-lt3-via-else-bytes-lt3+then-bytes-ne27 w ↦ inr (inl w.if-bytes-ne27.true)
+      | then-bytes-lt3-via-else-bytes-lt3+else-bytes-ne27+then-bytes-ne91 w ↦ inr (inr w.if-bytes-ne91.true)
+    ]))
 
-pub returns-then-ne-2-clause-len : goal.returns-then-ne-2-clause-len
-returns-then-ne-2-clause-len c =
-    let bs = chars_rest c.chars-rest.result in
-    let rest = chars_rest c.next.new.self in
-    let u : IsUtf8 bs = subst IsUtf8 (sym c.chars-rest.ensures.rest) c.utf8.text in
-    let e = first_is c.next.result bs rest 0x1B _ c.next.ensures.steps.0 (sym c.ne.ensures ∙ c.if-ne.false) in
-    no_bracket rest (chars_rest c.next-2.new.self) c.next-2.result _ (past_utf8 bs rest 0x1B u e) c.next-2.ensures.steps.0 (λ a. a.0) (sym c.ne-2.ensures ∙ c.if-ne-2.true)
-    ∙ ap (λ cs. unwrap_or (colour_length cs) 0) (sym (past bs rest 0x1B u e) ∙ ap chars c.chars-rest.ensures.rest)
+pub returns-then-bytes-lt3-clause-boundary : goal.returns-then-bytes-lt3-clause-boundary
+returns-then-bytes-lt3-clause-boundary c = IsCharBoundary-start c.args.text.now c.utf8.text
 
-pub loop-c-init : goal.loop-c-init
-loop-c-init c =
-    let bs = chars_rest c.chars-rest.result in
-    let rest = chars_rest c.next.new.self in
-    let more = chars_rest c.next-2.new.self in
-    let u : IsUtf8 bs = subst IsUtf8 (sym c.chars-rest.ensures.rest) c.utf8.text in
-    let e = first_is c.next.result bs rest 0x1B _ c.next.ensures.steps.0 (sym c.ne.ensures ∙ c.if-ne.false) in
-    let f = first_is c.next-2.result rest more 0x5B _ c.next-2.ensures.steps.0 (sym c.ne-2.ensures ∙ c.if-ne-2.false) in
-    let one = scanned_more bs 0 0x1B bs rest (scanned_none bs u) e (omega arith) in
+pub parameters-init : goal.parameters-init
+parameters-init c =
+    let text = c.args.text.now in
+    let bytes = c.as_bytes-bytes.result.now in
+    let same = c.as_bytes-bytes.ensures.value in
+    let some : 3 ≤ length bytes = omega (arith, c.if-bytes-lt3.false) in
+    let first : get_or bytes 0 0 ≡ 0x1B = c.if-bytes-ne27.false in
+    let second : get_or bytes 1 0 ≡ 0x5B = c.if-bytes-ne91.false in
+    let low : get_or text 1 0 < 128 = subst (λ bs. get_or bs 1 0 < 128) same (omega (arith, second)) in
+    let start : get_or text 0 0 < 128 = subst (λ bs. get_or bs 0 0 < 128) same (omega (arith, first)) in
+    let one : IsCharBoundary text 1 = IsCharBoundary-after_ascii text 0 c.utf8.text (omega (arith, some, ap length same)) start in
     record {
-      scanned = subst (λ t. Scanned t 2 more) c.chars-rest.ensures.rest (scanned_more bs 1 0x5B rest more one f (omega arith));
-      found_is = ap (λ bs. unwrap_or (colour_length (chars bs)) 0) (sym c.chars-rest.ensures.rest)
-          ∙ ap (λ cs. unwrap_or (colour_length cs) 0) (past bs rest 0x1B u e ∙ ap (λ cs. 0x1B ∷ cs) (past rest more 0x5B (past_utf8 bs rest 0x1B u e) f));
+      found_is = ap (λ bs. unwrap_or (colour_length bs) 0) (sym same) ∙ begun bytes some first second;
+      low = begun_low bytes some first second;
+      boundary = IsCharBoundary-after_ascii text 1 c.utf8.text (omega (arith, some, ap length same)) low;
     }
 
-pub returns-then-c-eq109-clause-len : goal.returns-then-c-eq109-clause-len
-returns-then-c-eq109-clause-len c =
-    let rest = chars_rest c.next-in-loop-c.new.self in
-    sym (c.loop-c.invariant.found_is ∙ ap (found c.loop-c.count) (past (chars_rest c.loop-c.rest) rest c.in-Some.c c.loop-c.invariant.scanned.utf8 c.in-Some.ensures.steps.0)
-    ∙ found_end c.loop-c.count c.in-Some.c (chars rest) c.if-c-eq109.true)
-
-pub returns-then-c-eq109-clause-fits : goal.returns-then-c-eq109-clause-fits
-returns-then-c-eq109-clause-fits c = scanned_fits c.args.text.now _ (c.loop-c.count + 1) (scanned_more c.args.text.now c.loop-c.count c.in-Some.c _ _ c.loop-c.invariant.scanned c.in-Some.ensures.steps.0 (omega arith))
-
-pub returns-then-c-eq109-clause-ascii : goal.returns-then-c-eq109-clause-ascii
-returns-then-c-eq109-clause-ascii c = scanned_ascii c.args.text.now _ (c.loop-c.count + 1) (scanned_more c.args.text.now c.loop-c.count c.in-Some.c _ _ c.loop-c.invariant.scanned c.in-Some.ensures.steps.0 (omega arith))
-
-pub returns-then-c-eq109-clause-boundary : goal.returns-then-c-eq109-clause-boundary
-returns-then-c-eq109-clause-boundary c = scanned_boundary c.args.text.now _ (c.loop-c.count + 1) (scanned_more c.args.text.now c.loop-c.count c.in-Some.c _ _ c.loop-c.invariant.scanned c.in-Some.ensures.steps.0 (omega arith))
-
-pub returns-then-not-is_parameter-clause-len : goal.returns-then-not-is_parameter-clause-len
-returns-then-not-is_parameter-clause-len c =
-    let rest = chars_rest c.next-in-loop-c.new.self in
-    sym (c.loop-c.invariant.found_is ∙ ap (found c.loop-c.count) (past (chars_rest c.loop-c.rest) rest c.in-Some.c c.loop-c.invariant.scanned.utf8 c.in-Some.ensures.steps.0)
-    ∙ found_none c.loop-c.count c.in-Some.c (chars rest) c.if-c-eq109.false (sym c.if-not-is_parameter.ensures))
-
-pub returns-then-not-is_parameter-clause-boundary : goal.returns-then-not-is_parameter-clause-boundary
-returns-then-not-is_parameter-clause-boundary c = IsCharBoundary-start c.args.text.now c.utf8.text
-
-pub loop-c-preserved : goal.loop-c-preserved
-loop-c-preserved c =
-    let rest = chars_rest c.next-in-loop-c.new.self in
-    let is = sym c.if-not-is_parameter.ensures in
+pub parameters-preserved : goal.parameters-preserved
+parameters-preserved c =
+    let text = c.args.text.now in
+    let bytes = c.as_bytes-bytes.result.now in
+    let same = c.as_bytes-bytes.ensures.value in
+    let i = c.parameters.invariant in
+    let is : is_parameter (get_or bytes c.parameters.count 0) ≡ true = sym c.is_parameter_byte.ensures ∙ c.if-is_parameter_byte.true in
+    let small = parameter_small (get_or bytes c.parameters.count 0) is in
+    let low : get_or text c.parameters.count 0 < 128 = subst (λ bs. get_or bs c.parameters.count 0 < 128) same small in
     record {
-      scanned = scanned_more c.args.text.now c.loop-c.count c.in-Some.c (chars_rest c.loop-c.rest) rest c.loop-c.invariant.scanned c.in-Some.ensures.steps.0 (parameter_small c.in-Some.c is);
-      found_is = c.loop-c.invariant.found_is ∙ ap (found c.loop-c.count) (past (chars_rest c.loop-c.rest) rest c.in-Some.c c.loop-c.invariant.scanned.utf8 c.in-Some.ensures.steps.0)
-          ∙ found_more c.loop-c.count c.in-Some.c (chars rest) c.if-c-eq109.false is;
+      found_is = i.found_is ∙ found_more c.parameters.count bytes c.parameters-test.true is;
+      low = All-more (λ b. b < 128) bytes c.parameters.count 0 c.parameters-test.true i.low small;
+      boundary = IsCharBoundary-after_ascii text c.parameters.count c.utf8.text (omega (arith, c.parameters-test.true, ap length same)) low;
     }
+
+pub returns-then-count-bytes-clause-len : goal.returns-then-count-bytes-clause-len
+returns-then-count-bytes-clause-len c =
+    let text = c.args.text.now in
+    let bytes = c.as_bytes-bytes.result.now in
+    let count = c.parameters.count in
+    let none : found count (drop count bytes) ≡ 0 = elim c.then-count-bytes.branch [
+      | then-count-bytes-via-then-count-bytes w ↦ found_cut count bytes w.if-count-bytes.true
+      | then-count-bytes-via-else-count-bytes+then-bytes-count-ne109 w ↦ elim c.parameters-test.branch [
+        | then-parameters-test+else-is_parameter_byte v ↦
+            found_none count bytes v.parameters-test.true w.if-bytes-count-ne109.true (sym v.is_parameter_byte.ensures ∙ v.if-is_parameter_byte.false)
+        | else-parameters-test v ↦ absurd (omega (arith, w.if-count-bytes.false, v.parameters-test.false))
+      ]
+    ] in
+    sym (ap (λ o. unwrap_or o 0) (sym (colour_bytes text c.utf8.text)) ∙ c.parameters.invariant.found_is ∙ none)
 
 pub returns-clause-len : goal.returns-clause-len
 returns-clause-len c =
-    sym (c.loop-c.invariant.found_is ∙ ap (found c.loop-c.count) (chars_none (chars_rest c.loop-c.rest) c.in_default.ensures.steps.0.0))
+    let text = c.args.text.now in
+    let bytes = c.as_bytes-bytes.result.now in
+    let count = c.parameters.count in
+    sym (ap (λ o. unwrap_or o 0) (sym (colour_bytes text c.utf8.text)) ∙ c.parameters.invariant.found_is ∙ found_end count bytes (omega (arith, c.if-count-bytes.false)) c.if-bytes-count-ne109.false)
+
+pub returns-clause-ascii : goal.returns-clause-ascii
+returns-clause-ascii c =
+    let bytes = c.as_bytes-bytes.result.now in
+    let count = c.parameters.count in
+    let last : get_or bytes count 0 ≡ 0x6D = c.if-bytes-count-ne109.false in
+    subst (λ bs. IsAscii (take (count + 1) bs)) c.as_bytes-bytes.ensures.value
+    (IsAscii-from_all (take (count + 1) bytes) (All-more (λ b. b < 128) bytes count 0 (omega (arith, c.if-count-bytes.false)) c.parameters.invariant.low (omega (arith, last))))
 
 pub returns-clause-boundary : goal.returns-clause-boundary
-returns-clause-boundary c = IsCharBoundary-start c.args.text.now c.utf8.text
+returns-clause-boundary c =
+    let text = c.args.text.now in
+    let count = c.parameters.count in
+    let same = c.as_bytes-bytes.ensures.value in
+    let last : get_or c.as_bytes-bytes.result.now count 0 ≡ 0x6D = c.if-bytes-count-ne109.false in
+    let low : get_or text count 0 < 128 = subst (λ bs. get_or bs count 0 < 128) same (omega (arith, last)) in
+    IsCharBoundary-after_ascii text count c.utf8.text (omega (arith, c.if-count-bytes.false, ap length same)) low

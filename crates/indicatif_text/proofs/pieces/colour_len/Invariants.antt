@@ -1,12 +1,16 @@
-use Rattle.std.proofs.Common.{◌≡◌, chars}
-use Rattle.std.specs.Prelude.{unwrap_or}
-use Rattle.std.specs.Str.Iter.{chars_rest}
+use Rattle.std.proofs.Common.{◌-◌, ◌≡◌, ◌<◌, take, drop, length}
+use Rattle.std.specs.Prelude.{All, unwrap_or}
+use Rattle.std.specs.Str.{IsCharBoundary}
 use Rattle.indicatif_text.specs.Columns.{colour_length}
-use Rattle.indicatif_text.proofs.Scanning.{Scanned, found}
+use Rattle.indicatif_text.proofs.ColourSequenceLemmas.{found}
 use Rattle.indicatif_text.proofs.pieces.colour_len.Given as goal
 
-abbrev pub invariant-loop-c : goal.invariant-loop-c
-invariant-loop-c l = record {
-  scanned : Scanned l.text l.count (chars_rest l.rest);
-  found_is : unwrap_or (colour_length (chars l.text)) 0 ≡ found l.count (chars (chars_rest l.rest));
+abbrev pub invariant-parameters : goal.invariant-parameters
+invariant-parameters l = record {
+  found_is : unwrap_or (colour_length l.text) 0 ≡ found l.count (drop l.count l.bytes);
+  low : All (λ b. b < 128) (take l.count l.bytes);
+  boundary : IsCharBoundary l.text l.count;
 }
+
+abbrev pub decreases-parameters : goal.decreases-parameters
+decreases-parameters l = length l.bytes - l.count

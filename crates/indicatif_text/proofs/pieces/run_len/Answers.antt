@@ -1,8 +1,8 @@
 use Rattle.std.proofs.Common.{◌<◌, sym, subst, chars, arith, length}
 use Rattle.std.specs.Str.Iter.{chars_rest}
 use Rattle.std.proofs.lemmas.Bool.Decides.{nat_tests}
-use Rattle.indicatif_text.proofs.Scanning.{no_sequence, some_sequence}
-use Rattle.indicatif_text.proofs.Joining.{Passed, passed_none, passed_next, passed_end, empty_first, colour_first}
+use Rattle.indicatif_text.proofs.ColourSequenceLemmas.{no_sequence, some_sequence}
+use Rattle.indicatif_text.proofs.PieceLemmas.{Passed, passed_none, passed_next, passed_end, empty_first, colour_first}
 use Rattle.indicatif_text.proofs.pieces.run_len.Goals as goal
 use Rattle.indicatif_text.proofs.pieces.run_len.Goals.{then-loop-rest-test+else-colour_len-eq0, else-loop-rest-test}
 

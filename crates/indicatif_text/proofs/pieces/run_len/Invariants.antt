@@ -1,7 +1,7 @@
 use Rattle.std.proofs.Common.{length}
 use denote.Text.{Utf8}
 use denote.Shadow.{shadow}
-use Rattle.indicatif_text.proofs.Joining.{Passed}
+use Rattle.indicatif_text.proofs.PieceLemmas.{Passed}
 use Rattle.indicatif_text.proofs.pieces.run_len.Given as goal
 
 abbrev pub invariant-loop-rest : goal.invariant-loop-rest

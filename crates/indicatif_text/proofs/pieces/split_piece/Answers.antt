@@ -1,8 +1,8 @@
 use Rattle.std.proofs.Common.{◌∷◌, ◌∙◌, sym, ap, chars, take, drop, arith, length}
 use Rattle.std.proofs.lemmas.Str.{IsUtf8-drop, IsUtf8-take}
 use Rattle.indicatif_text.specs.Pieces.{Colour, Run, pieces_of_text}
-use Rattle.indicatif_text.proofs.Scanning.{scanned_by, scanned_chars_front, scanned_chars_rest, some_sequence, no_sequence}
-use Rattle.indicatif_text.proofs.Joining.{first_colour, run_first}
+use Rattle.indicatif_text.proofs.ColourSequenceLemmas.{scanned_by, scanned_chars_front, scanned_chars_rest, some_sequence, no_sequence}
+use Rattle.indicatif_text.proofs.PieceLemmas.{first_colour, run_first}
 use Rattle.indicatif_text.proofs.pieces.split_piece.Goals as goal
 
 pub returns-then-sequence-gt0 : goal.returns-then-sequence-gt0

@@ -1,40 +1,14 @@
-use Rattle.std.proofs.Common.{sym, ap, refl}
-use Rattle.std.specs.Str.{chars}
-use Rattle.indicatif_text.specs.Styles.{background_of}
-use Rattle.indicatif_text.proofs.StyleProofs.{other_word}
+use Rattle.std.proofs.Common.{◌∙◌, sym, ap}
+use Rattle.std.specs.Prelude.{◌++◌, codes, option_map}
+use Rattle.indicatif_text.specs.StyleWords.{colour_place}
+use Rattle.indicatif_text.proofs.StyleLemmas.{on_background, no_background}
 use Rattle.indicatif_text.proofs.style_words.background_of.Goals as goal
 
-pub returns-in-on_black : goal.returns-in-on_black
-unfolding chars
-returns-in-on_black c = ap (λ word. background_of (chars word)) (sym c.in-on_black.is)
+pub returns-in_err-strip_prefix : goal.returns-in_err-strip_prefix
+returns-in_err-strip_prefix c =
+    ap (option_map colour_place) c.from_residual.ensures ∙ sym (no_background c.args.word.now c.utf8.word c.in_err-strip_prefix.ensures.cases)
 
-pub returns-in-on_red : goal.returns-in-on_red
-unfolding chars
-returns-in-on_red c = ap (λ word. background_of (chars word)) (sym c.in-on_red.is)
-
-pub returns-in-on_green : goal.returns-in-on_green
-unfolding chars
-returns-in-on_green c = ap (λ word. background_of (chars word)) (sym c.in-on_green.is)
-
-pub returns-in-on_yellow : goal.returns-in-on_yellow
-unfolding chars
-returns-in-on_yellow c = ap (λ word. background_of (chars word)) (sym c.in-on_yellow.is)
-
-pub returns-in-on_blue : goal.returns-in-on_blue
-unfolding chars
-returns-in-on_blue c = ap (λ word. background_of (chars word)) (sym c.in-on_blue.is)
-
-pub returns-in-on_magenta : goal.returns-in-on_magenta
-unfolding chars
-returns-in-on_magenta c = ap (λ word. background_of (chars word)) (sym c.in-on_magenta.is)
-
-pub returns-in-on_cyan : goal.returns-in-on_cyan
-unfolding chars
-returns-in-on_cyan c = ap (λ word. background_of (chars word)) (sym c.in-on_cyan.is)
-
-pub returns-in-on_white : goal.returns-in-on_white
-unfolding chars
-returns-in-on_white c = ap (λ word. background_of (chars word)) (sym c.in-on_white.is)
-
-pub returns-in_default : goal.returns-in_default
-returns-in_default c = rw (other_word c.args.word.now _ c.utf8.word refl c.in_default.not-on_black, other_word c.args.word.now _ c.utf8.word refl c.in_default.not-on_red, other_word c.args.word.now _ c.utf8.word refl c.in_default.not-on_green, other_word c.args.word.now _ c.utf8.word refl c.in_default.not-on_yellow, other_word c.args.word.now _ c.utf8.word refl c.in_default.not-on_blue, other_word c.args.word.now _ c.utf8.word refl c.in_default.not-on_magenta, other_word c.args.word.now _ c.utf8.word refl c.in_default.not-on_cyan, other_word c.args.word.now _ c.utf8.word refl c.in_default.not-on_white) refl
+pub returns : goal.returns
+returns c =
+    let begins = c.in_ok-strip_prefix.ensures.cases in
+    c.colour_of.ensures ∙ on_background c.args.word.now c.in_ok-strip_prefix.field-0.now (begins.1.1 ∙ ap (λ x. codes "on_" ++ x) (sym begins.2))

@@ -1,5 +1,5 @@
 use Rattle.std.proofs.Common.{◌∙◌}
-use Rattle.indicatif_text.proofs.StyleProofs.{same_word}
+use Rattle.indicatif_text.proofs.StyleLemmas.{same_word}
 use Rattle.indicatif_text.proofs.style_words.is_word.Goals as goal
 
 pub returns : goal.returns

@@ -1,29 +1,46 @@
-use Rattle.std.proofs.Common.{◌≡◌, Some, None, option_map, refl, sym, ◌∙◌, ap, subst, Ok}
+use Rattle.std.proofs.Common.{Some, None, option_map, refl, sym, ◌∙◌, ap, subst, Ok}
 use Rattle.std.specs.Prelude.{MatchOption}
-use Rattle.indicatif_text.specs.declared.refusal.Drawn.TheVariants.{Hidden}
-use Rattle.indicatif_term.specs.Engines.{terminal, Fits, has_failed}
-use Rattle.indicatif_bar.specs.Runs.{Change, is_no, target_of}
-use Rattle.indicatif_bar.specs.Draws.{DrawMade}
-use Rattle.indicatif_bar.proofs.Outcomes.{drawn_nothing, outcome-hidden}
+use Rattle.indicatif_text.specs.declared.refusal.Drawn.TheVariants.{Limited, Hidden}
+use Rattle.indicatif_term.specs.Engines.{terminal, Fits}
+use Rattle.indicatif_bar.specs.Bars.{bar_kind}
+use Rattle.indicatif_bar.specs.Machines.{target_of}
+use Rattle.indicatif_bar.specs.Lone.{draw_asked, lone}
+use Rattle.indicatif_bar.specs.LoneBars.{IsIn, known}
+use Rattle.indicatif_bar.specs.Inside.Draws.{DrewOn}
+use Rattle.indicatif_bar.specs.Inside.Shown.{writing_as}
+use Rattle.indicatif_bar.proofs.OutcomeLemmas.{drew_none, outcome-unasked, outcome-hidden}
 use Rattle.indicatif_bar.proofs.lone.LoneBar.draw.Goals as goal
 
-pub returns-in-Some : goal.returns-in-Some
-returns-in-Some g c = λ command s asks inside.
-    let known = ap (λ o. option_map g.T.TermLike.view (option_map terminal o)) c.in-Some.is in
-    let fit = subst (λ o. MatchOption o (Unit {0}) (λ e. Fits e s.lists × (has_failed e ≡ s.failed))) c.in-Some.is inside.rows_fit in
-    let asked_draw = ap is_no asks ∙ sym c.is_no.ensures ∙ c.if-is_no.false in
-    let d = c.draw_on.ensures command s asked_draw inside.bar_is inside.lines_are fit.0 fit.1 in (
+pub returns-then-is_no-clause-drew : goal.returns-then-is_no-clause-drew
+unfolding IsIn
+returns-then-is_no-clause-drew g c = λ takes s inside.
+    let old = known g.T.TermLike.view c.args.self.now in
+    let d = draw_asked (bar_kind g.K.ProgressTracker.means) (target_of old) takes c.args.ask c.args.now (writing_as c.args.writing) s in
+    (s, inside, drew_none (lone (bar_kind g.K.ProgressTracker.means)) old d s.lists (Ok Limited) s refl refl (outcome-unasked (target_of old) d (sym c.is_no.ensures ∙ c.if-is_no.true)))
+
+pub returns-in-Some-clause-drew : goal.returns-in-Some-clause-drew
+unfolding IsIn
+returns-in-Some-clause-drew g c = λ takes s inside.
+    let view = g.T.TermLike.view in
+    let known_is = ap (λ o. option_map view (option_map terminal o)) c.in-Some.is in
+    let fit = subst (λ o. MatchOption o (Unit {0}) (λ e. Fits e s.lists)) c.in-Some.is inside.1 in
+    let d = c.draw_on.ensures.drew takes s (sym c.is_no.ensures ∙ c.if-is_no.false) inside.0 fit in (
       d.next,
-      record { bar_is = inside.bar_is ∙ sym d.bar_is; lines_are = d.lines_are; rows_fit = (d.fits, d.failed_is) },
-      subst (λ o. DrawMade o (Some (g.T.TermLike.view (terminal c.draw_on.new.engine))) (Change command) c.args.now s c.draw_on.result d.next) (sym known) d.made,
+      (d.holds, d.fits),
+      subst (λ o. DrewOn (lone (bar_kind g.K.ProgressTracker.means)) o (Some (view (terminal c.draw_on.new.engine)))
+          (draw_asked (bar_kind g.K.ProgressTracker.means) (target_of o) takes c.args.ask c.args.now (writing_as c.args.writing) s) s.lists c.draw_on.result d.next) (sym known_is)
+          (record { leads = d.leads; writes = (view (terminal c.draw_on.new.engine), refl, d.writes) }),
     )
 
-pub returns-in-None : goal.returns-in-None
-returns-in-None g c = λ command s asks inside.
-    let known = ap (λ o. option_map g.T.TermLike.view (option_map terminal o)) c.in-None.is in
-    let asked_draw = ap is_no asks ∙ sym c.is_no.ensures ∙ c.if-is_no.false in (
+pub returns-in-None-clause-drew : goal.returns-in-None-clause-drew
+unfolding IsIn
+returns-in-None-clause-drew g c = λ takes s inside.
+    let view = g.T.TermLike.view in
+    let known_is = ap (λ o. option_map view (option_map terminal o)) c.in-None.is in
+    let d = draw_asked (bar_kind g.K.ProgressTracker.means) (target_of None) takes c.args.ask c.args.now (writing_as c.args.writing) s in (
       s,
-      record { bar_is = inside.bar_is; lines_are = inside.lines_are; rows_fit = inside.rows_fit },
-      subst (λ o. DrawMade o o (Change command) c.args.now s (Ok Hidden) s) (sym known)
-          (drawn_nothing None (Change command) c.args.now s (Ok Hidden) (λ e. cc) refl (outcome-hidden (target_of None) (Change command) c.args.now s asked_draw refl)),
+      (inside.0, subst (λ o. MatchOption o (Unit {0}) (λ e. Fits e s.lists)) (sym c.in-None.is) tt),
+      subst (λ o. DrewOn (lone (bar_kind g.K.ProgressTracker.means)) o o
+          (draw_asked (bar_kind g.K.ProgressTracker.means) (target_of o) takes c.args.ask c.args.now (writing_as c.args.writing) s) s.lists (Ok Hidden) s) (sym known_is)
+          (drew_none (lone (bar_kind g.K.ProgressTracker.means)) None d s.lists (Ok Hidden) s refl refl (outcome-hidden (target_of None) d (sym c.is_no.ensures ∙ c.if-is_no.false) refl)),
     )

@@ -1,12 +1,6 @@
-use Rattle.std.proofs.Common.{refl, sym, ◌∙◌, ap}
-use Rattle.indicatif_bar.specs.Bars.{changed, ForceDraw}
-use Rattle.indicatif_bar.specs.Runs.{Change, numbered}
-use Rattle.indicatif_bar.proofs.Outcomes.{call_of}
+use Rattle.std.proofs.Common.{refl}
+use Rattle.indicatif_bar.specs.Commands.{ForceDraw}
 use Rattle.indicatif_bar.proofs.lone.LoneBar.force_draw.Goals as goal
 
 pub returns : goal.returns
-returns g c = λ s inside.
-    let command = ForceDraw in
-    let d = c.draw.ensures command (numbered (Change command) c.args.now s) (sym c.force_draw-ask.ensures.ask)
-    (record { bar_is = c.force_draw-ask.ensures.bar ∙ ap (changed command c.args.now) inside.bar_is; lines_are = inside.lines_are; rows_fit = inside.rows_fit }) in
-    (d.0, d.1, call_of _ _ (Change command) c.args.now s c.draw.result d.0 refl refl d.2)
+returns g c = c.obey.ensures c.args.self.now ForceDraw (record { told = c.force_draw-ask.ensures; in_time = refl; rest = refl })

@@ -1,13 +1,15 @@
 use Rattle.std.proofs.Common.{◌≡◌, ◌≤◌, length, map, option_map}
 use Rattle.std.specs.Vec.{vec_len, vec_capacity}
-use Rattle.indicatif_bar.specs.Runs.{LoneState, Runs}
-use Rattle.indicatif_bar.specs.LoneBars.{IsIn, terminal_of, timed}
+use Rattle.indicatif_bar.specs.Commands.{BarRecord}
+use Rattle.indicatif_bar.specs.Runs.{Runs}
+use Rattle.indicatif_bar.specs.Lone.{LoneState}
+use Rattle.indicatif_bar.specs.LoneBars.{IsIn, lone_bar, terminal_of, timed}
 use Rattle.indicatif_bar.proofs.lone.LoneBar.run.Given as goal
 
 abbrev pub invariant-loop-call : goal.invariant-loop-call
 invariant-loop-call g l = record {
   counted : vec_len l.answers ≡ length l.yielded;
   room : length l.fn.calls.items ≤ vec_capacity l.answers;
-  ran : (s : LoneState) → IsIn l.fn.self s → (m : LoneState) × IsIn l.self m ×
-      Runs (map timed l.yielded) l.answers.items (option_map g.T.TermLike.view (terminal_of l.fn.self)) s (option_map g.T.TermLike.view (terminal_of l.self)) m;
+  ran : (s : LoneState (BarRecord g.row.K.Denot)) → IsIn l.fn.self s → (m : LoneState (BarRecord g.row.K.Denot)) × IsIn l.self m ×
+      Runs (lone_bar g.K.ProgressTracker.means) (map timed l.yielded) l.answers.items (option_map g.T.TermLike.view (terminal_of l.fn.self)) s (option_map g.T.TermLike.view (terminal_of l.self)) m;
 }

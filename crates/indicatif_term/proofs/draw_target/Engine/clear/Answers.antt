@@ -1,29 +1,32 @@
-use Rattle.std.proofs.Common.{arith, ◌+◌, [], false}
+use Rattle.std.proofs.Common.{ap, append-nil, ◌+◌, [], false}
+use Rattle.std.proofs.lemmas.Result.{err_from_is_err_and}
 use Rattle.indicatif_term.specs.Inside.Bytes.{paint_bytes}
-use Rattle.indicatif_term.specs.Lists.{opening_lists}
+use Rattle.indicatif_term.specs.Frames.{is_fault}
+use Rattle.indicatif_term.specs.Lists.{cleared}
 use Rattle.indicatif_term.specs.Engines.{terminal}
-use Rattle.indicatif_term.proofs.Pictured.{repaints_nothing, repaints_by, anew_nothing, anew_by, paint_anew, clear_paints}
+use Rattle.indicatif_term.proofs.DrawingLemmas.{cleared-adds, cleared-sound}
+use Rattle.indicatif_term.proofs.EngineLemmas.{paints_refused, paints_by, fill_led, fits_counts, fits_failed, fits_forgets, fits_refused, fits_by, clear_paints}
 use Rattle.indicatif_term.proofs.draw_target.Engine.clear.Goals as goal
 
-pub returns-then-width-eq0-clause-picture : goal.returns-then-width-eq0-clause-picture
-returns-then-width-eq0-clause-picture g c = λ l o i. repaints_nothing _ _ l _ (λ e. cc)
+pub returns-in_err-of-clause-lists : goal.returns-in_err-of-clause-lists
+returns-in_err-of-clause-lists g c = λ l fits.
+    fits_refused c.args.self.now c.from_residual.result c.in_err-of.field-0.0 l _ (err_from_is_err_and c.from_residual.result c.from_residual.ensures.1) (ap is_fault c.in_err-of.ensures.0) fits
 
-pub returns-then-width-eq0-clause-anew : goal.returns-then-width-eq0-clause-anew
-returns-then-width-eq0-clause-anew g c = λ f. anew_nothing _ _ _ (λ e. cc)
+pub returns-in_err-of-clause-paints : goal.returns-in_err-of-clause-paints
+returns-in_err-of-clause-paints g c = λ l fits.
+    paints_refused _ c.from_residual.result c.in_err-of.field-0.0 l _ (err_from_is_err_and c.from_residual.result c.from_residual.ensures.1) (ap is_fault c.in_err-of.ensures.0)
 
-pub returns-clause-picture : goal.returns-clause-picture
-returns-clause-picture g c = λ l o i.
+pub returns-clause-lists : goal.returns-clause-lists
+returns-clause-lists g c = λ l fits. fits_by c.cleared-next.result c.repaint.result c.repaint.new.self l (cleared l) c.repaint.ensures.remembers
+    (c.cleared-next.ensures l (fits_counts c.args.self.now l fits)) (cleared-sound l)
+
+pub returns-clause-paints : goal.returns-clause-paints
+returns-clause-paints g c = λ l fits.
     let s = g.T.TermLike.view (terminal c.args.self.now) in
     let old = c.args.self.now.counts in
-    repaints_by s (g.T.TermLike.view (terminal c.repaint.new.self)) c.repaint.result l _ (paint_bytes false old.below (old.kept + old.live) [] c.cleared-next.result.below)
-    (rw i at c.repaint.ensures.writes)
-    (clear_paints s.columns s.rows l old c.cleared-next.result (omega (arith, c.width.ensures)) o (c.cleared-next.ensures l o))
-
-pub returns-clause-anew : goal.returns-clause-anew
-returns-clause-anew g c = λ f.
-    let s = g.T.TermLike.view (terminal c.args.self.now) in
-    let old = c.args.self.now.counts in
-    let o = c.args.self.now.forgets f in
-    anew_by s (g.T.TermLike.view (terminal c.repaint.new.self)) c.repaint.result _ (paint_bytes false old.below (old.kept + old.live) [] c.cleared-next.result.below)
-    (rw (f, paint_anew) at c.repaint.ensures.writes)
-    (clear_paints s.columns s.rows opening_lists old c.cleared-next.result (omega (arith, c.width.ensures)) o (c.cleared-next.ensures opening_lists o))
+    let o = fits_counts c.args.self.now l fits in
+    paints_by s (g.T.TermLike.view (terminal c.repaint.new.self)) c.cleared-next.result c.repaint.result c.repaint.new.self c.args.self.now.failed l (cleared l)
+    (paint_bytes false old.below (old.kept + old.live) [] c.cleared-next.result.below) c.repaint.ensures.remembers (fits_failed c.args.self.now l fits)
+    (rw (fill_led, append-nil) at c.repaint.ensures.writes)
+    (clear_paints s.columns s.rows l old c.cleared-next.result (rw c.in_ok-of.ensures.0 at c.in_ok-of.field-0.some) o (c.cleared-next.ensures l o))
+    (fits_forgets c.args.self.now l fits) (cleared-sound l) (cleared-adds l)

@@ -1,10 +1,18 @@
-use Rattle.indicatif_term.specs.Lists.{opening_lists, kept_of}
-use Rattle.indicatif_term.proofs.Drawing.{kept_shows}
+use Rattle.std.proofs.Common.{sym, ◌∙◌}
+use Rattle.indicatif_term.specs.Lists.{kept_of}
+use Rattle.indicatif_term.specs.Engines.{terminal}
+use Rattle.indicatif_term.proofs.DrawingLemmas.{kept_rests, kept-failed, kept_forgets}
+use Rattle.indicatif_term.proofs.EngineLemmas.{fits_counts, fits_failed, fits_forgets, fits_made}
 use Rattle.indicatif_term.proofs.draw_target.Engine.keep.Goals as goal
 
-pub invariant_of-self : goal.invariant_of-self
-unfolding kept_of
-invariant_of-self g c = record { forgets = λ f. c.kept_counts-outcome.ensures.counts 0 opening_lists (rw c.replace-counts.ensures.value (c.args.self.now.forgets f)) }
+pub returns-clause-fate : goal.returns-clause-fate
+returns-clause-fate g c = λ l fits. c.keep-outcome.ensures.fate l (rw c.replace-counts.ensures.value (fits_counts c.args.self.now l fits))
 
-pub returns-clause-picture : goal.returns-clause-picture
-returns-clause-picture g c = λ w h l opening t s. kept_shows w h opening l c.args.bar t s
+pub returns-clause-lists : goal.returns-clause-lists
+returns-clause-lists g c = λ l fits.
+    let w = (g.T.TermLike.view (terminal c.args.self.now)).columns in
+    fits_made _ (kept_of w c.args.bar l) (c.keep-outcome.ensures.counts w l (rw c.replace-counts.ensures.value (fits_counts c.args.self.now l fits)))
+    (fits_failed c.args.self.now l fits ∙ sym (kept-failed w c.args.bar l)) (kept_forgets w c.args.bar l (fits_forgets c.args.self.now l fits))
+
+pub returns-clause-rests : goal.returns-clause-rests
+returns-clause-rests g c = λ w h l opening t r. kept_rests w h opening l c.args.bar t r

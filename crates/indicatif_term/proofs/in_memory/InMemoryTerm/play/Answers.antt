@@ -2,7 +2,7 @@ use Rattle.std.proofs.Common.{◌∙◌, ◌+◌, ◌%◌, ◌^◌, ap, sym, sub
 use Rattle.std.specs.Prelude.{string_bytes}
 use Rattle.indicatif_term.specs.Terminal.{Terminal}
 use Rattle.indicatif_term.specs.Memory.{MemoryTerm, ReadsBeginning}
-use Rattle.indicatif_term.proofs.MemoryLaws.{leads_on, breaks_off}
+use Rattle.indicatif_term.proofs.MemoryLemmas.{leads_on, breaks_off}
 use Rattle.indicatif_term.proofs.in_memory.InMemoryTerm.play.Goals as goal
 
 pub returns-in-Ok-clause-writes : goal.returns-in-Ok-clause-writes

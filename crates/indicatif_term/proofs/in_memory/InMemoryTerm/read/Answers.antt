@@ -1,6 +1,6 @@
 use Rattle.std.proofs.Common.{◌∙◌, ap, take}
 use Rattle.indicatif_term.specs.Terminal.{after}
-use Rattle.indicatif_term.proofs.MemoryLaws.{begins_at}
+use Rattle.indicatif_term.proofs.MemoryLemmas.{begins_at}
 use Rattle.indicatif_term.proofs.in_memory.InMemoryTerm.read.Goals as goal
 
 pub returns-in-Err-clause-stopped : goal.returns-in-Err-clause-stopped

@@ -1,7 +1,7 @@
 use Rattle.std.proofs.Common.{◌∙◌, ◌++◌, ap, subst}
 use Rattle.indicatif_term.specs.Terminal.{Terminal, after}
 use Rattle.indicatif_term.specs.Memory.{ReadsBeginning}
-use Rattle.indicatif_term.proofs.MemoryLaws.{begins_none, begins_first, begins_second, read_both, at_err, under_err, under_ok}
+use Rattle.indicatif_term.proofs.MemoryLemmas.{begins_none, begins_first, begins_second, read_both, at_err, under_err, under_ok}
 use Rattle.indicatif_term.proofs.in_memory.InMemoryTerm.try_play.Goals as goal
 
 pub returns-in_err-line-clause-stopped : goal.returns-in_err-line-clause-stopped

@@ -1,5 +1,5 @@
 use Rattle.indicatif_term.specs.Calls.{RIGHT}
-use Rattle.indicatif_term.proofs.MemoryLaws.{stays_put}
+use Rattle.indicatif_term.proofs.MemoryLemmas.{stays_put}
 use Rattle.indicatif_term.proofs.in_memory.InMemoryTermTermLike.move_cursor_right.Goals as goal
 
 pub returns-then-n-eq0-clause-writes : goal.returns-then-n-eq0-clause-writes

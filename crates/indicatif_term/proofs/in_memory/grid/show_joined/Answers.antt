@@ -1,6 +1,6 @@
 use Rattle.std.proofs.Common.{◌∙◌, ◌++◌, get_or, ap, string_bytes, lit<}
 use Rattle.indicatif_term.specs.Pictures.{row_text}
-use Rattle.indicatif_term.proofs.Shown.{first_shown, next_shown}
+use Rattle.indicatif_term.proofs.RowTextLemmas.{first_shown, next_shown}
 use Rattle.indicatif_term.proofs.in_memory.grid.show_joined.Goals.{then-place-gt0+in_ok-push, else-place-gt0}
 use Rattle.indicatif_term.proofs.in_memory.grid.show_joined.Goals as goal
 

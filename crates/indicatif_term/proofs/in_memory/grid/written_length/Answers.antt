@@ -1,7 +1,7 @@
 use Rattle.std.proofs.Common.{◌≡◌, ◌∙◌, ◌-◌, suc, true, take, drop, sym, ap, arith}
 use Rattle.std.specs.List.{list_any}
 use Rattle.indicatif_term.specs.Pictures.{has_written}
-use Rattle.indicatif_term.proofs.Shown.{written_last, written_rows-none}
+use Rattle.indicatif_term.proofs.RowTextLemmas.{written_last, written_rows-none}
 use Rattle.indicatif_term.proofs.in_memory.grid.written_length.Goals as goal
 
 pub returns-then-has_written-clause-written : goal.returns-then-has_written-clause-written

@@ -1,7 +1,7 @@
 use Rattle.std.proofs.Common.{◌∙◌, ◌≤◌, ◌++◌, length, ap, refl, arith, rules}
 use Rattle.std.specs.Prelude.{decimal}
 use Rattle.std.proofs.lemmas.Fmt.{length-decimal-le}
-use Rattle.indicatif_term.proofs.MoveTexts.{built}
+use Rattle.indicatif_term.proofs.MoveByteLemmas.{built}
 use Rattle.indicatif_term.proofs.move_bytes.MoveBytes.new.Goals as goal
 
 pub write_digits-start-requires : goal.write_digits-start-requires

@@ -1,4 +1,4 @@
-use Rattle.indicatif_term.proofs.Sending.{sent}
+use Rattle.indicatif_term.proofs.WriterLemmas.{sent}
 use Rattle.indicatif_term.proofs.term.Term.send.Goals as goal
 
 pub returns : goal.returns

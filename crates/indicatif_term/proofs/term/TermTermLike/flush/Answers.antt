@@ -1,5 +1,5 @@
 use Rattle.std.proofs.Common.{[]}
-use Rattle.indicatif_term.proofs.Sending.{sent, kept_all}
+use Rattle.indicatif_term.proofs.WriterLemmas.{sent, kept_all}
 use Rattle.indicatif_term.proofs.term.TermTermLike.flush.Goals as goal
 
 pub returns : goal.returns

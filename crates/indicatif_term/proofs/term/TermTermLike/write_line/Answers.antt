@@ -1,5 +1,5 @@
 use Rattle.std.proofs.Common.{[], ◌∷◌}
-use Rattle.indicatif_term.proofs.CallsInTurn.{writes_then, writes_fail}
+use Rattle.indicatif_term.proofs.CallTurnLemmas.{writes_then, writes_fail}
 use Rattle.indicatif_term.proofs.term.TermTermLike.write_line.Goals as goal
 
 pub returns-in_err-send : goal.returns-in_err-send

@@ -1,5 +1,5 @@
 use Rattle.std.proofs.Common.{arith, length, ap}
-use Rattle.indicatif_text.proofs.Counts.{length-count}
+use Rattle.indicatif_text.proofs.CountLemmas.{length-count}
 use Rattle.indicatif_text.proofs.format.HumanCountDisplay.fmt.Goals as goal
 
 pub prepend_count-requires : goal.prepend_count-requires

@@ -1,5 +1,5 @@
 use Rattle.std.proofs.Common.{◌≡◌, ◌^◌, ◌≤◌, ◌⊎◌, inl, inr, refl, sym, arith}
-use Rattle.indicatif_text.proofs.ByteTexts.{exponent_found, past_power, power_one}
+use Rattle.indicatif_text.proofs.ByteTextLemmas.{exponent_found, past_power, power_one}
 use Rattle.indicatif_text.proofs.format.bytes.prefix_power.Goals as goal
 
 pub loop-exponent-init : goal.loop-exponent-init

@@ -1,6 +1,6 @@
 use Rattle.std.proofs.Common.{◌∙◌, arith, length-append, [], ◌/◌}
 use Rattle.std.proofs.lemmas.Fmt.{length-decimal-le}
-use Rattle.indicatif_text.proofs.ByteTexts.{power_low, prefixed, unprefixed}
+use Rattle.indicatif_text.proofs.ByteTextLemmas.{power_low, prefixed, unprefixed}
 use Rattle.indicatif_text.proofs.format.bytes.prefixed_text.Goals as goal
 
 pub prepend_number-requires : goal.prepend_number-requires
@@ -19,10 +19,12 @@ hundredths-hundredths-requires c =
 pub prepend_number-requires-2 : goal.prepend_number-requires-2
 prepend_number-requires-2 c =
     let number = length-decimal-le 20 (c.hundredths-hundredths.result / 100) (omega arith) (omega arith) (omega arith) in
-    rw (c.prepend-3.ensures, c.prepend_two_digits.ensures, c.prepend-2.ensures, c.prepend.ensures, c.prepend_str-2.ensures, c.new-text.ensures) (omega (arith, number, c.requires.short, length-append c.args.tail.now []))
+    rw (c.prepend-3.ensures, c.prepend_two_digits.ensures, c.prepend-2.ensures, c.prepend.ensures, c.prepend_str-2.ensures, c.new-text.ensures)
+    (omega (arith, number, c.requires.short, length-append c.args.tail.now []))
 
 pub returns : goal.returns
 returns c =
     let power = c.prefix_power-power in
     c.prepend_number-2.ensures ∙ rw (c.prepend-3.ensures, c.prepend_two_digits.ensures, c.prepend-2.ensures, c.prepend.ensures, c.prepend_str-2.ensures, c.new-text.ensures)
-    (prefixed c.args.letters.now c.args.tail.now c.args.base c.args.n power.result.exponent c.hundredths-hundredths.result power.result.size c.if-n-base.false power.ensures.exponent power.ensures.size c.hundredths-hundredths.ensures (omega arith))
+    (prefixed c.args.letters.now c.args.tail.now c.args.base c.args.n power.result.exponent c.hundredths-hundredths.result power.result.size c.if-n-base.false power.ensures.exponent
+    power.ensures.size c.hundredths-hundredths.ensures (omega arith))

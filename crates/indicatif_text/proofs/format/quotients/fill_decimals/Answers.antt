@@ -4,8 +4,8 @@ use Rattle.indicatif_text.specs.Format.{last_digits}
 use Rattle.std.proofs.Math.Nat.{pos_of_ne-zero}
 use Rattle.std.proofs.Math.Seq.{take-suc-set}
 use Rattle.std.proofs.lemmas.Bool.{eqb-false}
-use Rattle.indicatif_text.specs.Quotients.{below}
-use Rattle.indicatif_text.proofs.Quotients.{below_next, left_next, left_none, digit_more, raised_in_place, all_filled}
+use Rattle.indicatif_text.specs.Inside.Quotients.{below}
+use Rattle.indicatif_text.proofs.QuotientLemmas.{below_next, left_next, left_none, digit_more, raised_in_place, all_filled}
 use Rattle.indicatif_text.proofs.format.quotients.fill_decimals.Goals as goal
 
 pub loop-digit-init : goal.loop-digit-init

@@ -1,7 +1,7 @@
 use Rattle.std.proofs.Common.{◌≡◌, ◌++◌, ◌∷◌, [], ap, sym, ◌∙◌, length-take-le}
-use Rattle.indicatif_text.specs.Quotients.{raised, below}
+use Rattle.indicatif_text.specs.Inside.Quotients.{raised, below}
 use Rattle.indicatif_text.specs.Format.{last_digits, human_count, after_point}
-use Rattle.indicatif_text.proofs.Quotients.{IsAscii-last_digits}
+use Rattle.indicatif_text.proofs.QuotientLemmas.{IsAscii-last_digits}
 use Rattle.indicatif_text.proofs.format.quotients.four_decimals_text.Goals as goal
 
 pub joined-requires-clause-ascii : goal.joined-requires-clause-ascii

@@ -2,8 +2,8 @@ use Rattle.std.proofs.Common.{◌≡◌, ◌∷◌, length, ap, sym, ◌∙◌, 
 use Rattle.std.proofs.Math.Nat.{pos_of_ne-zero}
 use Rattle.std.proofs.lemmas.Bool.{eqb-true, eqb-false}
 use Rattle.indicatif_text.specs.Format.{after_point}
-use Rattle.indicatif_text.proofs.Counts.{length-count}
-use Rattle.indicatif_text.proofs.Quotients.{behind_point, nothing_behind, length-behind}
+use Rattle.indicatif_text.proofs.CountLemmas.{length-count}
+use Rattle.indicatif_text.proofs.QuotientLemmas.{behind_point, nothing_behind, length-behind}
 use Rattle.indicatif_text.proofs.format.quotients.joined.Goals as goal
 use Rattle.indicatif_text.proofs.format.quotients.joined.Goals.{then-not-is_empty, else-not-is_empty}
 

@@ -1,16 +1,23 @@
-use Rattle.std.proofs.Common.{length, ap, arith}
-use Rattle.indicatif_text.specs.Quotients.{raised, below}
-use Rattle.indicatif_text.proofs.Counts.{length-count}
-use Rattle.indicatif_text.proofs.Quotients.{IsAscii-last_digits, digits_back}
+use Rattle.std.proofs.Common.{◌≡◌, ◌+◌, ◌∙◌, ◌<◌, ◌++◌, append-nil, length, ap, sym, arith}
+use Rattle.indicatif_text.specs.Format.{last_digits, human_count, human_float_count}
+use Rattle.indicatif_text.specs.Inside.Quotients.{raised, below}
+use Rattle.indicatif_text.proofs.CountLemmas.{length-count}
+use Rattle.indicatif_text.proofs.QuotientLemmas.{length-last_digits, length-with_point}
+use Rattle.indicatif_text.proofs.StyleLemmas.{at_err}
 use Rattle.indicatif_text.proofs.format.quotients.push_text.Goals as goal
 
 pub prepend_wide_count-requires : goal.prepend_wide_count-requires
 prepend_wide_count-requires c =
     omega (arith, length-count 39 c.of-rounded.result.whole (omega arith) (omega arith) (omega arith), ap length c.new-whole.ensures)
 
-pub ascii_text-requires : goal.ascii_text-requires
-ascii_text-requires c =
-    let slice = c.as_mut_slice in
-    let n = length slice.result.now in
-    let m = raised c.of-rounded.result.up (below c.args.num c.args.den n) in
-    rw (digits_back c.as_slice.result.now c.fill_decimals.new.out _ _ n m c.as_slice.ensures.value c.fill_decimals.ensures slice.ensures.len) (IsAscii-last_digits n m)
+pub returns-in_err-reserve-clause-full : goal.returns-in_err-reserve-clause-full
+returns-in_err-reserve-clause-full c =
+    let rounded = c.of-rounded.result in
+    let decimals = last_digits rounded.kept (raised rounded.up (below c.args.num c.args.den rounded.kept)) in
+    let many : length decimals ≡ rounded.kept = length-last_digits rounded.kept _ in
+    let some : 0 < rounded.kept = omega (arith, c.if-kept-eq0.false) in
+    let len : length (human_float_count c.args.num c.args.den c.args.decimals) ≡ length (human_count rounded.whole) + (1 + length decimals) =
+    ap length c.of-rounded.ensures.text ∙ length-with_point (human_count rounded.whole) decimals (omega (arith, many, some)) in
+    let whole : length (human_count rounded.whole) ≡ length c.as_str-2.result.now =
+    ap length (sym (c.as_str-2.ensures ∙ c.prepend_wide_count.ensures ∙ ap (λ x. human_count rounded.whole ++ x) c.new-whole.ensures ∙ append-nil (human_count rounded.whole))) in
+    at_err c.from_residual.result (omega (arith, len, many, whole, c.in_err-reserve.ensures.full))

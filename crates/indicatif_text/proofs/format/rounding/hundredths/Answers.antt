@@ -1,5 +1,5 @@
 use Rattle.std.proofs.Common.{◌*◌}
-use Rattle.indicatif_text.proofs.Rounding.{rounded_by}
+use Rattle.indicatif_text.proofs.RoundingLemmas.{rounded_by}
 use Rattle.indicatif_text.proofs.format.rounding.hundredths.Goals as goal
 
 pub returns-then-rounds_up : goal.returns-then-rounds_up

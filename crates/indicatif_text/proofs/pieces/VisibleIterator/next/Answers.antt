@@ -1,21 +1,13 @@
-use Rattle.std.proofs.Common.{◌≡◌, ◌∙◌, sym, ap, subst, chars}
-use Rattle.std.specs.Str.{IsUtf8}
-use Rattle.std.specs.Str.Iter.{chars_rest}
+use Rattle.std.proofs.Common.{subst}
 use Rattle.std.specs.Iterator.{YieldsFirst}
-use Rattle.indicatif_text.specs.Columns.{colour_length, visible}
-use Rattle.indicatif_text.proofs.Scanning.{visible_first, goes_first}
+use Rattle.indicatif_text.specs.Columns.{visible}
+use Rattle.indicatif_text.proofs.ColourSequenceLemmas.{goes_first}
+use Rattle.std.proofs.Common.{chars}
 use Rattle.indicatif_text.proofs.pieces.VisibleIterator.next.Goals as goal
 
 pub returns-clause-steps : goal.returns-clause-steps
 returns-clause-steps c =
-    let bs = chars_rest c.chars-rest.result in
-    let rest = chars_rest c.next-c.new.self in
-    let at : bs ≡ c.after_colours.result.now = c.chars-rest.ensures.rest in
-    let first = visible_first bs rest c.next-c.result _ (subst IsUtf8 (sym at) c.after_colours.utf8) (ap (λ x. colour_length (chars x)) at ∙ c.after_colours.ensures.front)
-    c.next-c.ensures.steps.0 (λ a. (a.0, ap chars_rest a.1)) in
-    subst (λ s. YieldsFirst (λ left. left) s c.next-c.result (visible (chars c.as_str-self-inside.result.now)))
-    (ap (λ x. visible (chars x)) at ∙ c.after_colours.ensures.visible ∙ c.self.view_is)
-    (subst (λ r. YieldsFirst (λ left. left) (visible (chars bs)) c.next-c.result (visible (chars r))) (sym c.as_str-self-inside.ensures) first)
+    subst (λ s. YieldsFirst (λ left. left) s c.first_visible-c.result.0 (visible (chars c.first_visible-c.result.1.now))) c.self.view_is c.first_visible-c.ensures
 
 pub returns-clause-goes : goal.returns-clause-goes
-returns-clause-goes c = goes_first (λ x. x) _ (λ _. tt) _ _ c.next-c.result (returns-clause-steps c)
+returns-clause-goes c = goes_first (λ x. x) _ (λ _. tt) _ _ c.first_visible-c.result.0 (returns-clause-steps c)

@@ -1,8 +1,8 @@
 use Rattle.std.proofs.Common.{◌∙◌, ap, refl, chars}
-use Rattle.indicatif_text.specs.declared.runs.Words.TheVariants.{All}
-use Rattle.indicatif_text.specs.Runs.{in_words}
-use Rattle.indicatif_text.specs.Styles.{style_of}
-use Rattle.indicatif_text.proofs.Prefixes.{run_all}
+use Rattle.indicatif_text.specs.declared.spans.Words.TheVariants.{All}
+use Rattle.indicatif_text.specs.Inside.Spans.{in_words}
+use Rattle.indicatif_text.specs.StyleWords.{style_of}
+use Rattle.indicatif_text.proofs.PrefixLemmas.{run_all}
 use Rattle.indicatif_text.proofs.style_words.Style.from_dotted_str.Goals as goal
 
 pub returns : goal.returns

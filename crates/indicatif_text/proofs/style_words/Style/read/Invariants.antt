@@ -1,8 +1,8 @@
 use Rattle.std.proofs.Common.{chars, length}
 use denote.Text.{Utf8}
 use denote.Shadow.{shadow}
-use Rattle.indicatif_text.specs.Runs.{in_words}
-use Rattle.indicatif_text.proofs.StyleProofs.{WordsRead}
+use Rattle.indicatif_text.specs.Inside.Spans.{in_words}
+use Rattle.indicatif_text.proofs.StyleLemmas.{WordsRead}
 use Rattle.indicatif_text.proofs.style_words.Style.read.Given as goal
 
 abbrev pub invariant-loop-end : goal.invariant-loop-end

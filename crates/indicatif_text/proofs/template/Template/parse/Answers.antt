@@ -1,11 +1,10 @@
 use Rattle.std.proofs.Common.{◌∙◌, sym, subst, refl}
 use Rattle.std.specs.Prelude.{chars, map}
-use Rattle.indicatif_text.specs.Parts.{part_of}
-use Rattle.indicatif_text.specs.Reading.{sketch_of}
-use Rattle.indicatif_text.specs.Template.{Parses}
-use Rattle.indicatif_text.proofs.ReadingProofs.{is_no_text}
-use Rattle.indicatif_text.proofs.SketchProofs.{leads_parse}
-use Rattle.indicatif_text.proofs.ParseProofs.{parsed_ok, refused_ok, parsed_err, refused_err, is_error, handed_back, some_length}
+use Rattle.indicatif_text.specs.Template.{part_of, Parses}
+use Rattle.indicatif_text.specs.Inside.Draft.{sketch_of}
+use Rattle.indicatif_text.proofs.OptionLemmas.{is_no_text}
+use Rattle.indicatif_text.proofs.SketchLemmas.{leads_parse}
+use Rattle.indicatif_text.proofs.ParseLemmas.{parsed_ok, refused_ok, parsed_err, refused_err, is_error, handed_back, some_length}
 use Rattle.indicatif_text.proofs.template.Template.parse.Goals as goal
 
 pub returns-in_err-rest-clause-parses : goal.returns-in_err-rest-clause-parses

@@ -1,7 +1,7 @@
 use Rattle.std.proofs.Common.{chars, length}
 use denote.Text.{Utf8}
 use denote.Shadow.{shadow}
-use Rattle.indicatif_text.specs.Reading.{Leads, sketch_of, empty_sketch}
+use Rattle.indicatif_text.specs.Inside.Draft.{Leads, sketch_of, empty_sketch}
 use Rattle.indicatif_text.proofs.template.Template.parse.Given as goal
 
 abbrev pub invariant-loop-rest : goal.invariant-loop-rest

@@ -1,6 +1,6 @@
 use Rattle.std.proofs.Common.{◌∷◌}
 use Rattle.std.specs.Prelude.{chars}
-use Rattle.indicatif_text.proofs.TokenProofs.{closed_wrong}
+use Rattle.indicatif_text.proofs.TokenLemmas.{closed_wrong}
 use Rattle.indicatif_text.proofs.template.reading.closed.Goals as goal
 
 pub returns-else-next-eq125-clause-value : goal.returns-else-next-eq125-clause-value

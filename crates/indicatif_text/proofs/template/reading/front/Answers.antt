@@ -1,6 +1,6 @@
 use Rattle.std.specs.Prelude.{chars}
 use Rattle.indicatif_text.specs.Template.{opened, closed, front}
-use Rattle.indicatif_text.proofs.TokenProofs.{front_break, front_opened, front_closed, front_literal, gives_same}
+use Rattle.indicatif_text.proofs.TokenLemmas.{front_break, front_opened, front_closed, front_literal, gives_same}
 use Rattle.indicatif_text.proofs.template.reading.front.Goals as goal
 
 pub returns-then-first-eq10-clause-value : goal.returns-then-first-eq10-clause-value

@@ -1,7 +1,7 @@
 use Rattle.std.proofs.Common.{◌∷◌, ◌∙◌, ap, sym}
 use Rattle.std.specs.Prelude.{chars}
 use Rattle.indicatif_text.specs.Template.{key_ends, keyed}
-use Rattle.indicatif_text.proofs.TokenProofs.{no_chars, has_chars, key_missing, key_closed, key_options, gives_handed}
+use Rattle.indicatif_text.proofs.TokenLemmas.{no_chars, has_chars, key_missing, key_closed, key_options, gives_handed}
 use Rattle.indicatif_text.proofs.template.reading.key_ends.Goals as goal
 
 pub returns-then-is_empty-clause-value : goal.returns-then-is_empty-clause-value

@@ -1,7 +1,7 @@
 use Rattle.std.proofs.Common.{refl, chars}
 use Rattle.std.specs.Prelude.{take_while}
 use Rattle.indicatif_text.specs.Template.{is_width_char}
-use Rattle.indicatif_text.proofs.Mixes.{mix_begins, mix_more, past_more}
+use Rattle.indicatif_text.proofs.MixLemmas.{mix_begins, mix_more, past_more}
 use Rattle.indicatif_text.proofs.template.reading.read_mix.Goals as goal
 
 pub loop-c-init : goal.loop-c-init

@@ -2,7 +2,7 @@ use Rattle.std.proofs.Common.{◌≡◌, chars, length}
 use Rattle.std.specs.Prelude.{take_while}
 use denote.Text.{Utf8}
 use denote.Shadow.{shadow}
-use Rattle.indicatif_text.specs.Reading.{IsMixBefore}
+use Rattle.indicatif_text.specs.Inside.Reading.{IsMixBefore}
 use Rattle.indicatif_text.specs.Template.{is_width_char, after_run}
 use Rattle.indicatif_text.proofs.template.reading.read_mix.Given as goal
 

@@ -1,7 +1,7 @@
 use Rattle.std.specs.Prelude.{chars, option_map}
-use Rattle.indicatif_text.specs.Styles.{numbers_of}
-use Rattle.indicatif_text.specs.Reading.{layout_of}
-use Rattle.indicatif_text.proofs.ReadingProofs.{alternative_open, alternative_closed}
+use Rattle.indicatif_text.specs.StyleWords.{numbers_of}
+use Rattle.indicatif_text.specs.Inside.Reading.{layout_of}
+use Rattle.indicatif_text.proofs.OptionLemmas.{alternative_open, alternative_closed}
 use Rattle.indicatif_text.proofs.template.reading.with_alternative.Goals as goal
 
 pub returns-in-None-clause-value : goal.returns-in-None-clause-value

@@ -1,8 +1,8 @@
 use Rattle.std.proofs.Common.{◌∙◌}
 use Rattle.std.specs.Prelude.{chars, option_map}
-use Rattle.indicatif_text.specs.Styles.{numbers_of}
-use Rattle.indicatif_text.specs.Reading.{layout_of}
-use Rattle.indicatif_text.proofs.ReadingProofs.{style_open, style_closed, style_slashed}
+use Rattle.indicatif_text.specs.StyleWords.{numbers_of}
+use Rattle.indicatif_text.specs.Inside.Reading.{layout_of}
+use Rattle.indicatif_text.proofs.OptionLemmas.{style_open, style_closed, style_slashed}
 use Rattle.indicatif_text.proofs.template.reading.with_style.Goals as goal
 
 pub returns-in-None-clause-value : goal.returns-in-None-clause-value

@@ -1,7 +1,7 @@
 use Rattle.std.proofs.Common.{◌∷◌, ◌∙◌}
 use Rattle.std.specs.Prelude.{chars}
-use Rattle.indicatif_text.specs.Reading.{layout_of}
-use Rattle.indicatif_text.proofs.ReadingProofs.{width_open, width_closed, width_styled, width_closed_wide, width_styled_wide, width_unexpected}
+use Rattle.indicatif_text.specs.Inside.Reading.{layout_of}
+use Rattle.indicatif_text.proofs.OptionLemmas.{width_open, width_closed, width_styled, width_closed_wide, width_styled_wide, width_unexpected}
 use Rattle.indicatif_text.proofs.template.reading.with_width.Goals as goal
 use Rattle.indicatif_text.proofs.template.reading.with_width.Goals.{else-next-ne125-via-then-next-ne125+else-next-ne46, else-next-ne125-via-else-next-ne125}
 

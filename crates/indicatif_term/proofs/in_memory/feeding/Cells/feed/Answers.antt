@@ -1,6 +1,6 @@
 use Rattle.std.proofs.Common.{sym, arith, length-drop}
-use Rattle.indicatif_term.proofs.Fed.{after-nil}
-use Rattle.indicatif_term.proofs.Fronts.{after_some}
+use Rattle.indicatif_term.proofs.FeedLemmas.{after-nil}
+use Rattle.indicatif_term.proofs.WholeCharLemmas.{after_some}
 use Rattle.indicatif_term.proofs.in_memory.feeding.Cells.feed.Goals as goal
 
 pub loop-read-init : goal.loop-read-init

@@ -2,7 +2,7 @@ use Rattle.std.proofs.Common.{◌≡◌, ◌∙◌, ◌∷◌, [], ap, sym}
 use Rattle.std.specs.Prelude.{map, option_to_list}
 use Rattle.indicatif_term.specs.Terminal.{Terminal, byte_ops, after}
 use Rattle.indicatif_term.specs.Inside.Grids.{op_of}
-use Rattle.indicatif_term.proofs.Fed.{fed_one, fed_none}
+use Rattle.indicatif_term.proofs.FeedLemmas.{fed_one, fed_none}
 use Rattle.indicatif_term.proofs.in_memory.feeding.Cells.feed_byte.Goals.{in-Some+in_ok-perform-in-Some, in-None}
 use Rattle.indicatif_term.proofs.in_memory.feeding.Cells.feed_byte.Goals as goal
 

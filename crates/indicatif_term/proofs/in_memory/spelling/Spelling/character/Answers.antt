@@ -1,6 +1,6 @@
 use Rattle.std.proofs.Common.{◌∙◌, sym, subst}
 use Rattle.std.specs.Str.{IsUtf8}
-use Rattle.indicatif_term.proofs.Spelled.{spelled, not_spelled}
+use Rattle.indicatif_term.proofs.SpellingLemmas.{spelled, not_spelled}
 use Rattle.indicatif_term.proofs.in_memory.spelling.Spelling.character.Goals as goal
 
 pub returns-in-Ok : goal.returns-in-Ok

@@ -1,6 +1,6 @@
 use Rattle.std.proofs.Common.{arith, ap, sym, ◌∙◌}
-use Rattle.indicatif_text.specs.TimeUnits.{span_of}
-use Rattle.indicatif_text.proofs.Durations.{told-years, told-weeks, told-days, told-hours, told-minutes, told-seconds}
+use Rattle.indicatif_text.specs.Inside.Durations.{span_of}
+use Rattle.indicatif_text.proofs.DurationLemmas.{told-years, told-weeks, told-days, told-hours, told-minutes, told-seconds}
 use Rattle.indicatif_text.proofs.format.durations.Told.of.Goals as goal
 
 pub returns-then-nanos-clause-count : goal.returns-then-nanos-clause-count

@@ -1,6 +1,6 @@
 use Rattle.std.proofs.Common.{◌≡◌, ◌+◌, ◌*◌, ap, sym, ◌∙◌, arith, refl}
-use Rattle.indicatif_text.specs.Quotients.{below}
-use Rattle.indicatif_text.proofs.Quotients.{below_next, left_next, below_none, left_none, rounded_at, ends_none, plain_step, above_step, odd_step, text_plain, text_raised, text_carried}
+use Rattle.indicatif_text.specs.Inside.Quotients.{below}
+use Rattle.indicatif_text.proofs.QuotientLemmas.{below_next, left_next, below_none, left_none, rounded_at, ends_none, plain_step, above_step, odd_step, text_plain, text_raised, text_carried}
 use Rattle.indicatif_text.proofs.format.quotients.Rounded.of.Goals as goal
 
 pub loop-place-init : goal.loop-place-init
@@ -35,7 +35,8 @@ returns-then-not-rounds_up-clause-text c =
     let den = c.args.den in
     let loop = c.loop-place in
     let all : loop.place ≡ c.args.decimals = omega arith in
-    let is = rw c.if-not-rounds_up.true at (rounded_at num den c.args.decimals loop.place loop.division.rest loop.odd c.rounds_up.result all loop.invariant.odd_is loop.invariant.rest_is c.rounds_up.ensures) in
+    let is = rw c.if-not-rounds_up.true at
+    (rounded_at num den c.args.decimals loop.place loop.division.rest loop.odd c.rounds_up.result all loop.invariant.odd_is loop.invariant.rest_is c.rounds_up.ensures) in
     rw c.from.ensures (text_plain num den c.args.decimals loop.nonzero (rw all at loop.invariant.plain) is)
 
 pub returns-then-not_nine-eq0-clause-text : goal.returns-then-not_nine-eq0-clause-text
@@ -44,7 +45,8 @@ returns-then-not_nine-eq0-clause-text c =
     let den = c.args.den in
     let loop = c.loop-place in
     let all : loop.place ≡ c.args.decimals = omega arith in
-    let is = rw c.if-not-rounds_up.false at (rounded_at num den c.args.decimals loop.place loop.division.rest loop.odd c.rounds_up.result all loop.invariant.odd_is loop.invariant.rest_is c.rounds_up.ensures) in
+    let is = rw c.if-not-rounds_up.false at
+    (rounded_at num den c.args.decimals loop.place loop.division.rest loop.odd c.rounds_up.result all loop.invariant.odd_is loop.invariant.rest_is c.rounds_up.ensures) in
     rw c.from.ensures (text_carried num den c.args.decimals loop.not_nine c.if-not_nine-eq0.true (rw all at loop.invariant.above) is)
 
 pub returns-clause-text : goal.returns-clause-text
@@ -53,5 +55,6 @@ returns-clause-text c =
     let den = c.args.den in
     let loop = c.loop-place in
     let all : loop.place ≡ c.args.decimals = omega arith in
-    let is = rw c.if-not-rounds_up.false at (rounded_at num den c.args.decimals loop.place loop.division.rest loop.odd c.rounds_up.result all loop.invariant.odd_is loop.invariant.rest_is c.rounds_up.ensures) in
+    let is = rw c.if-not-rounds_up.false at
+    (rounded_at num den c.args.decimals loop.place loop.division.rest loop.odd c.rounds_up.result all loop.invariant.odd_is loop.invariant.rest_is c.rounds_up.ensures) in
     rw c.from.ensures (text_raised num den c.args.decimals loop.not_nine (omega arith) (rw all at loop.invariant.above) is)

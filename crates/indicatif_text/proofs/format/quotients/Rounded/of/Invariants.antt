@@ -1,7 +1,7 @@
 use Rattle.std.proofs.Common.{◌≡◌, ◌%◌}
 use Rattle.std.specs.Prelude.{◌==◌}
-use Rattle.indicatif_text.specs.Quotients.{below, left_over}
-use Rattle.indicatif_text.proofs.Quotients.{EndsAt}
+use Rattle.indicatif_text.specs.Inside.Quotients.{below, left_over}
+use Rattle.indicatif_text.proofs.QuotientLemmas.{EndsAt}
 use Rattle.indicatif_text.proofs.format.quotients.Rounded.of.Given as goal
 
 abbrev pub invariant-loop-place : goal.invariant-loop-place

@@ -1,5 +1,5 @@
 use Rattle.std.proofs.Common.{length, arith, ap, ◌∙◌}
-use Rattle.indicatif_text.proofs.Counts.{count_goes_on, count_room, count_ends, last_room}
+use Rattle.indicatif_text.proofs.CountLemmas.{count_goes_on, count_room, count_ends, last_room}
 use Rattle.indicatif_text.proofs.format.short_text.ShortText.prepend_count.Goals as goal
 
 pub prepend_three_digits-requires : goal.prepend_three_digits-requires

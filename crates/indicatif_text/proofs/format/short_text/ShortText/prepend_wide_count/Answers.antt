@@ -1,6 +1,6 @@
 use Rattle.std.proofs.Common.{length, arith, ap, length-append}
 use Rattle.indicatif_text.specs.Format.{human_count}
-use Rattle.indicatif_text.proofs.Counts.{count_goes_on, count_room}
+use Rattle.indicatif_text.proofs.CountLemmas.{count_goes_on, count_room}
 use Rattle.indicatif_text.proofs.format.short_text.ShortText.prepend_wide_count.Goals as goal
 
 pub prepend_three_digits-requires : goal.prepend_three_digits-requires

@@ -3,9 +3,9 @@ use Rattle.std.proofs.lemmas.List.{map-append}
 use Rattle.std.specs.Prelude.{chars, string_bytes, map}
 use Rattle.std.proofs.lemmas.Str.{chars-nil, IsUtf8-string_bytes}
 use Rattle.indicatif_text.specs.declared.template.Part.TheVariants.{Literal}
-use Rattle.indicatif_text.specs.Parts.{part_of, LiteralText}
-use Rattle.indicatif_text.specs.Reading.{sketch_of, closed_sketch, literal_part}
-use Rattle.indicatif_text.proofs.DraftProofs.{same_sketch, empty_string, kept_and_run, none_kept, none_run, closed_none, closed_some}
+use Rattle.indicatif_text.specs.Template.{part_of, LiteralText}
+use Rattle.indicatif_text.specs.Inside.Draft.{sketch_of, closed_sketch, literal_part}
+use Rattle.indicatif_text.proofs.DraftLemmas.{same_sketch, empty_string, kept_and_run, none_kept, none_run, closed_none, closed_some}
 use Rattle.indicatif_text.proofs.template.draft.Draft.close_literal.Goals as goal
 
 pub returns-then-is_empty : goal.returns-then-is_empty

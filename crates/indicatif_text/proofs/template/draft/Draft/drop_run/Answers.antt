@@ -1,9 +1,9 @@
 use Rattle.std.proofs.Common.{◌∙◌, ap, refl}
 use Rattle.std.specs.Prelude.{chars, string_bytes, take, drop}
 use Rattle.std.proofs.lemmas.Str.{chars-nil}
-use Rattle.indicatif_text.specs.Reading.{sketch_of, added}
+use Rattle.indicatif_text.specs.Inside.Draft.{sketch_of, added}
 use Rattle.indicatif_text.specs.Template.{LastBrace}
-use Rattle.indicatif_text.proofs.DraftProofs.{same_sketch, cut_kept, cut_run}
+use Rattle.indicatif_text.proofs.DraftLemmas.{same_sketch, cut_kept, cut_run}
 use Rattle.indicatif_text.proofs.template.draft.Draft.drop_run.Goals as goal
 
 pub returns : goal.returns

@@ -1,5 +1,5 @@
 use Rattle.std.proofs.Common.{ap}
-use Rattle.indicatif_text.specs.Reading.{sketch_of}
+use Rattle.indicatif_text.specs.Inside.Draft.{sketch_of}
 use Rattle.indicatif_text.proofs.template.draft.Draft.finish.Goals as goal
 
 pub returns : goal.returns

@@ -1,8 +1,8 @@
 use Rattle.std.proofs.Common.{◌∙◌, ap, refl}
 use Rattle.std.specs.Prelude.{chars, string_bytes, take, drop}
 use Rattle.std.proofs.lemmas.Str.{chars-nil, IsUtf8-string_bytes}
-use Rattle.indicatif_text.specs.Reading.{sketch_of, kept_sketch}
-use Rattle.indicatif_text.proofs.DraftProofs.{same_sketch, all_kept, all_run, kept_and_run}
+use Rattle.indicatif_text.specs.Inside.Draft.{sketch_of, kept_sketch}
+use Rattle.indicatif_text.proofs.DraftLemmas.{same_sketch, all_kept, all_run, kept_and_run}
 use Rattle.indicatif_text.proofs.template.draft.Draft.keep_run.Goals as goal
 
 pub returns : goal.returns

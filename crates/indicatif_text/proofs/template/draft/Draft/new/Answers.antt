@@ -1,9 +1,9 @@
 use Rattle.std.proofs.Common.{◌∙◌, ap}
 use Rattle.std.specs.Prelude.{chars, map, take, drop}
 use Rattle.std.proofs.lemmas.Str.{chars-nil}
-use Rattle.indicatif_text.specs.Parts.{part_of}
-use Rattle.indicatif_text.specs.Reading.{sketch_of, empty_sketch}
-use Rattle.indicatif_text.proofs.DraftProofs.{same_sketch}
+use Rattle.indicatif_text.specs.Template.{part_of}
+use Rattle.indicatif_text.specs.Inside.Draft.{sketch_of, empty_sketch}
+use Rattle.indicatif_text.proofs.DraftLemmas.{same_sketch}
 use Rattle.indicatif_text.proofs.template.draft.Draft.new.Goals as goal
 
 pub returns : goal.returns

@@ -1,8 +1,8 @@
 use Rattle.std.proofs.Common.{◌∙◌, ap, refl}
 use Rattle.std.specs.Prelude.{chars, string_bytes, take, drop}
 use Rattle.std.proofs.lemmas.Str.{IsUtf8-string_bytes}
-use Rattle.indicatif_text.specs.Reading.{sketch_of, with_run}
-use Rattle.indicatif_text.proofs.DraftProofs.{same_sketch, more_kept, more_run, pushed_boundary}
+use Rattle.indicatif_text.specs.Inside.Draft.{sketch_of, with_run}
+use Rattle.indicatif_text.proofs.DraftLemmas.{same_sketch, more_kept, more_run, pushed_boundary}
 use Rattle.indicatif_text.proofs.template.draft.Draft.push_run.Goals as goal
 
 pub invariant_of-self : goal.invariant_of-self

@@ -1,6 +1,6 @@
 use Rattle.std.specs.Prelude.{chars}
-use Rattle.indicatif_text.specs.Reading.{sketch_of}
-use Rattle.indicatif_text.proofs.DraftProofs.{spaced_sketch}
+use Rattle.indicatif_text.specs.Inside.Draft.{sketch_of}
+use Rattle.indicatif_text.proofs.DraftLemmas.{spaced_sketch}
 use Rattle.indicatif_text.proofs.template.draft.Draft.push_spaced.Goals as goal
 
 pub returns : goal.returns

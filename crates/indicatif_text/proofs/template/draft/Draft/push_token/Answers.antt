@@ -1,7 +1,8 @@
 use Rattle.std.proofs.Common.{◌≡◌, sym, subst}
 use Rattle.std.specs.Prelude.{OnOk}
-use Rattle.indicatif_text.specs.Parts.{part_of}
-use Rattle.indicatif_text.specs.Reading.{sketch_of, added, piece_of}
+use Rattle.indicatif_text.specs.Template.{part_of}
+use Rattle.indicatif_text.specs.Inside.Reading.{piece_of}
+use Rattle.indicatif_text.specs.Inside.Draft.{sketch_of, added}
 use Rattle.indicatif_text.proofs.template.draft.Draft.push_token.Goals as goal
 
 pub returns-in-NewLine : goal.returns-in-NewLine

@@ -1,5 +1,5 @@
 use Rattle.std.proofs.Common.{◌∙◌, ◌+◌, ◌-◌, ◌*◌, ap, sym}
-use Rattle.indicatif_text.proofs.Mixes.{takes_mark, takes_too_much, takes_digit, width_mark, width_digit}
+use Rattle.indicatif_text.proofs.MixLemmas.{takes_mark, takes_too_much, takes_digit, width_mark, width_digit}
 use Rattle.indicatif_text.proofs.template.reading.Mix.with.Goals as goal
 
 pub returns-then-c-eq33 : goal.returns-then-c-eq33

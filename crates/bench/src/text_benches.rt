@@ -1,0 +1,47 @@
+//! Lines of 60 characters measured, on rows of 80 and of 81 columns in turn.
+use crate::measured::{Made, Measured};
+use anyhow::Result;
+use indicatif_text::columns::wrapped;
+use std::time::Instant;
+
+pub const NAMES: [&str; 4] = [
+    "wrapped_ascii",
+    "wrapped_bar",
+    "wrapped_wide",
+    "wrapped_colours",
+];
+
+/// The measurement of a name, if it is one of this module.
+pub fn run(rt: &HostRuntime, name: &str, count: u64) -> Result<Option<Measured>> {
+    match name {
+        "wrapped_ascii" => Ok(Some(measured(rt, count, &["a"; 60])?)),
+        "wrapped_bar" => Ok(Some(measured(rt, count, &bar())?)),
+        "wrapped_wide" => Ok(Some(measured(rt, count, &["国"; 60])?)),
+        "wrapped_colours" => Ok(Some(measured(rt, count, &["\x1b[32ma"; 60])?)),
+        _ => Ok(None),
+    }
+}
+
+/// A bar of 40 full cells and 20 empty ones.
+fn bar() -> [&'static str; 60] {
+    let mut cells = ["░"; 60];
+    for cell in cells[..40].iter_mut() {
+        *cell = "█";
+    }
+    cells
+}
+
+/// Measures the line of these pieces so many times; it counts the rows.
+fn measured(rt: &HostRuntime, count: u64, pieces: &[&str]) -> Result<Measured> {
+    let mut line = String::new(rt.alloc());
+    for piece in pieces {
+        line.push_str(piece)?;
+    }
+    let mut rows: u64 = 0;
+    let start = Instant::now(rt)?;
+    for i in 0..count {
+        let width = if i % 2 == 0 { 80 } else { 81 };
+        rows = rows.wrapping_add(wrapped(line.as_str(), width)?.height as u64);
+    }
+    Ok(Measured::since(rt, start, count, Made::Rows(rows))?)
+}

@@ -1,0 +1,3 @@
+mod RingLemmas
+mod SeekLemmas
+mod LoopLemmas

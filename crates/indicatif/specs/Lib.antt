@@ -1,0 +1,4 @@
+pub mod Moves
+pub mod Ring
+pub mod Seek
+pub mod Wrap

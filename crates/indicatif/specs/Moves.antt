@@ -1,0 +1,33 @@
+-- What moves a bar, and what a bar that tells of itself says after a move.
+use Rattle.std.specs.Prelude.{◌≡◌, ℕ, ◌+◌, ◌%◌, ◌^◌, Bool, true, Option, Some, IfSome, unwrap_or, Result, Err, ◌⊎◌}
+use Rattle.indicatif_text.specs.declared.refusal.Drawn.{Drawn}
+use Rattle.indicatif_text.specs.declared.refusal.Refusal.{Refusal}
+use Rattle.indicatif_text.specs.declared.refusal.Refusal.TheVariants.{Memory}
+
+-- where a bar stands, as far as moves go
+pub record Standing : Type 0 where
+  pub position : ℕ
+  pub finished : Bool
+  -- where its stored finish puts the position, if it moves it
+  pub ends_at : Option ℕ
+
+-- what can be asked of a bar that stands for the progress of something else
+pub data Move : Type 0 where
+  -- the position goes on by n
+  Advance : (n : ℕ) → Move
+  -- the position becomes this place
+  PlaceAt : (place : ℕ) → Move
+  -- the bar is finished by its stored finish
+  FinishAsStored : Move
+
+-- where a bar stands after a move
+abbrev pub after_bar_move : Standing → Move → Standing
+after_bar_move bar (Advance n) = record bar { position = (bar.position + n) % 2 ^ 64 }
+after_bar_move bar (PlaceAt place) = record bar { position = place }
+after_bar_move bar FinishAsStored = record bar { position = unwrap_or bar.ends_at bar.position; finished = true }
+
+-- a bar that tells where it stands goes on by a move with this answer; one that is to be finished stays where it stands only if it was refused memory, as for the message of its finish
+abbrev pub Goes : Option Standing → Move → Result Drawn Refusal → Option Standing → Type 0
+Goes before (Advance n) answer now = IfSome before (λ bar. now ≡ Some (after_bar_move bar (Advance n)))
+Goes before (PlaceAt place) answer now = IfSome before (λ bar. now ≡ Some (after_bar_move bar (PlaceAt place)))
+Goes before FinishAsStored answer now = IfSome before (λ bar. (now ≡ Some (after_bar_move bar FinishAsStored)) ⊎ ((answer ≡ Err Memory) × (now ≡ Some bar)))

@@ -1,0 +1,10 @@
+-- The greatest of the last places.
+use Rattle.std.specs.Prelude.{ℕ, max, List, [], ◌∷◌, take, fold}
+
+-- the greatest of some numbers, and 0 of none
+abbrev pub greatest_of : List ℕ → ℕ
+greatest_of = fold max 0
+
+-- what is kept of a list of updates that come one after the other, the latest first: each is put in front, and what is past n is dropped
+abbrev pub kept_updates : ℕ → List ℕ → List ℕ
+kept_updates n = fold (λ places place. take n (place ∷ places)) []

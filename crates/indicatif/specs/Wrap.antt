@@ -1,0 +1,89 @@
+-- What a wrapper makes of its bar.
+use Rattle.std.specs.Prelude.{◌≡◌, ◌≢◌, ℕ, zero, suc, Bool, true, false, Option, Some, IfSome, Result, Ok, Err, ◌⊎◌, pos}
+use Rattle.std.specs.declared.io.traits.SeekFrom.{SeekFrom}
+use Rattle.std.specs.declared.io.traits.SeekFrom.TheVariants.{Start, End, Current}
+use Rattle.futures.specs.declared.task.Poll.{Poll}
+use Rattle.futures.specs.declared.task.Poll.TheVariants.{Ready, Pending}
+use Rattle.indicatif_text.specs.declared.refusal.Drawn.{Drawn}
+use Rattle.indicatif_text.specs.declared.refusal.Refusal.{Refusal}
+use Rattle.indicatif.specs.Moves.{Standing, Move, Advance, PlaceAt, FinishAsStored, Goes}
+use Rattle.indicatif.specs.Seek.{Seeks, after_move, after_seek}
+use Rattle.indicatif.specs.declared.wrap.ProgressBarIter.{ProgressBarIter}
+
+-- ---- what a wrapper is
+
+-- what is wrapped
+abbrev pub inner_of : {T P : Type 0} → ProgressBarIter T P → T
+inner_of w = w.it
+
+-- what is remembered of seeks
+abbrev pub seeks_kept : {T P : Type 0} → ProgressBarIter T P → Seeks
+seeks_kept w = w.seeks
+
+-- what the last draw answered, if there was one
+abbrev pub last_draw_of : {T P : Type 0} → ProgressBarIter T P → Option (Result Drawn Refusal)
+last_draw_of w = w.last
+
+-- nothing of the bar has changed, nor what is remembered of seeks and of the last draw
+abbrev pub SameBar : {T P : Type 0} → ProgressBarIter T P → ProgressBarIter T P → Type 0
+SameBar s t = (t.progress ≡ s.progress) × (seeks_kept t ≡ seeks_kept s) × (last_draw_of t ≡ last_draw_of s)
+
+-- ---- what becomes of the bar
+
+-- by what the bar tells, and where a move leads it with an answer
+module _ {T P : Type 0} (told : P → Option Standing) (leads : P → Move → Result Drawn Refusal → P → Type 0) where
+  -- the bar made one move, and its answer is kept
+  pub record Moved (s : ProgressBarIter T P) (move : Move) (t : ProgressBarIter T P) : Type 0 where
+    pub answer : Result Drawn Refusal
+    pub led : leads s.progress move answer t.progress
+    pub goes : Goes (told s.progress) move answer (told t.progress)
+    pub last : last_draw_of t ≡ Some answer
+
+  -- an item advances the bar by 1; the end finishes one that isn't finished, and changes nothing of one that is
+  abbrev pub Counts : Bool → ProgressBarIter T P → ProgressBarIter T P → Type 0
+  Counts true s t = Moved s (Advance 1) t × (seeks_kept t ≡ seeks_kept s)
+  Counts false s t =
+      (Moved s FinishAsStored t × (seeks_kept t ≡ seeks_kept s) × IfSome (told s.progress) (λ bar. bar.finished ≡ false))
+      ⊎ (SameBar s t × IfSome (told s.progress) (λ bar. bar.finished ≡ true))
+
+  -- the bar was placed after n more bytes
+  pub record Placed (s : ProgressBarIter T P) (n : ℕ) (t : ProgressBarIter T P) : Type 0 where
+    pub position : ℕ
+    pub place : ℕ
+    pub here : IfSome (told s.progress) (λ bar. position ≡ bar.position)
+    pub by_seeks : (place, seeks_kept t) ≡ after_move 5 10 (seeks_kept s) position n
+    pub moved : Moved s (PlaceAt place) t
+
+  -- the bar was placed by a seek to a place
+  pub record Sought (s : ProgressBarIter T P) (to : ℕ) (t : ProgressBarIter T P) : Type 0 where
+    pub place : ℕ
+    pub by_seeks : (place, seeks_kept t) ≡ after_seek 10 (seeks_kept s) to
+    pub moved : Moved s (PlaceAt place) t
+
+  -- so many items, and then the end
+  abbrev pub Loops : ℕ → ProgressBarIter T P → ProgressBarIter T P → Type 0
+  Loops zero s t = Counts false s t
+  Loops (suc n) s t = (u : ProgressBarIter T P) × Counts true s u × Loops n u t
+
+  -- an item of a stream advances the bar by 1; each end finishes it
+  abbrev pub Polled : Bool → ProgressBarIter T P → ProgressBarIter T P → Type 0
+  Polled true s t = Moved s (Advance 1) t × (seeks_kept t ≡ seeks_kept s)
+  Polled false s t = Moved s FinishAsStored t × (seeks_kept t ≡ seeks_kept s)
+
+  -- a polled read that is ready places the bar by the bytes that came; of one that failed none came
+  abbrev pub ReadPlaces : {E : Type 0} → ProgressBarIter T P → Poll (Result ℕ E) → ProgressBarIter T P → Type 0
+  ReadPlaces s Pending t = SameBar s t
+  ReadPlaces s (Ready (Ok n)) t = Placed s n t
+  ReadPlaces s (Ready (Err e)) t = Placed s 0 t
+
+  -- a polled write that was taken places the bar by the bytes that went
+  abbrev pub WritePlaces : {E : Type 0} → ProgressBarIter T P → Poll (Result ℕ E) → ProgressBarIter T P → Type 0
+  WritePlaces s Pending t = SameBar s t
+  WritePlaces s (Ready (Ok n)) t = Placed s n t
+  WritePlaces s (Ready (Err e)) t = SameBar s t
+
+-- a seek by nothing from the current place keeps the bar; any other moves it
+abbrev pub SeekMovesBar : SeekFrom → Type 0 → Type 0 → Type 0
+SeekMovesBar (Start k) same moved = moved
+SeekMovesBar (End k) same moved = moved
+SeekMovesBar (Current k) same moved = (k ≡ pos 0 → same) × (k ≢ pos 0 → moved)

@@ -1,0 +1,44 @@
+//! What may stand for the progress of something else.
+ghost use Rattle.std.specs.Prelude.{◌≡◌, Option, None, IfSome, Result, ⊤};
+ghost use Rattle.indicatif.specs.Moves.{Standing, Move, Advance, PlaceAt, FinishAsStored, Goes};
+ghost use Rattle.indicatif_text.specs.declared.refusal.Drawn.{Drawn};
+ghost use Rattle.indicatif_text.specs.declared.refusal.Refusal.{Refusal};
+
+use indicatif_text::columns::{Drawn, Refusal};
+
+/// A bar that something else moves: an iterator by its items, a reader by its bytes.
+///
+/// What a contract can say of the bar is what it tells: a bar of one's own tells where it stands, one that is shared can't. A
+/// move whose draw was refused is a move all the same.
+pub trait Moves: Drop {
+    /// Where the bar stands, where it is told.
+    ghost told: { Self → Option Standing } = { λ _. None };
+
+    /// A move led from the first to the second, with this answer.
+    ghost leads: { Self → Move → Result Drawn Refusal → Self → Type 0 } = { λ _ _ _ _. ⊤ };
+
+    /// The position goes on by `n`.
+    fn advance(&mut self, n: u64) -> Result<Drawn, Refusal>
+        ensures led { leads self.old (Advance n) result self.new }
+        ensures told { Goes (told self.old) (Advance n) result (told self.new) };
+
+    /// The position becomes `place`.
+    fn place(&mut self, place: u64) -> Result<Drawn, Refusal>
+        ensures led { leads self.old (PlaceAt place) result self.new }
+        ensures told { Goes (told self.old) (PlaceAt place) result (told self.new) };
+
+    /// The bar is finished by its stored finish.
+    ///
+    /// Refused: as a draw is; where it is refused `Memory`, it may be that the bar isn't finished.
+    fn finish(&mut self) -> Result<Drawn, Refusal>
+        ensures led { leads self.old FinishAsStored result self.new }
+        ensures told { Goes (told self.old) FinishAsStored result (told self.new) };
+
+    /// The position.
+    fn position(&self) -> u64
+        ensures { IfSome (told self.now) (λ bar. result ≡ bar.position) };
+
+    /// Whether the bar is finished.
+    fn finished(&self) -> bool
+        ensures { IfSome (told self.now) (λ bar. result ≡ bar.finished) };
+}

@@ -1,0 +1,60 @@
+//! The greatest of the last places.
+ghost use Rattle.std.specs.Prelude.{◌≡◌, ◌<◌, ◌≤◌, List, ℕ, [], ◌∷◌, take};
+ghost use Rattle.indicatif.specs.Ring.{greatest_of};
+
+use std::marker::Model;
+
+/// The last `N` places that it was told, from 1 to 255 of them. Contracts see them as a list, the latest first.
+///
+///     let mut places = MaxRingBuf::<2>::new();
+///     places.update(9);
+///     places.update(5);
+///     places.max() // 9
+///     places.update(7);
+///     places.max() // 7: the 9 is no longer among the last two
+#[derive(Drop, Debug)]
+pub struct MaxRingBuf<const N: usize> {
+    places: [u64; N],
+    len: usize,
+}
+
+impl<const N: usize> Model for MaxRingBuf<N> {
+    ghost Value = { List ℕ };
+
+    ghost view = { λ r. take r.len r.places };
+
+    ghost invariant = { λ r. (r.len ≤ N) × (0 < N) × (N < 256) };
+}
+
+impl<const N: usize> MaxRingBuf<N> {
+    /// With no place yet. One for no place, or for more than 255 of them, can't be made. Takes no memory.
+    pub fn new() -> Self
+        requires { (0 < N) × (N < 256) }
+        ensures { result ≡ [] }
+    {
+        MaxRingBuf {
+            places: [0; N],
+            len: 0,
+        }
+    }
+
+    /// Takes one more place, in the stead of the oldest where there are `N`.
+    pub fn update(&mut self, place: u64)
+        ensures { self.new ≡ take N (place ∷ self.old) }
+    {
+        self.places.rotate_right(1);
+        self.places[0] = place;
+        self.len = (self.len + 1).min(N);
+    }
+
+    /// The greatest of the last `N` places, and 0 where there are none.
+    pub fn max(&self) -> u64
+        ensures { result ≡ greatest_of self.now }
+    {
+        let mut most = 0;
+        for place in &self.places[..self.len] {
+            most = most.max(*place);
+        }
+        most
+    }
+}

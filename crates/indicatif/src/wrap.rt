@@ -1,0 +1,72 @@
+//! The wrapper.
+ghost use Rattle.std.specs.Prelude.{◌≡◌, None};
+ghost use Rattle.indicatif.specs.Seek.{no_seeks};
+ghost use Rattle.indicatif.specs.Wrap.{inner_of, seeks_kept, last_draw_of, Placed};
+
+use crate::moves::Moves;
+use crate::seek::SeekMax;
+use indicatif_text::columns::{Drawn, Refusal};
+
+/// An iterator, reader, writer or stream that moves a bar. It gives what the inner one gives, and beside it:
+///
+/// - an item, from either end, advances the bar by 1, and the end finishes a bar that isn't finished, by its stored finish;
+/// - bytes that were read, consumed or written place the bar behind them, and a seek places it at its target, as
+///   `SeekMax<5, 10>` says, which keeps a bar from jumping with a reader that seeks back and forth;
+/// - an error, and a poll that is pending, leave the bar as it is.
+///
+/// What a draw answered is kept for `last_draw`, since an iterator has no place for it.
+///
+///     let mut wrapped = ProgressBarIter::new(items.into_iter(), bar);
+///     while let Some(item) = wrapped.next() { .. }
+///     let (_, bar) = wrapped.into_inner();
+#[derive(Drop)]
+pub struct ProgressBarIter<T, P> {
+    pub(crate) it: T,
+    /// The bar.
+    pub progress: P,
+    pub(crate) seeks: SeekMax<5, 10>,
+    pub(crate) last: Option<Result<Drawn, Refusal>>,
+}
+
+impl<T, P> ProgressBarIter<T, P> {
+    /// Wraps `it`, whose progress `progress` shows. Neither is touched yet.
+    pub fn new(it: T, progress: P) -> ProgressBarIter<T, P>
+        ensures it { inner_of result ≡ it }
+        ensures progress { result.progress ≡ progress }
+        ensures seeks { seeks_kept result ≡ no_seeks }
+        ensures last { last_draw_of result ≡ None }
+    {
+        ProgressBarIter {
+            it,
+            progress,
+            seeks: SeekMax::new(),
+            last: None,
+        }
+    }
+
+    /// What is wrapped, and the bar as it is; it isn't finished by this.
+    pub fn into_inner(self) -> (T, P)
+        ensures { result ≡ (inner_of self, self.progress) }
+    {
+        let ProgressBarIter { it, progress, .. } = self;
+        (it, progress)
+    }
+
+    /// What the last draw answered; none where none was asked yet.
+    pub fn last_draw(&self) -> Option<Result<Drawn, Refusal>>
+        ensures { result ≡ last_draw_of self.now }
+    {
+        self.last
+    }
+}
+
+impl<T, P: Moves> ProgressBarIter<T, P> {
+    // Places the bar after `n` more bytes.
+    pub(crate) fn went_on(&mut self, n: u64)
+        ensures it { inner_of self.new ≡ inner_of self.old }
+        ensures placed { Placed P.told P.leads self.old n self.new }
+    {
+        let place = self.seeks.update_seq(self.progress.position(), n);
+        self.last = Some(self.progress.place(place));
+    }
+}

@@ -1,0 +1,6 @@
+use Rattle.std.proofs.Common.{refl}
+use Rattle.indicatif_bar.specs.Commands.{Reset}
+use Rattle.indicatif_bar.proofs.lone.LoneBar.reset.Goals as goal
+
+pub returns : goal.returns
+returns g c = c.obey.ensures c.args.self.now Reset (record { told = c.reset-ask.ensures; in_time = refl; rest = refl })

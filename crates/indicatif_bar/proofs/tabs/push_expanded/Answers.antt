@@ -1,0 +1,15 @@
+use Rattle.std.proofs.Common.{◌++◌, ◌∙◌, ap, lit<, string_bytes}
+use Rattle.std.specs.Str.Iter.{split_text, split_has_more, split_pattern}
+use Rattle.std.proofs.lemmas.Iterator.Consumers.{YieldsList-end}
+use Rattle.std.proofs.lemmas.Iterator.Splits.{YieldsList-from_str_split}
+use Rattle.indicatif_bar.proofs.TabLemmas.{joined, joined-split}
+use Rattle.indicatif_bar.proofs.tabs.push_expanded.Goals as goal
+
+pub returns : goal.returns
+returns c =
+    let t = YieldsList-end (YieldsList-from_str_split 0x09 c.args.text.now (lit< tt)
+    (ap split_text c.into_iter-part-iterator.ensures.into_iter_gives ∙ c.split-part-items.ensures.text)
+    (ap split_has_more c.into_iter-part-iterator.ensures.into_iter_gives ∙ c.split-part-items.ensures.has_more)
+    (ap split_pattern c.into_iter-part-iterator.ensures.into_iter_gives ∙ c.split-part-items.ensures.pattern))
+    c.loop-part.yielded _ c.loop-part.yielded_by _ _ c.in-None.is c.next.ensures.steps in
+    c.loop-part.invariant.out_is ∙ ap (λ x. string_bytes c.args.out.now ++ x) (ap (joined c.args.tab) t.0 ∙ joined-split c.args.tab c.args.text.now)

@@ -1,0 +1,155 @@
+-- The lines of a bar. Texts are lists of bytes in UTF-8; those in the parts of a template are characters.
+use Rattle.std.specs.Prelude.{ℕ, ◌-◌, ◌%◌, Bool, true, false, ◌==◌, List, [], ◌∷◌, ◌++◌, length, Option, Some, None, if◌then◌else◌, unwrap_or, flat_map, filter_map, find, option_and_then, encode_utf8_all}
+use Rattle.std.specs.Str.{chars, drop_trailing_whitespace}
+use Rattle.std.specs.List.{slice_split, slice_index_or, slice_get, last_or, list_any}
+use Rattle.std.specs.Option.{option_map_or}
+use Rattle.indicatif_text.specs.StyleWords.{styled}
+use Rattle.indicatif_text.specs.Template.{Layout, TemplatePart, LiteralText, LineBreak, KeyText}
+use Rattle.indicatif_bar.specs.Tabs.{expanded}
+use Rattle.indicatif_bar.specs.Progress.{Progress, is_finished, shown_message, shown_prefix, length_shown, fraction, elapsed, per_sec, eta, duration}
+use Rattle.indicatif_bar.specs.Trackers.{Tracking}
+use Rattle.indicatif_bar.specs.Layout.{text_columns, padded, bar_text}
+use Rattle.indicatif_bar.specs.Keys.{named, key_named, count_text, time_text, percent_text, rate_text, whole_rate_text}
+use Rattle.indicatif_bar.specs.declared.style.keys.Key.{Key}
+use Rattle.indicatif_bar.specs.declared.style.keys.Key.TheVariants.{Bar, WideBar, WideMessage, Spinner, Prefix, Message, Position, Length, Percent, PercentPrecise, Elapsed, Eta, Duration, PerSecond, BytesPerSecond}
+
+-- how a bar looks, with trackers under keys of their own
+pub record Style (K : Type 0) : Type 0 where
+  -- what its template is made of
+  pub parts : List TemplatePart
+  -- the characters of a bar: done, the shades between, not done
+  pub clusters : List (List ℕ)
+  -- the texts of a spinner, the last one for a finished bar
+  pub tick_strings : List (List ℕ)
+  pub keys : List (List ℕ × K)
+  pub colours : Bool
+  -- how many spaces stand for a tab
+  pub tab : ℕ
+
+-- ---- keys
+
+-- the n-th text of a spinner, and the last one of a finished bar
+abbrev pub tick_string : List (List ℕ) → ℕ → List ℕ
+tick_string strings n = slice_index_or strings (n % (length strings - 1)) []
+
+abbrev pub final_tick_string : List (List ℕ) → List ℕ
+final_tick_string strings = slice_index_or strings (length strings - 1) []
+
+-- the placeholder of a wide key, as it is laid out
+pub data Wide : Type 0 where
+  WideBarOf : (layout : Layout) → Wide
+  WideMessageOf : (layout : Layout) → Wide
+
+abbrev pub wide_of : Layout → Key → Option Wide
+wide_of layout WideBar = Some (WideBarOf layout)
+wide_of layout WideMessage = Some (WideMessageOf layout)
+wide_of layout _ = None
+
+-- the mark that a wide key leaves in its place
+abbrev pub mark : List ℕ
+mark = 0 ∷ []
+
+abbrev pub is_mark : ℕ → Bool
+is_mark b = b == 0
+
+-- the text's last character is a mark
+abbrev pub ends_in_mark : List ℕ → Bool
+ends_in_mark text = option_map_or is_mark (slice_get text (length text - 1)) false
+
+abbrev pub is_newline : ℕ → Bool
+is_newline b = b == 0x0A
+
+abbrev pub is_line_break : TemplatePart → Bool
+is_line_break LineBreak = true
+is_line_break _ = false
+
+-- the columns that the first line with a mark leaves free
+abbrev pub columns_left : ℕ → List ℕ → ℕ
+columns_left columns text = columns - option_map_or text_columns (find (list_any is_mark) (slice_split is_newline text)) 0
+
+-- a text with something in the place of each mark
+abbrev pub with_marks_as : List ℕ → List ℕ → List ℕ
+with_marks_as shown text = flat_map (λ b. if is_mark b then shown else b ∷ []) text
+
+module _ {K : Type 0} (style : Style K) (p : Progress) where
+  -- what stands in the place of each mark of a text
+  abbrev pub wide_text : ℕ → List ℕ → Wide → List ℕ
+  wide_text columns text (WideBarOf layout) = bar_text style.clusters style.colours (unwrap_or layout.alternative []) (fraction p) (columns_left columns text)
+  wide_text columns text (WideMessageOf layout) =
+      let message = padded (shown_message p) (columns_left columns text) layout.align true in
+      if ends_in_mark text then encode_utf8_all (drop_trailing_whitespace (chars message)) else message
+
+  -- a text with its marks replaced, where a wide key has stood so far
+  abbrev pub filled : ℕ → Option Wide → List ℕ → List ℕ
+  filled columns None text = text
+  filled columns (Some wide) text = with_marks_as (wide_text columns text wide) text
+
+  -- the lines of a text, where a wide key has stood so far
+  abbrev pub lines_of : ℕ → Option Wide → List ℕ → List (List ℕ)
+  lines_of columns wide text = slice_split is_newline (filled columns wide text)
+
+module _ {K : Type 0} (m : Tracking K) (style : Style K) (p : Progress) (now : ℕ) where
+  -- the text of a key, as a placeholder asks for it
+  abbrev pub key_text : Layout → Key → List ℕ
+  key_text layout Bar = bar_text style.clusters style.colours (unwrap_or layout.alternative []) (fraction p) (unwrap_or layout.width 20)
+  key_text layout WideBar = mark
+  key_text layout WideMessage = mark
+  key_text layout Spinner = if is_finished p then final_tick_string style.tick_strings else tick_string style.tick_strings p.ticks
+  key_text layout Prefix = shown_prefix p
+  key_text layout Message = shown_message p
+  key_text layout (Position form) = count_text form p.position
+  key_text layout (Length form) = count_text form (length_shown p)
+  key_text layout Percent = percent_text (fraction p) 0
+  key_text layout PercentPrecise = percent_text (fraction p) 3
+  key_text layout (Elapsed form) = time_text form (elapsed p now)
+  key_text layout (Eta form) = time_text form (eta p now)
+  key_text layout (Duration form) = time_text form (duration p now)
+  key_text layout PerSecond = rate_text (per_sec p now) (unwrap_or layout.width 4)
+  key_text layout (BytesPerSecond form) = whole_rate_text form (per_sec p now)
+
+  -- the text of a name: its tracker's, its key's, or none for an unknown one
+  abbrev pub named_text : List ℕ → Layout → List ℕ
+  named_text name layout = elim (named name style.keys) [
+    | Some k ↦ expanded style.tab (m.text k p now)
+    | None ↦ option_map_or (key_text layout) (key_named name) []
+  ]
+
+  -- a text at the placeholder's width, where it has one, and in its style
+  abbrev pub laid_out : Layout → List ℕ → List ℕ
+  laid_out layout text =
+      styled style.colours (unwrap_or layout.style []) (option_map_or (λ width. padded text width layout.align layout.truncate) layout.width text)
+
+  -- the text of a part of the template
+  abbrev pub part_text : TemplatePart → List ℕ
+  part_text (LiteralText text) = expanded style.tab (encode_utf8_all text)
+  part_text LineBreak = []
+  part_text (KeyText key layout) = laid_out layout (named_text (encode_utf8_all key) layout)
+
+  -- ---- wide keys
+
+  -- the wide placeholder that a part is, where no tracker has its name
+  abbrev pub wide_part : TemplatePart → Option Wide
+  wide_part (LiteralText text) = None
+  wide_part LineBreak = None
+  wide_part (KeyText key layout) = elim (named (encode_utf8_all key) style.keys) [
+    | Some k ↦ None
+    | None ↦ option_and_then (wide_of layout) (key_named (encode_utf8_all key))
+  ]
+
+  -- the latest wide placeholder of the parts, or else the one before
+  abbrev pub latest_wide : Option Wide → List TemplatePart → Option Wide
+  latest_wide before parts = last_or before (filter_map wide_part parts)
+
+  -- ---- lines
+
+  -- the lines of parts between line breaks, group by group; the last group gives none if its text is empty
+  abbrev pub lines_of_groups : ℕ → Option Wide → List (List TemplatePart) → List (List ℕ)
+  lines_of_groups columns wide [] = []
+  lines_of_groups columns wide (parts ∷ []) =
+      if length (flat_map part_text parts) == 0 then [] else lines_of style p columns (latest_wide wide parts) (flat_map part_text parts)
+  lines_of_groups columns wide (parts ∷ next ∷ groups) =
+      lines_of style p columns (latest_wide wide parts) (flat_map part_text parts) ++ lines_of_groups columns (latest_wide wide parts) (next ∷ groups)
+
+  -- the lines of a bar on a terminal of so many columns
+  unfoldable pub lines : ℕ → List (List ℕ)
+  lines columns = lines_of_groups columns None (slice_split is_line_break style.parts)

@@ -1,0 +1,144 @@
+-- Worked cases of a lone bar: what calls at the moment 0 answer, and the rows that stand then. The terminal never fails.
+use Rattle.indicatif_text.specs.Template.{KeyText, plain_layout}
+use Rattle.indicatif_bar.specs.BarStyles.{Style}
+use Rattle.std.specs.Prelude.{◌≡◌, ℕ, true, false, List, [], ◌∷◌, ◌++◌, map, replicate, Some, None, flat_map, codes, Result, Ok, Err}
+use Rattle.indicatif_text.specs.declared.refusal.Refusal.{Refusal}
+use Rattle.indicatif_text.specs.declared.refusal.Refusal.TheVariants.{NoColumns, TooWide, ElapsedBeyondClock}
+use Rattle.indicatif_text.specs.declared.refusal.Drawn.{Drawn}
+use Rattle.indicatif_text.specs.declared.refusal.Drawn.TheVariants.{Yes, Limited, Hidden}
+use Rattle.indicatif_text.specs.Columns.{Cell, rows_of}
+use Rattle.indicatif_term.specs.Lists.{opening_lists, all_rows}
+use Rattle.indicatif_bar.specs.Bars.{lines_of_bar}
+use Rattle.indicatif_bar.specs.Trackers.{Tracking, writes_nothing}
+use Rattle.indicatif_bar.specs.Commands.{BarRecord, Command, new_bar, after, Tick, SetMessage, PutMessage, SetElapsed, ForceDraw}
+use Rattle.indicatif_bar.specs.LoneBars.{lone_bar}
+use Rattle.indicatif_term.specs.Limiters.{draw_limiter}
+use Rattle.indicatif_bar.specs.Machines.{Target, outcomes}
+use Rattle.indicatif_bar.specs.Lone.{LoneState, Call, Change, Log, Clear, opening_state}
+
+-- ---- messages
+
+-- ---- calls
+
+-- a terminal of so many rows and columns
+abbrev pub terminal_of_size : ℕ → ℕ → Target
+terminal_of_size rows columns = record { hidden = false; columns = columns; rows = rows }
+
+-- no terminal
+abbrev pub nowhere : Target
+nowhere = record { hidden = true; columns = 0; rows = 0 }
+
+-- its trackers mean nothing
+abbrev pub untracked : Tracking (Unit {0})
+untracked = writes_nothing
+
+-- a style that shows the message alone
+abbrev pub message_style : Style (Unit {0})
+message_style = record { parts = KeyText (codes "msg") plain_layout ∷ []; clusters = []; tick_strings = []; keys = []; colours = false; tab = 8 }
+
+-- a lone bar without trackers, with this message, as it was made at the moment 0
+abbrev pub bar_saying : List ℕ → BarRecord (Unit {0})
+bar_saying message = (after untracked (PutMessage message) (new_bar message_style None 0) 0).0
+
+-- an empty message has no line; else its pieces between newlines are its lines
+abbrev pub Lines : Type 0
+Lines =
+    let shown = λ (message : List ℕ). lines_of_bar untracked (bar_saying message) 0 80 in
+    (shown [] ≡ [])
+    × (shown (codes "a") ≡ codes "a" ∷ [])
+    × (shown (codes "a\nb") ≡ codes "a" ∷ codes "b" ∷ [])
+    × (shown (codes "a\n") ≡ codes "a" ∷ [] ∷ [])
+    × (shown (codes "\n") ≡ [] ∷ [] ∷ [])
+
+-- what calls of it answer, and its state then
+abbrev pub ran : Target → List ℕ → List (Call (Command (Unit {0}))) → List (Result Drawn Refusal) × LoneState (BarRecord (Unit {0}))
+ran target message calls = outcomes (lone_bar untracked) target (map (λ call. (call, 0)) calls) (opening_state (bar_saying message) None)
+
+-- the rows of lines
+abbrev pub rows_of_lines : ℕ → List (List ℕ) → List (List Cell)
+rows_of_lines columns lines = flat_map (rows_of columns) lines
+
+-- 4 rows, 10 columns: a message of 13 columns takes two rows; a shorter one takes their place
+abbrev pub ShorterMessage : Type 0
+ShorterMessage =
+    let first = ran (terminal_of_size 4 10) (codes "progress bars") (Change Tick ∷ []) in
+    let both = ran (terminal_of_size 4 10) (codes "progress bars") (Change Tick ∷ Change (SetMessage (codes "x")) ∷ []) in
+    (first.0 ≡ Ok Yes ∷ [])
+    × (all_rows 10 first.1.lists ≡ rows_of_lines 10 (codes "progress b" ∷ codes "ars" ∷ []))
+    × (both.0 ≡ Ok Yes ∷ Ok Yes ∷ [])
+    × (all_rows 10 both.1.lists ≡ rows_of_lines 10 (codes "x" ∷ []))
+
+-- an empty message has no row
+abbrev pub EmptyMessage : Type 0
+EmptyMessage =
+    let first = ran (terminal_of_size 4 10) [] (Change Tick ∷ []) in
+    let both = ran (terminal_of_size 4 10) [] (Change Tick ∷ Change (SetMessage (codes "a")) ∷ []) in
+    (first.0 ≡ Ok Yes ∷ []) × (all_rows 10 first.1.lists ≡ []) × (both.0 ≡ Ok Yes ∷ Ok Yes ∷ []) × (all_rows 10 both.1.lists ≡ rows_of_lines 10 (codes "a" ∷ []))
+
+-- 3 rows, 1 column: a character of two columns is too wide, and is stored; a message of one column is then drawn
+abbrev pub WideCharacter : Type 0
+WideCharacter =
+    let first = ran (terminal_of_size 3 1) (0xE5 ∷ 0x9B ∷ 0xBD ∷ []) (Change Tick ∷ []) in
+    let both = ran (terminal_of_size 3 1) (0xE5 ∷ 0x9B ∷ 0xBD ∷ []) (Change Tick ∷ Change (SetMessage (codes "a")) ∷ []) in
+    (first.0 ≡ Err TooWide ∷ [])
+    × (first.1.lists ≡ opening_lists)
+    × (first.1.stored ≡ (0x56FD ∷ []) ∷ [])
+    × (both.0 ≡ Err TooWide ∷ Ok Yes ∷ [])
+    × (all_rows 1 both.1.lists ≡ rows_of_lines 1 (codes "a" ∷ []))
+
+-- no columns: the tick counts, no line is stored
+abbrev pub NoColumn : Type 0
+NoColumn =
+    let ticked = ran (terminal_of_size 3 0) (codes "a") (Change Tick ∷ []) in
+    let logged = ran (terminal_of_size 3 0) (codes "a") (Log (codes "l") ∷ []) in
+    (ticked.0 ≡ Err NoColumns ∷ [])
+    × (ticked.1.bar.progress.ticks ≡ 1)
+    × (ticked.1.stored ≡ [])
+    × (ticked.1.lists ≡ opening_lists)
+    × (logged.0 ≡ Err NoColumns ∷ [])
+
+-- a hidden target: the numbers change, and nothing else
+abbrev pub Nowhere : Type 0
+Nowhere =
+    let both = ran nowhere (codes "a") (Change ForceDraw ∷ Log (codes "l") ∷ Change Tick ∷ []) in
+    (both.0 ≡ Ok Hidden ∷ Ok Hidden ∷ Ok Hidden ∷ []) × (both.1.bar.progress.ticks ≡ 1) × (both.1.stored ≡ []) × (both.1.lists ≡ opening_lists)
+
+-- 4 rows, 5 columns: two logged lines stand above the bar, and stay there
+abbrev pub LogsAbove : Type 0
+LogsAbove =
+    let both = ran (terminal_of_size 4 5) (codes "x") (Change Tick ∷ Log (codes "a\r\nb") ∷ Change (SetMessage (codes "y")) ∷ []) in
+    (both.0 ≡ Ok Yes ∷ Ok Yes ∷ Ok Yes ∷ [])
+    × (both.1.lists.above ≡ rows_of_lines 5 (codes "a" ∷ codes "b" ∷ []))
+    × (all_rows 5 both.1.lists ≡ rows_of_lines 5 (codes "a" ∷ codes "b" ∷ codes "y" ∷ []))
+
+-- a text that is too wide is refused whole: no row above, the bar's lines are stored
+abbrev pub WideLog : Type 0
+WideLog =
+    let both = ran (terminal_of_size 3 1) (codes "a") (Log (0xE5 ∷ 0x9B ∷ 0xBD ∷ []) ∷ []) in
+    (both.0 ≡ Err TooWide ∷ []) × (both.1.lists ≡ opening_lists) × (both.1.stored ≡ codes "a" ∷ [])
+
+-- 4 rows, 5 columns: a clear takes the bar's row back, and what was logged stays; the next draw shows the bar again
+abbrev pub Cleared : Type 0
+Cleared =
+    let cleared = ran (terminal_of_size 4 5) (codes "x") (Log (codes "a") ∷ Clear ∷ []) in
+    let drawn = ran (terminal_of_size 4 5) (codes "x") (Log (codes "a") ∷ Clear ∷ Change Tick ∷ []) in
+    (cleared.0 ≡ Ok Yes ∷ Ok Yes ∷ [])
+    × (all_rows 5 cleared.1.lists ≡ rows_of_lines 5 (codes "a" ∷ []))
+    × (cleared.1.lists.below ≡ true)
+    × (drawn.0 ≡ Ok Yes ∷ Ok Yes ∷ Ok Yes ∷ [])
+    × (all_rows 5 drawn.1.lists ≡ rows_of_lines 5 (codes "a" ∷ codes "x" ∷ []))
+
+-- an elapsed time beyond the moment is refused, and changes nothing
+abbrev pub LateElapsed : Type 0
+LateElapsed =
+    let both = ran (terminal_of_size 4 5) (codes "x") (Change (SetElapsed 1) ∷ Change Tick ∷ []) in
+    (both.0 ≡ Err ElapsedBeyondClock ∷ Ok Yes ∷ []) × (both.1.bar.progress.start ≡ 0) × (both.1.bar.progress.ticks ≡ 1)
+
+-- ---- limiters
+
+-- 4 rows, 10 columns, 20 draws a second: the 21st draw at once is limited, and the message after it; a forced draw shows it
+abbrev pub LimitedDraws : Type 0
+LimitedDraws =
+    let both = outcomes (lone_bar untracked) (terminal_of_size 4 10) (map (λ call. (call, 0)) (replicate 21 (Change Tick) ++ Change (SetMessage (codes "x")) ∷ Change ForceDraw ∷ []))
+    (opening_state (bar_saying []) (Some (draw_limiter 20 0))) in
+    (both.0 ≡ replicate 20 (Ok Yes) ++ Ok Limited ∷ Ok Limited ∷ Ok Yes ∷ []) × (all_rows 10 both.1.lists ≡ rows_of_lines 10 (codes "x" ∷ []))

@@ -1,0 +1,218 @@
+-- A bar's record and what each command makes of it. Texts are lists of bytes in UTF-8, moments and times nanoseconds.
+use Rattle.std.specs.Prelude.{not, ◌||◌, ◌==◌, ℕ, string_bytes, ◌+◌, ◌-◌, ◌%◌, ◌^◌, Bool, false, nat_lt, min, List, Option, Some, None, if◌then◌else◌, unwrap_or, option_map}
+use Rattle.indicatif_bar.specs.declared.state.Ask.{Ask}
+use Rattle.indicatif_bar.specs.declared.state.Ask.TheVariants.{No, Unforced, Forced}
+use Rattle.indicatif_bar.specs.Measures.{most, recorded}
+use Rattle.indicatif_bar.specs.PositionLimiters.{PositionLimiter, position_limiter, allow_position, position_reset}
+use Rattle.indicatif_bar.specs.Progress.{Progress, new_progress, is_finished, elapsed, rate_reset, progress_reset}
+use Rattle.indicatif_bar.specs.Tabs.{has_tab, is_some_text}
+use Rattle.indicatif_bar.specs.Trackers.{Tracking, changed_trackers}
+use Rattle.indicatif_bar.specs.BarStyles.{Style}
+use Rattle.indicatif_bar.specs.declared.command.BarCommand.{BarCommand}
+use Rattle.indicatif_bar.specs.declared.command.BarCommand.TheVariants as told
+use Rattle.indicatif_bar.specs.Finishes.{Finish, AndClear, finish_of, finished_by, finish_takes_memory}
+
+pub record BarRecord (K : Type 0) : Type 0 where
+  pub progress : Progress
+  pub style : Style K
+  pub on_finish : Finish
+  -- a steady ticker is installed
+  pub ticker : Bool
+  pub limiter : PositionLimiter
+
+-- what a bar can be told
+pub data Command (K : Type 0) : Type 0 where
+  Tick : Command K
+  TickerTick : Command K
+  SetTicker : (installed : Bool) → Command K
+  Inc : (n : ℕ) → Command K
+  Dec : (n : ℕ) → Command K
+  SetPosition : (position : ℕ) → Command K
+  -- what the caller's function answered, each if there is one
+  Update : (position : Option ℕ) → (len : Option ℕ) → Command K
+  SetLength : (n : ℕ) → Command K
+  UnsetLength : Command K
+  IncLength : (n : ℕ) → Command K
+  DecLength : (n : ℕ) → Command K
+  SetMessage : (text : List ℕ) → Command K
+  SetPrefix : (text : List ℕ) → Command K
+  SetStyle : (style : Style K) → Command K
+  PutPosition : (position : ℕ) → Command K
+  PutMessage : (text : List ℕ) → Command K
+  PutPrefix : (text : List ℕ) → Command K
+  PutFinish : (finish : Finish) → Command K
+  PutTabWidth : (tab : ℕ) → Command K
+  SetTabWidth : (tab : ℕ) → Command K
+  SetElapsed : (nanos : ℕ) → Command K
+  ResetEta : Command K
+  ResetElapsed : Command K
+  Reset : Command K
+  FinishBy : (finish : Finish) → Command K
+  FinishUsingStyle : Command K
+  ForceDraw : Command K
+
+-- ---- parts of a record
+
+-- the first, if it is there, or else the second
+abbrev pub some_or : {X : Type 0} → Option X → Option X → Option X
+some_or None other = other
+some_or (Some x) other = Some x
+
+-- the record as made, in a style
+abbrev pub new_bar : {K : Type 0} → Style K → Option ℕ → ℕ → BarRecord K
+new_bar style len now = record {
+  progress = new_progress len now;
+  style = record style { tab = 8 };
+  on_finish = AndClear;
+  ticker = false;
+  limiter = position_limiter now;
+}
+
+-- the record with its trackers changed
+abbrev pub with_trackers : {K : Type 0} → (K → K) → BarRecord K → BarRecord K
+with_trackers change bar = record bar { style = record bar.style { keys = changed_trackers change bar.style.keys } }
+
+-- the draw that is asked for: an unforced one, and a forced one of a finished bar
+abbrev pub draw_of : {K : Type 0} → BarRecord K → Ask
+draw_of bar = if is_finished bar.progress then Forced else Unforced
+
+-- the record, and a draw is asked for
+abbrev pub asks_draw : {K : Type 0} → BarRecord K → BarRecord K × Ask
+asks_draw bar = (bar, draw_of bar)
+
+abbrev pub with_progress : {K : Type 0} → BarRecord K → Progress → BarRecord K
+with_progress bar progress = record bar { progress = progress }
+
+-- the record with as many spaces for a tab, in its texts and its style
+abbrev pub with_tab : {K : Type 0} → BarRecord K → ℕ → BarRecord K
+with_tab bar tab = record bar { progress = record bar.progress { tab = tab }; style = record bar.style { tab = tab } }
+
+-- ---- finishing
+
+-- a finish stores the time since the start, and its draw is forced
+abbrev pub finish : {K : Type 0} → Finish → BarRecord K → ℕ → BarRecord K × Ask
+finish by bar now = (with_progress bar (finished_by by (record bar.progress { took = elapsed bar.progress now })), Forced)
+
+-- ---- commands
+
+module _ {K : Type 0} (m : Tracking K) where
+  -- the position is recorded with the rate, the trackers tick, an unforced draw is asked for
+  abbrev pub update : BarRecord K → ℕ → BarRecord K × Ask
+  update bar now =
+      let progress = record bar.progress { marks = recorded bar.progress.marks bar.progress.position now } in
+      asks_draw (with_trackers (λ k. m.ticked k progress now) (with_progress bar progress))
+
+  -- a tick, whether a ticker is installed or not
+  abbrev pub ticker_tick : BarRecord K → ℕ → BarRecord K × Ask
+  ticker_tick bar now = update (with_progress bar (record bar.progress { ticks = min (bar.progress.ticks + 1) most })) now
+
+  -- a tick, which does nothing where a ticker is installed
+  abbrev pub tick : BarRecord K → ℕ → BarRecord K × Ask
+  tick bar now = if bar.ticker then (bar, No) else ticker_tick bar now
+
+  -- a new position, and a tick if the position limiter allows it
+  abbrev pub moved_to : ℕ → BarRecord K → ℕ → BarRecord K × Ask
+  moved_to position bar now =
+      let asked = allow_position bar.limiter now in
+      let next = record bar { progress = record bar.progress { position = position }; limiter = asked.1 } in
+      if asked.0 then tick next now else (next, No)
+
+  abbrev pub with_length : Option ℕ → BarRecord K → ℕ → BarRecord K × Ask
+  with_length len bar now = update (with_progress bar (record bar.progress { len = len })) now
+
+  -- the record after a reset of everything
+  abbrev pub reset : BarRecord K → ℕ → BarRecord K
+  reset bar now =
+      let progress = progress_reset bar.progress now in
+      with_trackers (λ k. m.was_reset k progress now) (record bar { progress = progress; limiter = position_reset bar.limiter now })
+
+  -- the record after a command at a moment, and what it asks for
+  abbrev pub after : Command K → BarRecord K → ℕ → BarRecord K × Ask
+  after Tick bar now = tick bar now
+  after TickerTick bar now = ticker_tick bar now
+  after (SetTicker installed) bar now = (record bar { ticker = installed }, No)
+  after (Inc n) bar now = moved_to ((bar.progress.position + n) % 2 ^ 64) bar now
+  after (Dec n) bar now = moved_to ((bar.progress.position + 2 ^ 64 - n) % 2 ^ 64) bar now
+  after (SetPosition position) bar now = moved_to position bar now
+  after (Update position len) bar now =
+      tick (with_progress bar (record bar.progress { position = unwrap_or position bar.progress.position; len = some_or len bar.progress.len })) now
+  after (SetLength n) bar now = with_length (Some n) bar now
+  after UnsetLength bar now = with_length None bar now
+  after (IncLength n) bar now = with_length (option_map (λ len. min (len + n) most) bar.progress.len) bar now
+  after (DecLength n) bar now = with_length (option_map (λ len. len - n) bar.progress.len) bar now
+  after (SetMessage text) bar now = update (with_progress bar (record bar.progress { message = text })) now
+  after (SetPrefix text) bar now = update (with_progress bar (record bar.progress { prefix = text })) now
+  after (SetStyle style) bar now = (record bar { style = record style { tab = bar.progress.tab } }, No)
+  after (PutPosition position) bar now = (with_progress bar (record bar.progress { position = position }), No)
+  after (PutMessage text) bar now = (with_progress bar (record bar.progress { message = text }), No)
+  after (PutPrefix text) bar now = (with_progress bar (record bar.progress { prefix = text }), No)
+  after (PutFinish by) bar now = (record bar { on_finish = by }, No)
+  after (PutTabWidth tab) bar now = (with_tab bar tab, No)
+  after (SetTabWidth tab) bar now = (with_tab bar tab, Forced)
+  after (SetElapsed nanos) bar now = (if nat_lt now nanos then bar else with_progress bar (record bar.progress { start = now - nanos }), No)
+  after ResetEta bar now = (with_progress bar (rate_reset bar.progress now), No)
+  after ResetElapsed bar now = (with_progress bar (record (rate_reset bar.progress now) { start = now }), No)
+  after Reset bar now = asks_draw (reset bar now)
+  after (FinishBy by) bar now = finish by bar now
+  after FinishUsingStyle bar now = finish bar.on_finish bar now
+  after ForceDraw bar now = (bar, Forced)
+
+-- the record after its owner is gone, and what that asks for
+abbrev pub after_drop : {K : Type 0} → BarRecord K → ℕ → BarRecord K × Ask
+after_drop bar now = if is_finished bar.progress then (bar, No) else finish bar.on_finish bar now
+
+-- a command that is refused and changes nothing: an elapsed time beyond the moment
+abbrev pub is_beyond_clock : {K : Type 0} → Command K → ℕ → Bool
+is_beyond_clock (SetElapsed nanos) now = nat_lt now nanos
+is_beyond_clock _ now = false
+
+-- ---- memory
+
+-- another width of tabs takes memory, unless the texts have none and the style has that width already
+abbrev pub width_takes_memory : {K : Type 0} → ℕ → BarRecord K → Bool
+width_takes_memory tab bar = has_tab bar.progress.message || (has_tab bar.progress.prefix || not (tab == bar.style.tab))
+
+-- a command of a bar that takes memory: one that sets a text that isn't empty, a style of another width of tabs, or a width
+abbrev pub takes_memory : {K : Type 0} → Command K → BarRecord K → Bool
+takes_memory (SetMessage text) bar = is_some_text text
+takes_memory (SetPrefix text) bar = is_some_text text
+takes_memory (PutMessage text) bar = is_some_text text
+takes_memory (PutPrefix text) bar = is_some_text text
+takes_memory (SetStyle style) bar = not (bar.progress.tab == style.tab)
+takes_memory (PutTabWidth tab) bar = width_takes_memory tab bar
+takes_memory (SetTabWidth tab) bar = width_takes_memory tab bar
+takes_memory (FinishBy by) bar = finish_takes_memory by
+takes_memory FinishUsingStyle bar = finish_takes_memory bar.on_finish
+takes_memory _ bar = false
+
+-- ---- commands as values
+
+-- the command that a value stands for
+abbrev pub command_of : {K : Type 0} → BarCommand K → Command K
+command_of told.Tick = Tick
+command_of told.TickerTick = TickerTick
+command_of (told.SetTicker installed) = SetTicker installed
+command_of (told.Inc n) = Inc n
+command_of (told.Dec n) = Dec n
+command_of (told.SetPosition position) = SetPosition position
+command_of (told.Update change) = Update change.pos change.len
+command_of (told.SetLength n) = SetLength n
+command_of told.UnsetLength = UnsetLength
+command_of (told.IncLength n) = IncLength n
+command_of (told.DecLength n) = DecLength n
+command_of (told.SetMessage text) = SetMessage (string_bytes text)
+command_of (told.SetPrefix text) = SetPrefix (string_bytes text)
+command_of (told.SetStyle style) = SetStyle style
+command_of (told.WithPosition position) = PutPosition position
+command_of (told.WithMessage text) = PutMessage (string_bytes text)
+command_of (told.WithPrefix text) = PutPrefix (string_bytes text)
+command_of (told.WithFinish finish) = PutFinish (finish_of finish)
+command_of (told.WithTabWidth tab) = PutTabWidth tab
+command_of (told.SetTabWidth tab) = SetTabWidth tab
+command_of (told.SetElapsed nanos) = SetElapsed nanos
+command_of told.ResetEta = ResetEta
+command_of told.ResetElapsed = ResetElapsed
+command_of told.Reset = Reset
+command_of (told.Finish by) = FinishBy (finish_of by)
+command_of told.FinishUsingStyle = FinishUsingStyle
+command_of told.ForceDraw = ForceDraw

@@ -1,0 +1,40 @@
+-- What a draw by an engine says, once the numbers have changed, of whatever draws.
+use Rattle.std.specs.Prelude.{◌≡◌, ℕ, false, IsTrue, IsFalse, List, Option, Some, None, MatchOption, Result, Err, IfErr}
+use Rattle.indicatif_text.specs.declared.refusal.Refusal.{Refusal}
+use Rattle.indicatif_text.specs.declared.refusal.Refusal.TheVariants.{Memory}
+use Rattle.indicatif_text.specs.declared.refusal.Drawn.{Drawn}
+use Rattle.indicatif_term.specs.Calls.{TermView}
+use Rattle.indicatif_term.specs.Lists.{Lists, BarLines}
+use Rattle.indicatif_term.specs.Frames.{are_plain, is_fault}
+use Rattle.indicatif_term.specs.Engines.{terminal, Fits, Answers, Counted, Paints, is_failure, lists_after}
+use Rattle.indicatif_term.specs.declared.draw_target.Engine.{Engine}
+use Rattle.indicatif_bar.specs.Machines.{target_of, Machine, Draw, Draws, Leads}
+use Rattle.indicatif_bar.specs.Runs.{WritesLines}
+use Rattle.indicatif_bar.specs.Kinds.{Writing, rows_take, lines_to_write, written_lists}
+
+-- what became of a target, whose lists were these; a hidden one stays hidden
+abbrev pub WritesLinesOn : Option TermView → Option TermView → List (List ℕ) → Lists → Lists → Result Drawn Refusal → Type 0
+WritesLinesOn old new lines l l' answer = MatchOption old (new ≡ None) (λ v. (v' : TermView) × (new ≡ Some v') × WritesLines v v' lines l l' answer)
+
+-- what a draw made of an engine: whatever the state before its numbers changed, it led to a state of which P holds
+pub record DrewBy {S C A T : Type 0} (m : Machine S C A) (P : S → Type 0) (view : T → TermView) (old new : Engine T) (d : Draw S) (l : Lists) (answer : Result Drawn Refusal) : Type 0 where
+  pub next : S
+  pub holds : P next
+  pub fits : Fits new (m.lists next)
+  pub leads : (s : S) → Leads m (target_of (Some (view (terminal old)))) s (Draws d (λ x. x) (λ x. x)) (m.says answer) next
+  pub writes : WritesLines (view (terminal old)) (view (terminal new)) d.lines l (m.lists next) answer
+
+-- the same of a target that may be hidden
+pub record DrewOn {S C A : Type 0} (m : Machine S C A) (old new : Option TermView) (d : Draw S) (l : Lists) (answer : Result Drawn Refusal) (next : S) : Type 0 where
+  pub leads : (s : S) → Leads m (target_of old) s (Draws d (λ x. x) (λ x. x)) (m.says answer) next
+  pub writes : WritesLinesOn old new d.lines l (m.lists next) answer
+
+-- an engine was asked to write so below the rows above, and answered this
+pub record Puts {T : Type 0} (view : T → TermView) (writing : Writing) (frame : List BarLines) (old new : Engine T) (answer : Result Unit Refusal) : Type 0 where
+  pub answers : Answers (view (terminal old)).columns (lines_to_write writing 0 frame) answer
+  pub memory : answer ≡ Err Memory → IsTrue (rows_take writing)
+  pub counted : Counted (view (terminal old)) (view (terminal new)) answer
+  pub unchanged : IfErr answer (λ e. IsFalse (is_fault e) → new ≡ old)
+  pub lists : (l : Lists) → Fits old l → Fits new (lists_after answer l (written_lists writing (target_of (Some (view (terminal old)))) false 0 frame l))
+  pub paints : (l : Lists) → Fits old l → IsTrue (are_plain (lines_to_write writing 0 frame)) →
+      Paints (view (terminal old)) (view (terminal new)) (is_failure answer) l (lists_after answer l (written_lists writing (target_of (Some (view (terminal old)))) false 0 frame l))

@@ -1,0 +1,94 @@
+-- What the parts of a style do, found out once. Texts are lists of bytes in UTF-8.
+use Rattle.std.specs.declared.string.String.{String}
+use Rattle.std.specs.declared.alloc.Global.{Global}
+use Rattle.std.specs.Prelude.{map, ℕ, ◌==◌, List, [], ◌∷◌, ◌++◌, length, Option, Some, None, if◌then◌else◌, encode_utf8_all, bytes_eq, position, option_map, string_bytes}
+use Rattle.std.specs.Option.{option_map_or}
+use Rattle.std.specs.List.{slice_get}
+use Rattle.indicatif_text.specs.Template.{Layout, TemplatePart, LiteralText, LineBreak, KeyText}
+use Rattle.indicatif_text.specs.StyleWords.{numbers_of}
+use Rattle.indicatif_bar.specs.Tabs.{expanded}
+use Rattle.indicatif_bar.specs.Progress.{Progress}
+use Rattle.indicatif_bar.specs.Trackers.{Tracking}
+use Rattle.indicatif_bar.specs.Keys.{key_named}
+use Rattle.indicatif_bar.specs.BarStyles.{Style, Wide, WideBarOf, WideMessageOf, wide_of, key_text, laid_out, lines_of}
+use Rattle.indicatif_bar.specs.declared.style.steps.Source.{Source}
+use Rattle.indicatif_bar.specs.declared.style.steps.Source.TheVariants.{Tracker, Known, Nothing}
+use Rattle.indicatif_bar.specs.declared.style.steps.Held.{Held}
+use Rattle.indicatif_bar.specs.declared.style.steps.WideKey.{WideKey}
+use Rattle.indicatif_bar.specs.declared.style.steps.WideKey.TheVariants as wide_key
+use Rattle.indicatif_bar.specs.declared.style.steps.Step.{Step}
+use Rattle.indicatif_bar.specs.declared.style.steps.Step.TheVariants as step
+
+-- what a part does
+pub data Deed : Type 0 where
+  Writes : (text : List ℕ) → Deed
+  Breaks : Deed
+  Holds : (source : Source) → (layout : Layout) → Deed
+
+-- the layout of a placeholder
+abbrev pub layout_of : Held → Layout
+layout_of h = record { align = h.align; width = h.width; truncate = h.truncate; style = option_map numbers_of h.style; alternative = option_map numbers_of h.alternative }
+
+-- what a step does
+abbrev pub deed_of : Step → Deed
+deed_of (step.Text text) = Writes (string_bytes text)
+deed_of step.Break = Breaks
+deed_of (step.Placeholder held) = Holds held.source (layout_of held)
+
+-- the names of trackers
+abbrev pub names_of : {K : Type 0} → List (String Global × K) → List (List ℕ)
+names_of keys = map (λ entry. string_bytes entry.0) keys
+
+-- where the text of a name comes from of which the first tracker stands at this place
+abbrev pub source_at : List ℕ → Option ℕ → Source
+source_at name (Some k) = Tracker k
+source_at name None = option_map_or Known (key_named name) Nothing
+
+-- where the text of a name comes from: the first tracker of the name, or else its key
+abbrev pub source_of : List (List ℕ) → List ℕ → Source
+source_of names name = source_at name (position (bytes_eq name) names)
+
+-- what a part of a template does
+abbrev pub deed_of_part : List (List ℕ) → ℕ → TemplatePart → Deed
+deed_of_part names tab (LiteralText text) = Writes (expanded tab (encode_utf8_all text))
+deed_of_part names tab LineBreak = Breaks
+deed_of_part names tab (KeyText key layout) = Holds (source_of names (encode_utf8_all key)) layout
+
+-- the wide placeholder that a deed is
+abbrev pub wide_source : Layout → Source → Option Wide
+wide_source layout (Known key) = wide_of layout key
+wide_source layout _ = None
+
+abbrev pub wide_deed : Deed → Option Wide
+wide_deed (Holds source layout) = wide_source layout source
+wide_deed _ = None
+
+-- the wide placeholder that a found one is
+abbrev pub wide_found : WideKey → Wide
+wide_found (wide_key.Bar held) = WideBarOf (layout_of held)
+wide_found (wide_key.Message held) = WideMessageOf (layout_of held)
+
+-- the latest wide placeholder behind a further deed
+abbrev pub wide_after : Option Wide → Deed → Option Wide
+wide_after before deed = elim (wide_deed deed) [ Some wide ↦ Some wide | None ↦ before ]
+
+module _ {K : Type 0} (m : Tracking K) (style : Style K) (p : Progress) (now : ℕ) where
+  -- the text from a source
+  abbrev pub source_text : Layout → Source → List ℕ
+  source_text layout (Tracker k) = option_map_or (λ entry. expanded style.tab (m.text entry.1 p now)) (slice_get style.keys k) []
+  source_text layout (Known key) = key_text m style p now layout key
+  source_text layout Nothing = []
+
+  -- what a deed writes
+  abbrev pub deed_text : Deed → List ℕ
+  deed_text (Writes text) = text
+  deed_text Breaks = []
+  deed_text (Holds source layout) = laid_out m style p now layout (source_text layout source)
+
+  -- the lines of deeds, where a wide key has stood so far and the line at hand has this text
+  abbrev pub lines_from : ℕ → Option Wide → List ℕ → List Deed → List (List ℕ)
+  lines_from columns wide text [] = if length text == 0 then [] else lines_of style p columns wide text
+  lines_from columns wide text (Breaks ∷ deeds) = lines_of style p columns wide text ++ lines_from columns wide [] deeds
+  lines_from columns wide text (Writes more ∷ deeds) = lines_from columns wide (text ++ more) deeds
+  lines_from columns wide text (Holds source layout ∷ deeds) =
+      lines_from columns (wide_after wide (Holds source layout)) (text ++ deed_text (Holds source layout)) deeds

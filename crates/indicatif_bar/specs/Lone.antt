@@ -1,0 +1,111 @@
+-- A lone bar: its states, its calls, and what each call is about to do.
+use Rattle.std.specs.Prelude.{ℕ, Bool, false, List, [], ◌∷◌, map, chars, Option, Some, None, Result, Err, refl}
+use Rattle.indicatif_text.specs.declared.refusal.Refusal.{Refusal}
+use Rattle.indicatif_text.specs.declared.refusal.Drawn.{Drawn}
+use Rattle.indicatif_term.specs.Lists.{Lists, BarLines, opening_lists, forgotten_lists}
+use Rattle.indicatif_term.specs.Frames.{text_lines, logged_lines}
+use Rattle.indicatif_term.specs.Limiters.{Limiter}
+use Rattle.indicatif_bar.specs.Machines.{Target, Machine, Draw, Deed, AtOnce, Draws}
+use Rattle.indicatif_bar.specs.Kinds.{Kind, asked_of, Writing, Frame, TextAndFrame, NoFrame, rows_take, lines_to_write, written_lists}
+use Rattle.indicatif_bar.specs.declared.state.Ask.{Ask}
+use Rattle.indicatif_bar.specs.declared.state.Ask.TheVariants.{Forced}
+
+-- ---- states
+
+-- a lone bar between two calls
+pub record LoneState (B : Type 0) : Type 0 where
+  pub bar : B
+  -- the lines that were laid out last, as characters
+  pub stored : List (List ℕ)
+  -- how often it may be drawn; none where that has no limit
+  pub limiter : Option Limiter
+  -- the rows that it drew
+  pub lists : Lists
+
+-- before its first call
+abbrev pub opening_state : {B : Type 0} → B → Option Limiter → LoneState B
+opening_state bar limiter = record { bar = bar; stored = []; limiter = limiter; lists = opening_lists }
+
+-- the bar as the one member of a frame
+abbrev pub frame_of : {B : Type 0} → LoneState B → List BarLines
+frame_of s = record { bar = 0; lines = s.stored } ∷ []
+
+-- ---- calls
+
+-- what a lone bar can be asked
+pub data Call (C : Type 0) : Type 0 where
+  -- a command of the bar
+  Change : (command : C) → Call C
+  -- lines of text above the bar
+  Log : (text : List ℕ) → Call C
+  -- the bar's rows taken back
+  Clear : Call C
+
+-- what it writes
+abbrev pub writing_of : {C : Type 0} → Call C → Writing
+writing_of (Change command) = Frame
+writing_of (Log text) = TextAndFrame (text_lines (logged_lines text))
+writing_of Clear = NoFrame
+
+module _ {B C : Type 0} (kind : Kind B C) where
+  -- whether it takes memory for a text of the bar
+  abbrev pub takes_text : Call C → ℕ → B → Bool
+  takes_text (Change command) now bar = kind.takes command bar now
+  takes_text _ now bar = false
+
+  -- the bar then
+  abbrev pub bar_after : Call C → ℕ → B → B
+  bar_after (Change command) now bar = (kind.after command bar now).0
+  bar_after _ now bar = bar
+
+  -- whether it asks for a draw
+  abbrev pub asks : Call C → ℕ → B → Ask
+  asks (Change command) now bar = (kind.after command bar now).1
+  asks _ now bar = Forced
+
+  -- the lines that are stored then: the bar's, laid out anew where they are to be written
+  abbrev pub stored_lines : Writing → Target → ℕ → LoneState B → List (List ℕ)
+  stored_lines NoFrame target now s = s.stored
+  stored_lines _ target now s = map chars (kind.lines s.bar now target.columns)
+
+  -- a draw, once the bar's numbers have changed
+  abbrev pub draw_asked : Target → Bool → Ask → ℕ → Writing → LoneState B → Draw (LoneState B)
+  draw_asked target takes ask now writing s =
+      let asked = asked_of ask now s.limiter in
+      let ready = record s { stored = stored_lines writing target now s; limiter = asked.1 } in
+      record {
+        text_takes = takes;
+        rows_take = rows_take writing;
+        ask = ask;
+        after_command = s;
+        ready = ready;
+        allowed = asked.0;
+        lines = lines_to_write writing 0 (frame_of ready);
+        written = record ready { lists = written_lists writing target false 0 (frame_of ready) s.lists };
+        broken = record ready { lists = forgotten_lists };
+      }
+
+  -- that of a call
+  abbrev pub draw_by : Target → Call C → ℕ → LoneState B → Draw (LoneState B)
+  draw_by target call now s =
+      draw_asked target (takes_text call now s.bar) (asks call now s.bar) now (writing_of call) (record s { bar = bar_after call now s.bar })
+
+  -- why a call is refused at once, if it is
+  abbrev pub refused_at_once : Call C → ℕ → B → Option Refusal
+  refused_at_once (Change command) now bar = kind.refused command bar now
+  refused_at_once _ now bar = None
+
+  -- refused, with nothing changed; or drawn
+  abbrev pub deed_unless : Option Refusal → Draw (LoneState B) → LoneState B → Deed (LoneState B) (Result Drawn Refusal)
+  deed_unless (Some e) draw s = AtOnce false (Err e) s
+  deed_unless None draw s = Draws draw (λ x. x) (λ x. x)
+
+  -- a lone bar of this kind
+  abbrev pub lone : Machine (LoneState B) (Call C) (Result Drawn Refusal)
+  lone = record {
+    lists = λ s. s.lists;
+    deed = λ target call now s. deed_unless (refused_at_once call now s.bar) (draw_by target call now s) s;
+    says = λ answer. answer;
+    tells = λ answer. answer;
+    tells_said = λ answer. refl;
+  }

@@ -1,0 +1,122 @@
+-- Whatever draws by calls, as a lone bar or a board: what a call is about to do, and what it leads to. A draw goes in this
+-- order: the numbers change; no draw is asked; the target is hidden; it has no columns; the lines are laid out and stored; the
+-- limiter is asked, unless the draw is forced; a line is too wide; the terminal is written.
+use Rattle.std.specs.Prelude.{◌≡◌, ℕ, Bool, true, false, IsTrue, not, ◌&&◌, ◌==◌, List, [], ◌∷◌, Option, Some, None, Result, Ok, Err, if◌then◌else◌, ◌⊎◌}
+use Rattle.std.specs.declared.io.ErrorKind.{ErrorKind}
+use Rattle.indicatif_text.specs.declared.refusal.Refusal.{Refusal}
+use Rattle.indicatif_text.specs.declared.refusal.Refusal.TheVariants.{NoColumns, TooWide, Memory, Terminal as Failure}
+use Rattle.indicatif_text.specs.declared.refusal.Drawn.{Drawn}
+use Rattle.indicatif_text.specs.declared.refusal.Drawn.TheVariants.{Yes, Limited, Hidden}
+use Rattle.indicatif_term.specs.Calls.{TermView}
+use Rattle.indicatif_term.specs.Lists.{Lists}
+use Rattle.std.specs.List.{list_any}
+use Rattle.indicatif_text.specs.Columns.{has_wide}
+use Rattle.indicatif_bar.specs.declared.state.Ask.{Ask}
+use Rattle.indicatif_bar.specs.declared.state.Ask.TheVariants.{No, Unforced, Forced}
+
+-- ---- where it draws
+
+-- hidden, or a terminal of this size
+pub record Target : Type 0 where
+  pub hidden : Bool
+  pub columns : ℕ
+  pub rows : ℕ
+
+-- the target of which this is known; none where it is hidden
+abbrev pub target_of : Option TermView → Target
+target_of None = record { hidden = true; columns = 0; rows = 0 }
+target_of (Some view) = record { hidden = false; columns = view.columns; rows = view.rows }
+
+-- whether no draw is asked
+abbrev pub is_no : Ask → Bool
+is_no No = true
+is_no Unforced = false
+is_no Forced = false
+
+-- ---- what a call is about to do
+
+-- a draw: what decides how far it comes, and the states on its way
+pub record Draw (State : Type 0) : Type 0 where
+  -- whether a text takes memory, before the numbers change; and whether lines and rows do
+  pub text_takes : Bool
+  pub rows_take : Bool
+  pub ask : Ask
+  -- the numbers have changed
+  pub after_command : State
+  -- the lines are laid out and stored, and the limiter was asked; whether it allows the draw
+  pub ready : State
+  pub allowed : Bool
+  -- all lines that are to be written
+  pub lines : List (List ℕ)
+  -- the terminal is written; or it failed, and the rows are forgotten
+  pub written : State
+  pub broken : State
+
+-- a call answers at once, and may take memory; or it draws, and goes on by `breaks` where want of memory or the terminal broke
+-- that off, else by `ends`
+pub data Deed (State Answer : Type 0) : Type 0 where
+  AtOnce : (takes : Bool) → (answer : Answer) → (next : State) → Deed State Answer
+  Draws : (draw : Draw State) → (ends breaks : State → State) → Deed State Answer
+
+-- what draws by calls
+pub record Machine (State Call Answer : Type 0) : Type 0 where
+  -- the rows that it drew
+  pub lists : State → Lists
+  -- what a call at a moment is about to do
+  pub deed : Target → Call → ℕ → State → Deed State Answer
+  -- what it answers where a draw answers so; and what an answer tells of a draw, `Limited` where it tells of none
+  pub says : Result Drawn Refusal → Answer
+  pub tells : Answer → Result Drawn Refusal
+  pub tells_said : (r : Result Drawn Refusal) → tells (says r) ≡ r
+
+-- ---- where nothing fails
+
+-- the answer of a draw, and the state then, by the first of its steps that ends it
+unfoldable pub drawn_by : {State : Type 0} → Target → Draw State → Result Drawn Refusal × State
+drawn_by target d =
+    if is_no d.ask then (Ok Limited, d.after_command)
+    else if target.hidden then (Ok Hidden, d.after_command)
+    else if target.columns == 0 then (Err NoColumns, d.after_command)
+    else if not d.allowed then (Ok Limited, d.ready)
+    else if list_any (has_wide target.columns) d.lines then (Err TooWide, d.ready)
+    else (Ok Yes, d.written)
+
+-- whether a draw comes as far as its lines
+abbrev pub comes_to_lines : {State : Type 0} → Target → Draw State → Bool
+comes_to_lines target d = not (is_no d.ask) && not target.hidden && not (target.columns == 0)
+
+module _ {State Call Answer : Type 0} (m : Machine State Call Answer) where
+  -- the same of a call
+  abbrev pub done_by : Target → Deed State Answer → Answer × State
+  done_by target (AtOnce takes answer next) = (answer, next)
+  done_by target (Draws d ends breaks) = let o = drawn_by target d in (m.says o.0, ends o.1)
+
+  -- of calls with their moments, one after another: the answers and the last state
+  abbrev pub outcomes : Target → List (Call × ℕ) → State → List Answer × State
+  outcomes target [] s = ([], s)
+  outcomes target (call ∷ calls) s =
+      let first = done_by target (m.deed target call.0 call.1 s) in
+      let others = outcomes target calls first.1 in
+      (first.0 ∷ others.0, others.1)
+
+-- ---- whatever the terminal and the memory do
+
+-- memory is refused to a call in state s, and leaves it in the next one: that before a step that takes some
+abbrev pub IsOutOfMemory : {State Answer : Type 0} → Target → State → Deed State Answer → State → Type 0
+IsOutOfMemory target s (AtOnce takes answer after) next = IsTrue takes × (next ≡ s)
+IsOutOfMemory target s (Draws d ends breaks) next =
+    (IsTrue d.text_takes × (next ≡ breaks s))
+    ⊎ (IsTrue d.rows_take × IsTrue (comes_to_lines target d) × ((next ≡ breaks d.after_command) ⊎ (IsTrue d.allowed × (next ≡ breaks d.ready))))
+
+-- the terminal fails while it is written
+abbrev pub IsBroken : {State Answer : Type 0} → Target → Deed State Answer → State → Type 0
+IsBroken target (AtOnce takes answer after) next = ⊥
+IsBroken target (Draws d ends breaks) next = ((drawn_by target d).0 ≡ Ok Yes) × (next ≡ breaks d.broken)
+
+module _ {State Call Answer : Type 0} (m : Machine State Call Answer) where
+  -- a call answers so and leads to the next state: as where nothing fails, or else by one of these
+  abbrev pub Leads : Target → State → Deed State Answer → Answer → State → Type 0
+  Leads target s deed answer next =
+      ((answer, next) ≡ done_by m target deed)
+      ⊎ (((answer ≡ m.says (Err Memory)) × IsOutOfMemory target s deed next)
+      ⊎ ((kind : ErrorKind) × (answer ≡ m.says (Err (Failure kind))) × IsBroken target deed next))

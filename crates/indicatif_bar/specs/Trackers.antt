@@ -1,0 +1,26 @@
+-- What trackers mean. Texts are lists of bytes, in UTF-8.
+use Rattle.std.specs.Prelude.{ℕ, List, [], map, string_bytes, String}
+use Rattle.std.specs.declared.alloc.Global.{Global}
+use Rattle.indicatif_bar.specs.Progress.{Progress}
+
+-- what a type of trackers means: the text of one at a moment, and what a tick and a reset leave of it
+pub record Tracking (K : Type 0) : Type 0 where
+  pub text : K → Progress → ℕ → List ℕ
+  pub ticked : K → Progress → ℕ → K
+  pub was_reset : K → Progress → ℕ → K
+
+-- trackers that stay as they are and tell such a text
+abbrev pub tells : {K : Type 0} → (K → Progress → ℕ → List ℕ) → Tracking K
+tells text = record { text = text; ticked = λ k p now. k; was_reset = λ k p now. k }
+
+-- trackers that stay as they are and write nothing
+abbrev pub writes_nothing : {K : Type 0} → Tracking K
+writes_nothing = tells (λ k p now. [])
+
+-- trackers by their names, as texts
+abbrev pub entries : {K : Type 0} → List (String Global × K) → List (List ℕ × K)
+entries = map (λ entry. (string_bytes entry.0, entry.1))
+
+-- the entries with each tracker changed
+abbrev pub changed_trackers : {K : Type 0} → (K → K) → List (List ℕ × K) → List (List ℕ × K)
+changed_trackers change = map (λ entry. (entry.0, change entry.1))

@@ -1,0 +1,49 @@
+//! The lines of a bar.
+ghost use Rattle.std.specs.Prelude.{◌≡◌, IfOk, IfErr, IsTrue, map};
+ghost use Rattle.std.specs.List.{list_all};
+ghost use Rattle.indicatif_term.specs.Frames.{line_text};
+ghost use Rattle.indicatif_bar.specs.Bars.{lines_of_bar, is_bar_line};
+
+use crate::bar_state::BarState;
+use crate::spare::SpareLines;
+use crate::tracker::ProgressTracker;
+use indicatif_term::draw_target::LineType;
+use indicatif_text::columns::{Moment, Refusal};
+use std::alloc::Global;
+
+impl<K: ProgressTracker> BarState<K> {
+    /// The lines that the bar shows on a terminal of `width` columns at this moment: those of its style, and none once it
+    /// finished hidden.
+    ///
+    /// Refused: `Memory`.
+    pub fn lines(&self, now: Moment, width: u16) -> Result<Vec<LineType>, Refusal>
+        ensures lines { IfOk result (λ v. map line_text v.items ≡ lines_of_bar K.means self.now now width) }
+        ensures kind { IfOk result (λ v. IsTrue (list_all is_bar_line v.items)) }
+        ensures memory { IfErr result (λ e. e ≡ Refusal.Memory) }
+    {
+        let mut spare = SpareLines::new(self.alloc());
+        self.lines_in(&mut spare, now, width)
+    }
+
+    /// The same, in room of `spare`.
+    pub(crate) fn lines_in(
+        &self,
+        spare: &mut SpareLines,
+        now: Moment,
+        width: u16,
+    ) -> Result<Vec<LineType>, Refusal>
+        ensures lines { IfOk result (λ v. map line_text v.items ≡ lines_of_bar K.means self.now now width) }
+        ensures kind { IfOk result (λ v. IsTrue (list_all is_bar_line v.items)) }
+        ensures memory { IfErr result (λ e. e ≡ Refusal.Memory) }
+    {
+        if self.state().is_hidden() {
+            return Ok(spare.lines());
+        }
+        self.style().lines_in(spare, self.state(), now, width)
+    }
+
+    /// Where the bar's texts are kept.
+    pub(crate) fn alloc(&self) -> Global {
+        self.state().alloc()
+    }
+}

@@ -1,0 +1,255 @@
+//! How a style is made.
+ghost use Rattle.std.specs.Prelude.{◌≡◌, ◌⊎◌, None, Some, map, codes, chars, IfOk, IfErr, IsTrue};
+ghost use Rattle.std.specs.List.{list_all};
+ghost use Rattle.indicatif_bar.specs.Bars.{is_bar_line};
+ghost use Rattle.indicatif_text.specs.declared.template.TemplateError.{TemplateError};
+ghost use Rattle.indicatif_text.specs.Template.{Parses, IsRefused};
+ghost use Rattle.indicatif_text.specs.Template.{refusal_of};
+ghost use Rattle.indicatif_term.specs.Frames.{line_text};
+ghost use Rattle.indicatif_bar.specs.Trackers.{entries};
+ghost use Rattle.indicatif_bar.specs.BarStyles.{lines};
+ghost use Rattle.indicatif_bar.specs.Builders.{characters_of, clusters_of, tick_fault, progress_fault, with_key, first_style};
+
+use crate::bar_style::ProgressStyle;
+use crate::progress::ProgressState;
+use crate::spare::SpareLines;
+use crate::style::clusters;
+use crate::style::steps::steps_of;
+use crate::tracker::ProgressTracker;
+use indicatif_term::draw_target::LineType;
+use indicatif_text::columns::{Moment, Refusal};
+use indicatif_text::template::Template;
+use std::alloc::Global;
+use std::sync::Arc;
+
+/// The characters of a bar at first: a full block, and a light shade.
+const CLUSTERS: &str = "█░";
+
+/// The spinner's texts at first, each a character.
+pub const TICKS: &str = "⠁⠁⠉⠙⠚⠒⠂⠂⠒⠲⠴⠤⠄⠄⠤⠠⠠⠤⠦⠖⠒⠐⠐⠒⠓⠋⠉⠈⠈ ";
+
+impl<K: ProgressTracker> ProgressStyle<K> {
+    /// A style of this template, with the characters `█░` for a bar, a spinner of dots, no trackers, colours off, and eight
+    /// spaces for a tab.
+    ///
+    /// Refused: `Template` and `WidthTooLarge` as `Template::parse` says; `Memory`.
+    ///
+    /// # Examples
+    ///
+    /// `with_template(alloc, "{msg} {pos}/{len}")`.
+    pub fn with_template(alloc: Global, text: &str) -> Result<ProgressStyle<K>, Refusal>
+        ensures parts { IfOk result (λ style. Parses (chars text.now) style.parts) }
+        ensures style { IfOk result (λ style. style ≡ first_style TICKS.now style.parts) }
+        ensures refused { IfErr result (λ e. (e ≡ Refusal.Memory)
+            ⊎ ((error : TemplateError) × IsRefused (chars text.now) error × (e ≡ refusal_of error))) }
+    {
+        let template = parsed(alloc, text)?;
+        let style = ProgressStyle::first(alloc, template)?;
+        Ok(style)
+    }
+
+    /// The style of a bar: `{wide_bar} {pos}/{len}`.
+    ///
+    /// Refused: `Memory`.
+    pub fn default_bar(alloc: Global) -> Result<ProgressStyle<K>, Refusal>
+        ensures parts { IfOk result (λ style. Parses (codes "{wide_bar} {pos}/{len}") style.parts) }
+        ensures style { IfOk result (λ style. style ≡ first_style TICKS.now style.parts) }
+        ensures memory { IfErr result (λ e. e ≡ Refusal.Memory) }
+    {
+        ProgressStyle::with_template(alloc, "{wide_bar} {pos}/{len}")
+    }
+
+    /// The style of a spinner: `{spinner} {msg}`.
+    ///
+    /// Refused: `Memory`.
+    pub fn default_spinner(alloc: Global) -> Result<ProgressStyle<K>, Refusal>
+        ensures parts { IfOk result (λ style. Parses (codes "{spinner} {msg}") style.parts) }
+        ensures style { IfOk result (λ style. style ≡ first_style TICKS.now style.parts) }
+        ensures memory { IfErr result (λ e. e ≡ Refusal.Memory) }
+    {
+        ProgressStyle::with_template(alloc, "{spinner} {msg}")
+    }
+
+    /// The first style of a template.
+    fn first(alloc: Global, template: Template) -> Result<ProgressStyle<K>, Refusal>
+        ensures style { IfOk result (λ style. style ≡ first_style TICKS.now template) }
+        ensures memory { IfErr result (λ e. e ≡ Refusal.Memory) }
+    {
+        let keys = Vec::new(alloc);
+        let steps = steps_of(alloc, template.parts(), keys.as_slice(), 8)?;
+        let clusters = clusters::characters_of(alloc, CLUSTERS)?;
+        let tick_strings = clusters::characters_of(alloc, TICKS)?;
+        Ok(ProgressStyle {
+            alloc,
+            template: Arc::new(alloc, template)?,
+            steps,
+            clusters,
+            tick_strings,
+            keys,
+            colours: false,
+            tab: 8,
+        })
+    }
+
+    /// Another template, and the rest as it is.
+    ///
+    /// Refused: `Template` and `WidthTooLarge` as `Template::parse` says; `Memory`. The style is given up then.
+    pub fn template(mut self, text: &str) -> Result<ProgressStyle<K>, Refusal>
+        ensures parts { IfOk result (λ style. Parses (chars text.now) style.parts) }
+        ensures style { IfOk result (λ style. style ≡ record self { parts = style.parts }) }
+        ensures refused { IfErr result (λ e. (e ≡ Refusal.Memory)
+            ⊎ ((error : TemplateError) × IsRefused (chars text.now) error × (e ≡ refusal_of error))) }
+    {
+        let template = parsed(self.alloc, text)?;
+        self.steps = steps_of(self.alloc, template.parts(), self.keys.as_slice(), self.tab)?;
+        self.template = Arc::new(self.alloc, template)?;
+        Ok(self)
+    }
+
+    /// The spinner's texts: each character of `chars` is one, the last one of a finished bar.
+    ///
+    /// Refused: `FewTicks` where there are fewer than two; `Memory`. The style is given up then.
+    pub fn tick_chars(mut self, chars: &str) -> Result<ProgressStyle<K>, Refusal>
+        ensures style { IfOk result (λ style. style ≡ record self { tick_strings = characters_of chars.now }) }
+        ensures taken { IfOk result (λ _. tick_fault (characters_of chars.now) ≡ None) }
+        ensures refused { IfErr result (λ e. (e ≡ Refusal.Memory)
+            ⊎ (tick_fault (characters_of chars.now) ≡ Some e)) }
+    {
+        let strings = clusters::characters_of(self.alloc, chars)?;
+        if let Some(refusal) = clusters::tick_fault(strings.as_slice()) {
+            return Err(refusal);
+        }
+        self.tick_strings = strings;
+        Ok(self)
+    }
+
+    /// The spinner's texts, the last one of a finished bar.
+    ///
+    /// Refused: `FewTicks` where there are fewer than two; `Memory`. The style is given up then.
+    pub fn tick_strings(mut self, strings: &[&str]) -> Result<ProgressStyle<K>, Refusal>
+        ensures style { IfOk result (λ style. style ≡ record self { tick_strings = map (λ text. text.now) strings.now }) }
+        ensures taken { IfOk result (λ _. tick_fault (map (λ text. text.now) strings.now) ≡ None) }
+        ensures refused { IfErr result (λ e. (e ≡ Refusal.Memory)
+            ⊎ (tick_fault (map (λ text. text.now) strings.now) ≡ Some e)) }
+    {
+        let strings = clusters::copied(self.alloc, strings)?;
+        if let Some(refusal) = clusters::tick_fault(strings.as_slice()) {
+            return Err(refusal);
+        }
+        self.tick_strings = strings;
+        Ok(self)
+    }
+
+    /// The characters of a bar, as grapheme clusters (Unicode, UAX #29): done, the shades of a cell partly done, not done.
+    ///
+    /// Refused: `FewProgressChars` where there are fewer than two; else `UnequalWidths` where they take not all as many
+    /// columns; else `ZeroWidthChars` where they take none; `Memory`. The style is given up then.
+    pub fn progress_chars(mut self, chars: &str) -> Result<ProgressStyle<K>, Refusal>
+        ensures style { IfOk result (λ style. style ≡ record self { clusters = clusters_of chars.now }) }
+        ensures taken { IfOk result (λ _. progress_fault (clusters_of chars.now) ≡ None) }
+        ensures refused { IfErr result (λ e. (e ≡ Refusal.Memory)
+            ⊎ (progress_fault (clusters_of chars.now) ≡ Some e)) }
+    {
+        let clusters = clusters::clusters_of(self.alloc, chars)?;
+        if let Some(refusal) = clusters::progress_fault(clusters.as_slice()) {
+            return Err(refusal);
+        }
+        self.clusters = clusters;
+        Ok(self)
+    }
+
+    /// A tracker under a key of its own. It comes before an earlier one of that name, and before a key of that name that
+    /// needs no tracker.
+    ///
+    /// Refused: `Memory`. The style and the tracker are given up then.
+    pub fn with_key(mut self, name: &str, tracker: K) -> Result<ProgressStyle<K>, Refusal>
+        ensures style { IfOk result (λ style. style ≡ record self { keys = with_key name.now tracker self.keys }) }
+        ensures memory { IfErr result (λ e. e ≡ Refusal.Memory) }
+    {
+        let own = String::from_str(self.alloc, name)?;
+        self.keys.insert(0, (own, tracker))?;
+        self.steps = steps_of(
+            self.alloc,
+            self.template.parts(),
+            self.keys.as_slice(),
+            self.tab,
+        )?;
+        Ok(self)
+    }
+
+    /// Whether colours are written. They are off at first.
+    pub fn with_colors(mut self, colours: bool) -> Result<ProgressStyle<K>, Refusal>
+        ensures { result ≡ Ok (record self { colours = colours }) }
+    {
+        self.colours = colours;
+        Ok(self)
+    }
+
+    /// Another style, equal to this one.
+    ///
+    /// Refused: `Memory`.
+    pub fn try_clone(&self) -> Result<ProgressStyle<K>, Refusal>
+        ensures same { IfOk result (λ style. style ≡ self.now) }
+        ensures memory { IfErr result (λ e. e ≡ Refusal.Memory) }
+    {
+        let keys = cloned_keys(self.alloc, self.keys.as_slice())?;
+        let steps = steps_of(self.alloc, self.template.parts(), keys.as_slice(), self.tab)?;
+        Ok(ProgressStyle {
+            alloc: self.alloc,
+            template: Arc::try_clone(&self.template)?,
+            steps,
+            clusters: clusters::cloned(self.alloc, self.clusters.as_slice())?,
+            tick_strings: clusters::cloned(self.alloc, self.tick_strings.as_slice())?,
+            keys,
+            colours: self.colours,
+            tab: self.tab,
+        })
+    }
+
+    /// The lines of a bar in this state at this moment, on a terminal of `width` columns.
+    ///
+    /// Refused: `Memory`.
+    pub fn lines(
+        &self,
+        state: &ProgressState,
+        now: Moment,
+        width: u16,
+    ) -> Result<Vec<LineType>, Refusal>
+        ensures lines { IfOk result (λ v. map line_text v.items ≡ lines K.means self.now state.now now width) }
+        ensures kind { IfOk result (λ v. IsTrue (list_all is_bar_line v.items)) }
+        ensures memory { IfErr result (λ e. e ≡ Refusal.Memory) }
+    {
+        let mut spare = SpareLines::new(self.alloc);
+        self.lines_in(&mut spare, state, now, width)
+    }
+}
+
+/// A template, or the refusal of its text.
+fn parsed(alloc: Global, text: &str) -> Result<Template, Refusal>
+    ensures parses { IfOk result (λ template. Parses (chars text.now) template) }
+    ensures refused { IfErr result (λ e. (e ≡ Refusal.Memory)
+        ⊎ ((error : TemplateError) × IsRefused (chars text.now) error × (e ≡ refusal_of error))) }
+{
+    match Template::parse(alloc, text) {
+        Ok(template) => Ok(template),
+        Err(error) => Err(Refusal::from(error)),
+    }
+}
+
+/// Trackers equal to these, under the same names.
+fn cloned_keys<K: ProgressTracker>(
+    alloc: Global,
+    keys: &[(String, K)],
+) -> Result<Vec<(String, K)>, Refusal>
+    ensures keys { IfOk result (λ v. entries v.items ≡ entries keys.now) }
+    ensures memory { IfErr result (λ e. e ≡ Refusal.Memory) }
+{
+    let mut all = Vec::with_capacity(alloc, keys.len())?;
+    'keys: for entry in keys {
+        all.push((
+            String::from_str(alloc, entry.0.as_str())?,
+            entry.1.try_clone()?,
+        ))?;
+    }
+    Ok(all)
+}

@@ -1,0 +1,325 @@
+//! The lines of a style, laid out into one growing text.
+ghost use Rattle.std.specs.Prelude.{◌≡◌, ◌++◌, ℕ, List, [], map, string_bytes, true, if◌then◌else◌, OnOk, IfOk, IfErr, IsTrue, option_map, unwrap_or};
+ghost use Rattle.std.specs.Option.{option_map_or};
+ghost use Rattle.std.specs.List.{list_all, slice_get};
+ghost use Rattle.indicatif_bar.specs.Bars.{is_bar_line};
+ghost use Rattle.std.specs.Str.{trim_end};
+ghost use Rattle.indicatif_term.specs.Frames.{line_text};
+ghost use Rattle.indicatif_bar.specs.Tabs.{expanded};
+ghost use Rattle.indicatif_bar.specs.Progress.{fraction, is_finished, shown_message};
+ghost use Rattle.indicatif_bar.specs.Layout.{bar_text, padded};
+ghost use Rattle.indicatif_bar.specs.BarStyles.{key_text, tick_string, final_tick_string, wide_text, lines_of, lines, columns_left, ends_in_mark};
+ghost use Rattle.indicatif_bar.specs.Inside.Steps.{Holds, layout_of, source_text, deed_text, wide_found};
+
+use crate::bar_style::ProgressStyle;
+use crate::progress::ProgressState;
+use crate::spare::SpareLines;
+use crate::style::bar::{RestLook, push_bar};
+use crate::style::filling::{Gap, has_mark, push_filled, push_lines};
+use crate::style::key_texts::{
+    push_count, push_percent, push_percent_precise, push_rate, push_time, push_whole_rate,
+};
+use crate::style::keys::Key;
+use crate::style::padding::{Place, push_padded};
+use crate::style::steps::{Held, Source, Step, WideKey};
+use crate::tabs::push_expanded;
+use crate::tracker::ProgressTracker;
+use indicatif_term::draw_target::LineType;
+use indicatif_text::columns::{Moment, Refusal};
+use indicatif_text::template::Alignment;
+
+impl<K: ProgressTracker> ProgressStyle<K> {
+    /// Appends a bar of so many columns, as a placeholder asks for it.
+    fn push_bar(
+        &self,
+        held: &Held,
+        state: &ProgressState,
+        columns: u64,
+        out: &mut String,
+    ) -> Result<(), Refusal>
+        ensures text { OnOk result (string_bytes out.new ≡ string_bytes out.old
+            ++ bar_text self.now.clusters self.now.colours (unwrap_or (layout_of held.now).alternative []) (fraction state.now) columns) }
+        ensures memory { IfErr result (λ e. e ≡ Refusal.Memory) }
+    {
+        let rest = RestLook {
+            colours: self.colours,
+            style: held.alternative_style(),
+        };
+        push_bar(
+            self.clusters.as_slice(),
+            rest,
+            state.fraction(),
+            columns,
+            out,
+        )
+    }
+
+    /// Appends the text of a key.
+    fn push_key(
+        &self,
+        key: Key,
+        held: &Held,
+        state: &ProgressState,
+        now: Moment,
+        out: &mut String,
+    ) -> Result<(), Refusal>
+        ensures text { OnOk result (string_bytes out.new ≡ string_bytes out.old
+            ++ key_text K.means self.now state.now now (layout_of held.now) key) }
+        ensures memory { IfErr result (λ e. e ≡ Refusal.Memory) }
+    {
+        match key {
+            Key::Bar => self.push_bar(held, state, u64::from(held.width.unwrap_or(20)), out)?,
+            Key::WideBar | Key::WideMessage => out.push_str("\0")?,
+            Key::Spinner => out.push_str(self.spinner_text(state))?,
+            Key::Prefix => out.push_str(state.prefix())?,
+            Key::Message => out.push_str(state.message())?,
+            Key::Position(form) => push_count(form, state.pos(), out)?,
+            Key::Length(form) => push_count(form, state.len().unwrap_or(state.pos()), out)?,
+            Key::Percent => push_percent(state.fraction(), out)?,
+            Key::PercentPrecise => push_percent_precise(state.fraction(), out)?,
+            Key::Elapsed(form) => push_time(form, state.elapsed(now), out)?,
+            Key::Eta(form) => push_time(form, state.eta(now), out)?,
+            Key::Duration(form) => push_time(form, state.duration(now), out)?,
+            Key::PerSecond => push_rate(state.per_sec(now), held.width.unwrap_or(4), out)?,
+            Key::BytesPerSecond(form) => push_whole_rate(form, state.per_sec(now), out)?,
+        }
+        Ok(())
+    }
+
+    /// The spinner's text.
+    fn spinner_text(&self, state: &ProgressState) -> &str
+        ensures { result.now ≡ (if is_finished state.now then final_tick_string self.now.tick_strings
+            else tick_string self.now.tick_strings state.now.ticks) }
+    {
+        if state.is_finished() {
+            return self.get_final_tick_str();
+        }
+        self.get_tick_str(state.ticks())
+    }
+
+    /// Appends the text of the tracker at a place, its tabs expanded; nothing where there is none.
+    fn push_tracked(
+        &self,
+        place: usize,
+        state: &ProgressState,
+        now: Moment,
+        spare: &mut SpareLines,
+        out: &mut String,
+    ) -> Result<(), Refusal>
+        ensures text { OnOk result (string_bytes out.new ≡ string_bytes out.old
+            ++ option_map_or (λ entry. expanded self.now.tab (K.means.text entry.1 state.now now))
+            (slice_get self.now.keys place) []) }
+        ensures memory { IfErr result (λ e. e ≡ Refusal.Memory) }
+    {
+        let Some(entry) = self.keys.get(place) else {
+            return Ok(());
+        };
+        let mut text = spare.text();
+        entry.1.write(state, now, &mut text)?;
+        push_expanded(text.as_str(), self.tab, out)?;
+        spare.keep_text(text);
+        Ok(())
+    }
+
+    /// Appends the text of a placeholder as its source tells it.
+    fn push_told(
+        &self,
+        held: &Held,
+        state: &ProgressState,
+        now: Moment,
+        spare: &mut SpareLines,
+        out: &mut String,
+    ) -> Result<(), Refusal>
+        ensures text { OnOk result (string_bytes out.new ≡ string_bytes out.old
+            ++ source_text K.means self.now state.now now (layout_of held.now) held.now.source) }
+        ensures memory { IfErr result (λ e. e ≡ Refusal.Memory) }
+    {
+        match held.source {
+            Source::Tracker(place) => self.push_tracked(place, state, now, spare, out)?,
+            Source::Known(key) => self.push_key(key, held, state, now, out)?,
+            Source::Nothing => {}
+        }
+        Ok(())
+    }
+
+    /// The same at the placeholder's width, where it has one.
+    fn push_sized(
+        &self,
+        held: &Held,
+        state: &ProgressState,
+        now: Moment,
+        spare: &mut SpareLines,
+        out: &mut String,
+    ) -> Result<(), Refusal>
+        ensures text { let text = source_text K.means self.now state.now now (layout_of held.now) held.now.source in
+            OnOk result (string_bytes out.new ≡ string_bytes out.old
+            ++ option_map_or (λ width. padded text width held.now.align held.now.truncate) held.now.width text) }
+        ensures memory { IfErr result (λ e. e ≡ Refusal.Memory) }
+    {
+        let Some(width) = held.width else {
+            self.push_told(held, state, now, spare, out)?;
+            return Ok(());
+        };
+        let mut text = spare.text();
+        self.push_told(held, state, now, spare, &mut text)?;
+        let place = Place {
+            width: usize::from(width),
+            align: held.align,
+            truncate: held.truncate,
+        };
+        push_padded(text.as_str(), place, out)?;
+        spare.keep_text(text);
+        Ok(())
+    }
+
+    /// Appends the text of a placeholder, at its width and in its style.
+    fn push_held(
+        &self,
+        held: &Held,
+        state: &ProgressState,
+        now: Moment,
+        spare: &mut SpareLines,
+        out: &mut String,
+    ) -> Result<(), Refusal>
+        ensures text { OnOk result (string_bytes out.new ≡ string_bytes out.old
+            ++ deed_text K.means self.now state.now now (Holds held.now.source (layout_of held.now))) }
+        ensures memory { IfErr result (λ e. e ≡ Refusal.Memory) }
+    {
+        let style = held.text_style();
+        let some = style.open(self.colours, out)?;
+        self.push_sized(held, state, now, spare, out)?;
+        if some {
+            out.push_str("\x1b[0m")?;
+            return Ok(());
+        }
+        Ok(())
+    }
+
+    /// Appends what stands in the place of each mark of a text with this gap.
+    fn push_wide(
+        &self,
+        wide: WideKey,
+        gap: Gap,
+        state: &ProgressState,
+        spare: &mut SpareLines,
+        out: &mut String,
+    ) -> Result<(), Refusal>
+        ensures text { (columns : ℕ) (text : List ℕ) → gap.columns ≡ columns_left columns text → gap.is_last ≡ ends_in_mark text →
+            OnOk result (string_bytes out.new ≡ string_bytes out.old
+            ++ wide_text self.now state.now columns text (wide_found wide)) }
+        ensures memory { IfErr result (λ e. e ≡ Refusal.Memory) }
+    {
+        match wide {
+            WideKey::Bar(held) => self.push_bar(&held, state, gap.columns as u64, out)?,
+            WideKey::Message(held) => push_message(held.align, gap, state, spare, out)?,
+        }
+        Ok(())
+    }
+
+    /// Appends the lines of a text, where a wide key has stood so far.
+    fn push_lines(
+        &self,
+        line: &Line,
+        state: &ProgressState,
+        width: u16,
+        spare: &mut SpareLines,
+        lines: &mut Vec<LineType>,
+    ) -> Result<(), Refusal>
+        ensures lines { OnOk result (map line_text lines.new.items ≡ map line_text lines.old.items
+            ++ lines_of self.now state.now width (option_map wide_found line.now.wide) (string_bytes line.now.text)) }
+        ensures kind { IsTrue (list_all is_bar_line lines.old.items) → IsTrue (list_all is_bar_line lines.new.items) }
+        ensures memory { IfErr result (λ e. e ≡ Refusal.Memory) }
+    {
+        let text = line.text.as_str();
+        let Some(wide) = line.wide else {
+            push_lines(text, spare, lines)?;
+            return Ok(());
+        };
+        if !has_mark(text) {
+            push_lines(text, spare, lines)?;
+            return Ok(());
+        }
+        let mut shown = spare.text();
+        self.push_wide(wide, Gap::of(text, width), state, spare, &mut shown)?;
+        let mut filled = spare.text();
+        push_filled(text, shown.as_str(), &mut filled)?;
+        push_lines(filled.as_str(), spare, lines)?;
+        spare.keep_text(shown);
+        spare.keep_text(filled);
+        Ok(())
+    }
+
+    /// The lines, in room of `spare`.
+    pub(crate) fn lines_in(
+        &self,
+        spare: &mut SpareLines,
+        state: &ProgressState,
+        now: Moment,
+        width: u16,
+    ) -> Result<Vec<LineType>, Refusal>
+        ensures lines { IfOk result (λ v. map line_text v.items
+            ≡ lines K.means self.now state.now now width) }
+        ensures kind { IfOk result (λ v. IsTrue (list_all is_bar_line v.items)) }
+        ensures memory { IfErr result (λ e. e ≡ Refusal.Memory) }
+    {
+        let mut lines = spare.lines();
+        let mut line = Line {
+            text: spare.text(),
+            wide: None,
+        };
+        for step in &self.steps {
+            match step {
+                Step::Text(text) => line.text.push_str(text.as_str())?,
+                Step::Break => {
+                    self.push_lines(&line, state, width, spare, &mut lines)?;
+                    line.text.clear();
+                }
+                Step::Placeholder(held) => {
+                    line.wide = held.wide().or(line.wide);
+                    self.push_held(held, state, now, spare, &mut line.text)?;
+                }
+            }
+        }
+        if !line.text.as_str().is_empty() {
+            self.push_lines(&line, state, width, spare, &mut lines)?;
+        }
+        spare.keep_text(line.text);
+        Ok(lines)
+    }
+}
+
+/// The line at hand: what it has so far, and the latest wide key.
+#[derive(Drop)]
+struct Line {
+    text: String,
+    wide: Option<WideKey>,
+}
+
+/// Appends the message at a gap's columns; where the gap ends its text, without white space at its end.
+fn push_message(
+    align: Alignment,
+    gap: Gap,
+    state: &ProgressState,
+    spare: &mut SpareLines,
+    out: &mut String,
+) -> Result<(), Refusal>
+    ensures text { let message = padded (shown_message state.now) gap.columns align true in
+        OnOk result (string_bytes out.new ≡ string_bytes out.old
+        ++ (if gap.is_last then trim_end message else message)) }
+    ensures memory { IfErr result (λ e. e ≡ Refusal.Memory) }
+{
+    let place = Place {
+        width: gap.columns,
+        align,
+        truncate: true,
+    };
+    if !gap.is_last {
+        push_padded(state.message(), place, out)?;
+        return Ok(());
+    }
+    let mut message = spare.text();
+    push_padded(state.message(), place, &mut message)?;
+    out.push_str(message.as_str().trim_end())?;
+    spare.keep_text(message);
+    Ok(())
+}

@@ -1,0 +1,62 @@
+//! Worked cases of the definitions: each clause computes.
+ghost use Rattle.std.specs.Prelude.{ℕ};
+ghost use Rattle.indicatif_bar.specs.BarStyles.{Style};
+ghost use Rattle.indicatif_bar.specs.CommandCases.{Fractions, Greatest, Rates, TwelveSteps, RateAndEta, Asks, ResetRates, Ends, ElapsedTimes, TabWidths, Finishes, Resets};
+ghost use Rattle.indicatif_bar.specs.StyleCases.{TrackersCases, WideBarCases, PercentCases, MessageCases, BarCases, TickCases, RateCases, LineCases, FaultCases};
+ghost use Rattle.indicatif_bar.specs.Cases.{Lines, ShorterMessage, EmptyMessage, WideCharacter, NoColumn, Nowhere, LogsAbove, WideLog, Cleared, LateElapsed, LimitedDraws};
+
+/// The lines of messages.
+pub fn messages()
+    ensures lines { Lines }
+{}
+
+/// What lists of calls answer, and the rows that stand then.
+pub fn runs()
+    ensures shorter_message { ShorterMessage }
+    ensures empty_message { EmptyMessage }
+    ensures wide_character { WideCharacter }
+    ensures no_column { NoColumn }
+    ensures nowhere { Nowhere }
+    ensures logs_above { LogsAbove }
+    ensures wide_log { WideLog }
+    ensures cleared { Cleared }
+    ensures late_elapsed { LateElapsed }
+{}
+
+/// How often a limited bar is drawn.
+pub fn limits()
+    ensures limited_draws { LimitedDraws }
+{}
+
+/// How far and how fast.
+pub fn measures()
+    ensures fractions { Fractions }
+    ensures greatest { Greatest }
+    ensures rates { Rates }
+{}
+
+/// What lists of commands leave, and what they ask.
+pub fn commands()
+    ensures twelve_steps { (style : Style ℕ) → TwelveSteps style }
+    ensures rate_and_eta { (style : Style ℕ) → RateAndEta style }
+    ensures asks { (style : Style ℕ) → Asks style }
+    ensures reset_rates { (style : Style ℕ) → ResetRates style }
+    ensures ends { (style : Style ℕ) → Ends style }
+    ensures elapsed_times { (style : Style ℕ) → ElapsedTimes style }
+    ensures tab_widths { (style : Style ℕ) → TabWidths style }
+    ensures finishes { (style : Style ℕ) → Finishes style }
+    ensures resets { (style : Style ℕ) → Resets style }
+{}
+
+/// The lines of styles, worked out.
+pub fn lines()
+    ensures trackers { TrackersCases }
+    ensures wide_bars { WideBarCases }
+    ensures percents { PercentCases }
+    ensures messages { MessageCases }
+    ensures bars { BarCases }
+    ensures ticks { TickCases }
+    ensures rates { RateCases }
+    ensures lines { LineCases }
+    ensures faults { FaultCases }
+{}

@@ -1,0 +1,143 @@
+//! How far a bar is and how fast, as quotients of whole numbers.
+ghost use Rattle.std.specs.Prelude.{◌≡◌, ◌<◌};
+ghost use Rattle.indicatif_bar.specs.Measures.{fraction_of, first_marks, recorded, restarted, rate_over, rate_since, steps_a_second, time_for};
+
+use indicatif_text::columns::Moment;
+
+/// A part of a whole, as a quotient: `num` of `den`, where `den` is above 0 and `num` at most `den`.
+#[derive(Clone, Copy, Debug, Drop, PartialEq, Eq)]
+pub struct Fraction {
+    /// What is done.
+    pub num: u64,
+    /// Of how much.
+    pub den: u64,
+}
+
+impl Fraction {
+    /// The part of a length that a position is: 0 without a length, 1 at length 0.
+    pub(crate) fn of(position: u64, len: Option<u64>) -> Fraction
+        ensures { result ≡ fraction_of position len }
+    {
+        match len {
+            None => Fraction { num: 0, den: 1 },
+            Some(0) => Fraction { num: 1, den: 1 },
+            Some(len) => Fraction {
+                num: position.min(len),
+                den: len,
+            },
+        }
+    }
+}
+
+/// A speed, as a quotient: `steps` in `nanos` nanoseconds, where `nanos` is above 0.
+#[derive(Clone, Copy, Debug, Drop, PartialEq, Eq)]
+pub struct Rate {
+    /// How many steps.
+    pub steps: u64,
+    /// In how many nanoseconds.
+    pub nanos: u64,
+}
+
+impl Rate {
+    /// So many steps in so many nanoseconds; no steps where there is no time.
+    pub(crate) fn over(steps: u64, nanos: u64) -> Rate
+        ensures { result ≡ rate_over steps nanos }
+    {
+        if nanos == 0 {
+            return Rate { steps: 0, nanos: 1 };
+        }
+        Rate { steps, nanos }
+    }
+
+    /// The whole steps of a second, at most 2^64 - 1.
+    pub(crate) fn steps_a_second(self) -> u64
+        requires { 0 < self.nanos }
+        ensures { result ≡ steps_a_second self }
+    {
+        let steps = u128::from(self.steps) * 1_000_000_000 / u128::from(self.nanos);
+        steps.min(u128::from(u64::MAX)) as u64
+    }
+
+    /// The nanoseconds that so many steps take, at most 2^64 - 1, and 0 where the rate is none.
+    pub(crate) fn time_for(self, left: u64) -> u64
+        ensures { result ≡ time_for self left }
+    {
+        if self.steps == 0 {
+            return 0;
+        }
+        let nanos = u128::from(left) * u128::from(self.nanos) / u128::from(self.steps);
+        nanos.min(u128::from(u64::MAX)) as u64
+    }
+}
+
+/// So many steps were made by a moment.
+#[derive(Clone, Copy, Debug, Drop, PartialEq, Eq)]
+pub struct Mark {
+    steps: u64,
+    moment: Moment,
+}
+
+/// The two marks that a rate is read from: where its count began, and where it stands.
+#[derive(Clone, Copy, Debug, Drop, PartialEq, Eq)]
+pub struct Marks {
+    base: Mark,
+    last: Mark,
+}
+
+impl Marks {
+    /// No steps at this moment.
+    pub(crate) fn new(now: Moment) -> Marks
+        ensures { result ≡ first_marks now }
+    {
+        Marks::at(Mark {
+            steps: 0,
+            moment: now,
+        })
+    }
+
+    /// A count that begins at this mark.
+    fn at(mark: Mark) -> Marks
+        ensures { result ≡ record { base = mark; last = mark } }
+    {
+        Marks {
+            base: mark,
+            last: mark,
+        }
+    }
+
+    /// So many steps are made by this moment. Steps that went back begin the count anew; else only more steps at a later
+    /// moment count.
+    pub(crate) fn record(self, steps: u64, now: Moment) -> Marks
+        ensures { result ≡ recorded self steps now }
+    {
+        let mark = Mark { steps, moment: now };
+        if steps < self.last.steps {
+            return Marks::at(mark);
+        }
+        if self.last.steps < steps && self.last.moment < now {
+            return Marks {
+                base: self.base,
+                last: mark,
+            };
+        }
+        self
+    }
+
+    /// The count begins anew at this moment.
+    pub(crate) fn restart(self, now: Moment) -> Marks
+        ensures { result ≡ restarted self now }
+    {
+        Marks::at(Mark {
+            steps: self.last.steps,
+            moment: now,
+        })
+    }
+
+    /// The rate between the marks, up to this moment.
+    pub(crate) fn rate(self, now: Moment) -> Rate
+        ensures { result ≡ rate_since self now }
+    {
+        let steps = self.last.steps.saturating_sub(self.base.steps);
+        Rate::over(steps, now.saturating_sub(self.base.moment))
+    }
+}

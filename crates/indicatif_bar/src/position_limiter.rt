@@ -1,0 +1,86 @@
+//! How often a bar's position is looked at.
+ghost use Rattle.std.specs.Prelude.{◌≡◌};
+ghost use Rattle.indicatif_bar.specs.PositionLimiters.{PositionLimiter, position_limiter, allow_position, position_reset};
+
+use indicatif_text::columns::Moment;
+use std::marker::Model;
+
+/// How often a new position is looked at: 10 looks may come at once, and one more with each millisecond after that, of which
+/// no more than 10 are ever in hand. Moments are counted from its making.
+#[derive(Debug, Drop)]
+pub(crate) struct PositionLimiter {
+    making: Moment,
+    capacity: u64,
+    /// Nanoseconds from the making on.
+    prev: u64,
+}
+
+/// Contracts see the making, what is in hand, and the time from which it counts.
+impl Model for PositionLimiter {
+    ghost use Rattle.std.specs.Prelude.{◌≤◌};
+    ghost use Rattle.indicatif_bar.specs.PositionLimiters.{PositionLimiter};
+
+    ghost Value = { PositionLimiter };
+
+    ghost view = { λ p. record {
+      making = p.making;
+      limiter = record { interval = 1000000; most = 10; capacity = p.capacity; prev = p.prev };
+    } };
+
+    ghost invariant = { λ p. p.capacity ≤ 10 };
+}
+
+impl PositionLimiter {
+    /// Nanoseconds between two looks.
+    const INTERVAL: u64 = 1_000_000;
+    /// How many looks may be in hand.
+    const MOST: u64 = 10;
+
+    /// A limiter that is made at this moment.
+    pub(crate) fn new(now: Moment) -> PositionLimiter
+        ensures { result ≡ position_limiter now }
+    {
+        PositionLimiter {
+            making: now,
+            capacity: PositionLimiter::MOST,
+            prev: 0,
+        }
+    }
+
+    /// Whether the position is looked at, at this moment; if so, it is counted.
+    pub(crate) fn allow(&mut self, now: Moment) -> bool
+        ensures answer { result ≡ (allow_position self.old now).0 }
+        ensures next { self.new ≡ (allow_position self.old now).1 }
+    {
+        if now < self.making {
+            return false;
+        }
+        let at = now - self.making;
+        let elapsed = at.saturating_sub(self.prev);
+        if self.capacity == 0 && elapsed < PositionLimiter::INTERVAL {
+            return false;
+        }
+        let new = elapsed / PositionLimiter::INTERVAL;
+        self.capacity = PositionLimiter::MOST.min(self.capacity + new - 1);
+        self.prev = at - elapsed % PositionLimiter::INTERVAL;
+        true
+    }
+
+    /// No time has passed since then.
+    pub(crate) fn reset(&mut self, now: Moment)
+        ensures { self.new ≡ position_reset self.old now }
+    {
+        self.prev = now.saturating_sub(self.making);
+    }
+
+    /// Another one, equal to this one.
+    pub(crate) fn same(&self) -> PositionLimiter
+        ensures { result ≡ self.now }
+    {
+        PositionLimiter {
+            making: self.making,
+            capacity: self.capacity,
+            prev: self.prev,
+        }
+    }
+}

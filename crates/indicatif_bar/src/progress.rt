@@ -1,0 +1,412 @@
+//! What a bar has reached, as its style and its trackers see it.
+ghost use Rattle.std.specs.Prelude.{◌≡◌, ◌+◌, ◌||◌, min, OnOk, OnErr, IfOk, IfErr, IsTrue};
+ghost use Rattle.indicatif_bar.specs.Measures.{most, recorded};
+ghost use Rattle.indicatif_bar.specs.Tabs.{has_tab, is_some_text};
+ghost use Rattle.indicatif_bar.specs.Progress.{Progress, is_finished, is_hidden, fraction, eta, duration, per_sec, elapsed, shown_message, shown_prefix, new_progress, rate_reset, progress_reset, at_end};
+ghost use Rattle.indicatif_bar.specs.Finishes.{finish_of, finished_by, finish_takes_memory};
+ghost use Rattle.indicatif_bar.specs.Inside.Widths.{IsWidened};
+ghost use Rattle.indicatif_bar.specs.declared.progress.Status.TheVariants.{DoneVisible};
+
+use crate::finish::ProgressFinish;
+use crate::measures::Marks;
+pub use crate::measures::{Fraction, Rate};
+use crate::tabbed_text::TabbedText;
+use indicatif_text::columns::{Moment, Refusal};
+use std::alloc::Global;
+use std::marker::Model;
+use std::mem::replace;
+
+/// Whether a bar goes on, or how it was finished.
+#[derive(Clone, Copy, Debug, Drop, PartialEq, Eq)]
+pub(crate) enum Status {
+    /// It goes on.
+    InProgress,
+    /// It was finished and stays on the screen.
+    DoneVisible,
+    /// It was finished and left the screen.
+    DoneHidden,
+}
+
+/// What a bar has reached: its position, its length, its speed and its texts.
+///
+/// Moments and times are nanoseconds; a time from a start to an earlier moment is 0. No reading overflows: products are
+/// made in 128 bits, and times stop at 2^64 - 1.
+///
+/// ```
+/// bar.set_position(3, 2_000_000_000);
+/// let rate = bar.state().per_sec(2_000_000_000); // 3 steps in 2,000,000,000 nanoseconds
+/// ```
+#[derive(Debug, Drop)]
+pub struct ProgressState {
+    alloc: Global,
+    position: u64,
+    len: Option<u64>,
+    ticks: u64,
+    start: Moment,
+    status: Status,
+    took: u64,
+    marks: Marks,
+    message: TabbedText,
+    prefix: TabbedText,
+    /// Room for the next text.
+    spare: TabbedText,
+    tab: usize,
+}
+
+/// Contracts see what was reached, and the texts as they were set.
+impl Model for ProgressState {
+    ghost use Rattle.std.specs.Prelude.{◌≡◌};
+    ghost use Rattle.indicatif_bar.specs.Progress.{Progress};
+
+    ghost Value = { Progress };
+
+    ghost view = { λ p. record {
+      position = p.position;
+      len = p.len;
+      ticks = p.ticks;
+      start = p.start;
+      status = p.status;
+      took = p.took;
+      marks = p.marks;
+      message = p.message.text;
+      prefix = p.prefix.text;
+      tab = p.tab;
+    } };
+
+    ghost invariant = { λ p. (p.message.tab ≡ p.tab) × (p.prefix.tab ≡ p.tab) };
+}
+
+impl ProgressState {
+    /// Nothing reached yet, of this length or of none, from this moment on. Takes no memory.
+    pub(crate) fn new(alloc: Global, len: Option<u64>, now: Moment) -> Self
+        ensures { result ≡ new_progress len now }
+    {
+        ProgressState {
+            alloc,
+            position: 0,
+            len,
+            ticks: 0,
+            start: now,
+            status: Status::InProgress,
+            took: 0,
+            marks: Marks::new(now),
+            message: TabbedText::new(alloc, 8),
+            prefix: TabbedText::new(alloc, 8),
+            spare: TabbedText::new(alloc, 8),
+            tab: 8,
+        }
+    }
+
+    /// Where the texts are kept.
+    pub(crate) fn alloc(&self) -> Global {
+        self.alloc
+    }
+
+    /// Whether the bar is finished.
+    pub fn is_finished(&self) -> bool
+        ensures { result ≡ is_finished self.now }
+    {
+        match self.status {
+            Status::InProgress => false,
+            Status::DoneVisible | Status::DoneHidden => true,
+        }
+    }
+
+    /// The part of the length that is done, at most all of it: 0 without a length, 1 at length 0.
+    pub fn fraction(&self) -> Fraction
+        ensures { result ≡ fraction self.now }
+    {
+        Fraction::of(self.position, self.len)
+    }
+
+    /// The nanoseconds from the start to this moment; 0 at a moment before the start.
+    pub fn elapsed(&self, now: Moment) -> u64
+        ensures { result ≡ elapsed self.now now }
+    {
+        now.saturating_sub(self.start)
+    }
+
+    /// The steps since the last reset of the rate over the time since then, as it stands at this moment. Of a finished bar,
+    /// its position over the time since its start. No steps where there is no time.
+    pub fn per_sec(&self, now: Moment) -> Rate
+        ensures { result ≡ per_sec self.now now }
+    {
+        if self.is_finished() {
+            return Rate::over(self.position, self.elapsed(now));
+        }
+        self.marks.rate(now)
+    }
+
+    /// The nanoseconds to the end at the rate of this moment, rounded down, at most 2^64 - 1. 0 where the bar is finished,
+    /// has no length, or makes no steps.
+    pub fn eta(&self, now: Moment) -> u64
+        ensures { result ≡ eta self.now now }
+    {
+        let Some(len) = self.len else {
+            return 0;
+        };
+        if self.is_finished() {
+            return 0;
+        }
+        let left = len.saturating_sub(self.position);
+        self.per_sec(now).time_for(left)
+    }
+
+    /// The nanoseconds from the start to the end: those that the bar took where it is finished, else those so far and those
+    /// to come, at most 2^64 - 1. 0 without a length.
+    pub fn duration(&self, now: Moment) -> u64
+        ensures { result ≡ duration self.now now }
+    {
+        if self.is_finished() {
+            return self.took;
+        }
+        match self.len {
+            None => 0,
+            Some(_) => self.elapsed(now).saturating_add(self.eta(now)),
+        }
+    }
+
+    /// The position.
+    pub fn pos(&self) -> u64
+        ensures { result ≡ self.now.position }
+    {
+        self.position
+    }
+
+    /// Sets the position. Nothing else changes: the rate doesn't count it.
+    pub fn set_pos(&mut self, position: u64)
+        ensures { self.new ≡ record self.old { position = position } }
+    {
+        self.position = position;
+    }
+
+    /// The length, if there is one.
+    pub fn len(&self) -> Option<u64>
+        ensures { result ≡ self.now.len }
+    {
+        self.len
+    }
+
+    /// Sets the length. Nothing else changes.
+    pub fn set_len(&mut self, len: u64)
+        ensures { self.new ≡ record self.old { len = Some len } }
+    {
+        self.len = Some(len);
+    }
+
+    /// How often the bar has ticked; it stays at 2^64 - 1.
+    pub fn ticks(&self) -> u64
+        ensures { result ≡ self.now.ticks }
+    {
+        self.ticks
+    }
+
+    /// Whether the bar was finished and left the screen: then it has no lines.
+    pub(crate) fn is_hidden(&self) -> bool
+        ensures { result ≡ is_hidden self.now }
+    {
+        match self.status {
+            Status::DoneHidden => true,
+            Status::InProgress | Status::DoneVisible => false,
+        }
+    }
+
+    /// Another one, equal to this one.
+    ///
+    /// Refused: `Memory`.
+    pub(crate) fn try_clone(&self) -> Result<ProgressState, Refusal>
+        ensures same { IfOk result (λ other. other ≡ self.now) }
+        ensures memory { IfErr result (λ e. e ≡ Refusal.Memory) }
+    {
+        Ok(ProgressState {
+            alloc: self.alloc,
+            position: self.position,
+            len: self.len,
+            ticks: self.ticks,
+            start: self.start,
+            status: self.status,
+            took: self.took,
+            marks: self.marks,
+            message: self.message.try_clone(self.alloc)?,
+            prefix: self.prefix.try_clone(self.alloc)?,
+            spare: TabbedText::new(self.alloc, self.tab),
+            tab: self.tab,
+        })
+    }
+
+    /// The message, with its tabs expanded.
+    pub(crate) fn message(&self) -> &str
+        ensures { result.now ≡ shown_message self.now }
+    {
+        self.message.shown()
+    }
+
+    /// The prefix, with its tabs expanded.
+    pub(crate) fn prefix(&self) -> &str
+        ensures { result.now ≡ shown_prefix self.now }
+    {
+        self.prefix.shown()
+    }
+
+    /// How many spaces stand for a tab.
+    pub(crate) fn tab_width(&self) -> usize
+        ensures { result ≡ self.now.tab }
+    {
+        self.tab
+    }
+
+    /// Sets the length, or takes it away.
+    pub(crate) fn put_len(&mut self, len: Option<u64>)
+        ensures { self.new ≡ record self.old { len = len } }
+    {
+        self.len = len;
+    }
+
+    /// One more tick, up to 2^64 - 1.
+    pub(crate) fn count_tick(&mut self)
+        ensures { self.new ≡ record self.old { ticks = min (self.old.ticks + 1) most } }
+    {
+        self.ticks = self.ticks.saturating_add(1);
+    }
+
+    /// The position is recorded with the rate.
+    pub(crate) fn record_position(&mut self, now: Moment)
+        ensures { self.new ≡ record self.old { marks = recorded self.old.marks self.old.position now } }
+    {
+        self.marks = self.marks.record(self.position, now);
+    }
+
+    /// The rate is counted from this moment on.
+    pub(crate) fn reset_rate(&mut self, now: Moment)
+        ensures { self.new ≡ rate_reset self.old now }
+    {
+        self.marks = self.marks.restart(now);
+    }
+
+    /// The time is counted from this moment on.
+    pub(crate) fn put_start(&mut self, start: Moment)
+        ensures { self.new ≡ record self.old { start = start } }
+    {
+        self.start = start;
+    }
+
+    /// All is counted from this moment on, from position 0.
+    pub(crate) fn reset(&mut self, now: Moment)
+        ensures { self.new ≡ progress_reset self.old now }
+    {
+        self.marks = self.marks.restart(now);
+        self.start = now;
+        self.position = 0;
+        self.status = Status::InProgress;
+    }
+
+    /// It is finished at this moment, at the end where there is a length.
+    pub(crate) fn finish(&mut self, status: Status, now: Moment)
+        ensures { self.new ≡ record (at_end self.old) { took = elapsed self.old now; status = status } }
+    {
+        self.took = self.elapsed(now);
+        if let Some(len) = self.len {
+            self.position = len;
+        }
+        self.status = status;
+    }
+
+    /// It is finished at this moment, where it stands.
+    pub(crate) fn abandon(&mut self, now: Moment)
+        ensures { self.new ≡ record self.old { took = elapsed self.old now; status = DoneVisible } }
+    {
+        self.took = self.elapsed(now);
+        self.status = Status::DoneVisible;
+    }
+
+    /// It is finished so at this moment.
+    ///
+    /// Refused: `Memory`, where the finish has a message; nothing has changed then.
+    pub(crate) fn finish_by(&mut self, finish: &ProgressFinish, now: Moment) -> Result<(), Refusal>
+        ensures done { OnOk result (self.new ≡ finished_by (finish_of finish.now) (record self.old { took = elapsed self.old now })) }
+        ensures unchanged { OnErr result (self.new ≡ self.old) }
+        ensures memory { IfErr result (λ e. (e ≡ Refusal.Memory) × IsTrue (finish_takes_memory (finish_of finish.now))) }
+    {
+        match finish {
+            ProgressFinish::AndLeave => self.finish(Status::DoneVisible, now),
+            ProgressFinish::WithMessage(text) => {
+                self.set_message(text.as_str())?;
+                self.finish(Status::DoneVisible, now);
+            }
+            ProgressFinish::AndClear => self.finish(Status::DoneHidden, now),
+            ProgressFinish::Abandon => self.abandon(now),
+            ProgressFinish::AbandonWithMessage(text) => {
+                self.set_message(text.as_str())?;
+                self.abandon(now);
+            }
+        }
+        Ok(())
+    }
+
+    /// Sets the message.
+    ///
+    /// Refused: `Memory`, where the text isn't empty; nothing has changed then.
+    pub(crate) fn set_message(&mut self, text: &str) -> Result<(), Refusal>
+        ensures done { OnOk result (self.new ≡ record self.old { message = text.now }) }
+        ensures unchanged { OnErr result (self.new ≡ self.old) }
+        ensures memory { IfErr result (λ e. (e ≡ Refusal.Memory) × IsTrue (is_some_text text.now)) }
+    {
+        let next = self.room().refilled(text, self.tab)?;
+        self.spare = replace(&mut self.message, next);
+        Ok(())
+    }
+
+    /// Sets the prefix.
+    ///
+    /// Refused: `Memory`, where the text isn't empty; nothing has changed then.
+    pub(crate) fn set_prefix(&mut self, text: &str) -> Result<(), Refusal>
+        ensures done { OnOk result (self.new ≡ record self.old { prefix = text.now }) }
+        ensures unchanged { OnErr result (self.new ≡ self.old) }
+        ensures memory { IfErr result (λ e. (e ≡ Refusal.Memory) × IsTrue (is_some_text text.now)) }
+    {
+        let next = self.room().refilled(text, self.tab)?;
+        self.spare = replace(&mut self.prefix, next);
+        Ok(())
+    }
+
+    /// The room for the next text.
+    fn room(&mut self) -> TabbedText
+        ensures { self.new ≡ self.old }
+    {
+        replace(&mut self.spare, TabbedText::new(self.alloc, self.tab))
+    }
+
+    /// The texts at another width, made beside them.
+    ///
+    /// Refused: `Memory`.
+    pub(crate) fn widened(&self, tab: usize) -> Result<Widened, Refusal>
+        ensures fits { IfOk result (λ w. IsWidened w self.now) }
+        ensures tab { IfOk result (λ w. w.tab ≡ tab) }
+        ensures memory { IfErr result (λ e. (e ≡ Refusal.Memory)
+            × IsTrue (has_tab self.now.message || has_tab self.now.prefix)) }
+    {
+        Ok(Widened {
+            tab,
+            message: self.message.at_width(self.alloc, tab)?,
+            prefix: self.prefix.at_width(self.alloc, tab)?,
+        })
+    }
+
+    /// Takes the texts at another width.
+    pub(crate) fn put_tab_width(&mut self, widened: Widened)
+        requires { IsWidened widened self.old }
+        ensures { self.new ≡ record self.old { tab = widened.tab } }
+    {
+        self.message.put_width(widened.message, widened.tab);
+        self.prefix.put_width(widened.prefix, widened.tab);
+        self.tab = widened.tab;
+    }
+}
+
+/// The texts of a bar with so many spaces for a tab, where they have tabs.
+#[derive(Drop)]
+pub(crate) struct Widened {
+    tab: usize,
+    message: String,
+    prefix: String,
+}

@@ -1,0 +1,152 @@
+//! A bar with the lines that it shows, and how they are written.
+ghost use Rattle.std.specs.Prelude.{◌≡◌, Bool, false, Some, IsFalse, IsTrue, IfOk, IfErr, OnErr, map, chars};
+ghost use Rattle.indicatif_term.specs.Frames.{bar_lines};
+ghost use Rattle.indicatif_term.specs.Engines.{terminal, Fits};
+ghost use Rattle.indicatif_bar.specs.Machines.{Target, is_no, target_of};
+ghost use Rattle.indicatif_bar.specs.Runs.{wrote};
+ghost use Rattle.indicatif_bar.specs.Kinds.{rows_take, asked_of};
+ghost use Rattle.indicatif_bar.specs.Bars.{bar_kind, lines_of_bar};
+ghost use Rattle.indicatif_bar.specs.Lone.{LoneState, stored_lines, draw_asked, lone};
+ghost use Rattle.indicatif_bar.specs.Inside.Draws.{DrewBy, Puts};
+ghost use Rattle.indicatif_bar.specs.Inside.Shown.{writing_as};
+
+use crate::spare::SpareLines;
+use crate::state::{Ask, BarState};
+use crate::tracker::ProgressTracker;
+use indicatif_term::draw_target::{Engine, MultiProgressAlignment, RateLimiter, Segment};
+use indicatif_term::term_like::TermLike;
+use indicatif_text::columns::{Drawn, Moment, Refusal};
+use std::mem::replace;
+use std::slice;
+
+/// What a draw writes.
+#[derive(Clone, Copy)]
+pub enum Writing<'a> {
+    /// The bar's lines.
+    Frame,
+    /// A text, which stays, and the bar's lines below it.
+    TextAndFrame(&'a str),
+    /// Nothing, in the place of what stood.
+    NoFrame,
+}
+
+/// A bar, the lines that were laid out last, and how often they may be drawn.
+#[derive(Drop)]
+pub struct ShownBar<K> {
+    pub bar: BarState<K>,
+    frame: Segment,
+    spare: SpareLines,
+    limiter: Option<RateLimiter>,
+}
+
+impl<K: ProgressTracker> ShownBar<K> {
+    ghost use Rattle.indicatif_bar.specs.Inside.Shown.{Holds};
+    ghost use Rattle.std.specs.Prelude.{[]};
+
+    /// A bar of which nothing was laid out yet.
+    pub fn new(bar: BarState<K>, limiter: Option<RateLimiter>) -> Self
+        ensures bar { result.bar ≡ bar }
+        ensures limiter { result.limiter ≡ limiter }
+        ensures lines { bar_lines result.frame ≡ record { bar = 0; lines = [] } }
+    {
+        let alloc = bar.alloc();
+        ShownBar {
+            bar,
+            frame: Segment {
+                bar: 0,
+                lines: Vec::new(alloc),
+            },
+            spare: SpareLines::new(alloc),
+            limiter,
+        }
+    }
+
+    /// From now on it is drawn as often as this says.
+    pub fn set_limiter(&mut self, limiter: Option<RateLimiter>)
+        ensures { self.new ≡ record self.old { limiter = limiter } }
+    {
+        self.limiter = limiter;
+    }
+
+    /// Draws on the engine's terminal, where it has columns and the limiter allows it.
+    pub fn draw_on<T: TermLike + Drop>(
+        &mut self,
+        engine: &mut Engine<T>,
+        ask: Ask,
+        writing: Writing<'_>,
+        now: Moment,
+    ) -> Result<Drawn, Refusal>
+        ensures bar { self.new.bar ≡ self.old.bar }
+        ensures silent { IsFalse (wrote result) → engine.new ≡ engine.old }
+        ensures drew { (takes : Bool) (s : LoneState _) → is_no ask ≡ false → Holds self.old s → Fits engine.old s.lists →
+            let target = target_of (Some (T.view (terminal engine.old))) in
+            DrewBy (lone (bar_kind K.means)) (Holds self.new) T.view engine.old engine.new
+            (draw_asked (bar_kind K.means) target takes ask now (writing_as writing.entry) s) s.lists result }
+    {
+        let width = engine.term().width();
+        if width == 0 {
+            return Err(Refusal::NoColumns);
+        }
+        self.lay_out(writing, width, now)?;
+        if !self.allows(ask, now) {
+            return Ok(Drawn::Limited);
+        }
+        put(engine, slice::from_ref(&self.frame), writing)?;
+        Ok(Drawn::Yes)
+    }
+
+    /// Lays the bar's lines out and stores them, where they are to be written.
+    fn lay_out(&mut self, writing: Writing<'_>, width: u16, now: Moment) -> Result<(), Refusal>
+        ensures bar { self.new.bar ≡ self.old.bar }
+        ensures laid { IfOk result (λ _. (s : LoneState _) (target : Target) → target.columns ≡ width → Holds self.old s →
+            Holds self.new (record s { stored = stored_lines (bar_kind K.means) (writing_as writing.entry) target now s })) }
+        ensures memory { IfErr result (λ e. (e ≡ Refusal.Memory) × IsTrue (rows_take (writing_as writing.entry))) }
+        ensures unchanged { OnErr result (self.new ≡ self.old) }
+    {
+        match writing {
+            Writing::NoFrame => Ok(()),
+            Writing::Frame | Writing::TextAndFrame(_) => self.lay_lines_out(width, now),
+        }
+    }
+
+    /// Lays the bar's lines out and stores them.
+    fn lay_lines_out(&mut self, width: u16, now: Moment) -> Result<(), Refusal>
+        ensures bar { self.new.bar ≡ self.old.bar }
+        ensures limiter { self.new.limiter ≡ self.old.limiter }
+        ensures laid { IfOk result (λ _. bar_lines self.new.frame
+            ≡ record { bar = self.old.frame.bar; lines = map chars (lines_of_bar K.means self.old.bar now width) }) }
+        ensures memory { IfErr result (λ e. e ≡ Refusal.Memory) }
+        ensures unchanged { OnErr result (self.new ≡ self.old) }
+    {
+        let lines = self.bar.lines_in(&mut self.spare, now, width)?;
+        let before = replace(&mut self.frame.lines, lines);
+        self.spare.keep(before);
+        Ok(())
+    }
+
+    /// Whether a draw that is asked so may be made at this moment.
+    fn allows(&mut self, ask: Ask, now: Moment) -> bool
+        ensures answer { result ≡ (asked_of ask now self.old.limiter).0 }
+        ensures next { self.new ≡ record self.old { limiter = (asked_of ask now self.old.limiter).1 } }
+    {
+        match (ask, &mut self.limiter) {
+            (Ask::Unforced, Some(limiter)) => limiter.allow(now),
+            _ => true,
+        }
+    }
+}
+
+/// Writes on the engine's terminal.
+fn put<T: TermLike + Drop>(
+    engine: &mut Engine<T>,
+    frame: &[Segment],
+    writing: Writing<'_>,
+) -> Result<(), Refusal>
+    ensures { Puts T.view (writing_as writing.entry) (map bar_lines frame.now) engine.old engine.new result }
+{
+    match writing {
+        Writing::Frame => engine.draw(frame, 0, MultiProgressAlignment::Top),
+        Writing::TextAndFrame(text) => engine.log(text, frame, MultiProgressAlignment::Top),
+        Writing::NoFrame => engine.clear(),
+    }
+}

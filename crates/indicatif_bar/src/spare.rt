@@ -1,0 +1,77 @@
+//! Room for lines that was taken before.
+ghost use Rattle.std.specs.Prelude.{◌≡◌, [], string_bytes};
+
+use indicatif_term::draw_target::LineType;
+use std::alloc::Global;
+use std::marker::Model;
+use std::mem::replace;
+
+/// Room for the next lines, so that laying them out takes none anew. Contracts see nothing of it.
+#[derive(Drop)]
+pub struct SpareLines {
+    alloc: Global,
+    texts: Vec<String>,
+    lines: Vec<LineType>,
+}
+
+impl Model for SpareLines {
+    ghost Value = { Unit };
+
+    ghost view = { λ _. tt };
+}
+
+impl SpareLines {
+    /// No room yet.
+    pub fn new(alloc: Global) -> SpareLines {
+        SpareLines {
+            alloc,
+            texts: Vec::new(alloc),
+            lines: Vec::new(alloc),
+        }
+    }
+
+    /// No lines, and no room for any.
+    pub fn none(&self) -> Vec<LineType> {
+        Vec::new(self.alloc)
+    }
+
+    /// Room for lines.
+    pub fn lines(&mut self) -> Vec<LineType>
+        ensures { result.items ≡ [] }
+    {
+        let mut lines = replace(&mut self.lines, Vec::new(self.alloc));
+        lines.clear();
+        lines
+    }
+
+    /// Room for the text of one line.
+    pub fn text(&mut self) -> String
+        ensures { string_bytes result ≡ [] }
+    {
+        match self.texts.pop() {
+            Some(mut text) => {
+                text.clear();
+                text
+            }
+            None => String::new(self.alloc),
+        }
+    }
+
+    /// Keeps the room of a text that is no more, where there is room for that.
+    pub fn keep_text(&mut self, text: String) {
+        let _ = self.texts.push(text);
+    }
+
+    /// Keeps the room of lines that are no more. Where that itself finds no room, the rest is given back.
+    pub fn keep(&mut self, lines: Vec<LineType>) {
+        let mut lines = lines;
+        while let Some(line) = lines.pop() {
+            if let LineType::Text(text) | LineType::Bar(text) = line {
+                if self.texts.push(text).is_err() {
+                    return;
+                }
+            }
+        }
+        self.lines = lines;
+    }
+}

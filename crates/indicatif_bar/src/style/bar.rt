@@ -1,0 +1,99 @@
+//! A bar of clusters.
+ghost use Rattle.std.specs.Prelude.{◌≡◌, ◌<◌, ◌≤◌, ◌++◌, ◌*◌, ◌/◌, ◌%◌, string_bytes, length, OnOk, IfOk, IfErr, IfSome, [], MatchOption};
+ghost use Rattle.indicatif_text.specs.StyleWords.{numbers_of};
+ghost use Rattle.indicatif_bar.specs.Layout.{text_columns, cluster, bar_text};
+ghost use Rattle.indicatif_bar.specs.Inside.Cells.{shade_of, begun_text, cells_left, texts_of};
+
+use crate::measures::Fraction;
+use crate::style::padding::push_times;
+use indicatif_text::columns::{Refusal, Style, columns};
+
+/// How the rest of a bar is styled, where colours are on.
+#[derive(Clone, Copy, Debug, Drop)]
+pub(crate) struct RestLook {
+    pub(crate) colours: bool,
+    pub(crate) style: Style,
+}
+
+/// How many cells are whole, and how much of the next is left, of so many.
+fn filled(done: Fraction, cells: u64) -> (u64, u64)
+    requires some { 0 < done.den }
+    requires whole { done.num ≤ done.den }
+    ensures filled { result.0 ≡ done.num * cells / done.den }
+    ensures within { result.0 ≤ cells }
+    ensures left { result.1 ≡ done.num * cells % done.den }
+{
+    let fill = u128::from(done.num) * u128::from(cells);
+    let den = u128::from(done.den);
+    ((fill / den) as u64, (fill % den) as u64)
+}
+
+/// The place of the cluster that shows a cell partly done, if one does.
+fn shade(done: Fraction, cells: u64, clusters: usize) -> Option<usize>
+    requires some { 0 < done.den }
+    requires whole { done.num ≤ done.den }
+    requires many { 2 ≤ clusters }
+    ensures shade { result ≡ shade_of done cells clusters }
+    ensures within { IfSome result (λ k. k < clusters) }
+{
+    let (whole, left) = filled(done, cells);
+    let shades = clusters - 2;
+    if done.num == 0 || cells == 0 || whole == cells || shades == 0 {
+        return None;
+    }
+    let passed = u128::from(left) * (shades as u128) / u128::from(done.den);
+    Some(shades - passed as usize)
+}
+
+/// Appends the bar's cells up to the first that is not begun, and says how many are left.
+fn push_begun(
+    clusters: &[String],
+    done: Fraction,
+    cells: u64,
+    out: &mut String,
+) -> Result<u64, Refusal>
+    requires clusters { 2 ≤ length clusters.now }
+    requires some { 0 < done.den }
+    requires whole { done.num ≤ done.den }
+    ensures left { IfOk result (λ n. n ≡ cells_left done cells (length clusters.now)) }
+    ensures text { OnOk result (string_bytes out.new
+        ≡ string_bytes out.old ++ begun_text (texts_of clusters.now) done cells) }
+    ensures memory { IfErr result (λ e. e ≡ Refusal.Memory) }
+{
+    let (whole, _) = filled(done, cells);
+    push_times(clusters[0].as_str(), whole as usize, out)?;
+    match shade(done, cells, clusters.len()) {
+        Some(k) => {
+            out.push_str(clusters[k].as_str())?;
+            Ok(cells - whole - 1)
+        }
+        None => Ok(cells - whole),
+    }
+}
+
+/// Appends the bar of so many columns.
+pub(crate) fn push_bar(
+    clusters: &[String],
+    rest: RestLook,
+    done: Fraction,
+    width: u64,
+    out: &mut String,
+) -> Result<(), Refusal>
+    requires clusters { 2 ≤ length clusters.now }
+    requires wide { 0 < text_columns (cluster (texts_of clusters.now) 0) }
+    requires some { 0 < done.den }
+    requires whole { done.num ≤ done.den }
+    ensures text { OnOk result (string_bytes out.new ≡ string_bytes out.old
+        ++ bar_text (texts_of clusters.now) rest.colours (numbers_of rest.style) done width) }
+    ensures memory { IfErr result (λ e. e ≡ Refusal.Memory) }
+{
+    let cells = width / columns(clusters[0].as_str()) as u64;
+    let left = push_begun(clusters, done, cells, out)?;
+    let some = rest.style.open(rest.colours, out)?;
+    push_times(clusters[clusters.len() - 1].as_str(), left as usize, out)?;
+    if some {
+        out.push_str("\x1b[0m")?;
+        return Ok(());
+    }
+    Ok(())
+}

@@ -1,0 +1,100 @@
+//! Lists of texts: characters, grapheme clusters, copies.
+ghost use Rattle.std.specs.Prelude.{◌≡◌, List, ℕ, map, IfOk, IfErr};
+ghost use Rattle.indicatif_bar.specs.Builders.{characters_of, clusters_of, tick_fault, progress_fault};
+ghost use Rattle.std.specs.Prelude.{◌==◌};
+ghost use Rattle.std.specs.List.{list_all};
+ghost use Rattle.indicatif_bar.specs.Layout.{text_columns};
+ghost use Rattle.indicatif_bar.specs.Inside.Cells.{texts_of};
+
+use indicatif_text::columns::{Refusal, columns};
+use std::alloc::Global;
+use unicode_segmentation::UnicodeSegmentation;
+
+/// Each character of a text by itself.
+pub(crate) fn characters_of(alloc: Global, text: &str) -> Result<Vec<String>, Refusal>
+    ensures texts { IfOk result (λ v. texts_of v.items ≡ characters_of text.now) }
+    ensures memory { IfErr result (λ e. e ≡ Refusal.Memory) }
+{
+    let mut all = Vec::new(alloc);
+    for c in text.chars() {
+        let mut one = String::new(alloc);
+        one.push(c)?;
+        all.push(one)?;
+    }
+    Ok(all)
+}
+
+/// The grapheme clusters of a text (Unicode, UAX #29).
+pub(crate) fn clusters_of(alloc: Global, text: &str) -> Result<Vec<String>, Refusal>
+    ensures texts { IfOk result (λ v. texts_of v.items ≡ clusters_of text.now) }
+    ensures memory { IfErr result (λ e. e ≡ Refusal.Memory) }
+{
+    let mut all = Vec::new(alloc);
+    for cluster in text.graphemes(true) {
+        all.push(String::from_str(alloc, cluster)?)?;
+    }
+    Ok(all)
+}
+
+/// Texts of the caller's.
+pub(crate) fn copied(alloc: Global, texts: &[&str]) -> Result<Vec<String>, Refusal>
+    ensures texts { IfOk result (λ v. texts_of v.items ≡ map (λ text. text.now) texts.now) }
+    ensures memory { IfErr result (λ e. e ≡ Refusal.Memory) }
+{
+    let mut all = Vec::with_capacity(alloc, texts.len())?;
+    'texts: for text in texts {
+        all.push(String::from_str(alloc, *text)?)?;
+    }
+    Ok(all)
+}
+
+/// The same texts.
+pub(crate) fn cloned(alloc: Global, texts: &[String]) -> Result<Vec<String>, Refusal>
+    ensures texts { IfOk result (λ v. texts_of v.items ≡ texts_of texts.now) }
+    ensures memory { IfErr result (λ e. e ≡ Refusal.Memory) }
+{
+    let mut all = Vec::with_capacity(alloc, texts.len())?;
+    'texts: for text in texts {
+        all.push(String::from_str(alloc, text.as_str())?)?;
+    }
+    Ok(all)
+}
+
+/// Why these tick strings are refused, if they are.
+pub(crate) fn tick_fault(strings: &[String]) -> Option<Refusal>
+    ensures { result ≡ tick_fault (texts_of strings.now) }
+{
+    if strings.len() < 2 {
+        return Some(Refusal::FewTicks);
+    }
+    None
+}
+
+/// Why these clusters are refused, if they are.
+pub(crate) fn progress_fault(clusters: &[String]) -> Option<Refusal>
+    ensures { result ≡ progress_fault (texts_of clusters.now) }
+{
+    if clusters.len() < 2 {
+        return Some(Refusal::FewProgressChars);
+    }
+    let width = columns(clusters[0].as_str());
+    if !all_take(clusters, width) {
+        return Some(Refusal::UnequalWidths);
+    }
+    if width == 0 {
+        return Some(Refusal::ZeroWidthChars);
+    }
+    None
+}
+
+/// Whether each text takes so many columns.
+fn all_take(texts: &[String], width: usize) -> bool
+    ensures { result ≡ list_all (λ text. text_columns text == width) (texts_of texts.now) }
+{
+    'texts: for text in texts {
+        if columns(text.as_str()) != width {
+            return false;
+        }
+    }
+    true
+}

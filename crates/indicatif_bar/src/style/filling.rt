@@ -1,0 +1,105 @@
+//! Lines of a text, and what stands in the place of a wide key's marks.
+ghost use Rattle.std.specs.Prelude.{◌≡◌, ◌++◌, ◌&&◌, if◌then◌else◌, is_none, map, string_bytes, OnOk, IfErr, IsTrue};
+ghost use Rattle.std.specs.List.{list_all, list_any, slice_split};
+ghost use Rattle.indicatif_bar.specs.Bars.{is_bar_line};
+ghost use Rattle.indicatif_term.specs.Frames.{line_text};
+ghost use Rattle.indicatif_bar.specs.Layout.{text_columns};
+ghost use Rattle.indicatif_bar.specs.BarStyles.{is_mark, is_newline, ends_in_mark, columns_left, with_marks_as};
+
+use crate::spare::SpareLines;
+use indicatif_term::draw_target::LineType;
+use indicatif_text::columns::{Refusal, columns};
+
+/// Whether a text has a mark.
+pub(crate) fn has_mark(text: &str) -> bool
+    ensures { result ≡ list_any is_mark text.now }
+{
+    text.as_bytes().iter().any(|b| *b == 0)
+}
+
+/// Where a text's marks stand: how many columns their line leaves free, and whether one ends the text.
+#[derive(Clone, Copy, Debug, Drop)]
+pub(crate) struct Gap {
+    pub(crate) columns: usize,
+    pub(crate) is_last: bool,
+}
+
+impl Gap {
+    /// The gap of a text on a terminal of `width` columns.
+    pub(crate) fn of(text: &str, width: u16) -> Gap
+        ensures columns { result.columns ≡ columns_left width text.now }
+        ensures is_last { result.is_last ≡ ends_in_mark text.now }
+    {
+        Gap {
+            columns: columns_left(text, width),
+            is_last: ends_in_mark(text),
+        }
+    }
+}
+
+/// Whether a mark ends a text.
+fn ends_in_mark(text: &str) -> bool
+    ensures { result ≡ ends_in_mark text.now }
+{
+    match text.as_bytes().last() {
+        Some(b) => *b == 0,
+        None => false,
+    }
+}
+
+/// The columns that the first line with a mark leaves free.
+fn columns_left(text: &str, width: u16) -> usize
+    ensures { result ≡ columns_left width text.now }
+{
+    let mut taken: Option<usize> = None;
+    for line in text.split('\n') {
+        taken = taken_behind(taken, line);
+    }
+    usize::from(width).saturating_sub(taken.unwrap_or(0))
+}
+
+/// The columns of the first line with a mark, where this one follows.
+fn taken_behind(taken: Option<usize>, line: &str) -> Option<usize>
+    ensures { result ≡ (if is_none taken && list_any is_mark line.now then Some (text_columns line.now) else taken) }
+{
+    if taken.is_none() && has_mark(line) {
+        return Some(columns(line));
+    }
+    taken
+}
+
+/// Appends a text with `shown` in the place of each mark.
+pub(crate) fn push_filled(text: &str, shown: &str, out: &mut String) -> Result<(), Refusal>
+    ensures text { OnOk result (string_bytes out.new
+        ≡ string_bytes out.old ++ with_marks_as shown.now text.now) }
+    ensures memory { IfErr result (λ e. e ≡ Refusal.Memory) }
+{
+    let mut started = false;
+    for part in text.split('\0') {
+        if started {
+            out.push_str(shown)?;
+        }
+        out.push_str(part)?;
+        started = true;
+    }
+    Ok(())
+}
+
+/// Appends the lines of a text, in room of `spare`.
+pub(crate) fn push_lines(
+    text: &str,
+    spare: &mut SpareLines,
+    lines: &mut Vec<LineType>,
+) -> Result<(), Refusal>
+    ensures lines { OnOk result (map line_text lines.new.items
+        ≡ map line_text lines.old.items ++ slice_split is_newline text.now) }
+    ensures kind { IsTrue (list_all is_bar_line lines.old.items) → IsTrue (list_all is_bar_line lines.new.items) }
+    ensures memory { IfErr result (λ e. e ≡ Refusal.Memory) }
+{
+    for piece in text.split('\n') {
+        let mut line = spare.text();
+        line.push_str(piece)?;
+        lines.push(LineType::Bar(line))?;
+    }
+    Ok(())
+}

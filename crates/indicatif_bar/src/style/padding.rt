@@ -1,0 +1,92 @@
+//! A text at a width.
+ghost use Rattle.std.specs.Prelude.{◌≡◌, ◌≤◌, ◌++◌, ◌-◌, List, ℕ, string_bytes, OnOk, IfErr};
+ghost use Rattle.indicatif_bar.specs.Layout.{padded, spaces, times, truncated, surrounded};
+
+use indicatif_text::columns::{Refusal, columns, write_ansi_range};
+use indicatif_text::template::Alignment;
+
+/// Where a text stands in a width, and whether it is cut where it is longer.
+#[derive(Clone, Copy, Debug, Drop)]
+pub(crate) struct Place {
+    pub(crate) width: usize,
+    pub(crate) align: Alignment,
+    pub(crate) truncate: bool,
+}
+
+/// Appends `text` at a width: a longer one as it is or truncated, a shorter one with blanks.
+pub(crate) fn push_padded(text: &str, place: Place, out: &mut String) -> Result<(), Refusal>
+    ensures text { OnOk result (string_bytes out.new
+        ≡ string_bytes out.old ++ padded text.now place.width place.align place.truncate) }
+    ensures memory { IfErr result (λ e. e ≡ Refusal.Memory) }
+{
+    let columns = columns(text);
+    if columns <= place.width {
+        push_surrounded(text, place.align, place.width - columns, out)?;
+        return Ok(());
+    }
+    if place.truncate {
+        push_truncated(text, columns, place, out)?;
+        return Ok(());
+    }
+    out.push_str(text)?;
+    Ok(())
+}
+
+/// Appends what is left of a text that takes more columns than there are.
+fn push_truncated(text: &str, columns: usize, place: Place, out: &mut String) -> Result<(), Refusal>
+    requires { place.width ≤ columns }
+    ensures text { OnOk result (string_bytes out.new
+        ≡ string_bytes out.old ++ truncated text.now columns place.align place.width) }
+    ensures memory { IfErr result (λ e. e ≡ Refusal.Memory) }
+{
+    let excess = columns - place.width;
+    match place.align {
+        Alignment::Left => write_ansi_range(text, 0, place.width, out),
+        Alignment::Right => write_ansi_range(text, excess, columns, out),
+        Alignment::Center => {
+            write_ansi_range(text, excess / 2, columns - (excess - excess / 2), out)
+        }
+    }
+}
+
+/// Appends a text with so many blanks round it.
+fn push_surrounded(
+    text: &str,
+    align: Alignment,
+    blanks: usize,
+    out: &mut String,
+) -> Result<(), Refusal>
+    ensures text { OnOk result (string_bytes out.new
+        ≡ string_bytes out.old ++ surrounded text.now align blanks) }
+    ensures memory { IfErr result (λ e. e ≡ Refusal.Memory) }
+{
+    let before = blanks_before(align, blanks);
+    push_times(" ", before, out)?;
+    out.push_str(text)?;
+    push_times(" ", blanks - before, out)?;
+    Ok(())
+}
+
+/// How many of the blanks stand before the text.
+fn blanks_before(align: Alignment, blanks: usize) -> usize
+    ensures text { (text : List ℕ) →
+        surrounded text align blanks ≡ spaces result ++ text ++ spaces (blanks - result) }
+    ensures within { result ≤ blanks }
+{
+    match align {
+        Alignment::Left => 0,
+        Alignment::Right => blanks,
+        Alignment::Center => blanks / 2,
+    }
+}
+
+/// Appends `text` so many times.
+pub(crate) fn push_times(text: &str, count: usize, out: &mut String) -> Result<(), Refusal>
+    ensures text { OnOk result (string_bytes out.new ≡ string_bytes out.old ++ times count text.now) }
+    ensures memory { IfErr result (λ e. e ≡ Refusal.Memory) }
+{
+    'times: for _ in 0..count {
+        out.push_str(text)?;
+    }
+    Ok(())
+}

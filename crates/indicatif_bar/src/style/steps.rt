@@ -1,0 +1,152 @@
+//! What the parts of a template do, found out once.
+ghost use Rattle.std.specs.Prelude.{◌≡◌, [], map, option_map, unwrap_or, IfOk, IfErr, bytes_eq, position, string_bytes};
+ghost use Rattle.indicatif_text.specs.StyleWords.{numbers_of};
+ghost use Rattle.indicatif_text.specs.Template.{part_of};
+ghost use Rattle.indicatif_bar.specs.Inside.Steps.{wide_found, wide_source, layout_of, names_of};
+ghost use Rattle.indicatif_bar.specs.Inside.Steps.{wide_found, wide_source, layout_of, deed_of, deed_of_part, source_of};
+
+use crate::style::keys::{Key, key_named};
+use crate::tabs::push_expanded;
+use indicatif_text::columns::{Refusal, Style};
+use indicatif_text::template::{Alignment, Part};
+use std::alloc::Global;
+
+/// Where the text of a placeholder comes from.
+#[derive(Clone, Copy, Debug, Drop)]
+pub(crate) enum Source {
+    /// The tracker at this place.
+    Tracker(usize),
+    /// A key that needs none.
+    Known(Key),
+    /// Nowhere: the name is unknown.
+    Nothing,
+}
+
+/// A placeholder.
+#[derive(Clone, Copy, Debug, Drop)]
+pub(crate) struct Held {
+    pub(crate) source: Source,
+    pub(crate) align: Alignment,
+    pub(crate) width: Option<u16>,
+    pub(crate) truncate: bool,
+    pub(crate) style: Option<Style>,
+    pub(crate) alternative: Option<Style>,
+}
+
+/// The placeholder of a wide key.
+#[derive(Clone, Copy, Debug, Drop)]
+pub(crate) enum WideKey {
+    /// Of a bar.
+    Bar(Held),
+    /// Of the message.
+    Message(Held),
+}
+
+impl Held {
+    /// The wide key that the placeholder is.
+    pub(crate) fn wide(&self) -> Option<WideKey>
+        ensures { option_map wide_found result ≡ wide_source (layout_of self.now) self.now.source }
+    {
+        match self.source {
+            Source::Known(Key::WideBar) => Some(WideKey::Bar(*self)),
+            Source::Known(Key::WideMessage) => Some(WideKey::Message(*self)),
+            _ => None,
+        }
+    }
+
+    /// The style of a bar's rest.
+    pub(crate) fn alternative_style(&self) -> Style
+        ensures { numbers_of result ≡ unwrap_or (layout_of self.now).alternative [] }
+    {
+        self.alternative.unwrap_or(Style::new())
+    }
+
+    /// The style of the text.
+    pub(crate) fn text_style(&self) -> Style
+        ensures { numbers_of result ≡ unwrap_or (layout_of self.now).style [] }
+    {
+        self.style.unwrap_or(Style::new())
+    }
+}
+
+/// What a part of a template does.
+#[derive(Debug, Drop)]
+pub(crate) enum Step {
+    /// It writes this text.
+    Text(String),
+    /// It ends a line.
+    Break,
+    /// It writes the text of its source.
+    Placeholder(Held),
+}
+
+/// What each part does, where trackers stand under these keys.
+pub(crate) fn steps_of<K>(
+    alloc: Global,
+    parts: &[Part],
+    keys: &[(String, K)],
+    tab: usize,
+) -> Result<Vec<Step>, Refusal>
+    ensures steps { IfOk result (λ steps.
+        map deed_of steps.items ≡ map (deed_of_part (names_of keys.now) tab) (map part_of parts.now)) }
+    ensures memory { IfErr result (λ e. e ≡ Refusal.Memory) }
+{
+    let mut steps = Vec::with_capacity(alloc, parts.len())?;
+    'parts: for part in parts {
+        steps.push(step_of(alloc, part, keys, tab)?)?;
+    }
+    Ok(steps)
+}
+
+/// What a part does.
+fn step_of<K>(alloc: Global, part: &Part, keys: &[(String, K)], tab: usize) -> Result<Step, Refusal>
+    ensures step { IfOk result (λ step.
+        deed_of step ≡ deed_of_part (names_of keys.now) tab (part_of part.now)) }
+    ensures memory { IfErr result (λ e. e ≡ Refusal.Memory) }
+{
+    match part {
+        Part::Literal(literal) => {
+            let mut text = String::new(alloc);
+            push_expanded(literal.as_str(), tab, &mut text)?;
+            Ok(Step::Text(text))
+        }
+        Part::NewLine => Ok(Step::Break),
+        Part::Placeholder {
+            key,
+            align,
+            width,
+            truncate,
+            style,
+            alternative,
+        } => {
+            Ok(Step::Placeholder(Held {
+                source: source_of(key.as_str(), keys),
+                align: *align,
+                width: *width,
+                truncate: *truncate,
+                style: *style,
+                alternative: *alternative,
+            }))
+        }
+    }
+}
+
+/// Where the text of a name comes from.
+fn source_of<K>(name: &str, keys: &[(String, K)]) -> Source
+    ensures { result ≡ source_of (names_of keys.now) name.now }
+{
+    match place_of(name, keys) {
+        Some(place) => Source::Tracker(place),
+        None => match key_named(name) {
+            Some(key) => Source::Known(key),
+            None => Source::Nothing,
+        },
+    }
+}
+
+/// The place of the first tracker of a name.
+fn place_of<K>(name: &str, keys: &[(String, K)]) -> Option<usize>
+    ensures { result ≡ position (λ entry. bytes_eq name.now (string_bytes entry.0)) keys.now }
+{
+    keys.iter().position(|entry| name == entry.0.as_str())
+}

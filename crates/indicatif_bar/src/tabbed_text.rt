@@ -1,0 +1,112 @@
+//! A text that is kept beside what it is with its tabs expanded.
+ghost use Rattle.std.specs.Prelude.{◌≡◌, [], string_bytes, IfOk, OnErr, IsTrue};
+ghost use Rattle.indicatif_bar.specs.Tabs.{TabbedText, expanded, has_tab, is_some_text, shown};
+
+use crate::tabs;
+use std::alloc::{AllocError, Global};
+use std::marker::Model;
+
+/// A text and the width of its tabs. What it is with so many spaces for each tab is at hand; a text without tabs is kept
+/// once.
+#[derive(Debug, Drop)]
+pub(crate) struct TabbedText {
+    text: String,
+    has_tabs: bool,
+    /// The text with its tabs expanded, where it has any; else room for another one.
+    with_spaces: String,
+    tab: usize,
+}
+
+/// Contracts see the text as it was set, and the width.
+impl Model for TabbedText {
+    ghost use Rattle.std.specs.Prelude.{◌≡◌, if◌then◌else◌, string_bytes};
+    ghost use Rattle.indicatif_bar.specs.Tabs.{TabbedText, expanded, has_tab};
+
+    ghost Value = { TabbedText };
+
+    ghost view = { λ t. record { text = string_bytes t.text; tab = t.tab } };
+
+    ghost invariant = { λ t. (t.has_tabs ≡ has_tab (string_bytes t.text))
+        × ((if t.has_tabs then string_bytes t.with_spaces else string_bytes t.text) ≡ expanded t.tab (string_bytes t.text)) };
+}
+
+impl TabbedText {
+    /// An empty text. Takes no memory.
+    pub(crate) fn new(alloc: Global, tab: usize) -> TabbedText
+        ensures { result ≡ record { text = []; tab = tab } }
+    {
+        TabbedText {
+            text: String::new(alloc),
+            has_tabs: false,
+            with_spaces: String::new(alloc),
+            tab,
+        }
+    }
+
+    /// Another text, in the room of this one. An empty one is never refused.
+    pub(crate) fn refilled(self, text: &str, tab: usize) -> Result<TabbedText, AllocError>
+        ensures text { IfOk result (λ t. t ≡ record { text = text.now; tab = tab }) }
+        ensures needed { OnErr result (IsTrue (is_some_text text.now)) }
+    {
+        let mut own = self.text;
+        let mut with_spaces = self.with_spaces;
+        own.clear();
+        own.push_str(text)?;
+        let has_tabs = tabs::has_tab(text);
+        if has_tabs {
+            with_spaces.clear();
+            tabs::push_expanded(text, tab, &mut with_spaces)?;
+        }
+        Ok(TabbedText {
+            text: own,
+            has_tabs,
+            with_spaces,
+            tab,
+        })
+    }
+
+    /// The text with its tabs expanded.
+    pub(crate) fn shown(&self) -> &str
+        ensures { result.now ≡ shown self.now }
+    {
+        if self.has_tabs {
+            return self.with_spaces.as_str();
+        }
+        self.text.as_str()
+    }
+
+    /// What the text is with another width; it may be anything where the text has no tab, and is never refused then.
+    pub(crate) fn at_width(&self, alloc: Global, tab: usize) -> Result<String, AllocError>
+        ensures needed { OnErr result (IsTrue (has_tab self.now.text)) }
+        ensures text { IfOk result (λ s. IsTrue (has_tab self.now.text) → string_bytes s ≡ expanded tab self.now.text) }
+    {
+        let mut with_spaces = String::new(alloc);
+        if self.has_tabs {
+            tabs::push_expanded(self.text.as_str(), tab, &mut with_spaces)?;
+        }
+        Ok(with_spaces)
+    }
+
+    /// Takes what the text is with another width.
+    pub(crate) fn put_width(&mut self, with_spaces: String, tab: usize)
+        requires { IsTrue (has_tab self.old.text) → string_bytes with_spaces ≡ expanded tab self.old.text }
+        ensures { self.new ≡ record self.old { tab = tab } }
+    {
+        if self.has_tabs {
+            self.with_spaces = with_spaces;
+        }
+        self.tab = tab;
+    }
+
+    /// Another one, equal to this one.
+    pub(crate) fn try_clone(&self, alloc: Global) -> Result<TabbedText, AllocError>
+        ensures { IfOk result (λ other. other ≡ self.now) }
+    {
+        Ok(TabbedText {
+            text: String::from_str(alloc, self.text.as_str())?,
+            has_tabs: self.has_tabs,
+            with_spaces: String::from_str(alloc, self.with_spaces.as_str())?,
+            tab: self.tab,
+        })
+    }
+}

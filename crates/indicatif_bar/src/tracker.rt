@@ -1,0 +1,166 @@
+//! Keys of a template that are the caller's own.
+ghost use Rattle.std.specs.Prelude.{◌≡◌, ℕ, List, ◌++◌, [], IfOk, IfErr, OnOk, OnErr, string_bytes};
+ghost use Rattle.indicatif_bar.specs.Progress.{Progress};
+ghost use Rattle.indicatif_bar.specs.Trackers.{Tracking, writes_nothing, tells, entries, changed_trackers};
+
+use crate::progress::ProgressState;
+use indicatif_text::columns::{Moment, Refusal};
+use std::alloc::Global;
+use std::marker::Model;
+use std::sync::Arc;
+
+/// What stands under a key of the caller's own in a template.
+///
+/// What it means is one record: its text at a state and a moment, and what a tick and a reset leave of it. A text follows
+/// from the tracker, the state and the moment alone. Each tick of a bar ticks its trackers, and a reset of the bar resets
+/// them.
+///
+/// ```
+/// let style = ProgressStyle::with_template(alloc, "{msg} {left}")?.with_key("left", Left { of: 10 })?;
+/// ```
+pub trait ProgressTracker: Sized + Send + Sync + Drop {
+    /// The text, and what a tick and a reset leave.
+    ghost means: { Tracking Self };
+
+    /// The bar has ticked, and is in this state at this moment.
+    fn tick(&mut self, state: &ProgressState, now: Moment)
+        ensures { self.new ≡ means.ticked self.old state.now now };
+
+    /// The bar was reset, and is in this state at this moment.
+    fn reset(&mut self, state: &ProgressState, now: Moment)
+        ensures { self.new ≡ means.was_reset self.old state.now now };
+
+    /// Appends the text. A tab in it is shown as the bar's other tabs are.
+    ///
+    /// Refused: `Memory`, with `out` as before.
+    fn write(&self, state: &ProgressState, now: Moment, out: &mut String) -> Result<(), Refusal>
+        ensures text { OnOk result (string_bytes out.new
+            ≡ string_bytes out.old ++ means.text self.now state.now now) }
+        ensures unchanged { OnErr result (string_bytes out.new ≡ string_bytes out.old) }
+        ensures memory { IfErr result (λ e. e ≡ Refusal.Memory) };
+
+    /// Another tracker, equal to this one.
+    ///
+    /// Refused: `Memory`.
+    fn try_clone(&self) -> Result<Self, Refusal>
+        ensures same { IfOk result (λ other. other ≡ self.now) }
+        ensures memory { IfErr result (λ e. e ≡ Refusal.Memory) };
+}
+
+/// The tracker of a style without keys of its own: its text is empty.
+#[derive(Clone, Copy, Debug, Drop, PartialEq, Eq)]
+pub struct NoTracker;
+
+impl ProgressTracker for NoTracker {
+    ghost means = { writes_nothing };
+
+    fn tick(&mut self, _state: &ProgressState, _now: Moment) {}
+
+    fn reset(&mut self, _state: &ProgressState, _now: Moment) {}
+
+    fn write(
+        &self,
+        _state: &ProgressState,
+        _now: Moment,
+        _out: &mut String,
+    ) -> Result<(), Refusal> {
+        Ok(())
+    }
+
+    fn try_clone(&self) -> Result<NoTracker, Refusal> {
+        Ok(*self)
+    }
+}
+
+/// What tells a text for an `FnTracker`: a caller's type that says which text it tells. A closure is kept in such a type,
+/// beside the fact of what it answers.
+pub trait TellsText: Sized + Send + Sync + Drop {
+    /// The text at a state and a moment, in bytes of UTF-8.
+    ghost told: { Self → Progress → ℕ → List ℕ };
+
+    /// That text.
+    ///
+    /// Refused: `Memory`.
+    fn tell(&self, state: &ProgressState, now: Moment) -> Result<String, Refusal>
+        ensures text { IfOk result (λ text. string_bytes text ≡ told self.now state.now now) }
+        ensures memory { IfErr result (λ e. e ≡ Refusal.Memory) };
+}
+
+/// A tracker whose text a value of the caller's tells, which its clones share. Ticks and resets leave it as it is.
+#[derive(Drop)]
+pub struct FnTracker<F> {
+    teller: Arc<F, Global>,
+}
+
+/// Contracts see what tells the text.
+impl<F> Model for FnTracker<F> {
+    ghost use Rattle.std.specs.Arc.{arc_value};
+
+    ghost Value = { F };
+
+    ghost view = { λ tracker. arc_value tracker.teller };
+}
+
+impl<F: TellsText> FnTracker<F> {
+    /// A tracker of the text that `teller` tells.
+    ///
+    /// Refused: `Memory`; the teller is given up.
+    pub fn new(alloc: Global, teller: F) -> Result<FnTracker<F>, Refusal>
+        ensures teller { IfOk result (λ tracker. tracker ≡ teller) }
+        ensures memory { IfErr result (λ e. e ≡ Refusal.Memory) }
+    {
+        match Arc::new(alloc, teller) {
+            Ok(teller) => Ok(FnTracker { teller }),
+            Err(_) => Err(Refusal::Memory),
+        }
+    }
+}
+
+impl<F: TellsText> ProgressTracker for FnTracker<F> {
+    ghost means = { tells F.told };
+
+    fn tick(&mut self, _state: &ProgressState, _now: Moment) {}
+
+    fn reset(&mut self, _state: &ProgressState, _now: Moment) {}
+
+    fn write(&self, state: &ProgressState, now: Moment, out: &mut String) -> Result<(), Refusal> {
+        let text = self.teller.tell(state, now)?;
+        out.push_str(text.as_str())?;
+        Ok(())
+    }
+
+    fn try_clone(&self) -> Result<FnTracker<F>, Refusal> {
+        match Arc::try_clone(&self.teller) {
+            Ok(teller) => Ok(FnTracker { teller }),
+            Err(_) => Err(Refusal::Memory),
+        }
+    }
+}
+
+/// Ticks the trackers of these entries.
+pub(crate) fn tick_all<K: ProgressTracker>(
+    keys: &mut Vec<(String, K)>,
+    state: &ProgressState,
+    now: Moment,
+)
+    ensures { entries keys.new.items
+        ≡ changed_trackers (λ k. K.means.ticked k state.now now) (entries keys.old.items) }
+{
+    for entry in keys.iter_mut() {
+        entry.1.tick(state, now);
+    }
+}
+
+/// Resets the trackers of these entries.
+pub(crate) fn reset_all<K: ProgressTracker>(
+    keys: &mut Vec<(String, K)>,
+    state: &ProgressState,
+    now: Moment,
+)
+    ensures { entries keys.new.items
+        ≡ changed_trackers (λ k. K.means.was_reset k state.now now) (entries keys.old.items) }
+{
+    for entry in keys.iter_mut() {
+        entry.1.reset(state, now);
+    }
+}

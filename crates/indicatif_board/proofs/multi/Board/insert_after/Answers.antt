@@ -1,0 +1,36 @@
+use Rattle.std.proofs.Common.{◌+◌, sym, ap, subst, option_map}
+use Rattle.indicatif_bar.specs.Machines.{target_of}
+use Rattle.indicatif_bar.specs.Runs.{CallMade}
+use Rattle.indicatif_board.specs.BoardBars.{board_bars}
+use Rattle.indicatif_board.specs.BoardValues.{id_of}
+use Rattle.indicatif_board.specs.Boards.{After, Insert, or_refused, inserted, board}
+use Rattle.indicatif_board.specs.Candidates.{entrant_of, given}
+use Rattle.indicatif_board.specs.Multi.{IsIn, known}
+use Rattle.indicatif_board.proofs.BoardCallLemmas.{made_by_insertion, made_turned_away, turned_quietly}
+use Rattle.indicatif_board.proofs.multi.Board.insert_after.Goals as goal
+
+pub returns-clause-leads : goal.returns-clause-leads
+unfolding IsIn
+returns-clause-leads g c = λ now mark s inside.
+    let tracks = g.K.ProgressTracker.means in
+    let f = c.in-Ok.ensures.found mark s inside in
+    let d = c.insert_at.ensures.inserted mark s (After (id_of c.args.anchor)) inside (ap (λ k. k + 1) f.1.0) in
+    let old = known g.T.TermLike.view c.args.self.now in
+    let same = ap (option_map g.T.TermLike.view) c.insert_at.ensures.terminal in (
+      d.0,
+      d.1,
+      subst (λ o. CallMade (board (board_bars tracks) mark) old o (Insert (After (id_of c.args.anchor)) (entrant_of c.args.candidate), now) s (given c.insert_at.result) d.0) (sym same)
+          (made_by_insertion tracks mark old (After (id_of c.args.anchor)) (entrant_of c.args.candidate) now s (given c.insert_at.result) d.0 f.0 (d.3 (target_of old)) c.insert_at.ensures.quiet d.2),
+    )
+
+pub returns-in-Err-clause-leads : goal.returns-in-Err-clause-leads
+returns-in-Err-clause-leads g c = λ now mark s inside.
+    let tracks = g.K.ProgressTracker.means in
+    let old = known g.T.TermLike.view c.args.self.now in
+    let id = id_of c.args.anchor in
+    let why = c.in-Err.ensures.found mark s inside in (
+      s,
+      inside,
+      made_turned_away tracks mark old old (Insert (After id) (entrant_of c.args.candidate)) now s c.in-Err.refusal
+          (ap (λ o. or_refused o (inserted mark (After id) (entrant_of c.args.candidate) s) s) why) (turned_quietly mark id s c.in-Err.refusal why),
+    )

@@ -1,0 +1,28 @@
+use Rattle.std.proofs.Common.{◌≡◌, ◌-◌, ◌∙◌, length, sym, ap, refl, subst, arith, option_map}
+use Rattle.std.specs.Vec.{vec_len}
+use Rattle.indicatif_term.specs.Engines.{is_bottom}
+use Rattle.indicatif_bar.specs.Machines.{target_of}
+use Rattle.indicatif_bar.specs.Runs.{CallMade}
+use Rattle.indicatif_board.specs.BoardBars.{board_bars}
+use Rattle.indicatif_board.specs.Boards.{FromBack, Insert, board}
+use Rattle.indicatif_board.specs.Candidates.{entrant_of, given}
+use Rattle.indicatif_board.specs.Inside.Keeps.{made_by}
+use Rattle.indicatif_board.specs.Multi.{IsIn, known}
+use Rattle.indicatif_board.proofs.MemberLemmas.{members_length}
+use Rattle.indicatif_board.proofs.BoardCallLemmas.{made_by_insertion}
+use Rattle.indicatif_board.proofs.multi.Board.insert_from_back.Goals as goal
+
+pub returns-clause-leads : goal.returns-clause-leads
+unfolding IsIn
+returns-clause-leads g c = λ now mark s inside.
+    let tracks = g.K.ProgressTracker.means in
+    let b = c.args.self.now.shown in
+    let size : vec_len b.members ≡ length s.members = omega (arith, b.members.ok, members_length b.frame.items b.members.items (made_by b.next) (is_bottom b.alignment) b.limiter s inside.1) in
+    let d = c.insert_at.ensures.inserted mark s (FromBack c.args.count) inside (c.saturating_sub-at.ensures ∙ ap (λ k. k - c.args.count) (c.len.ensures ∙ size)) in
+    let old = known g.T.TermLike.view c.args.self.now in
+    let same = ap (option_map g.T.TermLike.view) c.insert_at.ensures.terminal in (
+      d.0,
+      d.1,
+      subst (λ o. CallMade (board (board_bars tracks) mark) old o (Insert (FromBack c.args.count) (entrant_of c.args.candidate), now) s (given c.insert_at.result) d.0) (sym same)
+          (made_by_insertion tracks mark old (FromBack c.args.count) (entrant_of c.args.candidate) now s (given c.insert_at.result) d.0 refl (d.3 (target_of old)) c.insert_at.ensures.quiet d.2),
+    )

@@ -1,0 +1,18 @@
+use Rattle.std.proofs.Common.{refl, false, None}
+use Rattle.indicatif_bar.specs.Machines.{target_of}
+use Rattle.indicatif_board.specs.BoardBars.{board_bars}
+use Rattle.indicatif_board.specs.Boards.{Log, log_of}
+use Rattle.indicatif_board.specs.Multi.{known}
+use Rattle.indicatif_board.proofs.BoardCallLemmas.{made_by_draw}
+use Rattle.indicatif_board.proofs.multi.Board.println.Goals as goal
+
+pub returns-clause-leads : goal.returns-clause-leads
+returns-clause-leads g c = λ mark s inside.
+    let tracks = g.K.ProgressTracker.means in
+    let old = known g.T.TermLike.view c.args.self.now in
+    let d = c.draw.ensures.drew mark false s None inside tt in (
+      d.0,
+      d.1,
+      made_by_draw tracks mark old (known g.T.TermLike.view c.draw.new.self) (Log c.args.text.now) c.args.now s (log_of (board_bars tracks)
+          (target_of old) c.args.text.now c.args.now s s) s.lists c.draw.result d.0 refl refl d.2,
+    )

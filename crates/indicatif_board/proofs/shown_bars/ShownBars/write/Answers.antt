@@ -1,0 +1,57 @@
+use Rattle.std.proofs.Common.{◌≡◌, ◌∙◌, ap, subst, map, arith, Ok, Err}
+use Rattle.std.proofs.lemmas.Result.{err_from_is_err_and}
+use Rattle.std.proofs.lemmas.List.Sums.{prefix_len-le-length}
+use Rattle.indicatif_term.specs.Frames.{bar_lines}
+use Rattle.indicatif_term.specs.Engines.{is_bottom}
+use Rattle.indicatif_board.specs.Inside.Keeps.{made_by}
+use Rattle.indicatif_board.specs.Members.{leaders}
+use Rattle.indicatif_board.specs.Inside.Keeps.{Holds, PutsFrame}
+use Rattle.indicatif_board.specs.Inside.Writings.{writing_by}
+use Rattle.indicatif_board.proofs.MemberLemmas.{leaders_of}
+use Rattle.indicatif_board.proofs.BoardDrawLemmas.{frame_drew, written_holds, kept_ready}
+use Rattle.indicatif_board.proofs.shown_bars.ShownBars.write.Goals as goal
+
+pub put-requires : goal.put-requires
+put-requires g c =
+    omega (arith, prefix_len-le-length (λ m. m.dropped) c.deref.result.now, c.leading-gone.ensures, c.deref.ensures.len, c.deref-2.ensures.len, c.args.self.now.even)
+
+pub returns-in_err-put-clause-drew : goal.returns-in_err-put-clause-drew
+returns-in_err-put-clause-drew g c = λ mark now takes ask s laid asked some allows holds lists_stay fits.
+    let tracks = g.K.ProgressTracker.means in
+    let b = c.args.self.now in
+    let view = g.T.TermLike.view in
+    let bottom = is_bottom b.alignment in
+    let writing = writing_by c.args.writing in
+    let gone = c.leading-gone.result in
+    let gone_is : gone ≡ leaders laid.members = c.leading-gone.ensures ∙ leaders_of c.deref.result.now laid.members (c.deref.ensures.value ∙ holds.members_are) in
+    let puts = subst (λ f. PutsFrame view writing bottom gone (map bar_lines f) c.args.engine.now c.put.new.engine (Err c.in_err-put.field-0.0)) c.deref-2.ensures.value c.in_err-put.ensures in
+    let ready = kept_ready b.frame.items b.members.items (made_by b.next) bottom b.limiter ask now laid allows holds in
+    let x = err_from_is_err_and c.from_residual.result c.from_residual.ensures.1 in
+    rw (x.1 ∙ ap Err x.2) (frame_drew tracks view mark takes ask now writing s laid c.args.engine.now b.frame.items b.members.items (made_by b.next) bottom b.limiter
+    (Holds b.frame.items b.members.items (made_by b.next) bottom b.limiter) c.put.new.engine (Err c.in_err-put.field-0.0) gone gone_is asked some (ap (λ a. a.0) allows) lists_stay fits ready puts
+    (ready, record { members_are = ready.members_are; frame_is = ready.frame_is; made_is = ready.made_is; bottom_is = ready.bottom_is; limiter_is = ready.limiter_is }))
+
+pub drop_front-requires : goal.drop_front-requires
+drop_front-requires g c =
+    omega (arith, prefix_len-le-length (λ m. m.dropped) c.deref.result.now, c.leading-gone.ensures, c.deref.ensures.len, c.args.self.now.even)
+
+pub drop_front-requires-2 : goal.drop_front-requires-2
+drop_front-requires-2 g c =
+    omega (arith, prefix_len-le-length (λ m. m.dropped) c.deref.result.now, c.leading-gone.ensures, c.deref.ensures.len)
+
+pub returns-clause-drew : goal.returns-clause-drew
+returns-clause-drew g c = λ mark now takes ask s laid asked some allows holds lists_stay fits.
+    let tracks = g.K.ProgressTracker.means in
+    let b = c.args.self.now in
+    let view = g.T.TermLike.view in
+    let bottom = is_bottom b.alignment in
+    let writing = writing_by c.args.writing in
+    let gone = c.leading-gone.result in
+    let gone_is : gone ≡ leaders laid.members = c.leading-gone.ensures ∙ leaders_of c.deref.result.now laid.members (c.deref.ensures.value ∙ holds.members_are) in
+    let puts = subst (λ f. PutsFrame view writing bottom gone (map bar_lines f) c.args.engine.now c.put.new.engine (Ok tt)) c.deref-2.ensures.value c.in_ok-put.ensures in
+    let ready = kept_ready b.frame.items b.members.items (made_by b.next) bottom b.limiter ask now laid allows holds in
+    frame_drew tracks view mark takes ask now writing s laid c.args.engine.now b.frame.items b.members.items (made_by b.next) bottom b.limiter
+    (Holds c.drop_front.new.items.items c.drop_front-2.new.items.items (made_by b.next) bottom b.limiter) c.put.new.engine (Ok tt) gone gone_is asked some (ap
+    (λ a. a.0) allows) lists_stay fits ready puts
+    (written_holds tracks view mark takes ask now writing s laid c.args.engine.now b.frame.items b.members.items
+    (made_by b.next) bottom b.limiter gone c.drop_front.new.items.items c.drop_front-2.new.items.items c.drop_front.ensures c.drop_front-2.ensures gone_is ready)

@@ -1,0 +1,256 @@
+-- Worked cases of a board: what calls at the moment 0 answer, and the rows that stand then. The terminal never fails.
+use Rattle.std.specs.Prelude.{◌≡◌, ℕ, Bool, true, false, List, [], ◌∷◌, ◌++◌, map, replicate, codes, Option, Some, None}
+use Rattle.std.specs.declared.io.ErrorKind.{ErrorKind}
+use Rattle.indicatif_text.specs.declared.refusal.Refusal.TheVariants.{ForeignBar, NotMember, TooWide, Memory, ElapsedBeyondClock, Terminal as Failure}
+use Rattle.indicatif_text.specs.declared.refusal.Drawn.TheVariants.{Yes, Limited, Hidden}
+use Rattle.indicatif_term.specs.Lists.{forgotten_lists, all_rows}
+use Rattle.indicatif_term.specs.Limiters.{Limiter, draw_limiter}
+use Rattle.indicatif_bar.specs.Machines.{Target, outcomes, Leads}
+use Rattle.indicatif_bar.specs.Cases.{terminal_of_size, nowhere, rows_of_lines, bar_saying, untracked as no_trackers}
+use Rattle.indicatif_bar.specs.Finishes.{AndLeave}
+use Rattle.indicatif_bar.specs.Commands.{BarRecord, Command, Tick, SetElapsed, PutFinish}
+use Rattle.indicatif_bar.specs.declared.state.Ask.{Ask}
+use Rattle.indicatif_bar.specs.declared.state.Ask.TheVariants.{No, Unforced, Forced}
+use Rattle.indicatif_board.specs.BoardBars.{board_bars}
+use Rattle.indicatif_board.specs.Members.{order_of, Member}
+use Rattle.indicatif_board.specs.Boards.{BoardKind, BoardState, opening_board, Id, End, Index, FromBack, Before, After, New, Old, Call, Insert, Remove, Drop, Log, Clear, Redraw, Align, Change, Answer, Given, Done, Drew, Refused, board}
+
+-- ---- a plain bar
+
+-- how far a plain bar is
+pub data Stage : Type 0 where
+  Running : Stage
+  Shown : Stage
+  Gone : Stage
+
+-- one line, a stage, and the stage that its finish gives
+pub record Plain : Type 0 where
+  pub text : List ℕ
+  pub stage : Stage
+  pub at_finish : Stage
+
+-- what it can be told
+pub data Word : Type 0 where
+  Touch : Word
+  Say : (text : List ℕ) → Word
+  Finish : (stage : Stage) → Word
+
+-- a draw of a bar at this stage
+abbrev pub ask_at : Stage → Ask
+ask_at Running = Unforced
+ask_at _ = Forced
+
+-- the bar then, and the draw that is asked for
+abbrev pub plain_after : Word → Plain → ℕ → Plain × Ask
+plain_after Touch b now = (b, ask_at b.stage)
+plain_after (Say text) b now = (record b { text = text }, ask_at b.stage)
+plain_after (Finish stage) b now = (record b { stage = stage }, Forced)
+
+abbrev pub says_text : Word → Plain → ℕ → Bool
+says_text (Say text) b now = true
+says_text _ b now = false
+
+-- no line once it finished hidden or where it says nothing
+abbrev pub line_of : List ℕ → List (List ℕ)
+line_of [] = []
+line_of (c ∷ text) = (c ∷ text) ∷ []
+
+abbrev pub lines_at : Stage → List ℕ → List (List ℕ)
+lines_at Gone text = []
+lines_at _ text = line_of text
+
+-- its owner is gone: it is finished by a draw, unless it is already
+abbrev pub plain_end : Stage → Stage → Stage
+plain_end Running at_finish = at_finish
+plain_end stage at_finish = stage
+
+abbrev pub end_asked : Stage → Ask
+end_asked Running = Forced
+end_asked _ = No
+
+abbrev pub plain : BoardKind Plain Word
+plain = record {
+  bars = record {
+    refused = λ word b now. None;
+    takes = says_text;
+    after = plain_after;
+    lines = λ b now columns. lines_at b.stage b.text;
+  };
+  left = λ now b. record b { stage = plain_end b.stage b.at_finish };
+  left_asked = λ now b. end_asked b.stage;
+  left_takes = λ now b. false;
+}
+
+-- ---- runs
+
+abbrev pub PlainCall : Type 0
+PlainCall = Call Plain Word
+
+-- a bar of the board with the mark 1
+abbrev pub id : ℕ → Id
+id number = record { mark = 1; number = number }
+
+-- a bar that finishes hidden where nobody says how, with this text
+abbrev pub plain_bar : List ℕ → Plain
+plain_bar text = record { text = text; stage = Running; at_finish = Gone }
+
+abbrev pub add : List ℕ → PlainCall
+add text = Insert End (New (plain_bar text))
+
+abbrev pub touch : ℕ → PlainCall
+touch number = Change (id number) Touch
+
+abbrev pub say : ℕ → List ℕ → PlainCall
+say number text = Change (id number) (Say text)
+
+abbrev pub finish_it : ℕ → PlainCall
+finish_it number = Change (id number) (Finish Shown)
+
+abbrev pub drop_it : ℕ → PlainCall
+drop_it number = Drop (id number)
+
+abbrev pub remove_it : ℕ → PlainCall
+remove_it number = Remove (id number)
+
+-- what calls answer, and the state then
+abbrev pub ran_on : Option Limiter → Target → List PlainCall → List Answer × BoardState Plain
+ran_on limiter target calls = outcomes (board plain 1) target (map (λ call. (call, 0)) calls) (opening_board limiter)
+
+abbrev pub ran_in : ℕ → ℕ → List PlainCall → List Answer × BoardState Plain
+ran_in rows columns calls = ran_on None (terminal_of_size rows columns) calls
+
+-- the rows that stand after calls are those of these lines
+abbrev pub Leaves : ℕ → ℕ → List PlainCall → List (List ℕ) → Type 0
+Leaves rows columns calls lines = all_rows columns (ran_in rows columns calls).1.lists ≡ rows_of_lines columns lines
+
+-- ---- rows
+
+-- a line of 8 columns on 6 takes two rows; a shorter one takes their place
+abbrev pub TwoBars : Type 0
+TwoBars =
+    Leaves 4 6 (add (codes "aaaaaaaa") ∷ add (codes "b") ∷ touch 0 ∷ touch 1 ∷ []) (codes "aaaaaa" ∷ codes "aa" ∷ codes "b" ∷ [])
+    × Leaves 4 6 (add (codes "aaaaaaaa") ∷ add (codes "b") ∷ touch 0 ∷ touch 1 ∷ say 0 (codes "a") ∷ []) (codes "a" ∷ codes "b" ∷ [])
+
+-- of three bars on two rows the first two are shown
+abbrev pub ThreeOnTwo : Type 0
+ThreeOnTwo = Leaves 2 9 (add (codes "a") ∷ add (codes "b") ∷ add (codes "c") ∷ touch 0 ∷ touch 1 ∷ touch 2 ∷ []) (codes "a" ∷ codes "b" ∷ [])
+
+-- a finished bar that is dropped leaves its row above
+abbrev pub LeftAbove : Type 0
+LeftAbove =
+    Leaves 2 10 (add (codes "k") ∷ add (codes "x") ∷ touch 0 ∷ touch 1 ∷ finish_it 0 ∷ drop_it 0 ∷ add (codes "y") ∷ touch 2 ∷ Log (codes "l") ∷ [])
+    (codes "k" ∷ codes "l" ∷ codes "x" ∷ codes "y" ∷ [])
+    × Leaves 2 10 (Align true ∷ add (codes "k") ∷ add (codes "x") ∷ touch 0 ∷ touch 1 ∷ finish_it 0 ∷ drop_it 0 ∷ add (codes "y") ∷ touch 2 ∷ remove_it 1 ∷ Log (codes "l") ∷ [])
+    (codes "k" ∷ codes "l" ∷ codes "y" ∷ [])
+
+-- a bar that leaves its row and one that hides, both dropped: a log takes the row that was kept
+abbrev pub BothDropped : Type 0
+BothDropped = Leaves 10 9
+    (Insert End (New (record { text = codes "A"; stage = Running; at_finish = Shown })) ∷ add (codes "B") ∷ touch 0 ∷ touch 1 ∷ drop_it 0 ∷ drop_it 1 ∷ Log (codes "L") ∷ [])
+    (codes "L" ∷ [])
+
+-- at the bottom: a bar that is removed leaves a blank row above; one that is dropped passes on with it
+abbrev pub AtTheBottom : Type 0
+AtTheBottom =
+    let calls = Align true ∷ add (codes "m1") ∷ add (codes "m2") ∷ add (codes "m3") ∷ touch 0 ∷ touch 1 ∷ touch 2 ∷ remove_it 1 ∷ touch 0 ∷ [] in
+    Leaves 6 9 calls ([] ∷ codes "m1" ∷ codes "m3" ∷ [])
+    × Leaves 6 9 (calls ++ finish_it 0 ∷ drop_it 0 ∷ Log (codes "L") ∷ []) (codes "L" ∷ [] ∷ codes "m3" ∷ [])
+
+-- the order after insertions at all places; a bar that is there stays; a bar of another board, and one that is gone
+abbrev pub Ordered : Type 0
+Ordered =
+    let p = New (plain_bar (codes "p")) in
+    let foreign : Id = record { mark = 2; number = 0 } in
+    let calls = add (codes "p") ∷ add (codes "p") ∷ add (codes "p") ∷ Insert (Before (id 0)) p ∷ Insert (After (id 3)) p ∷ Insert (After (id 3)) p ∷ Insert (Before (id 1)) p ∷ [] in
+    let again = ran_in 5 9 (calls ++ Insert End (Old (id 4)) ∷ Insert (Before foreign) p ∷ drop_it 4 ∷ drop_it 4 ∷ touch 4 ∷ Insert (Before (id 4)) p ∷ Insert (After (id 3)) (Old foreign) ∷ remove_it 4 ∷ []) in
+    (order_of (ran_in 5 9 calls).1.members ≡ 3 ∷ 5 ∷ 4 ∷ 0 ∷ 6 ∷ 1 ∷ 2 ∷ [])
+    × (again.0 ≡ map (λ n. Given (id n)) (0 ∷ 1 ∷ 2 ∷ 3 ∷ 4 ∷ 5 ∷ 6 ∷ [])
+    ++ Given (id 4) ∷ Refused ForeignBar ∷ Drew Yes ∷ Refused NotMember ∷ Refused NotMember ∷ Refused NotMember ∷ Refused ForeignBar ∷ Done ∷ [])
+    × (order_of again.1.members ≡ 3 ∷ 5 ∷ 4 ∷ 0 ∷ 6 ∷ 1 ∷ 2 ∷ [])
+    × (order_of (ran_in 5 9 (add [] ∷ add [] ∷ Insert (Index 1) p ∷ Insert (Index 9) p ∷ Insert (FromBack 1) p ∷ Insert (FromBack 9) p ∷ [])).1.members ≡ 5 ∷ 0 ∷ 2 ∷ 1 ∷ 4 ∷ 3 ∷ [])
+
+-- an empty text is one empty line above the bar
+abbrev pub EmptyLog : Type 0
+EmptyLog = Leaves 5 9 (add (codes "a") ∷ touch 0 ∷ Log [] ∷ []) ([] ∷ codes "a" ∷ [])
+
+-- a bar that is removed stays shown until the next draw
+abbrev pub RemovedLater : Type 0
+RemovedLater =
+    Leaves 4 10 (add (codes "a") ∷ add (codes "b") ∷ touch 0 ∷ touch 1 ∷ remove_it 0 ∷ []) (codes "a" ∷ codes "b" ∷ [])
+    × Leaves 4 10 (add (codes "a") ∷ add (codes "b") ∷ touch 0 ∷ touch 1 ∷ remove_it 0 ∷ touch 1 ∷ []) (codes "b" ∷ [])
+
+-- a bar that is dropped behind the rows of a removed one waits for the next draw
+abbrev pub WaitsBehind : Type 0
+WaitsBehind = Leaves 4 10 (add (codes "a") ∷ add (codes "b") ∷ touch 0 ∷ finish_it 1 ∷ remove_it 0 ∷ drop_it 1 ∷ add (codes "c") ∷ touch 2 ∷ []) (codes "b" ∷ codes "c" ∷ [])
+
+-- a long text takes all its rows; bars that don't fit are cut off
+abbrev pub LongLog : Type 0
+LongLog =
+    Leaves 3 5 (add (codes "x") ∷ touch 0 ∷ Log (codes "abcdefghijk") ∷ []) (codes "abcde" ∷ codes "fghij" ∷ codes "k" ∷ codes "x" ∷ [])
+    × Leaves 2 10 (add (codes "a") ∷ add (codes "b") ∷ add (codes "c") ∷ touch 0 ∷ touch 1 ∷ touch 2 ∷ Log (codes "l") ∷ []) (codes "l" ∷ codes "a" ∷ codes "b" ∷ [])
+
+-- removed twice is done twice; told then, it isn't there
+abbrev pub RemovedTwice : Type 0
+RemovedTwice = (ran_in 4 10 (add (codes "a") ∷ remove_it 0 ∷ remove_it 0 ∷ touch 0 ∷ [])).0 ≡ Given (id 0) ∷ Done ∷ Done ∷ Refused NotMember ∷ []
+
+-- a line that is too wide for the terminal: no bar is drawn until its bar is removed
+abbrev pub TooWideForAll : Type 0
+TooWideForAll = (ran_in 1 1 (add (codes "a") ∷ touch 0 ∷ add (0xE5 ∷ 0x9B ∷ 0xBD ∷ []) ∷ touch 1 ∷ touch 0 ∷ remove_it 1 ∷ touch 0 ∷ [])).0
+    ≡ Given (id 0) ∷ Drew Yes ∷ Given (id 1) ∷ Refused TooWide ∷ Refused TooWide ∷ Done ∷ Drew Yes ∷ []
+
+-- 20 draws a second: the 21st at once is limited, a forced one isn't
+abbrev pub TwentyAtOnce : Type 0
+TwentyAtOnce = (ran_on (Some (draw_limiter 20 0)) (terminal_of_size 5 9) (add (codes "a") ∷ replicate 21 (touch 0) ++ say 0 (codes "b") ∷ Redraw ∷ finish_it 0 ∷ touch 0 ∷ [])).0
+    ≡ Given (id 0) ∷ replicate 20 (Drew Yes) ++ Drew Limited ∷ Drew Limited ∷ Drew Yes ∷ Drew Yes ∷ Drew Yes ∷ []
+
+-- on a hidden target a text is dropped, and a bar that is dropped leaves
+abbrev pub Unseen : Type 0
+Unseen =
+    let both = ran_on None (nowhere) (add (codes "a") ∷ add (codes "b") ∷ touch 0 ∷ Log (codes "l") ∷ drop_it 1 ∷ drop_it 0 ∷ Clear ∷ []) in
+    (both.0 ≡ Given (id 0) ∷ Given (id 1) ∷ Drew Hidden ∷ Drew Hidden ∷ Drew Hidden ∷ Drew Hidden ∷ Drew Hidden ∷ [])
+    × (order_of both.1.members ≡ 1 ∷ [])
+
+-- ---- a drop whose own draw is refused
+
+-- one bar was drawn
+abbrev pub one_shown : BoardState Plain
+one_shown = (ran_in 4 10 (add (codes "a") ∷ touch 0 ∷ [])).1
+
+-- it is marked and stays, though it is the first: where the terminal fails, its rows forgotten; where memory is refused, its
+-- rows as they were
+abbrev pub DropRefused : Type 0
+DropRefused =
+    let stays = λ (stage : Stage) (lines : List (List ℕ)). let m : Member Plain = record { number = 0; bar = record { text = codes "a"; stage = stage; at_finish = Gone }; stored = lines; dropped = true } in m ∷ [] in
+    let dropped = (board plain 1).deed (terminal_of_size 4 10) (drop_it 0) 0 one_shown in
+    ((kind : ErrorKind) → Leads (board plain 1) (terminal_of_size 4 10) one_shown dropped (Refused (Failure kind)) (record one_shown { members = stays Gone []; lists = forgotten_lists }))
+    × Leads (board plain 1) (terminal_of_size 4 10) one_shown dropped (Refused Memory) (record one_shown { members = stays Gone (codes "a" ∷ []) })
+    × Leads (board plain 1) (terminal_of_size 4 10) one_shown dropped (Refused Memory) (record one_shown { members = stays Gone [] })
+
+-- ---- bars of the product, without trackers
+
+abbrev pub BarCall : Type 0
+BarCall = Call (BarRecord (Unit {0})) (Command (Unit {0}))
+
+-- what calls on 4 rows and 10 columns answer, and the state then
+abbrev pub ran_bars : List BarCall → List Answer × BoardState (BarRecord (Unit {0}))
+ran_bars calls = outcomes (board (board_bars no_trackers) 1) (terminal_of_size 4 10) (map (λ call. (call, 0)) calls) (opening_board None)
+
+-- a bar with this message taken in
+abbrev pub add_bar : List ℕ → BarCall
+add_bar text = Insert End (New (bar_saying text))
+
+-- an elapsed time beyond the moment is refused, and changes nothing; that a bar isn't there comes first
+abbrev pub LateOnBoard : Type 0
+LateOnBoard =
+    let both = ran_bars (add_bar (codes "a") ∷ Change (id 0) (SetElapsed 1) ∷ Change (id 1) (SetElapsed 1) ∷ []) in
+    (both.0 ≡ Given (id 0) ∷ Refused ElapsedBeyondClock ∷ Refused NotMember ∷ [])
+    × (both.1.members ≡ (ran_bars (add_bar (codes "a") ∷ [])).1.members)
+
+-- of two bars that lose their owners, the one that is to be left leaves its row, and the other's row is gone
+abbrev pub OneIsLeft : Type 0
+OneIsLeft =
+    let calls = add_bar (codes "a") ∷ add_bar (codes "b") ∷ Change (id 0) (PutFinish AndLeave) ∷ Change (id 0) Tick ∷ Change (id 1) Tick ∷ Drop (id 0) ∷ Drop (id 1) ∷ [] in
+    let both = ran_bars calls in
+    (both.0 ≡ Given (id 0) ∷ Given (id 1) ∷ Drew Limited ∷ Drew Yes ∷ Drew Yes ∷ Drew Yes ∷ Drew Yes ∷ [])
+    × (order_of both.1.members ≡ [])
+    × (all_rows 10 both.1.lists ≡ rows_of_lines 10 (codes "a" ∷ []))

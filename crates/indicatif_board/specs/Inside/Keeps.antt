@@ -1,0 +1,57 @@
+-- The members of a board, their numbers and their lines as they are kept, and what an engine made of them.
+use Rattle.std.specs.Prelude.{◌≡◌, ℕ, ◌<◌, ◌^◌, Bool, IsTrue, IsFalse, List, map, length, Option, Some, None, Result, Err, IfErr}
+use Rattle.indicatif_text.specs.declared.refusal.Refusal.{Refusal}
+use Rattle.indicatif_text.specs.declared.refusal.Refusal.TheVariants.{Memory}
+use Rattle.indicatif_term.specs.Calls.{TermView}
+use Rattle.indicatif_term.specs.Lists.{Lists, BarLines}
+use Rattle.indicatif_term.specs.Limiters.{Limiter}
+use Rattle.indicatif_term.specs.Frames.{bar_lines, are_plain, is_fault}
+use Rattle.indicatif_term.specs.Engines.{terminal, Fits, Answers, Counted, Paints, is_failure, lists_after}
+use Rattle.indicatif_term.specs.declared.draw_target.Engine.{Engine}
+use Rattle.indicatif_term.specs.declared.lines.Segment.{Segment}
+use Rattle.indicatif_bar.specs.Trackers.{Tracking}
+use Rattle.indicatif_bar.specs.Commands.{BarRecord}
+use Rattle.indicatif_bar.specs.Machines.{Target, target_of}
+use Rattle.indicatif_bar.specs.Kinds.{Writing, rows_take, lines_to_write, written_lists}
+use Rattle.indicatif_board.specs.BoardBars.{board_bars}
+use Rattle.indicatif_board.specs.Members.{Member, place_of, frame_of}
+use Rattle.indicatif_board.specs.Boards.{BoardState, laid_out}
+use Rattle.indicatif_board.specs.declared.members.Member.{Member as MemberValue}
+
+-- a member without its number and lines
+abbrev pub member_of : {K : Type 0} → Member (BarRecord K) → MemberValue K
+member_of m = record { bar = m.bar; dropped = m.dropped }
+
+-- the members, numbers and lines of a state stand in these lists
+pub record Holds {K : Type 0} (frame : List Segment) (members : List (MemberValue K)) (made : ℕ) (bottom : Bool) (limiter : Option Limiter) (s : BoardState (BarRecord K)) : Type 0 where
+  pub members_are : members ≡ map member_of s.members
+  pub frame_is : map bar_lines frame ≡ frame_of s.members
+  pub made_is : made ≡ s.made
+  pub bottom_is : bottom ≡ s.bottom
+  pub limiter_is : limiter ≡ s.limiter
+
+-- how many bars were ever taken in, by the number of the next; none is left past 2 ^ 64
+abbrev pub made_by : Option ℕ → ℕ
+made_by None = 2 ^ 64
+made_by (Some number) = number
+
+-- a bar's place, if one is named
+abbrev pub IsPlaced : {B : Type 0} → Option ℕ → Option ℕ → List (Member B) → Type 0
+IsPlaced None None members = Unit {0}
+IsPlaced (Some number) (Some at) members = (at ≡ place_of number members) × (at < length members)
+IsPlaced _ _ members = ⊥
+
+-- its lines laid out, if one is named
+abbrev pub laid_by : {K : Type 0} → Tracking K → Target → ℕ → Option ℕ → BoardState (BarRecord K) → BoardState (BarRecord K)
+laid_by m target now None s = s
+laid_by m target now (Some number) s = laid_out (board_bars m) target now number s
+
+-- an engine was asked to write so, where so many bars at the head of the frame are gone, and answered this
+pub record PutsFrame {T : Type 0} (view : T → TermView) (writing : Writing) (bottom : Bool) (gone : ℕ) (frame : List BarLines) (old new : Engine T) (answer : Result Unit Refusal) : Type 0 where
+  pub answers : Answers (view (terminal old)).columns (lines_to_write writing gone frame) answer
+  pub memory : answer ≡ Err Memory → IsTrue (rows_take writing)
+  pub counted : Counted (view (terminal old)) (view (terminal new)) answer
+  pub unchanged : IfErr answer (λ e. IsFalse (is_fault e) → new ≡ old)
+  pub lists : (l : Lists) → Fits old l → Fits new (lists_after answer l (written_lists writing (target_of (Some (view (terminal old)))) bottom gone frame l))
+  pub paints : (l : Lists) → Fits old l → IsTrue (are_plain (lines_to_write writing gone frame)) →
+      Paints (view (terminal old)) (view (terminal new)) (is_failure answer) l (lists_after answer l (written_lists writing (target_of (Some (view (terminal old)))) bottom gone frame l))

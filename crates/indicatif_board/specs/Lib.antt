@@ -1,0 +1,9 @@
+pub mod Done
+pub mod Members
+pub mod Boards
+pub mod BoardCases
+pub mod BoardBars
+pub mod BoardValues
+pub mod Candidates
+pub mod Multi
+pub mod Inside

@@ -1,0 +1,33 @@
+-- What contracts see of a board: its terminal, whether it is in a given state, and what a call leads to.
+use Rattle.std.specs.Prelude.{◌≡◌, ℕ, Option, MatchOption, option_map}
+use Rattle.indicatif_term.specs.Calls.{TermView}
+use Rattle.indicatif_term.specs.Engines.{terminal, Fits}
+use Rattle.indicatif_term.specs.Lists.{opening_lists}
+use Rattle.indicatif_bar.specs.Trackers.{Tracking}
+use Rattle.indicatif_bar.specs.Commands.{BarRecord, Command}
+use Rattle.indicatif_bar.specs.Runs.{CallMade}
+use Rattle.indicatif_board.specs.BoardBars.{board_bars}
+use Rattle.indicatif_board.specs.Boards.{BoardState, Call, Answer, board}
+use Rattle.indicatif_board.specs.Inside.ShownBars.{Shown}
+use Rattle.indicatif_board.specs.declared.multi.Board.{Board}
+
+module _ {K T : Type 0} where
+  -- its terminal; none where the target is hidden
+  abbrev pub terminal_of : Board K T → Option T
+  terminal_of b = option_map terminal b.engine
+
+  -- the board of this mark may be in this state; on a hidden target it has no rows. Of the rows only the numbers are kept, so many
+  -- states fit one board; what is claimed holds of each
+  unfoldable pub IsIn : ℕ → Board K T → BoardState (BarRecord K) → Type 0
+  IsIn mark b s = (b.mark ≡ mark) × Shown b.shown s × MatchOption b.engine (s.lists ≡ opening_lists) (λ e. Fits e s.lists)
+
+  -- what is known of its terminal
+  abbrev pub known : (T → TermView) → Board K T → Option TermView
+  known view b = option_map view (terminal_of b)
+
+  -- whatever state the board may have been in, there is one that it is in now, and the call led from the one to the other with
+  -- this answer
+  abbrev pub LeadsBy : Tracking K → (T → TermView) → Board K T → Board K T → Call (BarRecord K) (Command K) → ℕ → Answer → Type 0
+  LeadsBy m view old new call now answer =
+      (mark : ℕ) (s : BoardState (BarRecord K)) → IsIn mark old s →
+      (next : BoardState (BarRecord K)) × IsIn mark new next × CallMade (board (board_bars m) mark) (known view old) (known view new) (call, now) s answer next

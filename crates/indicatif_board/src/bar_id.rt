@@ -1,0 +1,10 @@
+//! Bars by their numbers.
+
+/// A bar by its board and its number there. Boards are told apart by their marks alone, and numbers are never used again.
+#[derive(Clone, Copy, Debug, Drop, PartialEq, Eq)]
+pub struct BarId {
+    /// The board's mark.
+    pub mark: u64,
+    /// The bar's number, counted from 0 as bars were taken in.
+    pub number: u64,
+}

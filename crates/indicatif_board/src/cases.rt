@@ -1,0 +1,35 @@
+//! Worked cases of the definitions: each clause computes.
+ghost use Rattle.indicatif_board.specs.BoardCases.{TwoBars, ThreeOnTwo, LeftAbove, BothDropped, AtTheBottom, Ordered, EmptyLog, RemovedLater, WaitsBehind, LongLog, RemovedTwice, TooWideForAll, TwentyAtOnce, Unseen, DropRefused, LateOnBoard, OneIsLeft};
+
+/// What stands after calls of a board.
+pub fn rows()
+    ensures two_bars { TwoBars }
+    ensures three_on_two { ThreeOnTwo }
+    ensures left_above { LeftAbove }
+    ensures both_dropped { BothDropped }
+    ensures at_the_bottom { AtTheBottom }
+    ensures empty_log { EmptyLog }
+    ensures removed_later { RemovedLater }
+    ensures waits_behind { WaitsBehind }
+    ensures long_log { LongLog }
+{}
+
+/// What calls of a board answer.
+pub fn answers()
+    ensures ordered { Ordered }
+    ensures removed_twice { RemovedTwice }
+    ensures too_wide_for_all { TooWideForAll }
+    ensures twenty_at_once { TwentyAtOnce }
+    ensures unseen { Unseen }
+{}
+
+/// A drop whose own draw is refused.
+pub fn refused_drops()
+    ensures { DropRefused }
+{}
+
+/// Bars of the product on a board.
+pub fn bars()
+    ensures late_on_board { LateOnBoard }
+    ensures one_is_left { OneIsLeft }
+{}

@@ -1,0 +1,37 @@
+//! Laws of the definitions: functions that do nothing, each with a law as its contract.
+ghost use Rattle.std.specs.Prelude.{◌≡◌, ◌≤◌, ℕ};
+ghost use Rattle.indicatif_bar.specs.Runs.{RunsPaint, RunsAreRead, OneOutcome};
+ghost use Rattle.indicatif_bar.specs.Says.{EachSays};
+ghost use Rattle.indicatif_board.specs.Boards.{BoardKind, board};
+ghost use Rattle.indicatif_board.specs.Done.{account_of_both, kept_half, given_half};
+ghost use Rattle.indicatif_board.specs.declared.done.Account.{Account};
+
+/// Two halves that are joined again are what was split, share and adds and sights.
+pub fn halves_join_again()
+    ensures { (a : Account) → a.added ≤ a.seen → account_of_both (kept_half a) (given_half a) ≡ a }
+{}
+
+/// What a run of a board leaves, whatever its bars and its calls are, up to the first that the terminal breaks off, where each
+/// line that was written consists of characters with a width and colour sequences: from a terminal at rest with the lists of
+/// its start, its bytes lead to one at rest with the lists of its end, whose rows are the untouched ones, the rows above, the
+/// kept rows and the live frame, all else blank; rows above are only added, and none changed between two bytes.
+pub fn what_a_run_leaves<B, C>()
+    ensures { (kind : BoardKind B C) (mark : ℕ) → RunsPaint (board kind mark) }
+{}
+
+/// The same as it is read: after a run that the terminal did not break off, on a terminal that tells its state and shows the
+/// lists of the run's start, the picture is the untouched rows' texts, then those of the lists' rows, then empty ones.
+pub fn what_a_run_reads<B, C>()
+    ensures { (kind : BoardKind B C) (mark : ℕ) → RunsAreRead (board kind mark) }
+{}
+
+/// Where the terminal never failed and memory was never refused, a board's run has one outcome: its answers and its last
+/// state follow from its calls alone.
+pub fn one_outcome<B, C>()
+    ensures { (kind : BoardKind B C) (mark : ℕ) → OneOutcome (board kind mark) }
+{}
+
+/// When a call of a board gives which answer.
+pub fn what_an_answer_says<B, C>()
+    ensures { (kind : BoardKind B C) (mark : ℕ) → EachSays (board kind mark) }
+{}

@@ -1,0 +1,20 @@
+//! Bars that share something: a terminal, or a sum that many threads add to.
+//!
+//! - `multi`: a board, several bars on one target in an order.
+//! - `bar_id`: bars by their board's mark and their number.
+//! - `members`: a board's bars in their order (private).
+//! - `shown_bars`: those bars with the lines that they show, and how they are written (private).
+//! - `done`: a sum, its workers, and their shares of it.
+//! - `cases`: worked cases of the definitions.
+//! - `laws`: laws of the definitions.
+//! - `sums`: the rule of the word that the workers share, and what each step on it tells (private).
+#![tactic(auto)]
+
+pub mod bar_id;
+pub mod cases;
+pub mod done;
+pub mod laws;
+mod members;
+pub mod multi;
+mod shown_bars;
+mod sums;

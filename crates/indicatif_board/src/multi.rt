@@ -1,0 +1,357 @@
+//! A board: several bars on one target, in an order.
+ghost use Rattle.std.specs.Prelude.{◌≡◌, ◌⊎◌, ◌↔◌, ◌<◌, ◌≤◌, ℕ, Bool, Option, Some, None, Err, true, option_map, IsTrue, IsFalse, IfOk, IfErr, IfSome, MatchResult, vec_len, if◌then◌else◌};
+ghost use Rattle.indicatif_term.specs.Engines.{is_bottom};
+ghost use Rattle.indicatif_bar.specs.Commands.{BarRecord, command_of};
+ghost use Rattle.indicatif_bar.specs.Kinds.{rows_take};
+ghost use Rattle.indicatif_bar.specs.Machines.{Target, Leads, is_no, target_of};
+ghost use Rattle.indicatif_bar.specs.Runs.{wrote};
+ghost use Rattle.indicatif_bar.specs.Inside.Draws.{DrewOn};
+ghost use Rattle.indicatif_board.specs.BoardBars.{board_bars};
+ghost use Rattle.indicatif_board.specs.Boards.{BoardState, Change, Log, BarLog, Clear, Redraw, Align, Insert, Remove, Place, End, Index, FromBack, Before, After, Done, opening_board, says, tells, index_of, inserted, turned_away, draw_of, board};
+ghost use Rattle.indicatif_board.specs.BoardValues.{id_of};
+ghost use Rattle.indicatif_board.specs.Members.{is_member, said_of};
+ghost use Rattle.indicatif_board.specs.Inside.Keeps.{IsPlaced, laid_by};
+ghost use Rattle.indicatif_board.specs.Inside.Writings.{writing_by};
+
+use crate::bar_id::BarId;
+use crate::members::place;
+use crate::shown_bars::{ShownBars, Writing};
+use indicatif_bar::state::{Ask, BarCommand, BarState};
+use indicatif_bar::style::ProgressTracker;
+use indicatif_term::draw_target::{Engine, MultiProgressAlignment, ProgressDrawTarget};
+use indicatif_term::term_like::TermLike;
+use indicatif_text::columns::{Drawn, Moment, Refusal};
+use std::alloc::Global;
+
+/// What is to be taken in.
+#[derive(Drop)]
+pub enum Candidate<K> {
+    /// A new bar.
+    New(BarState<K>),
+    /// A bar that may be there already.
+    Member(BarId),
+}
+
+/// A candidate that was turned away, and why.
+#[derive(Drop)]
+pub struct Turned<K> {
+    /// The candidate, as it was.
+    pub candidate: Candidate<K>,
+    /// Why it was turned away.
+    pub refusal: Refusal,
+}
+
+/// Several bars on one target, a terminal or none, in an order, with text above them.
+///
+/// It is made where the terminal's cursor is at the front of a row with nothing in that row or below. From then on the rows
+/// above that one stay as they are; the text lines that were logged follow them, and the rows of bars that are gone; then come
+/// the bars. Nobody else writes to the terminal while the board lives, and the bars' lines hold printable characters and colour
+/// sequences alone.
+///
+/// A call that names a bar is refused with `ForeignBar` where the bar has another board's mark, and with `NotMember` where it was
+/// removed, dropped or never given; nothing has changed then. Else a call that draws goes the steps of a lone bar's, with the
+/// stored lines of all bars in their order in the place of its own; of the bars only the one that is named is laid out anew. As
+/// many lines from the front are shown as have at most the terminal's rows together.
+///
+/// ```
+/// let mut board = Board::new(alloc, ProgressDrawTarget::term_like(term), 1);
+/// board.println("a.txt", now)?; // stands above the bars from now on
+/// ```
+#[derive(Drop)]
+pub struct Board<K, T: Drop> {
+    mark: u64,
+    shown: ShownBars<K>,
+    engine: Option<Engine<T>>,
+}
+
+impl<K: ProgressTracker, T: TermLike + Drop> Board<K, T> {
+    ghost use Rattle.indicatif_board.specs.Candidates.{entrant_of, given, removal};
+    ghost use Rattle.indicatif_board.specs.Multi.{IsIn, LeadsBy, known, terminal_of};
+
+    /// A board without bars on this target, of this mark. It takes no memory and writes nothing.
+    pub fn new(alloc: Global, target: ProgressDrawTarget<T>, mark: u64) -> Self
+        ensures state { IsIn mark result (opening_board None) }
+        ensures terminal { terminal_of result ≡ target }
+    {
+        let engine = match target.into_parts() {
+            Some(term) => Some(Engine::new(alloc, term)),
+            None => None,
+        };
+        Board {
+            mark,
+            shown: ShownBars::new(alloc),
+            engine,
+        }
+    }
+
+    /// The terminal; `None` where the target is hidden.
+    pub fn term(&self) -> Option<&T>
+        ensures { option_map (λ t. t.now) result ≡ terminal_of self.now }
+    {
+        match &self.engine {
+            Some(engine) => Some(engine.term()),
+            None => None,
+        }
+    }
+
+    /// Whether nothing is ever drawn.
+    pub fn is_hidden(&self) -> bool
+        ensures { IsTrue result ↔ (terminal_of self.now ≡ None) }
+    {
+        self.engine.is_none()
+    }
+
+    /// Whether bars stand at the top of what is taken back, or at its bottom, from the next draw on.
+    pub fn set_alignment(&mut self, alignment: MultiProgressAlignment)
+        ensures terminal { terminal_of self.new ≡ terminal_of self.old }
+        ensures leads { (now : ℕ) → LeadsBy K.means T.view self.old self.new (Align (is_bottom alignment)) now Done }
+    {
+        self.shown.alignment = alignment;
+    }
+
+    /// Takes a bar in behind all others. One that is there already stays where it is.
+    ///
+    /// Refused, with the candidate handed back and nothing changed: `ForeignBar` or `NotMember` for a bar that is not this board's; `Memory`.
+    pub fn add(&mut self, candidate: Candidate<K>) -> Result<BarId, Turned<K>>
+        ensures terminal { terminal_of self.new ≡ terminal_of self.old }
+        ensures turned { IfErr result (λ t. t.candidate ≡ candidate) }
+        ensures leads { (now : ℕ) → LeadsBy K.means T.view self.old self.new (Insert End (entrant_of candidate)) now (given result) }
+    {
+        let at = self.shown.members.len();
+        self.insert_at(at, candidate)
+    }
+
+    /// Takes a bar in where `index` bars stand before it, or behind all others where there are fewer. One that is there already stays.
+    ///
+    /// Refused, with the candidate handed back and nothing changed: `ForeignBar` or `NotMember` for a bar that is not this board's; `Memory`.
+    pub fn insert(&mut self, index: usize, candidate: Candidate<K>) -> Result<BarId, Turned<K>>
+        ensures terminal { terminal_of self.new ≡ terminal_of self.old }
+        ensures turned { IfErr result (λ t. t.candidate ≡ candidate) }
+        ensures leads { (now : ℕ) → LeadsBy K.means T.view self.old self.new (Insert (Index index) (entrant_of candidate)) now (given result) }
+    {
+        let at = index.min(self.shown.members.len());
+        self.insert_at(at, candidate)
+    }
+
+    /// Takes a bar in where `count` bars stand behind it, or before all others where there are fewer. One that is there already stays.
+    ///
+    /// Refused, with the candidate handed back and nothing changed: `ForeignBar` or `NotMember` for a bar that is not this board's; `Memory`.
+    pub fn insert_from_back(
+        &mut self,
+        count: usize,
+        candidate: Candidate<K>,
+    ) -> Result<BarId, Turned<K>>
+        ensures terminal { terminal_of self.new ≡ terminal_of self.old }
+        ensures turned { IfErr result (λ t. t.candidate ≡ candidate) }
+        ensures leads { (now : ℕ) → LeadsBy K.means T.view self.old self.new (Insert (FromBack count) (entrant_of candidate)) now (given result) }
+    {
+        let at = self.shown.members.len().saturating_sub(count);
+        self.insert_at(at, candidate)
+    }
+
+    /// Takes a bar in right before the anchor. One that is there already stays where it is.
+    ///
+    /// Refused, with the candidate handed back and nothing changed: `ForeignBar` or `NotMember` for the anchor, then for a bar that is not this
+    /// board's; `Memory`.
+    pub fn insert_before(
+        &mut self,
+        anchor: BarId,
+        candidate: Candidate<K>,
+    ) -> Result<BarId, Turned<K>>
+        ensures terminal { terminal_of self.new ≡ terminal_of self.old }
+        ensures turned { IfErr result (λ t. t.candidate ≡ candidate) }
+        ensures leads { (now : ℕ) → LeadsBy K.means T.view self.old self.new (Insert (Before (id_of anchor)) (entrant_of candidate)) now (given result) }
+    {
+        let at = match self.find(anchor) {
+            Ok(at) => at,
+            Err(refusal) => return Err(Turned { candidate, refusal }),
+        };
+        self.insert_at(at, candidate)
+    }
+
+    /// Takes a bar in right after the anchor. One that is there already stays where it is.
+    ///
+    /// Refused, with the candidate handed back and nothing changed: `ForeignBar` or `NotMember` for the anchor, then for a bar that is not this
+    /// board's; `Memory`.
+    pub fn insert_after(
+        &mut self,
+        anchor: BarId,
+        candidate: Candidate<K>,
+    ) -> Result<BarId, Turned<K>>
+        ensures terminal { terminal_of self.new ≡ terminal_of self.old }
+        ensures turned { IfErr result (λ t. t.candidate ≡ candidate) }
+        ensures leads { (now : ℕ) → LeadsBy K.means T.view self.old self.new (Insert (After (id_of anchor)) (entrant_of candidate)) now (given result) }
+    {
+        let at = match self.find(anchor) {
+            Ok(at) => at,
+            Err(refusal) => return Err(Turned { candidate, refusal }),
+        };
+        self.insert_at(at + 1, candidate)
+    }
+
+    /// Takes a bar out of the order and hands it back; `None` where it was removed, dropped or never given. What it shows stays
+    /// until the next draw.
+    ///
+    /// Refused: `ForeignBar`, exactly where the bar has another board's mark.
+    pub fn remove(&mut self, id: BarId) -> Result<Option<BarState<K>>, Refusal>
+        ensures terminal { terminal_of self.new ≡ terminal_of self.old }
+        ensures leads { (now : ℕ) → LeadsBy K.means T.view self.old self.new (Remove (id_of id)) now (removal result) }
+        ensures bar { (mark : ℕ) (s : BoardState (BarRecord K)) (other : BarRecord K) → IsIn mark self.old s →
+            IfOk result (λ bar. bar ≡ (if is_member id.number s.members then Some (said_of other (λ b. b) id.number s.members) else None)) }
+    {
+        if id.mark != self.mark {
+            return Err(Refusal::ForeignBar);
+        }
+        match self.find(id) {
+            Ok(at) => Ok(Some(self.shown.take_out(at))),
+            Err(_) => Ok(None),
+        }
+    }
+
+    /// A command of a bar, and the draw that it asks for.
+    ///
+    /// Refused: `ForeignBar`, `NotMember`, `NoColumns`, `TooWide`, `Terminal` or `Memory`, as `Board` says; and
+    /// `ElapsedBeyondClock`, where the command sets an elapsed time that is more than the moment: nothing has changed then.
+    pub fn command(
+        &mut self,
+        id: BarId,
+        command: BarCommand<K>,
+        now: Moment,
+    ) -> Result<Drawn, Refusal>
+        ensures silent { IsFalse (wrote result) → terminal_of self.new ≡ terminal_of self.old }
+        ensures leads { LeadsBy K.means T.view self.old self.new (Change (id_of id) (command_of command)) now (says result) }
+    {
+        let at = self.find(id)?;
+        let ask = self.shown.members[at].bar.apply(command, now)?;
+        self.draw(ask, Some(at), Writing::Frame, now)
+    }
+
+    /// Writes the text's lines above the bars, by force. A line is ended by `\n` or `\r\n`; an empty text is one empty line;
+    /// tabs stay as they are. On a hidden target the text is dropped.
+    ///
+    /// Refused: `NoColumns`, `TooWide`, `Terminal` or `Memory`, as `Board` says; nothing of the text is kept.
+    pub fn println(&mut self, text: &str, now: Moment) -> Result<Drawn, Refusal>
+        ensures silent { IsFalse (wrote result) → terminal_of self.new ≡ terminal_of self.old }
+        ensures leads { LeadsBy K.means T.view self.old self.new (Log text.now) now (says result) }
+    {
+        self.draw(Ask::Forced, None, Writing::TextAndFrame(text), now)
+    }
+
+    /// The same, with one bar's lines laid out anew.
+    ///
+    /// Refused: `ForeignBar`, `NotMember`, `NoColumns`, `TooWide`, `Terminal` or `Memory`, as `Board` says.
+    pub fn bar_println(&mut self, id: BarId, text: &str, now: Moment) -> Result<Drawn, Refusal>
+        ensures silent { IsFalse (wrote result) → terminal_of self.new ≡ terminal_of self.old }
+        ensures leads { LeadsBy K.means T.view self.old self.new (BarLog (id_of id) text.now) now (says result) }
+    {
+        let at = self.find(id)?;
+        self.draw(Ask::Forced, Some(at), Writing::TextAndFrame(text), now)
+    }
+
+    /// Takes the bars' rows back, by force. The next draw shows the bars again. Takes no memory.
+    ///
+    /// Refused: `NoColumns` or `Terminal`, as `Board` says.
+    pub fn clear(&mut self, now: Moment) -> Result<Drawn, Refusal>
+        ensures silent { IsFalse (wrote result) → terminal_of self.new ≡ terminal_of self.old }
+        ensures leads { LeadsBy K.means T.view self.old self.new Clear now (says result) }
+    {
+        self.draw(Ask::Forced, None, Writing::NoFrame, now)
+    }
+
+    /// Draws the bars as they were laid out, by force.
+    ///
+    /// Refused: `NoColumns`, `TooWide`, `Terminal` or `Memory`, as `Board` says.
+    pub fn redraw(&mut self, now: Moment) -> Result<Drawn, Refusal>
+        ensures silent { IsFalse (wrote result) → terminal_of self.new ≡ terminal_of self.old }
+        ensures leads { LeadsBy K.means T.view self.old self.new Redraw now (says result) }
+    {
+        self.draw(Ask::Forced, None, Writing::Frame, now)
+    }
+
+    /// Takes a bar in where so many bars stand before it.
+    fn insert_at(&mut self, at: usize, candidate: Candidate<K>) -> Result<BarId, Turned<K>>
+        requires within { at ≤ vec_len self.old.shown.members }
+        ensures terminal { terminal_of self.new ≡ terminal_of self.old }
+        ensures turned { IfErr result (λ t. t.candidate ≡ candidate) }
+        ensures quiet { IsFalse (wrote (tells (given result))) }
+        ensures inserted { (mark : ℕ) (s : BoardState (BarRecord K)) (spot : Place) → IsIn mark self.old s → at ≡ index_of spot s.members →
+            (next : BoardState (BarRecord K)) × IsIn mark self.new next × (next.lists ≡ s.lists)
+            × ((target : Target) → Leads (board (board_bars K.means) mark) target s (inserted mark spot (entrant_of candidate) s) (given result) next) }
+    {
+        match candidate {
+            Candidate::Member(id) => match self.find(id) {
+                Ok(_) => Ok(id),
+                Err(refusal) => {
+                    let candidate = Candidate::Member(id);
+                    Err(Turned { candidate, refusal })
+                }
+            },
+            Candidate::New(bar) => match self.shown.take_in(at, bar) {
+                Ok(number) => {
+                    let mark = self.mark;
+                    Ok(BarId { mark, number })
+                }
+                Err(bar) => {
+                    let candidate = Candidate::New(bar);
+                    let refusal = Refusal::Memory;
+                    Err(Turned { candidate, refusal })
+                }
+            },
+        }
+    }
+
+    /// A bar's place in the order.
+    fn find(&self, id: BarId) -> Result<usize, Refusal>
+        ensures found { (mark : ℕ) (s : BoardState (BarRecord K)) → IsIn mark self.now s →
+            MatchResult result (λ p. (turned_away mark (id_of id) s ≡ None) × IsPlaced (Some id.number) (Some p) s.members) (λ e. turned_away mark (id_of id) s ≡ Some e) }
+        ensures within { IfOk result (λ p. p < vec_len self.now.shown.members) }
+        ensures quiet { IfErr result (λ e. IsFalse (wrote (Err e))) }
+    {
+        if id.mark != self.mark {
+            return Err(Refusal::ForeignBar);
+        }
+        let at = place(&self.shown.frame, id.number);
+        if at == self.shown.frame.len() {
+            return Err(Refusal::NotMember);
+        }
+        if self.shown.members[at].dropped {
+            return Err(Refusal::NotMember);
+        }
+        Ok(at)
+    }
+
+    /// Lays a bar out anew, if one is named, and writes, if asked.
+    fn draw(
+        &mut self,
+        ask: Ask,
+        bar: Option<usize>,
+        writing: Writing<'_>,
+        now: Moment,
+    ) -> Result<Drawn, Refusal>
+        requires placed { IfSome bar (λ at. at < vec_len self.old.shown.members) }
+        requires cleared { (bar ≡ None) ⊎ IsTrue (rows_take (writing_by writing)) }
+        ensures silent { IsFalse (wrote result) → terminal_of self.new ≡ terminal_of self.old }
+        ensures drew { (mark : ℕ) (takes : Bool) (s : BoardState (BarRecord K)) (number : Option ℕ) → IsIn mark self.old s → IsPlaced number bar s.members →
+            let old = known T.view self.old in
+            (next : BoardState (BarRecord K)) × IsIn mark self.new next × DrewOn (board (board_bars K.means) mark) old (known T.view self.new)
+            (draw_of (target_of old) takes ask now (writing_by writing.entry) s (laid_by K.means (target_of old) now number s)) s.lists result next }
+    {
+        if is_no(ask) {
+            return Ok(Drawn::Limited);
+        }
+        match &mut self.engine {
+            Some(engine) => self.shown.draw_on(engine, ask, bar, writing, now),
+            None => Ok(Drawn::Hidden),
+        }
+    }
+}
+
+/// Whether no draw is asked.
+fn is_no(ask: Ask) -> bool
+    ensures { result ≡ is_no ask }
+{
+    match ask {
+        Ask::No => true,
+        Ask::Unforced | Ask::Forced => false,
+    }
+}

@@ -1,0 +1,209 @@
+//! The bars of a board with the lines that they show, and how they are written.
+ghost use Rattle.std.specs.Prelude.{◌≡◌, ◌≢◌, ◌⊎◌, ◌<◌, ◌≤◌, ◌^◌, MatchResult, ℕ, Bool, Option, Some, None, true, false, IsTrue, IsFalse, map, length, vec_len, IfSome, IfOk, IfErr, OnErr};
+ghost use Rattle.indicatif_term.specs.Frames.{bar_lines};
+ghost use Rattle.indicatif_term.specs.Engines.{terminal, Fits, is_bottom};
+ghost use Rattle.indicatif_bar.specs.Commands.{BarRecord};
+ghost use Rattle.indicatif_bar.specs.Machines.{Target, is_no, target_of};
+ghost use Rattle.indicatif_bar.specs.Kinds.{rows_take, asked_of};
+ghost use Rattle.indicatif_bar.specs.Runs.{wrote};
+ghost use Rattle.indicatif_bar.specs.Inside.Draws.{DrewBy};
+ghost use Rattle.indicatif_board.specs.BoardBars.{board_bars};
+ghost use Rattle.indicatif_board.specs.Boards.{BoardState, Place, opening_board, draw_of, index_of, taken_in, board};
+ghost use Rattle.indicatif_board.specs.Members.{place_of, without, said_of};
+ghost use Rattle.indicatif_board.specs.Inside.Keeps.{PutsFrame, IsPlaced, laid_by};
+ghost use Rattle.indicatif_board.specs.Inside.Writings.{writing_by};
+
+use crate::members::{Member, drop_front, leading, put_at};
+use indicatif_bar::state::{Ask, BarState};
+use indicatif_bar::style::ProgressTracker;
+use indicatif_term::draw_target::{Engine, MultiProgressAlignment, RateLimiter, Segment};
+use indicatif_term::term_like::TermLike;
+use indicatif_text::columns::{Drawn, Moment, Refusal};
+use std::alloc::Global;
+
+/// What a draw writes.
+#[derive(Clone, Copy)]
+pub enum Writing<'a> {
+    /// The bars' lines.
+    Frame,
+    /// A text, which stays, and the bars' lines below it.
+    TextAndFrame(&'a str),
+    /// Nothing, in the place of what stood.
+    NoFrame,
+}
+
+/// Bars in their order, the lines that were laid out last, and how often they may be drawn.
+#[derive(Drop)]
+pub struct ShownBars<K> {
+    alloc: Global,
+    /// The bars.
+    pub members: Vec<Member<K>>,
+    /// Their numbers and lines, at the same places.
+    pub frame: Vec<Segment>,
+    /// The number of the next bar; none where numbers ran out.
+    pub next: Option<u64>,
+    pub alignment: MultiProgressAlignment,
+    pub limiter: Option<RateLimiter>,
+    ghost even: { vec_len members ≡ vec_len frame },
+}
+
+impl<K: ProgressTracker> ShownBars<K> {
+    ghost use Rattle.indicatif_board.specs.Inside.ShownBars.{Shown};
+
+    /// No bars, at the top, without a limiter. Takes no memory.
+    pub fn new(alloc: Global) -> Self
+        ensures state { Shown result (opening_board None) }
+    {
+        ShownBars {
+            alloc,
+            members: Vec::new(alloc),
+            frame: Vec::new(alloc),
+            next: Some(0),
+            alignment: MultiProgressAlignment::Top,
+            limiter: None,
+        }
+    }
+
+    /// Takes a bar in where so many bars stand before it, and answers its number. The bar comes back where it finds no room or
+    /// no number; the others stay as they are then.
+    pub fn take_in(&mut self, at: usize, bar: BarState<K>) -> Result<u64, BarState<K>>
+        requires within { at ≤ vec_len self.old.members }
+        ensures taken { (s : BoardState (BarRecord K)) (spot : Place) → Shown self.old s → at ≡ index_of spot s.members →
+            MatchResult result (λ n. (s.made ≡ n) × (n < 2 ^ 64) × Shown self.new (taken_in spot bar s)) (λ b. (b ≡ bar) × Shown self.new s) }
+        ensures bar { IfErr result (λ b. b ≡ bar) }
+    {
+        match self.next {
+            Some(number) => self.take_in_as(number, at, bar),
+            None => Err(bar),
+        }
+    }
+
+    /// The same, by its number.
+    fn take_in_as(&mut self, number: u64, at: usize, bar: BarState<K>) -> Result<u64, BarState<K>>
+        requires next { self.old.next ≡ Some number }
+        requires within { at ≤ vec_len self.old.members }
+        ensures taken { (s : BoardState (BarRecord K)) (spot : Place) → Shown self.old s → at ≡ index_of spot s.members →
+            MatchResult result (λ n. (s.made ≡ n) × (n < 2 ^ 64) × Shown self.new (taken_in spot bar s)) (λ b. (b ≡ bar) × Shown self.new s) }
+        ensures bar { IfErr result (λ b. b ≡ bar) }
+    {
+        if self.members.reserve(1).is_err() {
+            return Err(bar);
+        }
+        if self.frame.reserve(1).is_err() {
+            return Err(bar);
+        }
+        let dropped = false;
+        put_at(&mut self.members, at, Member { bar, dropped });
+        let lines = Vec::new(self.alloc);
+        put_at(&mut self.frame, at, Segment { bar: number, lines });
+        self.next = number.checked_add(1);
+        Ok(number)
+    }
+
+    /// Takes the bar at a place out.
+    pub fn take_out(&mut self, at: usize) -> BarState<K>
+        requires within { at < vec_len self.old.members }
+        ensures out { (s : BoardState (BarRecord K)) (number : ℕ) → Shown self.old s → at ≡ place_of number s.members →
+            Shown self.new (record s { members = without number s.members }) }
+        ensures bar { (s : BoardState (BarRecord K)) (number : ℕ) (other : BarRecord K) → Shown self.old s → at ≡ place_of number s.members →
+            result ≡ said_of other (λ bar. bar) number s.members }
+    {
+        let member = self.members.remove(at);
+        self.frame.remove(at);
+        member.bar
+    }
+
+    /// Lays a bar out anew, if one is named, and draws on the engine's terminal, where that has columns and the limiter
+    /// allows it.
+    pub fn draw_on<T: TermLike + Drop>(
+        &mut self,
+        engine: &mut Engine<T>,
+        ask: Ask,
+        bar: Option<usize>,
+        writing: Writing<'_>,
+        now: Moment,
+    ) -> Result<Drawn, Refusal>
+        requires placed { IfSome bar (λ at. at < vec_len self.old.members) }
+        requires cleared { (bar ≡ None) ⊎ IsTrue (rows_take (writing_by writing)) }
+        ensures silent { IsFalse (wrote result) → engine.new ≡ engine.old }
+        ensures drew { (mark : ℕ) (takes : Bool) (s : BoardState (BarRecord K)) (number : Option ℕ) → is_no ask ≡ false →
+            Shown self.old s → IsPlaced number bar s.members → Fits engine.old s.lists →
+            let target = target_of (Some (T.view (terminal engine.old))) in
+            DrewBy (board (board_bars K.means) mark) (Shown self.new) T.view engine.old engine.new
+            (draw_of target takes ask now (writing_by writing.entry) s (laid_by K.means target now number s)) s.lists result }
+    {
+        let width = engine.term().width();
+        if width == 0 {
+            return Err(Refusal::NoColumns);
+        }
+        self.lay_out(bar, width, now)?;
+        if !self.allows(ask, now) {
+            return Ok(Drawn::Limited);
+        }
+        self.write(engine, writing)
+    }
+
+    /// Lays a bar's lines out and stores them, if one is named.
+    fn lay_out(&mut self, bar: Option<usize>, width: u16, now: Moment) -> Result<(), Refusal>
+        requires placed { IfSome bar (λ at. at < vec_len self.old.members) }
+        ensures memory { IfErr result (λ e. (e ≡ Refusal.Memory) × (bar ≢ None)) }
+        ensures unchanged { OnErr result (self.new ≡ self.old) }
+        ensures laid { IfOk result (λ _. (target : Target) (s : BoardState (BarRecord K)) (number : Option ℕ) →
+            target.columns ≡ width → IsPlaced number bar s.members → Shown self.old s →
+            Shown self.new (laid_by K.means target now number s)) }
+    {
+        if let Some(at) = bar {
+            self.frame[at].lines = self.members[at].bar.lines(now, width)?;
+        }
+        Ok(())
+    }
+
+    /// Whether a draw that is asked so may be made at this moment.
+    fn allows(&mut self, ask: Ask, now: Moment) -> bool
+        ensures answer { result ≡ (asked_of ask now self.old.limiter).0 }
+        ensures next { self.new ≡ record self.old { limiter = (asked_of ask now self.old.limiter).1 } }
+    {
+        match (ask, &mut self.limiter) {
+            (Ask::Unforced, Some(limiter)) => limiter.allow(now),
+            _ => true,
+        }
+    }
+
+    /// Writes on a terminal with columns; the dropped bars at the head leave.
+    fn write<T: TermLike + Drop>(
+        &mut self,
+        engine: &mut Engine<T>,
+        writing: Writing<'_>,
+    ) -> Result<Drawn, Refusal>
+        ensures silent { IsFalse (wrote result) → engine.new ≡ engine.old }
+        ensures drew { (mark now : ℕ) (takes : Bool) (ask : Ask) (s laid : BoardState (BarRecord K)) → is_no ask ≡ false →
+            0 < (T.view (terminal engine.old)).columns → asked_of ask now laid.limiter ≡ (true, self.old.limiter) →
+            Shown self.old (record laid { limiter = self.old.limiter }) → laid.lists ≡ s.lists → Fits engine.old s.lists →
+            DrewBy (board (board_bars K.means) mark) (Shown self.new) T.view engine.old engine.new
+            (draw_of (target_of (Some (T.view (terminal engine.old)))) takes ask now (writing_by writing.entry) s laid) s.lists result }
+    {
+        let gone = leading(&self.members);
+        put(engine, &self.frame, gone, self.alignment, writing)?;
+        drop_front(&mut self.frame, gone);
+        drop_front(&mut self.members, gone);
+        Ok(Drawn::Yes)
+    }
+}
+
+/// Writes on the engine's terminal; the first `gone` bars are those that are dropped.
+fn put<T: TermLike + Drop>(
+    engine: &mut Engine<T>,
+    frame: &[Segment],
+    gone: usize,
+    alignment: MultiProgressAlignment,
+    writing: Writing<'_>,
+) -> Result<(), Refusal>
+    requires { gone ≤ length frame.now }
+    ensures { PutsFrame T.view (writing_by writing.entry) (is_bottom alignment) gone (map bar_lines frame.now) engine.old engine.new result }
+{
+    match writing {
+        Writing::Frame => engine.draw(frame, gone, alignment),
+        Writing::TextAndFrame(text) => engine.log(text, &frame[gone..], alignment),
+        Writing::NoFrame => engine.clear(),
+    }
+}

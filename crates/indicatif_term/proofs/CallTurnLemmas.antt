@@ -1,0 +1,140 @@
+-- The bytes of calls one after another are those of the whole drawing, also where one of them fails.
+use Rattle.std.proofs.Common.{◌≡◌, ℕ, zero, suc, ◌+◌, ◌<◌, Bool, true, false, ◌||◌, List, [], ◌∷◌, ◌++◌, length, Result, Ok, Err, refl, sym, ◌∙◌, ap, append_assoc, append-nil, arith, add-zero, add-suc, subst, ◌-◌, ◌≤◌, if◌then◌else◌}
+use Rattle.std.specs.Prelude.{nat_lt, IsErr, IsTrue}
+use Rattle.std.proofs.Math.Bool.{or-false}
+use Rattle.std.proofs.lemmas.Bool.Decides.{nat_tests}
+use Rattle.indicatif_term.specs.Terminal.{after}
+use Rattle.indicatif_term.proofs.FeedLemmas.{after-append}
+use Rattle.indicatif_term.specs.Calls.{Told, State, Bytes, Nothing, tells, led_on, TermView, LeadsOn, BreaksOff, Writes, clear_bytes, move_bytes, anew_bytes}
+use Rattle.std.specs.Prelude.{not, ◌&&◌, ◌==◌}
+use Rattle.std.proofs.Common.{replicate}
+use Rattle.indicatif_term.specs.Inside.Bytes.{paint_bytes, painting_bytes, drawing_lines, lines_bytes, next_row, rows_back, back_bytes}
+use Rattle.indicatif_term.specs.declared.painting.Painting.{Painting}
+
+pub led_on-append : (told : Told) (a b : List ℕ) → led_on (led_on told a) b ≡ led_on told (a ++ b)
+led_on-append (State t) a b = ap State (sym (after-append t a b))
+led_on-append (Bytes old) a b = ap Bytes (append_assoc old a b)
+led_on-append Nothing a b = refl
+
+pub led_on-nil : (told : Told) → led_on told [] ≡ told
+unfolding after
+led_on-nil (State t) = refl
+led_on-nil (Bytes old) = ap Bytes (append-nil old)
+led_on-nil Nothing = refl
+
+-- a terminal that tells something still does
+pub still_tells : (told : Told) (bytes : List ℕ) → IsTrue (tells told) → IsTrue (tells (led_on told bytes))
+still_tells (State t) bytes h = refl
+still_tells (Bytes old) bytes h = refl
+still_tells Nothing bytes h = h
+
+-- bytes after bytes
+pub told_then : (a b : List ℕ) (s t u : Told) → (IsTrue (tells s) → t ≡ led_on s a) → (IsTrue (tells t) → u ≡ led_on t b) → IsTrue (tells s) → u ≡ led_on s (a ++ b)
+told_then a b s t u p q h =
+    let e = p h in
+    q (subst (λ x. IsTrue (tells x)) (sym e) (still_tells s a h)) ∙ ap (λ x. led_on x b) e ∙ led_on-append s a b
+
+pub reaches_none : (s : TermView) → LeadsOn [] s s
+reaches_none s = record { told_is = λ h. sym (led_on-nil s.told); columns_are = refl; rows_are = refl; faults_are = refl }
+
+pub reaches_then : {a b : List ℕ} {s t u : TermView} → LeadsOn a s t → LeadsOn b t u → LeadsOn (a ++ b) s u
+reaches_then {a} {b} {s} {t} {u} p q = record {
+  told_is = told_then a b s.told t.told u.told p.told_is q.told_is;
+  columns_are = q.columns_are ∙ p.columns_are;
+  rows_are = q.rows_are ∙ p.rows_are;
+  faults_are = q.faults_are ∙ p.faults_are;
+}
+
+pub breaks_then : {a b : List ℕ} {s t u : TermView} → LeadsOn a s t → BreaksOff b t u → BreaksOff (a ++ b) s u
+breaks_then {a} {b} {s} {t} {u} p q = record {
+  front = a ++ q.front;
+  rest = q.rest;
+  whole = append_assoc a q.front q.rest ∙ ap (λ x. a ++ x) q.whole;
+  told_is = told_then a q.front s.told t.told u.told p.told_is q.told_is;
+  columns_are = q.columns_are ∙ p.columns_are;
+  rows_are = q.rows_are ∙ p.rows_are;
+  faults_are = rw (← p.faults_are) q.faults_are;
+}
+
+pub breaks_early : {a : List ℕ} (b : List ℕ) {s t : TermView} → BreaksOff a s t → BreaksOff (a ++ b) s t
+breaks_early {a} b {s} {t} q = record {
+  front = q.front;
+  rest = q.rest ++ b;
+  whole = sym (append_assoc q.front q.rest b) ∙ ap (λ x. x ++ b) q.whole;
+  told_is = q.told_is;
+  columns_are = q.columns_are;
+  rows_are = q.rows_are;
+  faults_are = q.faults_are;
+}
+
+-- a call after bytes that were written
+pub writes_then : {E : Type 0} {a : List ℕ} (b : List ℕ) {s t : TermView} (u : TermView) (r : Result Unit E) → LeadsOn a s t → Writes b t u r → Writes (a ++ b) s u r
+writes_then b u (Ok x) p q = reaches_then p q
+writes_then b u (Err e) p q = breaks_then p q
+
+-- a failure is handed on, under any error
+pub writes_fail : {E : Type 0} {a : List ℕ} (b : List ℕ) {s t : TermView} (r : Result Unit E) → IsErr r → BreaksOff a s t → Writes (a ++ b) s t r
+writes_fail b (Ok x) h q = cc
+writes_fail b (Err e) h q = breaks_early b q
+
+-- ---- lines
+
+pub lt_after : (n : ℕ) → nat_lt 0 (suc n) ≡ true
+lt_after n = grind (arith, nat_tests)
+
+pub or_lt_after : (b : Bool) (n : ℕ) → (b || nat_lt 0 (suc n)) ≡ true
+or_lt_after true n = refl
+or_lt_after false n = lt_after n
+
+pub lines-append : (at_end : Bool) (a b : List (List ℕ)) → lines_bytes at_end (a ++ b) ≡ lines_bytes at_end a ++ lines_bytes (at_end || nat_lt 0 (length a)) b
+lines-append at_end [] b = ap (λ x. lines_bytes x b) (sym (or-false at_end))
+lines-append at_end (x ∷ a) b = ap (λ y. ((if at_end then next_row else []) ++ x) ++ y) (lines-append true a b)
+    ∙ sym (append_assoc ((if at_end then next_row else []) ++ x) (lines_bytes true a) (lines_bytes true b))
+    ∙ ap (λ y. (((if at_end then next_row else []) ++ x) ++ lines_bytes true a) ++ lines_bytes y b) (sym (or_lt_after at_end (length a)))
+
+-- ---- rows taken back
+
+abbrev pub row_up : List ℕ
+row_up = move_bytes 0x41 1 ++ clear_bytes
+
+rows_back-add : (m k : ℕ) → rows_back (m + k) ≡ rows_back m ++ rows_back k
+rows_back-add m zero = ap rows_back (add-zero m) ∙ sym (append-nil (rows_back m))
+rows_back-add m (suc k) = ap rows_back (add-suc m k) ∙ ap (λ x. x ++ row_up) (rows_back-add m k) ∙ append_assoc (rows_back m) (rows_back k) row_up
+
+pub back_some : (below : Bool) (n : ℕ) → 0 < n → back_bytes below n ≡ ((if below then move_bytes 0x41 1 else []) ++ clear_bytes) ++ rows_back (n - 1)
+back_some below zero h = absurd (omega arith)
+back_some below (suc n) h = let e : suc n - 1 ≡ n = omega arith in rw e refl
+
+pub back_reaches : (a : List ℕ) (i : ℕ) {s t u : TermView} → 1 ≤ i → LeadsOn (a ++ rows_back (i - 1)) s t → LeadsOn row_up t u → LeadsOn (a ++ rows_back (i + 1 - 1)) s u
+back_reaches a zero h p q = absurd (omega arith)
+back_reaches a (suc m) {s} {t} {u} h p q =
+    let e : suc m - 1 ≡ m = omega arith in
+    let f : suc m + 1 - 1 ≡ suc m = omega arith in
+    let r : LeadsOn ((a ++ rows_back m) ++ row_up) s u = reaches_then (rw e at p) q in
+    rw f (rw append_assoc at r)
+
+pub back_fails : {E : Type 0} (a : List ℕ) (i n : ℕ) {s t : TermView} (u : TermView) (r : Result Unit E) → 1 ≤ i → i < n → IsErr r → LeadsOn (a ++ rows_back (i - 1)) s t → BreaksOff row_up t u →
+    Writes (a ++ rows_back (n - 1)) s u r
+back_fails a i n {s} {t} u r h k e p q =
+    let f : n - 1 ≡ (i - 1) + (1 + (n - 1 - i)) = omega arith in
+    let g : rows_back (n - 1) ≡ rows_back (i - 1) ++ (row_up ++ rows_back (n - 1 - i)) =
+    ap rows_back f ∙ rows_back-add (i - 1) (1 + (n - 1 - i)) ∙ ap (λ x. rows_back (i - 1) ++ x) (rows_back-add 1 (n - 1 - i)) in
+    let w : Writes (((a ++ rows_back (i - 1)) ++ row_up) ++ rows_back (n - 1 - i)) s u r = writes_fail (rows_back (n - 1 - i)) r e (breaks_then p q) in
+    rw g (subst (λ x. Writes x s u r) (append_assoc (a ++ rows_back (i - 1)) row_up (rows_back (n - 1 - i)) ∙ append_assoc a (rows_back (i - 1)) (row_up ++ rows_back (n - 1 - i))) w)
+
+-- ---- a whole drawing
+
+pub or_lt_sum : (b : Bool) (m n : ℕ) → (b || nat_lt 0 (m + n)) ≡ ((b || nat_lt 0 m) || nat_lt 0 n)
+or_lt_sum true m n = refl
+or_lt_sum false m n = grind (arith, nat_tests)
+
+not_twice : (b : Bool) → not (not b) ≡ b
+not_twice true = refl
+not_twice false = refl
+
+-- the bytes of a drawing, call by call, where it is known after each whether the cursor stands at the end of a row
+pub painting_split : (p : Painting) (a b c : Bool) → a ≡ not p.below → b ≡ (a && (p.taken == 0)) → c ≡ (b || nat_lt 0 (length (drawing_lines p.drawing))) →
+    painting_bytes p ≡ (if p.anew then anew_bytes else []) ++ (back_bytes (not a) p.taken ++ (lines_bytes b (drawing_lines p.drawing)
+    ++ ((if p.ends_below && c then next_row else []) ++ (replicate p.fill 0x20 ++ []))))
+unfolding paint_bytes
+painting_split p a b c e f g = rw (g, f, e, not_twice) (simp (append_assoc, append-nil))

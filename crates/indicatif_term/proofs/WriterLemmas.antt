@@ -1,0 +1,69 @@
+-- A terminal behind a writer tells the bytes that were sent to the writer.
+use Rattle.std.proofs.Common.{◌≡◌, ℕ, ◌+◌, ◌-◌, ◌%◌, ◌^◌, length, if◌then◌else◌, List, [], ◌++◌, Option, Some, None, Result, Ok, Err, refl, sym, ◌∙◌, ap, subst, append_assoc, append-nil, take, drop, take-append-drop}
+use Rattle.std.specs.Prelude.{IsTrue}
+use Rattle.std.specs.Result.{is_err}
+use Rattle.std.specs.Io.KnownBytes.{Appends, Keeps}
+use Rattle.std.proofs.lemmas.Bool.{false≢true}
+use Rattle.std.proofs.lemmas.List.{take_rest}
+use Rattle.indicatif_term.specs.Calls.{Bytes, tells, led_on, TermView, Writes}
+use Rattle.indicatif_term.specs.Writers.{Behind, told_by, view_behind, AppendsAllOrFront}
+
+-- ---- what a writer holds
+
+pub appends_more : (a b c : Option (List ℕ)) (bs cs : List ℕ) → Appends a b bs → Appends b c cs → Appends a c (bs ++ cs)
+appends_more None b c bs cs p q = tt
+appends_more (Some x) None c bs cs p q = absurd p
+appends_more (Some x) (Some y) None bs cs p q = absurd q
+appends_more (Some x) (Some y) (Some z) bs cs p q = q ∙ ap (λ l. l ++ cs) p ∙ append_assoc x bs cs
+
+pub appends_kept : (a b c : Option (List ℕ)) (bs : List ℕ) → Appends a b bs → Keeps b c → Appends a c bs
+appends_kept None b c bs p q = tt
+appends_kept (Some x) None c bs p q = absurd p
+appends_kept (Some x) (Some y) None bs p q = absurd q
+appends_kept (Some x) (Some y) (Some z) bs p q = q ∙ p
+
+pub moves_on : (all done rest : List ℕ) (n : ℕ) → all ≡ done ++ rest → all ≡ (done ++ take n rest) ++ take (length rest - n) (drop n rest)
+moves_on all done rest n e =
+    e ∙ ap (λ l. done ++ l) (sym (take-append-drop n rest)) ∙ sym (append_assoc done (take n rest) (drop n rest)) ∙ ap (λ l. (done ++ take n rest) ++ l) (sym (take_rest rest n))
+
+pub appends_none : (a : Option (List ℕ)) → Appends a a []
+appends_none None = tt
+appends_none (Some x) = sym (append-nil x)
+
+told_appended : (old new : Option (List ℕ)) (bytes : List ℕ) → Appends old new bytes → IsTrue (tells (told_by old)) → told_by new ≡ led_on (told_by old) bytes
+told_appended None new bytes p h = absurd (false≢true h)
+told_appended (Some x) None bytes p h = absurd p
+told_appended (Some x) (Some y) bytes p h = ap Bytes p
+
+pub kept_all : {E : Type 0} (a b : Option (List ℕ)) (r : Result Unit E) → Keeps a b → AppendsAllOrFront a b [] r
+kept_all a b (Ok u) k = appends_kept a a b [] (appends_none a) k
+kept_all a b (Err e) k = record { front = []; rest = []; whole = refl; appended = appends_kept a a b [] (appends_none a) k }
+
+-- ---- what the terminal tells
+
+module _ {W : Type 0} (contents : W → Option (List ℕ)) (w w' : W) (columns rows faults : ℕ) (bytes : List ℕ) where
+  abbrev before : TermView
+  before = view_behind contents (record { writer = w; columns = columns; rows = rows; faults = faults })
+
+  abbrev after : ℕ → TermView
+  after n = view_behind contents (record { writer = w'; columns = columns; rows = rows; faults = n })
+
+  written : {E : Type 0} (r : Result Unit E) → AppendsAllOrFront (contents w) (contents w') bytes r → Writes bytes before (after (if is_err r then (faults + 1) % 2 ^ 64 else faults)) r
+  written (Ok u) p = record { told_is = told_appended (contents w) (contents w') bytes p; columns_are = refl; rows_are = refl; faults_are = refl }
+  written (Err x) p = record {
+    front = p.front;
+    rest = p.rest;
+    whole = p.whole;
+    told_is = told_appended (contents w) (contents w') p.front p.appended;
+    columns_are = refl;
+    rows_are = refl;
+    faults_are = refl;
+  }
+
+  pub sent : {E : Type 0} (old new : Behind W) (done r : Result Unit E) → record { writer = w; columns = columns; rows = rows; faults = faults } ≡ old
+      → new ≡ record { writer = w'; columns = columns; rows = rows; faults = if is_err done then (faults + 1) % 2 ^ 64 else faults }
+      → AppendsAllOrFront (contents w) (contents w') bytes done → r ≡ done → Writes bytes (view_behind contents old) (view_behind contents new) r
+  sent old new done r at to p same =
+      subst (λ x. Writes bytes (view_behind contents old) (view_behind contents new) x) (sym same)
+      (subst (λ x. Writes bytes (view_behind contents old) (view_behind contents x) done) (sym to)
+      (subst (λ x. Writes bytes (view_behind contents x) (after (if is_err done then (faults + 1) % 2 ^ 64 else faults)) done) at (written done p)))

@@ -1,0 +1,82 @@
+-- Worked cases of the three lists.
+use Rattle.std.specs.Prelude.{◌≡◌, ℕ, true, false, List, [], ◌∷◌, ◌++◌, drop, flat_map, codes}
+use Rattle.indicatif_text.specs.Columns.{Cell, rows_of}
+use Rattle.indicatif_term.specs.Lists.{BarLines, opening_lists, all_rows, drawn, logged, cleared, kept_of, fate}
+use Rattle.indicatif_term.specs.declared.counts.Keep.TheVariants.{Absent, Passed, Behind}
+use Rattle.indicatif_term.specs.Calls.{line_bytes, clear_bytes}
+use Rattle.indicatif_term.specs.Terminal.{Terminal, after, blank_terminal}
+use Rattle.indicatif_term.specs.Pictures.{contents_text, picture_text}
+use Rattle.indicatif_term.specs.Shows.{looks_of}
+
+-- a bar of one line
+abbrev pub bar : ℕ → List ℕ → BarLines
+bar number line = record { bar = number; lines = line ∷ [] }
+
+-- the rows of lines
+abbrev pub written : ℕ → List (List ℕ) → List (List Cell)
+written w lines = flat_map (rows_of w) lines
+
+-- 6 columns and 4 rows: a line of 8 columns takes two rows, and one of 1 column takes one
+abbrev pub LongLine : Type 0
+LongLine = let first = drawn 6 4 false 0 (bar 0 (codes "aaaaaaaa") ∷ bar 1 (codes "b") ∷ []) opening_lists in
+    (all_rows 6 first ≡ written 6 (codes "aaaaaa" ∷ codes "aa" ∷ codes "b" ∷ []))
+    × (all_rows 6 (drawn 6 4 false 0 (bar 0 (codes "a") ∷ bar 1 (codes "b") ∷ []) first) ≡ written 6 (codes "a" ∷ codes "b" ∷ []))
+
+-- 2 rows: of three lines the first two are shown
+abbrev pub ThreeOnTwo : Type 0
+ThreeOnTwo = all_rows 5 (drawn 5 2 false 0 (bar 0 (codes "a") ∷ bar 1 (codes "b") ∷ bar 2 (codes "c") ∷ []) opening_lists) ≡ written 5 (codes "a" ∷ codes "b" ∷ [])
+
+-- a text that is logged stays above the bar
+abbrev pub LogAbove : Type 0
+LogAbove = let shown = drawn 5 3 false 0 (bar 0 (codes "x") ∷ []) opening_lists in
+    let l = logged 5 3 false (codes "l" ∷ []) (bar 0 (codes "x") ∷ []) shown in
+    (l.above ≡ written 5 (codes "l" ∷ [])) × (all_rows 5 l ≡ written 5 (codes "l" ∷ codes "x" ∷ []))
+
+-- bars at the bottom: a bar that is taken away leaves a blank row above; a bar that is dropped passes on with it, and a log
+-- takes both back
+abbrev pub AtTheBottom : Type 0
+AtTheBottom = let three = drawn 9 6 true 0 (bar 1 (codes "m1") ∷ bar 2 (codes "m2") ∷ bar 3 (codes "m3") ∷ []) opening_lists in
+    let two = drawn 9 6 true 0 (bar 1 (codes "m1") ∷ bar 3 (codes "m3") ∷ []) three in
+    let kept = kept_of 9 1 two in
+    (all_rows 9 two ≡ written 9 ([] ∷ codes "m1" ∷ codes "m3" ∷ []))
+    × (kept.kept ≡ written 9 ([] ∷ codes "m1" ∷ []))
+    × (all_rows 9 (logged 9 6 true (codes "L" ∷ []) (bar 3 (codes "m3") ∷ []) kept) ≡ written 9 (codes "L" ∷ [] ∷ codes "m3" ∷ []))
+
+-- 2 rows: a kept row that has scrolled away is above, and a log leaves it
+abbrev pub KeptScrollsAway : Type 0
+KeptScrollsAway = let two = drawn 9 2 false 0 (bar 1 (codes "k") ∷ bar 2 (codes "x") ∷ []) opening_lists in
+    let kept = kept_of 9 1 two in
+    let next = drawn 9 2 false 0 (bar 2 (codes "x") ∷ bar 3 (codes "y") ∷ []) kept in
+    (next.above ≡ written 9 (codes "k" ∷ [])) × (next.kept ≡ [])
+    × (all_rows 9 (logged 9 2 false (codes "l" ∷ []) (bar 2 (codes "x") ∷ bar 3 (codes "y") ∷ []) next) ≡ written 9 (codes "k" ∷ codes "l" ∷ codes "x" ∷ codes "y" ∷ []))
+
+-- after a clear no row is left but those above
+abbrev pub ClearLeavesAbove : Type 0
+ClearLeavesAbove = let shown = logged 5 3 false (codes "l" ∷ []) (bar 0 (codes "x") ∷ []) opening_lists in
+    all_rows 5 (cleared shown) ≡ written 5 (codes "l" ∷ [])
+
+-- of two bars that are shown the first stands first, the second later, and a third has no row; where the first is dropped its row
+-- is no live one, and the second stands first
+abbrev pub FatesOfBars : Type 0
+FatesOfBars = let two = drawn 9 4 false 0 (bar 1 (codes "a") ∷ bar 2 (codes "b") ∷ []) opening_lists in
+    (fate 1 two ≡ Passed) × (fate 2 two ≡ Behind) × (fate 3 two ≡ Absent) × (fate 1 opening_lists ≡ Absent)
+    × (kept_of 9 2 two ≡ two) × (kept_of 9 3 two ≡ two)
+    × (fate 1 (kept_of 9 1 two) ≡ Absent) × (fate 2 (kept_of 9 1 two) ≡ Passed)
+
+-- a terminal of 3 rows with the cursor on the last one, below two rows that were there before
+abbrev pub below_two : Terminal
+below_two = after (blank_terminal 3 5) (codes "u1\r\nu2\r\n")
+
+-- a bar is drawn there, and a text is logged above it: the first row scrolls away, and all below the two are those of the lists
+abbrev pub LogScrolls : Type 0
+LogScrolls = let x = bar 0 (codes "x") ∷ [] in
+    let first = drawn 5 3 false 0 x opening_lists in
+    let second = logged 5 3 false (codes "l" ∷ []) x first in
+    let shown = after below_two (codes "x") in
+    let next = after shown (clear_bytes ++ line_bytes (codes "l") ++ codes "x") in
+    (second.above ≡ written 5 (codes "l" ∷ [])) × (all_rows 5 second ≡ written 5 (codes "l" ∷ codes "x" ∷ []))
+    × (picture_text shown.screen ≡ codes "u1" ∷ codes "u2" ∷ codes "x" ∷ [])
+    × (looks_of (drop 2 shown.screen.rows) ≡ looks_of (all_rows 5 first))
+    × (picture_text next.screen ≡ codes "u1" ∷ codes "u2" ∷ codes "l" ∷ codes "x" ∷ [])
+    × (looks_of (drop 2 next.screen.rows) ≡ looks_of (all_rows 5 second))
+    × (contents_text next.screen ≡ codes "u2\nl\nx")

@@ -1,0 +1,61 @@
+-- The spaces that fill the last row of a drawing.
+use Rattle.std.specs.Prelude.{◌≡◌, ℕ, ◌-◌, ◌≤◌, length, take, map, flat_map, Bool, true, false, List, [], ◌∷◌, replicate, chars, Option, Some, None}
+use Rattle.indicatif_text.specs.Columns.{last_columns}
+use Rattle.indicatif_term.specs.Frames.{line_text}
+use Rattle.indicatif_term.specs.declared.lines.Segment.{Segment}
+use Rattle.indicatif_term.specs.declared.layout.Plan.{Plan}
+
+-- the last element of a list
+abbrev pub last_of : {A : Type 0} → List A → Option A
+last_of [] = None
+last_of (x ∷ []) = Some x
+last_of (x ∷ y ∷ xs) = last_of (y ∷ xs)
+
+-- the bytes of a line, or none
+abbrev pub line_or_none : Option (List ℕ) → List ℕ
+line_or_none None = []
+line_or_none (Some line) = line
+
+-- the last of these lines, or an empty one
+abbrev pub last_or_none : List (List ℕ) → List ℕ
+last_or_none lines = line_or_none (last_of lines)
+
+-- the columns that a line takes of its last row
+abbrev pub line_end : ℕ → List ℕ → ℕ
+line_end w line = last_columns w (chars line)
+
+-- the columns that are free behind a line in its last row
+abbrev pub fill_width : ℕ → List ℕ → ℕ
+fill_width w line = w - line_end w line
+
+-- spaces up to the end of the row of this line, if there is one
+abbrev pub spaces_behind : ℕ → Option (List ℕ) → List ℕ
+spaces_behind w None = []
+spaces_behind w (Some line) = replicate (fill_width w line) 0x20
+
+-- the spaces behind lines: none where the cursor goes below them
+abbrev pub fill_bytes : Bool → ℕ → List (List ℕ) → List ℕ
+fill_bytes true w lines = []
+fill_bytes false w lines = spaces_behind w (last_of lines)
+
+-- how many spaces fill a row of w columns of which so many are taken: none where there is no row, or the cursor goes below
+abbrev pub fill_columns : Bool → ℕ → Option ℕ → ℕ
+fill_columns true w last = 0
+fill_columns false w None = 0
+fill_columns false w (Some n) = w - n
+
+-- ---- how the lines of a frame end
+
+-- the columns that each line of a member takes of its last row
+abbrev pub member_ends : ℕ → Segment → List ℕ
+member_ends w member = map (λ line. line_end w (line_text line)) member.lines.items
+
+-- those of a frame's lines
+abbrev pub frame_ends : ℕ → List Segment → List ℕ
+frame_ends w frame = flat_map (member_ends w) frame
+
+-- a plan knows where the last line that it shows ends, of lines that end so
+pub record PlanEndsAt (ends : List ℕ) (p : Plan) : Type 0 where
+  pub lines_in : p.lines ≤ length ends
+  pub all_in : p.full ≡ false → p.lines ≡ length ends
+  pub last_is : p.last ≡ last_of (take p.lines ends)

@@ -1,0 +1,136 @@
+//! Worked cases of the definitions: each clause computes.
+ghost use Rattle.std.specs.Prelude.{◌≡◌, [], ◌∷◌, ◌++◌, codes};
+ghost use Rattle.indicatif_text.specs.Columns.{Blank, Written, Continued, rows_of};
+ghost use Rattle.indicatif_text.specs.ColumnCases.{cell};
+ghost use Rattle.indicatif_term.specs.Calls.{move_bytes, line_bytes, clear_bytes, UP, DOWN, RIGHT, LEFT};
+ghost use Rattle.indicatif_term.specs.Shows.{look, looks_of};
+ghost use Rattle.indicatif_term.specs.Frames.{logged_lines};
+ghost use Rattle.indicatif_term.specs.Memory.{move_text, quoted_char, written_text};
+ghost use Rattle.indicatif_term.specs.CellCases.{contents_after, cursor_after, picture_after, ESC};
+ghost use Rattle.indicatif_term.specs.Cases.{LongLine, ThreeOnTwo, LogAbove, AtTheBottom, KeptScrollsAway, ClearLeavesAbove, FatesOfBars, LogScrolls};
+ghost use Rattle.indicatif_term.specs.LimiterCases.{TwentyAtOnce, WholeMilliseconds, NoMoreInHand, NoneBefore};
+
+/// The bytes of calls.
+pub fn bytes_of_calls()
+    ensures up { move_bytes UP 2 ≡ 0x1B ∷ 0x5B ∷ 0x32 ∷ 0x41 ∷ [] }
+    ensures down { move_bytes DOWN 10 ≡ 0x1B ∷ 0x5B ∷ 0x31 ∷ 0x30 ∷ 0x42 ∷ [] }
+    ensures right { move_bytes RIGHT 1 ≡ 0x1B ∷ 0x5B ∷ 0x31 ∷ 0x43 ∷ [] }
+    ensures left { move_bytes LEFT 65535 ≡ 0x1B ∷ 0x5B ∷ 0x36 ∷ 0x35 ∷ 0x35 ∷ 0x33 ∷ 0x35 ∷ 0x44 ∷ [] }
+    ensures by_none { move_bytes UP 0 ≡ [] }
+    ensures empty_line { line_bytes [] ≡ 0x0D ∷ 0x0A ∷ [] }
+    ensures in_turn { move_bytes UP 2 ++ move_bytes UP 0 ++ clear_bytes ++ codes "ab" ++ line_bytes (codes "c")
+        ≡ 0x1B ∷ 0x5B ∷ 0x32 ∷ 0x41 ∷ 0x0D ∷ 0x1B ∷ 0x5B ∷ 0x32 ∷ 0x4B ∷ 0x61 ∷ 0x62 ∷ 0x63 ∷ 0x0D ∷ 0x0A ∷ [] }
+{}
+
+/// How cells look: a written space is as an empty cell, but not where a mark is joined to it.
+pub fn looks_of_cells()
+    ensures space { look (cell 0x20) ≡ Blank }
+    ensures empty { look Blank ≡ Blank }
+    ensures letter { look (cell 0x61) ≡ cell 0x61 }
+    ensures continued { look Continued ≡ Continued }
+    ensures marked { look (Written (record { base = 0x20; marks = 0x308 ∷ [] }))
+        ≡ Written (record { base = 0x20; marks = 0x308 ∷ [] }) }
+    ensures rows { looks_of (rows_of 3 (codes "a b "))
+        ≡ (cell 0x61 ∷ Blank ∷ cell 0x62 ∷ []) ∷ (Blank ∷ Blank ∷ Blank ∷ []) ∷ [] }
+{}
+
+/// The lines of texts that are logged.
+pub fn logged_texts()
+    ensures empty { logged_lines (codes "") ≡ [] ∷ [] }
+    ensures one { logged_lines (codes "a") ≡ codes "a" ∷ [] }
+    ensures ended { logged_lines (codes "a\n") ≡ codes "a" ∷ [] }
+    ensures carriage_return { logged_lines (codes "a\r\nb") ≡ codes "a" ∷ codes "b" ∷ [] }
+    ensures blank { logged_lines (codes "a\n\nb") ≡ codes "a" ∷ [] ∷ codes "b" ∷ [] }
+    ensures line_feed { logged_lines (codes "\n") ≡ [] ∷ [] }
+    ensures bare_return { logged_lines (codes "a\rb\r") ≡ codes "a\rb\r" ∷ [] }
+{}
+
+/// Bars that are drawn, logged above, dropped and cleared.
+pub fn drawings()
+    ensures long_line { LongLine }
+    ensures three_on_two { ThreeOnTwo }
+    ensures log_above { LogAbove }
+    ensures at_the_bottom { AtTheBottom }
+    ensures kept_scrolls_away { KeptScrollsAway }
+    ensures clear_leaves_above { ClearLeavesAbove }
+    ensures fates_of_bars { FatesOfBars }
+    ensures log_scrolls { LogScrolls }
+{}
+
+/// How often a limiter allows.
+pub fn limiters()
+    ensures twenty_at_once { TwentyAtOnce }
+    ensures whole_milliseconds { WholeMilliseconds }
+    ensures no_more_in_hand { NoMoreInHand }
+    ensures none_before { NoneBefore }
+{}
+
+/// Lines that are longer than a row.
+pub fn long_lines()
+    ensures contents { contents_after 10 5 (codes "A\r\nB\r\nLonger than cols\r\n")
+        ≡ codes "A\nB\nLonge\nr tha\nn col\ns" }
+    ensures cursor { cursor_after 10 5 (codes "A\r\nB\r\nLonger than cols\r\n") ≡ (6, 0) }
+{}
+
+/// A cursor in the column after the last one waits: a move right leaves it there, a move left takes it back.
+pub fn waiting()
+    ensures waits { cursor_after 2 2 (codes "ab") ≡ (0, 2) }
+    ensures right { contents_after 2 2 (codes "ab" ++ ESC ++ codes "[5Cc") ≡ codes "ab\nc" }
+    ensures left { contents_after 2 2 (codes "ab" ++ ESC ++ codes "[1Dc") ≡ codes "ac" }
+{}
+
+/// What scrolls away stays in the picture; the contents are the window's. Spaces at a row's end are blanks, but a row
+/// with a written space is a row.
+pub fn scrolled()
+    ensures picture { picture_after 2 3 (codes "a\r\nb\r\nc") ≡ codes "a" ∷ codes "b" ∷ codes "c" ∷ [] }
+    ensures contents { contents_after 2 3 (codes "a\r\nb\r\nc") ≡ codes "b\nc" }
+    ensures space { contents_after 3 3 (codes "a \r\n ") ≡ codes "a\n" }
+    ensures blank { contents_after 3 3 (codes "a\r\n") ≡ codes "a" }
+{}
+
+/// Sequences that are no moves, and bytes that spell no character.
+pub fn odd_sequences()
+    ensures no_bracket { contents_after 1 4 (ESC ++ codes "Ma") ≡ codes "Ma" }
+    ensures twice { contents_after 1 4 (codes "ab\r" ++ ESC ++ ESC ++ codes "[2Kc") ≡ codes "c" }
+    ensures swallowed { contents_after 1 4 (ESC ++ codes "[?25l") ≡ codes "25l" }
+    ensures semicolon { contents_after 2 4 (codes "a\r\nb" ++ ESC ++ codes "[1;1Ac") ≡ codes "a\nbc" }
+    ensures zeros { contents_after 2 4 (codes "a\r\nb" ++ ESC ++ codes "[007Ac") ≡ codes "ac\nb" }
+    ensures huge { contents_after 2 4 (codes "a\r\nb" ++ ESC ++ codes "[99999999999999999999999Ac") ≡ codes "ac\nb" }
+    ensures cut_short { contents_after 1 4 (0xE5 ∷ 0x9B ∷ codes "a") ≡ codes "a" }
+    ensures stray { contents_after 1 4 (codes "a" ++ 0x80 ∷ 0x80 ∷ 0x80 ∷ 0x80 ∷ 0x80 ∷ codes "b") ≡ codes "ab" }
+{}
+
+/// A wide character of which a cell is written over is emptied; one that doesn't fit goes to the next row; one that is
+/// wider than the terminal is left out.
+pub fn wide()
+    ensures over { contents_after 1 4 (0xE5 ∷ 0x9B ∷ 0xBD ∷ (ESC ++ codes "[1Dx")) ≡ codes " x" }
+    ensures next_row { picture_after 2 3 (codes "ab" ++ 0xE5 ∷ 0x9B ∷ 0xBD ∷ []) ≡ codes "ab" ∷ (0xE5 ∷ 0x9B ∷ 0xBD ∷ []) ∷ [] }
+    ensures too_wide { cursor_after 2 1 (0xE5 ∷ 0x9B ∷ 0xBD ∷ []) ≡ (0, 0) }
+    ensures three { cursor_after 1 4 (0xE1 ∷ 0x9F ∷ 0x98 ∷ []) ≡ (0, 3) }
+{}
+
+/// A mark joins the character before the cursor; at the front of a row it is left out.
+pub fn marks()
+    ensures joined { contents_after 1 4 (codes "a" ++ 0xCC ∷ 0x88 ∷ codes "b") ≡ codes "a" ++ 0xCC ∷ 0x88 ∷ codes "b" }
+    ensures front { contents_after 1 4 (0xCC ∷ 0x88 ∷ codes "a") ≡ codes "a" }
+    ensures after_empty { contents_after 1 4 (ESC ++ codes "[1C" ++ 0xCC ∷ 0x88 ∷ codes "a") ≡ codes " a" }
+{}
+
+/// The calls as text: what stands between quotation marks is escaped as in Rust's own text of a string.
+pub fn calls_as_text()
+    ensures up { move_text (codes "Up") 2 ≡ codes "Up(2)\n" }
+    ensures down { move_text (codes "Down") 10 ≡ codes "Down(10)\n" }
+    ensures letter { quoted_char 0x61 ≡ 0x61 ∷ [] }
+    ensures quote { quoted_char 0x22 ≡ 0x5C ∷ 0x22 ∷ [] }
+    ensures backslash { quoted_char 0x5C ≡ 0x5C ∷ 0x5C ∷ [] }
+    ensures line_feed { quoted_char 0x0A ≡ 0x5C ∷ 0x6E ∷ [] }
+    ensures carriage_return { quoted_char 0x0D ≡ 0x5C ∷ 0x72 ∷ [] }
+    ensures tab { quoted_char 0x09 ≡ 0x5C ∷ 0x74 ∷ [] }
+    ensures nul { quoted_char 0x00 ≡ 0x5C ∷ 0x30 ∷ [] }
+    ensures bell { quoted_char 0x07 ≡ 0x5C ∷ codes "u{7}" }
+    ensures escape { quoted_char 0x1B ≡ 0x5C ∷ codes "u{1b}" }
+    ensures delete { quoted_char 0x7F ≡ 0x5C ∷ codes "u{7f}" }
+    ensures text { written_text (codes "ab") ≡ codes "Str(\"ab\")\n" }
+    ensures escaped { written_text (codes "a\"\n" ++ 0x00 ∷ codes "b") ≡ codes "Str(\"a\\\"\\n\\0b\")\n" }
+    ensures wide { written_text (0xE5 ∷ 0x9B ∷ 0xBD ∷ []) ≡ codes "Str(\"" ++ 0xE5 ∷ 0x9B ∷ 0xBD ∷ codes "\")\n" }
+{}

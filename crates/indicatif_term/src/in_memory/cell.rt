@@ -1,0 +1,141 @@
+//! A cell of a row as it is kept: a few bytes, and no memory of its own. Its marks stand in the row's list of marks.
+ghost use Rattle.std.specs.Prelude.{◌≡◌, ◌++◌, [], IfErr, OnOk, OnErr, encode_utf8_all, string_bytes};
+ghost use Rattle.indicatif_text.specs.Columns.{Blank, Written, Continued};
+ghost use Rattle.indicatif_term.specs.Screen.{is_continued};
+ghost use Rattle.indicatif_term.specs.Pictures.{cell_text, is_blank, is_written};
+ghost use Rattle.indicatif_term.specs.Inside.Rows.{cell_shown, JoinsMark};
+
+use crate::in_memory::marks::{Mark, keep_mark, leads_to_none, show_marks};
+use indicatif_text::columns::Refusal;
+use std::alloc::Global;
+use std::marker::Model;
+
+/// What stands in a cell.
+#[derive(Clone, Copy, Debug, Drop)]
+enum Kind {
+    /// Nothing.
+    Empty,
+    /// A character without marks.
+    Plain(char),
+    /// A character with marks, and the place of the last one among those of the row.
+    Joined(char, u32),
+    /// A continued cell of the wide character at its left.
+    Continued,
+}
+
+/// A cell of a row. Contracts see the place of its last mark in the place of its marks.
+#[derive(Debug, Drop)]
+pub(crate) struct Cell {
+    kind: Kind,
+}
+
+impl Model for Cell {
+    ghost use Rattle.indicatif_text.specs.Columns.{Cell};
+
+    ghost Value = { Cell };
+
+    ghost use Rattle.indicatif_term.specs.Inside.Rows.{cell_of};
+
+    ghost view = { λ s. cell_of s.kind };
+}
+
+impl Cell {
+    /// A cell that is empty.
+    #[inline]
+    pub(crate) fn empty() -> Cell
+        ensures { result ≡ Blank }
+    {
+        Cell { kind: Kind::Empty }
+    }
+
+    /// A continued cell of the wide character at its left.
+    #[inline]
+    pub(crate) fn continued() -> Cell
+        ensures { result ≡ Continued }
+    {
+        Cell {
+            kind: Kind::Continued,
+        }
+    }
+
+    /// The first cell of a character.
+    #[inline]
+    pub(crate) fn plain(c: char) -> Cell
+        ensures { result ≡ Written (record { base = c; marks = [] }) }
+    {
+        Cell {
+            kind: Kind::Plain(c),
+        }
+    }
+
+    /// Whether it is a continued cell of the wide character at its left.
+    #[inline]
+    pub(crate) fn is_continued(&self) -> bool
+        ensures { result ≡ is_continued self.now }
+    {
+        match self.kind {
+            Kind::Continued => true,
+            _ => false,
+        }
+    }
+
+    /// Whether it was written and not emptied since.
+    pub(crate) fn is_written(&self) -> bool
+        ensures { result ≡ is_written self.now }
+    {
+        match self.kind {
+            Kind::Empty => false,
+            _ => true,
+        }
+    }
+
+    /// Whether it is empty, or a space without a mark.
+    pub(crate) fn is_blank(&self, marks: &[Mark]) -> bool
+        ensures { result ≡ is_blank (cell_shown marks.now self.now) }
+    {
+        match self.kind {
+            Kind::Empty => true,
+            Kind::Plain(c) => c == ' ',
+            Kind::Joined(c, last) => c == ' ' && leads_to_none(marks, last),
+            Kind::Continued => false,
+        }
+    }
+
+    /// Joins a mark to its character, if it has one. Refused: `Memory`; all is unchanged then.
+    pub(crate) fn join(&mut self, marks: &mut Vec<Mark>, mark: char) -> Result<(), Refusal>
+        ensures joined { OnOk result (JoinsMark mark marks.old.items marks.new.items self.old self.new) }
+        ensures err { OnErr result (self.new ≡ self.old) }
+        ensures marks { OnErr result (marks.new.items ≡ marks.old.items) }
+        ensures refused { IfErr result (λ e. e ≡ Refusal.Memory) }
+    {
+        match self.kind {
+            Kind::Plain(c) => self.kind = Kind::Joined(c, keep_mark(marks, 0, mark)?),
+            Kind::Joined(c, last) => self.kind = Kind::Joined(c, keep_mark(marks, last, mark)?),
+            Kind::Empty | Kind::Continued => {}
+        }
+        Ok(())
+    }
+
+    /// Appends its characters to `out`: a blank one for an empty cell. Refused: `Memory`.
+    pub(crate) fn show(
+        &self,
+        alloc: Global,
+        marks: &[Mark],
+        out: &mut String,
+    ) -> Result<(), Refusal>
+        ensures shown { OnOk result (string_bytes out.new
+            ≡ string_bytes out.old ++ encode_utf8_all (cell_text (cell_shown marks.now self.now))) }
+        ensures refused { IfErr result (λ e. e ≡ Refusal.Memory) }
+    {
+        match self.kind {
+            Kind::Empty => out.push(' ')?,
+            Kind::Plain(c) => out.push(c)?,
+            Kind::Joined(c, last) => {
+                out.push(c)?;
+                show_marks(alloc, marks, last, out)?;
+            }
+            Kind::Continued => {}
+        }
+        Ok(())
+    }
+}

@@ -1,0 +1,80 @@
+//! The marks of a row: one list, in the order in which they were joined.
+ghost use Rattle.std.specs.Prelude.{◌≡◌, ◌+◌, ◌++◌, ◌∷◌, [], IfOk, IfErr, OnOk, OnErr, length, reverse, encode_utf8_all, string_bytes};
+ghost use Rattle.indicatif_term.specs.Inside.Marks.{chain};
+ghost use Rattle.indicatif_term.specs.Pictures.{is_empty};
+
+use indicatif_text::columns::Refusal;
+use std::alloc::Global;
+
+/// A mark, and the place of the one that was joined to the same character before it: counted from 1, and 0 where there
+/// is none.
+#[derive(Clone, Copy, Debug, Drop)]
+pub(crate) struct Mark {
+    character: char,
+    before: u32,
+}
+
+/// Puts a mark behind those of the row, and gives its place. Refused: `Memory`, also where it has no place below 2^32.
+pub(crate) fn keep_mark(marks: &mut Vec<Mark>, before: u32, character: char) -> Result<u32, Refusal>
+    ensures place { IfOk result (λ n. n ≡ length marks.old.items + 1) }
+    ensures put { OnOk result (marks.new.items ≡ marks.old.items ++ record { character = character; before = before } ∷ []) }
+    ensures err { OnErr result (marks.new.items ≡ marks.old.items) }
+    ensures refused { IfErr result (λ e. e ≡ Refusal.Memory) }
+{
+    if marks.len() >= 0xFFFF_FFFF {
+        return Err(Refusal::Memory);
+    }
+    let place = marks.len() as u32 + 1;
+    marks.push(Mark { character, before })?;
+    Ok(place)
+}
+
+/// Whether no mark has this place.
+pub(crate) fn leads_to_none(marks: &[Mark], last: u32) -> bool
+    ensures { result ≡ is_empty (chain (reverse marks.now) last) }
+{
+    last == 0 || last as usize > marks.len()
+}
+
+/// Appends the marks of the character whose last one has this place. Refused: `Memory`.
+pub(crate) fn show_marks(
+    alloc: Global,
+    marks: &[Mark],
+    last: u32,
+    out: &mut String,
+) -> Result<(), Refusal>
+    ensures shown { OnOk result (string_bytes out.new ≡ string_bytes out.old ++ encode_utf8_all (chain (reverse marks.now) last)) }
+    ensures refused { IfErr result (λ e. e ≡ Refusal.Memory) }
+{
+    let found = marks_up_to(alloc, marks, last)?;
+    push_reversed(&found, out)
+}
+
+/// The same marks, the last one first. Refused: `Memory`.
+fn marks_up_to(alloc: Global, marks: &[Mark], last: u32) -> Result<Vec<char>, Refusal>
+    ensures found { IfOk result (λ v. reverse v.items ≡ chain (reverse marks.now) last) }
+    ensures refused { IfErr result (λ e. e ≡ Refusal.Memory) }
+{
+    let mut found = Vec::new(alloc);
+    let mut left = last as usize;
+    while left > 0 && left <= marks.len() {
+        let mark = marks[left - 1];
+        found.push(mark.character)?;
+        let before = mark.before as usize;
+        left = if before < left { before } else { 0 };
+    }
+    Ok(found)
+}
+
+/// Appends characters, the last one first. Refused: `Memory`.
+fn push_reversed(characters: &[char], out: &mut String) -> Result<(), Refusal>
+    ensures pushed { OnOk result (string_bytes out.new ≡ string_bytes out.old ++ encode_utf8_all (reverse characters.now)) }
+    ensures refused { IfErr result (λ e. e ≡ Refusal.Memory) }
+{
+    let mut left = characters.len();
+    while left > 0 {
+        left -= 1;
+        out.push(characters[left])?;
+    }
+    Ok(())
+}

@@ -1,0 +1,74 @@
+//! How often a target may be drawn.
+ghost use Rattle.std.specs.Prelude.{◌≡◌, ◌↔◌, IfOk, IfErr};
+ghost use Rattle.indicatif_term.specs.Limiters.{Limiter, allow, draw_limiter};
+
+use indicatif_text::columns::{Moment, Refusal};
+use std::marker::Model;
+
+/// How often a target may be drawn: 20 draws may come at once, and one more with each interval after that, of which no
+/// more than 20 are ever in hand.
+///
+/// Of any moments, in any order, those that it allows are at most 20, and one for each interval from its making to the last
+/// one allowed.
+///
+/// ```
+/// let mut limiter = RateLimiter::new(20, 0)?;
+/// let first = limiter.allow(0); // true, and so are 19 more at this moment; then one each 50,000,000 nanoseconds
+/// ```
+#[derive(Debug, Drop)]
+pub struct RateLimiter {
+    interval: u64,
+    capacity: u64,
+    prev: Moment,
+}
+
+/// Contracts see the limiter's interval, what it has in hand, and the moment from which it counts.
+impl Model for RateLimiter {
+    ghost use Rattle.std.specs.Prelude.{◌<◌, ◌≤◌};
+    ghost use Rattle.indicatif_term.specs.Limiters.{Limiter};
+
+    ghost Value = { Limiter };
+
+    ghost view = { λ l. record { interval = l.interval; most = 20; capacity = l.capacity; prev = l.prev } };
+
+    ghost invariant = { λ l. (0 < l.interval) × (l.capacity ≤ 20) };
+}
+
+impl RateLimiter {
+    /// A limiter of `rate` draws a second, made at this moment. Its interval is `1000 / rate` whole milliseconds.
+    ///
+    /// Refused: `ZeroRate`, exactly where `rate` is 0.
+    pub fn new(rate: u8, now: Moment) -> Result<Self, Refusal>
+        ensures limiter { IfOk result (λ l. l ≡ draw_limiter rate now) }
+        ensures zero { (result ≡ Err Refusal.ZeroRate) ↔ (rate ≡ 0) }
+        ensures no_other { IfErr result (λ e. e ≡ Refusal.ZeroRate) }
+    {
+        if rate == 0 {
+            return Err(Refusal::ZeroRate);
+        }
+        Ok(RateLimiter {
+            interval: 1000 / u64::from(rate) * 1_000_000,
+            capacity: 20,
+            prev: now,
+        })
+    }
+
+    /// Whether a draw is allowed at this moment; if so, it is counted. None is allowed at a moment before the one from which
+    /// it counts, and nothing changes then.
+    pub fn allow(&mut self, now: Moment) -> bool
+        ensures answer { result ≡ (allow self.old now).0 }
+        ensures next { self.new ≡ (allow self.old now).1 }
+    {
+        if now < self.prev {
+            return false;
+        }
+        let elapsed = now - self.prev;
+        if self.capacity == 0 && elapsed < self.interval {
+            return false;
+        }
+        let new = elapsed / self.interval;
+        self.capacity = (self.capacity + new.min(21) - 1).min(20);
+        self.prev = now - elapsed % self.interval;
+        true
+    }
+}

@@ -1,0 +1,122 @@
+-- That what a draft's literal text gains or loses is what its sketch does.
+use Rattle.std.proofs.Common.{◌≡◌, ◌<◌, inr, length-drop, ℕ, Bool, true, false, List, [], ◌∷◌, ◌++◌, length, take, drop, refl, sym, ◌∙◌, ap, subst, arith, append-nil, append_assoc, length-append}
+use Rattle.std.specs.Prelude.{String, ◌==◌, if◌then◌else◌, string_bytes, string_len, IsUtf8, IsCharBoundary}
+use Rattle.std.specs.Prelude.{◌⊎◌, Result, Ok, Err, IfErr, IsErrAnd, take_while}
+use Rattle.std.specs.Str.{chars}
+use Rattle.std.specs.List.{prefix_len}
+use Rattle.std.specs.Char.{IsScalar}
+use Rattle.indicatif_text.specs.declared.template.TemplateError.{TemplateError}
+use Rattle.indicatif_text.specs.declared.template.TemplateError.TheVariants.{Memory}
+use Rattle.indicatif_text.specs.Template.{TemplatePart, LiteralText, TemplatePiece, Char, SpacedBrace, Takes, Stops, after_run, front, Refuses, here, IsRefused}
+use Rattle.indicatif_text.specs.Inside.Draft.{Sketch, literal_part, kept_sketch, with_run, added, Leads}
+use Rattle.indicatif_text.specs.Inside.Spans.{is_literal_char}
+use Rattle.indicatif_text.proofs.OptionLemmas.{some_text}
+use Rattle.indicatif_text.proofs.TemplateLemmas.{rest_shorter}
+use Rattle.indicatif_text.proofs.SketchLemmas.{leads_more, leads_piece, leads_run}
+use Rattle.std.proofs.Math.Utf8.{encode}
+use Rattle.std.proofs.lemmas.Bool.{eqb-true, cond_both}
+use Rattle.std.proofs.lemmas.List.{nil_from_length, take-append-drop, take-append-le, drop-append-le, take-take, take_all, drop_all, length-take}
+use Rattle.std.proofs.lemmas.Str.{chars-nil, chars-append, chars_past_char, IsUtf8-encode, IsUtf8-string_bytes, IsUtf8-take, IsUtf8-drop, IsUtf8-append, IsCharBoundary-from_drop}
+
+pub empty_string : {Z : Type 0} (s : String Z) → true ≡ (string_len s == 0) → string_bytes s ≡ []
+empty_string s e = nil_from_length (string_bytes s) (sym s.bytes.ok.0 ∙ eqb-true (string_len s) 0 (sym e))
+
+pub same_sketch : (a b : Sketch) → a.done ≡ b.done → a.kept ≡ b.kept → a.run ≡ b.run → a ≡ b
+same_sketch a b d k r = λ i. record { done = d i; kept = k i; run = r i }
+
+pub chars_one : (c : ℕ) → IsScalar c → chars (encode c) ≡ c ∷ []
+chars_one c s = chars_past_char (encode c) [] c (IsUtf8-encode c s) (sym (append-nil (encode c))) ∙ ap (λ x. c ∷ x) chars-nil
+
+spaced_text : (kept run key all : List ℕ) (space : ℕ) → all ≡ kept ++ (((run ++ 0x7B ∷ []) ++ key) ++ space ∷ []) → all ≡ (kept ++ run) ++ (0x7B ∷ (key ++ space ∷ []))
+spaced_text kept run key all space e = e ∙ simp append_assoc
+
+-- no literal text gives no part
+pub closed_none : (done : List TemplatePart) (text : List ℕ) → text ≡ [] → done ≡ done ++ literal_part text
+closed_none done text none = sym (append-nil done) ∙ ap (λ t. done ++ literal_part t) (sym none)
+
+-- a literal text gives one
+pub closed_some : {Z : Type 0} (s : String Z) → false ≡ (string_len s == 0) → LiteralText (chars (string_bytes s)) ∷ [] ≡ literal_part (chars (string_bytes s))
+closed_some s some =
+    some_text (List TemplatePart) (λ cs. LiteralText cs ∷ []) literal_part (λ c cs. refl) (string_bytes s) (chars (string_bytes s)) (IsUtf8-string_bytes s) refl
+    (some ∙ ap (λ n. n == 0) s.bytes.ok.0)
+
+-- ---- a literal text of which so many bytes in front are kept
+
+module _ (bs : List ℕ) (n : ℕ) (u : IsUtf8 bs) (b : IsCharBoundary bs n) where
+  -- what is kept and the run are the whole text
+  pub kept_and_run : chars bs ≡ chars (take n bs) ++ chars (drop n bs)
+  kept_and_run = ap chars (sym (take-append-drop n bs)) ∙ chars-append (take n bs) (drop n bs) (IsUtf8-take bs n u b)
+
+  -- more text belongs to the run
+  pub more_kept : (more : List ℕ) → chars (take n (bs ++ more)) ≡ chars (take n bs)
+  more_kept more = ap chars (take-append-le n bs more b.0)
+
+  pub more_run : (more : List ℕ) → chars (drop n (bs ++ more)) ≡ chars (drop n bs) ++ chars more
+  more_run more = ap chars (drop-append-le n bs more b.0) ∙ chars-append (drop n bs) more (IsUtf8-drop bs n u b)
+
+  pub more_boundary : (more : List ℕ) → IsUtf8 more → IsCharBoundary (bs ++ more) n
+  more_boundary more w =
+      let run : IsUtf8 (drop n (bs ++ more)) = subst IsUtf8 (sym (drop-append-le n bs more b.0)) (IsUtf8-append (drop n bs) more (IsUtf8-drop bs n u b) w) in
+      IsCharBoundary-from_drop (bs ++ more) n (omega (arith, b.0, length-append bs more)) run
+
+  -- whether memory was refused or not
+  pub pushed_boundary : (ok : Bool) (after more : List ℕ) → after ≡ (if ok then bs ++ more else bs) → IsUtf8 more → IsCharBoundary after n
+  pushed_boundary ok after more e w =
+      subst (λ xs. IsCharBoundary xs n) (sym e) (cond_both ok (bs ++ more) bs (λ xs. IsCharBoundary xs n) (λ _. more_boundary more w) (λ _. b))
+
+-- the run is cut off
+pub cut_kept : (bs : List ℕ) (n : ℕ) → take n (take n bs) ≡ take n bs
+cut_kept bs n = take-take n n bs (omega arith)
+
+pub cut_run : (bs : List ℕ) (n : ℕ) → drop n (take n bs) ≡ []
+cut_run bs n = drop_all n (take n bs) (omega (arith, length-take n bs))
+
+-- all is kept
+pub all_kept : {Z : Type 0} (s : String Z) → take (string_len s) (string_bytes s) ≡ string_bytes s
+all_kept s = take_all (string_len s) (string_bytes s) (omega (arith, s.bytes.ok.0))
+
+pub all_run : {Z : Type 0} (s : String Z) → drop (string_len s) (string_bytes s) ≡ []
+all_run s = drop_all (string_len s) (string_bytes s) (omega (arith, s.bytes.ok.0))
+
+-- nothing is kept of no text
+pub none_kept : (bs : List ℕ) (n : ℕ) → bs ≡ [] → chars (take n bs) ≡ []
+none_kept bs n e = ap chars (take_all n bs (omega (arith, ap length e)) ∙ e) ∙ chars-nil
+
+pub none_run : (bs : List ℕ) (n : ℕ) → bs ≡ [] → chars (drop n bs) ≡ []
+none_run bs n e = ap chars (drop_all n bs (omega (arith, ap length e))) ∙ chars-nil
+
+-- an opening brace, a key and a white space, put to what is kept
+pub spaced_sketch : (s opened named spaced kept : Sketch) (key : List ℕ) (space : ℕ) → opened ≡ added s (Char 0x7B) → named ≡ with_run opened key →
+    spaced ≡ added named (Char space) → kept ≡ kept_sketch spaced → kept ≡ added s (SpacedBrace ((0x7B ∷ key) ++ space ∷ []))
+spaced_sketch s opened named spaced kept key space a b c d =
+    let text : spaced.kept ++ spaced.run ≡ s.kept ++ (((s.run ++ 0x7B ∷ []) ++ key) ++ space ∷ []) = cc (a, b, c) in
+    same_sketch kept (added s (SpacedBrace ((0x7B ∷ key) ++ space ∷ []))) (cc (a, b, c, d)) (ap (λ t. t.kept) d ∙ spaced_text s.kept s.run key _ space text) (ap (λ t. t.run) d)
+
+-- ---- what is read
+
+-- what a run of literal characters leads to
+pub reads_run : (s t : Sketch) (text run rest : List ℕ) → t ≡ with_run s run → run ≡ take_while is_literal_char text → rest ≡ after_run is_literal_char text → Leads s text t rest
+reads_run s t text run rest e r a =
+    let led = leads_run s text in
+    let by_run : Leads s text (with_run s run) (after_run is_literal_char text) = subst (λ x. Leads s text (with_run s x) (after_run is_literal_char text)) (sym r) led in
+    let by_sketch : Leads s text t (after_run is_literal_char text) = subst (λ x. Leads s text x (after_run is_literal_char text)) (sym e) by_run in
+    subst (λ x. Leads s text t x) (sym a) by_sketch
+
+-- and the piece behind it
+pub reads_piece : (s t u : Sketch) (text marked after rest : List ℕ) (c : ℕ) (p : TemplatePiece) → Leads s text t marked → marked ≡ c ∷ after → front c after ≡ Takes rest p
+    → u ≡ added t p → Leads s text u rest
+reads_piece s t u text marked after rest c p led e f is =
+    let here : Leads t (c ∷ after) (added t p) rest = leads_piece t c after rest p f in
+    subst (λ x. Leads s text x rest) (sym is) (leads_more (subst (λ x. Leads s text t x) e led) here)
+
+pub refused_here : (s t : Sketch) (text marked after place : List ℕ) (c : ℕ) (x : TemplateError) → Leads s text t marked → marked ≡ c ∷ after → front c after ≡ Stops place x → IsRefused text x
+refused_here s t text marked after place c x led e f = (place, led.refuses place x (subst (λ m. Refuses m place x) (sym e) (here f)))
+
+pub refused_error : {A : Type 0} (text : List ℕ) (x : TemplateError) → IsRefused text x → (r : Result A TemplateError) → IsErrAnd r (λ e. e ≡ x) → IfErr r (λ e. (e ≡ Memory) ⊎ IsRefused text e)
+refused_error text x is (Ok y) h = absurd h
+refused_error text x is (Err y) h = inr (subst (IsRefused text) (sym h) is)
+
+pub read_shorter : (text marked after rest : List ℕ) (c : ℕ) (p : TemplatePiece) → marked ≡ after_run is_literal_char text → marked ≡ c ∷ after → front c after ≡ Takes rest p
+    → length rest < length text
+read_shorter text marked after rest c p a e f =
+    omega (arith, rest_shorter c after f, ap length e, ap length a, length-drop (prefix_len is_literal_char text) text)

@@ -1,0 +1,89 @@
+-- That tokens in front of a text are its pieces.
+use Rattle.std.proofs.Common.{◌≡◌, ℕ, inl, inr, true, false, List, ◌∷◌, length, refl, sym, ◌∙◌, ap, subst, arith, eqb}
+use Rattle.std.specs.Prelude.{◌==◌, Result, Ok, Err, MatchResult, IsErrAnd, chars, IsUtf8, take_while}
+use denote.Ref.{Bor}
+use Rattle.std.specs.Char.{is_ascii_whitespace}
+use Rattle.std.proofs.lemmas.Bool.{cases_Bool, eqb-true, eq-eqb, ne_eqb, false≢true}
+use Rattle.std.proofs.lemmas.List.{nil_from_length}
+use Rattle.indicatif_text.proofs.OptionLemmas.{is_no_text, some_chars}
+use Rattle.indicatif_text.specs.declared.refusal.TemplateState.TheVariants.{MaybeOpen, DoubleClose}
+use Rattle.indicatif_text.specs.declared.template.TemplateError.{TemplateError}
+use Rattle.indicatif_text.specs.declared.template.TemplateError.TheVariants.{Unexpected}
+use Rattle.indicatif_text.specs.declared.template.reading.Token.{Token}
+use Rattle.indicatif_text.specs.Inside.Reading.{piece_of}
+use Rattle.indicatif_text.specs.Template.{TemplatePiece, Char, Break, Keyed, Front, Takes, Stops, after_run, plain_layout, with_options, keyed, key_ends, is_key_char, opened, closed, front}
+
+-- what a reading of a piece gives: this piece and this rest, or this error at some place
+abbrev pub GivesPiece : Front TemplatePiece → Result (Token × Bor (List ℕ)) TemplateError → Type 0
+GivesPiece f r = MatchResult r (λ r. f ≡ Takes (chars r.1.now) (piece_of r.0)) (λ e. (place : List ℕ) × (f ≡ Stops place e))
+
+-- an error that is handed on
+pub gives_handed : (f : Front TemplatePiece) (place : List ℕ) (x : TemplateError) → f ≡ Stops place x → (r : Result (Token × Bor (List ℕ)) TemplateError) → IsErrAnd r (λ e. e ≡ x) → GivesPiece f r
+gives_handed f place x e (Ok y) h = absurd h
+gives_handed f place x e (Err y) h = (place, e ∙ ap (λ z. Stops place z) (sym h))
+
+pub gives_same : (f g : Front TemplatePiece) (r : Result (Token × Bor (List ℕ)) TemplateError) → f ≡ g → GivesPiece f r → GivesPiece g r
+gives_same f g r e h = subst (λ x. GivesPiece x r) e h
+
+pub no_chars : (bs : List ℕ) → true ≡ (length bs == 0) → (length (chars bs) == 0) ≡ true
+no_chars bs e = ap (λ cs. length cs == 0) (is_no_text bs e)
+
+pub has_chars : (bs : List ℕ) → IsUtf8 bs → false ≡ (length bs == 0) → (length (chars bs) == 0) ≡ false
+has_chars bs u e = elim (cases_Bool (eqb (length (chars bs)) 0)) [
+  | inl none ↦ absurd (false≢true (e ∙ eq-eqb (length bs) 0 (some_chars bs u (nil_from_length (chars bs) (eqb-true (length (chars bs)) 0 none)))))
+  | inr some ↦ some
+]
+
+module _ (key after : List ℕ) (c : ℕ) (cs : List ℕ) (e : after ≡ c ∷ cs) (other : is_ascii_whitespace c ≡ false) where
+  pub key_missing : (length key == 0) ≡ true → key_ends key after ≡ Stops (c ∷ cs) (Unexpected c MaybeOpen)
+  key_missing none = ap (key_ends key) e ∙ rw (other, none) refl
+
+  pub key_closed : (length key == 0) ≡ false → c ≡ 0x7D → key_ends key after ≡ Takes cs (Keyed key plain_layout)
+  key_closed some brace =
+      let test : eqb c 0x7D ≡ true = eq-eqb c 0x7D brace in
+      ap (key_ends key) e ∙ rw (other, some, test) refl
+
+  pub key_options : (length key == 0) ≡ false → (c ≡ 0x7D → ⊥) → key_ends key after ≡ keyed key (with_options cs)
+  key_options some colon =
+      let test : eqb c 0x7D ≡ false = ne_eqb c 0x7D colon in
+      ap (key_ends key) e ∙ rw (other, some, test) refl
+
+pub opened_key : (text key after : List ℕ) (c : ℕ) (cs : List ℕ) → text ≡ c ∷ cs → (c ≡ 0x7B → ⊥) → key ≡ take_while is_key_char text → after ≡ after_run is_key_char text →
+    key_ends key after ≡ opened text
+opened_key text key after c cs e other k a =
+    let test : eqb c 0x7B ≡ false = ne_eqb c 0x7B other in
+    let same : opened (c ∷ cs) ≡ key_ends (take_while is_key_char (c ∷ cs)) (after_run is_key_char (c ∷ cs)) = rw test refl in
+    let parts : key_ends key after ≡ key_ends (take_while is_key_char text) (after_run is_key_char text) = cc (k, a) in
+    parts ∙ ap (λ t. key_ends (take_while is_key_char t) (after_run is_key_char t)) e ∙ sym same ∙ ap opened (sym e)
+
+pub closed_wrong : (text : List ℕ) (c : ℕ) (cs : List ℕ) → text ≡ c ∷ cs → (c ≡ 0x7D → ⊥) → closed text ≡ Stops (c ∷ cs) (Unexpected c DoubleClose)
+closed_wrong text c cs e other = let test : eqb c 0x7D ≡ false = ne_eqb c 0x7D other in ap closed e ∙ rw test refl
+
+module _ (c : ℕ) (cs : List ℕ) where
+  pub front_break : c ≡ 0x0A → front c cs ≡ Takes cs Break
+  unfolding front
+  front_break e = let test : eqb c 0x0A ≡ true = eq-eqb c 0x0A e in rw test refl
+
+  module _ (line : c ≡ 0x0A → ⊥) where
+    pub front_opened : c ≡ 0x7B → opened cs ≡ front c cs
+    unfolding front
+    front_opened e =
+        let first : eqb c 0x0A ≡ false = ne_eqb c 0x0A line in
+        let test : eqb c 0x7B ≡ true = eq-eqb c 0x7B e in
+        rw (first, test) refl
+
+    pub front_closed : c ≡ 0x7D → closed cs ≡ front c cs
+    unfolding front
+    front_closed e =
+        let first : eqb c 0x0A ≡ false = ne_eqb c 0x0A line in
+        let second : eqb c 0x7B ≡ false = ne_eqb c 0x7B (λ h. absurd (omega (arith, e, h))) in
+        let test : eqb c 0x7D ≡ true = eq-eqb c 0x7D e in
+        rw (first, second, test) refl
+
+    pub front_literal : (c ≡ 0x7B → ⊥) → (c ≡ 0x7D → ⊥) → front c cs ≡ Takes cs (Char c)
+    unfolding front
+    front_literal no_open no_close =
+        let first : eqb c 0x0A ≡ false = ne_eqb c 0x0A line in
+        let second : eqb c 0x7B ≡ false = ne_eqb c 0x7B no_open in
+        let third : eqb c 0x7D ≡ false = ne_eqb c 0x7D no_close in
+        rw (first, second, third) refl

@@ -1,0 +1,54 @@
+use Rattle.std.proofs.Common.{◌+◌, ◌<◌, ◌^◌, ◌∙◌, sym, ap, subst, arith, rules, length, chars}
+use Rattle.std.specs.Prelude.{sum_by, flat_map, string_bytes}
+use Rattle.indicatif_text.specs.Columns.{width_of}
+use Rattle.indicatif_text.specs.PieceLaws.{run_text}
+use Rattle.indicatif_text.proofs.WidthLemmas.{columns_le}
+use Rattle.indicatif_text.specs.Range.{ansi_range, pieces_within}
+use Rattle.indicatif_text.proofs.RangeLemmas.{Leaves, leaves_all, leaves_less, leaves_none, columns_behind_run, all_columns, shown_colour, shown_run, leaves_grown}
+use Rattle.indicatif_text.proofs.range.push_range.Goals as goal
+
+pub pieces-init : goal.pieces-init
+unfolding ansi_range
+pieces-init c =
+    let text = chars c.args.text.now in
+    let at = c.pieces-rest.ensures in
+    record {
+      sum_is = omega (arith, ap (λ ps. sum_by width_of (flat_map run_text ps)) at, all_columns text);
+      out_is = subst (λ ps. Leaves (string_bytes c.args.out.now) (string_bytes c.args.out.now) (pieces_within c.args.start c.args.end 0 ps) (ansi_range text c.args.start c.args.end)) (sym at)
+          (leaves_all (string_bytes c.args.out.now) (ansi_range text c.args.start c.args.end));
+    }
+
+pub pieces-preserved-in-Continue-1 : goal.pieces-preserved-in-Continue-1
+pieces-preserved-in-Continue-1 c =
+    let at = shown_colour c.in-Some.piece c.pieces.rest c.next.new.self c.in-Some.ensures.steps c.if-piece.true in
+    record {
+      sum_is = ap (λ ps. c.pieces.column + sum_by width_of (flat_map run_text ps)) (sym at) ∙ c.pieces.invariant.sum_is;
+      out_is = leaves_less _ _ _ _ _ _ _ c.pieces.invariant.out_is (ap (pieces_within c.args.start c.args.end c.pieces.column) at) c.in_ok-push_text.ensures.text;
+    }
+
+pub push_run-requires : goal.push_run-requires
+push_run-requires c =
+    let size : length c.args.text.now < 2 ^ 63 = search rules in
+    let at = shown_run c.in-Some.piece c.pieces.rest c.next.new.self c.in-Some.ensures.steps c.if-piece.false in
+    omega (arith, size, columns_le c.args.text.now c.utf8.text, c.pieces.invariant.sum_is, columns_behind_run c.pieces.rest c.next.new.self (chars c.in-Some.piece.text.now) at)
+
+pub pieces-preserved : goal.pieces-preserved
+pieces-preserved c =
+    let run = chars c.in-Some.piece.text.now in
+    let at = shown_run c.in-Some.piece c.pieces.rest c.next.new.self c.in-Some.ensures.steps c.if-piece.false in
+    let column = c.in_ok-column.ensures.column in
+    let left = ap (pieces_within c.args.start c.args.end c.pieces.column) at in
+    let less = leaves_less _ _ _ _ _ _ _ c.pieces.invariant.out_is left c.in_ok-column.ensures.text in
+    record {
+      sum_is = omega (arith, column, c.pieces.invariant.sum_is, columns_behind_run c.pieces.rest c.next.new.self run at);
+      out_is = subst (λ k. Leaves (string_bytes c.args.out.now) (string_bytes c.push_run.new.out) (pieces_within c.args.start c.args.end k c.next.new.self) (ansi_range (chars c.args.text.now) c.args.start c.args.end)) (sym column) less;
+    }
+
+pub returns-clause-range : goal.returns-clause-range
+returns-clause-range c = leaves_none _ _ _ _ c.pieces.invariant.out_is (ap (pieces_within c.args.start c.args.end c.pieces.column) c.in_default.ensures.steps.0)
+
+pub returns-in_err-push_text-clause-grown : goal.returns-in_err-push_text-clause-grown
+returns-in_err-push_text-clause-grown c = leaves_grown _ _ _ _ _ c.pieces.invariant.out_is c.push_text.ensures.grown
+
+pub returns-in_err-column-clause-grown : goal.returns-in_err-column-clause-grown
+returns-in_err-column-clause-grown c = leaves_grown _ _ _ _ _ c.pieces.invariant.out_is c.push_run.ensures.grown

@@ -1,0 +1,17 @@
+use Rattle.std.proofs.Common.{◌≡◌, ◌+◌, length, chars}
+use Rattle.std.specs.Prelude.{sum_by, string_bytes}
+use Rattle.std.specs.Str.{IsUtf8}
+use Rattle.std.specs.Str.Iter.{chars_rest}
+use Rattle.indicatif_text.specs.Columns.{width_of}
+use Rattle.indicatif_text.proofs.RangeLemmas.{left_within, Leaves}
+use Rattle.indicatif_text.proofs.range.push_run.Given as goal
+
+abbrev pub invariant-characters : goal.invariant-characters
+invariant-characters l = record {
+  utf8 : IsUtf8 (chars_rest l.rest);
+  sum_is : l.column + sum_by width_of (chars (chars_rest l.rest)) ≡ l.initial.column + sum_by width_of (chars l.run);
+  out_is : Leaves (string_bytes l.initial.out) (string_bytes l.out) (left_within l.shown l.start l.end l.column (chars (chars_rest l.rest))) (left_within l.shown l.start l.end l.initial.column (chars l.run));
+}
+
+abbrev pub decreases-characters : goal.decreases-characters
+decreases-characters l = length (chars_rest l.rest)

@@ -1,0 +1,9 @@
+-- What only the contracts of private functions cite.
+pub mod Draft
+pub mod Durations
+pub mod Growing
+pub mod Pieces
+pub mod Quotients
+pub mod Reading
+pub mod Spans
+pub mod StyleWords

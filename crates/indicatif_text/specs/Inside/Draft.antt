@@ -1,0 +1,74 @@
+-- A template that is half read, in the words of the grammar.
+use Rattle.std.specs.Prelude.{◌≡◌, ℕ, List, [], ◌∷◌, ◌++◌, map, take, drop, string_bytes, if◌then◌else◌}
+use Rattle.std.specs.Str.{chars}
+use Rattle.indicatif_text.specs.declared.template.TemplateError.{TemplateError}
+use Rattle.indicatif_text.specs.declared.template.draft.Draft.{Draft}
+use Rattle.indicatif_text.specs.Template.{TemplatePart, LiteralText, LineBreak, KeyText, part_of, TemplatePiece, Char, Break, SpacedBrace, Keyed, LastBrace, LastKey, Reads, Refuses, is_open_run, without_open_run, onto_literal, joined_parts}
+
+-- a template that is half read: its parts so far, the literal text that stays whatever follows, and the literal run that an
+-- opening brace at the end would take away
+pub record Sketch : Type 0 where
+  pub done : List TemplatePart
+  pub kept : List ℕ
+  pub run : List ℕ
+
+-- what the code has drafted, in the words of the grammar: the first bytes of its literal text, as many as it keeps, stay
+-- whatever follows; the others are the run
+unfoldable pub sketch_of : Draft → Sketch
+sketch_of d = record {
+  done = map part_of d.parts.items;
+  kept = chars (take d.kept (string_bytes d.literal));
+  run = chars (drop d.kept (string_bytes d.literal));
+}
+
+-- nothing drafted yet
+abbrev pub empty_sketch : Sketch
+empty_sketch = record { done = []; kept = []; run = [] }
+
+-- a literal text as a part, if it has a character
+abbrev pub literal_part : List ℕ → List TemplatePart
+literal_part [] = []
+literal_part (c ∷ cs) = LiteralText (c ∷ cs) ∷ []
+
+-- the parts of a sketch
+abbrev pub sketched_parts : Sketch → List TemplatePart
+sketched_parts s = s.done ++ literal_part (s.kept ++ s.run)
+
+-- a sketch whose literal run stays whatever follows
+abbrev pub kept_sketch : Sketch → Sketch
+kept_sketch s = record s { kept = s.kept ++ s.run; run = [] }
+
+-- a sketch whose literal text was made a part
+abbrev pub closed_sketch : Sketch → Sketch
+closed_sketch s = record { done = sketched_parts s; kept = []; run = [] }
+
+-- a sketch with a further part
+abbrev pub with_part : Sketch → TemplatePart → Sketch
+with_part s part = record { done = sketched_parts s ++ part ∷ []; kept = []; run = [] }
+
+-- a sketch with further characters that stand for themselves
+abbrev pub with_run : Sketch → List ℕ → Sketch
+with_run s text = record s { run = s.run ++ text }
+
+-- a sketch with a further piece
+abbrev pub added : Sketch → TemplatePiece → Sketch
+added s (Char c) = record s { run = s.run ++ c ∷ [] }
+added s Break = with_part s LineBreak
+added s (SpacedBrace text) = record s { kept = (s.kept ++ s.run) ++ text; run = [] }
+added s (Keyed key layout) = with_part s (KeyText key layout)
+added s LastBrace = record s { run = [] }
+added s LastKey = s
+
+-- parts with a literal text in front, if it has a character
+abbrev pub after_text : List ℕ → List TemplatePart → List TemplatePart
+after_text [] parts = parts
+after_text (c ∷ cs) parts = onto_literal (c ∷ cs) parts
+
+-- the parts of a sketch and the pieces that follow it
+unfoldable pub completed : Sketch → List TemplatePiece → List TemplatePart
+completed s ps = s.done ++ (if is_open_run ps then after_text s.kept [] else after_text (s.kept ++ s.run) (joined_parts (without_open_run ps)))
+
+-- from one sketch and what is left of a text to another: what becomes of the rest becomes of the text
+pub record Leads (before : Sketch) (text : List ℕ) (after : Sketch) (rest : List ℕ) : Type 0 where
+  pub reads : (ps : List TemplatePiece) → Reads rest ps → (qs : List TemplatePiece) × Reads text qs × (completed before qs ≡ completed after ps)
+  pub refuses : (place : List ℕ) (error : TemplateError) → Refuses rest place error → Refuses text place error

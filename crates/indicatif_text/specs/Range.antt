@@ -1,0 +1,28 @@
+-- Text cut by columns, where colour sequences stay whole. Texts are lists of characters, what has grown is bytes.
+use Rattle.std.specs.Prelude.{◌≡◌, ℕ, ◌+◌, ◌&&◌, nat_lt, nat_le, List, [], ◌∷◌, ◌++◌, if◌then◌else◌, encode_utf8_all, sum_by}
+use Rattle.indicatif_text.specs.Columns.{width_of}
+use Rattle.indicatif_text.specs.Pieces.{TextPiece, Colour, Run, pieces_of_text}
+
+-- a text in UTF-8 has grown by these characters
+abbrev pub Appends : List ℕ → List ℕ → List ℕ → Type 0
+Appends old new text = new ≡ old ++ encode_utf8_all text
+
+-- the characters that stand wholly in the columns from `start` up to `end`, of a text that begins at `column`
+abbrev pub standing_within : ℕ → ℕ → ℕ → List ℕ → List ℕ
+standing_within start end column [] = []
+standing_within start end column (c ∷ cs) =
+    (if nat_le start column && nat_le (column + width_of c) end then c ∷ [] else []) ++ standing_within start end (column + width_of c) cs
+
+-- what is left of a run that begins at `column`: nothing where it begins behind `end`
+abbrev pub run_within : ℕ → ℕ → ℕ → List ℕ → List ℕ
+run_within start end column text = if nat_lt column end then standing_within start end column text else []
+
+-- the same of pieces: every colour sequence, and of each run what stands within
+abbrev pub pieces_within : ℕ → ℕ → ℕ → List TextPiece → List ℕ
+pieces_within start end column [] = []
+pieces_within start end column (Colour sequence ∷ ps) = sequence ++ pieces_within start end column ps
+pieces_within start end column (Run text ∷ ps) = run_within start end column text ++ pieces_within start end (column + sum_by width_of text) ps
+
+-- what `write_ansi_range` appends
+unfoldable pub ansi_range : List ℕ → ℕ → ℕ → List ℕ
+ansi_range text start end = pieces_within start end 0 (pieces_of_text text)

@@ -1,0 +1,12 @@
+//! Appending where there is room.
+ghost use Rattle.std.specs.Prelude.{◌≡◌, ◌+◌, ◌≤◌, ◌++◌, length, string_bytes, string_len, string_capacity};
+
+/// Appends a text for which there is room.
+pub(crate) fn append(out: &mut String, text: &str)
+    requires { string_len out.old + length text.now ≤ string_capacity out.old }
+    ensures bytes { string_bytes out.new ≡ string_bytes out.old ++ text.now }
+    ensures len { string_len out.new ≡ string_len out.old + length text.now }
+    ensures capacity { string_capacity out.old ≤ string_capacity out.new }
+{
+    out.push_str(text).unwrap();
+}

@@ -1,0 +1,85 @@
+//! What follows from the definitions, apart from how they are made: each law is the contract of a function that does nothing.
+ghost use Rattle.indicatif_text.specs.RangeLaws.{WholeRange};
+ghost use Rattle.indicatif_text.specs.FormatLaws.{RoundsByHalf, TiesToEven, RoundsHalfUp, LastDigitsAreRest, DigitsSpell, CommasAside, NumeralSpells, CommasByThousands, OnlyZerosDropped, NoZeroLeft, FloatCountSpells, FloatCountCounts, FloatCountEnds, GreatestPrefix, BinaryBytesTell, DecimalBytesTell, TellsSeconds, NoLongerUnit, ReachesUnit, WordsTell, ShortIsWords};
+ghost use Rattle.indicatif_text.specs.PieceLaws.{PiecesJoin, RunsAreVisible, PiecesAreExact, NoEmptyPieces, RunsAreLongest};
+ghost use Rattle.indicatif_text.specs.TemplateLaws.{OneOfBoth, NeverBoth, OneList, OnePlace};
+
+/// What holds of the pieces of every text: joined they are the text, and the runs joined are what is visible; each is
+/// exactly one colour sequence, or a run at no place of which one begins; none is empty, and no run follows a run.
+pub fn pieces()
+    ensures join { PiecesJoin }
+    ensures visible { RunsAreVisible }
+    ensures exact { PiecesAreExact }
+    ensures no_empty { NoEmptyPieces }
+    ensures longest { RunsAreLongest }
+{}
+
+/// A rounded quotient is the nearest whole number, the even one of two.
+pub fn quotients()
+    ensures near { RoundsByHalf }
+    ensures even { TiesToEven }
+{}
+
+/// A count is its numeral, with a comma before every third digit from the right.
+pub fn counts()
+    ensures digits { CommasAside }
+    ensures spells { NumeralSpells }
+    ensures commas { CommasByThousands }
+{}
+
+/// Decimals are the rest by a power of ten, without zeros at the end.
+pub fn decimals()
+    ensures rest { LastDigitsAreRest }
+    ensures spell { DigitsSpell }
+    ensures only_zeros { OnlyZerosDropped }
+    ensures all_zeros { NoZeroLeft }
+{}
+
+/// The text of a rounded quotient spells it, with a count before the point and no zero or point at its end.
+pub fn float_counts()
+    ensures spells { FloatCountSpells }
+    ensures counts { FloatCountCounts }
+    ensures ends { FloatCountEnds }
+{}
+
+/// The prefix of a number of bytes is the greatest that leaves at least 1.
+pub fn prefixes()
+    ensures { GreatestPrefix }
+{}
+
+/// The text of a number of bytes tells it in the unit that it names.
+pub fn byte_texts()
+    ensures binary { BinaryBytesTell }
+    ensures decimal { DecimalBytesTell }
+{}
+
+/// A duration by the clock gives back its whole seconds.
+pub fn clocks()
+    ensures { TellsSeconds }
+{}
+
+/// A duration in words is told in the longest unit that it reaches, rounded half up.
+pub fn units()
+    ensures longest { NoLongerUnit }
+    ensures reached { ReachesUnit }
+    ensures near { RoundsHalfUp }
+{}
+
+/// A duration in words is its count and its unit, and the short form is what stands first in them.
+pub fn words()
+    ensures words { WordsTell }
+    ensures short { ShortIsWords }
+{}
+
+/// Each text is a template of one list of parts, or refused at one place.
+pub fn template_or_refused()
+    ensures one { OneOfBoth }
+    ensures never_both { NeverBoth }
+    ensures one_list { OneList }
+    ensures one_place { OnePlace }
+{}
+
+/// The range of all columns is the text.
+pub fn ranges()
+    ensures { WholeRange }
+{}

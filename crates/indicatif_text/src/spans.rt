@@ -1,0 +1,87 @@
+//! Cutting a text at the first character that doesn't belong to a run.
+ghost use Rattle.std.specs.Prelude.{◌≡◌, ◌∷◌, [], chars, take_while, MatchOption, IfSome, IsUtf8};
+ghost use Rattle.std.specs.List.{prefix_len};
+ghost use Rattle.indicatif_text.specs.Inside.Spans.{belongs, in_words};
+ghost use Rattle.indicatif_text.specs.Template.{after_run};
+
+/// How far the words of a style go. What ends them is always ASCII.
+#[derive(Clone, Copy, Debug, Drop, PartialEq, Eq)]
+pub(crate) enum Words {
+    /// To the end of the text.
+    All,
+    /// Up to a slash or a closing brace.
+    Style,
+    /// Up to a closing brace.
+    Alternative,
+}
+
+/// The characters that a run is made of. What ends a run is always ASCII.
+#[derive(Clone, Copy, Debug, Drop, PartialEq, Eq)]
+pub(crate) enum Span {
+    /// All but braces and newlines.
+    Literal,
+    /// All but colons, closing braces and ASCII white space.
+    Key,
+    /// All but dots and what ends these words.
+    Word(Words),
+}
+
+/// Whether a byte of a text stands in the words or between them.
+#[inline(always)]
+fn in_words(words: Words, byte: u8) -> bool
+    ensures { result ≡ in_words words byte }
+{
+    match words {
+        Words::All => true,
+        Words::Style => !(byte == b'/' || byte == b'}'),
+        Words::Alternative => byte != b'}',
+    }
+}
+
+/// Whether a byte of a text belongs to the run; those of characters past ASCII do or don't together.
+#[inline(always)]
+fn belongs(run: Span, byte: u8) -> bool
+    ensures { result ≡ belongs run byte }
+{
+    match run {
+        Span::Literal => !(byte == b'\n' || byte == b'{' || byte == b'}'),
+        Span::Key => !(byte == b':' || byte == b'}' || byte.is_ascii_whitespace()),
+        Span::Word(words) => in_words(words, byte) && byte != b'.',
+    }
+}
+
+/// How many bytes in front belong to the run.
+#[inline(always)]
+fn span_len(bytes: &[u8], run: Span) -> usize
+    ensures { result ≡ prefix_len (belongs run) bytes.now }
+{
+    for (i, byte) in bytes.iter().enumerate() {
+        if !belongs(run, *byte) {
+            return i;
+        }
+    }
+    bytes.len()
+}
+
+/// The longest beginning of `text` that belongs to the run, and what follows it.
+#[inline(always)]
+pub(crate) fn split_span(text: &str, run: Span) -> (&str, &str)
+    ensures run { chars result.0.now ≡ take_while (belongs run) (chars text.now) }
+    ensures rest { chars result.1.now ≡ after_run (belongs run) (chars text.now) }
+    ensures utf8 { IsUtf8 result.1.now }
+{
+    let end = span_len(text.as_bytes(), run);
+    text.split_at(end)
+}
+
+/// The first character of `text` and what follows it; none where it's empty.
+#[inline]
+pub(crate) fn split_first(text: &str) -> Option<(char, &str)>
+    ensures first { MatchOption result (chars text.now ≡ [])
+        (λ r. chars text.now ≡ r.0 ∷ chars r.1.now) }
+    ensures utf8 { IfSome result (λ r. IsUtf8 r.1.now) }
+{
+    let mut rest = text.chars();
+    let first = rest.next()?;
+    Some((first, rest.as_str()))
+}

@@ -1,0 +1,41 @@
+use Rattle.std.proofs.Common.{◌≡◌, refl, sym, ◌∙◌, ap, subst, map, take, ◌++◌, Some, None, option_map, replicate, []}
+use Rattle.std.specs.Prelude.{IsFalse}
+use Rattle.std.specs.List.{list_any}
+use Rattle.indicatif_term.specs.Calls.{TermView, State}
+use Rattle.indicatif_term.specs.Terminal.{Terminal}
+use Rattle.indicatif_term.specs.Lists.{opening_lists, all_rows}
+use Rattle.indicatif_term.specs.Shows.{resting}
+use Rattle.indicatif_term.specs.Pictures.{picture_text, row_text}
+use Rattle.indicatif_term.specs.Engines.{is_failure}
+use Rattle.indicatif_term.specs.Memory.{MemoryTerm, view_of}
+use Rattle.indicatif_bar.specs.Runs.{Runs, Starts}
+use Rattle.indicatif_bar.specs.Lone.{opening_state}
+use Rattle.indicatif_bar.specs.LoneBars.{lone_bar, timed, known}
+use Rattle.uses.proofs.runs.picture_after.Goals as goal
+
+-- a terminal that is known to be this one tells this state
+state_told : (m : MemoryTerm) (v : TermView) (t : Terminal) → Some (view_of m) ≡ Some v → v.told ≡ State t → m.terminal ≡ t
+state_told m v t known_is told = let e : (view_of m).told ≡ v.told = cc in let f : State m.terminal ≡ State t = e ∙ told in cc
+
+pub returns-in-Some : goal.returns-in-Some
+returns-in-Some g c = λ opening starts.
+    let old = Some (view_of c.args.term) in
+    let start = opening_state c.args.bar None in
+    let known_is : known view_of c.new-bar.result ≡ old = ap (option_map view_of) (c.new-bar.ensures.terminal ∙ c.term_like.ensures) in
+    let made = c.in_ok-answers.ensures.run start c.new-bar.ensures.state in
+    let after = known view_of c.run.new.self in
+    let run = subst (λ o. Runs (lone_bar g.K.ProgressTracker.means) (map timed c.args.calls.items) c.in_ok-answers.answers.items o start after made.0) known_is made.2 in
+    let unbroken = subst (λ xs. IsFalse (list_any is_failure xs)) c.deref.ensures.value c.in_ok-unbroken.ensures in
+    let shows = c.an_opening_shows_nothing.ensures opening.columns opening.height opening starts.1 in (
+      c.in_ok-answers.answers.items,
+      after,
+      made.0,
+      run,
+      λ plain.
+          let read = c.what_a_lone_run_reads.ensures (map timed c.args.calls.items) c.in_ok-answers.answers.items (view_of c.args.term) start after made.0 refl run unbroken plain opening
+          (subst (λ t. Starts (record { told = State t; columns = t.screen.columns; rows = t.screen.height; faults = c.args.term.faults }) opening opening_lists) (sym starts.0)
+          (resting opening, refl, shows)) in
+          let t = state_told c.in-Some.term read.0 read.2.0 (ap (option_map view_of) (sym c.in-Some.is ∙ c.into_term.ensures) ∙ read.1) read.2.1 in
+          let columns = ap (λ u. map row_text (take opening.row opening.rows ++ all_rows u.screen.columns made.0.lists) ++ replicate read.2.2 []) starts.0 in
+          (read.2.2, c.in_ok-texts-in-Some.ensures.picture ∙ ap (λ u. picture_text u.screen) t ∙ read.2.3 ∙ columns),
+    )

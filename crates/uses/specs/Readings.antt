@@ -1,0 +1,15 @@
+-- What is read of rows, and where a terminal starts.
+use Rattle.std.specs.Prelude.{◌≡◌, ℕ, ◌++◌, List, [], map, replicate}
+use Rattle.indicatif_text.specs.Columns.{Cell}
+use Rattle.indicatif_term.specs.Screen.{Screen}
+use Rattle.indicatif_term.specs.Terminal.{Terminal}
+use Rattle.indicatif_term.specs.Shows.{IsOpening, resting}
+use Rattle.indicatif_term.specs.Pictures.{row_text}
+
+-- texts are those of these rows, then empty ones
+abbrev pub AreTextsOf : List (List ℕ) → List (List Cell) → Type 0
+AreTextsOf texts rows = (blank : ℕ) × (texts ≡ map row_text rows ++ replicate blank [])
+
+-- a terminal that rests at an opening of its own size
+abbrev pub StartsAt : Terminal → Screen → Type 0
+StartsAt t opening = (t ≡ resting opening) × IsOpening opening.columns opening.height opening

@@ -1,0 +1,12 @@
+//! Small callers of the libraries, each proved from their public contracts alone: that these say enough.
+//!
+//! - `texts`: a line's rows, and an amount as text.
+//! - `drawings`: what a terminal shows after one drawing.
+//! - `runs`: what a terminal shows after a list of calls of a bar.
+//! - `lent`: what is known of a bar that was lent.
+#![tactic(auto)]
+
+pub mod drawings;
+pub mod lent;
+pub mod runs;
+pub mod texts;
