@@ -1,8 +1,8 @@
 //! A bar that stands alone, on terminals in memory and behind writers.
 use crate::script::bar_on;
-use indicatif_bar::lone::{LoneBar, LoneCall};
-use indicatif_bar::state::{BarCommand, BarState};
-use indicatif_bar::style::{NoTracker, ProgressStyle};
+use crate::shown::Shown;
+use indicatif_bar::lone::LoneCall;
+use indicatif_bar::state::BarCommand;
 use indicatif_term::draw_target::ProgressDrawTarget;
 use indicatif_term::in_memory::{Cells, InMemoryTerm};
 use indicatif_term::term_like::{Term, TermLike};
@@ -16,7 +16,7 @@ fn bar_below(
     size: (u16, u16),
     above: &[&str],
     message: &str,
-) -> Result<LoneBar<NoTracker, InMemoryTerm>, Fail> {
+) -> Result<Shown<InMemoryTerm>, Fail> {
     let mut term = InMemoryTerm::new(alloc, size.0, size.1)?;
     for line in above {
         term.write_line(line)?;
@@ -29,25 +29,25 @@ fn bar_behind(
     alloc: Global,
     size: (u16, u16),
     message: &str,
-) -> Result<LoneBar<NoTracker, Term<Vec<u8>>>, Fail> {
+) -> Result<Shown<Term<Vec<u8>>>, Fail> {
     let term = Term::new(Vec::new(alloc), size.0, size.1);
     Ok(bar_on(alloc, message, term)?)
 }
 
 /// The bytes that were written.
-fn bytes(bar: &LoneBar<NoTracker, Term<Vec<u8>>>) -> Result<&[u8], Fail> {
+fn bytes(bar: &Shown<Term<Vec<u8>>>) -> Result<&[u8], Fail> {
     let term = bar.term().ok_or("no terminal")?;
     Ok(term.writer().as_slice())
 }
 
 /// What stands in the window.
-fn contents(bar: &LoneBar<NoTracker, InMemoryTerm>) -> Result<String, Fail> {
+fn contents(bar: &Shown<InMemoryTerm>) -> Result<String, Fail> {
     let term = bar.term().ok_or("no terminal")?;
     Ok(term.contents()?)
 }
 
 /// All rows, also those scrolled away, joined by newlines.
-fn picture(alloc: Global, bar: &LoneBar<NoTracker, InMemoryTerm>) -> Result<String, Fail> {
+fn picture(alloc: Global, bar: &Shown<InMemoryTerm>) -> Result<String, Fail> {
     let term = bar.term().ok_or("no terminal")?;
     Ok(joined(alloc, term.picture()?)?)
 }
@@ -66,7 +66,7 @@ fn a_character_wider_than_the_terminal(rt: HostRuntime) -> Result<(), Fail> {
     let mut bar = bar_below(rt.alloc(), (3, 1), &[], "国")?;
     assert_eq!(rt; bar.tick(0), Err(Refusal::TooWide));
     assert_eq!(rt; contents(&bar)?.as_str(), "");
-    assert_eq!(rt; bar.bar().state().ticks(), 1);
+    assert_eq!(rt; bar.ticks(), 1);
     assert_eq!(rt; bar.set_message("a", 0), Ok(Drawn::Yes));
     assert_eq!(rt; contents(&bar)?.as_str(), "a");
     Ok(())
@@ -110,7 +110,7 @@ fn an_empty_message_has_no_line(rt: HostRuntime) -> Result<(), Fail> {
 #[test]
 fn tabs_and_newlines_of_a_message(rt: HostRuntime) -> Result<(), Fail> {
     let mut bar = bar_below(rt.alloc(), (4, 20), &[], "a\tb\n\nc")?;
-    assert_eq!(rt; bar.bar().message(), "a        b\n\nc");
+    assert_eq!(rt; bar.message(), "a        b\n\nc");
     assert_eq!(rt; bar.force_draw(0), Ok(Drawn::Yes));
     assert_eq!(rt; contents(&bar)?.as_str(), "a        b\n\nc");
     Ok(())
@@ -184,15 +184,7 @@ fn a_run_answers_each_call(rt: HostRuntime) -> Result<(), Fail> {
 fn hidden_targets(rt: HostRuntime) -> Result<(), Fail> {
     let target: ProgressDrawTarget<InMemoryTerm> = ProgressDrawTarget::hidden();
     assert!(rt; target.is_hidden());
-    let mut bar = LoneBar::new(
-        BarState::<NoTracker>::styled(
-            rt.alloc(),
-            ProgressStyle::with_template(rt.alloc(), "{msg}")?,
-            None,
-            0,
-        )?,
-        target,
-    );
+    let mut bar = Shown::saying(rt.alloc(), "x", target)?;
     assert!(rt; bar.is_hidden());
     assert_eq!(rt; bar.tick(0), Ok(Drawn::Hidden));
     assert_eq!(rt; bar.println("l", 0), Ok(Drawn::Hidden));
@@ -216,12 +208,12 @@ fn a_clear_takes_the_rows_back(rt: HostRuntime) -> Result<(), Fail> {
 fn suspended_bars_are_drawn_again(rt: HostRuntime) -> Result<(), Fail> {
     let mut bar = bar_below(rt.alloc(), (4, 5), &[], "x")?;
     assert_eq!(rt; bar.tick(0), Ok(Drawn::Yes));
-    let (value, drawn) = bar.suspend(|| 7, 0);
+    let (value, drawn) = bar.suspend(7, 0);
     assert_eq!(rt; value, 7);
     assert_eq!(rt; drawn, Ok(Drawn::Yes));
     assert_eq!(rt; contents(&bar)?.as_str(), "x");
     let mut narrow = bar_below(rt.alloc(), (4, 1), &[], "国")?;
-    let (value, drawn) = narrow.suspend(|| 8, 0);
+    let (value, drawn) = narrow.suspend(8, 0);
     assert_eq!(rt; value, 8);
     assert_eq!(rt; drawn, Err(Refusal::TooWide));
     Ok(())

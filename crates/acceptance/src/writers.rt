@@ -1,7 +1,6 @@
 //! What a terminal hands on to its writer, and what it makes of the writer's answers.
 use crate::script::{SCRIPT, Step, bar_on, made};
-use indicatif_bar::lone::LoneBar;
-use indicatif_bar::style::NoTracker;
+use crate::shown::Shown;
 use indicatif_term::in_memory::Cells;
 use indicatif_term::term_like::{Term, TermLike};
 use indicatif_text::columns::{Drawn, Refusal};
@@ -44,7 +43,7 @@ fn a_flush_reaches_the_writer(rt: HostRuntime) {
 }
 
 /// How often the bar's writer was flushed.
-fn flushes(bar: &LoneBar<NoTracker, Term<CallCount>>) -> Option<u64> {
+fn flushes(bar: &Shown<Term<CallCount>>) -> Option<u64> {
     let term = bar.term()?;
     Some(term.writer().flushes)
 }
@@ -259,7 +258,7 @@ fn a_writer_that_fails(rt: HostRuntime) {
 fn bar_behind(
     alloc: Global,
     writer: ByteWise,
-) -> Result<LoneBar<NoTracker, Term<ByteWise>>, Refusal> {
+) -> Result<Shown<Term<ByteWise>>, Refusal> {
     bar_on(alloc, "ab", Term::new(writer, 20, 10))
 }
 

@@ -1,8 +1,7 @@
 //! What a lone bar answers where its terminal fails or memory is refused, and where it goes on; and boxed terminals.
 use crate::failing_term::FailsOnce;
 use crate::script::{SCRIPT, Step, bar_on, made};
-use indicatif_bar::lone::LoneBar;
-use indicatif_bar::style::NoTracker;
+use crate::shown::Shown;
 use indicatif_term::in_memory::{Cells, InMemoryTerm};
 use indicatif_term::term_like::{Term, TermLike};
 use indicatif_text::columns::{Drawn, Refusal};
@@ -14,13 +13,13 @@ use std::test::Fail;
 // ---- a call of the terminal fails
 
 /// A bar on a terminal of which the call of this number fails; none where it is 0.
-fn bar_failing_at(alloc: Global, failing: u64) -> Result<LoneBar<NoTracker, FailsOnce>, Refusal> {
+fn bar_failing_at(alloc: Global, failing: u64) -> Result<Shown<FailsOnce>, Refusal> {
     let term = InMemoryTerm::new(alloc, 20, 10)?;
     bar_on(alloc, "ab", FailsOnce::new(term, failing))
 }
 
 /// What stands on the screen.
-fn contents(alloc: Global, bar: &LoneBar<NoTracker, FailsOnce>) -> Result<String, Refusal> {
+fn contents(alloc: Global, bar: &Shown<FailsOnce>) -> Result<String, Refusal> {
     match bar.term() {
         Some(term) => term.inner().contents(),
         None => Ok(String::new(alloc)),
@@ -30,7 +29,7 @@ fn contents(alloc: Global, bar: &LoneBar<NoTracker, FailsOnce>) -> Result<String
 /// The rows down to the cursor's, each ended by a newline.
 fn rows_to_the_cursor(
     alloc: Global,
-    bar: &LoneBar<NoTracker, FailsOnce>,
+    bar: &Shown<FailsOnce>,
 ) -> Result<String, Refusal> {
     let mut text = String::new(alloc);
     let Some(term) = bar.term() else {
@@ -49,7 +48,7 @@ fn rows_to_the_cursor(
 fn stepped(
     rt: &impl Abort,
     alloc: Global,
-    bar: &mut LoneBar<NoTracker, FailsOnce>,
+    bar: &mut Shown<FailsOnce>,
     call: (Step, &str),
     left: Option<String>,
 ) -> Result<Option<String>, Fail> {
@@ -174,14 +173,14 @@ fn a_boxed_terminal_that_fails(rt: HostRuntime) -> Result<(), Fail> {
 
 // ---- memory is refused; tried with each allocation failing in turn
 
-fn bytes_written(bar: &LoneBar<NoTracker, Term<Vec<u8>>>) -> usize {
+fn bytes_written(bar: &Shown<Term<Vec<u8>>>) -> usize {
     bar.term().map_or(0, |term| term.writer().len())
 }
 
 /// What the bytes written so far show.
 fn shown_by_bytes(
     alloc: Global,
-    bar: &LoneBar<NoTracker, Term<Vec<u8>>>,
+    bar: &Shown<Term<Vec<u8>>>,
 ) -> Result<String, Refusal> {
     let mut cells = Cells::new(alloc, 6, 10)?;
     if let Some(term) = bar.term() {
@@ -193,7 +192,7 @@ fn shown_by_bytes(
 }
 
 /// A bar whose terminal takes no memory: its writer has room for the whole script.
-fn bar_with_room(alloc: Global) -> Result<LoneBar<NoTracker, Term<Vec<u8>>>, Refusal> {
+fn bar_with_room(alloc: Global) -> Result<Shown<Term<Vec<u8>>>, Refusal> {
     let writer: Vec<u8> = Vec::with_capacity(alloc, 1024)?;
     bar_on(alloc, "ab", Term::new(writer, 6, 10))
 }
@@ -225,7 +224,7 @@ fn want_of_memory_behind_a_writer(rt: HostRuntime) -> Result<(), Fail> {
 }
 
 /// What stands on the terminal, and the cursor; nothing where memory for the text is refused.
-fn seen(bar: &LoneBar<NoTracker, InMemoryTerm>) -> Option<(String, (u16, u16))> {
+fn seen(bar: &Shown<InMemoryTerm>) -> Option<(String, (u16, u16))> {
     let term = bar.term()?;
     Some((term.contents().ok()?, term.cursor()))
 }

@@ -1,7 +1,5 @@
 //! A bar, and some calls of it, for terminals of all kinds.
-use indicatif_bar::lone::LoneBar;
-use indicatif_bar::state::BarState;
-use indicatif_bar::style::{NoTracker, ProgressStyle};
+use crate::shown::Shown;
 use indicatif_term::draw_target::ProgressDrawTarget;
 use indicatif_term::term_like::TermLike;
 use indicatif_text::columns::{Drawn, Refusal};
@@ -30,20 +28,13 @@ pub fn bar_on<T: TermLike + Drop>(
     alloc: Global,
     message: &str,
     term: T,
-) -> Result<LoneBar<NoTracker, T>, Refusal> {
-    let mut state = BarState::styled(
-        alloc,
-        ProgressStyle::with_template(alloc, "{msg}")?,
-        None,
-        0,
-    )?;
-    state.set_message(message, 0)?;
-    Ok(LoneBar::new(state, ProgressDrawTarget::term_like(term)))
+) -> Result<Shown<T>, Refusal> {
+    Shown::saying(alloc, message, ProgressDrawTarget::term_like(term))
 }
 
 /// Makes the call.
 pub fn made<T: TermLike + Drop>(
-    bar: &mut LoneBar<NoTracker, T>,
+    bar: &mut Shown<T>,
     step: Step,
 ) -> Result<Drawn, Refusal> {
     match step {
