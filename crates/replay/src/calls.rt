@@ -14,6 +14,9 @@ use indicatif_term::in_memory::InMemoryTerm;
 use indicatif_text::columns::{Drawn, Moment, Refusal};
 use std::alloc::Global;
 
+/// A bar on a terminal in memory.
+type Shown = LoneBar<NoTracker, InMemoryTerm>;
+
 /// How many columns tell what became of the calls.
 const TOLD: usize = 10;
 
@@ -24,14 +27,36 @@ pub fn calls_agree(alloc: Global, mut row: Row<'_>) -> Result<Verdict, BadRow> {
     let target = target_of(alloc, &mut row, rate, making)?;
     let state = state_of(alloc, &mut row, making)?;
     let calls = calls_of(alloc, row.column()?)?;
-    let last = calls.last().map_or(making, |call| call.1);
-    let mut bar = LoneBar::new(state, target);
-    let answers = bar.run(calls)?;
+    let last = last_moment(&calls, making);
+    let mut bar = bar_on(target, state);
+    let answers = answers_of(&mut bar, calls)?;
     let mut got = String::new(alloc);
     push_answers(&mut got, &answers)?;
-    push_readings(&mut got, bar.bar(), last)?;
+    push_readings(&mut got, record_of(&bar), last)?;
     push_picture(alloc, &mut got, &bar)?;
     Ok(Verdict::of(told(alloc, &mut row)?.as_str(), got))
+}
+
+/// The moment of the last call, or this one where there is none.
+fn last_moment(calls: &[Timed], making: Moment) -> Moment {
+    match calls.last() {
+        Some(call) => call.1,
+        None => making,
+    }
+}
+
+// What is known of a bar isn't carried through a whole row: each call of it is a function without a clause.
+
+fn bar_on(target: ProgressDrawTarget<InMemoryTerm>, state: BarState<NoTracker>) -> Shown {
+    LoneBar::new(state, target)
+}
+
+fn answers_of(bar: &mut Shown, calls: Vec<Timed>) -> Result<Vec<Result<Drawn, Refusal>>, BadRow> {
+    Ok(bar.run(calls)?)
+}
+
+fn record_of(bar: &Shown) -> &BarState<NoTracker> {
+    bar.bar()
 }
 
 /// A target of this rate, or without one, of the row's size.
@@ -137,11 +162,7 @@ fn push_rate(out: &mut String, rate: Rate) -> Result<(), BadRow> {
 }
 
 /// Appends the terminal's picture as rows spell it, and a tab.
-fn push_picture(
-    alloc: Global,
-    out: &mut String,
-    bar: &LoneBar<NoTracker, InMemoryTerm>,
-) -> Result<(), BadRow> {
+fn push_picture(alloc: Global, out: &mut String, bar: &Shown) -> Result<(), BadRow> {
     if let Some(term) = bar.term() {
         let picture = picture_of(alloc, &term.picture()?)?;
         push_spelt(out, picture.as_str())?;

@@ -1,4 +1,4 @@
-use Rattle.std.proofs.Common.{refl, sym, subst, ap, ◌∙◌, None}
+use Rattle.std.proofs.Common.{refl, sym, subst, ap, ◌∙◌}
 use Rattle.indicatif_term.specs.Targets.{limiter_of}
 use Rattle.indicatif_board.specs.Boards.{opening_board}
 use Rattle.indicatif_board.specs.Inside.ShownBars.{Shown}
