@@ -66,6 +66,7 @@ SOURCES = {
         "Pictures": (OWN, {}),
         "Screen": (OWN, {SEQUENCES: "line_feed performed", WIDTHS: "put_sized"}),
         "Shows": (OWN, {}),
+        "Targets": (CRATE, {OWN: "term_of limiter_of term_behind"}),
         "Terminal": (OWN + ", above all what is passed over",
                      {SEQUENCES: "is_digit number_with at_least_one sequence_ops",
                       UNICODE: "is_leading spelling_with kept first_char"}),

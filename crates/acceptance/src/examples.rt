@@ -197,7 +197,7 @@ fn engine_and_segment(rt: HostRuntime) -> Result<(), Fail> {
 fn draw_target(rt: HostRuntime) -> Result<(), Fail> {
     let shown = ProgressDrawTarget::term_like(InMemoryTerm::new(rt.alloc(), 2, 5)?);
     assert!(rt; !shown.is_hidden());
-    assert_eq!(rt; shown.into_parts().map(|term| term.width()), Some(5));
+    assert_eq!(rt; shown.into_term().map(|term| term.width()), Some(5));
     let nowhere: ProgressDrawTarget<InMemoryTerm> = ProgressDrawTarget::hidden();
     assert!(rt; nowhere.is_hidden());
     Ok(())

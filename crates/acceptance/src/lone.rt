@@ -225,7 +225,7 @@ fn another_target(rt: HostRuntime) -> Result<(), Fail> {
     assert_eq!(rt; bar.tick(0), Ok(Drawn::Yes));
     let other = InMemoryTerm::new(rt.alloc(), 2, 3)?;
     let old = bar.set_draw_target(ProgressDrawTarget::term_like(other));
-    let old = old.into_parts().ok_or("no terminal")?;
+    let old = old.into_term().ok_or("no terminal")?;
     assert_eq!(rt; old.contents()?.as_str(), "x");
     assert_eq!(rt; contents(&bar)?.as_str(), "");
     assert_eq!(rt; bar.tick(0), Ok(Drawn::Yes));

@@ -83,7 +83,7 @@ fn what_a_bar_is_made_with(rt: HostRuntime) -> Result<(), Fail> {
     let Setup { target, mut clock } = setup;
     assert_eq!(rt; clock.now(), 5);
     assert!(rt; !target.is_hidden());
-    let Some(term) = target.into_parts() else {
+    let Some((term, None)) = target.into_parts() else {
         assert!(rt; false, "a target without its terminal");
         return Ok(());
     };

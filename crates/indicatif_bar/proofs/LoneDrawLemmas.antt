@@ -7,6 +7,7 @@ use Rattle.indicatif_text.specs.declared.refusal.Refusal.TheVariants.{Memory, El
 use Rattle.indicatif_text.specs.declared.refusal.Drawn.{Drawn}
 use Rattle.indicatif_term.specs.Calls.{TermView}
 use Rattle.indicatif_term.specs.Lists.{BarLines, opening_lists}
+use Rattle.indicatif_term.specs.Limiters.{Limiter}
 use Rattle.indicatif_term.specs.Frames.{text_lines, logged_lines}
 use Rattle.indicatif_term.specs.Engines.{terminal, Fits}
 use Rattle.indicatif_term.specs.declared.draw_target.Engine.{Engine}
@@ -201,11 +202,19 @@ module _ {K T : Type 0} (m : Tracking K) (view : T → TermView) (old : LoneBar 
         leads = subst (λ b. LeadsBy m view old b (Change command) now (Err e)) (sym same) (refused_leads e told.told.0);
       }
 
--- a bar whose engine was replaced by one that has drawn nothing, without a limiter
-pub in_anew : {K T : Type 0} (old : LoneBar K T) (shown : ShownBar K) (engine : Option (Engine T)) → shown ≡ record old.shown { limiter = None } →
-    MatchOption engine (Unit {0}) (λ e. Fits e opening_lists) →
-    (s : LoneState (BarRecord K)) → IsIn old s → IsIn (record { shown = shown; engine = engine }) (record s { limiter = None; lists = opening_lists })
+-- a bar whose engine was replaced by one that has drawn nothing, and its limiter
+pub in_anew : {K T : Type 0} (old : LoneBar K T) (shown : ShownBar K) (engine opened : Option (Engine T)) (limiter given : Option Limiter) →
+    shown ≡ record old.shown { limiter = given } → given ≡ limiter → engine ≡ opened →
+    MatchOption opened (Unit {0}) (λ e. Fits e opening_lists) →
+    (s : LoneState (BarRecord K)) → IsIn old s → IsIn (record { shown = shown; engine = engine }) (record s { limiter = limiter; lists = opening_lists })
 unfolding IsIn
-in_anew {K} old shown engine same opened s inside =
-    let next : LoneState (BarRecord K) = record s { limiter = None; lists = opening_lists } in
-    (subst (λ x. Holds x next) (sym same) (record { bar_is = inside.0.bar_is; lines_are = inside.0.lines_are; limiter_is = refl }), opened)
+in_anew {K} {T} old shown engine opened limiter given same given_is engine_is fits s inside =
+    let next : LoneState (BarRecord K) = record s { limiter = limiter; lists = opening_lists } in (
+      subst (λ x. Holds x next) (sym same) (record { bar_is = inside.0.bar_is; lines_are = inside.0.lines_are; limiter_is = given_is }),
+      subst (λ (o : Option (Engine T)). MatchOption o (Unit {0}) (λ e. Fits e opening_lists)) (sym engine_is) fits,
+    )
+
+-- the limiter of a bar that is in a state is the state's
+pub limiter_in : {K T : Type 0} (b : LoneBar K T) (s : LoneState (BarRecord K)) → IsIn b s → b.shown.limiter ≡ s.limiter
+unfolding IsIn
+limiter_in b s inside = inside.0.limiter_is

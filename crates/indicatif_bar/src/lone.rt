@@ -1,8 +1,9 @@
 //! A bar that stands alone on its target.
-ghost use Rattle.std.specs.Prelude.{◌≡◌, ◌⊎◌, Bool, Option, Some, None, option_map, IsTrue, IsFalse, ◌↔◌, map, IfOk, IfErr, OnErr, MatchOption};
+ghost use Rattle.std.specs.Prelude.{◌≡◌, ◌⊎◌, Bool, Option, Some, None, option_map, IsTrue, IsFalse, ◌↔◌, map, IfOk, IfErr, IfSome, OnErr, MatchOption};
 ghost use Rattle.std.specs.Fn.{FnOnceReturnsAt};
 ghost use Rattle.indicatif_term.specs.Lists.{opening_lists};
 ghost use Rattle.indicatif_term.specs.Engines.{terminal, Fits};
+ghost use Rattle.indicatif_term.specs.Targets.{term_of, limiter_of};
 ghost use Rattle.indicatif_bar.specs.declared.command.Change.{Change as Changed};
 ghost use Rattle.indicatif_bar.specs.Runs.{wrote};
 ghost use Rattle.indicatif_bar.specs.Machines.{is_no};
@@ -12,7 +13,7 @@ use crate::bar_style::ProgressStyle;
 use crate::shown::{ShownBar, Writing};
 use crate::state::{Ask, BarCommand, BarState, Change, ProgressFinish, ProgressState};
 use crate::tracker::ProgressTracker;
-use indicatif_term::draw_target::{Engine, ProgressDrawTarget};
+use indicatif_term::draw_target::{Engine, ProgressDrawTarget, RateLimiter};
 use indicatif_term::term_like::TermLike;
 use indicatif_text::columns::{Drawn, Moment, Refusal};
 use std::alloc::Global;
@@ -74,13 +75,13 @@ impl<K: ProgressTracker, T: TermLike + Drop> LoneBar<K, T> {
 
     /// The bar on this target. It takes no memory and writes nothing.
     pub fn new(bar: BarState<K>, target: ProgressDrawTarget<T>) -> Self
-        ensures state { IsIn result (opening_state bar None) }
+        ensures state { IsIn result (opening_state bar (limiter_of target)) }
         ensures bar { record_of result ≡ bar }
-        ensures terminal { terminal_of result ≡ target }
+        ensures terminal { terminal_of result ≡ term_of target }
     {
-        let engine = engine_on(bar.alloc(), target);
+        let (engine, limiter) = opened_on(bar.alloc(), target);
         LoneBar {
-            shown: ShownBar::new(bar, None),
+            shown: ShownBar::new(bar, limiter),
             engine,
         }
     }
@@ -431,19 +432,20 @@ impl<K: ProgressTracker, T: TermLike + Drop> LoneBar<K, T> {
         }
     }
 
-    /// Another target, and the old one. Nothing is written to either: what stands on the old one stays, and on the new one
-    /// the bar begins anew.
+    /// Another target, and the old one, with its limiter as the bar's draws left it. Nothing is written to either: what stands
+    /// on the old one stays, and on the new one the bar begins anew.
     pub fn set_draw_target(&mut self, target: ProgressDrawTarget<T>) -> ProgressDrawTarget<T>
-        ensures old { result ≡ terminal_of self.old }
-        ensures new { terminal_of self.new ≡ target }
+        ensures old { term_of result ≡ terminal_of self.old }
+        ensures old_limiter { (s : LoneState _) → IsIn self.old s → IfSome result (λ t. t.1 ≡ s.limiter) }
+        ensures new { terminal_of self.new ≡ term_of target }
         ensures bar { record_of self.new ≡ record_of self.old }
         ensures state { (s : LoneState _) → IsIn self.old s →
-            IsIn self.new (record s { limiter = None; lists = opening_lists }) }
+            IsIn self.new (record s { limiter = limiter_of target; lists = opening_lists }) }
     {
-        let engine = engine_on(self.shown.bar.alloc(), target);
-        self.shown.set_limiter(None);
+        let (engine, limiter) = opened_on(self.shown.bar.alloc(), target);
+        let limiter = self.shown.replace_limiter(limiter);
         match replace(&mut self.engine, engine) {
-            Some(engine) => ProgressDrawTarget::term_like(engine.into_term()),
+            Some(engine) => ProgressDrawTarget::from_parts(Some((engine.into_term(), limiter))),
             None => ProgressDrawTarget::hidden(),
         }
     }
@@ -524,14 +526,18 @@ impl<K: ProgressTracker, T: TermLike + Drop> LoneBar<K, T> {
     }
 }
 
-/// An engine on this target's terminal; none where it is hidden.
-fn engine_on<T: TermLike + Drop>(alloc: Global, target: ProgressDrawTarget<T>) -> Option<Engine<T>>
-    ensures terminal { option_map terminal result ≡ target }
-    ensures opened { MatchOption result Unit (λ engine. Fits engine opening_lists) }
+/// An engine on this target's terminal, and the target's limiter; none where it is hidden.
+fn opened_on<T: TermLike + Drop>(
+    alloc: Global,
+    target: ProgressDrawTarget<T>,
+) -> (Option<Engine<T>>, Option<RateLimiter>)
+    ensures terminal { option_map terminal result.0 ≡ term_of target }
+    ensures opened { MatchOption result.0 Unit (λ engine. Fits engine opening_lists) }
+    ensures limiter { result.1 ≡ limiter_of target }
 {
     match target.into_parts() {
-        Some(term) => Some(Engine::new(alloc, term)),
-        None => None,
+        Some((term, limiter)) => (Some(Engine::new(alloc, term)), limiter),
+        None => (None, None),
     }
 }
 

@@ -61,11 +61,12 @@ impl<K: ProgressTracker> ShownBar<K> {
         }
     }
 
-    /// From now on it is drawn as often as this says.
-    pub fn set_limiter(&mut self, limiter: Option<RateLimiter>)
-        ensures { self.new ≡ record self.old { limiter = limiter } }
+    /// From now on it is drawn as often as this says. Answers what said so before.
+    pub fn replace_limiter(&mut self, limiter: Option<RateLimiter>) -> Option<RateLimiter>
+        ensures old { result ≡ self.old.limiter }
+        ensures new { self.new ≡ record self.old { limiter = limiter } }
     {
-        self.limiter = limiter;
+        replace(&mut self.limiter, limiter)
     }
 
     /// Draws on the engine's terminal, where it has columns and the limiter allows it.

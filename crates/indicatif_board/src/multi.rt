@@ -1,6 +1,7 @@
 //! A board: several bars on one target, in an order.
 ghost use Rattle.std.specs.Prelude.{◌≡◌, ◌⊎◌, ◌↔◌, ◌<◌, ◌≤◌, ℕ, Bool, Option, Some, None, Err, true, option_map, IsTrue, IsFalse, IfOk, IfErr, IfSome, MatchResult, vec_len, if◌then◌else◌};
 ghost use Rattle.indicatif_term.specs.Engines.{is_bottom};
+ghost use Rattle.indicatif_term.specs.Targets.{term_of, limiter_of};
 ghost use Rattle.indicatif_bar.specs.Commands.{BarRecord, command_of};
 ghost use Rattle.indicatif_bar.specs.Kinds.{rows_take};
 ghost use Rattle.indicatif_bar.specs.Machines.{Target, Leads, is_no, target_of};
@@ -70,17 +71,20 @@ impl<K: ProgressTracker, T: TermLike + Drop> Board<K, T> {
 
     /// A board without bars on this target, of this mark. It takes no memory and writes nothing.
     pub fn new(alloc: Global, target: ProgressDrawTarget<T>, mark: u64) -> Self
-        ensures state { IsIn mark result (opening_board None) }
-        ensures terminal { terminal_of result ≡ target }
+        ensures state { IsIn mark result (opening_board (limiter_of target)) }
+        ensures terminal { terminal_of result ≡ term_of target }
     {
-        let engine = match target.into_parts() {
-            Some(term) => Some(Engine::new(alloc, term)),
-            None => None,
-        };
-        Board {
-            mark,
-            shown: ShownBars::new(alloc),
-            engine,
+        match target.into_parts() {
+            Some((term, limiter)) => Board {
+                mark,
+                shown: ShownBars::new(alloc, limiter),
+                engine: Some(Engine::new(alloc, term)),
+            },
+            None => Board {
+                mark,
+                shown: ShownBars::new(alloc, None),
+                engine: None,
+            },
         }
     }
 

@@ -50,9 +50,9 @@ pub struct ShownBars<K> {
 impl<K: ProgressTracker> ShownBars<K> {
     ghost use Rattle.indicatif_board.specs.Inside.ShownBars.{Shown};
 
-    /// No bars, at the top, without a limiter. Takes no memory.
-    pub fn new(alloc: Global) -> Self
-        ensures state { Shown result (opening_board None) }
+    /// No bars, at the top, drawn as often as this says. Takes no memory.
+    pub fn new(alloc: Global, limiter: Option<RateLimiter>) -> Self
+        ensures state { Shown result (opening_board limiter) }
     {
         ShownBars {
             alloc,
@@ -60,7 +60,7 @@ impl<K: ProgressTracker> ShownBars<K> {
             frame: Vec::new(alloc),
             next: Some(0),
             alignment: MultiProgressAlignment::Top,
-            limiter: None,
+            limiter,
         }
     }
 

@@ -1,5 +1,5 @@
 -- Worked cases of limiters.
-use Rattle.std.specs.Prelude.{◌≡◌, ℕ, ◌*◌, true, false, [], ◌∷◌, ◌++◌, List, replicate}
+use Rattle.std.specs.Prelude.{◌≡◌, ℕ, ◌*◌, true, false, [], ◌∷◌, ◌++◌, replicate}
 use Rattle.indicatif_term.specs.Limiters.{answers, allowed_moments, draw_limiter}
 
 abbrev pub millisecond : ℕ

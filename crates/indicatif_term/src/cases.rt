@@ -1,5 +1,5 @@
 //! Worked cases of the definitions: each clause computes.
-ghost use Rattle.std.specs.Prelude.{◌≡◌, [], ◌∷◌, ◌++◌, codes};
+ghost use Rattle.std.specs.Prelude.{◌≡◌, true, false, Some, None, [], ◌∷◌, ◌++◌, codes};
 ghost use Rattle.indicatif_text.specs.Columns.{Blank, Written, Continued, rows_of};
 ghost use Rattle.indicatif_text.specs.ColumnCases.{cell};
 ghost use Rattle.indicatif_term.specs.Calls.{move_bytes, line_bytes, clear_bytes, UP, DOWN, RIGHT, LEFT};
@@ -8,6 +8,7 @@ ghost use Rattle.indicatif_term.specs.Frames.{logged_lines};
 ghost use Rattle.indicatif_term.specs.Memory.{move_text, quoted_char, written_text};
 ghost use Rattle.indicatif_term.specs.CellCases.{contents_after, cursor_after, picture_after, ESC};
 ghost use Rattle.indicatif_term.specs.Cases.{LongLine, ThreeOnTwo, LogAbove, AtTheBottom, KeptScrollsAway, ClearLeavesAbove, FatesOfBars, LogScrolls};
+ghost use Rattle.indicatif_term.specs.Targets.{is_dumb};
 ghost use Rattle.indicatif_term.specs.LimiterCases.{TwentyAtOnce, WholeMilliseconds, NoMoreInHand, NoneBefore};
 
 /// The bytes of calls.
@@ -63,6 +64,15 @@ pub fn limiters()
     ensures whole_milliseconds { WholeMilliseconds }
     ensures no_more_in_hand { NoMoreInHand }
     ensures none_before { NoneBefore }
+{}
+
+/// Kinds of terminals without moves.
+pub fn kinds_of_terminals()
+    ensures unset { is_dumb None ≡ true }
+    ensures dumb { is_dumb (Some (codes "dumb")) ≡ true }
+    ensures xterm { is_dumb (Some (codes "xterm")) ≡ false }
+    ensures longer { is_dumb (Some (codes "dumb-color")) ≡ false }
+    ensures empty { is_dumb (Some []) ≡ false }
 {}
 
 /// Lines that are longer than a row.

@@ -14,7 +14,7 @@ pub use crate::limiter::RateLimiter;
 pub use crate::lines::{LineType, Segment};
 use crate::painting::{Drawing, Painting, paint};
 use crate::spare::SpareCounts;
-pub use crate::target::{ProgressDrawTarget, Setup};
+pub use crate::target::{Facts, ProgressDrawTarget, Setup};
 use crate::term_like::TermLike;
 use crate::window::Window;
 use indicatif_text::columns::Refusal;

@@ -3,7 +3,7 @@
 //! - `term_like`: what a terminal has to offer, each call by its bytes.
 //! - `draw_target`: the engine, which draws the lines of bars and takes back those that it may still change.
 //! - `lines`: the lines of bars.
-//! - `limiter`: how often a target may be drawn.
+//! - `target`: where bars are drawn. `limiter`: how often.
 //! - `window`, `layout`, `counts`, `spare`, `painting`: the engine's parts. They plan a frame, count its rows, and write it.
 //! - `laws`: laws of the definitions.
 //! - `cases`: worked cases of the definitions.

@@ -1,5 +1,5 @@
 //! How often a target may be drawn.
-ghost use Rattle.std.specs.Prelude.{◌≡◌, ◌↔◌, IfOk, IfErr};
+ghost use Rattle.std.specs.Prelude.{◌≡◌, ◌<◌, ◌↔◌, IfOk, IfErr};
 ghost use Rattle.indicatif_term.specs.Limiters.{Limiter, allow, draw_limiter};
 
 use indicatif_text::columns::{Moment, Refusal};
@@ -46,11 +46,26 @@ impl RateLimiter {
         if rate == 0 {
             return Err(Refusal::ZeroRate);
         }
-        Ok(RateLimiter {
-            interval: 1000 / u64::from(rate) * 1_000_000,
+        Ok(RateLimiter::spaced(1000 / u64::from(rate) * 1_000_000, now))
+    }
+
+    /// The limiter of a target that names no rate: 20 draws a second, made at this moment.
+    pub(crate) fn by_default(now: Moment) -> Self
+        ensures { result ≡ draw_limiter 20 now }
+    {
+        RateLimiter::spaced(50_000_000, now)
+    }
+
+    /// A limiter of this interval, made at this moment.
+    fn spaced(interval: u64, now: Moment) -> Self
+        requires { 0 < interval }
+        ensures { result ≡ record { interval = interval; most = 20; capacity = 20; prev = now } }
+    {
+        RateLimiter {
+            interval,
             capacity: 20,
             prev: now,
-        })
+        }
     }
 
     /// Whether a draw is allowed at this moment; if so, it is counted. None is allowed at a moment before the one from which

@@ -55,17 +55,17 @@ fn shown(alloc: Global, size: Size, bytes: &[u8], part: usize) -> Result<String,
             .feed(&bytes[part.min(bytes.len())..])
             .map_err(|e| e.1)?;
     }
-    let picture = picture_of(alloc, &cells)?;
+    let picture = picture_of(alloc, &cells.picture()?)?;
     let contents = cells.contents()?;
     let (row, column) = cells.cursor();
     Ok(format!(in alloc; "{picture}\t{contents}\t{row} {column}")?)
 }
 
-/// The rows of the picture up to the last one that isn't empty, each ended by a line feed.
-fn picture_of(alloc: Global, cells: &Cells) -> Result<String, BadRow> {
+/// The rows of a picture up to the last one that isn't empty, each ended by a line feed.
+pub fn picture_of(alloc: Global, rows: &[String]) -> Result<String, BadRow> {
     let mut picture = String::new(alloc);
     let mut empty: usize = 0;
-    for row in &cells.picture()? {
+    for row in rows {
         if row.is_empty() {
             empty = empty.saturating_add(1);
             continue;
@@ -74,7 +74,7 @@ fn picture_of(alloc: Global, cells: &Cells) -> Result<String, BadRow> {
             picture.push('\n')?;
         }
         empty = 0;
-        picture.push_str(row)?;
+        picture.push_str(row.as_str())?;
         picture.push('\n')?;
     }
     Ok(picture)

@@ -1,4 +1,5 @@
 //! The kinds of rows, and how each is asked. A kind's module has one function that asks the product and compares.
+use crate::calls::calls_agree;
 use crate::cells::cells_agree;
 use crate::formats::format_agrees;
 use crate::limiters::limiter_agrees;
@@ -23,6 +24,8 @@ pub enum Kind {
     Lines,
     /// What a limiter answers.
     Limiter,
+    /// What becomes of a bar's calls.
+    Calls,
 }
 
 /// What became of a row.
@@ -46,6 +49,7 @@ impl Kind {
             "cells" => Some(Kind::Cells),
             "lines" => Some(Kind::Lines),
             "limiter" => Some(Kind::Limiter),
+            "calls" => Some(Kind::Calls),
             _ => None,
         }
     }
@@ -59,6 +63,7 @@ impl Kind {
             Kind::Cells => cells_agree(alloc, row),
             Kind::Lines => lines_agree(alloc, row),
             Kind::Limiter => limiter_agrees(alloc, row),
+            Kind::Calls => calls_agree(alloc, row),
         }
     }
 }

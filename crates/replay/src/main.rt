@@ -5,10 +5,13 @@
 //! where standard output fails, or where no file is named, which prints the usage to standard error.
 //!
 //! - `rows`: the rows of a file, their columns and escapes.
-//! - `kinds`: the kinds of rows, and how each is asked: `texts`, `formats`, `templates`, `cells`, `lines`, `limiters`.
+//! - `kinds`: the kinds of rows, and how each is asked: `texts`, `formats`, `templates`, `cells`, `lines`, `limiters`,
+//!   `calls` (with `commands`: a call as rows spell it).
 #![tactic(auto)]
 
+mod calls;
 mod cells;
+mod commands;
 mod formats;
 mod kinds;
 mod limiters;

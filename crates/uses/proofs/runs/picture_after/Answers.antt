@@ -7,10 +7,11 @@ use Rattle.indicatif_term.specs.Lists.{opening_lists, all_rows}
 use Rattle.indicatif_term.specs.Shows.{resting}
 use Rattle.indicatif_term.specs.Pictures.{picture_text, row_text}
 use Rattle.indicatif_term.specs.Engines.{is_failure}
+use Rattle.indicatif_term.specs.Targets.{term_of, limiter_of}
 use Rattle.indicatif_term.specs.Memory.{MemoryTerm, view_of}
 use Rattle.indicatif_bar.specs.Runs.{Runs, Starts}
 use Rattle.indicatif_bar.specs.Lone.{opening_state}
-use Rattle.indicatif_bar.specs.LoneBars.{lone_bar, timed, known}
+use Rattle.indicatif_bar.specs.LoneBars.{IsIn, lone_bar, timed, known}
 use Rattle.uses.proofs.runs.picture_after.Goals as goal
 
 -- a terminal that is known to be this one tells this state
@@ -21,8 +22,9 @@ pub returns-in-Some : goal.returns-in-Some
 returns-in-Some g c = λ opening starts.
     let old = Some (view_of c.args.term) in
     let start = opening_state c.args.bar None in
-    let known_is : known view_of c.new-bar.result ≡ old = ap (option_map view_of) (c.new-bar.ensures.terminal ∙ c.term_like.ensures) in
-    let made = c.in_ok-answers.ensures.run start c.new-bar.ensures.state in
+    let known_is : known view_of c.new-bar.result ≡ old = ap (option_map view_of) (c.new-bar.ensures.terminal ∙ ap term_of c.term_like.ensures) in
+    let begun = subst (λ target. IsIn c.new-bar.result (opening_state c.args.bar (limiter_of target))) c.term_like.ensures c.new-bar.ensures.state in
+    let made = c.in_ok-answers.ensures.run start begun in
     let after = known view_of c.run.new.self in
     let run = subst (λ o. Runs (lone_bar g.K.ProgressTracker.means) (map timed c.args.calls.items) c.in_ok-answers.answers.items o start after made.0) known_is made.2 in
     let unbroken = subst (λ xs. IsFalse (list_any is_failure xs)) c.deref.ensures.value c.in_ok-unbroken.ensures in

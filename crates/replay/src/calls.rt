@@ -1,0 +1,172 @@
+//! Rows of calls: the target's rate (0: none), the moment at which bar and target are made, rows and columns, a template, a
+//! length or `-`, the calls, parted by `; `; then their answers, parted by spaces, and what is read at the last moment: the
+//! position, the length, the ticks, whether the bar is in progress, finished or finished and hidden, the rate, the time left,
+//! the whole time, the time so far, and the picture; and what the Rust crate shows.
+use crate::cells::picture_of;
+use crate::commands::{Timed, call_of};
+use crate::kinds::Verdict;
+use crate::rows::{BadRow, Row, parsed, push_spelt};
+use indicatif_bar::lone::LoneBar;
+use indicatif_bar::state::{BarState, Rate};
+use indicatif_bar::style::{NoTracker, ProgressStyle};
+use indicatif_term::draw_target::ProgressDrawTarget;
+use indicatif_term::in_memory::InMemoryTerm;
+use indicatif_text::columns::{Drawn, Moment, Refusal};
+use std::alloc::Global;
+
+/// A bar on a terminal in memory.
+type Shown = LoneBar<NoTracker, InMemoryTerm>;
+
+/// How many columns tell what became of the calls.
+const TOLD: usize = 10;
+
+/// Asks the product.
+pub fn calls_agree(alloc: Global, mut row: Row<'_>) -> Result<Verdict, BadRow> {
+    let rate = parsed(row.column()?)?;
+    let making = parsed(row.column()?)?;
+    let target = target_of(alloc, &mut row, rate, making)?;
+    let state = state_of(alloc, &mut row, making)?;
+    let calls = calls_of(alloc, row.column()?)?;
+    let last = last_moment(&calls, making);
+    let mut bar = bar_on(target, state);
+    let answers = answers_of(&mut bar, calls)?;
+    let mut got = String::new(alloc);
+    push_answers(&mut got, &answers)?;
+    push_readings(&mut got, record_of(&bar), last)?;
+    push_picture(alloc, &mut got, &bar)?;
+    Ok(Verdict::of(told(alloc, &mut row)?.as_str(), got))
+}
+
+/// The moment of the last call, or this one where there is none.
+fn last_moment(calls: &[Timed], making: Moment) -> Moment {
+    match calls.last() {
+        Some(call) => call.1,
+        None => making,
+    }
+}
+
+// What is known of a bar isn't carried through a whole row: each call of it is a function without a clause.
+
+fn bar_on(target: ProgressDrawTarget<InMemoryTerm>, state: BarState<NoTracker>) -> Shown {
+    LoneBar::new(state, target)
+}
+
+fn answers_of(bar: &mut Shown, calls: Vec<Timed>) -> Result<Vec<Result<Drawn, Refusal>>, BadRow> {
+    Ok(bar.run(calls)?)
+}
+
+fn record_of(bar: &Shown) -> &BarState<NoTracker> {
+    bar.bar()
+}
+
+/// A target of this rate, or without one, of the row's size.
+fn target_of(
+    alloc: Global,
+    row: &mut Row<'_>,
+    rate: u8,
+    making: Moment,
+) -> Result<ProgressDrawTarget<InMemoryTerm>, BadRow> {
+    let rows = parsed(row.column()?)?;
+    let cols = parsed(row.column()?)?;
+    let term = InMemoryTerm::new(alloc, rows, cols)?;
+    match rate {
+        0 => Ok(ProgressDrawTarget::term_like(term)),
+        rate => Ok(ProgressDrawTarget::term_like_with_hz(term, rate, making)?),
+    }
+}
+
+/// A bar of the row's template and length.
+fn state_of(
+    alloc: Global,
+    row: &mut Row<'_>,
+    making: Moment,
+) -> Result<BarState<NoTracker>, BadRow> {
+    let template = row.text(alloc)?;
+    let style = ProgressStyle::with_template(alloc, template.as_str())?;
+    let len = match row.column()? {
+        "-" => None,
+        len => Some(parsed(len)?),
+    };
+    Ok(BarState::styled(alloc, style, len, making)?)
+}
+
+/// The calls of a column.
+fn calls_of(alloc: Global, column: &str) -> Result<Vec<Timed>, BadRow> {
+    let mut calls = Vec::new(alloc);
+    for text in column.split("; ") {
+        calls.push(call_of(alloc, text)?)?;
+    }
+    Ok(calls)
+}
+
+/// What the row says of the calls, as it stands.
+fn told(alloc: Global, row: &mut Row<'_>) -> Result<String, BadRow> {
+    let mut told = String::new(alloc);
+    for _ in 0..TOLD {
+        told.push_str(row.column()?)?;
+        told.push('\t')?;
+    }
+    Ok(told)
+}
+
+/// Appends the answers, parted by spaces.
+fn push_answers(out: &mut String, answers: &[Result<Drawn, Refusal>]) -> Result<(), BadRow> {
+    for answer in answers {
+        if !out.is_empty() {
+            out.push(' ')?;
+        }
+        match answer {
+            Ok(Drawn::Yes) => out.push('Y')?,
+            Ok(Drawn::Limited) => out.push('L')?,
+            Ok(Drawn::Hidden) => out.push('H')?,
+            Err(Refusal::ElapsedBeyondClock) => out.push_str("E10")?,
+            Err(e) => return Err(BadRow::Refused(*e)),
+        }
+    }
+    out.push('\t')?;
+    Ok(())
+}
+
+/// Appends what is read of a bar at a moment, each with a tab behind it.
+fn push_readings(out: &mut String, bar: &BarState<NoTracker>, now: Moment) -> Result<(), BadRow> {
+    let state = bar.state();
+    let pos = state.pos();
+    let ticks = state.ticks();
+    match state.len() {
+        Some(len) => write!(out, "{pos}\t{len}\t{ticks}\t")?,
+        None => write!(out, "{pos}\t-\t{ticks}\t")?,
+    }
+    out.push_str(if !state.is_finished() {
+        "progress\t"
+    } else if bar.lines(now, 1)?.is_empty() {
+        "hidden\t"
+    } else {
+        "visible\t"
+    })?;
+    push_rate(out, state.per_sec(now))?;
+    let eta = state.eta(now);
+    let duration = state.duration(now);
+    let elapsed = state.elapsed(now);
+    write!(out, "{eta}\t{duration}\t{elapsed}\t")?;
+    Ok(())
+}
+
+/// Appends a rate and a tab.
+fn push_rate(out: &mut String, rate: Rate) -> Result<(), BadRow> {
+    let Rate { steps, nanos } = rate;
+    match steps {
+        0 => out.push_str("0\t")?,
+        _ => write!(out, "{steps}/{nanos}\t")?,
+    }
+    Ok(())
+}
+
+/// Appends the terminal's picture as rows spell it, and a tab.
+fn push_picture(alloc: Global, out: &mut String, bar: &Shown) -> Result<(), BadRow> {
+    if let Some(term) = bar.term() {
+        let picture = picture_of(alloc, &term.picture()?)?;
+        push_spelt(out, picture.as_str())?;
+    }
+    out.push('\t')?;
+    Ok(())
+}
