@@ -1,10 +1,10 @@
 //! A board: several bars on one target, in an order.
-ghost use Rattle.std.specs.Prelude.{◌≡◌, ◌⊎◌, ◌↔◌, ◌<◌, ◌≤◌, ℕ, Bool, Option, Some, None, Err, true, option_map, IsTrue, IsFalse, IfOk, IfErr, IfSome, MatchResult, vec_len, if◌then◌else◌};
+ghost use Rattle.std.specs.Prelude.{◌≡◌, ◌⊎◌, ◌↔◌, ◌<◌, ◌≤◌, ℕ, Bool, Option, Some, None, Err, true, option_map, IsTrue, IsFalse, IfOk, IfErr, IfSome, MatchResult, map, OnErr, vec_len, if◌then◌else◌};
 ghost use Rattle.indicatif_term.specs.Engines.{is_bottom};
 ghost use Rattle.indicatif_bar.specs.Commands.{BarRecord, command_of};
 ghost use Rattle.indicatif_bar.specs.Kinds.{rows_take};
 ghost use Rattle.indicatif_bar.specs.Machines.{Target, Leads, is_no, target_of};
-ghost use Rattle.indicatif_bar.specs.Runs.{wrote};
+ghost use Rattle.indicatif_bar.specs.Runs.{wrote, Runs, Headline};
 ghost use Rattle.indicatif_bar.specs.Inside.Draws.{DrewOn};
 ghost use Rattle.indicatif_board.specs.BoardBars.{board_bars};
 ghost use Rattle.indicatif_board.specs.Boards.{BoardState, Change, Log, BarLog, Clear, Redraw, Align, Insert, Remove, Place, End, Index, FromBack, Before, After, Done, opening_board, says, tells, index_of, inserted, turned_away, draw_of, board};
@@ -14,6 +14,8 @@ ghost use Rattle.indicatif_board.specs.Inside.Keeps.{IsPlaced, laid_by};
 ghost use Rattle.indicatif_board.specs.Inside.Writings.{writing_by};
 
 use crate::bar_id::BarId;
+pub use crate::calls::{Answer, Call, Candidate, InsertLocation, Turned};
+use crate::calls::{draw_answer, insertion_answer, removal_answer};
 use crate::members::place;
 use crate::shown_bars::{ShownBars, Writing};
 use indicatif_bar::state::{Ask, BarCommand, BarState};
@@ -22,24 +24,6 @@ use indicatif_term::draw_target::{Engine, MultiProgressAlignment, ProgressDrawTa
 use indicatif_term::term_like::TermLike;
 use indicatif_text::columns::{Drawn, Moment, Refusal};
 use std::alloc::Global;
-
-/// What is to be taken in.
-#[derive(Drop)]
-pub enum Candidate<K> {
-    /// A new bar.
-    New(BarState<K>),
-    /// A bar that may be there already.
-    Member(BarId),
-}
-
-/// A candidate that was turned away, and why.
-#[derive(Drop)]
-pub struct Turned<K> {
-    /// The candidate, as it was.
-    pub candidate: Candidate<K>,
-    /// Why it was turned away.
-    pub refusal: Refusal,
-}
 
 /// Several bars on one target, a terminal or none, in an order, with text above them.
 ///
@@ -65,7 +49,7 @@ pub struct Board<K, T: Drop> {
 }
 
 impl<K: ProgressTracker, T: TermLike + Drop> Board<K, T> {
-    ghost use Rattle.indicatif_board.specs.Candidates.{entrant_of, given, removal};
+    ghost use Rattle.indicatif_board.specs.Calls.{entrant_of, given, removal, answer_of, place_at, call_of, timed};
     ghost use Rattle.indicatif_board.specs.Multi.{IsIn, LeadsBy, known, terminal_of};
 
     /// A board without bars on this target, of this mark. It takes no memory and writes nothing.
@@ -266,6 +250,64 @@ impl<K: ProgressTracker, T: TermLike + Drop> Board<K, T> {
         ensures leads { LeadsBy K.means T.view self.old self.new Redraw now (says result) }
     {
         self.draw(Ask::Forced, None, Writing::Frame, now)
+    }
+
+    /// A call as a value: what the method of the same name does and refuses. A bar that is removed or turned away is given up.
+    pub fn call(&mut self, call: Call<K>, now: Moment) -> Answer
+        ensures silent { IsFalse (wrote (tells (answer_of result))) → terminal_of self.new ≡ terminal_of self.old }
+        ensures leads { LeadsBy K.means T.view self.old self.new (call_of call) now (answer_of result) }
+    {
+        match call {
+            Call::Insert(at, candidate) => self.insert_by(at, candidate),
+            Call::Remove(id) => removal_answer(self.remove(id)),
+            Call::Log(text) => draw_answer(self.println(text.as_str(), now)),
+            Call::BarLog(id, text) => draw_answer(self.bar_println(id, text.as_str(), now)),
+            Call::Clear => draw_answer(self.clear(now)),
+            Call::Redraw => draw_answer(self.redraw(now)),
+            Call::Align(alignment) => {
+                self.set_alignment(alignment);
+                Answer::Done
+            }
+            Call::Bar(id, command) => draw_answer(self.command(id, command, now)),
+        }
+    }
+
+    /// Makes the calls one after another, each at its moment, and answers what each answered.
+    ///
+    /// Refused: `Memory` for the answers alone, and nothing is run.
+    pub fn run(&mut self, calls: Vec<(Call<K>, Moment)>) -> Result<Vec<Answer>, Refusal>
+        ensures run { (mark : ℕ) (s : BoardState (BarRecord K)) → IsIn mark self.old s →
+            let old = known T.view self.old in let new = known T.view self.new in
+            IfOk result (λ answers. (next : BoardState (BarRecord K)) × IsIn mark self.new next
+            × (run : Runs (board (board_bars K.means) mark) (map timed calls.items) (map answer_of answers.items) old s new next)
+            × Headline (board (board_bars K.means) mark) (map timed calls.items) (map answer_of answers.items) old s new next run) }
+        ensures memory { IfErr result (λ e. e ≡ Refusal.Memory) }
+        ensures unrun { OnErr result (self.new ≡ self.old) }
+    {
+        let mut answers = Vec::with_capacity(self.shown.alloc, calls.len())?;
+        for (call, now) in calls {
+            let answer = self.call(call, now);
+            answers.push_reserved(answer);
+        }
+        Ok(answers)
+    }
+
+    /// Takes a bar in at a place.
+    fn insert_by(&mut self, at: InsertLocation, candidate: Candidate<K>) -> Answer
+        ensures terminal { terminal_of self.new ≡ terminal_of self.old }
+        ensures leads { (now : ℕ) → LeadsBy K.means T.view self.old self.new (Insert (place_at at) (entrant_of candidate)) now (answer_of result) }
+    {
+        match at {
+            InsertLocation::End => insertion_answer(self.add(candidate)),
+            InsertLocation::Index(index) => insertion_answer(self.insert(index, candidate)),
+            InsertLocation::IndexFromBack(count) => {
+                insertion_answer(self.insert_from_back(count, candidate))
+            }
+            InsertLocation::Before(anchor) => insertion_answer(self.insert_before(
+                anchor, candidate,
+            )),
+            InsertLocation::After(anchor) => insertion_answer(self.insert_after(anchor, candidate)),
+        }
     }
 
     /// Takes a bar in where so many bars stand before it.

@@ -35,7 +35,7 @@ pub enum Writing<'a> {
 /// Bars in their order, the lines that were laid out last, and how often they may be drawn.
 #[derive(Drop)]
 pub struct ShownBars<K> {
-    alloc: Global,
+    pub alloc: Global,
     /// The bars.
     pub members: Vec<Member<K>>,
     /// Their numbers and lines, at the same places.
