@@ -3,7 +3,7 @@ use Rattle.std.specs.Prelude.{ℕ, Option, Result, Ok, Err, string_bytes}
 use Rattle.indicatif_text.specs.declared.refusal.Refusal.{Refusal}
 use Rattle.indicatif_bar.specs.Commands.{BarRecord, Command, command_of}
 use Rattle.indicatif_term.specs.Engines.{is_bottom}
-use Rattle.indicatif_board.specs.Boards.{Entrant, New, Old, Place, End, Index, FromBack, Before, After, Call, Insert, Remove, Log, BarLog, Clear, Redraw, Align, Change, Answer, Given, Done, Drew, Refused}
+use Rattle.indicatif_board.specs.Boards.{Entrant, New, Old, Place, End, Index, FromBack, Before, After, Call, Insert, Remove, Drop, Log, BarLog, Clear, Redraw, Align, Change, Answer, Given, Done, Drew, Refused}
 use Rattle.indicatif_board.specs.BoardValues.{id_of}
 use Rattle.indicatif_board.specs.declared.bar_id.BarId.{BarId}
 use Rattle.indicatif_board.specs.declared.calls.Candidate.{Candidate}
@@ -45,6 +45,7 @@ place_at (location.After anchor) = After (id_of anchor)
 abbrev pub call_of : {K : Type 0} → CallValue K → Call (BarRecord K) (Command K)
 call_of (call.Insert at candidate) = Insert (place_at at) (entrant_of candidate)
 call_of (call.Remove id) = Remove (id_of id)
+call_of (call.Drop id) = Drop (id_of id)
 call_of (call.Log text) = Log (string_bytes text)
 call_of (call.BarLog id text) = BarLog (id_of id) (string_bytes text)
 call_of call.Clear = Clear

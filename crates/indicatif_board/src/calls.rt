@@ -1,5 +1,6 @@
 //! What a board can be asked, and what it answers.
 ghost use Rattle.std.specs.Prelude.{◌≡◌};
+ghost use Rattle.indicatif_bar.specs.Runs.{is_undisturbed};
 ghost use Rattle.indicatif_board.specs.Boards.{says};
 ghost use Rattle.indicatif_board.specs.Calls.{given, removal, answer_of};
 
@@ -49,6 +50,8 @@ pub enum Call<K> {
     Insert(InsertLocation, Candidate<K>),
     /// A bar taken out of the order.
     Remove(BarId),
+    /// A bar whose owner is gone.
+    Drop(BarId),
     /// Lines of text above the bars.
     Log(String),
     /// The same, with one bar's lines laid out anew.
@@ -84,6 +87,13 @@ pub fn draw_answer(drawn: Result<Drawn, Refusal>) -> Answer
         Ok(drawn) => Answer::Drawn(drawn),
         Err(refusal) => Answer::Refused(refusal),
     }
+}
+
+/// Whether neither want of memory nor the terminal broke a draw off.
+pub fn is_undisturbed(drawn: &Result<Drawn, Refusal>) -> bool
+    ensures { result ≡ is_undisturbed drawn.now }
+{
+    !matches!(drawn, Err(Refusal::Memory | Refusal::Terminal(_)))
 }
 
 /// The answer of an insertion; a candidate that was turned away is given up.

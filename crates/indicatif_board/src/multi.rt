@@ -1,29 +1,32 @@
 //! A board: several bars on one target, in an order.
-ghost use Rattle.std.specs.Prelude.{◌≡◌, ◌⊎◌, ◌↔◌, ◌<◌, ◌≤◌, ℕ, Bool, Option, Some, None, Err, true, option_map, IsTrue, IsFalse, IfOk, IfErr, IfSome, MatchResult, map, OnErr, vec_len, if◌then◌else◌};
-ghost use Rattle.indicatif_term.specs.Engines.{is_bottom};
+ghost use Rattle.std.specs.Prelude.{◌≡◌, ◌⊎◌, ◌↔◌, ◌<◌, ◌≤◌, ℕ, Bool, Option, Some, None, Err, true, option_map, IsTrue, IsFalse, IfOk, IfErr, IfSome, MatchResult, MatchOption, map, OnErr, vec_len, if◌then◌else◌};
+ghost use Rattle.indicatif_term.specs.Engines.{is_bottom, terminal, Fits};
+ghost use Rattle.indicatif_term.specs.Lists.{fate, kept_of, opening_lists};
 ghost use Rattle.indicatif_bar.specs.Commands.{BarRecord, command_of};
 ghost use Rattle.indicatif_bar.specs.Kinds.{rows_take};
 ghost use Rattle.indicatif_bar.specs.Machines.{Target, Leads, is_no, target_of};
 ghost use Rattle.indicatif_bar.specs.Runs.{wrote, Runs, Headline};
 ghost use Rattle.indicatif_bar.specs.Inside.Draws.{DrewOn};
 ghost use Rattle.indicatif_board.specs.BoardBars.{board_bars};
-ghost use Rattle.indicatif_board.specs.Boards.{BoardState, Change, Log, BarLog, Clear, Redraw, Align, Insert, Remove, Place, End, Index, FromBack, Before, After, Done, opening_board, says, tells, index_of, inserted, turned_away, draw_of, board};
+ghost use Rattle.indicatif_board.specs.Boards.{BoardState, Change, Log, BarLog, Clear, Redraw, Align, Insert, Remove, Drop, Place, End, Index, FromBack, Before, After, Done, opening_board, says, tells, index_of, inserted, turned_away, draw_of, board};
 ghost use Rattle.indicatif_board.specs.BoardValues.{id_of};
 ghost use Rattle.indicatif_board.specs.Members.{is_member, said_of};
 ghost use Rattle.indicatif_board.specs.Inside.Keeps.{IsPlaced, laid_by};
+ghost use Rattle.indicatif_board.specs.Inside.Parting.{parted, RestsOn};
 ghost use Rattle.indicatif_board.specs.Inside.Writings.{writing_by};
 
 use crate::bar_id::BarId;
 pub use crate::calls::{Answer, Call, Candidate, InsertLocation, Turned};
-use crate::calls::{draw_answer, insertion_answer, removal_answer};
+use crate::calls::{draw_answer, insertion_answer, is_undisturbed, removal_answer};
 use crate::members::place;
 use crate::shown_bars::{ShownBars, Writing};
 use indicatif_bar::state::{Ask, BarCommand, BarState};
 use indicatif_bar::style::ProgressTracker;
-use indicatif_term::draw_target::{Engine, MultiProgressAlignment, ProgressDrawTarget};
+use indicatif_term::draw_target::{Engine, Keep, MultiProgressAlignment, ProgressDrawTarget};
 use indicatif_term::term_like::TermLike;
 use indicatif_text::columns::{Drawn, Moment, Refusal};
 use std::alloc::Global;
+use std::mem::replace;
 
 /// Several bars on one target, a terminal or none, in an order, with text above them.
 ///
@@ -50,17 +53,14 @@ pub struct Board<K, T: Drop> {
 
 impl<K: ProgressTracker, T: TermLike + Drop> Board<K, T> {
     ghost use Rattle.indicatif_board.specs.Calls.{entrant_of, given, removal, answer_of, place_at, call_of, timed};
-    ghost use Rattle.indicatif_board.specs.Multi.{IsIn, LeadsBy, known, terminal_of};
+    ghost use Rattle.indicatif_board.specs.Multi.{IsIn, LeadsBy, Suspends, known, terminal_of};
 
     /// A board without bars on this target, of this mark. It takes no memory and writes nothing.
     pub fn new(alloc: Global, target: ProgressDrawTarget<T>, mark: u64) -> Self
         ensures state { IsIn mark result (opening_board None) }
         ensures terminal { terminal_of result ≡ target }
     {
-        let engine = match target.into_parts() {
-            Some(term) => Some(Engine::new(alloc, term)),
-            None => None,
-        };
+        let engine = engine_on(alloc, target);
         Board {
             mark,
             shown: ShownBars::new(alloc),
@@ -83,6 +83,33 @@ impl<K: ProgressTracker, T: TermLike + Drop> Board<K, T> {
         ensures { IsTrue result ↔ (terminal_of self.now ≡ None) }
     {
         self.engine.is_none()
+    }
+
+    /// A bar's record.
+    ///
+    /// Refused: `ForeignBar` or `NotMember`, as `Board` says.
+    pub fn bar(&self, id: BarId) -> Result<&BarState<K>, Refusal>
+        ensures bar { (mark : ℕ) (s : BoardState (BarRecord K)) (other : BarRecord K) → IsIn mark self.now s →
+            MatchResult result (λ bar. (turned_away mark (id_of id) s ≡ None) × (bar.now ≡ said_of other (λ b. b) id.number s.members)) (λ e. turned_away mark (id_of id) s ≡ Some e) }
+    {
+        let at = self.find(id)?;
+        Ok(&self.shown.members[at].bar)
+    }
+
+    /// Another target, and the old one. Nothing is written to either: what stands on the old one stays, and on the new one the
+    /// bars begin anew, with their next draw.
+    pub fn set_draw_target(&mut self, target: ProgressDrawTarget<T>) -> ProgressDrawTarget<T>
+        ensures old { result ≡ terminal_of self.old }
+        ensures new { terminal_of self.new ≡ target }
+        ensures state { (mark : ℕ) (s : BoardState (BarRecord K)) → IsIn mark self.old s →
+            IsIn mark self.new (record s { limiter = None; lists = opening_lists }) }
+    {
+        let engine = engine_on(self.shown.alloc, target);
+        self.shown.limiter = None;
+        match replace(&mut self.engine, engine) {
+            Some(engine) => ProgressDrawTarget::term_like(engine.into_term()),
+            None => ProgressDrawTarget::hidden(),
+        }
     }
 
     /// Whether bars stand at the top of what is taken back, or at its bottom, from the next draw on.
@@ -192,6 +219,31 @@ impl<K: ProgressTracker, T: TermLike + Drop> Board<K, T> {
         }
     }
 
+    /// A bar whose owner is gone: one that isn't finished is finished by its stored finish and drawn by force. Then it leaves the
+    /// order, if it is the first there and no other bar's rows stand before its own: its rows stay where they are until the next
+    /// text. Else it waits, marked, and leaves with the draw that finds only bars like it before it. From now on no call may name
+    /// it.
+    ///
+    /// Refused: `ForeignBar`, `NotMember`, `NoColumns`, `TooWide`, `Terminal` or `Memory`, as `Board` says. After `Terminal` or
+    /// `Memory` the bar is marked, after `NoColumns` or `TooWide` it has left or is marked, as if it had been drawn.
+    pub fn drop_bar(&mut self, id: BarId, now: Moment) -> Result<Drawn, Refusal>
+        ensures silent { IsFalse (wrote result) → terminal_of self.new ≡ terminal_of self.old }
+        ensures leads { LeadsBy K.means T.view self.old self.new (Drop (id_of id)) now (says result) }
+    {
+        let at = self.find(id)?;
+        match self.shown.members[at].bar.dropped(now) {
+            Ok(ask) => {
+                let drawn = self.draw(ask, Some(at), Writing::Frame, now);
+                self.part(id.number, &drawn);
+                drawn
+            }
+            Err(refusal) => {
+                self.shown.mark(id.number);
+                Err(refusal)
+            }
+        }
+    }
+
     /// A command of a bar, and the draw that it asks for.
     ///
     /// Refused: `ForeignBar`, `NotMember`, `NoColumns`, `TooWide`, `Terminal` or `Memory`, as `Board` says; and
@@ -252,6 +304,25 @@ impl<K: ProgressTracker, T: TermLike + Drop> Board<K, T> {
         self.draw(Ask::Forced, None, Writing::Frame, now)
     }
 
+    /// Takes the bars' rows back, calls `f` once, which may write to the terminal's place by other ways, and draws the bars again
+    /// by force, at the same moment. Answers what `f` gave, and what the draw answered; where the clear was refused, `f` is
+    /// called all the same, no draw is made, and the answer is that refusal.
+    pub fn suspend<F: FnOnce() -> A, A>(&mut self, f: F, now: Moment) -> (A, Result<Drawn, Refusal>)
+        requires { F.pre f }
+        ensures value { F.post f result.0 }
+        ensures leads { Suspends K.means T.view self.old self.new now result.1 }
+    {
+        let cleared = self.clear(now);
+        let value = f();
+        match cleared {
+            Ok(_) => {
+                let drawn = self.redraw(now);
+                (value, drawn)
+            }
+            Err(e) => (value, Err(e)),
+        }
+    }
+
     /// A call as a value: what the method of the same name does and refuses. A bar that is removed or turned away is given up.
     pub fn call(&mut self, call: Call<K>, now: Moment) -> Answer
         ensures silent { IsFalse (wrote (tells (answer_of result))) → terminal_of self.new ≡ terminal_of self.old }
@@ -260,6 +331,7 @@ impl<K: ProgressTracker, T: TermLike + Drop> Board<K, T> {
         match call {
             Call::Insert(at, candidate) => self.insert_by(at, candidate),
             Call::Remove(id) => removal_answer(self.remove(id)),
+            Call::Drop(id) => draw_answer(self.drop_bar(id, now)),
             Call::Log(text) => draw_answer(self.println(text.as_str(), now)),
             Call::BarLog(id, text) => draw_answer(self.bar_println(id, text.as_str(), now)),
             Call::Clear => draw_answer(self.clear(now)),
@@ -342,6 +414,45 @@ impl<K: ProgressTracker, T: TermLike + Drop> Board<K, T> {
         }
     }
 
+    /// A bar leaves or is marked, once it was drawn for the last time, or that draw was refused so.
+    fn part(&mut self, number: u64, drawn: &Result<Drawn, Refusal>)
+        ensures terminal { terminal_of self.new ≡ terminal_of self.old }
+        ensures parted { (mark : ℕ) (s : BoardState (BarRecord K)) → IsIn mark self.old s →
+            let target = target_of (known T.view self.old) in
+            let next = parted target number drawn.now s in
+            IsIn mark self.new next × RestsOn target.columns s.lists next.lists }
+    {
+        if !is_undisturbed(drawn) {
+            self.shown.mark(number);
+            return;
+        }
+        if !self.shown.is_first(number) {
+            self.shown.mark(number);
+            return;
+        }
+        match self.keep(number) {
+            Keep::Behind => self.shown.mark(number),
+            Keep::Absent | Keep::Passed => {
+                self.shown.take_out(0);
+            }
+        }
+    }
+
+    /// A bar's rows are kept, if they are the first that are live.
+    fn keep(&mut self, number: u64) -> Keep
+        ensures shown { self.new.shown ≡ self.old.shown }
+        ensures terminal { terminal_of self.new ≡ terminal_of self.old }
+        ensures kept { (mark : ℕ) (s : BoardState (BarRecord K)) → IsIn mark self.old s →
+            let columns = (target_of (known T.view self.old)).columns in
+            let lists = kept_of columns number s.lists in
+            (result ≡ fate number s.lists) × IsIn mark self.new (record s { lists = lists }) × RestsOn columns s.lists lists }
+    {
+        match &mut self.engine {
+            Some(engine) => engine.keep(number),
+            None => Keep::Absent,
+        }
+    }
+
     /// A bar's place in the order.
     fn find(&self, id: BarId) -> Result<usize, Refusal>
         ensures found { (mark : ℕ) (s : BoardState (BarRecord K)) → IsIn mark self.now s →
@@ -385,6 +496,17 @@ impl<K: ProgressTracker, T: TermLike + Drop> Board<K, T> {
             Some(engine) => self.shown.draw_on(engine, ask, bar, writing, now),
             None => Ok(Drawn::Hidden),
         }
+    }
+}
+
+/// An engine on this target's terminal; none where it is hidden.
+fn engine_on<T: TermLike + Drop>(alloc: Global, target: ProgressDrawTarget<T>) -> Option<Engine<T>>
+    ensures terminal { option_map terminal result ≡ target }
+    ensures opened { MatchOption result (opening_lists ≡ opening_lists) (λ engine. Fits engine opening_lists) }
+{
+    match target.into_parts() {
+        Some(term) => Some(Engine::new(alloc, term)),
+        None => None,
     }
 }
 

@@ -9,8 +9,11 @@ returns-in-Insert-clause-leads g c = rw c.in-Insert.is (c.insert_by.ensures.lead
 pub returns-in-Remove-clause-leads : goal.returns-in-Remove-clause-leads
 returns-in-Remove-clause-leads g c = rw (c.in-Remove.is, c.removal_answer.ensures) (c.remove.ensures.leads c.args.now)
 
+pub returns-in-Drop-clause-leads : goal.returns-in-Drop-clause-leads
+returns-in-Drop-clause-leads g c = rw (c.in-Drop.is, c.draw_answer.ensures) c.drop_bar.ensures.leads
+
 pub returns-in-Log-clause-leads : goal.returns-in-Log-clause-leads
-returns-in-Log-clause-leads g c = rw (c.in-Log.is, c.draw_answer.ensures)
+returns-in-Log-clause-leads g c = rw (c.in-Log.is, c.draw_answer-in-Log.ensures)
     (subst (λ t. LeadsBy g.K.ProgressTracker.means g.T.TermLike.view c.args.self.now c.println.new.self (Log t) c.args.now (says c.println.result)) c.as_str.ensures.value c.println.ensures.leads)
 
 pub returns-in-Clear-clause-leads : goal.returns-in-Clear-clause-leads
