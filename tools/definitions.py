@@ -97,7 +97,7 @@ SOURCES = {
         "BoardBars": (OWN, {}),
         "BoardValues": (OWN, {}),
         "Boards": (CRATE + ", and this project's own rule where its documents are silent", {}),
-        "Candidates": (OWN, {}),
+        "Calls": (OWN, {}),
         "Done": (OWN, {}),
         "Members": (CRATE, {}),
         "Multi": (OWN, {}),

@@ -5,3 +5,4 @@ pub mod DividedLemmas
 pub mod MemberLemmas
 pub mod BoardDrawLemmas
 pub mod BoardCallLemmas
+pub mod DropLemmas

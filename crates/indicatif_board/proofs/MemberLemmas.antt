@@ -44,7 +44,7 @@ place_is {K = K} frame ms number e =
 
 -- ---- a member changed
 
-changed-set : {B : Type 0} (number : ℕ) (f : Member B → Member B) (d : Member B) (ms : List (Member B)) → place_of number ms < length ms →
+pub changed-set : {B : Type 0} (number : ℕ) (f : Member B → Member B) (d : Member B) (ms : List (Member B)) → place_of number ms < length ms →
     changed_at number f ms ≡ set ms (place_of number ms) (f (get_or ms (place_of number ms) d))
 changed-set number f d [] inside = absurd (omega (arith, inside))
 changed-set number f d (m ∷ ms) inside = elim (cases_Bool (m.number == number)) [
@@ -57,17 +57,17 @@ changed-set number f d (m ∷ ms) inside = elim (cases_Bool (m.number == number)
       rw (there, step) (ap (λ x. m ∷ x) (changed-set number f d ms within))
 ]
 
-map-set_at : {X Y : Type 0} (f : X → Y) (xs : List X) (i : ℕ) (x : X) → map f (set xs i x) ≡ set (map f xs) i (f x)
+pub map-set_at : {X Y : Type 0} (f : X → Y) (xs : List X) (i : ℕ) (x : X) → map f (set xs i x) ≡ set (map f xs) i (f x)
 map-set_at f [] i x = refl
 map-set_at f (y ∷ xs) zero x = refl
 map-set_at f (y ∷ xs) (suc i) x = ap (λ z. f y ∷ z) (map-set_at f xs i x)
 
-get_or-map_at : {X Y : Type 0} (f : X → Y) (xs : List X) (i : ℕ) (d : X) (e : Y) → i < length xs → get_or (map f xs) i e ≡ f (get_or xs i d)
+pub get_or-map_at : {X Y : Type 0} (f : X → Y) (xs : List X) (i : ℕ) (d : X) (e : Y) → i < length xs → get_or (map f xs) i e ≡ f (get_or xs i d)
 get_or-map_at f [] i d e inside = absurd (omega (arith, inside))
 get_or-map_at f (x ∷ xs) zero d e inside = refl
 get_or-map_at f (x ∷ xs) (suc i) d e inside = get_or-map_at f xs i d e (omega (arith, inside))
 
-set-own : {X : Type 0} (xs : List X) (i : ℕ) (d : X) → i < length xs → set xs i (get_or xs i d) ≡ xs
+pub set-own : {X : Type 0} (xs : List X) (i : ℕ) (d : X) → i < length xs → set xs i (get_or xs i d) ≡ xs
 set-own [] i d inside = refl
 set-own (x ∷ xs) zero d inside = refl
 set-own (x ∷ xs) (suc i) d inside = ap (λ z. x ∷ z) (set-own xs i d (omega (arith, inside)))
@@ -76,7 +76,7 @@ set-own (x ∷ xs) (suc i) d inside = ap (λ z. x ∷ z) (set-own xs i d (omega 
 abbrev stored_with : {K : Type 0} → Tracking K → ℕ → ℕ → Member (BarRecord K) → Member (BarRecord K)
 stored_with tracks now columns m = record m { stored = map chars (lines_of_bar tracks m.bar now columns) }
 
-abbrev segment_of : {K : Type 0} → Member (BarRecord K) → BarLines
+abbrev pub segment_of : {K : Type 0} → Member (BarRecord K) → BarLines
 segment_of m = record { bar = m.number; lines = m.stored }
 
 module _ {K : Type 0} (tracks : Tracking K) (frame : List Segment) (members : List (MemberValue K)) (made : ℕ) (bottom : Bool) (limiter : Option Limiter) (s : BoardState (BarRecord K))

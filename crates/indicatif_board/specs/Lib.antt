@@ -4,6 +4,6 @@ pub mod Boards
 pub mod BoardCases
 pub mod BoardBars
 pub mod BoardValues
-pub mod Candidates
+pub mod Calls
 pub mod Multi
 pub mod Inside

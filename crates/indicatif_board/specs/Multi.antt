@@ -1,13 +1,15 @@
 -- What contracts see of a board: its terminal, whether it is in a given state, and what a call leads to.
-use Rattle.std.specs.Prelude.{◌≡◌, ℕ, Option, MatchOption, option_map}
+use Rattle.std.specs.Prelude.{◌≡◌, ◌⊎◌, ℕ, [], ◌∷◌, Option, MatchOption, option_map, Result, Err}
+use Rattle.indicatif_text.specs.declared.refusal.Refusal.{Refusal}
+use Rattle.indicatif_text.specs.declared.refusal.Drawn.{Drawn}
 use Rattle.indicatif_term.specs.Calls.{TermView}
 use Rattle.indicatif_term.specs.Engines.{terminal, Fits}
 use Rattle.indicatif_term.specs.Lists.{opening_lists}
 use Rattle.indicatif_bar.specs.Trackers.{Tracking}
 use Rattle.indicatif_bar.specs.Commands.{BarRecord, Command}
-use Rattle.indicatif_bar.specs.Runs.{CallMade}
+use Rattle.indicatif_bar.specs.Runs.{CallMade, Runs}
 use Rattle.indicatif_board.specs.BoardBars.{board_bars}
-use Rattle.indicatif_board.specs.Boards.{BoardState, Call, Answer, board}
+use Rattle.indicatif_board.specs.Boards.{BoardState, Call, Clear, Redraw, Answer, Drew, Refused, says, board}
 use Rattle.indicatif_board.specs.Inside.ShownBars.{Shown}
 use Rattle.indicatif_board.specs.declared.multi.Board.{Board}
 
@@ -31,3 +33,11 @@ module _ {K T : Type 0} where
   LeadsBy m view old new call now answer =
       (mark : ℕ) (s : BoardState (BarRecord K)) → IsIn mark old s →
       (next : BoardState (BarRecord K)) × IsIn mark new next × CallMade (board (board_bars m) mark) (known view old) (known view new) (call, now) s answer next
+
+  -- the same of a board that was suspended: it was cleared and drawn again; or the clear was refused, and nothing drawn
+  abbrev pub Suspends : Tracking K → (T → TermView) → Board K T → Board K T → ℕ → Result Drawn Refusal → Type 0
+  Suspends m view old new now answer =
+      (mark : ℕ) (s : BoardState (BarRecord K)) → IsIn mark old s → let machine = board (board_bars m) mark in
+      (next : BoardState (BarRecord K)) × IsIn mark new next
+      × (((cleared : Drawn) × Runs machine ((Clear, now) ∷ (Redraw, now) ∷ []) (Drew cleared ∷ says answer ∷ []) (known view old) s (known view new) next)
+      ⊎ ((e : Refusal) × (answer ≡ Err e) × Runs machine ((Clear, now) ∷ []) (Refused e ∷ []) (known view old) s (known view new) next))

@@ -2,6 +2,7 @@
 //!
 //! - `multi`: a board, several bars on one target in an order.
 //! - `bar_id`: bars by their board's mark and their number.
+//! - `calls`: a board's calls and answers as values; `multi` has their public names (private).
 //! - `members`: a board's bars in their order (private).
 //! - `shown_bars`: those bars with the lines that they show, and how they are written (private).
 //! - `done`: a sum, its workers, and their shares of it.
@@ -11,6 +12,7 @@
 #![tactic(auto)]
 
 pub mod bar_id;
+mod calls;
 pub mod cases;
 pub mod done;
 pub mod laws;

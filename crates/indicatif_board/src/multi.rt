@@ -1,46 +1,33 @@
 //! A board: several bars on one target, in an order.
-ghost use Rattle.std.specs.Prelude.{◌≡◌, ◌⊎◌, ◌↔◌, ◌<◌, ◌≤◌, ℕ, Bool, Option, Some, None, Err, true, option_map, IsTrue, IsFalse, IfOk, IfErr, IfSome, MatchResult, vec_len, if◌then◌else◌};
-ghost use Rattle.indicatif_term.specs.Engines.{is_bottom};
+ghost use Rattle.std.specs.Prelude.{◌≡◌, ◌⊎◌, ◌↔◌, ◌<◌, ◌≤◌, ℕ, Bool, Option, Some, None, Err, true, option_map, IsTrue, IsFalse, IfOk, IfErr, IfSome, MatchResult, MatchOption, map, OnErr, vec_len, if◌then◌else◌};
+ghost use Rattle.indicatif_term.specs.Engines.{is_bottom, terminal, Fits};
+ghost use Rattle.indicatif_term.specs.Lists.{fate, kept_of, opening_lists};
 ghost use Rattle.indicatif_term.specs.Targets.{term_of, limiter_of};
 ghost use Rattle.indicatif_bar.specs.Commands.{BarRecord, command_of};
 ghost use Rattle.indicatif_bar.specs.Kinds.{rows_take};
 ghost use Rattle.indicatif_bar.specs.Machines.{Target, Leads, is_no, target_of};
-ghost use Rattle.indicatif_bar.specs.Runs.{wrote};
+ghost use Rattle.indicatif_bar.specs.Runs.{wrote, Runs, Headline};
 ghost use Rattle.indicatif_bar.specs.Inside.Draws.{DrewOn};
 ghost use Rattle.indicatif_board.specs.BoardBars.{board_bars};
-ghost use Rattle.indicatif_board.specs.Boards.{BoardState, Change, Log, BarLog, Clear, Redraw, Align, Insert, Remove, Place, End, Index, FromBack, Before, After, Done, opening_board, says, tells, index_of, inserted, turned_away, draw_of, board};
+ghost use Rattle.indicatif_board.specs.Boards.{BoardState, Change, Log, BarLog, Clear, Redraw, Align, Insert, Remove, Drop, Place, End, Index, FromBack, Before, After, Done, opening_board, says, tells, index_of, inserted, turned_away, draw_of, board};
 ghost use Rattle.indicatif_board.specs.BoardValues.{id_of};
 ghost use Rattle.indicatif_board.specs.Members.{is_member, said_of};
 ghost use Rattle.indicatif_board.specs.Inside.Keeps.{IsPlaced, laid_by};
+ghost use Rattle.indicatif_board.specs.Inside.Parting.{parted, RestsOn};
 ghost use Rattle.indicatif_board.specs.Inside.Writings.{writing_by};
 
 use crate::bar_id::BarId;
+pub use crate::calls::{Answer, Call, Candidate, InsertLocation, Turned};
+use crate::calls::{draw_answer, insertion_answer, is_undisturbed, removal_answer};
 use crate::members::place;
 use crate::shown_bars::{ShownBars, Writing};
 use indicatif_bar::state::{Ask, BarCommand, BarState};
 use indicatif_bar::style::ProgressTracker;
-use indicatif_term::draw_target::{Engine, MultiProgressAlignment, ProgressDrawTarget};
+use indicatif_term::draw_target::{Engine, Keep, MultiProgressAlignment, ProgressDrawTarget, RateLimiter};
 use indicatif_term::term_like::TermLike;
 use indicatif_text::columns::{Drawn, Moment, Refusal};
 use std::alloc::Global;
-
-/// What is to be taken in.
-#[derive(Drop)]
-pub enum Candidate<K> {
-    /// A new bar.
-    New(BarState<K>),
-    /// A bar that may be there already.
-    Member(BarId),
-}
-
-/// A candidate that was turned away, and why.
-#[derive(Drop)]
-pub struct Turned<K> {
-    /// The candidate, as it was.
-    pub candidate: Candidate<K>,
-    /// Why it was turned away.
-    pub refusal: Refusal,
-}
+use std::mem::replace;
 
 /// Several bars on one target, a terminal or none, in an order, with text above them.
 ///
@@ -66,25 +53,19 @@ pub struct Board<K, T: Drop> {
 }
 
 impl<K: ProgressTracker, T: TermLike + Drop> Board<K, T> {
-    ghost use Rattle.indicatif_board.specs.Candidates.{entrant_of, given, removal};
-    ghost use Rattle.indicatif_board.specs.Multi.{IsIn, LeadsBy, known, terminal_of};
+    ghost use Rattle.indicatif_board.specs.Calls.{entrant_of, given, removal, answer_of, place_at, call_of, timed};
+    ghost use Rattle.indicatif_board.specs.Multi.{IsIn, LeadsBy, Suspends, known, terminal_of};
 
     /// A board without bars on this target, of this mark. It takes no memory and writes nothing.
     pub fn new(alloc: Global, target: ProgressDrawTarget<T>, mark: u64) -> Self
         ensures state { IsIn mark result (opening_board (limiter_of target)) }
         ensures terminal { terminal_of result ≡ term_of target }
     {
-        match target.into_parts() {
-            Some((term, limiter)) => Board {
-                mark,
-                shown: ShownBars::new(alloc, limiter),
-                engine: Some(Engine::new(alloc, term)),
-            },
-            None => Board {
-                mark,
-                shown: ShownBars::new(alloc, None),
-                engine: None,
-            },
+        let (engine, limiter) = opened_on(alloc, target);
+        Board {
+            mark,
+            shown: ShownBars::new(alloc, limiter),
+            engine,
         }
     }
 
@@ -103,6 +84,35 @@ impl<K: ProgressTracker, T: TermLike + Drop> Board<K, T> {
         ensures { IsTrue result ↔ (terminal_of self.now ≡ None) }
     {
         self.engine.is_none()
+    }
+
+    /// A bar's record.
+    ///
+    /// Refused: `ForeignBar` or `NotMember`, as `Board` says.
+    pub fn bar(&self, id: BarId) -> Result<&BarState<K>, Refusal>
+        ensures bar { (mark : ℕ) (s : BoardState (BarRecord K)) (other : BarRecord K) → IsIn mark self.now s →
+            MatchResult result (λ bar. (turned_away mark (id_of id) s ≡ None) × (bar.now ≡ said_of other (λ b. b) id.number s.members)) (λ e. turned_away mark (id_of id) s ≡ Some e) }
+    {
+        let at = self.find(id)?;
+        Ok(&self.shown.members[at].bar)
+    }
+
+    /// Another target, and the old one. Nothing is written to either: what stands on the old one stays, and on the new one the
+    /// bars begin anew, with their next draw.
+    pub fn set_draw_target(&mut self, target: ProgressDrawTarget<T>) -> ProgressDrawTarget<T>
+        ensures old { term_of result ≡ terminal_of self.old }
+        ensures old_limiter { (mark : ℕ) (s : BoardState (BarRecord K)) → IsIn mark self.old s → IfSome result (λ t. t.1 ≡ s.limiter) }
+        ensures new { terminal_of self.new ≡ term_of target }
+        ensures state { (mark : ℕ) (s : BoardState (BarRecord K)) → IsIn mark self.old s →
+            IsIn mark self.new (record s { limiter = limiter_of target; lists = opening_lists }) }
+    {
+        let (engine, limiter) = opened_on(self.shown.alloc, target);
+        let limiter = replace(&mut self.shown.limiter, limiter);
+        match replace(&mut self.engine, engine) {
+            Some(engine) => ProgressDrawTarget::from_parts(Some((engine.into_term(), limiter))),
+            None => ProgressDrawTarget::hidden(),
+        }
+    }
     }
 
     /// Whether bars stand at the top of what is taken back, or at its bottom, from the next draw on.
@@ -212,6 +222,31 @@ impl<K: ProgressTracker, T: TermLike + Drop> Board<K, T> {
         }
     }
 
+    /// A bar whose owner is gone: one that isn't finished is finished by its stored finish and drawn by force. Then it leaves the
+    /// order, if it is the first there and no other bar's rows stand before its own: its rows stay where they are until the next
+    /// text. Else it waits, marked, and leaves with the draw that finds only bars like it before it. From now on no call may name
+    /// it.
+    ///
+    /// Refused: `ForeignBar`, `NotMember`, `NoColumns`, `TooWide`, `Terminal` or `Memory`, as `Board` says. After `Terminal` or
+    /// `Memory` the bar is marked, after `NoColumns` or `TooWide` it has left or is marked, as if it had been drawn.
+    pub fn drop_bar(&mut self, id: BarId, now: Moment) -> Result<Drawn, Refusal>
+        ensures silent { IsFalse (wrote result) → terminal_of self.new ≡ terminal_of self.old }
+        ensures leads { LeadsBy K.means T.view self.old self.new (Drop (id_of id)) now (says result) }
+    {
+        let at = self.find(id)?;
+        match self.shown.members[at].bar.dropped(now) {
+            Ok(ask) => {
+                let drawn = self.draw(ask, Some(at), Writing::Frame, now);
+                self.part(id.number, &drawn);
+                drawn
+            }
+            Err(refusal) => {
+                self.shown.mark(id.number);
+                Err(refusal)
+            }
+        }
+    }
+
     /// A command of a bar, and the draw that it asks for.
     ///
     /// Refused: `ForeignBar`, `NotMember`, `NoColumns`, `TooWide`, `Terminal` or `Memory`, as `Board` says; and
@@ -272,6 +307,84 @@ impl<K: ProgressTracker, T: TermLike + Drop> Board<K, T> {
         self.draw(Ask::Forced, None, Writing::Frame, now)
     }
 
+    /// Takes the bars' rows back, calls `f` once, which may write to the terminal's place by other ways, and draws the bars again
+    /// by force, at the same moment. Answers what `f` gave, and what the draw answered; where the clear was refused, `f` is
+    /// called all the same, no draw is made, and the answer is that refusal.
+    pub fn suspend<F: FnOnce() -> A, A>(&mut self, f: F, now: Moment) -> (A, Result<Drawn, Refusal>)
+        requires { F.pre f }
+        ensures value { F.post f result.0 }
+        ensures leads { Suspends K.means T.view self.old self.new now result.1 }
+    {
+        let cleared = self.clear(now);
+        let value = f();
+        match cleared {
+            Ok(_) => {
+                let drawn = self.redraw(now);
+                (value, drawn)
+            }
+            Err(e) => (value, Err(e)),
+        }
+    }
+
+    /// A call as a value: what the method of the same name does and refuses. A bar that is removed or turned away is given up.
+    pub fn call(&mut self, call: Call<K>, now: Moment) -> Answer
+        ensures silent { IsFalse (wrote (tells (answer_of result))) → terminal_of self.new ≡ terminal_of self.old }
+        ensures leads { LeadsBy K.means T.view self.old self.new (call_of call) now (answer_of result) }
+    {
+        match call {
+            Call::Insert(at, candidate) => self.insert_by(at, candidate),
+            Call::Remove(id) => removal_answer(self.remove(id)),
+            Call::Drop(id) => draw_answer(self.drop_bar(id, now)),
+            Call::Log(text) => draw_answer(self.println(text.as_str(), now)),
+            Call::BarLog(id, text) => draw_answer(self.bar_println(id, text.as_str(), now)),
+            Call::Clear => draw_answer(self.clear(now)),
+            Call::Redraw => draw_answer(self.redraw(now)),
+            Call::Align(alignment) => {
+                self.set_alignment(alignment);
+                Answer::Done
+            }
+            Call::Bar(id, command) => draw_answer(self.command(id, command, now)),
+        }
+    }
+
+    /// Makes the calls one after another, each at its moment, and answers what each answered.
+    ///
+    /// Refused: `Memory` for the answers alone, and nothing is run.
+    pub fn run(&mut self, calls: Vec<(Call<K>, Moment)>) -> Result<Vec<Answer>, Refusal>
+        ensures run { (mark : ℕ) (s : BoardState (BarRecord K)) → IsIn mark self.old s →
+            let old = known T.view self.old in let new = known T.view self.new in
+            IfOk result (λ answers. (next : BoardState (BarRecord K)) × IsIn mark self.new next
+            × (run : Runs (board (board_bars K.means) mark) (map timed calls.items) (map answer_of answers.items) old s new next)
+            × Headline (board (board_bars K.means) mark) (map timed calls.items) (map answer_of answers.items) old s new next run) }
+        ensures memory { IfErr result (λ e. e ≡ Refusal.Memory) }
+        ensures unrun { OnErr result (self.new ≡ self.old) }
+    {
+        let mut answers = Vec::with_capacity(self.shown.alloc, calls.len())?;
+        for (call, now) in calls {
+            let answer = self.call(call, now);
+            answers.push_reserved(answer);
+        }
+        Ok(answers)
+    }
+
+    /// Takes a bar in at a place.
+    fn insert_by(&mut self, at: InsertLocation, candidate: Candidate<K>) -> Answer
+        ensures terminal { terminal_of self.new ≡ terminal_of self.old }
+        ensures leads { (now : ℕ) → LeadsBy K.means T.view self.old self.new (Insert (place_at at) (entrant_of candidate)) now (answer_of result) }
+    {
+        match at {
+            InsertLocation::End => insertion_answer(self.add(candidate)),
+            InsertLocation::Index(index) => insertion_answer(self.insert(index, candidate)),
+            InsertLocation::IndexFromBack(count) => {
+                insertion_answer(self.insert_from_back(count, candidate))
+            }
+            InsertLocation::Before(anchor) => insertion_answer(self.insert_before(
+                anchor, candidate,
+            )),
+            InsertLocation::After(anchor) => insertion_answer(self.insert_after(anchor, candidate)),
+        }
+    }
+
     /// Takes a bar in where so many bars stand before it.
     fn insert_at(&mut self, at: usize, candidate: Candidate<K>) -> Result<BarId, Turned<K>>
         requires within { at ≤ vec_len self.old.shown.members }
@@ -301,6 +414,45 @@ impl<K: ProgressTracker, T: TermLike + Drop> Board<K, T> {
                     Err(Turned { candidate, refusal })
                 }
             },
+        }
+    }
+
+    /// A bar leaves or is marked, once it was drawn for the last time, or that draw was refused so.
+    fn part(&mut self, number: u64, drawn: &Result<Drawn, Refusal>)
+        ensures terminal { terminal_of self.new ≡ terminal_of self.old }
+        ensures parted { (mark : ℕ) (s : BoardState (BarRecord K)) → IsIn mark self.old s →
+            let target = target_of (known T.view self.old) in
+            let next = parted target number drawn.now s in
+            IsIn mark self.new next × RestsOn target.columns s.lists next.lists }
+    {
+        if !is_undisturbed(drawn) {
+            self.shown.mark(number);
+            return;
+        }
+        if !self.shown.is_first(number) {
+            self.shown.mark(number);
+            return;
+        }
+        match self.keep(number) {
+            Keep::Behind => self.shown.mark(number),
+            Keep::Absent | Keep::Passed => {
+                self.shown.take_out(0);
+            }
+        }
+    }
+
+    /// A bar's rows are kept, if they are the first that are live.
+    fn keep(&mut self, number: u64) -> Keep
+        ensures shown { self.new.shown ≡ self.old.shown }
+        ensures terminal { terminal_of self.new ≡ terminal_of self.old }
+        ensures kept { (mark : ℕ) (s : BoardState (BarRecord K)) → IsIn mark self.old s →
+            let columns = (target_of (known T.view self.old)).columns in
+            let lists = kept_of columns number s.lists in
+            (result ≡ fate number s.lists) × IsIn mark self.new (record s { lists = lists }) × RestsOn columns s.lists lists }
+    {
+        match &mut self.engine {
+            Some(engine) => engine.keep(number),
+            None => Keep::Absent,
         }
     }
 
@@ -347,6 +499,21 @@ impl<K: ProgressTracker, T: TermLike + Drop> Board<K, T> {
             Some(engine) => self.shown.draw_on(engine, ask, bar, writing, now),
             None => Ok(Drawn::Hidden),
         }
+    }
+}
+
+/// An engine on this target's terminal; none where it is hidden.
+fn opened_on<T: TermLike + Drop>(
+    alloc: Global,
+    target: ProgressDrawTarget<T>,
+) -> (Option<Engine<T>>, Option<RateLimiter>)
+    ensures terminal { option_map terminal result.0 ≡ term_of target }
+    ensures opened { MatchOption result.0 (opening_lists ≡ opening_lists) (λ engine. Fits engine opening_lists) }
+    ensures limiter { result.1 ≡ limiter_of target }
+{
+    match target.into_parts() {
+        Some((term, limiter)) => (Some(Engine::new(alloc, term)), limiter),
+        None => (None, None),
     }
 }
 

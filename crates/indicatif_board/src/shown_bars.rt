@@ -8,12 +8,12 @@ ghost use Rattle.indicatif_bar.specs.Kinds.{rows_take, asked_of};
 ghost use Rattle.indicatif_bar.specs.Runs.{wrote};
 ghost use Rattle.indicatif_bar.specs.Inside.Draws.{DrewBy};
 ghost use Rattle.indicatif_board.specs.BoardBars.{board_bars};
-ghost use Rattle.indicatif_board.specs.Boards.{BoardState, Place, opening_board, draw_of, index_of, taken_in, board};
-ghost use Rattle.indicatif_board.specs.Members.{place_of, without, said_of};
+ghost use Rattle.indicatif_board.specs.Boards.{BoardState, Place, opening_board, draw_of, index_of, taken_in, marked_on, board};
+ghost use Rattle.indicatif_board.specs.Members.{place_of, without, is_head, said_of};
 ghost use Rattle.indicatif_board.specs.Inside.Keeps.{PutsFrame, IsPlaced, laid_by};
 ghost use Rattle.indicatif_board.specs.Inside.Writings.{writing_by};
 
-use crate::members::{Member, drop_front, leading, put_at};
+use crate::members::{Member, drop_front, leading, place, put_at};
 use indicatif_bar::state::{Ask, BarState};
 use indicatif_bar::style::ProgressTracker;
 use indicatif_term::draw_target::{Engine, MultiProgressAlignment, RateLimiter, Segment};
@@ -35,7 +35,7 @@ pub enum Writing<'a> {
 /// Bars in their order, the lines that were laid out last, and how often they may be drawn.
 #[derive(Drop)]
 pub struct ShownBars<K> {
-    alloc: Global,
+    pub alloc: Global,
     /// The bars.
     pub members: Vec<Member<K>>,
     /// Their numbers and lines, at the same places.
@@ -111,6 +111,27 @@ impl<K: ProgressTracker> ShownBars<K> {
         let member = self.members.remove(at);
         self.frame.remove(at);
         member.bar
+    }
+
+    /// Whether a bar is the first.
+    pub fn is_first(&self, number: u64) -> bool
+        ensures first { (s : BoardState (BarRecord K)) → Shown self.now s → result ≡ is_head number s.members }
+        ensures some { IsTrue result → 0 < vec_len self.now.members }
+    {
+        match self.frame.first() {
+            Some(segment) => segment.bar == number,
+            None => false,
+        }
+    }
+
+    /// Marks a bar, if it is there: its owner is gone.
+    pub fn mark(&mut self, number: u64)
+        ensures { (s : BoardState (BarRecord K)) → Shown self.old s → Shown self.new (marked_on number s) }
+    {
+        let at = place(&self.frame, number);
+        if at < self.members.len() {
+            self.members[at].dropped = true;
+        }
     }
 
     /// Lays a bar out anew, if one is named, and draws on the engine's terminal, where that has columns and the limiter

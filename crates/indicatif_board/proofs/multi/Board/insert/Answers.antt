@@ -5,7 +5,7 @@ use Rattle.indicatif_bar.specs.Machines.{target_of}
 use Rattle.indicatif_bar.specs.Runs.{CallMade}
 use Rattle.indicatif_board.specs.BoardBars.{board_bars}
 use Rattle.indicatif_board.specs.Boards.{Index, Insert, board}
-use Rattle.indicatif_board.specs.Candidates.{entrant_of, given}
+use Rattle.indicatif_board.specs.Calls.{entrant_of, given}
 use Rattle.indicatif_board.specs.Inside.Keeps.{made_by}
 use Rattle.indicatif_board.specs.Multi.{IsIn, known}
 use Rattle.indicatif_board.proofs.MemberLemmas.{members_length}

@@ -4,7 +4,7 @@ use Rattle.indicatif_bar.specs.Runs.{CallMade}
 use Rattle.indicatif_board.specs.BoardBars.{board_bars}
 use Rattle.indicatif_board.specs.BoardValues.{id_of}
 use Rattle.indicatif_board.specs.Boards.{After, Insert, or_refused, inserted, board}
-use Rattle.indicatif_board.specs.Candidates.{entrant_of, given}
+use Rattle.indicatif_board.specs.Calls.{entrant_of, given}
 use Rattle.indicatif_board.specs.Multi.{IsIn, known}
 use Rattle.indicatif_board.proofs.BoardCallLemmas.{made_by_insertion, made_turned_away, turned_quietly}
 use Rattle.indicatif_board.proofs.multi.Board.insert_after.Goals as goal

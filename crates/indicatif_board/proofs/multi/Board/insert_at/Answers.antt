@@ -1,5 +1,5 @@
 use Rattle.std.proofs.Common.{◌∙◌, refl, sym, ap}
-use Rattle.indicatif_board.specs.declared.multi.Candidate.TheVariants.{New as New-value}
+use Rattle.indicatif_board.specs.declared.calls.Candidate.TheVariants.{New as New-value}
 use Rattle.indicatif_board.specs.Boards.{taken_in}
 use Rattle.indicatif_board.specs.Multi.{IsIn}
 use Rattle.indicatif_board.proofs.BoardCallLemmas.{new_leads, new_refused}

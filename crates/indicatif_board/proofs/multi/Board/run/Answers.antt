@@ -1,0 +1,56 @@
+use Rattle.std.proofs.Common.{[], ◌∷◌, map, refl, sym, ◌∙◌, subst, arith, length-append}
+use Rattle.std.proofs.lemmas.List.{map-append, map-id}
+use Rattle.std.proofs.lemmas.Iterator.Adapters.{YieldsList-from_vec}
+use Rattle.std.proofs.lemmas.Iterator.Consumers.{YieldsList-turn, YieldsList-end}
+use Rattle.indicatif_bar.specs.Runs.{Runs}
+use Rattle.indicatif_bar.proofs.RunLemmas.{runs-push, headline}
+use Rattle.indicatif_board.specs.BoardBars.{board_bars}
+use Rattle.indicatif_board.specs.Boards.{board}
+use Rattle.indicatif_board.specs.Calls.{timed, answer_of}
+use Rattle.indicatif_board.specs.Multi.{known}
+use Rattle.indicatif_board.proofs.multi.Board.run.Goals as goal
+
+pub loop-call-init : goal.loop-call-init
+loop-call-init g c = record {
+  counted = c.in_ok-answers.ensures.len;
+  room = omega (arith, c.in_ok-answers.ensures.capacity, c.len.ensures, c.args.calls.ok);
+  ran = λ mark s inside.
+      let old = known g.T.TermLike.view c.args.self.now in
+      (s, inside, subst (λ xs. Runs (board (board_bars g.K.ProgressTracker.means) mark) [] (map answer_of xs) old s old s) (sym c.in_ok-answers.ensures.items) (refl, refl));
+}
+
+pub push_reserved-requires : goal.push_reserved-requires
+push_reserved-requires g c =
+    let t = YieldsList-turn (YieldsList-from_vec c.args.calls.items c.into_iter-call-iterator.ensures.into_iter_gives.0
+    (omega (arith, c.into_iter-call-iterator.ensures.into_iter_gives.1, c.args.calls.ok))) c.loop-call.yielded c.loop-call.call-iterator c.loop-call.yielded_by c.next.result c.next.new.self
+    (c.in-Some.call, c.in-Some.now) c.in-Some.is c.next.ensures.steps in
+    omega (arith, t.0, c.loop-call.invariant.counted, c.loop-call.invariant.room)
+
+pub loop-call-preserved : goal.loop-call-preserved
+loop-call-preserved g c = record {
+  counted = omega (arith, c.push_reserved.ensures.len, c.loop-call.invariant.counted, length-append c.loop-call.yielded ((c.in-Some.call, c.in-Some.now) ∷ []));
+  room = omega (arith, c.push_reserved.ensures.capacity, c.loop-call.invariant.room);
+  ran = λ mark s inside.
+      let before = c.loop-call.invariant.ran mark s inside in
+      let made = c.call-answer.ensures.leads mark before.0 before.1 in (
+        made.0,
+        made.1,
+        rw (c.push_reserved.ensures.items, map-append, map-append)
+            (runs-push (board (board_bars g.K.ProgressTracker.means) mark) _ _ (known g.T.TermLike.view c.args.self.now) s (known g.T.TermLike.view c.loop-call.self) before.0
+            (known g.T.TermLike.view c.call-answer.new.self) made.0 (timed (c.in-Some.call, c.in-Some.now)) (answer_of c.call-answer.result) before.2 made.2),
+      );
+}
+
+pub returns-clause-run : goal.returns-clause-run
+returns-clause-run g c =
+    let t = YieldsList-end (YieldsList-from_vec c.args.calls.items c.into_iter-call-iterator.ensures.into_iter_gives.0
+    (omega (arith, c.into_iter-call-iterator.ensures.into_iter_gives.1, c.args.calls.ok))) c.loop-call.yielded c.loop-call.call-iterator c.loop-call.yielded_by c.next.result c.next.new.self
+    c.in-None.is c.next.ensures.steps in
+    λ mark s inside.
+    let machine = board (board_bars g.K.ProgressTracker.means) mark in
+    let old = known g.T.TermLike.view c.args.self.now in
+    let new = known g.T.TermLike.view c.loop-call.self in
+    let all = c.loop-call.invariant.ran mark s inside in
+    let answers = map answer_of c.loop-call.answers.items in
+    let run = subst (λ xs. Runs machine (map timed xs) answers old s new all.0) (sym (map-id c.loop-call.yielded) ∙ t.0) all.2 in
+    (all.0, all.1, run, headline machine (map timed c.args.calls.items) answers old s new all.0 run)

@@ -1,0 +1,18 @@
+use Rattle.std.proofs.Common.{refl, inl, inr}
+use Rattle.indicatif_board.specs.Multi.{known}
+use Rattle.indicatif_board.proofs.multi.Board.suspend.Goals as goal
+
+pub returns-in-Ok-clause-leads : goal.returns-in-Ok-clause-leads
+returns-in-Ok-clause-leads g c = λ mark s inside.
+    let view = g.T.TermLike.view in
+    let cleared = c.in-Ok.ensures.leads mark s inside in
+    let drawn = c.redraw-drawn.ensures.leads mark cleared.0 cleared.1 in (
+      drawn.0,
+      drawn.1,
+      inl (c.in-Ok.field-0, (known view c.clear-cleared.new.self, cleared.0, cleared.2, (known view c.redraw-drawn.new.self, drawn.0, drawn.2, (refl, refl)))),
+    )
+
+pub returns-in-Err-clause-leads : goal.returns-in-Err-clause-leads
+returns-in-Err-clause-leads g c = λ mark s inside.
+    let cleared = c.in-Err.ensures.leads mark s inside in
+    (cleared.0, cleared.1, inr (c.in-Err.e, refl, (known g.T.TermLike.view c.clear-cleared.new.self, cleared.0, cleared.2, (refl, refl))))

@@ -1,0 +1,117 @@
+//! What a board can be asked, and what it answers.
+ghost use Rattle.std.specs.Prelude.{◌≡◌};
+ghost use Rattle.indicatif_bar.specs.Runs.{is_undisturbed};
+ghost use Rattle.indicatif_board.specs.Boards.{says};
+ghost use Rattle.indicatif_board.specs.Calls.{given, removal, answer_of};
+
+use crate::bar_id::BarId;
+use indicatif_bar::state::{BarCommand, BarState};
+use indicatif_bar::style::ProgressTracker;
+use indicatif_term::draw_target::MultiProgressAlignment;
+use indicatif_text::columns::{Drawn, Refusal};
+
+/// What is to be taken in.
+#[derive(Drop)]
+pub enum Candidate<K> {
+    /// A new bar.
+    New(BarState<K>),
+    /// A bar that may be there already.
+    Member(BarId),
+}
+
+/// A candidate that was turned away, and why.
+#[derive(Drop)]
+pub struct Turned<K> {
+    /// The candidate, as it was.
+    pub candidate: Candidate<K>,
+    /// Why it was turned away.
+    pub refusal: Refusal,
+}
+
+/// Where a bar is to stand in the order.
+#[derive(Clone, Copy, Debug, Drop, PartialEq, Eq)]
+pub enum InsertLocation {
+    /// Behind all others.
+    End,
+    /// Where so many bars stand before it, or behind all others where there are fewer.
+    Index(usize),
+    /// Where so many bars stand behind it, or before all others where there are fewer.
+    IndexFromBack(usize),
+    /// Right before this bar.
+    Before(BarId),
+    /// Right after this bar.
+    After(BarId),
+}
+
+/// A call of a board as a value. Each is the call of `Board` with its name.
+#[derive(Drop)]
+pub enum Call<K> {
+    /// A bar taken in.
+    Insert(InsertLocation, Candidate<K>),
+    /// A bar taken out of the order.
+    Remove(BarId),
+    /// A bar whose owner is gone.
+    Drop(BarId),
+    /// Lines of text above the bars.
+    Log(String),
+    /// The same, with one bar's lines laid out anew.
+    BarLog(BarId, String),
+    /// The bars' rows taken back.
+    Clear,
+    /// The bars drawn as they were laid out.
+    Redraw,
+    /// Bars at the top or at the bottom of what is taken back.
+    Align(MultiProgressAlignment),
+    /// A command of a bar.
+    Bar(BarId, BarCommand<K>),
+}
+
+/// What a board answers to a call.
+#[derive(Debug, Drop, PartialEq, Eq)]
+pub enum Answer {
+    /// The bar that was taken in, or was there already.
+    Id(BarId),
+    /// It was done, and there is nothing more to say of it.
+    Done,
+    /// Whether the call drew.
+    Drawn(Drawn),
+    /// It was refused.
+    Refused(Refusal),
+}
+
+/// The answer of a call that draws.
+pub fn draw_answer(drawn: Result<Drawn, Refusal>) -> Answer
+    ensures { answer_of result ≡ says drawn }
+{
+    match drawn {
+        Ok(drawn) => Answer::Drawn(drawn),
+        Err(refusal) => Answer::Refused(refusal),
+    }
+}
+
+/// Whether neither want of memory nor the terminal broke a draw off.
+pub fn is_undisturbed(drawn: &Result<Drawn, Refusal>) -> bool
+    ensures { result ≡ is_undisturbed drawn.now }
+{
+    !matches!(drawn, Err(Refusal::Memory | Refusal::Terminal(_)))
+}
+
+/// The answer of an insertion; a candidate that was turned away is given up.
+pub fn insertion_answer<K: ProgressTracker>(taken: Result<BarId, Turned<K>>) -> Answer
+    ensures { answer_of result ≡ given taken }
+{
+    match taken {
+        Ok(id) => Answer::Id(id),
+        Err(turned) => Answer::Refused(turned.refusal),
+    }
+}
+
+/// The answer of a removal; a bar that was removed is given up.
+pub fn removal_answer<K: ProgressTracker>(removed: Result<Option<BarState<K>>, Refusal>) -> Answer
+    ensures { answer_of result ≡ removal removed }
+{
+    match removed {
+        Ok(_) => Answer::Done,
+        Err(refusal) => Answer::Refused(refusal),
+    }
+}
