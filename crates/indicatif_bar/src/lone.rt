@@ -1,5 +1,5 @@
 //! A bar that stands alone on its target.
-ghost use Rattle.std.specs.Prelude.{◌≡◌, ◌⊎◌, Bool, Option, Some, None, option_map, IsTrue, IsFalse, ◌↔◌, map, IfOk, IfErr, IfSome, OnErr, MatchOption};
+ghost use Rattle.std.specs.Prelude.{◌≡◌, ◌<◌, ◌⊎◌, Bool, Option, Some, None, Ok, Err, option_map, IsTrue, IsFalse, ◌↔◌, map, IfOk, IfErr, IfSome, OnErr, MatchOption};
 ghost use Rattle.std.specs.Fn.{FnOnceReturnsAt};
 ghost use Rattle.indicatif_term.specs.Lists.{opening_lists};
 ghost use Rattle.indicatif_term.specs.Engines.{terminal, Fits};
@@ -349,7 +349,10 @@ impl<K: ProgressTracker, T: TermLike + Drop> LoneBar<K, T> {
     /// So many nanoseconds have passed since the start: `ElapsedBeyondClock`, exactly where they are more than the moment, and
     /// nothing has changed then. No draw is asked.
     pub fn set_elapsed(&mut self, nanos: u64, now: Moment) -> Result<Drawn, Refusal>
-        ensures { ObeysOrNot K.means T.view self.old self.new (SetElapsed nanos) now result }
+        ensures obeys { ObeysOrNot K.means T.view self.old self.new (SetElapsed nanos) now result }
+        ensures beyond { (result ≡ Err Refusal.ElapsedBeyondClock) ↔ (now < nanos) }
+        ensures unchanged { OnErr result (self.new ≡ self.old) }
+        ensures limited { IfOk result (λ drawn. drawn ≡ Drawn.Limited) }
     {
         let asked = self.shown.bar.set_elapsed(nanos, now);
         self.obey_unless(asked, now)
@@ -499,8 +502,10 @@ impl<K: ProgressTracker, T: TermLike + Drop> LoneBar<K, T> {
 
     /// The same, unless the command was refused.
     fn obey_unless(&mut self, asked: Result<Ask, Refusal>, now: Moment) -> Result<Drawn, Refusal>
-        ensures { (old : LoneBar K T) (command : Command K) → IsToldOrNot K.means old self.old command now asked →
+        ensures obeys { (old : LoneBar K T) (command : Command K) → IsToldOrNot K.means old self.old command now asked →
             ObeysOrNot K.means T.view old self.new command now result }
+        ensures refused { IfErr asked (λ e. (result ≡ Err e) × (self.new ≡ self.old)) }
+        ensures unasked { asked ≡ Ok Ask.No → result ≡ Ok Drawn.Limited }
     {
         let ask = asked?;
         self.draw(ask, Writing::Frame, now)
@@ -508,6 +513,7 @@ impl<K: ProgressTracker, T: TermLike + Drop> LoneBar<K, T> {
 
     /// Writes, if asked.
     fn draw(&mut self, ask: Ask, writing: Writing<'_>, now: Moment) -> Result<Drawn, Refusal>
+        ensures unasked { ask ≡ Ask.No → result ≡ Ok Drawn.Limited }
         ensures bar { record_of self.new ≡ record_of self.old }
         ensures silent { IsFalse (wrote result) → terminal_of self.new ≡ terminal_of self.old }
         ensures drew { (takes : Bool) (s : LoneState _) → IsIn self.old s →

@@ -8,7 +8,7 @@ use Rattle.indicatif_bar.proofs.lone.LoneBar.call.Goals as goal
 pub returns-in-Bar : goal.returns-in-Bar
 returns-in-Bar g c =
     let x = c.apply-asked in
-    let o = c.obey_unless.ensures c.args.self.now (command_of c.in-Bar.command)
+    let o = c.obey_unless.ensures.obeys c.args.self.now (command_of c.in-Bar.command)
     (record {
       told = told_as_value g.K.ProgressTracker.means c.args.self.now.shown.bar x.new.self c.args.now
           (command_of c.in-Bar.command) x.result x.ensures.done x.ensures.unchanged x.ensures.beyond x.ensures.memory x.ensures.no_other;

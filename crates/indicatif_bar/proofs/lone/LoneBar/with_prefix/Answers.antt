@@ -5,7 +5,7 @@ use Rattle.indicatif_bar.proofs.lone.LoneBar.with_prefix.Goals as goal
 
 pub returns : goal.returns
 returns g c =
-    c.obey_unless.ensures c.args.self.now (PutPrefix c.args.text.now)
+    c.obey_unless.ensures.obeys c.args.self.now (PutPrefix c.args.text.now)
     (record {
       told = told_with_memory g.K.ProgressTracker.means c.args.self.now.shown.bar c.with_prefix-asked.new.self c.args.now
           (PutPrefix c.args.text.now) c.with_prefix-asked.result refl c.with_prefix-asked.ensures.done c.with_prefix-asked.ensures.unchanged c.with_prefix-asked.ensures.memory;

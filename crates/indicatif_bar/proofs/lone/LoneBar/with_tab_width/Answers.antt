@@ -5,7 +5,7 @@ use Rattle.indicatif_bar.proofs.lone.LoneBar.with_tab_width.Goals as goal
 
 pub returns : goal.returns
 returns g c =
-    c.obey_unless.ensures c.args.self.now (PutTabWidth c.args.tab)
+    c.obey_unless.ensures.obeys c.args.self.now (PutTabWidth c.args.tab)
     (record {
       told = told_with_memory g.K.ProgressTracker.means c.args.self.now.shown.bar c.with_tab_width-asked.new.self c.args.now
           (PutTabWidth c.args.tab) c.with_tab_width-asked.result refl c.with_tab_width-asked.ensures.done c.with_tab_width-asked.ensures.unchanged c.with_tab_width-asked.ensures.memory;
