@@ -113,7 +113,6 @@ impl<K: ProgressTracker, T: TermLike + Drop> Board<K, T> {
             None => ProgressDrawTarget::hidden(),
         }
     }
-    }
 
     /// Whether bars stand at the top of what is taken back, or at its bottom, from the next draw on.
     pub fn set_alignment(&mut self, alignment: MultiProgressAlignment)
