@@ -107,11 +107,7 @@ pub(crate) fn push_lines(
 }
 
 /// Appends the lines of a text, each copied.
-fn push_pieces(
-    text: &str,
-    spare: &mut SpareLines,
-    lines: &mut Vec<LineType>,
-) -> Result<(), Refusal>
+fn push_pieces(text: &str, spare: &mut SpareLines, lines: &mut Vec<LineType>) -> Result<(), Refusal>
     ensures lines { OnOk result (map line_text lines.new.items
         ≡ map line_text lines.old.items ++ slice_split is_newline text.now) }
     ensures kind { IsTrue (list_all is_bar_line lines.old.items) → IsTrue (list_all is_bar_line lines.new.items) }
@@ -127,11 +123,7 @@ fn push_pieces(
 }
 
 /// Appends a line, copied into room of `spare`.
-fn push_copied(
-    text: &str,
-    spare: &mut SpareLines,
-    lines: &mut Vec<LineType>,
-) -> Result<(), Refusal>
+fn push_copied(text: &str, spare: &mut SpareLines, lines: &mut Vec<LineType>) -> Result<(), Refusal>
     ensures lines { OnOk result (map line_text lines.new.items ≡ map line_text lines.old.items ++ text.now ∷ []) }
     ensures kind { IsTrue (list_all is_bar_line lines.old.items) → IsTrue (list_all is_bar_line lines.new.items) }
     ensures memory { IfErr result (λ e. e ≡ Refusal.Memory) }
