@@ -43,6 +43,7 @@ human_bytes 20000
 human_count 20000
 human_duration 20000
 template_parse 2000
+format_template 1000
 wrapped_ascii 4000
 wrapped_bar 4000
 wrapped_wide 4000
@@ -52,4 +53,7 @@ message_draw 4000
 message_draw_10 1000
 log_draw 4000
 board_frame 2000
+tick_draw 2000
+inc_limited 20000
+inc_clock 20000
 LIST

@@ -4,19 +4,24 @@
 //!
 //! - `measured`: what a measurement tells, and the values that it works on.
 //! - `format_benches`: the formatters, each written into one `String`.
-//! - `template_benches`: the grammar of templates.
+//! - `template_benches`: the grammar of templates, and styles.
 //! - `text_benches`: lines measured.
 //! - `terminal_benches`: the cell terminal.
+//! - `shown`: a bar on a terminal.
 //! - `draw_benches`: drawings of a bar and of a board's frame.
+//! - `command_benches`: steps of a bar.
 #![tactic(auto)]
 
+mod command_benches;
 mod draw_benches;
 mod format_benches;
 mod measured;
+mod shown;
 mod template_benches;
 mod terminal_benches;
 mod text_benches;
 
+use crate::measured::Measured;
 use anyhow::{Result, bail};
 use std::env;
 
@@ -31,24 +36,31 @@ fn main(rt: HostRuntime) -> Result<()> {
         None => bail!("usage: bench NAME N"),
     };
     let name = name.as_str();
-    let mut measured = format_benches::run(&rt, name, count)?;
-    if measured.is_none() {
-        measured = template_benches::run(&rt, name, count)?;
-    }
-    if measured.is_none() {
-        measured = text_benches::run(&rt, name, count)?;
-    }
-    if measured.is_none() {
-        measured = terminal_benches::run(&rt, name, count)?;
-    }
-    if measured.is_none() {
-        measured = draw_benches::run(&rt, name, count)?;
-    }
-    let Some(measured) = measured else {
+    let Some(measured) = measured_by(&rt, name, count)? else {
         bail!("no measurement of this name");
     };
     println!(rt; "{name} {count} {measured}")?;
     Ok(())
+}
+
+/// The measurement of a name, if there is one.
+fn measured_by(rt: &HostRuntime, name: &str, count: u64) -> Result<Option<Measured>> {
+    if let Some(measured) = format_benches::run(rt, name, count)? {
+        return Ok(Some(measured));
+    }
+    if let Some(measured) = template_benches::run(rt, name, count)? {
+        return Ok(Some(measured));
+    }
+    if let Some(measured) = text_benches::run(rt, name, count)? {
+        return Ok(Some(measured));
+    }
+    if let Some(measured) = terminal_benches::run(rt, name, count)? {
+        return Ok(Some(measured));
+    }
+    if let Some(measured) = draw_benches::run(rt, name, count)? {
+        return Ok(Some(measured));
+    }
+    command_benches::run(rt, name, count)
 }
 
 /// Prints the names of the measurements.
@@ -66,6 +78,9 @@ fn names(rt: &HostRuntime) -> Result<()> {
         println!(rt; "{name}")?;
     }
     for name in draw_benches::NAMES {
+        println!(rt; "{name}")?;
+    }
+    for name in command_benches::NAMES {
         println!(rt; "{name}")?;
     }
     Ok(())

@@ -1,10 +1,12 @@
-//! The grammar of templates.
+//! The grammar of templates, and styles that are made from them.
 use crate::measured::{Made, Measured};
 use anyhow::Result;
+use indicatif_bar::style::{NoTracker, ProgressStyle};
 use indicatif_text::template::Template;
+use std::alloc::Global;
 use std::time::Instant;
 
-pub const NAMES: [&str; 1] = ["template_parse"];
+pub const NAMES: [&str; 2] = ["template_parse", "format_template"];
 
 const TEMPLATE: &str =
     "{spinner:.green} [{elapsed_precise}] [{wide_bar:.cyan/blue}] {bytes}/{total_bytes} ({eta})";
@@ -13,6 +15,7 @@ const TEMPLATE: &str =
 pub fn run(rt: &HostRuntime, name: &str, count: u64) -> Result<Option<Measured>> {
     match name {
         "template_parse" => Ok(Some(template_parse(rt, count)?)),
+        "format_template" => Ok(Some(format_template(rt, count)?)),
         _ => Ok(None),
     }
 }
@@ -26,4 +29,20 @@ fn template_parse(rt: &HostRuntime, count: u64) -> Result<Measured> {
         parts = parts.wrapping_add(template.parts().len() as u64);
     }
     Ok(Measured::since(rt, start, count, Made::Parts(parts))?)
+}
+
+/// The bytes of the first spinner text of a style of the template.
+fn first_tick(alloc: Global) -> Result<u64> {
+    let style = ProgressStyle::<NoTracker>::with_template(alloc, TEMPLATE)?;
+    Ok(style.get_tick_str(0).len() as u64)
+}
+
+/// Makes a style of one template so many times; it counts the bytes of the spinners' first texts.
+fn format_template(rt: &HostRuntime, count: u64) -> Result<Measured> {
+    let mut bytes: u64 = 0;
+    let start = Instant::now(rt)?;
+    for _ in 0..count {
+        bytes = bytes.wrapping_add(first_tick(rt.alloc())?);
+    }
+    Ok(Measured::since(rt, start, count, Made::Bytes(bytes))?)
 }

@@ -1,7 +1,12 @@
 -- What the texts of a line are made of: a text so many times, blanks, the parts of a bar.
-use Rattle.std.proofs.Common.{◌≡◌, ℕ, zero, suc, ◌-◌, ◌*◌, ◌/◌, ◌%◌, ◌<◌, get_or, Bool, ◌++◌, ◌+◌, List, [], ◌∷◌, append-nil, append_assoc, refl, sym, ◌∙◌, ap, true, false, if◌then◌else◌, length, arith, string_bytes, map}
+use Rattle.std.proofs.Common.{◌≡◌, ℕ, zero, suc, ◌-◌, ◌*◌, ◌/◌, ◌%◌, ◌<◌, get_or, Bool, ◌++◌, ◌+◌, drop, List, [], ◌∷◌, append-nil, append_assoc, refl, sym, ◌∙◌, ap, true, false, if◌then◌else◌, length, length-append, take, arith, string_bytes, map, subst, ◌≤◌}
 use Rattle.std.proofs.lemmas.List.{get_or-map, length-map}
-use Rattle.std.specs.List.{concat}
+use Rattle.std.specs.List.{concat, slice_range}
+use Rattle.std.specs.Str.{IsUtf8}
+use Rattle.std.specs.String.Boundary.{IsSplitPoint}
+use Rattle.std.proofs.Math.Nat.{suc-mul}
+use Rattle.std.proofs.lemmas.List.{drop_at, take_at}
+use Rattle.std.proofs.lemmas.Str.{IsUtf8-nil, IsUtf8-append, IsCharBoundary-at_seam}
 use Rattle.std.specs.declared.string.String.{String}
 use Rattle.std.specs.declared.alloc.Global.{Global}
 use Rattle.std.proofs.lemmas.Bool.{false≢true, lt-ltb}
@@ -24,6 +29,62 @@ times_more zero text = append-nil text
 times_more (suc n) text =
     let next : suc n + 1 ≡ suc (n + 1) = omega arith in
     ap (λ k. times k text) next ∙ ap (λ t. text ++ t) (times_more n text) ∙ sym (append_assoc text (times n text) text)
+
+pub times_sum : (a b : ℕ) (text : List ℕ) → times (a + b) text ≡ times a text ++ times b text
+times_sum zero b text = let none : zero + b ≡ b = omega arith in ap (λ k. times k text) none
+times_sum (suc a) b text =
+    let next : suc a + b ≡ suc (a + b) = omega arith in
+    ap (λ k. times k text) next ∙ ap (λ t. text ++ t) (times_sum a b text) ∙ sym (append_assoc text (times a text) (times b text))
+
+pub times_length : (n : ℕ) (text : List ℕ) → length (times n text) ≡ n * length text
+times_length zero text = omega arith
+times_length (suc n) text = omega (arith, length-append text (times n text), times_length n text, suc-mul n (length text))
+
+pub times_utf8 : (n : ℕ) (text : List ℕ) → IsUtf8 text → IsUtf8 (times n text)
+times_utf8 zero text u = IsUtf8-nil
+times_utf8 (suc n) text u = IsUtf8-append text (times n text) u (times_utf8 n text u)
+
+-- of `done` texts at the end of others, the first `more`
+module _ (old text : List ℕ) (done more : ℕ) (few : more ≤ done) where
+  cut : old ++ times done text ≡ old ++ (times more text ++ times (done - more) text)
+  cut =
+      let sum : done ≡ more + (done - more) = omega (arith, few) in
+      ap (λ k. old ++ times k text) sum ∙ ap (λ t. old ++ t) (times_sum more (done - more) text)
+
+  pub again : slice_range (old ++ times done text) (length old) (length old + more * length text) ≡ times more text
+  again =
+      let bytes : length old + more * length text - length old ≡ more * length text = omega arith in
+      ap (λ n. take n (drop (length old) (old ++ times done text))) bytes
+      ∙ ap (λ t. take (more * length text) (drop (length old) t)) cut
+      ∙ ap (take (more * length text)) (drop_at old (times more text ++ times (done - more) text) (length old) refl)
+      ∙ take_at (times more text) (times (done - more) text) (more * length text) (times_length more text)
+
+  pub fits : length old + more * length text ≤ length (old ++ times done text)
+  fits = omega (arith, ap length cut, length-append old (times more text ++ times (done - more) text), length-append (times more text) (times (done - more) text), times_length more text)
+
+  pub begins : IsUtf8 text → IsSplitPoint (old ++ times done text) (length old)
+  begins u = let seam = IsCharBoundary-at_seam (old ++ times done text) old (times done text) refl (times_utf8 done text u) in (seam.0, λ _. seam.1)
+
+  pub ends : IsUtf8 text → IsSplitPoint (old ++ times done text) (length old + more * length text)
+  ends u =
+      let parted = cut ∙ sym (append_assoc old (times more text) (times (done - more) text)) in
+      let seam = IsCharBoundary-at_seam (old ++ times done text) (old ++ times more text) (times (done - more) text) parted (times_utf8 (done - more) text u) in
+      let at : length (old ++ times more text) ≡ length old + more * length text = omega (arith, length-append old (times more text), times_length more text) in
+      subst (IsSplitPoint (old ++ times done text)) at (seam.0, λ _. seam.1)
+
+-- the same of a text that ends so
+module _ (old text out : List ℕ) (done more start : ℕ) (few : more ≤ done) (is : out ≡ old ++ times done text) (at : start ≡ length old) where
+  pub again_in : slice_range out start (start + more * length text) ≡ times more text
+  again_in = ap (λ o. slice_range o start (start + more * length text)) is ∙ ap (λ s. slice_range (old ++ times done text) s (s + more * length text)) at ∙ again old text done more few
+
+  pub fits_in : start + more * length text ≤ length out
+  fits_in = omega (arith, ap length is, at, fits old text done more few)
+
+  pub begins_in : IsUtf8 text → IsSplitPoint out start
+  begins_in u = subst (λ o. IsSplitPoint o start) (sym is) (subst (IsSplitPoint (old ++ times done text)) (sym at) (begins old text done more few u))
+
+  pub ends_in : IsUtf8 text → IsSplitPoint out (start + more * length text)
+  ends_in u = subst (λ o. IsSplitPoint o (start + more * length text)) (sym is) (subst (λ s. IsSplitPoint (old ++ times done text) (s + more * length text)) (sym at) (ends old text done more few u))
 
 pub times_space : (n : ℕ) → times n (0x20 ∷ []) ≡ spaces n
 times_space zero = refl

@@ -2,6 +2,7 @@ pub mod LayoutLemmas
 pub mod BarLawLemmas
 pub mod BuilderLemmas
 pub mod FillingLemmas
+pub mod ScanLemmas
 pub mod LinesLemmas
 pub mod StepLemmas
 pub mod KeyTextLemmas

@@ -2,6 +2,7 @@
 ghost use Rattle.std.specs.Prelude.{◌≡◌, ◌++◌, replicate, string_bytes, OnOk, IfOk, IfErr};
 ghost use Rattle.indicatif_bar.specs.Tabs.{expanded, has_tab};
 
+use crate::scan::has_byte;
 use indicatif_text::columns::Refusal;
 use std::alloc::AllocError;
 
@@ -35,5 +36,5 @@ pub(crate) fn push_expanded(text: &str, tab: usize, out: &mut String) -> Result<
 pub(crate) fn has_tab(text: &str) -> bool
     ensures { result ≡ has_tab text.now }
 {
-    text.as_bytes().iter().any(|b| *b == b'\t')
+    has_byte(b'\t', text)
 }

@@ -27,6 +27,7 @@ use crate::tracker::ProgressTracker;
 use indicatif_term::draw_target::LineType;
 use indicatif_text::columns::{Moment, Refusal};
 use indicatif_text::template::Alignment;
+use std::mem::replace;
 
 impl<K: ProgressTracker> ProgressStyle<K> {
     /// Appends a bar of so many columns, as a placeholder asks for it.
@@ -219,33 +220,34 @@ impl<K: ProgressTracker> ProgressStyle<K> {
     /// Appends the lines of a text, where a wide key has stood so far.
     fn push_lines(
         &self,
-        line: &Line,
+        line: Line,
         state: &ProgressState,
         width: u16,
         spare: &mut SpareLines,
         lines: &mut Vec<LineType>,
     ) -> Result<(), Refusal>
         ensures lines { OnOk result (map line_text lines.new.items ≡ map line_text lines.old.items
-            ++ lines_of self.now state.now width (option_map wide_found line.now.wide) (string_bytes line.now.text)) }
+            ++ lines_of self.now state.now width (option_map wide_found line.wide) (string_bytes line.text)) }
         ensures kind { IsTrue (list_all is_bar_line lines.old.items) → IsTrue (list_all is_bar_line lines.new.items) }
         ensures memory { IfErr result (λ e. e ≡ Refusal.Memory) }
     {
-        let text = line.text.as_str();
-        let Some(wide) = line.wide else {
+        let Line { text, wide } = line;
+        let Some(wide) = wide else {
             push_lines(text, spare, lines)?;
             return Ok(());
         };
-        if !has_mark(text) {
+        if !has_mark(text.as_str()) {
             push_lines(text, spare, lines)?;
             return Ok(());
         }
+        let gap = Gap::of(text.as_str(), width);
         let mut shown = spare.text();
-        self.push_wide(wide, Gap::of(text, width), state, spare, &mut shown)?;
+        self.push_wide(wide, gap, state, spare, &mut shown)?;
         let mut filled = spare.text();
-        push_filled(text, shown.as_str(), &mut filled)?;
-        push_lines(filled.as_str(), spare, lines)?;
+        push_filled(text.as_str(), shown.as_str(), &mut filled)?;
+        push_lines(filled, spare, lines)?;
         spare.keep_text(shown);
-        spare.keep_text(filled);
+        spare.keep_text(text);
         Ok(())
     }
 
@@ -271,8 +273,8 @@ impl<K: ProgressTracker> ProgressStyle<K> {
             match step {
                 Step::Text(text) => line.text.push_str(text.as_str())?,
                 Step::Break => {
-                    self.push_lines(&line, state, width, spare, &mut lines)?;
-                    line.text.clear();
+                    let ended = line.end(spare.text());
+                    self.push_lines(ended, state, width, spare, &mut lines)?;
                 }
                 Step::Placeholder(held) => {
                     line.wide = held.wide().or(line.wide);
@@ -280,10 +282,11 @@ impl<K: ProgressTracker> ProgressStyle<K> {
                 }
             }
         }
-        if !line.text.as_str().is_empty() {
-            self.push_lines(&line, state, width, spare, &mut lines)?;
+        if line.text.as_str().is_empty() {
+            spare.keep_text(line.text);
+            return Ok(lines);
         }
-        spare.keep_text(line.text);
+        self.push_lines(line, state, width, spare, &mut lines)?;
         Ok(lines)
     }
 }
@@ -293,6 +296,19 @@ impl<K: ProgressTracker> ProgressStyle<K> {
 struct Line {
     text: String,
     wide: Option<WideKey>,
+}
+
+impl Line {
+    /// The line so far; the next one begins in this room.
+    fn end(&mut self, room: String) -> Line
+        ensures ended { result ≡ self.old }
+        ensures next { self.new ≡ record self.old { text = room } }
+    {
+        Line {
+            text: replace(&mut self.text, room),
+            wide: self.wide,
+        }
+    }
 }
 
 /// Appends the message at a gap's columns; where the gap ends its text, without white space at its end.

@@ -1,11 +1,12 @@
 //! Lines of a text, and what stands in the place of a wide key's marks.
-ghost use Rattle.std.specs.Prelude.{◌≡◌, ◌++◌, ◌&&◌, if◌then◌else◌, is_none, map, string_bytes, OnOk, IfErr, IsTrue};
+ghost use Rattle.std.specs.Prelude.{◌≡◌, ◌++◌, ◌∷◌, [], ◌&&◌, if◌then◌else◌, is_none, map, string_bytes, OnOk, IfErr, IsTrue};
 ghost use Rattle.std.specs.List.{list_all, list_any, slice_split};
 ghost use Rattle.indicatif_bar.specs.Bars.{is_bar_line};
 ghost use Rattle.indicatif_term.specs.Frames.{line_text};
 ghost use Rattle.indicatif_bar.specs.Layout.{text_columns};
 ghost use Rattle.indicatif_bar.specs.BarStyles.{is_mark, is_newline, ends_in_mark, columns_left, with_marks_as};
 
+use crate::scan::{cut_at, has_byte};
 use crate::spare::SpareLines;
 use indicatif_term::draw_target::LineType;
 use indicatif_text::columns::{Refusal, columns};
@@ -14,7 +15,7 @@ use indicatif_text::columns::{Refusal, columns};
 pub(crate) fn has_mark(text: &str) -> bool
     ensures { result ≡ list_any is_mark text.now }
 {
-    text.as_bytes().iter().any(|b| *b == 0)
+    has_byte(0, text)
 }
 
 /// Where a text's marks stand: how many columns their line leaves free, and whether one ends the text.
@@ -85,21 +86,60 @@ pub(crate) fn push_filled(text: &str, shown: &str, out: &mut String) -> Result<(
     Ok(())
 }
 
-/// Appends the lines of a text, in room of `spare`.
+/// Appends the lines of a text, in room of `spare`. A text of one line is itself that line.
 pub(crate) fn push_lines(
-    text: &str,
+    text: String,
     spare: &mut SpareLines,
     lines: &mut Vec<LineType>,
 ) -> Result<(), Refusal>
+    ensures lines { OnOk result (map line_text lines.new.items
+        ≡ map line_text lines.old.items ++ slice_split is_newline (string_bytes text)) }
+    ensures kind { IsTrue (list_all is_bar_line lines.old.items) → IsTrue (list_all is_bar_line lines.new.items) }
+    ensures memory { IfErr result (λ e. e ≡ Refusal.Memory) }
+{
+    if has_byte(b'\n', text.as_str()) {
+        push_pieces(text.as_str(), spare, lines)?;
+        spare.keep_text(text);
+        return Ok(());
+    }
+    push_line(text, lines)?;
+    Ok(())
+}
+
+/// Appends the lines of a text, each copied.
+fn push_pieces(text: &str, spare: &mut SpareLines, lines: &mut Vec<LineType>) -> Result<(), Refusal>
     ensures lines { OnOk result (map line_text lines.new.items
         ≡ map line_text lines.old.items ++ slice_split is_newline text.now) }
     ensures kind { IsTrue (list_all is_bar_line lines.old.items) → IsTrue (list_all is_bar_line lines.new.items) }
     ensures memory { IfErr result (λ e. e ≡ Refusal.Memory) }
 {
-    for piece in text.split('\n') {
-        let mut line = spare.text();
-        line.push_str(piece)?;
-        lines.push(LineType::Bar(line))?;
+    let mut rest = text;
+    while let Some((piece, behind)) = cut_at(b'\n', rest) {
+        push_copied(piece, spare, lines)?;
+        rest = behind;
     }
+    push_copied(rest, spare, lines)?;
+    Ok(())
+}
+
+/// Appends a line, copied into room of `spare`.
+fn push_copied(text: &str, spare: &mut SpareLines, lines: &mut Vec<LineType>) -> Result<(), Refusal>
+    ensures lines { OnOk result (map line_text lines.new.items ≡ map line_text lines.old.items ++ text.now ∷ []) }
+    ensures kind { IsTrue (list_all is_bar_line lines.old.items) → IsTrue (list_all is_bar_line lines.new.items) }
+    ensures memory { IfErr result (λ e. e ≡ Refusal.Memory) }
+{
+    let mut line = spare.text();
+    line.push_str(text)?;
+    push_line(line, lines)?;
+    Ok(())
+}
+
+/// Appends a line.
+fn push_line(text: String, lines: &mut Vec<LineType>) -> Result<(), Refusal>
+    ensures lines { OnOk result (map line_text lines.new.items ≡ map line_text lines.old.items ++ string_bytes text ∷ []) }
+    ensures kind { IsTrue (list_all is_bar_line lines.old.items) → IsTrue (list_all is_bar_line lines.new.items) }
+    ensures memory { IfErr result (λ e. e ≡ Refusal.Memory) }
+{
+    lines.push(LineType::Bar(text))?;
     Ok(())
 }

@@ -80,13 +80,22 @@ fn blanks_before(align: Alignment, blanks: usize) -> usize
     }
 }
 
-/// Appends `text` so many times.
+/// Appends `text` so many times: what was appended is appended again, as far as it goes.
 pub(crate) fn push_times(text: &str, count: usize, out: &mut String) -> Result<(), Refusal>
     ensures text { OnOk result (string_bytes out.new ≡ string_bytes out.old ++ times count text.now) }
     ensures memory { IfErr result (λ e. e ≡ Refusal.Memory) }
 {
-    'times: for _ in 0..count {
-        out.push_str(text)?;
+    if count == 0 {
+        return Ok(());
+    }
+    let start = out.len();
+    out.push_str(text)?;
+    let mut done = 1;
+    'times: while done < count {
+        let more = done.min(count - done);
+        let end = start + more * text.len();
+        out.extend_from_within(start..end)?;
+        done += more;
     }
     Ok(())
 }

@@ -10,11 +10,10 @@ use Rattle.indicatif_bar.proofs.bar_style.ProgressStyle.push_lines.Goals as goal
 pub returns-then-not-has_mark-clause-lines : goal.returns-then-not-has_mark-clause-lines
 returns-then-not-has_mark-clause-lines g c =
     let old = map line_text c.args.lines.now.items in
-    let text = c.as_str-text.result.now in
-    let unmarked : list_any is_mark text ≡ false = sym c.has_mark.ensures ∙ c.if-not-has_mark.true in
+    let text = string_bytes c.args.line.text in
+    let unmarked : list_any is_mark text ≡ false = ap (list_any is_mark) (sym c.as_str.ensures.value) ∙ sym c.has_mark.ensures ∙ c.if-not-has_mark.true in
     let style = c.args.self.now in
     let state = c.args.state.now in
     c.in_ok-push_lines-2.ensures.lines
     ∙ ap (λ t. old ++ slice_split is_newline t) (sym (no_marks (wide_text style state c.args.width text (wide_found c.in-Some.wide)) text unmarked))
-    ∙ ap (λ t. old ++ lines_of style state c.args.width (option_map wide_found (Some c.in-Some.wide)) t) c.as_str-text.ensures.value
-    ∙ ap (λ w. old ++ lines_of style state c.args.width (option_map wide_found w) (string_bytes c.args.line.now.text)) (sym c.in-Some.is)
+    ∙ ap (λ w. old ++ lines_of style state c.args.width (option_map wide_found w) text) (sym c.in-Some.is)

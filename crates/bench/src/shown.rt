@@ -1,0 +1,113 @@
+//! A bar on a terminal whose calls promise nothing here, so that a measurement of many calls is proved call by call.
+use crate::measured::Made;
+use anyhow::{Result, anyhow};
+use indicatif_bar::lone::LoneBar;
+use indicatif_bar::state::BarState;
+use indicatif_bar::style::{NoTracker, ProgressStyle};
+use indicatif_term::draw_target::ProgressDrawTarget;
+use indicatif_term::term_like::Term;
+use indicatif_text::columns::Moment;
+use std::alloc::Global;
+use std::io;
+use std::io::Write;
+
+/// Keeps what is written, and forgets it once that is more than 64 KiB; counts bytes and flushes.
+#[derive(Drop)]
+pub struct Sink {
+    kept: Vec<u8>,
+    bytes: u64,
+    flushes: u64,
+}
+
+impl Write for Sink {
+    fn write(&mut self, buf: &[u8]) -> io::Result<usize> {
+        if self.kept.len() > 65_536 {
+            self.kept.clear();
+        }
+        self.kept.extend_from_slice(buf)?;
+        self.bytes = self.bytes.wrapping_add(buf.len() as u64);
+        Ok(buf.len())
+    }
+
+    fn flush(&mut self) -> io::Result<()> {
+        self.flushes = self.flushes.wrapping_add(1);
+        Ok(())
+    }
+}
+
+/// The terminal that is drawn on: 24 rows, 80 columns.
+pub fn terminal(alloc: Global) -> Term<Sink> {
+    let sink = Sink {
+        kept: Vec::new(alloc),
+        bytes: 0,
+        flushes: 0,
+    };
+    Term::new(sink, 24, 80)
+}
+
+/// What was written to a terminal.
+pub fn drawn(term: &Term<Sink>) -> Made {
+    let sink = term.writer();
+    Made::Drawn {
+        bytes: sink.bytes,
+        draws: sink.flushes,
+    }
+}
+
+/// A bar on the terminal.
+#[derive(Drop)]
+pub struct Shown {
+    bar: LoneBar<NoTracker, Term<Sink>>,
+}
+
+/// The record of a bar of this template.
+fn state_of(alloc: Global, template: &str) -> Result<BarState<NoTracker>> {
+    let style = ProgressStyle::with_template(alloc, template)?;
+    Ok(BarState::styled(alloc, style, None, 0)?)
+}
+
+/// A bar of this record.
+fn on_terminal(alloc: Global, state: BarState<NoTracker>) -> Shown {
+    Shown {
+        bar: LoneBar::new(state, ProgressDrawTarget::term_like(terminal(alloc))),
+    }
+}
+
+impl Shown {
+    /// A bar of this template without a length.
+    pub fn templated(alloc: Global, template: &str) -> Result<Shown> {
+        let state = state_of(alloc, template)?;
+        Ok(on_terminal(alloc, state))
+    }
+
+    /// A bar of this length in the default style.
+    pub fn of_length(alloc: Global, len: u64) -> Result<Shown> {
+        let state = BarState::new(alloc, Some(len), 0)?;
+        Ok(on_terminal(alloc, state))
+    }
+
+    pub fn set_message(&mut self, text: &str) -> Result<()> {
+        self.bar.set_message(text, 0)?;
+        Ok(())
+    }
+
+    pub fn tick(&mut self) -> Result<()> {
+        self.bar.tick(0)?;
+        Ok(())
+    }
+
+    pub fn inc(&mut self, now: Moment) -> Result<()> {
+        self.bar.inc(1, now)?;
+        Ok(())
+    }
+
+    pub fn println(&mut self, text: &str) -> Result<()> {
+        self.bar.println(text, 0)?;
+        Ok(())
+    }
+
+    /// What was written.
+    pub fn drawn(&self) -> Result<Made> {
+        Ok(drawn(self.bar.term().ok_or(anyhow!("no terminal"))?))
+    }
+}
