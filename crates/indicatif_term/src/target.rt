@@ -4,6 +4,11 @@ ghost use Rattle.std.specs.Prelude.{◌≡◌, ◌↔◌, Option, IsTrue, Some, 
 use std::marker::Model;
 
 /// Where a bar is drawn: a terminal, or nowhere.
+///
+/// ```
+/// let shown = ProgressDrawTarget::term_like(InMemoryTerm::new(alloc, 2, 5)?);
+/// let nowhere: ProgressDrawTarget<InMemoryTerm> = ProgressDrawTarget::hidden();
+/// ```
 #[derive(Debug, Drop)]
 pub struct ProgressDrawTarget<T> {
     term: Option<T>,
@@ -48,6 +53,10 @@ impl<T: Drop> ProgressDrawTarget<T> {
 }
 
 /// What a bar is made with: where it is drawn, and the clock that tells it the moment.
+///
+/// ```
+/// let setup = Setup { target: ProgressDrawTarget::term_like(term), clock: StepClock { next: 0, step: 1 } };
+/// ```
 #[derive(Debug, Drop)]
 pub struct Setup<T, C> {
     /// Where the bar is drawn.
