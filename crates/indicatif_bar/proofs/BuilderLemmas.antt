@@ -22,7 +22,7 @@ use Rattle.indicatif_bar.specs.declared.bar_style.builders.TheConstants.{CLUSTER
 
 -- a template's error that is not of memory is a fault of the text
 pub refused_by : (text : List ℕ) (e : TemplateError) (r : Refusal) → r ≡ refusal_of e → (e ≢ error.Memory → IsRefused text e)
-  → (r ≡ refusal.Memory) ⊎ ((x : TemplateError) × IsRefused text x × (r ≡ refusal_of x))
+    → (r ≡ refusal.Memory) ⊎ ((x : TemplateError) × IsRefused text x × (r ≡ refusal_of x))
 refused_by text (error.Unexpected next state) r is why = inr (error.Unexpected next state, why (λ q. cc q), is)
 refused_by text error.WidthTooLarge r is why = inr (error.WidthTooLarge, why (λ q. cc q), is)
 refused_by text error.Memory r is why = inl is
