@@ -1,1 +1,1 @@
-mod Failing
+mod FailingTermLemmas

@@ -15,6 +15,7 @@ use indicatif_text::format::{
     HumanFloatCount,
 };
 use indicatif_text::template::{Alignment, Part, Template};
+use std::alloc::Global;
 use std::process::Abort;
 use std::test::Fail;
 
@@ -190,6 +191,35 @@ fn engine_and_segment(rt: HostRuntime) -> Result<(), Fail> {
     assert_eq!(rt; engine.keep(1), Keep::Passed);
     assert_eq!(rt; engine.log("end", &[], top), Ok(()));
     assert_eq!(rt; engine.term().contents()?.as_str(), "done\nend");
+    Ok(())
+}
+
+/// A frame of one bar with these lines.
+fn frame_of(alloc: Global, texts: &[&str]) -> Result<Vec<Segment>, Refusal> {
+    let mut lines = Vec::new(alloc);
+    for text in texts {
+        lines.push(LineType::Bar(String::from_str(alloc, text)?))?;
+    }
+    Ok(vec![in alloc; Segment { bar: 1, lines }]?)
+}
+
+/// Draws a frame with the bars at the bottom.
+fn draw_at_bottom(
+    alloc: Global,
+    engine: &mut Engine<InMemoryTerm>,
+    texts: &[&str],
+) -> Result<(), Refusal> {
+    let frame = frame_of(alloc, texts)?;
+    engine.draw(&frame, 0, MultiProgressAlignment::Bottom)
+}
+
+/// One line in the place of two stands on the lower one's row.
+#[test]
+fn alignment(rt: HostRuntime) -> Result<(), Fail> {
+    let mut engine = Engine::new(rt.alloc(), InMemoryTerm::new(rt.alloc(), 4, 5)?);
+    draw_at_bottom(rt.alloc(), &mut engine, &["ab", "c"])?;
+    draw_at_bottom(rt.alloc(), &mut engine, &["d"])?;
+    assert_eq!(rt; engine.term().contents()?.as_str(), "\nd");
     Ok(())
 }
 

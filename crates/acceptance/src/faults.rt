@@ -27,10 +27,7 @@ fn contents(alloc: Global, bar: &Shown<FailsOnce>) -> Result<String, Refusal> {
 }
 
 /// The rows down to the cursor's, each ended by a newline.
-fn rows_to_the_cursor(
-    alloc: Global,
-    bar: &Shown<FailsOnce>,
-) -> Result<String, Refusal> {
+fn rows_to_the_cursor(alloc: Global, bar: &Shown<FailsOnce>) -> Result<String, Refusal> {
     let mut text = String::new(alloc);
     let Some(term) = bar.term() else {
         return Ok(text);
@@ -178,10 +175,7 @@ fn bytes_written(bar: &Shown<Term<Vec<u8>>>) -> usize {
 }
 
 /// What the bytes written so far show.
-fn shown_by_bytes(
-    alloc: Global,
-    bar: &Shown<Term<Vec<u8>>>,
-) -> Result<String, Refusal> {
+fn shown_by_bytes(alloc: Global, bar: &Shown<Term<Vec<u8>>>) -> Result<String, Refusal> {
     let mut cells = Cells::new(alloc, 6, 10)?;
     if let Some(term) = bar.term() {
         if let Err((_, refusal)) = cells.feed(term.writer()) {

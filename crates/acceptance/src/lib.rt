@@ -2,6 +2,8 @@
 #![tactic(auto)]
 
 #[cfg(test)]
+mod bar_examples;
+#[cfg(test)]
 mod columns;
 #[cfg(test)]
 mod differences;

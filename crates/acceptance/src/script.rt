@@ -33,10 +33,7 @@ pub fn bar_on<T: TermLike + Drop>(
 }
 
 /// Makes the call.
-pub fn made<T: TermLike + Drop>(
-    bar: &mut Shown<T>,
-    step: Step,
-) -> Result<Drawn, Refusal> {
+pub fn made<T: TermLike + Drop>(bar: &mut Shown<T>, step: Step) -> Result<Drawn, Refusal> {
     match step {
         Step::Tick => bar.tick(0),
         Step::Message(text) => bar.set_message(text, 0),

@@ -255,10 +255,7 @@ fn a_writer_that_fails(rt: HostRuntime) {
 // ---- a bar behind such writers
 
 /// A bar that says `ab` behind this writer.
-fn bar_behind(
-    alloc: Global,
-    writer: ByteWise,
-) -> Result<Shown<Term<ByteWise>>, Refusal> {
+fn bar_behind(alloc: Global, writer: ByteWise) -> Result<Shown<Term<ByteWise>>, Refusal> {
     bar_on(alloc, "ab", Term::new(writer, 20, 10))
 }
 

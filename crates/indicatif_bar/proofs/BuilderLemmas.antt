@@ -1,5 +1,5 @@
 -- What a style is made of at first, and what its builders refuse.
-use Rattle.std.proofs.Common.{◌∷◌, [], Result, Ok, Err, IfErr, ◌≡◌, ◌≢◌, ◌⊎◌, inl, inr, ℕ, ◌≤◌, ◌<◌, List, refl, sym, ◌∙◌, ap, length, arith, string_bytes}
+use Rattle.std.proofs.Common.{◌∷◌, [], Result, Ok, Err, IfErr, ◌≡◌, ◌≢◌, ◌⊎◌, inl, inr, ℕ, ◌≤◌, ◌<◌, List, refl, sym, ◌∙◌, ap, subst, length, arith, string_bytes}
 use Rattle.std.specs.Str.{chars}
 use Rattle.std.specs.Prelude.{encode_utf8}
 use Rattle.std.proofs.lemmas.List.{length-map}
@@ -14,15 +14,15 @@ use Rattle.indicatif_text.specs.declared.template.TemplateError.TheVariants as e
 use Rattle.indicatif_text.specs.Template.{refusal_of}
 use Rattle.std.specs.Prelude.{codes}
 use Rattle.indicatif_text.specs.Template.{TemplatePart, LiteralText, KeyText}
-use Rattle.indicatif_text.specs.Template.{IsRefused, TemplatePiece, front, Reads, end, piece, Parses, parts_of, plain_layout}
-use Rattle.indicatif_text.proofs.TemplateLemmas.{never_both}
+use Rattle.indicatif_text.specs.Template.{IsRefused, TemplatePiece, Front, Takes, Stops, front, Reads, end, piece, Refuses, here, later, Parses, parts_of, plain_layout}
 use Rattle.indicatif_bar.specs.Layout.{text_columns, cluster}
 use Rattle.indicatif_bar.specs.Builders.{characters_of, first_clusters}
 use Rattle.indicatif_bar.specs.Inside.Cells.{texts_of}
 use Rattle.indicatif_bar.specs.declared.bar_style.builders.TheConstants.{CLUSTERS, TICKS}
 
 -- a template's error that is not of memory is a fault of the text
-pub refused_by : (text : List ℕ) (e : TemplateError) (r : Refusal) → r ≡ refusal_of e → (e ≢ error.Memory → IsRefused text e) → (r ≡ refusal.Memory) ⊎ ((x : TemplateError) × IsRefused text x × (r ≡ refusal_of x))
+pub refused_by : (text : List ℕ) (e : TemplateError) (r : Refusal) → r ≡ refusal_of e → (e ≢ error.Memory → IsRefused text e)
+    → (r ≡ refusal.Memory) ⊎ ((x : TemplateError) × IsRefused text x × (r ≡ refusal_of x))
 refused_by text (error.Unexpected next state) r is why = inr (error.Unexpected next state, why (λ q. cc q), is)
 refused_by text error.WidthTooLarge r is why = inr (error.WidthTooLarge, why (λ q. cc q), is)
 refused_by text error.Memory r is why = inl is
@@ -67,9 +67,22 @@ pub spinner_parses : Parses (codes "{spinner} {msg}") (plain (codes "spinner") �
 unfolding front parts_of
 spinner_parses = parses_by (piece refl (piece refl (piece refl end))) refl
 
+-- what takes a piece doesn't stop, and takes in one way
+takes_or_stops : {f : Front TemplatePiece} {rest place : List ℕ} {p : TemplatePiece} {error : TemplateError} → f ≡ Takes rest p → f ≡ Stops place error → ⊥
+takes_or_stops {rest} {place} {p} {error} e d = let both : Takes rest p ≡ Stops place error = sym e ∙ d in cc both
+
+same_rest : {f : Front TemplatePiece} {rest other : List ℕ} {p q : TemplatePiece} → f ≡ Takes rest p → f ≡ Takes other q → rest ≡ other
+same_rest e d = cc (e, d)
+
+-- a text that reads is refused nowhere
+reads_on : {text place : List ℕ} {ps : List TemplatePiece} {error : TemplateError} → Reads text ps → Refuses text place error → ⊥
+reads_on end t = elim t [ ]
+reads_on (piece e r) (here d) = takes_or_stops e d
+reads_on (piece e r) (later {place} {error} d t) = reads_on r (subst (λ rest. Refuses rest place error) (sym (same_rest e d)) t)
+
 -- a text that is a template is refused for memory alone
 pub never_refused : {A : Type 0} (r : Result A Refusal) (text : List ℕ) (parts : List TemplatePart) → Parses text parts
     → IfErr r (λ e. (e ≡ refusal.Memory) ⊎ ((x : TemplateError) × IsRefused text x × (e ≡ refusal_of x))) → IfErr r (λ e. e ≡ refusal.Memory)
 never_refused (Ok a) text parts p h = tt
 never_refused (Err e) text parts p (inl is) = is
-never_refused (Err e) text parts p (inr (error, (place, refused), is)) = absurd (never_both text parts place error p refused)
+never_refused (Err e) text parts p (inr (error, (place, refused), is)) = absurd (reads_on p.reads refused)

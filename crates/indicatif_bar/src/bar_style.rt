@@ -20,6 +20,10 @@ use std::sync::Arc;
 ///
 /// What never changes from draw to draw is made once, when the style is made: the names of the template's keys are looked
 /// up, and the tabs of its literals expanded.
+///
+/// ```
+/// let style: ProgressStyle<NoTracker> = ProgressStyle::with_template(alloc, "{bar:10} {pos}/{len}")?.progress_chars("=> ")?;
+/// ```
 #[derive(Drop)]
 pub struct ProgressStyle<K> {
     alloc: Global,

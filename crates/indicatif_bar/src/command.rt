@@ -16,6 +16,10 @@ pub struct Change {
 }
 
 /// A command of a bar as a value. Each is the call of `BarState` with its name.
+///
+/// ```
+/// let ask = bar.apply(BarCommand::Inc(2), now)?; // as `bar.inc(2, now)`
+/// ```
 #[derive(Drop)]
 pub enum BarCommand<K> {
     /// A tick, unless a steady ticker is installed.

@@ -6,6 +6,11 @@ use indicatif_text::columns::Refusal;
 use std::alloc::Global;
 
 /// How a bar is finished.
+///
+/// ```
+/// bar.with_finish(ProgressFinish::AndLeave, now);
+/// bar.finish_using_style(now)?; // at its length, and stays
+/// ```
 #[derive(Debug, Default, Drop)]
 pub enum ProgressFinish {
     /// At its length, where it has one; it stays on the screen.

@@ -20,6 +20,11 @@ use std::alloc::Global;
 use std::mem::replace;
 
 /// A call as a value.
+///
+/// ```
+/// let calls = vec![in alloc; (LoneCall::Bar(BarCommand::Inc(1)), 0), (LoneCall::Clear, 5)]?;
+/// let answers = bar.run(calls)?; // what each call answered, in their order
+/// ```
 #[derive(Drop)]
 pub enum LoneCall<K> {
     /// A command of the bar.

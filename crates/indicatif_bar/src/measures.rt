@@ -5,6 +5,10 @@ ghost use Rattle.indicatif_bar.specs.Measures.{fraction_of, first_marks, recorde
 use indicatif_text::columns::Moment;
 
 /// A part of a whole, as a quotient: `num` of `den`, where `den` is above 0 and `num` at most `den`.
+///
+/// ```
+/// state.fraction(); // 3 of 4: Fraction { num: 3, den: 4 }
+/// ```
 #[derive(Clone, Copy, Debug, Drop, PartialEq, Eq)]
 pub struct Fraction {
     /// What is done.
@@ -30,6 +34,10 @@ impl Fraction {
 }
 
 /// A speed, as a quotient: `steps` in `nanos` nanoseconds, where `nanos` is above 0.
+///
+/// ```
+/// state.per_sec(now); // none yet: Rate { steps: 0, nanos: 1 }
+/// ```
 #[derive(Clone, Copy, Debug, Drop, PartialEq, Eq)]
 pub struct Rate {
     /// How many steps.

@@ -48,6 +48,10 @@ pub trait ProgressTracker: Sized + Send + Sync + Drop {
 }
 
 /// The tracker of a style without keys of its own: its text is empty.
+///
+/// ```
+/// let bar = BarState::<NoTracker>::new(alloc, Some(10), now)?;
+/// ```
 #[derive(Clone, Copy, Debug, Drop, PartialEq, Eq)]
 pub struct NoTracker;
 
@@ -74,6 +78,14 @@ impl ProgressTracker for NoTracker {
 
 /// What tells a text for an `FnTracker`: a caller's type that says which text it tells. A closure is kept in such a type,
 /// beside the fact of what it answers.
+///
+/// ```
+/// impl TellsText for Ticks {
+///     ghost told = { .. };
+///
+///     fn tell(&self, state: &ProgressState, _now: Moment) -> Result<String, Refusal> { .. }
+/// }
+/// ```
 pub trait TellsText: Sized + Send + Sync + Drop {
     /// The text at a state and a moment, in bytes of UTF-8.
     ghost told: { Self → Progress → ℕ → List ℕ };
@@ -87,6 +99,10 @@ pub trait TellsText: Sized + Send + Sync + Drop {
 }
 
 /// A tracker whose text a value of the caller's tells, which its clones share. Ticks and resets leave it as it is.
+///
+/// ```
+/// let style = ProgressStyle::with_template(alloc, "{ticks}")?.with_key("ticks", FnTracker::new(alloc, Ticks)?)?;
+/// ```
 #[derive(Drop)]
 pub struct FnTracker<F> {
     teller: Arc<F, Global>,

@@ -162,7 +162,8 @@ Ordered =
     let p = New (plain_bar (codes "p")) in
     let foreign : Id = record { mark = 2; number = 0 } in
     let calls = add (codes "p") ∷ add (codes "p") ∷ add (codes "p") ∷ Insert (Before (id 0)) p ∷ Insert (After (id 3)) p ∷ Insert (After (id 3)) p ∷ Insert (Before (id 1)) p ∷ [] in
-    let again = ran_in 5 9 (calls ++ Insert End (Old (id 4)) ∷ Insert (Before foreign) p ∷ drop_it 4 ∷ drop_it 4 ∷ touch 4 ∷ Insert (Before (id 4)) p ∷ Insert (After (id 3)) (Old foreign) ∷ remove_it 4 ∷ []) in
+    let again = ran_in 5 9 (calls ++ Insert End (Old (id 4)) ∷ Insert (Before foreign) p ∷ drop_it 4 ∷ drop_it 4 ∷ touch 4
+    ∷ Insert (Before (id 4)) p ∷ Insert (After (id 3)) (Old foreign) ∷ remove_it 4 ∷ []) in
     (order_of (ran_in 5 9 calls).1.members ≡ 3 ∷ 5 ∷ 4 ∷ 0 ∷ 6 ∷ 1 ∷ 2 ∷ [])
     × (again.0 ≡ map (λ n. Given (id n)) (0 ∷ 1 ∷ 2 ∷ 3 ∷ 4 ∷ 5 ∷ 6 ∷ [])
     ++ Given (id 4) ∷ Refused ForeignBar ∷ Drew Yes ∷ Refused NotMember ∷ Refused NotMember ∷ Refused NotMember ∷ Refused ForeignBar ∷ Done ∷ [])
@@ -220,7 +221,12 @@ one_shown = (ran_in 4 10 (add (codes "a") ∷ touch 0 ∷ [])).1
 -- rows as they were
 abbrev pub DropRefused : Type 0
 DropRefused =
-    let stays = λ (stage : Stage) (lines : List (List ℕ)). let m : Member Plain = record { number = 0; bar = record { text = codes "a"; stage = stage; at_finish = Gone }; stored = lines; dropped = true } in m ∷ [] in
+    let stays = λ (stage : Stage) (lines : List (List ℕ)). let m : Member Plain = record {
+      number = 0;
+      bar = record { text = codes "a"; stage = stage; at_finish = Gone };
+      stored = lines;
+      dropped = true;
+    } in m ∷ [] in
     let dropped = (board plain 1).deed (terminal_of_size 4 10) (drop_it 0) 0 one_shown in
     ((kind : ErrorKind) → Leads (board plain 1) (terminal_of_size 4 10) one_shown dropped (Refused (Failure kind)) (record one_shown { members = stays Gone []; lists = forgotten_lists }))
     × Leads (board plain 1) (terminal_of_size 4 10) one_shown dropped (Refused Memory) (record one_shown { members = stays Gone (codes "a" ∷ []) })

@@ -34,6 +34,12 @@ pub struct Account {
 }
 
 /// A sum that workers add to. Contracts see which sum it is.
+///
+/// ```
+/// let (done, mut worker) = Done::new(alloc)?;
+/// worker.add(&done, 5);
+/// done.close(worker); // 5
+/// ```
 #[derive(Drop)]
 pub struct Done {
     table: Table<(), Account, (), Sums, Global>,
@@ -54,6 +60,12 @@ impl Model for Done {
 }
 
 /// The right to add to a sum, and a share of it. Contracts see the sum that it adds to, and what its holder knows of it.
+///
+/// ```
+/// let (mut first, mut second) = worker.split(&done)?;
+/// first.add(&done, 5);
+/// second.total(&done); // 5
+/// ```
 #[derive(Drop)]
 pub struct BarWorker {
     splits: u64,

@@ -124,7 +124,8 @@ answered l now = elim (cases_Bool (nat_le l.prev now && has_leave l (now - l.pre
   | inr f ↦ inr (rw f refl)
 ]
 
-by_answer : (l : Limiter) (now : ℕ) (moments : List ℕ) → 0 < l.interval → ((next : Limiter) → 0 < next.interval → Claim next (allowed_moments next moments)) → Claim l (allowed_moments l (now ∷ moments))
+by_answer : (l : Limiter) (now : ℕ) (moments : List ℕ) → 0 < l.interval
+    → ((next : Limiter) → 0 < next.interval → Claim next (allowed_moments next moments)) → Claim l (allowed_moments l (now ∷ moments))
 by_answer l now moments positive rest =
     let test : Bool = nat_le l.prev now && has_leave l (now - l.prev) in
     let at : Bool → Bool × Limiter = λ b. if b then (true, used l (now - l.prev) now) else (false, l) in
@@ -132,7 +133,8 @@ by_answer l now moments positive rest =
     let P : Bool → Type 0 = λ b. test ≡ b → Claim l (xs b) in
     let cases : (b : Bool) → P b = λ b. elim b as P [
       | true ↦ λ e. let h = both (nat_le l.prev now) (has_leave l (now - l.prev)) e in
-          from_used l now (allowed_moments (used l (now - l.prev) now) moments) positive (leb-true l.prev now h.0) (leave l.capacity l.interval (now - l.prev) h.1) (rest (used l (now - l.prev) now) positive)
+          from_used l now (allowed_moments (used l (now - l.prev) now) moments) positive (leb-true l.prev now h.0)
+          (leave l.capacity l.interval (now - l.prev) h.1) (rest (used l (now - l.prev) now) positive)
       | false ↦ λ e. rest l positive
     ] in
     cases test refl

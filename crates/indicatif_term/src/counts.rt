@@ -7,6 +7,10 @@ use crate::layout::{Plan, RowCount};
 use std::alloc::Global;
 
 /// What became of the rows of a bar that is gone.
+///
+/// ```
+/// engine.keep(1); // Keep::Passed: its rows were the frame's first, and stand among the logged lines now
+/// ```
 #[derive(Clone, Copy, Debug, Drop, PartialEq, Eq)]
 pub enum Keep {
     /// It has no live row. Nothing changed.

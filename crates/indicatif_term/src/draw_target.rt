@@ -22,6 +22,10 @@ use std::alloc::Global;
 use std::mem::replace;
 
 /// Where the bars stand when a drawing has fewer rows than it takes back.
+///
+/// ```
+/// engine.draw(&frame, 0, MultiProgressAlignment::Bottom)?; // a shorter frame stands below blank rows
+/// ```
 #[derive(Clone, Copy, Debug, Default, Drop, PartialEq, Eq)]
 pub enum MultiProgressAlignment {
     /// At the place of the first row taken back.
@@ -51,6 +55,12 @@ impl MultiProgressAlignment {
 /// again. After `Terminal`, with the kind of the terminal's own failure, some beginning of the drawing was written: the rows
 /// are forgotten, and the next drawing begins on a new row, by `write_line("")` and `clear_line`, below whatever stands there,
 /// also where the terminal broke off within an escape sequence or a character.
+///
+/// ```
+/// let mut engine = Engine::new(alloc, InMemoryTerm::new(alloc, 4, 5)?);
+/// engine.draw(&frame, 0, MultiProgressAlignment::Top)?; // the lines of the frame's bars
+/// engine.log("done", &frame, MultiProgressAlignment::Top)?; // stands above them from now on
+/// ```
 #[derive(Drop)]
 pub struct Engine<T: Drop> {
     term: T,

@@ -4,6 +4,11 @@ ghost use Rattle.std.specs.Prelude.{◌≡◌, ◌↔◌, IsTrue};
 use std::convert::AsStr;
 
 /// A line that a bar shows, with no line end in it.
+///
+/// ```
+/// let line = LineType::Text(String::from_str(alloc, "fetched")?);
+/// line.is_text("fetched"); // true
+/// ```
 #[derive(Debug, Drop)]
 pub enum LineType {
     /// A line of text alone.
@@ -40,6 +45,10 @@ impl AsStr for LineType {
 }
 
 /// The lines of one bar.
+///
+/// ```
+/// let frame = vec![in alloc; Segment { bar: 1, lines }]?; // the lines of bar 1, and of no other
+/// ```
 #[derive(Debug, Drop)]
 pub struct Segment {
     /// The bar's number.

@@ -202,6 +202,10 @@ fn is_dumb(kind: &Option<String>) -> bool
 }
 
 /// What a bar is made with: where it is drawn, and the clock that tells it the moment.
+///
+/// ```
+/// let setup = Setup { target: ProgressDrawTarget::term_like(term), clock: StepClock { next: 0, step: 1 } };
+/// ```
 #[derive(Debug, Drop)]
 pub struct Setup<T, C> {
     /// Where the bar is drawn.

@@ -14,6 +14,11 @@ use std::marker::Model;
 ///
 /// A call that fails has written a beginning of its bytes, and adds 1 modulo 2^64 to `faults`. A move by 0 writes nothing and
 /// never fails.
+///
+/// ```
+/// let mut term = Term::new(BufWriter::new(alloc, rt.stderr())?, 24, 80);
+/// term.write_line("ab")?; // the bytes `ab\r\n`
+/// ```
 #[derive(Drop)]
 pub struct Term<W: Write> {
     writer: W,

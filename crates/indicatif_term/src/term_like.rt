@@ -11,6 +11,12 @@ use std::io;
 /// terminal on by exactly these bytes and changes nothing else, the size included. One that fails has written a
 /// beginning of them, and adds 1 modulo 2^64 to `faults`; no other call changes it. Of the bytes of a terminal that tells
 /// nothing, nothing is claimed.
+///
+/// ```
+/// term.write_line("ab")?;
+/// term.move_cursor_up(1)?;
+/// term.clear_line()?; // the row of `ab` is empty again
+/// ```
 pub trait TermLike {
     /// What contracts see of it: what it tells of itself, its size, and how often a call has failed.
     ghost view: { Self → TermView };

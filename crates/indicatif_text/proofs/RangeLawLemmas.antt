@@ -40,7 +40,8 @@ pieces_all end column (Run text ∷ ps) h =
     let begins : column < end = omega (arith, h) in
     let within : column + sum_by width_of text ≤ end = omega (arith, h, sum) in
     let after : column + sum_by width_of text + run_columns ps < end = omega (arith, h, sum) in
-    ap (λ t. t ++ pieces_within 0 end (column + sum_by width_of text) ps) (shown_by (nat_lt column end) (standing_within 0 end column text) text (lt-ltb column end begins) (standing_all end column text within))
+    ap (λ t. t ++ pieces_within 0 end (column + sum_by width_of text) ps)
+    (shown_by (nat_lt column end) (standing_within 0 end column text) text (lt-ltb column end begins) (standing_all end column text within))
     ∙ ap (λ t. text ++ t) (pieces_all end (column + sum_by width_of text) ps after)
 
 pub whole_range : WholeRange

@@ -20,7 +20,7 @@ use indicatif_bar::style::{NoTracker, ProgressStyle};
 use indicatif_term::draw_target::ProgressDrawTarget;
 use indicatif_term::in_memory::Cells;
 use indicatif_term::term_like::Term;
-use indicatif_text::columns::Refusal;
+use indicatif_text::columns::{Drawn, Refusal};
 use list::{AFTER, CASES, Case, Source, Step};
 use std::alloc::Global;
 use std::io::Write;
@@ -91,29 +91,44 @@ fn bytes_of(alloc: Global, case: &Case) -> Result<Vec<u8>> {
     }
 }
 
-/// What a bar writes to a terminal of the case's size. A call that is refused writes nothing.
-fn bytes_of_bar(alloc: Global, case: &Case, steps: &[Step]) -> Result<Vec<u8>> {
+/// A bar on a terminal that keeps its bytes.
+type Bar = LoneBar<NoTracker, Term<Vec<u8>>>;
+
+/// A bar on a terminal of the case's size.
+fn bar_of(alloc: Global, case: &Case) -> Result<Bar> {
     let term = Term::new(Vec::new(alloc), case.rows, case.cols);
-    let target = ProgressDrawTarget::term_like(term);
-    let mut bar = LoneBar::new(
-        BarState::<NoTracker>::styled(
-            alloc,
-            ProgressStyle::with_template(alloc, "{msg}")?,
-            None,
-            0,
-        )?,
-        target,
-    );
+    let style = ProgressStyle::with_template(alloc, "{msg}")?;
+    let state = BarState::styled(alloc, style, None, 0)?;
+    Ok(LoneBar::new(state, ProgressDrawTarget::term_like(term)))
+}
+
+fn say(bar: &mut Bar, message: &str) -> Result<Drawn, Refusal> {
+    bar.set_message(message, 0)
+}
+
+fn log(bar: &mut Bar, text: &str) -> Result<Drawn, Refusal> {
+    bar.println(text, 0)
+}
+
+/// Makes the calls. One that is refused for a wide character writes nothing.
+fn play(bar: &mut Bar, steps: &[Step]) -> Result<()> {
     for step in steps {
         let drawn = match *step {
-            Step::Message(text) => bar.set_message(text, 0),
-            Step::Log(text) => bar.println(text, 0),
+            Step::Message(text) => say(bar, text),
+            Step::Log(text) => log(bar, text),
         };
         match drawn {
             Ok(_) | Err(Refusal::TooWide) => {}
             Err(refusal) => bail!("{refusal}"),
         }
     }
+    Ok(())
+}
+
+/// What a bar writes to a terminal of the case's size.
+fn bytes_of_bar(alloc: Global, case: &Case, steps: &[Step]) -> Result<Vec<u8>> {
+    let mut bar = bar_of(alloc, case)?;
+    play(&mut bar, steps)?;
     match bar.term() {
         Some(term) => Ok(Vec::from_slice(alloc, term.writer().as_slice())?),
         None => Ok(Vec::new(alloc)),

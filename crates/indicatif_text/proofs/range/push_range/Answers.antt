@@ -41,7 +41,8 @@ pieces-preserved c =
     let less = leaves_less _ _ _ _ _ _ _ c.pieces.invariant.out_is left c.in_ok-column.ensures.text in
     record {
       sum_is = omega (arith, column, c.pieces.invariant.sum_is, columns_behind_run c.pieces.rest c.next.new.self run at);
-      out_is = subst (λ k. Leaves (string_bytes c.args.out.now) (string_bytes c.push_run.new.out) (pieces_within c.args.start c.args.end k c.next.new.self) (ansi_range (chars c.args.text.now) c.args.start c.args.end)) (sym column) less;
+      out_is = subst (λ k. Leaves (string_bytes c.args.out.now) (string_bytes c.push_run.new.out) (pieces_within c.args.start c.args.end k c.next.new.self)
+          (ansi_range (chars c.args.text.now) c.args.start c.args.end)) (sym column) less;
     }
 
 pub returns-clause-range : goal.returns-clause-range

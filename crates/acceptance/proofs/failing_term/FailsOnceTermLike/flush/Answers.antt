@@ -1,4 +1,4 @@
-use Rattle.acceptance.proofs.Failing.{denied, passed}
+use Rattle.acceptance.proofs.FailingTermLemmas.{denied, passed}
 use Rattle.acceptance.proofs.failing_term.FailsOnceTermLike.flush.Goals as goal
 
 pub returns-in_err-admit : goal.returns-in_err-admit

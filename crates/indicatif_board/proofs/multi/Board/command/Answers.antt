@@ -58,7 +58,8 @@ returns-in_err-ask-clause-leads g c = λ mark s inside.
         | inl late ↦ rw late (made_at_once tracks mark old old (Change id command) now s false (Refused ElapsedBeyondClock) s (late_deed tracks mark old id command now s f.0 there
             (c.in_err-ask.ensures.beyond.0 (ap Err late))) refl refl)
         | inr short ↦
-            let text = sym (said_of_place false (λ bar. takes_memory command bar) b.members.items s.members id.number c.in_ok-at.at item inside.1.members_are f.1.0 within c.index_mut.ensures.value) ∙ c.in_err-ask.ensures.memory (ap Err short) in
+            let text = sym (said_of_place false (λ bar. takes_memory command bar) b.members.items s.members id.number c.in_ok-at.at item inside.1.members_are f.1.0 within c.index_mut.ensures.value)
+            ∙ c.in_err-ask.ensures.memory (ap Err short) in
             let in_time = in_time_of (is_beyond_clock command now) (Err c.in_err-ask.field-0.0) c.in_err-ask.ensures.beyond (λ e. cc) in
             rw short (made_short tracks mark old old (Change id command) now s (draw_by (board_bars tracks) (target_of old) id.number command now s)
             (command_deed tracks mark old id command now s f.0 in_time) text)

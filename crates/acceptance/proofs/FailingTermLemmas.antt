@@ -1,4 +1,4 @@
--- A terminal in memory of which one call fails.
+-- That a terminal in memory of which one call fails keeps the promises of `TermLike`.
 use Rattle.std.proofs.Common.{◌≡◌, ℕ, ◌+◌, ◌%◌, ◌^◌, List, [], Result, Ok, Err, refl, sym, ap, subst, if◌then◌else◌}
 use Rattle.std.specs.Prelude.{IsErr}
 use Rattle.std.specs.Result.{is_err}
