@@ -104,6 +104,7 @@ SOURCES = {
     },
     "indicatif": {
         "Moves": (OWN, {}),
+        "Owned": (OWN, {}),
         "Ring": (CRATE, {}),
         "Seek": (CRATE, {}),
         "Wrap": (OWN, {}),

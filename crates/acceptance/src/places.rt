@@ -1,5 +1,5 @@
 //! The greatest of the last places, and the place that moves and seeks show.
-use indicatif::iter::{MaxRingBuf, SeekMax};
+use indicatif::{MaxRingBuf, SeekMax};
 
 #[test]
 fn the_greatest_of_the_last_ten(rt: HostRuntime) {

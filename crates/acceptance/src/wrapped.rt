@@ -1,5 +1,5 @@
 //! Iterators, readers and writers that move a bar: a bar of the tests', which tells where it stands and counts its moves.
-use indicatif::iter::{Moves, ProgressBarIter};
+use indicatif::{Moves, ProgressBarIter};
 use indicatif_text::columns::{Drawn, Refusal};
 use std::io::{self, BufRead, Cursor, ErrorKind, Read, Seek, SeekFrom, Write};
 use std::test::Fail;

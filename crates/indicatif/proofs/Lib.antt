@@ -1,3 +1,4 @@
 mod RingLemmas
 mod SeekLemmas
 mod LoopLemmas
+mod OwnedLemmas

@@ -1,4 +1,5 @@
 pub mod Moves
+pub mod Owned
 pub mod Ring
 pub mod Seek
 pub mod Wrap

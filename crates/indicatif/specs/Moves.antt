@@ -1,5 +1,5 @@
 -- What moves a bar, and what a bar that tells of itself says after a move.
-use Rattle.std.specs.Prelude.{◌≡◌, ℕ, ◌+◌, ◌%◌, ◌^◌, Bool, true, Option, Some, IfSome, unwrap_or, Result, Err, ◌⊎◌}
+use Rattle.std.specs.Prelude.{◌≡◌, ℕ, ◌+◌, ◌%◌, ◌^◌, Bool, true, Option, Some, IfSome, unwrap_or, Result, Err, ◌⊎◌, List, [], ◌∷◌, ◌++◌, replicate}
 use Rattle.indicatif_text.specs.declared.refusal.Drawn.{Drawn}
 use Rattle.indicatif_text.specs.declared.refusal.Refusal.{Refusal}
 use Rattle.indicatif_text.specs.declared.refusal.Refusal.TheVariants.{Memory}
@@ -31,3 +31,12 @@ abbrev pub Goes : Option Standing → Move → Result Drawn Refusal → Option S
 Goes before (Advance n) answer now = IfSome before (λ bar. now ≡ Some (after_bar_move bar (Advance n)))
 Goes before (PlaceAt place) answer now = IfSome before (λ bar. now ≡ Some (after_bar_move bar (PlaceAt place)))
 Goes before FinishAsStored answer now = IfSome before (λ bar. (now ≡ Some (after_bar_move bar FinishAsStored)) ⊎ ((answer ≡ Err Memory) × (now ≡ Some bar)))
+
+-- moves one after another, each with its answer
+abbrev pub MovedAlong : {P : Type 0} → (P → Move → Result Drawn Refusal → P → Type 0) → List (Move × Result Drawn Refusal) → P → P → Type 0
+MovedAlong leads [] old new = new ≡ old
+MovedAlong {P} leads (made ∷ others) old new = (between : P) × leads old made.0 made.1 between × MovedAlong leads others between new
+
+-- the moves of a loop over so many items: an advance by one for each, then a finish, or nothing of a bar that was finished already
+abbrev pub AreOfLoop : ℕ → List Move → Type 0
+AreOfLoop items moves = (moves ≡ replicate items (Advance 1) ++ FinishAsStored ∷ []) ⊎ (moves ≡ replicate items (Advance 1))

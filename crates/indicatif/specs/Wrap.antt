@@ -1,5 +1,5 @@
 -- What a wrapper makes of its bar.
-use Rattle.std.specs.Prelude.{◌≡◌, ◌≢◌, ℕ, zero, suc, Bool, true, false, Option, Some, IfSome, Result, Ok, Err, ◌⊎◌, pos}
+use Rattle.std.specs.Prelude.{◌≡◌, ◌≢◌, ℕ, zero, suc, Bool, true, false, Option, Some, None, IfSome, Result, Ok, Err, ◌⊎◌, pos}
 use Rattle.std.specs.declared.io.traits.SeekFrom.{SeekFrom}
 use Rattle.std.specs.declared.io.traits.SeekFrom.TheVariants.{Start, End, Current}
 use Rattle.futures.specs.declared.task.Poll.{Poll}
@@ -7,7 +7,7 @@ use Rattle.futures.specs.declared.task.Poll.TheVariants.{Ready, Pending}
 use Rattle.indicatif_text.specs.declared.refusal.Drawn.{Drawn}
 use Rattle.indicatif_text.specs.declared.refusal.Refusal.{Refusal}
 use Rattle.indicatif.specs.Moves.{Standing, Move, Advance, PlaceAt, FinishAsStored, Goes}
-use Rattle.indicatif.specs.Seek.{Seeks, after_move, after_seek}
+use Rattle.indicatif.specs.Seek.{Seeks, no_seeks, after_move, after_seek}
 use Rattle.indicatif.specs.declared.wrap.ProgressBarIter.{ProgressBarIter}
 
 -- ---- what a wrapper is
@@ -23,6 +23,10 @@ seeks_kept w = w.seeks
 -- what the last draw answered, if there was one
 abbrev pub last_draw_of : {T P : Type 0} → ProgressBarIter T P → Option (Result Drawn Refusal)
 last_draw_of w = w.last
+
+-- it wraps this, with nothing remembered yet
+abbrev pub Wraps : {T P : Type 0} → ProgressBarIter T P → T → Type 0
+Wraps w it = (inner_of w ≡ it) × (seeks_kept w ≡ no_seeks) × (last_draw_of w ≡ None)
 
 -- nothing of the bar has changed, nor what is remembered of seeks and of the last draw
 abbrev pub SameBar : {T P : Type 0} → ProgressBarIter T P → ProgressBarIter T P → Type 0

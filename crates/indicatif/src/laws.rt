@@ -1,13 +1,19 @@
 //! Laws of the definitions: functions that do nothing, each with a law as its contract.
-ghost use Rattle.std.specs.Prelude.{◌≡◌, ◌≤◌, ◌<◌, ◌^◌, false, ℕ, List, Some, IfSome, Err, ◌⊎◌, take, reverse, map, sum, length};
+ghost use Rattle.std.specs.Prelude.{◌≡◌, ◌≤◌, ◌<◌, ◌^◌, false, ℕ, List, Some, IfSome, Result, Err, ◌⊎◌, take, reverse, map, sum, length};
+ghost use Rattle.indicatif_text.specs.declared.refusal.Drawn.{Drawn};
+ghost use Rattle.indicatif_text.specs.declared.refusal.Refusal.{Refusal};
 ghost use Rattle.indicatif_text.specs.declared.refusal.Refusal.TheVariants.{Memory};
 ghost use Rattle.indicatif.specs.declared.wrap.ProgressBarIter.{ProgressBarIter};
-ghost use Rattle.indicatif.specs.Moves.{Advance, FinishAsStored, after_bar_move};
+ghost use Rattle.indicatif.specs.Moves.{Move, Advance, FinishAsStored, after_bar_move, MovedAlong, AreOfLoop};
+ghost use Rattle.indicatif.specs.Owned.{Commanded, IsRun};
+ghost use Rattle.indicatif.specs.declared.owned.OwnedBar.{OwnedBar};
 ghost use Rattle.indicatif.specs.Wrap.{Loops, last_draw_of};
 ghost use Rattle.indicatif.specs.Ring.{kept_updates};
 ghost use Rattle.indicatif.specs.Seek.{Seeks, no_seeks, saturated, Forward, after_seek, after_steps};
 
 use crate::moves::Moves;
+use indicatif_bar::style::ProgressTracker;
+use indicatif_term::term_like::TermLike;
 
 /// What is kept after a list of updates is its last `n`, the latest first.
 pub fn the_last_updates_are_kept()
@@ -38,4 +44,18 @@ pub fn a_whole_loop<T, P: Moves>()
         IfSome (P.told start.progress) (λ bar. bar.position < 2 ^ 64 → bar.finished ≡ false →
         (P.told end.progress ≡ Some (after_bar_move (after_bar_move bar (Advance items)) FinishAsStored))
         ⊎ ((last_draw_of end ≡ Some (Err Memory)) × (P.told end.progress ≡ Some (after_bar_move bar (Advance items))))) }
+{}
+
+/// What a loop over all items asks of its bar: an advance by 1 for each item, one after another, then the finish, and nothing
+/// else; of a bar that was finished already no finish.
+pub fn the_moves_of_a_loop<T, P: Moves>()
+    ensures { (items : ℕ) (start end : ProgressBarIter T P) → Loops P.told P.leads items start end →
+        (made : List (Move × Result Drawn Refusal)) × MovedAlong P.leads made start.progress end.progress × AreOfLoop items (map (λ x. x.0) made) }
+{}
+
+/// Any list of moves of a bar with its clock, as those of a loop, is a run of that bar, call by call with these answers; and the
+/// headline holds of it.
+pub fn moves_are_a_run<K: ProgressTracker, T: TermLike + Drop, C>()
+    ensures { (made : List (Move × Result Drawn Refusal)) (old new : OwnedBar K T C) →
+        MovedAlong (Commanded K.means T.view) made old new → IsRun K.means T.view made old new }
 {}

@@ -1,23 +1,58 @@
-//! Progress of iterators, readers and writers.
+//! Progress bars, all of them at one place: the names of the libraries below stand here too, and a program names this crate
+//! alone. Beside them, progress of iterators, readers and writers:
 //!
-//! - `iter`: what moves a bar.
-//! - `moves`: what a bar has to offer to be moved (`iter::Moves`).
-//! - `wrap`: the wrapper (`iter::ProgressBarIter`).
+//! - `moves`: what a bar has to offer to be moved (`Moves`).
+//! - `owned`: a bar with its clock (`OwnedBar`).
+//! - `wrap`: the wrapper (`ProgressBarIter`).
+//! - `builders`: what is said of its bar before it moves. `progress_iterator`: iterators with a bar of their own (`ProgressIterator`).
 //! - `items`, `bytes`, `seeking`, `streams`, `polled`: what the wrapper does as an iterator, as a reader and writer, where it
 //!   seeks, as a stream, and as a reader and writer that is polled.
-//! - `ring`: the greatest of the last places (`iter::MaxRingBuf`).
-//! - `seek`: the place that moves and seeks show (`iter::SeekMax`).
+//! - `ring`: the greatest of the last places (`MaxRingBuf`).
+//! - `seek`: the place that moves and seeks show (`SeekMax`).
+//! - `style`: how a bar looks, with the names that the crate `indicatif` has there.
 //! - `laws`: laws of the definitions.
 #![tactic(auto)]
 
+mod builders;
 mod bytes;
 mod items;
-pub mod iter;
 pub mod laws;
 mod moves;
+mod owned;
 mod polled;
+mod progress_iterator;
 mod ring;
 mod seek;
 mod seeking;
 mod streams;
+pub mod style;
 mod wrap;
+
+pub use crate::moves::Moves;
+pub use crate::owned::OwnedBar;
+pub use crate::progress_iterator::ProgressIterator;
+pub use crate::ring::MaxRingBuf;
+pub use crate::seek::SeekMax;
+pub use crate::wrap::ProgressBarIter;
+pub use indicatif_bar::lone::{LoneBar, LoneCall};
+pub use indicatif_bar::state::{
+    Ask, BarCommand, BarState, Change, Fraction, ProgressFinish, ProgressState, Rate,
+};
+pub use indicatif_bar::style::ProgressStyle;
+pub use indicatif_board::bar_id::BarId;
+pub use indicatif_board::done::{BarWorker, Done};
+pub use indicatif_board::multi::{Board, Candidate, Turned};
+pub use indicatif_term::draw_target::{
+    Engine, Keep, LineType, MultiProgressAlignment, ProgressDrawTarget, RateLimiter, Segment, Setup,
+};
+pub use indicatif_term::in_memory::{Cells, InMemoryTerm};
+pub use indicatif_term::term_like::{Term, TermLike};
+pub use indicatif_text::columns::{
+    Clock, Drawn, Metrics, Moment, Piece, Pieces, Refusal, StepClock, Style, columns, pieces,
+    width, wrapped,
+};
+pub use indicatif_text::format::{
+    BinaryBytes, DecimalBytes, FormattedDuration, HumanBytes, HumanCount, HumanDuration,
+    HumanFloatCount,
+};
+pub use indicatif_text::template::{Alignment, Part, Template};

@@ -1,0 +1,69 @@
+-- What the moves of a loop are, and that moves of a bar with its clock are a run of it.
+use Rattle.std.proofs.Common.{◌≡◌, ℕ, zero, suc, inl, inr, ⊎_elim, List, [], ◌∷◌, map, Option, Result, refl, sym, ap, subst}
+use Rattle.indicatif_text.specs.declared.refusal.Drawn.{Drawn}
+use Rattle.indicatif_text.specs.declared.refusal.Refusal.{Refusal}
+use Rattle.indicatif_term.specs.Calls.{TermView}
+use Rattle.indicatif_bar.specs.Trackers.{Tracking}
+use Rattle.indicatif_bar.specs.Commands.{BarRecord, Command}
+use Rattle.indicatif_bar.specs.Runs.{Runs}
+use Rattle.indicatif_bar.specs.Lone.{LoneState, Call, Change}
+use Rattle.indicatif_bar.specs.LoneBars.{known, lone_bar, IsIn, LeadsBy}
+use Rattle.indicatif_bar.proofs.RunLemmas.{headline}
+use Rattle.indicatif.specs.declared.owned.OwnedBar.{OwnedBar}
+use Rattle.indicatif.specs.declared.wrap.ProgressBarIter.{ProgressBarIter}
+use Rattle.indicatif.specs.Moves.{Standing, Move, Advance, PlaceAt, FinishAsStored, MovedAlong, AreOfLoop}
+use Rattle.indicatif.specs.Wrap.{Loops}
+use Rattle.indicatif.specs.Owned.{lone_of, command_of_move, Commanded, IsRun}
+
+-- the moves of a loop
+abbrev pub LoopMade : {P : Type 0} → (P → Move → Result Drawn Refusal → P → Type 0) → ℕ → P → P → Type 0
+LoopMade leads items old new = (made : List (Move × Result Drawn Refusal)) × MovedAlong leads made old new × AreOfLoop items (map (λ x. x.0) made)
+
+pub loop-made : {T P : Type 0} (told : P → Option Standing) (leads : P → Move → Result Drawn Refusal → P → Type 0) (items : ℕ) (s t : ProgressBarIter T P)
+    → Loops told leads items s t → LoopMade leads items s.progress t.progress
+loop-made told leads zero s t loops = ⊎_elim
+    (λ made. ((FinishAsStored, made.0.answer) ∷ [], (t.progress, made.0.led, refl), inl refl))
+    (λ same. ([], same.0.0, inr refl))
+    loops
+loop-made told leads (suc items) s t loops =
+    let others = loop-made told leads items loops.0 t loops.2 in
+    let made = loops.1.0 in (
+      (Advance 1, made.answer) ∷ others.0,
+      (loops.0.progress, made.led, others.1),
+      ⊎_elim (λ e. inl (ap (λ xs. Advance 1 ∷ xs) e)) (λ e. inr (ap (λ xs. Advance 1 ∷ xs) e)) others.2,
+    )
+
+module _ {K T C : Type 0} (m : Tracking K) (view : T → TermView) where
+  -- a move leads as its command does, at some moment
+  command-leads : (old : OwnedBar K T C) (move : Move) (answer : Result Drawn Refusal) (new : OwnedBar K T C) → Commanded m view old move answer new
+      → (now : ℕ) × LeadsBy m view (lone_of old) (lone_of new) (Change (command_of_move move)) now answer
+  command-leads old (Advance n) answer new made = (made.0, made.1.leads)
+  command-leads old (PlaceAt place) answer new made = (made.0, made.1.leads)
+  command-leads old FinishAsStored answer new made = (made.0, made.1.leads)
+
+  -- the run without its headline
+  abbrev pub RunFrom : List (Move × Result Drawn Refusal) → OwnedBar K T C → OwnedBar K T C → LoneState (BarRecord K) → Type 0
+  RunFrom made old new s =
+      (calls : List (Call (Command K) × ℕ)) × (map (λ call. call.0) calls ≡ map (λ x. Change (command_of_move x.0)) made)
+      × (next : LoneState (BarRecord K)) × IsIn (lone_of new) next
+      × Runs (lone_bar m) calls (map (λ x. x.1) made) (known view (lone_of old)) s (known view (lone_of new)) next
+
+  run-from : (made : List (Move × Result Drawn Refusal)) (old new : OwnedBar K T C) → MovedAlong (Commanded m view) made old new
+      → (s : LoneState (BarRecord K)) → IsIn (lone_of old) s → RunFrom made old new s
+  run-from [] old new same s inside =
+      ([], refl, s, subst (λ b. IsIn (lone_of b) s) (sym same) inside, (ap (λ b. known view (lone_of b)) same, refl))
+  run-from ((move, answer) ∷ made) old new along s inside =
+      let step = command-leads old move answer along.0 along.1 in
+      let led = step.1 s inside in
+      let others = run-from made along.0 new along.2 led.0 led.1 in (
+        (Change (command_of_move move), step.0) ∷ others.0,
+        ap (λ xs. Change (command_of_move move) ∷ xs) others.1,
+        others.2,
+        others.3,
+        (known view (lone_of along.0), led.0, led.2, others.4),
+      )
+
+  pub moves-run : (made : List (Move × Result Drawn Refusal)) (old new : OwnedBar K T C) → MovedAlong (Commanded m view) made old new → IsRun m view made old new
+  moves-run made old new along s inside =
+      let r = run-from made old new along s inside in
+      (r.0, r.1, r.2, r.3, r.4, headline (lone_bar m) r.0 (map (λ x. x.1) made) (known view (lone_of old)) s (known view (lone_of new)) r.2 r.4)

@@ -1,0 +1,5 @@
+use Rattle.indicatif.proofs.OwnedLemmas.{loop-made}
+use Rattle.indicatif.proofs.laws.the_moves_of_a_loop.Goals as goal
+
+pub returns : goal.returns
+returns g c = λ items start end loops. loop-made g.P.Moves.told g.P.Moves.leads items start end loops

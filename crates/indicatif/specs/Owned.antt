@@ -1,0 +1,83 @@
+-- A lone bar with a clock of its own: where it stands, and what a move makes of it.
+use Rattle.std.specs.Prelude.{◌≡◌, ℕ, List, map, Option, None, Result, codes}
+use Rattle.indicatif_text.specs.declared.refusal.Drawn.{Drawn}
+use Rattle.indicatif_text.specs.declared.refusal.Refusal.{Refusal}
+use Rattle.indicatif_text.specs.Template.{TemplatePart, Parses}
+use Rattle.indicatif_term.specs.Calls.{TermView}
+use Rattle.indicatif_bar.specs.Progress.{is_finished}
+use Rattle.indicatif_bar.specs.Finishes.{Finish, AndLeave, WithMessage, AndClear, Abandon, AbandonWithMessage}
+use Rattle.indicatif_bar.specs.Trackers.{Tracking}
+use Rattle.indicatif_bar.specs.Builders.{first_style}
+use Rattle.indicatif_bar.specs.Commands.{BarRecord, Command, Inc, SetPosition, FinishUsingStyle, new_bar}
+use Rattle.indicatif_bar.specs.Runs.{Runs, Headline}
+use Rattle.indicatif_bar.specs.Lone.{LoneState, Call, Change, opening_state}
+use Rattle.indicatif_bar.specs.LoneBars.{record_of, terminal_of, known, lone_bar, IsIn, Obeys, ObeysOrNot}
+use Rattle.indicatif_bar.specs.declared.lone.LoneBar.{LoneBar}
+use Rattle.indicatif.specs.Moves.{Standing, Move, Advance, PlaceAt, FinishAsStored}
+use Rattle.indicatif.specs.Wrap.{inner_of, seeks_kept, last_draw_of}
+use Rattle.indicatif.specs.declared.owned.OwnedBar.{OwnedBar}
+use Rattle.indicatif.specs.declared.wrap.ProgressBarIter.{ProgressBarIter}
+
+-- where a finish puts the position, if it moves it: at the length
+abbrev pub end_place : Finish → Option ℕ → Option ℕ
+end_place AndLeave len = len
+end_place (WithMessage text) len = len
+end_place AndClear len = len
+end_place Abandon len = None
+end_place (AbandonWithMessage text) len = None
+
+-- where a bar stands, by its record
+abbrev pub standing_of : {K : Type 0} → BarRecord K → Standing
+standing_of bar = record {
+  position = bar.progress.position;
+  finished = is_finished bar.progress;
+  ends_at = end_place bar.on_finish bar.progress.len;
+}
+
+-- the bar without its clock
+abbrev pub lone_of : {K T C : Type 0} → OwnedBar K T C → LoneBar K T
+lone_of owned = owned.bar
+
+-- the command that a move is
+abbrev pub command_of_move : {K : Type 0} → Move → Command K
+command_of_move (Advance n) = Inc n
+command_of_move (PlaceAt place) = SetPosition place
+command_of_move FinishAsStored = FinishUsingStyle
+
+-- a move is the bar's command at a moment of its clock
+abbrev pub Commanded : {K T C : Type 0} → Tracking K → (T → TermView) → OwnedBar K T C → Move → Result Drawn Refusal → OwnedBar K T C → Type 0
+Commanded m view old (Advance n) answer new = (now : ℕ) × Obeys m view (lone_of old) (lone_of new) (Inc n) now answer
+Commanded m view old (PlaceAt place) answer new = (now : ℕ) × Obeys m view (lone_of old) (lone_of new) (SetPosition place) now answer
+Commanded m view old FinishAsStored answer new = (now : ℕ) × ObeysOrNot m view (lone_of old) (lone_of new) FinishUsingStyle now answer
+
+-- whatever state the bar may have been in, these moves with their answers are a run of its commands, each at some moment; so the
+-- headline holds of them
+abbrev pub IsRun : {K T C : Type 0} → Tracking K → (T → TermView) → List (Move × Result Drawn Refusal) → OwnedBar K T C → OwnedBar K T C → Type 0
+IsRun {K} m view made old new =
+    (s : LoneState (BarRecord K)) → IsIn (lone_of old) s →
+    let answers = map (λ x. x.1) made in let before = known view (lone_of old) in let now = known view (lone_of new) in
+    (calls : List (Call (Command K) × ℕ)) × (map (λ call. call.0) calls ≡ map (λ x. Change (command_of_move x.0)) made)
+    × (next : LoneState (BarRecord K)) × IsIn (lone_of new) next
+    × (run : Runs (lone_bar m) calls answers before s now next) × Headline (lone_bar m) calls answers before s now next run
+
+-- a bar as it begins: with this record, on this target, nothing drawn yet
+abbrev pub Begins : {K T C : Type 0} → OwnedBar K T C → BarRecord K → Option T → Type 0
+Begins owned bar target = (record_of (lone_of owned) ≡ bar) × (terminal_of (lone_of owned) ≡ target) × IsIn (lone_of owned) (opening_state bar None)
+
+-- the same in the style that a bar has where none is given, with these tick characters
+abbrev pub BeginsPlain : {K T C : Type 0} → OwnedBar K T C → List ℕ → Option ℕ → Option T → Type 0
+BeginsPlain owned ticks len target =
+    (parts : List TemplatePart) × Parses (codes "{wide_bar} {pos}/{len}") parts
+    × ((now : ℕ) × Begins owned (new_bar (first_style ticks parts) len now) target)
+
+-- ---- wrappers over such a bar
+
+module _ {I K T C : Type 0} (m : Tracking K) (view : T → TermView) where
+  -- its bar obeyed a command, at some moment and with some answer; all else is as it was
+  pub record Built (old : ProgressBarIter I (OwnedBar K T C)) (command : Command K) (new : ProgressBarIter I (OwnedBar K T C)) : Type 0 where
+    pub it : inner_of new ≡ inner_of old
+    pub seeks : seeks_kept new ≡ seeks_kept old
+    pub last : last_draw_of new ≡ last_draw_of old
+    pub moment : ℕ
+    pub answer : Result Drawn Refusal
+    pub obeys : Obeys m view (lone_of old.progress) (lone_of new.progress) command moment answer

@@ -1,0 +1,141 @@
+//! Iterators with a bar of their own.
+ghost use Rattle.std.specs.Prelude.{◌≡◌, ℕ, Some, None, IfOk, IfErr, IfSome};
+ghost use Rattle.std.specs.Iterator.{size};
+ghost use Rattle.indicatif_bar.specs.Commands.{new_bar};
+ghost use Rattle.indicatif.specs.Wrap.{Wraps};
+ghost use Rattle.indicatif.specs.Owned.{Begins, BeginsPlain};
+
+use crate::moves::Moves;
+use crate::owned::OwnedBar;
+use crate::wrap::ProgressBarIter;
+use indicatif_bar::style::{NoTracker, ProgressStyle, TICKS};
+use indicatif_term::draw_target::Setup;
+use indicatif_term::term_like::TermLike;
+use indicatif_text::columns::{Clock, Refusal};
+use std::alloc::Global;
+
+/// An iterator is wrapped into one that shows its progress: by a bar that is handed in, or by one that is made on a target with a
+/// clock (`Setup`), in the style `{wide_bar} {pos}/{len}` or another. Nothing is drawn by this.
+///
+/// ```
+/// let setup = Setup { target: ProgressDrawTarget::term_like(term), clock };
+/// let mut wrapped = list.into_iter().progress(alloc, setup)?;
+/// while let Some(item) = wrapped.next() { .. }
+/// ```
+pub trait ProgressIterator: Iterator + Sized {
+    /// Its progress is this bar's.
+    fn progress_with<P: Moves>(self, progress: P) -> ProgressBarIter<Self, P>
+        ensures wraps { Wraps result self }
+        ensures bar { result.progress ≡ progress };
+
+    /// A bar of this length.
+    ///
+    /// Refused: `Memory`.
+    fn progress_count<W: TermLike + Drop, C: Clock + Drop>(
+        self,
+        alloc: Global,
+        len: u64,
+        setup: Setup<W, C>,
+    ) -> Result<ProgressBarIter<Self, OwnedBar<NoTracker, W, C>>, Refusal>
+        ensures wraps { IfOk result (λ w. Wraps w self) }
+        ensures bar { IfOk result (λ w. BeginsPlain w.progress TICKS.now (Some len) setup.target) }
+        ensures memory { IfErr result (λ e. e ≡ Refusal.Memory) };
+
+    /// A bar of as many as are left.
+    ///
+    /// Refused: `Memory`.
+    fn progress<W: TermLike + Drop, C: Clock + Drop>(
+        self,
+        alloc: Global,
+        setup: Setup<W, C>,
+    ) -> Result<ProgressBarIter<Self, OwnedBar<NoTracker, W, C>>, Refusal>
+    where
+        Self: ExactSizeIterator,
+        ensures wraps { IfOk result (λ w. Wraps w self) }
+        ensures bar { IfOk result (λ w. BeginsPlain w.progress TICKS.now (Some (size (Self.remaining self))) setup.target) }
+        ensures memory { IfErr result (λ e. e ≡ Refusal.Memory) };
+
+    /// A bar of as many as are left, in this style.
+    ///
+    /// Refused: `Memory`.
+    fn progress_with_style<W: TermLike + Drop, C: Clock + Drop>(
+        self,
+        alloc: Global,
+        style: ProgressStyle<NoTracker>,
+        setup: Setup<W, C>,
+    ) -> Result<ProgressBarIter<Self, OwnedBar<NoTracker, W, C>>, Refusal>
+    where
+        Self: ExactSizeIterator,
+        ensures wraps { IfOk result (λ w. Wraps w self) }
+        ensures bar { IfOk result (λ w. (now : ℕ) × Begins w.progress (new_bar style (Some (size (Self.remaining self))) now) setup.target) }
+        ensures memory { IfErr result (λ e. e ≡ Refusal.Memory) };
+
+    /// A bar of the most that may be left, by the iterator's `size_hint`; `None`, and nothing is made, where it says no such number.
+    ///
+    /// Refused: `Memory`.
+    fn try_progress<W: TermLike + Drop, C: Clock + Drop>(
+        self,
+        alloc: Global,
+        setup: Setup<W, C>,
+    ) -> Result<Option<ProgressBarIter<Self, OwnedBar<NoTracker, W, C>>>, Refusal>
+        ensures wraps { IfOk result (λ found. IfSome found (λ w. Wraps w self)) }
+        ensures bar { IfOk result (λ found. IfSome found (λ w. (len : ℕ) × BeginsPlain w.progress TICKS.now (Some len) setup.target)) }
+        ensures memory { IfErr result (λ e. e ≡ Refusal.Memory) };
+}
+
+/// Every iterator.
+impl<I: Iterator> ProgressIterator for I {
+    fn progress_with<P: Moves>(self, progress: P) -> ProgressBarIter<I, P> {
+        ProgressBarIter::new(self, progress)
+    }
+
+    fn progress_count<W: TermLike + Drop, C: Clock + Drop>(
+        self,
+        alloc: Global,
+        len: u64,
+        setup: Setup<W, C>,
+    ) -> Result<ProgressBarIter<I, OwnedBar<NoTracker, W, C>>, Refusal> {
+        let bar = OwnedBar::plain(alloc, Some(len), setup)?;
+        Ok(ProgressBarIter::new(self, bar))
+    }
+
+    fn progress<W: TermLike + Drop, C: Clock + Drop>(
+        self,
+        alloc: Global,
+        setup: Setup<W, C>,
+    ) -> Result<ProgressBarIter<I, OwnedBar<NoTracker, W, C>>, Refusal>
+    where
+        I: ExactSizeIterator,
+    {
+        let len = self.len() as u64;
+        let bar = OwnedBar::plain(alloc, Some(len), setup)?;
+        Ok(ProgressBarIter::new(self, bar))
+    }
+
+    fn progress_with_style<W: TermLike + Drop, C: Clock + Drop>(
+        self,
+        alloc: Global,
+        style: ProgressStyle<NoTracker>,
+        setup: Setup<W, C>,
+    ) -> Result<ProgressBarIter<I, OwnedBar<NoTracker, W, C>>, Refusal>
+    where
+        I: ExactSizeIterator,
+    {
+        let len = self.len() as u64;
+        let bar = OwnedBar::styled(alloc, style, Some(len), setup)?;
+        Ok(ProgressBarIter::new(self, bar))
+    }
+
+    fn try_progress<W: TermLike + Drop, C: Clock + Drop>(
+        self,
+        alloc: Global,
+        setup: Setup<W, C>,
+    ) -> Result<Option<ProgressBarIter<I, OwnedBar<NoTracker, W, C>>>, Refusal> {
+        let (_, most) = self.size_hint();
+        let Some(len) = most else {
+            return Ok(None);
+        };
+        let bar = OwnedBar::plain(alloc, Some(len as u64), setup)?;
+        Ok(Some(ProgressBarIter::new(self, bar)))
+    }
+}
