@@ -1,5 +1,5 @@
 -- A range has no more columns than it is wide, all colour sequences of its text, and no other characters.
-use Rattle.std.proofs.Common.{◌≡◌, ℕ, zero, suc, ◌+◌, ◌-◌, ◌≤◌, ◌<◌, Bool, true, false, List, [], ◌∷◌, ◌++◌, append-nil, append_assoc, length, take, drop, Option, Some, None, refl, sym, ◌∙◌, ap, subst, arith, if◌then◌else◌, inl, inr}
+use Rattle.std.proofs.Common.{◌≡◌, ℕ, zero, suc, ◌+◌, ◌-◌, ◌≤◌, ◌<◌, Bool, true, false, List, [], ◌∷◌, ◌++◌, length, drop, Some, None, refl, sym, ◌∙◌, ap, subst, arith, if◌then◌else◌, inl, inr}
 use Rattle.std.specs.Prelude.{◌==◌, ◌&&◌, nat_le, nat_lt, flat_map, sum_by}
 use Rattle.std.specs.List.{list_all, AllByRecursion}
 use Rattle.std.proofs.Math.Seq.{drop-append_seam, take-append_seam}
@@ -7,9 +7,9 @@ use Rattle.std.proofs.lemmas.Bool.{cases_Bool, cond_both, eqb-true}
 use Rattle.std.proofs.lemmas.Bool.Decides.{nat_tests}
 use Rattle.std.proofs.lemmas.List.Sums.{sum_by-cons, sum_by-append}
 use Rattle.std.proofs.lemmas.List.Folds.{list_all-append}
-use Rattle.indicatif_text.specs.Columns.{width_of, columns_of, colour_length, visible}
-use Rattle.indicatif_text.specs.Pieces.{TextPiece, Run, Colour, joined_to, pieces_of_text}
-use Rattle.indicatif_text.specs.PieceLaws.{piece_text, run_text, IsExact, NoRunsAdjoin}
+use Rattle.indicatif_text.specs.Columns.{width_of, colour_length, visible}
+use Rattle.indicatif_text.specs.Pieces.{TextPiece, Run, Colour, pieces_of_text}
+use Rattle.indicatif_text.specs.PieceLaws.{piece_text, IsExact, NoRunsAdjoin}
 use Rattle.indicatif_text.specs.Range.{standing_within, run_within, pieces_within, ansi_range}
 use Rattle.indicatif_text.specs.RangeLaws.{sequence_in, sequences_of, RangesFit, SequencesStay, NoCharacterIsAdded}
 use Rattle.indicatif_text.proofs.ColourSequenceLemmas.{hidden, visible_none}

@@ -1,24 +1,29 @@
 -- What is visible of texts joined, behind one another or with what a style writes, and that a text of no more columns than a row takes one.
-use Rattle.std.proofs.Common.{◌≡◌, ℕ, zero, suc, ◌+◌, ◌-◌, ◌/◌, ◌%◌, ◌<◌, ◌≤◌, Bool, true, false, List, [], ◌∷◌, ◌++◌, append-nil, length, length-append, replicate, take, drop, Option, Some, None, refl, sym, ◌∙◌, ap, arith, append_assoc, if◌then◌else◌, eqb, inl, inr}
-use Rattle.std.specs.Prelude.{◌==◌, ◌&&◌, ◌||◌, not, nat_le, flat_map, option_map, is_some, sum_by, decimal, codes}
+use Rattle.std.proofs.Common.{◌≡◌, ℕ, zero, suc, ◌+◌, ◌/◌, ◌%◌, ◌<◌, ◌≤◌, Bool, true, false, List, [], ◌∷◌, ◌++◌, append-nil, length, length-append, replicate, take, drop, Option, Some, None, refl, sym, ◌∙◌, ap, arith, append_assoc, take-append-drop, if◌then◌else◌, eqb, inl, inr}
+use Rattle.std.specs.Prelude.{◌==◌, ◌&&◌, ◌||◌, not, nat_le, nat_lt, flat_map, option_map, is_some, sum_by, decimal, codes}
 use Rattle.std.specs.Int.{IsInRange}
 use Rattle.std.specs.Fmt.{digits, digits_onto, digit_glyph}
 use Rattle.std.specs.List.{list_all, AllByRecursion}
+use Rattle.std.specs.Str.{IsAscii, chars}
+use Rattle.std.proofs.lemmas.Str.{IsUtf8-from_ascii, IsUtf8-append, chars-append, chars-IsAscii}
+use Rattle.std.proofs.lemmas.Str.Ascii.{IsAscii-from_all}
+use Rattle.std.proofs.lemmas.List.Folds.{list_all-append}
 use Rattle.std.proofs.Math.Seq.{drop-append_seam}
-use Rattle.std.proofs.lemmas.Bool.{cases_Bool, cond_both, ne_eqb, le-leb}
+use Rattle.std.proofs.lemmas.Bool.{cases_Bool, cond_both, ne_eqb, le-leb, lt-ltb, eqb-true}
 use Rattle.std.proofs.lemmas.Bool.Decides.{nat_tests}
 use Rattle.std.proofs.lemmas.List.{take-append-le, drop-append-le, length-map}
 use Rattle.std.proofs.lemmas.List.Sums.{sum_by-cons}
+use Rattle.std.proofs.lemmas.List.Elements.{All-from_recursion}
 use Rattle.unicode_width.specs.Width.{char_width}
 use Rattle.indicatif_text.specs.Columns.{width_of, colour_length, parameters_length, is_parameter, visible, is_plain, glyphs_of, pieces_of, row_of, rows_of}
-use Rattle.indicatif_text.specs.StyleWords.{sequence_of, styled}
+use Rattle.indicatif_text.specs.StyleWords.{sequence_of}
 use Rattle.indicatif_text.specs.Pieces.{TextPiece, Run, Colour, joined_to, pieces_of_text}
 use Rattle.indicatif_text.specs.PieceLaws.{run_text}
 use Rattle.indicatif_text.specs.RangeLaws.{sequence_in, sequences_of}
-use Rattle.indicatif_text.specs.ColumnLaws.{PlainTextsJoin, SpacesAreSeen, StylesAreUnseen, OneRow}
+use Rattle.indicatif_text.specs.ColumnLaws.{PlainTextsJoin, SpacesAreSeen, StylesAreUnseen, StylesAreBytes, OthersAreSeen, PlainTextsHaveWidths, OneRow}
 use Rattle.indicatif_text.proofs.ColourSequenceLemmas.{hidden, visible_none}
-use Rattle.indicatif_text.proofs.PieceLemmas.{first_colour, first_joined, none_left}
-use Rattle.indicatif_text.proofs.PieceLawLemmas.{Sequence, sequence_is, sequence_taken, sequence_before, sequence_length, by_pieces, runs_are_visible, visible_past}
+use Rattle.indicatif_text.proofs.PieceLemmas.{first_colour, first_joined}
+use Rattle.indicatif_text.proofs.PieceLawLemmas.{Parameters, Ended, Further, Sequence, Opened, sequence_is, sequence_taken, sequence_before, sequence_length, by_pieces, runs_are_visible, visible_past}
 use Rattle.indicatif_text.proofs.WrappingLemmas.{heights, pieces}
 
 -- a text that begins with no character that may stand in a colour sequence behind its ESC
@@ -212,6 +217,93 @@ styles_are_unseen true (n ∷ ns) text =
     visible_apart (flat_map sequence_of (n ∷ ns) ++ text) (sequence_of 0) refl
     ∙ ap (λ x. x ++ visible (sequence_of 0)) (numbers_hidden (n ∷ ns) text)
     ∙ ap (λ x. visible text ++ x) (ap visible (sym (append-nil (sequence_of 0))) ∙ number_hidden 0 [] ∙ visible_none) ∙ append-nil (visible text)
+
+digits_low : (ds : List ℕ) → AllByRecursion (IsInRange 48 57) ds → list_all (λ b. nat_lt b 128) ds ≡ true
+digits_low [] all = refl
+digits_low (d ∷ ds) all = rw (lt-ltb d 128 (omega (arith, all.0))) (digits_low ds all.1)
+
+low_both : (xs ys : List ℕ) → list_all (λ b. nat_lt b 128) xs ≡ true → list_all (λ b. nat_lt b 128) ys ≡ true → list_all (λ b. nat_lt b 128) (xs ++ ys) ≡ true
+low_both xs ys e f = list_all-append (λ b. nat_lt b 128) xs ys ∙ rw (e, f) refl
+
+number_low : (n : ℕ) → list_all (λ b. nat_lt b 128) (sequence_of n) ≡ true
+number_low n = low_both (decimal n) (codes "m") (digits_low (decimal n) (decimal_digits n)) refl
+
+numbers_low : (ns : List ℕ) → list_all (λ b. nat_lt b 128) (flat_map sequence_of ns) ≡ true
+numbers_low [] = refl
+numbers_low (n ∷ ns) = low_both (sequence_of n) (flat_map sequence_of ns) (number_low n) (numbers_low ns)
+
+below : (b : ℕ) → nat_lt b 128 ≡ true → b < 128
+below b e = grind (arith, nat_tests)
+
+all_below : (xs : List ℕ) → list_all (λ b. nat_lt b 128) xs ≡ true → AllByRecursion (λ b. b < 128) xs
+all_below [] e = tt
+all_below (b ∷ xs) e = let parts = both_true (nat_lt b 128) (list_all (λ b. nat_lt b 128) xs) e in (below b parts.0, all_below xs parts.1)
+
+ascii : (xs : List ℕ) → list_all (λ b. nat_lt b 128) xs ≡ true → IsAscii xs
+ascii xs e = IsAscii-from_all xs (All-from_recursion (λ b. b < 128) xs (all_below xs e))
+
+pub styles_are_bytes : StylesAreBytes
+styles_are_bytes colours [] text u = (u, refl)
+styles_are_bytes false (n ∷ ns) text u = (u, refl)
+styles_are_bytes true (n ∷ ns) text u =
+    let opening = ascii (flat_map sequence_of (n ∷ ns)) (numbers_low (n ∷ ns)) in
+    let closing = ascii (sequence_of 0) (number_low 0) in
+    let open_utf8 = IsUtf8-from_ascii (flat_map sequence_of (n ∷ ns)) opening in
+    let both_utf8 = IsUtf8-append (flat_map sequence_of (n ∷ ns)) text open_utf8 u in (
+      IsUtf8-append (flat_map sequence_of (n ∷ ns) ++ text) (sequence_of 0) both_utf8 (IsUtf8-from_ascii (sequence_of 0) closing),
+      chars-append (flat_map sequence_of (n ∷ ns) ++ text) (sequence_of 0) both_utf8
+          ∙ ap (λ x. x ++ chars (sequence_of 0)) (chars-append (flat_map sequence_of (n ∷ ns)) text open_utf8 ∙ ap (λ x. x ++ chars text) (chars-IsAscii (flat_map sequence_of (n ∷ ns)) opening))
+          ∙ ap (λ x. flat_map sequence_of (n ∷ ns) ++ chars text ++ x) (chars-IsAscii (sequence_of 0) closing),
+    )
+
+-- ---- characters
+
+pub others_are_seen : OthersAreSeen
+others_are_seen c text other = sym (visible_past c text (no_sequence c text (ne_eqb c 0x1B other)))
+
+-- ESC, or a character with a width
+abbrev is_known : ℕ → Bool
+is_known c = (c == 0x1B) || has_width c
+
+known_by : (a b : Bool) → b ≡ true → (a || b) ≡ true
+known_by true b e = refl
+known_by false b e = e
+
+known_both : (xs ys : List ℕ) → list_all is_known xs ≡ true → list_all is_known ys ≡ true → list_all is_known (xs ++ ys) ≡ true
+known_both xs ys e f = list_all-append is_known xs ys ∙ rw (e, f) refl
+
+parameter_range : (c : ℕ) → is_parameter c ≡ true → IsInRange 0x30 0x3B c
+parameter_range c e = grind (arith, nat_tests)
+
+low_width : (c : ℕ) → IsInRange 0x20 0x7E c → has_width c ≡ true
+unfolding char_width
+low_width c (low, high) = grind (arith, nat_tests)
+
+parameters_known : {cs : List ℕ} {n : ℕ} → Parameters cs n → list_all is_known (take n cs) ≡ true
+parameters_known (Ended c cs ended) = rw (eqb-true c 0x6D ended) (rw (low_width 0x6D (omega arith, omega arith)) refl)
+parameters_known (Further c n cs other is rest) =
+    let range = parameter_range c is in
+    rw (known_by (c == 0x1B) (has_width c) (low_width c (omega (arith, range.0), omega (arith, range.1)))) (parameters_known rest)
+
+sequence_known : {cs : List ℕ} {n : ℕ} → Sequence cs n → list_all is_known (take n cs) ≡ true
+sequence_known (Opened c d n cs opened rest) =
+    let e = both_true (c == 0x1B) (d == 0x5B) opened in
+    let bracket : is_known d ≡ true = ap is_known (eqb-true d 0x5B e.1) ∙ known_by (0x5B == 0x1B) (has_width 0x5B) (low_width 0x5B (omega arith, omega arith)) in
+    rw (e.0, bracket) (parameters_known rest)
+
+plain_known : (c : ℕ) (cs : List ℕ) (ps : List TextPiece) → (list_all has_width (flat_map run_text ps) ≡ true → list_all is_known cs ≡ true)
+    → list_all has_width (flat_map run_text (joined_to c ps)) ≡ true → list_all is_known (c ∷ cs) ≡ true
+plain_known c cs ps rest e =
+    let all = both_true (has_width c) (list_all has_width (flat_map run_text ps)) (ap (list_all has_width) (sym (run_joins c ps)) ∙ e) in
+    rw (known_by (c == 0x1B) (has_width c) all.0) (rest all.1)
+
+pub plain_texts_have_widths : PlainTextsHaveWidths
+unfolding is_plain
+plain_texts_have_widths text e =
+    by_pieces (λ cs ps. list_all has_width (flat_map run_text ps) ≡ true → list_all is_known cs ≡ true) (λ _. refl)
+    (λ c cs ps none rest e. plain_known c cs ps rest e)
+    (λ n cs ps s rest e. ap (list_all is_known) (sym (take-append-drop n cs)) ∙ known_both (take n cs) (drop n cs) (sequence_known s) (rest e))
+    text (ap (list_all has_width) (runs_are_visible text) ∙ e)
 
 -- ---- one row
 
