@@ -15,3 +15,5 @@ pub mod AnswerLemmas
 pub mod LoneRunLemmas
 pub mod CommandAnswerLemmas
 pub mod BoundLemmas
+pub mod TextWidthLemmas
+pub mod BarWidthLemmas

@@ -20,7 +20,7 @@ use Rattle.indicatif_text.specs.StyleWords.{sequence_of}
 use Rattle.indicatif_text.specs.Pieces.{TextPiece, Run, Colour, joined_to, pieces_of_text}
 use Rattle.indicatif_text.specs.PieceLaws.{run_text}
 use Rattle.indicatif_text.specs.RangeLaws.{sequence_in, sequences_of}
-use Rattle.indicatif_text.specs.ColumnLaws.{PlainTextsJoin, SpacesAreSeen, StylesAreUnseen, StylesAreBytes, OthersAreSeen, PlainTextsHaveWidths, OneRow}
+use Rattle.indicatif_text.specs.ColumnLaws.{PlainTextsJoin, SpacesAreSeen, NumbersAreUnseen, StylesAreUnseen, StylesAreBytes, OthersAreSeen, PlainTextsHaveWidths, OneRow}
 use Rattle.indicatif_text.proofs.ColourSequenceLemmas.{hidden, visible_none}
 use Rattle.indicatif_text.proofs.PieceLemmas.{first_colour, first_joined}
 use Rattle.indicatif_text.proofs.PieceLawLemmas.{Parameters, Ended, Further, Sequence, Opened, sequence_is, sequence_taken, sequence_before, sequence_length, by_pieces, runs_are_visible, visible_past}
@@ -241,6 +241,9 @@ all_below (b ∷ xs) e = let parts = both_true (nat_lt b 128) (list_all (λ b. n
 
 ascii : (xs : List ℕ) → list_all (λ b. nat_lt b 128) xs ≡ true → IsAscii xs
 ascii xs e = IsAscii-from_all xs (All-from_recursion (λ b. b < 128) xs (all_below xs e))
+
+pub numbers_are_unseen : NumbersAreUnseen
+numbers_are_unseen numbers text = (ascii (flat_map sequence_of numbers) (numbers_low numbers), numbers_hidden numbers text)
 
 pub styles_are_bytes : StylesAreBytes
 styles_are_bytes colours [] text u = (u, refl)

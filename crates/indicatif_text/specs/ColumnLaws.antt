@@ -1,10 +1,10 @@
 -- Laws of what is visible of a text, of its columns and of its rows. Texts are lists of characters.
-use Rattle.std.specs.Prelude.{◌≡◌, ◌≢◌, ℕ, ◌≤◌, Bool, false, ◌||◌, ◌==◌, List, ◌∷◌, ◌++◌, length, replicate, is_some, IsTrue}
+use Rattle.std.specs.Prelude.{◌≡◌, ◌≢◌, ℕ, ◌≤◌, Bool, false, ◌||◌, ◌==◌, List, ◌∷◌, ◌++◌, length, replicate, flat_map, is_some, IsTrue}
 use Rattle.std.specs.List.{list_all}
-use Rattle.std.specs.Str.{IsUtf8, chars}
+use Rattle.std.specs.Str.{IsUtf8, IsAscii, chars}
 use Rattle.unicode_width.specs.Width.{char_width}
 use Rattle.indicatif_text.specs.Columns.{visible, columns_of, is_plain, rows_of}
-use Rattle.indicatif_text.specs.StyleWords.{styled}
+use Rattle.indicatif_text.specs.StyleWords.{sequence_of, styled}
 
 -- behind a text of characters with a width and colour sequences, each text is seen as it is alone
 abbrev pub PlainTextsJoin : Type 0
@@ -13,6 +13,10 @@ PlainTextsJoin = (front text : List ℕ) → IsTrue (is_plain front) → visible
 -- spaces behind a text are seen, whatever the text ends in
 abbrev pub SpacesAreSeen : Type 0
 SpacesAreSeen = (text : List ℕ) (n : ℕ) → visible (text ++ replicate n 0x20) ≡ visible text ++ replicate n 0x20
+
+-- colour sequences of any numbers are ASCII, and not seen
+abbrev pub NumbersAreUnseen : Type 0
+NumbersAreUnseen = (numbers text : List ℕ) → IsAscii (flat_map sequence_of numbers) × (visible (flat_map sequence_of numbers ++ text) ≡ visible text)
 
 -- what a style writes round a text is not seen
 abbrev pub StylesAreUnseen : Type 0

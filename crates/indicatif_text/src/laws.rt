@@ -1,5 +1,5 @@
 //! What follows from the definitions, apart from how they are made: each law is the contract of a function that does nothing.
-ghost use Rattle.indicatif_text.specs.ColumnLaws.{PlainTextsJoin, SpacesAreSeen, StylesAreUnseen, StylesAreBytes, OthersAreSeen, PlainTextsHaveWidths, OneRow};
+ghost use Rattle.indicatif_text.specs.ColumnLaws.{PlainTextsJoin, SpacesAreSeen, NumbersAreUnseen, StylesAreUnseen, StylesAreBytes, OthersAreSeen, PlainTextsHaveWidths, OneRow};
 ghost use Rattle.indicatif_text.specs.RangeLaws.{WholeRange, RangesFit, SequencesStay, NoCharacterIsAdded};
 ghost use Rattle.indicatif_text.specs.FormatLaws.{RoundsByHalf, TiesToEven, RoundsHalfUp, LastDigitsAreRest, DigitsSpell, CommasAside, NumeralSpells, CommasByThousands, OnlyZerosDropped, NoZeroLeft, FloatCountSpells, FloatCountCounts, FloatCountEnds, GreatestPrefix, BinaryBytesTell, DecimalBytesTell, TellsSeconds, NoLongerUnit, ReachesUnit, WordsTell, ShortIsWords};
 ghost use Rattle.indicatif_text.specs.PieceLaws.{PiecesJoin, RunsAreVisible, PiecesAreExact, NoEmptyPieces, RunsAreLongest};
@@ -85,6 +85,7 @@ pub fn template_or_refused()
 pub fn columns()
     ensures join { PlainTextsJoin }
     ensures spaces { SpacesAreSeen }
+    ensures numbers { NumbersAreUnseen }
     ensures styles { StylesAreUnseen }
     ensures bytes { StylesAreBytes }
     ensures others { OthersAreSeen }
