@@ -119,7 +119,7 @@ takes_bar clusters colours alternative position len width are =
     let shade = shade_of f n (length clusters) in
     let s = shaded f n (length clusters) (proper position len) in
     let begun = takes_both (filled_cells f n * u) (length (option_to_list shade) * u) (times (filled_cells f n) (cluster clusters 0)) (concat (map (cluster clusters) (option_to_list shade)))
-        (takes_times (filled_cells f n) u (cluster clusters 0) (takes_cluster clusters 0 (omega (arith, many)) are)) (takes_shade clusters shade are s.between) in
+    (takes_times (filled_cells f n) u (cluster clusters 0) (takes_cluster clusters 0 (omega (arith, many)) are)) (takes_shade clusters shade are s.between) in
     let left = cells_left f n (length clusters) in
     let last = cluster clusters (length clusters - 1) in
     let rest = takes_styled (left * u) colours alternative (times left last) (takes_times left u last (takes_cluster clusters (length clusters - 1) (omega (arith, many)) are)) in
@@ -136,7 +136,7 @@ pub bars_fit : BarsFit
 bars_fit clusters colours alternative position len width are =
     omega (arith, bars_take_their_cells clusters colours alternative position len width are, cells_fit clusters width)
 
-exact : (width u : ℕ) → width % u ≡ 0 → width / u * u ≡ width
+pub exact : (width u : ℕ) → width % u ≡ 0 → width / u * u ≡ width
 exact width u e = omega (arith, e)
 
 pub bars_fill : BarsFill
@@ -163,8 +163,7 @@ filled_are_shown clusters colours alternative position len width = shown_with cl
 
 pub never_shows_fewer : NeverShowsFewer
 never_shows_fewer clusters colours alternative position later len width h =
-    let n = cells_in clusters width in
-    (
+    let n = cells_in clusters width in (
       filled_cells (fraction_of position (Some len)) n,
       filled_cells (fraction_of later (Some len)) n,
       filled_are_shown clusters colours alternative position len width,

@@ -17,3 +17,4 @@ pub mod CommandAnswerLemmas
 pub mod BoundLemmas
 pub mod TextWidthLemmas
 pub mod BarWidthLemmas
+pub mod WideBarLemmas

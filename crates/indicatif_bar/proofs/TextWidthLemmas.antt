@@ -144,7 +144,7 @@ more_by b long short e = rw e refl
 less_by : (b : Bool) (long short : List ℕ) → b ≡ false → (if b then long else short) ≡ short
 less_by b long short e = rw e refl
 
-padded_short : (text : List ℕ) (width : ℕ) (align : Alignment) (truncate : Bool) → text_columns text ≤ width → padded text width align truncate ≡ surrounded text align (width - text_columns text)
+pub padded_short : (text : List ℕ) (width : ℕ) (align : Alignment) (truncate : Bool) → text_columns text ≤ width → padded text width align truncate ≡ surrounded text align (width - text_columns text)
 unfolding padded
 padded_short text width align truncate h =
     let e : nat_lt width (text_columns text) ≡ false = grind (arith, nat_tests) in

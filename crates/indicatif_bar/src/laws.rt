@@ -2,6 +2,7 @@
 
 ghost use Rattle.indicatif_bar.specs.Tabs.{TabsAreGone, OthersStay};
 ghost use Rattle.indicatif_bar.specs.ProgressLaws.{FractionsAreProper, WholeAtTheEnd, RatesHaveTime, TimesFit, TimesAreQuotients, StepsAreQuotients, TabsAgree, FinishedDrawsAreForced};
+ghost use Rattle.indicatif_bar.specs.LineLaws.{WideBarsFill, NewTabWidths, LastTabWidthCounts};
 ghost use Rattle.indicatif_bar.specs.StyleLaws.{PaddedFills, NeverNarrower, NeverWider, FullAtItsLength, EmptyAtItsStart, NeverFewerCells, NeverMoreCells, CellsFit, FilledAreShown, NeverShowsFewer, BarsTakeTheirCells, BarsFill, BarsFit};
 ghost use Rattle.std.specs.Prelude.{ℕ, List, ◌≡◌, Option, None, Result, IsTrue, IsFalse};
 ghost use Rattle.indicatif_text.specs.declared.refusal.Refusal.{Refusal};
@@ -90,6 +91,18 @@ pub fn tabs()
 pub fn commands<K>()
     ensures tabs { TabsAgree K }
     ensures finished { FinishedDrawsAreForced K }
+{}
+
+/// A line with one wide bar, of clusters of one column, fills its row exactly where its other parts have a width and room: it
+/// never wraps.
+pub fn lines<K>()
+    ensures { WideBarsFill K }
+{}
+
+/// A new width of tabs gives the texts as they were set, and the template's literals, with that width; the last one counts.
+pub fn tab_widths<K>()
+    ensures new { NewTabWidths K }
+    ensures last { LastTabWidthCounts K }
 {}
 
 /// A text at a width takes exactly it where it has no more columns, without truncation never fewer, with truncation never more.
