@@ -1,12 +1,11 @@
 -- A bar takes as many columns as its cells, and its text is its filled clusters, at most a shade, and its unfilled ones.
-use Rattle.std.proofs.Common.{◌≡◌, ℕ, zero, suc, ◌+◌, ◌-◌, ◌*◌, ◌/◌, ◌%◌, ◌<◌, ◌≤◌, Bool, true, false, List, [], ◌∷◌, ◌++◌, append-nil, length, refl, sym, ◌∙◌, ap, subst, arith, if◌then◌else◌, inl, inr, Option, Some, None, map, get_or}
-use Rattle.std.specs.Prelude.{not, ◌==◌, ◌&&◌, nat_lt, option_to_list, min, All, IfSome}
+use Rattle.std.proofs.Common.{◌≡◌, ℕ, zero, suc, ◌+◌, ◌-◌, ◌*◌, ◌/◌, ◌%◌, ◌<◌, ◌≤◌, Bool, true, false, List, [], ◌∷◌, ◌++◌, append-nil, length, refl, sym, ◌∙◌, ap, subst, arith, if◌then◌else◌, Option, Some, None, map}
+use Rattle.std.specs.Prelude.{not, ◌==◌, ◌&&◌, nat_lt, option_to_list, IfSome}
 use Rattle.std.specs.List.{list_all, concat}
-use Rattle.std.proofs.lemmas.Bool.{cases_Bool, eqb-true}
+use Rattle.std.proofs.lemmas.Bool.{eqb-true}
 use Rattle.std.proofs.lemmas.Bool.Decides.{nat_tests}
 use Rattle.std.proofs.lemmas.List.Elements.{All-get_or}
-use Rattle.std.proofs.Math.Nat.{div-le_of_le-mul, div-mul-le_self, mul-le-mul_right, div-lt_iff_lt-mul, mod-lt, mul_comm, add-mul, mul-lt-mul_of_pos_right}
-use Rattle.indicatif_text.specs.declared.refusal.Refusal.{Refusal}
+use Rattle.std.proofs.Math.Nat.{div-le_of_le-mul, mul-le-mul_right, div-lt_iff_lt-mul, mod-lt, mul_comm, add-mul, mul-lt-mul_of_pos_right}
 use Rattle.indicatif_text.specs.declared.refusal.Refusal.TheVariants.{FewProgressChars, UnequalWidths, ZeroWidthChars}
 use Rattle.indicatif_text.specs.StyleWords.{styled}
 use Rattle.indicatif_bar.specs.declared.measures.Fraction.{Fraction}

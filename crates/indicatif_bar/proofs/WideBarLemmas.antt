@@ -1,33 +1,32 @@
 -- A line with one wide bar of clusters of one column fills its row exactly.
-use Rattle.std.proofs.Common.{◌≡◌, ◌≢◌, ℕ, zero, suc, ◌+◌, ◌-◌, ◌*◌, ◌/◌, ◌%◌, ◌<◌, ◌≤◌, Bool, true, false, ◌||◌, List, [], ◌∷◌, ◌++◌, append-nil, append_assoc, length, length-append, replicate, refl, sym, ◌∙◌, ap, subst, arith, if◌then◌else◌, Option, Some, None, inl, inr}
-use Rattle.std.specs.Prelude.{◌==◌, ◌&&◌, nat_lt, sum_by, flat_map, filter_map, find, is_some, unwrap_or, codes, All, encode_utf8_all}
+use Rattle.std.proofs.Common.{◌≡◌, ◌≢◌, ℕ, suc, ◌+◌, ◌-◌, ◌*◌, ◌/◌, ◌%◌, ◌<◌, ◌≤◌, Bool, true, false, ◌||◌, List, [], ◌∷◌, ◌++◌, append-nil, append_assoc, length, length-append, refl, sym, ◌∙◌, ap, subst, arith, if◌then◌else◌, Option, Some, None}
+use Rattle.std.specs.Prelude.{◌==◌, ◌&&◌, nat_lt, sum_by, flat_map, find, is_some, unwrap_or, codes, All, encode_utf8_all}
 use Rattle.std.specs.Option.{option_map_or}
 use Rattle.std.specs.List.{list_all, list_any, slice_split, last_or, AllByRecursion}
-use Rattle.std.specs.Str.{IsUtf8, IsAscii, chars}
+use Rattle.std.specs.Str.{chars}
 use Rattle.std.proofs.Math.Utf8.{encode, encodes, next}
-use Rattle.std.proofs.lemmas.Bool.{cond_both, ne_eqb, eqb-true, cases_lt}
-use Rattle.std.proofs.lemmas.Bool.Decides.{nat_tests}
+use Rattle.std.proofs.lemmas.Bool.{cond_both, ne_eqb}
 use Rattle.std.proofs.lemmas.List.Concat.{flat_map-append}
 use Rattle.std.proofs.lemmas.List.Elements.{All-from_recursion, All-append, All-cons}
 use Rattle.std.proofs.lemmas.List.Folds.{list_any-append, list_any_none}
 use Rattle.std.proofs.lemmas.List.Splits.{slice_split_none}
 use Rattle.std.proofs.lemmas.List.Sums.{sum_by-cons}
 use Rattle.std.proofs.lemmas.Str.Ascii.{IsAscii-from_all}
-use Rattle.std.proofs.lemmas.Str.{IsUtf8-from_ascii, chars-append, chars-IsAscii, chars-nil, encodes-chars}
+use Rattle.std.proofs.lemmas.Str.{IsUtf8-from_ascii, chars-append, chars-IsAscii, encodes-chars}
 use Rattle.unicode_width.specs.Width.{char_width}
 use Rattle.indicatif_text.specs.Columns.{width_of, visible, is_plain}
 use Rattle.indicatif_text.specs.StyleWords.{sequence_of, styled}
-use Rattle.indicatif_text.specs.Template.{Layout, TemplatePart, KeyText}
+use Rattle.indicatif_text.specs.Template.{KeyText}
 use Rattle.indicatif_text.specs.declared.template.Alignment.{Alignment}
 use Rattle.indicatif_text.specs.declared.template.Alignment.TheVariants.{Left, Center, Right}
 use Rattle.indicatif_text.proofs.SeamLemmas.{numbers_are_unseen, others_are_seen, plain_texts_have_widths, one_row}
-use Rattle.indicatif_bar.specs.Progress.{Progress, fraction}
+use Rattle.indicatif_bar.specs.Progress.{Progress}
 use Rattle.indicatif_bar.specs.Tabs.{expanded}
 use Rattle.indicatif_bar.specs.Trackers.{Tracking}
-use Rattle.indicatif_bar.specs.Layout.{text_columns, spaces, surrounded, padded, cluster, bar_text}
-use Rattle.indicatif_bar.specs.Keys.{named, key_named}
-use Rattle.indicatif_bar.specs.BarStyles.{Style, Wide, WideBarOf, mark, is_mark, is_newline, columns_left, with_marks_as, wide_text, filled, lines_of, key_text, named_text, laid_out, part_text, wide_part, latest_wide, lines_of_groups, lines, is_line_break}
-use Rattle.indicatif_bar.specs.StyleLaws.{IsPlainText, ArePlainClusters, cells_in}
+use Rattle.indicatif_bar.specs.Layout.{text_columns, spaces, surrounded, padded, cluster}
+use Rattle.indicatif_bar.specs.Keys.{key_named}
+use Rattle.indicatif_bar.specs.BarStyles.{Style, WideBarOf, mark, is_mark, is_newline, columns_left, with_marks_as, wide_text, lines_of, key_text, named_text, laid_out, part_text, latest_wide, lines_of_groups, lines, is_line_break}
+use Rattle.indicatif_bar.specs.StyleLaws.{IsPlainText, cells_in}
 use Rattle.indicatif_bar.specs.LineLaws.{parts_text, HasWideBar, FillsRow, WideBarsFill}
 use Rattle.indicatif_bar.proofs.FillingLemmas.{no_marks}
 use Rattle.indicatif_bar.proofs.TextWidthLemmas.{Takes, takes_none, takes_as, takes_both, takes_spaces, columns_behind, padded_short}
