@@ -16,3 +16,6 @@ pub mod AnswerLemmas
 pub mod LoneRunLemmas
 pub mod CommandAnswerLemmas
 pub mod BoundLemmas
+pub mod TextWidthLemmas
+pub mod BarWidthLemmas
+pub mod WideBarLemmas

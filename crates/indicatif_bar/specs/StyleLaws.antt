@@ -1,9 +1,38 @@
--- Laws of bars. Texts are lists of bytes in UTF-8.
-use Rattle.std.specs.Prelude.{◌≡◌, ℕ, ◌*◌, ◌/◌, ◌-◌, ◌<◌, ◌≤◌, Bool, List, [], ◌++◌, length, Some}
+-- Laws of texts at a width, and of bars. Texts are lists of bytes in UTF-8.
+use Rattle.std.specs.Prelude.{◌≡◌, ℕ, ◌+◌, ◌*◌, ◌/◌, ◌%◌, ◌-◌, ◌<◌, ◌≤◌, Bool, true, false, List, [], ◌++◌, map, length, Option, Some, None, option_to_list, All, IsTrue, IfSome}
+use Rattle.std.specs.List.{concat}
+use Rattle.std.specs.Str.{IsUtf8, chars}
+use Rattle.indicatif_text.specs.Columns.{is_plain}
 use Rattle.indicatif_text.specs.StyleWords.{styled}
+use Rattle.indicatif_text.specs.declared.template.Alignment.{Alignment}
 use Rattle.indicatif_bar.specs.Measures.{fraction_of}
 use Rattle.indicatif_bar.specs.declared.measures.Fraction.{Fraction}
-use Rattle.indicatif_bar.specs.Layout.{text_columns, cluster, times, bar_text}
+use Rattle.indicatif_bar.specs.Layout.{text_columns, padded, cluster, times, bar_text}
+use Rattle.indicatif_bar.specs.Builders.{progress_fault}
+
+-- ---- texts at a width
+
+-- a text of no more columns than the width takes exactly the width
+abbrev pub PaddedFills : Type 0
+PaddedFills = (text : List ℕ) (width : ℕ) (align : Alignment) (truncate : Bool) → IsUtf8 text → text_columns text ≤ width → text_columns (padded text width align truncate) ≡ width
+
+-- without truncation, a text takes at least the width
+abbrev pub NeverNarrower : Type 0
+NeverNarrower = (text : List ℕ) (width : ℕ) (align : Alignment) → IsUtf8 text → width ≤ text_columns (padded text width align false)
+
+-- with truncation, it never takes more
+abbrev pub NeverWider : Type 0
+NeverWider = (text : List ℕ) (width : ℕ) (align : Alignment) → IsUtf8 text → text_columns (padded text width align true) ≤ width
+
+-- ---- bars
+
+-- a text in UTF-8 of characters with a width and colour sequences
+abbrev pub IsPlainText : List ℕ → Type 0
+IsPlainText text = IsUtf8 text × IsTrue (is_plain (chars text))
+
+-- clusters that a style takes, each such a text
+abbrev pub ArePlainClusters : List (List ℕ) → Type 0
+ArePlainClusters clusters = (progress_fault clusters ≡ None) × All IsPlainText clusters
 
 -- how many cells a bar of `width` columns has
 abbrev pub cells_in : List (List ℕ) → ℕ → ℕ
@@ -34,3 +63,38 @@ NeverMoreCells = (position len cells : ℕ) → filled_cells (fraction_of positi
 -- the cells of a bar take no more columns than it has
 abbrev pub CellsFit : Type 0
 CellsFit = (clusters : List (List ℕ)) (width : ℕ) → cells_in clusters width * text_columns (cluster clusters 0) ≤ width
+
+-- a bar takes as many columns as its cells
+abbrev pub BarsTakeTheirCells : Type 0
+BarsTakeTheirCells = (clusters : List (List ℕ)) (colours : Bool) (alternative : List ℕ) (position : ℕ) (len : Option ℕ) (width : ℕ) → ArePlainClusters clusters
+    → text_columns (bar_text clusters colours alternative (fraction_of position len) width) ≡ cells_in clusters width * text_columns (cluster clusters 0)
+
+-- a bar takes exactly its width where its clusters' columns divide it
+abbrev pub BarsFill : Type 0
+BarsFill = (clusters : List (List ℕ)) (colours : Bool) (alternative : List ℕ) (position : ℕ) (len : Option ℕ) (width : ℕ) → ArePlainClusters clusters
+    → width % text_columns (cluster clusters 0) ≡ 0 → text_columns (bar_text clusters colours alternative (fraction_of position len) width) ≡ width
+
+-- a bar never takes more columns than its width
+abbrev pub BarsFit : Type 0
+BarsFit = (clusters : List (List ℕ)) (colours : Bool) (alternative : List ℕ) (position : ℕ) (len : Option ℕ) (width : ℕ) → ArePlainClusters clusters
+    → text_columns (bar_text clusters colours alternative (fraction_of position len) width) ≤ width
+
+-- a bar's text with `filled` filled clusters: these, at most one of the clusters between the first and the last, and unfilled ones, as many as cells in all
+pub record ShowsFilled (clusters : List (List ℕ)) (colours : Bool) (alternative : List ℕ) (width filled : ℕ) (text : List ℕ) : Type 0 where
+  pub shade : Option ℕ
+  pub unfilled : ℕ
+  pub parts : text ≡ times filled (cluster clusters 0) ++ concat (map (cluster clusters) (option_to_list shade)) ++ styled colours alternative (times unfilled (cluster clusters (length clusters - 1)))
+  pub between : IfSome shade (λ k. (0 < k) × (k < length clusters - 1))
+  pub all : filled + length (option_to_list shade) + unfilled ≡ cells_in clusters width
+
+-- a bar's text has as many filled clusters as its fraction of the cells, rounded down
+abbrev pub FilledAreShown : Type 0
+FilledAreShown = (clusters : List (List ℕ)) (colours : Bool) (alternative : List ℕ) (position len width : ℕ)
+    → let f = fraction_of position (Some len) in
+    ShowsFilled clusters colours alternative width (filled_cells f (cells_in clusters width)) (bar_text clusters colours alternative f width)
+
+-- the bar of a later position never shows fewer
+abbrev pub NeverShowsFewer : Type 0
+NeverShowsFewer = (clusters : List (List ℕ)) (colours : Bool) (alternative : List ℕ) (position later len width : ℕ) → position ≤ later
+    → (n : ℕ) × (m : ℕ) × ShowsFilled clusters colours alternative width n (bar_text clusters colours alternative (fraction_of position (Some len)) width)
+    × ShowsFilled clusters colours alternative width m (bar_text clusters colours alternative (fraction_of later (Some len)) width) × (n ≤ m)

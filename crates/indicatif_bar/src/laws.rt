@@ -2,7 +2,8 @@
 
 ghost use Rattle.indicatif_bar.specs.Tabs.{TabsAreGone, OthersStay};
 ghost use Rattle.indicatif_bar.specs.ProgressLaws.{FractionsAreProper, WholeAtTheEnd, RatesHaveTime, TimesFit, TimesAreQuotients, StepsAreQuotients, TabsAgree, FinishedDrawsAreForced};
-ghost use Rattle.indicatif_bar.specs.StyleLaws.{FullAtItsLength, EmptyAtItsStart, NeverFewerCells, NeverMoreCells, CellsFit};
+ghost use Rattle.indicatif_bar.specs.LineLaws.{WideBarsFill, NewTabWidths, LastTabWidthCounts};
+ghost use Rattle.indicatif_bar.specs.StyleLaws.{PaddedFills, NeverNarrower, NeverWider, FullAtItsLength, EmptyAtItsStart, NeverFewerCells, NeverMoreCells, CellsFit, FilledAreShown, NeverShowsFewer, BarsTakeTheirCells, BarsFill, BarsFit};
 ghost use Rattle.std.specs.Prelude.{ℕ, List, ◌≡◌, Option, None, Result, IsTrue, IsFalse};
 ghost use Rattle.indicatif_text.specs.declared.refusal.Refusal.{Refusal};
 ghost use Rattle.indicatif_text.specs.declared.refusal.Drawn.{Drawn};
@@ -92,11 +93,37 @@ pub fn commands<K>()
     ensures finished { FinishedDrawsAreForced K }
 {}
 
-/// A bar is full at its length and empty at its start, and its cells take no more columns than it has.
+/// A line with one wide bar, of clusters of one column, fills its row exactly where its other parts have a width and room: it
+/// never wraps.
+pub fn lines<K>()
+    ensures { WideBarsFill K }
+{}
+
+/// A new width of tabs gives the texts as they were set, and the template's literals, with that width; the last one counts.
+pub fn tab_widths<K>()
+    ensures new { NewTabWidths K }
+    ensures last { LastTabWidthCounts K }
+{}
+
+/// A text at a width takes exactly it where it has no more columns, without truncation never fewer, with truncation never more.
+pub fn padded_texts()
+    ensures fills { PaddedFills }
+    ensures no_narrower { NeverNarrower }
+    ensures no_wider { NeverWider }
+{}
+
+/// A bar is full at its length and empty at its start, and its cells take no more columns than it has. Its text shows the filled
+/// clusters, never fewer at a later position; of clusters that a style takes, it has never more columns than its width, and
+/// exactly these where the clusters' columns divide them.
 pub fn bars()
     ensures full { FullAtItsLength }
     ensures empty { EmptyAtItsStart }
     ensures fewer { NeverFewerCells }
     ensures more { NeverMoreCells }
     ensures fit { CellsFit }
+    ensures shown { FilledAreShown }
+    ensures shows_fewer { NeverShowsFewer }
+    ensures cells { BarsTakeTheirCells }
+    ensures fills { BarsFill }
+    ensures within { BarsFit }
 {}

@@ -11,12 +11,12 @@ use Rattle.indicatif_text.specs.PieceLaws.{piece_text, run_text, PiecesJoin, Run
 -- ---- sequences by their rules
 
 -- n characters of parameters and the `m` that ends them stand in front
-data Parameters : List ℕ → ℕ → Type 0 where
+pub data Parameters : List ℕ → ℕ → Type 0 where
   Ended : (c : ℕ) (cs : List ℕ) → eqb c 0x6D ≡ true → Parameters (c ∷ cs) 1
   Further : (c n : ℕ) (cs : List ℕ) → eqb c 0x6D ≡ false → is_parameter c ≡ true → Parameters cs n → Parameters (c ∷ cs) (suc n)
 
 -- a colour sequence of n characters stands in front
-data Sequence : List ℕ → ℕ → Type 0 where
+pub data Sequence : List ℕ → ℕ → Type 0 where
   Opened : (c d n : ℕ) (cs : List ℕ) → ((c == 0x1B) && (d == 0x5B)) ≡ true → Parameters cs n → Sequence (c ∷ d ∷ cs) (suc (suc n))
 
 parameters_by : (c : ℕ) (cs : List ℕ) (a b : Bool) (o : Option ℕ) (n : ℕ) → eqb c 0x6D ≡ a → is_parameter c ≡ b → parameters_length cs ≡ o
@@ -56,23 +56,23 @@ sequence_by c d cs true (Some k) n opened at e =
 sequence_by c d cs true None n opened at e = absurd (cc e)
 sequence_by c d cs false o n opened at e = absurd (cc e)
 
-sequence_from : (cs : List ℕ) (n : ℕ) → colour_length cs ≡ Some n → Sequence cs n
+pub sequence_from : (cs : List ℕ) (n : ℕ) → colour_length cs ≡ Some n → Sequence cs n
 sequence_from [] n e = absurd (cc e)
 sequence_from (c ∷ []) n e = absurd (cc e)
 sequence_from (c ∷ d ∷ cs) n e = sequence_by c d cs ((c == 0x1B) && (d == 0x5B)) (parameters_length cs) n refl refl e
 
-sequence_is : {cs : List ℕ} {n : ℕ} → Sequence cs n → colour_length cs ≡ Some n
+pub sequence_is : {cs : List ℕ} {n : ℕ} → Sequence cs n → colour_length cs ≡ Some n
 sequence_is (Opened c d k cs opened rest) =
     ap (λ b. if b then option_map (λ n. n + 2) (parameters_length cs) else None) opened
     ∙ ap (option_map (λ n. n + 2)) (parameters_is rest) ∙ ap Some (let e : k + 2 ≡ suc (suc k) = omega arith in e)
 
 -- the sequence in front, and nothing else
-sequence_taken : {cs : List ℕ} {n : ℕ} → Sequence cs n → Sequence (take n cs) n × (length (take n cs) ≡ n)
+pub sequence_taken : {cs : List ℕ} {n : ℕ} → Sequence cs n → Sequence (take n cs) n × (length (take n cs) ≡ n)
 sequence_taken (Opened c d k cs opened rest) =
     let t = parameters_taken rest in
     (Opened c d k (take k cs) opened t.0, ap (λ n. suc (suc n)) t.1)
 
-sequence_before : (more : List ℕ) {cs : List ℕ} {n : ℕ} → Sequence cs n → Sequence (cs ++ more) n
+pub sequence_before : (more : List ℕ) {cs : List ℕ} {n : ℕ} → Sequence cs n → Sequence (cs ++ more) n
 sequence_before more (Opened c d k cs opened rest) = Opened c d k (cs ++ more) opened (parameters_before more rest)
 
 -- a text that begins with none has no beginning that does
@@ -80,7 +80,7 @@ none_by : (cs more : List ℕ) (o : Option ℕ) → colour_length cs ≡ o → c
 none_by cs more None at e = refl
 none_by cs more (Some n) at e = absurd (let other : ◌≡◌ {A = Option ℕ} None (Some n) = sym e ∙ sequence_is (sequence_before more (sequence_from cs n at)) in cc other)
 
-none_before : (cs more : List ℕ) → colour_length (cs ++ more) ≡ None → colour_length cs ≡ None
+pub none_before : (cs more : List ℕ) → colour_length (cs ++ more) ≡ None → colour_length cs ≡ None
 none_before cs more e = none_by cs more (colour_length cs) refl e
 
 sequence_some : {cs : List ℕ} {n : ℕ} → Sequence cs n → ◌≡◌ (take n cs) [] → ⊥
@@ -88,7 +88,7 @@ sequence_some (Opened c d k cs opened rest) e = cc e
 
 -- ---- what a character or a sequence in front makes of what is visible
 
-visible_past : (c : ℕ) (cs : List ℕ) → colour_length (c ∷ cs) ≡ None → c ∷ visible cs ≡ visible (c ∷ cs)
+pub visible_past : (c : ℕ) (cs : List ℕ) → colour_length (c ∷ cs) ≡ None → c ∷ visible cs ≡ visible (c ∷ cs)
 unfolding visible
 visible_past c cs e = sym (ap (λ o. if is_some o then visible_from (unwrap_or o 1 - 1) cs else c ∷ visible_from 0 cs) e)
 
@@ -99,7 +99,7 @@ after_front : (n c : ℕ) (cs : List ℕ) → 1 ≤ n → drop (n - 1) cs ≡ dr
 after_front zero c cs some = absurd (omega arith)
 after_front (suc n) c cs some = ap (λ j. drop j cs) (let e : suc n - 1 ≡ n = omega arith in e)
 
-sequence_length : {cs : List ℕ} {n : ℕ} → Sequence cs n → 1 ≤ n
+pub sequence_length : {cs : List ℕ} {n : ℕ} → Sequence cs n → 1 ≤ n
 sequence_length (Opened c d k cs opened rest) = omega arith
 
 -- ---- a law of pieces, from what it is of a character in front and of a sequence in front
@@ -120,7 +120,7 @@ module _ (P : List ℕ → List TextPiece → Type 0) (none : P [] [])
       ] in
       at (colour_length (c ∷ cs)) refl
 
-  by_pieces : (text : List ℕ) → P text (pieces_of_text text)
+  pub by_pieces : (text : List ℕ) → P text (pieces_of_text text)
   unfolding pieces_of_text
   by_pieces text = by_front 0 text
 
@@ -144,7 +144,7 @@ pub runs_are_visible : RunsAreVisible
 runs_are_visible = by_pieces (λ cs ps. flat_map run_text ps ≡ visible cs) (sym visible_none) (λ c cs ps e same. shows c ps ∙ ap (λ x. c ∷ x) same ∙ visible_past c cs e)
     (λ n cs ps s same. same ∙ visible_hidden s)
 
-none_of_empty : (place : ℕ) → colour_length (drop place []) ≡ None
+pub none_of_empty : (place : ℕ) → colour_length (drop place []) ≡ None
 none_of_empty zero = refl
 none_of_empty (suc place) = refl
 
@@ -157,9 +157,9 @@ longer_exact c text e exact zero = e
 longer_exact c text e exact (suc place) = exact place
 
 -- the pieces of a text, each exact
-record Exact (cs : List ℕ) (ps : List TextPiece) : Type 0 where
-  joined : flat_map piece_text ps ≡ cs
-  exact : AllByRecursion IsExact ps
+pub record Exact (cs : List ℕ) (ps : List TextPiece) : Type 0 where
+  pub joined : flat_map piece_text ps ≡ cs
+  pub exact : AllByRecursion IsExact ps
 
 exact_joined : (c : ℕ) (cs : List ℕ) (ps : List TextPiece) → colour_length (c ∷ cs) ≡ None → Exact cs ps → AllByRecursion IsExact (joined_to c ps)
 exact_joined c cs [] e x = (one_exact c, tt)
@@ -167,7 +167,7 @@ exact_joined c cs (Run text ∷ ps) e x =
     (longer_exact c text (none_before (c ∷ text) (flat_map piece_text ps) (ap (λ y. colour_length (c ∷ y)) x.joined ∙ e)) x.exact.0, x.exact.1)
 exact_joined c cs (Colour sequence ∷ ps) e x = (one_exact c, x.exact)
 
-all_exact : (text : List ℕ) → Exact text (pieces_of_text text)
+pub all_exact : (text : List ℕ) → Exact text (pieces_of_text text)
 all_exact = by_pieces Exact (record { joined = refl; exact = tt })
     (λ c cs ps e x. record { joined = joins c cs ps x.joined; exact = exact_joined c cs ps e x })
     (λ n cs ps s x.

@@ -30,11 +30,11 @@ first_colour (suc n) (c ∷ cs) e some =
     let same : suc n - 1 ≡ n = omega arith in
     ap (split_at c cs) e ∙ ap (λ k. Colour (c ∷ take n cs) ∷ pieces_from k cs) same ∙ ap (λ ps. Colour (c ∷ take n cs) ∷ ps) (from_place n cs)
 
-first_joined : (c : ℕ) (cs : List ℕ) → colour_length (c ∷ cs) ≡ None → pieces_of_text (c ∷ cs) ≡ joined_to c (pieces_of_text cs)
+pub first_joined : (c : ℕ) (cs : List ℕ) → colour_length (c ∷ cs) ≡ None → pieces_of_text (c ∷ cs) ≡ joined_to c (pieces_of_text cs)
 unfolding pieces_of_text
 first_joined c cs e = ap (split_at c cs) e
 
-none_left : pieces_of_text [] ≡ []
+pub none_left : pieces_of_text [] ≡ []
 unfolding pieces_of_text
 none_left = refl
 

@@ -46,11 +46,11 @@ last_more p [] some = absurd (omega arith)
 last_more p (q ∷ ps) some = refl
 
 -- the pieces' number and the last one's columns
-record Pieces (w : ℕ) (piece : List Glyph) (cs : List ℕ) : Type 0 where
-  count : length (pieces_after w piece (glyphs_of cs)) ≡ heights w (columns_in piece) cs
+pub record Pieces (w : ℕ) (piece : List Glyph) (cs : List ℕ) : Type 0 where
+  pub count : length (pieces_after w piece (glyphs_of cs)) ≡ heights w (columns_in piece) cs
   last : columns_of_last (pieces_after w piece (glyphs_of cs)) ≡ lasts w (columns_in piece) cs
 
-pieces : (w : ℕ) (piece : List Glyph) (cs : List ℕ) → Pieces w piece cs
+pub pieces : (w : ℕ) (piece : List Glyph) (cs : List ℕ) → Pieces w piece cs
 pieces w piece [] = record { count = refl; last = refl }
 pieces w piece (c ∷ cs) =
     let g : Glyph = record { base = c; marks = take_while (λ d. width_of d == 0) cs } in

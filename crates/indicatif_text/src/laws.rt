@@ -1,5 +1,6 @@
 //! What follows from the definitions, apart from how they are made: each law is the contract of a function that does nothing.
-ghost use Rattle.indicatif_text.specs.RangeLaws.{WholeRange};
+ghost use Rattle.indicatif_text.specs.ColumnLaws.{PlainTextsJoin, SpacesAreSeen, NumbersAreUnseen, StylesAreUnseen, StylesAreBytes, OthersAreSeen, PlainTextsHaveWidths, OneRow};
+ghost use Rattle.indicatif_text.specs.RangeLaws.{WholeRange, RangesFit, SequencesStay, NoCharacterIsAdded};
 ghost use Rattle.indicatif_text.specs.FormatLaws.{RoundsByHalf, TiesToEven, RoundsHalfUp, LastDigitsAreRest, DigitsSpell, CommasAside, NumeralSpells, CommasByThousands, OnlyZerosDropped, NoZeroLeft, FloatCountSpells, FloatCountCounts, FloatCountEnds, GreatestPrefix, BinaryBytesTell, DecimalBytesTell, TellsSeconds, NoLongerUnit, ReachesUnit, WordsTell, ShortIsWords};
 ghost use Rattle.indicatif_text.specs.PieceLaws.{PiecesJoin, RunsAreVisible, PiecesAreExact, NoEmptyPieces, RunsAreLongest};
 ghost use Rattle.indicatif_text.specs.TemplateLaws.{OneOfBoth, NeverBoth, OneList, OnePlace};
@@ -79,7 +80,24 @@ pub fn template_or_refused()
     ensures one_place { OnePlace }
 {}
 
-/// The range of all columns is the text.
+/// What is visible of a text is so of it in longer ones: behind a text of characters with a width and colour sequences, before
+/// spaces, and between what a style writes; a text of no more columns than the terminal takes one row.
+pub fn columns()
+    ensures join { PlainTextsJoin }
+    ensures spaces { SpacesAreSeen }
+    ensures numbers { NumbersAreUnseen }
+    ensures styles { StylesAreUnseen }
+    ensures bytes { StylesAreBytes }
+    ensures others { OthersAreSeen }
+    ensures widths { PlainTextsHaveWidths }
+    ensures one_row { OneRow }
+{}
+
+/// The range of all columns is the text; a range has no more columns than it is wide, every colour sequence of its text and
+/// no other, and no characters but those of its text.
 pub fn ranges()
-    ensures { WholeRange }
+    ensures whole { WholeRange }
+    ensures fit { RangesFit }
+    ensures sequences { SequencesStay }
+    ensures no_more { NoCharacterIsAdded }
 {}

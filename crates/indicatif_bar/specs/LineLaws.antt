@@ -1,0 +1,60 @@
+-- Laws of a bar's lines, and of tabs in them. Texts are lists of bytes in UTF-8.
+use Rattle.std.specs.Prelude.{◌≡◌, ℕ, ◌≤◌, false, List, [], ◌∷◌, ◌++◌, length, None, All, flat_map, filter_map, codes, encode_utf8_all}
+use Rattle.std.specs.Str.{chars}
+use Rattle.indicatif_text.specs.Columns.{rows_of}
+use Rattle.indicatif_text.specs.Template.{Layout, TemplatePart, LiteralText, KeyText}
+use Rattle.indicatif_bar.specs.Tabs.{expanded}
+use Rattle.indicatif_bar.specs.Progress.{Progress, shown_message, shown_prefix}
+use Rattle.indicatif_bar.specs.Trackers.{Tracking}
+use Rattle.indicatif_bar.specs.Layout.{text_columns, cluster}
+use Rattle.indicatif_bar.specs.Keys.{named}
+use Rattle.indicatif_bar.specs.BarStyles.{Style, WideBarOf, wide_part, part_text, is_line_break, lines}
+use Rattle.indicatif_bar.specs.Commands.{BarRecord, SetTabWidth, after}
+use Rattle.indicatif_bar.specs.StyleLaws.{IsPlainText, ArePlainClusters}
+
+-- ---- a line with a wide bar
+
+module _ {K : Type 0} (m : Tracking K) (style : Style K) (p : Progress) (now : ℕ) where
+  -- the text of parts of a template, with a mark for each wide key
+  abbrev pub parts_text : List TemplatePart → List ℕ
+  parts_text parts = flat_map (part_text m style p now) parts
+
+  -- a template of one line with one wide bar, of clusters of one column, between texts of characters with a width that have room
+  pub record HasWideBar (columns : ℕ) : Type 0 where
+    pub front : List TemplatePart
+    pub back : List TemplatePart
+    pub layout : Layout
+    pub parts : style.parts ≡ front ++ KeyText (codes "wide_bar") layout ∷ back
+    pub one_line : All (λ part. is_line_break part ≡ false) style.parts
+    pub no_tracker : named (codes "wide_bar") style.keys ≡ None
+    pub alone : filter_map (wide_part m style p now) style.parts ≡ WideBarOf layout ∷ []
+    pub plain_front : IsPlainText (parts_text front)
+    pub plain_back : IsPlainText (parts_text back)
+    pub clusters : ArePlainClusters style.clusters
+    pub narrow : text_columns (cluster style.clusters 0) ≡ 1
+    pub room : text_columns (parts_text style.parts) ≤ columns
+
+-- a line of characters with a width that takes so many columns, and one row of them
+pub record FillsRow (columns : ℕ) (line : List ℕ) : Type 0 where
+  pub plain : IsPlainText line
+  pub columns_are : text_columns line ≡ columns
+  pub one_row : length (rows_of columns (chars line)) ≡ 1
+
+-- such a template gives one line, which fills a row exactly, so that it never wraps
+abbrev pub WideBarsFill : Type 0 → Type 0
+WideBarsFill K = (m : Tracking K) (style : Style K) (p : Progress) (now columns : ℕ) → HasWideBar m style p now columns
+    → (line : List ℕ) × (lines m style p now columns ≡ line ∷ []) × FillsRow columns line
+
+-- ---- tabs
+
+-- after another width of tabs, message, prefix and the template's literals are what they were set to with that width, whatever widths were set before
+abbrev pub NewTabWidths : Type 0 → Type 0
+NewTabWidths K = (m : Tracking K) (bar : BarRecord K) (tab now : ℕ) →
+    let next = (after m (SetTabWidth tab) bar now).0 in
+    (shown_message next.progress ≡ expanded tab bar.progress.message) × (shown_prefix next.progress ≡ expanded tab bar.progress.prefix)
+    × (next.style.parts ≡ bar.style.parts) × ((text : List ℕ) → part_text m next.style next.progress now (LiteralText text) ≡ expanded tab (encode_utf8_all text))
+
+-- the last width counts alone
+abbrev pub LastTabWidthCounts : Type 0 → Type 0
+LastTabWidthCounts K = (m : Tracking K) (bar : BarRecord K) (earlier tab now : ℕ) →
+    after m (SetTabWidth tab) (after m (SetTabWidth earlier) bar now).0 now ≡ after m (SetTabWidth tab) bar now
