@@ -4,6 +4,8 @@ use Rattle.indicatif_text.specs.declared.refusal.Drawn.{Drawn}
 use Rattle.indicatif_text.specs.declared.refusal.Refusal.{Refusal}
 use Rattle.indicatif_text.specs.Template.{TemplatePart, Parses}
 use Rattle.indicatif_term.specs.Calls.{TermView}
+use Rattle.indicatif_term.specs.Limiters.{Limiter}
+use Rattle.indicatif_term.specs.Targets.{term_of, limiter_of}
 use Rattle.indicatif_bar.specs.Progress.{is_finished}
 use Rattle.indicatif_bar.specs.Finishes.{Finish, AndLeave, WithMessage, AndClear, Abandon, AbandonWithMessage}
 use Rattle.indicatif_bar.specs.Trackers.{Tracking}
@@ -61,11 +63,12 @@ IsRun {K} m view made old new =
     × (run : Runs (lone_bar m) calls answers before s now next) × Headline (lone_bar m) calls answers before s now next run
 
 -- a bar as it begins: with this record, on this target, nothing drawn yet
-abbrev pub Begins : {K T C : Type 0} → OwnedBar K T C → BarRecord K → Option T → Type 0
-Begins owned bar target = (record_of (lone_of owned) ≡ bar) × (terminal_of (lone_of owned) ≡ target) × IsIn (lone_of owned) (opening_state bar None)
+abbrev pub Begins : {K T C : Type 0} → OwnedBar K T C → BarRecord K → Option (T × Option Limiter) → Type 0
+Begins owned bar target =
+    (record_of (lone_of owned) ≡ bar) × (terminal_of (lone_of owned) ≡ term_of target) × IsIn (lone_of owned) (opening_state bar (limiter_of target))
 
 -- the same in the style that a bar has where none is given, with these tick characters
-abbrev pub BeginsPlain : {K T C : Type 0} → OwnedBar K T C → List ℕ → Option ℕ → Option T → Type 0
+abbrev pub BeginsPlain : {K T C : Type 0} → OwnedBar K T C → List ℕ → Option ℕ → Option (T × Option Limiter) → Type 0
 BeginsPlain owned ticks len target =
     (parts : List TemplatePart) × Parses (codes "{wide_bar} {pos}/{len}") parts
     × ((now : ℕ) × Begins owned (new_bar (first_style ticks parts) len now) target)
