@@ -8,7 +8,7 @@ use Rattle.std.proofs.lemmas.List.Concat.{flat_map-append}
 use Rattle.std.proofs.lemmas.Bool.{cases_Bool}
 use Rattle.std.proofs.lemmas.Bool.Decides.{nat_tests}
 use Rattle.std.specs.List.{list_any}
-use Rattle.indicatif_bar.specs.BarStyles.{with_marks_as, is_mark}
+use Rattle.indicatif_bar.specs.BarStyles.{with_marks_as, is_wide_mark}
 
 -- parts with a text between them
 abbrev pub parted : List ℕ → List (List ℕ) → List ℕ
@@ -52,12 +52,12 @@ pub or_none : {X : Type 0} (f : X → ℕ) (o : Option X) → unwrap_or (option_
 or_none f None = refl
 or_none f (Some x) = refl
 
-none_more : (b : Bool) (s : List ℕ) (c : ℕ) (cs : List ℕ) → (b || list_any is_mark cs) ≡ false → (list_any is_mark cs ≡ false → with_marks_as s cs ≡ cs)
+none_more : (b : Bool) (s : List ℕ) (c : ℕ) (cs : List ℕ) → (b || list_any is_wide_mark cs) ≡ false → (list_any is_wide_mark cs ≡ false → with_marks_as s cs ≡ cs)
     → (if b then s else c ∷ []) ++ with_marks_as s cs ≡ c ∷ cs
 none_more true s c cs e rest = absurd (cc e)
 none_more false s c cs e rest = ap (λ x. c ∷ x) (rest e)
 
 -- a text without marks stays as it is
-pub no_marks : (s text : List ℕ) → list_any is_mark text ≡ false → with_marks_as s text ≡ text
+pub no_marks : (s text : List ℕ) → list_any is_wide_mark text ≡ false → with_marks_as s text ≡ text
 no_marks s [] e = refl
-no_marks s (c ∷ cs) e = none_more (is_mark c) s c cs e (no_marks s cs)
+no_marks s (c ∷ cs) e = none_more (is_wide_mark c) s c cs e (no_marks s cs)

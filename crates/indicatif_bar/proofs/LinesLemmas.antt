@@ -17,8 +17,8 @@ use Rattle.std.specs.declared.alloc.Global.{Global}
 use Rattle.indicatif_bar.specs.Trackers.{Tracking, entries, changed_trackers}
 use Rattle.indicatif_bar.specs.Keys.{named, key_named}
 use Rattle.indicatif_bar.specs.declared.style.keys.Key.{Key}
-use Rattle.indicatif_bar.specs.BarStyles.{Style, Wide, wide_of, key_text, named_text, laid_out, part_text, wide_part, latest_wide, lines_of, lines_of_groups, lines, is_line_break}
-use Rattle.indicatif_bar.specs.Inside.Steps.{Deed, Holds, source_at, source_of, names_of, deed_of_part, wide_source, wide_after, source_text, deed_text, lines_from}
+use Rattle.indicatif_bar.specs.BarStyles.{Style, Wide, wide_of, key_text, named_text, in_layout, part_text, wide_part, latest_wide, lines_with, lines_of_groups, lines, is_line_break}
+use Rattle.indicatif_bar.specs.Inside.Steps.{Effect, Holds, source_at, source_of, names_of, effect_of_part, wide_source, wide_after, source_text, effect_text, lines_from}
 use Rattle.indicatif_bar.specs.declared.style.steps.Source.TheVariants.{Known, Nothing}
 
 -- ---- names
@@ -98,9 +98,9 @@ module _ {K : Type 0} (m : Tracking K) (style : Style K) (p : Progress) (now : �
   abbrev groups_from : ℕ → Option Wide → List ℕ → List (List TemplatePart) → List (List ℕ)
   groups_from columns wide text [] = []
   groups_from columns wide text (g ∷ []) =
-      if length (text ++ flat_map (part_text m style p now) g) == 0 then [] else lines_of style p columns (latest_wide m style p now wide g) (text ++ flat_map (part_text m style p now) g)
+      if length (text ++ flat_map (part_text m style p now) g) == 0 then [] else lines_with style p columns (latest_wide m style p now wide g) (text ++ flat_map (part_text m style p now) g)
   groups_from columns wide text (g ∷ h ∷ gs) =
-      lines_of style p columns (latest_wide m style p now wide g) (text ++ flat_map (part_text m style p now) g) ++ lines_of_groups m style p now columns (latest_wide m style p now wide g) (h ∷ gs)
+      lines_with style p columns (latest_wide m style p now wide g) (text ++ flat_map (part_text m style p now) g) ++ lines_of_groups m style p now columns (latest_wide m style p now wide g) (h ∷ gs)
 
   without_text : (columns : ℕ) (wide : Option Wide) (groups : List (List TemplatePart)) → groups_from columns wide [] groups ≡ lines_of_groups m style p now columns wide groups
   without_text columns wide [] = refl
@@ -109,9 +109,9 @@ module _ {K : Type 0} (m : Tracking K) (style : Style K) (p : Progress) (now : �
 
   -- a line break ends the group in front
   broken : (columns : ℕ) (wide : Option Wide) (text : List ℕ) (groups : List (List TemplatePart)) → 0 < length groups
-      → groups_from columns wide text ([] ∷ groups) ≡ lines_of style p columns wide text ++ lines_of_groups m style p now columns wide groups
+      → groups_from columns wide text ([] ∷ groups) ≡ lines_with style p columns wide text ++ lines_of_groups m style p now columns wide groups
   broken columns wide text [] some = absurd (omega (arith, some))
-  broken columns wide text (h ∷ gs) some = ap (λ t. lines_of style p columns wide t ++ lines_of_groups m style p now columns wide (h ∷ gs)) (append-nil text)
+  broken columns wide text (h ∷ gs) some = ap (λ t. lines_with style p columns wide t ++ lines_of_groups m style p now columns wide (h ∷ gs)) (append-nil text)
 
   -- the latest wide placeholder behind one part
   abbrev wide_behind : Option Wide → Option Wide → Option Wide
@@ -128,26 +128,26 @@ module _ {K : Type 0} (m : Tracking K) (style : Style K) (p : Progress) (now : �
   onto columns wide text x (g ∷ []) some =
       let t = part_text m style p now x in
       let ts = flat_map (part_text m style p now) g in
-      ap (λ w. if length (text ++ (t ++ ts)) == 0 then [] else lines_of style p columns w (text ++ (t ++ ts))) (latest_by wide (wide_part m style p now x) x g refl)
-      ∙ ap (λ all. if length all == 0 then [] else lines_of style p columns (latest_wide m style p now (wide_behind wide (wide_part m style p now x)) g) all) (sym (append_assoc text t ts))
+      ap (λ w. if length (text ++ (t ++ ts)) == 0 then [] else lines_with style p columns w (text ++ (t ++ ts))) (latest_by wide (wide_part m style p now x) x g refl)
+      ∙ ap (λ all. if length all == 0 then [] else lines_with style p columns (latest_wide m style p now (wide_behind wide (wide_part m style p now x)) g) all) (sym (append_assoc text t ts))
   onto columns wide text x (g ∷ h ∷ gs) some =
       let t = part_text m style p now x in
       let ts = flat_map (part_text m style p now) g in
-      ap (λ w. lines_of style p columns w (text ++ (t ++ ts)) ++ lines_of_groups m style p now columns w (h ∷ gs)) (latest_by wide (wide_part m style p now x) x g refl)
-      ∙ ap (λ all. lines_of style p columns (latest_wide m style p now (wide_behind wide (wide_part m style p now x)) g) all ++ lines_of_groups m style p now columns (latest_wide m style p now (wide_behind wide (wide_part m style p now x)) g) (h ∷ gs)) (sym (append_assoc text t ts))
+      ap (λ w. lines_with style p columns w (text ++ (t ++ ts)) ++ lines_of_groups m style p now columns w (h ∷ gs)) (latest_by wide (wide_part m style p now x) x g refl)
+      ∙ ap (λ all. lines_with style p columns (latest_wide m style p now (wide_behind wide (wide_part m style p now x)) g) all ++ lines_of_groups m style p now columns (latest_wide m style p now (wide_behind wide (wide_part m style p now x)) g) (h ∷ gs)) (sym (append_assoc text t ts))
 
   some_groups : (parts : List TemplatePart) → 0 < length (slice_split is_line_break parts)
   some_groups parts = omega (arith, length-slice_split is_line_break parts)
 
-  abbrev deeds : List TemplatePart → List Deed
-  deeds parts = map (deed_of_part (names style.keys) style.tab) parts
+  abbrev deeds : List TemplatePart → List Effect
+  deeds parts = map (effect_of_part (names style.keys) style.tab) parts
 
   stepwise : (columns : ℕ) (parts : List TemplatePart) (wide : Option Wide) (text : List ℕ)
       → groups_from columns wide text (slice_split is_line_break parts) ≡ lines_from m style p now columns wide text (deeds parts)
-  stepwise columns [] wide text = ap (λ t. if length t == 0 then [] else lines_of style p columns wide t) (append-nil text)
+  stepwise columns [] wide text = ap (λ t. if length t == 0 then [] else lines_with style p columns wide t) (append-nil text)
   stepwise columns (LineBreak ∷ parts) wide text =
       broken columns wide text (slice_split is_line_break parts) (some_groups parts)
-      ∙ ap (λ ls. lines_of style p columns wide text ++ ls) (sym (without_text columns wide (slice_split is_line_break parts)) ∙ stepwise columns parts wide [])
+      ∙ ap (λ ls. lines_with style p columns wide text ++ ls) (sym (without_text columns wide (slice_split is_line_break parts)) ∙ stepwise columns parts wide [])
   stepwise columns (LiteralText more ∷ parts) wide text =
       onto columns wide text (LiteralText more) (slice_split is_line_break parts) (some_groups parts)
       ∙ stepwise columns parts wide (text ++ expanded style.tab (encode_utf8_all more))
@@ -155,8 +155,8 @@ module _ {K : Type 0} (m : Tracking K) (style : Style K) (p : Progress) (now : �
       let source = source_of (names style.keys) (encode_utf8_all key) in
       onto columns wide text (KeyText key layout) (slice_split is_line_break parts) (some_groups parts)
       ∙ ap (λ w. groups_from columns (wide_behind wide w) (text ++ part_text m style p now (KeyText key layout)) (slice_split is_line_break parts)) (wide_of_name layout key)
-      ∙ ap (λ t. groups_from columns (wide_after wide (Holds source layout)) (text ++ laid_out m style p now layout t) (slice_split is_line_break parts)) (text_of_name layout (encode_utf8_all key))
-      ∙ stepwise columns parts (wide_after wide (Holds source layout)) (text ++ deed_text m style p now (Holds source layout))
+      ∙ ap (λ t. groups_from columns (wide_after wide (Holds source layout)) (text ++ in_layout m style p now layout t) (slice_split is_line_break parts)) (text_of_name layout (encode_utf8_all key))
+      ∙ stepwise columns parts (wide_after wide (Holds source layout)) (text ++ effect_text m style p now (Holds source layout))
 
   -- the lines of a style are those of its steps
   pub lines_by_steps : (columns : ℕ) → lines m style p now columns ≡ lines_from m style p now columns None [] (deeds style.parts)
@@ -178,12 +178,12 @@ pub keys_stay : {K : Type 0} (change : K → K) (old new : List (String Global �
 keys_stay change old new e = sym (names_are old) ∙ sym (names_stay change (entries old)) ∙ ap names (sym e) ∙ names_are new
 
 -- what a style's parts do, as its fields say it
-pub deeds_are : {K : Type 0} (items : List (String Global × K)) (view style : Style K) (ds : List Deed) → view.keys ≡ entries items → ds ≡ map (deed_of_part (names_of items) view.tab) view.parts → view ≡ style
-    → ds ≡ map (deed_of_part (names style.keys) style.tab) style.parts
+pub deeds_are : {K : Type 0} (items : List (String Global × K)) (view style : Style K) (ds : List Effect) → view.keys ≡ entries items → ds ≡ map (effect_of_part (names_of items) view.tab) view.parts → view ≡ style
+    → ds ≡ map (effect_of_part (names style.keys) style.tab) style.parts
 deeds_are items view style ds keys is same =
-    is ∙ ap (λ ns. map (deed_of_part ns view.tab) view.parts) (sym (names_are items) ∙ ap names (sym keys)) ∙ ap (λ s. map (deed_of_part (names s.keys) s.tab) s.parts) same
+    is ∙ ap (λ ns. map (effect_of_part ns view.tab) view.parts) (sym (names_are items) ∙ ap names (sym keys)) ∙ ap (λ s. map (effect_of_part (names s.keys) s.tab) s.parts) same
 
 -- behind the last step only the line at hand is left
-pub ended : {K : Type 0} (m : Tracking K) (style : Style K) (p : Progress) (now columns : ℕ) (wide : Option Wide) (text : List ℕ) (ds : List Deed) (b : Bool) → ds ≡ [] → (length text == 0) ≡ b
-    → lines_from m style p now columns wide text ds ≡ (if b then [] else lines_of style p columns wide text)
-ended m style p now columns wide text ds b e f = ap (lines_from m style p now columns wide text) e ∙ ap (λ x. if x then [] else lines_of style p columns wide text) f
+pub ended : {K : Type 0} (m : Tracking K) (style : Style K) (p : Progress) (now columns : ℕ) (wide : Option Wide) (text : List ℕ) (ds : List Effect) (b : Bool) → ds ≡ [] → (length text == 0) ≡ b
+    → lines_from m style p now columns wide text ds ≡ (if b then [] else lines_with style p columns wide text)
+ended m style p now columns wide text ds b e f = ap (lines_from m style p now columns wide text) e ∙ ap (λ x. if x then [] else lines_with style p columns wide text) f

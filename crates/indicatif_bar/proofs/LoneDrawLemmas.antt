@@ -12,16 +12,16 @@ use Rattle.indicatif_term.specs.Frames.{text_lines, logged_lines}
 use Rattle.indicatif_term.specs.Engines.{terminal, Fits}
 use Rattle.indicatif_term.specs.declared.draw_target.Engine.{Engine}
 use Rattle.indicatif_bar.specs.Trackers.{Tracking}
-use Rattle.indicatif_bar.specs.Commands.{BarRecord, Command, Tick, TickerTick, SetTicker, Inc, Dec, SetPosition, Update, SetLength, UnsetLength, IncLength, DecLength, SetMessage, SetPrefix, SetStyle, PutPosition, PutMessage, PutPrefix, PutFinish, PutTabWidth, SetTabWidth, SetElapsed, ResetEta, ResetElapsed, Reset, FinishBy, FinishUsingStyle, ForceDraw, after, is_beyond_clock, takes_memory}
+use Rattle.indicatif_bar.specs.Commands.{BarRecord, Command, Tick, TickerTick, SetTicker, Inc, Dec, SetPosition, Update, SetLength, UnsetLength, IncLength, DecLength, SetMessage, SetPrefix, SetStyle, PutPosition, PutMessage, PutPrefix, PutFinish, PutTabWidth, SetTabWidth, SetElapsed, ResetEta, ResetElapsed, Reset, FinishBy, FinishUsingStyle, ForceDraw, obeyed, is_beyond_clock, takes_memory}
 use Rattle.indicatif_bar.specs.Bars.{bar_kind}
 use Rattle.indicatif_bar.specs.Kinds.{Kind, Writing, Frame, TextAndFrame, NoFrame, asked_of}
 use Rattle.indicatif_bar.specs.Machines.{target_of, Draw, is_no, Leads}
 use Rattle.indicatif_bar.specs.Runs.{CallMade, wrote, lines_by, deed_on}
 use Rattle.indicatif_bar.specs.Lone.{LoneState, Call, Change, Log, Clear, stored_lines, frame_of, draw_asked, draw_by, refused_at_once, deed_unless, takes_text, lone}
 use Rattle.indicatif_bar.specs.LoneBars.{IsIn, lone_bar, LeadsBy, Obeys, ObeysOrNot, RefusesCommand, known, record_of, terminal_of}
-use Rattle.indicatif_bar.specs.Inside.Draws.{DrewBy, DrewOn, Puts, WritesLinesOn}
+use Rattle.indicatif_bar.specs.Inside.Draws.{DrewBy, DrewOn, EngineWrites, WritesLinesOn}
 use Rattle.indicatif_bar.specs.Inside.Obeying.{IsTold, IsToldOrNot}
-use Rattle.indicatif_bar.specs.Inside.Shown.{Holds}
+use Rattle.indicatif_bar.specs.Inside.Shown.{ShownAs}
 use Rattle.indicatif_bar.specs.declared.shown.ShownBar.{ShownBar}
 use Rattle.indicatif_bar.specs.declared.state.Ask.{Ask}
 use Rattle.indicatif_bar.specs.declared.state.Ask.TheVariants.{Forced}
@@ -43,19 +43,19 @@ module _ {K T : Type 0} (m : Tracking K) (view : T → TermView) (takes : Bool) 
   abbrev pub allowing : ShownBar K
   allowing = record laid { limiter = (asked_of ask now laid.limiter).1 }
 
-  pub asked_same : Holds laid stored → (asked_of ask now laid.limiter).0 ≡ d.allowed
+  pub asked_same : ShownAs laid stored → (asked_of ask now laid.limiter).0 ≡ d.allowed
   asked_same holds = ap (λ limiter. (asked_of ask now limiter).0) holds.limiter_is
 
-  pub holds_ready : Holds laid stored → Holds allowing d.ready
+  pub holds_ready : ShownAs laid stored → ShownAs allowing d.ready
   holds_ready holds = record { bar_is = holds.bar_is; lines_are = holds.lines_are; limiter_is = ap (λ limiter. (asked_of ask now limiter).1) holds.limiter_is }
 
   pub drew_so : (new : Engine T) (r : Result Unit Refusal) (frame : List BarLines) → is_no ask ≡ false → 0 < (view (terminal old)).columns → d.allowed ≡ true → Fits old s.lists →
-      Holds laid stored → frame ≡ frame_of d.ready → Puts view writing frame old new r → DrewBy (lone_bar m) (Holds allowing) view old new d s.lists (answer_of r)
+      ShownAs laid stored → frame ≡ frame_of d.ready → EngineWrites view writing frame old new r → DrewBy (lone_bar m) (ShownAs allowing) view old new d s.lists (answer_of r)
   drew_so new r frame asked some allowed fits holds same puts =
       let ready = holds_ready holds in
-      let q = subst (λ f. Puts view writing f old new r) same puts in
-      drew (lone_bar m) (Holds allowing) view old new d s.lists (record { asked = asked; some = some; allowed = allowed; fits = fits; lists_stay = refl; lists_go = refl }) r
-      (either_way r (Holds allowing d.written) (Holds allowing d.ready × Holds allowing d.broken)
+      let q = subst (λ f. EngineWrites view writing f old new r) same puts in
+      drew (lone_bar m) (ShownAs allowing) view old new d s.lists (record { asked = asked; some = some; allowed = allowed; fits = fits; lists_stay = refl; lists_go = refl }) r
+      (either_way r (ShownAs allowing d.written) (ShownAs allowing d.ready × ShownAs allowing d.broken)
       (record { bar_is = ready.bar_is; lines_are = ready.lines_are; limiter_is = ready.limiter_is })
       (ready, record { bar_is = ready.bar_is; lines_are = ready.lines_are; limiter_is = ready.limiter_is }))
       (record { answers = q.answers; memory = q.memory; counted = q.counted; unchanged = q.unchanged; lists = q.lists s.lists fits; paints = q.paints s.lists fits })
@@ -132,14 +132,14 @@ module _ {K T : Type 0} (m : Tracking K) (view : T → TermView) (old mid new : 
         × DrewOn (lone_bar m) (known view mid) (known view new) (draw_asked (bar_kind m) (target_of (known view mid)) takes ask now writing s) s.lists answer next
 
   -- a bar that was told a command is in the state after it
-  told_in : (command : Command K) (s : LoneState (BarRecord K)) → mid.shown.bar ≡ (after m command old.shown.bar now).0 → mid ≡ record old { shown = record old.shown { bar = mid.shown.bar } } →
+  told_in : (command : Command K) (s : LoneState (BarRecord K)) → mid.shown.bar ≡ (obeyed m command old.shown.bar now).0 → mid ≡ record old { shown = record old.shown { bar = mid.shown.bar } } →
       IsIn old s →
-      IsIn mid (record s { bar = (after m command s.bar now).0 })
+      IsIn mid (record s { bar = (obeyed m command s.bar now).0 })
   unfolding IsIn
   told_in command s told rest inside =
-      let next : LoneState (BarRecord K) = record s { bar = (after m command s.bar now).0 } in
+      let next : LoneState (BarRecord K) = record s { bar = (obeyed m command s.bar now).0 } in
       subst (λ b. IsIn b next) (sym rest) (
-        record { bar_is = told ∙ ap (λ bar. (after m command bar now).0) inside.0.bar_is; lines_are = inside.0.lines_are; limiter_is = inside.0.limiter_is },
+        record { bar_is = told ∙ ap (λ bar. (obeyed m command bar now).0) inside.0.bar_is; lines_are = inside.0.lines_are; limiter_is = inside.0.limiter_is },
         inside.1,
       )
 
@@ -151,9 +151,9 @@ module _ {K T : Type 0} (m : Tracking K) (view : T → TermView) (old mid new : 
   command_leads : (command : Command K) (ask : Ask) → IsTold m old mid command now ask → Draws ask Frame → LeadsBy m view old new (Change command) now answer
   command_leads command ask told draws = λ s inside.
       let bar = bar_in s inside in
-      let next : LoneState (BarRecord K) = record s { bar = (after m command s.bar now).0 } in
+      let next : LoneState (BarRecord K) = record s { bar = (obeyed m command s.bar now).0 } in
       let d = draws.drew (takes_memory command s.bar) next (told_in command s (ap (λ o. o.0) told.told) told.rest inside) in
-      let asked : ask ≡ (after m command s.bar now).1 = ap (λ o. o.1) told.told ∙ ap (λ b. (after m command b now).1) bar in
+      let asked : ask ≡ (obeyed m command s.bar now).1 = ap (λ o. o.1) told.told ∙ ap (λ b. (obeyed m command b now).1) bar in
       let Drew = λ (o : Option TermView) (a : Ask). DrewOn (lone_bar m) o (known view new) (draw_asked (bar_kind m) (target_of o) (takes_memory command s.bar) a now Frame next) s.lists answer d.0 in
       let in_time : is_beyond_clock command now ≡ false = told.in_time in (
         d.0,
@@ -210,7 +210,7 @@ pub in_anew : {K T : Type 0} (old : LoneBar K T) (shown : ShownBar K) (engine op
 unfolding IsIn
 in_anew {K} {T} old shown engine opened limiter given same given_is engine_is fits s inside =
     let next : LoneState (BarRecord K) = record s { limiter = limiter; lists = opening_lists } in (
-      subst (λ x. Holds x next) (sym same) (record { bar_is = inside.0.bar_is; lines_are = inside.0.lines_are; limiter_is = given_is }),
+      subst (λ x. ShownAs x next) (sym same) (record { bar_is = inside.0.bar_is; lines_are = inside.0.lines_are; limiter_is = given_is }),
       subst (λ (o : Option (Engine T)). MatchOption o (Unit {0}) (λ e. Fits e opening_lists)) (sym engine_is) fits,
     )
 

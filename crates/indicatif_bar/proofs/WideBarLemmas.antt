@@ -25,7 +25,7 @@ use Rattle.indicatif_bar.specs.Tabs.{expanded}
 use Rattle.indicatif_bar.specs.Trackers.{Tracking}
 use Rattle.indicatif_bar.specs.Layout.{text_columns, spaces, surrounded, padded, cluster}
 use Rattle.indicatif_bar.specs.Keys.{key_named}
-use Rattle.indicatif_bar.specs.BarStyles.{Style, WideBarOf, mark, is_mark, is_newline, columns_left, with_marks_as, wide_text, lines_of, key_text, named_text, laid_out, part_text, latest_wide, lines_of_groups, lines, is_line_break}
+use Rattle.indicatif_bar.specs.BarStyles.{Style, WideBarOf, wide_mark, is_wide_mark, is_newline, columns_left, with_marks_as, wide_text, lines_with, key_text, named_text, in_layout, part_text, latest_wide, lines_of_groups, lines, is_line_break}
 use Rattle.indicatif_bar.specs.StyleLaws.{IsPlainText, cells_in}
 use Rattle.indicatif_bar.specs.LineLaws.{parts_text, HasWideBar, FillsRow, WideBarsFill}
 use Rattle.indicatif_bar.proofs.FillingLemmas.{no_marks}
@@ -99,7 +99,7 @@ record Marked (n : ℕ) (text : List ℕ) : Type 0 where
   takes_back : Takes behind back
   all : before + behind ≡ n
 
-marked_mark : Marked 0 mark
+marked_mark : Marked 0 wide_mark
 marked_mark = record { front = []; back = []; before = 0; behind = 0; parts = refl; takes_front = takes_none; takes_back = takes_none; all = omega arith }
 
 marked_before : (k n : ℕ) (more text : List ℕ) → Takes k more → Marked n text → Marked (k + n) (more ++ text)
@@ -151,26 +151,26 @@ marked_styled true (n ∷ ns) text x =
     let closing : Takes 0 (sequence_of 0) = subst (Takes 0) (append-nil (sequence_of 0)) (takes_sequences (0 ∷ [])) in
     record { many = 0 + x.many + 0; is = marked_behind 0 (0 + x.many) (sequence_of 0) (opening ++ text) closing (marked_before 0 x.many opening text (takes_sequences (n ∷ ns)) x.is) }
 
-marked_surrounded : (align : Alignment) (n : ℕ) → SomeMarked (surrounded mark align n)
-marked_surrounded Left n = record { many = 0 + n; is = marked_behind n 0 (spaces n) mark (takes_spaces n) marked_mark }
-marked_surrounded Right n = record { many = n + 0; is = marked_before n 0 (spaces n) mark (takes_spaces n) marked_mark }
+marked_surrounded : (align : Alignment) (n : ℕ) → SomeMarked (surrounded wide_mark align n)
+marked_surrounded Left n = record { many = 0 + n; is = marked_behind n 0 (spaces n) wide_mark (takes_spaces n) marked_mark }
+marked_surrounded Right n = record { many = n + 0; is = marked_before n 0 (spaces n) wide_mark (takes_spaces n) marked_mark }
 marked_surrounded Center n = record {
   many = n / 2 + 0 + (n - n / 2);
-  is = marked_behind (n - n / 2) (n / 2 + 0) (spaces (n - n / 2)) (spaces (n / 2) ++ mark) (takes_spaces (n - n / 2)) (marked_before (n / 2) 0 (spaces (n / 2)) mark (takes_spaces (n / 2)) marked_mark);
+  is = marked_behind (n - n / 2) (n / 2 + 0) (spaces (n - n / 2)) (spaces (n / 2) ++ wide_mark) (takes_spaces (n - n / 2)) (marked_before (n / 2) 0 (spaces (n / 2)) wide_mark (takes_spaces (n / 2)) marked_mark);
 }
 
 mark_width : width_of 0 ≡ 0
 unfolding char_width
 mark_width = refl
 
-mark_ascii : (All (λ b. b < 128) mark)
-mark_ascii = All-from_recursion (λ b. b < 128) mark (omega arith, tt)
+mark_ascii : (All (λ b. b < 128) wide_mark)
+mark_ascii = All-from_recursion (λ b. b < 128) wide_mark (omega arith, tt)
 
 -- a mark takes no columns, and is seen
 mark_columns : (back : List ℕ) → text_columns (0 ∷ back) ≡ text_columns back
 mark_columns back =
-    let ascii = IsAscii-from_all mark mark_ascii in
-    ap (λ cs. sum_by width_of (visible cs)) (chars-append mark back (IsUtf8-from_ascii mark ascii) ∙ ap (λ x. x ++ chars back) (chars-IsAscii mark ascii))
+    let ascii = IsAscii-from_all wide_mark mark_ascii in
+    ap (λ cs. sum_by width_of (visible cs)) (chars-append wide_mark back (IsUtf8-from_ascii wide_mark ascii) ∙ ap (λ x. x ++ chars back) (chars-IsAscii wide_mark ascii))
     ∙ ap (sum_by width_of) (others_are_seen 0 (chars back) (λ e. omega (arith, e)))
     ∙ omega (arith, sum_by-cons width_of 0 (visible (chars back)), mark_width)
 
@@ -182,19 +182,19 @@ marked_columns n text x =
 none_columns : text_columns [] ≡ 0
 none_columns = takes_none.columns
 
-padded_mark : (width : ℕ) (align : Alignment) (truncate : Bool) → SomeMarked (padded mark width align truncate)
+padded_mark : (width : ℕ) (align : Alignment) (truncate : Bool) → SomeMarked (padded wide_mark width align truncate)
 padded_mark width align truncate =
-    let none : text_columns mark ≡ 0 = mark_columns [] ∙ none_columns in
-    subst SomeMarked (sym (padded_short mark width align truncate (omega (arith, none)))) (marked_surrounded align (width - text_columns mark))
+    let none : text_columns wide_mark ≡ 0 = mark_columns [] ∙ none_columns in
+    subst SomeMarked (sym (padded_short wide_mark width align truncate (omega (arith, none)))) (marked_surrounded align (width - text_columns wide_mark))
 
 -- ---- the text of the line
 
 module _ (n : ℕ) (text : List ℕ) (x : Marked n text) where
-  has_no_mark : (k : ℕ) (part : List ℕ) → Takes k part → list_any is_mark part ≡ false
-  has_no_mark k part t = list_any_none is_mark part (takes_without 0 k part strange_mark t)
+  has_no_mark : (k : ℕ) (part : List ℕ) → Takes k part → list_any is_wide_mark part ≡ false
+  has_no_mark k part t = list_any_none is_wide_mark part (takes_without 0 k part strange_mark t)
 
-  has_mark : list_any is_mark text ≡ true
-  has_mark = ap (list_any is_mark) x.parts ∙ list_any-append is_mark x.front (0 ∷ x.back) ∙ ap (λ b. b || true) (has_no_mark x.before x.front x.takes_front)
+  has_mark : list_any is_wide_mark text ≡ true
+  has_mark = ap (list_any is_wide_mark) x.parts ∙ list_any-append is_wide_mark x.front (0 ∷ x.back) ∙ ap (λ b. b || true) (has_no_mark x.before x.front x.takes_front)
 
   one_line : slice_split is_newline text ≡ text ∷ []
   one_line =
@@ -204,13 +204,13 @@ module _ (n : ℕ) (text : List ℕ) (x : Marked n text) where
 
   left_is : (columns : ℕ) → columns_left columns text ≡ columns - n
   left_is columns =
-      ap (λ ls. columns - option_map_or text_columns (find (list_any is_mark) ls) 0) one_line
+      ap (λ ls. columns - option_map_or text_columns (find (list_any is_wide_mark) ls) 0) one_line
       ∙ ap (λ b. columns - option_map_or text_columns (if b then Some text else None) 0) has_mark
       ∙ ap (λ k. columns - k) (marked_columns n text x)
 
   replaced : (shown : List ℕ) → with_marks_as shown text ≡ x.front ++ (shown ++ x.back)
   replaced shown =
-      ap (with_marks_as shown) x.parts ∙ flat_map-append (λ b. if is_mark b then shown else b ∷ []) x.front (0 ∷ x.back)
+      ap (with_marks_as shown) x.parts ∙ flat_map-append (λ b. if is_wide_mark b then shown else b ∷ []) x.front (0 ∷ x.back)
       ∙ ap (λ y. y ++ (shown ++ with_marks_as shown x.back)) (no_marks shown x.front (has_no_mark x.before x.front x.takes_front))
       ∙ ap (λ y. x.front ++ (shown ++ y)) (no_marks shown x.back (has_no_mark x.behind x.back x.takes_back))
 
@@ -232,19 +232,19 @@ filled_row : (columns : ℕ) (line : List ℕ) → Takes columns line → FillsR
 filled_row columns line t = record { plain = (t.utf8, t.plain); columns_are = t.columns; one_row = one_row (chars line) columns (omega (arith, t.columns)) }
 
 module _ {K : Type 0} (m : Tracking K) (style : Style K) (p : Progress) (now columns : ℕ) (h : HasWideBar m style p now columns) where
-  bar_named : named_text m style p now (encode_utf8_all (codes "wide_bar")) h.layout ≡ mark
+  bar_named : named_text m style p now (encode_utf8_all (codes "wide_bar")) h.layout ≡ wide_mark
   unfolding encode
   bar_named = ap (λ o. elim o as (λ _. List ℕ) [
     | Some k ↦ expanded style.tab (m.text k p now)
     | None ↦ option_map_or (key_text m style p now h.layout) (key_named (codes "wide_bar")) []
   ]) h.no_tracker
 
-  sized_mark : (width : Option ℕ) → SomeMarked (option_map_or (λ w. padded mark w h.layout.align h.layout.truncate) width mark)
+  sized_mark : (width : Option ℕ) → SomeMarked (option_map_or (λ w. padded wide_mark w h.layout.align h.layout.truncate) width wide_mark)
   sized_mark None = record { many = 0; is = marked_mark }
   sized_mark (Some width) = padded_mark width h.layout.align h.layout.truncate
 
   bar_marked : SomeMarked (part_text m style p now (KeyText (codes "wide_bar") h.layout))
-  bar_marked = subst (λ t. SomeMarked (laid_out m style p now h.layout t)) (sym bar_named) (marked_styled style.colours (unwrap_or h.layout.style []) _ (sized_mark h.layout.width))
+  bar_marked = subst (λ t. SomeMarked (in_layout m style p now h.layout t)) (sym bar_named) (marked_styled style.colours (unwrap_or h.layout.style []) _ (sized_mark h.layout.width))
 
   plain_takes : (text : List ℕ) → IsPlainText text → Takes (text_columns text) text
   plain_takes text plain = record { utf8 = plain.0; plain = plain.1; columns = refl }
@@ -282,8 +282,8 @@ module _ {K : Type 0} (m : Tracking K) (style : Style K) (p : Progress) (now col
       let text = parts_text m style p now style.parts in
       let some = none_at (length text) _ (some_text text_marked.many text text_marked.is) in
       ap (lines_of_groups m style p now columns None) (slice_split_none is_line_break style.parts h.one_line)
-      ∙ kept_by (length text == 0) (lines_of style p columns (latest_wide m style p now None style.parts) text) some
-      ∙ ap (λ ws. lines_of style p columns (last_or None ws) text) h.alone
+      ∙ kept_by (length text == 0) (lines_with style p columns (latest_wide m style p now None style.parts) text) some
+      ∙ ap (λ ws. lines_with style p columns (last_or None ws) text) h.alone
       ∙ slice_split_none is_newline line_text (takes_without 0x0A columns line_text strange_newline line_takes)
 
 pub wide_bars_fill : {K : Type 0} → WideBarsFill K

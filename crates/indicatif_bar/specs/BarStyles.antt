@@ -46,15 +46,15 @@ wide_of layout WideMessage = Some (WideMessageOf layout)
 wide_of layout _ = None
 
 -- the mark that a wide key leaves in its place
-abbrev pub mark : List ℕ
-mark = 0 ∷ []
+abbrev pub wide_mark : List ℕ
+wide_mark = 0 ∷ []
 
-abbrev pub is_mark : ℕ → Bool
-is_mark b = b == 0
+abbrev pub is_wide_mark : ℕ → Bool
+is_wide_mark b = b == 0
 
 -- the text's last character is a mark
 abbrev pub ends_in_mark : List ℕ → Bool
-ends_in_mark text = option_map_or is_mark (slice_get text (length text - 1)) false
+ends_in_mark text = option_map_or is_wide_mark (slice_get text (length text - 1)) false
 
 abbrev pub is_newline : ℕ → Bool
 is_newline b = b == 0x0A
@@ -65,11 +65,11 @@ is_line_break _ = false
 
 -- the columns that the first line with a mark leaves free
 abbrev pub columns_left : ℕ → List ℕ → ℕ
-columns_left columns text = columns - option_map_or text_columns (find (list_any is_mark) (slice_split is_newline text)) 0
+columns_left columns text = columns - option_map_or text_columns (find (list_any is_wide_mark) (slice_split is_newline text)) 0
 
 -- a text with something in the place of each mark
 abbrev pub with_marks_as : List ℕ → List ℕ → List ℕ
-with_marks_as shown text = flat_map (λ b. if is_mark b then shown else b ∷ []) text
+with_marks_as shown text = flat_map (λ b. if is_wide_mark b then shown else b ∷ []) text
 
 module _ {K : Type 0} (style : Style K) (p : Progress) where
   -- what stands in the place of each mark of a text
@@ -85,15 +85,15 @@ module _ {K : Type 0} (style : Style K) (p : Progress) where
   filled columns (Some wide) text = with_marks_as (wide_text columns text wide) text
 
   -- the lines of a text, where a wide key has stood so far
-  abbrev pub lines_of : ℕ → Option Wide → List ℕ → List (List ℕ)
-  lines_of columns wide text = slice_split is_newline (filled columns wide text)
+  abbrev pub lines_with : ℕ → Option Wide → List ℕ → List (List ℕ)
+  lines_with columns wide text = slice_split is_newline (filled columns wide text)
 
 module _ {K : Type 0} (m : Tracking K) (style : Style K) (p : Progress) (now : ℕ) where
   -- the text of a key, as a placeholder asks for it
   abbrev pub key_text : Layout → Key → List ℕ
   key_text layout Bar = bar_text style.clusters style.colours (unwrap_or layout.alternative []) (fraction p) (unwrap_or layout.width 20)
-  key_text layout WideBar = mark
-  key_text layout WideMessage = mark
+  key_text layout WideBar = wide_mark
+  key_text layout WideMessage = wide_mark
   key_text layout Spinner = if is_finished p then final_tick_string style.tick_strings else tick_string style.tick_strings p.ticks
   key_text layout Prefix = shown_prefix p
   key_text layout Message = shown_message p
@@ -115,15 +115,15 @@ module _ {K : Type 0} (m : Tracking K) (style : Style K) (p : Progress) (now : �
   ]
 
   -- a text at the placeholder's width, where it has one, and in its style
-  abbrev pub laid_out : Layout → List ℕ → List ℕ
-  laid_out layout text =
+  abbrev pub in_layout : Layout → List ℕ → List ℕ
+  in_layout layout text =
       styled style.colours (unwrap_or layout.style []) (option_map_or (λ width. padded text width layout.align layout.truncate) layout.width text)
 
   -- the text of a part of the template
   abbrev pub part_text : TemplatePart → List ℕ
   part_text (LiteralText text) = expanded style.tab (encode_utf8_all text)
   part_text LineBreak = []
-  part_text (KeyText key layout) = laid_out layout (named_text (encode_utf8_all key) layout)
+  part_text (KeyText key layout) = in_layout layout (named_text (encode_utf8_all key) layout)
 
   -- ---- wide keys
 
@@ -146,9 +146,9 @@ module _ {K : Type 0} (m : Tracking K) (style : Style K) (p : Progress) (now : �
   abbrev pub lines_of_groups : ℕ → Option Wide → List (List TemplatePart) → List (List ℕ)
   lines_of_groups columns wide [] = []
   lines_of_groups columns wide (parts ∷ []) =
-      if length (flat_map part_text parts) == 0 then [] else lines_of style p columns (latest_wide wide parts) (flat_map part_text parts)
+      if length (flat_map part_text parts) == 0 then [] else lines_with style p columns (latest_wide wide parts) (flat_map part_text parts)
   lines_of_groups columns wide (parts ∷ next ∷ groups) =
-      lines_of style p columns (latest_wide wide parts) (flat_map part_text parts) ++ lines_of_groups columns (latest_wide wide parts) (next ∷ groups)
+      lines_with style p columns (latest_wide wide parts) (flat_map part_text parts) ++ lines_of_groups columns (latest_wide wide parts) (next ∷ groups)
 
   -- the lines of a bar on a terminal of so many columns
   unfoldable pub lines : ℕ → List (List ℕ)

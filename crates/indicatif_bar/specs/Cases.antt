@@ -10,7 +10,7 @@ use Rattle.indicatif_text.specs.Columns.{Cell, rows_of}
 use Rattle.indicatif_term.specs.Lists.{opening_lists, all_rows}
 use Rattle.indicatif_bar.specs.Bars.{lines_of_bar}
 use Rattle.indicatif_bar.specs.Trackers.{Tracking, writes_nothing}
-use Rattle.indicatif_bar.specs.Commands.{BarRecord, Command, new_bar, after, Tick, SetMessage, PutMessage, SetElapsed, ForceDraw}
+use Rattle.indicatif_bar.specs.Commands.{BarRecord, Command, new_bar, obeyed, Tick, SetMessage, PutMessage, SetElapsed, ForceDraw}
 use Rattle.indicatif_bar.specs.LoneBars.{lone_bar}
 use Rattle.indicatif_term.specs.Limiters.{draw_limiter}
 use Rattle.indicatif_bar.specs.Machines.{Target, outcomes}
@@ -38,7 +38,7 @@ message_style = record { parts = KeyText (codes "msg") plain_layout ∷ []; clus
 
 -- a lone bar without trackers, with this message, as it was made at the moment 0
 abbrev pub bar_saying : List ℕ → BarRecord (Unit {0})
-bar_saying message = (after untracked (PutMessage message) (new_bar message_style None 0) 0).0
+bar_saying message = (obeyed untracked (PutMessage message) (new_bar message_style None 0) 0).0
 
 -- an empty message has no line; else its pieces between newlines are its lines
 abbrev pub Lines : Type 0

@@ -4,54 +4,54 @@ use Rattle.indicatif_bar.specs.declared.state.Ask.{Ask}
 use Rattle.indicatif_bar.specs.declared.state.Ask.TheVariants.{No, Unforced, Forced}
 use Rattle.indicatif_bar.specs.declared.measures.Rate.{Rate}
 use Rattle.indicatif_bar.specs.declared.measures.Fraction.{Fraction}
-use Rattle.indicatif_bar.specs.Measures.{most, fraction_of, first_marks, recorded, recorded_all, restarted, rate_since, time_for, steps_a_second}
+use Rattle.indicatif_bar.specs.Measures.{greatest_u64, fraction_of, first_marks, recorded, recorded_all, restarted, rate_since, time_for, steps_a_second}
 use Rattle.indicatif_bar.specs.Progress.{eta, per_sec, elapsed, duration, shown_message}
 use Rattle.indicatif_bar.specs.Finishes.{AndLeave, Abandon, WithMessage}
 use Rattle.indicatif_bar.specs.Trackers.{writes_nothing}
 use Rattle.indicatif_bar.specs.BarStyles.{Style}
-use Rattle.indicatif_bar.specs.Commands.{BarRecord, Command, Inc, Dec, SetPosition, PutPosition, Tick, TickerTick, SetTicker, SetMessage, SetTabWidth, SetLength, IncLength, DecLength, SetElapsed, ResetEta, Reset, FinishBy, FinishUsingStyle, PutFinish, new_bar, after, is_beyond_clock}
+use Rattle.indicatif_bar.specs.Commands.{BarRecord, Command, Inc, Dec, SetPosition, PutPosition, Tick, TickerTick, SetTicker, SetMessage, SetTabWidth, SetLength, IncLength, DecLength, SetElapsed, ResetEta, Reset, FinishBy, FinishUsingStyle, PutFinish, new_bar, obeyed, is_beyond_clock}
 
 abbrev pub ms : ℕ
 ms = 1000000
 
-abbrev pub second : ℕ
-second = 1000 * ms
+abbrev pub one_second : ℕ
+one_second = 1000 * ms
 
 -- the bar after commands, each at its moment
 abbrev pub after_all : BarRecord ℕ → List (Command ℕ × ℕ) → BarRecord ℕ
 after_all bar [] = bar
-after_all bar ((command, now) ∷ commands) = after_all (after writes_nothing command bar now).0 commands
+after_all bar ((command, now) ∷ commands) = after_all (obeyed writes_nothing command bar now).0 commands
 
 -- what the commands ask for
 abbrev pub asks_of : BarRecord ℕ → List (Command ℕ × ℕ) → List Ask
 asks_of bar [] = []
-asks_of bar ((command, now) ∷ commands) = (after writes_nothing command bar now).1 ∷ asks_of (after writes_nothing command bar now).0 commands
+asks_of bar ((command, now) ∷ commands) = (obeyed writes_nothing command bar now).1 ∷ asks_of (obeyed writes_nothing command bar now).0 commands
 
 -- a fraction of the greatest numbers; no length; a position past the length; length 0
 abbrev pub Fractions : Type 0
 Fractions =
-    let whole : Fraction = record { num = most; den = most } in
-    let least : Fraction = record { num = 1; den = most } in
+    let whole : Fraction = record { num = greatest_u64; den = greatest_u64 } in
+    let least : Fraction = record { num = 1; den = greatest_u64 } in
     let none : Fraction = record { num = 0; den = 1 } in
     let full : Fraction = record { num = 4; den = 4 } in
     let done : Fraction = record { num = 1; den = 1 } in
-    (fraction_of most (Some most) ≡ whole) × (fraction_of 1 (Some most) ≡ least) × (fraction_of most None ≡ none)
+    (fraction_of greatest_u64 (Some greatest_u64) ≡ whole) × (fraction_of 1 (Some greatest_u64) ≡ least) × (fraction_of greatest_u64 None ≡ none)
     × (fraction_of 9 (Some 4) ≡ full) × (fraction_of 0 (Some 0) ≡ done)
 
 -- the greatest numbers: no time is beyond the most, nor are the steps of a second
 abbrev pub Greatest : Type 0
 Greatest =
-    let slow : Rate = record { steps = 1; nanos = most } in
-    let fast : Rate = record { steps = most; nanos = 1 } in
-    (time_for slow most ≡ most) × (time_for slow 1 ≡ most) × (time_for fast most ≡ 1) × (steps_a_second fast ≡ most) × (steps_a_second slow ≡ 0)
+    let slow : Rate = record { steps = 1; nanos = greatest_u64 } in
+    let fast : Rate = record { steps = greatest_u64; nanos = 1 } in
+    (time_for slow greatest_u64 ≡ greatest_u64) × (time_for slow 1 ≡ greatest_u64) × (time_for fast greatest_u64 ≡ 1) × (steps_a_second fast ≡ greatest_u64) × (steps_a_second slow ≡ 0)
 
 -- a rate since a reset; steps that went back begin anew
 abbrev pub Rates : Type 0
 Rates =
     let one : Rate = record { steps = 1; nanos = 1000000000 } in
     let none : Rate = record { steps = 0; nanos = 1000000000 } in
-    (rate_since (recorded (restarted (recorded (first_marks 0) 2 second) second) 3 (2 * second)) (2 * second) ≡ one)
-    × (rate_since (recorded_all (first_marks 0) ((5, second) ∷ (2, 2 * second) ∷ [])) (3 * second) ≡ none)
+    (rate_since (recorded (restarted (recorded (first_marks 0) 2 one_second) one_second) 3 (2 * one_second)) (2 * one_second) ≡ one)
+    × (rate_since (recorded_all (first_marks 0) ((5, one_second) ∷ (2, 2 * one_second) ∷ [])) (3 * one_second) ≡ none)
 
 -- ---- commands of a bar, whatever its style
 
@@ -70,9 +70,9 @@ module _ (style : Style ℕ) where
   -- three of nine in two seconds: three steps in two seconds, and four seconds to come
   abbrev pub RateAndEta : Type 0
   RateAndEta =
-      let bar = after_all (plain (Some 9)) ((SetPosition 3, 2 * second) ∷ []) in
+      let bar = after_all (plain (Some 9)) ((SetPosition 3, 2 * one_second) ∷ []) in
       let rate : Rate = record { steps = 3; nanos = 2000000000 } in
-      (per_sec bar.progress (2 * second) ≡ rate) × (eta bar.progress (2 * second) ≡ 4 * second) × (duration bar.progress (2 * second) ≡ 6 * second)
+      (per_sec bar.progress (2 * one_second) ≡ rate) × (eta bar.progress (2 * one_second) ≡ 4 * one_second) × (duration bar.progress (2 * one_second) ≡ 6 * one_second)
 
   -- a finished bar's draws are forced, and an installed ticker keeps a bar from ticking
   abbrev pub Asks : Type 0
@@ -83,16 +83,16 @@ module _ (style : Style ℕ) where
   -- the rate since a reset of it, of steps that went back, and the time that is left then
   abbrev pub ResetRates : Type 0
   ResetRates =
-      let slow = after_all (plain None) ((PutPosition 2, 0) ∷ (Tick, second) ∷ (ResetEta, second) ∷ (SetPosition 3, 2 * second) ∷ []) in
-      let back = after_all (plain (Some 9)) ((SetPosition 5, second) ∷ (SetPosition 2, 2 * second) ∷ []) in
+      let slow = after_all (plain None) ((PutPosition 2, 0) ∷ (Tick, one_second) ∷ (ResetEta, one_second) ∷ (SetPosition 3, 2 * one_second) ∷ []) in
+      let back = after_all (plain (Some 9)) ((SetPosition 5, one_second) ∷ (SetPosition 2, 2 * one_second) ∷ []) in
       let rate : Rate = record { steps = 1; nanos = 1000000000 } in
-      (per_sec slow.progress (2 * second) ≡ rate) × ((per_sec back.progress (3 * second)).steps ≡ 0) × (eta back.progress (3 * second) ≡ 0)
+      (per_sec slow.progress (2 * one_second) ≡ rate) × ((per_sec back.progress (3 * one_second)).steps ≡ 0) × (eta back.progress (3 * one_second) ≡ 0)
 
   -- positions go round; lengths stop at both ends, and none stays none
   abbrev pub Ends : Type 0
-  Ends = ((after_all (plain None) ((Dec 1, 0) ∷ [])).progress.position ≡ most)
-      × ((after_all (plain None) ((SetPosition most, 0) ∷ (Inc 2, 0) ∷ [])).progress.position ≡ 1)
-      × ((after_all (plain None) ((SetLength most, 0) ∷ (IncLength 1, 0) ∷ [])).progress.len ≡ Some most)
+  Ends = ((after_all (plain None) ((Dec 1, 0) ∷ [])).progress.position ≡ greatest_u64)
+      × ((after_all (plain None) ((SetPosition greatest_u64, 0) ∷ (Inc 2, 0) ∷ [])).progress.position ≡ 1)
+      × ((after_all (plain None) ((SetLength greatest_u64, 0) ∷ (IncLength 1, 0) ∷ [])).progress.len ≡ Some greatest_u64)
       × ((after_all (plain None) ((SetLength 3, 0) ∷ (DecLength 5, 0) ∷ [])).progress.len ≡ Some 0)
       × ((after_all (plain None) ((IncLength 5, 0) ∷ [])).progress.len ≡ None)
 
@@ -105,7 +105,7 @@ module _ (style : Style ℕ) where
   abbrev pub TabWidths : Type 0
   TabWidths =
       let tabbed = after_all (plain None) ((SetMessage (codes "a" ++ (9 ∷ []) ++ codes "b"), 0) ∷ []) in
-      (shown_message tabbed.progress ≡ codes "a        b") × (shown_message (after writes_nothing (SetTabWidth 2) tabbed 0).0.progress ≡ codes "a  b")
+      (shown_message tabbed.progress ≡ codes "a        b") × (shown_message (obeyed writes_nothing (SetTabWidth 2) tabbed 0).0.progress ≡ codes "a  b")
 
   -- each finish: where the bar stands then, and what it took
   abbrev pub Finishes : Type 0

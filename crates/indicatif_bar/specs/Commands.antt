@@ -2,7 +2,7 @@
 use Rattle.std.specs.Prelude.{not, ◌||◌, ◌==◌, ℕ, string_bytes, ◌+◌, ◌-◌, ◌%◌, ◌^◌, Bool, false, nat_lt, min, List, Option, Some, None, if◌then◌else◌, unwrap_or, option_map}
 use Rattle.indicatif_bar.specs.declared.state.Ask.{Ask}
 use Rattle.indicatif_bar.specs.declared.state.Ask.TheVariants.{No, Unforced, Forced}
-use Rattle.indicatif_bar.specs.Measures.{most, recorded}
+use Rattle.indicatif_bar.specs.Measures.{greatest_u64, recorded}
 use Rattle.indicatif_bar.specs.PositionLimiters.{PositionLimiter, position_limiter, allow_position, position_reset}
 use Rattle.indicatif_bar.specs.Progress.{Progress, new_progress, is_finished, elapsed, rate_reset, progress_reset}
 use Rattle.indicatif_bar.specs.Tabs.{has_tab, is_some_text}
@@ -73,12 +73,12 @@ abbrev pub with_trackers : {K : Type 0} → (K → K) → BarRecord K → BarRec
 with_trackers change bar = record bar { style = record bar.style { keys = changed_trackers change bar.style.keys } }
 
 -- the draw that is asked for: an unforced one, and a forced one of a finished bar
-abbrev pub draw_of : {K : Type 0} → BarRecord K → Ask
-draw_of bar = if is_finished bar.progress then Forced else Unforced
+abbrev pub redraw_ask : {K : Type 0} → BarRecord K → Ask
+redraw_ask bar = if is_finished bar.progress then Forced else Unforced
 
 -- the record, and a draw is asked for
 abbrev pub asks_draw : {K : Type 0} → BarRecord K → BarRecord K × Ask
-asks_draw bar = (bar, draw_of bar)
+asks_draw bar = (bar, redraw_ask bar)
 
 abbrev pub with_progress : {K : Type 0} → BarRecord K → Progress → BarRecord K
 with_progress bar progress = record bar { progress = progress }
@@ -104,7 +104,7 @@ module _ {K : Type 0} (m : Tracking K) where
 
   -- a tick, whether a ticker is installed or not
   abbrev pub ticker_tick : BarRecord K → ℕ → BarRecord K × Ask
-  ticker_tick bar now = update (with_progress bar (record bar.progress { ticks = min (bar.progress.ticks + 1) most })) now
+  ticker_tick bar now = update (with_progress bar (record bar.progress { ticks = min (bar.progress.ticks + 1) greatest_u64 })) now
 
   -- a tick, which does nothing where a ticker is installed
   abbrev pub tick : BarRecord K → ℕ → BarRecord K × Ask
@@ -127,35 +127,35 @@ module _ {K : Type 0} (m : Tracking K) where
       with_trackers (λ k. m.was_reset k progress now) (record bar { progress = progress; limiter = position_reset bar.limiter now })
 
   -- the record after a command at a moment, and what it asks for
-  abbrev pub after : Command K → BarRecord K → ℕ → BarRecord K × Ask
-  after Tick bar now = tick bar now
-  after TickerTick bar now = ticker_tick bar now
-  after (SetTicker installed) bar now = (record bar { ticker = installed }, No)
-  after (Inc n) bar now = moved_to ((bar.progress.position + n) % 2 ^ 64) bar now
-  after (Dec n) bar now = moved_to ((bar.progress.position + 2 ^ 64 - n) % 2 ^ 64) bar now
-  after (SetPosition position) bar now = moved_to position bar now
-  after (Update position len) bar now =
+  abbrev pub obeyed : Command K → BarRecord K → ℕ → BarRecord K × Ask
+  obeyed Tick bar now = tick bar now
+  obeyed TickerTick bar now = ticker_tick bar now
+  obeyed (SetTicker installed) bar now = (record bar { ticker = installed }, No)
+  obeyed (Inc n) bar now = moved_to ((bar.progress.position + n) % 2 ^ 64) bar now
+  obeyed (Dec n) bar now = moved_to ((bar.progress.position + 2 ^ 64 - n) % 2 ^ 64) bar now
+  obeyed (SetPosition position) bar now = moved_to position bar now
+  obeyed (Update position len) bar now =
       tick (with_progress bar (record bar.progress { position = unwrap_or position bar.progress.position; len = some_or len bar.progress.len })) now
-  after (SetLength n) bar now = with_length (Some n) bar now
-  after UnsetLength bar now = with_length None bar now
-  after (IncLength n) bar now = with_length (option_map (λ len. min (len + n) most) bar.progress.len) bar now
-  after (DecLength n) bar now = with_length (option_map (λ len. len - n) bar.progress.len) bar now
-  after (SetMessage text) bar now = update (with_progress bar (record bar.progress { message = text })) now
-  after (SetPrefix text) bar now = update (with_progress bar (record bar.progress { prefix = text })) now
-  after (SetStyle style) bar now = (record bar { style = record style { tab = bar.progress.tab } }, No)
-  after (PutPosition position) bar now = (with_progress bar (record bar.progress { position = position }), No)
-  after (PutMessage text) bar now = (with_progress bar (record bar.progress { message = text }), No)
-  after (PutPrefix text) bar now = (with_progress bar (record bar.progress { prefix = text }), No)
-  after (PutFinish by) bar now = (record bar { on_finish = by }, No)
-  after (PutTabWidth tab) bar now = (with_tab bar tab, No)
-  after (SetTabWidth tab) bar now = (with_tab bar tab, Forced)
-  after (SetElapsed nanos) bar now = (if nat_lt now nanos then bar else with_progress bar (record bar.progress { start = now - nanos }), No)
-  after ResetEta bar now = (with_progress bar (rate_reset bar.progress now), No)
-  after ResetElapsed bar now = (with_progress bar (record (rate_reset bar.progress now) { start = now }), No)
-  after Reset bar now = asks_draw (reset bar now)
-  after (FinishBy by) bar now = finish by bar now
-  after FinishUsingStyle bar now = finish bar.on_finish bar now
-  after ForceDraw bar now = (bar, Forced)
+  obeyed (SetLength n) bar now = with_length (Some n) bar now
+  obeyed UnsetLength bar now = with_length None bar now
+  obeyed (IncLength n) bar now = with_length (option_map (λ len. min (len + n) greatest_u64) bar.progress.len) bar now
+  obeyed (DecLength n) bar now = with_length (option_map (λ len. len - n) bar.progress.len) bar now
+  obeyed (SetMessage text) bar now = update (with_progress bar (record bar.progress { message = text })) now
+  obeyed (SetPrefix text) bar now = update (with_progress bar (record bar.progress { prefix = text })) now
+  obeyed (SetStyle style) bar now = (record bar { style = record style { tab = bar.progress.tab } }, No)
+  obeyed (PutPosition position) bar now = (with_progress bar (record bar.progress { position = position }), No)
+  obeyed (PutMessage text) bar now = (with_progress bar (record bar.progress { message = text }), No)
+  obeyed (PutPrefix text) bar now = (with_progress bar (record bar.progress { prefix = text }), No)
+  obeyed (PutFinish by) bar now = (record bar { on_finish = by }, No)
+  obeyed (PutTabWidth tab) bar now = (with_tab bar tab, No)
+  obeyed (SetTabWidth tab) bar now = (with_tab bar tab, Forced)
+  obeyed (SetElapsed nanos) bar now = (if nat_lt now nanos then bar else with_progress bar (record bar.progress { start = now - nanos }), No)
+  obeyed ResetEta bar now = (with_progress bar (rate_reset bar.progress now), No)
+  obeyed ResetElapsed bar now = (with_progress bar (record (rate_reset bar.progress now) { start = now }), No)
+  obeyed Reset bar now = asks_draw (reset bar now)
+  obeyed (FinishBy by) bar now = finish by bar now
+  obeyed FinishUsingStyle bar now = finish bar.on_finish bar now
+  obeyed ForceDraw bar now = (bar, Forced)
 
 -- the record after its owner is gone, and what that asks for
 abbrev pub after_drop : {K : Type 0} → BarRecord K → ℕ → BarRecord K × Ask

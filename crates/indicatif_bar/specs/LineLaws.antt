@@ -9,7 +9,7 @@ use Rattle.indicatif_bar.specs.Trackers.{Tracking}
 use Rattle.indicatif_bar.specs.Layout.{text_columns, cluster}
 use Rattle.indicatif_bar.specs.Keys.{named}
 use Rattle.indicatif_bar.specs.BarStyles.{Style, WideBarOf, wide_part, part_text, is_line_break, lines}
-use Rattle.indicatif_bar.specs.Commands.{BarRecord, SetTabWidth, after}
+use Rattle.indicatif_bar.specs.Commands.{BarRecord, SetTabWidth, obeyed}
 use Rattle.indicatif_bar.specs.StyleLaws.{IsPlainText, ArePlainClusters}
 
 -- ---- a line with a wide bar
@@ -50,11 +50,11 @@ WideBarsFill K = (m : Tracking K) (style : Style K) (p : Progress) (now columns 
 -- after another width of tabs, message, prefix and the template's literals are what they were set to with that width, whatever widths were set before
 abbrev pub NewTabWidths : Type 0 → Type 0
 NewTabWidths K = (m : Tracking K) (bar : BarRecord K) (tab now : ℕ) →
-    let next = (after m (SetTabWidth tab) bar now).0 in
+    let next = (obeyed m (SetTabWidth tab) bar now).0 in
     (shown_message next.progress ≡ expanded tab bar.progress.message) × (shown_prefix next.progress ≡ expanded tab bar.progress.prefix)
     × (next.style.parts ≡ bar.style.parts) × ((text : List ℕ) → part_text m next.style next.progress now (LiteralText text) ≡ expanded tab (encode_utf8_all text))
 
 -- the last width counts alone
 abbrev pub LastTabWidthCounts : Type 0 → Type 0
 LastTabWidthCounts K = (m : Tracking K) (bar : BarRecord K) (earlier tab now : ℕ) →
-    after m (SetTabWidth tab) (after m (SetTabWidth earlier) bar now).0 now ≡ after m (SetTabWidth tab) bar now
+    obeyed m (SetTabWidth tab) (obeyed m (SetTabWidth earlier) bar now).0 now ≡ obeyed m (SetTabWidth tab) bar now

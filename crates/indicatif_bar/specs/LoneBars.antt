@@ -6,12 +6,12 @@ use Rattle.indicatif_text.specs.declared.refusal.Drawn.{Drawn}
 use Rattle.indicatif_term.specs.Calls.{TermView}
 use Rattle.indicatif_term.specs.Engines.{terminal, Fits}
 use Rattle.indicatif_bar.specs.Trackers.{Tracking}
-use Rattle.indicatif_bar.specs.Commands.{BarRecord, Command, ForceDraw, after, command_of, is_beyond_clock, takes_memory}
+use Rattle.indicatif_bar.specs.Commands.{BarRecord, Command, ForceDraw, obeyed, command_of, is_beyond_clock, takes_memory}
 use Rattle.indicatif_bar.specs.Bars.{bar_kind}
 use Rattle.indicatif_bar.specs.Machines.{Machine}
 use Rattle.indicatif_bar.specs.Runs.{CallMade, Runs, wrote}
 use Rattle.indicatif_bar.specs.Lone.{LoneState, Call, Change, Log, Clear, lone}
-use Rattle.indicatif_bar.specs.Inside.Shown.{Holds}
+use Rattle.indicatif_bar.specs.Inside.Shown.{ShownAs}
 use Rattle.indicatif_bar.specs.declared.lone.LoneBar.{LoneBar}
 use Rattle.indicatif_bar.specs.declared.lone.LoneCall.{LoneCall}
 use Rattle.indicatif_bar.specs.declared.lone.LoneCall.TheVariants.{Bar as BarCall, Log as LogCall, Clear as ClearCall}
@@ -27,7 +27,7 @@ module _ {K T : Type 0} where
 
   -- the bar may be in this state. Of the rows only the numbers are kept, so many states fit one bar; what is claimed holds of each
   unfoldable pub IsIn : LoneBar K T → LoneState (BarRecord K) → Type 0
-  IsIn b s = Holds b.shown s × MatchOption b.engine (Unit {0}) (λ e. Fits e s.lists)
+  IsIn b s = ShownAs b.shown s × MatchOption b.engine (Unit {0}) (λ e. Fits e s.lists)
 
   -- what is known of its terminal
   abbrev pub known : (T → TermView) → LoneBar K T → Option TermView
@@ -62,7 +62,7 @@ module _ {K T : Type 0} (m : Tracking K) (view : T → TermView) (old new : Lone
   -- a bar that obeyed a command with this answer
   pub record Obeys (command : Command K) (now : ℕ) (answer : Result Drawn Refusal) : Type 0 where
     -- its record is as the command says
-    pub bar : record_of new ≡ (after m command (record_of old) now).0
+    pub bar : record_of new ≡ (obeyed m command (record_of old) now).0
     -- where nothing was written, the terminal was not touched
     pub silent : IsFalse (wrote answer) → terminal_of new ≡ terminal_of old
     -- its step
@@ -70,13 +70,13 @@ module _ {K T : Type 0} (m : Tracking K) (view : T → TermView) (old new : Lone
 
   -- a bar that obeyed a command, or refused it
   pub record ObeysOrNot (command : Command K) (now : ℕ) (answer : Result Drawn Refusal) : Type 0 where
-    pub bar : (record_of new ≡ (after m command (record_of old) now).0) ⊎ Disobeys old new command now answer
+    pub bar : (record_of new ≡ (obeyed m command (record_of old) now).0) ⊎ Disobeys old new command now answer
     pub silent : IsFalse (wrote answer) → terminal_of new ≡ terminal_of old
     pub leads : LeadsBy (Change command) now answer
 
 -- what became of the bar in a call with this answer: a command made of it what it says, or was refused; else it stays
 abbrev pub CallDone : {K T : Type 0} → Tracking K → LoneBar K T → LoneBar K T → Call (Command K) → ℕ → Result Drawn Refusal → Type 0
-CallDone m old new (Change command) now answer = (record_of new ≡ (after m command (record_of old) now).0) ⊎ Disobeys old new command now answer
+CallDone m old new (Change command) now answer = (record_of new ≡ (obeyed m command (record_of old) now).0) ⊎ Disobeys old new command now answer
 CallDone m old new _ now answer = record_of new ≡ record_of old
 
 -- a call that is a value, as its definition

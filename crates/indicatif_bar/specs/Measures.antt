@@ -6,8 +6,8 @@ use Rattle.indicatif_bar.specs.declared.measures.Mark.{Mark}
 use Rattle.indicatif_bar.specs.declared.measures.Marks.{Marks}
 
 -- the greatest number of 64 bits
-abbrev pub most : ℕ
-most = 2 ^ 64 - 1
+abbrev pub greatest_u64 : ℕ
+greatest_u64 = 2 ^ 64 - 1
 
 -- the part of the length that is done, at most all: 0 without a length, 1 at length 0
 abbrev pub fraction_of : ℕ → Option ℕ → Fraction
@@ -46,8 +46,8 @@ rate_since marks now = rate_over (marks.last.steps - marks.base.steps) (now - ma
 
 -- the whole steps of a second, at most `most`
 abbrev pub steps_a_second : Rate → ℕ
-steps_a_second rate = min (rate.steps * 1000000000 / rate.nanos) most
+steps_a_second rate = min (rate.steps * 1000000000 / rate.nanos) greatest_u64
 
 -- the time that so many steps still take at a rate, at most `most`, and 0 at rate zero
 abbrev pub time_for : Rate → ℕ → ℕ
-time_for rate left = if rate.steps == 0 then 0 else min (left * rate.nanos / rate.steps) most
+time_for rate left = if rate.steps == 0 then 0 else min (left * rate.nanos / rate.steps) greatest_u64

@@ -5,7 +5,7 @@ use Rattle.indicatif_bar.specs.declared.measures.Rate.{Rate}
 use Rattle.indicatif_bar.specs.declared.measures.Marks.{Marks}
 use Rattle.indicatif_bar.specs.declared.progress.Status.{Status}
 use Rattle.indicatif_bar.specs.declared.progress.Status.TheVariants.{InProgress, DoneVisible, DoneHidden}
-use Rattle.indicatif_bar.specs.Measures.{fraction_of, first_marks, restarted, rate_over, rate_since, time_for, most}
+use Rattle.indicatif_bar.specs.Measures.{fraction_of, first_marks, restarted, rate_over, rate_since, time_for, greatest_u64}
 use Rattle.indicatif_bar.specs.Tabs.{expanded}
 
 pub record Progress : Type 0 where
@@ -70,7 +70,7 @@ eta p now = elim p.len [ None ↦ 0 | Some n ↦ if is_finished p then 0 else ti
 
 -- the time from the start to the end, as far as it is known
 abbrev pub duration : Progress → ℕ → ℕ
-duration p now = if is_finished p then p.took else elim p.len [ None ↦ 0 | Some n ↦ min (elapsed p now + eta p now) most ]
+duration p now = if is_finished p then p.took else elim p.len [ None ↦ 0 | Some n ↦ min (elapsed p now + eta p now) greatest_u64 ]
 
 -- ---- what commands change
 

@@ -2,10 +2,10 @@
 use Rattle.std.specs.Prelude.{◌≡◌, ◌≢◌, ◌<◌, ◌≤◌, ℕ, suc, ◌*◌, Option, Some, IsTrue}
 use Rattle.indicatif_bar.specs.declared.state.Ask.TheVariants.{Unforced}
 use Rattle.indicatif_bar.specs.declared.measures.Rate.{Rate}
-use Rattle.indicatif_bar.specs.Measures.{most, fraction_of, time_for, steps_a_second}
+use Rattle.indicatif_bar.specs.Measures.{greatest_u64, fraction_of, time_for, steps_a_second}
 use Rattle.indicatif_bar.specs.Progress.{Progress, per_sec, eta, duration, fraction, is_finished}
 use Rattle.indicatif_bar.specs.Trackers.{Tracking}
-use Rattle.indicatif_bar.specs.Commands.{BarRecord, Command, after, new_bar}
+use Rattle.indicatif_bar.specs.Commands.{BarRecord, Command, obeyed, new_bar}
 use Rattle.indicatif_bar.specs.BarStyles.{Style}
 
 -- a fraction is a part of a whole: its whole is above 0, and its part no more than that
@@ -22,25 +22,25 @@ RatesHaveTime = (p : Progress) (now : ℕ) → 0 < (per_sec p now).nanos
 
 -- times that are left and whole times fit 64 bits, where the stored one does
 abbrev pub TimesFit : Type 0
-TimesFit = (p : Progress) (now : ℕ) → (eta p now ≤ most) × (p.took ≤ most → duration p now ≤ most)
+TimesFit = (p : Progress) (now : ℕ) → (eta p now ≤ greatest_u64) × (p.took ≤ greatest_u64 → duration p now ≤ greatest_u64)
 
 -- the time for some steps is their quotient by the rate, rounded down, or the most
 abbrev pub TimesAreQuotients : Type 0
-TimesAreQuotients = (rate : Rate) (left : ℕ) → 0 < rate.steps → time_for rate left < most →
+TimesAreQuotients = (rate : Rate) (left : ℕ) → 0 < rate.steps → time_for rate left < greatest_u64 →
     (time_for rate left * rate.steps ≤ left * rate.nanos) × (left * rate.nanos < suc (time_for rate left) * rate.steps)
 
 -- the whole steps of a second are the quotient of steps by seconds, rounded down, or the most
 abbrev pub StepsAreQuotients : Type 0
-StepsAreQuotients = (rate : Rate) → 0 < rate.nanos → steps_a_second rate < most →
+StepsAreQuotients = (rate : Rate) → 0 < rate.nanos → steps_a_second rate < greatest_u64 →
     (steps_a_second rate * rate.nanos ≤ rate.steps * 1000000000) × (rate.steps * 1000000000 < suc (steps_a_second rate) * rate.nanos)
 
 -- a tab is as wide in a bar's style as in its texts, as it is made and after each command
 abbrev pub TabsAgree : Type 0 → Type 0
 TabsAgree K = (m : Tracking K) (style : Style K) (len : Option ℕ) (bar : BarRecord K) (command : Command K) (now : ℕ) →
     ((new_bar style len now).style.tab ≡ (new_bar style len now).progress.tab)
-    × (bar.style.tab ≡ bar.progress.tab → (after m command bar now).0.style.tab ≡ (after m command bar now).0.progress.tab)
+    × (bar.style.tab ≡ bar.progress.tab → (obeyed m command bar now).0.style.tab ≡ (obeyed m command bar now).0.progress.tab)
 
 -- no command asks an unforced draw of a bar that is finished then
 abbrev pub FinishedDrawsAreForced : Type 0 → Type 0
 FinishedDrawsAreForced K = (m : Tracking K) (bar : BarRecord K) (command : Command K) (now : ℕ) →
-    IsTrue (is_finished (after m command bar now).0.progress) → (after m command bar now).1 ≢ Unforced
+    IsTrue (is_finished (obeyed m command bar now).0.progress) → (obeyed m command bar now).1 ≢ Unforced

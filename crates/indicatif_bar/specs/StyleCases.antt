@@ -5,15 +5,15 @@ use Rattle.indicatif_text.specs.declared.refusal.Refusal.TheVariants.{FewTicks, 
 use Rattle.indicatif_text.specs.Template.{TemplatePart, LiteralText, LineBreak, KeyText}
 use Rattle.indicatif_text.specs.Template.{plain_layout}
 use Rattle.indicatif_text.specs.StyleWords.{style_of}
-use Rattle.indicatif_bar.specs.Measures.{most, first_marks, recorded}
+use Rattle.indicatif_bar.specs.Measures.{greatest_u64, first_marks, recorded}
 use Rattle.indicatif_bar.specs.Progress.{Progress, new_progress}
-use Rattle.indicatif_bar.specs.Trackers.{Tracking, tells}
+use Rattle.indicatif_bar.specs.Trackers.{Tracking, telling}
 use Rattle.indicatif_bar.specs.BarStyles.{Style, lines, tick_string, final_tick_string}
 use Rattle.indicatif_bar.specs.Builders.{tick_fault, progress_fault, clusters_of, characters_of}
 
 -- a tracker that writes the text that it is
 abbrev pub texts : Tracking (List ℕ)
-texts = tells (λ k p now. k)
+texts = telling (λ k p now. k)
 
 abbrev pub key : List ℕ → TemplatePart
 key name = KeyText name plain_layout
@@ -21,11 +21,11 @@ key name = KeyText name plain_layout
 abbrev pub key_wide : List ℕ → ℕ → TemplatePart
 key_wide name width = KeyText name (record plain_layout { width = Some width })
 
-abbrev pub look : List TemplatePart → Style (List ℕ)
-look parts = record { parts = parts; clusters = codes "=" ∷ codes ">" ∷ codes "-" ∷ []; tick_strings = codes "1" ∷ codes "2" ∷ codes "F" ∷ []; keys = []; colours = false; tab = 8 }
+abbrev pub style_with : List TemplatePart → Style (List ℕ)
+style_with parts = record { parts = parts; clusters = codes "=" ∷ codes ">" ∷ codes "-" ∷ []; tick_strings = codes "1" ∷ codes "2" ∷ codes "F" ∷ []; keys = []; colours = false; tab = 8 }
 
 abbrev pub one : TemplatePart → Style (List ℕ)
-one part = look (part ∷ [])
+one part = style_with (part ∷ [])
 
 abbrev pub reached : ℕ → Option ℕ → Progress
 reached position len = record (new_progress len 0) { position = position }
@@ -53,7 +53,7 @@ wide_bar = one (key (codes "wide_bar"))
 
 -- bars that fill their line
 abbrev pub WideBarCases : Type 0
-WideBarCases = (shows wide_bar (reached 2 (Some 4)) 8 ≡ codes "====>---" ∷ []) × (shows wide_bar (reached 1 (Some most)) 8 ≡ codes ">-------" ∷ [])
+WideBarCases = (shows wide_bar (reached 2 (Some 4)) 8 ≡ codes "====>---" ∷ []) × (shows wide_bar (reached 1 (Some greatest_u64)) 8 ≡ codes ">-------" ∷ [])
     × (shows wide_bar (reached 9 (Some 4)) 8 ≡ codes "========" ∷ []) × (shows wide_bar (reached 0 (Some 0)) 8 ≡ codes "========" ∷ [])
     × (shows (record (one (KeyText (codes "wide_bar") (record plain_layout { style = Some (style_of (codes "red.on_blue")); alternative = Some (style_of (codes "green.on_cyan")) }))) { colours = true }) (reached 2 (Some 4)) 8
     ≡ (escape ++ codes "[31m" ++ escape ++ codes "[44m====>" ++ escape ++ codes "[32m" ++ escape ++ codes "[46m---" ++ escape ++ codes "[0m" ++ escape ++ codes "[0m") ∷ [])
@@ -67,9 +67,9 @@ PercentCases = (shows (one (key (codes "percent"))) (reached 1 (Some 8)) 80 ≡ 
 abbrev pub MessageCases : Type 0
 MessageCases = (shows (one (key (codes "wide_msg"))) (saying (encode_utf8_all (codes "abcdefghij" ++ (0x308 ∷ []) ++ codes "klmnopqrst"))) 10 ≡ encode_utf8_all (codes "abcdefghij" ++ 0x308 ∷ []) ∷ [])
     × (shows (one (KeyText (codes "msg") (record plain_layout { width = Some 5; align = Center; truncate = true }))) (saying (codes "abcdefgh")) 80 ≡ codes "bcdef" ∷ [])
-    × (shows (look (key (codes "wide_msg") ∷ LiteralText (codes "|") ∷ [])) (saying (codes "ab")) 10 ≡ codes "ab       |" ∷ [])
+    × (shows (style_with (key (codes "wide_msg") ∷ LiteralText (codes "|") ∷ [])) (saying (codes "ab")) 10 ≡ codes "ab       |" ∷ [])
     × (shows (one (key (codes "wide_msg"))) (saying (codes "ab")) 10 ≡ codes "ab" ∷ [])
-    × (shows (look (key (codes "msg") ∷ key (codes "wide_bar") ∷ [])) (record (saying (codes "x" ++ (0 ∷ []) ++ codes "y")) { len = Some 4 }) 10 ≡ codes "x--------y--------" ∷ [])
+    × (shows (style_with (key (codes "msg") ∷ key (codes "wide_bar") ∷ [])) (record (saying (codes "x" ++ (0 ∷ []) ++ codes "y")) { len = Some 4 }) 10 ≡ codes "x--------y--------" ∷ [])
 
 abbrev pub bar_of : List (List ℕ) → ℕ → Style (List ℕ)
 bar_of clusters width = record (one (key_wide (codes "bar") width)) { clusters = clusters }
@@ -94,9 +94,9 @@ RateCases = let p = record (reached 3 None) { marks = recorded (first_marks 0) 3
 
 -- line breaks, and an unknown key
 abbrev pub LineCases : Type 0
-LineCases = (shows (look (LiteralText (codes "a") ∷ LineBreak ∷ LiteralText (codes "b") ∷ [])) (reached 0 None) 80 ≡ codes "a" ∷ codes "b" ∷ [])
-    × (shows (look (LiteralText (codes "a") ∷ LineBreak ∷ [])) (reached 0 None) 80 ≡ codes "a" ∷ [])
-    × (shows (look (LineBreak ∷ LiteralText (codes "b") ∷ [])) (reached 0 None) 80 ≡ [] ∷ codes "b" ∷ [])
+LineCases = (shows (style_with (LiteralText (codes "a") ∷ LineBreak ∷ LiteralText (codes "b") ∷ [])) (reached 0 None) 80 ≡ codes "a" ∷ codes "b" ∷ [])
+    × (shows (style_with (LiteralText (codes "a") ∷ LineBreak ∷ [])) (reached 0 None) 80 ≡ codes "a" ∷ [])
+    × (shows (style_with (LineBreak ∷ LiteralText (codes "b") ∷ [])) (reached 0 None) 80 ≡ [] ∷ codes "b" ∷ [])
     × (shows (one (key (codes "no_such_key"))) (reached 0 None) 80 ≡ [])
     × (shows (one (key (codes "msg"))) (saying (codes "a" ++ (10 ∷ []) ++ codes "b")) 80 ≡ codes "a" ∷ codes "b" ∷ [])
 

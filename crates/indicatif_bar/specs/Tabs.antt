@@ -29,5 +29,5 @@ pub record TabbedText : Type 0 where
   pub tab : ℕ
 
 -- the text as it is shown
-abbrev pub shown : TabbedText → List ℕ
-shown t = expanded t.tab t.text
+abbrev pub expanded_text : TabbedText → List ℕ
+expanded_text t = expanded t.tab t.text

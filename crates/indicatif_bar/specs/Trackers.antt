@@ -10,12 +10,12 @@ pub record Tracking (K : Type 0) : Type 0 where
   pub was_reset : K → Progress → ℕ → K
 
 -- trackers that stay as they are and tell such a text
-abbrev pub tells : {K : Type 0} → (K → Progress → ℕ → List ℕ) → Tracking K
-tells text = record { text = text; ticked = λ k p now. k; was_reset = λ k p now. k }
+abbrev pub telling : {K : Type 0} → (K → Progress → ℕ → List ℕ) → Tracking K
+telling text = record { text = text; ticked = λ k p now. k; was_reset = λ k p now. k }
 
 -- trackers that stay as they are and write nothing
 abbrev pub writes_nothing : {K : Type 0} → Tracking K
-writes_nothing = tells (λ k p now. [])
+writes_nothing = telling (λ k p now. [])
 
 -- trackers by their names, as texts
 abbrev pub entries : {K : Type 0} → List (String Global × K) → List (List ℕ × K)

@@ -5,7 +5,7 @@ ghost use Rattle.std.specs.Prelude.{codes, ◌≡◌, ◌<◌, ◌↔◌, ◌⊎
 ghost use Rattle.std.specs.Fn.{FnOnceReturnsAt};
 ghost use Rattle.indicatif_bar.specs.Progress.{is_finished, shown_message, shown_prefix};
 ghost use Rattle.indicatif_bar.specs.declared.command.Change.{Change};
-ghost use Rattle.indicatif_bar.specs.Commands.{Tick, TickerTick, SetTicker, Inc, Dec, SetPosition, Update, SetLength, UnsetLength, IncLength, DecLength, SetMessage, SetPrefix, SetStyle, PutPosition, PutMessage, PutPrefix, PutFinish, PutTabWidth, SetTabWidth, SetElapsed, ResetEta, ResetElapsed, Reset, FinishBy, FinishUsingStyle, ForceDraw, after, after_drop, command_of, is_beyond_clock, takes_memory, update, with_length, draw_of, new_bar};
+ghost use Rattle.indicatif_bar.specs.Commands.{Tick, TickerTick, SetTicker, Inc, Dec, SetPosition, Update, SetLength, UnsetLength, IncLength, DecLength, SetMessage, SetPrefix, SetStyle, PutPosition, PutMessage, PutPrefix, PutFinish, PutTabWidth, SetTabWidth, SetElapsed, ResetEta, ResetElapsed, Reset, FinishBy, FinishUsingStyle, ForceDraw, obeyed, after_drop, command_of, is_beyond_clock, takes_memory, update, with_length, redraw_ask, new_bar};
 ghost use Rattle.indicatif_bar.specs.Finishes.{AndLeave, WithMessage, AndClear, Abandon, AbandonWithMessage, finish_of};
 
 use crate::bar_style::{ProgressStyle, TICKS};
@@ -129,7 +129,7 @@ impl<K: ProgressTracker> BarState<K> {
 
     /// One more tick, unless a steady ticker is installed: then nothing changes and no draw is asked.
     pub fn tick(&mut self, now: Moment) -> Ask
-        ensures { (self.new, result) ≡ after K.means Tick self.old now }
+        ensures { (self.new, result) ≡ obeyed K.means Tick self.old now }
     {
         if self.ticker {
             return Ask::No;
@@ -139,7 +139,7 @@ impl<K: ProgressTracker> BarState<K> {
 
     /// A steady ticker's own tick: one more tick, up to 2^64 - 1, and a draw.
     pub fn ticker_tick(&mut self, now: Moment) -> Ask
-        ensures { (self.new, result) ≡ after K.means TickerTick self.old now }
+        ensures { (self.new, result) ≡ obeyed K.means TickerTick self.old now }
     {
         self.progress.count_tick();
         self.update_draw(now)
@@ -156,7 +156,7 @@ impl<K: ProgressTracker> BarState<K> {
 
     /// A draw, which is forced where the bar is finished.
     fn asked(&self) -> Ask
-        ensures { result ≡ draw_of self.now }
+        ensures { result ≡ redraw_ask self.now }
     {
         if self.progress.is_finished() {
             return Ask::Forced;
@@ -166,7 +166,7 @@ impl<K: ProgressTracker> BarState<K> {
 
     /// Says whether a steady ticker is installed.
     pub fn set_ticker(&mut self, installed: bool, now: Moment) -> Ask
-        ensures { (self.new, result) ≡ after K.means (SetTicker installed) self.old now }
+        ensures { (self.new, result) ≡ obeyed K.means (SetTicker installed) self.old now }
     {
         self.ticker = installed;
         Ask::No
@@ -175,7 +175,7 @@ impl<K: ProgressTracker> BarState<K> {
     /// The position goes up by `delta`, modulo 2^64. It is looked at, as by a tick, as often as the position's limiter
     /// allows: 10 times at once, and once more each millisecond.
     pub fn inc(&mut self, delta: u64, now: Moment) -> Ask
-        ensures { (self.new, result) ≡ after K.means (Inc delta) self.old now }
+        ensures { (self.new, result) ≡ obeyed K.means (Inc delta) self.old now }
     {
         let position = self.progress.pos().wrapping_add(delta);
         self.set_position(position, now)
@@ -183,7 +183,7 @@ impl<K: ProgressTracker> BarState<K> {
 
     /// The position goes down by `delta`, modulo 2^64; else as `inc`.
     pub fn dec(&mut self, delta: u64, now: Moment) -> Ask
-        ensures { (self.new, result) ≡ after K.means (Dec delta) self.old now }
+        ensures { (self.new, result) ≡ obeyed K.means (Dec delta) self.old now }
     {
         let position = self.progress.pos().wrapping_sub(delta);
         self.set_position(position, now)
@@ -191,7 +191,7 @@ impl<K: ProgressTracker> BarState<K> {
 
     /// Another position; else as `inc`.
     pub fn set_position(&mut self, position: u64, now: Moment) -> Ask
-        ensures { (self.new, result) ≡ after K.means (SetPosition position) self.old now }
+        ensures { (self.new, result) ≡ obeyed K.means (SetPosition position) self.old now }
     {
         self.progress.set_pos(position);
         if self.limiter.allow(now) {
@@ -202,7 +202,7 @@ impl<K: ProgressTracker> BarState<K> {
 
     /// What workers have counted is added to the position; as `inc`.
     pub fn absorb(&mut self, sum: u64, now: Moment) -> Ask
-        ensures { (self.new, result) ≡ after K.means (Inc sum) self.old now }
+        ensures { (self.new, result) ≡ obeyed K.means (Inc sum) self.old now }
     {
         self.inc(sum, now)
     }
@@ -211,7 +211,7 @@ impl<K: ProgressTracker> BarState<K> {
     pub fn update<F: FnOnce(&ProgressState) -> Change>(&mut self, f: F, now: Moment) -> Ask
         requires { F.IsAlwaysCallable f }
         ensures { (change : Change) × FnOnceReturnsAt F.FnOnce f self.old.progress change
-            × ((self.new, result) ≡ after K.means (Update change.pos change.len) self.old now) }
+            × ((self.new, result) ≡ obeyed K.means (Update change.pos change.len) self.old now) }
     {
         let change = f(&self.progress);
         self.set_change(change, now)
@@ -219,7 +219,7 @@ impl<K: ProgressTracker> BarState<K> {
 
     /// Sets a position and a length, each if there is one; then as `tick`.
     pub fn set_change(&mut self, change: Change, now: Moment) -> Ask
-        ensures { (self.new, result) ≡ after K.means (Update change.pos change.len) self.old now }
+        ensures { (self.new, result) ≡ obeyed K.means (Update change.pos change.len) self.old now }
     {
         if let Some(position) = change.pos {
             self.progress.set_pos(position);
@@ -232,21 +232,21 @@ impl<K: ProgressTracker> BarState<K> {
 
     /// Another length, and a draw.
     pub fn set_length(&mut self, len: u64, now: Moment) -> Ask
-        ensures { (self.new, result) ≡ after K.means (SetLength len) self.old now }
+        ensures { (self.new, result) ≡ obeyed K.means (SetLength len) self.old now }
     {
         self.put_length(Some(len), now)
     }
 
     /// No length, and a draw.
     pub fn unset_length(&mut self, now: Moment) -> Ask
-        ensures { (self.new, result) ≡ after K.means UnsetLength self.old now }
+        ensures { (self.new, result) ≡ obeyed K.means UnsetLength self.old now }
     {
         self.put_length(None, now)
     }
 
     /// A length that is longer by `delta`, up to 2^64 - 1, and a draw. Where there is none, there stays none.
     pub fn inc_length(&mut self, delta: u64, now: Moment) -> Ask
-        ensures { (self.new, result) ≡ after K.means (IncLength delta) self.old now }
+        ensures { (self.new, result) ≡ obeyed K.means (IncLength delta) self.old now }
     {
         let len = self.progress.len().map(|len| len.saturating_add(delta));
         self.put_length(len, now)
@@ -254,7 +254,7 @@ impl<K: ProgressTracker> BarState<K> {
 
     /// A length that is shorter by `delta`, down to 0, and a draw. Where there is none, there stays none.
     pub fn dec_length(&mut self, delta: u64, now: Moment) -> Ask
-        ensures { (self.new, result) ≡ after K.means (DecLength delta) self.old now }
+        ensures { (self.new, result) ≡ obeyed K.means (DecLength delta) self.old now }
     {
         let len = self.progress.len().map(|len| len.saturating_sub(delta));
         self.put_length(len, now)
@@ -272,7 +272,7 @@ impl<K: ProgressTracker> BarState<K> {
     ///
     /// Refused: `Memory`, where it takes some; nothing has changed then.
     pub fn set_message(&mut self, text: &str, now: Moment) -> Result<Ask, Refusal>
-        ensures done { IfOk result (λ ask. (self.new, ask) ≡ after K.means (SetMessage text.now) self.old now) }
+        ensures done { IfOk result (λ ask. (self.new, ask) ≡ obeyed K.means (SetMessage text.now) self.old now) }
         ensures unchanged { OnErr result (self.new ≡ self.old) }
         ensures memory { IfErr result (λ e. (e ≡ Refusal.Memory)
             × IsTrue (takes_memory (SetMessage text.now) self.old)) }
@@ -285,7 +285,7 @@ impl<K: ProgressTracker> BarState<K> {
     ///
     /// Refused: `Memory`, where it takes some; nothing has changed then.
     pub fn set_prefix(&mut self, text: &str, now: Moment) -> Result<Ask, Refusal>
-        ensures done { IfOk result (λ ask. (self.new, ask) ≡ after K.means (SetPrefix text.now) self.old now) }
+        ensures done { IfOk result (λ ask. (self.new, ask) ≡ obeyed K.means (SetPrefix text.now) self.old now) }
         ensures unchanged { OnErr result (self.new ≡ self.old) }
         ensures memory { IfErr result (λ e. (e ≡ Refusal.Memory)
             × IsTrue (takes_memory (SetPrefix text.now) self.old)) }
@@ -298,7 +298,7 @@ impl<K: ProgressTracker> BarState<K> {
     ///
     /// Refused: `Memory`, where the style has another width of tabs; nothing has changed then, and the style is given up.
     pub fn set_style(&mut self, style: ProgressStyle<K>, now: Moment) -> Result<Ask, Refusal>
-        ensures done { IfOk result (λ ask. (self.new, ask) ≡ after K.means (SetStyle style) self.old now) }
+        ensures done { IfOk result (λ ask. (self.new, ask) ≡ obeyed K.means (SetStyle style) self.old now) }
         ensures unchanged { OnErr result (self.new ≡ self.old) }
         ensures memory { IfErr result (λ e. (e ≡ Refusal.Memory)
             × IsTrue (takes_memory (SetStyle style) self.old)) }
@@ -311,7 +311,7 @@ impl<K: ProgressTracker> BarState<K> {
 
     /// As `set_style`.
     pub fn with_style(&mut self, style: ProgressStyle<K>, now: Moment) -> Result<Ask, Refusal>
-        ensures done { IfOk result (λ ask. (self.new, ask) ≡ after K.means (SetStyle style) self.old now) }
+        ensures done { IfOk result (λ ask. (self.new, ask) ≡ obeyed K.means (SetStyle style) self.old now) }
         ensures unchanged { OnErr result (self.new ≡ self.old) }
         ensures memory { IfErr result (λ e. (e ≡ Refusal.Memory)
             × IsTrue (takes_memory (SetStyle style) self.old)) }
@@ -321,7 +321,7 @@ impl<K: ProgressTracker> BarState<K> {
 
     /// Another position. No draw is asked, and the rate doesn't count it.
     pub fn with_position(&mut self, position: u64, now: Moment) -> Ask
-        ensures { (self.new, result) ≡ after K.means (PutPosition position) self.old now }
+        ensures { (self.new, result) ≡ obeyed K.means (PutPosition position) self.old now }
     {
         self.progress.set_pos(position);
         Ask::No
@@ -331,7 +331,7 @@ impl<K: ProgressTracker> BarState<K> {
     ///
     /// Refused: `Memory`, where it takes some; nothing has changed then.
     pub fn with_message(&mut self, text: &str, now: Moment) -> Result<Ask, Refusal>
-        ensures done { IfOk result (λ ask. (self.new, ask) ≡ after K.means (PutMessage text.now) self.old now) }
+        ensures done { IfOk result (λ ask. (self.new, ask) ≡ obeyed K.means (PutMessage text.now) self.old now) }
         ensures unchanged { OnErr result (self.new ≡ self.old) }
         ensures memory { IfErr result (λ e. (e ≡ Refusal.Memory)
             × IsTrue (takes_memory (PutMessage text.now) self.old)) }
@@ -344,7 +344,7 @@ impl<K: ProgressTracker> BarState<K> {
     ///
     /// Refused: `Memory`, where it takes some; nothing has changed then.
     pub fn with_prefix(&mut self, text: &str, now: Moment) -> Result<Ask, Refusal>
-        ensures done { IfOk result (λ ask. (self.new, ask) ≡ after K.means (PutPrefix text.now) self.old now) }
+        ensures done { IfOk result (λ ask. (self.new, ask) ≡ obeyed K.means (PutPrefix text.now) self.old now) }
         ensures unchanged { OnErr result (self.new ≡ self.old) }
         ensures memory { IfErr result (λ e. (e ≡ Refusal.Memory)
             × IsTrue (takes_memory (PutPrefix text.now) self.old)) }
@@ -355,7 +355,7 @@ impl<K: ProgressTracker> BarState<K> {
 
     /// What finishes the bar when its owner is gone, or by `finish_using_style`.
     pub fn with_finish(&mut self, finish: ProgressFinish, now: Moment) -> Ask
-        ensures { (self.new, result) ≡ after K.means (PutFinish (finish_of finish)) self.old now }
+        ensures { (self.new, result) ≡ obeyed K.means (PutFinish (finish_of finish)) self.old now }
     {
         self.on_finish = finish;
         Ask::No
@@ -365,7 +365,7 @@ impl<K: ProgressTracker> BarState<K> {
     ///
     /// Refused: `Memory`, where it takes some; nothing has changed then.
     pub fn with_tab_width(&mut self, tab: usize, now: Moment) -> Result<Ask, Refusal>
-        ensures done { IfOk result (λ ask. (self.new, ask) ≡ after K.means (PutTabWidth tab) self.old now) }
+        ensures done { IfOk result (λ ask. (self.new, ask) ≡ obeyed K.means (PutTabWidth tab) self.old now) }
         ensures unchanged { OnErr result (self.new ≡ self.old) }
         ensures memory { IfErr result (λ e. (e ≡ Refusal.Memory)
             × IsTrue (takes_memory (PutTabWidth tab) self.old)) }
@@ -380,7 +380,7 @@ impl<K: ProgressTracker> BarState<K> {
     ///
     /// Refused: `Memory`, where it takes some; nothing has changed then.
     pub fn set_tab_width(&mut self, tab: usize, now: Moment) -> Result<Ask, Refusal>
-        ensures done { IfOk result (λ ask. (self.new, ask) ≡ after K.means (SetTabWidth tab) self.old now) }
+        ensures done { IfOk result (λ ask. (self.new, ask) ≡ obeyed K.means (SetTabWidth tab) self.old now) }
         ensures unchanged { OnErr result (self.new ≡ self.old) }
         ensures memory { IfErr result (λ e. (e ≡ Refusal.Memory)
             × IsTrue (takes_memory (SetTabWidth tab) self.old)) }
@@ -393,7 +393,7 @@ impl<K: ProgressTracker> BarState<K> {
     ///
     /// Refused: `ElapsedBeyondClock`, exactly where they are more than the moment; nothing has changed then.
     pub fn set_elapsed(&mut self, nanos: u64, now: Moment) -> Result<Ask, Refusal>
-        ensures done { IfOk result (λ ask. (self.new, ask) ≡ after K.means (SetElapsed nanos) self.old now) }
+        ensures done { IfOk result (λ ask. (self.new, ask) ≡ obeyed K.means (SetElapsed nanos) self.old now) }
         ensures unchanged { OnErr result (self.new ≡ self.old) }
         ensures beyond { (result ≡ Err Refusal.ElapsedBeyondClock) ↔ (now < nanos) }
         ensures no_other { IfErr result (λ e. e ≡ Refusal.ElapsedBeyondClock) }
@@ -407,7 +407,7 @@ impl<K: ProgressTracker> BarState<K> {
 
     /// As `set_elapsed`.
     pub fn with_elapsed(&mut self, nanos: u64, now: Moment) -> Result<Ask, Refusal>
-        ensures done { IfOk result (λ ask. (self.new, ask) ≡ after K.means (SetElapsed nanos) self.old now) }
+        ensures done { IfOk result (λ ask. (self.new, ask) ≡ obeyed K.means (SetElapsed nanos) self.old now) }
         ensures unchanged { OnErr result (self.new ≡ self.old) }
         ensures beyond { (result ≡ Err Refusal.ElapsedBeyondClock) ↔ (now < nanos) }
         ensures no_other { IfErr result (λ e. e ≡ Refusal.ElapsedBeyondClock) }
@@ -417,7 +417,7 @@ impl<K: ProgressTracker> BarState<K> {
 
     /// The rate is counted from this moment on. No draw is asked.
     pub fn reset_eta(&mut self, now: Moment) -> Ask
-        ensures { (self.new, result) ≡ after K.means ResetEta self.old now }
+        ensures { (self.new, result) ≡ obeyed K.means ResetEta self.old now }
     {
         self.progress.reset_rate(now);
         Ask::No
@@ -425,7 +425,7 @@ impl<K: ProgressTracker> BarState<K> {
 
     /// The rate and the time are counted from this moment on. No draw is asked.
     pub fn reset_elapsed(&mut self, now: Moment) -> Ask
-        ensures { (self.new, result) ≡ after K.means ResetElapsed self.old now }
+        ensures { (self.new, result) ≡ obeyed K.means ResetElapsed self.old now }
     {
         self.progress.reset_rate(now);
         self.progress.put_start(now);
@@ -435,7 +435,7 @@ impl<K: ProgressTracker> BarState<K> {
     /// The bar goes on from position 0, with its rate and its time counted from this moment on; its trackers are reset. A
     /// draw is asked.
     pub fn reset(&mut self, now: Moment) -> Ask
-        ensures { (self.new, result) ≡ after K.means Reset self.old now }
+        ensures { (self.new, result) ≡ obeyed K.means Reset self.old now }
     {
         self.progress.reset(now);
         self.limiter.reset(now);
@@ -445,7 +445,7 @@ impl<K: ProgressTracker> BarState<K> {
 
     /// The bar is finished at its length, where it has one, and stays. A draw is forced.
     pub fn finish(&mut self, now: Moment) -> Ask
-        ensures { (self.new, result) ≡ after K.means (FinishBy AndLeave) self.old now }
+        ensures { (self.new, result) ≡ obeyed K.means (FinishBy AndLeave) self.old now }
     {
         self.progress.finish(Status::DoneVisible, now);
         Ask::Forced
@@ -455,7 +455,7 @@ impl<K: ProgressTracker> BarState<K> {
     ///
     /// Refused: `Memory`, where it takes some; nothing has changed then.
     pub fn finish_with_message(&mut self, text: &str, now: Moment) -> Result<Ask, Refusal>
-        ensures done { IfOk result (λ ask. (self.new, ask) ≡ after K.means (FinishBy (WithMessage text.now)) self.old now) }
+        ensures done { IfOk result (λ ask. (self.new, ask) ≡ obeyed K.means (FinishBy (WithMessage text.now)) self.old now) }
         ensures unchanged { OnErr result (self.new ≡ self.old) }
         ensures memory { IfErr result (λ e. (e ≡ Refusal.Memory)
             × IsTrue (takes_memory (FinishBy (WithMessage text.now)) self.old)) }
@@ -466,7 +466,7 @@ impl<K: ProgressTracker> BarState<K> {
 
     /// The bar is finished at its length, where it has one, and has no lines from then on. A draw is forced.
     pub fn finish_and_clear(&mut self, now: Moment) -> Ask
-        ensures { (self.new, result) ≡ after K.means (FinishBy AndClear) self.old now }
+        ensures { (self.new, result) ≡ obeyed K.means (FinishBy AndClear) self.old now }
     {
         self.progress.finish(Status::DoneHidden, now);
         Ask::Forced
@@ -474,7 +474,7 @@ impl<K: ProgressTracker> BarState<K> {
 
     /// The bar is finished where it stands, and stays. A draw is forced.
     pub fn abandon(&mut self, now: Moment) -> Ask
-        ensures { (self.new, result) ≡ after K.means (FinishBy Abandon) self.old now }
+        ensures { (self.new, result) ≡ obeyed K.means (FinishBy Abandon) self.old now }
     {
         self.progress.abandon(now);
         Ask::Forced
@@ -484,7 +484,7 @@ impl<K: ProgressTracker> BarState<K> {
     ///
     /// Refused: `Memory`, where it takes some; nothing has changed then.
     pub fn abandon_with_message(&mut self, text: &str, now: Moment) -> Result<Ask, Refusal>
-        ensures done { IfOk result (λ ask. (self.new, ask) ≡ after K.means (FinishBy (AbandonWithMessage text.now)) self.old now) }
+        ensures done { IfOk result (λ ask. (self.new, ask) ≡ obeyed K.means (FinishBy (AbandonWithMessage text.now)) self.old now) }
         ensures unchanged { OnErr result (self.new ≡ self.old) }
         ensures memory { IfErr result (λ e. (e ≡ Refusal.Memory)
             × IsTrue (takes_memory (FinishBy (AbandonWithMessage text.now)) self.old)) }
@@ -497,7 +497,7 @@ impl<K: ProgressTracker> BarState<K> {
     ///
     /// Refused: `Memory`, where the finish has a message; nothing has changed then.
     pub fn finish_by(&mut self, finish: &ProgressFinish, now: Moment) -> Result<Ask, Refusal>
-        ensures done { IfOk result (λ ask. (self.new, ask) ≡ after K.means (FinishBy (finish_of finish.now)) self.old now) }
+        ensures done { IfOk result (λ ask. (self.new, ask) ≡ obeyed K.means (FinishBy (finish_of finish.now)) self.old now) }
         ensures unchanged { OnErr result (self.new ≡ self.old) }
         ensures memory { IfErr result (λ e. (e ≡ Refusal.Memory)
             × IsTrue (takes_memory (FinishBy (finish_of finish.now)) self.old)) }
@@ -510,7 +510,7 @@ impl<K: ProgressTracker> BarState<K> {
     ///
     /// Refused: `Memory`, where that finish has a message; nothing has changed then.
     pub fn finish_using_style(&mut self, now: Moment) -> Result<Ask, Refusal>
-        ensures done { IfOk result (λ ask. (self.new, ask) ≡ after K.means FinishUsingStyle self.old now) }
+        ensures done { IfOk result (λ ask. (self.new, ask) ≡ obeyed K.means FinishUsingStyle self.old now) }
         ensures unchanged { OnErr result (self.new ≡ self.old) }
         ensures memory { IfErr result (λ e. (e ≡ Refusal.Memory)
             × IsTrue (takes_memory FinishUsingStyle self.old)) }
@@ -537,7 +537,7 @@ impl<K: ProgressTracker> BarState<K> {
 
     /// Changes nothing; a draw is forced.
     pub fn force_draw(&mut self, now: Moment) -> Ask
-        ensures { (self.new, result) ≡ after K.means ForceDraw self.old now }
+        ensures { (self.new, result) ≡ obeyed K.means ForceDraw self.old now }
     {
         Ask::Forced
     }
@@ -547,7 +547,7 @@ impl<K: ProgressTracker> BarState<K> {
     /// Refused: `ElapsedBeyondClock`, exactly where an elapsed time is more than the moment; `Memory`, where the command takes
     /// some. Nothing has changed then.
     pub fn apply(&mut self, command: BarCommand<K>, now: Moment) -> Result<Ask, Refusal>
-        ensures done { IfOk result (λ ask. (self.new, ask) ≡ after K.means (command_of command) self.old now) }
+        ensures done { IfOk result (λ ask. (self.new, ask) ≡ obeyed K.means (command_of command) self.old now) }
         ensures unchanged { OnErr result (self.new ≡ self.old) }
         ensures beyond { (result ≡ Err Refusal.ElapsedBeyondClock) ↔ IsTrue (is_beyond_clock (command_of command) now) }
         ensures memory { result ≡ Err Refusal.Memory → IsTrue (takes_memory (command_of command) self.old) }

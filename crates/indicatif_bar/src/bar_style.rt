@@ -45,7 +45,7 @@ impl<K> Model for ProgressStyle<K> {
     ghost use Rattle.indicatif_bar.specs.Layout.{text_columns, cluster};
     ghost use Rattle.indicatif_bar.specs.BarStyles.{Style};
     ghost use Rattle.indicatif_bar.specs.Inside.Cells.{texts_of};
-    ghost use Rattle.indicatif_bar.specs.Inside.Steps.{deed_of, deed_of_part, names_of};
+    ghost use Rattle.indicatif_bar.specs.Inside.Steps.{effect_of, effect_of_part, names_of};
 
     ghost Value = { Style K };
 
@@ -58,7 +58,7 @@ impl<K> Model for ProgressStyle<K> {
       tab = s.tab;
     } };
 
-    ghost invariant = { λ s. (map deed_of s.steps.items ≡ map (deed_of_part (names_of s.keys.items) s.tab) (arc_value s.template))
+    ghost invariant = { λ s. (map effect_of s.steps.items ≡ map (effect_of_part (names_of s.keys.items) s.tab) (arc_value s.template))
         × (2 ≤ length s.clusters.items)
         × (0 < text_columns (cluster (texts_of s.clusters.items) 0))
         × (2 ≤ length s.tick_strings.items) };

@@ -1,6 +1,6 @@
 //! What a bar has reached, as its style and its trackers see it.
 ghost use Rattle.std.specs.Prelude.{◌≡◌, ◌+◌, ◌||◌, min, OnOk, OnErr, IfOk, IfErr, IsTrue};
-ghost use Rattle.indicatif_bar.specs.Measures.{most, recorded};
+ghost use Rattle.indicatif_bar.specs.Measures.{greatest_u64, recorded};
 ghost use Rattle.indicatif_bar.specs.Tabs.{has_tab, is_some_text};
 ghost use Rattle.indicatif_bar.specs.Progress.{Progress, is_finished, is_hidden, fraction, eta, duration, per_sec, elapsed, shown_message, shown_prefix, new_progress, rate_reset, progress_reset, at_end};
 ghost use Rattle.indicatif_bar.specs.Finishes.{finish_of, finished_by, finish_takes_memory};
@@ -264,7 +264,7 @@ impl ProgressState {
 
     /// One more tick, up to 2^64 - 1.
     pub(crate) fn count_tick(&mut self)
-        ensures { self.new ≡ record self.old { ticks = min (self.old.ticks + 1) most } }
+        ensures { self.new ≡ record self.old { ticks = min (self.old.ticks + 1) greatest_u64 } }
     {
         self.ticks = self.ticks.saturating_add(1);
     }

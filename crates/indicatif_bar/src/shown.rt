@@ -7,7 +7,7 @@ ghost use Rattle.indicatif_bar.specs.Runs.{wrote};
 ghost use Rattle.indicatif_bar.specs.Kinds.{rows_take, asked_of};
 ghost use Rattle.indicatif_bar.specs.Bars.{bar_kind, lines_of_bar};
 ghost use Rattle.indicatif_bar.specs.Lone.{LoneState, stored_lines, draw_asked, lone};
-ghost use Rattle.indicatif_bar.specs.Inside.Draws.{DrewBy, Puts};
+ghost use Rattle.indicatif_bar.specs.Inside.Draws.{DrewBy, EngineWrites};
 ghost use Rattle.indicatif_bar.specs.Inside.Shown.{writing_as};
 
 use crate::spare::SpareLines;
@@ -40,7 +40,7 @@ pub struct ShownBar<K> {
 }
 
 impl<K: ProgressTracker> ShownBar<K> {
-    ghost use Rattle.indicatif_bar.specs.Inside.Shown.{Holds};
+    ghost use Rattle.indicatif_bar.specs.Inside.Shown.{ShownAs};
     ghost use Rattle.std.specs.Prelude.{[]};
 
     /// A bar of which nothing was laid out yet.
@@ -79,9 +79,9 @@ impl<K: ProgressTracker> ShownBar<K> {
     ) -> Result<Drawn, Refusal>
         ensures bar { self.new.bar ≡ self.old.bar }
         ensures silent { IsFalse (wrote result) → engine.new ≡ engine.old }
-        ensures drew { (takes : Bool) (s : LoneState _) → is_no ask ≡ false → Holds self.old s → Fits engine.old s.lists →
+        ensures drew { (takes : Bool) (s : LoneState _) → is_no ask ≡ false → ShownAs self.old s → Fits engine.old s.lists →
             let target = target_of (Some (T.view (terminal engine.old))) in
-            DrewBy (lone (bar_kind K.means)) (Holds self.new) T.view engine.old engine.new
+            DrewBy (lone (bar_kind K.means)) (ShownAs self.new) T.view engine.old engine.new
             (draw_asked (bar_kind K.means) target takes ask now (writing_as writing.entry) s) s.lists result }
     {
         let width = engine.term().width();
@@ -99,8 +99,8 @@ impl<K: ProgressTracker> ShownBar<K> {
     /// Lays the bar's lines out and stores them, where they are to be written.
     fn lay_out(&mut self, writing: Writing<'_>, width: u16, now: Moment) -> Result<(), Refusal>
         ensures bar { self.new.bar ≡ self.old.bar }
-        ensures laid { IfOk result (λ _. (s : LoneState _) (target : Target) → target.columns ≡ width → Holds self.old s →
-            Holds self.new (record s { stored = stored_lines (bar_kind K.means) (writing_as writing.entry) target now s })) }
+        ensures laid { IfOk result (λ _. (s : LoneState _) (target : Target) → target.columns ≡ width → ShownAs self.old s →
+            ShownAs self.new (record s { stored = stored_lines (bar_kind K.means) (writing_as writing.entry) target now s })) }
         ensures memory { IfErr result (λ e. (e ≡ Refusal.Memory) × IsTrue (rows_take (writing_as writing.entry))) }
         ensures unchanged { OnErr result (self.new ≡ self.old) }
     {
@@ -143,7 +143,7 @@ fn put<T: TermLike + Drop>(
     frame: &[Segment],
     writing: Writing<'_>,
 ) -> Result<(), Refusal>
-    ensures { Puts T.view (writing_as writing.entry) (map bar_lines frame.now) engine.old engine.new result }
+    ensures { EngineWrites T.view (writing_as writing.entry) (map bar_lines frame.now) engine.old engine.new result }
 {
     match writing {
         Writing::Frame => engine.draw(frame, 0, MultiProgressAlignment::Top),

@@ -1,6 +1,6 @@
 //! A text that is kept beside what it is with its tabs expanded.
 ghost use Rattle.std.specs.Prelude.{◌≡◌, [], string_bytes, IfOk, OnErr, IsTrue};
-ghost use Rattle.indicatif_bar.specs.Tabs.{TabbedText, expanded, has_tab, is_some_text, shown};
+ghost use Rattle.indicatif_bar.specs.Tabs.{TabbedText, expanded, has_tab, is_some_text, expanded_text};
 
 use crate::tabs;
 use std::alloc::{AllocError, Global};
@@ -67,7 +67,7 @@ impl TabbedText {
 
     /// The text with its tabs expanded.
     pub(crate) fn shown(&self) -> &str
-        ensures { result.now ≡ shown self.now }
+        ensures { result.now ≡ expanded_text self.now }
     {
         if self.has_tabs {
             return self.with_spaces.as_str();

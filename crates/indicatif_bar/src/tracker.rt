@@ -1,7 +1,7 @@
 //! Keys of a template that are the caller's own.
 ghost use Rattle.std.specs.Prelude.{◌≡◌, ℕ, List, ◌++◌, [], IfOk, IfErr, OnOk, OnErr, string_bytes};
 ghost use Rattle.indicatif_bar.specs.Progress.{Progress};
-ghost use Rattle.indicatif_bar.specs.Trackers.{Tracking, writes_nothing, tells, entries, changed_trackers};
+ghost use Rattle.indicatif_bar.specs.Trackers.{Tracking, writes_nothing, telling, entries, changed_trackers};
 
 use crate::progress::ProgressState;
 use indicatif_text::columns::{Moment, Refusal};
@@ -133,7 +133,7 @@ impl<F: TellsText> FnTracker<F> {
 }
 
 impl<F: TellsText> ProgressTracker for FnTracker<F> {
-    ghost means = { tells F.told };
+    ghost means = { telling F.told };
 
     fn tick(&mut self, _state: &ProgressState, _now: Moment) {}
 

@@ -16,18 +16,18 @@ use Rattle.indicatif_bar.specs.Runs.{CallMade, lines_by, wrote}
 use Rattle.indicatif_bar.specs.Inside.Draws.{DrewOn, WritesLinesOn}
 use Rattle.indicatif_bar.proofs.OutcomeLemmas.{writes_nothing}
 use Rattle.indicatif_board.specs.BoardBars.{board_bars}
-use Rattle.indicatif_board.specs.Boards.{BoardState, Call, Id, Place, Entrant, removed, Done, New, Insert, Given, inserted, taken_in, anchor_turned_away, Answer, Refused, Change, says, tells, tells_said, turned_away, or_refused, draws, draw_by, deed_of, board}
+use Rattle.indicatif_board.specs.Boards.{BoardState, Call, Id, Place, Entrant, removed, Done, New, Insert, Given, inserted, taken_in, anchor_turned_away, Answer, Refused, Tell, says, drawn_of, drawn_of_said, turned_away, or_refused, draws, draw_by, deed_of, board}
 use Rattle.indicatif_board.specs.Members.{place_of, is_member, without, said_of}
 use Rattle.indicatif_board.proofs.MemberLemmas.{said_none, said_there}
 
 module _ {K : Type 0} (tracks : Tracking K) (mark : ℕ) (old new : Option TermView) (call : Call (BarRecord K) (Command K)) (now : ℕ) (s : BoardState (BarRecord K)) where
   -- a call that answers at once
   pub made_at_once : (takes_memory : Bool) (answer : Answer) (next : BoardState (BarRecord K)) →
-      deed_of (board_bars tracks) mark (target_of old) call now s ≡ AtOnce takes_memory answer next → wrote (tells answer) ≡ false → next.lists ≡ s.lists →
+      deed_of (board_bars tracks) mark (target_of old) call now s ≡ AtOnce takes_memory answer next → wrote (drawn_of answer) ≡ false → next.lists ≡ s.lists →
       CallMade (board (board_bars tracks) mark) old old (call, now) s answer next
   made_at_once takes_memory answer next deed_is quiet stay = record {
     leads = subst (λ deed. Leads (board (board_bars tracks) mark) (target_of old) s deed answer next) (sym deed_is) (inl refl);
-    writes = writes_nothing old (lines_by (deed_of (board_bars tracks) mark (target_of old) call now s)) s.lists next.lists (tells answer) quiet stay;
+    writes = writes_nothing old (lines_by (deed_of (board_bars tracks) mark (target_of old) call now s)) s.lists next.lists (drawn_of answer) quiet stay;
   }
 
   -- a call that draws
@@ -36,8 +36,8 @@ module _ {K : Type 0} (tracks : Tracking K) (mark : ℕ) (old new : Option TermV
       DrewOn (board (board_bars tracks) mark) old new d l answer next → CallMade (board (board_bars tracks) mark) old new (call, now) s (says answer) next
   made_by_draw d l answer next deed_is lists_are made = record {
     leads = subst (λ deed. Leads (board (board_bars tracks) mark) (target_of old) s deed (says answer) next) (sym deed_is) (made.leads s);
-    writes = subst (λ deed. WritesLinesOn old new (lines_by deed) s.lists next.lists (tells (says answer))) (sym deed_is)
-        (subst (λ r. WritesLinesOn old new d.lines s.lists next.lists r) (sym (tells_said answer))
+    writes = subst (λ deed. WritesLinesOn old new (lines_by deed) s.lists next.lists (drawn_of (says answer))) (sym deed_is)
+        (subst (λ r. WritesLinesOn old new d.lines s.lists next.lists r) (sym (drawn_of_said answer))
         (subst (λ x. WritesLinesOn old new d.lines x next.lists answer) lists_are made.writes));
   }
 
@@ -63,17 +63,17 @@ module _ {K : Type 0} (tracks : Tracking K) (mark : ℕ) (old : Option TermView)
   refusal_of late = said_of None (λ bar. if late then Some ElapsedBeyondClock else None) id.number s.members
 
   deed_is : turned_away mark id s ≡ None → (late : Bool) → is_beyond_clock command now ≡ late →
-      deed_of (board_bars tracks) mark (target_of old) (Change id command) now s ≡ or_refused (refusal_of late) ask_of s
+      deed_of (board_bars tracks) mark (target_of old) (Tell id command) now s ≡ or_refused (refusal_of late) ask_of s
   deed_is there late e =
       ap (λ o. or_refused o (or_refused (refusal_of (is_beyond_clock command now)) ask_of s) s) there ∙ ap (λ b. or_refused (refusal_of b) ask_of s) e
 
   -- what a command of a bar that is there is about to do
-  pub command_deed : turned_away mark id s ≡ None → is_beyond_clock command now ≡ false → deed_of (board_bars tracks) mark (target_of old) (Change id command) now s ≡ ask_of
+  pub command_deed : turned_away mark id s ≡ None → is_beyond_clock command now ≡ false → deed_of (board_bars tracks) mark (target_of old) (Tell id command) now s ≡ ask_of
   command_deed there in_time = deed_is there false in_time ∙ ap (λ o. or_refused o ask_of s) (said_none None id.number s.members)
 
   -- the same where its elapsed time is beyond the moment
   pub late_deed : turned_away mark id s ≡ None → place_of id.number s.members < length s.members → is_beyond_clock command now ≡ true →
-      deed_of (board_bars tracks) mark (target_of old) (Change id command) now s ≡ AtOnce false (Refused ElapsedBeyondClock) s
+      deed_of (board_bars tracks) mark (target_of old) (Tell id command) now s ≡ AtOnce false (Refused ElapsedBeyondClock) s
   late_deed there within late = deed_is there true late ∙ ap (λ o. or_refused o ask_of s) (said_there None (Some ElapsedBeyondClock) id.number s.members within)
 
 -- a command that is not refused for its elapsed time is not late
@@ -107,11 +107,11 @@ new_refused tracks mark s spot bar target = elim (cases_Bool (s.made == 2 ^ 64))
 -- an insertion whose anchor is there
 pub made_by_insertion : {K : Type 0} (tracks : Tracking K) (mark : ℕ) (old : Option TermView) (spot : Place) (entrant : Entrant (BarRecord K)) (now : ℕ) (s : BoardState (BarRecord K))
     (answer : Answer) (next : BoardState (BarRecord K)) → anchor_turned_away mark spot s ≡ None →
-    Leads (board (board_bars tracks) mark) (target_of old) s (inserted mark spot entrant s) answer next → wrote (tells answer) ≡ false → next.lists ≡ s.lists →
+    Leads (board (board_bars tracks) mark) (target_of old) s (inserted mark spot entrant s) answer next → wrote (drawn_of answer) ≡ false → next.lists ≡ s.lists →
     CallMade (board (board_bars tracks) mark) old old (Insert spot entrant, now) s answer next
 made_by_insertion tracks mark old spot entrant now s answer next there led quiet stay = record {
   leads = subst (λ o. Leads (board (board_bars tracks) mark) (target_of old) s (or_refused o (inserted mark spot entrant s) s) answer next) (sym there) led;
-  writes = writes_nothing old (lines_by (deed_of (board_bars tracks) mark (target_of old) (Insert spot entrant) now s)) s.lists next.lists (tells answer) quiet stay;
+  writes = writes_nothing old (lines_by (deed_of (board_bars tracks) mark (target_of old) (Insert spot entrant) now s)) s.lists next.lists (drawn_of answer) quiet stay;
 }
 
 -- ---- removals

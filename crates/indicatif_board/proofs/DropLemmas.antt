@@ -22,7 +22,7 @@ use Rattle.indicatif_bar.specs.Runs.{CallMade, lines_by, is_undisturbed}
 use Rattle.indicatif_bar.specs.Inside.Draws.{DrewOn, WritesLinesOn}
 use Rattle.indicatif_bar.proofs.OutcomeLemmas.{writes_nothing}
 use Rattle.indicatif_board.specs.BoardBars.{board_bars}
-use Rattle.indicatif_board.specs.Boards.{BoardState, Call, Answer, Id, Drop, Refused, says, tells, tells_said, turned_away, or_refused, last_draw, deed_of, left_on, left_by, marked_on, board}
+use Rattle.indicatif_board.specs.Boards.{BoardState, Call, Answer, Id, Drop, Refused, says, drawn_of, drawn_of_said, turned_away, or_refused, last_draw, deed_of, left_on, left_by, marked_on, board}
 use Rattle.indicatif_board.specs.Members.{Member, place_of, is_head, without, marked, changed_at, new_member}
 use Rattle.indicatif_board.specs.Multi.{IsIn}
 use Rattle.indicatif_board.specs.Inside.Keeps.{Holds, member_of}
@@ -255,8 +255,8 @@ module _ {K : Type 0} (tracks : Tracking K) (mark : ℕ) (old new : Option TermV
         leads = subst (λ deed. Leads machine (target_of old) s deed (says r) final) (sym deed_is)
             (subst (λ t. Leads machine (target_of old) s (drops (target_of old)) (says r) (parted t id.number r next)) (sym target)
             (leads_on machine (target_of old) s drawing (left_on (target_of old) id.number) (marked_on id.number) r next (drew.leads s)));
-        writes = subst (λ deed. WritesLinesOn old new (lines_by deed) s.lists final.lists (tells (says r))) (sym deed_is)
-            (subst (λ x. WritesLinesOn old new drawing.lines s.lists final.lists x) (sym (tells_said r))
+        writes = subst (λ deed. WritesLinesOn old new (lines_by deed) s.lists final.lists (drawn_of (says r))) (sym deed_is)
+            (subst (λ x. WritesLinesOn old new drawing.lines s.lists final.lists x) (sym (drawn_of_said r))
             (writes_on old new drawing.lines s.lists next.lists final.lists r (parted_above (target_of new) id.number next r) rests drew.writes));
       }
 

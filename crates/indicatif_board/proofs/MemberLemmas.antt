@@ -18,7 +18,7 @@ use Rattle.indicatif_bar.specs.Machines.{Target}
 use Rattle.indicatif_board.specs.Boards.{BoardState, Id, Place, index_of, taken_in, turned_away, told}
 use Rattle.indicatif_text.specs.declared.refusal.Refusal.TheVariants.{ForeignBar, NotMember}
 use Rattle.indicatif_board.specs.Members.{Member, place_of, leaders, frame_of, order_of, changed_at, new_member, is_member, without, said_of}
-use Rattle.indicatif_board.specs.Inside.Keeps.{member_of, made_by, Holds, IsPlaced, laid_by}
+use Rattle.indicatif_board.specs.Inside.Keeps.{member_of, made_by, Holds, HasPlace, laid_by}
 use Rattle.indicatif_board.specs.declared.members.Member.{Member as MemberValue}
 
 pub drop-map : {X Y : Type 0} (f : X → Y) (n : ℕ) (xs : List X) → drop n (map f xs) ≡ map f (drop n xs)
@@ -112,14 +112,14 @@ module _ {K : Type 0} (tracks : Tracking K) (frame : List Segment) (members : Li
         limiter_is = holds.limiter_is;
       }
 
-  laid_named : (number : Option ℕ) → IsPlaced number (Some at) s.members →
+  laid_named : (number : Option ℕ) → HasPlace number (Some at) s.members →
       Holds (set frame at (record { bar = old.bar; lines = items })) members made bottom limiter (laid_by tracks target now number s)
   laid_named None placed = absurd placed
   laid_named (Some n) placed = laid_some n placed.0 placed.1
 
-  pub laid_at : (number bar : Option ℕ) → bar ≡ Some at → IsPlaced number bar s.members →
+  pub laid_at : (number bar : Option ℕ) → bar ≡ Some at → HasPlace number bar s.members →
       Holds (set frame at (record { bar = old.bar; lines = items })) members made bottom limiter (laid_by tracks target now number s)
-  laid_at number bar e placed = laid_named number (subst (λ b. IsPlaced number b s.members) e placed)
+  laid_at number bar e placed = laid_named number (subst (λ b. HasPlace number b s.members) e placed)
 
 -- ---- who is a member
 

@@ -13,7 +13,7 @@ use Rattle.indicatif_bar.specs.declared.state.Ask.{Ask}
 use Rattle.indicatif_bar.specs.declared.state.Ask.TheVariants.{No, Unforced, Forced}
 use Rattle.indicatif_board.specs.BoardBars.{board_bars}
 use Rattle.indicatif_board.specs.Members.{order_of, Member}
-use Rattle.indicatif_board.specs.Boards.{BoardKind, BoardState, opening_board, Id, End, Index, FromBack, Before, After, New, Old, Call, Insert, Remove, Drop, Log, Clear, Redraw, Align, Change, Answer, Given, Done, Drew, Refused, board}
+use Rattle.indicatif_board.specs.Boards.{BoardKind, BoardState, opening_board, Id, End, Index, FromBack, Before, After, New, Old, Call, Insert, Remove, Drop, Log, Clear, Redraw, Align, Tell, Answer, Given, Done, Drew, Refused, board}
 
 -- ---- a plain bar
 
@@ -98,13 +98,13 @@ abbrev pub add : List ℕ → PlainCall
 add text = Insert End (New (plain_bar text))
 
 abbrev pub touch : ℕ → PlainCall
-touch number = Change (id number) Touch
+touch number = Tell (id number) Touch
 
 abbrev pub say : ℕ → List ℕ → PlainCall
-say number text = Change (id number) (Say text)
+say number text = Tell (id number) (Say text)
 
 abbrev pub finish_it : ℕ → PlainCall
-finish_it number = Change (id number) (Finish Shown)
+finish_it number = Tell (id number) (Finish Shown)
 
 abbrev pub drop_it : ℕ → PlainCall
 drop_it number = Drop (id number)
@@ -248,14 +248,14 @@ add_bar text = Insert End (New (bar_saying text))
 -- an elapsed time beyond the moment is refused, and changes nothing; that a bar isn't there comes first
 abbrev pub LateOnBoard : Type 0
 LateOnBoard =
-    let both = ran_bars (add_bar (codes "a") ∷ Change (id 0) (SetElapsed 1) ∷ Change (id 1) (SetElapsed 1) ∷ []) in
+    let both = ran_bars (add_bar (codes "a") ∷ Tell (id 0) (SetElapsed 1) ∷ Tell (id 1) (SetElapsed 1) ∷ []) in
     (both.0 ≡ Given (id 0) ∷ Refused ElapsedBeyondClock ∷ Refused NotMember ∷ [])
     × (both.1.members ≡ (ran_bars (add_bar (codes "a") ∷ [])).1.members)
 
 -- of two bars that lose their owners, the one that is to be left leaves its row, and the other's row is gone
 abbrev pub OneIsLeft : Type 0
 OneIsLeft =
-    let calls = add_bar (codes "a") ∷ add_bar (codes "b") ∷ Change (id 0) (PutFinish AndLeave) ∷ Change (id 0) Tick ∷ Change (id 1) Tick ∷ Drop (id 0) ∷ Drop (id 1) ∷ [] in
+    let calls = add_bar (codes "a") ∷ add_bar (codes "b") ∷ Tell (id 0) (PutFinish AndLeave) ∷ Tell (id 0) Tick ∷ Tell (id 1) Tick ∷ Drop (id 0) ∷ Drop (id 1) ∷ [] in
     let both = ran_bars calls in
     (both.0 ≡ Given (id 0) ∷ Given (id 1) ∷ Drew Limited ∷ Drew Yes ∷ Drew Yes ∷ Drew Yes ∷ Drew Yes ∷ [])
     × (order_of both.1.members ≡ [])

@@ -79,7 +79,7 @@ pub data Call (B C : Type 0) : Type 0 where
   Redraw : Call B C
   Align : (bottom : Bool) → Call B C
   -- a command of a bar
-  Change : (id : Id) → (command : C) → Call B C
+  Tell : (id : Id) → (command : C) → Call B C
 
 -- what it answers
 pub data Answer : Type 0 where
@@ -94,16 +94,16 @@ says (Ok d) = Drew d
 says (Err e) = Refused e
 
 -- what an answer tells of a draw; `Limited` where it tells of none
-abbrev pub tells : Answer → Result Drawn Refusal
-tells (Given id) = Ok Limited
-tells Done = Ok Limited
-tells (Drew d) = Ok d
-tells (Refused e) = Err e
+abbrev pub drawn_of : Answer → Result Drawn Refusal
+drawn_of (Given id) = Ok Limited
+drawn_of Done = Ok Limited
+drawn_of (Drew d) = Ok d
+drawn_of (Refused e) = Err e
 
 -- the one is as the other
-abbrev pub tells_said : (r : Result Drawn Refusal) → tells (says r) ≡ r
-tells_said (Ok d) = refl
-tells_said (Err e) = refl
+abbrev pub drawn_of_said : (r : Result Drawn Refusal) → drawn_of (says r) ≡ r
+drawn_of_said (Ok d) = refl
+drawn_of_said (Err e) = refl
 
 -- ---- who is meant
 
@@ -245,9 +245,9 @@ module _ {B C : Type 0} (kind : BoardKind B C) where
   deed_of mark target Clear now s = draws (draw_of target false Forced now NoFrame s s)
   deed_of mark target Redraw now s = draws (draw_of target false Forced now Frame s s)
   deed_of mark target (Align bottom) now s = AtOnce false Done (record s { bottom = bottom })
-  deed_of mark target (Change id command) now s =
+  deed_of mark target (Tell id command) now s =
       or_refused (turned_away mark id s) (or_refused (said_of None (λ bar. kind.bars.refused command bar now) id.number s.members) (draws (draw_by target id.number command now s)) s) s
 
   -- the board of this mark
   abbrev pub board : ℕ → Machine (BoardState B) (Call B C) Answer
-  board mark = record { lists = λ s. s.lists; deed = deed_of mark; says = says; tells = tells; tells_said = tells_said }
+  board mark = record { lists = λ s. s.lists; deed = deed_of mark; says = says; tells = drawn_of; tells_said = drawn_of_said }

@@ -3,7 +3,7 @@ use Rattle.std.specs.Prelude.{ℕ, Option, Result, Ok, Err, string_bytes}
 use Rattle.indicatif_text.specs.declared.refusal.Refusal.{Refusal}
 use Rattle.indicatif_bar.specs.Commands.{BarRecord, Command, command_of}
 use Rattle.indicatif_term.specs.Engines.{is_bottom}
-use Rattle.indicatif_board.specs.Boards.{Entrant, New, Old, Place, End, Index, FromBack, Before, After, Call, Insert, Remove, Drop, Log, BarLog, Clear, Redraw, Align, Change, Answer, Given, Done, Drew, Refused}
+use Rattle.indicatif_board.specs.Boards.{Entrant, New, Old, Place, End, Index, FromBack, Before, After, Call, Insert, Remove, Drop, Log, BarLog, Clear, Redraw, Align, Tell, Answer, Given, Done, Drew, Refused}
 use Rattle.indicatif_board.specs.BoardValues.{id_of}
 use Rattle.indicatif_board.specs.declared.bar_id.BarId.{BarId}
 use Rattle.indicatif_board.specs.declared.calls.Candidate.{Candidate}
@@ -51,7 +51,7 @@ call_of (call.BarLog id text) = BarLog (id_of id) (string_bytes text)
 call_of call.Clear = Clear
 call_of call.Redraw = Redraw
 call_of (call.Align alignment) = Align (is_bottom alignment)
-call_of (call.Bar id command) = Change (id_of id) (command_of command)
+call_of (call.Bar id command) = Tell (id_of id) (command_of command)
 
 -- the same with its moment
 abbrev pub timed : {K : Type 0} → CallValue K × ℕ → Call (BarRecord K) (Command K) × ℕ

@@ -9,10 +9,10 @@ ghost use Rattle.indicatif_bar.specs.Machines.{Target, Leads, is_no, target_of};
 ghost use Rattle.indicatif_bar.specs.Runs.{wrote, Runs, Headline};
 ghost use Rattle.indicatif_bar.specs.Inside.Draws.{DrewOn};
 ghost use Rattle.indicatif_board.specs.BoardBars.{board_bars};
-ghost use Rattle.indicatif_board.specs.Boards.{BoardState, Change, Log, BarLog, Clear, Redraw, Align, Insert, Remove, Drop, Place, End, Index, FromBack, Before, After, Done, opening_board, says, tells, index_of, inserted, turned_away, draw_of, board};
+ghost use Rattle.indicatif_board.specs.Boards.{BoardState, Tell, Log, BarLog, Clear, Redraw, Align, Insert, Remove, Drop, Place, End, Index, FromBack, Before, After, Done, opening_board, says, drawn_of, index_of, inserted, turned_away, draw_of, board};
 ghost use Rattle.indicatif_board.specs.BoardValues.{id_of};
 ghost use Rattle.indicatif_board.specs.Members.{is_member, said_of};
-ghost use Rattle.indicatif_board.specs.Inside.Keeps.{IsPlaced, laid_by};
+ghost use Rattle.indicatif_board.specs.Inside.Keeps.{HasPlace, laid_by};
 ghost use Rattle.indicatif_board.specs.Inside.Parting.{parted, RestsOn};
 ghost use Rattle.indicatif_board.specs.Inside.Writings.{writing_by};
 
@@ -23,7 +23,9 @@ use crate::members::place;
 use crate::shown_bars::{ShownBars, Writing};
 use indicatif_bar::state::{Ask, BarCommand, BarState};
 use indicatif_bar::style::ProgressTracker;
-use indicatif_term::draw_target::{Engine, Keep, MultiProgressAlignment, ProgressDrawTarget, RateLimiter};
+use indicatif_term::draw_target::{
+    Engine, Keep, MultiProgressAlignment, ProgressDrawTarget, RateLimiter,
+};
 use indicatif_term::term_like::TermLike;
 use indicatif_text::columns::{Drawn, Moment, Refusal};
 use std::alloc::Global;
@@ -257,7 +259,7 @@ impl<K: ProgressTracker, T: TermLike + Drop> Board<K, T> {
         now: Moment,
     ) -> Result<Drawn, Refusal>
         ensures silent { IsFalse (wrote result) → terminal_of self.new ≡ terminal_of self.old }
-        ensures leads { LeadsBy K.means T.view self.old self.new (Change (id_of id) (command_of command)) now (says result) }
+        ensures leads { LeadsBy K.means T.view self.old self.new (Tell (id_of id) (command_of command)) now (says result) }
     {
         let at = self.find(id)?;
         let ask = self.shown.members[at].bar.apply(command, now)?;
@@ -327,7 +329,7 @@ impl<K: ProgressTracker, T: TermLike + Drop> Board<K, T> {
 
     /// A call as a value: what the method of the same name does and refuses. A bar that is removed or turned away is given up.
     pub fn call(&mut self, call: Call<K>, now: Moment) -> Answer
-        ensures silent { IsFalse (wrote (tells (answer_of result))) → terminal_of self.new ≡ terminal_of self.old }
+        ensures silent { IsFalse (wrote (drawn_of (answer_of result))) → terminal_of self.new ≡ terminal_of self.old }
         ensures leads { LeadsBy K.means T.view self.old self.new (call_of call) now (answer_of result) }
     {
         match call {
@@ -389,7 +391,7 @@ impl<K: ProgressTracker, T: TermLike + Drop> Board<K, T> {
         requires within { at ≤ vec_len self.old.shown.members }
         ensures terminal { terminal_of self.new ≡ terminal_of self.old }
         ensures turned { IfErr result (λ t. t.candidate ≡ candidate) }
-        ensures quiet { IsFalse (wrote (tells (given result))) }
+        ensures quiet { IsFalse (wrote (drawn_of (given result))) }
         ensures inserted { (mark : ℕ) (s : BoardState (BarRecord K)) (spot : Place) → IsIn mark self.old s → at ≡ index_of spot s.members →
             (next : BoardState (BarRecord K)) × IsIn mark self.new next × (next.lists ≡ s.lists)
             × ((target : Target) → Leads (board (board_bars K.means) mark) target s (inserted mark spot (entrant_of candidate) s) (given result) next) }
@@ -458,7 +460,7 @@ impl<K: ProgressTracker, T: TermLike + Drop> Board<K, T> {
     /// A bar's place in the order.
     fn find(&self, id: BarId) -> Result<usize, Refusal>
         ensures found { (mark : ℕ) (s : BoardState (BarRecord K)) → IsIn mark self.now s →
-            MatchResult result (λ p. (turned_away mark (id_of id) s ≡ None) × IsPlaced (Some id.number) (Some p) s.members) (λ e. turned_away mark (id_of id) s ≡ Some e) }
+            MatchResult result (λ p. (turned_away mark (id_of id) s ≡ None) × HasPlace (Some id.number) (Some p) s.members) (λ e. turned_away mark (id_of id) s ≡ Some e) }
         ensures within { IfOk result (λ p. p < vec_len self.now.shown.members) }
         ensures quiet { IfErr result (λ e. IsFalse (wrote (Err e))) }
     {
@@ -486,7 +488,7 @@ impl<K: ProgressTracker, T: TermLike + Drop> Board<K, T> {
         requires placed { IfSome bar (λ at. at < vec_len self.old.shown.members) }
         requires cleared { (bar ≡ None) ⊎ IsTrue (rows_take (writing_by writing)) }
         ensures silent { IsFalse (wrote result) → terminal_of self.new ≡ terminal_of self.old }
-        ensures drew { (mark : ℕ) (takes : Bool) (s : BoardState (BarRecord K)) (number : Option ℕ) → IsIn mark self.old s → IsPlaced number bar s.members →
+        ensures drew { (mark : ℕ) (takes : Bool) (s : BoardState (BarRecord K)) (number : Option ℕ) → IsIn mark self.old s → HasPlace number bar s.members →
             let old = known T.view self.old in
             (next : BoardState (BarRecord K)) × IsIn mark self.new next × DrewOn (board (board_bars K.means) mark) old (known T.view self.new)
             (draw_of (target_of old) takes ask now (writing_by writing.entry) s (laid_by K.means (target_of old) now number s)) s.lists result next }

@@ -10,7 +10,7 @@ ghost use Rattle.indicatif_bar.specs.Inside.Draws.{DrewBy};
 ghost use Rattle.indicatif_board.specs.BoardBars.{board_bars};
 ghost use Rattle.indicatif_board.specs.Boards.{BoardState, Place, opening_board, draw_of, index_of, taken_in, marked_on, board};
 ghost use Rattle.indicatif_board.specs.Members.{place_of, without, is_head, said_of};
-ghost use Rattle.indicatif_board.specs.Inside.Keeps.{PutsFrame, IsPlaced, laid_by};
+ghost use Rattle.indicatif_board.specs.Inside.Keeps.{PutsFrame, HasPlace, laid_by};
 ghost use Rattle.indicatif_board.specs.Inside.Writings.{writing_by};
 
 use crate::members::{Member, drop_front, leading, place, put_at};
@@ -148,7 +148,7 @@ impl<K: ProgressTracker> ShownBars<K> {
         requires cleared { (bar ≡ None) ⊎ IsTrue (rows_take (writing_by writing)) }
         ensures silent { IsFalse (wrote result) → engine.new ≡ engine.old }
         ensures drew { (mark : ℕ) (takes : Bool) (s : BoardState (BarRecord K)) (number : Option ℕ) → is_no ask ≡ false →
-            Shown self.old s → IsPlaced number bar s.members → Fits engine.old s.lists →
+            Shown self.old s → HasPlace number bar s.members → Fits engine.old s.lists →
             let target = target_of (Some (T.view (terminal engine.old))) in
             DrewBy (board (board_bars K.means) mark) (Shown self.new) T.view engine.old engine.new
             (draw_of target takes ask now (writing_by writing.entry) s (laid_by K.means target now number s)) s.lists result }
@@ -170,7 +170,7 @@ impl<K: ProgressTracker> ShownBars<K> {
         ensures memory { IfErr result (λ e. (e ≡ Refusal.Memory) × (bar ≢ None)) }
         ensures unchanged { OnErr result (self.new ≡ self.old) }
         ensures laid { IfOk result (λ _. (target : Target) (s : BoardState (BarRecord K)) (number : Option ℕ) →
-            target.columns ≡ width → IsPlaced number bar s.members → Shown self.old s →
+            target.columns ≡ width → HasPlace number bar s.members → Shown self.old s →
             Shown self.new (laid_by K.means target now number s)) }
     {
         if let Some(at) = bar {

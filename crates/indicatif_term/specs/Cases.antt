@@ -13,24 +13,24 @@ abbrev pub bar : ℕ → List ℕ → BarLines
 bar number line = record { bar = number; lines = line ∷ [] }
 
 -- the rows of lines
-abbrev pub written : ℕ → List (List ℕ) → List (List Cell)
-written w lines = flat_map (rows_of w) lines
+abbrev pub drawn_rows : ℕ → List (List ℕ) → List (List Cell)
+drawn_rows w lines = flat_map (rows_of w) lines
 
 -- 6 columns and 4 rows: a line of 8 columns takes two rows, and one of 1 column takes one
 abbrev pub LongLine : Type 0
 LongLine = let first = drawn 6 4 false 0 (bar 0 (codes "aaaaaaaa") ∷ bar 1 (codes "b") ∷ []) opening_lists in
-    (all_rows 6 first ≡ written 6 (codes "aaaaaa" ∷ codes "aa" ∷ codes "b" ∷ []))
-    × (all_rows 6 (drawn 6 4 false 0 (bar 0 (codes "a") ∷ bar 1 (codes "b") ∷ []) first) ≡ written 6 (codes "a" ∷ codes "b" ∷ []))
+    (all_rows 6 first ≡ drawn_rows 6 (codes "aaaaaa" ∷ codes "aa" ∷ codes "b" ∷ []))
+    × (all_rows 6 (drawn 6 4 false 0 (bar 0 (codes "a") ∷ bar 1 (codes "b") ∷ []) first) ≡ drawn_rows 6 (codes "a" ∷ codes "b" ∷ []))
 
 -- 2 rows: of three lines the first two are shown
 abbrev pub ThreeOnTwo : Type 0
-ThreeOnTwo = all_rows 5 (drawn 5 2 false 0 (bar 0 (codes "a") ∷ bar 1 (codes "b") ∷ bar 2 (codes "c") ∷ []) opening_lists) ≡ written 5 (codes "a" ∷ codes "b" ∷ [])
+ThreeOnTwo = all_rows 5 (drawn 5 2 false 0 (bar 0 (codes "a") ∷ bar 1 (codes "b") ∷ bar 2 (codes "c") ∷ []) opening_lists) ≡ drawn_rows 5 (codes "a" ∷ codes "b" ∷ [])
 
 -- a text that is logged stays above the bar
 abbrev pub LogAbove : Type 0
 LogAbove = let shown = drawn 5 3 false 0 (bar 0 (codes "x") ∷ []) opening_lists in
     let l = logged 5 3 false (codes "l" ∷ []) (bar 0 (codes "x") ∷ []) shown in
-    (l.above ≡ written 5 (codes "l" ∷ [])) × (all_rows 5 l ≡ written 5 (codes "l" ∷ codes "x" ∷ []))
+    (l.above ≡ drawn_rows 5 (codes "l" ∷ [])) × (all_rows 5 l ≡ drawn_rows 5 (codes "l" ∷ codes "x" ∷ []))
 
 -- bars at the bottom: a bar that is taken away leaves a blank row above; a bar that is dropped passes on with it, and a log
 -- takes both back
@@ -38,22 +38,22 @@ abbrev pub AtTheBottom : Type 0
 AtTheBottom = let three = drawn 9 6 true 0 (bar 1 (codes "m1") ∷ bar 2 (codes "m2") ∷ bar 3 (codes "m3") ∷ []) opening_lists in
     let two = drawn 9 6 true 0 (bar 1 (codes "m1") ∷ bar 3 (codes "m3") ∷ []) three in
     let kept = kept_of 9 1 two in
-    (all_rows 9 two ≡ written 9 ([] ∷ codes "m1" ∷ codes "m3" ∷ []))
-    × (kept.kept ≡ written 9 ([] ∷ codes "m1" ∷ []))
-    × (all_rows 9 (logged 9 6 true (codes "L" ∷ []) (bar 3 (codes "m3") ∷ []) kept) ≡ written 9 (codes "L" ∷ [] ∷ codes "m3" ∷ []))
+    (all_rows 9 two ≡ drawn_rows 9 ([] ∷ codes "m1" ∷ codes "m3" ∷ []))
+    × (kept.kept ≡ drawn_rows 9 ([] ∷ codes "m1" ∷ []))
+    × (all_rows 9 (logged 9 6 true (codes "L" ∷ []) (bar 3 (codes "m3") ∷ []) kept) ≡ drawn_rows 9 (codes "L" ∷ [] ∷ codes "m3" ∷ []))
 
 -- 2 rows: a kept row that has scrolled away is above, and a log leaves it
 abbrev pub KeptScrollsAway : Type 0
 KeptScrollsAway = let two = drawn 9 2 false 0 (bar 1 (codes "k") ∷ bar 2 (codes "x") ∷ []) opening_lists in
     let kept = kept_of 9 1 two in
     let next = drawn 9 2 false 0 (bar 2 (codes "x") ∷ bar 3 (codes "y") ∷ []) kept in
-    (next.above ≡ written 9 (codes "k" ∷ [])) × (next.kept ≡ [])
-    × (all_rows 9 (logged 9 2 false (codes "l" ∷ []) (bar 2 (codes "x") ∷ bar 3 (codes "y") ∷ []) next) ≡ written 9 (codes "k" ∷ codes "l" ∷ codes "x" ∷ codes "y" ∷ []))
+    (next.above ≡ drawn_rows 9 (codes "k" ∷ [])) × (next.kept ≡ [])
+    × (all_rows 9 (logged 9 2 false (codes "l" ∷ []) (bar 2 (codes "x") ∷ bar 3 (codes "y") ∷ []) next) ≡ drawn_rows 9 (codes "k" ∷ codes "l" ∷ codes "x" ∷ codes "y" ∷ []))
 
 -- after a clear no row is left but those above
 abbrev pub ClearLeavesAbove : Type 0
 ClearLeavesAbove = let shown = logged 5 3 false (codes "l" ∷ []) (bar 0 (codes "x") ∷ []) opening_lists in
-    all_rows 5 (cleared shown) ≡ written 5 (codes "l" ∷ [])
+    all_rows 5 (cleared shown) ≡ drawn_rows 5 (codes "l" ∷ [])
 
 -- of two bars that are shown the first stands first, the second later, and a third has no row; where the first is dropped its row
 -- is no live one, and the second stands first
@@ -74,7 +74,7 @@ LogScrolls = let x = bar 0 (codes "x") ∷ [] in
     let second = logged 5 3 false (codes "l" ∷ []) x first in
     let shown = after below_two (codes "x") in
     let next = after shown (clear_bytes ++ line_bytes (codes "l") ++ codes "x") in
-    (second.above ≡ written 5 (codes "l" ∷ [])) × (all_rows 5 second ≡ written 5 (codes "l" ∷ codes "x" ∷ []))
+    (second.above ≡ drawn_rows 5 (codes "l" ∷ [])) × (all_rows 5 second ≡ drawn_rows 5 (codes "l" ∷ codes "x" ∷ []))
     × (picture_text shown.screen ≡ codes "u1" ∷ codes "u2" ∷ codes "x" ∷ [])
     × (looks_of (drop 2 shown.screen.rows) ≡ looks_of (all_rows 5 first))
     × (picture_text next.screen ≡ codes "u1" ∷ codes "u2" ∷ codes "l" ∷ codes "x" ∷ [])

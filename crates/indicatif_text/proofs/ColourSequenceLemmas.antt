@@ -12,7 +12,7 @@ use Rattle.std.specs.Iterator.{YieldsFirst, YieldsFirstBy, MakesProgress, item_c
 use Rattle.std.specs.Prelude.{All}
 use Rattle.std.proofs.lemmas.List.Elements.{All-append, All-replicate, All-nil, All-cons, All-head, All-tail, All-weaker}
 use Rattle.std.proofs.lemmas.Str.Ascii.{IsAscii-from_all}
-use Rattle.indicatif_text.specs.Inside.Pieces.{IsPrintable, IsNarrow, PassesNarrow, times}
+use Rattle.indicatif_text.specs.Inside.Pieces.{IsPrintable, IsNarrow, PassesNarrow, times_then}
 use Rattle.indicatif_text.proofs.WidthLemmas.{plain_width, narrow_unescaped}
 use Rattle.indicatif_text.specs.Columns.{colour_length, parameters_length, is_parameter, visible, visible_from}
 
@@ -283,35 +283,35 @@ passes_both a b c n m p q = record {
 -- ---- a character that is repeated
 
 -- once more
-pub times_more : (n : ℕ) (unit rest : List ℕ) → times n unit (unit ++ rest) ≡ times (n + 1) unit rest
+pub times_more : (n : ℕ) (unit rest : List ℕ) → times_then n unit (unit ++ rest) ≡ times_then (n + 1) unit rest
 times_more zero unit rest = refl
 times_more (suc n) unit rest =
     let same : suc (n + 1) ≡ suc n + 1 = omega arith in
-    ap (λ x. unit ++ x) (times_more n unit rest) ∙ ap (λ k. times k unit rest) same
+    ap (λ x. unit ++ x) (times_more n unit rest) ∙ ap (λ k. times_then k unit rest) same
 
 -- what follows three bytes so many times
-pub times_rest : (n : ℕ) (unit rest : List ℕ) → length unit ≡ 3 → drop (3 * n) (times n unit rest) ≡ rest
+pub times_rest : (n : ℕ) (unit rest : List ℕ) → length unit ≡ 3 → drop (3 * n) (times_then n unit rest) ≡ rest
 times_rest zero unit rest three = refl
 times_rest (suc n) unit rest three =
     let same : 3 * suc n ≡ length unit + 3 * n = omega (arith, three) in
-    ap (λ k. drop k (unit ++ times n unit rest)) same ∙ drop-append-add unit (times n unit rest) (3 * n) ∙ times_rest n unit rest three
+    ap (λ k. drop k (unit ++ times_then n unit rest)) same ∙ drop-append-add unit (times_then n unit rest) (3 * n) ∙ times_rest n unit rest three
 
-pub times_length : (n : ℕ) (unit rest : List ℕ) → length unit ≡ 3 → length (times n unit rest) ≡ 3 * n + length rest
+pub times_length : (n : ℕ) (unit rest : List ℕ) → length unit ≡ 3 → length (times_then n unit rest) ≡ 3 * n + length rest
 times_length zero unit rest three = omega arith
-times_length (suc n) unit rest three = omega (arith, three, length-append unit (times n unit rest), times_length n unit rest three)
+times_length (suc n) unit rest three = omega (arith, three, length-append unit (times_then n unit rest), times_length n unit rest three)
 
 -- the bytes of a character so many times are that character so many times
 pub record RepeatsChar (c n : ℕ) (bs rest : List ℕ) : Type 0 where
   pub chars_are : chars bs ≡ replicate n c ++ chars rest
   pub utf8 : IsUtf8 rest
 
-pub repeats_char : (n c : ℕ) (bs rest : List ℕ) → IsUtf8 bs → bs ≡ times n (encode c) rest → RepeatsChar c n bs rest
+pub repeats_char : (n c : ℕ) (bs rest : List ℕ) → IsUtf8 bs → bs ≡ times_then n (encode c) rest → RepeatsChar c n bs rest
 repeats_char zero c bs rest u e = record { chars_are = ap chars e; utf8 = subst IsUtf8 e u }
 repeats_char (suc n) c bs rest u e =
-    let more = repeats_char n c (times n (encode c) rest) rest (IsUtf8-past_char bs (times n (encode c) rest) c u e) refl in
-    record { chars_are = chars_past_char bs (times n (encode c) rest) c u e ∙ ap (λ x. c ∷ x) more.chars_are; utf8 = more.utf8 }
+    let more = repeats_char n c (times_then n (encode c) rest) rest (IsUtf8-past_char bs (times_then n (encode c) rest) c u e) refl in
+    record { chars_are = chars_past_char bs (times_then n (encode c) rest) c u e ∙ ap (λ x. c ∷ x) more.chars_are; utf8 = more.utf8 }
 
-pub passes_repeats : (text : List ℕ) (c n : ℕ) → IsUtf8 text → text ≡ times n (encode c) (drop (3 * n) text) → IsNarrow c → PassesNarrow (visible (chars text)) n (visible (chars (drop (3 * n) text)))
+pub passes_repeats : (text : List ℕ) (c n : ℕ) → IsUtf8 text → text ≡ times_then n (encode c) (drop (3 * n) text) → IsNarrow c → PassesNarrow (visible (chars text)) n (visible (chars (drop (3 * n) text)))
 passes_repeats text c n u e narrow =
     let r = repeats_char n c text (drop (3 * n) text) u e in
     passes_run (replicate n c) (chars text) (chars (drop (3 * n) text)) n r.chars_are (length-replicate n c) (All-replicate IsNarrow n c narrow)

@@ -8,7 +8,7 @@ use Rattle.std.specs.Char.{IsScalar}
 use Rattle.indicatif_text.specs.declared.template.TemplateError.{TemplateError}
 use Rattle.indicatif_text.specs.declared.template.TemplateError.TheVariants.{Memory}
 use Rattle.indicatif_text.specs.Template.{TemplatePart, LiteralText, TemplatePiece, Char, SpacedBrace, Takes, Stops, after_run, front, Refuses, here, IsRefused}
-use Rattle.indicatif_text.specs.Inside.Draft.{Sketch, literal_part, kept_sketch, with_run, added, Leads}
+use Rattle.indicatif_text.specs.Inside.Draft.{Sketch, literal_part, kept_sketch, with_run, added, GoesOn}
 use Rattle.indicatif_text.specs.Inside.Spans.{is_literal_char}
 use Rattle.indicatif_text.proofs.OptionLemmas.{some_text}
 use Rattle.indicatif_text.proofs.TemplateLemmas.{rest_shorter}
@@ -95,21 +95,21 @@ spaced_sketch s opened named spaced kept key space a b c d =
 -- ---- what is read
 
 -- what a run of literal characters leads to
-pub reads_run : (s t : Sketch) (text run rest : List ℕ) → t ≡ with_run s run → run ≡ take_while is_literal_char text → rest ≡ after_run is_literal_char text → Leads s text t rest
+pub reads_run : (s t : Sketch) (text run rest : List ℕ) → t ≡ with_run s run → run ≡ take_while is_literal_char text → rest ≡ after_run is_literal_char text → GoesOn s text t rest
 reads_run s t text run rest e r a =
     let led = leads_run s text in
-    let by_run : Leads s text (with_run s run) (after_run is_literal_char text) = subst (λ x. Leads s text (with_run s x) (after_run is_literal_char text)) (sym r) led in
-    let by_sketch : Leads s text t (after_run is_literal_char text) = subst (λ x. Leads s text x (after_run is_literal_char text)) (sym e) by_run in
-    subst (λ x. Leads s text t x) (sym a) by_sketch
+    let by_run : GoesOn s text (with_run s run) (after_run is_literal_char text) = subst (λ x. GoesOn s text (with_run s x) (after_run is_literal_char text)) (sym r) led in
+    let by_sketch : GoesOn s text t (after_run is_literal_char text) = subst (λ x. GoesOn s text x (after_run is_literal_char text)) (sym e) by_run in
+    subst (λ x. GoesOn s text t x) (sym a) by_sketch
 
 -- and the piece behind it
-pub reads_piece : (s t u : Sketch) (text marked after rest : List ℕ) (c : ℕ) (p : TemplatePiece) → Leads s text t marked → marked ≡ c ∷ after → front c after ≡ Takes rest p
-    → u ≡ added t p → Leads s text u rest
+pub reads_piece : (s t u : Sketch) (text marked after rest : List ℕ) (c : ℕ) (p : TemplatePiece) → GoesOn s text t marked → marked ≡ c ∷ after → front c after ≡ Takes rest p
+    → u ≡ added t p → GoesOn s text u rest
 reads_piece s t u text marked after rest c p led e f is =
-    let here : Leads t (c ∷ after) (added t p) rest = leads_piece t c after rest p f in
-    subst (λ x. Leads s text x rest) (sym is) (leads_more (subst (λ x. Leads s text t x) e led) here)
+    let here : GoesOn t (c ∷ after) (added t p) rest = leads_piece t c after rest p f in
+    subst (λ x. GoesOn s text x rest) (sym is) (leads_more (subst (λ x. GoesOn s text t x) e led) here)
 
-pub refused_here : (s t : Sketch) (text marked after place : List ℕ) (c : ℕ) (x : TemplateError) → Leads s text t marked → marked ≡ c ∷ after → front c after ≡ Stops place x → IsRefused text x
+pub refused_here : (s t : Sketch) (text marked after place : List ℕ) (c : ℕ) (x : TemplateError) → GoesOn s text t marked → marked ≡ c ∷ after → front c after ≡ Stops place x → IsRefused text x
 refused_here s t text marked after place c x led e f = (place, led.refuses place x (subst (λ m. Refuses m place x) (sym e) (here f)))
 
 pub refused_error : {A : Type 0} (text : List ℕ) (x : TemplateError) → IsRefused text x → (r : Result A TemplateError) → IsErrAnd r (λ e. e ≡ x) → IfErr r (λ e. (e ≡ Memory) ⊎ IsRefused text e)

@@ -13,7 +13,7 @@ use Rattle.std.proofs.lemmas.Int.Digits.{digits_value_push}
 use Rattle.std.proofs.lemmas.Fmt.{decimal_by_steps_wide, decimal_is_IsNumeral_wide}
 use Rattle.std.proofs.lemmas.List.Elements.{filter-append}
 use Rattle.std.proofs.lemmas.List.{nil_from_length}
-use Rattle.indicatif_text.specs.Format.{round, rounds_up, last_digits, with_commas, without_trailing_zeros, human_count, prefix_exponent, formatted_duration, TimeSpan, year, week, day, hour, minute, second, reaches, told, nanos_per_second}
+use Rattle.indicatif_text.specs.Format.{round, rounds_up, last_digits, with_commas, without_trailing_zeros, human_count, prefix_exponent, formatted_duration, TimeSpan, year, week, day, hour, minute, second, reaches, count_and_unit, nanos_per_second}
 use Rattle.indicatif_text.specs.FormatLaws.{seconds_told, IsNotPast, IsReached}
 use Rattle.indicatif_text.proofs.CountLemmas.{stands_before, count_more}
 use Rattle.indicatif_text.proofs.ByteTextLemmas.{power_one}
@@ -229,7 +229,7 @@ pub tells_seconds : (n : ℕ) → n < 2 ^ 64 → seconds_told (formatted_duratio
 tells_seconds n small =
     let seconds = n / 1000000000 in
     let days = seconds / 86400 in
-    let told = tells_clock seconds in
+    let count_and_unit = tells_clock seconds in
     elim (cases_lt 0 days) [
       | inl some ↦
           let front = decimal days ++ codes "d " in
@@ -238,34 +238,34 @@ tells_seconds n small =
           let number : digits_value 10 (take (length front - 2) (front ++ clock seconds)) ≡ days =
           ap (λ k. digits_value 10 (take k (front ++ clock seconds))) long ∙ ap (λ xs. digits_value 10 (take (length (decimal days)) xs)) (append_assoc (decimal days) (codes "d ") (clock seconds))
           ∙ ap (λ xs. digits_value 10 xs) (take-append_seam (decimal days) (codes "d " ++ clock seconds)) ∙ (decimal_is_IsNumeral_wide days (omega arith)).1 in
-          ap seconds_told text ∙ told_after front (clock seconds) (eight seconds) ∙ omega (arith, number, told)
+          ap seconds_told text ∙ told_after front (clock seconds) (eight seconds) ∙ omega (arith, number, count_and_unit)
       | inr none ↦
           let text : formatted_duration n ≡ [] ++ clock seconds = formatted_is n ∙ rw (eq-eqb days 0 (omega arith)) refl in
-          ap seconds_told text ∙ told_after [] (clock seconds) (eight seconds) ∙ omega (arith, told)
+          ap seconds_told text ∙ told_after [] (clock seconds) (eight seconds) ∙ omega (arith, count_and_unit)
     ]
 
 -- ---- the unit
 
-longest : (n : ℕ) → 47001600000000000 ≤ n → year.nanos ≤ (told n).1.nanos
+longest : (n : ℕ) → 47001600000000000 ≤ n → year.nanos ≤ (count_and_unit n).1.nanos
 longest n enough = subst (λ t. year.nanos ≤ t.1.nanos) (sym (told-years n enough)) (omega arith)
 
 -- a unit at least: the unit itself below a limit, and from there on a longer one at least
-or_more : (n limit : ℕ) (unit longer : TimeSpan) → unit.nanos ≤ longer.nanos → (n < limit → (told n).1 ≡ unit) → (limit ≤ n → longer.nanos ≤ (told n).1.nanos) → unit.nanos ≤ (told n).1.nanos
+or_more : (n limit : ℕ) (unit longer : TimeSpan) → unit.nanos ≤ longer.nanos → (n < limit → (count_and_unit n).1 ≡ unit) → (limit ≤ n → longer.nanos ≤ (count_and_unit n).1.nanos) → unit.nanos ≤ (count_and_unit n).1.nanos
 or_more n limit unit longer less here above = elim (cases_lt n limit) [
   | inl few ↦ subst (λ t. unit.nanos ≤ t.nanos) (sym (here few)) (omega arith)
   | inr more ↦ omega (arith, less, above more)
 ]
 
-week_or_more : (n : ℕ) → 864000000000000 ≤ n → week.nanos ≤ (told n).1.nanos
+week_or_more : (n : ℕ) → 864000000000000 ≤ n → week.nanos ≤ (count_and_unit n).1.nanos
 week_or_more n enough = or_more n 47001600000000000 week year (omega arith) (λ few. ap (λ t. t.1) (told-weeks n few enough)) (longest n)
 
-day_or_more : (n : ℕ) → 127800000000000 ≤ n → day.nanos ≤ (told n).1.nanos
+day_or_more : (n : ℕ) → 127800000000000 ≤ n → day.nanos ≤ (count_and_unit n).1.nanos
 day_or_more n enough = or_more n 864000000000000 day week (omega arith) (λ few. ap (λ t. t.1) (told-days n few enough)) (week_or_more n)
 
-hour_or_more : (n : ℕ) → 5370000000000 ≤ n → hour.nanos ≤ (told n).1.nanos
+hour_or_more : (n : ℕ) → 5370000000000 ≤ n → hour.nanos ≤ (count_and_unit n).1.nanos
 hour_or_more n enough = or_more n 127800000000000 hour day (omega arith) (λ few. ap (λ t. t.1) (told-hours n few enough)) (day_or_more n)
 
-minute_or_more : (n : ℕ) → 89500000000 ≤ n → minute.nanos ≤ (told n).1.nanos
+minute_or_more : (n : ℕ) → 89500000000 ≤ n → minute.nanos ≤ (count_and_unit n).1.nanos
 minute_or_more n enough = or_more n 5370000000000 minute hour (omega arith) (λ few. ap (λ t. t.1) (told-minutes n few enough)) (hour_or_more n)
 
 enough_for : (n : ℕ) (unit next : TimeSpan) → IsTrue (reaches n unit next) → unit.nanos + unit.nanos / 2 ≤ n + next.nanos / 2
@@ -284,7 +284,7 @@ reached_by : (n : ℕ) (unit next : TimeSpan) → unit.nanos + unit.nanos / 2 �
 reached_by n unit next enough = le-leb (unit.nanos + unit.nanos / 2) (n + next.nanos / 2) enough
 
 pub reaches_unit : (n : ℕ)
-    → IsReached n year week ⊎ (IsReached n week day ⊎ (IsReached n day hour ⊎ (IsReached n hour minute ⊎ (IsReached n minute second ⊎ ((told n).1 ≡ second)))))
+    → IsReached n year week ⊎ (IsReached n week day ⊎ (IsReached n day hour ⊎ (IsReached n hour minute ⊎ (IsReached n minute second ⊎ ((count_and_unit n).1 ≡ second)))))
 reaches_unit n = elim (cases_lt n 47001600000000000) [
   | inr most ↦ inl (ap (λ t. t.1) (told-years n most), reached_by n year week (omega arith))
   | inl below_year ↦ elim (cases_lt n 864000000000000) [

@@ -7,7 +7,7 @@ use Rattle.std.proofs.lemmas.Bool.{cases_Bool, cond_both, false≢true}
 use Rattle.indicatif_text.specs.declared.refusal.TemplateState.TheVariants.{MaybeOpen, DoubleClose}
 use Rattle.indicatif_text.specs.declared.template.TemplateError.TheVariants.{Unexpected}
 use Rattle.indicatif_text.specs.Template.{Layout, TemplatePart, LiteralText, LineBreak, KeyText, TemplatePiece, Char, Break, SpacedBrace, Keyed, LastBrace, LastKey, Front, Takes, Stops, after_run, plain_layout, with_options, keyed, unfinished, key_ends, is_key_char, opened, closed, front, Reads, end, piece, later, is_open_run, without_open_run, onto_literal, joined_parts, parts_of, Parses}
-use Rattle.indicatif_text.specs.Inside.Draft.{Sketch, empty_sketch, literal_part, sketched_parts, with_part, added, after_text, completed, Leads}
+use Rattle.indicatif_text.specs.Inside.Draft.{Sketch, empty_sketch, literal_part, sketched_parts, with_part, added, after_text, completed, GoesOn}
 use Rattle.indicatif_text.specs.Inside.Spans.{is_literal_char}
 
 -- ---- parts with a text in front
@@ -167,16 +167,16 @@ fits_front c cs =
 
 -- ---- leading on
 
-pub leads_none : (s : Sketch) (text : List ℕ) → Leads s text s text
+pub leads_none : (s : Sketch) (text : List ℕ) → GoesOn s text s text
 leads_none s text = record { reads = λ ps r. (ps, r, refl); refuses = λ place error t. t }
 
-pub leads_more : {s t u : Sketch} {text middle rest : List ℕ} → Leads s text t middle → Leads t middle u rest → Leads s text u rest
+pub leads_more : {s t u : Sketch} {text middle rest : List ℕ} → GoesOn s text t middle → GoesOn t middle u rest → GoesOn s text u rest
 leads_more a b = record {
   reads = λ ps r. let next = b.reads ps r in let first = a.reads next.0 next.1 in (first.0, first.1, first.2 ∙ next.2);
   refuses = λ place error t. a.refuses place error (b.refuses place error t);
 }
 
-pub leads_piece : (s : Sketch) (c : ℕ) (cs rest : List ℕ) (p : TemplatePiece) → front c cs ≡ Takes rest p → Leads s (c ∷ cs) (added s p) rest
+pub leads_piece : (s : Sketch) (c : ℕ) (cs rest : List ℕ) (p : TemplatePiece) → front c cs ≡ Takes rest p → GoesOn s (c ∷ cs) (added s p) rest
 leads_piece s c cs rest p e =
     let fit : Fits p rest = subst FitsFront e (fits_front c cs) in
     record { reads = λ ps r. (p ∷ ps, piece e r, completed_step s p rest ps fit r); refuses = λ place error t. later e t }
@@ -191,21 +191,21 @@ pub literal_front : (c : ℕ) (cs : List ℕ) → is_literal_char c ≡ true →
 unfolding front
 literal_front c cs e = by_tests (eqb c 0x0A) (eqb c 0x7B) (eqb c 0x7D) (Takes cs Break) (opened cs) (closed cs) (Takes cs (Char c)) e
 
-pub leads_run : (s : Sketch) (text : List ℕ) → Leads s text (record s { run = s.run ++ take_while is_literal_char text }) (after_run is_literal_char text)
-leads_run s [] = subst (λ run. Leads s [] (record s { run = run }) []) (sym (append-nil s.run)) (leads_none s [])
+pub leads_run : (s : Sketch) (text : List ℕ) → GoesOn s text (record s { run = s.run ++ take_while is_literal_char text }) (after_run is_literal_char text)
+leads_run s [] = subst (λ run. GoesOn s [] (record s { run = run }) []) (sym (append-nil s.run)) (leads_none s [])
 leads_run s (c ∷ cs) = elim (cases_Bool (is_literal_char c)) [
   | inl plain ↦
       let one : 1 + prefix_len is_literal_char cs ≡ suc (prefix_len is_literal_char cs) = omega arith in
       let next = leads_run (record s { run = s.run ++ c ∷ [] }) cs in
       let joined = append_assoc s.run (c ∷ []) (take_while is_literal_char cs) in
       let whole = leads_more (leads_piece s c cs cs (Char c) (literal_front c cs plain)) next in
-      rw (plain, one) (subst (λ run. Leads s (c ∷ cs) (record s { run = run }) (after_run is_literal_char cs)) joined whole)
-  | inr marker ↦ rw marker (subst (λ run. Leads s (c ∷ cs) (record s { run = run }) (c ∷ cs)) (sym (append-nil s.run)) (leads_none s (c ∷ cs)))
+      rw (plain, one) (subst (λ run. GoesOn s (c ∷ cs) (record s { run = run }) (after_run is_literal_char cs)) joined whole)
+  | inr marker ↦ rw marker (subst (λ run. GoesOn s (c ∷ cs) (record s { run = run }) (c ∷ cs)) (sym (append-nil s.run)) (leads_none s (c ∷ cs)))
 ]
 
 -- a text that was led to its end is a template
-pub leads_parse : (text rest : List ℕ) (s : Sketch) → rest ≡ [] → Leads empty_sketch text s rest → Parses text (sketched_parts s)
+pub leads_parse : (text rest : List ℕ) (s : Sketch) → rest ≡ [] → GoesOn empty_sketch text s rest → Parses text (sketched_parts s)
 leads_parse text rest s none leads =
-    let whole : Leads empty_sketch text s [] = subst (Leads empty_sketch text s) none leads in
+    let whole : GoesOn empty_sketch text s [] = subst (GoesOn empty_sketch text s) none leads in
     let all = whole.reads [] end in
     record { pieces = all.0; reads = all.1; makes = sym (completed_empty all.0) ∙ all.2 ∙ completed_nil s }

@@ -14,7 +14,7 @@ use Rattle.std.proofs.lemmas.Int.Digits.{digits_value_push}
 use Rattle.std.proofs.lemmas.List.Elements.{filter-append}
 use Rattle.std.proofs.lemmas.List.Folds.{list_all-append}
 use Rattle.std.proofs.lemmas.List.{length-replicate}
-use Rattle.indicatif_text.specs.Format.{round, rounds_up, last_digits, with_commas, without_trailing_zeros, after_point, human_count, human_float_count, fixed_point, prefix_exponent, prefix_letter, bytes_text, binary_bytes, decimal_bytes, TimeSpan, year, week, day, hour, minute, second, rounded_half_up, reaches, told_in, told, human_duration, short_duration}
+use Rattle.indicatif_text.specs.Format.{round, rounds_up, last_digits, with_commas, without_trailing_zeros, after_point, human_count, human_float_count, fixed_point, prefix_exponent, prefix_letter, bytes_text, binary_bytes, decimal_bytes, TimeSpan, year, week, day, hour, minute, second, rounded_half_up, reaches, count_and_unit_in, count_and_unit, human_duration, short_duration}
 use Rattle.indicatif_text.specs.FormatLaws.{digits_in, whole_in, decimals_in, number_in, unit_in, TellsBytes, binary_units, decimal_units}
 use Rattle.indicatif_text.proofs.ByteTextLemmas.{power_low}
 use Rattle.indicatif_text.proofs.CountLemmas.{stands_before}
@@ -373,18 +373,18 @@ rounded_low n unit some =
 all_long : List TimeSpan → Bool
 all_long units = list_all (λ u. nat_lt 0 u.nanos) units
 
-count_low : (n : ℕ) (unit : TimeSpan) (units : List TimeSpan) → all_long (unit ∷ units) ≡ true → (told_in n unit units).0 ≤ n + 2
+count_low : (n : ℕ) (unit : TimeSpan) (units : List TimeSpan) → all_long (unit ∷ units) ≡ true → (count_and_unit_in n unit units).0 ≤ n + 2
 unfolding all_long
 count_low n unit [] on = omega (arith, rounded_low n unit.nanos (ltb-true 0 unit.nanos (and_parts (nat_lt 0 unit.nanos) true on).0))
 count_low n unit (next ∷ units) on =
     let parts = and_parts (nat_lt 0 unit.nanos) (list_all (λ u. nat_lt 0 u.nanos) (next ∷ units)) on in
     let few : max 2 (rounded_half_up n unit.nanos) ≤ n + 2 =
     max-le (omega arith) (omega (arith, rounded_low n unit.nanos (ltb-true 0 unit.nanos parts.0))) in
-    cond_both (reaches n unit next) (max 2 (rounded_half_up n unit.nanos), unit) (told_in n next units)
+    cond_both (reaches n unit next) (max 2 (rounded_half_up n unit.nanos), unit) (count_and_unit_in n next units)
     (λ t. t.0 ≤ n + 2) (λ e. few) (λ e. count_low n next units parts.1)
 
-pub few_units : (n : ℕ) → (told n).0 ≤ n + 2
-unfolding told all_long
+pub few_units : (n : ℕ) → (count_and_unit n).0 ≤ n + 2
+unfolding count_and_unit all_long
 few_units n = count_low n year (week ∷ day ∷ hour ∷ minute ∷ second ∷ []) refl
 
 -- a unit with a letter
@@ -392,46 +392,46 @@ has_letter : TimeSpan → Bool
 has_letter unit = nat_lt 0 (length unit.name)
 
 unit_named : (n : ℕ) (unit : TimeSpan) (units : List TimeSpan) → list_all has_letter (unit ∷ units) ≡ true
-    → has_letter (told_in n unit units).1 ≡ true
+    → has_letter (count_and_unit_in n unit units).1 ≡ true
 unit_named n unit [] on = (and_parts (has_letter unit) true on).0
 unit_named n unit (next ∷ units) on =
     let parts = and_parts (has_letter unit) (list_all has_letter (next ∷ units)) on in
-    cond_both (reaches n unit next) (max 2 (rounded_half_up n unit.nanos), unit) (told_in n next units)
+    cond_both (reaches n unit next) (max 2 (rounded_half_up n unit.nanos), unit) (count_and_unit_in n next units)
     (λ t. has_letter t.1 ≡ true) (λ e. parts.0) (λ e. unit_named n next units parts.1)
 
-named : (n : ℕ) → 0 < length (told n).1.name
-unfolding told has_letter
-named n = ltb-true 0 (length (told n).1.name) (unit_named n year (week ∷ day ∷ hour ∷ minute ∷ second ∷ []) refl)
+named : (n : ℕ) → 0 < length (count_and_unit n).1.name
+unfolding count_and_unit has_letter
+named n = ltb-true 0 (length (count_and_unit n).1.name) (unit_named n year (week ∷ day ∷ hour ∷ minute ∷ second ∷ []) refl)
 
 -- the unit as it is told
 plural : ℕ → List ℕ → List ℕ
 plural count name = name ++ (if count == 1 then [] else codes "s")
 
-words_are : (n : ℕ) → human_duration n ≡ decimal (told n).0 ++ (0x20 ∷ plural (told n).0 (told n).1.name)
+words_are : (n : ℕ) → human_duration n ≡ decimal (count_and_unit n).0 ++ (0x20 ∷ plural (count_and_unit n).0 (count_and_unit n).1.name)
 unfolding human_duration plural
 words_are n = simp append_assoc
 
-pub word_number : (n : ℕ) → n < 2 ^ 64 → number_in (human_duration n) ≡ decimal (told n).0
+pub word_number : (n : ℕ) → n < 2 ^ 64 → number_in (human_duration n) ≡ decimal (count_and_unit n).0
 word_number n small =
     ap (λ t. number_in t) (words_are n)
-    ∙ spaced_number is_ascii_digit (decimal (told n).0) (plural (told n).0 (told n).1.name) refl (decimal_digits (told n).0 (omega (arith, few_units n)))
+    ∙ spaced_number is_ascii_digit (decimal (count_and_unit n).0) (plural (count_and_unit n).0 (count_and_unit n).1.name) refl (decimal_digits (count_and_unit n).0 (omega (arith, few_units n)))
 
-word_unit : (n : ℕ) → n < 2 ^ 64 → unit_in (human_duration n) ≡ plural (told n).0 (told n).1.name
+word_unit : (n : ℕ) → n < 2 ^ 64 → unit_in (human_duration n) ≡ plural (count_and_unit n).0 (count_and_unit n).1.name
 word_unit n small =
     ap (λ t. unit_in t) (words_are n)
-    ∙ spaced_unit is_ascii_digit (decimal (told n).0) (plural (told n).0 (told n).1.name) refl (decimal_digits (told n).0 (omega (arith, few_units n)))
+    ∙ spaced_unit is_ascii_digit (decimal (count_and_unit n).0) (plural (count_and_unit n).0 (count_and_unit n).1.name) refl (decimal_digits (count_and_unit n).0 (omega (arith, few_units n)))
 
-pub word_spells : (n : ℕ) → n < 2 ^ 64 → digits_value 10 (number_in (human_duration n)) ≡ (told n).0
-word_spells n small = ap (λ t. digits_value 10 t) (word_number n small) ∙ (decimal_is_IsNumeral_wide (told n).0 (omega (arith, few_units n))).1
+pub word_spells : (n : ℕ) → n < 2 ^ 64 → digits_value 10 (number_in (human_duration n)) ≡ (count_and_unit n).0
+word_spells n small = ap (λ t. digits_value 10 t) (word_number n small) ∙ (decimal_is_IsNumeral_wide (count_and_unit n).0 (omega (arith, few_units n))).1
 
-pub one_unit : (n : ℕ) → n < 2 ^ 64 → (told n).0 ≡ 1 → unit_in (human_duration n) ≡ (told n).1.name
+pub one_unit : (n : ℕ) → n < 2 ^ 64 → (count_and_unit n).0 ≡ 1 → unit_in (human_duration n) ≡ (count_and_unit n).1.name
 unfolding plural
 one_unit n small one =
-    word_unit n small ∙ ap (λ b. (told n).1.name ++ (if b then [] else codes "s")) (eq-eqb (told n).0 1 one) ∙ append-nil (told n).1.name
+    word_unit n small ∙ ap (λ b. (count_and_unit n).1.name ++ (if b then [] else codes "s")) (eq-eqb (count_and_unit n).0 1 one) ∙ append-nil (count_and_unit n).1.name
 
-pub more_units : (n : ℕ) → n < 2 ^ 64 → ((told n).0 ≡ 1 → ⊥) → unit_in (human_duration n) ≡ (told n).1.name ++ codes "s"
+pub more_units : (n : ℕ) → n < 2 ^ 64 → ((count_and_unit n).0 ≡ 1 → ⊥) → unit_in (human_duration n) ≡ (count_and_unit n).1.name ++ codes "s"
 unfolding plural
-more_units n small more = word_unit n small ∙ ap (λ b. (told n).1.name ++ (if b then [] else codes "s")) (ne_eqb (told n).0 1 more)
+more_units n small more = word_unit n small ∙ ap (λ b. (count_and_unit n).1.name ++ (if b then [] else codes "s")) (ne_eqb (count_and_unit n).0 1 more)
 
 first_letter : (name more : List ℕ) → 0 < length name → take 1 name ≡ take 1 (name ++ more)
 first_letter [] more some = absurd (omega arith)
@@ -440,6 +440,6 @@ first_letter (c ∷ name) more some = refl
 pub short_is : (n : ℕ) → n < 2 ^ 64 → short_duration n ≡ number_in (human_duration n) ++ take 1 (unit_in (human_duration n))
 unfolding short_duration plural
 short_is n small =
-    let letter = first_letter (told n).1.name (if (told n).0 == 1 then [] else codes "s") (named n) in
-    ap (λ l. decimal (told n).0 ++ l) (letter ∙ ap (λ u. take 1 u) (sym (word_unit n small)))
+    let letter = first_letter (count_and_unit n).1.name (if (count_and_unit n).0 == 1 then [] else codes "s") (named n) in
+    ap (λ l. decimal (count_and_unit n).0 ++ l) (letter ∙ ap (λ u. take 1 u) (sym (word_unit n small)))
     ∙ ap (λ d. d ++ take 1 (unit_in (human_duration n))) (sym (word_number n small))

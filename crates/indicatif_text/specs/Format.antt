@@ -134,19 +134,19 @@ reaches nanos unit next = nat_le (unit.nanos + unit.nanos / 2) (nanos + next.nan
 
 -- the count and the unit that a duration is told in, of this unit and the smaller ones: the first that it reaches, and
 -- then at least 2, or else the last
-abbrev pub told_in : ℕ → TimeSpan → List TimeSpan → ℕ × TimeSpan
-told_in nanos unit [] = (rounded_half_up nanos unit.nanos, unit)
-told_in nanos unit (next ∷ units) =
-    if reaches nanos unit next then (max 2 (rounded_half_up nanos unit.nanos), unit) else told_in nanos next units
+abbrev pub count_and_unit_in : ℕ → TimeSpan → List TimeSpan → ℕ × TimeSpan
+count_and_unit_in nanos unit [] = (rounded_half_up nanos unit.nanos, unit)
+count_and_unit_in nanos unit (next ∷ units) =
+    if reaches nanos unit next then (max 2 (rounded_half_up nanos unit.nanos), unit) else count_and_unit_in nanos next units
 
 -- the same of all units
-unfoldable pub told : ℕ → ℕ × TimeSpan
-told nanos = told_in nanos year (week ∷ day ∷ hour ∷ minute ∷ second ∷ [])
+unfoldable pub count_and_unit : ℕ → ℕ × TimeSpan
+count_and_unit nanos = count_and_unit_in nanos year (week ∷ day ∷ hour ∷ minute ∷ second ∷ [])
 
 -- `HumanDuration`
 unfoldable pub human_duration : ℕ → List ℕ
-human_duration nanos = decimal (told nanos).0 ++ codes " " ++ (told nanos).1.name ++ (if (told nanos).0 == 1 then [] else codes "s")
+human_duration nanos = decimal (count_and_unit nanos).0 ++ codes " " ++ (count_and_unit nanos).1.name ++ (if (count_and_unit nanos).0 == 1 then [] else codes "s")
 
 -- its short form: the count and the unit's first letter
 unfoldable pub short_duration : ℕ → List ℕ
-short_duration nanos = decimal (told nanos).0 ++ take 1 (told nanos).1.name
+short_duration nanos = decimal (count_and_unit nanos).0 ++ take 1 (count_and_unit nanos).1.name

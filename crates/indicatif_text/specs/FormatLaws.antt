@@ -3,7 +3,7 @@ use Rattle.std.specs.Prelude.{◌≡◌, ◌≢◌, ℕ, ◌+◌, ◌-◌, ◌*�
 use Rattle.std.specs.Char.{is_ascii_digit}
 use Rattle.std.specs.List.{before_first, after_first}
 use Rattle.std.specs.Str.Parse.{digits_value}
-use Rattle.indicatif_text.specs.Format.{round, last_digits, without_trailing_zeros, human_count, human_float_count, prefix_exponent, binary_bytes, decimal_bytes, nanos_per_second, formatted_duration, human_duration, short_duration, TimeSpan, year, week, day, hour, minute, second, rounded_half_up, reaches, told}
+use Rattle.indicatif_text.specs.Format.{round, last_digits, without_trailing_zeros, human_count, human_float_count, prefix_exponent, binary_bytes, decimal_bytes, nanos_per_second, formatted_duration, human_duration, short_duration, TimeSpan, year, week, day, hour, minute, second, rounded_half_up, reaches, count_and_unit}
 
 -- ---- the parts of a text
 
@@ -146,7 +146,7 @@ TellsSeconds = (n : ℕ) → n < 2 ^ 64 → seconds_told (formatted_duration n) 
 
 -- a unit that a duration reaches is no longer than the one that it is told in
 abbrev pub IsNotPast : ℕ → TimeSpan → TimeSpan → Type 0
-IsNotPast n unit next = IsTrue (reaches n unit next) → unit.nanos ≤ (told n).1.nanos
+IsNotPast n unit next = IsTrue (reaches n unit next) → unit.nanos ≤ (count_and_unit n).1.nanos
 
 -- no unit that a duration reaches is longer than the one that it is told in
 abbrev pub NoLongerUnit : Type 0
@@ -155,20 +155,20 @@ NoLongerUnit = (n : ℕ)
 
 -- a duration is told in a unit that it reaches
 abbrev pub IsReached : ℕ → TimeSpan → TimeSpan → Type 0
-IsReached n unit next = ((told n).1 ≡ unit) × IsTrue (reaches n unit next)
+IsReached n unit next = ((count_and_unit n).1 ≡ unit) × IsTrue (reaches n unit next)
 
 -- or else in seconds
 abbrev pub ReachesUnit : Type 0
 ReachesUnit = (n : ℕ)
-    → IsReached n year week ⊎ (IsReached n week day ⊎ (IsReached n day hour ⊎ (IsReached n hour minute ⊎ (IsReached n minute second ⊎ ((told n).1 ≡ second)))))
+    → IsReached n year week ⊎ (IsReached n week day ⊎ (IsReached n day hour ⊎ (IsReached n hour minute ⊎ (IsReached n minute second ⊎ ((count_and_unit n).1 ≡ second)))))
 
 -- before the space of a duration in words stands the count's numeral, and behind it the unit, with an `s` unless the count
 -- is 1
 abbrev pub WordsTell : Type 0
 WordsTell = (n : ℕ) → n < 2 ^ 64 →
     let text = human_duration n in
-    (digits_value 10 (number_in text) ≡ (told n).0) × (number_in text ≡ decimal (told n).0)
-    × ((told n).0 ≡ 1 → unit_in text ≡ (told n).1.name) × ((told n).0 ≢ 1 → unit_in text ≡ (told n).1.name ++ codes "s")
+    (digits_value 10 (number_in text) ≡ (count_and_unit n).0) × (number_in text ≡ decimal (count_and_unit n).0)
+    × ((count_and_unit n).0 ≡ 1 → unit_in text ≡ (count_and_unit n).1.name) × ((count_and_unit n).0 ≢ 1 → unit_in text ≡ (count_and_unit n).1.name ++ codes "s")
 
 -- the short form is the count and the first letter of what stands behind the space
 abbrev pub ShortIsWords : Type 0

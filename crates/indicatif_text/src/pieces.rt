@@ -4,7 +4,7 @@ ghost use Rattle.std.specs.Str.{IsAscii, IsCharBoundary};
 ghost use Rattle.std.specs.Iterator.{YieldsFirst, YieldsFirstBy, item_count};
 ghost use Rattle.indicatif_text.specs.Columns.{colour_length, is_parameter, visible, width_of};
 ghost use Rattle.indicatif_text.specs.Pieces.{TextPiece, pieces_of_text, shown};
-ghost use Rattle.indicatif_text.specs.Inside.Pieces.{run_then, times, IsPrintable, PassesNarrow};
+ghost use Rattle.indicatif_text.specs.Inside.Pieces.{run_then, times_then, IsPrintable, PassesNarrow};
 
 use std::marker::Model;
 
@@ -146,7 +146,7 @@ fn split_narrow(text: &str, repeated: char) -> (usize, &str)
 /// How many times a character of three bytes stands at the front of a text; 0 for one of fewer or more bytes.
 #[inline(always)]
 fn repeats(text: &str, c: char) -> usize
-    ensures repeats { text.now ≡ times result (encode_utf8 c) (drop (3 * result) text.now) }
+    ensures repeats { text.now ≡ times_then result (encode_utf8 c) (drop (3 * result) text.now) }
     ensures fits { 3 * result ≤ length text.now }
     ensures boundary { IsCharBoundary text.now (3 * result) }
 {
@@ -162,7 +162,7 @@ fn repeats(text: &str, c: char) -> usize
 #[inline(always)]
 fn triples(bytes: &[u8], unit: &[u8]) -> usize
     requires { length unit.now ≡ 3 }
-    ensures repeats { bytes.now ≡ times result unit.now (drop (3 * result) bytes.now) }
+    ensures repeats { bytes.now ≡ times_then result unit.now (drop (3 * result) bytes.now) }
     ensures fits { 3 * result ≤ length bytes.now }
 {
     let mut at: usize = 0;

@@ -30,7 +30,7 @@ pub record DrewOn {S C A : Type 0} (m : Machine S C A) (old new : Option TermVie
   pub writes : WritesLinesOn old new d.lines l (m.lists next) answer
 
 -- an engine was asked to write so below the rows above, and answered this
-pub record Puts {T : Type 0} (view : T → TermView) (writing : Writing) (frame : List BarLines) (old new : Engine T) (answer : Result Unit Refusal) : Type 0 where
+pub record EngineWrites {T : Type 0} (view : T → TermView) (writing : Writing) (frame : List BarLines) (old new : Engine T) (answer : Result Unit Refusal) : Type 0 where
   pub answers : Answers (view (terminal old)).columns (lines_to_write writing 0 frame) answer
   pub memory : answer ≡ Err Memory → IsTrue (rows_take writing)
   pub counted : Counted (view (terminal old)) (view (terminal new)) answer

@@ -9,7 +9,7 @@ use Rattle.indicatif_bar.specs.declared.shown.Writing.{Writing as WritingValue}
 use Rattle.indicatif_bar.specs.declared.shown.Writing.TheVariants.{Frame as FrameValue, TextAndFrame as TextValue, NoFrame as NoValue}
 
 -- it is shown as this state says
-pub record Holds {K : Type 0} (b : ShownBar K) (s : LoneState (BarRecord K)) : Type 0 where
+pub record ShownAs {K : Type 0} (b : ShownBar K) (s : LoneState (BarRecord K)) : Type 0 where
   pub bar_is : b.bar ≡ s.bar
   pub lines_are : bar_lines b.frame ≡ record { bar = 0; lines = s.stored }
   pub limiter_is : b.limiter ≡ s.limiter

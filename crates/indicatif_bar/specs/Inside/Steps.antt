@@ -10,7 +10,7 @@ use Rattle.indicatif_bar.specs.Tabs.{expanded}
 use Rattle.indicatif_bar.specs.Progress.{Progress}
 use Rattle.indicatif_bar.specs.Trackers.{Tracking}
 use Rattle.indicatif_bar.specs.Keys.{key_named}
-use Rattle.indicatif_bar.specs.BarStyles.{Style, Wide, WideBarOf, WideMessageOf, wide_of, key_text, laid_out, lines_of}
+use Rattle.indicatif_bar.specs.BarStyles.{Style, Wide, WideBarOf, WideMessageOf, wide_of, key_text, in_layout, lines_with}
 use Rattle.indicatif_bar.specs.declared.style.steps.Source.{Source}
 use Rattle.indicatif_bar.specs.declared.style.steps.Source.TheVariants.{Tracker, Known, Nothing}
 use Rattle.indicatif_bar.specs.declared.style.steps.Held.{Held}
@@ -20,20 +20,20 @@ use Rattle.indicatif_bar.specs.declared.style.steps.Step.{Step}
 use Rattle.indicatif_bar.specs.declared.style.steps.Step.TheVariants as step
 
 -- what a part does
-pub data Deed : Type 0 where
-  Writes : (text : List ℕ) → Deed
-  Breaks : Deed
-  Holds : (source : Source) → (layout : Layout) → Deed
+pub data Effect : Type 0 where
+  WritesText : (text : List ℕ) → Effect
+  Breaks : Effect
+  Holds : (source : Source) → (layout : Layout) → Effect
 
 -- the layout of a placeholder
-abbrev pub layout_of : Held → Layout
-layout_of h = record { align = h.align; width = h.width; truncate = h.truncate; style = option_map numbers_of h.style; alternative = option_map numbers_of h.alternative }
+abbrev pub held_layout : Held → Layout
+held_layout h = record { align = h.align; width = h.width; truncate = h.truncate; style = option_map numbers_of h.style; alternative = option_map numbers_of h.alternative }
 
 -- what a step does
-abbrev pub deed_of : Step → Deed
-deed_of (step.Text text) = Writes (string_bytes text)
-deed_of step.Break = Breaks
-deed_of (step.Placeholder held) = Holds held.source (layout_of held)
+abbrev pub effect_of : Step → Effect
+effect_of (step.Text text) = WritesText (string_bytes text)
+effect_of step.Break = Breaks
+effect_of (step.Placeholder held) = Holds held.source (held_layout held)
 
 -- the names of trackers
 abbrev pub names_of : {K : Type 0} → List (String Global × K) → List (List ℕ)
@@ -49,28 +49,28 @@ abbrev pub source_of : List (List ℕ) → List ℕ → Source
 source_of names name = source_at name (position (bytes_eq name) names)
 
 -- what a part of a template does
-abbrev pub deed_of_part : List (List ℕ) → ℕ → TemplatePart → Deed
-deed_of_part names tab (LiteralText text) = Writes (expanded tab (encode_utf8_all text))
-deed_of_part names tab LineBreak = Breaks
-deed_of_part names tab (KeyText key layout) = Holds (source_of names (encode_utf8_all key)) layout
+abbrev pub effect_of_part : List (List ℕ) → ℕ → TemplatePart → Effect
+effect_of_part names tab (LiteralText text) = WritesText (expanded tab (encode_utf8_all text))
+effect_of_part names tab LineBreak = Breaks
+effect_of_part names tab (KeyText key layout) = Holds (source_of names (encode_utf8_all key)) layout
 
 -- the wide placeholder that a deed is
 abbrev pub wide_source : Layout → Source → Option Wide
 wide_source layout (Known key) = wide_of layout key
 wide_source layout _ = None
 
-abbrev pub wide_deed : Deed → Option Wide
-wide_deed (Holds source layout) = wide_source layout source
-wide_deed _ = None
+abbrev pub wide_effect : Effect → Option Wide
+wide_effect (Holds source layout) = wide_source layout source
+wide_effect _ = None
 
 -- the wide placeholder that a found one is
 abbrev pub wide_found : WideKey → Wide
-wide_found (wide_key.Bar held) = WideBarOf (layout_of held)
-wide_found (wide_key.Message held) = WideMessageOf (layout_of held)
+wide_found (wide_key.Bar held) = WideBarOf (held_layout held)
+wide_found (wide_key.Message held) = WideMessageOf (held_layout held)
 
 -- the latest wide placeholder behind a further deed
-abbrev pub wide_after : Option Wide → Deed → Option Wide
-wide_after before deed = elim (wide_deed deed) [ Some wide ↦ Some wide | None ↦ before ]
+abbrev pub wide_after : Option Wide → Effect → Option Wide
+wide_after before deed = elim (wide_effect deed) [ Some wide ↦ Some wide | None ↦ before ]
 
 module _ {K : Type 0} (m : Tracking K) (style : Style K) (p : Progress) (now : ℕ) where
   -- the text from a source
@@ -80,15 +80,15 @@ module _ {K : Type 0} (m : Tracking K) (style : Style K) (p : Progress) (now : �
   source_text layout Nothing = []
 
   -- what a deed writes
-  abbrev pub deed_text : Deed → List ℕ
-  deed_text (Writes text) = text
-  deed_text Breaks = []
-  deed_text (Holds source layout) = laid_out m style p now layout (source_text layout source)
+  abbrev pub effect_text : Effect → List ℕ
+  effect_text (WritesText text) = text
+  effect_text Breaks = []
+  effect_text (Holds source layout) = in_layout m style p now layout (source_text layout source)
 
   -- the lines of deeds, where a wide key has stood so far and the line at hand has this text
-  abbrev pub lines_from : ℕ → Option Wide → List ℕ → List Deed → List (List ℕ)
-  lines_from columns wide text [] = if length text == 0 then [] else lines_of style p columns wide text
-  lines_from columns wide text (Breaks ∷ deeds) = lines_of style p columns wide text ++ lines_from columns wide [] deeds
-  lines_from columns wide text (Writes more ∷ deeds) = lines_from columns wide (text ++ more) deeds
+  abbrev pub lines_from : ℕ → Option Wide → List ℕ → List Effect → List (List ℕ)
+  lines_from columns wide text [] = if length text == 0 then [] else lines_with style p columns wide text
+  lines_from columns wide text (Breaks ∷ deeds) = lines_with style p columns wide text ++ lines_from columns wide [] deeds
+  lines_from columns wide text (WritesText more ∷ deeds) = lines_from columns wide (text ++ more) deeds
   lines_from columns wide text (Holds source layout ∷ deeds) =
-      lines_from columns (wide_after wide (Holds source layout)) (text ++ deed_text (Holds source layout)) deeds
+      lines_from columns (wide_after wide (Holds source layout)) (text ++ effect_text (Holds source layout)) deeds

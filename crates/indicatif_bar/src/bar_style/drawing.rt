@@ -8,8 +8,8 @@ ghost use Rattle.indicatif_term.specs.Frames.{line_text};
 ghost use Rattle.indicatif_bar.specs.Tabs.{expanded};
 ghost use Rattle.indicatif_bar.specs.Progress.{fraction, is_finished, shown_message};
 ghost use Rattle.indicatif_bar.specs.Layout.{bar_text, padded};
-ghost use Rattle.indicatif_bar.specs.BarStyles.{key_text, tick_string, final_tick_string, wide_text, lines_of, lines, columns_left, ends_in_mark};
-ghost use Rattle.indicatif_bar.specs.Inside.Steps.{Holds, layout_of, source_text, deed_text, wide_found};
+ghost use Rattle.indicatif_bar.specs.BarStyles.{key_text, tick_string, final_tick_string, wide_text, lines_with, lines, columns_left, ends_in_mark};
+ghost use Rattle.indicatif_bar.specs.Inside.Steps.{Holds, held_layout, source_text, effect_text, wide_found};
 
 use crate::bar_style::ProgressStyle;
 use crate::progress::ProgressState;
@@ -39,7 +39,7 @@ impl<K: ProgressTracker> ProgressStyle<K> {
         out: &mut String,
     ) -> Result<(), Refusal>
         ensures text { OnOk result (string_bytes out.new ≡ string_bytes out.old
-            ++ bar_text self.now.clusters self.now.colours (unwrap_or (layout_of held.now).alternative []) (fraction state.now) columns) }
+            ++ bar_text self.now.clusters self.now.colours (unwrap_or (held_layout held.now).alternative []) (fraction state.now) columns) }
         ensures memory { IfErr result (λ e. e ≡ Refusal.Memory) }
     {
         let rest = RestLook {
@@ -65,7 +65,7 @@ impl<K: ProgressTracker> ProgressStyle<K> {
         out: &mut String,
     ) -> Result<(), Refusal>
         ensures text { OnOk result (string_bytes out.new ≡ string_bytes out.old
-            ++ key_text K.means self.now state.now now (layout_of held.now) key) }
+            ++ key_text K.means self.now state.now now (held_layout held.now) key) }
         ensures memory { IfErr result (λ e. e ≡ Refusal.Memory) }
     {
         match key {
@@ -132,7 +132,7 @@ impl<K: ProgressTracker> ProgressStyle<K> {
         out: &mut String,
     ) -> Result<(), Refusal>
         ensures text { OnOk result (string_bytes out.new ≡ string_bytes out.old
-            ++ source_text K.means self.now state.now now (layout_of held.now) held.now.source) }
+            ++ source_text K.means self.now state.now now (held_layout held.now) held.now.source) }
         ensures memory { IfErr result (λ e. e ≡ Refusal.Memory) }
     {
         match held.source {
@@ -152,7 +152,7 @@ impl<K: ProgressTracker> ProgressStyle<K> {
         spare: &mut SpareLines,
         out: &mut String,
     ) -> Result<(), Refusal>
-        ensures text { let text = source_text K.means self.now state.now now (layout_of held.now) held.now.source in
+        ensures text { let text = source_text K.means self.now state.now now (held_layout held.now) held.now.source in
             OnOk result (string_bytes out.new ≡ string_bytes out.old
             ++ option_map_or (λ width. padded text width held.now.align held.now.truncate) held.now.width text) }
         ensures memory { IfErr result (λ e. e ≡ Refusal.Memory) }
@@ -183,7 +183,7 @@ impl<K: ProgressTracker> ProgressStyle<K> {
         out: &mut String,
     ) -> Result<(), Refusal>
         ensures text { OnOk result (string_bytes out.new ≡ string_bytes out.old
-            ++ deed_text K.means self.now state.now now (Holds held.now.source (layout_of held.now))) }
+            ++ effect_text K.means self.now state.now now (Holds held.now.source (held_layout held.now))) }
         ensures memory { IfErr result (λ e. e ≡ Refusal.Memory) }
     {
         let style = held.text_style();
@@ -227,7 +227,7 @@ impl<K: ProgressTracker> ProgressStyle<K> {
         lines: &mut Vec<LineType>,
     ) -> Result<(), Refusal>
         ensures lines { OnOk result (map line_text lines.new.items ≡ map line_text lines.old.items
-            ++ lines_of self.now state.now width (option_map wide_found line.wide) (string_bytes line.text)) }
+            ++ lines_with self.now state.now width (option_map wide_found line.wide) (string_bytes line.text)) }
         ensures kind { IsTrue (list_all is_bar_line lines.old.items) → IsTrue (list_all is_bar_line lines.new.items) }
         ensures memory { IfErr result (λ e. e ≡ Refusal.Memory) }
     {

@@ -4,7 +4,7 @@ ghost use Rattle.std.specs.List.{list_all, list_any, slice_split};
 ghost use Rattle.indicatif_bar.specs.Bars.{is_bar_line};
 ghost use Rattle.indicatif_term.specs.Frames.{line_text};
 ghost use Rattle.indicatif_bar.specs.Layout.{text_columns};
-ghost use Rattle.indicatif_bar.specs.BarStyles.{is_mark, is_newline, ends_in_mark, columns_left, with_marks_as};
+ghost use Rattle.indicatif_bar.specs.BarStyles.{is_wide_mark, is_newline, ends_in_mark, columns_left, with_marks_as};
 
 use crate::scan::{cut_at, has_byte};
 use crate::spare::SpareLines;
@@ -13,7 +13,7 @@ use indicatif_text::columns::{Refusal, columns};
 
 /// Whether a text has a mark.
 pub(crate) fn has_mark(text: &str) -> bool
-    ensures { result ≡ list_any is_mark text.now }
+    ensures { result ≡ list_any is_wide_mark text.now }
 {
     has_byte(0, text)
 }
@@ -61,7 +61,7 @@ fn columns_left(text: &str, width: u16) -> usize
 
 /// The columns of the first line with a mark, where this one follows.
 fn taken_behind(taken: Option<usize>, line: &str) -> Option<usize>
-    ensures { result ≡ (if is_none taken && list_any is_mark line.now then Some (text_columns line.now) else taken) }
+    ensures { result ≡ (if is_none taken && list_any is_wide_mark line.now then Some (text_columns line.now) else taken) }
 {
     if taken.is_none() && has_mark(line) {
         return Some(columns(line));

@@ -2,8 +2,8 @@
 ghost use Rattle.std.specs.Prelude.{◌≡◌, [], map, option_map, unwrap_or, IfOk, IfErr, bytes_eq, position, string_bytes};
 ghost use Rattle.indicatif_text.specs.StyleWords.{numbers_of};
 ghost use Rattle.indicatif_text.specs.Template.{part_of};
-ghost use Rattle.indicatif_bar.specs.Inside.Steps.{wide_found, wide_source, layout_of, names_of};
-ghost use Rattle.indicatif_bar.specs.Inside.Steps.{wide_found, wide_source, layout_of, deed_of, deed_of_part, source_of};
+ghost use Rattle.indicatif_bar.specs.Inside.Steps.{wide_found, wide_source, held_layout, names_of};
+ghost use Rattle.indicatif_bar.specs.Inside.Steps.{wide_found, wide_source, held_layout, effect_of, effect_of_part, source_of};
 
 use crate::style::keys::{Key, key_named};
 use crate::tabs::push_expanded;
@@ -45,7 +45,7 @@ pub(crate) enum WideKey {
 impl Held {
     /// The wide key that the placeholder is.
     pub(crate) fn wide(&self) -> Option<WideKey>
-        ensures { option_map wide_found result ≡ wide_source (layout_of self.now) self.now.source }
+        ensures { option_map wide_found result ≡ wide_source (held_layout self.now) self.now.source }
     {
         match self.source {
             Source::Known(Key::WideBar) => Some(WideKey::Bar(*self)),
@@ -56,14 +56,14 @@ impl Held {
 
     /// The style of a bar's rest.
     pub(crate) fn alternative_style(&self) -> Style
-        ensures { numbers_of result ≡ unwrap_or (layout_of self.now).alternative [] }
+        ensures { numbers_of result ≡ unwrap_or (held_layout self.now).alternative [] }
     {
         self.alternative.unwrap_or(Style::new())
     }
 
     /// The style of the text.
     pub(crate) fn text_style(&self) -> Style
-        ensures { numbers_of result ≡ unwrap_or (layout_of self.now).style [] }
+        ensures { numbers_of result ≡ unwrap_or (held_layout self.now).style [] }
     {
         self.style.unwrap_or(Style::new())
     }
@@ -88,7 +88,7 @@ pub(crate) fn steps_of<K>(
     tab: usize,
 ) -> Result<Vec<Step>, Refusal>
     ensures steps { IfOk result (λ steps.
-        map deed_of steps.items ≡ map (deed_of_part (names_of keys.now) tab) (map part_of parts.now)) }
+        map effect_of steps.items ≡ map (effect_of_part (names_of keys.now) tab) (map part_of parts.now)) }
     ensures memory { IfErr result (λ e. e ≡ Refusal.Memory) }
 {
     let mut steps = Vec::with_capacity(alloc, parts.len())?;
@@ -101,7 +101,7 @@ pub(crate) fn steps_of<K>(
 /// What a part does.
 fn step_of<K>(alloc: Global, part: &Part, keys: &[(String, K)], tab: usize) -> Result<Step, Refusal>
     ensures step { IfOk result (λ step.
-        deed_of step ≡ deed_of_part (names_of keys.now) tab (part_of part.now)) }
+        effect_of step ≡ effect_of_part (names_of keys.now) tab (part_of part.now)) }
     ensures memory { IfErr result (λ e. e ≡ Refusal.Memory) }
 {
     match part {

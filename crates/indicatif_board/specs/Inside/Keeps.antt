@@ -36,10 +36,10 @@ made_by None = 2 ^ 64
 made_by (Some number) = number
 
 -- a bar's place, if one is named
-abbrev pub IsPlaced : {B : Type 0} → Option ℕ → Option ℕ → List (Member B) → Type 0
-IsPlaced None None members = Unit {0}
-IsPlaced (Some number) (Some at) members = (at ≡ place_of number members) × (at < length members)
-IsPlaced _ _ members = ⊥
+abbrev pub HasPlace : {B : Type 0} → Option ℕ → Option ℕ → List (Member B) → Type 0
+HasPlace None None members = Unit {0}
+HasPlace (Some number) (Some at) members = (at ≡ place_of number members) × (at < length members)
+HasPlace _ _ members = ⊥
 
 -- its lines laid out, if one is named
 abbrev pub laid_by : {K : Type 0} → Tracking K → Target → ℕ → Option ℕ → BoardState (BarRecord K) → BoardState (BarRecord K)

@@ -69,6 +69,6 @@ unfoldable pub completed : Sketch → List TemplatePiece → List TemplatePart
 completed s ps = s.done ++ (if is_open_run ps then after_text s.kept [] else after_text (s.kept ++ s.run) (joined_parts (without_open_run ps)))
 
 -- from one sketch and what is left of a text to another: what becomes of the rest becomes of the text
-pub record Leads (before : Sketch) (text : List ℕ) (after : Sketch) (rest : List ℕ) : Type 0 where
+pub record GoesOn (before : Sketch) (text : List ℕ) (after : Sketch) (rest : List ℕ) : Type 0 where
   pub reads : (ps : List TemplatePiece) → Reads rest ps → (qs : List TemplatePiece) × Reads text qs × (completed before qs ≡ completed after ps)
   pub refuses : (place : List ℕ) (error : TemplateError) → Refuses rest place error → Refuses text place error

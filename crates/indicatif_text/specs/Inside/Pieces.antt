@@ -14,9 +14,9 @@ abbrev pub IsPrintable : ℕ → Type 0
 IsPrintable = IsInRange 0x20 0x7E
 
 -- these bytes so many times, and then the rest
-abbrev pub times : ℕ → List ℕ → List ℕ → List ℕ
-times zero unit rest = rest
-times (suc n) unit rest = unit ++ times n unit rest
+abbrev pub times_then : ℕ → List ℕ → List ℕ → List ℕ
+times_then zero unit rest = rest
+times_then (suc n) unit rest = unit ++ times_then n unit rest
 
 -- a character of one column
 abbrev pub IsNarrow : ℕ → Type 0

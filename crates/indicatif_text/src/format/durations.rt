@@ -1,6 +1,6 @@
 //! Durations as texts.
 ghost use Rattle.std.specs.Prelude.{◌≡◌, ◌∷◌, [], ◌≤◌, take, length, max, IsAscii};
-ghost use Rattle.indicatif_text.specs.Format.{told, rounded_half_up, formatted_duration, human_duration, short_duration};
+ghost use Rattle.indicatif_text.specs.Format.{count_and_unit, rounded_half_up, formatted_duration, human_duration, short_duration};
 ghost use Rattle.indicatif_text.specs.Inside.Durations.{span_of};
 
 use crate::format::rounding::rounded_half_up;
@@ -83,8 +83,8 @@ struct Told {
 impl Told {
     /// A duration in the unit that people tell it in.
     fn of(nanos: u64) -> Told
-        ensures count { result.count ≡ (told nanos).0 }
-        ensures unit { span_of result.unit ≡ (told nanos).1 }
+        ensures count { result.count ≡ (count_and_unit nanos).0 }
+        ensures unit { span_of result.unit ≡ (count_and_unit nanos).1 }
     {
         if nanos >= YEAR + YEAR / 2 - WEEK / 2 {
             Told::at_least_two(nanos, TimeUnit::Year)

@@ -24,7 +24,7 @@ pub(super) struct Draft {
 impl Draft {
     ghost use Rattle.indicatif_text.specs.Template.{part_of, Char, SpacedBrace, Keyed, LastBrace, IsRefused};
     ghost use Rattle.indicatif_text.specs.Inside.Reading.{piece_of, layout_of};
-    ghost use Rattle.indicatif_text.specs.Inside.Draft.{Leads, sketch_of, empty_sketch, sketched_parts, kept_sketch, closed_sketch, with_part, with_run, added};
+    ghost use Rattle.indicatif_text.specs.Inside.Draft.{GoesOn, sketch_of, empty_sketch, sketched_parts, kept_sketch, closed_sketch, with_part, with_run, added};
 
     /// Nothing so far, with room for a part to every eight bytes of a text of `len` bytes, but for a few alone.
     pub(super) fn new(alloc: Global, len: usize) -> Result<Draft, AllocError>
@@ -138,7 +138,7 @@ impl Draft {
     ///
     /// Refused: what the grammar refuses in this piece; `Memory`.
     pub(super) fn read<'a>(&mut self, text: &'a str) -> Result<&'a str, TemplateError>
-        ensures leads { IfOk result (λ rest. Leads (sketch_of self.old) (chars text.now) (sketch_of self.new) (chars rest.now)) }
+        ensures leads { IfOk result (λ rest. GoesOn (sketch_of self.old) (chars text.now) (sketch_of self.new) (chars rest.now)) }
         ensures refused { IfErr result (λ e. (e ≡ TemplateError.Memory) ⊎ IsRefused (chars text.now) e) }
         ensures shorter { IfOk result (λ rest. 0 < length (chars text.now) → length (chars rest.now) < length (chars text.now)) }
     {

@@ -1,14 +1,14 @@
 use Rattle.std.proofs.Common.{refl}
 use Rattle.std.specs.Fmt.{digits}
-use Rattle.indicatif_text.specs.Format.{told, human_duration, short_duration, formatted_duration}
+use Rattle.indicatif_text.specs.Format.{count_and_unit, human_duration, short_duration, formatted_duration}
 use Rattle.indicatif_text.proofs.cases.durations.Goals as goal
 
 pub returns-clause-words : goal.returns-clause-words
-unfolding digits told human_duration
+unfolding digits count_and_unit human_duration
 returns-clause-words c = (refl, refl, refl, refl, refl, refl, refl, refl)
 
 pub returns-clause-short : goal.returns-clause-short
-unfolding digits told short_duration
+unfolding digits count_and_unit short_duration
 returns-clause-short c = (refl, refl)
 
 pub returns-clause-formatted : goal.returns-clause-formatted

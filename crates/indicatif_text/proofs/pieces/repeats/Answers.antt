@@ -1,17 +1,17 @@
 use Rattle.std.proofs.Common.{◌≡◌, ◌*◌, ◌∙◌, drop, sym, ap, arith, length}
 use Rattle.std.proofs.Math.Utf8.{encode}
 use Rattle.std.proofs.lemmas.Str.{IsCharBoundary-start, IsCharBoundary-from_drop}
-use Rattle.indicatif_text.specs.Inside.Pieces.{times}
+use Rattle.indicatif_text.specs.Inside.Pieces.{times_then}
 use Rattle.indicatif_text.proofs.ColourSequenceLemmas.{repeats_char}
 use Rattle.indicatif_text.proofs.pieces.repeats.Goals as goal
 
 -- the text begins with the character so many times
-begins : (c : goal.After-buffer-2-1) → c.args.text.now ≡ times c.triples.result (encode c.args.c) (drop (3 * c.triples.result) c.args.text.now)
+begins : (c : goal.After-buffer-2-1) → c.args.text.now ≡ times_then c.triples.result (encode c.args.c) (drop (3 * c.triples.result) c.args.text.now)
 begins c =
     let n = c.triples.result in
     let unit : c.as_bytes-unit.result.now ≡ encode c.args.c = c.as_bytes-unit.ensures.value ∙ c.encode_utf8.ensures.value in
     let same = c.as_bytes.ensures.value in
-    sym same ∙ c.triples.ensures.repeats ∙ ap (λ u. times n u (drop (3 * n) c.as_bytes.result.now)) unit ∙ ap (λ bs. times n (encode c.args.c) (drop (3 * n) bs)) same
+    sym same ∙ c.triples.ensures.repeats ∙ ap (λ u. times_then n u (drop (3 * n) c.as_bytes.result.now)) unit ∙ ap (λ bs. times_then n (encode c.args.c) (drop (3 * n) bs)) same
 
 pub returns-then-len_utf8-ne3-clause-boundary : goal.returns-then-len_utf8-ne3-clause-boundary
 returns-then-len_utf8-ne3-clause-boundary c = IsCharBoundary-start c.args.text.now c.utf8.text

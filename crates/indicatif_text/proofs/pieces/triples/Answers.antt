@@ -1,5 +1,5 @@
 use Rattle.std.proofs.Common.{◌+◌, ◌∙◌, drop, ap, arith}
-use Rattle.indicatif_text.specs.Inside.Pieces.{times}
+use Rattle.indicatif_text.specs.Inside.Pieces.{times_then}
 use Rattle.indicatif_text.proofs.ColourSequenceLemmas.{times_more}
 use Rattle.indicatif_text.proofs.pieces.triples.Goals as goal
 
@@ -9,7 +9,7 @@ bytes-preserved c =
     let unit = c.args.unit.now in
     let i = c.bytes.invariant in
     record {
-      repeats = i.repeats ∙ ap (times c.bytes.count unit) (c.stands_at.ensures.stands c.bytes-test.true) ∙ times_more c.bytes.count unit (drop (c.bytes.at + 3) bytes);
+      repeats = i.repeats ∙ ap (times_then c.bytes.count unit) (c.stands_at.ensures.stands c.bytes-test.true) ∙ times_more c.bytes.count unit (drop (c.bytes.at + 3) bytes);
       place = omega (arith, i.place);
       fits = c.stands_at.ensures.fits c.bytes-test.true;
     }
@@ -17,4 +17,4 @@ bytes-preserved c =
 pub returns-clause-repeats : goal.returns-clause-repeats
 returns-clause-repeats c =
     let i = c.bytes.invariant in
-    i.repeats ∙ ap (λ k. times c.bytes.count c.args.unit.now (drop k c.args.bytes.now)) i.place
+    i.repeats ∙ ap (λ k. times_then c.bytes.count c.args.unit.now (drop k c.args.bytes.now)) i.place

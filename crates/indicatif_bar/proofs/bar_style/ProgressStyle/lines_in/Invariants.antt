@@ -3,13 +3,13 @@ use Rattle.std.specs.Prelude.{option_map, IsTrue}
 use Rattle.std.specs.List.{list_all}
 use Rattle.indicatif_bar.specs.Bars.{is_bar_line}
 use Rattle.indicatif_term.specs.Frames.{line_text}
-use Rattle.indicatif_bar.specs.Inside.Steps.{deed_of, lines_from, wide_found}
+use Rattle.indicatif_bar.specs.Inside.Steps.{effect_of, lines_from, wide_found}
 use Rattle.indicatif_bar.proofs.bar_style.ProgressStyle.lines_in.Given as goal
 
 abbrev pub invariant-loop-step : goal.invariant-loop-step
 invariant-loop-step g l = record {
   texts :
-      map line_text l.lines.items ++ lines_from g.K.ProgressTracker.means l.self l.state l.now l.width (option_map wide_found l.line.wide) (string_bytes l.line.text) (map deed_of (drop l.step-index l.step-items))
-      ≡ lines_from g.K.ProgressTracker.means l.self l.state l.now l.width None [] (map deed_of l.step-items);
+      map line_text l.lines.items ++ lines_from g.K.ProgressTracker.means l.self l.state l.now l.width (option_map wide_found l.line.wide) (string_bytes l.line.text) (map effect_of (drop l.step-index l.step-items))
+      ≡ lines_from g.K.ProgressTracker.means l.self l.state l.now l.width None [] (map effect_of l.step-items);
   kind : IsTrue (list_all is_bar_line l.lines.items);
 }

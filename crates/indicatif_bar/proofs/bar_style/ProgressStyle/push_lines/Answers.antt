@@ -2,7 +2,7 @@ use Rattle.std.proofs.Common.{◌≡◌, Some, false, ◌++◌, ◌∙◌, sym, 
 use Rattle.std.specs.Prelude.{option_map}
 use Rattle.std.specs.List.{slice_split, list_any}
 use Rattle.indicatif_term.specs.Frames.{line_text}
-use Rattle.indicatif_bar.specs.BarStyles.{is_newline, is_mark, wide_text, lines_of}
+use Rattle.indicatif_bar.specs.BarStyles.{is_newline, is_wide_mark, wide_text, lines_with}
 use Rattle.indicatif_bar.specs.Inside.Steps.{wide_found}
 use Rattle.indicatif_bar.proofs.FillingLemmas.{no_marks}
 use Rattle.indicatif_bar.proofs.bar_style.ProgressStyle.push_lines.Goals as goal
@@ -11,9 +11,9 @@ pub returns-then-not-has_mark-clause-lines : goal.returns-then-not-has_mark-clau
 returns-then-not-has_mark-clause-lines g c =
     let old = map line_text c.args.lines.now.items in
     let text = string_bytes c.args.line.text in
-    let unmarked : list_any is_mark text ≡ false = ap (list_any is_mark) (sym c.as_str.ensures.value) ∙ sym c.has_mark.ensures ∙ c.if-not-has_mark.true in
+    let unmarked : list_any is_wide_mark text ≡ false = ap (list_any is_wide_mark) (sym c.as_str.ensures.value) ∙ sym c.has_mark.ensures ∙ c.if-not-has_mark.true in
     let style = c.args.self.now in
     let state = c.args.state.now in
     c.in_ok-push_lines-2.ensures.lines
     ∙ ap (λ t. old ++ slice_split is_newline t) (sym (no_marks (wide_text style state c.args.width text (wide_found c.in-Some.wide)) text unmarked))
-    ∙ ap (λ w. old ++ lines_of style state c.args.width (option_map wide_found w) text) (sym c.in-Some.is)
+    ∙ ap (λ w. old ++ lines_with style state c.args.width (option_map wide_found w) text) (sym c.in-Some.is)

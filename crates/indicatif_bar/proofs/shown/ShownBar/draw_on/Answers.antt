@@ -7,7 +7,7 @@ use Rattle.indicatif_bar.specs.Bars.{bar_kind}
 use Rattle.indicatif_bar.specs.Kinds.{asked_of}
 use Rattle.indicatif_bar.specs.Machines.{target_of}
 use Rattle.indicatif_bar.specs.Lone.{draw_asked, lone}
-use Rattle.indicatif_bar.specs.Inside.Shown.{Holds, writing_as}
+use Rattle.indicatif_bar.specs.Inside.Shown.{ShownAs, writing_as}
 use Rattle.indicatif_bar.proofs.OutcomeLemmas.{drew_withheld, drew_limited}
 use Rattle.indicatif_bar.proofs.LoneDrawLemmas.{drew_so, asked_same, holds_ready}
 use Rattle.indicatif_bar.proofs.shown.ShownBar.draw_on.Goals as goal
@@ -17,7 +17,7 @@ returns-then-width-eq0-clause-drew g c = λ takes s asked holds fits.
     let view = g.T.TermLike.view in
     let engine = c.args.engine.now in
     let none : (view (terminal engine)).columns ≡ 0 = ap (λ t. (view t).columns) (sym c.term.ensures) ∙ sym c.width-width.ensures ∙ c.if-width-eq0.true in
-    drew_withheld (lone (bar_kind g.K.ProgressTracker.means)) (Holds c.args.self.now) view engine
+    drew_withheld (lone (bar_kind g.K.ProgressTracker.means)) (ShownAs c.args.self.now) view engine
     (draw_asked (bar_kind g.K.ProgressTracker.means) (target_of (Some (view (terminal engine)))) takes c.args.ask c.args.now (writing_as c.args.writing) s) s.lists
     NoColumns asked (inl (refl, none)) (λ e. cc) fits refl (record { bar_is = holds.bar_is; lines_are = holds.lines_are; limiter_is = holds.limiter_is })
 
@@ -29,7 +29,7 @@ returns-in_err-lay_out-clause-drew g c = λ takes s asked holds fits.
     let x = err_from_is_err_and c.from_residual.result c.from_residual.ensures.1 in
     let memory = c.in_err-lay_out.ensures.memory in
     rw (x.1 ∙ ap Err x.2, c.in_err-lay_out.ensures.unchanged)
-    (drew_withheld (lone (bar_kind g.K.ProgressTracker.means)) (Holds c.args.self.now) view engine
+    (drew_withheld (lone (bar_kind g.K.ProgressTracker.means)) (ShownAs c.args.self.now) view engine
     (draw_asked (bar_kind g.K.ProgressTracker.means) (target_of (Some (view (terminal engine)))) takes c.args.ask c.args.now (writing_as c.args.writing) s) s.lists
     c.in_err-lay_out.field-0.0 asked (inr (memory.0, some)) (λ e. memory.1) fits refl (record { bar_is = holds.bar_is; lines_are = holds.lines_are; limiter_is = holds.limiter_is }))
 
@@ -42,7 +42,7 @@ returns-then-not-allows-clause-drew g c = λ takes s asked holds fits.
     let laid = c.in_ok-lay_out.ensures.laid s (target_of (Some (view (terminal engine)))) (ap (λ t. (view t).columns) (sym c.term.ensures) ∙ sym c.width-width.ensures) holds in
     let withheld = sym (c.allows.ensures.answer ∙ asked_same g.K.ProgressTracker.means view takes c.args.ask c.args.now writing s engine c.lay_out.new.self laid) ∙ c.if-not-allows.true in
     rw c.allows.ensures.next
-    (drew_limited (lone (bar_kind g.K.ProgressTracker.means)) (Holds (record c.lay_out.new.self { limiter = (asked_of c.args.ask c.args.now c.lay_out.new.self.limiter).1 })) view engine
+    (drew_limited (lone (bar_kind g.K.ProgressTracker.means)) (ShownAs (record c.lay_out.new.self { limiter = (asked_of c.args.ask c.args.now c.lay_out.new.self.limiter).1 })) view engine
     (draw_asked (bar_kind g.K.ProgressTracker.means) (target_of (Some (view (terminal engine)))) takes c.args.ask c.args.now writing s) s.lists asked some withheld fits refl
     (holds_ready g.K.ProgressTracker.means view takes c.args.ask c.args.now writing s engine c.lay_out.new.self laid))
 

@@ -2,23 +2,23 @@ use Rattle.std.proofs.Common.{◌∙◌, ◌++◌, sym, ap, string_bytes}
 use Rattle.std.proofs.lemmas.Str.{encodes-chars, IsUtf8-string_bytes}
 use Rattle.indicatif_text.specs.Template.{part_of}
 use Rattle.indicatif_bar.specs.Tabs.{expanded}
-use Rattle.indicatif_bar.specs.Inside.Steps.{Writes, Holds, layout_of, source_of, names_of, deed_of_part}
+use Rattle.indicatif_bar.specs.Inside.Steps.{WritesText, Holds, held_layout, source_of, names_of, effect_of_part}
 use Rattle.indicatif_bar.proofs.style.steps.step_of.Goals as goal
 
 pub returns-in_ok-push_expanded-in-Literal-clause-step : goal.returns-in_ok-push_expanded-in-Literal-clause-step
 unfolding part_of
 returns-in_ok-push_expanded-in-Literal-clause-step g c =
-    ap Writes (c.in_ok-push_expanded-in-Literal.ensures ∙ ap (λ t. t ++ expanded c.args.tab c.as_str.result.now) c.new-text.ensures.bytes
+    ap WritesText (c.in_ok-push_expanded-in-Literal.ensures ∙ ap (λ t. t ++ expanded c.args.tab c.as_str.result.now) c.new-text.ensures.bytes
     ∙ ap (expanded c.args.tab) (c.as_str.ensures.value ∙ sym (encodes-chars (string_bytes c.in-Literal.literal) (IsUtf8-string_bytes c.in-Literal.literal))))
-    ∙ ap (λ part. deed_of_part (names_of c.args.keys.now) c.args.tab (part_of part)) (sym c.in-Literal.is)
+    ∙ ap (λ part. effect_of_part (names_of c.args.keys.now) c.args.tab (part_of part)) (sym c.in-Literal.is)
 
 pub returns-in-NewLine-clause-step : goal.returns-in-NewLine-clause-step
 unfolding part_of
-returns-in-NewLine-clause-step g c = ap (λ part. deed_of_part (names_of c.args.keys.now) c.args.tab (part_of part)) (sym c.in-NewLine.is)
+returns-in-NewLine-clause-step g c = ap (λ part. effect_of_part (names_of c.args.keys.now) c.args.tab (part_of part)) (sym c.in-NewLine.is)
 
 pub returns-in-Placeholder-clause-step : goal.returns-in-Placeholder-clause-step
 unfolding part_of
 returns-in-Placeholder-clause-step g c =
-    ap (λ source. Holds source (layout_of (record { source = c.source_of.result; align = c.in-Placeholder.align; width = c.in-Placeholder.width; truncate = c.in-Placeholder.truncate; style = c.in-Placeholder.style; alternative = c.in-Placeholder.alternative })))
+    ap (λ source. Holds source (held_layout (record { source = c.source_of.result; align = c.in-Placeholder.align; width = c.in-Placeholder.width; truncate = c.in-Placeholder.truncate; style = c.in-Placeholder.style; alternative = c.in-Placeholder.alternative })))
     (c.source_of.ensures ∙ ap (source_of (names_of c.args.keys.now)) (c.as_str-in-Placeholder.ensures.value ∙ sym (encodes-chars (string_bytes c.in-Placeholder.key) (IsUtf8-string_bytes c.in-Placeholder.key))))
-    ∙ ap (λ part. deed_of_part (names_of c.args.keys.now) c.args.tab (part_of part)) (sym c.in-Placeholder.is)
+    ∙ ap (λ part. effect_of_part (names_of c.args.keys.now) c.args.tab (part_of part)) (sym c.in-Placeholder.is)

@@ -2,7 +2,7 @@ use Rattle.std.proofs.Common.{◌<◌, ◌∙◌, false, refl, sym, ap, subst, l
 use Rattle.std.proofs.lemmas.Result.{err_from_is_err_and}
 use Rattle.indicatif_text.specs.declared.refusal.Refusal.TheVariants.{ElapsedBeyondClock}
 use Rattle.indicatif_term.specs.Engines.{is_bottom}
-use Rattle.indicatif_bar.specs.Commands.{BarRecord, after, command_of, is_beyond_clock, takes_memory}
+use Rattle.indicatif_bar.specs.Commands.{BarRecord, obeyed, command_of, is_beyond_clock, takes_memory}
 use Rattle.indicatif_bar.specs.Kinds.{Frame}
 use Rattle.indicatif_bar.specs.Machines.{target_of}
 use Rattle.indicatif_bar.specs.Inside.Draws.{DrewOn}
@@ -10,7 +10,7 @@ use Rattle.indicatif_bar.specs.declared.state.Ask.TheVariants.{No}
 use Rattle.indicatif_board.specs.Inside.Keeps.{made_by}
 use Rattle.indicatif_board.specs.BoardBars.{board_bars}
 use Rattle.indicatif_board.specs.BoardValues.{id_of}
-use Rattle.indicatif_board.specs.Boards.{Change, Refused, draw_of, draw_by, laid_out, told, or_refused, draws, board}
+use Rattle.indicatif_board.specs.Boards.{Tell, Refused, draw_of, draw_by, laid_out, told, or_refused, draws, board}
 use Rattle.indicatif_board.specs.Members.{place_of, said_of}
 use Rattle.indicatif_board.specs.Multi.{IsIn, known}
 use Rattle.indicatif_board.proofs.MemberLemmas.{told_at, told_placed, same_at, said_of_place, members_length}
@@ -29,7 +29,7 @@ returns-in_err-at-clause-leads g c = λ mark s inside.
     rw (x.1 ∙ ap Err x.2) (
       s,
       inside,
-      made_turned_away tracks mark old old (Change id command) c.args.now s c.in_err-at.field-0.0
+      made_turned_away tracks mark old old (Tell id command) c.args.now s c.in_err-at.field-0.0
           (ap (λ o. or_refused o (or_refused (said_of None (λ bar. (board_bars tracks).bars.refused command bar c.args.now) id.number s.members) d s) s) why)
           (turned_quietly mark id s c.in_err-at.field-0.0 why),
     )
@@ -55,13 +55,13 @@ returns-in_err-ask-clause-leads g c = λ mark s inside.
       s,
       (inside.0, same, inside.2),
       elim c.in_err-ask.ensures.no_other [
-        | inl late ↦ rw late (made_at_once tracks mark old old (Change id command) now s false (Refused ElapsedBeyondClock) s (late_deed tracks mark old id command now s f.0 there
+        | inl late ↦ rw late (made_at_once tracks mark old old (Tell id command) now s false (Refused ElapsedBeyondClock) s (late_deed tracks mark old id command now s f.0 there
             (c.in_err-ask.ensures.beyond.0 (ap Err late))) refl refl)
         | inr short ↦
             let text = sym (said_of_place false (λ bar. takes_memory command bar) b.members.items s.members id.number c.in_ok-at.at item inside.1.members_are f.1.0 within c.index_mut.ensures.value)
             ∙ c.in_err-ask.ensures.memory (ap Err short) in
             let in_time = in_time_of (is_beyond_clock command now) (Err c.in_err-ask.field-0.0) c.in_err-ask.ensures.beyond (λ e. cc) in
-            rw short (made_short tracks mark old old (Change id command) now s (draw_by (board_bars tracks) (target_of old) id.number command now s)
+            rw short (made_short tracks mark old old (Tell id command) now s (draw_by (board_bars tracks) (target_of old) id.number command now s)
             (command_deed tracks mark old id command now s f.0 in_time) text)
       ],
     )
@@ -79,7 +79,7 @@ returns-clause-leads g c = λ mark s inside.
     let now = c.args.now in
     let item = c.index_mut.result.now in
     let f = c.in_ok-at.ensures.found mark s inside in
-    let change = λ (bar : BarRecord g.row.K.Denot). (after tracks command bar now).0 in
+    let change = λ (bar : BarRecord g.row.K.Denot). (obeyed tracks command bar now).0 in
     let next = told id.number change s in
     let size = members_length b.frame.items b.members.items (made_by b.next) (is_bottom b.alignment) b.limiter s inside.1 in
     let within : c.in_ok-at.at < length b.members.items = omega (arith, size, f.1.1) in
@@ -89,12 +89,12 @@ returns-clause-leads g c = λ mark s inside.
     let takes_is = said_of false (λ bar. takes_memory command bar) id.number s.members in
     let drawn = c.draw.ensures.drew mark takes_is next (Some id.number) (inside.0, holds, inside.2) placed in
     let ask_is = ap (λ r. r.1) c.in_ok-ask.ensures.done
-    ∙ said_of_place No (λ bar. (after tracks command bar now).1) b.members.items s.members id.number c.in_ok-at.at item inside.1.members_are f.1.0 within c.index_mut.ensures.value in
+    ∙ said_of_place No (λ bar. (obeyed tracks command bar now).1) b.members.items s.members id.number c.in_ok-at.at item inside.1.members_are f.1.0 within c.index_mut.ensures.value in
     let in_time = in_time_of (is_beyond_clock command now) (Ok c.in_ok-ask.ask) c.in_ok-ask.ensures.beyond (λ e. cc) in
     let d = draw_by (board_bars tracks) (target_of old) id.number command now s in (
       drawn.0,
       drawn.1,
-      made_by_draw tracks mark old new (Change id command) now s d next.lists c.draw.result drawn.0 (command_deed tracks mark old id command now s f.0 in_time) refl
+      made_by_draw tracks mark old new (Tell id command) now s d next.lists c.draw.result drawn.0 (command_deed tracks mark old id command now s f.0 in_time) refl
           (subst (λ ask. DrewOn (board (board_bars tracks) mark) old new (draw_of (target_of old) takes_is ask now Frame next (laid_out (board_bars tracks)
           (target_of old) now id.number next)) next.lists c.draw.result drawn.0) ask_is drawn.2),
     )
