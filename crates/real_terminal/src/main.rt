@@ -15,12 +15,12 @@ mod list;
 
 use anyhow::{Context, Result, anyhow, bail};
 use indicatif_bar::lone::LoneBar;
-use indicatif_bar::state::BarState;
+use indicatif_bar::state::{BarState, Change};
 use indicatif_bar::style::{NoTracker, ProgressStyle};
 use indicatif_term::draw_target::ProgressDrawTarget;
 use indicatif_term::in_memory::Cells;
 use indicatif_term::term_like::Term;
-use indicatif_text::columns::Refusal;
+use indicatif_text::columns::{Drawn, Refusal};
 use list::{AFTER, CASES, Case, Source, Step};
 use std::alloc::Global;
 use std::io::Write;
@@ -105,11 +105,7 @@ fn bytes_of_bar(alloc: Global, case: &Case, steps: &[Step]) -> Result<Vec<u8>> {
         target,
     );
     for step in steps {
-        let drawn = match *step {
-            Step::Message(text) => bar.set_message(text, 0),
-            Step::Log(text) => bar.println(text, 0),
-        };
-        match drawn {
+        match made(alloc, &mut bar, *step) {
             Ok(_) | Err(Refusal::TooWide) => {}
             Err(refusal) => bail!("{refusal}"),
         }
@@ -117,6 +113,32 @@ fn bytes_of_bar(alloc: Global, case: &Case, steps: &[Step]) -> Result<Vec<u8>> {
     match bar.term() {
         Some(term) => Ok(Vec::from_slice(alloc, term.writer().as_slice())?),
         None => Ok(Vec::new(alloc)),
+    }
+}
+
+/// Makes the call.
+fn made(
+    alloc: Global,
+    bar: &mut LoneBar<NoTracker, Term<Vec<u8>>>,
+    step: Step,
+) -> Result<Drawn, Refusal> {
+    match step {
+        Step::Message(text) => bar.set_message(text, 0),
+        Step::Log(text) => bar.println(text, 0),
+        Step::Template(text) => bar.set_style(ProgressStyle::with_template(alloc, text)?, 0),
+        Step::Reach(place, len) => {
+            let change = Change {
+                pos: Some(place),
+                len: Some(len),
+            };
+            bar.set_change(change, 0)
+        }
+        Step::Finish => bar.finish(0),
+        Step::FinishWith(text) => bar.finish_with_message(text, 0),
+        Step::FinishAndClear => bar.finish_and_clear(0),
+        Step::FinishUsingStyle => bar.finish_using_style(0),
+        Step::Abandon => bar.abandon(0),
+        Step::AbandonWith(text) => bar.abandon_with_message(text, 0),
     }
 }
 
