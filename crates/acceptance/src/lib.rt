@@ -48,6 +48,8 @@ mod odd_lines;
 #[cfg(test)]
 mod places;
 #[cfg(test)]
+mod rated;
+#[cfg(test)]
 mod refusal;
 #[cfg(test)]
 mod script;
