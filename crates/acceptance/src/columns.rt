@@ -1,7 +1,7 @@
 //! Rows and columns of lines, clocks, and the bytes of a terminal's calls.
 use indicatif_term::term_like::{Term, TermLike};
 use indicatif_text::columns::{
-    Clock, Metrics, Piece, Refusal, StepClock, columns, pieces, wrapped,
+    Clock, Metrics, Piece, Refusal, StepClock, columns, pieces, wrapped, write_ansi_range,
 };
 use std::test::Fail;
 
@@ -38,6 +38,29 @@ fn pieces_of_a_text(rt: HostRuntime) {
         assert_eq!(rt; is_colour, colour);
     }
     assert!(rt; left.next().is_none());
+}
+
+/// Every sequence, and the characters that stand whole within the range, in texts that begin before its end.
+#[test]
+fn ranges_of_a_text(rt: HostRuntime) -> Result<(), Fail> {
+    let table = [
+        ("abc\u{1b}[31md", (1, 2), "b\u{1b}[31m"),
+        ("abc\u{1b}[31md", (0, 4), "abc\u{1b}[31md"),
+        ("a国b", (0, 2), "a"),
+        ("a国b", (1, 3), "国"),
+        ("a国b", (2, 4), "b"),
+        ("ab\u{1b}[0m", (2, 2), "\u{1b}[0m"),
+        ("ab\u{1b}[0m", (3, 1), "\u{1b}[0m"),
+        ("a\u{308}b", (1, 2), "\u{308}b"),
+        ("ab\u{1b}[1m\u{308}", (0, 2), "ab\u{1b}[1m"),
+    ];
+    for (text, (start, end), wanted) in table {
+        let mut out = String::from_str(rt.alloc(), "|")?;
+        write_ansi_range(text, start, end, &mut out)?;
+        let within = out.as_str().strip_prefix("|");
+        assert_eq!(rt; within, Some(wanted), "at {text:?} from {start} to {end}");
+    }
+    Ok(())
 }
 
 #[test]

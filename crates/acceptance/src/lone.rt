@@ -3,10 +3,11 @@ use crate::script::bar_on;
 use crate::shown::Shown;
 use indicatif_bar::lone::LoneCall;
 use indicatif_bar::state::BarCommand;
+use indicatif_bar::style::NoTracker;
 use indicatif_term::draw_target::ProgressDrawTarget;
 use indicatif_term::in_memory::{Cells, InMemoryTerm};
 use indicatif_term::term_like::{Term, TermLike};
-use indicatif_text::columns::{Drawn, Refusal};
+use indicatif_text::columns::{Drawn, Moment, Refusal};
 use std::alloc::Global;
 use std::test::Fail;
 
@@ -158,20 +159,26 @@ fn the_bytes_of_a_bar_and_a_log(rt: HostRuntime) -> Result<(), Fail> {
     Ok(())
 }
 
+/// Five calls: a tick, a message with a wide character, a line above, another message, a draw by force.
+fn five_calls(alloc: Global) -> Result<Vec<(LoneCall<NoTracker>, Moment)>, Refusal> {
+    let mut calls = Vec::with_capacity(alloc, 5)?;
+    calls.push((LoneCall::Bar(BarCommand::Tick), 0))?;
+    calls.push((message(alloc, "b国")?, 1))?;
+    calls.push((LoneCall::Log(String::from_str(alloc, "l")?), 2))?;
+    calls.push((message(alloc, "b")?, 3))?;
+    calls.push((LoneCall::Bar(BarCommand::ForceDraw), 4))?;
+    Ok(calls)
+}
+
+fn message(alloc: Global, text: &str) -> Result<LoneCall<NoTracker>, Refusal> {
+    let text = String::from_str(alloc, text)?;
+    Ok(LoneCall::Bar(BarCommand::SetMessage(text)))
+}
+
 #[test]
 fn a_run_answers_each_call(rt: HostRuntime) -> Result<(), Fail> {
     let mut bar = bar_below(rt.alloc(), (3, 2), &[], "a")?;
-    let wide = String::from_str(rt.alloc(), "b国")?;
-    let narrow = String::from_str(rt.alloc(), "b")?;
-    let log = String::from_str(rt.alloc(), "l")?;
-    let calls = vec![in rt.alloc();
-        (LoneCall::Bar(BarCommand::Tick), 0),
-        (LoneCall::Bar(BarCommand::SetMessage(wide)), 1),
-        (LoneCall::Log(log), 2),
-        (LoneCall::Bar(BarCommand::SetMessage(narrow)), 3),
-        (LoneCall::Bar(BarCommand::ForceDraw), 4),
-    ]?;
-    let answers = bar.run(calls)?;
+    let answers = bar.run(five_calls(rt.alloc())?)?;
     for answer in &answers {
         assert_eq!(rt; *answer, Ok(Drawn::Yes));
     }

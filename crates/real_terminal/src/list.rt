@@ -35,13 +35,29 @@ pub enum Step {
     Message(&'static str),
     /// Lines above the bar.
     Log(&'static str),
+    /// Another template.
+    Template(&'static str),
+    /// Another place and another length, which are drawn.
+    Reach(u64, u64),
+    /// The bar is finished.
+    Finish,
+    /// The bar is finished with this message.
+    FinishWith(&'static str),
+    /// The bar is finished, and its rows go.
+    FinishAndClear,
+    /// The bar is finished by its own finish, with which it is made: its rows go.
+    FinishUsingStyle,
+    /// The bar is finished where it stands.
+    Abandon,
+    /// The bar is finished where it stands, with this message.
+    AbandonWith(&'static str),
 }
 
 /// The cases.
 ///
 /// tmux 3.3a leaves a wide character at the front of a row standing where its second cell is written over; the cell
 /// terminal empties it, as tmux does everywhere else. No case has it.
-pub static CASES: [Case; 50] = [
+pub static CASES: [Case; 59] = [
     Case {
         name: "full_row_waits",
         rows: 3,
@@ -380,5 +396,125 @@ pub static CASES: [Case; 50] = [
         rows: 3,
         cols: 6,
         source: Source::End(&[Step::Message("1\n2\n3\n4")], "3\ndone\n$"),
+    },
+    Case {
+        name: "end_after_finish",
+        rows: 5,
+        cols: 12,
+        source: Source::End(
+            &[
+                Step::Template("{wide_bar} {pos}/{len}"),
+                Step::Reach(5, 10),
+                Step::Finish,
+            ],
+            "██████ 10/10\ndone\n$",
+        ),
+    },
+    Case {
+        name: "end_after_finish_with_message",
+        rows: 5,
+        cols: 12,
+        source: Source::End(
+            &[
+                Step::Template("{wide_bar} {msg}"),
+                Step::Reach(5, 10),
+                Step::FinishWith("ready"),
+            ],
+            "██████ ready\ndone\n$",
+        ),
+    },
+    Case {
+        name: "end_after_finish_and_clear",
+        rows: 5,
+        cols: 12,
+        source: Source::End(
+            &[
+                Step::Template("{wide_bar} {pos}/{len}"),
+                Step::Reach(5, 10),
+                Step::FinishAndClear,
+            ],
+            "done\n$",
+        ),
+    },
+    Case {
+        name: "end_after_finish_using_style",
+        rows: 5,
+        cols: 12,
+        source: Source::End(
+            &[
+                Step::Template("{wide_bar} {pos}/{len}"),
+                Step::Reach(5, 10),
+                Step::FinishUsingStyle,
+            ],
+            "done\n$",
+        ),
+    },
+    Case {
+        name: "end_after_abandon",
+        rows: 5,
+        cols: 12,
+        source: Source::End(
+            &[
+                Step::Template("{wide_bar} {pos}/{len}"),
+                Step::Reach(5, 10),
+                Step::Abandon,
+            ],
+            "███░░░░ 5/10\ndone\n$",
+        ),
+    },
+    Case {
+        name: "end_after_abandon_with_message",
+        rows: 5,
+        cols: 12,
+        source: Source::End(
+            &[
+                Step::Template("{wide_bar} {msg}"),
+                Step::Reach(5, 10),
+                Step::AbandonWith("ended"),
+            ],
+            "███░░░ ended\ndone\n$",
+        ),
+    },
+    Case {
+        name: "end_after_two_finishes",
+        rows: 5,
+        cols: 12,
+        source: Source::End(
+            &[
+                Step::Template("{wide_bar} {pos}/{len}"),
+                Step::Reach(5, 10),
+                Step::Finish,
+                Step::FinishAndClear,
+            ],
+            "done\n$",
+        ),
+    },
+    Case {
+        name: "end_after_a_log_and_a_finish",
+        rows: 5,
+        cols: 12,
+        source: Source::End(
+            &[
+                Step::Template("{wide_bar} {pos}/{len}"),
+                Step::Reach(5, 10),
+                Step::Log("one"),
+                Step::Finish,
+            ],
+            "one\n██████ 10/10\ndone\n$",
+        ),
+    },
+    Case {
+        name: "end_after_a_log_and_a_clear",
+        rows: 5,
+        cols: 12,
+        source: Source::End(
+            &[
+                Step::Template("{wide_bar} {pos}/{len}"),
+                Step::Reach(5, 10),
+                Step::Log("one"),
+                Step::FinishAndClear,
+            ],
+            "one\ndone\n$",
+        ),
     },
 ];

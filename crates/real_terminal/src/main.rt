@@ -15,7 +15,7 @@ mod list;
 
 use anyhow::{Context, Result, anyhow, bail};
 use indicatif_bar::lone::LoneBar;
-use indicatif_bar::state::BarState;
+use indicatif_bar::state::{BarState, Change};
 use indicatif_bar::style::{NoTracker, ProgressStyle};
 use indicatif_term::draw_target::ProgressDrawTarget;
 use indicatif_term::in_memory::Cells;
@@ -102,22 +102,10 @@ fn bar_of(alloc: Global, case: &Case) -> Result<Bar> {
     Ok(LoneBar::new(state, ProgressDrawTarget::term_like(term)))
 }
 
-fn say(bar: &mut Bar, message: &str) -> Result<Drawn, Refusal> {
-    bar.set_message(message, 0)
-}
-
-fn log(bar: &mut Bar, text: &str) -> Result<Drawn, Refusal> {
-    bar.println(text, 0)
-}
-
 /// Makes the calls. One that is refused for a wide character writes nothing.
-fn play(bar: &mut Bar, steps: &[Step]) -> Result<()> {
+fn play(alloc: Global, bar: &mut Bar, steps: &[Step]) -> Result<()> {
     for step in steps {
-        let drawn = match *step {
-            Step::Message(text) => say(bar, text),
-            Step::Log(text) => log(bar, text),
-        };
-        match drawn {
+        match made(alloc, bar, *step) {
             Ok(_) | Err(Refusal::TooWide) => {}
             Err(refusal) => bail!("{refusal}"),
         }
@@ -128,10 +116,41 @@ fn play(bar: &mut Bar, steps: &[Step]) -> Result<()> {
 /// What a bar writes to a terminal of the case's size.
 fn bytes_of_bar(alloc: Global, case: &Case, steps: &[Step]) -> Result<Vec<u8>> {
     let mut bar = bar_of(alloc, case)?;
-    play(&mut bar, steps)?;
+    play(alloc, &mut bar, steps)?;
     match bar.term() {
         Some(term) => Ok(Vec::from_slice(alloc, term.writer().as_slice())?),
         None => Ok(Vec::new(alloc)),
+    }
+}
+
+/// Another style, of this template.
+fn restyle(alloc: Global, bar: &mut Bar, template: &str) -> Result<Drawn, Refusal> {
+    let style = ProgressStyle::with_template(alloc, template)?;
+    bar.set_style(style, 0)
+}
+
+/// This position and length.
+fn reach(bar: &mut Bar, place: u64, len: u64) -> Result<Drawn, Refusal> {
+    let change = Change {
+        pos: Some(place),
+        len: Some(len),
+    };
+    bar.set_change(change, 0)
+}
+
+/// Makes the call.
+fn made(alloc: Global, bar: &mut Bar, step: Step) -> Result<Drawn, Refusal> {
+    match step {
+        Step::Message(text) => bar.set_message(text, 0),
+        Step::Log(text) => bar.println(text, 0),
+        Step::Template(text) => restyle(alloc, bar, text),
+        Step::Reach(place, len) => reach(bar, place, len),
+        Step::Finish => bar.finish(0),
+        Step::FinishWith(text) => bar.finish_with_message(text, 0),
+        Step::FinishAndClear => bar.finish_and_clear(0),
+        Step::FinishUsingStyle => bar.finish_using_style(0),
+        Step::Abandon => bar.abandon(0),
+        Step::AbandonWith(text) => bar.abandon_with_message(text, 0),
     }
 }
 

@@ -1,0 +1,218 @@
+//! How a bar ends: each finish, a bar that finishes twice, a hidden finish, a bar that is dropped; and that what the program
+//! prints next stands on a row of its own.
+use crate::calls::{Call, Reached, Told};
+use crate::watched::Watched;
+use indicatif_bar::state::{Ask, ProgressFinish};
+use indicatif_bar::style::NoTracker;
+use indicatif_text::columns::{Drawn, Refusal};
+use std::alloc::Global;
+use std::test::Fail;
+
+/// Each finish of a bar at 5 of 10 that says `m`: the place then, the message, and what stands on the terminal.
+const FINISHES: [(Call, u64, &str, &str); 5] = [
+    (Call::Finish, 10, "m", "m 10/10"),
+    (Call::FinishWithMessage("w"), 10, "w", "w 10/10"),
+    (Call::FinishAndClear, 10, "m", ""),
+    (Call::Abandon, 5, "m", "m 5/10"),
+    (Call::AbandonWithMessage("w"), 5, "w", "w 5/10"),
+];
+
+/// A bar at 5 of 10 that says `m`.
+fn half(alloc: Global) -> Result<Told<NoTracker>, Refusal> {
+    let mut bar = Told::new(alloc, "{msg} {pos}/{len}", Some(10), 0)?;
+    bar.obey(Call::WithPosition(5), 0)?;
+    bar.obey(Call::WithMessage("m"), 0)?;
+    Ok(bar)
+}
+
+/// The same with this finish stored.
+fn ending(alloc: Global, call: Call) -> Result<Told<NoTracker>, Refusal> {
+    let mut bar = half(alloc)?;
+    bar.with_finish(call.finish(alloc)?, 0);
+    Ok(bar)
+}
+
+fn finished_at(position: u64) -> Reached {
+    Reached {
+        position,
+        len: Some(10),
+        ticks: 0,
+        finished: true,
+    }
+}
+
+/// By its call, as a stored finish, by that finish at once, and where the bar is dropped. A bar that is finished is dropped
+/// without a word.
+#[test]
+fn each_finish(rt: HostRuntime) -> Result<(), Fail> {
+    let alloc = rt.alloc();
+    for (call, position, message, _) in FINISHES {
+        let mut called = half(alloc)?;
+        assert_eq!(rt; called.obey(call, 0), Ok(Ask::Forced), "at {call:?}");
+        let mut told = half(alloc)?;
+        assert_eq!(rt; told.finish_by(&call.finish(alloc)?, 0), Ok(Ask::Forced));
+        let mut stored = ending(alloc, call)?;
+        assert_eq!(rt; stored.reached().finished, false);
+        assert_eq!(rt; stored.obey(Call::FinishUsingStyle, 0), Ok(Ask::Forced));
+        let mut dropped = ending(alloc, call)?;
+        assert_eq!(rt; dropped.dropped(0), Ok(Ask::Forced));
+        for mut bar in [called, told, stored, dropped] {
+            assert_eq!(rt; bar.reached(), finished_at(position), "at {call:?}");
+            assert_eq!(rt; bar.message(), message, "at {call:?}");
+            assert_eq!(rt; bar.dropped(0), Ok(Ask::No));
+            assert_eq!(rt; bar.reached(), finished_at(position), "at {call:?}");
+        }
+    }
+    Ok(())
+}
+
+/// A new bar leaves the screen when it is dropped.
+#[test]
+fn a_stored_finish_at_first(rt: HostRuntime) -> Result<(), Fail> {
+    let mut bar = half(rt.alloc())?;
+    assert_eq!(rt; bar.dropped(0), Ok(Ask::Forced));
+    assert_eq!(rt; bar.reached(), finished_at(10));
+    assert!(rt; bar.lines(rt.alloc(), 0, 80)?.is_none());
+    assert!(rt; matches!(ProgressFinish::default(), ProgressFinish::AndClear));
+    Ok(())
+}
+
+/// A finish without a length leaves the place.
+#[test]
+fn finishes_without_a_length(rt: HostRuntime) -> Result<(), Fail> {
+    for (call, _, _, _) in FINISHES {
+        let mut bar: Told<NoTracker> = Told::new(rt.alloc(), "", None, 0)?;
+        bar.obey(Call::WithPosition(5), 0)?;
+        assert_eq!(rt; bar.obey(call, 0), Ok(Ask::Forced), "at {call:?}");
+        assert_eq!(rt; bar.reached().position, 5, "at {call:?}");
+        assert!(rt; bar.reached().finished, "at {call:?}");
+    }
+    Ok(())
+}
+
+/// The later finish decides what is shown; the place stays where the first one took it to the length.
+#[test]
+fn bars_that_finish_twice(rt: HostRuntime) -> Result<(), Fail> {
+    for (first, position, message, _) in FINISHES {
+        for (second, later, text, _) in FINISHES {
+            let mut bar = half(rt.alloc())?;
+            bar.obey(first, 0)?;
+            assert_eq!(rt; bar.obey(second, 0), Ok(Ask::Forced));
+            let wanted = finished_at(position.max(later));
+            assert_eq!(rt; bar.reached(), wanted, "at {first:?}, {second:?}");
+            let says = if text == "m" { message } else { text };
+            assert_eq!(rt; bar.message(), says, "at {first:?}, {second:?}");
+            let hidden = matches!(second, Call::FinishAndClear);
+            let shown = bar.lines(rt.alloc(), 0, 80)?;
+            assert_eq!(rt; shown.is_none(), hidden, "at {first:?}, {second:?}");
+        }
+    }
+    Ok(())
+}
+
+/// Draws a bar, ends it so, and tells what stands on a terminal of so many rows and columns once the program has printed its
+/// next line.
+fn ended(
+    alloc: Global,
+    bar: Told<NoTracker>,
+    call: Call,
+    size: (u16, u16),
+) -> Result<(Result<Drawn, Refusal>, String, String), Fail> {
+    let mut bar = Watched::new(alloc, bar, size)?;
+    bar.obey(Call::Tick, 0)?;
+    let drawn = bar.obey(call, 0);
+    let shown = bar.contents(alloc)?;
+    Ok((drawn, shown, bar.then_done()?))
+}
+
+/// These lines, and those that the program and the shell print.
+fn with_done(alloc: Global, shown: &str) -> Result<String, Refusal> {
+    let mut text = String::from_str(alloc, shown)?;
+    if !shown.is_empty() {
+        text.push('\n')?;
+    }
+    text.push_str("done\n$")?;
+    Ok(text)
+}
+
+/// On a row that the bar doesn't fill, and on one that `m 10/10` does.
+#[test]
+fn a_line_printed_after_each_finish(rt: HostRuntime) -> Result<(), Fail> {
+    let alloc = rt.alloc();
+    for (call, _, _, wanted) in FINISHES {
+        for size in [(5, 12), (5, 7)] {
+            let (drawn, shown, then) = ended(alloc, half(alloc)?, call, size)?;
+            assert_eq!(rt; drawn, Ok(Drawn::Yes), "at {call:?}");
+            assert_eq!(rt; shown.as_str(), wanted, "at {call:?}");
+            let done = with_done(alloc, wanted)?;
+            assert_eq!(rt; then.as_str(), done.as_str(), "at {call:?}");
+            let stored = ending(alloc, call)?;
+            let (drawn, _, then) = ended(alloc, stored, Call::FinishUsingStyle, size)?;
+            assert_eq!(rt; drawn, Ok(Drawn::Yes), "at {call:?}");
+            assert_eq!(rt; then.as_str(), done.as_str(), "at {call:?}");
+        }
+    }
+    Ok(())
+}
+
+/// The bar takes two rows, of which the second is filled by what it says at its end.
+#[test]
+fn a_line_printed_after_two_rows(rt: HostRuntime) -> Result<(), Fail> {
+    let table = [
+        (Call::Finish, "m 10\n/10\ndone\n$"),
+        (
+            Call::FinishWithMessage("w\u{308}w"),
+            "w\u{308}w 1\n0/10\ndone\n$",
+        ),
+        (Call::FinishAndClear, "done\n$"),
+        (Call::Abandon, "m 5/\n10\ndone\n$"),
+        (Call::AbandonWithMessage("国国\n"), "国国\n 5/1\n0\ndone\n$"),
+    ];
+    for (call, wanted) in table {
+        let (drawn, _, then) = ended(rt.alloc(), half(rt.alloc())?, call, (5, 4))?;
+        assert_eq!(rt; drawn, Ok(Drawn::Yes), "at {call:?}");
+        assert_eq!(rt; then.as_str(), wanted, "at {call:?}");
+    }
+    Ok(())
+}
+
+/// What was logged stays above a bar that left, and what a finished bar logs stands above it.
+#[test]
+fn lines_logged_round_a_finish(rt: HostRuntime) -> Result<(), Fail> {
+    let alloc = rt.alloc();
+    for (call, _, _, shown) in FINISHES {
+        let mut bar = Watched::new(alloc, half(alloc)?, (6, 12))?;
+        assert_eq!(rt; bar.println("one", 0), Ok(Drawn::Yes));
+        assert_eq!(rt; bar.obey(call, 0), Ok(Drawn::Yes));
+        assert_eq!(rt; bar.println("two", 0), Ok(Drawn::Yes));
+        assert_eq!(rt; bar.obey(Call::Tick, 0), Ok(Drawn::Yes));
+        let mut wanted = String::from_str(alloc, "one\ntwo\n")?;
+        wanted.push_str(with_done(alloc, shown)?.as_str())?;
+        assert_eq!(rt; bar.then_done()?.as_str(), wanted.as_str(), "at {call:?}");
+    }
+    Ok(())
+}
+
+/// On no terminal each finish is counted, and nothing is drawn.
+#[test]
+fn finishes_on_no_terminal(rt: HostRuntime) -> Result<(), Fail> {
+    for (call, position, _, _) in FINISHES {
+        let mut bar = Watched::hidden(half(rt.alloc())?);
+        assert_eq!(rt; bar.obey(call, 0), Ok(Drawn::Hidden), "at {call:?}");
+        assert_eq!(rt; bar.position(), position, "at {call:?}");
+        assert!(rt; bar.is_finished(), "at {call:?}");
+        assert_eq!(rt; bar.obey(Call::Tick, 0), Ok(Drawn::Hidden));
+    }
+    Ok(())
+}
+
+/// A bar that left comes back by a reset.
+#[test]
+fn a_reset_after_a_hidden_finish(rt: HostRuntime) -> Result<(), Fail> {
+    let mut bar = Watched::new(rt.alloc(), half(rt.alloc())?, (5, 12))?;
+    assert_eq!(rt; bar.obey(Call::FinishAndClear, 0), Ok(Drawn::Yes));
+    assert_eq!(rt; bar.contents(rt.alloc())?.as_str(), "");
+    assert_eq!(rt; bar.obey(Call::Reset, 0), Ok(Drawn::Yes));
+    assert_eq!(rt; bar.contents(rt.alloc())?.as_str(), "m 0/10");
+    Ok(())
+}

@@ -1,0 +1,98 @@
+//! Bars as rows of a table, and the lines that they show.
+use crate::calls::{Call, Told};
+use crate::look::Look;
+use indicatif_bar::style::NoTracker;
+use indicatif_text::columns::Refusal;
+use std::alloc::Global;
+use std::process::Abort;
+use std::test::Fail;
+
+/// A bar: its template, what it has reached, and where it is shown.
+#[derive(Clone, Copy, Debug, Drop)]
+pub struct Row {
+    pub template: &'static str,
+    /// The characters of a bar; those of a new style where there are none here.
+    pub chars: &'static str,
+    pub position: u64,
+    pub len: Option<u64>,
+    pub message: &'static str,
+    pub prefix: &'static str,
+    pub tab: usize,
+    pub colours: bool,
+    pub columns: u16,
+}
+
+/// A bar that says this, of no length, on 80 columns.
+pub fn saying(template: &'static str, message: &'static str) -> Row {
+    Row {
+        template,
+        chars: "",
+        position: 0,
+        len: None,
+        message,
+        prefix: "",
+        tab: 8,
+        colours: false,
+        columns: 80,
+    }
+}
+
+/// A bar of these characters that stands at this place.
+pub fn standing(template: &'static str, chars: &'static str, place: (u64, Option<u64>)) -> Row {
+    Row {
+        chars,
+        position: place.0,
+        len: place.1,
+        ..saying(template, "")
+    }
+}
+
+impl Row {
+    /// The same on so many columns.
+    pub fn on(self, columns: u16) -> Row {
+        Row { columns, ..self }
+    }
+
+    /// The same in colours.
+    pub fn coloured(self) -> Row {
+        Row {
+            colours: true,
+            ..self
+        }
+    }
+
+    /// How it looks.
+    fn look(self, alloc: Global) -> Result<Look<NoTracker>, Refusal> {
+        let look = Look::with_template(alloc, self.template)?;
+        let look = look.with_colors(self.colours)?;
+        if self.chars.is_empty() {
+            return Ok(look);
+        }
+        look.progress_chars(self.chars)
+    }
+
+    /// The bar.
+    pub fn bar(self, alloc: Global) -> Result<Told<NoTracker>, Refusal> {
+        let look = self.look(alloc)?;
+        let mut bar = look.bar(alloc, self.len, 0)?;
+        bar.obey(Call::WithPosition(self.position), 0)?;
+        bar.obey(Call::WithMessage(self.message), 0)?;
+        bar.obey(Call::WithPrefix(self.prefix), 0)?;
+        bar.obey(Call::WithTabWidth(self.tab), 0)?;
+        Ok(bar)
+    }
+
+    /// The lines at the moment of the making, joined by newlines; nothing where there is none.
+    pub fn lines(self, alloc: Global) -> Result<Option<String>, Refusal> {
+        let bar = self.bar(alloc)?;
+        bar.lines(alloc, 0, self.columns)
+    }
+}
+
+/// The bar shows these lines; `None`: none.
+pub fn shows(rt: &impl Abort, alloc: Global, row: Row, wanted: Option<&str>) -> Result<(), Fail> {
+    let lines = row.lines(alloc)?;
+    let shown = lines.as_ref().map(|text| text.as_str());
+    assert_eq!(rt; shown, wanted, "at {row:?}");
+    Ok(())
+}

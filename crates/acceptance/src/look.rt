@@ -1,0 +1,79 @@
+//! A style whose builders promise nothing here, so that a test of many of them is proved call by call.
+use crate::calls::Told;
+use indicatif_bar::style::{ProgressStyle, ProgressTracker};
+use indicatif_text::columns::{Moment, Refusal};
+use std::alloc::Global;
+
+/// How a bar looks.
+#[derive(Drop)]
+pub struct Look<K> {
+    style: ProgressStyle<K>,
+}
+
+/// What a builder answered, as a look.
+fn wrapped_in<K>(made: Result<ProgressStyle<K>, Refusal>) -> Result<Look<K>, Refusal> {
+    match made {
+        Ok(style) => Ok(Look { style }),
+        Err(refusal) => Err(refusal),
+    }
+}
+
+impl<K: ProgressTracker> Look<K> {
+    pub fn with_template(alloc: Global, text: &str) -> Result<Look<K>, Refusal> {
+        wrapped_in(ProgressStyle::with_template(alloc, text))
+    }
+
+    pub fn default_bar(alloc: Global) -> Result<Look<K>, Refusal> {
+        wrapped_in(ProgressStyle::default_bar(alloc))
+    }
+
+    pub fn default_spinner(alloc: Global) -> Result<Look<K>, Refusal> {
+        wrapped_in(ProgressStyle::default_spinner(alloc))
+    }
+
+    pub fn template(self, text: &str) -> Result<Look<K>, Refusal> {
+        wrapped_in(self.style.template(text))
+    }
+
+    pub fn tick_chars(self, chars: &str) -> Result<Look<K>, Refusal> {
+        wrapped_in(self.style.tick_chars(chars))
+    }
+
+    pub fn tick_strings(self, strings: &[&str]) -> Result<Look<K>, Refusal> {
+        wrapped_in(self.style.tick_strings(strings))
+    }
+
+    pub fn progress_chars(self, chars: &str) -> Result<Look<K>, Refusal> {
+        wrapped_in(self.style.progress_chars(chars))
+    }
+
+    pub fn with_key(self, name: &str, tracker: K) -> Result<Look<K>, Refusal> {
+        wrapped_in(self.style.with_key(name, tracker))
+    }
+
+    pub fn with_colors(self, colours: bool) -> Result<Look<K>, Refusal> {
+        wrapped_in(self.style.with_colors(colours))
+    }
+
+    pub fn try_clone(&self) -> Result<Look<K>, Refusal> {
+        wrapped_in(self.style.try_clone())
+    }
+
+    pub fn get_tick_str(&self, ticks: u64) -> &str {
+        self.style.get_tick_str(ticks)
+    }
+
+    pub fn get_final_tick_str(&self) -> &str {
+        self.style.get_final_tick_str()
+    }
+
+    /// A bar of this length that looks so, made at this moment.
+    pub fn bar(self, alloc: Global, len: Option<u64>, now: Moment) -> Result<Told<K>, Refusal> {
+        Told::styled(alloc, self.style, len, now)
+    }
+
+    pub fn into_style(self) -> ProgressStyle<K> {
+        let Look { style } = self;
+        style
+    }
+}
