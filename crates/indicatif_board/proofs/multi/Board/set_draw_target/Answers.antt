@@ -14,7 +14,7 @@ pub returns-in-Some-clause-old_limiter : goal.returns-in-Some-clause-old_limiter
 unfolding IsIn
 returns-in-Some-clause-old_limiter g c = λ mark s inside.
     subst (λ (o : Option (g.row.T.Denot × Option Limiter)). IfSome o (λ t. t.1 ≡ s.limiter)) (sym c.from_parts.ensures)
-    (c.replace-limiter.ensures.before ∙ inside.1.limiter_is)
+    (c.replace-limiter.ensures.value ∙ inside.1.limiter_is)
 
 pub returns-in-Some-clause-state : goal.returns-in-Some-clause-state
 unfolding IsIn
