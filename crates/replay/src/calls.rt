@@ -7,7 +7,7 @@ use crate::commands::{Timed, call_of};
 use crate::kinds::Verdict;
 use crate::rows::{BadRow, Row, parsed, push_spelt};
 use indicatif_bar::lone::LoneBar;
-use indicatif_bar::state::{BarState, Rate};
+use indicatif_bar::state::{BarState, ProgressState, Rate};
 use indicatif_bar::style::{NoTracker, ProgressStyle};
 use indicatif_term::draw_target::ProgressDrawTarget;
 use indicatif_term::in_memory::InMemoryTerm;
@@ -20,21 +20,43 @@ type Shown = LoneBar<NoTracker, InMemoryTerm>;
 /// How many columns tell what became of the calls.
 const TOLD: usize = 10;
 
+// What is known of a bar isn't carried through a whole row: a function makes it, and others, which are lent it, go on.
+
 /// Asks the product.
 pub fn calls_agree(alloc: Global, mut row: Row<'_>) -> Result<Verdict, BadRow> {
     let rate = parsed(row.column()?)?;
     let making = parsed(row.column()?)?;
     let target = target_of(alloc, &mut row, rate, making)?;
-    let state = state_of(alloc, &mut row, making)?;
+    let mut bar = bar_on(alloc, &mut row, making, target)?;
+    played(alloc, &mut row, &mut bar, making)
+}
+
+/// Makes the row's calls of the bar, and compares what was answered and is read then.
+fn played(
+    alloc: Global,
+    row: &mut Row<'_>,
+    bar: &mut Shown,
+    making: Moment,
+) -> Result<Verdict, BadRow> {
     let calls = calls_of(alloc, row.column()?)?;
     let last = last_moment(&calls, making);
-    let mut bar = bar_on(target, state);
-    let answers = answers_of(&mut bar, calls)?;
+    let answers = answers_of(bar, calls)?;
+    let got = reading_of(alloc, bar, &answers, last)?;
+    Ok(Verdict::of(told(alloc, row)?.as_str(), got))
+}
+
+/// The answers, and what is read of the bar at this moment.
+fn reading_of(
+    alloc: Global,
+    bar: &Shown,
+    answers: &[Result<Drawn, Refusal>],
+    last: Moment,
+) -> Result<String, BadRow> {
     let mut got = String::new(alloc);
-    push_answers(&mut got, &answers)?;
-    push_readings(&mut got, record_of(&bar), last)?;
-    push_picture(alloc, &mut got, &bar)?;
-    Ok(Verdict::of(told(alloc, &mut row)?.as_str(), got))
+    push_answers(&mut got, answers)?;
+    push_readings(&mut got, record_of(bar), last)?;
+    push_picture(alloc, &mut got, bar)?;
+    Ok(got)
 }
 
 /// The moment of the last call, or this one where there is none.
@@ -45,10 +67,15 @@ fn last_moment(calls: &[Timed], making: Moment) -> Moment {
     }
 }
 
-// What is known of a bar isn't carried through a whole row: each call of it is a function without a clause.
-
-fn bar_on(target: ProgressDrawTarget<InMemoryTerm>, state: BarState<NoTracker>) -> Shown {
-    LoneBar::new(state, target)
+/// The row's bar on this target.
+fn bar_on(
+    alloc: Global,
+    row: &mut Row<'_>,
+    making: Moment,
+    target: ProgressDrawTarget<InMemoryTerm>,
+) -> Result<Shown, BadRow> {
+    let state = state_of(alloc, row, making)?;
+    Ok(LoneBar::new(state, target))
 }
 
 fn answers_of(bar: &mut Shown, calls: Vec<Timed>) -> Result<Vec<Result<Drawn, Refusal>>, BadRow> {
@@ -129,21 +156,38 @@ fn push_answers(out: &mut String, answers: &[Result<Drawn, Refusal>]) -> Result<
 
 /// Appends what is read of a bar at a moment, each with a tab behind it.
 fn push_readings(out: &mut String, bar: &BarState<NoTracker>, now: Moment) -> Result<(), BadRow> {
-    let state = bar.state();
+    push_counts(out, bar.state())?;
+    push_status(out, bar, now)?;
+    push_rate(out, bar.state().per_sec(now))?;
+    push_times(out, bar.state(), now)
+}
+
+/// Appends the position, the length and the ticks.
+fn push_counts(out: &mut String, state: &ProgressState) -> Result<(), BadRow> {
     let pos = state.pos();
     let ticks = state.ticks();
     match state.len() {
         Some(len) => write!(out, "{pos}\t{len}\t{ticks}\t")?,
         None => write!(out, "{pos}\t-\t{ticks}\t")?,
     }
-    out.push_str(if !state.is_finished() {
+    Ok(())
+}
+
+/// Appends whether the bar is in progress, finished, or finished and hidden.
+fn push_status(out: &mut String, bar: &BarState<NoTracker>, now: Moment) -> Result<(), BadRow> {
+    let status = if !bar.state().is_finished() {
         "progress\t"
     } else if bar.lines(now, 1)?.is_empty() {
         "hidden\t"
     } else {
         "visible\t"
-    })?;
-    push_rate(out, state.per_sec(now))?;
+    };
+    out.push_str(status)?;
+    Ok(())
+}
+
+/// Appends the time left, the whole time and the time so far.
+fn push_times(out: &mut String, state: &ProgressState, now: Moment) -> Result<(), BadRow> {
     let eta = state.eta(now);
     let duration = state.duration(now);
     let elapsed = state.elapsed(now);
