@@ -70,6 +70,7 @@ impl<K: ProgressTracker> ShownBar<K> {
     }
 
     /// Draws on the engine's terminal, where it has columns and the limiter allows it.
+    #[inline(never)]
     pub fn draw_on<T: TermLike + Drop>(
         &mut self,
         engine: &mut Engine<T>,
