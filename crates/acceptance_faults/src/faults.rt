@@ -1,7 +1,5 @@
 //! What a lone bar answers where its terminal fails or memory is refused, and where it goes on; and boxed terminals.
 use crate::failing_term::FailsOnce;
-use crate::script::{SCRIPT, Step, bar_on, made};
-use crate::shown::Shown;
 use indicatif_term::in_memory::{Cells, InMemoryTerm};
 use indicatif_term::term_like::{Term, TermLike};
 use indicatif_text::columns::{Drawn, Refusal};
@@ -9,6 +7,8 @@ use std::alloc::Global;
 use std::io::ErrorKind;
 use std::process::Abort;
 use std::test::Fail;
+use test_bars::script::{SCRIPT, Step, bar_on, made};
+use test_bars::shown::Shown;
 
 // ---- a call of the terminal fails
 

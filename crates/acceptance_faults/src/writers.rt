@@ -1,6 +1,4 @@
 //! What a terminal hands on to its writer, and what it makes of the writer's answers.
-use crate::script::{SCRIPT, Step, bar_on, made};
-use crate::shown::Shown;
 use indicatif_term::in_memory::Cells;
 use indicatif_term::term_like::{Term, TermLike};
 use indicatif_text::columns::{Drawn, Refusal};
@@ -11,6 +9,8 @@ use std::io::{BufWriter, ErrorKind, Write};
 use std::process::Abort;
 use std::rc::Rc;
 use std::test::Fail;
+use test_bars::script::{SCRIPT, Step, bar_on, made};
+use test_bars::shown::Shown;
 
 // ---- a writer that takes all
 

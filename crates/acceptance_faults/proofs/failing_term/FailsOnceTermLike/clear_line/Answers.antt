@@ -1,5 +1,5 @@
-use Rattle.acceptance.proofs.FailingTermLemmas.{denied, passed}
-use Rattle.acceptance.proofs.failing_term.FailsOnceTermLike.clear_line.Goals as goal
+use Rattle.acceptance_faults.proofs.FailingTermLemmas.{denied, passed}
+use Rattle.acceptance_faults.proofs.failing_term.FailsOnceTermLike.clear_line.Goals as goal
 
 pub returns-in_err-admit : goal.returns-in_err-admit
 returns-in_err-admit c = denied _ _ _ _ _ c.from_residual.result c.from_residual.ensures.0 c.in_err-admit.ensures.inner c.in_err-admit.ensures.counts

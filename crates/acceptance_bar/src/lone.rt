@@ -1,6 +1,4 @@
 //! A bar that stands alone, on terminals in memory and behind writers.
-use crate::script::bar_on;
-use crate::shown::Shown;
 use indicatif_bar::lone::LoneCall;
 use indicatif_bar::state::BarCommand;
 use indicatif_bar::style::NoTracker;
@@ -10,6 +8,8 @@ use indicatif_term::term_like::{Term, TermLike};
 use indicatif_text::columns::{Drawn, Moment, Refusal};
 use std::alloc::Global;
 use std::test::Fail;
+use test_bars::script::bar_on;
+use test_bars::shown::Shown;
 
 /// A bar that says this on a terminal in memory of this size, below these lines.
 fn bar_below(

@@ -2,7 +2,6 @@
 ghost use Rattle.std.specs.Prelude.{◌≡◌, ℕ, List, IfOk, IfErr, string_bytes};
 ghost use Rattle.indicatif_bar.specs.Progress.{Progress};
 
-use crate::script::bar_on;
 use indicatif_bar::lone::LoneCall;
 use indicatif_bar::state::{
     Ask, BarCommand, BarState, Change, Fraction, ProgressFinish, ProgressState, Rate,
@@ -13,6 +12,7 @@ use indicatif_term::in_memory::InMemoryTerm;
 use indicatif_text::columns::{Clock, Drawn, Moment, Refusal, StepClock};
 use std::alloc::Global;
 use std::test::Fail;
+use test_bars::script::bar_on;
 
 /// A record of ten steps in this style.
 fn ten_steps<K: ProgressTracker>(

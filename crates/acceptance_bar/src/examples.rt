@@ -1,5 +1,4 @@
 //! An example of each public type, as its documentation gives it.
-use crate::script::bar_on;
 use indicatif_bar::state::{Ask, BarState};
 use indicatif_bar::style::{NoTracker, ProgressStyle};
 use indicatif_term::draw_target::{
@@ -18,6 +17,7 @@ use indicatif_text::template::{Alignment, Part, Template};
 use std::alloc::Global;
 use std::process::Abort;
 use std::test::Fail;
+use test_bars::script::bar_on;
 
 const SECOND: u64 = 1_000_000_000;
 

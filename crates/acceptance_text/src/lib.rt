@@ -1,0 +1,9 @@
+//! Tests of texts, formatters and templates, with values from outside.
+#![tactic(auto)]
+
+#[cfg(test)]
+mod format;
+#[cfg(test)]
+mod refusal;
+#[cfg(test)]
+mod template;
