@@ -42,7 +42,7 @@ rows_take Frame = true
 rows_take (TextAndFrame text) = true
 rows_take NoFrame = false
 
--- all lines that are to be written of a frame whose first bars, so many, are gone: below a text those are left out
+-- all lines that are laid out for it, where the frame's first bars, so many, are gone: below a text those are left out
 abbrev pub lines_to_write : Writing → ℕ → List BarLines → List (List ℕ)
 lines_to_write Frame gone frame = all_lines frame
 lines_to_write (TextAndFrame text) gone frame = text ++ all_lines (drop gone frame)

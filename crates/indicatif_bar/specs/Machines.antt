@@ -52,8 +52,8 @@ pub record Draw (State : Type 0) : Type 0 where
   pub written : State
   pub broken : State
 
--- a call answers at once, and may take memory; or it draws, and goes on by `breaks` where want of memory or the terminal broke
--- that off, else by `ends`
+-- a call answers at once, and may take memory; or it draws: `ends` makes the last state of the one that the draw's answer leads
+-- to, `breaks` of the one in which want of memory or the terminal's failure leaves it
 pub data Deed (State Answer : Type 0) : Type 0 where
   AtOnce : (takes : Bool) → (answer : Answer) → (next : State) → Deed State Answer
   Draws : (draw : Draw State) → (ends breaks : State → State) → Deed State Answer
@@ -101,7 +101,8 @@ module _ {State Call Answer : Type 0} (m : Machine State Call Answer) where
 
 -- ---- whatever the terminal and the memory do
 
--- memory is refused to a call in state s, and leaves it in the next one: that before a step that takes some
+-- memory is refused to a call in state s, at a step that takes some: before its numbers change; as its lines are laid out; or,
+-- once the limiter has allowed it, as its rows are planned. The next state is the one before that step
 abbrev pub IsOutOfMemory : {State Answer : Type 0} → Target → State → Deed State Answer → State → Type 0
 IsOutOfMemory target s (AtOnce takes answer after) next = IsTrue takes × (next ≡ s)
 IsOutOfMemory target s (Draws d ends breaks) next =

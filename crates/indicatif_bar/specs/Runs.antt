@@ -55,7 +55,8 @@ module _ {State Call Answer : Type 0} (m : Machine State Call Answer) where
       (v : Option TermView) × (x : State) × CallMade old v call s answer x × Runs calls answers v x new next
   Runs _ _ old s new next = ⊥
 
-  -- each line that the run wrote consists of characters with a width and colour sequences
+  -- each line that was laid out for a draw that the run wrote, also one that the height cut off, consists of characters with a
+  -- width and colour sequences
   abbrev pub AllPlain : (calls : List (Call × ℕ)) (answers : List Answer) (old : Option TermView) (s : State) (new : Option TermView) (next : State) → Runs calls answers old s new next → Type 0
   AllPlain (call ∷ calls) (answer ∷ answers) old s new next run =
       (IsTrue (wrote (m.tells answer)) → IsTrue (are_plain (lines_by (deed_on old call s)))) × AllPlain calls answers run.0 run.1 new next run.3
@@ -73,7 +74,7 @@ module _ {State Call Answer : Type 0} (m : Machine State Call Answer) where
       All (λ answer. IsFalse (broke answer)) (take (length answers - 1) answers) → AllPlain calls answers (Some v) s new next run →
       (v' : TermView) × (new ≡ Some v') × Paints v v' (list_any broke answers) (m.lists s) (m.lists next)
 
--- each run paints so
+-- the headline holds of every run
 abbrev pub RunsPaint : {State Call Answer : Type 0} → Machine State Call Answer → Type 0
 RunsPaint {State} {Call} {Answer} m =
     (calls : List (Call × ℕ)) (answers : List Answer) (old : Option TermView) (s : State) (new : Option TermView) (next : State)
@@ -95,7 +96,7 @@ ReadsAfter m calls answers v s new next =
     (run : Runs m calls answers (Some v) s new next) → IsFalse (list_any (broke m) answers) → AllPlain m calls answers (Some v) s new next run →
     (opening : Screen) → Starts v opening (m.lists s) → (v' : TermView) × (new ≡ Some v') × ReadsAs v' (take opening.row opening.rows ++ all_rows v.columns (m.lists next))
 
--- so it is with each run whose rows weren't forgotten, before or after
+-- every run reads so, where the terminal hadn't failed before it and hasn't after it
 abbrev pub RunsAreRead : {State Call Answer : Type 0} → Machine State Call Answer → Type 0
 RunsAreRead {State} {Call} {Answer} m =
     (calls : List (Call × ℕ)) (answers : List Answer) (v : TermView) (s : State) (new : Option TermView) (next : State) →

@@ -43,7 +43,8 @@ pub enum LoneCall<K> {
 ///
 /// Each call has a moment, in nanoseconds, and goes these steps, of which the first that ends it gives the answer:
 ///
-/// 1. The bar's numbers and texts change. `Memory` if a text finds no room; nothing has changed then.
+/// 1. The bar's numbers and texts change. `Memory` if a text finds no room, `ElapsedBeyondClock` if an elapsed time is beyond the
+///    moment; nothing has changed then.
 /// 2. No draw is asked: `Limited`.
 /// 3. The target is hidden: `Hidden`. A text that was to be logged is dropped.
 /// 4. The terminal has no columns: `NoColumns`. The bar's lines are as before.
@@ -54,7 +55,7 @@ pub enum LoneCall<K> {
 ///    rows are forgotten then, and the next draw begins on a new row. `Memory` if they find no room; nothing was written
 ///    then.
 ///
-/// With any answer but `Yes` and `Terminal` the terminal is as it was.
+/// With any answer but `Yes` and `Terminal` the terminal is as it was (`suspend` is two calls: a clear, and a draw).
 ///
 /// ```
 /// let mut bar = LoneBar::new(BarState::new(alloc, Some(10), now)?, ProgressDrawTarget::term_like(term));
@@ -441,7 +442,8 @@ impl<K: ProgressTracker, T: TermLike + Drop> LoneBar<K, T> {
     }
 
     /// Another target, and the old one, with its limiter as the bar's draws left it. Nothing is written to either: what stands
-    /// on the old one stays, and on the new one the bar begins anew.
+    /// on the old one stays, and on the new one the bar begins anew: at the front of an empty row, so a line end is written
+    /// first where something of another bar stands on it.
     pub fn set_draw_target(&mut self, target: ProgressDrawTarget<T>) -> ProgressDrawTarget<T>
         ensures old { term_of result ≡ terminal_of self.old }
         ensures old_limiter { (s : LoneState _) → IsIn self.old s → IfSome result (λ t. t.1 ≡ s.limiter) }

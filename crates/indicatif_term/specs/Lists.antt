@@ -111,7 +111,7 @@ live_of_frame w h bottom taken text frame =
     let segments = shown_rows w h frame in
     record { blanks = blanks_for bottom taken text (segments_height segments); segments = segments }
 
--- the first n segments pass from live to kept, with the blanks if there are any such rows
+-- the blanks and the first n segments pass from live to kept; nothing where n is 0
 abbrev pub passed : ℕ → ℕ → Lists → Lists
 passed w zero l = l
 passed w (suc n) l = record l {

@@ -114,8 +114,8 @@ impl<T: TermLike + Drop> Engine<T> {
         self.term
     }
 
-    /// Draws the frame in the place of the live rows. The rows of its first `pass` members then become kept rows, with the
-    /// blank rows above them.
+    /// Draws the frame in the place of the live rows. The rows of its first `pass` members, which have numbers of their own,
+    /// then become kept rows, with the blank rows above them.
     ///
     /// As many lines from the front are written as have at most the terminal's rows together. One pass over the frame
     /// before the first byte, one while writing; memory for the counts of its bars, where earlier drawings left no room for
