@@ -300,31 +300,72 @@ fn shown(alloc: Global, bytes: &[u8]) -> Result<String, Fail> {
     Ok(text)
 }
 
-/// Runs the script and one more draw behind a writer that fails once, after this many bytes: one call tells that failure, and
-/// of each other one the rows stand at the bottom, each as it was written.
-fn run_broken_at(rt: &impl Abort, alloc: Global, at: usize, halt: Halt) -> Result<u64, Fail> {
-    let mut bar = bar_behind(alloc, ByteWise::halting(alloc, at, halt, 1))?;
-    let mut failures: u64 = 0;
-    for (step, rows) in SCRIPT.into_iter().chain([(Step::Tick, "e")]) {
-        let answer = made(&mut bar, step);
-        let term = bar.term().ok_or("no terminal")?;
-        if answer == Ok(Drawn::Yes) {
-            let below = format!(in alloc; "\n{rows}")?;
-            let shown = shown(alloc, &term.writer().taken)?;
-            assert!(rt;
-                shown.as_str().ends_with(below.as_str()),
-                "at {at}: {shown:?}, not {rows:?}"
-            );
-        } else {
-            failures = failures.saturating_add(1);
-            assert_eq!(rt; answer, Err(Refusal::Terminal(ErrorKind::BrokenPipe)));
-            assert_eq!(rt; term.writer().taken.len(), at);
-        }
+/// These rows stand at the bottom of what the terminal's bytes show.
+fn shows_below(
+    rt: &impl Abort,
+    alloc: Global,
+    term: &Term<ByteWise>,
+    rows: &str,
+) -> Result<(), Fail> {
+    let below = format!(in alloc; "\n{rows}")?;
+    let shown = shown(alloc, &term.writer().taken)?;
+    assert!(rt;
+        shown.as_str().ends_with(below.as_str()),
+        "{shown:?}, not {rows:?}"
+    );
+    Ok(())
+}
+
+/// Makes the call, and answers how often it failed: never, and its rows stand at the bottom; or once, after this many bytes.
+fn broken_calls(
+    rt: &impl Abort,
+    alloc: Global,
+    bar: &mut Shown<Term<ByteWise>>,
+    call: (Step, &str),
+    at: usize,
+) -> Result<u64, Fail> {
+    let answer = made(bar, call.0);
+    let term = bar.term().ok_or("no terminal")?;
+    if answer == Ok(Drawn::Yes) {
+        shows_below(rt, alloc, term, call.1)?;
+        return Ok(0);
     }
+    assert_eq!(rt; answer, Err(Refusal::Terminal(ErrorKind::BrokenPipe)));
+    assert_eq!(rt; term.writer().taken.len(), at);
+    Ok(1)
+}
+
+/// The terminal has counted so many faults, and its writer one call a byte and one a fault.
+fn has_counted(rt: &impl Abort, bar: &Shown<Term<ByteWise>>, failures: u64) -> Result<(), Fail> {
     let term = bar.term().ok_or("no terminal")?;
     assert_eq!(rt; term.faults(), failures);
     let taken = term.writer().taken.len() as u64;
     assert_eq!(rt; term.writer().calls, taken.saturating_add(failures));
+    Ok(())
+}
+
+/// Runs the script and one more draw of this bar, and answers how many calls failed.
+fn play_broken_at(
+    rt: &impl Abort,
+    alloc: Global,
+    bar: &mut Shown<Term<ByteWise>>,
+    at: usize,
+) -> Result<u64, Fail> {
+    let mut failures: u64 = 0;
+    for call in SCRIPT {
+        let failed = broken_calls(rt, alloc, bar, call, at)?;
+        failures = failures.saturating_add(failed);
+    }
+    let failed = broken_calls(rt, alloc, bar, (Step::Tick, "e"), at)?;
+    Ok(failures.saturating_add(failed))
+}
+
+/// The same behind a writer that fails once, after this many bytes: one call tells that failure, and of each other one the rows
+/// stand at the bottom, each as it was written.
+fn run_broken_at(rt: &impl Abort, alloc: Global, at: usize, halt: Halt) -> Result<u64, Fail> {
+    let mut bar = bar_behind(alloc, ByteWise::halting(alloc, at, halt, 1))?;
+    let failures = play_broken_at(rt, alloc, &mut bar, at)?;
+    has_counted(rt, &bar, failures)?;
     Ok(failures)
 }
 
