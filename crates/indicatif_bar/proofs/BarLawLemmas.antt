@@ -28,12 +28,15 @@ no_first : (a b c : Bool) (k : ℕ) → a ≡ false → (if a && b && c then Som
 no_first a b c k e = rw e refl
 
 -- without a shade, a bar is its whole cells and the rest
-unshaded : (clusters : List (List ℕ)) (colours : Bool) (alternative : List ℕ) (f : Fraction) (width filled : ℕ) → f.num * cells_in clusters width / f.den ≡ filled → shade_of f (cells_in clusters width) (length clusters) ≡ None
-    → bar_text clusters colours alternative f width ≡ times filled (cluster clusters 0) ++ styled colours alternative (times (cells_in clusters width - filled - 0) (cluster clusters (length clusters - 1)))
+unshaded : (clusters : List (List ℕ)) (colours : Bool) (alternative : List ℕ) (f : Fraction) (width filled : ℕ) → f.num * cells_in clusters width / f.den ≡ filled →
+    shade_of f (cells_in clusters width) (length clusters) ≡ None
+    → bar_text clusters colours alternative f width ≡ times filled (cluster clusters 0)
+    ++ styled colours alternative (times (cells_in clusters width - filled - 0) (cluster clusters (length clusters - 1)))
 unshaded clusters colours alternative f width filled e s =
     let n = cells_in clusters width in
     bar_parts clusters colours alternative f width n refl
-    ∙ ap (λ o. (times (f.num * n / f.den) (cluster clusters 0) ++ concat (map (cluster clusters) (option_to_list o))) ++ styled colours alternative (times (n - f.num * n / f.den - length (option_to_list o)) (cluster clusters (length clusters - 1)))) s
+    ∙ ap (λ o. (times (f.num * n / f.den) (cluster clusters 0) ++ concat (map (cluster clusters) (option_to_list o)))
+    ++ styled colours alternative (times (n - f.num * n / f.den - length (option_to_list o)) (cluster clusters (length clusters - 1)))) s
     ∙ ap (λ t. t ++ styled colours alternative (times (n - f.num * n / f.den - 0) (cluster clusters (length clusters - 1)))) (append-nil (times (f.num * n / f.den) (cluster clusters 0)))
     ∙ ap (λ k. times k (cluster clusters 0) ++ styled colours alternative (times (n - k - 0) (cluster clusters (length clusters - 1)))) e
 

@@ -83,7 +83,8 @@ shaded_by true true true f cells clusters is fits left some =
     let shades = clusters - 2 in
     let more : 0 < shades = lt_of 0 shades some in
     let rest : f.num * cells % f.den < f.den = mod-lt (f.num * cells) is.some in
-    let passed : f.num * cells % f.den * shades / f.den < shades = (div-lt_iff_lt-mul is.some).1 (subst (λ k. f.num * cells % f.den * shades < k) (mul_comm f.den shades) (mul-lt-mul_of_pos_right rest more)) in
+    let passed : f.num * cells % f.den * shades / f.den < shades = (div-lt_iff_lt-mul is.some).1
+    (subst (λ k. f.num * cells % f.den * shades < k) (mul_comm f.den shades) (mul-lt-mul_of_pos_right rest more)) in
     record { between = (omega (arith, passed, more), omega (arith, more)); room = omega (arith, lt_of (filled_cells f cells) cells left) }
 shaded_by true true false f cells clusters is fits left some = record { between = tt; room = omega (arith, fits) }
 shaded_by true false d f cells clusters is fits left some = record { between = tt; room = omega (arith, fits) }

@@ -44,7 +44,8 @@ behind : {X Y : Type 0} (f : X → Y) (b passes : Bool) (x y : X) (rest more : O
 behind f true passes x y rest more e = refl
 behind f false passes x y rest more e = e
 
-pub find_push : {X Y : Type 0} (p : X → Bool) (f : X → Y) (xs : List X) (y : X) → option_map f (find p (xs ++ y ∷ [])) ≡ (if is_none (option_map f (find p xs)) && p y then Some (f y) else option_map f (find p xs))
+pub find_push : {X Y : Type 0} (p : X → Bool) (f : X → Y) (xs : List X) (y : X) →
+    option_map f (find p (xs ++ y ∷ [])) ≡ (if is_none (option_map f (find p xs)) && p y then Some (f y) else option_map f (find p xs))
 find_push p f [] y = by_test f (p y) y
 find_push p f (x ∷ xs) y = behind f (p x) (p y) x y (find p xs) (find p (xs ++ y ∷ [])) (find_push p f xs y)
 

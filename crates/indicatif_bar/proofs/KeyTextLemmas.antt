@@ -27,7 +27,9 @@ percent_precise f num e =
     ap (λ t. decimal (round num f.den / 1000) ++ t) (three_are (round num f.den)) ∙ ap (λ n. decimal (round n f.den / 1000) ++ after_point (last_digits 3 (round n f.den))) same
 
 -- bytes pushed one by one
-pub four_pushed : (old o0 o1 o2 o3 o4 front : List ℕ) (a b c d : ℕ) → o0 ≡ old ++ front → o1 ≡ o0 ++ a ∷ [] → o2 ≡ o1 ++ b ∷ [] → o3 ≡ o2 ++ c ∷ [] → o4 ≡ o3 ++ d ∷ [] → o4 ≡ old ++ (front ++ a ∷ b ∷ c ∷ d ∷ [])
+pub four_pushed : (old o0 o1 o2 o3 o4 front : List ℕ) (a b c d : ℕ) → o0 ≡ old ++ front → o1 ≡ o0 ++ a ∷ [] → o2 ≡ o1 ++ b ∷ [] → o3 ≡ o2 ++ c ∷ [] → o4 ≡ o3 ++ d ∷ [] → o4 ≡ old
+    ++ (front ++ a ∷ b ∷ c ∷ d ∷ [])
 four_pushed old o0 o1 o2 o3 o4 front a b c d e0 e1 e2 e3 e4 =
     e4 ∙ ap (λ x. x ++ d ∷ []) (e3 ∙ ap (λ x. x ++ c ∷ []) (e2 ∙ ap (λ x. x ++ b ∷ []) (e1 ∙ ap (λ x. x ++ a ∷ []) e0)))
-    ∙ append_assoc ((old ++ front ++ a ∷ []) ++ b ∷ []) (c ∷ []) (d ∷ []) ∙ append_assoc (old ++ front ++ a ∷ []) (b ∷ []) (c ∷ d ∷ []) ∙ append_assoc (old ++ front) (a ∷ []) (b ∷ c ∷ d ∷ []) ∙ append_assoc old front (a ∷ b ∷ c ∷ d ∷ [])
+    ∙ append_assoc ((old ++ front ++ a ∷ []) ++ b ∷ []) (c ∷ []) (d ∷ []) ∙ append_assoc (old ++ front ++ a ∷ []) (b ∷ []) (c ∷ d ∷ [])
+    ∙ append_assoc (old ++ front) (a ∷ []) (b ∷ c ∷ d ∷ []) ∙ append_assoc old front (a ∷ b ∷ c ∷ d ∷ [])

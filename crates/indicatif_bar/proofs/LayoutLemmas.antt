@@ -99,11 +99,13 @@ grown_three old o1 o2 new a b d first second third = grown old o2 new (a ++ b) d
 
 -- ---- the bar
 
-pub at_cluster : (clusters : List (String Global)) (k : ℕ) (s : String Global) (text : List ℕ) → k < length clusters → s ≡ get_or clusters k s → text ≡ string_bytes s → text ≡ cluster (texts_of clusters) k
+pub at_cluster : (clusters : List (String Global)) (k : ℕ) (s : String Global) (text : List ℕ) → k < length clusters → s ≡ get_or clusters k s → text ≡ string_bytes s →
+    text ≡ cluster (texts_of clusters) k
 at_cluster clusters k s text within is value = value ∙ ap string_bytes is ∙ sym (get_or-map string_bytes clusters k s [] within)
 
 bar_by : (b : Bool) (clusters : List (List ℕ)) (colours : Bool) (alternative : List ℕ) (k filled cells : ℕ) →
-    times filled (cluster clusters 0) ++ concat (if b then cluster clusters k ∷ [] else []) ++ styled colours alternative (times (cells - filled - length (if b then cluster clusters k ∷ [] else [])) (cluster clusters (length clusters - 1)))
+    times filled (cluster clusters 0) ++ concat (if b then cluster clusters k ∷ [] else [])
+    ++ styled colours alternative (times (cells - filled - length (if b then cluster clusters k ∷ [] else [])) (cluster clusters (length clusters - 1)))
     ≡ times filled (cluster clusters 0) ++ concat (map (cluster clusters) (option_to_list (if b then Some k else None)))
     ++ styled colours alternative (times (cells - filled - length (option_to_list (if b then Some k else None))) (cluster clusters (length clusters - 1)))
 bar_by true clusters colours alternative k filled cells = refl

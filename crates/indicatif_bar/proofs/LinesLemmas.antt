@@ -67,7 +67,8 @@ module _ {K : Type 0} (m : Tracking K) (style : Style K) (p : Progress) (now : �
       → (elim (option_map (λ x. x.1) o) as (λ _. List ℕ) [ Some k ↦ expanded style.tab (m.text k p now) | None ↦ option_map_or (key_text m style p now layout) (key_named name) [] ])
       ≡ source_text m style p now layout (source_at name (if b then Some n else None))
   text_by layout name n (Some e) true at within = ap (λ o. option_map_or (λ entry. expanded style.tab (m.text entry.1 p now)) o []) (sym at)
-  text_by layout name n (Some e) false at within = absurd (false≢true (sym within ∙ lt-ltb n (length (names style.keys)) (omega (arith, slice_get_within style.keys n e at, length-map style.keys (λ x. x.0)))))
+  text_by layout name n (Some e) false at within = absurd (false≢true (sym within
+      ∙ lt-ltb n (length (names style.keys)) (omega (arith, slice_get_within style.keys n e at, length-map style.keys (λ x. x.0)))))
   text_by layout name n None true at within = absurd (past style.keys n at (omega (arith, lt_of n (length (names style.keys)) within, length-map style.keys (λ x. x.0))))
   text_by layout name n None false at within = known_text layout (key_named name)
 
@@ -75,7 +76,8 @@ module _ {K : Type 0} (m : Tracking K) (style : Style K) (p : Progress) (now : �
       → (elim (option_map (λ x. x.1) o) as (λ _. Option Wide) [ Some k ↦ None | None ↦ option_and_then (wide_of layout) (key_named name) ])
       ≡ wide_source layout (source_at name (if b then Some n else None))
   wide_by layout name n (Some e) true at within = refl
-  wide_by layout name n (Some e) false at within = absurd (false≢true (sym within ∙ lt-ltb n (length (names style.keys)) (omega (arith, slice_get_within style.keys n e at, length-map style.keys (λ x. x.0)))))
+  wide_by layout name n (Some e) false at within = absurd (false≢true (sym within
+      ∙ lt-ltb n (length (names style.keys)) (omega (arith, slice_get_within style.keys n e at, length-map style.keys (λ x. x.0)))))
   wide_by layout name n None true at within = absurd (past style.keys n at (omega (arith, lt_of n (length (names style.keys)) within, length-map style.keys (λ x. x.0))))
   wide_by layout name n None false at within = known_wide layout (key_named name)
 
@@ -117,7 +119,8 @@ module _ {K : Type 0} (m : Tracking K) (style : Style K) (p : Progress) (now : �
   abbrev wide_behind : Option Wide → Option Wide → Option Wide
   wide_behind before wide = elim wide [ Some w ↦ Some w | None ↦ before ]
 
-  latest_by : (before o : Option Wide) (x : TemplatePart) (g : List TemplatePart) → wide_part m style p now x ≡ o → latest_wide m style p now before (x ∷ g) ≡ latest_wide m style p now (wide_behind before o) g
+  latest_by : (before o : Option Wide) (x : TemplatePart) (g : List TemplatePart) → wide_part m style p now x ≡ o →
+      latest_wide m style p now before (x ∷ g) ≡ latest_wide m style p now (wide_behind before o) g
   latest_by before None x g e = rw e refl
   latest_by before (Some w) x g e = rw e refl
 
@@ -134,7 +137,8 @@ module _ {K : Type 0} (m : Tracking K) (style : Style K) (p : Progress) (now : �
       let t = part_text m style p now x in
       let ts = flat_map (part_text m style p now) g in
       ap (λ w. lines_with style p columns w (text ++ (t ++ ts)) ++ lines_of_groups m style p now columns w (h ∷ gs)) (latest_by wide (wide_part m style p now x) x g refl)
-      ∙ ap (λ all. lines_with style p columns (latest_wide m style p now (wide_behind wide (wide_part m style p now x)) g) all ++ lines_of_groups m style p now columns (latest_wide m style p now (wide_behind wide (wide_part m style p now x)) g) (h ∷ gs)) (sym (append_assoc text t ts))
+      ∙ ap (λ all. lines_with style p columns (latest_wide m style p now (wide_behind wide (wide_part m style p now x)) g) all
+      ++ lines_of_groups m style p now columns (latest_wide m style p now (wide_behind wide (wide_part m style p now x)) g) (h ∷ gs)) (sym (append_assoc text t ts))
 
   some_groups : (parts : List TemplatePart) → 0 < length (slice_split is_line_break parts)
   some_groups parts = omega (arith, length-slice_split is_line_break parts)
@@ -178,7 +182,8 @@ pub keys_stay : {K : Type 0} (change : K → K) (old new : List (String Global �
 keys_stay change old new e = sym (names_are old) ∙ sym (names_stay change (entries old)) ∙ ap names (sym e) ∙ names_are new
 
 -- what a style's parts do, as its fields say it
-pub deeds_are : {K : Type 0} (items : List (String Global × K)) (view style : Style K) (ds : List Effect) → view.keys ≡ entries items → ds ≡ map (effect_of_part (names_of items) view.tab) view.parts → view ≡ style
+pub deeds_are : {K : Type 0} (items : List (String Global × K)) (view style : Style K) (ds : List Effect) → view.keys ≡ entries items →
+    ds ≡ map (effect_of_part (names_of items) view.tab) view.parts → view ≡ style
     → ds ≡ map (effect_of_part (names style.keys) style.tab) style.parts
 deeds_are items view style ds keys is same =
     is ∙ ap (λ ns. map (effect_of_part ns view.tab) view.parts) (sym (names_are items) ∙ ap names (sym keys)) ∙ ap (λ s. map (effect_of_part (names s.keys) s.tab) s.parts) same

@@ -31,7 +31,8 @@ module _ (byte : ℕ) (text : List ℕ) where
   -- else the first part ends where the byte first stands
   pub first_part : (k : ℕ) → IsFirstByte (is_byte byte) text (Some k) → slice_split (λ x. x == byte) text ≡ take k text ∷ slice_split (λ x. x == byte) (drop (k + 1) text)
   first_part k h =
-      let more : take (k + 1) text ++ drop (k + 1) text ≡ take k text ++ (get_or text k 0 ∷ drop (k + 1) text) = ap (λ front. front ++ drop (k + 1) text) (take_more text k 0 h.0.high) ∙ append_assoc (take k text) (get_or text k 0 ∷ []) (drop (k + 1) text) in
+      let more : take (k + 1) text ++ drop (k + 1) text ≡ take k text ++ (get_or text k 0 ∷ drop (k + 1) text) = ap (λ front. front ++ drop (k + 1) text) (take_more text k 0 h.0.high)
+      ∙ append_assoc (take k text) (get_or text k 0 ∷ []) (drop (k + 1) text) in
       ap (slice_split (λ x. x == byte)) (sym (take-append-drop (k + 1) text) ∙ more)
       ∙ slice_split_at (λ x. x == byte) (take k text) (get_or text k 0) (drop (k + 1) text) (none_before k h.0) h.1
 

@@ -61,8 +61,15 @@ without_character : (k c : ℕ) → k < 128 → c ≢ k → Without k (encode c)
 unfolding encode
 without_character k c low other =
     let two : Without k ((192 + c / 64) ∷ next c ∷ []) = (high_byte (192 + c / 64) k low (omega arith), (high_byte (next c) k low (omega arith), tt)) in
-    let three : Without k ((224 + c / 4096) ∷ next (c / 64) ∷ next c ∷ []) = (high_byte (224 + c / 4096) k low (omega arith), (high_byte (next (c / 64)) k low (omega arith), (high_byte (next c) k low (omega arith), tt))) in
-    let four : Without k ((240 + c / 262144) ∷ next (c / 4096) ∷ next (c / 64) ∷ next c ∷ []) = (high_byte (240 + c / 262144) k low (omega arith), (high_byte (next (c / 4096)) k low (omega arith), (high_byte (next (c / 64)) k low (omega arith), (high_byte (next c) k low (omega arith), tt)))) in
+    let three : Without k ((224 + c / 4096) ∷ next (c / 64) ∷ next c ∷ []) =
+    (high_byte (224 + c / 4096) k low (omega arith), (high_byte (next (c / 64)) k low (omega arith), (high_byte (next c) k low (omega arith), tt))) in
+    let four : Without k ((240 + c / 262144) ∷ next (c / 4096) ∷ next (c / 64) ∷ next c ∷ []) = (
+      high_byte (240 + c / 262144) k low (omega arith),
+      (
+        high_byte (next (c / 4096)) k low (omega arith),
+        (high_byte (next (c / 64)) k low (omega arith), (high_byte (next c) k low (omega arith), tt)),
+      ),
+    ) in
     let long : List ℕ = if nat_lt c 65536 then (224 + c / 4096) ∷ next (c / 64) ∷ next c ∷ [] else (240 + c / 262144) ∷ next (c / 4096) ∷ next (c / 64) ∷ next c ∷ [] in
     cond_both (nat_lt c 128) (c ∷ []) (if nat_lt c 2048 then (192 + c / 64) ∷ next c ∷ [] else long) (Without k) (λ _. (ne_eqb c k other, tt))
     (λ _. cond_both (nat_lt c 2048) ((192 + c / 64) ∷ next c ∷ []) long (Without k) (λ _. two)
@@ -156,7 +163,8 @@ marked_surrounded Left n = record { many = 0 + n; is = marked_behind n 0 (spaces
 marked_surrounded Right n = record { many = n + 0; is = marked_before n 0 (spaces n) wide_mark (takes_spaces n) marked_mark }
 marked_surrounded Center n = record {
   many = n / 2 + 0 + (n - n / 2);
-  is = marked_behind (n - n / 2) (n / 2 + 0) (spaces (n - n / 2)) (spaces (n / 2) ++ wide_mark) (takes_spaces (n - n / 2)) (marked_before (n / 2) 0 (spaces (n / 2)) wide_mark (takes_spaces (n / 2)) marked_mark);
+  is = marked_behind (n - n / 2) (n / 2 + 0) (spaces (n - n / 2)) (spaces (n / 2) ++ wide_mark) (takes_spaces (n - n / 2))
+      (marked_before (n / 2) 0 (spaces (n / 2)) wide_mark (takes_spaces (n / 2)) marked_mark);
 }
 
 mark_width : width_of 0 ≡ 0
@@ -254,7 +262,8 @@ module _ {K : Type 0} (m : Tracking K) (style : Style K) (p : Progress) (now col
       let before = parts_text m style p now h.front in
       let bar = part_text m style p now (KeyText (codes "wide_bar") h.layout) in
       let behind = parts_text m style p now h.back in
-      let whole : parts_text m style p now style.parts ≡ before ++ (bar ++ behind) = ap (parts_text m style p now) h.parts ∙ flat_map-append (part_text m style p now) h.front (KeyText (codes "wide_bar") h.layout ∷ h.back) in
+      let whole : parts_text m style p now style.parts ≡ before ++ (bar ++ behind) = ap (parts_text m style p now) h.parts
+      ∙ flat_map-append (part_text m style p now) h.front (KeyText (codes "wide_bar") h.layout ∷ h.back) in
       let inner = marked_behind (text_columns behind) bar_marked.many behind bar (plain_takes behind h.plain_back) bar_marked.is in
       let all = marked_before (text_columns before) (bar_marked.many + text_columns behind) before (bar ++ behind) (plain_takes before h.plain_front) inner in
       subst SomeMarked (sym whole) (record { many = text_columns before + (bar_marked.many + text_columns behind); is = all })
@@ -287,4 +296,8 @@ module _ {K : Type 0} (m : Tracking K) (style : Style K) (p : Progress) (now col
       ∙ slice_split_none is_newline line_text (takes_without 0x0A columns line_text strange_newline line_takes)
 
 pub wide_bars_fill : {K : Type 0} → WideBarsFill K
-wide_bars_fill m style p now columns h = (line_text m style p now columns h, line_alone m style p now columns h, filled_row columns (line_text m style p now columns h) (line_takes m style p now columns h))
+wide_bars_fill m style p now columns h = (
+  line_text m style p now columns h,
+  line_alone m style p now columns h,
+  filled_row columns (line_text m style p now columns h) (line_takes m style p now columns h),
+)

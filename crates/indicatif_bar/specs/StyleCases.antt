@@ -55,7 +55,8 @@ wide_bar = one (key (codes "wide_bar"))
 abbrev pub WideBarCases : Type 0
 WideBarCases = (shows wide_bar (reached 2 (Some 4)) 8 ≡ codes "====>---" ∷ []) × (shows wide_bar (reached 1 (Some greatest_u64)) 8 ≡ codes ">-------" ∷ [])
     × (shows wide_bar (reached 9 (Some 4)) 8 ≡ codes "========" ∷ []) × (shows wide_bar (reached 0 (Some 0)) 8 ≡ codes "========" ∷ [])
-    × (shows (record (one (KeyText (codes "wide_bar") (record plain_layout { style = Some (style_of (codes "red.on_blue")); alternative = Some (style_of (codes "green.on_cyan")) }))) { colours = true }) (reached 2 (Some 4)) 8
+    × (shows (record (one (KeyText (codes "wide_bar") (record plain_layout { style = Some (style_of (codes "red.on_blue")); alternative = Some (style_of (codes "green.on_cyan")) })))
+    { colours = true }) (reached 2 (Some 4)) 8
     ≡ (escape ++ codes "[31m" ++ escape ++ codes "[44m====>" ++ escape ++ codes "[32m" ++ escape ++ codes "[46m---" ++ escape ++ codes "[0m" ++ escape ++ codes "[0m") ∷ [])
 
 -- hundredths, ties to even

@@ -157,7 +157,8 @@ module _ {K : Type 0} (frame : List Segment) (members : List (MemberValue K)) (m
       let new_item : item' ≡ member_of (change m) = ap (λ b. let x : MemberValue K = record { bar = b; dropped = true } in x) bar_of in
       record {
         members_are = ap (λ xs. set xs at item') holds.members_are ∙ ap (set (map member_of ms) at) new_item ∙ sym (map-set_at member_of ms at (change m)) ∙ ap (map member_of) (sym changes);
-        frame_is = holds.frame_is ∙ ap (map segment_of) (sym (set-own ms at d within)) ∙ map-set_at segment_of ms at m ∙ sym (map-set_at segment_of ms at (change m)) ∙ ap (map segment_of) (sym changes);
+        frame_is = holds.frame_is ∙ ap (map segment_of) (sym (set-own ms at d within)) ∙ map-set_at segment_of ms at m ∙ sym (map-set_at segment_of ms at (change m))
+            ∙ ap (map segment_of) (sym changes);
         made_is = holds.made_is;
         bottom_is = holds.bottom_is;
         limiter_is = holds.limiter_is;

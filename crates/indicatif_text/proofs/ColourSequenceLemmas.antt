@@ -311,7 +311,8 @@ repeats_char (suc n) c bs rest u e =
     let more = repeats_char n c (times_then n (encode c) rest) rest (IsUtf8-past_char bs (times_then n (encode c) rest) c u e) refl in
     record { chars_are = chars_past_char bs (times_then n (encode c) rest) c u e ∙ ap (λ x. c ∷ x) more.chars_are; utf8 = more.utf8 }
 
-pub passes_repeats : (text : List ℕ) (c n : ℕ) → IsUtf8 text → text ≡ times_then n (encode c) (drop (3 * n) text) → IsNarrow c → PassesNarrow (visible (chars text)) n (visible (chars (drop (3 * n) text)))
+pub passes_repeats : (text : List ℕ) (c n : ℕ) → IsUtf8 text → text ≡ times_then n (encode c) (drop (3 * n) text) → IsNarrow c →
+    PassesNarrow (visible (chars text)) n (visible (chars (drop (3 * n) text)))
 passes_repeats text c n u e narrow =
     let r = repeats_char n c text (drop (3 * n) text) u e in
     passes_run (replicate n c) (chars text) (chars (drop (3 * n) text)) n r.chars_are (length-replicate n c) (All-replicate IsNarrow n c narrow)

@@ -250,7 +250,8 @@ longest : (n : ℕ) → 47001600000000000 ≤ n → year.nanos ≤ (count_and_un
 longest n enough = subst (λ t. year.nanos ≤ t.1.nanos) (sym (told-years n enough)) (omega arith)
 
 -- a unit at least: the unit itself below a limit, and from there on a longer one at least
-or_more : (n limit : ℕ) (unit longer : TimeSpan) → unit.nanos ≤ longer.nanos → (n < limit → (count_and_unit n).1 ≡ unit) → (limit ≤ n → longer.nanos ≤ (count_and_unit n).1.nanos) → unit.nanos ≤ (count_and_unit n).1.nanos
+or_more : (n limit : ℕ) (unit longer : TimeSpan) → unit.nanos ≤ longer.nanos → (n < limit → (count_and_unit n).1 ≡ unit) →
+    (limit ≤ n → longer.nanos ≤ (count_and_unit n).1.nanos) → unit.nanos ≤ (count_and_unit n).1.nanos
 or_more n limit unit longer less here above = elim (cases_lt n limit) [
   | inl few ↦ subst (λ t. unit.nanos ≤ t.nanos) (sym (here few)) (omega arith)
   | inr more ↦ omega (arith, less, above more)

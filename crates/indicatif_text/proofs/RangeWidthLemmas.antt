@@ -198,9 +198,11 @@ standing_fits start end column n (c ∷ cs) f =
     let behind : Fits start end (column + w + sum_by width_of cs) n = record { left = omega (arith, sum, f.left); wide = f.wide } in
     let own = standing_fits start end (column + w) n cs behind in
     elim (cases_Bool (nat_le start column)) [
-      | inr before ↦ subst (λ x. Fits start end column (sum_by width_of x + n)) (ap (λ b. (if b && nat_le (column + w) end then c ∷ [] else []) ++ rest) (sym before)) (less_columns start end column w (sum_by width_of rest + n) own)
+      | inr before ↦ subst (λ x. Fits start end column (sum_by width_of x + n)) (ap (λ b. (if b && nat_le (column + w) end then c ∷ [] else []) ++ rest) (sym before))
+          (less_columns start end column w (sum_by width_of rest + n) own)
       | inl begun ↦ elim (cases_Bool (nat_le (column + w) end)) [
-        | inr over ↦ subst (λ x. Fits start end column (sum_by width_of x + n)) (sym (skipped_by (nat_le start column) (nat_le (column + w) end) c rest over)) (less_columns start end column w (sum_by width_of rest + n) own)
+        | inr over ↦ subst (λ x. Fits start end column (sum_by width_of x + n)) (sym (skipped_by (nat_le start column) (nat_le (column + w) end) c rest over))
+            (less_columns start end column w (sum_by width_of rest + n) own)
         | inl fits ↦
             let from : start ≤ column = is_le start column begun in
             let to : column + w ≤ end = is_le (column + w) end fits in

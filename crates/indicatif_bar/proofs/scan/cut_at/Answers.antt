@@ -14,7 +14,8 @@ returns-in_default-clause-parts c = one_part_of c.args.byte c.args.text.now c.as
 
 pub returns-clause-parts : goal.returns-clause-parts
 returns-clause-parts c =
-    parts_of c.args.byte c.args.text.now c.as_bytes.result.now c.as_bytes.ensures.value c.memchr.result c.memchr.ensures c.in-Some.place c.split_at.result.0.now c.split_at-2.result.1.now c.in-Some.is c.split_at.ensures.front c.split_at-2.ensures.back
+    parts_of c.args.byte c.args.text.now c.as_bytes.result.now c.as_bytes.ensures.value c.memchr.result c.memchr.ensures c.in-Some.place c.split_at.result.0.now
+    c.split_at-2.result.1.now c.in-Some.is c.split_at.ensures.front c.split_at-2.ensures.back
 
 pub returns-clause-utf8 : goal.returns-clause-utf8
 returns-clause-utf8 c =

@@ -23,7 +23,8 @@ returns-then-is_empty-clause-lines g c =
     let before = map line_text c.loop-step.lines.items in
     let wide = option_map wide_found c.loop-step.line.wide in
     let text = string_bytes c.loop-step.line.text in
-    let rest : lines_from m style state c.args.now c.args.width wide text (map effect_of (drop at steps)) ≡ [] = ended m style state c.args.now c.args.width wide text (map effect_of (drop at steps)) true left (ap (λ t. length t == 0) (sym c.as_str-2.ensures.value) ∙ sym c.is_empty.ensures ∙ c.if-is_empty.true) in
+    let rest : lines_from m style state c.args.now c.args.width wide text (map effect_of (drop at steps)) ≡ [] = ended m style state c.args.now c.args.width wide text
+    (map effect_of (drop at steps)) true left (ap (λ t. length t == 0) (sym c.as_str-2.ensures.value) ∙ sym c.is_empty.ensures ∙ c.if-is_empty.true) in
     let all = c.loop-step.invariant.texts ∙ ap (λ xs. lines_from m style state c.args.now c.args.width None [] (map effect_of xs)) c.deref-step-items.ensures.value ∙ whole in
     sym (append-nil before) ∙ ap (λ ls. before ++ ls) (sym rest) ∙ all
 
@@ -42,6 +43,8 @@ returns-clause-lines g c =
     let before = map line_text c.loop-step.lines.items in
     let wide = option_map wide_found c.loop-step.line.wide in
     let text = string_bytes c.loop-step.line.text in
-    let rest : lines_from m style state c.args.now c.args.width wide text (map effect_of (drop at steps)) ≡ lines_with style state c.args.width wide text = ended m style state c.args.now c.args.width wide text (map effect_of (drop at steps)) false left (ap (λ t. length t == 0) (sym c.as_str-2.ensures.value) ∙ sym c.is_empty.ensures ∙ c.if-is_empty.false) in
+    let rest : lines_from m style state c.args.now c.args.width wide text
+    (map effect_of (drop at steps)) ≡ lines_with style state c.args.width wide text = ended m style state c.args.now c.args.width wide text
+    (map effect_of (drop at steps)) false left (ap (λ t. length t == 0) (sym c.as_str-2.ensures.value) ∙ sym c.is_empty.ensures ∙ c.if-is_empty.false) in
     let all = c.loop-step.invariant.texts ∙ ap (λ xs. lines_from m style state c.args.now c.args.width None [] (map effect_of xs)) c.deref-step-items.ensures.value ∙ whole in
     c.in_ok-push_lines.ensures.lines ∙ ap (λ ls. before ++ ls) (sym rest) ∙ all

@@ -11,7 +11,8 @@ returns-then-some-clause-text c =
     let clusters = c.args.clusters.now in
     let texts = texts_of clusters in
     let first = at_cluster clusters 0 c.index-clusters-0.result c.as_str.result.now (omega (arith, c.requires.clusters)) c.index-clusters-0.is c.as_str.ensures.value in
-    let last = at_cluster clusters (length clusters - 1) c.index-clusters-clusters.result c.as_str-2.result.now (omega (arith, c.requires.clusters)) c.index-clusters-clusters.is c.as_str-2.ensures.value in
+    let last = at_cluster clusters (length clusters - 1) c.index-clusters-clusters.result c.as_str-2.result.now
+    (omega (arith, c.requires.clusters)) c.index-clusters-clusters.is c.as_str-2.ensures.value in
     let cells = c.args.width / c.columns.result in
     let cells_are : cells ≡ c.args.width / text_columns (cluster texts 0) = ap (λ n. c.args.width / n) (c.columns.ensures ∙ ap text_columns first) in
     let numbers = numbers_of c.args.rest.style in
@@ -19,7 +20,8 @@ returns-then-some-clause-text c =
     let old = string_bytes c.args.out.now in
     let pushed : string_bytes c.push_times.new.out ≡ string_bytes c.open.new.out ++ rest = c.in_ok-push_times.ensures.text
     ∙ ap (λ t. string_bytes c.open.new.out ++ t) (rest_is clusters c.args.done cells c.in_ok-left.left _ c.in_ok-left.ensures.left last) in
-    let closed = grown_three _ _ _ _ (opening_of c.args.rest.colours numbers) rest (sequence_of 0) c.in_ok-some.ensures.bytes pushed (c.in_ok-push_str.ensures.bytes ∙ ap (λ t. string_bytes c.push_times.new.out ++ t) last_sequence) in
+    let closed = grown_three _ _ _ _ (opening_of c.args.rest.colours numbers) rest (sequence_of 0) c.in_ok-some.ensures.bytes pushed
+    (c.in_ok-push_str.ensures.bytes ∙ ap (λ t. string_bytes c.push_times.new.out ++ t) last_sequence) in
     let style = styled_opened c.args.rest.colours numbers rest (sym c.in_ok-some.ensures.some ∙ c.if-some.true) in
     grown _ _ _ (begun_text texts c.args.done cells) (opening_of c.args.rest.colours numbers ++ rest ++ sequence_of 0) c.in_ok-left.ensures.text closed
     ∙ ap (λ t. old ++ (begun_text texts c.args.done cells ++ t)) (sym style)
@@ -30,7 +32,8 @@ returns-clause-text c =
     let clusters = c.args.clusters.now in
     let texts = texts_of clusters in
     let first = at_cluster clusters 0 c.index-clusters-0.result c.as_str.result.now (omega (arith, c.requires.clusters)) c.index-clusters-0.is c.as_str.ensures.value in
-    let last = at_cluster clusters (length clusters - 1) c.index-clusters-clusters.result c.as_str-2.result.now (omega (arith, c.requires.clusters)) c.index-clusters-clusters.is c.as_str-2.ensures.value in
+    let last = at_cluster clusters (length clusters - 1) c.index-clusters-clusters.result c.as_str-2.result.now
+    (omega (arith, c.requires.clusters)) c.index-clusters-clusters.is c.as_str-2.ensures.value in
     let cells = c.args.width / c.columns.result in
     let cells_are : cells ≡ c.args.width / text_columns (cluster texts 0) = ap (λ n. c.args.width / n) (c.columns.ensures ∙ ap text_columns first) in
     let numbers = numbers_of c.args.rest.style in
@@ -39,6 +42,7 @@ returns-clause-text c =
     let pushed : string_bytes c.push_times.new.out ≡ string_bytes c.open.new.out ++ rest = c.in_ok-push_times.ensures.text
     ∙ ap (λ t. string_bytes c.open.new.out ++ t) (rest_is clusters c.args.done cells c.in_ok-left.left _ c.in_ok-left.ensures.left last) in
     let style = styled_alone c.args.rest.colours numbers rest (sym c.in_ok-some.ensures.some ∙ c.if-some.false) in
-    grown _ _ _ (begun_text texts c.args.done cells) (opening_of c.args.rest.colours numbers ++ rest) c.in_ok-left.ensures.text (grown _ _ _ (opening_of c.args.rest.colours numbers) rest c.in_ok-some.ensures.bytes pushed)
+    grown _ _ _ (begun_text texts c.args.done cells) (opening_of c.args.rest.colours numbers ++ rest) c.in_ok-left.ensures.text
+    (grown _ _ _ (opening_of c.args.rest.colours numbers) rest c.in_ok-some.ensures.bytes pushed)
     ∙ ap (λ t. old ++ (begun_text texts c.args.done cells ++ t)) (sym style)
     ∙ ap (λ t. old ++ t) (sym (bar_parts texts c.args.rest.colours numbers c.args.done c.args.width cells cells_are))

@@ -13,9 +13,13 @@ use Rattle.indicatif_bar.proofs.style.filling.columns_left.Goals as goal
 
 pub returns : goal.returns
 returns c =
-    let t = YieldsList-end (YieldsList-from_str_split 0x0A c.args.text.now (lit< tt) (ap split_text c.into_iter-line-iterator.ensures.into_iter_gives ∙ c.split-line-items.ensures.text) (ap split_has_more c.into_iter-line-iterator.ensures.into_iter_gives ∙ c.split-line-items.ensures.has_more) (ap split_pattern c.into_iter-line-iterator.ensures.into_iter_gives ∙ c.split-line-items.ensures.pattern)) c.loop-line.yielded _ c.loop-line.yielded_by _ _ c.in-None.is c.next.ensures.steps in
+    let t = YieldsList-end (YieldsList-from_str_split 0x0A c.args.text.now (lit< tt) (ap split_text c.into_iter-line-iterator.ensures.into_iter_gives ∙ c.split-line-items.ensures.text)
+    (ap split_has_more c.into_iter-line-iterator.ensures.into_iter_gives ∙ c.split-line-items.ensures.has_more)
+    (ap split_pattern c.into_iter-line-iterator.ensures.into_iter_gives ∙ c.split-line-items.ensures.pattern)) c.loop-line.yielded _ c.loop-line.yielded_by _ _ c.in-None.is
+    c.next.ensures.steps in
     c.saturating_sub.ensures ∙ ap (λ n. n - c.unwrap_or.result) c.from.ensures
-    ∙ ap (λ n. c.args.width - n) (c.unwrap_or.ensures ∙ ap (λ o. unwrap_or o 0) c.loop-line.invariant ∙ or_none text_columns (find (list_any is_wide_mark) (map (λ x. x.now) c.loop-line.yielded)) ∙ ap (λ lines. option_map_or text_columns (find (list_any is_wide_mark) lines) 0) t.0)
+    ∙ ap (λ n. c.args.width - n) (c.unwrap_or.ensures ∙ ap (λ o. unwrap_or o 0) c.loop-line.invariant
+    ∙ or_none text_columns (find (list_any is_wide_mark) (map (λ x. x.now) c.loop-line.yielded)) ∙ ap (λ lines. option_map_or text_columns (find (list_any is_wide_mark) lines) 0) t.0)
 
 pub loop-line-preserved : goal.loop-line-preserved
 loop-line-preserved c =

@@ -7,5 +7,8 @@ use Rattle.indicatif_bar.proofs.style.filling.push_filled.Goals as goal
 
 pub returns-clause-text : goal.returns-clause-text
 returns-clause-text c =
-    let t = YieldsList-end (YieldsList-from_str_split 0x00 c.args.text.now (lit< tt) (ap split_text c.into_iter-part-iterator.ensures.into_iter_gives ∙ c.split-part-items.ensures.text) (ap split_has_more c.into_iter-part-iterator.ensures.into_iter_gives ∙ c.split-part-items.ensures.has_more) (ap split_pattern c.into_iter-part-iterator.ensures.into_iter_gives ∙ c.split-part-items.ensures.pattern)) c.loop-part.yielded _ c.loop-part.yielded_by _ _ c.in-None.is c.next.ensures.steps in
+    let t = YieldsList-end (YieldsList-from_str_split 0x00 c.args.text.now (lit< tt) (ap split_text c.into_iter-part-iterator.ensures.into_iter_gives ∙ c.split-part-items.ensures.text)
+    (ap split_has_more c.into_iter-part-iterator.ensures.into_iter_gives ∙ c.split-part-items.ensures.has_more)
+    (ap split_pattern c.into_iter-part-iterator.ensures.into_iter_gives ∙ c.split-part-items.ensures.pattern)) c.loop-part.yielded _ c.loop-part.yielded_by _ _ c.in-None.is
+    c.next.ensures.steps in
     c.loop-part.invariant.out_is ∙ ap (λ x. string_bytes c.args.out.now ++ x) (ap (parted c.args.shown.now) t.0 ∙ parted_split c.args.shown.now c.args.text.now)

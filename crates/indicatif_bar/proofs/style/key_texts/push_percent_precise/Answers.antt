@@ -13,6 +13,8 @@ returns-clause-text c =
     (c.in_ok-push-2.ensures.bytes ∙ ap (λ t. string_bytes c.push.new.self ++ t) (c.push-2.ensures.ascii d1))
     (c.in_ok-push-3.ensures.bytes ∙ ap (λ t. string_bytes c.push-2.new.self ++ t) (c.push-3.ensures.ascii d2))
     (c.in_ok-push-4.ensures.bytes ∙ ap (λ t. string_bytes c.push-3.new.self ++ t) (c.push-4.ensures.ascii d3)) in
-    all ∙ ap (λ t. string_bytes c.args.out.now ++ (decimal (n / 1000) ++ t)) (ap (λ d. 0x2E ∷ d ∷ c.digit-2.result ∷ c.digit-3.result ∷ []) c.digit.ensures ∙ ap (λ d. 0x2E ∷ (48 + n / 100 % 10) ∷ d ∷ c.digit-3.result ∷ []) c.digit-2.ensures ∙ ap (λ d. 0x2E ∷ (48 + n / 100 % 10) ∷ (48 + n / 10 % 10) ∷ d ∷ []) c.digit-3.ensures)
+    all ∙ ap (λ t. string_bytes c.args.out.now ++ (decimal (n / 1000) ++ t))
+    (ap (λ d. 0x2E ∷ d ∷ c.digit-2.result ∷ c.digit-3.result ∷ []) c.digit.ensures ∙ ap (λ d. 0x2E ∷ (48 + n / 100 % 10) ∷ d ∷ c.digit-3.result ∷ []) c.digit-2.ensures
+    ∙ ap (λ d. 0x2E ∷ (48 + n / 100 % 10) ∷ (48 + n / 10 % 10) ∷ d ∷ []) c.digit-3.ensures)
     ∙ ap (λ k. string_bytes c.args.out.now ++ (decimal (k / 1000) ++ three k)) c.nearest-scaled.ensures
     ∙ ap (λ t. string_bytes c.args.out.now ++ t) (percent_precise c.args.done (c.from.result * 100000) (ap (λ k. k * 100000) c.from.ensures))

@@ -9,7 +9,8 @@ returns-then-columns-place-clause-text c = rw (← c.columns-columns.ensures, le
 
 pub returns-then-place-clause-text : goal.returns-then-place-clause-text
 unfolding padded
-returns-then-place-clause-text c = rw (← c.columns-columns.ensures, lt-ltb c.args.place.width c.columns-columns.result (omega (arith, c.if-columns-place.false)), c.if-place.true) c.in_ok-push_truncated.ensures.text
+returns-then-place-clause-text c = rw (← c.columns-columns.ensures, lt-ltb c.args.place.width c.columns-columns.result (omega (arith, c.if-columns-place.false)), c.if-place.true)
+    c.in_ok-push_truncated.ensures.text
 
 pub returns-clause-text : goal.returns-clause-text
 unfolding padded

@@ -19,27 +19,48 @@ times-init c = record {
 pub overflow_mul-end : goal.overflow_mul-end
 overflow_mul-end c =
     let size : string_len c.times.out < 2 ^ 64 = search rules in
-    omega (arith, size, c.times.out.bytes.ok.0, fits_in (string_bytes c.args.out.now) c.args.text.now (string_bytes c.times.out) c.times.done c.min-more.result c.len-start.result (few c) c.times.invariant.texts (at c))
+    omega (
+      arith,
+      size,
+      c.times.out.bytes.ok.0,
+      fits_in (string_bytes c.args.out.now) c.args.text.now (string_bytes c.times.out) c.times.done c.min-more.result c.len-start.result
+          (few c) c.times.invariant.texts (at c),
+    )
 
 pub overflow_add-end : goal.overflow_add-end
 overflow_add-end c =
     let size : string_len c.times.out < 2 ^ 64 = search rules in
-    omega (arith, size, c.times.out.bytes.ok.0, fits_in (string_bytes c.args.out.now) c.args.text.now (string_bytes c.times.out) c.times.done c.min-more.result c.len-start.result (few c) c.times.invariant.texts (at c))
+    omega (
+      arith,
+      size,
+      c.times.out.bytes.ok.0,
+      fits_in (string_bytes c.args.out.now) c.args.text.now (string_bytes c.times.out) c.times.done c.min-more.result c.len-start.result
+          (few c) c.times.invariant.texts (at c),
+    )
 
 pub extend_from_within-requires-clause-in_bounds : goal.extend_from_within-requires-clause-in_bounds
-extend_from_within-requires-clause-in_bounds c = omega (arith, c.times.out.bytes.ok.0, fits_in (string_bytes c.args.out.now) c.args.text.now (string_bytes c.times.out) c.times.done c.min-more.result c.len-start.result (omega (arith, c.min-more.ensures)) c.times.invariant.texts (c.len-start.ensures ∙ c.args.out.now.bytes.ok.0))
+extend_from_within-requires-clause-in_bounds c = omega (
+  arith,
+  c.times.out.bytes.ok.0,
+  fits_in (string_bytes c.args.out.now) c.args.text.now (string_bytes c.times.out) c.times.done c.min-more.result c.len-start.result
+      (omega (arith, c.min-more.ensures)) c.times.invariant.texts (c.len-start.ensures ∙ c.args.out.now.bytes.ok.0),
+)
 
 pub extend_from_within-requires-clause-start_boundary : goal.extend_from_within-requires-clause-start_boundary
-extend_from_within-requires-clause-start_boundary c = begins_in (string_bytes c.args.out.now) c.args.text.now (string_bytes c.times.out) c.times.done c.min-more.result c.len-start.result (omega (arith, c.min-more.ensures)) c.times.invariant.texts (c.len-start.ensures ∙ c.args.out.now.bytes.ok.0) c.utf8.text
+extend_from_within-requires-clause-start_boundary c = begins_in (string_bytes c.args.out.now) c.args.text.now
+    (string_bytes c.times.out) c.times.done c.min-more.result c.len-start.result (omega (arith, c.min-more.ensures)) c.times.invariant.texts
+    (c.len-start.ensures ∙ c.args.out.now.bytes.ok.0) c.utf8.text
 
 pub extend_from_within-requires-clause-end_boundary : goal.extend_from_within-requires-clause-end_boundary
-extend_from_within-requires-clause-end_boundary c = ends_in (string_bytes c.args.out.now) c.args.text.now (string_bytes c.times.out) c.times.done c.min-more.result c.len-start.result (omega (arith, c.min-more.ensures)) c.times.invariant.texts (c.len-start.ensures ∙ c.args.out.now.bytes.ok.0) c.utf8.text
+extend_from_within-requires-clause-end_boundary c = ends_in (string_bytes c.args.out.now) c.args.text.now (string_bytes c.times.out) c.times.done c.min-more.result c.len-start.result
+    (omega (arith, c.min-more.ensures)) c.times.invariant.texts (c.len-start.ensures ∙ c.args.out.now.bytes.ok.0) c.utf8.text
 
 pub times-preserved : goal.times-preserved
 times-preserved c = record {
   texts =
       c.in_ok-extend_from_within.ensures.bytes
-      ∙ ap (λ t. string_bytes c.times.out ++ t) (again_in (string_bytes c.args.out.now) c.args.text.now (string_bytes c.times.out) c.times.done c.min-more.result c.len-start.result (omega (arith, c.min-more.ensures)) c.times.invariant.texts (c.len-start.ensures ∙ c.args.out.now.bytes.ok.0))
+      ∙ ap (λ t. string_bytes c.times.out ++ t) (again_in (string_bytes c.args.out.now) c.args.text.now (string_bytes c.times.out) c.times.done c.min-more.result c.len-start.result
+      (omega (arith, c.min-more.ensures)) c.times.invariant.texts (c.len-start.ensures ∙ c.args.out.now.bytes.ok.0))
       ∙ ap (λ o. o ++ times c.min-more.result c.args.text.now) c.times.invariant.texts
       ∙ append_assoc (string_bytes c.args.out.now) (times c.times.done c.args.text.now) (times c.min-more.result c.args.text.now)
       ∙ ap (λ t. string_bytes c.args.out.now ++ t) (sym (times_sum c.times.done c.min-more.result c.args.text.now));

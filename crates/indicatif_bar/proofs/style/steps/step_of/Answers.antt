@@ -19,6 +19,14 @@ returns-in-NewLine-clause-step g c = ap (λ part. effect_of_part (names_of c.arg
 pub returns-in-Placeholder-clause-step : goal.returns-in-Placeholder-clause-step
 unfolding part_of
 returns-in-Placeholder-clause-step g c =
-    ap (λ source. Holds source (held_layout (record { source = c.source_of.result; align = c.in-Placeholder.align; width = c.in-Placeholder.width; truncate = c.in-Placeholder.truncate; style = c.in-Placeholder.style; alternative = c.in-Placeholder.alternative })))
-    (c.source_of.ensures ∙ ap (source_of (names_of c.args.keys.now)) (c.as_str-in-Placeholder.ensures.value ∙ sym (encodes-chars (string_bytes c.in-Placeholder.key) (IsUtf8-string_bytes c.in-Placeholder.key))))
+    ap (λ source. Holds source (held_layout (record {
+      source = c.source_of.result;
+      align = c.in-Placeholder.align;
+      width = c.in-Placeholder.width;
+      truncate = c.in-Placeholder.truncate;
+      style = c.in-Placeholder.style;
+      alternative = c.in-Placeholder.alternative;
+    })))
+    (c.source_of.ensures ∙ ap (source_of (names_of c.args.keys.now)) (c.as_str-in-Placeholder.ensures.value
+    ∙ sym (encodes-chars (string_bytes c.in-Placeholder.key) (IsUtf8-string_bytes c.in-Placeholder.key))))
     ∙ ap (λ part. effect_of_part (names_of c.args.keys.now) c.args.tab (part_of part)) (sym c.in-Placeholder.is)

@@ -13,7 +13,8 @@ unfolding IsIn
 returns-then-not-is_undisturbed-clause-parted g c = λ mark s inside.
     let target = target_of (known g.T.TermLike.view c.args.self.now) in
     let off = sym c.is_undisturbed.ensures ∙ c.if-not-is_undisturbed.true in
-    parted_as mark (record { mark = c.args.self.now.mark; shown = c.mark.new.self; engine = c.args.self.now.engine }) target c.args.number c.args.drawn.now s (marked_on c.args.number s) (parted_broken target c.args.number s c.args.drawn.now off)
+    parted_as mark (record { mark = c.args.self.now.mark; shown = c.mark.new.self; engine = c.args.self.now.engine }) target c.args.number c.args.drawn.now s
+    (marked_on c.args.number s) (parted_broken target c.args.number s c.args.drawn.now off)
     (inside.0, c.mark.ensures s inside.1, inside.2) (λ rows opening t r. r)
 
 pub returns-then-not-is_first-clause-parted : goal.returns-then-not-is_first-clause-parted
@@ -23,7 +24,8 @@ returns-then-not-is_first-clause-parted g c = λ mark s inside.
     let number = c.args.number in
     let fine = sym c.is_undisturbed.ensures ∙ c.if-not-is_undisturbed.false in
     let other = sym (c.is_first.ensures.first s inside.1) ∙ c.if-not-is_first.true in
-    parted_as mark (record { mark = c.args.self.now.mark; shown = c.mark-then-not-is_first.new.self; engine = c.args.self.now.engine }) target number c.args.drawn.now s (marked_on number s) (parted_fine target number s c.args.drawn.now (marked_on number s) fine (left_later target number s other))
+    parted_as mark (record { mark = c.args.self.now.mark; shown = c.mark-then-not-is_first.new.self; engine = c.args.self.now.engine }) target number c.args.drawn.now s
+    (marked_on number s) (parted_fine target number s c.args.drawn.now (marked_on number s) fine (left_later target number s other))
     (inside.0, c.mark-then-not-is_first.ensures s inside.1, inside.2) (λ rows opening t r. r)
 
 pub returns-in-Behind-clause-parted : goal.returns-in-Behind-clause-parted
@@ -37,7 +39,8 @@ returns-in-Behind-clause-parted g c = λ mark s inside.
     let behind = sym kept.0 ∙ c.in-Behind.is in
     let same = kept_behind target.columns number s.lists behind in
     let inside' = subst (λ l. IsIn mark c.keep.new.self (record s { lists = l })) same kept.1 in
-    parted_as mark (record { mark = c.keep.new.self.mark; shown = c.mark-in-Behind.new.self; engine = c.keep.new.self.engine }) target number c.args.drawn.now s (marked_on number s) (parted_fine target number s c.args.drawn.now (marked_on number s) fine (left_behind target number s head behind))
+    parted_as mark (record { mark = c.keep.new.self.mark; shown = c.mark-in-Behind.new.self; engine = c.keep.new.self.engine }) target number c.args.drawn.now s (marked_on number s)
+    (parted_fine target number s c.args.drawn.now (marked_on number s) fine (left_behind target number s head behind))
     (inside'.0, c.mark-in-Behind.ensures s inside'.1, inside'.2) (λ rows opening t r. r)
 
 pub returns-in-Absent : goal.returns-in-Absent
@@ -52,6 +55,7 @@ returns-in-Absent g c = record {
       let kept = c.keep.ensures.kept mark s inside in
       let gone = record s { members = without number s.members; lists = kept_of target.columns number s.lists } in
       let why : (fate number s.lists ≡ Absent) ⊎ (fate number s.lists ≡ Passed) = elim c.in-Absent.is [ inl e ↦ inl (sym kept.0 ∙ e) | inr e ↦ inr (sym kept.0 ∙ e) ] in
-      parted_as mark (record { mark = c.keep.new.self.mark; shown = c.take_out.new.self; engine = c.keep.new.self.engine }) target number c.args.drawn.now s gone (parted_fine target number s c.args.drawn.now gone fine (left_gone target number s head why))
+      parted_as mark (record { mark = c.keep.new.self.mark; shown = c.take_out.new.self; engine = c.keep.new.self.engine }) target number c.args.drawn.now s gone
+      (parted_fine target number s c.args.drawn.now gone fine (left_gone target number s head why))
       (kept.1.0, c.take_out.ensures.out (record s { lists = kept_of target.columns number s.lists }) number kept.1.1 (head_place number s.members head), kept.1.2) kept.2;
 }
