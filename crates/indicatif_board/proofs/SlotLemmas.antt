@@ -287,7 +287,8 @@ take-one (y ∷ xs) zero x d within e = ap (λ z. z ∷ []) e
 take-one (y ∷ xs) (suc at) x d within e = take-one xs at x d (omega (arith, within)) e
 
 pub unseated_is : (t : SlotTable) (at slot d : ℕ) (order slots free : List ℕ) → at < length t.slots → slot ≡ get_or t.slots at d →
-    order ≡ remove t.order at → slots ≡ remove t.slots at → free ≡ t.free ++ slot ∷ [] → (let there : SlotTable = record { order = order; slots = slots; free = free; made = t.made } in there ≡ unseated at t)
+    order ≡ remove t.order at → slots ≡ remove t.slots at → free ≡ t.free ++ slot ∷ [] →
+    (let there : SlotTable = record { order = order; slots = slots; free = free; made = t.made } in there ≡ unseated at t)
 unseated_is t at slot d order slots free within slot_is o s f =
     let e : free ≡ t.free ++ take 1 (drop at t.slots) = f ∙ ap (λ xs. t.free ++ xs) (take-one t.slots at slot d within slot_is) in
     cc (o, s, e)
