@@ -1,6 +1,6 @@
 -- Bytes that go on, read by read and write by write, are those that came.
 use Rattle.std.proofs.Common.{◌≡◌, ℕ, List, [], ◌++◌, ◌-◌, Option, Result, Ok, Err, Bool, true, false, sym, ap, ◌∙◌, subst, length, take, drop, append_assoc, append-nil, take-append-drop}
-use Rattle.std.specs.Io.KnownBytes.{Consumes, Appends, IsAtEnd}
+use Rattle.std.specs.Io.KnownBytes.{Consumes, IsAtEnd}
 use Rattle.std.proofs.KnownBytes.{Consumes-trans, Consumes-nil, Appends-trans, Appends-nil}
 use Rattle.std.proofs.lemmas.List.{take_rest}
 use Rattle.meter.specs.declared.passing.Broken.{Broken}
