@@ -105,6 +105,7 @@ SOURCES = {
         "Multi": (OWN, {}),
     },
     "indicatif": {
+        "Machine": (OWN, {}),
         "Moves": (OWN, {}),
         "Owned": (OWN, {}),
         "Ring": (CRATE, {}),

@@ -6,14 +6,13 @@ use Rattle.indicatif_bar.proofs.BuilderLemmas.{many_clusters, many_ticks, wide_c
 use Rattle.indicatif_bar.proofs.bar_style.ProgressStyle.first.Goals as goal
 
 pub invariant_of-result : goal.invariant_of-result
-invariant_of-result g c =
-    (
-      c.in_ok-steps.ensures.steps ∙ ap (λ keys. map (effect_of_part (names_of keys) 8) (map part_of c.parts.result.now)) c.as_slice.ensures.value
-          ∙ ap (map (effect_of_part (names_of c.new-keys.result.items) 8)) (c.parts.ensures ∙ sym c.in_ok-new.ensures.ok),
-      many_clusters,
-      wide_cluster,
-      many_ticks,
-    )
+invariant_of-result g c = (
+  c.in_ok-steps.ensures.steps ∙ ap (λ keys. map (effect_of_part (names_of keys) 8) (map part_of c.parts.result.now)) c.as_slice.ensures.value
+      ∙ ap (map (effect_of_part (names_of c.new-keys.result.items) 8)) (c.parts.ensures ∙ sym c.in_ok-new.ensures.ok),
+  many_clusters,
+  wide_cluster,
+  many_ticks,
+)
 
 pub returns-clause-style : goal.returns-clause-style
 returns-clause-style g c =

@@ -1,10 +1,10 @@
 //! What the builders of a style refuse, and what they make. A builder that refuses gives its style up.
-use crate::look::Look;
 use indicatif_bar::style::NoTracker;
 use indicatif_text::columns::{Refusal, TemplateState};
 use std::alloc::Global;
 use std::process::Abort;
 use std::test::Fail;
+use test_bars::look::Look;
 
 fn style(alloc: Global, template: &str) -> Result<Look<NoTracker>, Refusal> {
     Look::with_template(alloc, template)

@@ -1,12 +1,12 @@
 //! Targets with a rate: how many draws are made, who is hidden, and what a forced draw shows. Expected values are rows worked out by hand.
-use crate::calls::{Call, Told};
-use crate::watched::Watched;
 use indicatif_bar::style::NoTracker;
 use indicatif_term::draw_target::{Facts, ProgressDrawTarget};
 use indicatif_term::in_memory::InMemoryTerm;
 use indicatif_text::columns::{Drawn, Refusal};
 use std::alloc::Global;
 use std::test::Fail;
+use test_bars::calls::{Call, Told};
+use test_bars::watched::Watched;
 
 const MS: u64 = 1_000_000;
 

@@ -1,14 +1,14 @@
 //! Every command of a bar: the record that it leaves, what it asks, what is drawn. Expected values are rows worked out by hand and the rules of
 //! the commands.
-use crate::calls::{Call, Reached, Told};
-use crate::look::Look;
-use crate::watched::Watched;
 use indicatif_bar::lone::LoneCall;
 use indicatif_bar::state::{Ask, Change};
 use indicatif_bar::style::NoTracker;
 use indicatif_text::columns::{Drawn, Refusal};
 use std::alloc::Global;
 use std::test::Fail;
+use test_bars::calls::{Call, Reached, Told};
+use test_bars::look::Look;
+use test_bars::watched::Watched;
 
 const MS: u64 = 1_000_000;
 

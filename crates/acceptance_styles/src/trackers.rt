@@ -1,14 +1,14 @@
 //! Keys of a template that are the caller's own.
 ghost use Rattle.std.specs.Prelude.{true, false, if◌then◌else◌, codes};
 
-use crate::calls::{Call, Told};
-use crate::look::Look;
-use crate::watched::Watched;
 use indicatif_bar::state::ProgressState;
 use indicatif_bar::style::{FnTracker, ProgressTracker, TellsText};
 use indicatif_text::columns::{Drawn, Moment, Refusal};
 use std::alloc::Global;
 use std::test::Fail;
+use test_bars::calls::{Call, Told};
+use test_bars::look::Look;
+use test_bars::watched::Watched;
 
 // ---- a text that stays
 

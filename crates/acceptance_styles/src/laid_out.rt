@@ -1,11 +1,11 @@
 //! Bars as rows of a table, and the lines that they show.
-use crate::calls::{Call, Told};
-use crate::look::Look;
 use indicatif_bar::style::NoTracker;
 use indicatif_text::columns::Refusal;
 use std::alloc::Global;
 use std::process::Abort;
 use std::test::Fail;
+use test_bars::calls::{Call, Told};
+use test_bars::look::Look;
 
 /// A bar: its template, what it has reached, and where it is shown.
 #[derive(Clone, Copy, Debug, Drop)]

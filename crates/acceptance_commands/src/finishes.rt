@@ -1,12 +1,12 @@
 //! How a bar ends: each finish, a bar that finishes twice, a hidden finish, a bar that is dropped; and that what the program
 //! prints next stands on a row of its own.
-use crate::calls::{Call, Reached, Told};
-use crate::watched::Watched;
 use indicatif_bar::state::{Ask, ProgressFinish};
 use indicatif_bar::style::NoTracker;
 use indicatif_text::columns::{Drawn, Refusal};
 use std::alloc::Global;
 use std::test::Fail;
+use test_bars::calls::{Call, Reached, Told};
+use test_bars::watched::Watched;
 
 /// Each finish of a bar at 5 of 10 that says `m`: the place then, the message, and what stands on the terminal.
 const FINISHES: [(Call, u64, &str, &str); 5] = [

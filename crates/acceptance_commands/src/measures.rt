@@ -1,12 +1,12 @@
 //! How far and how fast a bar is, as numbers and as texts. Expected values were worked out by the rules of the measures: the
 //! crate smooths its rates, so its answers are others.
-use crate::calls::{Call, Times, Told};
 use indicatif_bar::state::Rate;
 use indicatif_bar::style::NoTracker;
 use indicatif_text::columns::Refusal;
 use std::alloc::Global;
 use std::process::Abort;
 use std::test::Fail;
+use test_bars::calls::{Call, Times, Told};
 
 const S: u64 = 1_000_000_000;
 
