@@ -3,6 +3,7 @@ use crate::measured::Measured;
 use crate::shown::Shown;
 use anyhow::Result;
 use indicatif_text::columns::Moment;
+use std::io;
 use std::time::Instant;
 
 pub const NAMES: [&str; 2] = ["inc_limited", "inc_clock"];
@@ -27,7 +28,7 @@ fn inc_limited(rt: &HostRuntime, count: u64) -> Result<Measured> {
 }
 
 /// The moment that the machine's clock tells.
-fn moment(rt: &HostRuntime, start: Instant) -> Result<Moment> {
+fn moment(rt: &HostRuntime, start: Instant) -> io::Result<Moment> {
     let nanos = start.elapsed(rt)?.as_nanos();
     Ok(u64::try_from(nanos).unwrap_or(u64::MAX))
 }

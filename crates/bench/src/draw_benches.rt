@@ -3,6 +3,7 @@ use crate::measured::Measured;
 use crate::shown::{Shown, drawn, terminal};
 use anyhow::{Result, anyhow};
 use indicatif_term::draw_target::{Engine, LineType, MultiProgressAlignment, Segment};
+use indicatif_text::columns::Refusal;
 use std::alloc::Global;
 use std::time::Instant;
 
@@ -79,7 +80,8 @@ fn bar_saying(alloc: Global, texts: &Texts) -> Result<Shown> {
 }
 
 /// A new message and a tick: two drawings.
-fn say(bar: &mut Shown, text: &str) -> Result<()> {
+#[inline(always)]
+fn say(bar: &mut Shown, text: &str) -> Result<(), Refusal> {
     bar.set_message(text)?;
     bar.tick()
 }

@@ -1,4 +1,5 @@
-//! A bar on a terminal whose calls promise nothing here, so that a measurement of many calls is proved call by call.
+//! A bar on a terminal whose calls promise nothing here, so that a measurement of many calls is proved call by call. They stand
+//! in the loops that call them (`inline(always)`) and answer the bar's own refusal, so that they add nothing to what is measured.
 use crate::measured::Made;
 use anyhow::{Result, anyhow};
 use indicatif_bar::lone::LoneBar;
@@ -6,7 +7,7 @@ use indicatif_bar::state::BarState;
 use indicatif_bar::style::{NoTracker, ProgressStyle};
 use indicatif_term::draw_target::ProgressDrawTarget;
 use indicatif_term::term_like::Term;
-use indicatif_text::columns::Moment;
+use indicatif_text::columns::{Moment, Refusal};
 use std::alloc::Global;
 use std::io;
 use std::io::Write;
@@ -86,22 +87,26 @@ impl Shown {
         Ok(on_terminal(alloc, state))
     }
 
-    pub fn set_message(&mut self, text: &str) -> Result<()> {
+    #[inline(always)]
+    pub fn set_message(&mut self, text: &str) -> Result<(), Refusal> {
         self.bar.set_message(text, 0)?;
         Ok(())
     }
 
-    pub fn tick(&mut self) -> Result<()> {
+    #[inline(always)]
+    pub fn tick(&mut self) -> Result<(), Refusal> {
         self.bar.tick(0)?;
         Ok(())
     }
 
-    pub fn inc(&mut self, now: Moment) -> Result<()> {
+    #[inline(always)]
+    pub fn inc(&mut self, now: Moment) -> Result<(), Refusal> {
         self.bar.inc(1, now)?;
         Ok(())
     }
 
-    pub fn println(&mut self, text: &str) -> Result<()> {
+    #[inline(always)]
+    pub fn println(&mut self, text: &str) -> Result<(), Refusal> {
         self.bar.println(text, 0)?;
         Ok(())
     }
