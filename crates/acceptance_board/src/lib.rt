@@ -1,5 +1,7 @@
-//! Tests of boards, by what the program `bars run` prints of them, with values from outside.
+//! Tests of boards, by their calls and by what the program `bars run` prints of them, with values from outside.
 //!
+//! - `shown`: a board for tests, whose calls have no clauses.
+//! - `calls`: each call of a board.
 //! - `runs`: a run with what it is to print, for tables.
 //! - `boards`: what stands on boards.
 //! - `bad_input`: commands, arguments and sizes that are refused.
@@ -12,8 +14,12 @@ mod bad_input;
 #[cfg(test)]
 mod boards;
 #[cfg(test)]
+mod calls;
+#[cfg(test)]
 mod examples;
 #[cfg(test)]
 mod runs;
+#[cfg(test)]
+mod shown;
 #[cfg(test)]
 mod streams;
