@@ -10,6 +10,7 @@ not there.
 import pathlib
 import re
 import sys
+import textwrap
 
 ORDER = ["indicatif_text", "indicatif_term", "indicatif_bar", "indicatif_board", "indicatif"]
 
@@ -186,6 +187,16 @@ def page_of(crate, path, faults):
     return [f"### specs/{below}\n\n{intro_of(lines)}\n\nSource: {source}.\n", "\n".join(rows) + "\n"]
 
 
+def folded(text):
+    """The text, its long lines folded."""
+    fold = textwrap.TextWrapper(width=128, break_long_words=False, break_on_hyphens=False)
+    lines = []
+    for line in text.split("\n"):
+        fold.subsequent_indent = "  " if line.startswith("- ") else ""
+        lines += fold.wrap(line) if len(line) > 128 else [line]
+    return "\n".join(lines)
+
+
 def main():
     text, faults = [HEAD], []
     for crate in ORDER:
@@ -194,7 +205,7 @@ def main():
             text += page_of(crate, path, faults)
     if faults:
         sys.exit("\n".join(faults))
-    pathlib.Path("docs/DEFINITIONS.md").write_text("\n".join(text))
+    pathlib.Path("docs/DEFINITIONS.md").write_text(folded("\n".join(text)))
 
 
 main()
