@@ -101,6 +101,7 @@ SOURCES = {
         "Calls": (OWN, {}),
         "Done": (OWN, {}),
         "Members": (CRATE, {}),
+        "Slots": (CRATE + ", and this project's own rule where its documents are silent", {}),
         "Multi": (OWN, {}),
     },
     "indicatif": {

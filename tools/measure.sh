@@ -54,6 +54,7 @@ message_draw_10 1000
 log_draw 4000
 board_frame 2000
 tick_draw 2000
+board_draw 2000
 inc_limited 20000
 inc_clock 20000
 LIST

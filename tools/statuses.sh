@@ -41,13 +41,19 @@ wants() {
   fi
 }
 
-usage='usage: bars demo'
+usage='usage: bars demo | bars run ROWS COLS [bottom]'
 wants 0 '' bars demo
 wants 2 "$usage" bars
-wants 2 "$usage" bars run 2 10
+wants 2 "$usage" bars run 2
+wants 2 "$usage" bars run 2 65536
 wants 2 "$usage" bars demo demo
 wants 2 "$usage" bars $'\xff'
 wants 2 "$usage" bars demo $'\xff'
+wants 0 '' bars run 2 10 < /dev/null
+wants 1 'bars: E15' bars run 0 10
+wants 1 'bars: line 1: E9' bars run 2 10 <<< 'tick 1'
+wants 2 'bars: line 2: bad command' bars run 2 10 bottom <<< $'add x\n'
+wants 2 'bars: input failed' bars run 2 10 < .
 wants 2 'usage: replay KIND FILE [KIND FILE ..]' replay
 wants 2 'replay: empty has no rows' replay format empty
 wants 2 'replay: heading has no rows' replay format heading
@@ -56,5 +62,6 @@ wants 2 'replay: no file for format' replay format
 wants 1 '' replay format other
 out=/dev/full
 wants 2 'bars: output failed' bars demo
+wants 2 'bars: output failed' bars run 2 10 <<< $'add x\ntick 1'
 echo "$passed as wanted, $failed otherwise"
 [ "$failed" -eq 0 ]

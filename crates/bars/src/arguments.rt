@@ -1,31 +1,26 @@
-//! What the arguments ask for.
+//! The arguments.
 use indicatif_text::columns::Refusal;
+use std::alloc::Global;
 use std::env;
 use std::env::Env;
 use std::io::ErrorKind;
 
-/// Whether the one argument is `demo`. Arguments of which one is no text are no such word.
+/// The words behind the program's name; none where one of them is no text.
 ///
-/// Refused: `Memory` where there is no room for the arguments.
-pub fn is_demo(rt: &(impl Env + Alloc)) -> Result<bool, Refusal> {
-    let mut words = match env::args(rt) {
-        Ok(words) => words.skip(1),
-        Err(e) => {
-            return match e.kind() {
-                ErrorKind::OutOfMemory => Err(Refusal::Memory),
-                _ => Ok(false),
-            };
-        }
-    };
-    let Some(word) = words.next() else {
-        return Ok(false);
-    };
-    Ok(word.as_str() == "demo" && words.next().is_none())
+/// Refused: `Memory` where there is no room for them.
+pub fn words<R: Env + Alloc<A = Global>>(rt: &R) -> Result<Vec<String>, Refusal> {
+    match env::args(rt) {
+        Ok(words) => Ok(words.skip(1).collect(rt.alloc())?),
+        Err(e) => match e.kind() {
+            ErrorKind::OutOfMemory => Err(Refusal::Memory),
+            _ => Ok(Vec::new(rt.alloc())),
+        },
+    }
 }
 
 #[cfg(test)]
 mod tests {
-    use super::is_demo;
+    use super::words;
     use std::env::{Env, FillError};
     use std::test::Fail;
 
@@ -57,18 +52,21 @@ mod tests {
     }
 
     #[test]
-    fn words_that_ask_for_the_demo(rt: HostRuntime) -> Result<(), Fail> {
-        let table: [(&'static [&'static [u8]], bool); 7] = [
-            (&[b"bars", b"demo"], true),
-            (&[], false),
-            (&[b"bars"], false),
-            (&[b"bars", b"demo", b"demo"], false),
-            (&[b"bars", b"run", b"2", b"10"], false),
-            (&[b"bars", b"\xff"], false),
-            (&[b"bars", b"demo", b"\xff"], false),
+    fn words_behind_the_name(rt: HostRuntime) -> Result<(), Fail> {
+        let table: [(&'static [&'static [u8]], &[&str]); 6] = [
+            (&[b"bars", b"demo"], &["demo"]),
+            (&[], &[]),
+            (&[b"bars"], &[]),
+            (&[b"bars", b"run", b"2", b"10"], &["run", "2", "10"]),
+            (&[b"bars", b"\xff"], &[]),
+            (&[b"bars", b"demo", b"\xff"], &[]),
         ];
-        for (words, wanted) in table {
-            assert_eq!(rt; is_demo(&(Started(words), rt.alloc())), Ok(wanted));
+        for (started, wanted) in table {
+            let words = words(&(Started(started), rt.alloc()))?;
+            assert_eq!(rt; words.len(), wanted.len());
+            for (word, wanted) in words.iter().zip(wanted) {
+                assert_eq!(rt; word.as_str(), *wanted);
+            }
         }
         Ok(())
     }

@@ -9,9 +9,11 @@
 //! - `terminal_benches`: the cell terminal.
 //! - `shown`: a bar on a terminal.
 //! - `draw_benches`: drawings of a bar and of a board's frame.
+//! - `board_benches`: drawings of bars on a board.
 //! - `command_benches`: steps of a bar.
 #![tactic(auto)]
 
+mod board_benches;
 mod command_benches;
 mod draw_benches;
 mod format_benches;
@@ -60,6 +62,9 @@ fn measured_by(rt: &HostRuntime, name: &str, count: u64) -> Result<Option<Measur
     if let Some(measured) = draw_benches::run(rt, name, count)? {
         return Ok(Some(measured));
     }
+    if let Some(measured) = board_benches::run(rt, name, count)? {
+        return Ok(Some(measured));
+    }
     command_benches::run(rt, name, count)
 }
 
@@ -78,6 +83,9 @@ fn names(rt: &HostRuntime) -> Result<()> {
         println!(rt; "{name}")?;
     }
     for name in draw_benches::NAMES {
+        println!(rt; "{name}")?;
+    }
+    for name in board_benches::NAMES {
         println!(rt; "{name}")?;
     }
     for name in command_benches::NAMES {

@@ -2,3 +2,4 @@ mod RingLemmas
 mod SeekLemmas
 mod LoopLemmas
 mod OwnedLemmas
+mod BuilderLemmas

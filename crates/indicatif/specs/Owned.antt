@@ -1,5 +1,5 @@
 -- A lone bar with a clock of its own: where it stands, and what a move makes of it.
-use Rattle.std.specs.Prelude.{◌≡◌, ℕ, List, map, Option, None, Result, codes}
+use Rattle.std.specs.Prelude.{◌≡◌, ℕ, List, map, Option, None, Result, Ok, Err, codes}
 use Rattle.indicatif_text.specs.declared.refusal.Drawn.{Drawn}
 use Rattle.indicatif_text.specs.declared.refusal.Refusal.{Refusal}
 use Rattle.indicatif_text.specs.Template.{TemplatePart, Parses}
@@ -84,3 +84,8 @@ module _ {I K T C : Type 0} (m : Tracking K) (view : T → TermView) where
     pub moment : ℕ
     pub answer : Result Drawn Refusal
     pub obeys : Obeys m view (lone_of old.progress) (lone_of new.progress) command moment answer
+
+  -- its bar obeyed a command, at some moment and with some answer; or refused it, and the wrapper was given up with its bar
+  abbrev pub MayBuild : ProgressBarIter I (OwnedBar K T C) → Command K → Result (ProgressBarIter I (OwnedBar K T C)) Refusal → Type 0
+  MayBuild old command (Ok new) = Built old command new
+  MayBuild old command (Err e) = (bar : LoneBar K T) × (now : ℕ) × ObeysOrNot m view (lone_of old.progress) bar command now (Err e)

@@ -10,6 +10,7 @@
 //! - `ring`: the greatest of the last places (`MaxRingBuf`).
 //! - `seek`: the place that moves and seeks show (`SeekMax`).
 //! - `style`: how a bar looks, with the names that the crate `indicatif` has there.
+//! - `machine`: the machine's clock, and bars on its terminals; all that this library asks of the machine.
 //! - `laws`: laws of the definitions.
 #![tactic(auto)]
 
@@ -17,6 +18,7 @@ mod builders;
 mod bytes;
 mod items;
 pub mod laws;
+pub mod machine;
 mod moves;
 mod owned;
 mod polled;
@@ -43,7 +45,8 @@ pub use indicatif_board::bar_id::BarId;
 pub use indicatif_board::done::{BarWorker, Done};
 pub use indicatif_board::multi::{Board, Candidate, Turned};
 pub use indicatif_term::draw_target::{
-    Engine, Keep, LineType, MultiProgressAlignment, ProgressDrawTarget, RateLimiter, Segment, Setup,
+    Engine, Facts, Keep, LineType, MultiProgressAlignment, ProgressDrawTarget, RateLimiter,
+    Segment, Setup,
 };
 pub use indicatif_term::in_memory::{Cells, InMemoryTerm};
 pub use indicatif_term::term_like::{Term, TermLike};

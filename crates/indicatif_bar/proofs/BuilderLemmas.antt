@@ -1,10 +1,6 @@
 -- What a style is made of at first, and what its builders refuse.
-use Rattle.std.proofs.Common.{◌∷◌, [], Result, Ok, Err, IfErr, ◌≡◌, ◌≢◌, ◌⊎◌, inl, inr, ℕ, ◌≤◌, ◌<◌, List, refl, sym, ◌∙◌, ap, subst, length, arith, string_bytes}
+use Rattle.std.proofs.Common.{map, ◌∷◌, [], Result, Ok, Err, IfErr, ◌≡◌, ◌≢◌, ◌⊎◌, inl, inr, ℕ, ◌≤◌, ◌<◌, List, refl, sym, ◌∙◌, ap, subst, length, arith}
 use Rattle.std.specs.Str.{chars}
-use Rattle.std.specs.Prelude.{encode_utf8}
-use Rattle.std.proofs.lemmas.List.{length-map}
-use Rattle.std.specs.declared.string.String.{String}
-use Rattle.std.specs.declared.alloc.Global.{Global}
 use Rattle.indicatif_text.specs.Columns.{visible}
 use Rattle.unicode_width.proofs.Computing.{unicode_width}
 use Rattle.indicatif_text.specs.declared.refusal.Refusal.{Refusal}
@@ -17,8 +13,7 @@ use Rattle.indicatif_text.specs.Template.{TemplatePart, LiteralText, KeyText}
 use Rattle.indicatif_text.specs.Template.{IsRefused, TemplatePiece, Front, Takes, Stops, front, Reads, end, piece, Refuses, here, later, Parses, parts_of, plain_layout}
 use Rattle.indicatif_bar.specs.Layout.{text_columns, cluster}
 use Rattle.indicatif_bar.specs.Builders.{characters_of, first_clusters}
-use Rattle.indicatif_bar.specs.Inside.Cells.{texts_of}
-use Rattle.indicatif_bar.specs.declared.bar_style.builders.TheConstants.{CLUSTERS, TICKS}
+use Rattle.indicatif_bar.specs.declared.bar_style.builders.TheConstants.{CLUSTERS, TICKS, TICK_STRINGS}
 
 -- a template's error that is not of memory is a fault of the text
 pub refused_by : (text : List ℕ) (e : TemplateError) (r : Refusal) → r ≡ refusal_of e → (e ≢ error.Memory → IsRefused text e)
@@ -29,26 +24,30 @@ refused_by text error.Memory r is why = inl is
 
 -- ---- at first
 
-pub clusters_are : characters_of CLUSTERS.now ≡ first_clusters
-unfolding chars
+pub clusters_are : map (λ text. text.now) CLUSTERS ≡ first_clusters
+unfolding lib.Utf8.encode
 clusters_are = refl
 
 pub one_column : text_columns (cluster first_clusters 0) ≡ 1
 unfolding unicode_width visible chars
 one_column = refl
 
-thirty : length (chars TICKS.now) ≡ 30
-unfolding chars
+-- the texts of the spinner are the characters of the one text
+pub ticks_are : map (λ text. text.now) TICK_STRINGS ≡ characters_of TICKS.now
+unfolding chars lib.Utf8.encode
+ticks_are = refl
+
+thirty : length (map (λ text. text.now) TICK_STRINGS) ≡ 30
 thirty = refl
 
-pub many_ticks : (texts : List (String Global)) → texts_of texts ≡ characters_of TICKS.now → 2 ≤ length texts
-many_ticks texts e = omega (arith, sym (length-map texts string_bytes) ∙ ap length e ∙ length-map (chars TICKS.now) encode_utf8 ∙ thirty)
+pub many_ticks : 2 ≤ length (map (λ text. text.now) TICK_STRINGS)
+many_ticks = omega (arith, thirty)
 
-pub many_clusters : (texts : List (String Global)) → texts_of texts ≡ characters_of CLUSTERS.now → 2 ≤ length texts
-many_clusters texts e = omega (arith, sym (length-map texts string_bytes) ∙ ap length (e ∙ clusters_are))
+pub many_clusters : 2 ≤ length (map (λ text. text.now) CLUSTERS)
+many_clusters = omega (arith, ap length clusters_are)
 
-pub wide_cluster : (texts : List (String Global)) → texts_of texts ≡ characters_of CLUSTERS.now → 0 < text_columns (cluster (texts_of texts) 0)
-wide_cluster texts e = omega (arith, ap (λ ts. text_columns (cluster ts 0)) (e ∙ clusters_are) ∙ one_column)
+pub wide_cluster : 0 < text_columns (cluster (map (λ text. text.now) CLUSTERS) 0)
+wide_cluster = omega (arith, ap (λ ts. text_columns (cluster ts 0)) clusters_are ∙ one_column)
 
 -- ---- default templates
 

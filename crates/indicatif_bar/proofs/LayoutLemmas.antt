@@ -1,21 +1,18 @@
 -- What the texts of a line are made of: a text so many times, blanks, the parts of a bar.
-use Rattle.std.proofs.Common.{◌≡◌, ℕ, zero, suc, ◌-◌, ◌*◌, ◌/◌, ◌%◌, ◌<◌, get_or, Bool, ◌++◌, ◌+◌, drop, List, [], ◌∷◌, append-nil, append_assoc, refl, sym, ◌∙◌, ap, true, false, if◌then◌else◌, length, length-append, take, arith, string_bytes, map, subst, ◌≤◌}
-use Rattle.std.proofs.lemmas.List.{get_or-map, length-map}
+use Rattle.std.proofs.Common.{◌≡◌, ℕ, zero, suc, ◌-◌, ◌*◌, ◌/◌, ◌%◌, Bool, ◌++◌, ◌+◌, drop, List, [], ◌∷◌, append-nil, append_assoc, refl, sym, ◌∙◌, ap, true, false, if◌then◌else◌, length, length-append, take, arith, map, subst, ◌≤◌}
 use Rattle.std.specs.List.{concat, slice_range}
 use Rattle.std.specs.Str.{IsUtf8}
 use Rattle.std.specs.String.Boundary.{IsSplitPoint}
 use Rattle.std.proofs.Math.Nat.{suc-mul}
 use Rattle.std.proofs.lemmas.List.{drop_at, take_at}
 use Rattle.std.proofs.lemmas.Str.{IsUtf8-nil, IsUtf8-append, IsCharBoundary-at_seam}
-use Rattle.std.specs.declared.string.String.{String}
-use Rattle.std.specs.declared.alloc.Global.{Global}
 use Rattle.std.proofs.lemmas.Bool.{false≢true, lt-ltb}
 use Rattle.std.specs.Fmt.{digits}
 use Rattle.std.specs.Prelude.{codes, Some, None, option_to_list, nat_lt, ◌&&◌}
 use Rattle.indicatif_text.specs.StyleWords.{opening_of, styled, sequence_of}
 use Rattle.indicatif_bar.specs.declared.measures.Fraction.{Fraction}
 use Rattle.indicatif_bar.specs.Layout.{times, spaces, text_columns, cluster, bar_text}
-use Rattle.indicatif_bar.specs.Inside.Cells.{shade_of, begun_text, cells_left, rest_text, texts_of}
+use Rattle.indicatif_bar.specs.Inside.Cells.{begun_text, cells_left, rest_text}
 
 -- what ends a style is the sequence of 0
 pub last_sequence : (0x1B ∷ codes "[0m") ≡ sequence_of 0
@@ -99,10 +96,6 @@ grown_three old o1 o2 new a b d first second third = grown old o2 new (a ++ b) d
 
 -- ---- the bar
 
-pub at_cluster : (clusters : List (String Global)) (k : ℕ) (s : String Global) (text : List ℕ) → k < length clusters → s ≡ get_or clusters k s → text ≡ string_bytes s →
-    text ≡ cluster (texts_of clusters) k
-at_cluster clusters k s text within is value = value ∙ ap string_bytes is ∙ sym (get_or-map string_bytes clusters k s [] within)
-
 bar_by : (b : Bool) (clusters : List (List ℕ)) (colours : Bool) (alternative : List ℕ) (k filled cells : ℕ) →
     times filled (cluster clusters 0) ++ concat (if b then cluster clusters k ∷ [] else [])
     ++ styled colours alternative (times (cells - filled - length (if b then cluster clusters k ∷ [] else [])) (cluster clusters (length clusters - 1)))
@@ -122,11 +115,9 @@ bar_parts clusters colours alternative f width cells e =
     bar_by (nat_lt 0 fill && nat_lt (fill / f.den) n && nat_lt 0 shades) clusters colours alternative (shades - fill % f.den * shades / f.den) (fill / f.den) n
     ∙ ap (λ m. begun_text clusters f m ++ styled colours alternative (rest_text clusters f m)) (sym e)
 
-pub rest_is : (clusters : List (String Global)) (f : Fraction) (cells left : ℕ) (last : List ℕ) → left ≡ cells_left f cells (length clusters) → last ≡ cluster (texts_of clusters) (length clusters - 1)
-    → times left last ≡ rest_text (texts_of clusters) f cells
-rest_is clusters f cells left last l e =
-    ap (λ n. times n last) l ∙ ap (times (cells_left f cells (length clusters))) e
-    ∙ ap (λ n. times (cells_left f cells n) (cluster (texts_of clusters) (n - 1))) (sym (length-map clusters string_bytes))
+pub rest_is : (clusters : List (List ℕ)) (f : Fraction) (cells left : ℕ) (last : List ℕ) → left ≡ cells_left f cells (length clusters) → last ≡ cluster clusters (length clusters - 1)
+    → times left last ≡ rest_text clusters f cells
+rest_is clusters f cells left last l e = ap (λ n. times n last) l ∙ ap (times (cells_left f cells (length clusters))) e
 
 -- ---- a text in a style
 

@@ -4,4 +4,5 @@ pub mod Obeying
 pub mod Shown
 pub mod Cells
 pub mod Steps
+pub mod Texts
 pub mod Widths

@@ -8,6 +8,7 @@ mod drawing;
 
 use crate::progress::ProgressState;
 use crate::style::steps::{Step, steps_of};
+use crate::style::texts::Texts;
 use crate::tracker::{ProgressTracker, reset_all, tick_all};
 pub use builders::TICKS;
 use indicatif_text::columns::{Moment, Refusal};
@@ -30,8 +31,8 @@ pub struct ProgressStyle<K> {
     template: Arc<Template, Global>,
     /// What each part of the template does.
     steps: Vec<Step>,
-    clusters: Vec<String>,
-    tick_strings: Vec<String>,
+    clusters: Texts,
+    tick_strings: Texts,
     keys: Vec<(String, K)>,
     colours: bool,
     tab: usize,
@@ -44,24 +45,24 @@ impl<K> Model for ProgressStyle<K> {
     ghost use Rattle.indicatif_bar.specs.Trackers.{entries};
     ghost use Rattle.indicatif_bar.specs.Layout.{text_columns, cluster};
     ghost use Rattle.indicatif_bar.specs.BarStyles.{Style};
-    ghost use Rattle.indicatif_bar.specs.Inside.Cells.{texts_of};
+    ghost use Rattle.indicatif_bar.specs.Inside.Texts.{texts_in};
     ghost use Rattle.indicatif_bar.specs.Inside.Steps.{effect_of, effect_of_part, names_of};
 
     ghost Value = { Style K };
 
     ghost view = { λ s. record {
       parts = arc_value s.template;
-      clusters = texts_of s.clusters.items;
-      tick_strings = texts_of s.tick_strings.items;
+      clusters = texts_in s.clusters;
+      tick_strings = texts_in s.tick_strings;
       keys = entries s.keys.items;
       colours = s.colours;
       tab = s.tab;
     } };
 
     ghost invariant = { λ s. (map effect_of s.steps.items ≡ map (effect_of_part (names_of s.keys.items) s.tab) (arc_value s.template))
-        × (2 ≤ length s.clusters.items)
-        × (0 < text_columns (cluster (texts_of s.clusters.items) 0))
-        × (2 ≤ length s.tick_strings.items) };
+        × (2 ≤ length (texts_in s.clusters))
+        × (0 < text_columns (cluster (texts_in s.clusters) 0))
+        × (2 ≤ length (texts_in s.tick_strings)) };
 }
 
 impl<K: ProgressTracker> ProgressStyle<K> {
@@ -70,14 +71,14 @@ impl<K: ProgressTracker> ProgressStyle<K> {
         ensures { result.now ≡ tick_string self.now.tick_strings ticks }
     {
         let place = ticks % (self.tick_strings.len() as u64 - 1);
-        self.tick_strings[place as usize].as_str()
+        self.tick_strings.at(place as usize)
     }
 
     /// The spinner's text of a finished bar: the last one.
     pub fn get_final_tick_str(&self) -> &str
         ensures { result.now ≡ final_tick_string self.now.tick_strings }
     {
-        self.tick_strings[self.tick_strings.len() - 1].as_str()
+        self.tick_strings.at(self.tick_strings.len() - 1)
     }
 
     /// So many spaces for a tab.

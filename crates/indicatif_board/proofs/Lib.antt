@@ -2,6 +2,7 @@ pub mod ShareLemmas
 pub mod AccountLemmas
 pub mod StepLemmas
 pub mod DividedLemmas
+pub mod SlotLemmas
 pub mod MemberLemmas
 pub mod BoardDrawLemmas
 pub mod BoardCallLemmas

@@ -18,7 +18,7 @@ use Rattle.indicatif_bar.specs.Machines.{Target}
 use Rattle.indicatif_board.specs.Boards.{BoardState, Id, Place, index_of, taken_in, turned_away, told}
 use Rattle.indicatif_text.specs.declared.refusal.Refusal.TheVariants.{ForeignBar, NotMember}
 use Rattle.indicatif_board.specs.Members.{Member, place_of, leaders, frame_of, order_of, changed_at, new_member, is_member, without, said_of}
-use Rattle.indicatif_board.specs.Inside.Keeps.{member_of, made_by, Holds, HasPlace, laid_by}
+use Rattle.indicatif_board.specs.Inside.Keeps.{member_of, Holds, HasPlace, laid_by}
 use Rattle.indicatif_board.specs.declared.members.Member.{Member as MemberValue}
 
 pub drop-map : {X Y : Type 0} (f : X → Y) (n : ℕ) (xs : List X) → drop n (map f xs) ≡ map f (drop n xs)
@@ -283,11 +283,6 @@ pub members_length : {K : Type 0} → (frame : List Segment) (members : List (Me
     Holds frame members made bottom limiter s → length members ≡ length s.members
 members_length frame members made bottom limiter s holds = ap length holds.members_are ∙ length-map s.members member_of
 
--- the number after one that was given
-pub made_next : (number : ℕ) (r : Option ℕ) → number < 2 ^ 64 → SomeIff r (number + 1 < 2 ^ 64) (number + 1) → made_by r ≡ number + 1
-made_next number None range e = omega (arith, range, e)
-made_next number (Some n) range e = e.1
-
 -- ---- removals
 
 take-map : {X Y : Type 0} (f : X → Y) (n : ℕ) (xs : List X) → take n (map f xs) ≡ map f (take n xs)
@@ -349,3 +344,28 @@ removed_with frame frame' members members' made bottom limiter s number at holds
       bottom_is = held.bottom_is;
       limiter_is = held.limiter_is;
     }
+
+-- ---- the bars of the frame, and those of the order
+
+-- a bar's lines laid out anew
+pub relaid_bars : (frame : List Segment) (at : ℕ) (old : Segment) (items : Vec LineType Global) → at < length frame → old ≡ get_or frame at old →
+    map (λ (x : Segment). x.bar) (set frame at (record { bar = old.bar; lines = items })) ≡ map (λ (x : Segment). x.bar) frame
+relaid_bars frame at old items within own =
+    let bar = λ (x : Segment). x.bar in
+    map-set_at bar frame at (record { bar = old.bar; lines = items }) ∙ sym (map-set_at bar frame at old) ∙ ap (λ x. map bar (set frame at x)) own ∙ ap (map bar) (set-own frame at old within)
+
+pub inserted_bars : (frame : List Segment) (order : List ℕ) (at : ℕ) (segment : Segment) → map (λ (x : Segment). x.bar) frame ≡ order →
+    map (λ (x : Segment). x.bar) (insert frame at segment) ≡ insert order at segment.bar
+inserted_bars frame order at segment e = map-inserted (λ (x : Segment). x.bar) frame at segment ∙ ap (λ xs. insert xs at segment.bar) e
+
+pub removed_bars : (frame : List Segment) (order : List ℕ) (at : ℕ) → map (λ (x : Segment). x.bar) frame ≡ order → map (λ (x : Segment). x.bar) (remove frame at) ≡ remove order at
+removed_bars frame order at e = sym (map-removed (λ (x : Segment). x.bar) frame at) ∙ ap (λ xs. remove xs at) e
+
+pub dropped_bars : (frame : List Segment) (order : List ℕ) (count : ℕ) → map (λ (x : Segment). x.bar) frame ≡ order → map (λ (x : Segment). x.bar) (drop count frame) ≡ drop count order
+dropped_bars frame order count e = sym (drop-map (λ (x : Segment). x.bar) count frame) ∙ ap (drop count) e
+
+-- the order of a state
+pub order_is : {K : Type 0} → (frame : List Segment) (ms : List (Member (BarRecord K))) → map bar_lines frame ≡ frame_of ms → map (λ (x : Segment). x.bar) frame ≡ order_of ms
+order_is frame ms e =
+    let bar = λ (l : BarLines). l.bar in
+    sym (map-map bar bar_lines frame) ∙ ap (map bar) e ∙ map-map bar segment_of ms

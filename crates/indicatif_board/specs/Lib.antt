@@ -1,5 +1,7 @@
 pub mod Done
 pub mod Members
+pub mod Slots
+pub mod SlotCases
 pub mod Boards
 pub mod BoardCases
 pub mod BoardBars

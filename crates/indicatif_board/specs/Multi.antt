@@ -10,6 +10,7 @@ use Rattle.indicatif_bar.specs.Commands.{BarRecord, Command}
 use Rattle.indicatif_bar.specs.Runs.{CallMade, Runs}
 use Rattle.indicatif_board.specs.BoardBars.{board_bars}
 use Rattle.indicatif_board.specs.Boards.{BoardState, Call, Clear, Redraw, Answer, Drew, Refused, says, board}
+use Rattle.indicatif_board.specs.Slots.{SlotTable}
 use Rattle.indicatif_board.specs.Inside.ShownBars.{Shown}
 use Rattle.indicatif_board.specs.declared.multi.Board.{Board}
 
@@ -17,6 +18,10 @@ module _ {K T : Type 0} where
   -- its terminal; none where the target is hidden
   abbrev pub terminal_of : Board K T → Option T
   terminal_of b = option_map terminal b.engine
+
+  -- the slots of its bars
+  abbrev pub slots_of : Board K T → SlotTable
+  slots_of b = b.shown.table
 
   -- the board of this mark may be in this state; on a hidden target it has no rows. Of the rows only the numbers are kept, so many
   -- states fit one board; what is claimed holds of each

@@ -1,4 +1,5 @@
 //! Worked cases of the definitions: each clause computes.
+ghost use Rattle.indicatif_board.specs.SlotCases.{UsedAgain, FreedLastFirst, EachItsOwn};
 ghost use Rattle.indicatif_board.specs.BoardCases.{TwoBars, ThreeOnTwo, LeftAbove, BothDropped, AtTheBottom, Ordered, EmptyLog, RemovedLater, WaitsBehind, LongLog, RemovedTwice, TooWideForAll, TwentyAtOnce, Unseen, DropRefused, LateOnBoard, OneIsLeft};
 
 /// What stands after calls of a board.
@@ -32,4 +33,11 @@ pub fn refused_drops()
 pub fn bars()
     ensures late_on_board { LateOnBoard }
     ensures one_is_left { OneIsLeft }
+{}
+
+/// The slots of bars that come and go.
+pub fn slots()
+    ensures used_again { UsedAgain }
+    ensures freed_last_first { FreedLastFirst }
+    ensures each_its_own { EachItsOwn }
 {}

@@ -4,6 +4,7 @@
 //! - `bar_id`: bars by their board's mark and their number.
 //! - `calls`: a board's calls and answers as values; `multi` has their public names (private).
 //! - `members`: a board's bars in their order (private).
+//! - `slots`: a board's bars by their numbers, and a slot for each; `multi` has its public name (private).
 //! - `shown_bars`: those bars with the lines that they show, and how they are written (private).
 //! - `done`: a sum, its workers, and their shares of it.
 //! - `cases`: worked cases of the definitions.
@@ -19,4 +20,5 @@ pub mod laws;
 mod members;
 pub mod multi;
 mod shown_bars;
+mod slots;
 mod sums;

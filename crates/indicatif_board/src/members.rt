@@ -1,5 +1,5 @@
 //! The members of a board: bars in their order, with their lines beside them.
-ghost use Rattle.std.specs.Prelude.{◌≡◌, ◌<◌, ◌≤◌, ◌+◌, drop, length, vec_len, vec_capacity, ◌==◌};
+ghost use Rattle.std.specs.Prelude.{◌≡◌, ◌<◌, ◌≤◌, ◌+◌, ◌++◌, drop, length, vec_len, vec_capacity, ◌==◌};
 ghost use Rattle.std.specs.List.{insert, prefix_len, position_or_len};
 
 use indicatif_bar::state::BarState;
@@ -54,6 +54,17 @@ pub fn put_at<X: Drop>(items: &mut Vec<X>, at: usize, item: X)
     ensures { items.new.items ≡ insert items.old.items at item }
 {
     match items.insert(at, item) {
+        Ok(()) | Err(_) => (),
+    }
+}
+
+/// Puts these behind all others, where there is room for them.
+pub fn put_behind(items: &mut Vec<usize>, more: &[usize])
+    requires room { vec_len items.old + length more.now ≤ vec_capacity items.old }
+    ensures items { items.new.items ≡ items.old.items ++ more.now }
+    ensures room { vec_capacity items.old ≤ vec_capacity items.new }
+{
+    match items.extend_from_slice(more) {
         Ok(()) | Err(_) => (),
     }
 }

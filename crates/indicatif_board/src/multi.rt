@@ -1,5 +1,5 @@
 //! A board: several bars on one target, in an order.
-ghost use Rattle.std.specs.Prelude.{◌≡◌, ◌⊎◌, ◌↔◌, ◌<◌, ◌≤◌, ℕ, Bool, Option, Some, None, Err, true, option_map, IsTrue, IsFalse, IfOk, IfErr, IfSome, MatchResult, MatchOption, map, OnErr, vec_len, if◌then◌else◌};
+ghost use Rattle.std.specs.Prelude.{◌≡◌, ◌==◌, ◌⊎◌, ◌↔◌, ◌<◌, ◌≤◌, ℕ, Bool, Option, Some, None, Err, true, option_map, IsTrue, IsFalse, IfOk, IfErr, IfSome, MatchResult, MatchOption, map, OnErr, vec_len, if◌then◌else◌};
 ghost use Rattle.indicatif_term.specs.Engines.{is_bottom, terminal, Fits};
 ghost use Rattle.indicatif_term.specs.Lists.{fate, kept_of, opening_lists};
 ghost use Rattle.indicatif_term.specs.Targets.{term_of, limiter_of};
@@ -11,7 +11,8 @@ ghost use Rattle.indicatif_bar.specs.Inside.Draws.{DrewOn};
 ghost use Rattle.indicatif_board.specs.BoardBars.{board_bars};
 ghost use Rattle.indicatif_board.specs.Boards.{BoardState, Tell, Log, BarLog, Clear, Redraw, Align, Insert, Remove, Drop, Place, End, Index, FromBack, Before, After, Done, opening_board, says, drawn_of, index_of, inserted, turned_away, draw_of, board};
 ghost use Rattle.indicatif_board.specs.BoardValues.{id_of};
-ghost use Rattle.indicatif_board.specs.Members.{is_member, said_of};
+ghost use Rattle.indicatif_board.specs.Members.{is_member, order_of, said_of};
+ghost use Rattle.indicatif_board.specs.Slots.{slot_of, IsSeated};
 ghost use Rattle.indicatif_board.specs.Inside.Keeps.{HasPlace, laid_by};
 ghost use Rattle.indicatif_board.specs.Inside.Parting.{parted, RestsOn};
 ghost use Rattle.indicatif_board.specs.Inside.Writings.{writing_by};
@@ -21,6 +22,7 @@ pub use crate::calls::{Answer, Call, Candidate, InsertLocation, Turned};
 use crate::calls::{draw_answer, insertion_answer, is_undisturbed, removal_answer};
 use crate::members::place;
 use crate::shown_bars::{ShownBars, Writing};
+pub use crate::slots::MultiState;
 use indicatif_bar::state::{Ask, BarCommand, BarState};
 use indicatif_bar::style::ProgressTracker;
 use indicatif_term::draw_target::{
@@ -56,7 +58,7 @@ pub struct Board<K, T: Drop> {
 
 impl<K: ProgressTracker, T: TermLike + Drop> Board<K, T> {
     ghost use Rattle.indicatif_board.specs.Calls.{entrant_of, given, removal, answer_of, place_at, call_of, timed};
-    ghost use Rattle.indicatif_board.specs.Multi.{IsIn, LeadsBy, Suspends, known, terminal_of};
+    ghost use Rattle.indicatif_board.specs.Multi.{IsIn, LeadsBy, Suspends, known, slots_of, terminal_of};
 
     /// A board without bars on this target, of this mark. It takes no memory and writes nothing.
     pub fn new(alloc: Global, target: ProgressDrawTarget<T>, mark: u64) -> Self
@@ -97,6 +99,27 @@ impl<K: ProgressTracker, T: TermLike + Drop> Board<K, T> {
     {
         let at = self.find(id)?;
         Ok(&self.shown.members[at].bar)
+    }
+
+    /// The bars' numbers in their order, from the top. A bar that was dropped stands there until it leaves.
+    pub fn order(&self) -> &[u64]
+        ensures order { (mark : ℕ) (s : BoardState (BarRecord K)) → IsIn mark self.now s → result.now ≡ order_of s.members }
+        ensures slots { result.now ≡ (slots_of self.now).order }
+        ensures seated { IsSeated (slots_of self.now) }
+    {
+        self.shown.table.order()
+    }
+
+    /// A bar's slot; `None` where it isn't in the order, or has another board's mark. No two bars in the order have the same. The
+    /// slot that was freed last is used first, and a new one only where none is free: see `MultiState`.
+    pub fn slot(&self, id: BarId) -> Option<usize>
+        ensures { (mark : ℕ) (s : BoardState (BarRecord K)) → IsIn mark self.now s →
+            result ≡ (if id.mark == mark then slot_of id.number (slots_of self.now) else None) }
+    {
+        if id.mark != self.mark {
+            return None;
+        }
+        self.shown.table.slot(id.number)
     }
 
     /// Another target, and the old one. Nothing is written to either: what stands on the old one stays, and on the new one the

@@ -14,6 +14,7 @@ ghost use Rattle.indicatif_board.specs.Inside.Keeps.{PutsFrame, HasPlace, laid_b
 ghost use Rattle.indicatif_board.specs.Inside.Writings.{writing_by};
 
 use crate::members::{Member, drop_front, leading, place, put_at};
+use crate::slots::MultiState;
 use indicatif_bar::state::{Ask, BarState};
 use indicatif_bar::style::ProgressTracker;
 use indicatif_term::draw_target::{Engine, MultiProgressAlignment, RateLimiter, Segment};
@@ -40,11 +41,12 @@ pub struct ShownBars<K> {
     pub members: Vec<Member<K>>,
     /// Their numbers and lines, at the same places.
     pub frame: Vec<Segment>,
-    /// The number of the next bar; none where numbers ran out.
-    pub next: Option<u64>,
+    /// The same numbers with their slots.
+    pub table: MultiState,
     pub alignment: MultiProgressAlignment,
     pub limiter: Option<RateLimiter>,
     ghost even: { vec_len members ≡ vec_len frame },
+    ghost seated: { map (λ s. s.bar) frame.items ≡ table.order },
 }
 
 impl<K: ProgressTracker> ShownBars<K> {
@@ -58,7 +60,7 @@ impl<K: ProgressTracker> ShownBars<K> {
             alloc,
             members: Vec::new(alloc),
             frame: Vec::new(alloc),
-            next: Some(0),
+            table: MultiState::new(alloc),
             alignment: MultiProgressAlignment::Top,
             limiter,
         }
@@ -72,31 +74,20 @@ impl<K: ProgressTracker> ShownBars<K> {
             MatchResult result (λ n. (s.made ≡ n) × (n < 2 ^ 64) × Shown self.new (taken_in spot bar s)) (λ b. (b ≡ bar) × Shown self.new s) }
         ensures bar { IfErr result (λ b. b ≡ bar) }
     {
-        match self.next {
-            Some(number) => self.take_in_as(number, at, bar),
-            None => Err(bar),
-        }
-    }
-
-    /// The same, by its number.
-    fn take_in_as(&mut self, number: u64, at: usize, bar: BarState<K>) -> Result<u64, BarState<K>>
-        requires next { self.old.next ≡ Some number }
-        requires within { at ≤ vec_len self.old.members }
-        ensures taken { (s : BoardState (BarRecord K)) (spot : Place) → Shown self.old s → at ≡ index_of spot s.members →
-            MatchResult result (λ n. (s.made ≡ n) × (n < 2 ^ 64) × Shown self.new (taken_in spot bar s)) (λ b. (b ≡ bar) × Shown self.new s) }
-        ensures bar { IfErr result (λ b. b ≡ bar) }
-    {
         if self.members.reserve(1).is_err() {
             return Err(bar);
         }
         if self.frame.reserve(1).is_err() {
             return Err(bar);
         }
+        let number = match self.table.insert(at) {
+            Ok(number) => number,
+            Err(_) => return Err(bar),
+        };
         let dropped = false;
         put_at(&mut self.members, at, Member { bar, dropped });
         let lines = Vec::new(self.alloc);
         put_at(&mut self.frame, at, Segment { bar: number, lines });
-        self.next = number.checked_add(1);
         Ok(number)
     }
 
@@ -110,6 +101,7 @@ impl<K: ProgressTracker> ShownBars<K> {
     {
         let member = self.members.remove(at);
         self.frame.remove(at);
+        self.table.remove(at);
         member.bar
     }
 
@@ -207,6 +199,7 @@ impl<K: ProgressTracker> ShownBars<K> {
         put(engine, &self.frame, gone, self.alignment, writing)?;
         drop_front(&mut self.frame, gone);
         drop_front(&mut self.members, gone);
+        self.table.remove_first(gone);
         Ok(Drawn::Yes)
     }
 }

@@ -188,6 +188,47 @@ fn stands_at(bytes: &[u8], at: usize, unit: &[u8]) -> bool
         && bytes[at + 2] == unit[2]
 }
 
+/// So many bytes are looked at together.
+const BLOCK: usize = 16;
+
+/// Whether all bytes are printable ASCII. It looks at each, so that many are compared at once.
+#[inline(always)]
+fn all_printable(bytes: &[u8]) -> bool
+    ensures { IsTrue result → All IsPrintable bytes.now }
+{
+    let mut all = true;
+    'bytes: for byte in bytes {
+        all = all & (*byte >= 0x20) & (*byte <= 0x7E);
+    }
+    all
+}
+
+/// Whether a block of printable ASCII stands at a place.
+#[inline(always)]
+fn block_stands_at(bytes: &[u8], at: usize) -> bool
+    requires { at ≤ length bytes.now }
+    ensures fits { IsTrue result → at + 16 ≤ length bytes.now }
+    ensures printable { IsTrue result → All IsPrintable (take 16 (drop at bytes.now)) }
+{
+    if bytes.len() - at < BLOCK {
+        return false;
+    }
+    all_printable(&bytes[at..at + BLOCK])
+}
+
+/// How many bytes the blocks of printable ASCII have that stand at the front.
+#[inline(always)]
+fn blocks_len(bytes: &[u8]) -> usize
+    ensures printable { All IsPrintable (take result bytes.now) }
+    ensures fits { result ≤ length bytes.now }
+{
+    let mut count: usize = 0;
+    'whole: while block_stands_at(bytes, count) {
+        count += BLOCK;
+    }
+    count
+}
+
 /// How many bytes of printable ASCII stand at the front of a text.
 #[inline(always)]
 fn printable_len(text: &str) -> usize
@@ -196,7 +237,7 @@ fn printable_len(text: &str) -> usize
     ensures boundary { IsCharBoundary text.now result }
 {
     let bytes = text.as_bytes();
-    let mut count: usize = 0;
+    let mut count = blocks_len(bytes);
     'bytes: while count < bytes.len() && bytes[count] >= 0x20 && bytes[count] <= 0x7E {
         count += 1;
     }

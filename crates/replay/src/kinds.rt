@@ -1,4 +1,5 @@
 //! The kinds of rows, and how each is asked. A kind's module has one function that asks the product and compares.
+use crate::boards::boards_agree;
 use crate::calls::calls_agree;
 use crate::cells::cells_agree;
 use crate::formats::format_agrees;
@@ -26,6 +27,8 @@ pub enum Kind {
     Limiter,
     /// What becomes of a bar's calls.
     Calls,
+    /// What a board shows after some commands.
+    Boards,
 }
 
 /// What became of a row.
@@ -50,6 +53,7 @@ impl Kind {
             "lines" => Some(Kind::Lines),
             "limiter" => Some(Kind::Limiter),
             "calls" => Some(Kind::Calls),
+            "boards" => Some(Kind::Boards),
             _ => None,
         }
     }
@@ -64,6 +68,7 @@ impl Kind {
             Kind::Lines => lines_agree(alloc, row),
             Kind::Limiter => limiter_agrees(alloc, row),
             Kind::Calls => calls_agree(alloc, row),
+            Kind::Boards => boards_agree(alloc, row),
         }
     }
 }

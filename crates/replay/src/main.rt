@@ -6,9 +6,10 @@
 //!
 //! - `rows`: the rows of a file, their columns and escapes.
 //! - `kinds`: the kinds of rows, and how each is asked: `texts`, `formats`, `templates`, `cells`, `lines`, `limiters`,
-//!   `calls` (with `commands`: a call as rows spell it).
+//!   `calls` (with `commands`: a call as rows spell it), `boards`.
 #![tactic(auto)]
 
+mod boards;
 mod calls;
 mod cells;
 mod commands;

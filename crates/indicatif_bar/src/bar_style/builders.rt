@@ -15,6 +15,7 @@ use crate::progress::ProgressState;
 use crate::spare::SpareLines;
 use crate::style::clusters;
 use crate::style::steps::steps_of;
+use crate::style::texts::Texts;
 use crate::tracker::ProgressTracker;
 use indicatif_term::draw_target::LineType;
 use indicatif_text::columns::{Moment, Refusal};
@@ -23,10 +24,16 @@ use std::alloc::Global;
 use std::sync::Arc;
 
 /// The characters of a bar at first: a full block, and a light shade.
-const CLUSTERS: &str = "█░";
+const CLUSTERS: [&str; 2] = ["█", "░"];
 
 /// The spinner's texts at first, each a character.
 pub const TICKS: &str = "⠁⠁⠉⠙⠚⠒⠂⠂⠒⠲⠴⠤⠄⠄⠤⠠⠠⠤⠦⠖⠒⠐⠐⠒⠓⠋⠉⠈⠈ ";
+
+/// The same, text by text.
+const TICK_STRINGS: [&str; 30] = [
+    "⠁", "⠁", "⠉", "⠙", "⠚", "⠒", "⠂", "⠂", "⠒", "⠲", "⠴", "⠤", "⠄", "⠄", "⠤", "⠠", "⠠", "⠤", "⠦",
+    "⠖", "⠒", "⠐", "⠐", "⠒", "⠓", "⠋", "⠉", "⠈", "⠈", " ",
+];
 
 impl<K: ProgressTracker> ProgressStyle<K> {
     /// A style of this template, with the characters `█░` for a bar, a spinner of dots, no trackers, colours off, and eight
@@ -77,14 +84,12 @@ impl<K: ProgressTracker> ProgressStyle<K> {
     {
         let keys = Vec::new(alloc);
         let steps = steps_of(alloc, template.parts(), keys.as_slice(), 8)?;
-        let clusters = clusters::characters_of(alloc, CLUSTERS)?;
-        let tick_strings = clusters::characters_of(alloc, TICKS)?;
         Ok(ProgressStyle {
             alloc,
             template: Arc::new(alloc, template)?,
             steps,
-            clusters,
-            tick_strings,
+            clusters: Texts::Fixed(&CLUSTERS),
+            tick_strings: Texts::Fixed(&TICK_STRINGS),
             keys,
             colours: false,
             tab: 8,
@@ -119,7 +124,7 @@ impl<K: ProgressTracker> ProgressStyle<K> {
         if let Some(refusal) = clusters::tick_fault(strings.as_slice()) {
             return Err(refusal);
         }
-        self.tick_strings = strings;
+        self.tick_strings = Texts::Own(strings);
         Ok(self)
     }
 
@@ -136,7 +141,7 @@ impl<K: ProgressTracker> ProgressStyle<K> {
         if let Some(refusal) = clusters::tick_fault(strings.as_slice()) {
             return Err(refusal);
         }
-        self.tick_strings = strings;
+        self.tick_strings = Texts::Own(strings);
         Ok(self)
     }
 
@@ -154,7 +159,7 @@ impl<K: ProgressTracker> ProgressStyle<K> {
         if let Some(refusal) = clusters::progress_fault(clusters.as_slice()) {
             return Err(refusal);
         }
-        self.clusters = clusters;
+        self.clusters = Texts::Own(clusters);
         Ok(self)
     }
 
@@ -198,8 +203,8 @@ impl<K: ProgressTracker> ProgressStyle<K> {
             alloc: self.alloc,
             template: Arc::try_clone(&self.template)?,
             steps,
-            clusters: clusters::cloned(self.alloc, self.clusters.as_slice())?,
-            tick_strings: clusters::cloned(self.alloc, self.tick_strings.as_slice())?,
+            clusters: self.clusters.try_clone(self.alloc)?,
+            tick_strings: self.tick_strings.try_clone(self.alloc)?,
             keys,
             colours: self.colours,
             tab: self.tab,

@@ -46,13 +46,7 @@ impl<K: ProgressTracker> ProgressStyle<K> {
             colours: self.colours,
             style: held.alternative_style(),
         };
-        push_bar(
-            self.clusters.as_slice(),
-            rest,
-            state.fraction(),
-            columns,
-            out,
-        )
+        push_bar(&self.clusters, rest, state.fraction(), columns, out)
     }
 
     /// Appends the text of a key.

@@ -2,10 +2,12 @@
 ghost use Rattle.std.specs.Prelude.{◌≡◌, ◌<◌, ◌≤◌, ◌++◌, ◌*◌, ◌/◌, ◌%◌, string_bytes, length, OnOk, IfOk, IfErr, IfSome, [], MatchOption};
 ghost use Rattle.indicatif_text.specs.StyleWords.{numbers_of};
 ghost use Rattle.indicatif_bar.specs.Layout.{text_columns, cluster, bar_text};
-ghost use Rattle.indicatif_bar.specs.Inside.Cells.{shade_of, begun_text, cells_left, texts_of};
+ghost use Rattle.indicatif_bar.specs.Inside.Cells.{shade_of, begun_text, cells_left};
+ghost use Rattle.indicatif_bar.specs.Inside.Texts.{texts_in};
 
 use crate::measures::Fraction;
 use crate::style::padding::push_times;
+use crate::style::texts::Texts;
 use indicatif_text::columns::{Refusal, Style, columns};
 
 /// How the rest of a bar is styled, where colours are on.
@@ -47,24 +49,24 @@ fn shade(done: Fraction, cells: u64, clusters: usize) -> Option<usize>
 
 /// Appends the bar's cells up to the first that is not begun, and says how many are left.
 fn push_begun(
-    clusters: &[String],
+    clusters: &Texts,
     done: Fraction,
     cells: u64,
     out: &mut String,
 ) -> Result<u64, Refusal>
-    requires clusters { 2 ≤ length clusters.now }
+    requires clusters { 2 ≤ length (texts_in clusters.now) }
     requires some { 0 < done.den }
     requires whole { done.num ≤ done.den }
-    ensures left { IfOk result (λ n. n ≡ cells_left done cells (length clusters.now)) }
+    ensures left { IfOk result (λ n. n ≡ cells_left done cells (length (texts_in clusters.now))) }
     ensures text { OnOk result (string_bytes out.new
-        ≡ string_bytes out.old ++ begun_text (texts_of clusters.now) done cells) }
+        ≡ string_bytes out.old ++ begun_text (texts_in clusters.now) done cells) }
     ensures memory { IfErr result (λ e. e ≡ Refusal.Memory) }
 {
     let (whole, _) = filled(done, cells);
-    push_times(clusters[0].as_str(), whole as usize, out)?;
+    push_times(clusters.at(0), whole as usize, out)?;
     match shade(done, cells, clusters.len()) {
         Some(k) => {
-            out.push_str(clusters[k].as_str())?;
+            out.push_str(clusters.at(k))?;
             Ok(cells - whole - 1)
         }
         None => Ok(cells - whole),
@@ -73,24 +75,24 @@ fn push_begun(
 
 /// Appends the bar of so many columns.
 pub(crate) fn push_bar(
-    clusters: &[String],
+    clusters: &Texts,
     rest: RestLook,
     done: Fraction,
     width: u64,
     out: &mut String,
 ) -> Result<(), Refusal>
-    requires clusters { 2 ≤ length clusters.now }
-    requires wide { 0 < text_columns (cluster (texts_of clusters.now) 0) }
+    requires clusters { 2 ≤ length (texts_in clusters.now) }
+    requires wide { 0 < text_columns (cluster (texts_in clusters.now) 0) }
     requires some { 0 < done.den }
     requires whole { done.num ≤ done.den }
     ensures text { OnOk result (string_bytes out.new ≡ string_bytes out.old
-        ++ bar_text (texts_of clusters.now) rest.colours (numbers_of rest.style) done width) }
+        ++ bar_text (texts_in clusters.now) rest.colours (numbers_of rest.style) done width) }
     ensures memory { IfErr result (λ e. e ≡ Refusal.Memory) }
 {
-    let cells = width / columns(clusters[0].as_str()) as u64;
+    let cells = width / columns(clusters.at(0)) as u64;
     let left = push_begun(clusters, done, cells, out)?;
     let some = rest.style.open(rest.colours, out)?;
-    push_times(clusters[clusters.len() - 1].as_str(), left as usize, out)?;
+    push_times(clusters.at(clusters.len() - 1), left as usize, out)?;
     if some {
         out.push_str("\x1b[0m")?;
         return Ok(());

@@ -1,5 +1,5 @@
 -- The members of a board, their numbers and their lines as they are kept, and what an engine made of them.
-use Rattle.std.specs.Prelude.{◌≡◌, ℕ, ◌<◌, ◌^◌, Bool, IsTrue, IsFalse, List, map, length, Option, Some, None, Result, Err, IfErr}
+use Rattle.std.specs.Prelude.{◌≡◌, ℕ, ◌<◌, Bool, IsTrue, IsFalse, List, map, length, Option, Some, None, Result, Err, IfErr}
 use Rattle.indicatif_text.specs.declared.refusal.Refusal.{Refusal}
 use Rattle.indicatif_text.specs.declared.refusal.Refusal.TheVariants.{Memory}
 use Rattle.indicatif_term.specs.Calls.{TermView}
@@ -29,11 +29,6 @@ pub record Holds {K : Type 0} (frame : List Segment) (members : List (MemberValu
   pub made_is : made ≡ s.made
   pub bottom_is : bottom ≡ s.bottom
   pub limiter_is : limiter ≡ s.limiter
-
--- how many bars were ever taken in, by the number of the next; none is left past 2 ^ 64
-abbrev pub made_by : Option ℕ → ℕ
-made_by None = 2 ^ 64
-made_by (Some number) = number
 
 -- a bar's place, if one is named
 abbrev pub HasPlace : {B : Type 0} → Option ℕ → Option ℕ → List (Member B) → Type 0

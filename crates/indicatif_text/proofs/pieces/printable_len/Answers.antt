@@ -1,18 +1,19 @@
-use Rattle.std.proofs.Common.{◌<◌, ap, subst, arith, get_or, length, rules}
+use Rattle.std.proofs.Common.{◌≤◌, ap, subst, arith, length, take}
+use Rattle.std.specs.Prelude.{All}
 use Rattle.std.proofs.lemmas.List.Elements.{All-more}
-use Rattle.std.proofs.lemmas.Str.{IsCharBoundary-start, IsCharBoundary-after_ascii}
 use Rattle.indicatif_text.specs.Inside.Pieces.{IsPrintable}
+use Rattle.indicatif_text.proofs.PrintableLemmas.{cut_behind}
 use Rattle.indicatif_text.proofs.pieces.printable_len.Goals as goal
 
-pub bytes-init : goal.bytes-init
-bytes-init c = record { printable = search rules; boundary = IsCharBoundary-start c.args.text.now c.utf8.text }
-
 pub bytes-preserved : goal.bytes-preserved
-bytes-preserved c =
+bytes-preserved c = record {
+  printable = All-more IsPrintable c.as_bytes-bytes.result.now c.bytes.count 0 (omega arith) c.bytes.invariant.printable (omega arith, omega arith);
+  fits = omega arith;
+}
+
+pub returns-else-bytes-count-le126-clause-boundary : goal.returns-else-bytes-count-le126-clause-boundary
+returns-else-bytes-count-le126-clause-boundary c =
     let text = c.args.text.now in
     let same = c.as_bytes-bytes.ensures.value in
-    let low : get_or text c.bytes.count 0 < 128 = subst (λ bs. get_or bs c.bytes.count 0 < 128) same (omega arith) in
-    record {
-      printable = All-more IsPrintable c.as_bytes-bytes.result.now c.bytes.count 0 (omega arith) c.bytes.invariant.printable (omega arith, omega arith);
-      boundary = IsCharBoundary-after_ascii text c.bytes.count c.utf8.text (omega (arith, ap length same)) low;
-    }
+    let within : c.bytes.count ≤ length text = omega (arith, c.bytes.invariant.fits, ap length same) in
+    cut_behind text c.bytes.count c.utf8.text within (subst (λ bs. All IsPrintable (take c.bytes.count bs)) same c.bytes.invariant.printable)

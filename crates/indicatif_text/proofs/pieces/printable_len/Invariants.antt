@@ -1,13 +1,12 @@
-use Rattle.std.proofs.Common.{◌-◌, length, take}
+use Rattle.std.proofs.Common.{◌-◌, ◌≤◌, length, take}
 use Rattle.std.specs.Prelude.{All}
-use Rattle.std.specs.Str.{IsCharBoundary}
 use Rattle.indicatif_text.specs.Inside.Pieces.{IsPrintable}
 use Rattle.indicatif_text.proofs.pieces.printable_len.Given as goal
 
 abbrev pub invariant-bytes : goal.invariant-bytes
 invariant-bytes l = record {
   printable : All IsPrintable (take l.count l.bytes);
-  boundary : IsCharBoundary l.text l.count;
+  fits : l.count ≤ length l.bytes;
 }
 
 abbrev pub decreases-bytes : goal.decreases-bytes

@@ -1,7 +1,6 @@
 use Rattle.std.proofs.Common.{◌<◌, length, arith}
 use Rattle.indicatif_term.specs.Engines.{is_bottom}
 use Rattle.indicatif_board.specs.BoardValues.{id_of}
-use Rattle.indicatif_board.specs.Inside.Keeps.{made_by}
 use Rattle.indicatif_board.specs.Multi.{IsIn}
 use Rattle.indicatif_board.proofs.MemberLemmas.{said_of_place, members_length}
 use Rattle.indicatif_board.proofs.multi.Board.bar.Goals as goal
@@ -12,7 +11,7 @@ returns g c = record {
   bar = λ mark s other inside.
       let b = c.args.self.now.shown in
       let f = c.in_ok-at.ensures.found mark s inside in
-      let size = members_length b.frame.items b.members.items (made_by b.next) (is_bottom b.alignment) b.limiter s inside.1 in
+      let size = members_length b.frame.items b.members.items b.table.made (is_bottom b.alignment) b.limiter s inside.1 in
       let within : c.in_ok-at.at < length b.members.items = omega (arith, size, f.1.1) in
       (f.0, said_of_place other (λ bar. bar) b.members.items s.members (id_of c.args.id).number c.in_ok-at.at c.index.result.now inside.1.members_are f.1.0 within c.index.ensures);
 }

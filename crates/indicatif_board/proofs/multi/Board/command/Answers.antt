@@ -7,7 +7,6 @@ use Rattle.indicatif_bar.specs.Kinds.{Frame}
 use Rattle.indicatif_bar.specs.Machines.{target_of}
 use Rattle.indicatif_bar.specs.Inside.Draws.{DrewOn}
 use Rattle.indicatif_bar.specs.declared.state.Ask.TheVariants.{No}
-use Rattle.indicatif_board.specs.Inside.Keeps.{made_by}
 use Rattle.indicatif_board.specs.BoardBars.{board_bars}
 use Rattle.indicatif_board.specs.BoardValues.{id_of}
 use Rattle.indicatif_board.specs.Boards.{Tell, Refused, draw_of, draw_by, laid_out, told, or_refused, draws, board}
@@ -47,9 +46,9 @@ returns-in_err-ask-clause-leads g c = λ mark s inside.
     let item = c.index_mut.result.now in
     let x = err_from_is_err_and c.from_residual-in_err-ask.result c.from_residual-in_err-ask.ensures.1 in
     let there : place_of id.number s.members < length s.members = subst (λ k. k < length s.members) f.1.0 f.1.1 in
-    let size = members_length b.frame.items b.members.items (made_by b.next) (is_bottom b.alignment) b.limiter s inside.1 in
+    let size = members_length b.frame.items b.members.items b.table.made (is_bottom b.alignment) b.limiter s inside.1 in
     let within : c.in_ok-at.at < length b.members.items = omega (arith, size, f.1.1) in
-    let same = same_at b.frame.items b.members.items (made_by b.next)
+    let same = same_at b.frame.items b.members.items b.table.made
     (is_bottom b.alignment) b.limiter s c.in_ok-at.at item c.apply.new.self inside.1 f.1.1 c.index_mut.ensures.value c.in_err-ask.ensures.unchanged in
     rw (x.1 ∙ ap Err x.2) (
       s,
@@ -81,9 +80,9 @@ returns-clause-leads g c = λ mark s inside.
     let f = c.in_ok-at.ensures.found mark s inside in
     let change = λ (bar : BarRecord g.row.K.Denot). (obeyed tracks command bar now).0 in
     let next = told id.number change s in
-    let size = members_length b.frame.items b.members.items (made_by b.next) (is_bottom b.alignment) b.limiter s inside.1 in
+    let size = members_length b.frame.items b.members.items b.table.made (is_bottom b.alignment) b.limiter s inside.1 in
     let within : c.in_ok-at.at < length b.members.items = omega (arith, size, f.1.1) in
-    let holds = told_at change b.frame.items b.members.items (made_by b.next) (is_bottom b.alignment) b.limiter mark s id.number c.in_ok-at.at item c.apply.new.self
+    let holds = told_at change b.frame.items b.members.items b.table.made (is_bottom b.alignment) b.limiter mark s id.number c.in_ok-at.at item c.apply.new.self
     inside.1 f.1.0 f.1.1 c.index_mut.ensures.value (ap (λ r. r.0) c.in_ok-ask.ensures.done) in
     let placed = told_placed change id.number c.in_ok-at.at s.members f.1 in
     let takes_is = said_of false (λ bar. takes_memory command bar) id.number s.members in

@@ -7,7 +7,6 @@ use Rattle.indicatif_bar.specs.Machines.{target_of, Draws}
 use Rattle.indicatif_bar.specs.Runs.{CallMade}
 use Rattle.indicatif_bar.specs.Inside.Draws.{DrewOn}
 use Rattle.indicatif_bar.specs.declared.state.Ask.TheVariants.{No}
-use Rattle.indicatif_board.specs.Inside.Keeps.{made_by}
 use Rattle.indicatif_board.specs.Inside.Parting.{parted}
 use Rattle.indicatif_board.specs.BoardBars.{board_bars}
 use Rattle.indicatif_board.specs.BoardValues.{id_of}
@@ -47,9 +46,9 @@ returns-in-Ok-clause-leads g c = λ mark s inside.
     let f = c.in_ok-at.ensures.found mark s inside in
     let change = λ (bar : BarRecord g.row.K.Denot). (after_drop bar now).0 in
     let next = told id.number change s in
-    let size = members_length b.frame.items b.members.items (made_by b.next) (is_bottom b.alignment) b.limiter s inside.1 in
+    let size = members_length b.frame.items b.members.items b.table.made (is_bottom b.alignment) b.limiter s inside.1 in
     let within : c.in_ok-at.at < length b.members.items = omega (arith, size, f.1.1) in
-    let holds = told_at change b.frame.items b.members.items (made_by b.next) (is_bottom b.alignment) b.limiter mark s id.number c.in_ok-at.at item c.dropped.new.self
+    let holds = told_at change b.frame.items b.members.items b.table.made (is_bottom b.alignment) b.limiter mark s id.number c.in_ok-at.at item c.dropped.new.self
     inside.1 f.1.0 f.1.1 c.index_mut.ensures.value (ap (λ r. r.0) c.in-Ok.ensures.done) in
     let placed = told_placed change id.number c.in_ok-at.at s.members f.1 in
     let takes_is = said_of false ((board_bars tracks).left_takes now) id.number s.members in
@@ -75,9 +74,9 @@ returns-in-Err-clause-leads g c = λ mark s inside.
     let now = c.args.now in
     let f = c.in_ok-at.ensures.found mark s inside in
     let item = c.index_mut.result.now in
-    let size = members_length b.frame.items b.members.items (made_by b.next) (is_bottom b.alignment) b.limiter s inside.1 in
+    let size = members_length b.frame.items b.members.items b.table.made (is_bottom b.alignment) b.limiter s inside.1 in
     let within : c.in_ok-at.at < length b.members.items = omega (arith, size, f.1.1) in
-    let same = same_at b.frame.items b.members.items (made_by b.next)
+    let same = same_at b.frame.items b.members.items b.table.made
     (is_bottom b.alignment) b.limiter s c.in_ok-at.at item c.dropped.new.self inside.1 f.1.1 c.index_mut.ensures.value c.in-Err.ensures.unchanged in
     let takes = said_of_place false ((board_bars tracks).left_takes now) b.members.items s.members id.number c.in_ok-at.at item inside.1.members_are f.1.0 within c.index_mut.ensures.value in
     let unfinished = c.in-Err.ensures.memory.1 in

@@ -3,7 +3,6 @@ use Rattle.std.proofs.lemmas.List.Sums.{prefix_len-le-length}
 use Rattle.std.specs.Prelude.{not, ◌==◌}
 use Rattle.std.specs.List.{position_or_len}
 use Rattle.indicatif_term.specs.Engines.{is_bottom}
-use Rattle.indicatif_board.specs.Inside.Keeps.{made_by}
 use Rattle.indicatif_board.specs.BoardValues.{id_of}
 use Rattle.indicatif_board.specs.Multi.{IsIn}
 use Rattle.indicatif_board.proofs.MemberLemmas.{placed_at, found_foreign, found_none, found_gone, found_there, frame_length}
@@ -22,7 +21,7 @@ unfolding IsIn
 returns-then-at-len-clause-found g c = λ mark s inside.
     let b = c.args.self.now.shown in
     let at_is = c.place-at.ensures ∙ ap (position_or_len (λ x. x.bar == c.args.id.number)) c.deref.ensures.value in
-    found_none b.frame.items b.members.items (made_by b.next) (is_bottom b.alignment) b.limiter mark (id_of c.args.id) s c.place-at.result (c.if-id-self.false ∙ inside.0) inside.1 at_is
+    found_none b.frame.items b.members.items b.table.made (is_bottom b.alignment) b.limiter mark (id_of c.args.id) s c.place-at.result (c.if-id-self.false ∙ inside.0) inside.1 at_is
     (c.if-at-len.true ∙ c.len.ensures ∙ sym c.deref.ensures.len ∙ ap length c.deref.ensures.value)
 
 pub returns-then-index-clause-found : goal.returns-then-index-clause-found
@@ -43,7 +42,7 @@ returns-then-index-clause-found g c = λ mark s inside.
       c.len.ensures,
       c.if-at-len.false,
     ) in
-    found_gone b.frame.items b.members.items (made_by b.next) (is_bottom b.alignment) b.limiter mark (id_of c.args.id) s c.place-at.result (c.if-id-self.false ∙ inside.0) inside.1 at_is
+    found_gone b.frame.items b.members.items b.table.made (is_bottom b.alignment) b.limiter mark (id_of c.args.id) s c.place-at.result (c.if-id-self.false ∙ inside.0) inside.1 at_is
     c.index.result.now within c.index.ensures c.if-index.true
 
 pub returns-clause-found : goal.returns-clause-found
@@ -64,9 +63,9 @@ returns-clause-found g c = λ mark s inside.
       c.len.ensures,
       c.if-at-len.false,
     ) in (
-      found_there b.frame.items b.members.items (made_by b.next) (is_bottom b.alignment) b.limiter mark (id_of c.args.id) s c.place-at.result (c.if-id-self.false ∙ inside.0) inside.1 at_is
+      found_there b.frame.items b.members.items b.table.made (is_bottom b.alignment) b.limiter mark (id_of c.args.id) s c.place-at.result (c.if-id-self.false ∙ inside.0) inside.1 at_is
           c.index.result.now within c.index.ensures c.if-index.false,
-      (placed_at b.frame.items b.members.items (made_by b.next) (is_bottom b.alignment) b.limiter mark (id_of c.args.id) s c.place-at.result (c.if-id-self.false ∙ inside.0) inside.1 at_is, within),
+      (placed_at b.frame.items b.members.items b.table.made (is_bottom b.alignment) b.limiter mark (id_of c.args.id) s c.place-at.result (c.if-id-self.false ∙ inside.0) inside.1 at_is, within),
     )
 
 pub returns-clause-within : goal.returns-clause-within

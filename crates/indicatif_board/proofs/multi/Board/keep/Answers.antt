@@ -3,7 +3,6 @@ use Rattle.std.specs.Prelude.{MatchOption}
 use Rattle.indicatif_term.specs.Engines.{terminal, Fits, is_bottom}
 use Rattle.indicatif_term.specs.Lists.{opening_lists, fate, kept_of}
 use Rattle.indicatif_bar.specs.Machines.{target_of}
-use Rattle.indicatif_board.specs.Inside.Keeps.{made_by}
 use Rattle.indicatif_board.specs.Inside.Parting.{RestsOn}
 use Rattle.indicatif_board.specs.Multi.{IsIn}
 use Rattle.indicatif_board.proofs.DropLemmas.{held_with, absent_opening, kept_opening}
@@ -18,7 +17,7 @@ returns-in-Some-clause-kept g c = λ mark s inside.
     let fit = subst (λ o. MatchOption o (s.lists ≡ opening_lists) (λ e. Fits e s.lists)) c.in-Some.is inside.2 in
     let bar = c.args.number in
     let columns = (target_of (Some (view (terminal c.in-Some.engine)))).columns in
-    let holds = held_with b.frame.items b.members.items (made_by b.next) (is_bottom b.alignment) b.limiter s (kept_of columns bar s.lists) inside.1 in (
+    let holds = held_with b.frame.items b.members.items b.table.made (is_bottom b.alignment) b.limiter s (kept_of columns bar s.lists) inside.1 in (
       c.keep.ensures.fate s.lists fit,
       rw known_is (inside.0, holds, c.keep.ensures.lists s.lists fit),
       rw known_is (λ rows opening t r. c.keep.ensures.rests columns rows s.lists opening t r),
@@ -35,7 +34,7 @@ returns-in-None-clause-kept g c = λ mark s inside.
       absent_opening bar ∙ sym (ap (fate bar) none),
       (
         inside.0,
-        held_with b.frame.items b.members.items (made_by b.next) (is_bottom b.alignment) b.limiter s (kept_of w bar s.lists) inside.1,
+        held_with b.frame.items b.members.items b.table.made (is_bottom b.alignment) b.limiter s (kept_of w bar s.lists) inside.1,
         subst (λ l. MatchOption c.args.self.now.engine (l ≡ opening_lists) (λ e. Fits e l)) (sym same) inside.2,
       ),
       subst (RestsOn w s.lists) (sym same) (λ rows opening t r. r),

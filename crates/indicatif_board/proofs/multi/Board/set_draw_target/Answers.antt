@@ -5,7 +5,6 @@ use Rattle.indicatif_term.specs.Targets.{limiter_of}
 use Rattle.indicatif_term.specs.Lists.{opening_lists}
 use Rattle.indicatif_term.specs.Engines.{Fits, is_bottom}
 use Rattle.indicatif_term.specs.declared.draw_target.Engine.{Engine}
-use Rattle.indicatif_board.specs.Inside.Keeps.{made_by}
 use Rattle.indicatif_board.specs.Multi.{IsIn}
 use Rattle.indicatif_board.proofs.DropLemmas.{held_anew}
 use Rattle.indicatif_board.proofs.multi.Board.set_draw_target.Goals as goal
@@ -21,7 +20,7 @@ unfolding IsIn
 returns-in-Some-clause-state g c = λ mark s inside.
     let b = c.args.self.now.shown in (
       inside.0,
-      held_anew b.frame.items b.members.items (made_by b.next) (is_bottom b.alignment) b.limiter c.replace-limiter.new.dest (limiter_of c.args.target) s opening_lists
+      held_anew b.frame.items b.members.items b.table.made (is_bottom b.alignment) b.limiter c.replace-limiter.new.dest (limiter_of c.args.target) s opening_lists
           (c.replace-limiter.ensures.after ∙ c.opened_on-engine.ensures.limiter) inside.1,
       subst (λ (o : Option (Engine g.row.T.Denot)). MatchOption o (opening_lists ≡ opening_lists) (λ e. Fits e opening_lists)) (sym c.replace.ensures.after) c.opened_on-engine.ensures.opened,
     )
@@ -31,7 +30,7 @@ unfolding IsIn
 returns-in-None-clause-state g c = λ mark s inside.
     let b = c.args.self.now.shown in (
       inside.0,
-      held_anew b.frame.items b.members.items (made_by b.next) (is_bottom b.alignment) b.limiter c.replace-limiter.new.dest (limiter_of c.args.target) s opening_lists
+      held_anew b.frame.items b.members.items b.table.made (is_bottom b.alignment) b.limiter c.replace-limiter.new.dest (limiter_of c.args.target) s opening_lists
           (c.replace-limiter.ensures.after ∙ c.opened_on-engine.ensures.limiter) inside.1,
       subst (λ (o : Option (Engine g.row.T.Denot)). MatchOption o (opening_lists ≡ opening_lists) (λ e. Fits e opening_lists)) (sym c.replace.ensures.after) c.opened_on-engine.ensures.opened,
     )

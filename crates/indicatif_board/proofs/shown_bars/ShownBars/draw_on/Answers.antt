@@ -5,7 +5,6 @@ use Rattle.indicatif_term.specs.Engines.{terminal, is_bottom}
 use Rattle.indicatif_bar.specs.Machines.{target_of}
 use Rattle.indicatif_bar.specs.Kinds.{asked_of}
 use Rattle.indicatif_bar.proofs.OutcomeLemmas.{drew_withheld, drew_limited}
-use Rattle.indicatif_board.specs.Inside.Keeps.{made_by}
 use Rattle.indicatif_board.specs.BoardBars.{board_bars}
 use Rattle.indicatif_board.specs.Boards.{draw_of, board}
 use Rattle.indicatif_board.specs.Inside.Keeps.{laid_by}
@@ -51,12 +50,12 @@ returns-then-not-allows-clause-drew g c = λ mark takes s number asked holds pla
     let some : 0 < (view (terminal engine)).columns = omega (arith, ap (λ t. (view t).columns) c.term.ensures, c.width-width.ensures, c.if-width-eq0.false) in
     let laid = c.in_ok-lay_out.ensures.laid target s number (ap (λ t. (view t).columns) (sym c.term.ensures) ∙ sym c.width-width.ensures) placed holds in
     let after = laid_by tracks target c.args.now number s in
-    let withheld = sym (c.allows.ensures.answer ∙ allowed_same tracks view mark takes c.args.ask c.args.now writing s after engine b.frame.items b.members.items (made_by b.next)
+    let withheld = sym (c.allows.ensures.answer ∙ allowed_same tracks view mark takes c.args.ask c.args.now writing s after engine b.frame.items b.members.items b.table.made
     (is_bottom b.alignment) b.limiter laid) ∙ c.if-not-allows.true in
     rw c.allows.ensures.next
     (drew_limited (board (board_bars tracks) mark) _ view engine (draw_of target takes c.args.ask c.args.now writing s after) s.lists asked some withheld fits
     (laid_lists tracks target c.args.now number s)
-    (ready_holds tracks view mark takes c.args.ask c.args.now writing s after engine b.frame.items b.members.items (made_by b.next) (is_bottom b.alignment) b.limiter laid))
+    (ready_holds tracks view mark takes c.args.ask c.args.now writing s after engine b.frame.items b.members.items b.table.made (is_bottom b.alignment) b.limiter laid))
 
 pub returns-clause-drew : goal.returns-clause-drew
 returns-clause-drew g c = λ mark takes s number asked holds placed fits.
@@ -69,7 +68,7 @@ returns-clause-drew g c = λ mark takes s number asked holds placed fits.
     let laid = c.in_ok-lay_out.ensures.laid target s number (ap (λ t. (view t).columns) (sym c.term.ensures) ∙ sym c.width-width.ensures) placed holds in
     let after = laid_by tracks target c.args.now number s in
     let yes : (asked_of c.args.ask c.args.now b.limiter).0 ≡ true = sym c.allows.ensures.answer ∙ c.if-not-allows.false in
-    let held = asked_holds b.frame.items b.members.items (made_by b.next) (is_bottom b.alignment) b.limiter c.args.ask c.args.now after yes laid in
+    let held = asked_holds b.frame.items b.members.items b.table.made (is_bottom b.alignment) b.limiter c.args.ask c.args.now after yes laid in
     let next = c.allows.ensures.next in
     let limiter_is : c.allows.new.self.limiter ≡ (asked_of c.args.ask c.args.now b.limiter).1 = ap (λ x. x.limiter) next in
     c.write.ensures.drew mark c.args.now takes c.args.ask s after asked some (held.0 ∙ ap (λ l. (true, l)) (sym limiter_is))

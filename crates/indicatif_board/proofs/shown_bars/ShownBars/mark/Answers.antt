@@ -3,7 +3,6 @@ use Rattle.std.specs.Prelude.{not, ◌==◌}
 use Rattle.std.specs.List.{position_or_len}
 use Rattle.std.proofs.lemmas.List.Sums.{prefix_len-le-length}
 use Rattle.indicatif_term.specs.Engines.{is_bottom}
-use Rattle.indicatif_board.specs.Inside.Keeps.{made_by}
 use Rattle.indicatif_board.proofs.MemberLemmas.{place_is, frame_length}
 use Rattle.indicatif_board.proofs.DropLemmas.{marked_nowhere, marked_there}
 use Rattle.indicatif_board.proofs.shown_bars.ShownBars.mark.Goals as goal
@@ -14,7 +13,7 @@ returns-then-at-len g c = λ s holds.
     let here = c.place-at.ensures ∙ ap (position_or_len (λ x. x.bar == c.args.number)) c.deref.ensures.value ∙ place_is b.frame.items s.members c.args.number holds.frame_is in
     let size = frame_length b.frame.items s.members holds.frame_is in
     let within : c.place-at.result < length s.members = omega (arith, size, c.len.ensures, c.if-at-len.true, b.even, b.members.ok, b.frame.ok) in
-    marked_there b.frame.items b.members.items (made_by b.next) (is_bottom b.alignment) b.limiter s c.args.number c.place-at.result holds here c.index_mut.result.now within c.index_mut.ensures.value
+    marked_there b.frame.items b.members.items b.table.made (is_bottom b.alignment) b.limiter s c.args.number c.place-at.result holds here c.index_mut.result.now within c.index_mut.ensures.value
 
 pub returns-else-at-len : goal.returns-else-at-len
 returns-else-at-len g c = λ s holds.
@@ -34,4 +33,4 @@ returns-else-at-len g c = λ s holds.
       b.members.ok,
       b.frame.ok,
     ) in
-    marked_nowhere b.frame.items b.members.items (made_by b.next) (is_bottom b.alignment) b.limiter s c.args.number c.place-at.result holds here none
+    marked_nowhere b.frame.items b.members.items b.table.made (is_bottom b.alignment) b.limiter s c.args.number c.place-at.result holds here none

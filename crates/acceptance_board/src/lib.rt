@@ -1,0 +1,19 @@
+//! Tests of boards, by what the program `bars run` prints of them, with values from outside.
+//!
+//! - `runs`: a run with what it is to print, for tables.
+//! - `boards`: what stands on boards.
+//! - `bad_input`: commands, arguments and sizes that are refused.
+//! - `streams`: readers and writers that fail.
+//! - `examples`: the examples of the documentation.
+#![tactic(auto)]
+
+#[cfg(test)]
+mod bad_input;
+#[cfg(test)]
+mod boards;
+#[cfg(test)]
+mod examples;
+#[cfg(test)]
+mod runs;
+#[cfg(test)]
+mod streams;

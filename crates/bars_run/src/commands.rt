@@ -1,0 +1,90 @@
+//! What a line spells.
+use crate::arguments::is_digits;
+use std::str;
+
+/// A command of a line.
+#[derive(Clone, Copy, Debug, Drop, PartialEq, Eq)]
+pub enum Command<'a> {
+    /// A bar that says this.
+    Add(&'a str),
+    /// This text above the bars.
+    Log(&'a str),
+    /// The bars' rows taken back.
+    Clear,
+    /// Something done to the bar of a number; `None` where that is past 2^64 - 1, which is no bar's.
+    Bar(Option<u64>, Deed<'a>),
+}
+
+/// What is done to a bar.
+#[derive(Clone, Copy, Debug, Drop, PartialEq, Eq)]
+pub enum Deed<'a> {
+    /// It says this from now on.
+    Message(&'a str),
+    /// It ticks.
+    Tick,
+    /// It is finished.
+    Finish,
+    /// It is finished, and hidden.
+    Hide,
+    /// It is finished where it is.
+    Abandon,
+    /// Its owner is gone.
+    Drop,
+    /// It is taken out of the order.
+    Remove,
+}
+
+impl<'a> Command<'a> {
+    /// The command that a line spells, its newline left out; `None` where it is none, or no text.
+    pub fn spelt(line: &'a [u8]) -> Option<Command<'a>> {
+        let line = str::from_utf8(line).ok()?;
+        match line.split_once(' ') {
+            Some((word, rest)) => with_rest(word, rest),
+            None => alone(line),
+        }
+    }
+}
+
+/// The command of a word with nothing behind it.
+fn alone(word: &str) -> Option<Command<'static>> {
+    match word {
+        "add" => Some(Command::Add("")),
+        "log" => Some(Command::Log("")),
+        "clear" => Some(Command::Clear),
+        _ => None,
+    }
+}
+
+/// The command of a word, with what stands behind the space.
+fn with_rest<'a>(word: &str, rest: &'a str) -> Option<Command<'a>> {
+    match word {
+        "add" => Some(Command::Add(rest)),
+        "log" => Some(Command::Log(rest)),
+        "msg" => {
+            let (number, text) = rest.split_once(' ').unwrap_or((rest, ""));
+            numbered(number, Deed::Message(text))
+        }
+        _ => numbered(rest, deed_of(word)?),
+    }
+}
+
+/// What a word does to a bar.
+fn deed_of(word: &str) -> Option<Deed<'static>> {
+    match word {
+        "tick" => Some(Deed::Tick),
+        "finish" => Some(Deed::Finish),
+        "abandon" => Some(Deed::Abandon),
+        "hide" => Some(Deed::Hide),
+        "drop" => Some(Deed::Drop),
+        "remove" => Some(Deed::Remove),
+        _ => None,
+    }
+}
+
+/// A bar's command, where its number is one or more decimal digits.
+fn numbered<'a>(digits: &str, deed: Deed<'a>) -> Option<Command<'a>> {
+    if !is_digits(digits) {
+        return None;
+    }
+    Some(Command::Bar(digits.parse::<u64>().ok(), deed))
+}

@@ -1,0 +1,63 @@
+//! Why a run of the program `bars` ends before all of it is printed.
+ghost use Rattle.std.specs.Prelude.{◌≡◌, ◌⊎◌};
+
+use indicatif_text::columns::Refusal;
+use std::fmt;
+
+/// What is said of wrong arguments.
+const USAGE: &str = "usage: bars demo | bars run ROWS COLS [bottom]";
+
+/// Why a run ended before its picture was printed. Its text is what the program says; the options of a hole, as a width in
+/// `{:>12}`, are ignored.
+///
+/// ```
+/// let fault = Fault::Line(4, Refusal::NotMember);
+/// assert_eq!(fault.to_string(alloc)?.as_str(), "bars: line 4: E9");
+/// assert_eq!(fault.status(), 1);
+/// ```
+#[derive(Clone, Copy, Debug, Drop, PartialEq, Eq)]
+pub enum Fault {
+    /// Arguments that ask for nothing.
+    Usage,
+    /// The line of this number, counted from 1, is no command.
+    BadCommand(u64),
+    /// The command in the line of this number was refused.
+    Line(u64, Refusal),
+    /// What belongs to no line was refused.
+    Refused(Refusal),
+    /// A read failed.
+    Input,
+    /// A write of what is to be printed failed.
+    Output,
+}
+
+impl Fault {
+    /// The exit status: 1 where something was refused, else 2.
+    pub fn status(&self) -> u8
+        ensures { (result ≡ 1) ⊎ (result ≡ 2) }
+    {
+        match self {
+            Fault::Line(..) | Fault::Refused(_) => 1,
+            Fault::Usage | Fault::BadCommand(_) | Fault::Input | Fault::Output => 2,
+        }
+    }
+}
+
+impl fmt::Display for Fault {
+    fn fmt<W: fmt::Write>(&self, f: &mut fmt::Formatter<W>) -> fmt::Result {
+        match self {
+            Fault::Usage => f.write_str(USAGE),
+            Fault::BadCommand(line) => write!(f, "bars: line {line}: bad command"),
+            Fault::Line(line, refusal) => {
+                let number = refusal.number();
+                write!(f, "bars: line {line}: E{number}")
+            }
+            Fault::Refused(refusal) => {
+                let number = refusal.number();
+                write!(f, "bars: E{number}")
+            }
+            Fault::Input => f.write_str("bars: input failed"),
+            Fault::Output => f.write_str("bars: output failed"),
+        }
+    }
+}

@@ -1,0 +1,117 @@
+//! The program `bars run` over any reader and two writers: a board in memory, played by commands, one a line.
+//!
+//! - `arguments`: what the arguments ask for.
+//! - `commands`: what a line spells.
+//! - `stage`: the board, and what a command does on it.
+//! - `fault`: why a run ends before all of it is printed.
+#![tactic(auto)]
+
+mod arguments;
+mod commands;
+pub mod fault;
+mod stage;
+
+ghost use Rattle.std.specs.Prelude.{◌≡◌, ◌⊎◌};
+
+use crate::arguments::Asked;
+use crate::commands::Command;
+use crate::fault::Fault;
+use crate::stage::Stage;
+use indicatif_text::columns::Refusal;
+use std::alloc::Global;
+use std::io;
+use std::io::{BufRead, BufReader, ErrorKind, Read, Write};
+
+/// Does what the words behind the program's name ask for, all but the demo: `run ROWS COLS`, or `run ROWS COLS bottom`, plays
+/// the commands that it reads, one a line, on a board without bars, whose terminal has this size and is empty, and prints what
+/// stands there then, also what scrolled away: each row without the blanks at its end, up to the last one that isn't empty,
+/// each ended by a newline.
+///
+/// The commands are `add TEXT` (a bar that says so), `msg I TEXT`, `tick I`, `finish I`, `abandon I`, `hide I` (finished and
+/// hidden), `drop I`, `remove I`, `log TEXT` and `clear`. Bars are numbered from 1 as they are added. `TEXT` is the rest of the line, behind
+/// one space; it may be empty, and lacks its space then at will. A line ends at a newline, which the last one may lack.
+///
+/// The answer is the program's exit status. It is 0 where all was printed. Else what was wrong stands in `err`, as `Fault` says,
+/// with the status that it has, and the commands behind it aren't played.
+///
+/// ```
+/// let mut out = Vec::new(alloc);
+/// let mut err = Vec::new(alloc);
+/// let input = b"add x\ntick 1\nlog a.txt\n".as_slice();
+/// let status = run_bars(alloc, &words, input, &mut out, &mut err); // words: run 4 10
+/// // status: 0, out: "a.txt\nx\n", err: ""
+/// ```
+pub fn run_bars<R: Read + Drop, O: Write, E: Write>(
+    alloc: Global,
+    args: &[String],
+    input: R,
+    out: &mut O,
+    err: &mut E,
+) -> u8
+    ensures status { (result ≡ 0) ⊎ (result ≡ 1) ⊎ (result ≡ 2) }
+{
+    match shown(alloc, args, input, out) {
+        Ok(()) => 0,
+        Err(fault) => {
+            let _ = writeln!(err, "{fault}");
+            fault.status()
+        }
+    }
+}
+
+/// Plays what is asked for, and prints the picture.
+fn shown<R: Read + Drop, O: Write>(
+    alloc: Global,
+    args: &[String],
+    input: R,
+    out: &mut O,
+) -> Result<(), Fault> {
+    let asked = Asked::by(args).ok_or(Fault::Usage)?;
+    let picture = played(alloc, asked, input)?;
+    print(&picture, out).map_err(|_| Fault::Output)
+}
+
+/// The rows that stand after all commands.
+fn played<R: Read + Drop>(alloc: Global, asked: Asked, input: R) -> Result<Vec<String>, Fault> {
+    let mut stage = Stage::new(alloc, asked).map_err(Fault::Refused)?;
+    let input = BufReader::new(alloc, input).map_err(|_| Fault::Refused(Refusal::Memory))?;
+    play(alloc, &mut stage, input)?;
+    stage.picture().map_err(Fault::Refused)
+}
+
+/// Plays each line on the stage.
+fn play<R: BufRead + Drop>(alloc: Global, stage: &mut Stage, input: R) -> Result<(), Fault> {
+    let mut number: u64 = 0;
+    for line in input.split(alloc, b'\n') {
+        number = number.saturating_add(1);
+        let line = line.map_err(|e| unread(number, &e))?;
+        play_line(stage, number, &line)?;
+    }
+    Ok(())
+}
+
+/// Plays one line, of this number.
+fn play_line(stage: &mut Stage, number: u64, line: &[u8]) -> Result<(), Fault> {
+    let command = Command::spelt(line).ok_or(Fault::BadCommand(number))?;
+    stage
+        .obey(command)
+        .map_err(|refusal| Fault::Line(number, refusal))
+}
+
+/// Why the line of this number couldn't be read.
+fn unread(number: u64, e: &io::Error) -> Fault {
+    match e.kind() {
+        ErrorKind::OutOfMemory => Fault::Line(number, Refusal::Memory),
+        _ => Fault::Input,
+    }
+}
+
+/// Prints rows up to the last one that isn't empty, each ended by a newline.
+fn print<O: Write>(rows: &[String], out: &mut O) -> io::Result<()> {
+    let last = rows.iter().rposition(|row| !row.is_empty());
+    let count = last.map_or(0, |at| at.saturating_add(1));
+    for row in rows.iter().take(count) {
+        writeln!(out, "{row}")?;
+    }
+    out.flush()
+}

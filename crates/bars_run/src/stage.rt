@@ -1,0 +1,117 @@
+//! A board in memory, and what a command does on it.
+use crate::arguments::Asked;
+use crate::commands::{Command, Deed};
+use indicatif_bar::state::{BarCommand, BarState, ProgressFinish};
+use indicatif_bar::style::{NoTracker, ProgressStyle};
+use indicatif_board::bar_id::BarId;
+use indicatif_board::multi::{Answer, Board, Call, Candidate, InsertLocation};
+use indicatif_term::draw_target::ProgressDrawTarget;
+use indicatif_term::in_memory::InMemoryTerm;
+use indicatif_text::columns::{Moment, Refusal};
+use std::alloc::Global;
+
+/// A board on a terminal in memory, without a limiter, and how many bars it was given. All happens at the moment 0.
+#[derive(Drop)]
+pub struct Stage {
+    alloc: Global,
+    board: Board<NoTracker, InMemoryTerm>,
+    given: u64,
+}
+
+/// The board's mark; there is no other board.
+const MARK: u64 = 0;
+
+/// When all happens.
+const NOW: Moment = 0;
+
+impl Stage {
+    /// A board without bars on an empty terminal.
+    ///
+    /// Refused: `ZeroSize` where the terminal would have no cells, or `Memory`.
+    pub fn new(alloc: Global, asked: Asked) -> Result<Stage, Refusal> {
+        let term = InMemoryTerm::new(alloc, asked.rows, asked.columns)?;
+        let board = Board::new(alloc, ProgressDrawTarget::term_like(term), MARK);
+        let mut stage = Stage {
+            alloc,
+            board,
+            given: 0,
+        };
+        stage.make(Call::Align(asked.alignment))?;
+        Ok(stage)
+    }
+
+    /// Does what a command says.
+    ///
+    /// Refused: what the board refuses, `NotMember` also for a number that was never given, and `Memory`.
+    pub fn obey(&mut self, command: Command<'_>) -> Result<(), Refusal> {
+        let call = self.call_of(command)?;
+        self.make(call)
+    }
+
+    /// The rows that scrolled away, then those of the window, each without the blanks at its end.
+    pub fn picture(&self) -> Result<Vec<String>, Refusal> {
+        match self.board.term() {
+            Some(term) => term.picture(),
+            None => Ok(Vec::new(self.alloc)),
+        }
+    }
+
+    /// Makes a call of the board.
+    fn make(&mut self, call: Call<NoTracker>) -> Result<(), Refusal> {
+        let calls = vec![in self.alloc; (call, NOW)]?;
+        for answer in self.board.run(calls)? {
+            match answer {
+                Answer::Refused(refusal) => return Err(refusal),
+                Answer::Id(_) => self.given = self.given.saturating_add(1),
+                Answer::Done | Answer::Drawn(_) => (),
+            }
+        }
+        Ok(())
+    }
+
+    /// The board's call for a command.
+    fn call_of(&self, command: Command<'_>) -> Result<Call<NoTracker>, Refusal> {
+        match command {
+            Command::Add(text) => {
+                let bar = bar_saying(self.alloc, text)?;
+                Ok(Call::Insert(InsertLocation::End, Candidate::New(bar)))
+            }
+            Command::Log(text) => Ok(Call::Log(String::from_str(self.alloc, text)?)),
+            Command::Clear => Ok(Call::Clear),
+            Command::Bar(number, deed) => bar_call(self.alloc, self.id_of(number)?, deed),
+        }
+    }
+
+    /// The bar of this number, counted from 1.
+    fn id_of(&self, number: Option<u64>) -> Result<BarId, Refusal> {
+        match number {
+            Some(number) if 0 < number && number <= self.given => Ok(BarId {
+                mark: MARK,
+                number: number - 1,
+            }),
+            _ => Err(Refusal::NotMember),
+        }
+    }
+}
+
+/// The board's call for what is done to a bar.
+fn bar_call(alloc: Global, id: BarId, deed: Deed<'_>) -> Result<Call<NoTracker>, Refusal> {
+    let command = match deed {
+        Deed::Drop => return Ok(Call::Drop(id)),
+        Deed::Remove => return Ok(Call::Remove(id)),
+        Deed::Message(text) => BarCommand::SetMessage(String::from_str(alloc, text)?),
+        Deed::Tick => BarCommand::Tick,
+        Deed::Finish => BarCommand::Finish(ProgressFinish::AndLeave),
+        Deed::Hide => BarCommand::Finish(ProgressFinish::AndClear),
+        Deed::Abandon => BarCommand::Finish(ProgressFinish::Abandon),
+    };
+    Ok(Call::Bar(id, command))
+}
+
+/// A bar that shows its message, which is this.
+fn bar_saying(alloc: Global, text: &str) -> Result<BarState<NoTracker>, Refusal> {
+    let style = ProgressStyle::with_template(alloc, "{msg}")?;
+    let mut bar = BarState::styled(alloc, style, None, NOW)?;
+    bar.with_message(text, NOW)?;
+    Ok(bar)
+}

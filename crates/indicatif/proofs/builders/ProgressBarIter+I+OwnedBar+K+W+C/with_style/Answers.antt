@@ -1,0 +1,9 @@
+use Rattle.std.proofs.Common.{refl}
+use Rattle.indicatif_bar.specs.Commands.{SetStyle}
+use Rattle.indicatif.proofs.BuilderLemmas.{may_build}
+use Rattle.indicatif.proofs.builders.ProgressBarIter+I+OwnedBar+K+W+C.with_style.Goals as goal
+
+pub returns : goal.returns
+returns g c =
+    may_build g.K.ProgressTracker.means g.W.TermLike.view c.args.self _ (SetStyle c.args.style) c.now-now.result c.set_style-answer.result c.unless_refused.result
+    refl refl refl c.set_style-answer.ensures c.unless_refused.ensures.itself c.unless_refused.ensures.refused

@@ -1,0 +1,169 @@
+//! What bars ask of the machine: the time, and whether and how wide a terminal stands behind a stream. Nothing else in this
+//! library asks it anything, so a program that finds these itself needs nothing of this module.
+ghost use Rattle.std.specs.Prelude.{◌≡◌, ◌≤◌, ◌<◌, IfOk, IfErr};
+ghost use Rattle.indicatif.specs.Machine.{IsBehind};
+
+use indicatif_term::draw_target::{Facts, ProgressDrawTarget, Setup};
+use indicatif_term::term_like::Term;
+use indicatif_text::columns::{Clock, Moment, Refusal};
+use std::env::{self, Env, VarError};
+use std::io::{BufWriter, IsTerminal, Stderr, Stdout, Write};
+use std::marker::Model;
+use std::time::{self, Instant};
+
+/// The machine's clock, in nanoseconds since it was made; contracts see the moment that it told last. Where the machine refuses
+/// to tell the time, the clock stands.
+///
+///     let mut clock = MachineClock::new(rt);
+///     let opened = clock.now(); // some hundred nanoseconds
+#[derive(Drop)]
+pub struct MachineClock<R> {
+    machine: R,
+    opened: Option<Instant>,
+    told: Moment,
+}
+
+impl<R> Model for MachineClock<R> {
+    ghost use Rattle.std.specs.Prelude.{ℕ};
+
+    ghost Value = { ℕ };
+
+    ghost view = { λ clock. clock.told };
+}
+
+impl<R: time::Clock> MachineClock<R> {
+    /// A clock that begins now.
+    pub fn new(machine: R) -> MachineClock<R>
+        ensures { result ≡ 0 }
+    {
+        let opened = Instant::now(&machine).ok();
+        MachineClock {
+            machine,
+            opened,
+            told: 0,
+        }
+    }
+
+    /// The nanoseconds since it began, where the machine tells the time.
+    fn since_opened(&self) -> Option<Moment> {
+        let since = self.opened?.elapsed(&self.machine).ok()?;
+        Some(u64::try_from(since.as_nanos()).unwrap_or(u64::MAX))
+    }
+}
+
+/// It never goes back, and stays at 2^64 - 1 after 584 years.
+impl<R: time::Clock> Clock for MachineClock<R> {
+    fn now(&mut self) -> Moment
+        ensures told { self.new ≡ result }
+        ensures forward { self.old ≤ result }
+    {
+        if let Some(now) = self.since_opened() {
+            self.told = self.told.max(now);
+        }
+        self.told
+    }
+}
+
+/// The rows of a terminal whose rows nobody told.
+const ROWS: u16 = 24;
+
+/// The columns of a terminal whose columns nobody told.
+const COLUMNS: u16 = 80;
+
+/// What the machine tells of a stream: whether it is a terminal, its kind by the variable `TERM`, and its size by `LINES` and
+/// `COLUMNS`, where they say a number from 1 to 65,535; else 24 rows and 80 columns are taken. A program that knows better
+/// changes what it got.
+///
+///     let mut facts = facts_of(&rt, &rt.stderr())?;
+///     facts.cols = 20;
+///
+/// Refused: `Memory`.
+pub fn facts_of<R: Env + AllocGlobal>(rt: &R, stream: &impl IsTerminal) -> Result<Facts, Refusal>
+    ensures rows { IfOk result (λ facts. 0 < facts.rows) }
+    ensures columns { IfOk result (λ facts. 0 < facts.cols) }
+    ensures memory { IfErr result (λ e. e ≡ Refusal.Memory) }
+{
+    Ok(Facts {
+        rows: number_said(rt, "LINES", ROWS)?,
+        cols: number_said(rt, "COLUMNS", COLUMNS)?,
+        attended: stream.is_terminal(),
+        term: text_said(rt, "TERM")?,
+    })
+}
+
+/// The number above 0 that a variable says, and else a guess.
+fn number_said<R: Env + AllocGlobal>(rt: &R, name: &str, guess: u16) -> Result<u16, Refusal>
+    requires { 0 < guess }
+    ensures some { IfOk result (λ n. 0 < n) }
+    ensures memory { IfErr result (λ e. e ≡ Refusal.Memory) }
+{
+    let Some(text) = text_said(rt, name)? else {
+        return Ok(guess);
+    };
+    match text.as_str().parse::<u16>() {
+        Ok(0) | Err(_) => Ok(guess),
+        Ok(number) => Ok(number),
+    }
+}
+
+/// What a variable says, if it is set and a text.
+fn text_said<R: Env + AllocGlobal>(rt: &R, name: &str) -> Result<Option<String>, Refusal>
+    ensures memory { IfErr result (λ e. e ≡ Refusal.Memory) }
+{
+    match env::var(rt, name) {
+        Ok(text) => Ok(Some(text)),
+        Err(VarError::OutOfMemory) => Err(Refusal::Memory),
+        Err(_) => Ok(None),
+    }
+}
+
+/// What a bar is made with on a terminal behind a writer, by the machine's clock.
+pub type TerminalSetup<W> = Setup<Term<BufWriter<W>>, MachineClock<HostRuntime>>;
+
+/// A bar's setup on standard error, where bars stand by custom, so that standard output is the program's own: 20 draws a second
+/// by the machine's clock, hidden where standard error is no terminal or one without moves (`facts_of`).
+///
+///     let mut wrapped = list.into_iter().progress(rt.alloc(), on_stderr(&rt)?)?;
+///
+/// Refused: `Memory`.
+pub fn on_stderr(rt: &HostRuntime) -> Result<TerminalSetup<Stderr>, Refusal>
+    ensures target { IfOk result (λ setup. (facts : Facts) × IsBehind setup.target facts) }
+    ensures memory { IfErr result (λ e. e ≡ Refusal.Memory) }
+{
+    let facts = facts_of(rt, &rt.stderr())?;
+    told_setup(rt, rt.stderr(), facts)
+}
+
+/// The same on standard output.
+///
+/// Refused: `Memory`.
+pub fn on_stdout(rt: &HostRuntime) -> Result<TerminalSetup<Stdout>, Refusal>
+    ensures target { IfOk result (λ setup. (facts : Facts) × IsBehind setup.target facts) }
+    ensures memory { IfErr result (λ e. e ≡ Refusal.Memory) }
+{
+    let facts = facts_of(rt, &rt.stdout())?;
+    told_setup(rt, rt.stdout(), facts)
+}
+
+/// The same behind any writer, on a terminal of which this is told.
+///
+///     let mut facts = facts_of(&rt, &rt.stderr())?;
+///     facts.cols = 20;
+///     let setup = told_setup(&rt, rt.stderr(), facts)?;
+///
+/// Refused: `Memory`.
+pub fn told_setup<W: Write + Drop>(
+    rt: &HostRuntime,
+    writer: W,
+    facts: Facts,
+) -> Result<TerminalSetup<W>, Refusal>
+    ensures target { IfOk result (λ setup. IsBehind setup.target facts) }
+    ensures memory { IfErr result (λ e. e ≡ Refusal.Memory) }
+{
+    let Ok(buffered) = BufWriter::new(rt.alloc(), writer) else {
+        return Err(Refusal::Memory);
+    };
+    let mut clock = MachineClock::new(*rt);
+    let target = ProgressDrawTarget::stderr(buffered, facts, clock.now());
+    Ok(Setup { target, clock })
+}

@@ -1,0 +1,75 @@
+-- The order of a board's bars by their numbers, and the slots that they have.
+use Rattle.std.specs.Prelude.{◌≡◌, ℕ, ◌+◌, ◌-◌, ◌^◌, ◌<◌, ◌≤◌, ◌==◌, List, [], ◌∷◌, ◌++◌, take, drop, get_or, length, Option, Some, None, if◌then◌else◌}
+use Rattle.std.specs.List.{insert, remove}
+
+-- bars in an order, and the slots that have none
+pub record SlotTable : Type 0 where
+  -- the bars' numbers, from the top
+  pub order : List ℕ
+  -- their slots, at the same places
+  pub slots : List ℕ
+  -- the slots without a bar, the one that was freed last at the end
+  pub free : List ℕ
+  -- how many bars were ever taken in; the next one's number
+  pub made : ℕ
+
+-- how many bars were ever taken in, by the number of the next; none is left past 2 ^ 64
+abbrev pub made_by : Option ℕ → ℕ
+made_by None = 2 ^ 64
+made_by (Some number) = number
+
+-- before the first bar
+abbrev pub opening_slots : SlotTable
+opening_slots = record { order = []; slots = []; free = []; made = 0 }
+
+-- the slot that the next bar gets: the one that was freed last; where none is free, the first that was never used
+abbrev pub next_slot : SlotTable → ℕ
+next_slot t = get_or t.free (length t.free - 1) (length t.slots)
+
+-- a new bar where so many stand before it; behind all others where there are fewer
+abbrev pub seated : ℕ → SlotTable → SlotTable
+seated at t = record {
+  order = insert t.order at t.made;
+  slots = insert t.slots at (next_slot t);
+  free = take (length t.free - 1) t.free;
+  made = t.made + 1;
+}
+
+-- the bar at a place taken out, if there is one: its slot is free
+abbrev pub unseated : ℕ → SlotTable → SlotTable
+unseated at t = record t {
+  order = remove t.order at;
+  slots = remove t.slots at;
+  free = t.free ++ take 1 (drop at t.slots);
+}
+
+-- so many bars at the head taken out, one after another
+abbrev pub head_unseated : ℕ → SlotTable → SlotTable
+head_unseated count t = record t {
+  order = drop count t.order;
+  slots = drop count t.slots;
+  free = t.free ++ take count t.slots;
+}
+
+-- the slot of a bar, if that stands in the order
+abbrev pub slot_in : ℕ → List ℕ → List ℕ → Option ℕ
+slot_in number (n ∷ order) (slot ∷ slots) = if n == number then Some slot else slot_in number order slots
+slot_in number _ _ = None
+
+abbrev pub slot_of : ℕ → SlotTable → Option ℕ
+slot_of number t = slot_in number t.order t.slots
+
+-- how often a number stands in a list
+abbrev pub times : ℕ → List ℕ → ℕ
+times n [] = 0
+times n (x ∷ xs) = if x == n then 1 + times n xs else times n xs
+
+-- each bar stands in the order once and has a slot of its own
+pub record IsSeated (t : SlotTable) : Type 0 where
+  pub even : length t.order ≡ length t.slots
+  -- no bar stands there twice, and none that was not taken in
+  pub apart : (number : ℕ) → times number t.order ≤ 1
+  pub given : (number : ℕ) → t.made ≤ number → times number t.order ≡ 0
+  -- each slot that was ever used has one bar or is free, not both; there are as many as bars and free ones
+  pub used : (slot : ℕ) → slot < length t.slots + length t.free → times slot t.slots + times slot t.free ≡ 1
+  pub unused : (slot : ℕ) → length t.slots + length t.free ≤ slot → times slot t.slots + times slot t.free ≡ 0

@@ -1,0 +1,134 @@
+//! The order of a board's bars, and a slot for each.
+ghost use Rattle.std.specs.Prelude.{◌≡◌, ◌<◌, ◌^◌, IfOk, IfErr, OnErr};
+ghost use Rattle.indicatif_board.specs.Slots.{opening_slots, seated, unseated, head_unseated, slot_of, IsSeated};
+
+use crate::members::{drop_front, put_at, put_behind};
+use indicatif_text::columns::Refusal;
+use std::alloc::Global;
+use std::marker::Model;
+
+/// The order of a board's bars by their numbers, and a slot for each.
+///
+/// Numbers are counted from 0 as bars are taken in, and never used again. Slots are: the one that was freed last is used first,
+/// and a new one only where none is free, so that there are never more than there were bars at a time. Each slot that was ever
+/// used has one bar or is free.
+///
+/// ```
+/// let mut state = MultiState::new(alloc);
+/// let first = state.insert(0)?;
+/// let second = state.insert(0)?; // stands before the first
+/// assert_eq!(state.order(), [second, first]);
+/// assert_eq!(state.slot(second), Some(1));
+/// ```
+#[derive(Drop)]
+pub struct MultiState {
+    order: Vec<u64>,
+    slots: Vec<usize>,
+    /// With room for all slots, so that none is lost.
+    free: Vec<usize>,
+    /// The number of the next bar; none where numbers ran out.
+    next: Option<u64>,
+}
+
+/// Contracts see the bars' numbers in their order, their slots, the free slots, and how many bars were ever taken in.
+impl Model for MultiState {
+    ghost use Rattle.std.specs.Prelude.{◌≤◌, ◌+◌, vec_len, vec_capacity};
+    ghost use Rattle.indicatif_board.specs.Slots.{SlotTable, IsSeated, made_by};
+
+    ghost Value = { SlotTable };
+
+    ghost view = { λ s. record { order = s.order.items; slots = s.slots.items; free = s.free.items; made = made_by s.next } };
+
+    ghost invariant = { λ s. IsSeated (record { order = s.order.items; slots = s.slots.items; free = s.free.items; made = made_by s.next })
+        × (vec_len s.slots + vec_len s.free ≤ vec_capacity s.free) };
+}
+
+impl MultiState {
+    /// No bars and no slots. Takes no memory.
+    pub fn new(alloc: Global) -> MultiState
+        ensures { result ≡ opening_slots }
+    {
+        MultiState {
+            order: Vec::new(alloc),
+            slots: Vec::new(alloc),
+            free: Vec::new(alloc),
+            next: Some(0),
+        }
+    }
+
+    /// The bars' numbers, from the top.
+    pub fn order(&self) -> &[u64]
+        ensures order { result.now ≡ self.now.order }
+        ensures seated { IsSeated self.now }
+    {
+        &self.order
+    }
+
+    /// A bar's slot; `None` where it isn't in the order.
+    pub fn slot(&self, number: u64) -> Option<usize>
+        ensures { result ≡ slot_of number self.now }
+    {
+        for (at, bar) in self.order.iter().enumerate() {
+            if *bar == number {
+                return Some(self.slots[at]);
+            }
+        }
+        None
+    }
+
+    /// Takes a bar in where so many stand before it, or behind all others where there are fewer. Answers its number.
+    ///
+    /// Refused: `Memory`, also where numbers ran out past 2^64 - 1; nothing has changed then.
+    pub fn insert(&mut self, at: usize) -> Result<u64, Refusal>
+        ensures number { IfOk result (λ n. n ≡ self.old.made) }
+        ensures fits { IfOk result (λ n. n < 2 ^ 64) }
+        ensures inserted { IfOk result (λ _. self.new ≡ seated at self.old) }
+        ensures memory { IfErr result (λ e. e ≡ Refusal.Memory) }
+        ensures unchanged { OnErr result (self.new ≡ self.old) }
+    {
+        match self.next {
+            Some(number) => self.insert_as(number, at),
+            None => Err(Refusal::Memory),
+        }
+    }
+
+    /// The same, by the number.
+    fn insert_as(&mut self, number: u64, at: usize) -> Result<u64, Refusal>
+        requires next { number ≡ self.old.made }
+        ensures number { IfOk result (λ n. n ≡ self.old.made) }
+        ensures fits { IfOk result (λ n. n < 2 ^ 64) }
+        ensures inserted { IfOk result (λ _. self.new ≡ seated at self.old) }
+        ensures memory { IfErr result (λ e. e ≡ Refusal.Memory) }
+        ensures unchanged { OnErr result (self.new ≡ self.old) }
+    {
+        self.order.reserve(1)?;
+        self.slots.reserve(1)?;
+        self.free.reserve(self.slots.len() + 1)?;
+        let slot = self.free.pop().unwrap_or(self.slots.len());
+        let at = at.min(self.order.len());
+        put_at(&mut self.order, at, number);
+        put_at(&mut self.slots, at, slot);
+        self.next = number.checked_add(1);
+        Ok(number)
+    }
+
+    /// Takes the bar at a place out, if there is one. Its slot is the next that is used. Takes no memory.
+    pub fn remove(&mut self, at: usize)
+        ensures { self.new ≡ unseated at self.old }
+    {
+        if at < self.order.len() {
+            self.order.remove(at);
+            self.free.push_reserved(self.slots.remove(at));
+        }
+    }
+
+    /// Takes so many bars at the head out, or all where there are fewer. Takes no memory.
+    pub fn remove_first(&mut self, count: usize)
+        ensures { self.new ≡ head_unseated count self.old }
+    {
+        let count = count.min(self.order.len());
+        put_behind(&mut self.free, &self.slots[..count]);
+        drop_front(&mut self.order, count);
+        drop_front(&mut self.slots, count);
+    }
+}
