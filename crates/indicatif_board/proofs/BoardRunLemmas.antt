@@ -70,11 +70,11 @@ module _ {B C : Type 0} (kind : BoardKind B C) (mark : ℕ) where
   deed_soundly target (Remove id) now s = either s (not (id.mark == mark)) _ _ (λ sound. sound) (taken_out_soundly s id.number)
   deed_soundly target (Drop id) now s =
       let after = told id.number (kind.left now) s in
-      unless_refused s (turned_away mark id s) _
-      ( draw_soundly target (said_of false (kind.left_takes now) id.number s.members) (said_of No (kind.left_asked now) id.number s.members) now Frame s after
-        (laid_out kind target now id.number after) (λ sound. sound) (λ sound. sound)
-      , left_soundly target id.number
-      , λ x sound. sound
+      unless_refused s (turned_away mark id s) _ (
+        draw_soundly target (said_of false (kind.left_takes now) id.number s.members) (said_of No (kind.left_asked now) id.number s.members) now Frame s after
+            (laid_out kind target now id.number after) (λ sound. sound) (λ sound. sound),
+        left_soundly target id.number,
+        λ x sound. sound,
       )
   deed_soundly target (Log text) now s = only_draws target false Forced now (TextAndFrame (text_lines (logged_lines text))) s s s (λ sound. sound) (λ sound. sound)
   deed_soundly target (BarLog id text) now s =

@@ -26,7 +26,7 @@ invariant_of-self-2 c =
     let left = c.pop.ensures.rest ∙ ap (λ k. take (k - 1) free.items) free.ok.0 ∙ ap (λ f. take (length f - 1) f) c.in_ok-reserve-3.ensures.items in
     let made = made_next c.args.number c.checked_add-self-inside.result c.ranges.number.fits c.checked_add-self-inside.ensures in (
       inserted_seated t c.args.at c.min-at.result c.args.number c.unwrap_or-slot.result (made_by c.checked_add-self-inside.result) c.put_at.new.items.items
-      c.put_at-2.new.items.items c.pop.new.self.items
+          c.put_at-2.new.items.items c.pop.new.self.items
           c.self.invariant.0 place (c.requires.next ∙ sym (ap (λ (x : SlotTable). x.made) c.self.view_is)) slot order slots left made,
       omega (
         arith,

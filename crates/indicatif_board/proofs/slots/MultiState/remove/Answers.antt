@@ -12,9 +12,10 @@ invariant_of-self c =
     let within : c.args.at < length s.order.items = omega (arith, c.if-at-len.true, c.len.ensures, s.order.ok) in
     let inside : c.args.at < length s.slots.items = omega (arith, within, c.self.invariant.0.even) in
     let is = unseated_is t c.args.at c.remove-then-at-len.result c.remove-then-at-len.result c.remove.new.self.items c.remove-then-at-len.new.self.items c.push_reserved.new.self.items inside
-    c.remove-then-at-len.ensures.value c.remove.ensures.items c.remove-then-at-len.ensures.items c.push_reserved.ensures.items in
-    (subst IsSeated (sym is) (unseated_keeps t c.args.at c.self.invariant.0 within),
-      omega (arith, c.self.invariant.1, c.push_reserved.ensures.capacity, c.push_reserved.ensures.len, c.remove-then-at-len.ensures.len))
+    c.remove-then-at-len.ensures.value c.remove.ensures.items c.remove-then-at-len.ensures.items c.push_reserved.ensures.items in (
+      subst IsSeated (sym is) (unseated_keeps t c.args.at c.self.invariant.0 within),
+      omega (arith, c.self.invariant.1, c.push_reserved.ensures.capacity, c.push_reserved.ensures.len, c.remove-then-at-len.ensures.len),
+    )
 
 pub returns-else-at-len : goal.returns-else-at-len
 returns-else-at-len c =
