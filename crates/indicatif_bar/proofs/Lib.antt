@@ -13,6 +13,7 @@ pub mod RunLemmas
 pub mod OutcomeLemmas
 pub mod LoneDrawLemmas
 pub mod AnswerLemmas
+pub mod SoundRunLemmas
 pub mod LoneRunLemmas
 pub mod CommandAnswerLemmas
 pub mod BoundLemmas

@@ -7,3 +7,5 @@ pub mod MemberLemmas
 pub mod BoardDrawLemmas
 pub mod BoardCallLemmas
 pub mod DropLemmas
+pub mod BoundLemmas
+pub mod BoardRunLemmas

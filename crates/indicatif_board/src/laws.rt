@@ -1,8 +1,10 @@
 //! Laws of the definitions: functions that do nothing, each with a law as its contract.
-ghost use Rattle.std.specs.Prelude.{◌≡◌, ◌≤◌, ℕ};
-ghost use Rattle.indicatif_bar.specs.Runs.{RunsPaint, RunsAreRead, OneOutcome};
+ghost use Rattle.std.specs.Prelude.{◌≡◌, ◌≤◌, ℕ, List, Option, IsFalse};
+ghost use Rattle.indicatif_term.specs.Calls.{TermView};
+ghost use Rattle.indicatif_bar.specs.Runs.{RunsPaint, RunsAreRead, ReadsAfter, OneOutcome};
 ghost use Rattle.indicatif_bar.specs.Says.{EachSays};
-ghost use Rattle.indicatif_board.specs.Boards.{BoardKind, board};
+ghost use Rattle.indicatif_bar.specs.Bounds.{IsLimited, RunsAreBounded};
+ghost use Rattle.indicatif_board.specs.Boards.{BoardKind, BoardState, Call, Answer, board};
 ghost use Rattle.indicatif_board.specs.Done.{account_of_both, kept_half, given_half};
 ghost use Rattle.indicatif_board.specs.declared.done.Account.{Account};
 
@@ -25,6 +27,14 @@ pub fn what_a_run_reads<B, C>()
     ensures { (kind : BoardKind B C) (mark : ℕ) → RunsAreRead (board kind mark) }
 {}
 
+/// The same from a terminal that shows the lists of the run's start, whatever the calls are: a board's rows are forgotten only
+/// where the terminal failed.
+pub fn what_a_board_run_reads<B, C>()
+    ensures { (kind : BoardKind B C) (mark : ℕ) (calls : List (Call B C × ℕ)) (answers : List Answer) (v : TermView) (s : BoardState B)
+        (new : Option TermView) (next : BoardState B) →
+        IsFalse s.lists.failed → ReadsAfter (board kind mark) calls answers v s new next }
+{}
+
 /// Where the terminal never failed and memory was never refused, a board's run has one outcome: its answers and its last
 /// state follow from its calls alone.
 pub fn one_outcome<B, C>()
@@ -34,4 +44,11 @@ pub fn one_outcome<B, C>()
 /// When a call of a board gives which answer.
 pub fn what_an_answer_says<B, C>()
     ensures { (kind : BoardKind B C) (mark : ℕ) → EachSays (board kind mark) }
+{}
+
+/// A board asks its limiter once for each unforced draw, and nothing else changes that: from a rate's limiter as it is made on, a
+/// run makes at most 20 unforced draws, and one more for each interval from the making to the last of them.
+pub fn a_board_is_limited<B, C>()
+    ensures asks { (kind : BoardKind B C) (mark : ℕ) → IsLimited (board kind mark) (λ s. s.limiter) }
+    ensures bounded { (kind : BoardKind B C) (mark : ℕ) → RunsAreBounded (board kind mark) (λ s. s.limiter) }
 {}

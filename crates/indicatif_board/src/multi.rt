@@ -132,7 +132,8 @@ impl<K: ProgressTracker, T: TermLike + Drop> Board<K, T> {
             IsIn mark self.new (record s { limiter = limiter_of target; lists = opening_lists }) }
     {
         let (engine, limiter) = opened_on(self.shown.alloc, target);
-        let limiter = replace(&mut self.shown.limiter, limiter);
+        let shown = &mut self.shown;
+        let limiter = replace(&mut shown.limiter, limiter);
         match replace(&mut self.engine, engine) {
             Some(engine) => ProgressDrawTarget::from_parts(Some((engine.into_term(), limiter))),
             None => ProgressDrawTarget::hidden(),
@@ -258,7 +259,8 @@ impl<K: ProgressTracker, T: TermLike + Drop> Board<K, T> {
         ensures leads { LeadsBy K.means T.view self.old self.new (Drop (id_of id)) now (says result) }
     {
         let at = self.find(id)?;
-        match self.shown.members[at].bar.dropped(now) {
+        let shown = &mut self.shown;
+        match shown.members[at].bar.dropped(now) {
             Ok(ask) => {
                 let drawn = self.draw(ask, Some(at), Writing::Frame, now);
                 self.part(id.number, &drawn);
@@ -285,7 +287,8 @@ impl<K: ProgressTracker, T: TermLike + Drop> Board<K, T> {
         ensures leads { LeadsBy K.means T.view self.old self.new (Tell (id_of id) (command_of command)) now (says result) }
     {
         let at = self.find(id)?;
-        let ask = self.shown.members[at].bar.apply(command, now)?;
+        let shown = &mut self.shown;
+        let ask = shown.members[at].bar.apply(command, now)?;
         self.draw(ask, Some(at), Writing::Frame, now)
     }
 
