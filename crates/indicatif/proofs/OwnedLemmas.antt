@@ -3,8 +3,11 @@ use Rattle.std.proofs.Common.{◌≡◌, ℕ, zero, suc, inl, inr, ⊎_elim, Lis
 use Rattle.indicatif_text.specs.declared.refusal.Drawn.{Drawn}
 use Rattle.indicatif_text.specs.declared.refusal.Refusal.{Refusal}
 use Rattle.indicatif_term.specs.Calls.{TermView}
+use Rattle.std.proofs.lemmas.Bool.{cond_both}
 use Rattle.indicatif_bar.specs.Trackers.{Tracking}
-use Rattle.indicatif_bar.specs.Commands.{BarRecord, Command}
+use Rattle.indicatif_bar.specs.declared.state.Ask.TheVariants.{No}
+use Rattle.indicatif_bar.specs.PositionLimiters.{allow_position}
+use Rattle.indicatif_bar.specs.Commands.{BarRecord, Command, tick, ticker_tick, moved_to}
 use Rattle.indicatif_bar.specs.Runs.{Runs}
 use Rattle.indicatif_bar.specs.Lone.{LoneState, Call, Change}
 use Rattle.indicatif_bar.specs.LoneBars.{known, lone_bar, IsIn, LeadsBy}
@@ -13,7 +16,7 @@ use Rattle.indicatif.specs.declared.owned.OwnedBar.{OwnedBar}
 use Rattle.indicatif.specs.declared.wrap.ProgressBarIter.{ProgressBarIter}
 use Rattle.indicatif.specs.Moves.{Standing, Move, Advance, PlaceAt, FinishAsStored, MovedAlong, AreOfLoop}
 use Rattle.indicatif.specs.Wrap.{Loops}
-use Rattle.indicatif.specs.Owned.{lone_of, command_of_move, Commanded, IsRun}
+use Rattle.indicatif.specs.Owned.{lone_of, standing_of, command_of_move, Commanded, IsRun}
 
 -- the moves of a loop
 abbrev pub LoopMade : {P : Type 0} → (P → Move → Result Drawn Refusal → P → Type 0) → ℕ → P → P → Type 0
@@ -67,3 +70,17 @@ module _ {K T C : Type 0} (m : Tracking K) (view : T → TermView) where
   moves-run made old new along s inside =
       let r = run-from made old new along s inside in
       (r.0, r.1, r.2, r.3, r.4, headline (lone_bar m) r.0 (map (λ x. x.1) made) (known view (lone_of old)) s (known view (lone_of new)) r.2 r.4)
+
+-- ---- where a bar stands
+
+module _ {K : Type 0} (m : Tracking K) where
+  -- a tick leaves it there
+  ticked_stands : (bar : BarRecord K) (now : ℕ) → standing_of (tick m bar now).0 ≡ standing_of bar
+  ticked_stands bar now = cond_both bar.ticker (bar, No) (ticker_tick m bar now) (λ o. standing_of o.0 ≡ standing_of bar) (λ a. refl) (λ a. refl)
+
+  -- a new position is all that is new
+  pub moved_stands : (position : ℕ) (bar : BarRecord K) (now : ℕ) → standing_of (moved_to m position bar now).0 ≡ record (standing_of bar) { position = position }
+  moved_stands position bar now =
+      let asked = allow_position bar.limiter now in
+      let next = record bar { progress = record bar.progress { position = position }; limiter = asked.1 } in
+      cond_both asked.0 (tick m next now) (next, No) (λ o. standing_of o.0 ≡ record (standing_of bar) { position = position }) (λ a. ticked_stands next now) (λ a. refl)
