@@ -2,48 +2,26 @@
 #![tactic(auto)]
 
 use anyhow::{Result, anyhow};
-use indicatif_bar::lone::LoneBar;
-use indicatif_bar::state::BarState;
-use indicatif_bar::style::{NoTracker, ProgressStyle};
-use indicatif_term::draw_target::ProgressDrawTarget;
-use indicatif_term::in_memory::InMemoryTerm;
-use std::alloc::Global;
+use indicatif::style::{NoTracker, ProgressStyle};
+use indicatif::{BarState, InMemoryTerm, LoneBar, ProgressDrawTarget};
 
-type Bar = LoneBar<NoTracker, InMemoryTerm>;
-
-fn started(alloc: Global) -> Result<Bar> {
-    let target = ProgressDrawTarget::term_like(InMemoryTerm::new(alloc, 3, 1)?);
-    let style = ProgressStyle::with_template(alloc, "{msg}")?;
-    Ok(LoneBar::new(BarState::styled(alloc, style, None, 0)?, target))
-}
-
-fn say(rt: &HostRuntime, bar: &mut Bar, message: &str) -> Result<()> {
-    match bar.set_message(message, 0) {
-        Ok(_) => println!(rt; "drawn")?,
-        Err(refusal) => println!(rt; "E{}: {refusal}", refusal.number())?,
-    }
-    Ok(())
-}
-
-fn show(rt: &HostRuntime, bar: &Bar) -> Result<()> {
-    let term = bar.term().ok_or(anyhow!("no terminal"))?;
-    println!(rt;
-        "message {:?}, shown {:?}",
-        bar.bar().message(),
-        term.contents()?
-    )?;
-    Ok(())
-}
-
-fn say_all(rt: &HostRuntime, bar: &mut Bar) -> Result<()> {
+fn say_all(rt: &HostRuntime, bar: &mut LoneBar<NoTracker, InMemoryTerm>) -> Result<()> {
     for message in ["a", "国", "b"] {
-        say(rt, bar, message)?;
-        show(rt, bar)?;
+        match bar.set_message(message, 0) {
+            Ok(_) => println!(rt; "drawn")?,
+            Err(refusal) => println!(rt; "E{}: {refusal}", refusal.number())?,
+        }
+        let shown = bar.term().ok_or(anyhow!("no terminal"))?.contents()?;
+        println!(rt; "message {:?}, shown {shown:?}", bar.bar().message())?;
     }
     Ok(())
 }
 
 fn main(rt: HostRuntime) -> Result<()> {
-    let mut bar = started(rt.alloc())?;
-    say_all(&rt, &mut bar)
+    let target = ProgressDrawTarget::term_like(InMemoryTerm::new(rt.alloc(), 3, 1)?);
+    let style = ProgressStyle::with_template(rt.alloc(), "{msg}")?;
+    say_all(
+        &rt,
+        &mut LoneBar::new(BarState::styled(rt.alloc(), style, None, 0)?, target),
+    )
 }
