@@ -10,6 +10,11 @@ use indicatif_text::columns::{Drawn, Refusal};
 ///
 /// What a contract can say of the bar is what it tells: a bar of one's own tells where it stands, one that is shared can't. A
 /// move whose draw was refused is a move all the same.
+///
+/// ```
+/// let mut wrapped = ProgressBarIter::new(list.into_iter(), bar); // bar: a type of one's own with these calls
+/// wrapped.next(); // bar.advance(1)
+/// ```
 pub trait Moves: Drop {
     /// Where the bar stands, where it is told.
     ghost told: { Self → Option Standing } = { λ _. None };

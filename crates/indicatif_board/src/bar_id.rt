@@ -1,6 +1,11 @@
 //! Bars by their numbers.
 
 /// A bar by its board and its number there. Boards are told apart by their marks alone, and numbers are never used again.
+///
+/// ```
+/// let elsewhere = BarId { mark: 0, number: 1 };
+/// assert_eq!(board.remove(elsewhere), Err(Refusal::ForeignBar));
+/// ```
 #[derive(Clone, Copy, Debug, Drop, PartialEq, Eq)]
 pub struct BarId {
     /// The board's mark.

@@ -11,6 +11,11 @@ use indicatif_term::draw_target::MultiProgressAlignment;
 use indicatif_text::columns::{Drawn, Refusal};
 
 /// What is to be taken in.
+///
+/// ```
+/// let id = board.add(Candidate::New(bar)).map_err(|turned| turned.refusal)?;
+/// assert_eq!(board.insert(0, Candidate::Member(id)), Ok(id)); // it stays where it is
+/// ```
 #[derive(Drop)]
 pub enum Candidate<K> {
     /// A new bar.
@@ -20,6 +25,12 @@ pub enum Candidate<K> {
 }
 
 /// A candidate that was turned away, and why.
+///
+/// ```
+/// if let Err(turned) = board.insert_after(id, Candidate::New(bar)) {
+///     let kept = turned.candidate; // the bar as it was
+/// }
+/// ```
 #[derive(Drop)]
 pub struct Turned<K> {
     /// The candidate, as it was.

@@ -117,7 +117,8 @@ fn measured(line: &str, width: usize) -> Option<Metrics>
     let mut last = LastWidth::new();
     let mut rest = Visible::of(line);
     'rest: loop {
-        let (rows, place) = after_narrow(width, column, rest.pass_narrow(last.narrow()));
+        let narrow = rest.pass_narrow(last.narrow());
+        let (rows, place) = Row { width, column }.after_narrow(narrow);
         height += rows;
         column = place;
         let Some(c) = rest.next() else {
@@ -139,22 +140,31 @@ fn measured(line: &str, width: usize) -> Option<Metrics>
     }
 }
 
-/// How many rows further, and at which column, so many characters of one column end.
-#[inline(always)]
-fn after_narrow(width: usize, column: usize, count: usize) -> (usize, usize)
-    requires some { 0 < width }
-    requires within { column ≤ width }
-    ensures place { column + count ≡ width * result.0 + result.1 }
-    ensures within { result.1 ≤ width }
-    ensures no_empty_row { 0 < result.0 → 0 < result.1 }
-    ensures few { result.0 ≤ count }
-{
-    let room = width - column;
-    if count <= room {
-        return (0, column + count);
+/// A row of so many columns, and how many of them are taken.
+#[derive(Clone, Copy, Drop)]
+struct Row {
+    width: usize,
+    column: usize,
+}
+
+impl Row {
+    /// How many rows further, and at which column, so many characters of one column end.
+    #[inline(always)]
+    fn after_narrow(self, count: usize) -> (usize, usize)
+        requires some { 0 < self.width }
+        requires within { self.column ≤ self.width }
+        ensures place { self.column + count ≡ self.width * result.0 + result.1 }
+        ensures within { result.1 ≤ self.width }
+        ensures no_empty_row { 0 < result.0 → 0 < result.1 }
+        ensures few { result.0 ≤ count }
+    {
+        let room = self.width - self.column;
+        if count <= room {
+            return (0, self.column + count);
+        }
+        let over = count - room - 1;
+        (1 + over / self.width, over % self.width + 1)
     }
-    let over = count - room - 1;
-    (1 + over / width, over % width + 1)
 }
 
 /// A character and its columns, kept for when it comes again.

@@ -13,6 +13,7 @@ mod rounding;
 pub(crate) mod short_text;
 
 use crate::refusal::Refusal;
+use quotients::Quotient;
 use short_text::ShortText;
 use std::fmt;
 use std::marker::Model;
@@ -229,7 +230,11 @@ impl HumanFloatCount {
         ensures full { OnErr result (string_capacity out.old
             < string_len out.old + length (human_float_count self.now.num self.now.den decimals)) }
     {
-        quotients::push_text(self.num, self.den, decimals, out)?;
+        let quotient = Quotient {
+            num: self.num,
+            den: self.den,
+        };
+        quotients::push_text(quotient, decimals, out)?;
         Ok(())
     }
 }

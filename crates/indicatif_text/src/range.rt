@@ -50,7 +50,7 @@ fn push_range(text: &str, start: usize, end: usize, out: &mut String) -> Result<
         if piece.colour {
             push_text(piece.text, out)?;
         } else {
-            column = push_run(piece.text, start, end, column, out)?;
+            column = push_run(piece.text, (start, end), column, out)?;
         }
     }
     Ok(())
@@ -59,17 +59,17 @@ fn push_range(text: &str, start: usize, end: usize, out: &mut String) -> Result<
 /// The same of a run that begins at `column`; gives the column behind it.
 fn push_run(
     run: &str,
-    start: usize,
-    end: usize,
+    range: (usize, usize),
     column: usize,
     out: &mut String,
 ) -> Result<usize, AllocError>
     requires { column + sum_by width_of (chars run.now) < 2 ^ 64 }
     ensures column { IfOk result (λ n. n ≡ column + sum_by width_of (chars run.now)) }
     ensures text { OnOk result (Appends (string_bytes out.old) (string_bytes out.new)
-        (run_within start end column (chars run.now))) }
+        (run_within range.0 range.1 column (chars run.now))) }
     ensures grown { Grows (string_bytes out.old) (string_bytes out.new) }
 {
+    let (start, end) = range;
     let shown = column < end;
     let mut column = column;
     let mut rest = run.chars();

@@ -21,7 +21,7 @@ pub(crate) fn whole_char_of(bytes: &[u8]) -> Option<WholeChar>
     if first < 0xE1 || first > 0xEF || bytes.len() < 3 {
         return None;
     }
-    of_three(first, bytes[1], bytes[2])
+    of_three(first, (bytes[1], bytes[2]))
 }
 
 /// A printable character of ASCII.
@@ -41,10 +41,11 @@ fn printable(byte: u8) -> Option<WholeChar>
 
 /// The character that these three bytes spell.
 #[inline]
-fn of_three(first: u8, second: u8, third: u8) -> Option<WholeChar>
+fn of_three(first: u8, rest: (u8, u8)) -> Option<WholeChar>
     requires first { (0xE1 ≤ first) × (first ≤ 0xEF) }
-    ensures { IfSome result (λ f. IsWholeChar (first ∷ second ∷ third ∷ []) f.character f.len) }
+    ensures { IfSome result (λ f. IsWholeChar (first ∷ rest.0 ∷ rest.1 ∷ []) f.character f.len) }
 {
+    let (second, third) = rest;
     if second < 0x80 || second > 0xBF || third < 0x80 || third > 0xBF {
         return None;
     }

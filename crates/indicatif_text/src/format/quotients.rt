@@ -9,6 +9,13 @@ use crate::format::rounding::rounds_up;
 use crate::format::short_text::ShortText;
 use std::alloc::AllocError;
 
+/// A number divided by another.
+#[derive(Clone, Copy, Drop)]
+pub(crate) struct Quotient {
+    pub(crate) num: u128,
+    pub(crate) den: u64,
+}
+
 /// A long division: what is left after each decimal.
 #[derive(Drop)]
 struct LongDivision {
@@ -19,14 +26,14 @@ struct LongDivision {
 
 impl LongDivision {
     /// The division behind the point.
-    fn new(num: u128, den: u64) -> LongDivision
-        requires { 0 < den }
-        ensures rest { result.rest ≡ num % den }
-        ensures den { result.den ≡ den }
+    fn new(quotient: Quotient) -> LongDivision
+        requires { 0 < quotient.den }
+        ensures rest { result.rest ≡ quotient.num % quotient.den }
+        ensures den { result.den ≡ quotient.den }
     {
         LongDivision {
-            rest: (num % u128::from(den)) as u64,
-            den,
+            rest: (quotient.num % u128::from(quotient.den)) as u64,
+            den: quotient.den,
         }
     }
 
@@ -65,15 +72,15 @@ pub(crate) struct Rounded {
 impl Rounded {
     /// One pass over the decimals: the last that is no zero ends a number that isn't raised, the last that is no nine one
     /// that is.
-    pub(crate) fn of(num: u128, den: u64, decimals: u16) -> Rounded
-        requires { 0 < den }
+    pub(crate) fn of(quotient: Quotient, decimals: u16) -> Rounded
+        requires { 0 < quotient.den }
         ensures kept { result.kept ≤ decimals }
-        ensures text { human_float_count num den decimals ≡ human_count result.whole
-            ++ after_point (last_digits result.kept (raised result.up (below num den result.kept))) }
-        ensures no_carry { NeedsNoCarry result.up num den result.kept }
+        ensures text { human_float_count quotient.num quotient.den decimals ≡ human_count result.whole
+            ++ after_point (last_digits result.kept (raised result.up (below quotient.num quotient.den result.kept))) }
+        ensures no_carry { NeedsNoCarry result.up quotient.num quotient.den result.kept }
     {
-        let whole = num / u128::from(den);
-        let mut division = LongDivision::new(num, den);
+        let whole = quotient.num / u128::from(quotient.den);
+        let mut division = LongDivision::new(quotient);
         let mut odd = whole % 2 == 1;
         let mut nonzero: u16 = 0;
         let mut not_nine: u16 = 0;
@@ -83,7 +90,7 @@ impl Rounded {
             not_nine = last_place(digit == 9, not_nine, place + 1);
             odd = digit % 2 == 1;
         }
-        if !rounds_up(odd, division.rest, den) {
+        if !rounds_up(odd, division.rest, quotient.den) {
             return Rounded {
                 whole,
                 kept: nonzero,
@@ -114,12 +121,12 @@ fn last_place(is_passed_over: bool, before: u16, place: u16) -> u16
 }
 
 /// Fills `out` with the first decimals of a quotient, the last of them raised by one if `up`.
-pub(crate) fn fill_decimals(num: u128, den: u64, up: bool, out: &mut [u8])
-    requires den { 0 < den }
-    requires no_carry { NeedsNoCarry up num den (length out.old) }
-    ensures { out.new ≡ last_digits (length out.old) (raised up (below num den (length out.old))) }
+pub(crate) fn fill_decimals(quotient: Quotient, up: bool, out: &mut [u8])
+    requires den { 0 < quotient.den }
+    requires no_carry { NeedsNoCarry up quotient.num quotient.den (length out.old) }
+    ensures { out.new ≡ last_digits (length out.old) (raised up (below quotient.num quotient.den (length out.old))) }
 {
-    let mut division = LongDivision::new(num, den);
+    let mut division = LongDivision::new(quotient);
     for digit in out.iter_mut() {
         *digit = b'0' + division.next_digit();
     }
@@ -134,10 +141,11 @@ pub(crate) fn four_decimals_text(num: u128, den: u64) -> ShortText
     requires { 0 < den }
     ensures { result ≡ human_float_count num den 4 }
 {
-    let rounded = Rounded::of(num, den, 4);
+    let quotient = Quotient { num, den };
+    let rounded = Rounded::of(quotient, 4);
     let mut digits = [0u8; 4];
     let decimals = &mut digits[..rounded.kept as usize];
-    fill_decimals(num, den, rounded.up, decimals);
+    fill_decimals(quotient, rounded.up, decimals);
     joined(rounded.whole, decimals)
 }
 
@@ -158,19 +166,18 @@ fn joined(whole: u128, decimals: &[u8]) -> ShortText
 
 /// Appends the text of a quotient at so many decimals. All memory comes first, so that a refusal leaves `out` as before.
 pub(crate) fn push_text(
-    num: u128,
-    den: u64,
+    quotient: Quotient,
     decimals: u16,
     out: &mut String,
 ) -> Result<(), AllocError>
-    requires { 0 < den }
+    requires { 0 < quotient.den }
     ensures written { OnOk result (string_bytes out.new
-        ≡ string_bytes out.old ++ human_float_count num den decimals) }
+        ≡ string_bytes out.old ++ human_float_count quotient.num quotient.den decimals) }
     ensures unchanged { OnErr result (string_bytes out.new ≡ string_bytes out.old) }
     ensures full { OnErr result (string_capacity out.old
-        < string_len out.old + length (human_float_count num den decimals)) }
+        < string_len out.old + length (human_float_count quotient.num quotient.den decimals)) }
 {
-    let rounded = Rounded::of(num, den, decimals);
+    let rounded = Rounded::of(quotient, decimals);
     let mut whole = ShortText::new();
     whole.prepend_wide_count(rounded.whole);
     let kept = rounded.kept as usize;
@@ -180,20 +187,20 @@ pub(crate) fn push_text(
     out.reserve(whole.as_str().len() + 1 + kept)?;
     append(out, whole.as_str());
     append(out, ".");
-    append_decimals(num, den, rounded, out);
+    append_decimals(quotient, rounded, out);
     Ok(())
 }
 
 /// Appends the decimals of a rounded quotient, of which there are some and for which there is room.
-fn append_decimals(num: u128, den: u64, rounded: Rounded, out: &mut String)
-    requires den { 0 < den }
+fn append_decimals(quotient: Quotient, rounded: Rounded, out: &mut String)
+    requires den { 0 < quotient.den }
     requires some { 0 < rounded.kept }
-    requires no_carry { NeedsNoCarry rounded.up num den rounded.kept }
+    requires no_carry { NeedsNoCarry rounded.up quotient.num quotient.den rounded.kept }
     requires room { string_len out.old + rounded.kept ≤ string_capacity out.old }
     ensures { string_bytes out.new ≡ string_bytes out.old
-        ++ last_digits rounded.kept (raised rounded.up (below num den rounded.kept)) }
+        ++ last_digits rounded.kept (raised rounded.up (below quotient.num quotient.den rounded.kept)) }
 {
-    let mut division = LongDivision::new(num, den);
+    let mut division = LongDivision::new(quotient);
     for place in 0..rounded.kept - 1 {
         append_digit(out, division.next_digit());
     }

@@ -21,7 +21,7 @@ characters-preserved-in_ok-push c =
       utf8 = past_utf8 bs rest c.in-Some.c c.characters.invariant.utf8 c.in-Some.ensures.steps.0;
       sum_is = omega (arith, c.width.ensures, c.characters.invariant.sum_is, ap (sum_by width_of) next, sum_by-cons width_of c.in-Some.c (chars rest));
       out_is = leaves_less _ _ _ (c.in-Some.c ∷ []) _ _ _ c.characters.invariant.out_is
-          (pushed (nat_lt c.args.column c.args.end) c.args.start c.args.end c.characters.column c.in-Some.c c.width.result (chars bs) (chars rest) next c.width.ensures c.if-stands.true)
+          (pushed (nat_lt c.args.column c.args.range.1) c.args.range.0 c.args.range.1 c.characters.column c.in-Some.c c.width.result (chars bs) (chars rest) next c.width.ensures c.if-stands.true)
           (one _ _ c.in-Some.c c.in_ok-push.ensures.bytes);
     }
 
@@ -34,7 +34,7 @@ characters-preserved c =
       utf8 = past_utf8 bs rest c.in-Some.c c.characters.invariant.utf8 c.in-Some.ensures.steps.0;
       sum_is = omega (arith, c.width.ensures, c.characters.invariant.sum_is, ap (sum_by width_of) next, sum_by-cons width_of c.in-Some.c (chars rest));
       out_is = leaves_same _ _ _ _ _ c.characters.invariant.out_is
-          (passed (nat_lt c.args.column c.args.end) c.args.start c.args.end c.characters.column c.in-Some.c c.width.result (chars bs) (chars rest) next c.width.ensures c.if-stands.false);
+          (passed (nat_lt c.args.column c.args.range.1) c.args.range.0 c.args.range.1 c.characters.column c.in-Some.c c.width.result (chars bs) (chars rest) next c.width.ensures c.if-stands.false);
     }
 
 pub returns-clause-column : goal.returns-clause-column
@@ -45,4 +45,4 @@ returns-clause-column c =
 pub returns-clause-text : goal.returns-clause-text
 returns-clause-text c =
     let none = chars_none (chars_rest c.characters.rest) c.in_default.ensures.steps.0.0 in
-    leaves_none _ _ _ _ c.characters.invariant.out_is (no_more (nat_lt c.args.column c.args.end) c.args.start c.args.end c.characters.column _ none)
+    leaves_none _ _ _ _ c.characters.invariant.out_is (no_more (nat_lt c.args.column c.args.range.1) c.args.range.0 c.args.range.1 c.characters.column _ none)

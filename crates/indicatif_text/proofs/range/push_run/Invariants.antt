@@ -10,8 +10,8 @@ abbrev pub invariant-characters : goal.invariant-characters
 invariant-characters l = record {
   utf8 : IsUtf8 (chars_rest l.rest);
   sum_is : l.column + sum_by width_of (chars (chars_rest l.rest)) ≡ l.initial.column + sum_by width_of (chars l.run);
-  out_is : Leaves (string_bytes l.initial.out) (string_bytes l.out) (left_within l.shown l.start l.end l.column (chars (chars_rest l.rest)))
-      (left_within l.shown l.start l.end l.initial.column (chars l.run));
+  out_is : Leaves (string_bytes l.initial.out) (string_bytes l.out) (left_within l.shown l.fn.range.0 l.fn.range.1 l.column (chars (chars_rest l.rest)))
+      (left_within l.shown l.fn.range.0 l.fn.range.1 l.initial.column (chars l.run));
 }
 
 abbrev pub decreases-characters : goal.decreases-characters

@@ -8,7 +8,7 @@ use Rattle.indicatif_text.proofs.format.quotients.append_decimals.Goals.{then-ro
 
 pub loop-place-init : goal.loop-place-init
 loop-place-init c = record {
-  rest_is = c.new-division.ensures.rest ∙ sym (left_none c.args.num c.args.den);
+  rest_is = c.new-division.ensures.rest ∙ sym (left_none c.args.quotient.num c.args.quotient.den);
   den_is = c.new-division.ensures.den;
   bytes_are = sym (append-nil (string_bytes c.args.out.now));
   len_is = omega arith;
@@ -22,8 +22,8 @@ append_digit-requires-clause-room c =
 
 pub loop-place-preserved : goal.loop-place-preserved
 loop-place-preserved c =
-    let num = c.args.num in
-    let den = c.args.den in
+    let num = c.args.quotient.num in
+    let den = c.args.quotient.den in
     let place = c.loop-place.place in
     let before = c.loop-place.invariant in
     let digit = c.next_digit in
@@ -41,8 +41,8 @@ loop-place-preserved c =
 
 pub append_digit-requires-2-clause-digit : goal.append_digit-requires-2-clause-digit
 append_digit-requires-2-clause-digit c =
-    let num = c.args.num in
-    let den = c.args.den in
+    let num = c.args.quotient.num in
+    let den = c.args.quotient.den in
     let place = c.loop-place.place in
     let i = c.loop-place.invariant in
     let digit = c.next_digit-last.result in
@@ -61,8 +61,8 @@ append_digit-requires-2-clause-room c =
 
 pub returns : goal.returns
 returns c =
-    let num = c.args.num in
-    let den = c.args.den in
+    let num = c.args.quotient.num in
+    let den = c.args.quotient.den in
     let place = c.loop-place.place in
     let i = c.loop-place.invariant in
     let digit = c.next_digit-last.result in

@@ -6,9 +6,9 @@ use Rattle.indicatif_text.proofs.format.quotients.append_decimals.Given as goal
 
 abbrev pub invariant-loop-place : goal.invariant-loop-place
 invariant-loop-place l = record {
-  rest_is : l.division.rest ≡ left_over l.num l.den l.place;
-  den_is : l.division.den ≡ l.den;
-  bytes_are : string_bytes l.out ≡ string_bytes l.fn.out ++ last_digits l.place (below l.num l.den l.place);
+  rest_is : l.division.rest ≡ left_over l.fn.quotient.num l.fn.quotient.den l.place;
+  den_is : l.division.den ≡ l.fn.quotient.den;
+  bytes_are : string_bytes l.out ≡ string_bytes l.fn.out ++ last_digits l.place (below l.fn.quotient.num l.fn.quotient.den l.place);
   len_is : string_len l.out ≡ string_len l.fn.out + l.place;
   capacity_is : string_capacity l.fn.out ≤ string_capacity l.out;
 }

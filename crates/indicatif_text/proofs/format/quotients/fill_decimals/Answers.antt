@@ -10,15 +10,15 @@ use Rattle.indicatif_text.proofs.format.quotients.fill_decimals.Goals as goal
 
 pub loop-digit-init : goal.loop-digit-init
 loop-digit-init c = record {
-  rest_is = c.new-division.ensures.rest ∙ sym (left_none c.args.num c.args.den);
+  rest_is = c.new-division.ensures.rest ∙ sym (left_none c.args.quotient.num c.args.quotient.den);
   den_is = c.new-division.ensures.den;
   filled = refl;
 }
 
 pub loop-digit-preserved : goal.loop-digit-preserved
 loop-digit-preserved c =
-    let num = c.args.num in
-    let den = c.args.den in
+    let num = c.args.quotient.num in
+    let den = c.args.quotient.den in
     let place = c.loop-digit.digit-index in
     let before = c.loop-digit.invariant in
     let digit = c.next_digit in
@@ -35,7 +35,7 @@ pub returns-then-not-is_empty : goal.returns-then-not-is_empty
 returns-then-not-is_empty c =
     let loop = c.loop-digit in
     let n = length c.args.out.now in
-    let m = below c.args.num c.args.den n in
+    let m = below c.args.quotient.num c.args.quotient.den n in
     let done : loop.digit-index ≡ n = omega arith in
     let filled : loop.out ≡ last_digits n m = all_filled loop.out _ n loop.auto.out (rw done at loop.invariant.filled) in
     let some : 0 < n = omega (arith, loop.auto.out, pos_of_ne-zero (eqb-false (length loop.out) 0 (sym c.is_empty.ensures ∙ c.if-not-is_empty.true))) in

@@ -5,17 +5,17 @@ use Rattle.indicatif_text.proofs.format.quotients.Rounded.of.Goals as goal
 
 pub loop-place-init : goal.loop-place-init
 loop-place-init c = record {
-  rest_is = c.new-division.ensures.rest ∙ sym (left_none c.args.num c.args.den);
+  rest_is = c.new-division.ensures.rest ∙ sym (left_none c.args.quotient.num c.args.quotient.den);
   den_is = c.new-division.ensures.den;
-  odd_is = rw (c.from.ensures, below_none c.args.num c.args.den) refl;
-  plain = ends_none c.args.num c.args.den 0;
-  above = ends_none c.args.num c.args.den 1;
+  odd_is = rw (c.from.ensures, below_none c.args.quotient.num c.args.quotient.den) refl;
+  plain = ends_none c.args.quotient.num c.args.quotient.den 0;
+  above = ends_none c.args.quotient.num c.args.quotient.den 1;
 }
 
 pub loop-place-preserved : goal.loop-place-preserved
 loop-place-preserved c =
-    let num = c.args.num in
-    let den = c.args.den in
+    let num = c.args.quotient.num in
+    let den = c.args.quotient.den in
     let place = c.loop-place.place in
     let before = c.loop-place.invariant in
     let digit = c.next_digit-digit in
@@ -31,8 +31,8 @@ loop-place-preserved c =
 
 pub returns-then-not-rounds_up-clause-text : goal.returns-then-not-rounds_up-clause-text
 returns-then-not-rounds_up-clause-text c =
-    let num = c.args.num in
-    let den = c.args.den in
+    let num = c.args.quotient.num in
+    let den = c.args.quotient.den in
     let loop = c.loop-place in
     let all : loop.place ≡ c.args.decimals = omega arith in
     let is = rw c.if-not-rounds_up.true at
@@ -41,8 +41,8 @@ returns-then-not-rounds_up-clause-text c =
 
 pub returns-then-not_nine-eq0-clause-text : goal.returns-then-not_nine-eq0-clause-text
 returns-then-not_nine-eq0-clause-text c =
-    let num = c.args.num in
-    let den = c.args.den in
+    let num = c.args.quotient.num in
+    let den = c.args.quotient.den in
     let loop = c.loop-place in
     let all : loop.place ≡ c.args.decimals = omega arith in
     let is = rw c.if-not-rounds_up.false at
@@ -51,8 +51,8 @@ returns-then-not_nine-eq0-clause-text c =
 
 pub returns-clause-text : goal.returns-clause-text
 returns-clause-text c =
-    let num = c.args.num in
-    let den = c.args.den in
+    let num = c.args.quotient.num in
+    let den = c.args.quotient.den in
     let loop = c.loop-place in
     let all : loop.place ≡ c.args.decimals = omega arith in
     let is = rw c.if-not-rounds_up.false at
