@@ -1,12 +1,16 @@
 //! Laws of the definitions: functions that do nothing, each with a law as its contract.
 ghost use Rattle.std.specs.Prelude.{◌≡◌, ◌≤◌, ℕ, List, Option, IsFalse};
 ghost use Rattle.indicatif_term.specs.Calls.{TermView};
+ghost use Rattle.indicatif_bar.specs.Commands.{BarRecord, Command};
 ghost use Rattle.indicatif_bar.specs.Runs.{RunsPaint, RunsAreRead, ReadsAfter, OneOutcome};
 ghost use Rattle.indicatif_bar.specs.Says.{EachSays};
 ghost use Rattle.indicatif_bar.specs.Bounds.{IsLimited, RunsAreBounded};
 ghost use Rattle.indicatif_board.specs.Boards.{BoardKind, BoardState, Call, Answer, board};
+ghost use Rattle.indicatif_board.specs.BoardBars.{board_bars};
 ghost use Rattle.indicatif_board.specs.Done.{account_of_both, kept_half, given_half};
 ghost use Rattle.indicatif_board.specs.declared.done.Account.{Account};
+
+use indicatif_bar::style::ProgressTracker;
 
 /// Two halves that are joined again are what was split, share and adds and sights.
 pub fn halves_join_again()
@@ -29,10 +33,10 @@ pub fn what_a_run_reads<B, C>()
 
 /// The same from a terminal that shows the lists of the run's start, whatever the calls are: a board's rows are forgotten only
 /// where the terminal failed.
-pub fn what_a_board_run_reads<B, C>()
-    ensures { (kind : BoardKind B C) (mark : ℕ) (calls : List (Call B C × ℕ)) (answers : List Answer) (v : TermView) (s : BoardState B)
-        (new : Option TermView) (next : BoardState B) →
-        IsFalse s.lists.failed → ReadsAfter (board kind mark) calls answers v s new next }
+pub fn what_a_board_run_reads<K: ProgressTracker>()
+    ensures { (mark : ℕ) (calls : List (Call (BarRecord K) (Command K) × ℕ)) (answers : List Answer) (v : TermView)
+        (s : BoardState (BarRecord K)) (new : Option TermView) (next : BoardState (BarRecord K)) →
+        IsFalse s.lists.failed → ReadsAfter (board (board_bars K.means) mark) calls answers v s new next }
 {}
 
 /// Where the terminal never failed and memory was never refused, a board's run has one outcome: its answers and its last

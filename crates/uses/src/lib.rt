@@ -3,9 +3,11 @@
 //! - `texts`: a line's rows, and an amount as text.
 //! - `drawings`: what a terminal shows after one drawing.
 //! - `runs`: what a terminal shows after a list of calls of a bar.
+//! - `boards`: what a terminal shows after a list of calls of a board.
 //! - `lent`: what is known of a bar that was lent.
 #![tactic(auto)]
 
+pub mod boards;
 pub mod drawings;
 pub mod lent;
 pub mod runs;

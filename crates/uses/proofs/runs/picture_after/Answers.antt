@@ -1,22 +1,18 @@
 use Rattle.std.proofs.Common.{◌≡◌, refl, sym, ◌∙◌, ap, subst, map, take, ◌++◌, Some, None, option_map, replicate, []}
 use Rattle.std.specs.Prelude.{IsFalse}
 use Rattle.std.specs.List.{list_any}
-use Rattle.indicatif_term.specs.Calls.{TermView, State}
-use Rattle.indicatif_term.specs.Terminal.{Terminal}
+use Rattle.indicatif_term.specs.Calls.{State}
 use Rattle.indicatif_term.specs.Lists.{opening_lists, all_rows}
 use Rattle.indicatif_term.specs.Shows.{resting}
 use Rattle.indicatif_term.specs.Pictures.{picture_text, row_text}
 use Rattle.indicatif_term.specs.Engines.{is_failure}
 use Rattle.indicatif_term.specs.Targets.{term_of, limiter_of}
-use Rattle.indicatif_term.specs.Memory.{MemoryTerm, view_of}
+use Rattle.indicatif_term.specs.Memory.{view_of}
 use Rattle.indicatif_bar.specs.Runs.{Runs, Starts}
 use Rattle.indicatif_bar.specs.Lone.{opening_state}
 use Rattle.indicatif_bar.specs.LoneBars.{IsIn, lone_bar, timed, known}
+use Rattle.uses.proofs.PictureLemmas.{state_told}
 use Rattle.uses.proofs.runs.picture_after.Goals as goal
-
--- a terminal that is known to be this one tells this state
-state_told : (m : MemoryTerm) (v : TermView) (t : Terminal) → Some (view_of m) ≡ Some v → v.told ≡ State t → m.terminal ≡ t
-state_told m v t known_is told = let e : (view_of m).told ≡ v.told = cc in let f : State m.terminal ≡ State t = e ∙ told in cc
 
 pub returns-in-Some : goal.returns-in-Some
 returns-in-Some g c = λ opening starts.
