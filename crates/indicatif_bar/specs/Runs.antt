@@ -55,8 +55,7 @@ module _ {State Call Answer : Type 0} (m : Machine State Call Answer) where
       (v : Option TermView) × (x : State) × CallMade old v call s answer x × Runs calls answers v x new next
   Runs _ _ old s new next = ⊥
 
-  -- each line that was laid out for a draw that the run wrote, also one that the height cut off, consists of characters with a
-  -- width and colour sequences
+  -- each line laid out for a draw that was written, also one the height cut off, is of characters with a width and colour sequences
   abbrev pub AllPlain : (calls : List (Call × ℕ)) (answers : List Answer) (old : Option TermView) (s : State) (new : Option TermView) (next : State) → Runs calls answers old s new next → Type 0
   AllPlain (call ∷ calls) (answer ∷ answers) old s new next run =
       (IsTrue (wrote (m.tells answer)) → IsTrue (are_plain (lines_by (deed_on old call s)))) × AllPlain calls answers run.0 run.1 new next run.3

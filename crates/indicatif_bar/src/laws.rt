@@ -20,8 +20,8 @@ ghost use Rattle.indicatif_bar.specs.Says.{EachSays};
 
 use crate::tracker::ProgressTracker;
 
-/// The headline: whatever a run's calls are, up to the first that the terminal breaks off, where each line that was written
-/// consists of characters with a width and colour sequences: from a terminal at rest with the lists of its start, its bytes
+/// The headline: whatever a run's calls are, up to the first that the terminal breaks off, where each line that was laid out for
+/// a draw that was written consists of characters with a width and colour sequences: from a terminal at rest with the lists of its start, its bytes
 /// lead to one at rest with the lists of its end, whose rows are the untouched ones, the rows above, the kept rows and the
 /// live frame, all else blank; rows above are only added, and none changed between two bytes, those of a call that was broken
 /// off included.

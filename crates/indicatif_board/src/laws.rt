@@ -18,7 +18,7 @@ pub fn halves_join_again()
 {}
 
 /// What a run of a board leaves, whatever its bars and its calls are, up to the first that the terminal breaks off, where each
-/// line that was written consists of characters with a width and colour sequences: from a terminal at rest with the lists of
+/// line that was laid out for a draw that was written consists of characters with a width and colour sequences: from a terminal at rest with the lists of
 /// its start, its bytes lead to one at rest with the lists of its end, whose rows are the untouched ones, the rows above, the
 /// kept rows and the live frame, all else blank; rows above are only added, and none changed between two bytes.
 pub fn what_a_run_leaves<B, C>()
