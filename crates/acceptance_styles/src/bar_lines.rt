@@ -188,6 +188,19 @@ fn widths_with_truncation(rt: HostRuntime) -> Result<(), Fail> {
         ("{msg:^4!}|", "国本空", Some("本|")),
         ("{msg:^5!}|", "国本空", Some("国本|")),
         ("{msg:^0!}|", "abcde", Some("|")),
+        ("{msg:^5!}", "abcdefgh", Some("bcdef")),
+        ("{msg:5!}|", "ab", Some("ab   |")),
+    ];
+    for (template, message, wanted) in table {
+        shows(&rt, rt.alloc(), saying(template, message), wanted)?;
+    }
+    Ok(())
+}
+
+/// The same of a text with colours.
+#[test]
+fn colours_with_truncation(rt: HostRuntime) -> Result<(), Fail> {
+    let table = [
         (
             "{msg:3!}|",
             "\u{1b}[32mabcd\u{1b}[0me",
@@ -203,8 +216,6 @@ fn widths_with_truncation(rt: HostRuntime) -> Result<(), Fail> {
             "\u{1b}[32mabcd\u{1b}[0me",
             Some("\u{1b}[32mbcd\u{1b}[0m|"),
         ),
-        ("{msg:^5!}", "abcdefgh", Some("bcdef")),
-        ("{msg:5!}|", "ab", Some("ab   |")),
     ];
     for (template, message, wanted) in table {
         shows(&rt, rt.alloc(), saying(template, message), wanted)?;

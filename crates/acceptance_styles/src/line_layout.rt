@@ -16,6 +16,17 @@ fn wide_messages(rt: HostRuntime) -> Result<(), Fail> {
         ("{wide_msg}", " ab ", Some(" ab")),
         ("{wide_msg}", "国本空国本空", Some("国本空国本")),
         ("{wide_msg}", "a\nb", Some("a\nb")),
+    ];
+    for (template, message, wanted) in table {
+        shows(&rt, rt.alloc(), saying(template, message).on(10), wanted)?;
+    }
+    Ok(())
+}
+
+/// The same at the right.
+#[test]
+fn wide_messages_at_the_right(rt: HostRuntime) -> Result<(), Fail> {
+    let table = [
         ("{wide_msg:>}|", "ab", Some("       ab|")),
         (
             "{wide_msg:>}|",
@@ -34,6 +45,17 @@ fn wide_messages(rt: HostRuntime) -> Result<(), Fail> {
         ("{wide_msg:>}", " ab ", Some("       ab")),
         ("{wide_msg:>}", "国本空国本空", Some("本空国本空")),
         ("{wide_msg:>}", "a\nb", Some("        a\nb")),
+    ];
+    for (template, message, wanted) in table {
+        shows(&rt, rt.alloc(), saying(template, message).on(10), wanted)?;
+    }
+    Ok(())
+}
+
+/// The same in the middle.
+#[test]
+fn wide_messages_in_the_middle(rt: HostRuntime) -> Result<(), Fail> {
+    let table = [
         ("{wide_msg:^}|", "ab", Some("   ab    |")),
         (
             "{wide_msg:^}|",
@@ -52,6 +74,17 @@ fn wide_messages(rt: HostRuntime) -> Result<(), Fail> {
         ("{wide_msg:^}", " ab ", Some("    ab")),
         ("{wide_msg:^}", "国本空国本空", Some("本空国本")),
         ("{wide_msg:^}", "a\nb", Some("    a\nb")),
+    ];
+    for (template, message, wanted) in table {
+        shows(&rt, rt.alloc(), saying(template, message).on(10), wanted)?;
+    }
+    Ok(())
+}
+
+/// With texts on both sides, with a style, with characters of no width, and where nothing is left.
+#[test]
+fn wide_messages_beside_others(rt: HostRuntime) -> Result<(), Fail> {
+    let table = [
         ("a{wide_msg}b", "ab", Some("aab      b")),
         (
             "a{wide_msg}b",
