@@ -287,7 +287,10 @@ fn styles_and_times_of_a_shown_bar(rt: HostRuntime) -> Result<(), Fail> {
     let mut bar = Watched::new(alloc, half(alloc)?, (2, 20))?;
     let style = Look::with_template(alloc, "{pos}\t{elapsed}")?.into_style();
     assert_eq!(rt; bar.with_style(style, 0), Ok(Drawn::Limited));
-    assert_eq!(rt; bar.with_elapsed(3_000 * MS, 4_000 * MS), Ok(Drawn::Limited));
+    assert_eq!(rt;
+        bar.with_elapsed(3_000 * MS, 4_000 * MS),
+        Ok(Drawn::Limited)
+    );
     let refused = Err(Refusal::ElapsedBeyondClock);
     assert_eq!(rt; bar.with_elapsed(5, 4), refused);
     assert_eq!(rt; bar.contents(alloc)?.as_str(), "");

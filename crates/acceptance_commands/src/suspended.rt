@@ -29,7 +29,11 @@ impl Write for SharedCount {
 #[test]
 fn a_closure_runs_between_the_clear_and_the_draw(rt: HostRuntime) -> Result<(), Fail> {
     let count = Rc::new(rt.alloc(), Cell::new(0))?;
-    let mut bar = bar_on(rt.alloc(), "x", Term::new(SharedCount(count.clone()?), 4, 5))?;
+    let mut bar = bar_on(
+        rt.alloc(),
+        "x",
+        Term::new(SharedCount(count.clone()?), 4, 5),
+    )?;
     assert_eq!(rt; bar.tick(0), Ok(Drawn::Yes));
     assert_eq!(rt; count.get(), 5);
     let (counted, drawn) = bar.suspend_counted(&count, 0);
