@@ -174,6 +174,7 @@ impl<K: ProgressTracker> BarState<K> {
 
     /// The position goes up by `delta`, modulo 2^64. It is looked at, as by a tick, as often as the position's limiter
     /// allows: 10 times at once, and once more each millisecond.
+    #[inline(always)]
     pub fn inc(&mut self, delta: u64, now: Moment) -> Ask
         ensures { (self.new, result) ≡ obeyed K.means (Inc delta) self.old now }
     {
@@ -182,6 +183,7 @@ impl<K: ProgressTracker> BarState<K> {
     }
 
     /// The position goes down by `delta`, modulo 2^64; else as `inc`.
+    #[inline(always)]
     pub fn dec(&mut self, delta: u64, now: Moment) -> Ask
         ensures { (self.new, result) ≡ obeyed K.means (Dec delta) self.old now }
     {
@@ -190,10 +192,22 @@ impl<K: ProgressTracker> BarState<K> {
     }
 
     /// Another position; else as `inc`.
+    #[inline(always)]
     pub fn set_position(&mut self, position: u64, now: Moment) -> Ask
         ensures { (self.new, result) ≡ obeyed K.means (SetPosition position) self.old now }
     {
         self.progress.set_pos(position);
+        if self.limiter.is_early(now) {
+            return Ask::No;
+        }
+        self.look(now)
+    }
+
+    /// Looks at the position, if its limiter allows it.
+    #[inline(never)]
+    fn look(&mut self, now: Moment) -> Ask
+        ensures { (self.new, result) ≡ obeyed K.means (SetPosition self.old.progress.position) self.old now }
+    {
         if self.limiter.allow(now) {
             return self.tick(now);
         }
@@ -201,6 +215,7 @@ impl<K: ProgressTracker> BarState<K> {
     }
 
     /// What workers have counted is added to the position; as `inc`.
+    #[inline(always)]
     pub fn absorb(&mut self, sum: u64, now: Moment) -> Ask
         ensures { (self.new, result) ≡ obeyed K.means (Inc sum) self.old now }
     {

@@ -153,6 +153,7 @@ impl<K: ProgressTracker, T: TermLike + Drop> LoneBar<K, T> {
     }
 
     /// The position goes up by `delta`, modulo 2^64; and a tick, as often as the position's limiter allows.
+    #[inline(always)]
     pub fn inc(&mut self, delta: u64, now: Moment) -> Result<Drawn, Refusal>
         ensures { Obeys K.means T.view self.old self.new (Inc delta) now result }
     {
@@ -161,6 +162,7 @@ impl<K: ProgressTracker, T: TermLike + Drop> LoneBar<K, T> {
     }
 
     /// The position goes down by `delta`, modulo 2^64; else as `inc`.
+    #[inline(always)]
     pub fn dec(&mut self, delta: u64, now: Moment) -> Result<Drawn, Refusal>
         ensures { Obeys K.means T.view self.old self.new (Dec delta) now result }
     {
@@ -169,6 +171,7 @@ impl<K: ProgressTracker, T: TermLike + Drop> LoneBar<K, T> {
     }
 
     /// Another position; else as `inc`.
+    #[inline(always)]
     pub fn set_position(&mut self, position: u64, now: Moment) -> Result<Drawn, Refusal>
         ensures { Obeys K.means T.view self.old self.new (SetPosition position) now result }
     {
@@ -177,6 +180,7 @@ impl<K: ProgressTracker, T: TermLike + Drop> LoneBar<K, T> {
     }
 
     /// What workers have counted is added to the position; as `inc`.
+    #[inline(always)]
     pub fn absorb(&mut self, sum: u64, now: Moment) -> Result<Drawn, Refusal>
         ensures { Obeys K.means T.view self.old self.new (Inc sum) now result }
     {
@@ -320,6 +324,19 @@ impl<K: ProgressTracker, T: TermLike + Drop> LoneBar<K, T> {
         self.obey_unless(asked, now)
     }
 
+    /// As `set_style`.
+    ///
+    /// ```
+    /// let style = ProgressStyle::with_template(alloc, "{pos} of {len}")?;
+    /// let drawn = bar.with_style(style, now)?; // Drawn::Limited; the next draw is in this style
+    /// ```
+    pub fn with_style(&mut self, style: ProgressStyle<K>, now: Moment) -> Result<Drawn, Refusal>
+        ensures { ObeysOrNot K.means T.view self.old self.new (SetStyle style) now result }
+    {
+        let asked = self.shown.bar.with_style(style, now);
+        self.obey_unless(asked, now)
+    }
+
     /// Another message. No draw is asked.
     pub fn with_message(&mut self, text: &str, now: Moment) -> Result<Drawn, Refusal>
         ensures { ObeysOrNot K.means T.view self.old self.new (PutMessage text.now) now result }
@@ -361,6 +378,21 @@ impl<K: ProgressTracker, T: TermLike + Drop> LoneBar<K, T> {
         ensures limited { IfOk result (λ drawn. drawn ≡ Drawn.Limited) }
     {
         let asked = self.shown.bar.set_elapsed(nanos, now);
+        self.obey_unless(asked, now)
+    }
+
+    /// As `set_elapsed`.
+    ///
+    /// ```
+    /// let drawn = bar.with_elapsed(2_000_000_000, now)?; // two seconds have passed at `now`; Drawn::Limited
+    /// ```
+    pub fn with_elapsed(&mut self, nanos: u64, now: Moment) -> Result<Drawn, Refusal>
+        ensures obeys { ObeysOrNot K.means T.view self.old self.new (SetElapsed nanos) now result }
+        ensures beyond { (result ≡ Err Refusal.ElapsedBeyondClock) ↔ (now < nanos) }
+        ensures unchanged { OnErr result (self.new ≡ self.old) }
+        ensures limited { IfOk result (λ drawn. drawn ≡ Drawn.Limited) }
+    {
+        let asked = self.shown.bar.with_elapsed(nanos, now);
         self.obey_unless(asked, now)
     }
 

@@ -1,5 +1,5 @@
 //! How often a bar's position is looked at.
-ghost use Rattle.std.specs.Prelude.{◌≡◌};
+ghost use Rattle.std.specs.Prelude.{◌≡◌, ◌≤◌, IsTrue, false};
 ghost use Rattle.indicatif_bar.specs.PositionLimiters.{PositionLimiter, position_limiter, allow_position, position_reset};
 
 use indicatif_text::columns::Moment;
@@ -13,11 +13,13 @@ pub(crate) struct PositionLimiter {
     capacity: u64,
     /// Nanoseconds from the making on.
     prev: u64,
+    /// A moment before which none is allowed, so that a look at it alone is enough for most moments.
+    next: Moment,
 }
 
 /// Contracts see the making, what is in hand, and the time from which it counts.
 impl Model for PositionLimiter {
-    ghost use Rattle.std.specs.Prelude.{◌≤◌};
+    ghost use Rattle.std.specs.Prelude.{◌≡◌, ◌≤◌, ◌+◌, ◌⊎◌};
     ghost use Rattle.indicatif_bar.specs.PositionLimiters.{PositionLimiter};
 
     ghost Value = { PositionLimiter };
@@ -27,7 +29,8 @@ impl Model for PositionLimiter {
       limiter = record { interval = 1000000; most = 10; capacity = p.capacity; prev = p.prev };
     } };
 
-    ghost invariant = { λ p. p.capacity ≤ 10 };
+    ghost invariant = { λ p. (p.capacity ≤ 10)
+        × ((p.next ≤ p.making) ⊎ ((p.capacity ≡ 0) × (p.next ≤ p.making + p.prev + 1000000))) };
 }
 
 impl PositionLimiter {
@@ -40,11 +43,38 @@ impl PositionLimiter {
     pub(crate) fn new(now: Moment) -> PositionLimiter
         ensures { result ≡ position_limiter now }
     {
+        PositionLimiter::counting(now, PositionLimiter::MOST, 0)
+    }
+
+    /// A limiter made at `making`, with so many looks in hand, that counts from so long after it.
+    fn counting(making: Moment, capacity: u64, prev: u64) -> PositionLimiter
+        requires { capacity ≤ 10 }
+        ensures { result ≡ record {
+          making = making;
+          limiter = record { interval = 1000000; most = 10; capacity = capacity; prev = prev };
+        } }
+    {
+        let next = if capacity == 0 {
+            making
+                .saturating_add(prev)
+                .saturating_add(PositionLimiter::INTERVAL)
+        } else {
+            making
+        };
         PositionLimiter {
-            making: now,
-            capacity: PositionLimiter::MOST,
-            prev: 0,
+            making,
+            capacity,
+            prev,
+            next,
         }
+    }
+
+    /// Whether a look at this moment comes too early, as far as one comparison tells.
+    #[inline(always)]
+    pub(crate) fn is_early(&self, now: Moment) -> bool
+        ensures { IsTrue result → allow_position self.now now ≡ (false, self.now) }
+    {
+        now < self.next
     }
 
     /// Whether the position is looked at, at this moment; if so, it is counted.
@@ -61,8 +91,9 @@ impl PositionLimiter {
             return false;
         }
         let new = elapsed / PositionLimiter::INTERVAL;
-        self.capacity = PositionLimiter::MOST.min(self.capacity + new - 1);
-        self.prev = at - elapsed % PositionLimiter::INTERVAL;
+        let capacity = PositionLimiter::MOST.min(self.capacity + new - 1);
+        let prev = at - elapsed % PositionLimiter::INTERVAL;
+        *self = PositionLimiter::counting(self.making, capacity, prev);
         true
     }
 
@@ -70,17 +101,14 @@ impl PositionLimiter {
     pub(crate) fn reset(&mut self, now: Moment)
         ensures { self.new ≡ position_reset self.old now }
     {
-        self.prev = now.saturating_sub(self.making);
+        let prev = now.saturating_sub(self.making);
+        *self = PositionLimiter::counting(self.making, self.capacity, prev);
     }
 
     /// Another one, equal to this one.
     pub(crate) fn same(&self) -> PositionLimiter
         ensures { result ≡ self.now }
     {
-        PositionLimiter {
-            making: self.making,
-            capacity: self.capacity,
-            prev: self.prev,
-        }
+        PositionLimiter::counting(self.making, self.capacity, self.prev)
     }
 }

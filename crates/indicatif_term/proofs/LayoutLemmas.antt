@@ -209,6 +209,12 @@ module _ (w h : ℕ) (frame : List Segment) (i : ℕ) (s : Segment) (within : i 
       Measured w h pass (map bar_lines frame) r
   frame_refused before p e pass r q m = rw q (withheld_by w (bar_lines s).lines (all_lines (map bar_lines frame)) e wide_member m)
 
+-- a member with a line is in a frame with one
+pub some_line : (frame : List Segment) (i : ℕ) (s : Segment) → i < length frame → get_or frame i s ≡ s → 0 < length (bar_lines s).lines → 0 < length (all_lines (map bar_lines frame))
+some_line [] i s h e p = absurd (omega arith)
+some_line (x ∷ frame) zero s h e p = omega (arith, length-append (bar_lines x).lines (all_lines (map bar_lines frame)), ap (λ (y : Segment). length (bar_lines y).lines) e, p)
+some_line (x ∷ frame) (suc i) s h e p = omega (arith, length-append (bar_lines x).lines (all_lines (map bar_lines frame)), some_line frame i s (omega arith) e p)
+
 -- nothing yet
 pub nothing_laid : (h : ℕ) (v : Vec RowCount Global) → v.items ≡ [] →
     let p : Plan = record { segments = v; rows = 0; lines = 0; last = None; full = false; passing = 0 } in

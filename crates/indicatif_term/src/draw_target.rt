@@ -4,7 +4,7 @@
 //! *kept*, of bars that are gone; and the *live* ones, of the last frame. An engine remembers their counts and no text, so
 //! what it needs does not grow with what is logged. It takes kept and live rows back from the last one up, and writes the
 //! new ones in their place, so that the rows above stand at every moment.
-ghost use Rattle.std.specs.Prelude.{◌≡◌, ◌≢◌, map, length, replicate, ◌≤◌, IfErr, IsTrue, IsFalse, ◌++◌, [], ℕ};
+ghost use Rattle.std.specs.Prelude.{◌≡◌, ◌≢◌, map, length, replicate, ◌<◌, ◌≤◌, IfErr, IsTrue, IsFalse, ◌++◌, [], ℕ};
 ghost use Rattle.indicatif_term.specs.Lists.{opening_lists};
 
 pub use crate::counts::Keep;
@@ -122,7 +122,8 @@ impl<T: TermLike + Drop> Engine<T> {
     /// them, taken before the first byte.
     ///
     /// Refused: `NoColumns` where the terminal has no columns; `TooWide` where any line, also one past the terminal's
-    /// rows, holds a character wider than the terminal; `Memory`, also in place of `TooWide`; then `Terminal`.
+    /// rows, holds a character wider than the terminal; `Memory`, also in place of `TooWide`, and never where the frame has no
+    /// line; then `Terminal`.
     pub fn draw(
         &mut self,
         frame: &[Segment],
@@ -132,6 +133,8 @@ impl<T: TermLike + Drop> Engine<T> {
         ensures answer { Answers (T.view (engine_term self.old)).columns
             (all_lines (map bar_lines frame.now)) result }
         ensures counted { Counted (T.view (engine_term self.old)) (T.view (engine_term self.new)) result }
+        ensures memory { result ≡ Err Refusal.Memory →
+            (0 < (T.view (engine_term self.old)).columns) × (0 < length (all_lines (map bar_lines frame.now))) }
         ensures unchanged { IfErr result (λ e. IsFalse (is_fault e) → self.new ≡ self.old) }
         ensures lists { (l : Lists) → Fits self.old l → let s = T.view (engine_term self.old) in
             Fits self.new (lists_after result l
@@ -175,6 +178,8 @@ impl<T: TermLike + Drop> Engine<T> {
         ensures answer { Answers (T.view (engine_term self.old)).columns
             (text_lines (logged_lines text.now) ++ all_lines (map bar_lines frame.now)) result }
         ensures counted { Counted (T.view (engine_term self.old)) (T.view (engine_term self.new)) result }
+        ensures memory { result ≡ Err Refusal.Memory →
+            (0 < (T.view (engine_term self.old)).columns) × (0 < length (all_lines (map bar_lines frame.now))) }
         ensures unchanged { IfErr result (λ e. IsFalse (is_fault e) → self.new ≡ self.old) }
         ensures lists { (l : Lists) → Fits self.old l → let s = T.view (engine_term self.old) in
             Fits self.new (lists_after result l (logged s.columns s.rows (is_bottom alignment)

@@ -1,7 +1,7 @@
 //! Which lines of a frame are shown, and how many rows they take.
-ghost use Rattle.std.specs.Prelude.{◌≡◌, ◌+◌, ◌<◌, ◌≤◌, ◌++◌, ◌∷◌, [], ℕ, map, length, chars, List, IfOk, IfErr, sum_by};
+ghost use Rattle.std.specs.Prelude.{◌≡◌, ◌≢◌, Err, ◌+◌, ◌<◌, ◌≤◌, ◌++◌, ◌∷◌, [], ℕ, map, length, chars, List, IfOk, IfErr, sum_by};
 ghost use Rattle.indicatif_term.specs.Lists.{BarRows, onto_segments};
-ghost use Rattle.indicatif_term.specs.Frames.{bar_lines, logged_lines};
+ghost use Rattle.indicatif_term.specs.Frames.{bar_lines, all_lines, logged_lines};
 ghost use Rattle.indicatif_term.specs.Inside.Plans.{IsSummed, IsLaidOut, IsPlaced, Measured, MeasuredLine, MeasuredText};
 ghost use Rattle.indicatif_term.specs.Inside.Fills.{PlanEndsAt, member_ends, frame_ends};
 ghost use Rattle.indicatif_term.specs.Counts.{row_count};
@@ -43,6 +43,7 @@ pub fn plan_frame(
     requires { segments.items ≡ [] }
     ensures plan { Measured window.columns window.rows pass (map bar_lines frame.now) result }
     ensures ends { IfOk result (λ p. PlanEndsAt (frame_ends window.columns frame.now) p) }
+    ensures memory { result ≡ Err Refusal.Memory → 0 < length (all_lines (map bar_lines frame.now)) }
 {
     let mut plan = Plan {
         segments,
@@ -72,6 +73,7 @@ fn place_member(plan: &mut Plan, member: &Segment, window: Window) -> Result<(),
         IsPlaced window.columns window.rows before (bar_lines member.now) plan.new result }
     ensures ends { (before : List ℕ) → PlanEndsAt before plan.old →
         IfOk result (λ _. PlanEndsAt (before ++ member_ends window.columns member.now) plan.new) }
+    ensures memory { result ≡ Err Refusal.Memory → 0 < length (bar_lines member.now).lines }
 {
     for line in &member.lines {
         let metrics = metrics_of(line.as_str(), window)?;
@@ -127,7 +129,8 @@ fn push_rows(segments: &mut Vec<RowCount>, bar: u64, rows: usize) -> Result<(), 
 
 /// The rows of a line, and how many columns it takes of the last one.
 fn metrics_of(line: &str, window: Window) -> Result<Metrics, Refusal>
-    ensures { MeasuredLine window.columns (chars line.now) result }
+    ensures measured { MeasuredLine window.columns (chars line.now) result }
+    ensures no_memory { result ≢ Err Refusal.Memory }
 {
     wrapped(line, window.columns)
 }
@@ -135,7 +138,8 @@ fn metrics_of(line: &str, window: Window) -> Result<Metrics, Refusal>
 /// The rows of the lines of a text that is logged, or 2^64 - 1 where there are more, and how many columns the last line takes
 /// of its last row.
 pub fn metrics_of_text(text: &str, window: Window) -> Result<Metrics, Refusal>
-    ensures { MeasuredText window.columns (logged_lines text.now) result }
+    ensures measured { MeasuredText window.columns (logged_lines text.now) result }
+    ensures no_memory { result ≢ Err Refusal.Memory }
 {
     if text.is_empty() {
         return metrics_of("", window);

@@ -7,6 +7,7 @@ use indicatif_term::draw_target::ProgressDrawTarget;
 use indicatif_term::term_like::TermLike;
 use indicatif_text::columns::{Drawn, Moment, Refusal};
 use std::alloc::Global;
+use std::cell::Cell;
 
 /// A bar on a terminal, or on none.
 #[derive(Drop)]
@@ -81,6 +82,15 @@ impl<T: TermLike + Drop> Shown<T> {
     /// Suspended round a closure that answers this number.
     pub fn suspend(&mut self, answer: u64, now: Moment) -> (u64, Result<Drawn, Refusal>) {
         self.bar.suspend(|| answer, now)
+    }
+
+    /// Suspended round a closure that answers what this counts then.
+    pub fn suspend_counted(
+        &mut self,
+        count: &Cell<u64>,
+        now: Moment,
+    ) -> (u64, Result<Drawn, Refusal>) {
+        self.bar.suspend(|| count.get(), now)
     }
 
     pub fn set_draw_target(&mut self, target: ProgressDrawTarget<T>) -> ProgressDrawTarget<T> {

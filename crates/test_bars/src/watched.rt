@@ -81,6 +81,14 @@ impl<K: ProgressTracker> Watched<K> {
         self.bar.set_style(style, now)
     }
 
+    pub fn with_style(&mut self, style: ProgressStyle<K>, now: Moment) -> Result<Drawn, Refusal> {
+        self.bar.with_style(style, now)
+    }
+
+    pub fn with_elapsed(&mut self, nanos: u64, now: Moment) -> Result<Drawn, Refusal> {
+        self.bar.with_elapsed(nanos, now)
+    }
+
     /// One further than it is.
     pub fn update_next(&mut self, now: Moment) -> Result<Drawn, Refusal> {
         self.bar.update(

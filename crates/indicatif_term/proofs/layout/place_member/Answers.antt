@@ -29,13 +29,13 @@ returns-in_err-metrics-clause-placed c = λ before o.
     let at = string_at c.args.member.now c.deref-line-items.result.now c.loop-line.line-index c.line-item.result c.deref-line-items.ensures.value (omega arith) (sym c.line-item.is) in
     member_refused c.args.window.columns c.args.window.rows c.args.member.now c.loop-line.line-index
     (chars (line_text c.line-item.result)) before c.loop-line.plan c.in_err-metrics.field-0.0 c.from_residual.result (x.1 ∙ ap Err x.2)
-    at.0 at.1 (subst (λ b. IsWithheld c.args.window.columns (chars b ∷ []) c.in_err-metrics.field-0.0) c.as_str.ensures c.in_err-metrics.ensures)
+    at.0 at.1 (subst (λ b. IsWithheld c.args.window.columns (chars b ∷ []) c.in_err-metrics.field-0.0) c.as_str.ensures c.in_err-metrics.ensures.measured)
 
 pub place-requires-clause-summed : goal.place-requires-clause-summed
 place-requires-clause-summed c = c.loop-line.invariant.summed
 
 pub place-requires-clause-some : goal.place-requires-clause-some
-place-requires-clause-some c = omega (arith, c.in_ok-metrics.ensures.1, rows_some c.args.window.columns (chars c.as_str.result.now))
+place-requires-clause-some c = omega (arith, c.in_ok-metrics.ensures.measured.1, rows_some c.args.window.columns (chars c.as_str.result.now))
 
 pub returns-in_err-place-clause-passing : goal.returns-in_err-place-clause-passing
 returns-in_err-place-clause-passing c = c.place.ensures.passing ∙ c.loop-line.invariant.passing_stays
@@ -44,7 +44,7 @@ pub loop-line-preserved : goal.loop-line-preserved
 loop-line-preserved c =
     let line = chars (line_text c.line-item.result) in
     let at = string_at c.args.member.now c.deref-line-items.result.now c.loop-line.line-index c.line-item.result c.deref-line-items.ensures.value (omega arith) (sym c.line-item.is) in
-    let m = rw c.as_str.ensures at c.in_ok-metrics.ensures in
+    let m = rw c.as_str.ensures at c.in_ok-metrics.ensures.measured in
     record {
       summed = c.in_ok-place.ensures.summed;
       passing_stays = c.place.ensures.passing ∙ c.loop-line.invariant.passing_stays;

@@ -1,10 +1,11 @@
 use Rattle.std.proofs.Common.{arith, ◌+◌, ◌≡◌, ◌∙◌, refl, sym, ap, Err, map, take, []}
+use Rattle.indicatif_text.specs.declared.refusal.Refusal.TheVariants.{Memory}
 use Rattle.std.proofs.lemmas.Result.{err_from_is_err_and}
 use Rattle.std.proofs.lemmas.List.{take_all}
 use Rattle.indicatif_term.specs.Lists.{lines_of}
 use Rattle.indicatif_term.specs.Inside.Fills.{PlanEndsAt, frame_ends}
 use Rattle.indicatif_term.specs.Frames.{bar_lines}
-use Rattle.indicatif_term.proofs.LayoutLemmas.{nothing_laid, nothing_of, nothing_passes, still_summed, still_laid, lines_step, narrow_step, frame_refused, passing_now, passing_same, passing_all, planned}
+use Rattle.indicatif_term.proofs.LayoutLemmas.{nothing_laid, nothing_of, nothing_passes, still_summed, still_laid, lines_step, narrow_step, frame_refused, some_line, passing_now, passing_same, passing_all, planned}
 use Rattle.indicatif_term.proofs.LineEndLemmas.{nothing_ends, still_ends, member_ends_step}
 use Rattle.indicatif_term.proofs.layout.plan_frame.Goals as goal
 use Rattle.indicatif_term.proofs.layout.plan_frame.Goals.{then-left-gt0, else-left-gt0}
@@ -28,6 +29,12 @@ returns-in_err-place_member-clause-plan c =
     frame_refused c.args.window.columns c.args.window.rows c.args.frame.now i c.member-item.result (omega arith) (sym c.member-item.is)
     (lines_of c.args.window.columns (map bar_lines (take i c.args.frame.now))) c.place_member.new.plan c.in_err-place_member.field-0.0 c.args.pass c.from_residual.result (x.1 ∙ ap Err x.2)
     (c.in_err-place_member.ensures.placed _ c.loop-member.invariant.laid)
+
+pub returns-in_err-place_member-clause-memory : goal.returns-in_err-place_member-clause-memory
+returns-in_err-place_member-clause-memory c = λ e.
+    let x = err_from_is_err_and c.from_residual.result c.from_residual.ensures.1 in
+    let same : c.in_err-place_member.field-0.0 ≡ Memory = cc (x.1, x.2, e) in
+    some_line c.args.frame.now c.loop-member.member-index c.member-item.result (omega arith) (sym c.member-item.is) (c.in_err-place_member.ensures.memory (ap Err same))
 
 pub loop-member-preserved : goal.loop-member-preserved
 loop-member-preserved c =
@@ -76,4 +83,5 @@ returns c =
         old.summed,
       );
       ends = rw all at old.ends;
+      memory = λ e. cc;
     }

@@ -28,17 +28,17 @@ returns-in_err-metrics-clause-answer g c =
     let w = c.in_ok-window.window.columns in
     let frame = all_lines (map bar_lines c.args.frame.now) in
     rw (← c.in_ok-window.ensures.0) (answer_withheld w text (text ++ frame) c.in_err-metrics.field-0.0 c.from_residual-in_err-metrics.result
-    (err_from_is_err_and c.from_residual-in_err-metrics.result c.from_residual-in_err-metrics.ensures.1) (wide_left w text frame) c.in_err-metrics.ensures)
+    (err_from_is_err_and c.from_residual-in_err-metrics.result c.from_residual-in_err-metrics.ensures.1) (wide_left w text frame) c.in_err-metrics.ensures.measured)
 
 pub returns-in_err-metrics-clause-lists : goal.returns-in_err-metrics-clause-lists
 returns-in_err-metrics-clause-lists g c = λ l fits.
     fits_refused c.args.self.now c.from_residual-in_err-metrics.result c.in_err-metrics.field-0.0 l _
-    (err_from_is_err_and c.from_residual-in_err-metrics.result c.from_residual-in_err-metrics.ensures.1) (c.in_err-metrics.ensures.0) fits
+    (err_from_is_err_and c.from_residual-in_err-metrics.result c.from_residual-in_err-metrics.ensures.1) (c.in_err-metrics.ensures.measured.0) fits
 
 pub returns-in_err-metrics-clause-paints : goal.returns-in_err-metrics-clause-paints
 returns-in_err-metrics-clause-paints g c = λ l fits plain.
     paints_refused _ c.from_residual-in_err-metrics.result c.in_err-metrics.field-0.0 l _ (err_from_is_err_and c.from_residual-in_err-metrics.result c.from_residual-in_err-metrics.ensures.1)
-    (c.in_err-metrics.ensures.0)
+    (c.in_err-metrics.ensures.measured.0)
 
 pub returns-in_err-plan-clause-answer : goal.returns-in_err-plan-clause-answer
 returns-in_err-plan-clause-answer g c =
@@ -67,7 +67,7 @@ returns-clause-answer g c =
     let w = c.in_ok-window.window.columns in
     let frame = all_lines (map bar_lines c.args.frame.now) in
     rw (← c.in_ok-window.ensures.0) (answer_made w (text ++ frame) c.logged-next.result c.repaint.result c.repaint.new.self
-    c.repaint.ensures.remembers c.in_ok-window.window.some (narrow_both w text frame c.in_ok-metrics.ensures.0 c.in_ok-plan.ensures.plan.0))
+    c.repaint.ensures.remembers c.in_ok-window.window.some (narrow_both w text frame c.in_ok-metrics.ensures.measured.0 c.in_ok-plan.ensures.plan.0))
 
 pub returns-clause-lists : goal.returns-clause-lists
 returns-clause-lists g c = λ l fits.
@@ -78,7 +78,7 @@ returns-clause-lists g c = λ l fits.
     let old = c.args.self.now.counts in
     let text = text_lines (logged_lines c.args.text.now) in
     let blanks = rw c.is_bottom.ensures at (c.blanks_of-blanks.ensures.blanks (old.kept + old.live) c.in_ok-metrics.metrics.height c.saturating_sub-free.ensures) in
-    let next = c.logged-next.ensures window.columns bottom text frame l (fits_counts c.args.self.now l fits) c.in_ok-plan.ensures.plan.1 c.in_ok-metrics.ensures.1 blanks in
+    let next = c.logged-next.ensures window.columns bottom text frame l (fits_counts c.args.self.now l fits) c.in_ok-plan.ensures.plan.1 c.in_ok-metrics.ensures.measured.1 blanks in
     fits_by c.logged-next.result c.repaint.result c.repaint.new.self l (logged s.columns s.rows bottom text frame l) c.repaint.ensures.remembers
     (rw (c.in_ok-window.ensures.0, c.in_ok-window.ensures.1) at next) (logged-sound s.columns s.rows bottom text frame l)
 
@@ -94,12 +94,12 @@ returns-clause-paints g c = λ l fits plain.
     let rows = c.in_ok-metrics.metrics.height in
     let text = logged_lines c.args.text.now in
     let blanks = rw c.is_bottom.ensures at (c.blanks_of-blanks.ensures.blanks (old.kept + old.live) rows c.saturating_sub-free.ensures) in
-    let next = c.logged-next.ensures window.columns bottom (text_lines text) frame l o c.in_ok-plan.ensures.plan.1 c.in_ok-metrics.ensures.1 blanks in
+    let next = c.logged-next.ensures window.columns bottom (text_lines text) frame l o c.in_ok-plan.ensures.plan.1 c.in_ok-metrics.ensures.measured.1 blanks in
     let whole = rw (c.in_ok-window.ensures.0, c.in_ok-window.ensures.1) at c.in_ok-plan.ensures.plan in
-    let wide = rw c.in_ok-window.ensures.0 at c.in_ok-metrics.ensures in
+    let wide = rw c.in_ok-window.ensures.0 at c.in_ok-metrics.ensures.measured in
     let lines = text ++ replicate c.blanks_of-blanks.result [] ++ take plan.lines (frame_lines c.args.frame.now) in
     let fill = log_fill window.columns window.rows 0 c.blanks_of-blanks.result (old.kept + old.live) rows bottom c.args.frame.now plan c.in_ok-plan.ensures.plan.1 c.in_ok-plan.ensures.ends blanks
-    c.logged-next.result.below c.fill-fill.result c.unwrap_or-last.result text (logged_length c.args.text.now) (rw c.in_ok-metrics.ensures.2 at c.unwrap_or-last.ensures) c.fill-fill.ensures in
+    c.logged-next.result.below c.fill-fill.result c.unwrap_or-last.result text (logged_length c.args.text.now) (rw c.in_ok-metrics.ensures.measured.2 at c.unwrap_or-last.ensures) c.fill-fill.ensures in
     paints_by s (g.T.TermLike.view (engine_term c.repaint.new.self)) c.logged-next.result c.repaint.result c.repaint.new.self c.args.self.now.failed l
     (logged s.columns s.rows bottom (text_lines text) frame l)
     (paint_bytes false old.below (old.kept + old.live) lines c.logged-next.result.below ++ fill_bytes c.logged-next.result.below s.columns lines) c.repaint.ensures.remembers

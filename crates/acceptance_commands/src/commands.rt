@@ -280,6 +280,25 @@ fn styles_and_widths_of_tabs(rt: HostRuntime) -> Result<(), Fail> {
     Ok(())
 }
 
+/// A style and a time of a bar on a terminal. Neither draws; a time past the moment is refused, and changes nothing.
+#[test]
+fn styles_and_times_of_a_shown_bar(rt: HostRuntime) -> Result<(), Fail> {
+    let alloc = rt.alloc();
+    let mut bar = Watched::new(alloc, half(alloc)?, (2, 20))?;
+    let style = Look::with_template(alloc, "{pos}\t{elapsed}")?.into_style();
+    assert_eq!(rt; bar.with_style(style, 0), Ok(Drawn::Limited));
+    assert_eq!(rt;
+        bar.with_elapsed(3_000 * MS, 4_000 * MS),
+        Ok(Drawn::Limited)
+    );
+    let refused = Err(Refusal::ElapsedBeyondClock);
+    assert_eq!(rt; bar.with_elapsed(5, 4), refused);
+    assert_eq!(rt; bar.contents(alloc)?.as_str(), "");
+    assert_eq!(rt; bar.obey(Call::Tick, 5_000 * MS), Ok(Drawn::Yes));
+    assert_eq!(rt; bar.contents(alloc)?.as_str(), "5        4s");
+    Ok(())
+}
+
 // ---- positions are looked at so often
 
 /// What a bar made at 10 milliseconds asks for these calls, one after another: `1` where it asks a draw.
@@ -328,6 +347,17 @@ fn looks_after_a_reset(rt: HostRuntime) -> Result<(), Fail> {
     early[13] = (step, 11 * MS);
     early[14] = (step, 11 * MS);
     assert_eq!(rt; asks(rt.alloc(), &early)?.as_str(), "111111111110110");
+    Ok(())
+}
+
+/// A step before the making is counted, and not drawn.
+#[test]
+fn a_step_before_the_making(rt: HostRuntime) -> Result<(), Fail> {
+    let bar: Told<NoTracker> = Told::new(rt.alloc(), "{pos}", None, 10 * MS)?;
+    let mut drawn = Watched::new(rt.alloc(), bar, (2, 20))?;
+    assert_eq!(rt; drawn.obey(Call::Inc(1), 5 * MS), Ok(Drawn::Limited));
+    assert_eq!(rt; drawn.position(), 1);
+    assert_eq!(rt; drawn.contents(rt.alloc())?.as_str(), "");
     Ok(())
 }
 

@@ -4,12 +4,16 @@ use indicatif_bar::state::{Ask, ProgressFinish};
 use indicatif_bar::style::NoTracker;
 use indicatif_text::columns::{Drawn, Refusal};
 use std::alloc::Global;
+use std::process::Abort;
 use std::test::Fail;
 use test_bars::calls::{Call, Reached, Told};
 use test_bars::watched::Watched;
 
-/// Each finish of a bar at 5 of 10 that says `m`: the place then, the message, and what stands on the terminal.
-const FINISHES: [(Call, u64, &str, &str); 5] = [
+/// A finish of a bar at 5 of 10 that says `m`: the place then, the message, and what stands on the terminal.
+type Row = (Call, u64, &'static str, &'static str);
+
+/// Each finish.
+const FINISHES: [Row; 5] = [
     (Call::Finish, 10, "m", "m 10/10"),
     (Call::FinishWithMessage("w"), 10, "w", "w 10/10"),
     (Call::FinishAndClear, 10, "m", ""),
@@ -90,21 +94,34 @@ fn finishes_without_a_length(rt: HostRuntime) -> Result<(), Fail> {
     Ok(())
 }
 
+/// What a bar says after a finish that says the second, where it says the first before; `m` is what it says anyway.
+fn said_then(first: &'static str, second: &'static str) -> &'static str {
+    if second == "m" { first } else { second }
+}
+
+/// A bar that ends by the first of these finishes, and then by the second.
+fn ends_twice(rt: &impl Abort, alloc: Global, first: Row, second: Row) -> Result<(), Fail> {
+    let (once, position, message, _) = first;
+    let (again, later, text, _) = second;
+    let mut bar = half(alloc)?;
+    bar.obey(once, 0)?;
+    assert_eq!(rt; bar.obey(again, 0), Ok(Ask::Forced));
+    let wanted = finished_at(position.max(later));
+    assert_eq!(rt; bar.reached(), wanted, "at {once:?}, {again:?}");
+    let says = said_then(message, text);
+    assert_eq!(rt; bar.message(), says, "at {once:?}, {again:?}");
+    let hidden = matches!(again, Call::FinishAndClear);
+    let shown = bar.lines(alloc, 0, 80)?;
+    assert_eq!(rt; shown.is_none(), hidden, "at {once:?}, {again:?}");
+    Ok(())
+}
+
 /// The later finish decides what is shown; the place stays where the first one took it to the length.
 #[test]
 fn bars_that_finish_twice(rt: HostRuntime) -> Result<(), Fail> {
-    for (first, position, message, _) in FINISHES {
-        for (second, later, text, _) in FINISHES {
-            let mut bar = half(rt.alloc())?;
-            bar.obey(first, 0)?;
-            assert_eq!(rt; bar.obey(second, 0), Ok(Ask::Forced));
-            let wanted = finished_at(position.max(later));
-            assert_eq!(rt; bar.reached(), wanted, "at {first:?}, {second:?}");
-            let says = if text == "m" { message } else { text };
-            assert_eq!(rt; bar.message(), says, "at {first:?}, {second:?}");
-            let hidden = matches!(second, Call::FinishAndClear);
-            let shown = bar.lines(rt.alloc(), 0, 80)?;
-            assert_eq!(rt; shown.is_none(), hidden, "at {first:?}, {second:?}");
+    for first in FINISHES {
+        for second in FINISHES {
+            ends_twice(&rt, rt.alloc(), first, second)?;
         }
     }
     Ok(())
