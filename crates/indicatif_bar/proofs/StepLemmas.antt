@@ -35,6 +35,6 @@ step_more does wanted parts before after place part step so is within at same =
     let next : suc place ≡ place + 1 = omega arith in
     let one = same (slice_get-map part_of parts place ∙ ap (option_map part_of) (slice_get_read parts (length parts) place part refl within at)) in
     let whole : take (place + 1) parts ≡ take place parts ++ part ∷ [] =
-        ap (λ n. take n parts) (sym next) ∙ take-suc parts place part within ∙ ap (λ p. take place parts ++ p ∷ []) (sym at) in
+    ap (λ n. take n parts) (sym next) ∙ take-suc parts place part within ∙ ap (λ p. take place parts ++ p ∷ []) (sym at) in
     ap (map does) is ∙ map-append does before (step ∷ [])
     ∙ cc (so, one, map-append part_of (take place parts) (part ∷ []), map-append wanted (map part_of (take place parts)) (part_of part ∷ []), ap (map part_of) whole)
