@@ -1,12 +1,10 @@
 -- Texts with something in the place of each mark, part by part; the first line with a mark.
-use Rattle.std.proofs.Common.{◌≡◌, ℕ, ◌<◌, Bool, true, false, List, [], ◌∷◌, ◌++◌, length, refl, sym, ◌∙◌, ap, arith, append_assoc, append-nil, eqb, if◌then◌else◌, inl, inr, Option, Some, None}
-use Rattle.std.specs.Prelude.{flat_map, nat_lt, find, option_map, is_none, ◌&&◌, ◌||◌, unwrap_or}
+use Rattle.std.proofs.Common.{◌≡◌, ℕ, ◌<◌, Bool, true, false, List, [], ◌∷◌, ◌++◌, length, refl, ◌∙◌, ap, arith, append_assoc, eqb, if◌then◌else◌, inl, inr, Option, Some, None}
+use Rattle.std.specs.Prelude.{flat_map, find, option_map, is_none, ◌&&◌, ◌||◌, unwrap_or}
 use Rattle.std.specs.Option.{option_map_or}
 use Rattle.std.specs.List.{slice_split, onto_first}
 use Rattle.std.proofs.lemmas.List.Splits.{length-slice_split}
-use Rattle.std.proofs.lemmas.List.Concat.{flat_map-append}
 use Rattle.std.proofs.lemmas.Bool.{cases_Bool}
-use Rattle.std.proofs.lemmas.Bool.Decides.{nat_tests}
 use Rattle.std.specs.List.{list_any}
 use Rattle.indicatif_bar.specs.BarStyles.{with_marks_as, is_wide_mark}
 

@@ -20,3 +20,4 @@ pub mod BoundLemmas
 pub mod TextWidthLemmas
 pub mod BarWidthLemmas
 pub mod WideBarLemmas
+pub mod PlainLineLemmas

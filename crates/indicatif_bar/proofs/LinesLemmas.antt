@@ -81,13 +81,13 @@ module _ {K : Type 0} (m : Tracking K) (style : Style K) (p : Progress) (now : �
   wide_by layout name n None true at within = absurd (past style.keys n at (omega (arith, lt_of n (length (names style.keys)) within, length-map style.keys (λ x. x.0))))
   wide_by layout name n None false at within = known_wide layout (key_named name)
 
-  text_of_name : (layout : Layout) (name : List ℕ) → named_text m style p now name layout ≡ source_text m style p now layout (source_of (names style.keys) name)
+  pub text_of_name : (layout : Layout) (name : List ℕ) → named_text m style p now name layout ≡ source_text m style p now layout (source_of (names style.keys) name)
   text_of_name layout name =
       let n = position_or_len (bytes_eq name) (names style.keys) in
       ap (λ o. elim o as (λ _. List ℕ) [ Some k ↦ expanded style.tab (m.text k p now) | None ↦ option_map_or (key_text m style p now layout) (key_named name) [] ]) (found name style.keys)
       ∙ text_by layout name n (slice_get style.keys n) (nat_lt n (length (names style.keys))) refl refl
 
-  wide_of_name : (layout : Layout) (key : List ℕ) → wide_part m style p now (KeyText key layout) ≡ wide_source layout (source_of (names style.keys) (encode_utf8_all key))
+  pub wide_of_name : (layout : Layout) (key : List ℕ) → wide_part m style p now (KeyText key layout) ≡ wide_source layout (source_of (names style.keys) (encode_utf8_all key))
   wide_of_name layout key =
       let name = encode_utf8_all key in
       let n = position_or_len (bytes_eq name) (names style.keys) in
@@ -116,10 +116,10 @@ module _ {K : Type 0} (m : Tracking K) (style : Style K) (p : Progress) (now : �
   broken columns wide text (h ∷ gs) some = ap (λ t. lines_with style p columns wide t ++ lines_of_groups m style p now columns wide (h ∷ gs)) (append-nil text)
 
   -- the latest wide placeholder behind one part
-  abbrev wide_behind : Option Wide → Option Wide → Option Wide
+  abbrev pub wide_behind : Option Wide → Option Wide → Option Wide
   wide_behind before wide = elim wide [ Some w ↦ Some w | None ↦ before ]
 
-  latest_by : (before o : Option Wide) (x : TemplatePart) (g : List TemplatePart) → wide_part m style p now x ≡ o →
+  pub latest_by : (before o : Option Wide) (x : TemplatePart) (g : List TemplatePart) → wide_part m style p now x ≡ o →
       latest_wide m style p now before (x ∷ g) ≡ latest_wide m style p now (wide_behind before o) g
   latest_by before None x g e = rw e refl
   latest_by before (Some w) x g e = rw e refl

@@ -1,8 +1,8 @@
 -- A byte found in a text: whether it is there, and the parts of the text before and behind it.
-use Rattle.std.proofs.Common.{◌≡◌, ℕ, ◌+◌, ◌<◌, Bool, true, false, List, [], ◌∷◌, ◌++◌, length, take, drop, refl, sym, ◌∙◌, ap, arith, Option, Some, None, All, append_assoc, subst}
+use Rattle.std.proofs.Common.{◌≡◌, ℕ, ◌+◌, ◌<◌, false, List, [], ◌∷◌, ◌++◌, length, take, drop, sym, ◌∙◌, ap, arith, Option, Some, None, All, append_assoc, subst}
 use Rattle.std.specs.Prelude.{is_some, ◌==◌, get_or}
 use Rattle.std.specs.List.{list_any, slice_split}
-use Rattle.std.proofs.lemmas.List.{take_more, take-append-drop, drop-drop, get_or-take, length-take-le}
+use Rattle.std.proofs.lemmas.List.{take_more, take-append-drop, get_or-take, length-take-le}
 use Rattle.std.proofs.lemmas.List.Elements.{All-from_get_or}
 use Rattle.std.proofs.lemmas.List.Folds.{list_any_none, list_any_at}
 use Rattle.std.proofs.lemmas.List.Splits.{slice_split_none, slice_split_at}

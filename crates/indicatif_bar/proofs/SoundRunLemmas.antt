@@ -1,5 +1,5 @@
 -- Where no call of a machine forgets its rows but one that the terminal broke off, they are read after a run that it didn't break off.
-use Rattle.std.proofs.Common.{◌≡◌, ℕ, Bool, false, List, [], ◌∷◌, sym, ◌∙◌, ap, subst, Result, Ok, Err, Option, Some, None, inl, inr}
+use Rattle.std.proofs.Common.{◌≡◌, ℕ, false, List, [], ◌∷◌, sym, ◌∙◌, ap, Result, Ok, Err, Option, Some, inl, inr}
 use Rattle.std.specs.Prelude.{IsFalse, not, ◌==◌}
 use Rattle.std.specs.List.{list_any}
 use Rattle.std.proofs.lemmas.Bool.{cond_both, false≢true, or_parts}
@@ -11,7 +11,7 @@ use Rattle.indicatif_term.specs.Calls.{TermView}
 use Rattle.indicatif_term.specs.Frames.{some_wide}
 use Rattle.indicatif_term.specs.Engines.{is_failure}
 use Rattle.indicatif_bar.specs.Machines.{Target, target_of, Machine, Draw, Deed, AtOnce, Draws, Leads, is_no, drawn_by}
-use Rattle.indicatif_bar.specs.Runs.{Runs, deed_on, broke, ReadsAfter}
+use Rattle.indicatif_bar.specs.Runs.{Runs, broke, ReadsAfter}
 use Rattle.indicatif_bar.proofs.RunLemmas.{read_after}
 
 module _ {S C A : Type 0} (m : Machine S C A) where

@@ -1,10 +1,11 @@
--- The columns of texts in UTF-8 that are joined, repeated, styled, padded or truncated.
+-- The columns of texts in UTF-8 that are joined, repeated, styled, padded or truncated; of plain texts these are plain.
 use Rattle.std.proofs.Common.{◌≡◌, ℕ, zero, suc, ◌+◌, ◌-◌, ◌*◌, ◌/◌, ◌<◌, ◌≤◌, Bool, true, false, List, [], ◌∷◌, ◌++◌, replicate, refl, sym, ◌∙◌, ap, subst, arith, if◌then◌else◌, inl, inr}
-use Rattle.std.specs.Prelude.{◌&&◌, nat_lt, sum_by, is_some, encode_utf8_all}
+use Rattle.std.specs.Prelude.{◌&&◌, ◌==◌, nat_lt, length, sum_by, is_some, encode_utf8_all}
 use Rattle.std.specs.List.{list_all}
-use Rattle.std.specs.Str.{IsUtf8, IsAscii, chars}
+use Rattle.std.specs.Str.{IsUtf8, IsAscii, chars, drop_trailing_whitespace}
 use Rattle.std.proofs.Math.Utf8.{scalar, scalars}
-use Rattle.std.proofs.lemmas.Bool.{cases_lt}
+use Rattle.std.specs.Char.{is_whitespace}
+use Rattle.std.proofs.lemmas.Bool.{cases_lt, cond_both}
 use Rattle.std.proofs.lemmas.Bool.Decides.{nat_tests}
 use Rattle.std.proofs.lemmas.List.Elements.{All-replicate}
 use Rattle.std.proofs.lemmas.List.Folds.{list_all-append, sum_by-replicate}
@@ -17,10 +18,10 @@ use Rattle.indicatif_text.specs.Range.{ansi_range}
 use Rattle.indicatif_text.specs.StyleWords.{styled}
 use Rattle.indicatif_text.specs.declared.template.Alignment.{Alignment}
 use Rattle.indicatif_text.specs.declared.template.Alignment.TheVariants.{Left, Center, Right}
-use Rattle.indicatif_text.proofs.SeamLemmas.{plain_texts_join, spaces_are_seen, styles_are_unseen, styles_are_bytes}
-use Rattle.indicatif_text.proofs.RangeWidthLemmas.{ranges_fit, no_character_is_added}
+use Rattle.indicatif_text.proofs.SeamLemmas.{plain_texts_join, spaces_are_seen, styles_are_unseen, styles_are_bytes, plain_texts_trim}
+use Rattle.indicatif_text.proofs.RangeWidthLemmas.{ranges_fit, no_character_is_added, ranges_stay_plain}
 use Rattle.indicatif_bar.specs.Layout.{text_columns, spaces, text_range, truncated, surrounded, padded, times}
-use Rattle.indicatif_bar.specs.StyleLaws.{PaddedFills, NeverNarrower, NeverWider}
+use Rattle.indicatif_bar.specs.StyleLaws.{IsPlainText, PaddedFills, NeverNarrower, NeverWider}
 
 -- a plain text of so many columns
 pub record Takes (n : ℕ) (text : List ℕ) : Type 0 where
@@ -121,11 +122,14 @@ scalars_all : (cs : List ℕ) → scalars cs ≡ list_all scalar cs
 scalars_all [] = refl
 scalars_all (c ∷ cs) = ap (λ b. scalar c && b) (scalars_all cs)
 
+range_scalars : (text : List ℕ) (start end : ℕ) → IsUtf8 text → scalars (ansi_range (chars text) start end) ≡ true
+range_scalars text start end u =
+    scalars_all (ansi_range (chars text) start end) ∙ no_character_is_added scalar (chars text) start end (sym (scalars_all (chars text)) ∙ scalars-chars text u)
+
 range_columns : (text : List ℕ) (start end : ℕ) → IsUtf8 text → text_columns (text_range text start end) ≤ end - start
 range_columns text start end u =
     let cs = ansi_range (chars text) start end in
-    let all : scalars cs ≡ true = scalars_all cs ∙ no_character_is_added scalar (chars text) start end (sym (scalars_all (chars text)) ∙ scalars-chars text u) in
-    let same : chars (encode_utf8_all cs) ≡ cs = chars-encodes cs all in
+    let same : chars (encode_utf8_all cs) ≡ cs = chars-encodes cs (range_scalars text start end u) in
     omega (arith, ranges_fit (chars text) start end, ap (λ x. sum_by width_of (visible x)) same)
 
 truncated_columns : (text : List ℕ) (columns : ℕ) (align : Alignment) (width : ℕ) → IsUtf8 text → width < columns → text_columns (truncated text columns align width) ≤ width
@@ -173,3 +177,58 @@ never_wider text width align u = elim (cases_lt width (text_columns text)) [
   | inl long ↦ omega (arith, ap text_columns (padded_long text width align true long), truncated_columns text (text_columns text) align width u long)
   | inr short ↦ omega (arith, padded_fills text width align true u short)
 ]
+
+-- ---- plain texts
+
+pub plain_takes : (text : List ℕ) → IsPlainText text → Takes (text_columns text) text
+plain_takes text plain = record { utf8 = plain.0; plain = plain.1; columns = refl }
+
+pub taken_plain : (n : ℕ) (text : List ℕ) → Takes n text → IsPlainText text
+taken_plain n text t = (t.utf8, t.plain)
+
+pub plain_both : (xs ys : List ℕ) → IsPlainText xs → IsPlainText ys → IsPlainText (xs ++ ys)
+plain_both xs ys x y = taken_plain (text_columns xs + text_columns ys) (xs ++ ys) (takes_both (text_columns xs) (text_columns ys) xs ys (plain_takes xs x) (plain_takes ys y))
+
+-- characters as a text
+plain_encoded : (cs : List ℕ) → scalars cs ≡ true → is_plain cs ≡ true → IsPlainText (encode_utf8_all cs)
+plain_encoded cs all plain = ((cs, (all, refl)), ap is_plain (chars-encodes cs all) ∙ plain)
+
+plain_range : (text : List ℕ) (start end : ℕ) → IsPlainText text → IsPlainText (text_range text start end)
+plain_range text start end t = plain_encoded (ansi_range (chars text) start end) (range_scalars text start end t.0) (ranges_stay_plain (chars text) start end t.1)
+
+plain_spaces : (n : ℕ) → IsPlainText (spaces n)
+plain_spaces n = taken_plain n (spaces n) (takes_spaces n)
+
+plain_surrounded : (text : List ℕ) (align : Alignment) (n : ℕ) → IsPlainText text → IsPlainText (surrounded text align n)
+plain_surrounded text Left n t = plain_both text (spaces n) t (plain_spaces n)
+plain_surrounded text Right n t = plain_both (spaces n) text (plain_spaces n) t
+plain_surrounded text Center n t =
+    plain_both (spaces (n / 2) ++ text) (spaces (n - n / 2)) (plain_both (spaces (n / 2)) text (plain_spaces (n / 2)) t) (plain_spaces (n - n / 2))
+
+plain_truncated : (text : List ℕ) (columns : ℕ) (align : Alignment) (width : ℕ) → IsPlainText text → IsPlainText (truncated text columns align width)
+plain_truncated text columns Left width t = plain_range text 0 width t
+plain_truncated text columns Right width t = plain_range text (columns - width) columns t
+plain_truncated text columns Center width t = let excess = columns - width in plain_range text (excess / 2) (columns - (excess - excess / 2)) t
+
+pub plain_padded : (text : List ℕ) (width : ℕ) (align : Alignment) (truncate : Bool) → IsPlainText text → IsPlainText (padded text width align truncate)
+unfolding padded
+plain_padded text width align truncate t =
+    let columns = text_columns text in
+    cond_both (nat_lt width columns) (if truncate then truncated text columns align width else text) (surrounded text align (width - columns)) (λ x. IsPlainText x)
+    (λ _. cond_both truncate (truncated text columns align width) text (λ x. IsPlainText x) (λ _. plain_truncated text columns align width t) (λ _. t))
+    (λ _. plain_surrounded text align (width - columns) t)
+
+all_kept_by : (b c : Bool) → (b && c) ≡ true → (kept : Bool) → (c ≡ true → kept ≡ true) → (b && kept) ≡ true
+all_kept_by true c e kept rest = rest e
+all_kept_by false c e kept rest = absurd (cc e)
+
+all_trimmed : (p : ℕ → Bool) (cs : List ℕ) → list_all p cs ≡ true → list_all p (drop_trailing_whitespace cs) ≡ true
+all_trimmed p [] e = refl
+all_trimmed p (c ∷ cs) e =
+    let kept = drop_trailing_whitespace cs in
+    cond_both (is_whitespace c && (length kept == 0)) [] (c ∷ kept) (λ x. list_all p x ≡ true) (λ _. refl) (λ _. all_kept_by (p c) (list_all p cs) e (list_all p kept) (all_trimmed p cs))
+
+pub plain_trimmed : (text : List ℕ) → IsPlainText text → IsPlainText (encode_utf8_all (drop_trailing_whitespace (chars text)))
+plain_trimmed text t =
+    let kept = drop_trailing_whitespace (chars text) in
+    plain_encoded kept (scalars_all kept ∙ all_trimmed scalar (chars text) (sym (scalars_all (chars text)) ∙ scalars-chars text t.0)) (plain_texts_trim (chars text) t.1)

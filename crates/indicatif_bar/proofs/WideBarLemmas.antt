@@ -29,21 +29,21 @@ use Rattle.indicatif_bar.specs.BarStyles.{Style, WideBarOf, wide_mark, is_wide_m
 use Rattle.indicatif_bar.specs.StyleLaws.{IsPlainText, cells_in}
 use Rattle.indicatif_bar.specs.LineLaws.{parts_text, HasWideBar, FillsRow, WideBarsFill}
 use Rattle.indicatif_bar.proofs.FillingLemmas.{no_marks}
-use Rattle.indicatif_bar.proofs.TextWidthLemmas.{Takes, takes_none, takes_as, takes_both, takes_spaces, columns_behind, padded_short}
+use Rattle.indicatif_bar.proofs.TextWidthLemmas.{Takes, takes_none, takes_as, takes_both, takes_spaces, columns_behind, padded_short, plain_takes}
 use Rattle.indicatif_bar.proofs.BarWidthLemmas.{takes_bar, exact}
 
 -- ---- a plain text has no mark and no newline
 
 -- a byte that stands for no character of a plain text: of a control character but ESC
-record IsStrange (k : ℕ) : Type 0 where
+pub record IsStrange (k : ℕ) : Type 0 where
   low : k < 128
   unknown : ((k == 0x1B) || is_some (char_width false k)) ≡ false
 
-strange_mark : IsStrange 0
+pub strange_mark : IsStrange 0
 unfolding char_width
 strange_mark = record { low = omega arith; unknown = refl }
 
-strange_newline : IsStrange 0x0A
+pub strange_newline : IsStrange 0x0A
 unfolding char_width
 strange_newline = record { low = omega arith; unknown = refl }
 
@@ -89,22 +89,22 @@ without_characters k (c ∷ cs) s e =
     let other : c ≢ k = λ same. let no : is_known c ≡ false = ap is_known same ∙ s.unknown in cc (parts.0, no) in
     without_both k (encode c) (encodes cs) (without_character k c s.low other) (without_characters k cs s parts.1)
 
-takes_without : (k n : ℕ) (text : List ℕ) → IsStrange k → Takes n text → All (λ b. (b == k) ≡ false) text
+pub takes_without : (k n : ℕ) (text : List ℕ) → IsStrange k → Takes n text → All (λ b. (b == k) ≡ false) text
 takes_without k n text s t =
     All-from_recursion (λ b. (b == k) ≡ false) text (subst (Without k) (encodes-chars text t.utf8) (without_characters k (chars text) s (plain_texts_have_widths (chars text) t.plain)))
 
 -- ---- a plain text with a mark in it
 
 -- a text of n columns with one mark
-record Marked (n : ℕ) (text : List ℕ) : Type 0 where
-  front : List ℕ
-  back : List ℕ
-  before : ℕ
-  behind : ℕ
-  parts : text ≡ front ++ 0 ∷ back
-  takes_front : Takes before front
-  takes_back : Takes behind back
-  all : before + behind ≡ n
+pub record Marked (n : ℕ) (text : List ℕ) : Type 0 where
+  pub front : List ℕ
+  pub back : List ℕ
+  pub before : ℕ
+  pub behind : ℕ
+  pub parts : text ≡ front ++ 0 ∷ back
+  pub takes_front : Takes before front
+  pub takes_back : Takes behind back
+  pub all : before + behind ≡ n
 
 marked_mark : Marked 0 wide_mark
 marked_mark = record { front = []; back = []; before = 0; behind = 0; parts = refl; takes_front = takes_none; takes_back = takes_none; all = omega arith }
@@ -134,9 +134,9 @@ marked_behind k n more text t x = record {
 }
 
 -- what some columns make of a mark is some columns
-record SomeMarked (text : List ℕ) : Type 0 where
-  many : ℕ
-  is : Marked many text
+pub record SomeMarked (text : List ℕ) : Type 0 where
+  pub many : ℕ
+  pub is : Marked many text
 
 takes_sequences : (numbers : List ℕ) → Takes 0 (flat_map sequence_of numbers)
 unfolding is_plain visible
@@ -150,7 +150,7 @@ takes_sequences numbers =
       columns = ap (sum_by width_of) seen;
     }
 
-marked_styled : (colours : Bool) (numbers text : List ℕ) → SomeMarked text → SomeMarked (styled colours numbers text)
+pub marked_styled : (colours : Bool) (numbers text : List ℕ) → SomeMarked text → SomeMarked (styled colours numbers text)
 marked_styled colours [] text x = x
 marked_styled false (n ∷ ns) text x = x
 marked_styled true (n ∷ ns) text x =
@@ -194,6 +194,10 @@ padded_mark : (width : ℕ) (align : Alignment) (truncate : Bool) → SomeMarked
 padded_mark width align truncate =
     let none : text_columns wide_mark ≡ 0 = mark_columns [] ∙ none_columns in
     subst SomeMarked (sym (padded_short wide_mark width align truncate (omega (arith, none)))) (marked_surrounded align (width - text_columns wide_mark))
+
+pub sized_mark : (align : Alignment) (truncate : Bool) (width : Option ℕ) → SomeMarked (option_map_or (λ w. padded wide_mark w align truncate) width wide_mark)
+sized_mark align truncate None = record { many = 0; is = marked_mark }
+sized_mark align truncate (Some width) = padded_mark width align truncate
 
 -- ---- the text of the line
 
@@ -247,15 +251,8 @@ module _ {K : Type 0} (m : Tracking K) (style : Style K) (p : Progress) (now col
     | None ↦ option_map_or (key_text m style p now h.layout) (key_named (codes "wide_bar")) []
   ]) h.no_tracker
 
-  sized_mark : (width : Option ℕ) → SomeMarked (option_map_or (λ w. padded wide_mark w h.layout.align h.layout.truncate) width wide_mark)
-  sized_mark None = record { many = 0; is = marked_mark }
-  sized_mark (Some width) = padded_mark width h.layout.align h.layout.truncate
-
   bar_marked : SomeMarked (part_text m style p now (KeyText (codes "wide_bar") h.layout))
-  bar_marked = subst (λ t. SomeMarked (in_layout m style p now h.layout t)) (sym bar_named) (marked_styled style.colours (unwrap_or h.layout.style []) _ (sized_mark h.layout.width))
-
-  plain_takes : (text : List ℕ) → IsPlainText text → Takes (text_columns text) text
-  plain_takes text plain = record { utf8 = plain.0; plain = plain.1; columns = refl }
+  bar_marked = subst (λ t. SomeMarked (in_layout m style p now h.layout t)) (sym bar_named) (marked_styled style.colours (unwrap_or h.layout.style []) _ (sized_mark h.layout.align h.layout.truncate h.layout.width))
 
   text_marked : SomeMarked (parts_text m style p now style.parts)
   text_marked =

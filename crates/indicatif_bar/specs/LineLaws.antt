@@ -45,6 +45,24 @@ abbrev pub WideBarsFill : Type 0 → Type 0
 WideBarsFill K = (m : Tracking K) (style : Style K) (p : Progress) (now columns : ℕ) → HasWideBar m style p now columns
     → (line : List ℕ) × (lines m style p now columns ≡ line ∷ []) × FillsRow columns line
 
+-- ---- plain lines
+
+module _ {K : Type 0} (m : Tracking K) (style : Style K) (p : Progress) (now : ℕ) where
+  -- what a part of a template writes consists of characters with a width and colour sequences, where it is no wide key
+  abbrev pub IsPlainPart : TemplatePart → Type 0
+  IsPlainPart part = wide_part m style p now part ≡ None → IsPlainText (part_text m style p now part)
+
+  -- so do all parts, the clusters and the message
+  pub record HasPlainParts : Type 0 where
+    pub parts : All IsPlainPart style.parts
+    pub clusters : ArePlainClusters style.clusters
+    pub message : IsPlainText (shown_message p)
+
+-- then the lines do, whatever the wide keys are and however wide the terminal is
+abbrev pub PlainPartsGivePlainLines : Type 0 → Type 0
+PlainPartsGivePlainLines K = (m : Tracking K) (style : Style K) (p : Progress) (now columns : ℕ) → HasPlainParts m style p now
+    → All IsPlainText (lines m style p now columns)
+
 -- ---- tabs
 
 -- after another width of tabs, message, prefix and the template's literals are what they were set to with that width, whatever widths were set before

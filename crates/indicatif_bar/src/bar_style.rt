@@ -20,7 +20,7 @@ use std::sync::Arc;
 /// How a bar looks: a template, the characters of a bar, the texts of a spinner, and trackers under keys of their own.
 ///
 /// What never changes from draw to draw is made once, when the style is made: the names of the template's keys are looked
-/// up, and the tabs of its literals expanded.
+/// up, and the tabs of its literals expanded. A literal without tabs is read from the template itself.
 ///
 /// ```
 /// let style: ProgressStyle<NoTracker> = ProgressStyle::with_template(alloc, "{bar:10} {pos}/{len}")?.progress_chars("=> ")?;
@@ -59,7 +59,7 @@ impl<K> Model for ProgressStyle<K> {
       tab = s.tab;
     } };
 
-    ghost invariant = { λ s. (map effect_of s.steps.items ≡ map (effect_of_part (names_of s.keys.items) s.tab) (arc_value s.template))
+    ghost invariant = { λ s. (map (effect_of (arc_value s.template)) s.steps.items ≡ map (effect_of_part (names_of s.keys.items) s.tab) (arc_value s.template))
         × (2 ≤ length (texts_in s.clusters))
         × (0 < text_columns (cluster (texts_in s.clusters) 0))
         × (2 ≤ length (texts_in s.tick_strings)) };

@@ -1,20 +1,21 @@
--- A range has no more columns than it is wide, all colour sequences of its text, and no other characters.
+-- A range has no more columns than it is wide, all colour sequences of its text, and no other characters; a plain text's is plain.
 use Rattle.std.proofs.Common.{◌≡◌, ℕ, zero, suc, ◌+◌, ◌-◌, ◌≤◌, ◌<◌, Bool, true, false, List, [], ◌∷◌, ◌++◌, length, drop, Some, None, refl, sym, ◌∙◌, ap, subst, arith, if◌then◌else◌, inl, inr}
-use Rattle.std.specs.Prelude.{◌==◌, ◌&&◌, nat_le, nat_lt, flat_map, sum_by}
+use Rattle.std.specs.Prelude.{◌==◌, ◌&&◌, nat_le, nat_lt, flat_map, is_some, sum_by}
 use Rattle.std.specs.List.{list_all, AllByRecursion}
 use Rattle.std.proofs.Math.Seq.{drop-append_seam, take-append_seam}
 use Rattle.std.proofs.lemmas.Bool.{cases_Bool, cond_both, eqb-true}
 use Rattle.std.proofs.lemmas.Bool.Decides.{nat_tests}
 use Rattle.std.proofs.lemmas.List.Sums.{sum_by-cons, sum_by-append}
 use Rattle.std.proofs.lemmas.List.Folds.{list_all-append}
-use Rattle.indicatif_text.specs.Columns.{width_of, colour_length, visible}
+use Rattle.unicode_width.specs.Width.{char_width}
+use Rattle.indicatif_text.specs.Columns.{width_of, colour_length, visible, is_plain}
 use Rattle.indicatif_text.specs.Pieces.{TextPiece, Run, Colour, pieces_of_text}
-use Rattle.indicatif_text.specs.PieceLaws.{piece_text, IsExact, NoRunsAdjoin}
+use Rattle.indicatif_text.specs.PieceLaws.{piece_text, run_text, IsExact, NoRunsAdjoin}
 use Rattle.indicatif_text.specs.Range.{standing_within, run_within, pieces_within, ansi_range}
-use Rattle.indicatif_text.specs.RangeLaws.{sequence_in, sequences_of, RangesFit, SequencesStay, NoCharacterIsAdded}
+use Rattle.indicatif_text.specs.RangeLaws.{sequence_in, sequences_of, RangesFit, SequencesStay, NoCharacterIsAdded, RangesStayPlain}
 use Rattle.indicatif_text.proofs.ColourSequenceLemmas.{hidden, visible_none}
 use Rattle.indicatif_text.proofs.PieceLemmas.{first_colour, first_joined, none_left}
-use Rattle.indicatif_text.proofs.PieceLawLemmas.{Sequence, Opened, sequence_is, sequence_from, sequence_before, sequence_length, none_before, none_of_empty, visible_past, all_exact, pieces_join, runs_are_longest}
+use Rattle.indicatif_text.proofs.PieceLawLemmas.{Sequence, Opened, sequence_is, sequence_from, sequence_before, sequence_length, none_before, none_of_empty, visible_past, all_exact, pieces_join, runs_are_longest, runs_are_visible}
 use Rattle.indicatif_text.proofs.SeamLemmas.{is_apart, sequence_joins, visible_apart, sequences_apart}
 
 -- ---- what stands within of a run is a part of it without a gap, so that no colour sequence arises
@@ -265,3 +266,19 @@ pieces_all_such p start end column (Run text ∷ ps) e =
 pub no_character_is_added : NoCharacterIsAdded
 unfolding ansi_range
 no_character_is_added is_such text start end e = pieces_all_such is_such start end 0 (pieces_of_text text) (ap (list_all is_such) (pieces_join text) ∙ e)
+
+kept_all_such : (p : ℕ → Bool) (start end column : ℕ) (ps : List TextPiece) → list_all p (flat_map run_text ps) ≡ true → list_all p (kept_within start end column ps) ≡ true
+kept_all_such p start end column [] e = refl
+kept_all_such p start end column (Colour sequence ∷ ps) e = kept_all_such p start end column ps e
+kept_all_such p start end column (Run text ∷ ps) e =
+    let after = column + sum_by width_of text in
+    let parts = both_true (list_all p text) (list_all p (flat_map run_text ps)) (sym (list_all-append p text (flat_map run_text ps)) ∙ e) in
+    all_both p (run_within start end column text) (kept_within start end after ps) (run_all_such p start end column text parts.0) (kept_all_such p start end after ps parts.1)
+
+pub ranges_stay_plain : RangesStayPlain
+unfolding ansi_range is_plain
+ranges_stay_plain text start end e =
+    let ps = pieces_of_text text in
+    let has_width : ℕ → Bool = λ c. is_some (char_width false c) in
+    ap (list_all has_width) (kept_seen start end 0 ps (all_exact text).exact (runs_are_longest text))
+    ∙ kept_all_such has_width start end 0 ps (ap (list_all has_width) (runs_are_visible text) ∙ e)

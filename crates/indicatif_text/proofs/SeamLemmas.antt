@@ -4,7 +4,8 @@ use Rattle.std.specs.Prelude.{◌==◌, ◌&&◌, ◌||◌, not, nat_le, nat_lt,
 use Rattle.std.specs.Int.{IsInRange}
 use Rattle.std.specs.Fmt.{digits, digits_onto, digit_glyph}
 use Rattle.std.specs.List.{list_all, AllByRecursion}
-use Rattle.std.specs.Str.{IsAscii, chars}
+use Rattle.std.specs.Char.{is_whitespace}
+use Rattle.std.specs.Str.{IsAscii, chars, drop_trailing_whitespace}
 use Rattle.std.proofs.lemmas.Str.{IsUtf8-from_ascii, IsUtf8-append, chars-append, chars-IsAscii}
 use Rattle.std.proofs.lemmas.Str.Ascii.{IsAscii-from_all}
 use Rattle.std.proofs.lemmas.List.Folds.{list_all-append}
@@ -20,7 +21,7 @@ use Rattle.indicatif_text.specs.StyleWords.{sequence_of}
 use Rattle.indicatif_text.specs.Pieces.{TextPiece, Run, Colour, joined_to, pieces_of_text}
 use Rattle.indicatif_text.specs.PieceLaws.{run_text}
 use Rattle.indicatif_text.specs.RangeLaws.{sequence_in, sequences_of}
-use Rattle.indicatif_text.specs.ColumnLaws.{PlainTextsJoin, SpacesAreSeen, NumbersAreUnseen, StylesAreUnseen, StylesAreBytes, OthersAreSeen, PlainTextsHaveWidths, OneRow}
+use Rattle.indicatif_text.specs.ColumnLaws.{PlainTextsJoin, SpacesAreSeen, NumbersAreUnseen, StylesAreUnseen, StylesAreBytes, OthersAreSeen, PlainTextsHaveWidths, PlainTextsTrim, OneRow}
 use Rattle.indicatif_text.proofs.ColourSequenceLemmas.{hidden, visible_none}
 use Rattle.indicatif_text.proofs.PieceLemmas.{first_colour, first_joined}
 use Rattle.indicatif_text.proofs.PieceLawLemmas.{Parameters, Ended, Further, Sequence, Opened, sequence_is, sequence_taken, sequence_before, sequence_length, by_pieces, runs_are_visible, visible_past}
@@ -324,3 +325,38 @@ one_high w n (c ∷ cs) fits =
 pub one_row : OneRow
 unfolding rows_of
 one_row text w fits = length-map (pieces_of w (glyphs_of (visible text))) (row_of w) ∙ (pieces w [] (visible text)).count ∙ one_high w 0 (visible text) (omega (arith, fits))
+
+-- ---- without white space at the end
+
+white_apart : (c : ℕ) (cs : List ℕ) → is_whitespace c ≡ true → is_apart (c ∷ cs) ≡ true
+white_apart c cs e = grind (arith, nat_tests)
+
+-- a text is such a beginning and a text apart
+record EndsApart (text kept : List ℕ) : Type 0 where
+  left : List ℕ
+  parts : text ≡ kept ++ left
+  apart : is_apart left ≡ true
+
+first_true : (a b : Bool) → (a && b) ≡ true → a ≡ true
+first_true true b e = refl
+first_true false b e = absurd (cc e)
+
+ends_white : (text : List ℕ) → EndsApart text (drop_trailing_whitespace text)
+ends_white [] = record { left = []; parts = refl; apart = refl }
+ends_white (c ∷ cs) =
+    let rest = ends_white cs in
+    let kept = drop_trailing_whitespace cs in
+    cond_both (is_whitespace c && (length kept == 0)) [] (c ∷ kept) (λ front. EndsApart (c ∷ cs) front)
+    (λ e. record { left = c ∷ cs; parts = refl; apart = white_apart c cs (first_true (is_whitespace c) (length kept == 0) e) })
+    (λ e. record { left = rest.left; parts = ap (λ x. c ∷ x) rest.parts; apart = rest.apart })
+
+first_plain : (xs ys : List ℕ) → list_all has_width (xs ++ ys) ≡ true → list_all has_width xs ≡ true
+first_plain xs ys e = first_true (list_all has_width xs) (list_all has_width ys) (sym (list_all-append has_width xs ys) ∙ e)
+
+pub plain_texts_trim : PlainTextsTrim
+unfolding is_plain
+plain_texts_trim text e =
+    let kept = drop_trailing_whitespace text in
+    let s = ends_white text in
+    let seen : visible text ≡ visible kept ++ visible s.left = ap visible s.parts ∙ visible_apart kept s.left s.apart in
+    first_plain (visible kept) (visible s.left) (ap (list_all has_width) (sym seen) ∙ e)

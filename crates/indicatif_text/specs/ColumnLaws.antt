@@ -1,7 +1,7 @@
 -- Laws of what is visible of a text, of its columns and of its rows. Texts are lists of characters.
 use Rattle.std.specs.Prelude.{◌≡◌, ◌≢◌, ℕ, ◌≤◌, Bool, false, ◌||◌, ◌==◌, List, ◌∷◌, ◌++◌, length, replicate, flat_map, is_some, IsTrue}
 use Rattle.std.specs.List.{list_all}
-use Rattle.std.specs.Str.{IsUtf8, IsAscii, chars}
+use Rattle.std.specs.Str.{IsUtf8, IsAscii, chars, drop_trailing_whitespace}
 use Rattle.unicode_width.specs.Width.{char_width}
 use Rattle.indicatif_text.specs.Columns.{visible, columns_of, is_plain, rows_of}
 use Rattle.indicatif_text.specs.StyleWords.{sequence_of, styled}
@@ -33,6 +33,10 @@ OthersAreSeen = (c : ℕ) (text : List ℕ) → c ≢ 0x1B → visible (c ∷ te
 -- where the visible characters have a width, all but ESC have
 abbrev pub PlainTextsHaveWidths : Type 0
 PlainTextsHaveWidths = (text : List ℕ) → IsTrue (is_plain text) → IsTrue (list_all (λ c. (c == 0x1B) || is_some (char_width false c)) text)
+
+-- and without the white space at its end, such a text is one too
+abbrev pub PlainTextsTrim : Type 0
+PlainTextsTrim = (text : List ℕ) → IsTrue (is_plain text) → IsTrue (is_plain (drop_trailing_whitespace text))
 
 -- a text of no more columns than the terminal takes one row
 abbrev pub OneRow : Type 0

@@ -1,7 +1,7 @@
 -- Laws of ranges of columns. Texts are lists of characters.
 use Rattle.std.specs.Prelude.{◌≡◌, ℕ, ◌-◌, ◌<◌, ◌≤◌, Bool, List, [], ◌∷◌, flat_map, IsTrue}
 use Rattle.std.specs.List.{list_all}
-use Rattle.indicatif_text.specs.Columns.{columns_of}
+use Rattle.indicatif_text.specs.Columns.{columns_of, is_plain}
 use Rattle.indicatif_text.specs.Pieces.{TextPiece, Colour, Run, pieces_of_text}
 use Rattle.indicatif_text.specs.Range.{ansi_range}
 
@@ -29,3 +29,7 @@ SequencesStay = (text : List ℕ) (start end : ℕ) → sequences_of (ansi_range
 -- a range has no characters but those of its text: what all of these are, all of it are
 abbrev pub NoCharacterIsAdded : Type 0
 NoCharacterIsAdded = (is_such : ℕ → Bool) (text : List ℕ) (start end : ℕ) → IsTrue (list_all is_such text) → IsTrue (list_all is_such (ansi_range text start end))
+
+-- a range of a text of characters with a width and colour sequences is such a text
+abbrev pub RangesStayPlain : Type 0
+RangesStayPlain = (text : List ℕ) (start end : ℕ) → IsTrue (is_plain text) → IsTrue (is_plain (ansi_range text start end))

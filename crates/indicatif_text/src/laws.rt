@@ -1,6 +1,6 @@
 //! What follows from the definitions, apart from how they are made: each law is the contract of a function that does nothing.
-ghost use Rattle.indicatif_text.specs.ColumnLaws.{PlainTextsJoin, SpacesAreSeen, NumbersAreUnseen, StylesAreUnseen, StylesAreBytes, OthersAreSeen, PlainTextsHaveWidths, OneRow};
-ghost use Rattle.indicatif_text.specs.RangeLaws.{WholeRange, RangesFit, SequencesStay, NoCharacterIsAdded};
+ghost use Rattle.indicatif_text.specs.ColumnLaws.{PlainTextsJoin, SpacesAreSeen, NumbersAreUnseen, StylesAreUnseen, StylesAreBytes, OthersAreSeen, PlainTextsHaveWidths, PlainTextsTrim, OneRow};
+ghost use Rattle.indicatif_text.specs.RangeLaws.{WholeRange, RangesFit, SequencesStay, NoCharacterIsAdded, RangesStayPlain};
 ghost use Rattle.indicatif_text.specs.FormatLaws.{RoundsByHalf, TiesToEven, RoundsHalfUp, LastDigitsAreRest, DigitsSpell, CommasAside, NumeralSpells, CommasByThousands, OnlyZerosDropped, NoZeroLeft, FloatCountSpells, FloatCountCounts, FloatCountEnds, GreatestPrefix, BinaryBytesTell, DecimalBytesTell, TellsSeconds, NoLongerUnit, ReachesUnit, WordsTell, ShortIsWords};
 ghost use Rattle.indicatif_text.specs.PieceLaws.{PiecesJoin, RunsAreVisible, PiecesAreExact, NoEmptyPieces, RunsAreLongest};
 ghost use Rattle.indicatif_text.specs.TemplateLaws.{OneOfBoth, NeverBoth, OneList, OnePlace};
@@ -90,14 +90,16 @@ pub fn columns()
     ensures bytes { StylesAreBytes }
     ensures others { OthersAreSeen }
     ensures widths { PlainTextsHaveWidths }
+    ensures trim { PlainTextsTrim }
     ensures one_row { OneRow }
 {}
 
 /// The range of all columns is the text; a range has no more columns than it is wide, every colour sequence of its text and
-/// no other, and no characters but those of its text.
+/// no other, and no characters but those of its text; a plain text's are plain.
 pub fn ranges()
     ensures whole { WholeRange }
     ensures fit { RangesFit }
     ensures sequences { SequencesStay }
     ensures no_more { NoCharacterIsAdded }
+    ensures plain { RangesStayPlain }
 {}

@@ -172,6 +172,9 @@ impl Style {
         ensures full { OnErr result (string_capacity out.old
             < string_len out.old + length (opening_of colours (numbers_of self.now))) }
     {
+        if !colours {
+            return Ok(false);
+        }
         let opening = self.opening(colours);
         out.push_str(opening.as_str())?;
         Ok(!opening.as_str().is_empty())

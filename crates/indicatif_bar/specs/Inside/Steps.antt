@@ -29,11 +29,17 @@ pub data Effect : Type 0 where
 abbrev pub held_layout : Held → Layout
 held_layout h = record { align = h.align; width = h.width; truncate = h.truncate; style = option_map numbers_of h.style; alternative = option_map numbers_of h.alternative }
 
--- what a step does
-abbrev pub effect_of : Step → Effect
-effect_of (step.Text text) = WritesText (string_bytes text)
-effect_of step.Break = Breaks
-effect_of (step.Placeholder held) = Holds held.source (held_layout held)
+-- the text of a literal part
+abbrev pub literal_text : Option TemplatePart → List ℕ
+literal_text (Some (LiteralText text)) = encode_utf8_all text
+literal_text _ = []
+
+-- what a step of these parts does
+abbrev pub effect_of : List TemplatePart → Step → Effect
+effect_of parts (step.Text text) = WritesText (string_bytes text)
+effect_of parts (step.Literal place) = WritesText (literal_text (slice_get parts place))
+effect_of parts step.Break = Breaks
+effect_of parts (step.Placeholder held) = Holds held.source (held_layout held)
 
 -- the names of trackers
 abbrev pub names_of : {K : Type 0} → List (String Global × K) → List (List ℕ)

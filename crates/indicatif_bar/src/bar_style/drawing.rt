@@ -21,7 +21,7 @@ use crate::style::key_texts::{
 };
 use crate::style::keys::Key;
 use crate::style::padding::{Place, push_padded};
-use crate::style::steps::{Held, Source, Step, WideKey};
+use crate::style::steps::{Held, Source, Step, WideKey, literal_at};
 use crate::tabs::push_expanded;
 use crate::tracker::ProgressTracker;
 use indicatif_term::draw_target::LineType;
@@ -263,9 +263,11 @@ impl<K: ProgressTracker> ProgressStyle<K> {
             text: spare.text(),
             wide: None,
         };
+        let parts = self.template.parts();
         for step in &self.steps {
             match step {
                 Step::Text(text) => line.text.push_str(text.as_str())?,
+                Step::Literal(place) => line.text.push_str(literal_at(parts, *place))?,
                 Step::Break => {
                     let ended = line.end(spare.text());
                     self.push_lines(ended, state, width, spare, &mut lines)?;

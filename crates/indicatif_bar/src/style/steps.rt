@@ -1,12 +1,12 @@
 //! What the parts of a template do, found out once.
-ghost use Rattle.std.specs.Prelude.{◌≡◌, [], map, option_map, unwrap_or, IfOk, IfErr, bytes_eq, position, string_bytes};
+ghost use Rattle.std.specs.Prelude.{◌≡◌, [], List, Some, map, option_map, unwrap_or, IfOk, IfErr, bytes_eq, position, string_bytes};
+ghost use Rattle.std.specs.List.{slice_get};
 ghost use Rattle.indicatif_text.specs.StyleWords.{numbers_of};
-ghost use Rattle.indicatif_text.specs.Template.{part_of};
-ghost use Rattle.indicatif_bar.specs.Inside.Steps.{wide_found, wide_source, held_layout, names_of};
-ghost use Rattle.indicatif_bar.specs.Inside.Steps.{wide_found, wide_source, held_layout, effect_of, effect_of_part, source_of};
+ghost use Rattle.indicatif_text.specs.Template.{TemplatePart, part_of};
+ghost use Rattle.indicatif_bar.specs.Inside.Steps.{wide_found, wide_source, held_layout, names_of, literal_text, effect_of, effect_of_part, source_of};
 
 use crate::style::keys::{Key, key_named};
-use crate::tabs::push_expanded;
+use crate::tabs::{has_tab, push_expanded};
 use indicatif_text::columns::{Refusal, Style};
 use indicatif_text::template::{Alignment, Part};
 use std::alloc::Global;
@@ -72,8 +72,10 @@ impl Held {
 /// What a part of a template does.
 #[derive(Debug, Drop)]
 pub(crate) enum Step {
-    /// It writes this text.
+    /// It writes this text: a literal of the template, its tabs expanded.
     Text(String),
+    /// It writes the template's literal at this place, which has no tabs.
+    Literal(usize),
     /// It ends a line.
     Break,
     /// It writes the text of its source.
@@ -88,24 +90,33 @@ pub(crate) fn steps_of<K>(
     tab: usize,
 ) -> Result<Vec<Step>, Refusal>
     ensures steps { IfOk result (λ steps.
-        map effect_of steps.items ≡ map (effect_of_part (names_of keys.now) tab) (map part_of parts.now)) }
+        map (effect_of (map part_of parts.now)) steps.items ≡ map (effect_of_part (names_of keys.now) tab) (map part_of parts.now)) }
     ensures memory { IfErr result (λ e. e ≡ Refusal.Memory) }
 {
     let mut steps = Vec::with_capacity(alloc, parts.len())?;
-    'parts: for part in parts {
-        steps.push(step_of(alloc, part, keys, tab)?)?;
+    'parts: for (place, part) in parts.iter().enumerate() {
+        steps.push(step_of(alloc, part, place, keys, tab)?)?;
     }
     Ok(steps)
 }
 
-/// What a part does.
-fn step_of<K>(alloc: Global, part: &Part, keys: &[(String, K)], tab: usize) -> Result<Step, Refusal>
-    ensures step { IfOk result (λ step.
-        effect_of step ≡ effect_of_part (names_of keys.now) tab (part_of part.now)) }
+/// What the part at a place does.
+fn step_of<K>(
+    alloc: Global,
+    part: &Part,
+    place: usize,
+    keys: &[(String, K)],
+    tab: usize,
+) -> Result<Step, Refusal>
+    ensures step { IfOk result (λ step. (parts : List TemplatePart) → slice_get parts place ≡ Some (part_of part.now) →
+        effect_of parts step ≡ effect_of_part (names_of keys.now) tab (part_of part.now)) }
     ensures memory { IfErr result (λ e. e ≡ Refusal.Memory) }
 {
     match part {
         Part::Literal(literal) => {
+            if !has_tab(literal.as_str()) {
+                return Ok(Step::Literal(place));
+            }
             let mut text = String::new(alloc);
             push_expanded(literal.as_str(), tab, &mut text)?;
             Ok(Step::Text(text))
@@ -128,6 +139,27 @@ fn step_of<K>(alloc: Global, part: &Part, keys: &[(String, K)], tab: usize) -> R
                 alternative: *alternative,
             }))
         }
+    }
+}
+
+/// The literal text at a place of these parts; empty where there is none.
+pub(crate) fn literal_at(parts: &[Part], place: usize) -> &str
+    ensures { result.now ≡ literal_text (slice_get (map part_of parts.now) place) }
+{
+    match parts.get(place) {
+        Some(part) => literal_of(part),
+        None => "",
+    }
+}
+
+/// The text of a literal part; empty where it is another part.
+fn literal_of(part: &Part) -> &str
+    ensures { result.now ≡ literal_text (Some (part_of part.now)) }
+{
+    match part {
+        Part::Literal(text) => text.as_str(),
+        Part::NewLine => "",
+        Part::Placeholder { .. } => "",
     }
 }
 

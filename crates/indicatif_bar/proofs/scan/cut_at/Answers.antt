@@ -1,4 +1,4 @@
-use Rattle.std.proofs.Common.{arith, ◌<◌, ◌+◌, sym, subst}
+use Rattle.std.proofs.Common.{arith, ◌+◌, sym, subst}
 use Rattle.std.specs.Str.{IsUtf8}
 use Rattle.std.proofs.lemmas.Str.{IsCharBoundary-after_ascii, IsUtf8-drop}
 use Rattle.indicatif_bar.proofs.ScanLemmas.{one_part_of, parts_of, place_of}

@@ -1,4 +1,4 @@
-use Rattle.indicatif_text.proofs.SeamLemmas.{plain_texts_join, spaces_are_seen, numbers_are_unseen, styles_are_unseen, styles_are_bytes, others_are_seen, plain_texts_have_widths, one_row}
+use Rattle.indicatif_text.proofs.SeamLemmas.{plain_texts_join, spaces_are_seen, numbers_are_unseen, styles_are_unseen, styles_are_bytes, others_are_seen, plain_texts_have_widths, plain_texts_trim, one_row}
 use Rattle.indicatif_text.proofs.laws.columns.Goals as goal
 
 pub returns : goal.returns
@@ -10,5 +10,6 @@ returns c = record {
   bytes = styles_are_bytes;
   others = others_are_seen;
   widths = plain_texts_have_widths;
+  trim = plain_texts_trim;
   one_row = one_row;
 }

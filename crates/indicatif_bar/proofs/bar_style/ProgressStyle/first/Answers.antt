@@ -1,13 +1,14 @@
 use Rattle.std.proofs.Common.{◌∙◌, sym, ap, map}
 use Rattle.indicatif_text.specs.Template.{part_of}
-use Rattle.indicatif_bar.specs.Inside.Steps.{effect_of_part, names_of}
+use Rattle.indicatif_bar.specs.Inside.Steps.{effect_of, effect_of_part, names_of}
 use Rattle.indicatif_bar.specs.Trackers.{entries}
 use Rattle.indicatif_bar.proofs.BuilderLemmas.{many_clusters, many_ticks, wide_cluster, clusters_are, ticks_are}
 use Rattle.indicatif_bar.proofs.bar_style.ProgressStyle.first.Goals as goal
 
 pub invariant_of-result : goal.invariant_of-result
 invariant_of-result g c = (
-  c.in_ok-steps.ensures.steps ∙ ap (λ keys. map (effect_of_part (names_of keys) 8) (map part_of c.parts.result.now)) c.as_slice.ensures.value
+  ap (λ parts. map (effect_of parts) c.in_ok-steps.steps.items) (sym (c.parts.ensures ∙ sym c.in_ok-new.ensures.ok))
+      ∙ c.in_ok-steps.ensures.steps ∙ ap (λ keys. map (effect_of_part (names_of keys) 8) (map part_of c.parts.result.now)) c.as_slice.ensures.value
       ∙ ap (map (effect_of_part (names_of c.new-keys.result.items) 8)) (c.parts.ensures ∙ sym c.in_ok-new.ensures.ok),
   many_clusters,
   wide_cluster,

@@ -1,4 +1,4 @@
-use Rattle.std.proofs.Common.{◌≡◌, Some, false, ◌++◌, ◌∙◌, sym, ap, map, string_bytes}
+use Rattle.std.proofs.Common.{◌≡◌, false, ◌++◌, ◌∙◌, sym, ap, map, string_bytes}
 use Rattle.std.specs.Prelude.{option_map}
 use Rattle.std.specs.List.{slice_split, list_any}
 use Rattle.indicatif_term.specs.Frames.{line_text}

@@ -1,4 +1,4 @@
-use Rattle.std.proofs.Common.{◌≡◌, ◌++◌, ◌-◌, ◌/◌, ◌∙◌, ap, sym, arith, length, string_bytes}
+use Rattle.std.proofs.Common.{◌≡◌, ◌++◌, ◌-◌, ◌/◌, ◌∙◌, ap, sym, length, string_bytes}
 use Rattle.indicatif_text.specs.StyleWords.{opening_of, numbers_of, sequence_of}
 use Rattle.indicatif_bar.proofs.LayoutLemmas.{last_sequence}
 use Rattle.indicatif_bar.specs.Layout.{cluster, text_columns}

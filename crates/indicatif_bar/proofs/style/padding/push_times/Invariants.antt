@@ -1,4 +1,4 @@
-use Rattle.std.proofs.Common.{◌≡◌, ◌≤◌, ◌<◌, ◌-◌, ◌++◌, length, string_bytes}
+use Rattle.std.proofs.Common.{◌≡◌, ◌≤◌, ◌<◌, ◌-◌, ◌++◌, string_bytes}
 use Rattle.indicatif_bar.specs.Layout.{times}
 use Rattle.indicatif_bar.proofs.style.padding.push_times.Given as goal
 

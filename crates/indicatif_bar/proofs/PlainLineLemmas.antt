@@ -1,0 +1,191 @@
+-- Lines of parts without control characters have none.
+use Rattle.std.proofs.Common.{◌≡◌, ℕ, ◌*◌, Bool, true, false, List, [], ◌∷◌, ◌++◌, append_assoc, length, refl, sym, ◌∙◌, ap, subst, if◌then◌else◌, Option, Some, None}
+use Rattle.std.specs.Prelude.{◌==◌, flat_map, unwrap_or, All, encode_utf8_all}
+use Rattle.std.specs.Option.{option_map_or}
+use Rattle.std.specs.List.{list_any, slice_split, onto_first, AllByRecursion}
+use Rattle.std.specs.Str.{chars, drop_trailing_whitespace}
+use Rattle.std.proofs.lemmas.Bool.{cond_both}
+use Rattle.std.proofs.lemmas.List.Concat.{flat_map-append}
+use Rattle.std.proofs.lemmas.List.Elements.{All-from_recursion, recursion_from_All}
+use Rattle.std.proofs.lemmas.List.Folds.{list_any_none}
+use Rattle.std.proofs.lemmas.List.Splits.{slice_split_none}
+use Rattle.indicatif_text.specs.Template.{Layout, TemplatePart, LiteralText, LineBreak, KeyText}
+use Rattle.indicatif_bar.specs.Progress.{Progress, shown_message}
+use Rattle.indicatif_bar.specs.Trackers.{Tracking}
+use Rattle.indicatif_bar.specs.Layout.{padded, cluster, text_columns}
+use Rattle.indicatif_bar.specs.BarStyles.{Style, Wide, WideBarOf, WideMessageOf, is_wide_mark, is_newline, is_line_break, wide_mark, ends_in_mark, columns_left, with_marks_as, wide_text, filled, lines_with, in_layout, part_text, wide_part, latest_wide, lines_of_groups, lines}
+use Rattle.indicatif_bar.specs.StyleLaws.{IsPlainText, cells_in}
+use Rattle.indicatif_bar.specs.LineLaws.{IsPlainPart, HasPlainParts, PlainPartsGivePlainLines}
+use Rattle.indicatif_bar.specs.Inside.Steps.{wide_source, source_text, source_of}
+use Rattle.indicatif_bar.specs.declared.style.keys.Key.TheVariants.{Bar, WideBar, WideMessage, Spinner, Prefix, Message, Position, Length, Percent, PercentPrecise, Elapsed, Eta, Duration, PerSecond, BytesPerSecond}
+use Rattle.indicatif_bar.specs.declared.style.steps.Source.{Source}
+use Rattle.indicatif_bar.specs.declared.style.steps.Source.TheVariants.{Tracker, Known, Nothing}
+use Rattle.indicatif_bar.proofs.BarWidthLemmas.{takes_bar}
+use Rattle.indicatif_bar.proofs.FillingLemmas.{no_marks}
+use Rattle.indicatif_bar.proofs.LinesLemmas.{names, text_of_name, wide_of_name, latest_by}
+use Rattle.indicatif_bar.proofs.TextWidthLemmas.{takes_none, plain_takes, taken_plain, plain_both, plain_padded, plain_trimmed}
+use Rattle.indicatif_bar.proofs.WideBarLemmas.{SomeMarked, strange_mark, strange_newline, takes_without, marked_styled, sized_mark}
+
+none_plain : IsPlainText []
+none_plain = taken_plain 0 [] takes_none
+
+-- ---- plain texts with marks between them
+
+data Mixed : List ℕ → Type 0 where
+  one : {text : List ℕ} → IsPlainText text → Mixed text
+  more : {front text : List ℕ} → IsPlainText front → Mixed text → Mixed (front ++ 0 ∷ text)
+
+mixed_behind : (front text : List ℕ) → IsPlainText front → Mixed text → Mixed (front ++ text)
+mixed_behind front text p (one q) = one (plain_both front text p q)
+mixed_behind front text p (more {front = first} {text = rest} q x) =
+    subst Mixed (append_assoc front first (0 ∷ rest)) (more (plain_both front first p q) x)
+
+mixed_both : (xs ys : List ℕ) → Mixed xs → Mixed ys → Mixed (xs ++ ys)
+mixed_both xs ys (one p) y = mixed_behind xs ys p y
+mixed_both xs ys (more {front} {text} p x) y =
+    subst Mixed (sym (append_assoc front (0 ∷ text) ys)) (more p (mixed_both text ys x y))
+
+mixed_marked : (text : List ℕ) → SomeMarked text → Mixed text
+mixed_marked text x =
+    subst Mixed (sym x.is.parts) (more (taken_plain x.is.before x.is.front x.is.takes_front) (one (taken_plain x.is.behind x.is.back x.is.takes_back)))
+
+no_mark : (text : List ℕ) → IsPlainText text → list_any is_wide_mark text ≡ false
+no_mark text p = list_any_none is_wide_mark text (takes_without 0 (text_columns text) text strange_mark (plain_takes text p))
+
+-- with a plain text in the place of each mark, it is plain
+mixed_filled : (shown text : List ℕ) → IsPlainText shown → Mixed text → IsPlainText (with_marks_as shown text)
+mixed_filled shown text s (one p) = subst IsPlainText (sym (no_marks shown text (no_mark text p))) p
+mixed_filled shown text s (more {front} {text = rest} p x) =
+    let whole : with_marks_as shown (front ++ 0 ∷ rest) ≡ front ++ (shown ++ with_marks_as shown rest) =
+    flat_map-append (λ b. if is_wide_mark b then shown else b ∷ []) front (0 ∷ rest)
+    ∙ ap (λ y. y ++ (shown ++ with_marks_as shown rest)) (no_marks shown front (no_mark front p)) in
+    subst IsPlainText (sym whole) (plain_both front (shown ++ with_marks_as shown rest) p (plain_both shown (with_marks_as shown rest) s (mixed_filled shown rest s x)))
+
+-- ---- lists of lists
+
+all_both : {X : Type 0} (P : X → Type 0) (xs ys : List X) → AllByRecursion P xs → AllByRecursion P ys → AllByRecursion P (xs ++ ys)
+all_both P [] ys x y = y
+all_both P (a ∷ xs) ys x y = (x.0, all_both P xs ys x.1 y)
+
+onto_all : {X : Type 0} (P : X → Type 0) (a : X) (groups : List (List X)) → P a → AllByRecursion (λ g. AllByRecursion P g) groups → AllByRecursion (λ g. AllByRecursion P g) (onto_first a groups)
+onto_all P a [] p all = ((p, tt), tt)
+onto_all P a (g ∷ gs) p all = ((p, all.0), all.1)
+
+split_all : {X : Type 0} (P : X → Type 0) (ends : X → Bool) (xs : List X) → AllByRecursion P xs → AllByRecursion (λ g. AllByRecursion P g) (slice_split ends xs)
+split_all P ends [] all = (tt, tt)
+split_all P ends (x ∷ xs) all =
+    let rest = split_all P ends xs all.1 in
+    cond_both (ends x) ([] ∷ slice_split ends xs) (onto_first x (slice_split ends xs)) (λ gs. AllByRecursion (λ g. AllByRecursion P g) gs)
+    (λ _. (tt, rest)) (λ _. onto_all P x (slice_split ends xs) all.0 rest)
+
+module _ {K : Type 0} (m : Tracking K) (style : Style K) (p : Progress) (now : ℕ) where
+  -- ---- parts
+
+  -- a wide key leaves a mark
+  leaves_mark : (layout : Layout) (source : Source) (wide : Wide) → wide_source layout source ≡ Some wide → source_text m style p now layout source ≡ wide_mark
+  leaves_mark layout (Tracker k) wide e = absurd (cc e)
+  leaves_mark layout Nothing wide e = absurd (cc e)
+  leaves_mark layout (Known WideBar) wide e = refl
+  leaves_mark layout (Known WideMessage) wide e = refl
+  leaves_mark layout (Known Bar) wide e = absurd (cc e)
+  leaves_mark layout (Known Spinner) wide e = absurd (cc e)
+  leaves_mark layout (Known Prefix) wide e = absurd (cc e)
+  leaves_mark layout (Known Message) wide e = absurd (cc e)
+  leaves_mark layout (Known (Position form)) wide e = absurd (cc e)
+  leaves_mark layout (Known (Length form)) wide e = absurd (cc e)
+  leaves_mark layout (Known Percent) wide e = absurd (cc e)
+  leaves_mark layout (Known PercentPrecise) wide e = absurd (cc e)
+  leaves_mark layout (Known (Elapsed form)) wide e = absurd (cc e)
+  leaves_mark layout (Known (Eta form)) wide e = absurd (cc e)
+  leaves_mark layout (Known (Duration form)) wide e = absurd (cc e)
+  leaves_mark layout (Known PerSecond) wide e = absurd (cc e)
+  leaves_mark layout (Known (BytesPerSecond form)) wide e = absurd (cc e)
+
+  key_mixed : (key : List ℕ) (layout : Layout) (o : Option Wide) → wide_part m style p now (KeyText key layout) ≡ o → IsPlainPart m style p now (KeyText key layout)
+      → Mixed (part_text m style p now (KeyText key layout))
+  key_mixed key layout None is h = one (h is)
+  key_mixed key layout (Some wide) is h =
+      let name = encode_utf8_all key in
+      let source = source_of (names style.keys) name in
+      let mark = text_of_name m style p now layout name ∙ leaves_mark layout source wide (sym (wide_of_name m style p now layout key) ∙ is) in
+      subst (λ t. Mixed (in_layout m style p now layout t)) (sym mark)
+      (mixed_marked (in_layout m style p now layout wide_mark) (marked_styled style.colours (unwrap_or layout.style []) _ (sized_mark layout.align layout.truncate layout.width)))
+
+  part_mixed : (part : TemplatePart) → IsPlainPart m style p now part → Mixed (part_text m style p now part)
+  part_mixed (LiteralText text) h = one (h refl)
+  part_mixed LineBreak h = one (h refl)
+  part_mixed (KeyText key layout) h = key_mixed key layout (wide_part m style p now (KeyText key layout)) refl h
+
+  group_mixed : (parts : List TemplatePart) → AllByRecursion (IsPlainPart m style p now) parts → Mixed (flat_map (part_text m style p now) parts)
+  group_mixed [] h = one none_plain
+  group_mixed (x ∷ xs) h = mixed_both (part_text m style p now x) (flat_map (part_text m style p now) xs) (part_mixed x h.0) (group_mixed xs h.1)
+
+  -- a wide key that has stood stays the latest one, or another is
+  stays_by : (x : TemplatePart) (xs : List TemplatePart) (wide : Wide) (o : Option Wide) → wide_part m style p now x ≡ o → ((w : Wide) → latest_wide m style p now (Some w) xs ≡ None → ⊥)
+      → latest_wide m style p now (Some wide) (x ∷ xs) ≡ None → ⊥
+  stays_by x xs wide None is rest e = rest wide (sym (latest_by m style p now (Some wide) None x xs is) ∙ e)
+  stays_by x xs wide (Some w) is rest e = rest w (sym (latest_by m style p now (Some wide) (Some w) x xs is) ∙ e)
+
+  stays_wide : (parts : List TemplatePart) (wide : Wide) → latest_wide m style p now (Some wide) parts ≡ None → ⊥
+  stays_wide [] wide e = absurd (cc e)
+  stays_wide (x ∷ xs) wide e = stays_by x xs wide (wide_part m style p now x) refl (stays_wide xs) e
+
+  -- where none has, the text is plain
+  plain_by : (x : TemplatePart) (xs : List TemplatePart) (wide o : Option Wide) → wide_part m style p now x ≡ o → IsPlainPart m style p now x
+      → (latest_wide m style p now wide xs ≡ None → IsPlainText (flat_map (part_text m style p now) xs))
+      → latest_wide m style p now wide (x ∷ xs) ≡ None → IsPlainText (flat_map (part_text m style p now) (x ∷ xs))
+  plain_by x xs wide None is h rest e =
+      plain_both (part_text m style p now x) (flat_map (part_text m style p now) xs) (h is) (rest (sym (latest_by m style p now wide None x xs is) ∙ e))
+  plain_by x xs wide (Some w) is h rest e = absurd (stays_wide xs w (sym (latest_by m style p now wide (Some w) x xs is) ∙ e))
+
+  group_plain : (parts : List TemplatePart) (wide : Option Wide) → AllByRecursion (IsPlainPart m style p now) parts → latest_wide m style p now wide parts ≡ None
+      → IsPlainText (flat_map (part_text m style p now) parts)
+  group_plain [] wide h e = none_plain
+  group_plain (x ∷ xs) wide h e = plain_by x xs wide (wide_part m style p now x) refl h.0 (group_plain xs wide h.1) e
+
+  -- ---- lines
+
+  module _ (h : HasPlainParts m style p now) (columns : ℕ) where
+    wide_plain : (text : List ℕ) (wide : Wide) → IsPlainText (wide_text style p columns text wide)
+    wide_plain text (WideBarOf layout) =
+        let left = columns_left columns text in
+        taken_plain (cells_in style.clusters left * text_columns (cluster style.clusters 0)) _
+        (takes_bar style.clusters style.colours (unwrap_or layout.alternative []) p.position p.len left h.clusters)
+    wide_plain text (WideMessageOf layout) =
+        let message = padded (shown_message p) (columns_left columns text) layout.align true in
+        let plain = plain_padded (shown_message p) (columns_left columns text) layout.align true h.message in
+        cond_both (ends_in_mark text) (encode_utf8_all (drop_trailing_whitespace (chars message))) message (λ x. IsPlainText x) (λ _. plain_trimmed message plain) (λ _. plain)
+
+    filled_plain : (text : List ℕ) (wide : Option Wide) → Mixed text → (wide ≡ None → IsPlainText text) → IsPlainText (filled style p columns wide text)
+    filled_plain text None x none = none refl
+    filled_plain text (Some wide) x none = mixed_filled (wide_text style p columns text wide) text (wide_plain text wide) x
+
+    line_plain : (text : List ℕ) (wide : Option Wide) → IsPlainText (filled style p columns wide text) → AllByRecursion IsPlainText (lines_with style p columns wide text)
+    line_plain text wide plain =
+        let line = filled style p columns wide text in
+        let alone = slice_split_none is_newline line (takes_without 0x0A (text_columns line) line strange_newline (plain_takes line plain)) in
+        subst (AllByRecursion IsPlainText) (sym alone) (plain, tt)
+
+    group_lines : (parts : List TemplatePart) (wide : Option Wide) → AllByRecursion (IsPlainPart m style p now) parts
+        → AllByRecursion IsPlainText (lines_with style p columns (latest_wide m style p now wide parts) (flat_map (part_text m style p now) parts))
+    group_lines parts wide all =
+        line_plain (flat_map (part_text m style p now) parts) (latest_wide m style p now wide parts)
+        (filled_plain (flat_map (part_text m style p now) parts) (latest_wide m style p now wide parts) (group_mixed parts all) (group_plain parts wide all))
+
+    groups_plain : (groups : List (List TemplatePart)) (wide : Option Wide) → AllByRecursion (λ g. AllByRecursion (IsPlainPart m style p now) g) groups
+        → AllByRecursion IsPlainText (lines_of_groups m style p now columns wide groups)
+    groups_plain [] wide all = tt
+    groups_plain (g ∷ []) wide all =
+        let text = flat_map (part_text m style p now) g in
+        cond_both (length text == 0) [] (lines_with style p columns (latest_wide m style p now wide g) text) (AllByRecursion IsPlainText) (λ _. tt) (λ _. group_lines g wide all.0)
+    groups_plain (g ∷ n ∷ gs) wide all =
+        let next = latest_wide m style p now wide g in
+        all_both IsPlainText (lines_with style p columns next (flat_map (part_text m style p now) g)) (lines_of_groups m style p now columns next (n ∷ gs))
+        (group_lines g wide all.0) (groups_plain (n ∷ gs) next all.1)
+
+pub plain_parts_give_plain_lines : {K : Type 0} → PlainPartsGivePlainLines K
+unfolding lines
+plain_parts_give_plain_lines m style p now columns h =
+    let split = split_all (IsPlainPart m style p now) is_line_break style.parts (recursion_from_All (IsPlainPart m style p now) style.parts h.parts) in
+    All-from_recursion IsPlainText (lines_of_groups m style p now columns None (slice_split is_line_break style.parts))
+    (groups_plain m style p now h columns (slice_split is_line_break style.parts) None split)
