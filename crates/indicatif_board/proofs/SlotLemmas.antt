@@ -16,25 +16,25 @@ made_next number (Some n) range e = e.1
 -- ---- how often a number stands in a list
 
 -- how often a number is this one: once or never
-ones : ℕ → ℕ → ℕ
+pub ones : ℕ → ℕ → ℕ
 ones n x = if x == n then 1 else 0
 
-ones_same : (n x : ℕ) → x ≡ n → ones n x ≡ 1
+pub ones_same : (n x : ℕ) → x ≡ n → ones n x ≡ 1
 unfolding ones
 ones_same n x e = rw (eq-eqb x n e) refl
 
-ones_other : (n x : ℕ) → (x ≡ n → ⊥) → ones n x ≡ 0
+pub ones_other : (n x : ℕ) → (x ≡ n → ⊥) → ones n x ≡ 0
 unfolding ones
 ones_other n x e = rw (ne_eqb x n e) refl
 
-times-front : (n x : ℕ) (xs : List ℕ) → times n (x ∷ xs) ≡ ones n x + times n xs
+pub times-front : (n x : ℕ) (xs : List ℕ) → times n (x ∷ xs) ≡ ones n x + times n xs
 unfolding ones
 times-front n x xs = elim (cases_Bool (x == n)) [
   | inl here ↦ rw here refl
   | inr there ↦ rw there (omega arith)
 ]
 
-ones_most : (n x : ℕ) → ones n x ≤ 1
+pub ones_most : (n x : ℕ) → ones n x ≤ 1
 unfolding ones
 ones_most n x = elim (cases_Bool (x == n)) [
   | inl here ↦ rw here (omega arith)
@@ -46,15 +46,15 @@ times-append n [] ys = omega arith
 times-append n (x ∷ xs) ys = omega (arith, times-front n x (xs ++ ys), times-front n x xs, times-append n xs ys)
 
 -- in what is taken and what is left
-times-cut : (n k : ℕ) (xs : List ℕ) → times n (take k xs) + times n (drop k xs) ≡ times n xs
+pub times-cut : (n k : ℕ) (xs : List ℕ) → times n (take k xs) + times n (drop k xs) ≡ times n xs
 times-cut n zero xs = omega arith
 times-cut n (suc k) [] = omega arith
 times-cut n (suc k) (x ∷ xs) = omega (arith, times-front n x (take k xs), times-front n x xs, times-cut n k xs)
 
-times-inserted : (n at x : ℕ) (xs : List ℕ) → times n (insert xs at x) ≡ ones n x + times n xs
+pub times-inserted : (n at x : ℕ) (xs : List ℕ) → times n (insert xs at x) ≡ ones n x + times n xs
 times-inserted n at x xs = omega (arith, times-append n (take at xs) (x ∷ drop at xs), times-front n x (drop at xs), times-cut n at xs)
 
-times-removed : (n at : ℕ) (xs : List ℕ) → times n (remove xs at) + times n (take 1 (drop at xs)) ≡ times n xs
+pub times-removed : (n at : ℕ) (xs : List ℕ) → times n (remove xs at) + times n (take 1 (drop at xs)) ≡ times n xs
 times-removed n at xs =
     let next : drop 1 (drop at xs) ≡ drop (suc at) xs = let k : at + 1 ≡ suc at = omega arith in drop-drop 1 at xs ∙ ap (λ j. drop j xs) k in
     omega (arith, times-append n (take at xs) (drop (suc at) xs), times-cut n at xs, times-cut n 1 (drop at xs), ap (times n) next)
