@@ -9,4 +9,5 @@ pub mod BoardValues
 pub mod Calls
 pub mod Multi
 pub mod OrderLaws
+pub mod LimitLaws
 pub mod Inside

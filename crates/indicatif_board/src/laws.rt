@@ -1,6 +1,7 @@
 //! Laws of the definitions: functions that do nothing, each with a law as its contract.
 ghost use Rattle.std.specs.Prelude.{◌≡◌, ◌≤◌, ◌↔◌, ℕ, List, Option, Some, None, IsFalse};
 ghost use Rattle.indicatif_term.specs.Calls.{TermView};
+ghost use Rattle.indicatif_bar.specs.Machines.{Target};
 ghost use Rattle.indicatif_bar.specs.Runs.{RunsPaint, RunsAreRead, ReadsAfter, OneOutcome};
 ghost use Rattle.indicatif_bar.specs.Says.{EachSays};
 ghost use Rattle.indicatif_bar.specs.Bounds.{IsLimited, RunsAreBounded};
@@ -8,6 +9,7 @@ ghost use Rattle.indicatif_term.specs.Limiters.{Limiter};
 ghost use Rattle.indicatif_board.specs.Boards.{BoardKind, BoardState, Call, Answer, opening_board, board};
 ghost use Rattle.indicatif_board.specs.Done.{account_of_both, kept_half, given_half};
 ghost use Rattle.indicatif_board.specs.declared.done.Account.{Account};
+ghost use Rattle.indicatif_board.specs.LimitLaws.{IsAllowed};
 ghost use Rattle.indicatif_board.specs.OrderLaws.{RunsKeep, StandsOnce, IsGone, NumbersCount, NumbersAreNew};
 ghost use Rattle.indicatif_board.specs.Slots.{SlotTable, IsSeated, slot_of, times};
 
@@ -50,10 +52,13 @@ pub fn what_an_answer_says<B, C>()
 {}
 
 /// A board asks its limiter once for each unforced draw, and nothing else changes that: from a rate's limiter as it is made on, a
-/// run makes at most 20 unforced draws, and one more for each interval from the making to the last of them.
+/// run makes at most 20 unforced draws, and one more for each interval from the making to the last of them. Without a limiter each
+/// draw is allowed.
 pub fn a_board_is_limited<B, C>()
     ensures asks { (kind : BoardKind B C) (mark : ℕ) → IsLimited (board kind mark) (λ s. s.limiter) }
     ensures bounded { (kind : BoardKind B C) (mark : ℕ) → RunsAreBounded (board kind mark) (λ s. s.limiter) }
+    ensures free { (kind : BoardKind B C) (mark : ℕ) (target : Target) (call : Call B C) (now : ℕ) (s : BoardState B) → s.limiter ≡ None →
+        IsAllowed ((board kind mark).deed target call now s) }
 {}
 
 /// No bar stands in a board's order twice, and none that was not taken in: so it is at first, and after each call of any run.
