@@ -1,6 +1,6 @@
 -- How often a board draws that asks a limiter.
 use Rattle.std.proofs.Common.{◌≡◌, ℕ, Bool, true, false, refl, ◌∙◌, Option, Some, None, if◌then◌else◌}
-use Rattle.std.specs.Prelude.{◌^◌, not, ◌==◌, IsTrue}
+use Rattle.std.specs.Prelude.{◌^◌, not, ◌==◌}
 use Rattle.indicatif_text.specs.declared.refusal.Refusal.{Refusal}
 use Rattle.indicatif_term.specs.Lists.{fate}
 use Rattle.indicatif_term.specs.Limiters.{Limiter}
@@ -11,7 +11,7 @@ use Rattle.indicatif_bar.specs.Bounds.{AsksLimiter, DeedAsks, IsLimited}
 use Rattle.indicatif_bar.proofs.BoundLemmas.{allowed_without}
 use Rattle.indicatif_board.specs.LimitLaws.{IsAllowed}
 use Rattle.indicatif_board.specs.Members.{is_member, is_head, without, said_of}
-use Rattle.indicatif_board.specs.Boards.{BoardState, BoardKind, Call, Insert, Remove, Drop, Log, BarLog, Clear, Redraw, Align, Tell, Answer, Refused, Done, Id, Place, Entrant, New, Old, turned_away, anchor_turned_away, or_refused, inserted, taken_in, taken_out, draws, left_by, left_on, marked_on, last_draw, board}
+use Rattle.indicatif_board.specs.Boards.{BoardState, BoardKind, Call, Insert, Remove, Drop, Log, BarLog, Clear, Redraw, Align, Tell, Answer, Place, Entrant, New, Old, turned_away, anchor_turned_away, or_refused, inserted, draws, left_by, left_on, marked_on, board}
 
 -- the limiter of a board
 abbrev limit : {B : Type 0} → BoardState B → Option Limiter

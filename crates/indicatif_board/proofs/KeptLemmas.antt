@@ -1,15 +1,13 @@
 -- What each call of a machine keeps, a run of them keeps.
-use Rattle.std.proofs.Common.{◌≡◌, ℕ, List, [], ◌∷◌, sym, ap, subst, Result, Ok, Err, Option, inl, inr}
+use Rattle.std.proofs.Common.{ℕ, [], ◌∷◌, sym, ap, subst, Result, Ok, Err, inl, inr}
 use Rattle.std.specs.Prelude.{not, ◌==◌}
 use Rattle.std.proofs.lemmas.Bool.{cond_both}
 use Rattle.indicatif_text.specs.declared.refusal.Refusal.{Refusal}
 use Rattle.indicatif_text.specs.declared.refusal.Refusal.TheVariants.{NoColumns, TooWide}
 use Rattle.indicatif_text.specs.declared.refusal.Drawn.{Drawn}
 use Rattle.indicatif_text.specs.declared.refusal.Drawn.TheVariants.{Yes, Limited, Hidden}
-use Rattle.indicatif_term.specs.Calls.{TermView}
 use Rattle.indicatif_term.specs.Frames.{some_wide}
 use Rattle.indicatif_bar.specs.Machines.{Target, target_of, Machine, Draw, Deed, AtOnce, Draws, Leads, is_no, drawn_by}
-use Rattle.indicatif_bar.specs.Runs.{Runs}
 use Rattle.indicatif_board.specs.OrderLaws.{RunsKeep}
 
 module _ {S C A : Type 0} (m : Machine S C A) (P : S → Type 0) where

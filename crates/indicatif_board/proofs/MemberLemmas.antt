@@ -1,6 +1,6 @@
 -- Members by their places: the lists that a board keeps, and the members of its state.
 use Rattle.std.proofs.Common.{take, ◌++◌, set, get_or, chars, subst, Vec, Global, Option, Some, None, inl, inr, ◌≡◌, ℕ, zero, suc, ◌+◌, ◌<◌, Bool, true, false, not, List, [], ◌∷◌, map, drop, length, refl, sym, ◌∙◌, ap, arith, if◌then◌else◌}
-use Rattle.std.specs.Prelude.{◌==◌, ◌≢◌, ◌^◌, SomeIff}
+use Rattle.std.specs.Prelude.{◌==◌, ◌≢◌}
 use Rattle.std.specs.List.{prefix_len, position_or_len, insert, remove}
 use Rattle.std.proofs.lemmas.Bool.{cases_Bool, eq-eqb, ne_eqb}
 use Rattle.indicatif_term.specs.Lists.{BarLines}

@@ -2,18 +2,16 @@
 use Rattle.std.proofs.Common.{◌≡◌, ◌⊎◌, ℕ, zero, suc, ◌+◌, ◌<◌, ◌≤◌, Bool, true, false, List, [], ◌∷◌, map, drop, length, refl, sym, ◌∙◌, ap, subst, arith, Option, Some, None, inl, inr, if◌then◌else◌}
 use Rattle.std.specs.Prelude.{◌^◌, not, ◌==◌}
 use Rattle.std.specs.List.{insert, remove, range_with_len}
-use Rattle.std.proofs.lemmas.Bool.{cases_Bool, cases_lt, cond_both}
+use Rattle.std.proofs.lemmas.Bool.{cases_lt, cond_both}
 use Rattle.indicatif_text.specs.declared.refusal.Refusal.{Refusal}
 use Rattle.indicatif_text.specs.declared.refusal.Refusal.TheVariants.{Memory}
-use Rattle.indicatif_term.specs.Calls.{TermView}
 use Rattle.indicatif_term.specs.Frames.{text_lines, logged_lines}
 use Rattle.indicatif_term.specs.Limiters.{Limiter}
 use Rattle.indicatif_term.specs.Lists.{fate}
 use Rattle.indicatif_term.specs.declared.draw_target.Keep.{Keep}
 use Rattle.indicatif_term.specs.declared.draw_target.Keep.TheVariants.{Absent, Passed, Behind}
-use Rattle.indicatif_bar.specs.Machines.{Target, target_of, Deed, AtOnce, Draws, Leads}
+use Rattle.indicatif_bar.specs.Machines.{Target, target_of, Deed, AtOnce, Leads}
 use Rattle.indicatif_bar.specs.Kinds.{Writing, Frame, TextAndFrame, NoFrame}
-use Rattle.indicatif_bar.specs.Runs.{Runs}
 use Rattle.indicatif_bar.specs.declared.state.Ask.{Ask}
 use Rattle.indicatif_bar.specs.declared.state.Ask.TheVariants.{No, Forced}
 use Rattle.indicatif_board.specs.Members.{Member, is_member, is_head, without, said_of, order_of, place_of, new_member, leaders, changed_at}
@@ -21,7 +19,7 @@ use Rattle.indicatif_board.specs.Boards.{BoardState, BoardKind, Call, Insert, Re
 use Rattle.indicatif_board.specs.Slots.{times}
 use Rattle.indicatif_board.specs.OrderLaws.{RunsKeep, StandsOnce, IsGone, with_new, new_bars, new_numbers, NumbersCount, NumbersAreNew}
 use Rattle.indicatif_board.proofs.MemberLemmas.{place-changed, map-inserted, map-removed, drop-map}
-use Rattle.indicatif_board.proofs.SlotLemmas.{ones, ones_same, ones_other, ones_most, times-front, times-inserted, times-removed, times-cut}
+use Rattle.indicatif_board.proofs.SlotLemmas.{ones_other, ones_most, times-front, times-inserted, times-removed, times-cut}
 use Rattle.indicatif_board.proofs.KeptLemmas.{Keeps, leads_keep, runs_keep}
 
 -- ---- what bars that come and go keep

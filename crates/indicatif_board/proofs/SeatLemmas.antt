@@ -1,5 +1,5 @@
 -- A bar's slot is its own, and it has one exactly where it stands in the order.
-use Rattle.std.proofs.Common.{◌≡◌, ◌⊎◌, ℕ, ◌+◌, ◌<◌, ◌≤◌, Bool, true, false, List, [], ◌∷◌, length, Option, Some, None, refl, sym, ◌∙◌, arith, inl, inr, if◌then◌else◌}
+use Rattle.std.proofs.Common.{◌≡◌, ◌⊎◌, ℕ, ◌+◌, ◌≤◌, Bool, true, false, List, [], ◌∷◌, length, Option, Some, None, refl, sym, ◌∙◌, arith, inl, inr, if◌then◌else◌}
 use Rattle.std.specs.Prelude.{◌==◌, ◌↔◌}
 use Rattle.std.proofs.lemmas.Bool.{cases_Bool, cases_lt, eqb-true, eqb-false}
 use Rattle.indicatif_board.specs.Slots.{SlotTable, IsSeated, slot_in, slot_of, times}

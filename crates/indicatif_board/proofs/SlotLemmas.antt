@@ -1,10 +1,10 @@
 -- Bars in an order and their slots: each insertion and removal keeps each bar once, with a slot of its own.
-use Rattle.std.proofs.Common.{take, get_or, ◌++◌, ◌≡◌, ℕ, zero, suc, ◌+◌, ◌-◌, ◌<◌, ◌≤◌, min, true, false, List, [], ◌∷◌, drop, length, Option, Some, None, refl, sym, ◌∙◌, ap, subst, arith, inl, inr, if◌then◌else◌}
+use Rattle.std.proofs.Common.{take, get_or, ◌++◌, ◌≡◌, ℕ, zero, suc, ◌+◌, ◌-◌, ◌<◌, ◌≤◌, min, List, [], ◌∷◌, drop, length, Option, Some, None, refl, sym, ◌∙◌, ap, subst, arith, inl, inr, if◌then◌else◌}
 use Rattle.std.specs.Prelude.{◌==◌, ◌^◌, SomeIff, MatchOption}
 use Rattle.std.specs.Option.{unwrap_or}
 use Rattle.std.specs.List.{insert, remove}
 use Rattle.std.proofs.lemmas.Bool.{cases_Bool, cases_lt, eq-eqb, ne_eqb}
-use Rattle.std.proofs.lemmas.List.{length-append, length-take, length-take-le, length-drop, drop-drop}
+use Rattle.std.proofs.lemmas.List.{length-append, length-take-le, length-drop, drop-drop}
 use Rattle.std.proofs.lemmas.List.Edits.{length-insert, length-remove}
 use Rattle.indicatif_board.specs.Slots.{SlotTable, IsSeated, made_by, next_slot, seated, unseated, head_unseated, slot_in, times}
 

@@ -6,7 +6,7 @@ use Rattle.indicatif_bar.specs.Machines.{Machine}
 use Rattle.indicatif_bar.specs.Runs.{Runs}
 use Rattle.indicatif_board.specs.Members.{order_of}
 use Rattle.indicatif_board.specs.Slots.{times}
-use Rattle.indicatif_board.specs.Boards.{BoardState, BoardKind, Id, Entrant, New, Call, Insert, Answer, Given, board}
+use Rattle.indicatif_board.specs.Boards.{BoardState, BoardKind, Id, New, Call, Insert, Answer, Given, board}
 
 -- what is so before a run is so after it; a front of a run is a run, so it is so after each of its calls
 abbrev pub RunsKeep : {State Call Answer : Type 0} → Machine State Call Answer → (State → Type 0) → Type 0

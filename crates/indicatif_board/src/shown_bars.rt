@@ -18,9 +18,7 @@ use crate::members::{Member, drop_front, leading, place, put_at};
 use crate::slots::MultiState;
 use indicatif_bar::state::{Ask, BarState, SpareLines};
 use indicatif_bar::style::ProgressTracker;
-use indicatif_term::draw_target::{
-    Engine, LineType, MultiProgressAlignment, RateLimiter, Segment,
-};
+use indicatif_term::draw_target::{Engine, LineType, MultiProgressAlignment, RateLimiter, Segment};
 use indicatif_term::term_like::TermLike;
 use indicatif_text::columns::{Drawn, Moment, Refusal};
 use std::alloc::Global;
