@@ -15,7 +15,7 @@ use Rattle.indicatif_bar.specs.Kinds.{Writing, Frame, TextAndFrame, NoFrame}
 use Rattle.indicatif_bar.specs.declared.state.Ask.{Ask}
 use Rattle.indicatif_bar.specs.declared.state.Ask.TheVariants.{No, Forced}
 use Rattle.indicatif_board.specs.Members.{Member, is_member, is_head, without, said_of, order_of, place_of, new_member, leaders, changed_at}
-use Rattle.indicatif_board.specs.Boards.{BoardState, BoardKind, Call, Insert, Remove, Drop, Log, BarLog, Clear, Redraw, Align, Tell, Answer, Given, Refused, Id, Place, Entrant, New, Old, opening_board, turned_away, anchor_turned_away, or_refused, inserted, index_of, taken_in, taken_out, draws, draw_of, told, laid_out, left_by, left_on, marked_on, board}
+use Rattle.indicatif_board.specs.Boards.{BoardState, BoardKind, Call, Insert, Remove, Drop, Log, BarLog, Clear, Redraw, Align, Tell, Answer, Given, Refused, Id, Location, Entrant, New, Old, opening_board, turned_away, anchor_turned_away, or_refused, inserted, index_of, taken_in, taken_out, draws, draw_of, told, laid_out, left_by, left_on, marked_on, board}
 use Rattle.indicatif_board.specs.Slots.{times}
 use Rattle.indicatif_board.specs.OrderLaws.{RunsKeep, StandsOnce, IsGone, with_new, new_bars, new_numbers, NumbersCount, NumbersAreNew}
 use Rattle.indicatif_board.proofs.MemberLemmas.{place-changed, map-inserted, map-removed, drop-map}
@@ -58,7 +58,7 @@ module _ {B C : Type 0} (kind : BoardKind B C) (mark : ℕ) (Q : List ℕ → �
       let k = place_of number members in
       subst (λ o. Q o made) (map-removed (λ (m : Member B). m.number) members k) (lasts.go (order_of members) made k is)
 
-  inserted_keeps : (s : BoardState B) (at : Place) (entrant : Entrant B) → P s → Comes (Insert at entrant) s → KeepsIt (inserted mark at entrant s)
+  inserted_keeps : (s : BoardState B) (at : Location) (entrant : Entrant B) → P s → Comes (Insert at entrant) s → KeepsIt (inserted mark at entrant s)
   inserted_keeps s at (New bar) is comes = either (s.made == 2 ^ 64) _ _ is comes
   inserted_keeps s at (Old id) is comes = unless_refused s (turned_away mark id s) _ is is
 
@@ -216,7 +216,7 @@ module _ {B C : Type 0} (kind : BoardKind B C) (mark : ℕ) where
         leads_keep (board kind mark) (λ x. x.made ≡ s.made) target s next ((board kind mark).deed target call now s) answer
         (deed_keeps kind mark (λ order k. k ≡ s.made) (same_lasts s.made) target call now s refl comes) leads refl
 
-    module _ (at : Place) (bar : B) where
+    module _ (at : Location) (bar : B) where
       abbrev CountsNew : Type 0
       CountsNew = Counts (Insert at (New bar)) answer s next
 
