@@ -1,5 +1,6 @@
 //! Why a run of the program `bars` ends before all of it is printed.
-ghost use Rattle.std.specs.Prelude.{◌≡◌, ◌⊎◌};
+ghost use Rattle.std.specs.Prelude.{◌≡◌};
+ghost use Rattle.bars_run.specs.Fault.{status_of};
 
 use indicatif_text::columns::Refusal;
 use std::fmt;
@@ -34,7 +35,7 @@ pub enum Fault {
 impl Fault {
     /// The exit status: 1 where something was refused, else 2.
     pub fn status(&self) -> u8
-        ensures { (result ≡ 1) ⊎ (result ≡ 2) }
+        ensures { result ≡ status_of self.now }
     {
         match self {
             Fault::Line(..) | Fault::Refused(_) => 1,

@@ -11,7 +11,8 @@ mod commands;
 pub mod fault;
 mod stage;
 
-ghost use Rattle.std.specs.Prelude.{◌≡◌, ◌⊎◌};
+ghost use Rattle.std.specs.Prelude.{◌≡◌, ◌⊎◌, IfErr};
+ghost use Rattle.bars_run.specs.Fault.{status_of};
 
 use crate::arguments::Asked;
 use crate::commands::Command;
@@ -32,7 +33,8 @@ use std::io::{BufRead, BufReader, ErrorKind, Read, Write};
 /// one space; it may be empty, and lacks its space then at will. A line ends at a newline, which the last one may lack.
 ///
 /// The answer is the program's exit status. It is 0 where all was printed. Else what was wrong stands in `err`, as `Fault` says,
-/// with the status that it has, and the commands behind it aren't played.
+/// with the status that it has, and the commands behind it aren't played. At status 0 nothing is written to `err`, at status 1
+/// nothing to `out`.
 ///
 /// ```
 /// let mut out = Vec::new(alloc);
@@ -49,6 +51,8 @@ pub fn run_bars<R: Read + Drop, O: Write, E: Write>(
     err: &mut E,
 ) -> u8
     ensures status { (result ≡ 0) ⊎ (result ≡ 1) ⊎ (result ≡ 2) }
+    ensures fine { result ≡ 0 → err.new ≡ err.old }
+    ensures refused { result ≡ 1 → out.new ≡ out.old }
 {
     match shown(alloc, args, input, out) {
         Ok(()) => 0,
@@ -59,16 +63,21 @@ pub fn run_bars<R: Read + Drop, O: Write, E: Write>(
     }
 }
 
-/// Plays what is asked for, and prints the picture.
+/// Plays what is asked for, and prints the picture once all of it is known.
 fn shown<R: Read + Drop, O: Write>(
     alloc: Global,
     args: &[String],
     input: R,
     out: &mut O,
-) -> Result<(), Fault> {
+) -> Result<(), Fault>
+    ensures unprinted { IfErr result (λ fault. (fault ≡ Fault.Output) ⊎ (out.new ≡ out.old)) }
+{
     let asked = Asked::by(args).ok_or(Fault::Usage)?;
     let picture = played(alloc, asked, input)?;
-    print(&picture, out).map_err(|_| Fault::Output)
+    match print(&picture, out) {
+        Ok(()) => Ok(()),
+        Err(_) => Err(Fault::Output),
+    }
 }
 
 /// The rows that stand after all commands.

@@ -25,8 +25,15 @@ impl<K: ProgressTracker> BarState<K> {
         self.lines_in(&mut spare, now, width)
     }
 
-    /// The same, in room of `spare`.
-    pub(crate) fn lines_in(
+    /// The same, in room of `spare`, whatever that holds: the lines are those of `lines`. A bar that is laid out again and again,
+    /// each time with the lines of before kept there, takes no memory once all have room.
+    ///
+    /// Refused: `Memory`.
+    ///
+    /// ```
+    /// let lines = bar.lines_in(&mut spare, now, 80)?;
+    /// ```
+    pub fn lines_in(
         &self,
         spare: &mut SpareLines,
         now: Moment,

@@ -6,7 +6,15 @@ use std::alloc::Global;
 use std::marker::Model;
 use std::mem::replace;
 
-/// Room for the next lines, so that laying them out takes none anew. Contracts see nothing of it.
+/// Room for the next lines, so that laying them out takes none anew. It has no meaning: with any of it `BarState::lines_in` gives
+/// the same lines, and contracts see nothing of it. One may serve many bars, one after another.
+///
+/// ```
+/// let mut spare = SpareLines::new(alloc);
+/// let before = bar.lines_in(&mut spare, 0, 80)?;
+/// spare.keep(before);
+/// let lines = bar.lines_in(&mut spare, 1, 80)?; // in the room of those before
+/// ```
 #[derive(Drop)]
 pub struct SpareLines {
     alloc: Global,
@@ -21,7 +29,7 @@ impl Model for SpareLines {
 }
 
 impl SpareLines {
-    /// No room yet.
+    /// No room yet. It takes no memory.
     pub fn new(alloc: Global) -> SpareLines {
         SpareLines {
             alloc,
@@ -30,13 +38,8 @@ impl SpareLines {
         }
     }
 
-    /// No lines, and no room for any.
-    pub fn none(&self) -> Vec<LineType> {
-        Vec::new(self.alloc)
-    }
-
     /// Room for lines.
-    pub fn lines(&mut self) -> Vec<LineType>
+    pub(crate) fn lines(&mut self) -> Vec<LineType>
         ensures { result.items ≡ [] }
     {
         let mut lines = replace(&mut self.lines, Vec::new(self.alloc));
@@ -45,7 +48,7 @@ impl SpareLines {
     }
 
     /// Room for the text of one line.
-    pub fn text(&mut self) -> String
+    pub(crate) fn text(&mut self) -> String
         ensures { string_bytes result ≡ [] }
     {
         match self.texts.pop() {
@@ -58,11 +61,11 @@ impl SpareLines {
     }
 
     /// Keeps the room of a text that is no more, where there is room for that.
-    pub fn keep_text(&mut self, text: String) {
+    pub(crate) fn keep_text(&mut self, text: String) {
         let _ = self.texts.push(text);
     }
 
-    /// Keeps the room of lines that are no more. Where that itself finds no room, the rest is given back.
+    /// Keeps the room of lines that are no more, for the next ones. Where that itself finds no room, the rest is given back.
     pub fn keep(&mut self, lines: Vec<LineType>) {
         let mut lines = lines;
         while let Some(line) = lines.pop() {

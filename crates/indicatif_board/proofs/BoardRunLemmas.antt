@@ -8,7 +8,7 @@ use Rattle.indicatif_term.specs.Frames.{text_lines, logged_lines}
 use Rattle.indicatif_term.specs.Lists.{Lists, fate, kept_of, passed, is_first}
 use Rattle.indicatif_term.specs.declared.draw_target.Keep.{Keep}
 use Rattle.indicatif_term.specs.declared.draw_target.Keep.TheVariants.{Absent, Passed, Behind}
-use Rattle.indicatif_bar.specs.Machines.{Target, Deed, AtOnce, Draws}
+use Rattle.indicatif_bar.specs.Machines.{Target, Deed}
 use Rattle.indicatif_bar.specs.Runs.{ReadsAfter}
 use Rattle.indicatif_bar.specs.Kinds.{Writing, Frame, TextAndFrame, NoFrame}
 use Rattle.indicatif_bar.specs.declared.state.Ask.{Ask}
@@ -16,7 +16,7 @@ use Rattle.indicatif_bar.specs.declared.state.Ask.TheVariants.{No, Forced}
 use Rattle.indicatif_bar.proofs.SoundRunLemmas.{DrawsSoundly, GoesSoundly, sound_read_after}
 use Rattle.indicatif_bar.proofs.LoneRunLemmas.{written_soundly}
 use Rattle.indicatif_board.specs.Members.{is_member, is_head, without, said_of, leaders, frame_of}
-use Rattle.indicatif_board.specs.Boards.{BoardState, BoardKind, Call, Insert, Remove, Drop, Log, BarLog, Clear, Redraw, Align, Tell, Answer, Refused, Id, Location, Entrant, New, Old, turned_away, anchor_turned_away, or_refused, inserted, taken_out, draws, draw_of, told, laid_out, left_by, left_on, marked_on, board}
+use Rattle.indicatif_board.specs.Boards.{BoardState, BoardKind, Call, Insert, Remove, Drop, Log, BarLog, Clear, Redraw, Align, Tell, Answer, Location, Entrant, New, Old, turned_away, anchor_turned_away, or_refused, inserted, taken_out, draws, draw_of, told, laid_out, left_by, left_on, marked_on, board}
 
 -- the first segment's rows pass to kept, and none are forgotten
 kept_soundly : (columns number : ℕ) (l : Lists) → l.failed ≡ false → (kept_of columns number l).failed ≡ false

@@ -1,5 +1,5 @@
 -- How often a board draws that asks a limiter.
-use Rattle.std.proofs.Common.{◌≡◌, ℕ, Bool, true, false, refl, Option, Some, None, if◌then◌else◌}
+use Rattle.std.proofs.Common.{◌≡◌, ℕ, Bool, true, false, refl, ◌∙◌, Option, Some, None, if◌then◌else◌}
 use Rattle.std.specs.Prelude.{◌^◌, not, ◌==◌}
 use Rattle.indicatif_text.specs.declared.refusal.Refusal.{Refusal}
 use Rattle.indicatif_term.specs.Lists.{fate}
@@ -8,8 +8,10 @@ use Rattle.indicatif_term.specs.declared.draw_target.Keep.{Keep}
 use Rattle.indicatif_term.specs.declared.draw_target.Keep.TheVariants.{Absent, Passed, Behind}
 use Rattle.indicatif_bar.specs.Machines.{Target, Draw, Deed, AtOnce, Draws}
 use Rattle.indicatif_bar.specs.Bounds.{AsksLimiter, DeedAsks, IsLimited}
+use Rattle.indicatif_bar.proofs.BoundLemmas.{allowed_without}
+use Rattle.indicatif_board.specs.LimitLaws.{IsAllowed}
 use Rattle.indicatif_board.specs.Members.{is_member, is_head, without, said_of}
-use Rattle.indicatif_board.specs.Boards.{BoardState, BoardKind, Call, Insert, Remove, Drop, Log, BarLog, Clear, Redraw, Align, Tell, Answer, Refused, Done, Id, Location, Entrant, New, Old, turned_away, anchor_turned_away, or_refused, inserted, taken_in, taken_out, draws, left_by, left_on, marked_on, last_draw, board}
+use Rattle.indicatif_board.specs.Boards.{BoardState, BoardKind, Call, Insert, Remove, Drop, Log, BarLog, Clear, Redraw, Align, Tell, Answer, Location, Entrant, New, Old, turned_away, anchor_turned_away, or_refused, inserted, draws, left_by, left_on, marked_on, board}
 
 -- the limiter of a board
 abbrev limit : {B : Type 0} → BoardState B → Option Limiter
@@ -71,3 +73,12 @@ board_limited kind mark target (Tell id command) now s =
     unless_refused now s (turned_away mark id s) _
     (unless_refused now s (said_of None (λ bar. kind.bars.refused command bar now) id.number s.members) _
     (drawn now s _ (record { before = refl; decides = refl; asked = refl; written = refl; broken = refl })))
+
+-- without a limiter each draw is allowed
+free_by : {S A : Type 0} (limiter : S → Option Limiter) (now : ℕ) (s : S) (deed : Deed S A) → limiter s ≡ None → DeedAsks limiter now s deed → IsAllowed deed
+free_by limiter now s (AtOnce takes answer next) none asks = tt
+free_by limiter now s (Draws d ends breaks) none asks = asks.0.decides ∙ allowed_without d.ask now (limiter s) none
+
+pub board_free : {B C : Type 0} (kind : BoardKind B C) (mark : ℕ) (target : Target) (call : Call B C) (now : ℕ) (s : BoardState B) → s.limiter ≡ None →
+    IsAllowed ((board kind mark).deed target call now s)
+board_free kind mark target call now s none = free_by (λ x. x.limiter) now s ((board kind mark).deed target call now s) none (board_limited kind mark target call now s)

@@ -9,3 +9,6 @@ pub mod BoardCallLemmas
 pub mod DropLemmas
 pub mod BoundLemmas
 pub mod BoardRunLemmas
+pub mod KeptLemmas
+pub mod OrderLemmas
+pub mod SeatLemmas

@@ -1,6 +1,6 @@
 -- Members by their places: the lists that a board keeps, and the members of its state.
 use Rattle.std.proofs.Common.{take, ◌++◌, set, get_or, chars, subst, Vec, Global, Option, Some, None, inl, inr, ◌≡◌, ℕ, zero, suc, ◌+◌, ◌<◌, Bool, true, false, not, List, [], ◌∷◌, map, drop, length, refl, sym, ◌∙◌, ap, arith, if◌then◌else◌}
-use Rattle.std.specs.Prelude.{◌==◌, ◌≢◌, ◌^◌, SomeIff}
+use Rattle.std.specs.Prelude.{◌==◌, ◌≢◌}
 use Rattle.std.specs.List.{prefix_len, position_or_len, insert, remove}
 use Rattle.std.proofs.lemmas.Bool.{cases_Bool, eq-eqb, ne_eqb}
 use Rattle.indicatif_term.specs.Lists.{BarLines}
@@ -222,7 +222,7 @@ said_none x number [] = refl
 said_none x number (m ∷ ms) = elim (cases_Bool (m.number == number)) [ inl here ↦ rw here refl | inr there ↦ rw there (said_none x number ms) ]
 
 -- a bar told something stands where it stood
-place-changed : {B : Type 0} (number : ℕ) (f : Member B → Member B) (ms : List (Member B)) → ((m : Member B) → (f m).number ≡ m.number) → order_of (changed_at number f ms) ≡ order_of ms
+pub place-changed : {B : Type 0} (number : ℕ) (f : Member B → Member B) (ms : List (Member B)) → ((m : Member B) → (f m).number ≡ m.number) → order_of (changed_at number f ms) ≡ order_of ms
 place-changed number f [] keeps = refl
 place-changed number f (m ∷ ms) keeps = elim (cases_Bool (m.number == number)) [
   | inl here ↦ rw here (ap (λ k. k ∷ order_of ms) (keeps m))
@@ -252,7 +252,7 @@ found_foreign mark id s other = rw (ne_eqb id.mark mark other) refl
 
 -- ---- insertions
 
-map-inserted : {X Y : Type 0} (f : X → Y) (xs : List X) (i : ℕ) (x : X) → map f (insert xs i x) ≡ insert (map f xs) i (f x)
+pub map-inserted : {X Y : Type 0} (f : X → Y) (xs : List X) (i : ℕ) (x : X) → map f (insert xs i x) ≡ insert (map f xs) i (f x)
 map-inserted f xs zero x = refl
 map-inserted f [] (suc i) x = refl
 map-inserted f (y ∷ xs) (suc i) x = ap (λ zs. f y ∷ zs) (map-inserted f xs i x)
@@ -294,7 +294,7 @@ joined-map : {X Y : Type 0} (f : X → Y) (xs ys : List X) → map f xs ++ map f
 joined-map f [] ys = refl
 joined-map f (x ∷ xs) ys = ap (λ zs. f x ∷ zs) (joined-map f xs ys)
 
-map-removed : {X Y : Type 0} (f : X → Y) (xs : List X) (i : ℕ) → remove (map f xs) i ≡ map f (remove xs i)
+pub map-removed : {X Y : Type 0} (f : X → Y) (xs : List X) (i : ℕ) → remove (map f xs) i ≡ map f (remove xs i)
 map-removed f xs i = ap (λ zs. zs ++ drop (suc i) (map f xs)) (take-map f i xs) ∙ ap (λ zs. map f (take i xs) ++ zs) (drop-map f (suc i) xs) ∙ joined-map f (take i xs) (drop (suc i) xs)
 
 removed_holds : {K : Type 0} → (frame : List Segment) (members : List (MemberValue K)) (made : ℕ) (bottom : Bool) (limiter : Option Limiter) (s : BoardState (BarRecord K)) (number at : ℕ) →

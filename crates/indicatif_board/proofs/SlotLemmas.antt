@@ -1,10 +1,10 @@
 -- Bars in an order and their slots: each insertion and removal keeps each bar once, with a slot of its own.
-use Rattle.std.proofs.Common.{take, get_or, ◌++◌, ◌≡◌, ℕ, zero, suc, ◌+◌, ◌-◌, ◌<◌, ◌≤◌, min, true, false, List, [], ◌∷◌, drop, length, Option, Some, None, refl, sym, ◌∙◌, ap, subst, arith, inl, inr, if◌then◌else◌}
+use Rattle.std.proofs.Common.{take, get_or, ◌++◌, ◌≡◌, ℕ, zero, suc, ◌+◌, ◌-◌, ◌<◌, ◌≤◌, min, List, [], ◌∷◌, drop, length, Option, Some, None, refl, sym, ◌∙◌, ap, subst, arith, inl, inr, if◌then◌else◌}
 use Rattle.std.specs.Prelude.{◌==◌, ◌^◌, SomeIff, MatchOption}
 use Rattle.std.specs.Option.{unwrap_or}
 use Rattle.std.specs.List.{insert, remove}
 use Rattle.std.proofs.lemmas.Bool.{cases_Bool, cases_lt, eq-eqb, ne_eqb}
-use Rattle.std.proofs.lemmas.List.{length-append, length-take, length-take-le, length-drop, drop-drop}
+use Rattle.std.proofs.lemmas.List.{length-append, length-take-le, length-drop, drop-drop}
 use Rattle.std.proofs.lemmas.List.Edits.{length-insert, length-remove}
 use Rattle.indicatif_board.specs.Slots.{SlotTable, IsSeated, made_by, next_slot, seated, unseated, head_unseated, slot_in, occurrences}
 
@@ -16,25 +16,25 @@ made_next number (Some n) range e = e.1
 -- ---- how often a number stands in a list
 
 -- how often a number is this one: once or never
-ones : ℕ → ℕ → ℕ
+pub ones : ℕ → ℕ → ℕ
 ones n x = if x == n then 1 else 0
 
-ones_same : (n x : ℕ) → x ≡ n → ones n x ≡ 1
+pub ones_same : (n x : ℕ) → x ≡ n → ones n x ≡ 1
 unfolding ones
 ones_same n x e = rw (eq-eqb x n e) refl
 
-ones_other : (n x : ℕ) → (x ≡ n → ⊥) → ones n x ≡ 0
+pub ones_other : (n x : ℕ) → (x ≡ n → ⊥) → ones n x ≡ 0
 unfolding ones
 ones_other n x e = rw (ne_eqb x n e) refl
 
-occurrences-front : (n x : ℕ) (xs : List ℕ) → occurrences n (x ∷ xs) ≡ ones n x + occurrences n xs
+pub occurrences-front : (n x : ℕ) (xs : List ℕ) → occurrences n (x ∷ xs) ≡ ones n x + occurrences n xs
 unfolding ones
 occurrences-front n x xs = elim (cases_Bool (x == n)) [
   | inl here ↦ rw here refl
   | inr there ↦ rw there (omega arith)
 ]
 
-ones_most : (n x : ℕ) → ones n x ≤ 1
+pub ones_most : (n x : ℕ) → ones n x ≤ 1
 unfolding ones
 ones_most n x = elim (cases_Bool (x == n)) [
   | inl here ↦ rw here (omega arith)
@@ -46,15 +46,15 @@ occurrences-append n [] ys = omega arith
 occurrences-append n (x ∷ xs) ys = omega (arith, occurrences-front n x (xs ++ ys), occurrences-front n x xs, occurrences-append n xs ys)
 
 -- in what is taken and what is left
-occurrences-cut : (n k : ℕ) (xs : List ℕ) → occurrences n (take k xs) + occurrences n (drop k xs) ≡ occurrences n xs
+pub occurrences-cut : (n k : ℕ) (xs : List ℕ) → occurrences n (take k xs) + occurrences n (drop k xs) ≡ occurrences n xs
 occurrences-cut n zero xs = omega arith
 occurrences-cut n (suc k) [] = omega arith
 occurrences-cut n (suc k) (x ∷ xs) = omega (arith, occurrences-front n x (take k xs), occurrences-front n x xs, occurrences-cut n k xs)
 
-occurrences-inserted : (n at x : ℕ) (xs : List ℕ) → occurrences n (insert xs at x) ≡ ones n x + occurrences n xs
+pub occurrences-inserted : (n at x : ℕ) (xs : List ℕ) → occurrences n (insert xs at x) ≡ ones n x + occurrences n xs
 occurrences-inserted n at x xs = omega (arith, occurrences-append n (take at xs) (x ∷ drop at xs), occurrences-front n x (drop at xs), occurrences-cut n at xs)
 
-occurrences-removed : (n at : ℕ) (xs : List ℕ) → occurrences n (remove xs at) + occurrences n (take 1 (drop at xs)) ≡ occurrences n xs
+pub occurrences-removed : (n at : ℕ) (xs : List ℕ) → occurrences n (remove xs at) + occurrences n (take 1 (drop at xs)) ≡ occurrences n xs
 occurrences-removed n at xs =
     let next : drop 1 (drop at xs) ≡ drop (suc at) xs = let k : at + 1 ≡ suc at = omega arith in drop-drop 1 at xs ∙ ap (λ j. drop j xs) k in
     omega (arith, occurrences-append n (take at xs) (drop (suc at) xs), occurrences-cut n at xs, occurrences-cut n 1 (drop at xs), ap (occurrences n) next)

@@ -1,7 +1,7 @@
 -- Worked cases of a board: what calls at the moment 0 answer, and the rows that stand then. The terminal never fails.
 use Rattle.std.specs.Prelude.{◌≡◌, ℕ, Bool, true, false, List, [], ◌∷◌, ◌++◌, map, replicate, codes, Option, Some, None}
 use Rattle.std.specs.declared.io.ErrorKind.{ErrorKind}
-use Rattle.indicatif_text.specs.declared.refusal.Refusal.TheVariants.{ForeignBar, NotMember, TooWide, Memory, ElapsedBeyondClock, Terminal as Failure}
+use Rattle.indicatif_text.specs.declared.refusal.Refusal.TheVariants.{ForeignBar, NotMember, NoColumns, TooWide, Memory, ElapsedBeyondClock, Terminal as Failure}
 use Rattle.indicatif_text.specs.declared.refusal.Drawn.TheVariants.{Yes, Limited, Hidden}
 use Rattle.indicatif_term.specs.Lists.{forgotten_lists, all_rows}
 use Rattle.indicatif_term.specs.Limiters.{Limiter, draw_limiter}
@@ -13,7 +13,7 @@ use Rattle.indicatif_bar.specs.declared.state.Ask.{Ask}
 use Rattle.indicatif_bar.specs.declared.state.Ask.TheVariants.{No, Unforced, Forced}
 use Rattle.indicatif_board.specs.BoardBars.{board_bars}
 use Rattle.indicatif_board.specs.Members.{order_of, Member}
-use Rattle.indicatif_board.specs.Boards.{BoardKind, BoardState, opening_board, Id, End, Index, FromBack, Before, After, New, Old, Call, Insert, Remove, Drop, Log, Clear, Redraw, Align, Tell, Answer, Given, Done, Drew, Refused, board}
+use Rattle.indicatif_board.specs.Boards.{BoardKind, BoardState, opening_board, Id, End, Index, FromBack, Before, After, New, Old, Call, Insert, Remove, Drop, Log, BarLog, Clear, Redraw, Align, Tell, Answer, Given, Done, Drew, Refused, board}
 
 -- ---- a plain bar
 
@@ -203,6 +203,53 @@ TooWideForAll = (ran_in 1 1 (add (codes "a") ∷ touch 0 ∷ add (0xE5 ∷ 0x9B 
 abbrev pub TwentyAtOnce : Type 0
 TwentyAtOnce = (ran_on (Some (draw_limiter 20 0)) (terminal_of_size 5 9) (add (codes "a") ∷ replicate 21 (touch 0) ++ say 0 (codes "b") ∷ Redraw ∷ finish_it 0 ∷ touch 0 ∷ [])).0
     ≡ Given (id 0) ∷ replicate 20 (Drew Yes) ++ Drew Limited ∷ Drew Limited ∷ Drew Yes ∷ Drew Yes ∷ Drew Yes ∷ []
+
+-- a bar's own text stands above all bars, and that bar's lines are laid out anew, here for the first time; rows of bars that are
+-- gone make room for it; a bar that isn't there has none
+abbrev pub OwnText : Type 0
+OwnText =
+    let both = add (codes "a") ∷ add (codes "b") ∷ touch 0 ∷ [] in
+    let foreign : Id = record { mark = 2; number = 0 } in
+    Leaves 4 10 (both ++ Log (codes "l") ∷ []) (codes "l" ∷ codes "a" ∷ [])
+    × Leaves 4 10 (both ++ BarLog (id 1) (codes "l") ∷ []) (codes "l" ∷ codes "a" ∷ codes "b" ∷ [])
+    × Leaves 4 10 (both ++ touch 1 ∷ finish_it 0 ∷ drop_it 0 ∷ BarLog (id 1) (codes "l") ∷ []) (codes "l" ∷ codes "b" ∷ [])
+    × ((ran_in 4 10 (both ++ BarLog (id 1) [] ∷ remove_it 1 ∷ BarLog (id 1) [] ∷ BarLog foreign [] ∷ [])).0
+    ≡ Given (id 0) ∷ Given (id 1) ∷ Drew Yes ∷ Drew Yes ∷ Done ∷ Refused NotMember ∷ Refused ForeignBar ∷ [])
+
+-- a clear takes the bars' rows back, and those that bars which are gone left; texts stay, and the next draw shows the bars again
+abbrev pub ClearedRows : Type 0
+ClearedRows =
+    let logged = add (codes "a") ∷ add (codes "b") ∷ touch 0 ∷ touch 1 ∷ Log (codes "l") ∷ [] in
+    let left = finish_it 0 ∷ drop_it 0 ∷ [] in
+    Leaves 4 10 (logged ++ Clear ∷ []) (codes "l" ∷ [])
+    × Leaves 4 10 (logged ++ Clear ∷ touch 1 ∷ []) (codes "l" ∷ codes "a" ∷ codes "b" ∷ [])
+    × Leaves 4 10 (logged ++ left) (codes "l" ∷ codes "a" ∷ codes "b" ∷ [])
+    × Leaves 4 10 (logged ++ left ++ Clear ∷ []) (codes "l" ∷ [])
+    × Leaves 4 10 (logged ++ left ++ Clear ∷ touch 1 ∷ []) (codes "l" ∷ codes "b" ∷ [])
+
+-- a dropped bar that waited, first in the order at last: a draw leaves its row above; a clear lets it go, and it isn't drawn again
+abbrev pub ClearedHead : Type 0
+ClearedHead =
+    let waits = add (codes "a") ∷ add (codes "b") ∷ add (codes "c") ∷ touch 0 ∷ touch 1 ∷ touch 2 ∷ finish_it 1 ∷ drop_it 1 ∷ remove_it 0 ∷ [] in
+    Leaves 4 10 (waits ++ Redraw ∷ []) (codes "b" ∷ codes "c" ∷ [])
+    × Leaves 4 10 (waits ++ Clear ∷ []) []
+    × Leaves 4 10 (waits ++ Clear ∷ Redraw ∷ []) (codes "c" ∷ [])
+    × (order_of (ran_in 4 10 waits).1.members ≡ 1 ∷ 2 ∷ [])
+    × (order_of (ran_in 4 10 (waits ++ Clear ∷ [])).1.members ≡ 2 ∷ [])
+
+-- on a terminal without columns no line is laid out, a text is lost, and a bar that is dropped leaves all the same; from that
+-- state, on a terminal with columns, the bar that was told something shows it
+abbrev pub WithoutColumns : Type 0
+WithoutColumns =
+    let first = ran_in 4 0 (add (codes "a") ∷ add (codes "b") ∷ touch 1 ∷ say 1 (codes "c") ∷ Log (codes "l") ∷ drop_it 0 ∷ []) in
+    let then = outcomes (board plain 1) (terminal_of_size 4 10) ((Redraw, 0) ∷ []) first.1 in
+    let later = outcomes (board plain 1) (terminal_of_size 4 10) ((touch 1, 0) ∷ []) first.1 in
+    (first.0 ≡ Given (id 0) ∷ Given (id 1) ∷ Refused NoColumns ∷ Refused NoColumns ∷ Refused NoColumns ∷ Refused NoColumns ∷ [])
+    × (order_of first.1.members ≡ 1 ∷ [])
+    × (then.0 ≡ Drew Yes ∷ [])
+    × (all_rows 10 then.1.lists ≡ [])
+    × (later.0 ≡ Drew Yes ∷ [])
+    × (all_rows 10 later.1.lists ≡ rows_of_lines 10 (codes "c" ∷ []))
 
 -- on a hidden target a text is dropped, and a bar that is dropped leaves
 abbrev pub Unseen : Type 0

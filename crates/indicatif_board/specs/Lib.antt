@@ -8,4 +8,6 @@ pub mod BoardBars
 pub mod BoardValues
 pub mod Calls
 pub mod Multi
+pub mod OrderLaws
+pub mod LimitLaws
 pub mod Inside

@@ -1,6 +1,6 @@
 //! Worked cases of the definitions: each clause computes.
 ghost use Rattle.indicatif_board.specs.SlotCases.{UsedAgain, FreedLastFirst, EachItsOwn};
-ghost use Rattle.indicatif_board.specs.BoardCases.{TwoBars, ThreeOnTwo, LeftAbove, BothDropped, AtTheBottom, Ordered, EmptyLog, RemovedLater, WaitsBehind, LongLog, RemovedTwice, TooWideForAll, TwentyAtOnce, Unseen, DropRefused, LateOnBoard, OneIsLeft};
+ghost use Rattle.indicatif_board.specs.BoardCases.{TwoBars, ThreeOnTwo, LeftAbove, BothDropped, AtTheBottom, Ordered, EmptyLog, RemovedLater, WaitsBehind, LongLog, RemovedTwice, TooWideForAll, TwentyAtOnce, Unseen, DropRefused, LateOnBoard, OneIsLeft, OwnText, ClearedRows, ClearedHead, WithoutColumns};
 
 /// What stands after calls of a board.
 pub fn rows()
@@ -13,6 +13,14 @@ pub fn rows()
     ensures removed_later { RemovedLater }
     ensures waits_behind { WaitsBehind }
     ensures long_log { LongLog }
+{}
+
+/// What stands after a bar's own text, and after the bars' rows were taken back.
+pub fn texts_and_clears()
+    ensures own_text { OwnText }
+    ensures cleared_rows { ClearedRows }
+    ensures cleared_head { ClearedHead }
+    ensures without_columns { WithoutColumns }
 {}
 
 /// What calls of a board answer.

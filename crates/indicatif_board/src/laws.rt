@@ -1,14 +1,19 @@
 //! Laws of the definitions: functions that do nothing, each with a law as its contract.
-ghost use Rattle.std.specs.Prelude.{◌≡◌, ◌≤◌, ℕ, List, Option, IsFalse};
+ghost use Rattle.std.specs.Prelude.{◌≡◌, ◌≤◌, ◌↔◌, ℕ, List, Option, Some, None, IsFalse};
 ghost use Rattle.indicatif_term.specs.Calls.{TermView};
 ghost use Rattle.indicatif_bar.specs.Commands.{BarRecord, Command};
+ghost use Rattle.indicatif_bar.specs.Machines.{Target};
 ghost use Rattle.indicatif_bar.specs.Runs.{RunsPaint, RunsAreRead, ReadsAfter, OneOutcome};
 ghost use Rattle.indicatif_bar.specs.Says.{EachSays};
 ghost use Rattle.indicatif_bar.specs.Bounds.{IsLimited, RunsAreBounded};
-ghost use Rattle.indicatif_board.specs.Boards.{BoardKind, BoardState, Call, Answer, board};
+ghost use Rattle.indicatif_term.specs.Limiters.{Limiter};
+ghost use Rattle.indicatif_board.specs.Boards.{BoardKind, BoardState, Call, Answer, opening_board, board};
 ghost use Rattle.indicatif_board.specs.BoardBars.{board_bars};
 ghost use Rattle.indicatif_board.specs.Done.{account_of_both, kept_half, given_half};
 ghost use Rattle.indicatif_board.specs.declared.done.Account.{Account};
+ghost use Rattle.indicatif_board.specs.LimitLaws.{IsAllowed};
+ghost use Rattle.indicatif_board.specs.OrderLaws.{RunsKeep, StandsOnce, IsGone, NumbersCount, NumbersAreNew};
+ghost use Rattle.indicatif_board.specs.Slots.{SlotTable, IsSeated, slot_of, occurrences};
 
 use indicatif_bar::style::ProgressTracker;
 
@@ -51,8 +56,31 @@ pub fn what_an_answer_says<B, C>()
 {}
 
 /// A board asks its limiter once for each unforced draw, and nothing else changes that: from a rate's limiter as it is made on, a
-/// run makes at most 20 unforced draws, and one more for each interval from the making to the last of them.
+/// run makes at most 20 unforced draws, and one more for each interval from the making to the last of them. Without a limiter each
+/// draw is allowed.
 pub fn a_board_is_limited<B, C>()
     ensures asks { (kind : BoardKind B C) (mark : ℕ) → IsLimited (board kind mark) (λ s. s.limiter) }
     ensures bounded { (kind : BoardKind B C) (mark : ℕ) → RunsAreBounded (board kind mark) (λ s. s.limiter) }
+    ensures free { (kind : BoardKind B C) (mark : ℕ) (target : Target) (call : Call B C) (now : ℕ) (s : BoardState B) → s.limiter ≡ None →
+        IsAllowed ((board kind mark).deed target call now s) }
+{}
+
+/// No bar stands in a board's order twice, and none that was not taken in: so it is at first, and after each call of any run.
+pub fn each_bar_stands_once<B, C>()
+    ensures first { (limiter : Option Limiter) → StandsOnce {B = B} (opening_board limiter) }
+    ensures kept { (kind : BoardKind B C) (mark : ℕ) → RunsKeep (board kind mark) StandsOnce }
+{}
+
+/// A board counts the bars that it takes in: in any run they get the next numbers one after another, so that no two have the
+/// same, and none has one that was given before. A bar that left the order never comes back.
+pub fn numbers_are_never_used_again<B, C>()
+    ensures counted { (kind : BoardKind B C) (mark : ℕ) → NumbersCount kind mark }
+    ensures new { (kind : BoardKind B C) (mark : ℕ) → NumbersAreNew kind mark }
+    ensures gone { (kind : BoardKind B C) (mark number : ℕ) → RunsKeep (board kind mark) (IsGone number) }
+{}
+
+/// A bar has a slot exactly where it stands in the order, and no two bars have the same.
+pub fn each_bar_has_its_slot()
+    ensures some { (t : SlotTable) (number : ℕ) → IsSeated t → (slot_of number t ≡ None) ↔ (occurrences number t.order ≡ 0) }
+    ensures apart { (t : SlotTable) (one other slot : ℕ) → IsSeated t → slot_of one t ≡ Some slot → slot_of other t ≡ Some slot → one ≡ other }
 {}

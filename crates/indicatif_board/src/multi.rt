@@ -248,12 +248,13 @@ impl<K: ProgressTracker, T: TermLike + Drop> Board<K, T> {
     }
 
     /// A bar whose owner is gone: one that isn't finished is finished by its stored finish and drawn by force. Then it leaves the
-    /// order, if it is the first there and no other bar's rows stand before its own: its rows stay where they are until the next
-    /// text. Else it waits, marked, and leaves with the draw that finds only bars like it before it. From now on no call may name
-    /// it.
+    /// order, if it is the first there and no other bar's rows stand before its own: its rows stay where they are until a text, a
+    /// clear or a suspend takes them back. Else it waits, marked, and leaves with the draw that finds only bars like it before it.
+    /// From now on no call may name it.
     ///
     /// Refused: `ForeignBar`, `NotMember`, `NoColumns`, `TooWide`, `Terminal` or `Memory`, as `Board` says. After `Terminal` or
-    /// `Memory` the bar is marked, after `NoColumns` or `TooWide` it has left or is marked, as if it had been drawn.
+    /// `Memory` the bar is marked and waits, also where it is the first: it is as it was where its finish's own text found no memory,
+    /// and finished where its lines found none. After `NoColumns` or `TooWide` it has left or is marked, as if it had been drawn.
     pub fn drop_bar(&mut self, id: BarId, now: Moment) -> Result<Drawn, Refusal>
         ensures silent { IsFalse (wrote result) → terminal_of self.new ≡ terminal_of self.old }
         ensures leads { LeadsBy K.means T.view self.old self.new (Drop (id_of id)) now (says result) }
@@ -314,7 +315,8 @@ impl<K: ProgressTracker, T: TermLike + Drop> Board<K, T> {
         self.draw(Ask::Forced, Some(at), Writing::TextAndFrame(text), now)
     }
 
-    /// Takes the bars' rows back, by force. The next draw shows the bars again. Takes no memory.
+    /// Takes the bars' rows back, by force. The next draw shows the bars again, but for what was dropped: rows that such bars left go
+    /// for good, and so do dropped bars at the head of the order. Takes no memory.
     ///
     /// Refused: `NoColumns` or `Terminal`, as `Board` says.
     pub fn clear(&mut self, now: Moment) -> Result<Drawn, Refusal>

@@ -1,7 +1,8 @@
 //! The bars of a board with the lines that they show, and how they are written.
 ghost use Rattle.std.specs.Prelude.{◌≡◌, ◌≢◌, ◌⊎◌, ◌<◌, ◌≤◌, ◌^◌, MatchResult, ℕ, Bool, Option, Some, None, true, false, IsTrue, IsFalse, map, length, vec_len, IfSome, IfOk, IfErr, OnErr};
-ghost use Rattle.indicatif_term.specs.Frames.{bar_lines};
+ghost use Rattle.indicatif_term.specs.Frames.{bar_lines, line_text};
 ghost use Rattle.indicatif_term.specs.Engines.{engine_term, Fits, is_bottom};
+ghost use Rattle.indicatif_bar.specs.Bars.{lines_of_bar};
 ghost use Rattle.indicatif_bar.specs.Commands.{BarRecord};
 ghost use Rattle.indicatif_bar.specs.Machines.{Target, is_no, target_of};
 ghost use Rattle.indicatif_bar.specs.Kinds.{rows_take, asked_of};
@@ -15,12 +16,13 @@ ghost use Rattle.indicatif_board.specs.Inside.Writings.{writing_by};
 
 use crate::members::{Member, drop_front, leading, place, put_at};
 use crate::slots::MultiState;
-use indicatif_bar::state::{Ask, BarState};
+use indicatif_bar::state::{Ask, BarState, SpareLines};
 use indicatif_bar::style::ProgressTracker;
-use indicatif_term::draw_target::{Engine, MultiProgressAlignment, RateLimiter, Segment};
+use indicatif_term::draw_target::{Engine, LineType, MultiProgressAlignment, RateLimiter, Segment};
 use indicatif_term::term_like::TermLike;
 use indicatif_text::columns::{Drawn, Moment, Refusal};
 use std::alloc::Global;
+use std::mem::replace;
 
 /// What a draw writes.
 #[derive(Clone, Copy)]
@@ -41,6 +43,8 @@ pub struct ShownBars<K> {
     pub members: Vec<Member<K>>,
     /// Their numbers and lines, at the same places.
     pub frame: Vec<Segment>,
+    /// Room of lines that were laid out before.
+    pub spare: SpareLines,
     /// The same numbers with their slots.
     pub table: MultiState,
     pub alignment: MultiProgressAlignment,
@@ -60,6 +64,7 @@ impl<K: ProgressTracker> ShownBars<K> {
             alloc,
             members: Vec::new(alloc),
             frame: Vec::new(alloc),
+            spare: SpareLines::new(alloc),
             table: MultiState::new(alloc),
             alignment: MultiProgressAlignment::Top,
             limiter,
@@ -156,7 +161,7 @@ impl<K: ProgressTracker> ShownBars<K> {
         self.write(engine, writing)
     }
 
-    /// Lays a bar's lines out and stores them, if one is named.
+    /// Lays a bar's lines out and stores them, if one is named, in the room of those before.
     fn lay_out(&mut self, bar: Option<usize>, width: u16, now: Moment) -> Result<(), Refusal>
         requires placed { IfSome bar (λ at. at < vec_len self.old.members) }
         ensures memory { IfErr result (λ e. (e ≡ Refusal.Memory) × (bar ≢ None)) }
@@ -165,10 +170,13 @@ impl<K: ProgressTracker> ShownBars<K> {
             target.columns ≡ width → HasPlace number bar s.members → Shown self.old s →
             Shown self.new (laid_by K.means target now number s)) }
     {
-        if let Some(at) = bar {
-            self.frame[at].lines = self.members[at].bar.lines(now, width)?;
+        match bar {
+            Some(at) => {
+                let stored = &mut self.frame[at].lines;
+                relay(&self.members[at].bar, stored, &mut self.spare, width, now)
+            }
+            None => Ok(()),
         }
-        Ok(())
     }
 
     /// Whether a draw that is asked so may be made at this moment.
@@ -202,6 +210,23 @@ impl<K: ProgressTracker> ShownBars<K> {
         self.table.remove_first(gone);
         Ok(Drawn::Yes)
     }
+}
+
+/// Puts a bar's lines in the place of those that were stored, whose room is the next spare one.
+fn relay<K: ProgressTracker>(
+    bar: &BarState<K>,
+    stored: &mut Vec<LineType>,
+    spare: &mut SpareLines,
+    width: u16,
+    now: Moment,
+) -> Result<(), Refusal>
+    ensures lines { IfOk result (λ _. map line_text stored.new.items ≡ lines_of_bar K.means bar.now now width) }
+    ensures memory { IfErr result (λ e. e ≡ Refusal.Memory) }
+    ensures unchanged { OnErr result (stored.new ≡ stored.old) }
+{
+    let lines = bar.lines_in(spare, now, width)?;
+    spare.keep(replace(stored, lines));
+    Ok(())
 }
 
 /// Writes on the engine's terminal; the first `gone` bars are those that are dropped.

@@ -1,6 +1,6 @@
 use Rattle.indicatif_bar.proofs.BoundLemmas.{runs_bounded}
 use Rattle.indicatif_board.specs.Boards.{board}
-use Rattle.indicatif_board.proofs.BoundLemmas.{board_limited}
+use Rattle.indicatif_board.proofs.BoundLemmas.{board_limited, board_free}
 use Rattle.indicatif_board.proofs.laws.a_board_is_limited.Goals as goal
 
 pub returns-clause-asks : goal.returns-clause-asks
@@ -8,3 +8,6 @@ returns-clause-asks g c = board_limited
 
 pub returns-clause-bounded : goal.returns-clause-bounded
 returns-clause-bounded g c = λ kind mark. runs_bounded (board kind mark) (λ s. s.limiter) (board_limited kind mark)
+
+pub returns-clause-free : goal.returns-clause-free
+returns-clause-free g c = board_free

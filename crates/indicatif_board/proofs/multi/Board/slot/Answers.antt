@@ -1,4 +1,4 @@
-use Rattle.std.proofs.Common.{◌≡◌, ◌∙◌, ap, sym, None, if◌then◌else◌}
+use Rattle.std.proofs.Common.{◌∙◌, ap, sym, None, if◌then◌else◌}
 use Rattle.std.proofs.lemmas.Bool.{eq-eqb, ne_eqb}
 use Rattle.indicatif_board.specs.Multi.{IsIn}
 use Rattle.indicatif_board.specs.Slots.{slot_of}

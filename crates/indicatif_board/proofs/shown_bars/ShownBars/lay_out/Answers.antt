@@ -1,20 +1,25 @@
-use Rattle.std.proofs.Common.{◌∙◌, ◌<◌, arith, length, subst}
-use Rattle.std.specs.Prelude.{vec_len, IfSome}
+use Rattle.std.proofs.Common.{◌∙◌, ◌<◌, arith, length, subst, Result, Ok, Err}
+use Rattle.std.specs.Prelude.{vec_len, IfSome, IfOk}
 use Rattle.indicatif_term.specs.Engines.{is_bottom}
 use Rattle.indicatif_board.proofs.MemberLemmas.{laid_at, relaid_bars}
 use Rattle.indicatif_board.proofs.shown_bars.ShownBars.lay_out.Goals as goal
+
+when_ok : {X E : Type 0} {P Q : Type 0} (r : Result X E) → IfOk r (λ _. P) → (P → Q) → IfOk r (λ _. Q)
+when_ok (Ok x) p f = f p
+when_ok (Err e) p f = tt
 
 pub invariant_of-self-clause-seated : goal.invariant_of-self-clause-seated
 invariant_of-self-clause-seated g c =
     let b = c.args.self.now in
     let placed : c.in-Some.at < vec_len b.members = subst (λ o. IfSome o (λ at. at < vec_len b.members)) c.in-Some.is c.requires.placed in
     let within : c.in-Some.at < length b.frame.items = omega (arith, placed, b.even, b.members.ok, b.frame.ok) in
-    relaid_bars b.frame.items c.in-Some.at c.index_mut.result.now c.in_ok-self.field-0 within c.index_mut.ensures.value ∙ b.seated
+    relaid_bars b.frame.items c.in-Some.at c.index_mut.result.now c.relay.new.stored within c.index_mut.ensures.value ∙ b.seated
 
-pub returns-in_ok-self-clause-laid : goal.returns-in_ok-self-clause-laid
-returns-in_ok-self-clause-laid g c = λ target s number columns placed holds.
+pub returns-in-Some-clause-laid : goal.returns-in-Some-clause-laid
+returns-in-Some-clause-laid g c =
     let tracks = g.K.ProgressTracker.means in
     let b = c.args.self.now in
+    when_ok c.relay.result c.relay.ensures.lines (λ lines target s number columns placed holds.
     laid_at tracks b.frame.items b.members.items b.table.made
-    (is_bottom b.alignment) b.limiter s target c.args.now c.args.width c.in-Some.at c.index.result.now c.index_mut.result.now c.in_ok-self.field-0
-    columns holds c.index.ensures c.index_mut.ensures.value c.in_ok-self.ensures.lines number c.args.bar c.in-Some.is placed
+    (is_bottom b.alignment) b.limiter s target c.args.now c.args.width c.in-Some.at c.index.result.now c.index_mut.result.now c.relay.new.stored
+    columns holds c.index.ensures c.index_mut.ensures.value lines number c.args.bar c.in-Some.is placed)

@@ -1,4 +1,4 @@
-use Rattle.std.proofs.Common.{◌≡◌, ◌∙◌, ◌+◌, ap, sym, map, subst, false}
+use Rattle.std.proofs.Common.{◌∙◌, ◌+◌, ap, sym, map, subst, false}
 use Rattle.std.specs.List.{insert}
 use Rattle.indicatif_term.specs.Engines.{is_bottom}
 use Rattle.indicatif_term.specs.declared.lines.Segment.{Segment}

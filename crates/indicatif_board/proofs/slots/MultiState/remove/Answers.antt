@@ -1,6 +1,4 @@
-use Rattle.std.proofs.Common.{◌≡◌, ◌≤◌, ◌<◌, ◌+◌, ◌-◌, ◌∙◌, ℕ, sym, ap, arith, length, take, drop, ◌++◌, subst}
-use Rattle.std.specs.Prelude.{vec_len, vec_capacity}
-use Rattle.std.specs.List.{remove}
+use Rattle.std.proofs.Common.{◌≡◌, ◌≤◌, ◌<◌, sym, arith, length, subst}
 use Rattle.indicatif_board.specs.Slots.{SlotTable, IsSeated, unseated, made_by}
 use Rattle.indicatif_board.proofs.SlotLemmas.{unseated_is, unseated_keeps, unseated_past}
 use Rattle.indicatif_board.proofs.slots.MultiState.remove.Goals as goal

@@ -1,6 +1,6 @@
-use Rattle.std.proofs.Common.{◌≡◌, ◌∙◌, ◌<◌, ◌+◌, ℕ, false, true, suc, sym, ap, subst, arith, refl, length, drop, get_or, Some, if◌then◌else◌}
+use Rattle.std.proofs.Common.{◌≡◌, ◌∙◌, ◌<◌, ◌+◌, false, suc, ap, subst, arith, refl, length, drop, get_or, Some, if◌then◌else◌}
 use Rattle.std.specs.Prelude.{◌==◌}
-use Rattle.std.proofs.lemmas.Bool.{eq-eqb, ne_eqb}
+use Rattle.std.proofs.lemmas.Bool.{ne_eqb}
 use Rattle.indicatif_board.specs.Slots.{IsSeated, SlotTable, slot_in}
 use Rattle.indicatif_board.proofs.SlotLemmas.{slot_step}
 use Rattle.indicatif_board.proofs.slots.MultiState.slot.Goals as goal
