@@ -1,7 +1,6 @@
 -- Lines of parts without control characters have none.
 use Rattle.std.proofs.Common.{◌≡◌, ℕ, ◌*◌, Bool, true, false, List, [], ◌∷◌, ◌++◌, append_assoc, length, refl, sym, ◌∙◌, ap, subst, if◌then◌else◌, Option, Some, None}
-use Rattle.std.specs.Prelude.{◌==◌, flat_map, unwrap_or, All, encode_utf8_all}
-use Rattle.std.specs.Option.{option_map_or}
+use Rattle.std.specs.Prelude.{◌==◌, flat_map, unwrap_or, encode_utf8_all}
 use Rattle.std.specs.List.{list_any, slice_split, onto_first, AllByRecursion}
 use Rattle.std.specs.Str.{chars, drop_trailing_whitespace}
 use Rattle.std.proofs.lemmas.Bool.{cond_both}
