@@ -9,3 +9,4 @@ pub mod BoardCallLemmas
 pub mod DropLemmas
 pub mod BoundLemmas
 pub mod BoardRunLemmas
+pub mod RecordLemmas

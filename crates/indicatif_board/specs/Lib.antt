@@ -8,4 +8,5 @@ pub mod BoardBars
 pub mod BoardValues
 pub mod Calls
 pub mod Multi
+pub mod Recorded
 pub mod Inside
