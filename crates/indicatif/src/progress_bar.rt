@@ -1,6 +1,7 @@
 //! A bar that its owners share.
 //!
 //! - `held`: what its lock keeps (private).
+//! - `ticker`: which steady ticker it has; `steady`: the thread that ticks (private).
 //! - `weak`: a bar without an owner (private).
 ghost use Rattle.std.specs.Prelude.{◌≡◌, ℕ};
 ghost use Rattle.std.specs.Fn.{FnOnceReturnsAt};
@@ -15,9 +16,11 @@ ghost use Rattle.indicatif_bar.specs.declared.command.Change.{Change as Changed}
 ghost use Rattle.indicatif.specs.Fronts.{CanAnswer, Joins};
 
 mod held;
+mod steady;
+mod ticker;
 mod weak;
 
-use self::held::Held;
+use self::held::{Cell, Held};
 pub use self::weak::WeakProgressBar;
 use crate::moves::Moves;
 use crate::wrap::ProgressBarIter;
@@ -30,7 +33,7 @@ use indicatif_text::columns::{Clock, Drawn, Refusal};
 use std::alloc::{AllocError, Global};
 use std::fmt::{self, Debug, Formatter};
 use std::io::{Read, Write};
-use std::sync::{Arc, Mutex, Wait};
+use std::sync::{Arc, Condvar, Mutex, Wait};
 
 /// One owner of a bar that others may own too, in this thread or in others: a clone is another owner of the same bar.
 ///
@@ -49,7 +52,7 @@ use std::sync::{Arc, Mutex, Wait};
 /// bar.inc(1)?;
 /// ```
 pub struct ProgressBar<T: TermLike + Drop, C: Clock + Drop, R: Wait + Clone + Drop> {
-    pub(crate) state: Arc<Mutex<Held<T, C>>, Global>,
+    pub(crate) state: Arc<Cell<T, C>, Global>,
     pub(crate) alloc: Global,
     pub(crate) rt: R,
 }
@@ -113,7 +116,11 @@ impl<T: TermLike + Drop, C: Clock + Drop, R: Wait + Clone + Drop> ProgressBar<T,
         let now = clock.now();
         let bar = BarState::styled(alloc, style, len, now)?;
         let held = Held::owned(LoneBar::new(bar, target), clock);
-        match Arc::new(alloc, Mutex::new(held)) {
+        let cell = Cell {
+            lock: Mutex::new(held),
+            changed: Condvar::new(),
+        };
+        match Arc::new(alloc, cell) {
             Ok(state) => Ok(ProgressBar { state, alloc, rt }),
             Err(_) => Err(Refusal::Memory),
         }
@@ -123,7 +130,7 @@ impl<T: TermLike + Drop, C: Clock + Drop, R: Wait + Clone + Drop> ProgressBar<T,
     fn tell(&self, command: BarCommand<NoTracker>) -> Result<Drawn, Refusal>
         ensures { CanAnswer T.view (Lone.Change (command_of command)) result }
     {
-        self.state.lock(&self.rt).tell(command)
+        self.state.lock.lock(&self.rt).tell(command)
     }
 
     /// One more tick, up to 2^64 - 1, and a draw.
@@ -186,14 +193,14 @@ impl<T: TermLike + Drop, C: Clock + Drop, R: Wait + Clone + Drop> ProgressBar<T,
     pub fn set_message(&self, text: &str) -> Result<Drawn, Refusal>
         ensures { CanAnswer T.view (Lone.Change (Command.SetMessage text.now)) result }
     {
-        self.state.lock(&self.rt).set_message(text)
+        self.state.lock.lock(&self.rt).set_message(text)
     }
 
     /// Another prefix, and a draw.
     pub fn set_prefix(&self, text: &str) -> Result<Drawn, Refusal>
         ensures { CanAnswer T.view (Lone.Change (Command.SetPrefix text.now)) result }
     {
-        self.state.lock(&self.rt).set_prefix(text)
+        self.state.lock.lock(&self.rt).set_prefix(text)
     }
 
     /// Another style, with the bar's width of tabs. No draw is asked.
@@ -253,7 +260,7 @@ impl<T: TermLike + Drop, C: Clock + Drop, R: Wait + Clone + Drop> ProgressBar<T,
     pub fn finish_with_message(&self, text: &str) -> Result<Drawn, Refusal>
         ensures { CanAnswer T.view (Lone.Change (Command.FinishBy (Finish.WithMessage text.now))) result }
     {
-        self.state.lock(&self.rt).finish_with_message(text)
+        self.state.lock.lock(&self.rt).finish_with_message(text)
     }
 
     /// The bar is finished at its length and has no lines any more. A draw by force.
@@ -274,7 +281,7 @@ impl<T: TermLike + Drop, C: Clock + Drop, R: Wait + Clone + Drop> ProgressBar<T,
     pub fn abandon_with_message(&self, text: &str) -> Result<Drawn, Refusal>
         ensures { CanAnswer T.view (Lone.Change (Command.FinishBy (Finish.AbandonWithMessage text.now))) result }
     {
-        self.state.lock(&self.rt).abandon_with_message(text)
+        self.state.lock.lock(&self.rt).abandon_with_message(text)
     }
 
     /// The bar is finished by its stored finish. A draw by force.
@@ -297,14 +304,14 @@ impl<T: TermLike + Drop, C: Clock + Drop, R: Wait + Clone + Drop> ProgressBar<T,
         ensures { (shown : Progress) × (change : Changed) × FnOnceReturnsAt F.FnOnce f shown change
             × CanAnswer T.view (Lone.Change (Command.Update change.pos change.len)) result }
     {
-        self.state.lock(&self.rt).update(f)
+        self.state.lock.lock(&self.rt).update(f)
     }
 
     /// Writes the text's lines above the bar, by force. On a hidden target the text is dropped.
     pub fn println(&self, text: &str) -> Result<Drawn, Refusal>
         ensures { CanAnswer T.view (Lone.Log text.now) result }
     {
-        self.state.lock(&self.rt).println(text)
+        self.state.lock.lock(&self.rt).println(text)
     }
 
     /// Takes the bar's rows back, calls `f` once, and draws the bar again by force; the lock is held meanwhile. Answers what `f`
@@ -313,12 +320,12 @@ impl<T: TermLike + Drop, C: Clock + Drop, R: Wait + Clone + Drop> ProgressBar<T,
         requires { F.pre f }
         ensures { F.post f result.0 }
     {
-        self.state.lock(&self.rt).suspend(f)
+        self.state.lock.lock(&self.rt).suspend(f)
     }
 
     /// Another target, on which the bar begins anew with its next draw; the old one is given up. Nothing is written to either.
     pub fn set_draw_target(&self, target: ProgressDrawTarget<T>) {
-        self.state.lock(&self.rt).set_draw_target(target);
+        self.state.lock.lock(&self.rt).set_draw_target(target);
     }
 
     /// Lends the terminal to `f` under the lock; `None` where the target is hidden.
@@ -326,46 +333,46 @@ impl<T: TermLike + Drop, C: Clock + Drop, R: Wait + Clone + Drop> ProgressBar<T,
         requires { F.IsAlwaysCallable f }
         ensures { (shown : _) × F.post f shown result }
     {
-        let held = self.state.lock(&self.rt);
+        let held = self.state.lock.lock(&self.rt);
         let shown = held.term();
         f(shown)
     }
 
     /// The position.
     pub fn position(&self) -> u64 {
-        self.state.lock(&self.rt).bar().state().pos()
+        self.state.lock.lock(&self.rt).bar().state().pos()
     }
 
     /// The length, if there is one.
     pub fn length(&self) -> Option<u64> {
-        self.state.lock(&self.rt).bar().state().len()
+        self.state.lock.lock(&self.rt).bar().state().len()
     }
 
     /// How often the bar has ticked; it stays at 2^64 - 1.
     pub fn ticks(&self) -> u64 {
-        self.state.lock(&self.rt).bar().state().ticks()
+        self.state.lock.lock(&self.rt).bar().state().ticks()
     }
 
     /// Whether the bar is finished.
     pub fn is_finished(&self) -> bool {
-        self.state.lock(&self.rt).bar().state().is_finished()
+        self.state.lock.lock(&self.rt).bar().state().is_finished()
     }
 
     /// Whether nothing is ever drawn.
     pub fn is_hidden(&self) -> bool {
-        self.state.lock(&self.rt).is_hidden()
+        self.state.lock.lock(&self.rt).is_hidden()
     }
 
     /// How many spaces stand for a tab.
     pub fn tab_width(&self) -> usize {
-        self.state.lock(&self.rt).bar().tab_width()
+        self.state.lock.lock(&self.rt).bar().tab_width()
     }
 
     /// The message, with its tabs expanded.
     ///
     /// Refused: `Memory`.
     pub fn message(&self) -> Result<String, Refusal> {
-        let held = self.state.lock(&self.rt);
+        let held = self.state.lock.lock(&self.rt);
         Ok(String::from_str(self.alloc, held.bar().message())?)
     }
 
@@ -373,7 +380,7 @@ impl<T: TermLike + Drop, C: Clock + Drop, R: Wait + Clone + Drop> ProgressBar<T,
     ///
     /// Refused: `Memory`.
     pub fn prefix(&self) -> Result<String, Refusal> {
-        let held = self.state.lock(&self.rt);
+        let held = self.state.lock.lock(&self.rt);
         Ok(String::from_str(self.alloc, held.bar().prefix())?)
     }
 
@@ -381,28 +388,41 @@ impl<T: TermLike + Drop, C: Clock + Drop, R: Wait + Clone + Drop> ProgressBar<T,
     pub fn eta(&self) -> u64
         ensures { (p : Progress) × (now : ℕ) × (result ≡ Told.eta p now) }
     {
-        self.state.lock(&self.rt).eta()
+        self.state.lock.lock(&self.rt).eta()
     }
 
     /// The rate so far.
     pub fn per_sec(&self) -> Rate
         ensures { (p : Progress) × (now : ℕ) × (result ≡ Told.per_sec p now) }
     {
-        self.state.lock(&self.rt).per_sec()
+        self.state.lock.lock(&self.rt).per_sec()
     }
 
     /// The nanoseconds that all of it takes, by the rate so far; of a finished bar those that it took.
     pub fn duration(&self) -> u64
         ensures { (p : Progress) × (now : ℕ) × (result ≡ Told.duration p now) }
     {
-        self.state.lock(&self.rt).duration()
+        self.state.lock.lock(&self.rt).duration()
     }
 
     /// The nanoseconds since the start.
     pub fn elapsed(&self) -> u64
         ensures { (p : Progress) × (now : ℕ) × (result ≡ Told.elapsed p now) }
     {
-        self.state.lock(&self.rt).elapsed()
+        self.state.lock.lock(&self.rt).elapsed()
+    }
+
+    /// No thread ticks the bar from now on. It waits until any that did has ended.
+    pub fn disable_steady_tick(&self) {
+        let mut held = self.state.lock.lock(&self.rt);
+        held.ticker.disable();
+        let _ = held.tell(BarCommand::SetTicker(false));
+        self.state.changed.notify_all();
+        let held = self
+            .state
+            .changed
+            .wait_while(&self.rt, held, |held| held.ticker.runs());
+        drop(held);
     }
 
     /// Another bar of which this is a weak one: it owns nothing.
@@ -423,7 +443,7 @@ impl<T: TermLike + Drop, C: Clock + Drop, R: Wait + Clone + Drop> ProgressBar<T,
     fn counted(&self) -> bool
         ensures { (before : ℕ) × (now : ℕ) × Joins result before now }
     {
-        self.state.lock(&self.rt).join()
+        self.state.lock.lock(&self.rt).join()
     }
 }
 
@@ -449,7 +469,7 @@ impl<T: TermLike + Drop, C: Clock + Drop, R: Wait + Clone + Drop> ProgressBar<T,
     ///
     /// Refused: `Memory`; this owner is given up.
     pub fn with_prefix(self, text: &str) -> Result<Self, Refusal> {
-        self.state.lock(&self.rt).with_prefix(text)?;
+        self.state.lock.lock(&self.rt).with_prefix(text)?;
         Ok(self)
     }
 
@@ -457,7 +477,7 @@ impl<T: TermLike + Drop, C: Clock + Drop, R: Wait + Clone + Drop> ProgressBar<T,
     ///
     /// Refused: `Memory`; this owner is given up.
     pub fn with_message(self, text: &str) -> Result<Self, Refusal> {
-        self.state.lock(&self.rt).with_message(text)?;
+        self.state.lock.lock(&self.rt).with_message(text)?;
         Ok(self)
     }
 
@@ -536,10 +556,13 @@ impl<T: TermLike + Drop, C: Clock + Drop, R: Wait + Clone + Drop> Drop for Progr
     fn drop(self) {
         let ProgressBar { state, alloc, rt } = self;
         let _ = alloc;
-        let mut held = state.lock(&rt);
-        if held.leave() {
-            let _ = held.gone();
+        {
+            let mut held = state.lock.lock(&rt);
+            if held.leave() {
+                let _ = held.gone();
+            }
         }
+        state.changed.notify_all();
     }
 }
 

@@ -11,17 +11,27 @@ ghost use Rattle.indicatif_bar.specs.Trackers.{writes_nothing};
 ghost use Rattle.indicatif_bar.specs.declared.command.Change.{Change as Changed};
 ghost use Rattle.indicatif.specs.Fronts.{Makes, Joins, Leaves};
 
+use crate::progress_bar::ticker::Ticker;
 use indicatif_bar::lone::{LoneBar, LoneCall};
 use indicatif_bar::state::{BarCommand, BarState, Change, ProgressState, Rate};
 use indicatif_bar::style::NoTracker;
 use indicatif_term::draw_target::ProgressDrawTarget;
 use indicatif_term::term_like::TermLike;
 use indicatif_text::columns::{Clock, Drawn, Refusal};
+use std::sync::{Condvar, Mutex};
 
-/// A bar, its clock, and how many own it.
+/// The lock of a bar, and what waits for the bar to change.
+#[derive(Drop)]
+pub struct Cell<T: Drop, C> {
+    pub lock: Mutex<Held<T, C>>,
+    pub changed: Condvar,
+}
+
+/// A bar, its clock and ticker, and how many own it.
 #[derive(Drop)]
 pub struct Held<T: Drop, C> {
     owners: u64,
+    pub ticker: Ticker,
     clock: C,
     bar: LoneBar<NoTracker, T>,
 }
@@ -33,6 +43,7 @@ impl<T: Drop, C> Held<T, C> {
     {
         Held {
             owners: 1,
+            ticker: Ticker::new(),
             clock,
             bar,
         }
@@ -163,6 +174,11 @@ impl<T: TermLike + Drop, C: Clock + Drop> Held<T, C> {
         }
         let now = self.clock.now();
         self.bar.finish_using_style(now)
+    }
+
+    /// Whether the ticker of this number goes on: it is the installed one, the bar is not finished, and it has an owner.
+    pub fn ticks_by(&self, number: u64) -> bool {
+        self.ticker.is_installed(number) && self.owners > 0 && !self.bar.bar().state().is_finished()
     }
 
     /// The bar's record.

@@ -1,11 +1,11 @@
 //! A shared bar without an owner.
 use crate::progress_bar::ProgressBar;
-use crate::progress_bar::held::Held;
+use crate::progress_bar::held::Cell;
 use indicatif_term::term_like::TermLike;
 use indicatif_text::columns::Clock;
 use std::alloc::{AllocError, Global};
 use std::fmt::{self, Debug, Formatter};
-use std::sync::{Arc, Mutex, Wait};
+use std::sync::{Arc, Wait};
 
 /// A bar that others own: it keeps none of it alive, and is a bar again while owners are left.
 ///
@@ -23,7 +23,7 @@ pub struct WeakProgressBar<T: TermLike + Drop, C: Clock + Drop, R: Wait + Clone 
 /// A bar that was known.
 #[derive(Drop)]
 struct Known<T: TermLike + Drop, C: Clock + Drop, R: Wait + Clone + Drop> {
-    state: Arc<Mutex<Held<T, C>>, Global>,
+    state: Arc<Cell<T, C>, Global>,
     alloc: Global,
     rt: R,
 }
@@ -35,7 +35,7 @@ impl<T: TermLike + Drop, C: Clock + Drop, R: Wait + Clone + Drop> WeakProgressBa
     }
 
     /// Of this bar.
-    pub(crate) fn of(state: Arc<Mutex<Held<T, C>>, Global>, alloc: Global, rt: R) -> Self {
+    pub(crate) fn of(state: Arc<Cell<T, C>, Global>, alloc: Global, rt: R) -> Self {
         WeakProgressBar {
             of: Some(Known { state, alloc, rt }),
         }
@@ -46,7 +46,7 @@ impl<T: TermLike + Drop, C: Clock + Drop, R: Wait + Clone + Drop> WeakProgressBa
         let known = self.of.as_ref()?;
         let state = Arc::try_clone(&known.state).ok()?;
         let rt = known.rt.clone().ok()?;
-        if known.state.lock(&rt).join() {
+        if known.state.lock.lock(&rt).join() {
             Some(ProgressBar {
                 state,
                 alloc: known.alloc,
