@@ -46,7 +46,7 @@ pub use indicatif_bar::state::{
 pub use indicatif_bar::style::ProgressStyle;
 pub use indicatif_board::bar_id::BarId;
 pub use indicatif_board::done::{BarWorker, Done};
-pub use indicatif_board::multi::{Board, Candidate, Turned};
+pub use indicatif_board::multi::{Board, Candidate, Recorded, Turned};
 pub use indicatif_term::draw_target::{
     Engine, Facts, Keep, LineType, MultiProgressAlignment, ProgressDrawTarget, RateLimiter,
     Segment, Setup,

@@ -1,5 +1,5 @@
 //! What the lock of a shared bar keeps.
-ghost use Rattle.std.specs.Prelude.{◌≡◌, ◌↔◌, ℕ, None, option_map, IsTrue, IsFalse};
+ghost use Rattle.std.specs.Prelude.{◌≡◌, ◌↔◌, ◌<◌, ℕ, Some, None, option_map, true, false, IsTrue, IsFalse};
 ghost use Rattle.std.specs.Fn.{FnOnceReturnsAt};
 ghost use Rattle.indicatif_term.specs.Targets.{term_of};
 ghost use Rattle.indicatif_bar.specs.Commands.{SetMessage, SetPrefix, PutMessage, PutPrefix, Update, FinishBy, FinishUsingStyle, command_of};
@@ -177,7 +177,11 @@ impl<T: TermLike + Drop, C: Clock + Drop> Held<T, C> {
     }
 
     /// Whether the ticker of this number goes on: it is the installed one, the bar is not finished, and it has an owner.
-    pub fn ticks_by(&self, number: u64) -> bool {
+    pub fn ticks_by(&self, number: u64) -> bool
+        ensures installed { (result ≡ true) → self.now.ticker.installed ≡ Some number }
+        ensures owned { (result ≡ true) → 0 < self.now.owners }
+        ensures unfinished { (result ≡ true) → is_finished (record_of self.now.bar).progress ≡ false }
+    {
         self.ticker.is_installed(number) && self.owners > 0 && !self.bar.bar().state().is_finished()
     }
 
