@@ -103,8 +103,10 @@ SOURCES = {
         "Members": (CRATE, {}),
         "Slots": (CRATE + ", and this project's own rule where its documents are silent", {}),
         "Multi": (OWN, {}),
+        "Recorded": (OWN, {}),
     },
     "indicatif": {
+        "Fronts": (OWN, {}),
         "Machine": (OWN, {}),
         "Moves": (OWN, {}),
         "Owned": (OWN, {}),

@@ -10,6 +10,7 @@
 //! - `ring`: the greatest of the last places (`MaxRingBuf`).
 //! - `seek`: the place that moves and seeks show (`SeekMax`).
 //! - `style`: how a bar looks, with the names that the crate `indicatif` has there.
+//! - `progress_bar`: a bar that its owners share (`ProgressBar`, `WeakProgressBar`).
 //! - `machine`: the machine's clock, and bars on its terminals; all that this library asks of the machine.
 //! - `laws`: laws of the definitions.
 #![tactic(auto)]
@@ -22,6 +23,7 @@ pub mod machine;
 mod moves;
 mod owned;
 mod polled;
+mod progress_bar;
 mod progress_iterator;
 mod ring;
 mod seek;
@@ -32,6 +34,7 @@ mod wrap;
 
 pub use crate::moves::Moves;
 pub use crate::owned::OwnedBar;
+pub use crate::progress_bar::{ProgressBar, WeakProgressBar};
 pub use crate::progress_iterator::ProgressIterator;
 pub use crate::ring::MaxRingBuf;
 pub use crate::seek::SeekMax;
@@ -43,7 +46,7 @@ pub use indicatif_bar::state::{
 pub use indicatif_bar::style::ProgressStyle;
 pub use indicatif_board::bar_id::BarId;
 pub use indicatif_board::done::{BarWorker, Done};
-pub use indicatif_board::multi::{Board, Candidate, Turned};
+pub use indicatif_board::multi::{Board, Candidate, Recorded, Turned};
 pub use indicatif_term::draw_target::{
     Engine, Facts, Keep, LineType, MultiProgressAlignment, ProgressDrawTarget, RateLimiter,
     Segment, Setup,

@@ -8,6 +8,8 @@ ghost use Rattle.indicatif_bar.specs.declared.command.Change.{Change};
 ghost use Rattle.indicatif_bar.specs.Commands.{Tick, TickerTick, SetTicker, Inc, Dec, SetPosition, Update, SetLength, UnsetLength, IncLength, DecLength, SetMessage, SetPrefix, SetStyle, PutPosition, PutMessage, PutPrefix, PutFinish, PutTabWidth, SetTabWidth, SetElapsed, ResetEta, ResetElapsed, Reset, FinishBy, FinishUsingStyle, ForceDraw, obeyed, after_drop, command_of, is_beyond_clock, takes_memory, update, with_length, redraw_ask, new_bar};
 ghost use Rattle.indicatif_bar.specs.Finishes.{AndLeave, WithMessage, AndClear, Abandon, AbandonWithMessage, finish_of};
 
+mod copies;
+
 use crate::bar_style::{ProgressStyle, TICKS};
 use crate::command::{BarCommand, Change};
 use crate::finish::ProgressFinish;

@@ -12,3 +12,4 @@ pub mod BoardRunLemmas
 pub mod KeptLemmas
 pub mod OrderLemmas
 pub mod SeatLemmas
+pub mod RecordLemmas

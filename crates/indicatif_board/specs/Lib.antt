@@ -10,4 +10,5 @@ pub mod Calls
 pub mod Multi
 pub mod OrderLaws
 pub mod LimitLaws
+pub mod Recorded
 pub mod Inside

@@ -2,7 +2,8 @@
 //!
 //! - `multi`: a board, several bars on one target in an order.
 //! - `bar_id`: bars by their board's mark and their number.
-//! - `calls`: a board's calls and answers as values; `multi` has their public names (private).
+//! - `calls`: a board's calls and answers as values; `multi` has their public names (private). `call_copies`: their copies (private).
+//! - `recorded`: a board with its history; `multi` has its public names (private).
 //! - `members`: a board's bars in their order (private).
 //! - `slots`: a board's bars by their numbers, and a slot for each; `multi` has its public name (private).
 //! - `shown_bars`: those bars with the lines that they show, and how they are written (private).
@@ -13,12 +14,14 @@
 #![tactic(auto)]
 
 pub mod bar_id;
+mod call_copies;
 mod calls;
 pub mod cases;
 pub mod done;
 pub mod laws;
 mod members;
 pub mod multi;
+mod recorded;
 mod shown_bars;
 mod slots;
 mod sums;

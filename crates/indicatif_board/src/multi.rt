@@ -22,6 +22,7 @@ pub use crate::calls::{Answer, Call, Candidate, InsertLocation, Turned};
 use crate::calls::{draw_answer, insertion_answer, is_undisturbed, removal_answer};
 use crate::members::place;
 use crate::shown_bars::{ShownBars, Writing};
+pub use crate::recorded::{Entry, Opening, Recorded, Size};
 pub use crate::slots::MultiState;
 use indicatif_bar::state::{Ask, BarCommand, BarState};
 use indicatif_bar::style::ProgressTracker;

@@ -86,4 +86,19 @@ impl RateLimiter {
         self.prev = now - elapsed % self.interval;
         true
     }
+
+    /// Another limiter, equal to this one: what either allows from now on is not counted by the other.
+    ///
+    /// ```
+    /// let before = limiter.same();
+    /// ```
+    pub fn same(&self) -> Self
+        ensures { result ≡ self.now }
+    {
+        RateLimiter {
+            interval: self.interval,
+            capacity: self.capacity,
+            prev: self.prev,
+        }
+    }
 }

@@ -1,0 +1,596 @@
+//! A bar that its owners share.
+//!
+//! - `held`: what its lock keeps (private).
+//! - `ticker`: which steady ticker it has; `steady`: the thread that ticks (private).
+//! - `weak`: a bar without an owner (private).
+ghost use Rattle.std.specs.Prelude.{◌≡◌, ℕ};
+ghost use Rattle.std.specs.Fn.{FnOnceReturnsAt};
+ghost use Rattle.indicatif_bar.specs.Commands as Command;
+ghost use Rattle.indicatif_bar.specs.Finishes as Finish;
+ghost use Rattle.indicatif_bar.specs.Finishes.{finish_of};
+ghost use Rattle.indicatif_bar.specs.Commands.{command_of};
+ghost use Rattle.indicatif_bar.specs.Lone as Lone;
+ghost use Rattle.indicatif_bar.specs.Progress as Told;
+ghost use Rattle.indicatif_bar.specs.Progress.{Progress};
+ghost use Rattle.indicatif_bar.specs.declared.command.Change.{Change as Changed};
+ghost use Rattle.indicatif.specs.Fronts.{CanAnswer, Joins};
+
+mod held;
+mod steady;
+mod ticker;
+mod weak;
+
+use self::held::{Cell, Held};
+pub use self::weak::WeakProgressBar;
+use crate::moves::Moves;
+use crate::wrap::ProgressBarIter;
+use indicatif_bar::lone::LoneBar;
+use indicatif_bar::state::{BarCommand, BarState, Change, ProgressFinish, ProgressState, Rate};
+use indicatif_bar::style::{NoTracker, ProgressStyle};
+use indicatif_term::draw_target::{ProgressDrawTarget, Setup};
+use indicatif_term::term_like::TermLike;
+use indicatif_text::columns::{Clock, Drawn, Refusal};
+use std::alloc::{AllocError, Global};
+use std::fmt::{self, Debug, Formatter};
+use std::io::{Read, Write};
+use std::sync::{Arc, Condvar, Mutex, Wait};
+
+/// One owner of a bar that others may own too, in this thread or in others: a clone is another owner of the same bar.
+///
+/// Each call takes the bar's lock, does what the `LoneBar` under it does, at the moment that the bar's clock tells, and answers
+/// what that answers; what a call does and refuses is said there. A call waits while another owner's is made; one that is
+/// made inside a closure that a call of the same bar was handed waits for ever.
+///
+/// Once the last owner is gone, by `release` or by being dropped, a bar that isn't finished is finished by its stored finish.
+///
+/// Its clauses say which answers come: for some bar and some moment it is the bar's. That the bar under the lock was changed so
+/// is what tests show, since no clause can name what a lock keeps.
+///
+/// ```
+/// let bar = ProgressBar::new(rt, rt.alloc(), 100, setup)?;
+/// let other = bar.clone()?; // for another thread
+/// bar.inc(1)?;
+/// ```
+pub struct ProgressBar<T: TermLike + Drop, C: Clock + Drop, R: Wait + Clone + Drop> {
+    pub(crate) state: Arc<Cell<T, C>, Global>,
+    pub(crate) alloc: Global,
+    pub(crate) rt: R,
+}
+
+impl<T: TermLike + Drop, C: Clock + Drop, R: Wait + Clone + Drop> ProgressBar<T, C, R> {
+    /// A bar of this length, which draws nothing yet.
+    ///
+    /// Refused: `Memory`.
+    pub fn new(rt: R, alloc: Global, len: u64, setup: Setup<T, C>) -> Result<Self, Refusal> {
+        let Setup { target, clock } = setup;
+        ProgressBar::with_draw_target(rt, alloc, Some(len), target, clock)
+    }
+
+    /// A bar without a length, which draws nothing yet.
+    ///
+    /// Refused: `Memory`.
+    pub fn no_length(rt: R, alloc: Global, setup: Setup<T, C>) -> Result<Self, Refusal> {
+        let Setup { target, clock } = setup;
+        ProgressBar::with_draw_target(rt, alloc, None, target, clock)
+    }
+
+    /// A bar that is never drawn.
+    ///
+    /// Refused: `Memory`.
+    pub fn hidden(rt: R, alloc: Global, clock: C) -> Result<Self, Refusal> {
+        ProgressBar::with_draw_target(rt, alloc, None, ProgressDrawTarget::hidden(), clock)
+    }
+
+    /// A bar without a length, in the style of a spinner, which draws nothing yet.
+    ///
+    /// Refused: `Memory`.
+    pub fn new_spinner(rt: R, alloc: Global, setup: Setup<T, C>) -> Result<Self, Refusal> {
+        let Setup { target, clock } = setup;
+        let style = ProgressStyle::default_spinner(alloc)?;
+        ProgressBar::made(rt, alloc, style, None, Setup { target, clock })
+    }
+
+    /// A bar of this length or of none, on this target, by this clock. It draws nothing yet.
+    ///
+    /// Refused: `Memory`.
+    pub fn with_draw_target(
+        rt: R,
+        alloc: Global,
+        len: Option<u64>,
+        target: ProgressDrawTarget<T>,
+        clock: C,
+    ) -> Result<Self, Refusal> {
+        let style = ProgressStyle::default_bar(alloc)?;
+        ProgressBar::made(rt, alloc, style, len, Setup { target, clock })
+    }
+
+    /// A bar in this style with its first owner.
+    fn made(
+        rt: R,
+        alloc: Global,
+        style: ProgressStyle<NoTracker>,
+        len: Option<u64>,
+        setup: Setup<T, C>,
+    ) -> Result<Self, Refusal> {
+        let Setup { target, mut clock } = setup;
+        let now = clock.now();
+        let bar = BarState::styled(alloc, style, len, now)?;
+        let held = Held::owned(LoneBar::new(bar, target), clock);
+        let cell = Cell {
+            lock: Mutex::new(held),
+            changed: Condvar::new(),
+        };
+        match Arc::new(alloc, cell) {
+            Ok(state) => Ok(ProgressBar { state, alloc, rt }),
+            Err(_) => Err(Refusal::Memory),
+        }
+    }
+
+    /// A command of the bar.
+    fn tell(&self, command: BarCommand<NoTracker>) -> Result<Drawn, Refusal>
+        ensures { CanAnswer T.view (Lone.Change (command_of command)) result }
+    {
+        self.state.lock.lock(&self.rt).tell(command)
+    }
+
+    /// One more tick, up to 2^64 - 1, and a draw.
+    pub fn tick(&self) -> Result<Drawn, Refusal>
+        ensures { CanAnswer T.view (Lone.Change Command.Tick) result }
+    {
+        self.tell(BarCommand::Tick)
+    }
+
+    /// The position goes up by `delta`, modulo 2^64; and a tick, as often as the position's limiter allows.
+    pub fn inc(&self, delta: u64) -> Result<Drawn, Refusal>
+        ensures { CanAnswer T.view (Lone.Change (Command.Inc delta)) result }
+    {
+        self.tell(BarCommand::Inc(delta))
+    }
+
+    /// The position goes down by `delta`, modulo 2^64; else as `inc`.
+    pub fn dec(&self, delta: u64) -> Result<Drawn, Refusal>
+        ensures { CanAnswer T.view (Lone.Change (Command.Dec delta)) result }
+    {
+        self.tell(BarCommand::Dec(delta))
+    }
+
+    /// Another position; else as `inc`.
+    pub fn set_position(&self, position: u64) -> Result<Drawn, Refusal>
+        ensures { CanAnswer T.view (Lone.Change (Command.SetPosition position)) result }
+    {
+        self.tell(BarCommand::SetPosition(position))
+    }
+
+    /// Another length, and a draw.
+    pub fn set_length(&self, len: u64) -> Result<Drawn, Refusal>
+        ensures { CanAnswer T.view (Lone.Change (Command.SetLength len)) result }
+    {
+        self.tell(BarCommand::SetLength(len))
+    }
+
+    /// No length, and a draw.
+    pub fn unset_length(&self) -> Result<Drawn, Refusal>
+        ensures { CanAnswer T.view (Lone.Change Command.UnsetLength) result }
+    {
+        self.tell(BarCommand::UnsetLength)
+    }
+
+    /// A length that is longer by `delta`, up to 2^64 - 1, where there is one; and a draw.
+    pub fn inc_length(&self, delta: u64) -> Result<Drawn, Refusal>
+        ensures { CanAnswer T.view (Lone.Change (Command.IncLength delta)) result }
+    {
+        self.tell(BarCommand::IncLength(delta))
+    }
+
+    /// A length that is shorter by `delta`, down to 0, where there is one; and a draw.
+    pub fn dec_length(&self, delta: u64) -> Result<Drawn, Refusal>
+        ensures { CanAnswer T.view (Lone.Change (Command.DecLength delta)) result }
+    {
+        self.tell(BarCommand::DecLength(delta))
+    }
+
+    /// Another message, and a draw.
+    pub fn set_message(&self, text: &str) -> Result<Drawn, Refusal>
+        ensures { CanAnswer T.view (Lone.Change (Command.SetMessage text.now)) result }
+    {
+        self.state.lock.lock(&self.rt).set_message(text)
+    }
+
+    /// Another prefix, and a draw.
+    pub fn set_prefix(&self, text: &str) -> Result<Drawn, Refusal>
+        ensures { CanAnswer T.view (Lone.Change (Command.SetPrefix text.now)) result }
+    {
+        self.state.lock.lock(&self.rt).set_prefix(text)
+    }
+
+    /// Another style, with the bar's width of tabs. No draw is asked.
+    ///
+    /// Refused: `Memory`; the style is given up.
+    pub fn set_style(&self, style: ProgressStyle<NoTracker>) -> Result<Drawn, Refusal>
+        ensures { CanAnswer T.view (Lone.Change (Command.SetStyle style)) result }
+    {
+        self.tell(BarCommand::SetStyle(style))
+    }
+
+    /// As many spaces for a tab, in the message, the prefix and the style; and a draw by force.
+    pub fn set_tab_width(&self, tab: usize) -> Result<Drawn, Refusal>
+        ensures { CanAnswer T.view (Lone.Change (Command.SetTabWidth tab)) result }
+    {
+        self.tell(BarCommand::SetTabWidth(tab))
+    }
+
+    /// So many nanoseconds have passed since the start. No draw is asked.
+    ///
+    /// Refused: `ElapsedBeyondClock`, where they are more than the moment.
+    pub fn set_elapsed(&self, nanos: u64) -> Result<Drawn, Refusal>
+        ensures { CanAnswer T.view (Lone.Change (Command.SetElapsed nanos)) result }
+    {
+        self.tell(BarCommand::SetElapsed(nanos))
+    }
+
+    /// The rate is counted from now on. No draw is asked.
+    pub fn reset_eta(&self) -> Result<Drawn, Refusal>
+        ensures { CanAnswer T.view (Lone.Change Command.ResetEta) result }
+    {
+        self.tell(BarCommand::ResetEta)
+    }
+
+    /// The rate and the time are counted from now on. No draw is asked.
+    pub fn reset_elapsed(&self) -> Result<Drawn, Refusal>
+        ensures { CanAnswer T.view (Lone.Change Command.ResetElapsed) result }
+    {
+        self.tell(BarCommand::ResetElapsed)
+    }
+
+    /// The bar goes on from position 0, its rate and its time from now on; and a draw.
+    pub fn reset(&self) -> Result<Drawn, Refusal>
+        ensures { CanAnswer T.view (Lone.Change Command.Reset) result }
+    {
+        self.tell(BarCommand::Reset)
+    }
+
+    /// The bar is finished at its length and stays. A draw by force.
+    pub fn finish(&self) -> Result<Drawn, Refusal>
+        ensures { CanAnswer T.view (Lone.Change (Command.FinishBy Finish.AndLeave)) result }
+    {
+        self.tell(BarCommand::Finish(ProgressFinish::AndLeave))
+    }
+
+    /// As `finish`, with this message.
+    pub fn finish_with_message(&self, text: &str) -> Result<Drawn, Refusal>
+        ensures { CanAnswer T.view (Lone.Change (Command.FinishBy (Finish.WithMessage text.now))) result }
+    {
+        self.state.lock.lock(&self.rt).finish_with_message(text)
+    }
+
+    /// The bar is finished at its length and has no lines any more. A draw by force.
+    pub fn finish_and_clear(&self) -> Result<Drawn, Refusal>
+        ensures { CanAnswer T.view (Lone.Change (Command.FinishBy Finish.AndClear)) result }
+    {
+        self.tell(BarCommand::Finish(ProgressFinish::AndClear))
+    }
+
+    /// The bar is finished where it stands, and stays. A draw by force.
+    pub fn abandon(&self) -> Result<Drawn, Refusal>
+        ensures { CanAnswer T.view (Lone.Change (Command.FinishBy Finish.Abandon)) result }
+    {
+        self.tell(BarCommand::Finish(ProgressFinish::Abandon))
+    }
+
+    /// As `abandon`, with this message.
+    pub fn abandon_with_message(&self, text: &str) -> Result<Drawn, Refusal>
+        ensures { CanAnswer T.view (Lone.Change (Command.FinishBy (Finish.AbandonWithMessage text.now))) result }
+    {
+        self.state.lock.lock(&self.rt).abandon_with_message(text)
+    }
+
+    /// The bar is finished by its stored finish. A draw by force.
+    pub fn finish_using_style(&self) -> Result<Drawn, Refusal>
+        ensures { CanAnswer T.view (Lone.Change Command.FinishUsingStyle) result }
+    {
+        self.tell(BarCommand::FinishUsingStyle)
+    }
+
+    /// A draw by force. Nothing of the bar changes.
+    pub fn force_draw(&self) -> Result<Drawn, Refusal>
+        ensures { CanAnswer T.view (Lone.Change Command.ForceDraw) result }
+    {
+        self.tell(BarCommand::ForceDraw)
+    }
+
+    /// Sets what the closure answers of the state that it is shown, under the lock; then as `tick`.
+    pub fn update<F: FnOnce(&ProgressState) -> Change>(&self, f: F) -> Result<Drawn, Refusal>
+        requires { F.IsAlwaysCallable f }
+        ensures { (shown : Progress) × (change : Changed) × FnOnceReturnsAt F.FnOnce f shown change
+            × CanAnswer T.view (Lone.Change (Command.Update change.pos change.len)) result }
+    {
+        self.state.lock.lock(&self.rt).update(f)
+    }
+
+    /// Writes the text's lines above the bar, by force. On a hidden target the text is dropped.
+    pub fn println(&self, text: &str) -> Result<Drawn, Refusal>
+        ensures { CanAnswer T.view (Lone.Log text.now) result }
+    {
+        self.state.lock.lock(&self.rt).println(text)
+    }
+
+    /// Takes the bar's rows back, calls `f` once, and draws the bar again by force; the lock is held meanwhile. Answers what `f`
+    /// gave, and what the draw answered; where the clear was refused, no draw is made, and the answer is that refusal.
+    pub fn suspend<F: FnOnce() -> A, A>(&self, f: F) -> (A, Result<Drawn, Refusal>)
+        requires { F.pre f }
+        ensures { F.post f result.0 }
+    {
+        self.state.lock.lock(&self.rt).suspend(f)
+    }
+
+    /// Another target, on which the bar begins anew with its next draw; the old one is given up. Nothing is written to either.
+    pub fn set_draw_target(&self, target: ProgressDrawTarget<T>) {
+        self.state.lock.lock(&self.rt).set_draw_target(target);
+    }
+
+    /// Lends the terminal to `f` under the lock; `None` where the target is hidden.
+    pub fn with_term<F: FnOnce(Option<&T>) -> A, A>(&self, f: F) -> A
+        requires { F.IsAlwaysCallable f }
+        ensures { (shown : _) × F.post f shown result }
+    {
+        let held = self.state.lock.lock(&self.rt);
+        let shown = held.term();
+        f(shown)
+    }
+
+    /// The position.
+    pub fn position(&self) -> u64 {
+        self.state.lock.lock(&self.rt).bar().state().pos()
+    }
+
+    /// The length, if there is one.
+    pub fn length(&self) -> Option<u64> {
+        self.state.lock.lock(&self.rt).bar().state().len()
+    }
+
+    /// How often the bar has ticked; it stays at 2^64 - 1.
+    pub fn ticks(&self) -> u64 {
+        self.state.lock.lock(&self.rt).bar().state().ticks()
+    }
+
+    /// Whether the bar is finished.
+    pub fn is_finished(&self) -> bool {
+        self.state.lock.lock(&self.rt).bar().state().is_finished()
+    }
+
+    /// Whether nothing is ever drawn.
+    pub fn is_hidden(&self) -> bool {
+        self.state.lock.lock(&self.rt).is_hidden()
+    }
+
+    /// How many spaces stand for a tab.
+    pub fn tab_width(&self) -> usize {
+        self.state.lock.lock(&self.rt).bar().tab_width()
+    }
+
+    /// The message, with its tabs expanded.
+    ///
+    /// Refused: `Memory`.
+    pub fn message(&self) -> Result<String, Refusal> {
+        let held = self.state.lock.lock(&self.rt);
+        Ok(String::from_str(self.alloc, held.bar().message())?)
+    }
+
+    /// The prefix, with its tabs expanded.
+    ///
+    /// Refused: `Memory`.
+    pub fn prefix(&self) -> Result<String, Refusal> {
+        let held = self.state.lock.lock(&self.rt);
+        Ok(String::from_str(self.alloc, held.bar().prefix())?)
+    }
+
+    /// The nanoseconds that are left, by the rate so far, at most 2^64 - 1; 0 where the bar is finished, has no length or no rate.
+    pub fn eta(&self) -> u64
+        ensures { (p : Progress) × (now : ℕ) × (result ≡ Told.eta p now) }
+    {
+        self.state.lock.lock(&self.rt).eta()
+    }
+
+    /// The rate so far.
+    pub fn per_sec(&self) -> Rate
+        ensures { (p : Progress) × (now : ℕ) × (result ≡ Told.per_sec p now) }
+    {
+        self.state.lock.lock(&self.rt).per_sec()
+    }
+
+    /// The nanoseconds that all of it takes, by the rate so far; of a finished bar those that it took.
+    pub fn duration(&self) -> u64
+        ensures { (p : Progress) × (now : ℕ) × (result ≡ Told.duration p now) }
+    {
+        self.state.lock.lock(&self.rt).duration()
+    }
+
+    /// The nanoseconds since the start.
+    pub fn elapsed(&self) -> u64
+        ensures { (p : Progress) × (now : ℕ) × (result ≡ Told.elapsed p now) }
+    {
+        self.state.lock.lock(&self.rt).elapsed()
+    }
+
+    /// No thread ticks the bar from now on. It waits until any that did has ended.
+    pub fn disable_steady_tick(&self) {
+        let mut held = self.state.lock.lock(&self.rt);
+        held.ticker.disable();
+        let _ = held.tell(BarCommand::SetTicker(false));
+        self.state.changed.notify_all();
+        let held = self
+            .state
+            .changed
+            .wait_while(&self.rt, held, |held| held.ticker.runs());
+        drop(held);
+    }
+
+    /// Another bar of which this is a weak one: it owns nothing.
+    ///
+    /// Refused: want of memory.
+    pub fn downgrade(&self) -> Result<WeakProgressBar<T, C, R>, AllocError> {
+        let state = Arc::try_clone(&self.state)?;
+        let rt = self.rt.clone()?;
+        Ok(WeakProgressBar::of(state, self.alloc, rt))
+    }
+
+    /// Gives this owner up. The last one finishes a bar that isn't finished, by its stored finish.
+    pub fn release(self) {
+        drop(self);
+    }
+
+    /// One owner more on the count.
+    fn counted(&self) -> bool
+        ensures { (before : ℕ) × (now : ℕ) × Joins result before now }
+    {
+        self.state.lock.lock(&self.rt).join()
+    }
+}
+
+/// What is said of a bar before it moves: each gives it back.
+impl<T: TermLike + Drop, C: Clock + Drop, R: Wait + Clone + Drop> ProgressBar<T, C, R> {
+    /// In another style.
+    ///
+    /// Refused: `Memory`; this owner is given up.
+    pub fn with_style(self, style: ProgressStyle<NoTracker>) -> Result<Self, Refusal> {
+        self.set_style(style)?;
+        Ok(self)
+    }
+
+    /// With so many spaces for a tab.
+    ///
+    /// Refused: `Memory`; this owner is given up.
+    pub fn with_tab_width(self, tab: usize) -> Result<Self, Refusal> {
+        self.tell(BarCommand::WithTabWidth(tab))?;
+        Ok(self)
+    }
+
+    /// With this prefix.
+    ///
+    /// Refused: `Memory`; this owner is given up.
+    pub fn with_prefix(self, text: &str) -> Result<Self, Refusal> {
+        self.state.lock.lock(&self.rt).with_prefix(text)?;
+        Ok(self)
+    }
+
+    /// With this message.
+    ///
+    /// Refused: `Memory`; this owner is given up.
+    pub fn with_message(self, text: &str) -> Result<Self, Refusal> {
+        self.state.lock.lock(&self.rt).with_message(text)?;
+        Ok(self)
+    }
+
+    /// At this position, which the rate doesn't count.
+    pub fn with_position(self, position: u64) -> Self {
+        let _ = self.tell(BarCommand::WithPosition(position));
+        self
+    }
+
+    /// So many nanoseconds after its start.
+    ///
+    /// Refused: `ElapsedBeyondClock`, where they are more than the moment; this owner is given up.
+    pub fn with_elapsed(self, nanos: u64) -> Result<Self, Refusal> {
+        self.set_elapsed(nanos)?;
+        Ok(self)
+    }
+
+    /// With this stored finish.
+    pub fn with_finish(self, finish: ProgressFinish) -> Self {
+        let _ = self.tell(BarCommand::WithFinish(finish));
+        self
+    }
+}
+
+/// Wrappers that move this bar, each with an owner of its own.
+impl<T: TermLike + Drop, C: Clock + Drop, R: Wait + Clone + Drop> ProgressBar<T, C, R> {
+    /// An iterator that advances the bar by its items and finishes it at its end.
+    ///
+    /// Refused: want of memory, or of owners; the iterator is given up.
+    pub fn wrap_iter<I: Iterator + Drop>(
+        &self,
+        it: I,
+    ) -> Result<ProgressBarIter<I, Self>, AllocError> {
+        Ok(ProgressBarIter::new(it, self.clone()?))
+    }
+
+    /// A reader that places the bar behind what was read.
+    ///
+    /// Refused: want of memory, or of owners; the reader is given up.
+    pub fn wrap_read<I: Read + Drop>(
+        &self,
+        read: I,
+    ) -> Result<ProgressBarIter<I, Self>, AllocError> {
+        Ok(ProgressBarIter::new(read, self.clone()?))
+    }
+
+    /// A writer that places the bar behind what was written.
+    ///
+    /// Refused: want of memory, or of owners; the writer is given up.
+    pub fn wrap_write<I: Write + Drop>(
+        &self,
+        write: I,
+    ) -> Result<ProgressBarIter<I, Self>, AllocError> {
+        Ok(ProgressBarIter::new(write, self.clone()?))
+    }
+}
+
+/// Another owner of the same bar. Refused: want of memory; or 2^64 - 1 own it already.
+impl<T: TermLike + Drop, C: Clock + Drop, R: Wait + Clone + Drop> Clone for ProgressBar<T, C, R> {
+    fn clone(&self) -> Result<ProgressBar<T, C, R>, AllocError> {
+        let rt = self.rt.clone()?;
+        let state = Arc::try_clone(&self.state)?;
+        if self.counted() {
+            Ok(ProgressBar {
+                state,
+                alloc: self.alloc,
+                rt,
+            })
+        } else {
+            Err(AllocError)
+        }
+    }
+}
+
+impl<T: TermLike + Drop, C: Clock + Drop, R: Wait + Clone + Drop> Drop for ProgressBar<T, C, R> {
+    fn drop(self) {
+        let ProgressBar { state, alloc, rt } = self;
+        let _ = alloc;
+        {
+            let mut held = state.lock.lock(&rt);
+            if held.leave() {
+                let _ = held.gone();
+            }
+        }
+        state.changed.notify_all();
+    }
+}
+
+impl<T: TermLike + Drop, C: Clock + Drop, R: Wait + Clone + Drop> Debug for ProgressBar<T, C, R> {
+    fn fmt<W: fmt::Write>(&self, f: &mut Formatter<W>) -> fmt::Result {
+        f.write_str("ProgressBar")
+    }
+}
+
+/// It tells nothing of where it stands, as others may move it meanwhile.
+impl<T: TermLike + Drop, C: Clock + Drop, R: Wait + Clone + Drop> Moves for ProgressBar<T, C, R> {
+    fn advance(&mut self, n: u64) -> Result<Drawn, Refusal> {
+        self.inc(n)
+    }
+
+    fn place(&mut self, place: u64) -> Result<Drawn, Refusal> {
+        self.set_position(place)
+    }
+
+    fn finish(&mut self) -> Result<Drawn, Refusal> {
+        self.finish_using_style()
+    }
+
+    fn position(&self) -> u64 {
+        ProgressBar::position(self)
+    }
+
+    fn finished(&self) -> bool {
+        self.is_finished()
+    }
+}

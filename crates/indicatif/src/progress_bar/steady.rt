@@ -1,0 +1,79 @@
+//! A thread that ticks a bar.
+use crate::progress_bar::ProgressBar;
+use crate::progress_bar::held::Cell;
+use indicatif_bar::state::BarCommand;
+use indicatif_term::term_like::TermLike;
+use indicatif_text::columns::{Clock, Refusal};
+use std::sync::{Arc, Wait};
+use std::thread::Threads;
+use std::time::Duration;
+use std::{thread, time};
+
+/// Ticks until this ticker is no longer the installed one, or the bar is finished or has no owner.
+fn run_ticker<T: TermLike + Drop, C: Clock + Drop, R: Wait + time::Clock>(
+    rt: &R,
+    cell: &Cell<T, C>,
+    number: u64,
+    interval: Duration,
+) {
+    for _ in rt.forever() {
+        let mut held = cell.lock.lock(rt);
+        if !held.ticks_by(number) {
+            break;
+        }
+        let _ = held.tell(BarCommand::TickerTick);
+        let (held, _) = cell.changed.wait_timeout(rt, held, interval);
+        drop(held);
+    }
+    let mut held = cell.lock.lock(rt);
+    held.ticker.ended();
+    drop(held);
+    cell.changed.notify_all();
+}
+
+impl<
+    T: TermLike + Drop + Send + 'static,
+    C: Clock + Drop + Send + 'static,
+    R: Wait + Threads + time::Clock + Clone + Drop + Send + 'static,
+> ProgressBar<T, C, R> {
+    /// A thread ticks the bar from now on, at once and then each `nanos` nanoseconds, in the place of any ticker that the bar had;
+    /// other ticks do nothing meanwhile. An interval of 0 changes nothing.
+    ///
+    /// It ends once it is disabled or another is enabled, and where the bar is finished or its last owner gone; it stays installed
+    /// until it is disabled.
+    ///
+    /// ```
+    /// bar.enable_steady_tick(100_000_000)?; // ten times a second
+    /// bar.disable_steady_tick();
+    /// ```
+    ///
+    /// Refused: `Memory`, where no thread can be started: the ticker that was installed goes on then.
+    pub fn enable_steady_tick(&self, nanos: u64) -> Result<(), Refusal> {
+        if nanos == 0 {
+            return Ok(());
+        }
+        let interval = Duration::from_nanos(nanos);
+        let Ok(cell) = Arc::try_clone(&self.state) else {
+            return Err(Refusal::Memory);
+        };
+        let Ok(rt) = self.rt.clone() else {
+            return Err(Refusal::Memory);
+        };
+        let mut held = self.state.lock.lock(&self.rt);
+        let Some(number) = held.ticker.number() else {
+            return Err(Refusal::Memory);
+        };
+        let run = move || run_ticker(&rt, &*cell, number, interval);
+        match thread::spawn(&self.rt, run) {
+            Ok(thread) => {
+                drop(thread);
+                held.ticker.install(number);
+                let _ = held.tell(BarCommand::SetTicker(true));
+                drop(held);
+                self.state.changed.notify_all();
+                Ok(())
+            }
+            Err(_) => Err(Refusal::Memory),
+        }
+    }
+}

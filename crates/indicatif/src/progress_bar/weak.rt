@@ -1,0 +1,87 @@
+//! A shared bar without an owner.
+use crate::progress_bar::ProgressBar;
+use crate::progress_bar::held::Cell;
+use indicatif_term::term_like::TermLike;
+use indicatif_text::columns::Clock;
+use std::alloc::{AllocError, Global};
+use std::fmt::{self, Debug, Formatter};
+use std::sync::{Arc, Wait};
+
+/// A bar that others own: it keeps none of it alive, and is a bar again while owners are left.
+///
+/// ```
+/// let weak = bar.downgrade()?;
+/// if let Some(bar) = weak.upgrade() {
+///     bar.inc(1)?;
+/// }
+/// ```
+#[derive(Drop)]
+pub struct WeakProgressBar<T: TermLike + Drop, C: Clock + Drop, R: Wait + Clone + Drop> {
+    of: Option<Known<T, C, R>>,
+}
+
+/// A bar that was known.
+#[derive(Drop)]
+struct Known<T: TermLike + Drop, C: Clock + Drop, R: Wait + Clone + Drop> {
+    state: Arc<Cell<T, C>, Global>,
+    alloc: Global,
+    rt: R,
+}
+
+impl<T: TermLike + Drop, C: Clock + Drop, R: Wait + Clone + Drop> WeakProgressBar<T, C, R> {
+    /// Of no bar: it is never one again.
+    pub fn new() -> WeakProgressBar<T, C, R> {
+        WeakProgressBar { of: None }
+    }
+
+    /// Of this bar.
+    pub(crate) fn of(state: Arc<Cell<T, C>, Global>, alloc: Global, rt: R) -> Self {
+        WeakProgressBar {
+            of: Some(Known { state, alloc, rt }),
+        }
+    }
+
+    /// One owner more, exactly where the count of owners is above 0 and below 2^64 - 1; `None` too where memory is refused.
+    pub fn upgrade(&self) -> Option<ProgressBar<T, C, R>> {
+        let known = self.of.as_ref()?;
+        let state = Arc::try_clone(&known.state).ok()?;
+        let rt = known.rt.clone().ok()?;
+        if known.state.lock.lock(&rt).join() {
+            Some(ProgressBar {
+                state,
+                alloc: known.alloc,
+                rt,
+            })
+        } else {
+            None
+        }
+    }
+}
+
+impl<T: TermLike + Drop, C: Clock + Drop, R: Wait + Clone + Drop> Default
+    for WeakProgressBar<T, C, R> {
+    fn default() -> WeakProgressBar<T, C, R> {
+        WeakProgressBar::new()
+    }
+}
+
+impl<T: TermLike + Drop, C: Clock + Drop, R: Wait + Clone + Drop> Clone
+    for WeakProgressBar<T, C, R> {
+    fn clone(&self) -> Result<WeakProgressBar<T, C, R>, AllocError> {
+        match &self.of {
+            None => Ok(WeakProgressBar::new()),
+            Some(known) => Ok(WeakProgressBar::of(
+                Arc::try_clone(&known.state)?,
+                known.alloc,
+                known.rt.clone()?,
+            )),
+        }
+    }
+}
+
+impl<T: TermLike + Drop, C: Clock + Drop, R: Wait + Clone + Drop> Debug
+    for WeakProgressBar<T, C, R> {
+    fn fmt<W: fmt::Write>(&self, f: &mut Formatter<W>) -> fmt::Result {
+        f.write_str("WeakProgressBar")
+    }
+}

@@ -1,0 +1,16 @@
+use Rattle.indicatif_board.proofs.recorded.inserted_on.Goals as goal
+
+pub returns-in-End-clause-leads : goal.returns-in-End-clause-leads
+returns-in-End-clause-leads g c = λ now. rw c.in-End.is (c.add.ensures.leads now)
+
+pub returns-in-Index-clause-leads : goal.returns-in-Index-clause-leads
+returns-in-Index-clause-leads g c = λ now. rw c.in-Index.is (c.insert.ensures.leads now)
+
+pub returns-in-IndexFromBack-clause-leads : goal.returns-in-IndexFromBack-clause-leads
+returns-in-IndexFromBack-clause-leads g c = λ now. rw c.in-IndexFromBack.is (c.insert_from_back.ensures.leads now)
+
+pub returns-in-Before-clause-leads : goal.returns-in-Before-clause-leads
+returns-in-Before-clause-leads g c = λ now. rw c.in-Before.is (c.insert_before.ensures.leads now)
+
+pub returns-in-After-clause-leads : goal.returns-in-After-clause-leads
+returns-in-After-clause-leads g c = λ now. rw c.in-After.is (c.insert_after.ensures.leads now)

@@ -1,0 +1,90 @@
+-- A board with its calls and answers: what they are as definitions, and what a call adds to them.
+use Rattle.std.specs.Prelude.{◌≡◌, ℕ, Bool, true, false, List, [], ◌∷◌, ◌++◌, Option, Some, None, Result, Ok, Err, if◌then◌else◌}
+use Rattle.indicatif_text.specs.declared.refusal.Refusal.{Refusal}
+use Rattle.indicatif_term.specs.Calls.{TermView}
+use Rattle.indicatif_term.specs.Limiters.{Limiter}
+use Rattle.indicatif_bar.specs.Trackers.{Tracking}
+use Rattle.indicatif_bar.specs.Commands.{BarRecord, Command}
+use Rattle.indicatif_bar.specs.Machines.{Target, target_of, Machine, Leads}
+use Rattle.indicatif_board.specs.BoardBars.{board_bars}
+use Rattle.indicatif_board.specs.Boards.{BoardState, Call, Insert, Remove, Entrant, New, Old, Answer, Done, Refused, opening_board, board}
+use Rattle.indicatif_board.specs.Members.{Member, is_member, said_of}
+use Rattle.indicatif_board.specs.Calls.{call_of, answer_of, entrant_of}
+use Rattle.indicatif_board.specs.Multi.{IsIn, LeadsBy, known}
+use Rattle.indicatif_board.specs.declared.bar_id.BarId.{BarId}
+use Rattle.indicatif_board.specs.declared.calls.Turned.{Turned}
+use Rattle.indicatif_board.specs.declared.multi.Board.{Board}
+use Rattle.indicatif_board.specs.declared.recorded.Size.{Size}
+use Rattle.indicatif_board.specs.declared.recorded.Entry.{Entry}
+
+-- ---- steps
+
+-- a call at a moment, the target that it was made on, and its answer
+pub record Step (C A : Type 0) : Type 0 where
+  pub target : Target
+  pub call : C
+  pub now : ℕ
+  pub answer : A
+
+-- from one state to another by steps, each on its own target: each call at its moment led on, with its answer
+abbrev pub Replays : {State C A : Type 0} → Machine State C A → State → List (Step C A) → State → Type 0
+Replays m s [] next = next ≡ s
+Replays {State} m s (e ∷ es) next = (x : State) × Leads m e.target s (m.deed e.target e.call e.now s) e.answer x × Replays m x es next
+
+-- ---- what is stored
+
+-- a target by the size of its terminal; without one it is hidden
+abbrev pub target_by : Option Size → Target
+target_by None = record { hidden = true; columns = 0; rows = 0 }
+target_by (Some size) = record { hidden = false; columns = size.columns; rows = size.rows }
+
+-- a step of a board
+abbrev pub BoardStep : Type 0 → Type 0
+BoardStep K = Step (Call (BarRecord K) (Command K)) Answer
+
+-- an entry, as its definition
+abbrev pub step_of : {K : Type 0} → Entry K → BoardStep K
+step_of e = record { target = target_by e.size; call = call_of e.call; now = e.now; answer = answer_of e.answer }
+
+-- a board, the mark and the limiter that it began with, and the steps that it has made since
+pub record Record (K T : Type 0) : Type 0 where
+  pub mark : ℕ
+  pub limiter : Option Limiter
+  pub board : Board K T
+  pub steps : List (BoardStep K)
+
+module _ {K T : Type 0} where
+  -- the steps are those of one run from the opening on, and the board is where that run ends
+  abbrev pub IsOneRun : Tracking K → Record K T → Type 0
+  IsOneRun m r =
+      (s : BoardState (BarRecord K)) × Replays (board (board_bars m) r.mark) (opening_board r.limiter) r.steps s × IsIn r.mark r.board s
+
+  -- the board made this call, with this answer, and exactly that was added
+  pub record Grows (m : Tracking K) (view : T → TermView) (old : Record K T) (call : Call (BarRecord K) (Command K)) (now : ℕ) (answer : Answer) (new : Record K T) : Type 0 where
+    pub mark : new.mark ≡ old.mark
+    pub limiter : new.limiter ≡ old.limiter
+    pub steps : new.steps ≡ old.steps ++ record { target = target_of (known view old.board); call = call; now = now; answer = answer } ∷ []
+    pub leads : LeadsBy m view old.board new.board call now answer
+
+-- the bar that a call hands back which was answered so: a new one that was turned away, or one that was removed
+abbrev pub handed_back : {K : Type 0} → Call (BarRecord K) (Command K) → Answer → BarRecord K → List (Member (BarRecord K)) → Option (BarRecord K)
+handed_back (Insert at (New bar)) (Refused e) other members = Some bar
+handed_back (Remove id) Done other members = if is_member id.number members then Some (said_of other (λ b. b) id.number members) else None
+handed_back _ _ other members = None
+
+-- ---- what is handed back, in parts
+
+-- the new bar that is to be taken in
+abbrev pub bar_in : {B : Type 0} → Entrant B → Option B
+bar_in (New bar) = Some bar
+bar_in (Old id) = None
+
+-- the new bar that was turned away
+abbrev pub turned_back : {K : Type 0} → Result BarId (Turned K) → Option (BarRecord K)
+turned_back (Ok id) = None
+turned_back (Err turned) = bar_in (entrant_of turned.candidate)
+
+-- the bar that was removed
+abbrev pub removed_back : {K : Type 0} → Result (Option (BarRecord K)) Refusal → Option (BarRecord K)
+removed_back (Ok bar) = bar
+removed_back (Err e) = None

@@ -1,0 +1,79 @@
+//! Calls and answers equal to others.
+ghost use Rattle.std.specs.Prelude.{◌≡◌, string_bytes, IfOk, IfErr};
+ghost use Rattle.indicatif_board.specs.Calls.{call_of, entrant_of};
+
+use crate::calls::{Answer, Call, Candidate};
+use indicatif_bar::style::ProgressTracker;
+use indicatif_text::columns::Refusal;
+use std::alloc::Global;
+
+impl<K: ProgressTracker> Call<K> {
+    /// Another call, equal to this one.
+    ///
+    /// ```
+    /// let again = call.try_clone(alloc)?;
+    /// ```
+    ///
+    /// Refused: `Memory`, where it has a text, a style or a bar.
+    pub fn try_clone(&self, alloc: Global) -> Result<Call<K>, Refusal>
+        ensures same { IfOk result (λ other. call_of other ≡ call_of self.now) }
+        ensures memory { IfErr result (λ e. e ≡ Refusal.Memory) }
+    {
+        Ok(match self {
+            Call::Insert(at, candidate) => Call::Insert(*at, candidate.try_clone()?),
+            Call::Remove(id) => Call::Remove(*id),
+            Call::Drop(id) => Call::Drop(*id),
+            Call::Log(text) => Call::Log(same_text(alloc, text)?),
+            Call::BarLog(id, text) => Call::BarLog(*id, same_text(alloc, text)?),
+            Call::Clear => Call::Clear,
+            Call::Redraw => Call::Redraw,
+            Call::Align(alignment) => Call::Align(*alignment),
+            Call::Bar(id, command) => Call::Bar(*id, command.try_clone(alloc)?),
+        })
+    }
+}
+
+impl<K: ProgressTracker> Candidate<K> {
+    /// Another candidate, equal to this one.
+    ///
+    /// ```
+    /// let again = candidate.try_clone()?;
+    /// ```
+    ///
+    /// Refused: `Memory`, where it is a new bar.
+    pub fn try_clone(&self) -> Result<Candidate<K>, Refusal>
+        ensures same { IfOk result (λ other. entrant_of other ≡ entrant_of self.now) }
+        ensures memory { IfErr result (λ e. e ≡ Refusal.Memory) }
+    {
+        Ok(match self {
+            Candidate::New(bar) => Candidate::New(bar.try_clone()?),
+            Candidate::Member(id) => Candidate::Member(*id),
+        })
+    }
+}
+
+impl Answer {
+    /// The same answer once more.
+    ///
+    /// ```
+    /// let again = answer.same();
+    /// ```
+    pub fn same(&self) -> Answer
+        ensures { result ≡ self.now }
+    {
+        match self {
+            Answer::Id(id) => Answer::Id(*id),
+            Answer::Done => Answer::Done,
+            Answer::Drawn(drawn) => Answer::Drawn(*drawn),
+            Answer::Refused(refusal) => Answer::Refused(*refusal),
+        }
+    }
+}
+
+/// The same text.
+fn same_text(alloc: Global, text: &String) -> Result<String, Refusal>
+    ensures same { IfOk result (λ other. string_bytes other ≡ string_bytes text.now) }
+    ensures memory { IfErr result (λ e. e ≡ Refusal.Memory) }
+{
+    Ok(String::from_str(alloc, text.as_str())?)
+}

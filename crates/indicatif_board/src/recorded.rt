@@ -1,0 +1,289 @@
+//! A board with its history.
+ghost use Rattle.std.specs.Prelude.{◌≡◌, ◌⊎◌, ℕ, Option, [], map, IfErr};
+ghost use Rattle.indicatif_term.specs.Limiters.{Limiter};
+ghost use Rattle.indicatif_term.specs.Targets.{term_of, limiter_of};
+ghost use Rattle.indicatif_bar.specs.Commands.{BarRecord};
+ghost use Rattle.indicatif_bar.specs.Machines.{target_of};
+ghost use Rattle.indicatif_board.specs.Boards.{BoardState, Insert, Refused};
+ghost use Rattle.indicatif_board.specs.Calls.{call_of, answer_of, entrant_of, place_at, given, removal};
+ghost use Rattle.indicatif_board.specs.Multi.{IsIn, LeadsBy, known, terminal_of};
+ghost use Rattle.indicatif_board.specs.Recorded.{IsOneRun, Grows, target_by, step_of, handed_back, bar_in, turned_back, removed_back};
+ghost use Rattle.indicatif_board.specs.declared.calls.Answer.{Answer};
+ghost use Rattle.indicatif_text.specs.declared.refusal.Refusal.{Refusal};
+
+use crate::bar_id::BarId;
+use crate::calls::{draw_answer, removal_answer};
+use crate::multi::{Answer, Board, Call, Candidate, InsertLocation, Turned};
+use indicatif_bar::state::BarState;
+use indicatif_bar::style::ProgressTracker;
+use indicatif_term::draw_target::{ProgressDrawTarget, RateLimiter};
+use indicatif_term::term_like::TermLike;
+use indicatif_text::columns::{Moment, Refusal};
+use std::alloc::Global;
+use std::marker::Model;
+
+/// How large a terminal is.
+#[derive(Clone, Copy, Debug, Drop, PartialEq, Eq)]
+pub struct Size {
+    /// Columns.
+    pub columns: u16,
+    /// Rows.
+    pub rows: u16,
+}
+
+/// A call that a board has made, and what it answered.
+#[derive(Drop)]
+pub struct Entry<K> {
+    /// The call.
+    pub call: Call<K>,
+    /// Its moment.
+    pub now: Moment,
+    /// What was answered.
+    pub answer: Answer,
+    /// How large the terminal was; `None` where the target is hidden.
+    pub size: Option<Size>,
+}
+
+/// What a board began with, its terminal apart.
+#[derive(Drop)]
+pub struct Opening {
+    /// Its mark.
+    pub mark: u64,
+    /// How often it may be drawn, as the target came; `None` where that has no limit, or is hidden.
+    pub limiter: Option<RateLimiter>,
+}
+
+/// A board that keeps what it was asked and what it answered. The calls and answers that it has kept are always those of one run
+/// from its opening on, and the board is where that run ends: so they are also where it is kept in a lock.
+///
+/// It grows with each call. Its calls are those of `Board`, as values.
+///
+/// ```
+/// let mut record = Recorded::new(alloc, ProgressDrawTarget::term_like(term), 1);
+/// let (answer, none) = record.apply(Call::Clear, now);
+/// let kept = record.entries(); // one entry: the call, its moment, its answer
+/// ```
+#[derive(Drop)]
+pub struct Recorded<K: ProgressTracker, T: Drop> {
+    alloc: Global,
+    opening: Opening,
+    board: Board<K, T>,
+    entries: Vec<Entry<K>>,
+}
+
+/// Contracts see the mark and the limiter of the opening, the board, and its steps.
+impl<K: ProgressTracker, T: Drop> Model for Recorded<K, T> {
+    ghost use Rattle.std.specs.Prelude.{map};
+    ghost use Rattle.indicatif_board.specs.Recorded.{Record, IsOneRun, step_of};
+
+    ghost Value = { Record K T };
+
+    ghost view = { λ r. record { mark = r.opening.mark; limiter = r.opening.limiter; board = r.board; steps = map step_of r.entries.items } };
+
+    ghost invariant = { λ r. IsOneRun K.means (record { mark = r.opening.mark; limiter = r.opening.limiter; board = r.board; steps = map step_of r.entries.items }) };
+}
+
+impl<K: ProgressTracker, T: TermLike + Drop> Recorded<K, T> {
+    /// A board without bars on this target, of this mark, that has made no call. It takes no memory and writes nothing.
+    pub fn new(alloc: Global, target: ProgressDrawTarget<T>, mark: u64) -> Self
+        ensures opening { (result.mark ≡ mark) × (result.limiter ≡ limiter_of target) }
+        ensures steps { result.steps ≡ [] }
+        ensures terminal { terminal_of result.board ≡ term_of target }
+    {
+        let (target, limiter) = with_limiter(target);
+        Recorded {
+            alloc,
+            opening: Opening { mark, limiter },
+            board: Board::new(alloc, target, mark),
+            entries: Vec::new(alloc),
+        }
+    }
+
+    /// Makes a call, and keeps it with its moment and its answer; beside the answer it hands back the bar that was removed, or the
+    /// new one that was turned away.
+    ///
+    /// Refused: what the call is refused; and `Memory` where the history finds no room: then the call isn't made, nothing has
+    /// changed and nothing is kept.
+    pub fn apply(&mut self, call: Call<K>, now: Moment) -> (Answer, Option<BarState<K>>)
+        ensures grows { Grows K.means T.view self.old (call_of call) now (answer_of result.0) self.new
+            ⊎ ((self.new ≡ self.old) × (result.0 ≡ Answer.Refused Refusal.Memory)) }
+        ensures back { (s : BoardState (BarRecord K)) (other : BarRecord K) → IsIn self.old.mark self.old.board s →
+            result.1 ≡ handed_back (call_of call) (answer_of result.0) other s.members }
+    {
+        let Ok(copy) = call.try_clone(self.alloc) else {
+            return (Answer::Refused(Refusal::Memory), turned_away(call));
+        };
+        if self.entries.reserve(1).is_err() {
+            return (Answer::Refused(Refusal::Memory), turned_away(call));
+        }
+        let size = size_of(&self.board);
+        let (answer, bar) = made_on(&mut self.board, call, now);
+        self.entries.push_reserved(Entry {
+            call: copy,
+            now,
+            answer: answer.same(),
+            size,
+        });
+        (answer, bar)
+    }
+
+    /// What it began with.
+    pub fn opening(&self) -> &Opening
+        ensures { (result.now.mark ≡ self.now.mark) × (result.now.limiter ≡ self.now.limiter) }
+    {
+        &self.opening
+    }
+
+    /// The calls that it has made, with their moments and answers, in their order.
+    pub fn entries(&self) -> &[Entry<K>]
+        ensures { map step_of result.now ≡ self.now.steps }
+    {
+        self.entries.as_slice()
+    }
+
+    /// The board as it stands.
+    pub fn board(&self) -> &Board<K, T>
+        ensures { result.now ≡ self.now.board }
+    {
+        &self.board
+    }
+
+    /// What is kept is one run, and the board is where it ends. It does nothing.
+    pub fn replays(&self)
+        ensures { IsOneRun K.means self.now }
+    {
+        let _ = &self.board;
+    }
+}
+
+/// A target as it is, and its limiter once more.
+fn with_limiter<T: Drop>(
+    target: ProgressDrawTarget<T>,
+) -> (ProgressDrawTarget<T>, Option<RateLimiter>)
+    ensures target { result.0 ≡ target }
+    ensures limiter { result.1 ≡ limiter_of target }
+{
+    match target.into_parts() {
+        None => (ProgressDrawTarget::hidden(), None),
+        Some((term, limiter)) => {
+            let again = limiter.as_ref().map(|limiter| limiter.same());
+            (ProgressDrawTarget::from_parts(Some((term, limiter))), again)
+        }
+    }
+}
+
+/// How large a board's terminal is.
+fn size_of<K: ProgressTracker, T: TermLike + Drop>(board: &Board<K, T>) -> Option<Size>
+    ensures { target_by result ≡ target_of (known T.view board.now) }
+{
+    match board.term() {
+        Some(term) => Some(Size {
+            columns: term.width(),
+            rows: term.height(),
+        }),
+        None => None,
+    }
+}
+
+/// The new bar of a call that isn't made.
+fn turned_away<K: ProgressTracker>(call: Call<K>) -> Option<BarState<K>>
+    ensures { (s : BoardState (BarRecord K)) (other : BarRecord K) → result ≡ handed_back (call_of call) (Refused Refusal.Memory) other s.members }
+{
+    match call {
+        Call::Insert(_, candidate) => new_bar_in(candidate),
+        Call::Remove(_)
+        | Call::Drop(_)
+        | Call::Log(_)
+        | Call::BarLog(_, _)
+        | Call::Clear
+        | Call::Redraw
+        | Call::Align(_)
+        | Call::Bar(_, _) => None,
+    }
+}
+
+/// The new bar that a candidate is.
+fn new_bar_in<K: ProgressTracker>(candidate: Candidate<K>) -> Option<BarState<K>>
+    ensures { result ≡ bar_in (entrant_of candidate) }
+{
+    match candidate {
+        Candidate::New(bar) => Some(bar),
+        Candidate::Member(_) => None,
+    }
+}
+
+/// Makes a call, and hands back the bar that was removed, or the new one that was turned away.
+fn made_on<K: ProgressTracker, T: TermLike + Drop>(
+    board: &mut Board<K, T>,
+    call: Call<K>,
+    now: Moment,
+) -> (Answer, Option<BarState<K>>)
+    ensures leads { LeadsBy K.means T.view board.old board.new (call_of call) now (answer_of result.0) }
+    ensures back { (mark : ℕ) (s : BoardState (BarRecord K)) (other : BarRecord K) → IsIn mark board.old s →
+        result.1 ≡ handed_back (call_of call) (answer_of result.0) other s.members }
+{
+    match call {
+        Call::Insert(at, candidate) => insertion(inserted_on(board, at, candidate)),
+        Call::Remove(id) => removal(board.remove(id)),
+        Call::Drop(id) => (draw_answer(board.drop_bar(id, now)), None),
+        Call::Log(text) => (draw_answer(board.println(text.as_str(), now)), None),
+        Call::BarLog(id, text) => (
+            draw_answer(board.bar_println(id, text.as_str(), now)),
+            None,
+        ),
+        Call::Clear => (draw_answer(board.clear(now)), None),
+        Call::Redraw => (draw_answer(board.redraw(now)), None),
+        Call::Align(alignment) => {
+            board.set_alignment(alignment);
+            (Answer::Done, None)
+        }
+        Call::Bar(id, command) => (draw_answer(board.command(id, command, now)), None),
+    }
+}
+
+/// Takes a bar in at a place.
+fn inserted_on<K: ProgressTracker, T: TermLike + Drop>(
+    board: &mut Board<K, T>,
+    at: InsertLocation,
+    candidate: Candidate<K>,
+) -> Result<BarId, Turned<K>>
+    ensures turned { IfErr result (λ t. t.candidate ≡ candidate) }
+    ensures leads { (now : ℕ) → LeadsBy K.means T.view board.old board.new (Insert (place_at at) (entrant_of candidate)) now (given result) }
+{
+    match at {
+        InsertLocation::End => board.add(candidate),
+        InsertLocation::Index(index) => board.insert(index, candidate),
+        InsertLocation::IndexFromBack(count) => board.insert_from_back(count, candidate),
+        InsertLocation::Before(anchor) => board.insert_before(anchor, candidate),
+        InsertLocation::After(anchor) => board.insert_after(anchor, candidate),
+    }
+}
+
+/// The answer of an insertion, and the new bar that was turned away.
+fn insertion<K: ProgressTracker>(
+    taken: Result<BarId, Turned<K>>,
+) -> (Answer, Option<BarState<K>>)
+    ensures answer { answer_of result.0 ≡ given taken }
+    ensures back { result.1 ≡ turned_back taken }
+{
+    match taken {
+        Ok(id) => (Answer::Id(id), None),
+        Err(turned) => (
+            Answer::Refused(turned.refusal),
+            new_bar_in(turned.candidate),
+        ),
+    }
+}
+
+/// The answer of a removal, and the bar that was removed.
+fn removal<K: ProgressTracker>(
+    removed: Result<Option<BarState<K>>, Refusal>,
+) -> (Answer, Option<BarState<K>>)
+    ensures answer { answer_of result.0 ≡ removal removed }
+    ensures back { result.1 ≡ removed_back removed }
+{
+    match removed {
+        Ok(bar) => (Answer::Done, bar),
+        Err(refusal) => (Answer::Refused(refusal), None),
+    }
+}
