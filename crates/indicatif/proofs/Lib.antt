@@ -3,3 +3,4 @@ mod SeekLemmas
 mod LoopLemmas
 mod OwnedLemmas
 mod BuilderLemmas
+mod BlockLemmas

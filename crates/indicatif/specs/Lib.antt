@@ -1,6 +1,7 @@
 pub mod Machine
 pub mod Moves
 pub mod Owned
+pub mod Parallel
 pub mod Ring
 pub mod Seek
 pub mod Wrap

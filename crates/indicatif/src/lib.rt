@@ -7,6 +7,7 @@
 //! - `builders`: what is said of its bar before it moves. `progress_iterator`: iterators with a bar of their own (`ProgressIterator`).
 //! - `items`, `bytes`, `seeking`, `streams`, `polled`: what the wrapper does as an iterator, as a reader and writer, where it
 //!   seeks, as a stream, and as a reader and writer that is polled.
+//! - `parallel`: lists that threads work on, block by block, with a bar (`ParallelProgressIterator`).
 //! - `ring`: the greatest of the last places (`MaxRingBuf`).
 //! - `seek`: the place that moves and seeks show (`SeekMax`).
 //! - `style`: how a bar looks, with the names that the crate `indicatif` has there.
@@ -21,6 +22,7 @@ pub mod laws;
 pub mod machine;
 mod moves;
 mod owned;
+mod parallel;
 mod polled;
 mod progress_iterator;
 mod ring;
@@ -32,6 +34,7 @@ mod wrap;
 
 pub use crate::moves::Moves;
 pub use crate::owned::OwnedBar;
+pub use crate::parallel::ParallelProgressIterator;
 pub use crate::progress_iterator::ProgressIterator;
 pub use crate::ring::MaxRingBuf;
 pub use crate::seek::SeekMax;
