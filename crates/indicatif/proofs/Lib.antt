@@ -4,3 +4,4 @@ mod LoopLemmas
 mod OwnedLemmas
 mod BuilderLemmas
 mod BlockLemmas
+mod WorkerLemmas

@@ -4,4 +4,5 @@ pub mod Owned
 pub mod Parallel
 pub mod Ring
 pub mod Seek
+pub mod Workers
 pub mod Wrap

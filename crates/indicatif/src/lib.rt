@@ -12,6 +12,7 @@
 //! - `seek`: the place that moves and seeks show (`SeekMax`).
 //! - `style`: how a bar looks, with the names that the crate `indicatif` has there.
 //! - `machine`: the machine's clock, and bars on its terminals; all that this library asks of the machine.
+//! - `workers`: pieces of work, each in a thread of its own (`run_workers`, `Gate`).
 //! - `laws`: laws of the definitions.
 #![tactic(auto)]
 
@@ -30,6 +31,7 @@ mod seek;
 mod seeking;
 mod streams;
 pub mod style;
+mod workers;
 mod wrap;
 
 pub use crate::moves::Moves;
@@ -38,6 +40,7 @@ pub use crate::parallel::ParallelProgressIterator;
 pub use crate::progress_iterator::ProgressIterator;
 pub use crate::ring::MaxRingBuf;
 pub use crate::seek::SeekMax;
+pub use crate::workers::{Gate, run_workers};
 pub use crate::wrap::ProgressBarIter;
 pub use indicatif_bar::lone::{LoneBar, LoneCall};
 pub use indicatif_bar::state::{
