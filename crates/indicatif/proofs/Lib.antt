@@ -4,4 +4,5 @@ mod LoopLemmas
 mod OwnedLemmas
 mod BuilderLemmas
 mod BlockLemmas
+mod SumLemmas
 mod WorkerLemmas

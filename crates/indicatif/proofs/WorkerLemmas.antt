@@ -1,6 +1,5 @@
 -- What became of all pieces, by what became of each; and a step of each loop over them.
 use Rattle.std.proofs.Common.{◌≡◌, ℕ, zero, suc, ◌+◌, ◌-◌, ◌/◌, ◌<◌, ◌≤◌, List, [], ◌∷◌, ◌++◌, map, take, length, slice_index_or, Option, Some, None, IfSome, IsSomeAnd, Vec, All, refl, sym, ap, subst, ◌∙◌, arith}
-use Rattle.std.specs.Prelude.{sum_by}
 use Rattle.std.specs.List.{AllZip}
 use Rattle.std.specs.declared.alloc.Global.{Global}
 use Rattle.std.proofs.lemmas.List.{take_more, append_assoc, append-nil, map-append}
@@ -9,7 +8,8 @@ use Rattle.std.proofs.lemmas.List.Sums.{sum_by-cons}
 use Rattle.std.proofs.lemmas.List.Elements.{All-cons, All-nil}
 use Rattle.rayon.proofs.ListFacts.{AllZip-append}
 use Rattle.indicatif_board.specs.Done.{SumId, Worker, shares_of, added_by}
-use Rattle.indicatif.specs.Workers.{items_in, JobAt, IsEnded}
+use Rattle.indicatif.specs.Workers.{items_in}
+use Rattle.indicatif.specs.Inside.Pieces.{JobAt, IsEnded}
 use Rattle.indicatif.specs.declared.workers.Job.{Job}
 use Rattle.indicatif.specs.declared.workers.Ended.{Ended}
 
@@ -100,7 +100,7 @@ module _ {T A : Type 0} (R : T → A → Type 0) (id : SumId) where
 
   pub together : (pieces : List (Vec T Global)) (jobs : List Job) (ended : List (Ended A)) → length jobs ≡ length pieces → length ended ≡ length pieces
       → ((i : ℕ) (p : Vec T Global) (j : Job) (e : Ended A) → i < length pieces → p ≡ slice_index_or pieces i p → j ≡ slice_index_or jobs i j → e ≡ slice_index_or ended i e
-          → IsEnded R p.items j.worker e × (j.worker.adds_to ≡ id))
+      → IsEnded R p.items j.worker e × (j.worker.adds_to ≡ id))
       → Together pieces jobs ended
   together [] [] [] len same each = record { of = All-nil (λ x. x.worker.adds_to ≡ id); parts = refl; met = 0; at_most = omega arith; added = refl; answers = λ made. answers_of_none [] [] made refl refl }
   together [] (j ∷ js) ended len same each = absurd (omega arith)
@@ -110,13 +110,13 @@ module _ {T A : Type 0} (R : T → A → Type 0) (id : SumId) where
   together (p ∷ ps) (j ∷ js) (e ∷ es) len same each =
       let first = each 0 p j e (omega arith) refl refl refl in
       first_with p ps j js e es first.0 first.1
-        (together ps js es (omega arith) (omega arith) (λ i q k f lt iq ik jf. each (suc i) q k f (omega arith) iq ik jf))
+      (together ps js es (omega arith) (omega arith) (λ i q k f lt iq ik jf. each (suc i) q k f (omega arith) iq ik jf))
 
   -- threads that did these jobs
   pub jobs_together : (pieces : List (Vec T Global)) (jobs : List Job) (ended : List (Ended A)) → length jobs ≡ length pieces → length ended ≡ length jobs
       → ((i : ℕ) (j : Job) → i < length jobs → j ≡ slice_index_or jobs i j → JobAt id i j)
       → ((i : ℕ) (e : Ended A) → i < length jobs → (j : Job) × (j ≡ slice_index_or jobs i j) × ((d : Job) → slice_index_or jobs i d ≡ j)
-          × ((p : Vec T Global) → p ≡ slice_index_or pieces j.piece p → IsEnded R p.items j.worker (slice_index_or ended i e)))
+      × ((p : Vec T Global) → p ≡ slice_index_or pieces j.piece p → IsEnded R p.items j.worker (slice_index_or ended i e)))
       → Together pieces jobs ended
   jobs_together pieces jobs ended few same each given = together pieces jobs ended few (omega arith) (λ i p j e lt ip ij ie.
       let room : i < length jobs = omega arith in

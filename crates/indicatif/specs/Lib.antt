@@ -6,3 +6,4 @@ pub mod Ring
 pub mod Seek
 pub mod Workers
 pub mod Wrap
+pub mod Inside

@@ -1,41 +1,16 @@
 -- Pieces of work that threads do, and what their bar gets.
-use Rattle.std.specs.Prelude.{◌≡◌, ℕ, ◌+◌, ◌≤◌, ◌<◌, ◌%◌, ◌^◌, List, sum_by, length, Option, IfSome, Result, Vec}
-use Rattle.std.specs.List.{AllZip}
+use Rattle.std.specs.Prelude.{ℕ, ◌%◌, ◌^◌, List, sum_by, length, Option, Result, Vec}
 use Rattle.std.specs.declared.alloc.Global.{Global}
 use Rattle.indicatif_text.specs.declared.refusal.Drawn.{Drawn}
 use Rattle.indicatif_text.specs.declared.refusal.Refusal.{Refusal}
-use Rattle.indicatif_board.specs.Done.{SumId, Worker}
 use Rattle.indicatif.specs.Moves.{Standing, Move, Advance, Goes}
-use Rattle.indicatif.specs.declared.workers.Job.{Job}
-use Rattle.indicatif.specs.declared.workers.Ended.{Ended}
 
 -- how many items there are in all
 abbrev pub items_in : {T : Type 0} → List (Vec T Global) → ℕ
 items_in pieces = sum_by (λ piece. length piece.items) pieces
 
--- by what the bar tells, and where a move leads it with an answer: the bar went on once, by the sum of so many ones as 64 bits hold it
+-- by what the bar tells, and where a move leads it with an answer: the bar was advanced once by so many items, as 64 bits hold their number
 abbrev pub Absorbed : {P : Type 0} → (P → Option Standing) → (P → Move → Result Drawn Refusal → P → Type 0) → P → ℕ → P → Type 0
-Absorbed told leads old added new =
-    let move = Advance (added % 2 ^ 64) in
+Absorbed told leads old items new =
+    let move = Advance (items % 2 ^ 64) in
     (answer : Result Drawn Refusal) × leads old move answer new × Goes (told old) move answer (told new)
-
--- the job of the piece of this number, for this sum
-abbrev pub JobAt : SumId → ℕ → Job → Type 0
-JobAt id number job = (job.piece ≡ number) × (job.worker.adds_to ≡ id)
-
--- what became of a piece with these items, begun by this worker: it added 1 for each item that it met, of its share it lost nothing, and
--- if the answers are there, they are those at all items, in order
-pub record IsEnded {T A : Type 0} (R : T → A → Type 0) (items : List T) (begun : Worker) (ended : Ended A) : Type 0 where
-  pub of : ended.worker.adds_to ≡ begun.adds_to
-  pub parts : ended.worker.account.parts ≡ begun.account.parts
-  pub met : ℕ
-  pub at_most : met ≤ length items
-  pub added : ended.worker.account.added ≡ begun.account.added + met
-  pub answers : IfSome ended.answers (λ made. (met ≡ length items) × AllZip R items made.items)
-
--- what became of all pieces: so many items were met, as 64 bits hold their number, and if the answers are there, all were
-pub record Counts {T A : Type 0} (R : T → A → Type 0) (pieces : List (Vec T Global)) (answers : Option (Vec (Vec A Global) Global)) (sum : ℕ) : Type 0 where
-  pub met : ℕ
-  pub at_most : met ≤ items_in pieces
-  pub is_sum : sum ≡ met % 2 ^ 64
-  pub all : IfSome answers (λ made. (met ≡ items_in pieces) × AllZip (λ piece one. AllZip R piece.items one.items) pieces made.items)

@@ -3,7 +3,8 @@ ghost use Rattle.std.specs.Prelude.{◌≡◌, ◌<◌, ◌≤◌, ◌+◌, ℕ,
 ghost use Rattle.std.specs.List.{AllZip};
 ghost use Rattle.std.specs.Fn.{FnReturnsAt};
 ghost use Rattle.indicatif_board.specs.Done.{shares_of, added_by};
-ghost use Rattle.indicatif.specs.Workers.{items_in, Absorbed, JobAt, IsEnded, Counts};
+ghost use Rattle.indicatif.specs.Workers.{items_in, Absorbed};
+ghost use Rattle.indicatif.specs.Inside.Pieces.{JobAt, IsEnded, Counts};
 
 use crate::moves::Moves;
 use indicatif_board::done::{BarWorker, Done};
@@ -24,16 +25,16 @@ pub trait Gate: Sync {
     fn pass(&self, piece: usize);
 }
 
-/// A piece's number, and the worker that counts its items.
+// A piece's number, and the worker that counts its items.
 #[derive(Drop)]
-pub struct Job {
+struct Job {
     piece: usize,
     worker: BarWorker,
 }
 
-/// What became of a piece: its answers, unless memory was refused, and its worker.
+// What became of a piece: its answers, unless memory was refused, and its worker.
 #[derive(Drop)]
-pub struct Ended<A> {
+struct Ended<A> {
     answers: Option<Vec<A>>,
     worker: BarWorker,
 }

@@ -1,4 +1,4 @@
-use Rattle.std.proofs.Common.{rules, ◌≡◌, ◌<◌, ◌≤◌, ◌+◌, ◌%◌, ◌^◌, ℕ, length, map, slice_index_or, ap, ◌∙◌, arith}
+use Rattle.std.proofs.Common.{rules, ◌%◌, ◌^◌, ap, ◌∙◌}
 use Rattle.std.specs.Fn.{FnReturnsAt}
 use Rattle.indicatif.proofs.WorkerLemmas.{jobs_together, all_answers, whole_again, sum_again}
 use Rattle.indicatif.proofs.workers.counted.Goals as goal
@@ -10,7 +10,7 @@ gathered-answers-requires-clause-of g c =
     let jobs = rw c.in_ok-jobs.was at c.jobs_for.ensures.each in
     let count = rw c.in_ok-jobs.was at c.jobs_for.ensures.count in
     let t = jobs_together (FnReturnsAt g.F.Fn c.args.f.now) c.in_ok-done.done c.args.pieces.now c.in_ok-jobs.jobs.items c.in_ok-ended.ended.items count (search rules) jobs
-        (λ i e lt. let got = (given i e lt).1 in (got.job, got.job_read, got.job_is, got.call.met)) in
+    (λ i e lt. let got = (given i e lt).1 in (got.job, got.job_read, got.job_is, got.call.met)) in
     t.of
 
 pub close-requires-clause-whole : goal.close-requires-clause-whole
@@ -21,7 +21,7 @@ close-requires-clause-whole g c =
     let count = rw c.in_ok-jobs.was at c.jobs_for.ensures.count in
     let share = rw c.in_ok-jobs.was at c.jobs_for.ensures.parts in
     let t = jobs_together (FnReturnsAt g.F.Fn c.args.f.now) c.in_ok-done.done c.args.pieces.now c.in_ok-jobs.jobs.items c.in_ok-ended.ended.items count (search rules) jobs
-        (λ i e lt. let got = (given i e lt).1 in (got.job, got.job_read, got.job_is, got.call.met)) in
+    (λ i e lt. let got = (given i e lt).1 in (got.job, got.job_read, got.job_is, got.call.met)) in
     let first = rw c.in_ok-done.was at c.new.ensures.worker in
     let kept = rw c.in_ok-mine.was at c.split.ensures.first in
     let others = rw c.in_ok-mine.was at c.split.ensures.second in
@@ -34,7 +34,7 @@ returns-clause-counts g c =
     let jobs = rw c.in_ok-jobs.was at c.jobs_for.ensures.each in
     let count = rw c.in_ok-jobs.was at c.jobs_for.ensures.count in
     let t = jobs_together (FnReturnsAt g.F.Fn c.args.f.now) c.in_ok-done.done c.args.pieces.now c.in_ok-jobs.jobs.items c.in_ok-ended.ended.items count (search rules) jobs
-        (λ i e lt. let got = (given i e lt).1 in (got.job, got.job_read, got.job_is, got.call.met)) in
+    (λ i e lt. let got = (given i e lt).1 in (got.job, got.job_read, got.job_is, got.call.met)) in
     let begun = rw c.in_ok-jobs.was at c.jobs_for.ensures.added in
     let first = rw c.in_ok-done.was at c.new.ensures.worker in
     let kept = rw c.in_ok-mine.was at c.split.ensures.first in

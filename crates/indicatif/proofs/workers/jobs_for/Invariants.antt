@@ -1,6 +1,6 @@
 use Rattle.std.proofs.Common.{◌≡◌, ℕ, ◌<◌, ◌++◌, length, map, slice_index_or, All}
 use Rattle.std.specs.Vec.Iter.{into_iter_items}
-use Rattle.indicatif.specs.Workers.{JobAt}
+use Rattle.indicatif.specs.Inside.Pieces.{JobAt}
 use Rattle.indicatif.specs.declared.workers.Job.{Job}
 use Rattle.indicatif.proofs.workers.jobs_for.Given as goal
 
