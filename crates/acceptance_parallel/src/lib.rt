@@ -3,6 +3,7 @@
 //! - `stepped`: a bar of the tests', which keeps what it is advanced by.
 //! - `gates`: gates.
 //! - `lists`: lists, block by block.
+//! - `own_bars`: lists with a bar of their own.
 //! - `pieces`: pieces in threads of their own.
 #![tactic(auto)]
 
@@ -10,6 +11,8 @@
 mod gates;
 #[cfg(test)]
 mod lists;
+#[cfg(test)]
+mod own_bars;
 #[cfg(test)]
 mod pieces;
 #[cfg(test)]

@@ -1,5 +1,5 @@
 //! Pieces of work, each in a thread of its own.
-ghost use Rattle.std.specs.Prelude.{◌≡◌, ◌<◌, ◌≤◌, ◌+◌, ℕ, IfOk, IfErr, OnOk, IfSome, Some, length, map, slice_index_or, ◌⊎◌, IsSomeAnd, ◌++◌, ◌∷◌, [], All};
+ghost use Rattle.std.specs.Prelude.{◌≡◌, ◌<◌, ◌≤◌, ◌+◌, ℕ, IfOk, IfErr, OnOk, IfSome, Some, length, map, slice_index_or, ◌⊎◌, ◌↔◌, Err, IsSomeAnd, ◌++◌, ◌∷◌, [], All};
 ghost use Rattle.std.specs.List.{AllZip};
 ghost use Rattle.std.specs.Fn.{FnReturnsAt};
 ghost use Rattle.indicatif_board.specs.Done.{shares_of, added_by};
@@ -67,9 +67,9 @@ pub fn run_workers<
     requires { F.IsAlwaysCallable f }
     ensures answers { IfOk result (λ made. AllZip (λ piece answers. AllZip (FnReturnsAt F.Fn f) piece.items answers.items) pieces.now made.items) }
     ensures bar { OnOk result (Absorbed P.told P.leads bar.old (items_in pieces.now) bar.new) }
-    ensures pieces { IfOk result (λ _. 0 < length pieces.now) }
+    ensures none { (result ≡ Err Refusal.ZeroPieces) ↔ (length pieces.now ≡ 0) }
     ensures refused { IfErr result (λ e.
-        ((e ≡ Refusal.ZeroPieces) × (length pieces.now ≡ 0) × (bar.new ≡ bar.old))
+        ((e ≡ Refusal.ZeroPieces) × (bar.new ≡ bar.old))
         ⊎ ((e ≡ Refusal.Memory) × ((bar.new ≡ bar.old) ⊎ ((met : ℕ) × (met ≤ items_in pieces.now) × Absorbed P.told P.leads bar.old met bar.new)))) }
 {
     if pieces.is_empty() {
