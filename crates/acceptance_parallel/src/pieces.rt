@@ -29,7 +29,11 @@ fn ones(alloc: Global, items: u32) -> Result<Vec<u32>, AllocError> {
 #[test]
 fn answers_stand_in_the_order_of_the_pieces(rt: HostRuntime) -> Result<(), Fail> {
     let alloc = rt.alloc();
-    let pieces = vec![in alloc; vec![in alloc; 1u32, 2]?, vec![in alloc; 3u32]?, Vec::new(alloc)]?;
+    let pieces = vec![in alloc;
+        vec![in alloc; 1u32, 2]?,
+        vec![in alloc; 3u32]?,
+        Vec::new(alloc),
+    ]?;
     let mut bar = bar_at(alloc, 0);
     let gate = Turnstile {
         passed: AtomicU64::new(0),
@@ -112,7 +116,10 @@ fn answers_of<R: Threads + Sync>(
 fn seventy_pieces(rt: HostRuntime) -> Result<(), Fail> {
     let pieces = pieces_of_ones(rt.alloc(), 70, 3)?;
     let mut bar = bar_at(rt.alloc(), 0);
-    assert_eq!(rt; answers_of(&rt, rt.alloc(), pieces.as_slice(), &mut bar)?, 210);
+    assert_eq!(rt;
+        answers_of(&rt, rt.alloc(), pieces.as_slice(), &mut bar)?,
+        210
+    );
     assert!(rt; bar.steps.as_slice() == [210].as_slice());
     Ok(())
 }
@@ -121,7 +128,10 @@ fn seventy_pieces(rt: HostRuntime) -> Result<(), Fail> {
 fn two_pieces_of_a_thousand_items(rt: HostRuntime) -> Result<(), Fail> {
     let pieces = pieces_of_ones(rt.alloc(), 2, 1000)?;
     let mut bar = bar_at(rt.alloc(), 5);
-    assert_eq!(rt; answers_of(&rt, rt.alloc(), pieces.as_slice(), &mut bar)?, 2000);
+    assert_eq!(rt;
+        answers_of(&rt, rt.alloc(), pieces.as_slice(), &mut bar)?,
+        2000
+    );
     assert_eq!(rt; bar.position, 2005);
     Ok(())
 }
@@ -130,7 +140,10 @@ fn two_pieces_of_a_thousand_items(rt: HostRuntime) -> Result<(), Fail> {
 fn one_piece_of_one_item(rt: HostRuntime) -> Result<(), Fail> {
     let pieces = pieces_of_ones(rt.alloc(), 1, 1)?;
     let mut bar = bar_at(rt.alloc(), 0);
-    assert_eq!(rt; answers_of(&rt, rt.alloc(), pieces.as_slice(), &mut bar)?, 1);
+    assert_eq!(rt;
+        answers_of(&rt, rt.alloc(), pieces.as_slice(), &mut bar)?,
+        1
+    );
     assert!(rt; bar.steps.as_slice() == [1].as_slice());
     Ok(())
 }
