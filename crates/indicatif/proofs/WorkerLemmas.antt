@@ -1,5 +1,6 @@
 -- What became of all pieces, by what became of each; and a step of each loop over them.
-use Rattle.std.proofs.Common.{◌≡◌, ℕ, zero, suc, ◌+◌, ◌-◌, ◌/◌, ◌<◌, ◌≤◌, List, [], ◌∷◌, ◌++◌, map, take, length, slice_index_or, Option, Some, None, IfSome, IsSomeAnd, Vec, All, refl, sym, ap, subst, ◌∙◌, arith}
+use Rattle.std.proofs.Common.{◌≡◌, ℕ, zero, suc, ◌+◌, ◌-◌, ◌/◌, ◌<◌, ◌≤◌, refl, sym, ap, subst, ◌∙◌, arith}
+use Rattle.std.proofs.Common.{List, [], ◌∷◌, ◌++◌, map, take, length, slice_index_or, Option, Some, None, IfSome, IsSomeAnd, Vec, All}
 use Rattle.std.specs.List.{AllZip}
 use Rattle.std.specs.declared.alloc.Global.{Global}
 use Rattle.std.proofs.lemmas.List.{take_more, append_assoc, append-nil, map-append}
@@ -102,7 +103,14 @@ module _ {T A : Type 0} (R : T → A → Type 0) (id : SumId) where
       → ((i : ℕ) (p : Vec T Global) (j : Job) (e : Ended A) → i < length pieces → p ≡ slice_index_or pieces i p → j ≡ slice_index_or jobs i j → e ≡ slice_index_or ended i e
       → IsEnded R p.items j.worker e × (j.worker.adds_to ≡ id))
       → Together pieces jobs ended
-  together [] [] [] len same each = record { of = All-nil (λ x. x.worker.adds_to ≡ id); parts = refl; met = 0; at_most = omega arith; added = refl; answers = λ made. answers_of_none [] [] made refl refl }
+  together [] [] [] len same each = record {
+    of = All-nil (λ x. x.worker.adds_to ≡ id);
+    parts = refl;
+    met = 0;
+    at_most = omega arith;
+    added = refl;
+    answers = λ made. answers_of_none [] [] made refl refl;
+  }
   together [] (j ∷ js) ended len same each = absurd (omega arith)
   together [] [] (e ∷ es) len same each = absurd (omega arith)
   together (p ∷ ps) [] ended len same each = absurd (omega arith)
@@ -140,26 +148,21 @@ whole_again whole mine theirs others all share kept given same both is =
     let small : whole / 2 ≤ whole = div-le_self whole 2 in
     omega (arith, kept, given, same, both, is, small)
 
--- jobs whose numbers begin at some place, and one behind them
-jobs_behind : (id : SumId) (old : List Job) (from : ℕ) (job : Job) → JobAt id (from + length old) job
-    → ((i : ℕ) (j : Job) → i < length old → j ≡ slice_index_or old i j → JobAt id (from + i) j)
-    → (i : ℕ) (j : Job) → i < length (old ++ job ∷ []) → j ≡ slice_index_or (old ++ job ∷ []) i j → JobAt id (from + i) j
-jobs_behind id [] from job last before zero j lt is = subst (λ k. JobAt id (from + 0) k) (sym is) last
-jobs_behind id [] from job last before (suc i) j lt is = absurd (omega arith)
-jobs_behind id (k ∷ ks) from job last before zero j lt is = before 0 j (omega arith) is
-jobs_behind id (k ∷ ks) from job last before (suc i) j lt is =
-    let again : from + suc i ≡ suc from + i = omega arith in
-    let end : from + length (k ∷ ks) ≡ suc from + length ks = omega arith in
-    subst (λ n. JobAt id n j) (sym again) (jobs_behind id ks (suc from) job (subst (λ n. JobAt id n job) end last)
-    (λ m l few at. let e : from + suc m ≡ suc from + m = omega arith in subst (λ n. JobAt id n l) e (before (suc m) l (omega arith) at))
-    i j (omega arith) is)
+module _ {X : Type 0} where
+  all_behind : (Q : ℕ → X → Type 0) (old : List X) (x : X) → Q (length old) x → ((i : ℕ) (y : X) → i < length old → y ≡ slice_index_or old i y → Q i y)
+      → (i : ℕ) (y : X) → i < length (old ++ x ∷ []) → y ≡ slice_index_or (old ++ x ∷ []) i y → Q i y
+  all_behind Q [] x last before zero y lt is = subst (Q 0) (sym is) last
+  all_behind Q [] x last before (suc i) y lt is = absurd (omega arith)
+  all_behind Q (z ∷ zs) x last before zero y lt is = before 0 y (omega arith) is
+  all_behind Q (z ∷ zs) x last before (suc i) y lt is =
+      all_behind (λ n. Q (suc n)) zs x last (λ k w few at. before (suc k) w (omega arith) at) i y (omega arith) is
 
--- one job more
-pub jobs_more : (id : SumId) (old new : List Job) (job : Job) → new ≡ old ++ job ∷ [] → JobAt id (length old) job
-    → ((i : ℕ) (j : Job) → i < length old → j ≡ slice_index_or old i j → JobAt id i j)
-    → (i : ℕ) (j : Job) → i < length new → j ≡ slice_index_or new i j → JobAt id i j
-jobs_more id old new job whole last before i j lt is =
-    subst (λ l. (i : ℕ) (j : Job) → i < length l → j ≡ slice_index_or l i j → JobAt id i j) (sym whole) (λ k l few at. let e : 0 + k ≡ k = omega arith in subst (λ n. JobAt id n l) e (jobs_behind id old 0 job (let f : length old ≡ 0 + length old = omega arith in subst (λ n. JobAt id n job) f last) (λ m q less here. let h : m ≡ 0 + m = omega arith in subst (λ n. JobAt id n q) h (before m q less here)) k l few at)) i j lt is
+  -- what holds of each element and its number holds of one more
+  pub each_more : (Q : ℕ → X → Type 0) (old new : List X) (x : X) → new ≡ old ++ x ∷ [] → Q (length old) x
+      → ((i : ℕ) (y : X) → i < length old → y ≡ slice_index_or old i y → Q i y)
+      → (i : ℕ) (y : X) → i < length new → y ≡ slice_index_or new i y → Q i y
+  each_more Q old new x whole last before i y lt is =
+      all_behind Q old x last before i y (subst (λ l. i < length l) whole lt) (subst (λ l. y ≡ slice_index_or l i y) whole is)
 
 -- what was added, when all workers are one again
 pub sum_again : (first mine theirs begun ended met : ℕ) {all : ℕ} → first ≡ 0 → mine ≡ first → theirs ≡ 0 → begun ≡ theirs → ended ≡ begun + met → all ≡ mine + ended → all ≡ met

@@ -21,11 +21,12 @@ use std::thread::Threads;
 /// The most items of a block.
 const BLOCK: usize = 4096;
 
-/// A slice is wrapped into one on which threads work with a bar (`map_collect`, `for_each`): a bar that is handed in, or one that
-/// is made on a target with a clock (`Setup`), in the style `{wide_bar} {pos}/{len}` or another. Nothing is drawn by this.
+/// A slice is wrapped into one on which threads work with a bar (`map_collect`, `for_each`): a bar that is handed in, or one
+/// that is made on a target with a clock (`Setup`), in the style `{wide_bar} {pos}/{len}` or another. Nothing is drawn by this.
 ///
 /// ```
-/// let (squares, bar) = numbers.as_slice().progress_with(bar).map_collect(&rt, alloc, |n: &u32| n.wrapping_mul(*n));
+/// let list = numbers.as_slice().progress_with(bar);
+/// let (squares, bar) = list.map_collect(&rt, alloc, |n: &u32| n.wrapping_mul(*n));
 /// ```
 pub trait ParallelProgressIterator: Sized {
     /// How many items there are.
@@ -116,8 +117,8 @@ impl<'a, T> ParallelProgressIterator for &'a [T] {
 }
 
 /// Each of these works on the list in blocks of at most 4,096 items, on as many threads as the machine has processors, and
-/// advances the bar behind each block by its items, from the thread that calls. The bar comes back as it is then; it isn't finished.
-/// What a draw answered isn't told: an advance whose draw was refused is an advance all the same.
+/// advances the bar behind each block by its items, from the thread that calls. The bar comes back as it is then; it isn't
+/// finished. What a draw answered isn't told: an advance whose draw was refused is an advance all the same.
 impl<'a, T: Sync, P: Moves> ProgressBarIter<&'a [T], P> {
     /// What `f` answers at each item, in the list's order.
     ///

@@ -13,8 +13,8 @@ use std::alloc::Global;
 use std::thread;
 use std::thread::Threads;
 
-/// What each piece passes once before its first item, in its own thread: for tests of what runs at the same time, and for pieces that
-/// have to begin in some order.
+/// What each piece passes once before its first item, in its own thread: for tests of what runs at the same time, and for
+/// pieces that have to begin in some order. A piece that waits for another needs a limit.
 ///
 /// ```
 /// struct Open;
@@ -39,16 +39,16 @@ struct Ended<A> {
     worker: BarWorker,
 }
 
-/// What `f` answers at each item of each piece, the pieces in their order, and each one's answers in its items' order. Each piece
-/// runs in a thread of its own; where no thread can be made, it runs in the one that calls, so that pieces which wait for one
-/// another may wait in vain. Each counts its items without a lock, and at the end the bar is advanced once by all of them.
+/// What `f` answers at each item of each piece, the pieces in their order, and each one's answers in its items' order. Each
+/// piece runs in a thread of its own; where no thread can be made, it runs in the one that calls, so that pieces which wait for
+/// one another may wait in vain. Each counts its items without a lock, and at the end the bar is advanced once by all of them.
 ///
 /// ```
 /// let made = run_workers(&rt, alloc, pieces.as_slice(), |x: &u32| x.wrapping_mul(2), &Open, &mut bar)?;
 /// ```
 ///
-/// Refused: `ZeroPieces` where there is no piece, and nothing is done. `Memory`; where the pieces ran, the bar is advanced by the
-/// items that were met all the same.
+/// Refused: `ZeroPieces` where there is no piece, and nothing is done. `Memory`; where the pieces ran, the bar is advanced by
+/// the items that were met all the same.
 pub fn run_workers<
     R: Threads + Sync,
     T: Sync,

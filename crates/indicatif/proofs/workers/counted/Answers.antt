@@ -25,7 +25,9 @@ close-requires-clause-whole g c =
     let first = rw c.in_ok-done.was at c.new.ensures.worker in
     let kept = rw c.in_ok-mine.was at c.split.ensures.first in
     let others = rw c.in_ok-mine.was at c.split.ensures.second in
-    whole_again c.in_ok-done.worker.account.parts _ _ _ _ _ (ap (λ w. w.account.parts) kept) (ap (λ w. w.account.parts) others) (t.parts ∙ share) c.gathered-answers.ensures.parts (ap (λ w. w.account.parts) first)
+    let mine = ap (λ w. w.account.parts) kept in
+    let theirs = ap (λ w. w.account.parts) others in
+    whole_again c.in_ok-done.worker.account.parts _ _ _ _ _ mine theirs (t.parts ∙ share) c.gathered-answers.ensures.parts (ap (λ w. w.account.parts) first)
 
 pub returns-clause-counts : goal.returns-clause-counts
 returns-clause-counts g c =
@@ -39,10 +41,11 @@ returns-clause-counts g c =
     let first = rw c.in_ok-done.was at c.new.ensures.worker in
     let kept = rw c.in_ok-mine.was at c.split.ensures.first in
     let others = rw c.in_ok-mine.was at c.split.ensures.second in
+    let all = all_answers (FnReturnsAt g.F.Fn c.args.f.now) c.in_ok-done.done c.args.pieces.now c.in_ok-jobs.jobs.items c.in_ok-ended.ended.items in
     let sum = sum_again _ _ _ _ _ t.met (ap (λ w. w.account.added) first) (ap (λ w. w.account.added) kept) (ap (λ w. w.account.added) others) begun t.added c.gathered-answers.ensures.added in
     record {
       met = t.met;
       at_most = t.at_most;
       is_sum = c.close.ensures.sum ∙ ap (λ k. k % 2 ^ 64) sum;
-      all = all_answers (FnReturnsAt g.F.Fn c.args.f.now) c.in_ok-done.done c.args.pieces.now c.in_ok-jobs.jobs.items c.in_ok-ended.ended.items c.gathered-answers.result.0 t c.gathered-answers.ensures.answers;
+      all = all c.gathered-answers.result.0 t c.gathered-answers.ensures.answers;
     }
