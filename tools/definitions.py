@@ -110,8 +110,10 @@ SOURCES = {
         "Machine": (OWN, {}),
         "Moves": (OWN, {}),
         "Owned": (OWN, {}),
+        "Parallel": (OWN, {}),
         "Ring": (CRATE, {}),
         "Seek": (CRATE, {}),
+        "Workers": (OWN, {}),
         "Wrap": (OWN, {}),
     },
 }

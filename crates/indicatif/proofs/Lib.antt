@@ -3,3 +3,6 @@ mod SeekLemmas
 mod LoopLemmas
 mod OwnedLemmas
 mod BuilderLemmas
+mod BlockLemmas
+mod SumLemmas
+mod WorkerLemmas

@@ -6,6 +6,7 @@ ghost use Rattle.indicatif_text.specs.declared.refusal.Refusal.TheVariants.{Memo
 ghost use Rattle.indicatif.specs.declared.wrap.ProgressBarIter.{ProgressBarIter};
 ghost use Rattle.indicatif.specs.Moves.{Move, Advance, FinishAsStored, after_bar_move, MovedAlong, AreOfLoop};
 ghost use Rattle.indicatif.specs.Owned.{Commanded, IsRun};
+ghost use Rattle.indicatif.specs.Parallel.{Blocks};
 ghost use Rattle.indicatif.specs.declared.owned.OwnedBar.{OwnedBar};
 ghost use Rattle.indicatif.specs.Wrap.{Loops, last_draw_of};
 ghost use Rattle.indicatif.specs.Ring.{kept_updates};
@@ -58,4 +59,16 @@ pub fn the_moves_of_a_loop<T, P: Moves>()
 pub fn moves_are_a_run<K: ProgressTracker, T: TermLike + Drop, C>()
     ensures { (made : List (Move × Result Drawn Refusal)) (old new : OwnedBar K T C) →
         MovedAlong (Commanded K.means T.view) made old new → IsRun K.means T.view made old new }
+{}
+
+/// A bar that tells where it stands goes on by as many items as a list had on which threads worked with it.
+pub fn blocks_add_up<P: Moves>()
+    ensures { (items : ℕ) (old new : P) → Blocks P.told P.leads old items new →
+        IfSome (P.told old) (λ bar. bar.position < 2 ^ 64 → P.told new ≡ Some (after_bar_move bar (Advance items))) }
+{}
+
+/// The advances of such a list are moves of its bar, each of a block; so of a bar with its clock they are a run.
+pub fn blocks_are_moves<P: Moves>()
+    ensures { (items : ℕ) (old new : P) → (blocks : Blocks P.told P.leads old items new) →
+        MovedAlong P.leads (map (λ x. (Advance x.0, x.1)) blocks.made) old new }
 {}

@@ -7,11 +7,13 @@
 //! - `builders`: what is said of its bar before it moves. `progress_iterator`: iterators with a bar of their own (`ProgressIterator`).
 //! - `items`, `bytes`, `seeking`, `streams`, `polled`: what the wrapper does as an iterator, as a reader and writer, where it
 //!   seeks, as a stream, and as a reader and writer that is polled.
+//! - `parallel`: lists that threads work on, block by block, with a bar (`ParallelProgressIterator`).
 //! - `ring`: the greatest of the last places (`MaxRingBuf`).
 //! - `seek`: the place that moves and seeks show (`SeekMax`).
 //! - `style`: how a bar looks, with the names that the crate `indicatif` has there.
 //! - `progress_bar`: a bar that its owners share (`ProgressBar`, `WeakProgressBar`).
 //! - `machine`: the machine's clock, and bars on its terminals; all that this library asks of the machine.
+//! - `workers`: pieces of work, each in a thread of its own (`run_workers`, `Gate`).
 //! - `laws`: laws of the definitions.
 #![tactic(auto)]
 
@@ -22,6 +24,7 @@ pub mod laws;
 pub mod machine;
 mod moves;
 mod owned;
+mod parallel;
 mod polled;
 mod progress_bar;
 mod progress_iterator;
@@ -30,14 +33,17 @@ mod seek;
 mod seeking;
 mod streams;
 pub mod style;
+mod workers;
 mod wrap;
 
 pub use crate::moves::Moves;
 pub use crate::owned::OwnedBar;
 pub use crate::progress_bar::{ProgressBar, WeakProgressBar};
+pub use crate::parallel::ParallelProgressIterator;
 pub use crate::progress_iterator::ProgressIterator;
 pub use crate::ring::MaxRingBuf;
 pub use crate::seek::SeekMax;
+pub use crate::workers::{Gate, run_workers};
 pub use crate::wrap::ProgressBarIter;
 pub use indicatif_bar::lone::{LoneBar, LoneCall};
 pub use indicatif_bar::state::{

@@ -1,0 +1,86 @@
+//! Lists, block by block.
+use crate::stepped::bar_at;
+use indicatif::ParallelProgressIterator;
+use std::alloc::{AllocError, Global};
+use std::sync::atomic::{AtomicU64, Ordering};
+use std::test::Fail;
+
+/// The numbers below `count`.
+fn numbers(alloc: Global, count: u32) -> Result<Vec<u32>, AllocError> {
+    let mut items = Vec::new(alloc);
+    for k in 0..count {
+        items.push(k)?;
+    }
+    Ok(items)
+}
+
+#[test]
+fn ten_thousand_items_are_three_blocks(rt: HostRuntime) -> Result<(), Fail> {
+    let items = numbers(rt.alloc(), 10_000)?;
+    let list = items.as_slice().progress_with(bar_at(rt.alloc(), 0));
+    let (made, bar) = list.map_collect(&rt, rt.alloc(), |x: &u32| x.wrapping_mul(2));
+    let made = made?;
+    assert_eq!(rt; made.len(), 10_000);
+    for (k, x) in made.iter().enumerate() {
+        assert_eq!(rt; *x as usize, k.wrapping_mul(2));
+    }
+    assert!(rt; bar.steps.as_slice() == [4096, 4096, 1808].as_slice());
+    assert_eq!(rt; bar.position, 10_000);
+    assert!(rt; !bar.finished);
+    Ok(())
+}
+
+#[test]
+fn no_item_advances_nothing(rt: HostRuntime) -> Result<(), Fail> {
+    let none = numbers(rt.alloc(), 0)?;
+    let list = none.as_slice().progress_with(bar_at(rt.alloc(), 7));
+    let (made, bar) = list.map_collect(&rt, rt.alloc(), |x: &u32| x.wrapping_mul(2));
+    assert!(rt; made?.is_empty());
+    assert!(rt; bar.steps.is_empty());
+    assert_eq!(rt; bar.position, 7);
+    let (answer, bar) = none
+        .as_slice()
+        .progress_with(bar)
+        .for_each(&rt, |_x: &u32| ());
+    assert_eq!(rt; answer, Ok(()));
+    assert!(rt; bar.steps.is_empty());
+    Ok(())
+}
+
+#[test]
+fn one_item_is_a_block(rt: HostRuntime) -> Result<(), Fail> {
+    let one = [21u32];
+    let list = one.as_slice().progress_with(bar_at(rt.alloc(), 0));
+    let (made, bar) = list.map_collect(&rt, rt.alloc(), |x: &u32| x.wrapping_mul(2));
+    assert!(rt; made?.as_slice() == [42].as_slice());
+    assert!(rt; bar.steps.as_slice() == [1].as_slice());
+    Ok(())
+}
+
+#[test]
+fn a_whole_block_and_one_item_more(rt: HostRuntime) -> Result<(), Fail> {
+    let items = numbers(rt.alloc(), 4097)?;
+    let list = items.as_slice().progress_with(bar_at(rt.alloc(), 0));
+    let (made, bar) = list.map_collect(&rt, rt.alloc(), |x: &u32| *x);
+    assert!(rt; made? == items);
+    assert!(rt; bar.steps.as_slice() == [4096, 1].as_slice());
+    Ok(())
+}
+
+#[test]
+fn each_item_is_met_once(rt: HostRuntime) -> Result<(), Fail> {
+    let mut met = Vec::new(rt.alloc());
+    for _ in 0..10_000u32 {
+        met.push(AtomicU64::new(0))?;
+    }
+    let list = met.as_slice().progress_with(bar_at(rt.alloc(), 0));
+    let (answer, bar) = list.for_each(&rt, |times: &AtomicU64| {
+        times.fetch_add(1, Ordering::SeqCst);
+    });
+    assert_eq!(rt; answer, Ok(()));
+    assert!(rt; bar.steps.as_slice() == [4096, 4096, 1808].as_slice());
+    for times in met.iter() {
+        assert_eq!(rt; times.load(Ordering::SeqCst), 1);
+    }
+    Ok(())
+}

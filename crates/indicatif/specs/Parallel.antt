@@ -1,0 +1,25 @@
+-- What threads that work on a list block by block make of its bar.
+use Rattle.std.specs.Prelude.{◌≡◌, ℕ, ◌≤◌, ◌<◌, List, [], ◌∷◌, map, sum, Option, Result}
+use Rattle.std.specs.List.{AllByRecursion}
+use Rattle.indicatif_text.specs.declared.refusal.Drawn.{Drawn}
+use Rattle.indicatif_text.specs.declared.refusal.Refusal.{Refusal}
+use Rattle.indicatif.specs.Moves.{Standing, Move, Advance, Goes}
+
+-- the most items of a block
+abbrev pub block_length : ℕ
+block_length = 4096
+
+-- by what the bar tells, and where a move leads it with an answer
+module _ {P : Type 0} (told : P → Option Standing) (leads : P → Move → Result Drawn Refusal → P → Type 0) where
+  -- advances one after another, each with its answer
+  abbrev pub AdvancedAlong : List (ℕ × Result Drawn Refusal) → P → P → Type 0
+  AdvancedAlong [] old new = new ≡ old
+  AdvancedAlong (made ∷ others) old new =
+      (between : P) × leads old (Advance made.0) made.1 between × Goes (told old) (Advance made.0) made.1 (told between) × AdvancedAlong others between new
+
+  -- the bar was advanced by so many items in all, block by block: no block is empty or longer than a block may be
+  pub record Blocks (old : P) (items : ℕ) (new : P) : Type 0 where
+    pub made : List (ℕ × Result Drawn Refusal)
+    pub along : AdvancedAlong made old new
+    pub total : sum (map (λ x. x.0) made) ≡ items
+    pub sizes : AllByRecursion (λ n. (0 < n) × (n ≤ block_length)) (map (λ x. x.0) made)

@@ -1,0 +1,16 @@
+-- Pieces of work that threads do, and what their bar gets.
+use Rattle.std.specs.Prelude.{ℕ, ◌%◌, ◌^◌, List, sum_by, length, Option, Result, Vec}
+use Rattle.std.specs.declared.alloc.Global.{Global}
+use Rattle.indicatif_text.specs.declared.refusal.Drawn.{Drawn}
+use Rattle.indicatif_text.specs.declared.refusal.Refusal.{Refusal}
+use Rattle.indicatif.specs.Moves.{Standing, Move, Advance, Goes}
+
+-- how many items there are in all
+abbrev pub items_in : {T : Type 0} → List (Vec T Global) → ℕ
+items_in pieces = sum_by (λ piece. length piece.items) pieces
+
+-- by what the bar tells, and where a move leads it with an answer: the bar was advanced once by so many items, as 64 bits hold their number
+abbrev pub Absorbed : {P : Type 0} → (P → Option Standing) → (P → Move → Result Drawn Refusal → P → Type 0) → P → ℕ → P → Type 0
+Absorbed told leads old items new =
+    let move = Advance (items % 2 ^ 64) in
+    (answer : Result Drawn Refusal) × leads old move answer new × Goes (told old) move answer (told new)
