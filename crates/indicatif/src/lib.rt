@@ -43,13 +43,15 @@ pub use indicatif_bar::state::{
 pub use indicatif_bar::style::ProgressStyle;
 pub use indicatif_board::bar_id::BarId;
 pub use indicatif_board::done::{BarWorker, Done};
-pub use indicatif_board::multi::{Board, Candidate, Turned};
+pub use indicatif_board::multi::{
+    Answer, Board, Call, Candidate, InsertLocation, MultiState, Turned,
+};
 pub use indicatif_term::draw_target::{
     Engine, Facts, Keep, LineType, MultiProgressAlignment, ProgressDrawTarget, RateLimiter,
     Segment, Setup,
 };
 pub use indicatif_term::in_memory::{Cells, InMemoryTerm};
-pub use indicatif_term::term_like::{Term, TermLike};
+pub use indicatif_term::term_like::{Term, TermLike, write_whole};
 pub use indicatif_text::columns::{
     Clock, Drawn, Metrics, Moment, Piece, Pieces, Refusal, StepClock, Style, columns, pieces,
     width, wrapped,
