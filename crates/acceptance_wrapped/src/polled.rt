@@ -1,5 +1,8 @@
 //! Readers and writers that are polled by hand.
-ghost use Rattle.std.specs.Prelude.{⊤};
+ghost use Rattle.std.specs.Prelude.{◌≤◌, ⊤};
+ghost use Rattle.futures.specs.Poll.{OnPending};
+ghost use Rattle.futures.specs.Task.{Covers, Keeps};
+ghost use Rattle.tokio.specs.Io.Moved.{count_moved};
 
 use crate::counted::{Counted, stands, wrapped_at};
 use futures::task::{Context, Poll};
@@ -29,12 +32,16 @@ struct Scripted {
 
 impl Scripted {
     /// What a poll answers of so many bytes.
-    fn answer(&mut self, cx: &mut Context<'_>, length: usize) -> Poll<io::Result<usize>> {
+    fn answer(&mut self, cx: &mut Context<'_>, room: usize) -> Poll<io::Result<usize>>
+        ensures bound { count_moved result ≤ room }
+        ensures registered { OnPending result (Covers cx.new (λ _. ⊥)) }
+        ensures kept { Keeps cx.old cx.new }
+    {
         let at = self.polls;
         self.polls = self.polls.wrapping_add(1);
         match self.answers.get(at) {
             Some(Answer::Pending) => cx.yield_now(),
-            Some(Answer::Bytes(n)) => Poll::Ready(Ok(length.min(*n))),
+            Some(Answer::Bytes(n)) => Poll::Ready(Ok(room.min(*n))),
             Some(Answer::Fails(kind)) => Poll::Ready(Err(io::Error::from(*kind))),
             None => Poll::Ready(Ok(0)),
         }

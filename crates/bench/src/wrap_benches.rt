@@ -18,11 +18,14 @@ pub fn run(rt: &HostRuntime, name: &str, count: u64) -> Result<Option<Measured>>
     }
 }
 
-/// Numbers from 0 on with a bar of their count, which is hidden and reads the machine's clock at each of them. Its calls promise
-/// nothing here, and stand in the loops that call them.
+/// Numbers from 0 on with a bar of their count, which is hidden and reads the machine's clock at each of them. Its loop promises
+/// nothing here.
 #[derive(Drop)]
 struct Looped {
-    wrapped: ProgressBarIter<Range<u64>, OwnedBar<NoTracker, Term<Stderr>, MachineClock<HostRuntime>>>,
+    wrapped: ProgressBarIter<
+        Range<u64>,
+        OwnedBar<NoTracker, Term<Stderr>, MachineClock<HostRuntime>>,
+    >,
 }
 
 impl Looped {
@@ -37,9 +40,13 @@ impl Looped {
         })
     }
 
-    #[inline(always)]
-    fn next(&mut self) -> Option<u64> {
-        self.wrapped.next()
+    /// The numbers, added.
+    fn sum(&mut self) -> u64 {
+        let mut sum: u64 = 0;
+        for item in &mut self.wrapped {
+            sum = sum.wrapping_add(item);
+        }
+        sum
     }
 }
 
@@ -47,9 +54,6 @@ impl Looped {
 fn wrap_iter(rt: &HostRuntime, count: u64) -> Result<Measured> {
     let mut looped = Looped::over(rt, count)?;
     let start = Instant::now(rt)?;
-    let mut sum: u64 = 0;
-    while let Some(item) = looped.next() {
-        sum = sum.wrapping_add(item);
-    }
+    let sum = looped.sum();
     Ok(Measured::since(rt, start, count, Made::Sum(sum))?)
 }

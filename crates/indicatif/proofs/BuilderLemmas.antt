@@ -36,14 +36,17 @@ module _ {I K T C : Type 0} (m : Tracking K) (view : T → TermView) (old mid : 
 
   -- a bar that answered well, in time
   built : (command : Command K) (drawn : Drawn) → Answered command (Ok drawn) → IsFalse (is_beyond_clock command now) → MayBuild m view old command (Ok mid)
-  built command drawn obeys in_time = (record {
-    it = it;
-    seeks = seeks;
-    last = last;
-    moment = now;
-    answer = Ok drawn;
-    obeys = obeyed-well m view (lone_of old.progress) (lone_of mid.progress) command now drawn obeys;
-  }, in_time)
+  built command drawn obeys in_time = (
+    record {
+      it = it;
+      seeks = seeks;
+      last = last;
+      moment = now;
+      answer = Ok drawn;
+      obeys = obeyed-well m view (lone_of old.progress) (lone_of mid.progress) command now drawn obeys;
+    },
+    in_time,
+  )
 
   -- by a command that takes memory
   pub may_build : (command : Command K) (answer : Result Drawn Refusal) (result : Result (ProgressBarIter I (OwnedBar K T C)) Refusal)

@@ -56,7 +56,11 @@ impl<R: time::Clock> MachineClock<R> {
 fn nanos_told<R: time::Clock>(machine: &R) -> Option<u64> {
     let told = machine.monotonic().ok()?;
     let nanos = u64::from(told.subsec_nanos());
-    Some(told.as_secs().saturating_mul(1_000_000_000).saturating_add(nanos))
+    Some(
+        told.as_secs()
+            .saturating_mul(1_000_000_000)
+            .saturating_add(nanos),
+    )
 }
 
 /// It never goes back.
