@@ -18,6 +18,7 @@ built() {
 }
 built bars demo
 built replay format data/format.tsv
+built meter --help
 folder=$(mktemp -d) || exit 2
 trap 'rm -rf "$folder"' EXIT
 : > "$folder/empty"
@@ -26,12 +27,15 @@ printf 'HumanCount\t1000\t1000\n' > "$folder/other"
 cd "$folder" || exit 2
 
 passed=0 failed=0
-# wants STATUS ERRORS PROGRAM WORD ..: what the program answers, its standard output going to $out
+# wants STATUS ERRORS PROGRAM WORD ..: what the program answers, its standard output going to $out; one that isn't of this
+# repository is the system's
 out=/dev/null
 wants() {
-  local status=$1 errors=$2 got
+  local status=$1 errors=$2 got program
   shift 2
-  got=$("$crates/$1/out/$1" "${@:2}" 2>&1 > "$out"; echo "status $?")
+  program=$crates/$1/out/$1
+  [ -e "$program" ] || program=$1
+  got=$("$program" "${@:2}" 2>&1 > "$out"; echo "status $?")
   if [ "$got" = "${errors:+$errors$'\n'}status $status" ]; then
     passed=$((passed + 1))
   else
@@ -60,7 +64,28 @@ wants 2 'replay: heading has no rows' replay format heading
 wants 2 'replay: other is no kind of rows' replay other other
 wants 2 'replay: no file for format' replay format
 wants 1 '' replay format other
+
+# the pipe viewer: its standard error is no terminal here, so that its bar is hidden
+wants 0 '' meter < /dev/null
+wants 2 'meter: a size is a number as 700, 10M, 10MB or 1GiB' meter --size 10X
+wants 2 "error: unexpected argument '--bytes' found
+
+Usage: meter [OPTIONS]
+
+For more information, try '--help'." meter --bytes
+wants 2 "meter: the arguments can't be read" meter --name $'\xff'
+wants 1 'meter: standard input: is a directory' meter < .
+out=handed
+head -c 1000000 /dev/urandom > bytes
+wants 0 '' meter --size 1M --name copy < bytes
+out=/dev/null
+wants 0 '' cmp bytes handed
+mkfifo gone
+head -c 1 < gone > /dev/null &
+out=gone
+wants 141 '' meter < <(yes)
 out=/dev/full
+wants 3 'meter: standard output: no storage space' meter <<< abc
 wants 2 'bars: output failed' bars demo
 wants 2 'bars: output failed' bars run 2 10 <<< $'add x\ntick 1'
 echo "$passed as wanted, $failed otherwise"

@@ -1,6 +1,6 @@
 //! Measurements: `bench NAME N` does a piece of work N times and prints `NAME N seconds ns_per_op` and what was made in all:
-//! `bytes=..` that were written or read, `draws=..` behind them where they were drawn, `parts=..` of templates, or `rows=..` of
-//! lines. `bench` alone prints the names, one a line.
+//! `bytes=..` that were written or read, `draws=..` behind them where they were drawn, `parts=..` of templates, `rows=..` of
+//! lines, or the `sum=..` of the numbers of a loop. `bench` alone prints the names, one a line.
 //!
 //! - `measured`: what a measurement tells, and the values that it works on.
 //! - `format_benches`: the formatters, each written into one `String`.
@@ -11,6 +11,7 @@
 //! - `draw_benches`: drawings of a bar and of a board's frame.
 //! - `board_benches`: drawings of bars on a board.
 //! - `command_benches`: steps of a bar.
+//! - `wrap_benches`: a loop with a bar.
 #![tactic(auto)]
 
 mod board_benches;
@@ -22,6 +23,7 @@ mod shown;
 mod template_benches;
 mod terminal_benches;
 mod text_benches;
+mod wrap_benches;
 
 use crate::measured::Measured;
 use anyhow::{Result, bail};
@@ -65,7 +67,10 @@ fn measured_by(rt: &HostRuntime, name: &str, count: u64) -> Result<Option<Measur
     if let Some(measured) = board_benches::run(rt, name, count)? {
         return Ok(Some(measured));
     }
-    command_benches::run(rt, name, count)
+    if let Some(measured) = command_benches::run(rt, name, count)? {
+        return Ok(Some(measured));
+    }
+    wrap_benches::run(rt, name, count)
 }
 
 /// Prints the names of the measurements.
@@ -89,6 +94,9 @@ fn names(rt: &HostRuntime) -> Result<()> {
         println!(rt; "{name}")?;
     }
     for name in command_benches::NAMES {
+        println!(rt; "{name}")?;
+    }
+    for name in wrap_benches::NAMES {
         println!(rt; "{name}")?;
     }
     Ok(())

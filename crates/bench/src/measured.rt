@@ -24,6 +24,8 @@ pub enum Made {
     Rows(u64),
     /// So many bytes written, in so many drawings.
     Drawn { bytes: u64, draws: u64 },
+    /// The numbers of a loop, added.
+    Sum(u64),
 }
 
 impl Measured {
@@ -45,6 +47,7 @@ impl fmt::Display for Made {
             Made::Parts(parts) => write!(f, "parts={parts}"),
             Made::Rows(rows) => write!(f, "rows={rows}"),
             Made::Drawn { bytes, draws } => write!(f, "bytes={bytes} draws={draws}"),
+            Made::Sum(sum) => write!(f, "sum={sum}"),
         }
     }
 }

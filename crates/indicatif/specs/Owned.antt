@@ -1,5 +1,5 @@
 -- A lone bar with a clock of its own: where it stands, and what a move makes of it.
-use Rattle.std.specs.Prelude.{◌≡◌, ℕ, List, map, Option, None, Result, Ok, Err, codes}
+use Rattle.std.specs.Prelude.{◌≡◌, ℕ, List, map, Option, None, Result, Ok, Err, codes, IsFalse}
 use Rattle.indicatif_text.specs.declared.refusal.Drawn.{Drawn}
 use Rattle.indicatif_text.specs.declared.refusal.Refusal.{Refusal}
 use Rattle.indicatif_text.specs.Template.{TemplatePart, Parses}
@@ -10,10 +10,10 @@ use Rattle.indicatif_bar.specs.Progress.{is_finished}
 use Rattle.indicatif_bar.specs.Finishes.{Finish, AndLeave, WithMessage, AndClear, Abandon, AbandonWithMessage}
 use Rattle.indicatif_bar.specs.Trackers.{Tracking}
 use Rattle.indicatif_bar.specs.Builders.{first_style}
-use Rattle.indicatif_bar.specs.Commands.{BarRecord, Command, Inc, SetPosition, FinishUsingStyle, new_bar}
+use Rattle.indicatif_bar.specs.Commands.{BarRecord, Command, Inc, SetPosition, FinishUsingStyle, new_bar, is_beyond_clock}
 use Rattle.indicatif_bar.specs.Runs.{Runs, Headline}
 use Rattle.indicatif_bar.specs.Lone.{LoneState, Call, Change, opening_state}
-use Rattle.indicatif_bar.specs.LoneBars.{record_of, terminal_of, known, lone_bar, IsIn, Obeys, ObeysOrNot}
+use Rattle.indicatif_bar.specs.LoneBars.{record_of, terminal_of, known, lone_bar, IsIn, Obeys, ObeysOrNot, RefusesCommand}
 use Rattle.indicatif_bar.specs.declared.lone.LoneBar.{LoneBar}
 use Rattle.indicatif.specs.Moves.{Standing, Move, Advance, PlaceAt, FinishAsStored}
 use Rattle.indicatif.specs.Wrap.{inner_of, seeks_kept, last_draw_of}
@@ -85,7 +85,8 @@ module _ {I K T C : Type 0} (m : Tracking K) (view : T → TermView) where
     pub answer : Result Drawn Refusal
     pub obeys : Obeys m view (lone_of old.progress) (lone_of new.progress) command moment answer
 
-  -- its bar obeyed a command, at some moment and with some answer; or refused it, and the wrapper was given up with its bar
+  -- its bar obeyed a command, at some moment of its clock and with some answer, no earlier than the command asks; or it refused the
+  -- command for want of memory, or since its elapsed time is beyond that moment, and the wrapper was given up with its bar
   abbrev pub MayBuild : ProgressBarIter I (OwnedBar K T C) → Command K → Result (ProgressBarIter I (OwnedBar K T C)) Refusal → Type 0
-  MayBuild old command (Ok new) = Built old command new
-  MayBuild old command (Err e) = (bar : LoneBar K T) × (now : ℕ) × ObeysOrNot m view (lone_of old.progress) bar command now (Err e)
+  MayBuild old command (Ok new) = (built : Built old command new) × IsFalse (is_beyond_clock command built.moment)
+  MayBuild old command (Err e) = (now : ℕ) × RefusesCommand command (record_of (lone_of old.progress)) now e

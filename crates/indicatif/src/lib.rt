@@ -38,8 +38,8 @@ mod wrap;
 
 pub use crate::moves::Moves;
 pub use crate::owned::OwnedBar;
-pub use crate::progress_bar::{ProgressBar, WeakProgressBar};
 pub use crate::parallel::ParallelProgressIterator;
+pub use crate::progress_bar::{ProgressBar, WeakProgressBar};
 pub use crate::progress_iterator::ProgressIterator;
 pub use crate::ring::MaxRingBuf;
 pub use crate::seek::SeekMax;
@@ -52,13 +52,15 @@ pub use indicatif_bar::state::{
 pub use indicatif_bar::style::ProgressStyle;
 pub use indicatif_board::bar_id::BarId;
 pub use indicatif_board::done::{BarWorker, Done};
-pub use indicatif_board::multi::{Board, Candidate, Recorded, Turned};
+pub use indicatif_board::multi::{
+    Answer, Board, Call, Candidate, InsertLocation, MultiState, Recorded, Turned,
+};
 pub use indicatif_term::draw_target::{
     Engine, Facts, Keep, LineType, MultiProgressAlignment, ProgressDrawTarget, RateLimiter,
     Segment, Setup,
 };
 pub use indicatif_term::in_memory::{Cells, InMemoryTerm};
-pub use indicatif_term::term_like::{Term, TermLike};
+pub use indicatif_term::term_like::{Term, TermLike, write_whole};
 pub use indicatif_text::columns::{
     Clock, Drawn, Metrics, Moment, Piece, Pieces, Refusal, StepClock, Style, columns, pieces,
     width, wrapped,

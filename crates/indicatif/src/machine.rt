@@ -9,7 +9,7 @@ use indicatif_text::columns::{Clock, Moment, Refusal};
 use std::env::{self, Env, VarError};
 use std::io::{BufWriter, IsTerminal, Stderr, Stdout, Write};
 use std::marker::Model;
-use std::time::{self, Instant};
+use std::time;
 
 /// The machine's clock, in nanoseconds since it was made; contracts see the moment that it told last. Where the machine refuses
 /// to tell the time, the clock stands.
@@ -19,7 +19,7 @@ use std::time::{self, Instant};
 #[derive(Drop)]
 pub struct MachineClock<R> {
     machine: R,
-    opened: Option<Instant>,
+    opened: Option<u64>,
     told: Moment,
 }
 
@@ -36,7 +36,7 @@ impl<R: time::Clock> MachineClock<R> {
     pub fn new(machine: R) -> MachineClock<R>
         ensures { result ≡ 0 }
     {
-        let opened = Instant::now(&machine).ok();
+        let opened = nanos_told(&machine);
         MachineClock {
             machine,
             opened,
@@ -45,14 +45,27 @@ impl<R: time::Clock> MachineClock<R> {
     }
 
     /// The nanoseconds since it began, where the machine tells the time.
+    #[inline(always)]
     fn since_opened(&self) -> Option<Moment> {
-        let since = self.opened?.elapsed(&self.machine).ok()?;
-        Some(u64::try_from(since.as_nanos()).unwrap_or(u64::MAX))
+        Some(nanos_told(&self.machine)?.saturating_sub(self.opened?))
     }
 }
 
-/// It never goes back, and stays at 2^64 - 1 after 584 years.
+/// The nanoseconds that the machine's clock tells, from a start of its own on; 2^64 - 1 after 584 years.
+#[inline(always)]
+fn nanos_told<R: time::Clock>(machine: &R) -> Option<u64> {
+    let told = machine.monotonic().ok()?;
+    let nanos = u64::from(told.subsec_nanos());
+    Some(
+        told.as_secs()
+            .saturating_mul(1_000_000_000)
+            .saturating_add(nanos),
+    )
+}
+
+/// It never goes back.
 impl<R: time::Clock> Clock for MachineClock<R> {
+    #[inline(always)]
     fn now(&mut self) -> Moment
         ensures told { self.new ≡ result }
         ensures forward { self.old ≤ result }

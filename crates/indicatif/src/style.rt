@@ -2,5 +2,5 @@
 pub use indicatif_bar::style::{
     FnTracker, NoTracker, ProgressStyle, ProgressTracker, TICKS, TellsText,
 };
-pub use indicatif_text::columns::write_ansi_range;
+pub use indicatif_text::columns::{TemplateState, write_ansi_range};
 pub use indicatif_text::template::TemplateError;

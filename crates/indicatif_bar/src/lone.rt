@@ -69,7 +69,7 @@ pub struct LoneBar<K, T: Drop> {
 }
 
 impl<K: ProgressTracker, T: TermLike + Drop> LoneBar<K, T> {
-    ghost use Rattle.indicatif_bar.specs.Commands.{Command, Tick, TickerTick, SetTicker, Inc, Dec, SetPosition, Update, SetLength, UnsetLength, IncLength, DecLength, SetMessage, SetPrefix, SetStyle, PutPosition, PutMessage, PutPrefix, PutFinish, PutTabWidth, SetTabWidth, SetElapsed, ResetEta, ResetElapsed, Reset, FinishBy, FinishUsingStyle, ForceDraw, obeyed, command_of};
+    ghost use Rattle.indicatif_bar.specs.Commands.{Command, Tick, TickerTick, SetTicker, Inc, Dec, SetPosition, Update, SetLength, UnsetLength, IncLength, DecLength, SetMessage, SetPrefix, SetStyle, PutPosition, PutMessage, PutPrefix, PutFinish, PutTabWidth, SetTabWidth, SetElapsed, ResetEta, ResetElapsed, Reset, FinishBy, FinishUsingStyle, ForceDraw, obeyed, takes_memory, command_of};
     ghost use Rattle.indicatif_bar.specs.Bars.{bar_kind};
     ghost use Rattle.indicatif_bar.specs.Inside.Draws.{DrewOn};
     ghost use Rattle.indicatif_bar.specs.Inside.Shown.{writing_as};
@@ -318,7 +318,10 @@ impl<K: ProgressTracker, T: TermLike + Drop> LoneBar<K, T> {
 
     /// Another style, with the bar's width of tabs. No draw is asked. A style that is refused is given up.
     pub fn set_style(&mut self, style: ProgressStyle<K>, now: Moment) -> Result<Drawn, Refusal>
-        ensures { ObeysOrNot K.means T.view self.old self.new (SetStyle style) now result }
+        ensures obeys { ObeysOrNot K.means T.view self.old self.new (SetStyle style) now result }
+        ensures memory { IfErr result (λ e. (e ≡ Refusal.Memory)
+            × IsTrue (takes_memory (SetStyle style) (record_of self.old))) }
+        ensures unchanged { OnErr result (self.new ≡ self.old) }
     {
         let asked = self.shown.bar.set_style(style, now);
         self.obey_unless(asked, now)
@@ -339,7 +342,10 @@ impl<K: ProgressTracker, T: TermLike + Drop> LoneBar<K, T> {
 
     /// Another message. No draw is asked.
     pub fn with_message(&mut self, text: &str, now: Moment) -> Result<Drawn, Refusal>
-        ensures { ObeysOrNot K.means T.view self.old self.new (PutMessage text.now) now result }
+        ensures obeys { ObeysOrNot K.means T.view self.old self.new (PutMessage text.now) now result }
+        ensures memory { IfErr result (λ e. (e ≡ Refusal.Memory)
+            × IsTrue (takes_memory (PutMessage text.now) (record_of self.old))) }
+        ensures unchanged { OnErr result (self.new ≡ self.old) }
     {
         let asked = self.shown.bar.with_message(text, now);
         self.obey_unless(asked, now)
@@ -347,7 +353,10 @@ impl<K: ProgressTracker, T: TermLike + Drop> LoneBar<K, T> {
 
     /// Another prefix. No draw is asked.
     pub fn with_prefix(&mut self, text: &str, now: Moment) -> Result<Drawn, Refusal>
-        ensures { ObeysOrNot K.means T.view self.old self.new (PutPrefix text.now) now result }
+        ensures obeys { ObeysOrNot K.means T.view self.old self.new (PutPrefix text.now) now result }
+        ensures memory { IfErr result (λ e. (e ≡ Refusal.Memory)
+            × IsTrue (takes_memory (PutPrefix text.now) (record_of self.old))) }
+        ensures unchanged { OnErr result (self.new ≡ self.old) }
     {
         let asked = self.shown.bar.with_prefix(text, now);
         self.obey_unless(asked, now)
@@ -374,6 +383,7 @@ impl<K: ProgressTracker, T: TermLike + Drop> LoneBar<K, T> {
     pub fn set_elapsed(&mut self, nanos: u64, now: Moment) -> Result<Drawn, Refusal>
         ensures obeys { ObeysOrNot K.means T.view self.old self.new (SetElapsed nanos) now result }
         ensures beyond { (result ≡ Err Refusal.ElapsedBeyondClock) ↔ (now < nanos) }
+        ensures no_other { IfErr result (λ e. e ≡ Refusal.ElapsedBeyondClock) }
         ensures unchanged { OnErr result (self.new ≡ self.old) }
         ensures limited { IfOk result (λ drawn. drawn ≡ Drawn.Limited) }
     {

@@ -149,8 +149,14 @@ impl<W: Write> TermLike for Term<W> {
     }
 }
 
-/// Writes all of these bytes, or a beginning of them where the writer fails or takes no more.
-fn write_whole<W: Write>(writer: &mut W, bytes: &[u8]) -> io::Result<()>
+/// Writes all of these bytes, or a beginning of them where the writer fails or takes no more. An interrupted call is made again.
+///
+/// ```
+/// write_whole(&mut writer, b"ab")?; // both bytes, where `writer.write(b"ab")` may take one
+/// ```
+///
+/// Failed: as the writer is, and with `WriteZero` where it takes no more.
+pub fn write_whole<W: Write>(writer: &mut W, bytes: &[u8]) -> io::Result<()>
     ensures { AppendsAllOrFront (W.contents writer.old) (W.contents writer.new) bytes.now result }
 {
     let mut rest = bytes;

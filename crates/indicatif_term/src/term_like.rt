@@ -2,7 +2,7 @@
 ghost use Rattle.std.specs.Prelude.{◌≡◌, ◌^◌, ◌<◌, []};
 ghost use Rattle.indicatif_term.specs.Calls.{TermView, Writes, move_bytes, line_bytes, clear_bytes, UP, DOWN, RIGHT, LEFT};
 
-pub use crate::term::Term;
+pub use crate::term::{Term, write_whole};
 use std::io;
 
 /// A terminal that bars can be drawn on.

@@ -1,15 +1,10 @@
 -- Bytes that go on, read by read and write by write, are those that came.
-use Rattle.std.proofs.Common.{◌≡◌, ℕ, List, [], ◌++◌, ◌-◌, Option, Result, Ok, Err, Bool, true, false, sym, ap, ◌∙◌, subst, length, take, drop, append_assoc, append-nil, take-append-drop}
+use Rattle.std.proofs.Common.{◌≡◌, ℕ, List, [], ◌++◌, Option, Result, Ok, Err, Bool, true, false, sym, subst, append_assoc, append-nil}
 use Rattle.std.specs.Io.KnownBytes.{Consumes, IsAtEnd}
 use Rattle.std.proofs.KnownBytes.{Consumes-trans, Appends-trans}
-use Rattle.std.proofs.lemmas.List.{take_rest}
 use Rattle.meter.specs.declared.passing.Broken.{Broken}
 use Rattle.meter.specs.declared.passing.Broken.TheVariants.{Input, Output}
 use Rattle.meter.specs.Passing.{Passes, PassedOr, PassedSome}
-
-pub moves_on : (all done rest : List ℕ) (n : ℕ) → all ≡ done ++ rest → all ≡ (done ++ take n rest) ++ take (length rest - n) (drop n rest)
-moves_on all done rest n e =
-    e ∙ ap (λ l. done ++ l) (sym (take-append-drop n rest)) ∙ sym (append_assoc done (take n rest) (drop n rest)) ∙ ap (λ l. (done ++ take n rest) ++ l) (sym (take_rest rest n))
 
 -- what came went, and then what came after it, but for what waits
 pub passes_on : (a b c u v w : Option (List ℕ)) (waiting : List ℕ) → Passes a b u v [] → Passes b c v w waiting → Passes a c u w waiting

@@ -12,6 +12,8 @@
 //! - `shown`: how the bytes are shown.
 #![tactic(auto)]
 
+ghost use Rattle.std.specs.Prelude.{◌<◌, length};
+
 mod arguments;
 mod passing;
 mod shown;
@@ -24,8 +26,12 @@ use shown::{Metered, metered};
 use std::io::{ErrorKind, Write};
 use std::process::ExitCode;
 
-/// The bytes of a buffer: what a pipe holds at most.
-const BUFFER: usize = 65_536;
+/// The bytes of the buffer: as many as `cat` has.
+const BUFFER: usize = 131_072;
+
+/// The bytes in front of the buffer. The C library of Linux gives a block of this size from byte 16 of a page on, so that the
+/// buffer begins with a page, from and to which the system copies fastest.
+const FRONT: usize = 4_080;
 
 fn main(rt: HostRuntime) -> ExitCode {
     match arguments::what_is_asked(&rt) {
@@ -37,14 +43,20 @@ fn main(rt: HostRuntime) -> ExitCode {
 /// Hands everything on, shown as it is asked for.
 fn meter(rt: &HostRuntime, asked: &Asked) -> Result<Result<(), Broken>, Refusal> {
     let mut input = metered(rt, asked)?;
-    Ok(shown_passing(&mut input, &mut rt.stdout()))
+    let mut block = vec![in rt.alloc(); 0u8; FRONT + BUFFER]?;
+    Ok(shown_passing(&mut input, &mut rt.stdout(), &mut block[FRONT..]))
 }
 
 /// Hands everything on, with the bar shown before the first byte and after the last. What a drawing answers holds nothing up.
-fn shown_passing<W: Write>(input: &mut Metered, output: &mut W) -> Result<(), Broken> {
-    let mut buffer = [0u8; BUFFER];
+fn shown_passing<W: Write>(
+    input: &mut Metered,
+    output: &mut W,
+    buffer: &mut [u8],
+) -> Result<(), Broken>
+    requires { 0 < length buffer.old }
+{
     let _ = input.progress.place(0);
-    let passed = pass_on(input, output, &mut buffer);
+    let passed = pass_on(input, output, buffer);
     let _ = input.progress.finish();
     passed
 }

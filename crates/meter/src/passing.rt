@@ -1,9 +1,9 @@
 //! Bytes handed on.
 ghost use Rattle.std.specs.Prelude.{◌≡◌, ◌<◌, length};
-ghost use Rattle.indicatif_term.specs.Writers.{AppendsAllOrFront};
 ghost use Rattle.meter.specs.Passing.{PassedAll, PassedSome};
 
-use std::io::{self, ErrorKind, Read, Write};
+use indicatif::write_whole;
+use std::io::{ErrorKind, Read, Write};
 
 /// Where bytes that were handed on broke off.
 #[derive(Clone, Copy, Debug, Drop, PartialEq, Eq)]
@@ -57,26 +57,4 @@ fn pass_some<R: Read, W: Write>(
             kind => Err(Broken::Input(kind)),
         },
     }
-}
-
-/// Writes all of these bytes, or a beginning of them where the writer fails or takes no more.
-fn write_whole<W: Write>(writer: &mut W, bytes: &[u8]) -> io::Result<()>
-    ensures { AppendsAllOrFront (W.contents writer.old) (W.contents writer.new) bytes.now result }
-{
-    let mut rest = bytes;
-    for _ in 0..u64::MAX {
-        if rest.is_empty() {
-            return Ok(());
-        }
-        match writer.write(rest) {
-            Ok(0) => return Err(io::Error::from(ErrorKind::WriteZero)),
-            Ok(n) => rest = &rest[n..],
-            Err(e) => {
-                if e.kind() != ErrorKind::Interrupted {
-                    return Err(e);
-                }
-            }
-        }
-    }
-    Err(io::Error::from(ErrorKind::TimedOut))
 }

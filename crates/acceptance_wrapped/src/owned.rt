@@ -2,8 +2,8 @@
 //! 16 cells of a wide bar for 1 of 3, 2 of 3 and 3 of 3, rounded down.
 use indicatif::style::NoTracker;
 use indicatif::{
-    Drawn, InMemoryTerm, OwnedBar, ProgressBarIter, ProgressDrawTarget, ProgressFinish, ProgressIterator, Refusal,
-    Setup, StepClock,
+    Drawn, InMemoryTerm, OwnedBar, ProgressBarIter, ProgressDrawTarget, ProgressFinish,
+    ProgressIterator, Refusal, Setup, StepClock,
 };
 use std::alloc::Global;
 use std::test::Fail;
@@ -28,14 +28,18 @@ fn setup(alloc: Global) -> Result<Setup<InMemoryTerm, StepClock>, Refusal> {
 }
 
 impl Looped {
+    /// A loop whose bar is finished by this, or as a bar is that was told nothing.
     fn over(
         alloc: Global,
         items: Vec<u32>,
-        finish: ProgressFinish,
+        finish: Option<ProgressFinish>,
     ) -> Result<Looped, Refusal> {
         let wrapped = items.into_iter().progress(alloc, setup(alloc)?)?;
         Ok(Looped {
-            wrapped: wrapped.with_finish(finish),
+            wrapped: match finish {
+                Some(finish) => wrapped.with_finish(finish),
+                None => wrapped,
+            },
         })
     }
 
@@ -69,7 +73,7 @@ impl Looped {
 #[test]
 fn a_loop_with_a_bar_of_its_own(rt: HostRuntime) -> Result<(), Fail> {
     let items = vec![in rt.alloc(); 7u32, 8, 9]?;
-    let mut looped = Looped::over(rt.alloc(), items, ProgressFinish::AndLeave)?;
+    let mut looped = Looped::over(rt.alloc(), items, Some(ProgressFinish::AndLeave))?;
     assert!(rt; looped.shows("")?);
     assert_eq!(rt; looped.last_draw(), None);
     assert_eq!(rt; looped.next(), Some(7));
@@ -89,7 +93,7 @@ fn a_loop_with_a_bar_of_its_own(rt: HostRuntime) -> Result<(), Fail> {
 #[test]
 fn a_loop_whose_bar_goes_away(rt: HostRuntime) -> Result<(), Fail> {
     let items = vec![in rt.alloc(); 7u32]?;
-    let mut looped = Looped::over(rt.alloc(), items, ProgressFinish::AndClear)?;
+    let mut looped = Looped::over(rt.alloc(), items, Some(ProgressFinish::AndClear))?;
     assert_eq!(rt; looped.next(), Some(7));
     assert!(rt; looped.shows("████████████████ 1/1")?);
     assert_eq!(rt; looped.next(), None);
@@ -97,5 +101,20 @@ fn a_loop_whose_bar_goes_away(rt: HostRuntime) -> Result<(), Fail> {
     // Once more at the end: the bar is finished already.
     assert_eq!(rt; looped.next(), None);
     assert_eq!(rt; looped.position(), 1);
+    Ok(())
+}
+
+#[test]
+fn a_bar_that_was_told_no_finish_goes_away(rt: HostRuntime) -> Result<(), Fail> {
+    let items = vec![in rt.alloc(); 1u32, 2, 3]?;
+    let mut looped = Looped::over(rt.alloc(), items, None)?;
+    assert_eq!(rt; looped.next(), Some(1));
+    assert_eq!(rt; looped.next(), Some(2));
+    assert_eq!(rt; looped.next(), Some(3));
+    assert!(rt; !looped.is_finished());
+    assert!(rt; looped.shows("████████████████ 3/3")?);
+    assert_eq!(rt; looped.next(), None);
+    assert!(rt; looped.is_finished());
+    assert!(rt; looped.shows("")?);
     Ok(())
 }

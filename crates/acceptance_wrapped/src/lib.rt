@@ -1,0 +1,29 @@
+//! Tests of wrapped iterators, readers, writers and streams, with values from outside. Each goes through crate `indicatif` alone.
+//!
+//! - `counted`: a bar of the tests', and wrappers over it.
+//! - `places`: the greatest of the last places, and the place that moves and seeks show.
+//! - `items`: lists from both ends. `owned`: loops with a bar of their own on a terminal in memory.
+//! - `readers`, `buffered`, `seeks`, `writers`: bytes that are read and written.
+//! - `streams`, `polled`: streams, and readers and writers that are polled.
+#![tactic(auto)]
+
+#[cfg(test)]
+mod buffered;
+#[cfg(test)]
+mod counted;
+#[cfg(test)]
+mod items;
+#[cfg(test)]
+mod owned;
+#[cfg(test)]
+mod places;
+#[cfg(test)]
+mod polled;
+#[cfg(test)]
+mod readers;
+#[cfg(test)]
+mod seeks;
+#[cfg(test)]
+mod streams;
+#[cfg(test)]
+mod writers;

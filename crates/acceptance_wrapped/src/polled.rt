@@ -1,0 +1,194 @@
+//! Readers and writers that are polled by hand.
+ghost use Rattle.std.specs.Prelude.{◌≤◌, ⊤};
+ghost use Rattle.futures.specs.Poll.{OnPending};
+ghost use Rattle.futures.specs.Task.{Covers, Keeps};
+ghost use Rattle.tokio.specs.Io.Moved.{count_moved};
+
+use crate::counted::{Counted, stands, wrapped_at};
+use futures::task::{Context, Poll};
+use futures::test::MockTask;
+use indicatif::ProgressBarIter;
+use std::io::{self, ErrorKind};
+use std::test::Fail;
+use tokio::io::{AsyncRead, AsyncWrite};
+
+/// What a poll answers next.
+#[derive(Clone, Copy, Drop)]
+enum Answer {
+    /// It isn't ready.
+    Pending,
+    /// At most so many bytes.
+    Bytes(usize),
+    /// This error.
+    Fails(ErrorKind),
+}
+
+/// A reader of `x`, and a writer, whose polls answer these, one after another, and then the end.
+#[derive(Drop)]
+struct Scripted {
+    answers: [Answer; 4],
+    polls: usize,
+}
+
+impl Scripted {
+    /// What a poll answers of so many bytes.
+    fn answer(&mut self, cx: &mut Context<'_>, room: usize) -> Poll<io::Result<usize>>
+        ensures bound { count_moved result ≤ room }
+        ensures registered { OnPending result (Covers cx.new (λ _. ⊥)) }
+        ensures kept { Keeps cx.old cx.new }
+    {
+        let at = self.polls;
+        self.polls = self.polls.wrapping_add(1);
+        match self.answers.get(at) {
+            Some(Answer::Pending) => cx.yield_now(),
+            Some(Answer::Bytes(n)) => Poll::Ready(Ok(room.min(*n))),
+            Some(Answer::Fails(kind)) => Poll::Ready(Err(io::Error::from(*kind))),
+            None => Poll::Ready(Ok(0)),
+        }
+    }
+}
+
+impl AsyncRead for Scripted {
+    ghost reads = { λ _ _ _. ⊤ };
+
+    ghost is_at_end = { λ _. ⊤ };
+
+    ghost reads_nothing = { λ _. tt };
+
+    ghost reads_in_order = { λ _ _ _ _ _ _ _. tt };
+
+    fn poll_read(&mut self, cx: &mut Context<'_>, buf: &mut [u8]) -> Poll<io::Result<usize>> {
+        let polled = self.answer(cx, buf.len());
+        if let Poll::Ready(Ok(n)) = &polled {
+            buf[..*n].fill(b'x');
+        }
+        polled
+    }
+}
+
+impl AsyncWrite for Scripted {
+    ghost writes = { λ _ _ _. ⊤ };
+
+    ghost writes_nothing = { λ _. tt };
+
+    ghost writes_in_order = { λ _ _ _ _ _ _ _. tt };
+
+    fn poll_write(&mut self, cx: &mut Context<'_>, buf: &[u8]) -> Poll<io::Result<usize>> {
+        self.answer(cx, buf.len())
+    }
+
+    fn poll_flush(&mut self, cx: &mut Context<'_>) -> Poll<io::Result<()>> {
+        cx.yield_now()
+    }
+
+    fn poll_shutdown(&mut self, _cx: &mut Context<'_>) -> Poll<io::Result<()>> {
+        Poll::Ready(Ok(()))
+    }
+}
+
+/// A reader or writer of these answers, wrapped.
+fn answering(answers: [Answer; 4]) -> ProgressBarIter<Scripted, Counted> {
+    wrapped_at(Scripted { answers, polls: 0 }, 0)
+}
+
+/// What a poll came to.
+#[derive(Debug, Drop, PartialEq, Eq)]
+enum Came {
+    Pending,
+    Bytes(usize),
+    Failed(ErrorKind),
+}
+
+/// What a poll came to.
+fn outcome(polled: Poll<io::Result<usize>>) -> Came {
+    match polled {
+        Poll::Pending => Came::Pending,
+        Poll::Ready(Ok(n)) => Came::Bytes(n),
+        Poll::Ready(Err(e)) => Came::Failed(e.kind()),
+    }
+}
+
+/// What one poll of the task reads into this room.
+fn read<T: AsyncRead>(
+    task: &MockTask,
+    wrapped: &mut ProgressBarIter<T, Counted>,
+    room: &mut [u8],
+) -> Came {
+    outcome(task.enter(|cx| wrapped.poll_read(cx, room)))
+}
+
+/// What one poll of the task writes of `abcdef`.
+fn write(task: &MockTask, wrapped: &mut ProgressBarIter<Scripted, Counted>) -> Came {
+    outcome(task.enter(|cx| wrapped.poll_write(cx, b"abcdef")))
+}
+
+#[test]
+fn bytes_are_read(rt: HostRuntime) -> Result<(), Fail> {
+    let task = MockTask::new(&rt)?;
+    let mut wrapped = wrapped_at("abcdef".as_bytes(), 0);
+    let mut room = [0u8; 4];
+    assert_eq!(rt; read(&task, &mut wrapped, &mut room), Came::Bytes(4));
+    assert!(rt; room.as_slice() == "abcd".as_bytes());
+    assert_eq!(rt; stands(&wrapped), (4, 1));
+    assert_eq!(rt; read(&task, &mut wrapped, &mut room), Came::Bytes(2));
+    assert!(rt; room.as_slice() == "efcd".as_bytes());
+    assert_eq!(rt; stands(&wrapped), (6, 2));
+    assert_eq!(rt; read(&task, &mut wrapped, &mut room), Came::Bytes(0));
+    assert_eq!(rt; wrapped.progress.position, 6);
+    Ok(())
+}
+
+#[test]
+fn a_pending_read_changes_nothing(rt: HostRuntime) -> Result<(), Fail> {
+    let task = MockTask::new(&rt)?;
+    let fails = Answer::Fails(ErrorKind::ConnectionReset);
+    let mut wrapped = answering([Answer::Pending, Answer::Bytes(3), Answer::Pending, fails]);
+    let mut room = [0u8; 8];
+    assert_eq!(rt; read(&task, &mut wrapped, &mut room), Came::Pending);
+    assert_eq!(rt; stands(&wrapped), (0, 0));
+    assert_eq!(rt; wrapped.last_draw(), None);
+    assert_eq!(rt; read(&task, &mut wrapped, &mut room), Came::Bytes(3));
+    assert_eq!(rt; stands(&wrapped), (3, 1));
+    assert_eq!(rt; read(&task, &mut wrapped, &mut room), Came::Pending);
+    assert_eq!(rt; stands(&wrapped), (3, 1));
+    // An error leaves the position.
+    assert_eq!(rt;
+        read(&task, &mut wrapped, &mut room),
+        Came::Failed(ErrorKind::ConnectionReset)
+    );
+    assert_eq!(rt; wrapped.progress.position, 3);
+    assert_eq!(rt; read(&task, &mut wrapped, &mut room), Came::Bytes(0));
+    assert_eq!(rt; wrapped.progress.position, 3);
+    Ok(())
+}
+
+#[test]
+fn a_pending_write_changes_nothing(rt: HostRuntime) -> Result<(), Fail> {
+    let task = MockTask::new(&rt)?;
+    let fails = Answer::Fails(ErrorKind::StorageFull);
+    let mut wrapped = answering([Answer::Pending, Answer::Bytes(2), fails, Answer::Bytes(9)]);
+    assert_eq!(rt; write(&task, &mut wrapped), Came::Pending);
+    assert_eq!(rt; stands(&wrapped), (0, 0));
+    assert_eq!(rt; write(&task, &mut wrapped), Came::Bytes(2));
+    assert_eq!(rt; stands(&wrapped), (2, 1));
+    // An error moves nothing.
+    assert_eq!(rt;
+        write(&task, &mut wrapped),
+        Came::Failed(ErrorKind::StorageFull)
+    );
+    assert_eq!(rt; stands(&wrapped), (2, 1));
+    assert_eq!(rt; write(&task, &mut wrapped), Came::Bytes(6));
+    assert_eq!(rt; stands(&wrapped), (8, 2));
+    Ok(())
+}
+
+#[test]
+fn a_flush_and_a_shutdown_change_nothing(rt: HostRuntime) -> Result<(), Fail> {
+    let task = MockTask::new(&rt)?;
+    let mut wrapped = answering([Answer::Pending; 4]);
+    assert!(rt; task.enter(|cx| wrapped.poll_flush(cx)).is_pending());
+    assert!(rt; task.enter(|cx| wrapped.poll_shutdown(cx)).is_ready());
+    assert_eq!(rt; stands(&wrapped), (0, 0));
+    assert!(rt; !wrapped.progress.finished);
+    Ok(())
+}

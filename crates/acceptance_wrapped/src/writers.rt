@@ -1,0 +1,52 @@
+//! Writers: one that takes less than it was given, and one that fails.
+use crate::counted::{stands, wrapped_at};
+use std::io::{self, ErrorKind, Write};
+use std::test::Fail;
+
+/// A writer that takes at most two bytes a call, and fails at the third call.
+#[derive(Drop)]
+struct Narrow {
+    calls: u32,
+}
+
+impl Write for Narrow {
+    fn write(&mut self, buf: &[u8]) -> io::Result<usize> {
+        self.calls = self.calls.wrapping_add(1);
+        if self.calls > 2 {
+            return Err(io::Error::from(ErrorKind::StorageFull));
+        }
+        Ok(buf.len().min(2))
+    }
+
+    fn flush(&mut self) -> io::Result<()> {
+        Ok(())
+    }
+}
+
+#[test]
+fn what_was_taken_places(rt: HostRuntime) -> Result<(), Fail> {
+    let mut wrapped = wrapped_at(Narrow { calls: 0 }, 0);
+    assert_eq!(rt; wrapped.write("abcdef".as_bytes())?, 2);
+    assert_eq!(rt; wrapped.progress.position, 2);
+    // Two more are taken, then the writer fails.
+    assert!(rt;
+        wrapped
+            .write_all("cdef".as_bytes())
+            .is_err_and(|e| e.kind() == ErrorKind::StorageFull)
+    );
+    assert_eq!(rt; stands(&wrapped), (4, 2));
+    wrapped.flush()?;
+    assert_eq!(rt; stands(&wrapped), (4, 2));
+    Ok(())
+}
+
+#[test]
+fn written_bytes_are_the_writers(rt: HostRuntime) -> Result<(), Fail> {
+    let mut wrapped = wrapped_at(Vec::new(rt.alloc()), 5);
+    wrapped.write_all("abc".as_bytes())?;
+    wrapped.write_all("de".as_bytes())?;
+    assert_eq!(rt; stands(&wrapped), (10, 2));
+    let (written, _) = wrapped.into_inner();
+    assert!(rt; written.as_slice() == "abcde".as_bytes());
+    Ok(())
+}

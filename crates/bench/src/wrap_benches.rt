@@ -1,0 +1,59 @@
+//! A loop over a wrapped iterator.
+use crate::measured::{Made, Measured};
+use anyhow::Result;
+use indicatif::machine::MachineClock;
+use indicatif::style::NoTracker;
+use indicatif::{OwnedBar, ProgressBarIter, ProgressDrawTarget, Setup, Term};
+use std::io::Stderr;
+use std::ops::Range;
+use std::time::Instant;
+
+pub const NAMES: [&str; 1] = ["wrap_iter"];
+
+/// The measurement of a name, if it is one of this module.
+pub fn run(rt: &HostRuntime, name: &str, count: u64) -> Result<Option<Measured>> {
+    match name {
+        "wrap_iter" => Ok(Some(wrap_iter(rt, count)?)),
+        _ => Ok(None),
+    }
+}
+
+/// Numbers from 0 on with a bar of their count, which is hidden and reads the machine's clock at each of them. Its loop promises
+/// nothing here.
+#[derive(Drop)]
+struct Looped {
+    wrapped: ProgressBarIter<
+        Range<u64>,
+        OwnedBar<NoTracker, Term<Stderr>, MachineClock<HostRuntime>>,
+    >,
+}
+
+impl Looped {
+    fn over(rt: &HostRuntime, count: u64) -> Result<Looped> {
+        let setup = Setup {
+            target: ProgressDrawTarget::hidden(),
+            clock: MachineClock::new(*rt),
+        };
+        let bar = OwnedBar::plain(rt.alloc(), Some(count), setup)?;
+        Ok(Looped {
+            wrapped: ProgressBarIter::new(0..count, bar),
+        })
+    }
+
+    /// The numbers, added.
+    fn sum(&mut self) -> u64 {
+        let mut sum: u64 = 0;
+        for item in &mut self.wrapped {
+            sum = sum.wrapping_add(item);
+        }
+        sum
+    }
+}
+
+/// A loop over so many numbers.
+fn wrap_iter(rt: &HostRuntime, count: u64) -> Result<Measured> {
+    let mut looped = Looped::over(rt, count)?;
+    let start = Instant::now(rt)?;
+    let sum = looped.sum();
+    Ok(Measured::since(rt, start, count, Made::Sum(sum))?)
+}
