@@ -57,7 +57,7 @@ SOURCES = {
                      {OWN: "is_too_wide part_of refusal_of"}),
     },
     "indicatif_term": {
-        "Calls": (SEQUENCES, {OWN: "Told tells led_on TermView LeadsOn BreaksOff Writes"}),
+        "Calls": (SEQUENCES, {OWN: "Told is_told led_on TermView LeadsOn BreaksOff Writes"}),
         "Counts": (OWN, {}),
         "Engines": (OWN, {}),
         "Frames": (OWN, {CRATE: "line_text logged_lines"}),

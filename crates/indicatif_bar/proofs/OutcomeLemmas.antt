@@ -154,7 +154,8 @@ module _ {S C A T : Type 0} (m : Machine S C A) (P : S → Type 0) (view : T →
 
 module _ {S C A T : Type 0} (m : Machine S C A) (P : S → Type 0) (view : T → TermView) (engine : Engine T) (d : Draw S) (l : Lists) where
   -- the limiter doesn't allow it
-  pub drew_limited : is_no d.ask ≡ false → 0 < (view (engine_term engine)).columns → d.allowed ≡ false → Fits engine l → m.lists d.ready ≡ l → P d.ready → DrewBy m P view engine engine d l (Ok Limited)
+  pub drew_limited : is_no d.ask ≡ false → 0 < (view (engine_term engine)).columns → d.allowed ≡ false → Fits engine l → m.lists d.ready ≡ l → P d.ready → DrewBy m P view engine engine d l
+      (Ok Limited)
   drew_limited asked some withheld fits same p = record {
     next = d.ready;
     holds = p;

@@ -69,7 +69,9 @@ pub struct LoneBar<K, T: Drop> {
 }
 
 impl<K: ProgressTracker, T: TermLike + Drop> LoneBar<K, T> {
-    ghost use Rattle.indicatif_bar.specs.Commands.{Command, Tick, TickerTick, SetTicker, Inc, Dec, SetPosition, Update, SetLength, UnsetLength, IncLength, DecLength, SetMessage, SetPrefix, SetStyle, PutPosition, PutMessage, PutPrefix, PutFinish, PutTabWidth, SetTabWidth, SetElapsed, ResetEta, ResetElapsed, Reset, FinishBy, FinishUsingStyle, ForceDraw, obeyed, takes_memory, command_of};
+    ghost use Rattle.indicatif_bar.specs.Commands.{Command, Tick, TickerTick, SetTicker, Inc, Dec, SetPosition, Update, SetLength, UnsetLength, IncLength, DecLength, SetMessage, SetPrefix, SetStyle};
+    ghost use Rattle.indicatif_bar.specs.Commands.{PutPosition, PutMessage, PutPrefix, PutFinish, PutTabWidth, SetTabWidth, SetElapsed, ResetEta};
+    ghost use Rattle.indicatif_bar.specs.Commands.{ResetElapsed, Reset, FinishBy, FinishUsingStyle, ForceDraw, obeyed, takes_memory, command_of};
     ghost use Rattle.indicatif_bar.specs.Bars.{bar_kind};
     ghost use Rattle.indicatif_bar.specs.Inside.Draws.{DrewOn};
     ghost use Rattle.indicatif_bar.specs.Inside.Shown.{writing_as};

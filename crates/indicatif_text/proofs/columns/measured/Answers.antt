@@ -17,7 +17,8 @@ pub returns-in_default : goal.returns-in_default
 returns-in_default c =
     let e = c.after_narrow-rows.ensures in
     let line = chars c.args.line.now in
-    let here = reads_pass c.args.width c.rest.height c.rest.column line _ _ _ _ _ c.rest.invariant.reads c.pass_narrow-narrow.ensures c.requires c.rest.invariant.fits e.within e.no_empty_row e.place in
+    let here = reads_pass c.args.width c.rest.height c.rest.column line _ _ _ _ _ c.rest.invariant.reads c.pass_narrow-narrow.ensures c.requires c.rest.invariant.fits e.within
+    e.no_empty_row e.place in
     let whole = reads_end c.args.width _ _ line _ c.in_default.ensures.steps.0 here in
     record { none = ((λ e. cc), (λ wide. absurd (false≢true (sym whole.narrow ∙ wide)))); height = whole.height_is; last = whole.last_is }
 
@@ -25,7 +26,8 @@ pub rest-preserved-then-columns-width-2 : goal.rest-preserved-then-columns-width
 rest-preserved-then-columns-width-2 c =
     let e = c.after_narrow-rows.ensures in
     let line = chars c.args.line.now in
-    let here = reads_pass c.args.width c.rest.height c.rest.column line _ _ _ _ _ c.rest.invariant.reads c.pass_narrow-narrow.ensures c.requires c.rest.invariant.fits e.within e.no_empty_row e.place in
+    let here = reads_pass c.args.width c.rest.height c.rest.column line _ _ _ _ _ c.rest.invariant.reads c.pass_narrow-narrow.ensures c.requires c.rest.invariant.fits e.within
+    e.no_empty_row e.place in
     let at = subst (MeasuredTo c.args.width (c.rest.height + c.after_narrow-rows.result.0) c.after_narrow-rows.result.1 line) c.in-Some.ensures.steps here in
     let p = c.pass_narrow-narrow.ensures in
     let next = reads_next_row c.args.width _ _ line c.in-Some.c c.next.new.self at e.within (omega (arith, c.width-columns.ensures)) (omega (arith, c.width-columns.ensures)) in
@@ -39,7 +41,8 @@ pub rest-preserved : goal.rest-preserved
 rest-preserved c =
     let e = c.after_narrow-rows.ensures in
     let line = chars c.args.line.now in
-    let here = reads_pass c.args.width c.rest.height c.rest.column line _ _ _ _ _ c.rest.invariant.reads c.pass_narrow-narrow.ensures c.requires c.rest.invariant.fits e.within e.no_empty_row e.place in
+    let here = reads_pass c.args.width c.rest.height c.rest.column line _ _ _ _ _ c.rest.invariant.reads c.pass_narrow-narrow.ensures c.requires c.rest.invariant.fits e.within
+    e.no_empty_row e.place in
     let at = subst (MeasuredTo c.args.width (c.rest.height + c.after_narrow-rows.result.0) c.after_narrow-rows.result.1 line) c.in-Some.ensures.steps here in
     let p = c.pass_narrow-narrow.ensures in
     let next = reads_narrow c.args.width _ _ line c.in-Some.c c.next.new.self at (omega (arith, c.width-columns.ensures, e.within)) in

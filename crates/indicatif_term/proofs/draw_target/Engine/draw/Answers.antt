@@ -60,7 +60,8 @@ returns-clause-paints g c = λ l fits plain.
     let lines = [] ++ replicate c.blanks_of-blanks.result [] ++ take plan.lines (frame_lines c.args.frame.now) in
     let fill = draw_fill window.columns window.rows c.args.pass c.blanks_of-blanks.result old.live 0 bottom c.args.frame.now plan c.in_ok-plan.ensures.plan.1 c.in_ok-plan.ensures.ends blanks
     c.drawn-next.result.below c.fill-fill.result c.fill-fill.ensures in
-    paints_by s (g.T.TermLike.view (engine_term c.repaint.new.self)) c.drawn-next.result c.repaint.result c.repaint.new.self c.args.self.now.failed l (drawn s.columns s.rows bottom c.args.pass frame l)
+    paints_by s (g.T.TermLike.view (engine_term c.repaint.new.self)) c.drawn-next.result c.repaint.result c.repaint.new.self c.args.self.now.failed l
+    (drawn s.columns s.rows bottom c.args.pass frame l)
     (paint_bytes false old.below old.live lines c.drawn-next.result.below ++ fill_bytes c.drawn-next.result.below s.columns lines) c.repaint.ensures.remembers (fits_failed c.args.self.now l fits)
     (rw (fill_led, fill, c.in_ok-window.ensures.0) at c.repaint.ensures.writes)
     (draw_paints s.columns s.rows l old c.drawn-next.result c.args.pass c.blanks_of-blanks.result bottom c.args.frame.now plan

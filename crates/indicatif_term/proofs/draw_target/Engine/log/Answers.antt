@@ -99,7 +99,8 @@ returns-clause-paints g c = λ l fits plain.
     let wide = rw c.in_ok-window.ensures.0 at c.in_ok-metrics.ensures.measured in
     let lines = text ++ replicate c.blanks_of-blanks.result [] ++ take plan.lines (frame_lines c.args.frame.now) in
     let fill = log_fill window.columns window.rows 0 c.blanks_of-blanks.result (old.kept + old.live) rows bottom c.args.frame.now plan c.in_ok-plan.ensures.plan.1 c.in_ok-plan.ensures.ends blanks
-    c.logged-next.result.below c.fill-fill.result c.unwrap_or-last.result text (logged_length c.args.text.now) (rw c.in_ok-metrics.ensures.measured.2 at c.unwrap_or-last.ensures) c.fill-fill.ensures in
+    c.logged-next.result.below c.fill-fill.result c.unwrap_or-last.result text (logged_length c.args.text.now) (rw c.in_ok-metrics.ensures.measured.2 at c.unwrap_or-last.ensures)
+    c.fill-fill.ensures in
     paints_by s (g.T.TermLike.view (engine_term c.repaint.new.self)) c.logged-next.result c.repaint.result c.repaint.new.self c.args.self.now.failed l
     (logged s.columns s.rows bottom (text_lines text) frame l)
     (paint_bytes false old.below (old.kept + old.live) lines c.logged-next.result.below ++ fill_bytes c.logged-next.result.below s.columns lines) c.repaint.ensures.remembers
