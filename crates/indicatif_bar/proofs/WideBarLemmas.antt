@@ -252,7 +252,8 @@ module _ {K : Type 0} (m : Tracking K) (style : Style K) (p : Progress) (now col
   ]) h.no_tracker
 
   bar_marked : SomeMarked (part_text m style p now (KeyText (codes "wide_bar") h.layout))
-  bar_marked = subst (λ t. SomeMarked (in_layout m style p now h.layout t)) (sym bar_named) (marked_styled style.colours (unwrap_or h.layout.style []) _ (sized_mark h.layout.align h.layout.truncate h.layout.width))
+  bar_marked = subst (λ t. SomeMarked (in_layout m style p now h.layout t)) (sym bar_named)
+      (marked_styled style.colours (unwrap_or h.layout.style []) _ (sized_mark h.layout.align h.layout.truncate h.layout.width))
 
   text_marked : SomeMarked (parts_text m style p now style.parts)
   text_marked =
