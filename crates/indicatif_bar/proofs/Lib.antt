@@ -21,3 +21,4 @@ pub mod TextWidthLemmas
 pub mod BarWidthLemmas
 pub mod WideBarLemmas
 pub mod PlainLineLemmas
+pub mod PlainTextLemmas

@@ -25,7 +25,7 @@ use Rattle.indicatif_bar.proofs.LinesLemmas.{names, text_of_name, wide_of_name, 
 use Rattle.indicatif_bar.proofs.TextWidthLemmas.{takes_none, plain_takes, taken_plain, plain_both, plain_padded, plain_trimmed}
 use Rattle.indicatif_bar.proofs.WideBarLemmas.{SomeMarked, strange_mark, strange_newline, takes_without, marked_styled, sized_mark}
 
-none_plain : IsPlainText []
+pub none_plain : IsPlainText []
 none_plain = taken_plain 0 [] takes_none
 
 -- ---- plain texts with marks between them

@@ -1,8 +1,9 @@
 -- Laws of a bar's lines, and of tabs in them. Texts are lists of bytes in UTF-8.
-use Rattle.std.specs.Prelude.{◌≡◌, ℕ, ◌≤◌, false, List, [], ◌∷◌, ◌++◌, length, None, All, flat_map, filter_map, codes, encode_utf8_all}
+use Rattle.std.specs.Prelude.{◌≡◌, ℕ, ◌≤◌, IsTrue, map, false, List, [], ◌∷◌, ◌++◌, length, None, All, flat_map, filter_map, codes, encode_utf8_all}
 use Rattle.std.specs.Str.{chars}
 use Rattle.indicatif_text.specs.Columns.{rows_of}
-use Rattle.indicatif_text.specs.Template.{Layout, TemplatePart, LiteralText, KeyText}
+use Rattle.indicatif_text.specs.Template.{Layout, TemplatePart, LiteralText, LineBreak, KeyText}
+use Rattle.indicatif_term.specs.Frames.{are_plain}
 use Rattle.indicatif_bar.specs.Tabs.{expanded}
 use Rattle.indicatif_bar.specs.Progress.{Progress, shown_message, shown_prefix}
 use Rattle.indicatif_bar.specs.Trackers.{Tracking}
@@ -62,6 +63,30 @@ module _ {K : Type 0} (m : Tracking K) (style : Style K) (p : Progress) (now : �
 abbrev pub PlainPartsGivePlainLines : Type 0 → Type 0
 PlainPartsGivePlainLines K = (m : Tracking K) (style : Style K) (p : Progress) (now columns : ℕ) → HasPlainParts m style p now
     → All IsPlainText (lines m style p now columns)
+
+-- a literal text of a template consists of such characters, with its tabs as spaces
+abbrev pub IsPlainLiteral : {K : Type 0} → Style K → TemplatePart → Type 0
+IsPlainLiteral style (LiteralText text) = IsPlainText (expanded style.tab (encode_utf8_all text))
+IsPlainLiteral style LineBreak = Unit {0}
+IsPlainLiteral style (KeyText key layout) = Unit {0}
+
+-- all that a style and a bar have of texts does: literals, spinner, clusters, trackers, message and prefix
+pub record HasPlainTexts {K : Type 0} (m : Tracking K) (style : Style K) (p : Progress) (now : ℕ) : Type 0 where
+  pub literals : All (IsPlainLiteral style) style.parts
+  pub ticks : All IsPlainText style.tick_strings
+  pub clusters : ArePlainClusters style.clusters
+  pub trackers : All (λ entry. IsPlainText (expanded style.tab (m.text entry.1 p now))) style.keys
+  pub message : IsPlainText (shown_message p)
+  pub prefix : IsPlainText (shown_prefix p)
+
+-- then the lines do, of whatever keys the template has
+abbrev pub PlainTextsGivePlainLines : Type 0 → Type 0
+PlainTextsGivePlainLines K = (m : Tracking K) (style : Style K) (p : Progress) (now columns : ℕ) → HasPlainTexts m style p now
+    → All IsPlainText (lines m style p now columns)
+
+-- and such lines are plain as the headline asks it, which has them in characters
+abbrev pub PlainLinesAreAsked : Type 0
+PlainLinesAreAsked = (ls : List (List ℕ)) → All IsPlainText ls → IsTrue (are_plain (map chars ls))
 
 -- ---- tabs
 

@@ -2,7 +2,7 @@
 
 ghost use Rattle.indicatif_bar.specs.Tabs.{TabsAreGone, OthersStay};
 ghost use Rattle.indicatif_bar.specs.ProgressLaws.{FractionsAreProper, WholeAtTheEnd, RatesHaveTime, TimesFit, TimesAreQuotients, StepsAreQuotients, TabsAgree, FinishedDrawsAreForced};
-ghost use Rattle.indicatif_bar.specs.LineLaws.{WideBarsFill, PlainPartsGivePlainLines, NewTabWidths, LastTabWidthCounts};
+ghost use Rattle.indicatif_bar.specs.LineLaws.{WideBarsFill, PlainPartsGivePlainLines, PlainTextsGivePlainLines, PlainLinesAreAsked, NewTabWidths, LastTabWidthCounts};
 ghost use Rattle.indicatif_bar.specs.StyleLaws.{PaddedFills, NeverNarrower, NeverWider, FullAtItsLength, EmptyAtItsStart, NeverFewerCells, NeverMoreCells, CellsFit, FilledAreShown, NeverShowsFewer, BarsTakeTheirCells, BarsFill, BarsFit};
 ghost use Rattle.std.specs.Prelude.{ℕ, List, ◌≡◌, Option, None, Result, IsTrue, IsFalse};
 ghost use Rattle.indicatif_text.specs.declared.refusal.Refusal.{Refusal};
@@ -94,10 +94,13 @@ pub fn commands<K>()
 {}
 
 /// A line with one wide bar, of clusters of one column, fills its row exactly where its other parts have a width and room: it
-/// never wraps. Lines whose parts, clusters and message have no control characters have none.
+/// never wraps. Where literals, spinner, clusters, trackers, message and prefix consist of characters with a width and colour
+/// sequences, so do the lines.
 pub fn lines<K>()
     ensures fill { WideBarsFill K }
-    ensures plain { PlainPartsGivePlainLines K }
+    ensures plain_parts { PlainPartsGivePlainLines K }
+    ensures plain { PlainTextsGivePlainLines K }
+    ensures asked { PlainLinesAreAsked }
 {}
 
 /// A new width of tabs gives the texts as they were set, and the template's literals, with that width; the last one counts.

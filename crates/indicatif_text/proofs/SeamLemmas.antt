@@ -185,7 +185,7 @@ some_digits (suc k) n acc all =
     cond_both (n / 10 == 0) (digit_glyph false (n % 10) ∷ acc) (digits_onto k 10 false (n / 10) (digit_glyph false (n % 10) ∷ acc)) (λ ds. AllByRecursion (IsInRange 48 57) ds)
     (λ _. (one, all)) (λ _. some_digits k (n / 10) (digit_glyph false (n % 10) ∷ acc) (one, all))
 
-decimal_digits : (n : ℕ) → AllByRecursion (IsInRange 48 57) (decimal n)
+pub decimal_digits : (n : ℕ) → AllByRecursion (IsInRange 48 57) (decimal n)
 unfolding digits
 decimal_digits n = some_digits 64 n [] tt
 

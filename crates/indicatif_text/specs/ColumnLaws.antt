@@ -1,5 +1,6 @@
 -- Laws of what is visible of a text, of its columns and of its rows. Texts are lists of characters.
-use Rattle.std.specs.Prelude.{◌≡◌, ◌≢◌, ℕ, ◌≤◌, Bool, false, ◌||◌, ◌==◌, List, ◌∷◌, ◌++◌, length, replicate, flat_map, is_some, IsTrue}
+use Rattle.std.specs.Prelude.{◌≡◌, ◌≢◌, ℕ, ◌≤◌, Bool, false, ◌||◌, ◌==◌, List, ◌∷◌, ◌++◌, length, replicate, flat_map, is_some, IsTrue, All}
+use Rattle.std.specs.Int.{IsInRange}
 use Rattle.std.specs.List.{list_all}
 use Rattle.std.specs.Str.{IsUtf8, IsAscii, chars, drop_trailing_whitespace}
 use Rattle.unicode_width.specs.Width.{char_width}
@@ -37,6 +38,10 @@ PlainTextsHaveWidths = (text : List ℕ) → IsTrue (is_plain text) → IsTrue (
 -- and without the white space at its end, such a text is one too
 abbrev pub PlainTextsTrim : Type 0
 PlainTextsTrim = (text : List ℕ) → IsTrue (is_plain text) → IsTrue (is_plain (drop_trailing_whitespace text))
+
+-- printable ASCII, in bytes, is such a text
+abbrev pub PrintedIsPlain : Type 0
+PrintedIsPlain = (text : List ℕ) → All (IsInRange 0x20 0x7E) text → IsUtf8 text × IsTrue (is_plain (chars text))
 
 -- a text of no more columns than the terminal takes one row
 abbrev pub OneRow : Type 0

@@ -1,9 +1,11 @@
 -- What the formatters' texts say, apart from how the definitions make them.
 use Rattle.std.specs.Prelude.{◌≡◌, ◌≢◌, ℕ, ◌+◌, ◌-◌, ◌*◌, ◌/◌, ◌%◌, ◌^◌, ◌<◌, ◌≤◌, ◌⊎◌, ◌==◌, not, List, [], ◌∷◌, ◌++◌, length, take, drop, replicate, filter, slice_get, Some, IsTrue, decimal, codes}
+use Rattle.std.specs.Prelude.{All}
+use Rattle.std.specs.Int.{IsInRange}
 use Rattle.std.specs.Char.{is_ascii_digit}
 use Rattle.std.specs.List.{before_first, after_first}
 use Rattle.std.specs.Str.Parse.{digits_value}
-use Rattle.indicatif_text.specs.Format.{round, last_digits, without_trailing_zeros, human_count, human_float_count, prefix_exponent, binary_bytes, decimal_bytes, nanos_per_second, formatted_duration, human_duration, short_duration, TimeSpan, year, week, day, hour, minute, second, rounded_half_up, reaches, count_and_unit}
+use Rattle.indicatif_text.specs.Format.{round, last_digits, without_trailing_zeros, human_count, human_float_count, fixed_point, prefix_exponent, binary_bytes, decimal_bytes, nanos_per_second, formatted_duration, human_duration, short_duration, TimeSpan, year, week, day, hour, minute, second, rounded_half_up, reaches, count_and_unit}
 
 -- ---- the parts of a text
 
@@ -174,3 +176,20 @@ WordsTell = (n : ℕ) → n < 2 ^ 64 →
 abbrev pub ShortIsWords : Type 0
 ShortIsWords = (n : ℕ) → n < 2 ^ 64 →
     let text = human_duration n in short_duration n ≡ number_in text ++ take 1 (unit_in text)
+
+-- ---- characters
+
+-- a text of printable ASCII
+abbrev pub IsPrinted : List ℕ → Type 0
+IsPrinted text = All (IsInRange 0x20 0x7E) text
+
+-- what is written of numbers is such a text
+pub record FormattedIsPrinted : Type 0 where
+  pub numerals : (n : ℕ) → IsPrinted (decimal n)
+  pub counts : (n : ℕ) → IsPrinted (human_count n)
+  pub float_counts : (num den places : ℕ) → IsPrinted (human_float_count num den places)
+  pub decimals : (num den places : ℕ) → IsPrinted (fixed_point num den places)
+  pub binary : (n : ℕ) → IsPrinted (binary_bytes n)
+  pub thousands : (n : ℕ) → IsPrinted (decimal_bytes n)
+  pub clocks : (nanos : ℕ) → IsPrinted (formatted_duration nanos)
+  pub shorts : (nanos : ℕ) → IsPrinted (short_duration nanos)

@@ -1,7 +1,7 @@
 //! What follows from the definitions, apart from how they are made: each law is the contract of a function that does nothing.
-ghost use Rattle.indicatif_text.specs.ColumnLaws.{PlainTextsJoin, SpacesAreSeen, NumbersAreUnseen, StylesAreUnseen, StylesAreBytes, OthersAreSeen, PlainTextsHaveWidths, PlainTextsTrim, OneRow};
+ghost use Rattle.indicatif_text.specs.ColumnLaws.{PlainTextsJoin, SpacesAreSeen, NumbersAreUnseen, StylesAreUnseen, StylesAreBytes, OthersAreSeen, PlainTextsHaveWidths, PlainTextsTrim, PrintedIsPlain, OneRow};
 ghost use Rattle.indicatif_text.specs.RangeLaws.{WholeRange, RangesFit, SequencesStay, NoCharacterIsAdded, RangesStayPlain};
-ghost use Rattle.indicatif_text.specs.FormatLaws.{RoundsByHalf, TiesToEven, RoundsHalfUp, LastDigitsAreRest, DigitsSpell, CommasAside, NumeralSpells, CommasByThousands, OnlyZerosDropped, NoZeroLeft, FloatCountSpells, FloatCountCounts, FloatCountEnds, GreatestPrefix, BinaryBytesTell, DecimalBytesTell, TellsSeconds, NoLongerUnit, ReachesUnit, WordsTell, ShortIsWords};
+ghost use Rattle.indicatif_text.specs.FormatLaws.{RoundsByHalf, TiesToEven, RoundsHalfUp, LastDigitsAreRest, DigitsSpell, CommasAside, NumeralSpells, CommasByThousands, OnlyZerosDropped, NoZeroLeft, FloatCountSpells, FloatCountCounts, FloatCountEnds, GreatestPrefix, BinaryBytesTell, DecimalBytesTell, TellsSeconds, NoLongerUnit, ReachesUnit, WordsTell, ShortIsWords, FormattedIsPrinted};
 ghost use Rattle.indicatif_text.specs.PieceLaws.{PiecesJoin, RunsAreVisible, PiecesAreExact, NoEmptyPieces, RunsAreLongest};
 ghost use Rattle.indicatif_text.specs.TemplateLaws.{OneOfBoth, NeverBoth, OneList, OnePlace};
 
@@ -72,6 +72,11 @@ pub fn words()
     ensures short { ShortIsWords }
 {}
 
+/// What is written of numbers is printable ASCII.
+pub fn printed()
+    ensures { FormattedIsPrinted }
+{}
+
 /// Each text is a template of one list of parts, or refused at one place.
 pub fn template_or_refused()
     ensures one { OneOfBoth }
@@ -91,6 +96,7 @@ pub fn columns()
     ensures others { OthersAreSeen }
     ensures widths { PlainTextsHaveWidths }
     ensures trim { PlainTextsTrim }
+    ensures printed { PrintedIsPlain }
     ensures one_row { OneRow }
 {}
 
