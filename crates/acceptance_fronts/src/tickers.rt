@@ -44,7 +44,7 @@ fn on_and_off(rt: HostRuntime) -> Result<(), Fail> {
     let (first, second) = (bar.ticks(), bar.ticks());
     assert_eq!(rt; first, second);
     assert_eq!(rt; bar.tick(), Ok(Drawn::Yes));
-    assert_eq!(rt; bar.ticks(), first + 1);
+    assert_eq!(rt; bar.ticks(), first.wrapping_add(1));
     Ok(())
 }
 
