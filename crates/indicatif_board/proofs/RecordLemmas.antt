@@ -38,8 +38,7 @@ pub run_grows : {K T : Type 0} (m : Tracking K) (view : T → TermView) (mark : 
     IsOneRun m (record { mark = mark; limiter = limiter; board = new; steps = now_steps })
 run_grows m view mark limiter old new steps now_steps call now answer run led grown =
     let machine = board (board_bars m) mark in
-    let made = led mark run.0 run.2 in
-    (
+    let made = led mark run.0 run.2 in (
       made.0,
       subst (λ es. Replays machine (opening_board limiter) es made.0) (sym grown) (replays_more machine (opening_board limiter) run.0 made.0 steps _ run.1 made.2.leads),
       made.1,

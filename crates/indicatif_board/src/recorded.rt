@@ -227,10 +227,7 @@ fn made_on<K: ProgressTracker, T: TermLike + Drop>(
         Call::Remove(id) => removal(board.remove(id)),
         Call::Drop(id) => (draw_answer(board.drop_bar(id, now)), None),
         Call::Log(text) => (draw_answer(board.println(text.as_str(), now)), None),
-        Call::BarLog(id, text) => (
-            draw_answer(board.bar_println(id, text.as_str(), now)),
-            None,
-        ),
+        Call::BarLog(id, text) => (draw_answer(board.bar_println(id, text.as_str(), now)), None),
         Call::Clear => (draw_answer(board.clear(now)), None),
         Call::Redraw => (draw_answer(board.redraw(now)), None),
         Call::Align(alignment) => {
@@ -260,9 +257,7 @@ fn inserted_on<K: ProgressTracker, T: TermLike + Drop>(
 }
 
 /// The answer of an insertion, and the new bar that was turned away.
-fn insertion<K: ProgressTracker>(
-    taken: Result<BarId, Turned<K>>,
-) -> (Answer, Option<BarState<K>>)
+fn insertion<K: ProgressTracker>(taken: Result<BarId, Turned<K>>) -> (Answer, Option<BarState<K>>)
     ensures answer { answer_of result.0 ≡ given taken }
     ensures back { result.1 ≡ turned_back taken }
 {

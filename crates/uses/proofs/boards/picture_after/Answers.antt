@@ -28,8 +28,7 @@ returns-in-Some g c = λ opening starts.
     let run = subst (λ o. Runs machine (map timed c.args.calls.items) answers o start after made.0) known_is made.2 in
     let unbroken = subst IsFalse (sym (any_mapped (broke machine) answer_of c.in_ok-answers.answers.items))
     (subst (λ xs. IsFalse (list_any (λ a. broke machine (answer_of a)) xs)) c.deref.ensures.value c.in_ok-none_failed.ensures) in
-    let shows = c.an_opening_shows_nothing.ensures opening.columns opening.height opening starts.1 in
-    (
+    let shows = c.an_opening_shows_nothing.ensures opening.columns opening.height opening starts.1 in (
       answers,
       after,
       made.0,
