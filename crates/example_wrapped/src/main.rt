@@ -37,7 +37,10 @@ fn contents(wrapped: &Wrapped) -> Result<String> {
 
 fn sum(rt: &HostRuntime, wrapped: &mut Wrapped) -> Result<u32> {
     let mut sum: u32 = 0;
-    while let Some(item) = next(wrapped) {
+    for _ in 0..u64::MAX {
+        let Some(item) = next(wrapped) else {
+            break;
+        };
         sum = sum.wrapping_add(item);
         println!(rt; "{}", contents(wrapped)?)?;
     }
