@@ -4,7 +4,7 @@ ghost use Rattle.indicatif_bar.specs.Progress.{Progress};
 
 use indicatif_bar::lone::LoneCall;
 use indicatif_bar::state::{
-    Ask, BarCommand, BarState, Change, Fraction, ProgressFinish, ProgressState, Rate, SpareLines,
+    Ask, BarCommand, BarState, Change, Fraction, ProgressFinish, ProgressState, Rate,
 };
 use indicatif_bar::style::{FnTracker, NoTracker, ProgressStyle, ProgressTracker, TellsText};
 use indicatif_term::draw_target::{ProgressDrawTarget, Setup};
@@ -59,32 +59,6 @@ fn bar_command_and_ask(rt: HostRuntime) -> Result<(), Fail> {
 }
 
 /// A position and a length at once; the part that is done, and the rate, of which there is none yet.
-/// The line that a record shows, laid out in this room, which is then kept.
-fn relaid(
-    bar: &BarState<NoTracker>,
-    spare: &mut SpareLines,
-    wanted: &str,
-) -> Result<bool, Refusal> {
-    let lines = bar.lines_in(spare, 0, 80)?;
-    let found = lines.len() == 1 && lines.iter().all(|line| line.is_text(wanted));
-    spare.keep(lines);
-    Ok(found)
-}
-
-/// One room for two bars, whose lines are those that each has without it.
-#[test]
-fn spare_lines(rt: HostRuntime) -> Result<(), Fail> {
-    let mut first = plain_bar(rt.alloc())?;
-    let second = plain_bar(rt.alloc())?;
-    let mut spare = SpareLines::new(rt.alloc());
-    assert!(rt; relaid(&first, &mut spare, "0")?);
-    assert_eq!(rt; apply(&mut first, BarCommand::Inc(10))?, Ask::Unforced);
-    assert!(rt; relaid(&first, &mut spare, "10")?);
-    assert!(rt; relaid(&second, &mut spare, "0")?);
-    assert!(rt; line_of(&first, "10")?);
-    Ok(())
-}
-
 #[test]
 fn change_and_fraction_and_rate(rt: HostRuntime) -> Result<(), Fail> {
     let mut bar = plain_bar(rt.alloc())?;
