@@ -11,7 +11,7 @@ use Rattle.indicatif_bar.specs.Bounds.{AsksLimiter, DeedAsks, IsLimited}
 use Rattle.indicatif_bar.proofs.BoundLemmas.{allowed_without}
 use Rattle.indicatif_board.specs.LimitLaws.{IsAllowed}
 use Rattle.indicatif_board.specs.Members.{is_member, is_head, without, said_of}
-use Rattle.indicatif_board.specs.Boards.{BoardState, BoardKind, Call, Insert, Remove, Drop, Log, BarLog, Clear, Redraw, Align, Tell, Answer, Place, Entrant, New, Old, turned_away, anchor_turned_away, or_refused, inserted, draws, left_by, left_on, marked_on, board}
+use Rattle.indicatif_board.specs.Boards.{BoardState, BoardKind, Call, Insert, Remove, Drop, Log, BarLog, Clear, Redraw, Align, Tell, Answer, Location, Entrant, New, Old, turned_away, anchor_turned_away, or_refused, inserted, draws, left_by, left_on, marked_on, board}
 
 -- the limiter of a board
 abbrev limit : {B : Type 0} → BoardState B → Option Limiter
@@ -51,7 +51,7 @@ module _ {B : Type 0} (now : ℕ) (s : BoardState B) where
   drawn : (d : Draw (BoardState B)) → AsksLimiter limit now s d → Asks (draws d)
   drawn d asks = (asks, (λ x. refl), λ x. refl)
 
-  insert_asks : (mark : ℕ) (at : Place) (entrant : Entrant B) → Asks (inserted mark at entrant s)
+  insert_asks : (mark : ℕ) (at : Location) (entrant : Entrant B) → Asks (inserted mark at entrant s)
   insert_asks mark at (New bar) = either (s.made == 2 ^ 64) _ _ refl refl
   insert_asks mark at (Old id) = unless_refused (turned_away mark id s) _ refl
 

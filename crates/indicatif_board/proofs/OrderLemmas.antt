@@ -15,11 +15,11 @@ use Rattle.indicatif_bar.specs.Kinds.{Writing, Frame, TextAndFrame, NoFrame}
 use Rattle.indicatif_bar.specs.declared.state.Ask.{Ask}
 use Rattle.indicatif_bar.specs.declared.state.Ask.TheVariants.{No, Forced}
 use Rattle.indicatif_board.specs.Members.{Member, is_member, is_head, without, said_of, order_of, place_of, new_member, leaders, changed_at}
-use Rattle.indicatif_board.specs.Boards.{BoardState, BoardKind, Call, Insert, Remove, Drop, Log, BarLog, Clear, Redraw, Align, Tell, Answer, Given, Refused, Id, Place, Entrant, New, Old, opening_board, turned_away, anchor_turned_away, or_refused, inserted, index_of, taken_in, taken_out, draws, draw_of, told, laid_out, left_by, left_on, marked_on, board}
-use Rattle.indicatif_board.specs.Slots.{times}
+use Rattle.indicatif_board.specs.Boards.{BoardState, BoardKind, Call, Insert, Remove, Drop, Log, BarLog, Clear, Redraw, Align, Tell, Answer, Given, Refused, Id, Location, Entrant, New, Old, opening_board, turned_away, anchor_turned_away, or_refused, inserted, index_of, taken_in, taken_out, draws, draw_of, told, laid_out, left_by, left_on, marked_on, board}
+use Rattle.indicatif_board.specs.Slots.{occurrences}
 use Rattle.indicatif_board.specs.OrderLaws.{RunsKeep, StandsOnce, IsGone, with_new, new_bars, new_numbers, NumbersCount, NumbersAreNew}
 use Rattle.indicatif_board.proofs.MemberLemmas.{place-changed, map-inserted, map-removed, drop-map}
-use Rattle.indicatif_board.proofs.SlotLemmas.{ones_other, ones_most, times-front, times-inserted, times-removed, times-cut}
+use Rattle.indicatif_board.proofs.SlotLemmas.{ones_other, ones_most, occurrences-front, occurrences-inserted, occurrences-removed, occurrences-cut}
 use Rattle.indicatif_board.proofs.KeptLemmas.{Keeps, leads_keep, runs_keep}
 
 -- ---- what bars that come and go keep
@@ -58,7 +58,7 @@ module _ {B C : Type 0} (kind : BoardKind B C) (mark : ℕ) (Q : List ℕ → �
       let k = place_of number members in
       subst (λ o. Q o made) (map-removed (λ (m : Member B). m.number) members k) (lasts.go (order_of members) made k is)
 
-  inserted_keeps : (s : BoardState B) (at : Place) (entrant : Entrant B) → P s → Comes (Insert at entrant) s → KeepsIt (inserted mark at entrant s)
+  inserted_keeps : (s : BoardState B) (at : Location) (entrant : Entrant B) → P s → Comes (Insert at entrant) s → KeepsIt (inserted mark at entrant s)
   inserted_keeps s at (New bar) is comes = either (s.made == 2 ^ 64) _ _ is comes
   inserted_keeps s at (Old id) is comes = unless_refused s (turned_away mark id s) _ is is
 
@@ -138,27 +138,27 @@ module _ {B C : Type 0} (kind : BoardKind B C) (mark : ℕ) (Q : List ℕ → �
 -- ---- each bar stands there once
 
 record Once (order : List ℕ) (made : ℕ) : Type 0 where
-  apart : (number : ℕ) → times number order ≤ 1
-  given : (number : ℕ) → made ≤ number → times number order ≡ 0
+  apart : (number : ℕ) → occurrences number order ≤ 1
+  given : (number : ℕ) → made ≤ number → occurrences number order ≡ 0
 
 once_comes : (order : List ℕ) (made at : ℕ) → Once order made → Once (insert order at made) (made + 1)
 once_comes order made at is = record {
   apart = λ n. elim (cases_lt n made) [
-    | inl old ↦ omega (arith, times-inserted n at made order, ones_other n made (λ e. omega (arith, e, old)), is.apart n)
-    | inr new ↦ omega (arith, times-inserted n at made order, ones_most n made, is.given n new)
+    | inl old ↦ omega (arith, occurrences-inserted n at made order, ones_other n made (λ e. omega (arith, e, old)), is.apart n)
+    | inr new ↦ omega (arith, occurrences-inserted n at made order, ones_most n made, is.given n new)
   ];
-  given = λ n new. omega (arith, times-inserted n at made order, ones_other n made (λ e. omega (arith, e, new)), is.given n (omega (arith, new)));
+  given = λ n new. omega (arith, occurrences-inserted n at made order, ones_other n made (λ e. omega (arith, e, new)), is.given n (omega (arith, new)));
 }
 
 once_lasts : Lasts Once
 once_lasts = record {
   go = λ order made at is. record {
-    apart = λ n. omega (arith, times-removed n at order, is.apart n);
-    given = λ n new. omega (arith, times-removed n at order, is.given n new);
+    apart = λ n. omega (arith, occurrences-removed n at order, is.apart n);
+    given = λ n new. omega (arith, occurrences-removed n at order, is.given n new);
   };
   go_first = λ order made count is. record {
-    apart = λ n. omega (arith, times-cut n count order, is.apart n);
-    given = λ n new. omega (arith, times-cut n count order, is.given n new);
+    apart = λ n. omega (arith, occurrences-cut n count order, is.apart n);
+    given = λ n new. omega (arith, occurrences-cut n count order, is.given n new);
   };
 }
 
@@ -174,18 +174,18 @@ stands_kept kind mark calls answers old s new next run is =
 
 record Gone (number : ℕ) (order : List ℕ) (made : ℕ) : Type 0 where
   was_given : number < made
-  is_out : times number order ≡ 0
+  is_out : occurrences number order ≡ 0
 
 gone_comes : (number : ℕ) (order : List ℕ) (made at : ℕ) → Gone number order made → Gone number (insert order at made) (made + 1)
 gone_comes number order made at is = record {
   was_given = omega (arith, is.was_given);
-  is_out = omega (arith, times-inserted number at made order, ones_other number made (λ e. omega (arith, e, is.was_given)), is.is_out);
+  is_out = omega (arith, occurrences-inserted number at made order, ones_other number made (λ e. omega (arith, e, is.was_given)), is.is_out);
 }
 
 gone_lasts : (number : ℕ) → Lasts (Gone number)
 gone_lasts number = record {
-  go = λ order made at is. record { was_given = is.was_given; is_out = omega (arith, times-removed number at order, is.is_out) };
-  go_first = λ order made count is. record { was_given = is.was_given; is_out = omega (arith, times-cut number count order, is.is_out) };
+  go = λ order made at is. record { was_given = is.was_given; is_out = omega (arith, occurrences-removed number at order, is.is_out) };
+  go_first = λ order made count is. record { was_given = is.was_given; is_out = omega (arith, occurrences-cut number count order, is.is_out) };
 }
 
 pub gone_kept : {B C : Type 0} (kind : BoardKind B C) (mark number : ℕ) → RunsKeep (board kind mark) (IsGone number)
@@ -216,7 +216,7 @@ module _ {B C : Type 0} (kind : BoardKind B C) (mark : ℕ) where
         leads_keep (board kind mark) (λ x. x.made ≡ s.made) target s next ((board kind mark).deed target call now s) answer
         (deed_keeps kind mark (λ order k. k ≡ s.made) (same_lasts s.made) target call now s refl comes) leads refl
 
-    module _ (at : Place) (bar : B) where
+    module _ (at : Location) (bar : B) where
       abbrev CountsNew : Type 0
       CountsNew = Counts (Insert at (New bar)) answer s next
 
@@ -279,16 +279,16 @@ module _ {B C : Type 0} (kind : BoardKind B C) (mark : ℕ) where
   numbers_of [] = refl
   numbers_of (x ∷ xs) = ap (λ l. x ∷ l) (numbers_of xs)
 
-  none_before : (n made count : ℕ) → n < made → times n (range_with_len made count) ≡ 0
+  none_before : (n made count : ℕ) → n < made → occurrences n (range_with_len made count) ≡ 0
   none_before n made zero before = refl
   none_before n made (suc count) before =
-      omega (arith, times-front n made (range_with_len (made + 1) count), ones_other n made (λ e. omega (arith, e, before)), none_before n (made + 1) count (omega (arith, before)))
+      omega (arith, occurrences-front n made (range_with_len (made + 1) count), ones_other n made (λ e. omega (arith, e, before)), none_before n (made + 1) count (omega (arith, before)))
 
-  once_at_most : (n made count : ℕ) → times n (range_with_len made count) ≤ 1
+  once_at_most : (n made count : ℕ) → occurrences n (range_with_len made count) ≤ 1
   once_at_most n made zero = omega arith
   once_at_most n made (suc count) = elim (cases_lt made n) [
-    | inl after ↦ omega (arith, times-front n made (range_with_len (made + 1) count), ones_other n made (λ e. omega (arith, e, after)), once_at_most n (made + 1) count)
-    | inr here ↦ omega (arith, times-front n made (range_with_len (made + 1) count), ones_most n made, none_before n (made + 1) count (omega (arith, here)))
+    | inl after ↦ omega (arith, occurrences-front n made (range_with_len (made + 1) count), ones_other n made (λ e. omega (arith, e, after)), once_at_most n (made + 1) count)
+    | inr here ↦ omega (arith, occurrences-front n made (range_with_len (made + 1) count), ones_most n made, none_before n (made + 1) count (omega (arith, here)))
   ]
 
   pub numbers_new : NumbersAreNew kind mark
@@ -296,6 +296,6 @@ module _ {B C : Type 0} (kind : BoardKind B C) (mark : ℕ) where
       let counted = numbers_count calls answers old s new next run in
       let count = length (new_bars calls answers) in
       let numbers : new_numbers calls answers ≡ range_with_len s.made count = ap (map (λ (id : Id). id.number)) counted.0 ∙ numbers_of (range_with_len s.made count) in (
-        subst (λ l. times number l ≤ 1) (sym numbers) (once_at_most number s.made count),
-        λ before. ap (times number) numbers ∙ none_before number s.made count before,
+        subst (λ l. occurrences number l ≤ 1) (sym numbers) (once_at_most number s.made count),
+        λ before. ap (occurrences number) numbers ∙ none_before number s.made count before,
       )

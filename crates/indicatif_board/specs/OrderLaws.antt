@@ -5,7 +5,7 @@ use Rattle.indicatif_term.specs.Calls.{TermView}
 use Rattle.indicatif_bar.specs.Machines.{Machine}
 use Rattle.indicatif_bar.specs.Runs.{Runs}
 use Rattle.indicatif_board.specs.Members.{order_of}
-use Rattle.indicatif_board.specs.Slots.{times}
+use Rattle.indicatif_board.specs.Slots.{occurrences}
 use Rattle.indicatif_board.specs.Boards.{BoardState, BoardKind, Id, New, Call, Insert, Answer, Given, board}
 
 -- what is so before a run is so after it; a front of a run is a run, so it is so after each of its calls
@@ -19,13 +19,13 @@ RunsKeep {State} {Call} {Answer} m P =
 module _ {B : Type 0} where
   -- no bar stands in the order twice, and none that was not taken in
   pub record StandsOnce (s : BoardState B) : Type 0 where
-    pub apart : (number : ℕ) → times number (order_of s.members) ≤ 1
-    pub given : (number : ℕ) → s.made ≤ number → times number (order_of s.members) ≡ 0
+    pub apart : (number : ℕ) → occurrences number (order_of s.members) ≤ 1
+    pub given : (number : ℕ) → s.made ≤ number → occurrences number (order_of s.members) ≡ 0
 
   -- a bar that was taken in stands in the order no more
   pub record IsGone (number : ℕ) (s : BoardState B) : Type 0 where
     pub was_given : number < s.made
-    pub is_out : times number (order_of s.members) ≡ 0
+    pub is_out : occurrences number (order_of s.members) ≡ 0
 
 -- ---- the bars that a run takes in
 
@@ -57,4 +57,4 @@ module _ {B C : Type 0} where
   NumbersAreNew kind mark =
       (calls : List (Call B C × ℕ)) (answers : List Answer) (old : Option TermView) (s : BoardState B) (new : Option TermView) (next : BoardState B) →
       Runs (board kind mark) calls answers old s new next →
-      (number : ℕ) → (times number (new_numbers calls answers) ≤ 1) × (number < s.made → times number (new_numbers calls answers) ≡ 0)
+      (number : ℕ) → (occurrences number (new_numbers calls answers) ≤ 1) × (number < s.made → occurrences number (new_numbers calls answers) ≡ 0)

@@ -11,7 +11,7 @@ ghost use Rattle.indicatif_board.specs.Done.{account_of_both, kept_half, given_h
 ghost use Rattle.indicatif_board.specs.declared.done.Account.{Account};
 ghost use Rattle.indicatif_board.specs.LimitLaws.{IsAllowed};
 ghost use Rattle.indicatif_board.specs.OrderLaws.{RunsKeep, StandsOnce, IsGone, NumbersCount, NumbersAreNew};
-ghost use Rattle.indicatif_board.specs.Slots.{SlotTable, IsSeated, slot_of, times};
+ghost use Rattle.indicatif_board.specs.Slots.{SlotTable, IsSeated, slot_of, occurrences};
 
 /// Two halves that are joined again are what was split, share and adds and sights.
 pub fn halves_join_again()
@@ -77,6 +77,6 @@ pub fn numbers_are_never_used_again<B, C>()
 
 /// A bar has a slot exactly where it stands in the order, and no two bars have the same.
 pub fn each_bar_has_its_slot()
-    ensures some { (t : SlotTable) (number : ℕ) → IsSeated t → (slot_of number t ≡ None) ↔ (times number t.order ≡ 0) }
+    ensures some { (t : SlotTable) (number : ℕ) → IsSeated t → (slot_of number t ≡ None) ↔ (occurrences number t.order ≡ 0) }
     ensures apart { (t : SlotTable) (one other slot : ℕ) → IsSeated t → slot_of one t ≡ Some slot → slot_of other t ≡ Some slot → one ≡ other }
 {}
