@@ -9,7 +9,7 @@ use Rattle.indicatif_term.specs.Calls.{TermView}
 use Rattle.indicatif_term.specs.Lists.{BarLines, opening_lists}
 use Rattle.indicatif_term.specs.Limiters.{Limiter}
 use Rattle.indicatif_term.specs.Frames.{text_lines, logged_lines}
-use Rattle.indicatif_term.specs.Engines.{terminal, Fits}
+use Rattle.indicatif_term.specs.Engines.{engine_term, Fits}
 use Rattle.indicatif_term.specs.declared.draw_target.Engine.{Engine}
 use Rattle.indicatif_bar.specs.Trackers.{Tracking}
 use Rattle.indicatif_bar.specs.Commands.{BarRecord, Command, Tick, TickerTick, SetTicker, Inc, Dec, SetPosition, Update, SetLength, UnsetLength, IncLength, DecLength, SetMessage, SetPrefix, SetStyle, PutPosition, PutMessage, PutPrefix, PutFinish, PutTabWidth, SetTabWidth, SetElapsed, ResetEta, ResetElapsed, Reset, FinishBy, FinishUsingStyle, ForceDraw, obeyed, is_beyond_clock, takes_memory}
@@ -34,11 +34,11 @@ either_way (Err e) A B a b = b
 
 module _ {K T : Type 0} (m : Tracking K) (view : T → TermView) (takes : Bool) (ask : Ask) (now : ℕ) (writing : Writing) (s : LoneState (BarRecord K)) (old : Engine T) (laid : ShownBar K) where
   abbrev d : Draw (LoneState (BarRecord K))
-  d = draw_asked (bar_kind m) (target_of (Some (view (terminal old)))) takes ask now writing s
+  d = draw_asked (bar_kind m) (target_of (Some (view (engine_term old)))) takes ask now writing s
 
   -- the bar with its lines laid out, and with its limiter asked
   abbrev pub stored : LoneState (BarRecord K)
-  stored = record s { stored = stored_lines (bar_kind m) writing (target_of (Some (view (terminal old)))) now s }
+  stored = record s { stored = stored_lines (bar_kind m) writing (target_of (Some (view (engine_term old)))) now s }
 
   abbrev pub allowing : ShownBar K
   allowing = record laid { limiter = (asked_of ask now laid.limiter).1 }
@@ -49,7 +49,7 @@ module _ {K T : Type 0} (m : Tracking K) (view : T → TermView) (takes : Bool) 
   pub holds_ready : ShownAs laid stored → ShownAs allowing d.ready
   holds_ready holds = record { bar_is = holds.bar_is; lines_are = holds.lines_are; limiter_is = ap (λ limiter. (asked_of ask now limiter).1) holds.limiter_is }
 
-  pub drew_so : (new : Engine T) (r : Result Unit Refusal) (frame : List BarLines) → is_no ask ≡ false → 0 < (view (terminal old)).columns → d.allowed ≡ true → Fits old s.lists →
+  pub drew_so : (new : Engine T) (r : Result Unit Refusal) (frame : List BarLines) → is_no ask ≡ false → 0 < (view (engine_term old)).columns → d.allowed ≡ true → Fits old s.lists →
       ShownAs laid stored → frame ≡ frame_of d.ready → EngineWrites view writing frame old new r → DrewBy (lone_bar m) (ShownAs allowing) view old new d s.lists (answer_of r)
   drew_so new r frame asked some allowed fits holds same puts =
       let ready = holds_ready holds in

@@ -9,7 +9,7 @@ use Rattle.indicatif_text.specs.declared.refusal.Drawn.TheVariants.{Yes, Limited
 use Rattle.indicatif_term.specs.Calls.{TermView}
 use Rattle.indicatif_term.specs.Lists.{Lists, forgotten_lists}
 use Rattle.indicatif_term.specs.Frames.{are_plain, some_wide, is_fault}
-use Rattle.indicatif_term.specs.Engines.{terminal, Fits, Answers, Counted, Paints, is_failure, lists_after}
+use Rattle.indicatif_term.specs.Engines.{engine_term, Fits, Answers, Counted, Paints, is_failure, lists_after}
 use Rattle.indicatif_term.specs.declared.draw_target.Engine.{Engine}
 use Rattle.indicatif_term.proofs.EngineLemmas.{paints_nothing}
 use Rattle.indicatif_bar.specs.Machines.{Target, target_of, Machine, Draw, Draws, is_no, comes_to_lines, drawn_by, Leads}
@@ -78,10 +78,10 @@ answer_of (Err e) = Err e
 
 module _ {S C A T : Type 0} (m : Machine S C A) (P : S → Type 0) (view : T → TermView) (old new : Engine T) (d : Draw S) (l : Lists) where
   abbrev v : TermView
-  v = view (terminal old)
+  v = view (engine_term old)
 
   abbrev v' : TermView
-  v' = view (terminal new)
+  v' = view (engine_term new)
 
   abbrev target : Target
   target = target_of (Some v)
@@ -125,7 +125,7 @@ module _ {S C A T : Type 0} (m : Machine S C A) (P : S → Type 0) (view : T →
       holds = holds;
       fits = subst (λ x. Fits x (m.lists d.ready)) (sym same) (subst (Fits old) (sym ready.lists_stay) ready.fits);
       leads = leads;
-      writes = subst (λ x. WritesLines v (view (terminal x)) d.lines l (m.lists d.ready) (Err e)) (sym same) (wrote_nothing v d.lines l (m.lists d.ready) (Err e) fine ready.lists_stay);
+      writes = subst (λ x. WritesLines v (view (engine_term x)) d.lines l (m.lists d.ready) (Err e)) (sym same) (wrote_nothing v d.lines l (m.lists d.ready) (Err e) fine ready.lists_stay);
     }
 
     drew_err : P d.ready → P d.broken → (e : Refusal) → Drawing (Err e) → DrewBy m P view old new d l (Err e)
@@ -154,35 +154,35 @@ module _ {S C A T : Type 0} (m : Machine S C A) (P : S → Type 0) (view : T →
 
 module _ {S C A T : Type 0} (m : Machine S C A) (P : S → Type 0) (view : T → TermView) (engine : Engine T) (d : Draw S) (l : Lists) where
   -- the limiter doesn't allow it
-  pub drew_limited : is_no d.ask ≡ false → 0 < (view (terminal engine)).columns → d.allowed ≡ false → Fits engine l → m.lists d.ready ≡ l → P d.ready → DrewBy m P view engine engine d l (Ok Limited)
+  pub drew_limited : is_no d.ask ≡ false → 0 < (view (engine_term engine)).columns → d.allowed ≡ false → Fits engine l → m.lists d.ready ≡ l → P d.ready → DrewBy m P view engine engine d l (Ok Limited)
   drew_limited asked some withheld fits same p = record {
     next = d.ready;
     holds = p;
     fits = subst (Fits engine) (sym same) fits;
-    leads = λ s. leads_made (target_of (Some (view (terminal engine)))) d m s (Ok Limited) d.ready (outcome-limited (target_of (Some (view (terminal engine)))) d asked refl some withheld);
-    writes = wrote_nothing (view (terminal engine)) d.lines l (m.lists d.ready) (Ok Limited) refl same;
+    leads = λ s. leads_made (target_of (Some (view (engine_term engine)))) d m s (Ok Limited) d.ready (outcome-limited (target_of (Some (view (engine_term engine)))) d asked refl some withheld);
+    writes = wrote_nothing (view (engine_term engine)) d.lines l (m.lists d.ready) (Ok Limited) refl same;
   }
 
   -- the lines were not laid out: no columns, or no memory
-  pub drew_withheld : (e : Refusal) → is_no d.ask ≡ false → ((e ≡ NoColumns) × ((view (terminal engine)).columns ≡ 0)) ⊎ ((e ≡ Memory) × (0 < (view (terminal engine)).columns)) →
+  pub drew_withheld : (e : Refusal) → is_no d.ask ≡ false → ((e ≡ NoColumns) × ((view (engine_term engine)).columns ≡ 0)) ⊎ ((e ≡ Memory) × (0 < (view (engine_term engine)).columns)) →
       (e ≡ Memory → d.rows_take ≡ true) → Fits engine l → m.lists d.after_command ≡ l → P d.after_command → DrewBy m P view engine engine d l (Err e)
   drew_withheld e asked (inl none) takes fits same p =
-      let target = target_of (Some (view (terminal engine))) in
+      let target = target_of (Some (view (engine_term engine))) in
       rw none.0 (record {
         next = d.after_command;
         holds = p;
         fits = subst (Fits engine) (sym same) fits;
         leads = λ s. leads_made target d m s (Err NoColumns) d.after_command (outcome-no_columns target d asked refl none.1);
-        writes = wrote_nothing (view (terminal engine)) d.lines l (m.lists d.after_command) (Err NoColumns) refl same;
+        writes = wrote_nothing (view (engine_term engine)) d.lines l (m.lists d.after_command) (Err NoColumns) refl same;
       })
   drew_withheld e asked (inr short) takes fits same p =
-      let target = target_of (Some (view (terminal engine))) in
+      let target = target_of (Some (view (engine_term engine))) in
       rw short.0 (record {
         next = d.after_command;
         holds = p;
         fits = subst (Fits engine) (sym same) fits;
-        leads = λ s. inr (inl (refl, inr (takes short.0, comes-shown (view (terminal engine)) d asked short.1, inl refl)));
-        writes = wrote_nothing (view (terminal engine)) d.lines l (m.lists d.after_command) (Err Memory) refl same;
+        leads = λ s. inr (inl (refl, inr (takes short.0, comes-shown (view (engine_term engine)) d asked short.1, inl refl)));
+        writes = wrote_nothing (view (engine_term engine)) d.lines l (m.lists d.after_command) (Err Memory) refl same;
       })
 
 -- a draw of a hidden target, or one that isn't asked

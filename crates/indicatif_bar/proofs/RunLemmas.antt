@@ -13,7 +13,7 @@ use Rattle.indicatif_text.specs.declared.refusal.Drawn.{Drawn}
 use Rattle.indicatif_term.specs.Screen.{Screen}
 use Rattle.indicatif_term.specs.Terminal.{Terminal, after}
 use Rattle.indicatif_term.specs.Shows.{Rests, RowsStay}
-use Rattle.indicatif_term.specs.Calls.{Told, State as Holding, Bytes, Nothing, TermView, tells, led_on}
+use Rattle.indicatif_term.specs.Calls.{Told, State as Holding, Bytes, Nothing, TermView, is_told, led_on}
 use Rattle.indicatif_term.specs.Lists.{Lists, all_rows}
 use Rattle.indicatif_term.specs.Pictures.{row_text}
 use Rattle.indicatif_term.specs.Engines.{Paints}
@@ -37,7 +37,7 @@ runs-push m (c ∷ calls) [] old s v x new next call answer r made = absurd r
 -- ---- one painting after another
 
 -- a terminal that tells something still does
-still_tells : (told : Told) (bytes : List ℕ) → IsTrue (tells told) → IsTrue (tells (led_on told bytes))
+still_tells : (told : Told) (bytes : List ℕ) → IsTrue (is_told told) → IsTrue (is_told (led_on told bytes))
 still_tells (Holding t) bytes h = refl
 still_tells (Bytes old) bytes h = refl
 still_tells Nothing bytes h = h
@@ -69,19 +69,19 @@ composed v v1 v2 broke l x n p q =
     let between = λ (opening : Screen) (t : Terminal) (r : Rests v.columns v.rows opening l t).
     p.rests refl opening t r in
     record {
-      written = p.written ++ q.written;
+      bytes = p.bytes ++ q.bytes;
       told_is = λ h.
           let e = p.told_is h in
-          q.told_is (subst (λ z. IsTrue (tells z)) (sym e) (still_tells v.told p.written h)) ∙ ap (λ z. led_on z q.written) e ∙ led_on-append v.told p.written q.written;
+          q.told_is (subst (λ z. IsTrue (is_told z)) (sym e) (still_tells v.told p.bytes h)) ∙ ap (λ z. led_on z q.bytes) e ∙ led_on-append v.told p.bytes q.bytes;
       keeps = λ opening t r.
-          let u = after t p.written in
+          let u = after t p.bytes in
           let a = p.added refl in
-          keeps-append (opening.row + length l.above) t p.written q.written (p.keeps opening t r)
-          (keeps_fewer (opening.row + length l.above) (opening.row + length x.above) u q.written
+          keeps-append (opening.row + length l.above) t p.bytes q.bytes (p.keeps opening t r)
+          (keeps_fewer (opening.row + length l.above) (opening.row + length x.above) u q.bytes
           (omega (arith, ap length a.1, length-append l.above a.0)) (q.keeps opening u (between opening t r)));
       rests = λ fine opening t r.
-          let u = after t p.written in
-          subst (λ z. Rests v2.columns v2.rows opening n z) (sym (after-append t p.written q.written)) (q.rests fine opening u (between opening t r));
+          let u = after t p.bytes in
+          subst (λ z. Rests v2.columns v2.rows opening n z) (sym (after-append t p.bytes q.bytes)) (q.rests fine opening u (between opening t r));
       added = λ fine.
           let a = p.added refl in
           let c = q.added fine in
@@ -175,13 +175,13 @@ module _ {S C A : Type 0} (m : Machine S C A) where
       let w = painted m calls answers v s new next run (none_of (length answers - 1) answers unbroken) plain in
       let p = w.2 in
       let r = p.rests unbroken opening t (record { shows = λ _. starts.2; leads = λ e. absurd (false≢true (sym sound ∙ e)) }) in
-      let read = shown_is_read w.0.columns w.0.rows opening (m.lists next) (after t p.written) (r.shows sound') in
+      let read = shown_is_read w.0.columns w.0.rows opening (m.lists next) (after t p.bytes) (r.shows sound') in
       let columns : w.0.columns ≡ v.columns = ap (λ x. x.columns) (ap target_of (sym w.1) ∙ run_target_stays m calls answers (Some v) s new next run) in (
         w.0,
         w.1,
         (
-          after t p.written,
-          p.told_is (rw starts.1 refl) ∙ ap (λ x. led_on x p.written) starts.1,
+          after t p.bytes,
+          p.told_is (rw starts.1 refl) ∙ ap (λ x. led_on x p.bytes) starts.1,
           read.0,
           read.1
               ∙ ap (λ n. map row_text (take opening.row opening.rows ++ all_rows n (m.lists next)) ++ replicate read.0 []) columns,

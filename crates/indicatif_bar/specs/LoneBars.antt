@@ -4,7 +4,7 @@ use Rattle.indicatif_text.specs.declared.refusal.Refusal.{Refusal}
 use Rattle.indicatif_text.specs.declared.refusal.Refusal.TheVariants.{Memory, ElapsedBeyondClock}
 use Rattle.indicatif_text.specs.declared.refusal.Drawn.{Drawn}
 use Rattle.indicatif_term.specs.Calls.{TermView}
-use Rattle.indicatif_term.specs.Engines.{terminal, Fits}
+use Rattle.indicatif_term.specs.Engines.{engine_term, Fits}
 use Rattle.indicatif_bar.specs.Trackers.{Tracking}
 use Rattle.indicatif_bar.specs.Commands.{BarRecord, Command, ForceDraw, obeyed, command_of, is_beyond_clock, takes_memory}
 use Rattle.indicatif_bar.specs.Bars.{bar_kind}
@@ -23,7 +23,7 @@ module _ {K T : Type 0} where
 
   -- its terminal; none where the target is hidden
   abbrev pub terminal_of : LoneBar K T → Option T
-  terminal_of b = option_map terminal b.engine
+  terminal_of b = option_map engine_term b.engine
 
   -- the bar may be in this state. Of the rows only the numbers are kept, so many states fit one bar; what is claimed holds of each
   unfoldable pub IsIn : LoneBar K T → LoneState (BarRecord K) → Type 0

@@ -2,7 +2,7 @@
 ghost use Rattle.std.specs.Prelude.{◌≡◌, ◌<◌, ◌⊎◌, Bool, Option, Some, None, Ok, Err, option_map, IsTrue, IsFalse, ◌↔◌, map, IfOk, IfErr, IfSome, OnErr, MatchOption};
 ghost use Rattle.std.specs.Fn.{FnOnceReturnsAt};
 ghost use Rattle.indicatif_term.specs.Lists.{opening_lists};
-ghost use Rattle.indicatif_term.specs.Engines.{terminal, Fits};
+ghost use Rattle.indicatif_term.specs.Engines.{engine_term, Fits};
 ghost use Rattle.indicatif_term.specs.Targets.{term_of, limiter_of};
 ghost use Rattle.indicatif_bar.specs.declared.command.Change.{Change as Changed};
 ghost use Rattle.indicatif_bar.specs.Runs.{wrote};
@@ -544,7 +544,7 @@ fn opened_on<T: TermLike + Drop>(
     alloc: Global,
     target: ProgressDrawTarget<T>,
 ) -> (Option<Engine<T>>, Option<RateLimiter>)
-    ensures terminal { option_map terminal result.0 ≡ term_of target }
+    ensures terminal { option_map engine_term result.0 ≡ term_of target }
     ensures opened { MatchOption result.0 Unit (λ engine. Fits engine opening_lists) }
     ensures limiter { result.1 ≡ limiter_of target }
 {

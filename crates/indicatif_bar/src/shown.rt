@@ -1,7 +1,7 @@
 //! A bar with the lines that it shows, and how they are written.
 ghost use Rattle.std.specs.Prelude.{◌≡◌, Bool, false, Some, IsFalse, IsTrue, IfOk, IfErr, OnErr, map, chars};
 ghost use Rattle.indicatif_term.specs.Frames.{bar_lines};
-ghost use Rattle.indicatif_term.specs.Engines.{terminal, Fits};
+ghost use Rattle.indicatif_term.specs.Engines.{engine_term, Fits};
 ghost use Rattle.indicatif_bar.specs.Machines.{Target, is_no, target_of};
 ghost use Rattle.indicatif_bar.specs.Runs.{wrote};
 ghost use Rattle.indicatif_bar.specs.Kinds.{rows_take, asked_of};
@@ -81,7 +81,7 @@ impl<K: ProgressTracker> ShownBar<K> {
         ensures bar { self.new.bar ≡ self.old.bar }
         ensures silent { IsFalse (wrote result) → engine.new ≡ engine.old }
         ensures drew { (takes : Bool) (s : LoneState _) → is_no ask ≡ false → ShownAs self.old s → Fits engine.old s.lists →
-            let target = target_of (Some (T.view (terminal engine.old))) in
+            let target = target_of (Some (T.view (engine_term engine.old))) in
             DrewBy (lone (bar_kind K.means)) (ShownAs self.new) T.view engine.old engine.new
             (draw_asked (bar_kind K.means) target takes ask now (writing_as writing.entry) s) s.lists result }
     {

@@ -16,7 +16,7 @@ use Rattle.indicatif_bar.specs.Runs.{CallMade, lines_by, wrote}
 use Rattle.indicatif_bar.specs.Inside.Draws.{DrewOn, WritesLinesOn}
 use Rattle.indicatif_bar.proofs.OutcomeLemmas.{writes_nothing}
 use Rattle.indicatif_board.specs.BoardBars.{board_bars}
-use Rattle.indicatif_board.specs.Boards.{BoardState, Call, Id, Place, Entrant, removed, Done, New, Insert, Given, inserted, taken_in, anchor_turned_away, Answer, Refused, Tell, says, drawn_of, drawn_of_said, turned_away, or_refused, draws, draw_by, deed_of, board}
+use Rattle.indicatif_board.specs.Boards.{BoardState, Call, Id, Location, Entrant, removed, Done, New, Insert, Given, inserted, taken_in, anchor_turned_away, Answer, Refused, Tell, says, drawn_of, drawn_of_said, turned_away, or_refused, draws, draw_by, deed_of, board}
 use Rattle.indicatif_board.specs.Members.{place_of, is_member, without, said_of}
 use Rattle.indicatif_board.proofs.MemberLemmas.{said_none, said_there}
 
@@ -93,19 +93,19 @@ turned_quietly mark id s e why = turned_by (not (id.mark == mark)) (is_member id
 -- ---- insertions
 
 -- a new bar is taken in
-pub new_leads : {K : Type 0} (tracks : Tracking K) (mark : ℕ) (s : BoardState (BarRecord K)) (spot : Place) (bar : BarRecord K) (number : ℕ) (target : Target) → s.made ≡ number → number < 2 ^ 64 →
+pub new_leads : {K : Type 0} (tracks : Tracking K) (mark : ℕ) (s : BoardState (BarRecord K)) (spot : Location) (bar : BarRecord K) (number : ℕ) (target : Target) → s.made ≡ number → number < 2 ^ 64 →
     Leads (board (board_bars tracks) mark) target s (inserted mark spot (New bar) s) (Given (record { mark = mark; number = number })) (taken_in spot bar s)
 new_leads tracks mark s spot bar number target made some =
     let fewer : (s.made == 2 ^ 64) ≡ false = ne_eqb s.made (2 ^ 64) (λ e. omega (arith, made, some, e)) in
     rw fewer (inl (ap (λ n. let id : Id = record { mark = mark; number = n } in (Given id, taken_in spot bar s)) (sym made)))
 
 -- a new bar is refused
-pub new_refused : {K : Type 0} (tracks : Tracking K) (mark : ℕ) (s : BoardState (BarRecord K)) (spot : Place) (bar : BarRecord K) (target : Target) →
+pub new_refused : {K : Type 0} (tracks : Tracking K) (mark : ℕ) (s : BoardState (BarRecord K)) (spot : Location) (bar : BarRecord K) (target : Target) →
     Leads (board (board_bars tracks) mark) target s (inserted mark spot (New bar) s) (Refused Memory) s
 new_refused tracks mark s spot bar target = elim (cases_Bool (s.made == 2 ^ 64)) [ inl all ↦ rw all (inl refl) | inr fewer ↦ rw fewer (inr (inl (refl, (refl, refl)))) ]
 
 -- an insertion whose anchor is there
-pub made_by_insertion : {K : Type 0} (tracks : Tracking K) (mark : ℕ) (old : Option TermView) (spot : Place) (entrant : Entrant (BarRecord K)) (now : ℕ) (s : BoardState (BarRecord K))
+pub made_by_insertion : {K : Type 0} (tracks : Tracking K) (mark : ℕ) (old : Option TermView) (spot : Location) (entrant : Entrant (BarRecord K)) (now : ℕ) (s : BoardState (BarRecord K))
     (answer : Answer) (next : BoardState (BarRecord K)) → anchor_turned_away mark spot s ≡ None →
     Leads (board (board_bars tracks) mark) (target_of old) s (inserted mark spot entrant s) answer next → wrote (drawn_of answer) ≡ false → next.lists ≡ s.lists →
     CallMade (board (board_bars tracks) mark) old old (Insert spot entrant, now) s answer next

@@ -6,7 +6,7 @@ use Rattle.indicatif_term.specs.Calls.{TermView}
 use Rattle.indicatif_term.specs.Lists.{Lists, BarLines, logged}
 use Rattle.indicatif_term.specs.Limiters.{Limiter}
 use Rattle.indicatif_term.specs.Frames.{bar_lines, all_lines, are_plain, is_fault}
-use Rattle.indicatif_term.specs.Engines.{terminal, Fits, Answers, Counted, Paints, is_failure, lists_after}
+use Rattle.indicatif_term.specs.Engines.{engine_term, Fits, Answers, Counted, Paints, is_failure, lists_after}
 use Rattle.indicatif_term.specs.declared.draw_target.Engine.{Engine}
 use Rattle.indicatif_term.specs.declared.lines.Segment.{Segment}
 use Rattle.indicatif_bar.specs.Trackers.{Tracking}
@@ -26,14 +26,14 @@ use Rattle.indicatif_board.proofs.MemberLemmas.{drop-map}
 -- a text above the rest of a frame
 pub puts_text : {T : Type 0} (view : T → TermView) (text : List (List ℕ)) (bottom : Bool) (gone : ℕ) (frame rest : List BarLines) (old new : Engine T) (r : Result Unit Refusal) →
     drop gone frame ≡ rest →
-    Answers (view (terminal old)).columns (text ++ all_lines rest) r → Counted (view (terminal old)) (view (terminal new)) r → IfErr r (λ e. IsFalse (is_fault e) → new ≡ old) →
-    ((l : Lists) → Fits old l → Fits new (lists_after r l (logged (view (terminal old)).columns (view (terminal old)).rows bottom text rest l))) →
+    Answers (view (engine_term old)).columns (text ++ all_lines rest) r → Counted (view (engine_term old)) (view (engine_term new)) r → IfErr r (λ e. IsFalse (is_fault e) → new ≡ old) →
+    ((l : Lists) → Fits old l → Fits new (lists_after r l (logged (view (engine_term old)).columns (view (engine_term old)).rows bottom text rest l))) →
     ((l : Lists) → Fits old l → IsTrue (are_plain (text ++ all_lines rest)) →
-    Paints (view (terminal old)) (view (terminal new)) (is_failure r) l (lists_after r l (logged (view (terminal old)).columns (view (terminal old)).rows bottom text rest l))) →
+    Paints (view (engine_term old)) (view (engine_term new)) (is_failure r) l (lists_after r l (logged (view (engine_term old)).columns (view (engine_term old)).rows bottom text rest l))) →
     PutsFrame view (TextAndFrame text) bottom gone frame old new r
 puts_text view text bottom gone frame rest old new r e answers counted unchanged lists paints =
-    let v = view (terminal old) in
-    let v' = view (terminal new) in
+    let v = view (engine_term old) in
+    let v' = view (engine_term new) in
     let b = sym e in
     record {
       answers = subst (λ x. Answers v.columns (text ++ all_lines x) r) b answers;
@@ -60,7 +60,7 @@ kept_ready frame members made bottom limiter ask now laid allows holds = record 
 module _ {K T : Type 0} (tracks : Tracking K) (view : T → TermView) (mark : ℕ) (takes : Bool) (ask : Ask) (now : ℕ) (writing : Writing) (s laid : BoardState (BarRecord K)) (old : Engine T)
     (frame : List Segment) (members : List (MemberValue K)) (made : ℕ) (bottom : Bool) (limiter : Option Limiter) where
   abbrev d : Draw (BoardState (BarRecord K))
-  d = draw_of (target_of (Some (view (terminal old)))) takes ask now writing s laid
+  d = draw_of (target_of (Some (view (engine_term old)))) takes ask now writing s laid
 
   pub allowed_same : Holds frame members made bottom limiter laid → (asked_of ask now limiter).0 ≡ d.allowed
   allowed_same holds = ap (λ l. (asked_of ask now l).0) holds.limiter_is
@@ -85,13 +85,13 @@ module _ {K T : Type 0} (tracks : Tracking K) (view : T → TermView) (mark : �
   }
 
   pub frame_drew : (P : BoardState (BarRecord K) → Type 0) (new : Engine T) (r : Result Unit Refusal) (gone : ℕ) → gone ≡ leaders laid.members → is_no ask ≡ false →
-      0 < (view (terminal old)).columns → d.allowed ≡ true →
+      0 < (view (engine_term old)).columns → d.allowed ≡ true →
       laid.lists ≡ s.lists → Fits old s.lists → Holds frame members made bottom limiter d.ready → PutsFrame view writing bottom gone (map bar_lines frame) old new r →
       MatchResult r (λ _. P d.written) (λ _. P d.ready × P d.broken) → DrewBy (board (board_bars tracks) mark) P view old new d s.lists (answer_of r)
   frame_drew P new r gone gone_is asked some allowed lists_stay fits holds puts held =
       let p = subst (λ f. PutsFrame view writing laid.bottom (leaders laid.members) f old new r) holds.frame_is
       (subst (λ k. PutsFrame view writing laid.bottom k (map bar_lines frame) old new r) gone_is (subst (λ b. PutsFrame view writing b gone (map bar_lines frame) old new r) holds.bottom_is puts)) in
-      let w = λ (x : Lists). written_lists writing (target_of (Some (view (terminal old)))) laid.bottom (leaders laid.members) (frame_of laid.members) x in
+      let w = λ (x : Lists). written_lists writing (target_of (Some (view (engine_term old)))) laid.bottom (leaders laid.members) (frame_of laid.members) x in
       drew (board (board_bars tracks) mark) P view old new d s.lists (record { asked = asked; some = some; allowed = allowed; fits = fits; lists_stay = lists_stay; lists_go = refl }) r held
       (record {
         answers = p.answers;
@@ -99,7 +99,7 @@ module _ {K T : Type 0} (tracks : Tracking K) (view : T → TermView) (mark : �
         counted = p.counted;
         unchanged = p.unchanged;
         lists = subst (λ x. Fits new (lists_after r s.lists (w x))) (sym lists_stay) (p.lists s.lists fits);
-        paints = λ plain. subst (λ x. Paints (view (terminal old)) (view (terminal new)) (is_failure r) s.lists (lists_after r s.lists (w x))) (sym lists_stay) (p.paints s.lists fits plain);
+        paints = λ plain. subst (λ x. Paints (view (engine_term old)) (view (engine_term new)) (is_failure r) s.lists (lists_after r s.lists (w x))) (sym lists_stay) (p.paints s.lists fits plain);
       })
 
 -- the limiter that was asked and allowed it

@@ -16,7 +16,7 @@ use Rattle.indicatif_bar.specs.declared.state.Ask.TheVariants.{No, Forced}
 use Rattle.indicatif_bar.proofs.SoundRunLemmas.{DrawsSoundly, GoesSoundly, sound_read_after}
 use Rattle.indicatif_bar.proofs.LoneRunLemmas.{written_soundly}
 use Rattle.indicatif_board.specs.Members.{is_member, is_head, without, said_of, leaders, frame_of}
-use Rattle.indicatif_board.specs.Boards.{BoardState, BoardKind, Call, Insert, Remove, Drop, Log, BarLog, Clear, Redraw, Align, Tell, Answer, Refused, Id, Place, Entrant, New, Old, turned_away, anchor_turned_away, or_refused, inserted, taken_out, draws, draw_of, told, laid_out, left_by, left_on, marked_on, board}
+use Rattle.indicatif_board.specs.Boards.{BoardState, BoardKind, Call, Insert, Remove, Drop, Log, BarLog, Clear, Redraw, Align, Tell, Answer, Refused, Id, Location, Entrant, New, Old, turned_away, anchor_turned_away, or_refused, inserted, taken_out, draws, draw_of, told, laid_out, left_by, left_on, marked_on, board}
 
 -- the first segment's rows pass to kept, and none are forgotten
 kept_soundly : (columns number : ℕ) (l : Lists) → l.failed ≡ false → (kept_of columns number l).failed ≡ false
@@ -39,7 +39,7 @@ module _ {B C : Type 0} (kind : BoardKind B C) (mark : ℕ) where
   either s true one other a b = a
   either s false one other a b = b
 
-  inserted_soundly : (s : BoardState B) (at : Place) (entrant : Entrant B) → Goes s (inserted mark at entrant s)
+  inserted_soundly : (s : BoardState B) (at : Location) (entrant : Entrant B) → Goes s (inserted mark at entrant s)
   inserted_soundly s at (New bar) = either s (s.made == 2 ^ 64) _ _ (λ sound. sound) (λ sound. sound)
   inserted_soundly s at (Old id) = unless_refused s (turned_away mark id s) _ (λ sound. sound)
 

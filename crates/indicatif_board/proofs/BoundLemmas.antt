@@ -9,7 +9,7 @@ use Rattle.indicatif_term.specs.declared.draw_target.Keep.TheVariants.{Absent, P
 use Rattle.indicatif_bar.specs.Machines.{Target, Draw, Deed, AtOnce, Draws}
 use Rattle.indicatif_bar.specs.Bounds.{AsksLimiter, DeedAsks, IsLimited}
 use Rattle.indicatif_board.specs.Members.{is_member, is_head, without, said_of}
-use Rattle.indicatif_board.specs.Boards.{BoardState, BoardKind, Call, Insert, Remove, Drop, Log, BarLog, Clear, Redraw, Align, Tell, Answer, Refused, Done, Id, Place, Entrant, New, Old, turned_away, anchor_turned_away, or_refused, inserted, taken_in, taken_out, draws, left_by, left_on, marked_on, last_draw, board}
+use Rattle.indicatif_board.specs.Boards.{BoardState, BoardKind, Call, Insert, Remove, Drop, Log, BarLog, Clear, Redraw, Align, Tell, Answer, Refused, Done, Id, Location, Entrant, New, Old, turned_away, anchor_turned_away, or_refused, inserted, taken_in, taken_out, draws, left_by, left_on, marked_on, last_draw, board}
 
 -- the limiter of a board
 abbrev limit : {B : Type 0} → BoardState B → Option Limiter
@@ -49,7 +49,7 @@ module _ {B : Type 0} (now : ℕ) (s : BoardState B) where
   drawn : (d : Draw (BoardState B)) → AsksLimiter limit now s d → Asks (draws d)
   drawn d asks = (asks, (λ x. refl), λ x. refl)
 
-  insert_asks : (mark : ℕ) (at : Place) (entrant : Entrant B) → Asks (inserted mark at entrant s)
+  insert_asks : (mark : ℕ) (at : Location) (entrant : Entrant B) → Asks (inserted mark at entrant s)
   insert_asks mark at (New bar) = either (s.made == 2 ^ 64) _ _ refl refl
   insert_asks mark at (Old id) = unless_refused (turned_away mark id s) _ refl
 

@@ -215,10 +215,10 @@ writes_on (Some v) new lines l x y answer above rests w = (
         let p = w.2.paints plain in
         let columns : (target_of new).columns ≡ w.0.columns = ap (λ o. (target_of o).columns) w.1 in
         record {
-          written = p.written;
+          bytes = p.bytes;
           told_is = p.told_is;
           keeps = p.keeps;
-          rests = λ fine opening t r. subst (λ c. RestsOn c x y) columns rests w.0.rows opening (after t p.written) (p.rests fine opening t r);
+          rests = λ fine opening t r. subst (λ c. RestsOn c x y) columns rests w.0.rows opening (after t p.bytes) (p.rests fine opening t r);
           added = λ fine. let a = p.added fine in (a.0, above ∙ a.1);
         };
   },

@@ -15,7 +15,7 @@ use Rattle.indicatif_bar.specs.Trackers.{Tracking}
 use Rattle.indicatif_bar.specs.Commands.{BarRecord}
 use Rattle.indicatif_bar.specs.Bars.{lines_of_bar}
 use Rattle.indicatif_bar.specs.Machines.{Target}
-use Rattle.indicatif_board.specs.Boards.{BoardState, Id, Place, index_of, taken_in, turned_away, told}
+use Rattle.indicatif_board.specs.Boards.{BoardState, Id, Location, index_of, taken_in, turned_away, told}
 use Rattle.indicatif_text.specs.declared.refusal.Refusal.TheVariants.{ForeignBar, NotMember}
 use Rattle.indicatif_board.specs.Members.{Member, place_of, leaders, frame_of, order_of, changed_at, new_member, is_member, without, said_of}
 use Rattle.indicatif_board.specs.Inside.Keeps.{member_of, Holds, HasPlace, laid_by}
@@ -259,7 +259,7 @@ map-inserted f (y ∷ xs) (suc i) x = ap (λ zs. f y ∷ zs) (map-inserted f xs 
 
 -- a new bar at its place
 pub taken_holds : {K : Type 0} → (frame frame' : List Segment) (members members' : List (MemberValue K)) (number after : ℕ) (bottom : Bool) (limiter : Option Limiter) (s : BoardState
-    (BarRecord K)) (spot : Place) (at : ℕ) (bar : BarRecord K) (lines : Vec LineType Global) →
+    (BarRecord K)) (spot : Location) (at : ℕ) (bar : BarRecord K) (lines : Vec LineType Global) →
     Holds frame members number bottom limiter s → at ≡ index_of spot s.members → lines.items ≡ [] → frame' ≡ insert frame at (record { bar = number; lines = lines }) →
     members' ≡ insert members at (record { bar = bar; dropped = false }) → after ≡ number + 1 → Holds frame' members' after bottom limiter (taken_in spot bar s)
 taken_holds {K = K} frame frame' members members' number after bottom limiter s spot at bar lines holds here none frame_is members_are after_is =

@@ -6,7 +6,7 @@ use Rattle.std.specs.List.{insert, remove}
 use Rattle.std.proofs.lemmas.Bool.{cases_Bool, cases_lt, eq-eqb, ne_eqb}
 use Rattle.std.proofs.lemmas.List.{length-append, length-take, length-take-le, length-drop, drop-drop}
 use Rattle.std.proofs.lemmas.List.Edits.{length-insert, length-remove}
-use Rattle.indicatif_board.specs.Slots.{SlotTable, IsSeated, made_by, next_slot, seated, unseated, head_unseated, slot_in, times}
+use Rattle.indicatif_board.specs.Slots.{SlotTable, IsSeated, made_by, next_slot, seated, unseated, head_unseated, slot_in, occurrences}
 
 -- the number after one that was given
 pub made_next : (number : ℕ) (r : Option ℕ) → number < 2 ^ 64 → SomeIff r (number + 1 < 2 ^ 64) (number + 1) → made_by r ≡ number + 1
@@ -27,9 +27,9 @@ ones_other : (n x : ℕ) → (x ≡ n → ⊥) → ones n x ≡ 0
 unfolding ones
 ones_other n x e = rw (ne_eqb x n e) refl
 
-times-front : (n x : ℕ) (xs : List ℕ) → times n (x ∷ xs) ≡ ones n x + times n xs
+occurrences-front : (n x : ℕ) (xs : List ℕ) → occurrences n (x ∷ xs) ≡ ones n x + occurrences n xs
 unfolding ones
-times-front n x xs = elim (cases_Bool (x == n)) [
+occurrences-front n x xs = elim (cases_Bool (x == n)) [
   | inl here ↦ rw here refl
   | inr there ↦ rw there (omega arith)
 ]
@@ -41,38 +41,38 @@ ones_most n x = elim (cases_Bool (x == n)) [
   | inr there ↦ rw there (omega arith)
 ]
 
-times-append : (n : ℕ) (xs ys : List ℕ) → times n (xs ++ ys) ≡ times n xs + times n ys
-times-append n [] ys = omega arith
-times-append n (x ∷ xs) ys = omega (arith, times-front n x (xs ++ ys), times-front n x xs, times-append n xs ys)
+occurrences-append : (n : ℕ) (xs ys : List ℕ) → occurrences n (xs ++ ys) ≡ occurrences n xs + occurrences n ys
+occurrences-append n [] ys = omega arith
+occurrences-append n (x ∷ xs) ys = omega (arith, occurrences-front n x (xs ++ ys), occurrences-front n x xs, occurrences-append n xs ys)
 
 -- in what is taken and what is left
-times-cut : (n k : ℕ) (xs : List ℕ) → times n (take k xs) + times n (drop k xs) ≡ times n xs
-times-cut n zero xs = omega arith
-times-cut n (suc k) [] = omega arith
-times-cut n (suc k) (x ∷ xs) = omega (arith, times-front n x (take k xs), times-front n x xs, times-cut n k xs)
+occurrences-cut : (n k : ℕ) (xs : List ℕ) → occurrences n (take k xs) + occurrences n (drop k xs) ≡ occurrences n xs
+occurrences-cut n zero xs = omega arith
+occurrences-cut n (suc k) [] = omega arith
+occurrences-cut n (suc k) (x ∷ xs) = omega (arith, occurrences-front n x (take k xs), occurrences-front n x xs, occurrences-cut n k xs)
 
-times-inserted : (n at x : ℕ) (xs : List ℕ) → times n (insert xs at x) ≡ ones n x + times n xs
-times-inserted n at x xs = omega (arith, times-append n (take at xs) (x ∷ drop at xs), times-front n x (drop at xs), times-cut n at xs)
+occurrences-inserted : (n at x : ℕ) (xs : List ℕ) → occurrences n (insert xs at x) ≡ ones n x + occurrences n xs
+occurrences-inserted n at x xs = omega (arith, occurrences-append n (take at xs) (x ∷ drop at xs), occurrences-front n x (drop at xs), occurrences-cut n at xs)
 
-times-removed : (n at : ℕ) (xs : List ℕ) → times n (remove xs at) + times n (take 1 (drop at xs)) ≡ times n xs
-times-removed n at xs =
+occurrences-removed : (n at : ℕ) (xs : List ℕ) → occurrences n (remove xs at) + occurrences n (take 1 (drop at xs)) ≡ occurrences n xs
+occurrences-removed n at xs =
     let next : drop 1 (drop at xs) ≡ drop (suc at) xs = let k : at + 1 ≡ suc at = omega arith in drop-drop 1 at xs ∙ ap (λ j. drop j xs) k in
-    omega (arith, times-append n (take at xs) (drop (suc at) xs), times-cut n at xs, times-cut n 1 (drop at xs), ap (times n) next)
+    omega (arith, occurrences-append n (take at xs) (drop (suc at) xs), occurrences-cut n at xs, occurrences-cut n 1 (drop at xs), ap (occurrences n) next)
 
 -- the last one apart
-times-last : (n d : ℕ) (xs : List ℕ) → 0 < length xs → times n (take (length xs - 1) xs) + ones n (get_or xs (length xs - 1) d) ≡ times n xs
-times-last n d [] some = absurd (omega (arith, some))
-times-last n d (x ∷ []) some =
-    let e : times n (x ∷ []) ≡ ones n x + 0 = times-front n x [] in
+occurrences-last : (n d : ℕ) (xs : List ℕ) → 0 < length xs → occurrences n (take (length xs - 1) xs) + ones n (get_or xs (length xs - 1) d) ≡ occurrences n xs
+occurrences-last n d [] some = absurd (omega (arith, some))
+occurrences-last n d (x ∷ []) some =
+    let e : occurrences n (x ∷ []) ≡ ones n x + 0 = occurrences-front n x [] in
     omega (arith, e)
-times-last n d (x ∷ y ∷ ys) some =
+occurrences-last n d (x ∷ y ∷ ys) some =
     let k : length ys + 1 ≡ suc (length ys) = omega arith in
     let e : length (x ∷ y ∷ ys) - 1 ≡ suc (length ys) = omega arith in
     let f : length (y ∷ ys) - 1 ≡ length ys = omega arith in
-    let rest : times n (take (length ys) (y ∷ ys)) + ones n (get_or (y ∷ ys) (length ys) d) ≡ times n (y ∷ ys) =
-    subst (λ j. times n (take j (y ∷ ys)) + ones n (get_or (y ∷ ys) j d) ≡ times n (y ∷ ys)) f (times-last n d (y ∷ ys) (omega arith)) in
-    subst (λ j. times n (take j (x ∷ y ∷ ys)) + ones n (get_or (x ∷ y ∷ ys) j d) ≡ times n (x ∷ y ∷ ys)) (sym e)
-    (omega (arith, times-front n x (take (length ys) (y ∷ ys)), times-front n x (y ∷ ys), rest))
+    let rest : occurrences n (take (length ys) (y ∷ ys)) + ones n (get_or (y ∷ ys) (length ys) d) ≡ occurrences n (y ∷ ys) =
+    subst (λ j. occurrences n (take j (y ∷ ys)) + ones n (get_or (y ∷ ys) j d) ≡ occurrences n (y ∷ ys)) f (occurrences-last n d (y ∷ ys) (omega arith)) in
+    subst (λ j. occurrences n (take j (x ∷ y ∷ ys)) + ones n (get_or (x ∷ y ∷ ys) j d) ≡ occurrences n (x ∷ y ∷ ys)) (sym e)
+    (omega (arith, occurrences-front n x (take (length ys) (y ∷ ys)), occurrences-front n x (y ∷ ys), rest))
 
 -- ---- a bar taken in
 
@@ -107,23 +107,23 @@ module _ (t : SlotTable) (seats : IsSeated t) (at : ℕ) (within : at ≤ length
   slots_more : length (insert t.slots at (next_slot t)) ≡ length t.slots + 1
   slots_more = length-insert t.slots at (next_slot t) (omega (arith, seats.even, within))
 
-  times_more : (n : ℕ) → times n (insert t.slots at (next_slot t)) ≡ ones n (next_slot t) + times n t.slots
-  times_more n = times-inserted n at (next_slot t) t.slots
+  times_more : (n : ℕ) → occurrences n (insert t.slots at (next_slot t)) ≡ ones n (next_slot t) + occurrences n t.slots
+  times_more n = occurrences-inserted n at (next_slot t) t.slots
 
   rest_size : length rest ≡ length t.free - 1
   rest_size = length-take-le (length t.free - 1) t.free (omega arith)
 
   -- where a slot was free
   module _ (some : 0 < length t.free) where
-    used_again : (slot : ℕ) → times slot (insert t.slots at (next_slot t)) + times slot rest ≡ times slot t.slots + times slot t.free
-    used_again slot = omega (arith, times_more slot, times-last slot (length t.slots) t.free some)
+    used_again : (slot : ℕ) → occurrences slot (insert t.slots at (next_slot t)) + occurrences slot rest ≡ occurrences slot t.slots + occurrences slot t.free
+    used_again slot = omega (arith, times_more slot, occurrences-last slot (length t.slots) t.free some)
 
     same_size : length (insert t.slots at (next_slot t)) + length rest ≡ length t.slots + length t.free
     same_size = omega (arith, slots_more, rest_size, some)
 
   -- where none was
   module _ (none : length t.free ≡ 0) where
-    no_times : (n : ℕ) (free : List ℕ) → length free ≡ 0 → times n free ≡ 0
+    no_times : (n : ℕ) (free : List ℕ) → length free ≡ 0 → occurrences n free ≡ 0
     no_times n [] e = refl
     no_times n (x ∷ xs) e = absurd (omega (arith, e))
 
@@ -137,7 +137,7 @@ module _ (t : SlotTable) (seats : IsSeated t) (at : ℕ) (within : at ≤ length
     new_size : length (insert t.slots at (next_slot t)) + length rest ≡ length t.slots + 1
     new_size = omega (arith, slots_more, rest_size, none)
 
-    new_once : (slot : ℕ) → slot < length t.slots + 1 → times slot (insert t.slots at (next_slot t)) + times slot rest ≡ 1
+    new_once : (slot : ℕ) → slot < length t.slots + 1 → occurrences slot (insert t.slots at (next_slot t)) + occurrences slot rest ≡ 1
     new_once slot old = elim (cases_lt slot (length t.slots)) [
       | inl below ↦ omega (
         arith,
@@ -157,7 +157,7 @@ module _ (t : SlotTable) (seats : IsSeated t) (at : ℕ) (within : at ≤ length
       )
     ]
 
-    new_never : (slot : ℕ) → length t.slots + 1 ≤ slot → times slot (insert t.slots at (next_slot t)) + times slot rest ≡ 0
+    new_never : (slot : ℕ) → length t.slots + 1 ≤ slot → occurrences slot (insert t.slots at (next_slot t)) + occurrences slot rest ≡ 0
     new_never slot above = omega (
       arith,
       times_more slot,
@@ -171,10 +171,10 @@ module _ (t : SlotTable) (seats : IsSeated t) (at : ℕ) (within : at ≤ length
   seated_keeps = record {
     even = even_seated;
     apart = λ n. elim (cases_lt n t.made) [
-      | inl old ↦ omega (arith, times-inserted n at t.made t.order, ones_other n t.made (λ e. omega (arith, e, old)), seats.apart n)
-      | inr new ↦ omega (arith, times-inserted n at t.made t.order, ones_most n t.made, seats.given n new)
+      | inl old ↦ omega (arith, occurrences-inserted n at t.made t.order, ones_other n t.made (λ e. omega (arith, e, old)), seats.apart n)
+      | inr new ↦ omega (arith, occurrences-inserted n at t.made t.order, ones_most n t.made, seats.given n new)
     ];
-    given = λ n new. omega (arith, times-inserted n at t.made t.order, ones_other n t.made (λ e. omega (arith, e, new)), seats.given n (omega (arith, new)));
+    given = λ n new. omega (arith, occurrences-inserted n at t.made t.order, ones_other n t.made (λ e. omega (arith, e, new)), seats.given n (omega (arith, new)));
     used = λ slot inside. let below : slot < length (insert t.slots at (next_slot t)) + length rest = inside in elim (cases_lt 0 (length t.free)) [
       | inl some ↦ used_again some slot ∙ seats.used slot (omega (arith, below, same_size some))
       | inr none ↦ let e : length t.free ≡ 0 = omega (arith, none) in new_once e slot (omega (arith, below, new_size e))
@@ -219,12 +219,12 @@ unseated_keeps t at seats within =
     let one : length (take 1 (drop at t.slots)) ≡ 1 = length-take-le 1 (drop at t.slots) (omega (arith, length-drop at t.slots, inside)) in
     let size : length (remove t.slots at) + length (t.free ++ take 1 (drop at t.slots)) ≡ length t.slots + length t.free =
     omega (arith, length-remove t.slots at inside, length-append t.free (take 1 (drop at t.slots)), one) in
-    let same : (slot : ℕ) → times slot (remove t.slots at) + times slot (t.free ++ take 1 (drop at t.slots)) ≡ times slot t.slots + times slot t.free =
-    λ slot. omega (arith, times-removed slot at t.slots, times-append slot t.free (take 1 (drop at t.slots))) in
+    let same : (slot : ℕ) → occurrences slot (remove t.slots at) + occurrences slot (t.free ++ take 1 (drop at t.slots)) ≡ occurrences slot t.slots + occurrences slot t.free =
+    λ slot. omega (arith, occurrences-removed slot at t.slots, occurrences-append slot t.free (take 1 (drop at t.slots))) in
     record {
       even = omega (arith, length-remove t.order at within, length-remove t.slots at inside, seats.even);
-      apart = λ n. omega (arith, times-removed n at t.order, seats.apart n);
-      given = λ n new. omega (arith, times-removed n at t.order, seats.given n new);
+      apart = λ n. omega (arith, occurrences-removed n at t.order, seats.apart n);
+      given = λ n new. omega (arith, occurrences-removed n at t.order, seats.given n new);
       used = λ slot below. same slot ∙ seats.used slot (omega (arith, below, size));
       unused = λ slot above. same slot ∙ seats.unused slot (omega (arith, above, size));
     }
@@ -233,12 +233,12 @@ pub head_keeps : (t : SlotTable) (count : ℕ) → IsSeated t → count ≤ leng
 head_keeps t count seats within =
     let size : length (drop count t.slots) + length (t.free ++ take count t.slots) ≡ length t.slots + length t.free =
     omega (arith, length-drop count t.slots, length-append t.free (take count t.slots), length-take-le count t.slots (omega (arith, within, seats.even)), within, seats.even) in
-    let same : (slot : ℕ) → times slot (drop count t.slots) + times slot (t.free ++ take count t.slots) ≡ times slot t.slots + times slot t.free =
-    λ slot. omega (arith, times-cut slot count t.slots, times-append slot t.free (take count t.slots)) in
+    let same : (slot : ℕ) → occurrences slot (drop count t.slots) + occurrences slot (t.free ++ take count t.slots) ≡ occurrences slot t.slots + occurrences slot t.free =
+    λ slot. omega (arith, occurrences-cut slot count t.slots, occurrences-append slot t.free (take count t.slots)) in
     record {
       even = omega (arith, length-drop count t.order, length-drop count t.slots, seats.even);
-      apart = λ n. omega (arith, times-cut n count t.order, seats.apart n);
-      given = λ n new. omega (arith, times-cut n count t.order, seats.given n new);
+      apart = λ n. omega (arith, occurrences-cut n count t.order, seats.apart n);
+      given = λ n new. omega (arith, occurrences-cut n count t.order, seats.given n new);
       used = λ slot below. same slot ∙ seats.used slot (omega (arith, below, size));
       unused = λ slot above. same slot ∙ seats.unused slot (omega (arith, above, size));
     }

@@ -52,12 +52,12 @@ pub record Id : Type 0 where
   pub number : ℕ
 
 -- where a bar is to stand
-pub data Place : Type 0 where
-  End : Place
-  Index : (index : ℕ) → Place
-  FromBack : (count : ℕ) → Place
-  Before : (anchor : Id) → Place
-  After : (anchor : Id) → Place
+pub data Location : Type 0 where
+  End : Location
+  Index : (index : ℕ) → Location
+  FromBack : (count : ℕ) → Location
+  Before : (anchor : Id) → Location
+  After : (anchor : Id) → Location
 
 -- what is to be taken in: a new bar, or one that is there already
 pub data Entrant (B : Type 0) : Type 0 where
@@ -66,7 +66,7 @@ pub data Entrant (B : Type 0) : Type 0 where
 
 -- what a board can be asked
 pub data Call (B C : Type 0) : Type 0 where
-  Insert : (at : Place) → (entrant : Entrant B) → Call B C
+  Insert : (at : Location) → (entrant : Entrant B) → Call B C
   Remove : (id : Id) → Call B C
   -- the bar's owner is gone
   Drop : (id : Id) → Call B C
@@ -115,7 +115,7 @@ turned_away mark id s =
     else Some NotMember
 
 -- the same of a place's anchor
-abbrev pub anchor_turned_away : {B : Type 0} → ℕ → Place → BoardState B → Option Refusal
+abbrev pub anchor_turned_away : {B : Type 0} → ℕ → Location → BoardState B → Option Refusal
 anchor_turned_away mark (Before anchor) s = turned_away mark anchor s
 anchor_turned_away mark (After anchor) s = turned_away mark anchor s
 anchor_turned_away mark _ s = None
@@ -128,7 +128,7 @@ or_refused (Some e) deed s = AtOnce false (Refused e) s
 -- ---- the order
 
 -- how many members are to stand before
-abbrev pub index_of : {B : Type 0} → Place → List (Member B) → ℕ
+abbrev pub index_of : {B : Type 0} → Location → List (Member B) → ℕ
 index_of End members = length members
 index_of (Index i) members = min i (length members)
 index_of (FromBack i) members = length members - i
@@ -136,11 +136,11 @@ index_of (Before anchor) members = place_of anchor.number members
 index_of (After anchor) members = place_of anchor.number members + 1
 
 -- the board with a new bar there
-abbrev pub taken_in : {B : Type 0} → Place → B → BoardState B → BoardState B
+abbrev pub taken_in : {B : Type 0} → Location → B → BoardState B → BoardState B
 taken_in at bar s = record s { members = insert s.members (index_of at s.members) (new_member s.made bar); made = s.made + 1 }
 
 -- a new bar takes memory and the next number, and numbers end before 2 ^ 64; a bar that is there already stays where it is
-abbrev pub inserted : {B : Type 0} → ℕ → Place → Entrant B → BoardState B → Deed (BoardState B) Answer
+abbrev pub inserted : {B : Type 0} → ℕ → Location → Entrant B → BoardState B → Deed (BoardState B) Answer
 inserted mark at (New bar) s =
     if s.made == 2 ^ 64 then AtOnce true (Refused Memory) s
     else AtOnce true (Given (record { mark = mark; number = s.made })) (taken_in at bar s)
@@ -161,8 +161,8 @@ abbrev pub forgotten : {B : Type 0} → BoardState B → BoardState B
 forgotten s = record s { lists = forgotten_lists }
 
 -- the terminal is written, and the dropped members at the head leave
-abbrev pub written : {B : Type 0} → Target → Writing → BoardState B → BoardState B
-written target writing s = record s {
+abbrev pub once_written : {B : Type 0} → Target → Writing → BoardState B → BoardState B
+once_written target writing s = record s {
   lists = written_lists writing target s.bottom (leaders s.members) (frame_of s.members) s.lists;
   members = followers s.members;
 }
@@ -180,7 +180,7 @@ draw_of target takes ask now writing s laid =
       ready = ready;
       allowed = asked.0;
       lines = lines_to_write writing (leaders ready.members) (frame_of ready.members);
-      written = written target writing ready;
+      written = once_written target writing ready;
       broken = forgotten ready;
     }
 

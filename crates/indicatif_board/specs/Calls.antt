@@ -3,7 +3,7 @@ use Rattle.std.specs.Prelude.{ℕ, Option, Result, Ok, Err, string_bytes}
 use Rattle.indicatif_text.specs.declared.refusal.Refusal.{Refusal}
 use Rattle.indicatif_bar.specs.Commands.{BarRecord, Command, command_of}
 use Rattle.indicatif_term.specs.Engines.{is_bottom}
-use Rattle.indicatif_board.specs.Boards.{Entrant, New, Old, Place, End, Index, FromBack, Before, After, Call, Insert, Remove, Drop, Log, BarLog, Clear, Redraw, Align, Tell, Answer, Given, Done, Drew, Refused}
+use Rattle.indicatif_board.specs.Boards.{Entrant, New, Old, Location, End, Index, FromBack, Before, After, Call, Insert, Remove, Drop, Log, BarLog, Clear, Redraw, Align, Tell, Answer, Given, Done, Drew, Refused}
 use Rattle.indicatif_board.specs.BoardValues.{id_of}
 use Rattle.indicatif_board.specs.declared.bar_id.BarId.{BarId}
 use Rattle.indicatif_board.specs.declared.calls.Candidate.{Candidate}
@@ -34,7 +34,7 @@ removal (Err e) = Refused e
 -- ---- values
 
 -- a place of the order
-abbrev pub place_at : InsertLocation → Place
+abbrev pub place_at : InsertLocation → Location
 place_at location.End = End
 place_at (location.Index index) = Index index
 place_at (location.IndexFromBack count) = FromBack count

@@ -3,7 +3,7 @@ use Rattle.std.specs.Prelude.{◌≡◌, ◌⊎◌, ℕ, [], ◌∷◌, Option, 
 use Rattle.indicatif_text.specs.declared.refusal.Refusal.{Refusal}
 use Rattle.indicatif_text.specs.declared.refusal.Drawn.{Drawn}
 use Rattle.indicatif_term.specs.Calls.{TermView}
-use Rattle.indicatif_term.specs.Engines.{terminal, Fits}
+use Rattle.indicatif_term.specs.Engines.{engine_term, Fits}
 use Rattle.indicatif_term.specs.Lists.{opening_lists}
 use Rattle.indicatif_bar.specs.Trackers.{Tracking}
 use Rattle.indicatif_bar.specs.Commands.{BarRecord, Command}
@@ -17,7 +17,7 @@ use Rattle.indicatif_board.specs.declared.multi.Board.{Board}
 module _ {K T : Type 0} where
   -- its terminal; none where the target is hidden
   abbrev pub terminal_of : Board K T → Option T
-  terminal_of b = option_map terminal b.engine
+  terminal_of b = option_map engine_term b.engine
 
   -- the slots of its bars
   abbrev pub slots_of : Board K T → SlotTable

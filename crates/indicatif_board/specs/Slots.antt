@@ -60,16 +60,16 @@ abbrev pub slot_of : ℕ → SlotTable → Option ℕ
 slot_of number t = slot_in number t.order t.slots
 
 -- how often a number stands in a list
-abbrev pub times : ℕ → List ℕ → ℕ
-times n [] = 0
-times n (x ∷ xs) = if x == n then 1 + times n xs else times n xs
+abbrev pub occurrences : ℕ → List ℕ → ℕ
+occurrences n [] = 0
+occurrences n (x ∷ xs) = if x == n then 1 + occurrences n xs else occurrences n xs
 
 -- each bar stands in the order once and has a slot of its own
 pub record IsSeated (t : SlotTable) : Type 0 where
   pub even : length t.order ≡ length t.slots
   -- no bar stands there twice, and none that was not taken in
-  pub apart : (number : ℕ) → times number t.order ≤ 1
-  pub given : (number : ℕ) → t.made ≤ number → times number t.order ≡ 0
+  pub apart : (number : ℕ) → occurrences number t.order ≤ 1
+  pub given : (number : ℕ) → t.made ≤ number → occurrences number t.order ≡ 0
   -- each slot that was ever used has one bar or is free, not both; there are as many as bars and free ones
-  pub used : (slot : ℕ) → slot < length t.slots + length t.free → times slot t.slots + times slot t.free ≡ 1
-  pub unused : (slot : ℕ) → length t.slots + length t.free ≤ slot → times slot t.slots + times slot t.free ≡ 0
+  pub used : (slot : ℕ) → slot < length t.slots + length t.free → occurrences slot t.slots + occurrences slot t.free ≡ 1
+  pub unused : (slot : ℕ) → length t.slots + length t.free ≤ slot → occurrences slot t.slots + occurrences slot t.free ≡ 0

@@ -1,6 +1,6 @@
 //! A board: several bars on one target, in an order.
 ghost use Rattle.std.specs.Prelude.{◌≡◌, ◌==◌, ◌⊎◌, ◌↔◌, ◌<◌, ◌≤◌, ℕ, Bool, Option, Some, None, Err, true, option_map, IsTrue, IsFalse, IfOk, IfErr, IfSome, MatchResult, MatchOption, map, OnErr, vec_len, if◌then◌else◌};
-ghost use Rattle.indicatif_term.specs.Engines.{is_bottom, terminal, Fits};
+ghost use Rattle.indicatif_term.specs.Engines.{is_bottom, engine_term, Fits};
 ghost use Rattle.indicatif_term.specs.Lists.{fate, kept_of, opening_lists};
 ghost use Rattle.indicatif_term.specs.Targets.{term_of, limiter_of};
 ghost use Rattle.indicatif_bar.specs.Commands.{BarRecord, command_of};
@@ -9,7 +9,7 @@ ghost use Rattle.indicatif_bar.specs.Machines.{Target, Leads, is_no, target_of};
 ghost use Rattle.indicatif_bar.specs.Runs.{wrote, Runs, Headline};
 ghost use Rattle.indicatif_bar.specs.Inside.Draws.{DrewOn};
 ghost use Rattle.indicatif_board.specs.BoardBars.{board_bars};
-ghost use Rattle.indicatif_board.specs.Boards.{BoardState, Tell, Log, BarLog, Clear, Redraw, Align, Insert, Remove, Drop, Place, End, Index, FromBack, Before, After, Done, opening_board, says, drawn_of, index_of, inserted, turned_away, draw_of, board};
+ghost use Rattle.indicatif_board.specs.Boards.{BoardState, Tell, Log, BarLog, Clear, Redraw, Align, Insert, Remove, Drop, Location, End, Index, FromBack, Before, After, Done, opening_board, says, drawn_of, index_of, inserted, turned_away, draw_of, board};
 ghost use Rattle.indicatif_board.specs.BoardValues.{id_of};
 ghost use Rattle.indicatif_board.specs.Members.{is_member, order_of, said_of};
 ghost use Rattle.indicatif_board.specs.Slots.{slot_of, IsSeated};
@@ -419,7 +419,7 @@ impl<K: ProgressTracker, T: TermLike + Drop> Board<K, T> {
         ensures terminal { terminal_of self.new ≡ terminal_of self.old }
         ensures turned { IfErr result (λ t. t.candidate ≡ candidate) }
         ensures quiet { IsFalse (wrote (drawn_of (given result))) }
-        ensures inserted { (mark : ℕ) (s : BoardState (BarRecord K)) (spot : Place) → IsIn mark self.old s → at ≡ index_of spot s.members →
+        ensures inserted { (mark : ℕ) (s : BoardState (BarRecord K)) (spot : Location) → IsIn mark self.old s → at ≡ index_of spot s.members →
             (next : BoardState (BarRecord K)) × IsIn mark self.new next × (next.lists ≡ s.lists)
             × ((target : Target) → Leads (board (board_bars K.means) mark) target s (inserted mark spot (entrant_of candidate) s) (given result) next) }
     {
@@ -535,7 +535,7 @@ fn opened_on<T: TermLike + Drop>(
     alloc: Global,
     target: ProgressDrawTarget<T>,
 ) -> (Option<Engine<T>>, Option<RateLimiter>)
-    ensures terminal { option_map terminal result.0 ≡ term_of target }
+    ensures terminal { option_map engine_term result.0 ≡ term_of target }
     ensures opened { MatchOption result.0 (opening_lists ≡ opening_lists) (λ engine. Fits engine opening_lists) }
     ensures limiter { result.1 ≡ limiter_of target }
 {

@@ -1,14 +1,14 @@
 //! The bars of a board with the lines that they show, and how they are written.
 ghost use Rattle.std.specs.Prelude.{◌≡◌, ◌≢◌, ◌⊎◌, ◌<◌, ◌≤◌, ◌^◌, MatchResult, ℕ, Bool, Option, Some, None, true, false, IsTrue, IsFalse, map, length, vec_len, IfSome, IfOk, IfErr, OnErr};
 ghost use Rattle.indicatif_term.specs.Frames.{bar_lines};
-ghost use Rattle.indicatif_term.specs.Engines.{terminal, Fits, is_bottom};
+ghost use Rattle.indicatif_term.specs.Engines.{engine_term, Fits, is_bottom};
 ghost use Rattle.indicatif_bar.specs.Commands.{BarRecord};
 ghost use Rattle.indicatif_bar.specs.Machines.{Target, is_no, target_of};
 ghost use Rattle.indicatif_bar.specs.Kinds.{rows_take, asked_of};
 ghost use Rattle.indicatif_bar.specs.Runs.{wrote};
 ghost use Rattle.indicatif_bar.specs.Inside.Draws.{DrewBy};
 ghost use Rattle.indicatif_board.specs.BoardBars.{board_bars};
-ghost use Rattle.indicatif_board.specs.Boards.{BoardState, Place, opening_board, draw_of, index_of, taken_in, marked_on, board};
+ghost use Rattle.indicatif_board.specs.Boards.{BoardState, Location, opening_board, draw_of, index_of, taken_in, marked_on, board};
 ghost use Rattle.indicatif_board.specs.Members.{place_of, without, is_head, said_of};
 ghost use Rattle.indicatif_board.specs.Inside.Keeps.{PutsFrame, HasPlace, laid_by};
 ghost use Rattle.indicatif_board.specs.Inside.Writings.{writing_by};
@@ -70,7 +70,7 @@ impl<K: ProgressTracker> ShownBars<K> {
     /// no number; the others stay as they are then.
     pub fn take_in(&mut self, at: usize, bar: BarState<K>) -> Result<u64, BarState<K>>
         requires within { at ≤ vec_len self.old.members }
-        ensures taken { (s : BoardState (BarRecord K)) (spot : Place) → Shown self.old s → at ≡ index_of spot s.members →
+        ensures taken { (s : BoardState (BarRecord K)) (spot : Location) → Shown self.old s → at ≡ index_of spot s.members →
             MatchResult result (λ n. (s.made ≡ n) × (n < 2 ^ 64) × Shown self.new (taken_in spot bar s)) (λ b. (b ≡ bar) × Shown self.new s) }
         ensures bar { IfErr result (λ b. b ≡ bar) }
     {
@@ -141,7 +141,7 @@ impl<K: ProgressTracker> ShownBars<K> {
         ensures silent { IsFalse (wrote result) → engine.new ≡ engine.old }
         ensures drew { (mark : ℕ) (takes : Bool) (s : BoardState (BarRecord K)) (number : Option ℕ) → is_no ask ≡ false →
             Shown self.old s → HasPlace number bar s.members → Fits engine.old s.lists →
-            let target = target_of (Some (T.view (terminal engine.old))) in
+            let target = target_of (Some (T.view (engine_term engine.old))) in
             DrewBy (board (board_bars K.means) mark) (Shown self.new) T.view engine.old engine.new
             (draw_of target takes ask now (writing_by writing.entry) s (laid_by K.means target now number s)) s.lists result }
     {
@@ -190,10 +190,10 @@ impl<K: ProgressTracker> ShownBars<K> {
     ) -> Result<Drawn, Refusal>
         ensures silent { IsFalse (wrote result) → engine.new ≡ engine.old }
         ensures drew { (mark now : ℕ) (takes : Bool) (ask : Ask) (s laid : BoardState (BarRecord K)) → is_no ask ≡ false →
-            0 < (T.view (terminal engine.old)).columns → asked_of ask now laid.limiter ≡ (true, self.old.limiter) →
+            0 < (T.view (engine_term engine.old)).columns → asked_of ask now laid.limiter ≡ (true, self.old.limiter) →
             Shown self.old (record laid { limiter = self.old.limiter }) → laid.lists ≡ s.lists → Fits engine.old s.lists →
             DrewBy (board (board_bars K.means) mark) (Shown self.new) T.view engine.old engine.new
-            (draw_of (target_of (Some (T.view (terminal engine.old)))) takes ask now (writing_by writing.entry) s laid) s.lists result }
+            (draw_of (target_of (Some (T.view (engine_term engine.old)))) takes ask now (writing_by writing.entry) s laid) s.lists result }
     {
         let gone = leading(&self.members);
         put(engine, &self.frame, gone, self.alignment, writing)?;

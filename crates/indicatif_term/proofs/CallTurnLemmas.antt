@@ -5,7 +5,7 @@ use Rattle.std.proofs.Math.Bool.{or-false}
 use Rattle.std.proofs.lemmas.Bool.Decides.{nat_tests}
 use Rattle.indicatif_term.specs.Terminal.{after}
 use Rattle.indicatif_term.proofs.FeedLemmas.{after-append}
-use Rattle.indicatif_term.specs.Calls.{Told, State, Bytes, Nothing, tells, led_on, TermView, LeadsOn, BreaksOff, Writes, clear_bytes, move_bytes, anew_bytes}
+use Rattle.indicatif_term.specs.Calls.{Told, State, Bytes, Nothing, is_told, led_on, TermView, LeadsOn, BreaksOff, Writes, clear_bytes, move_bytes, anew_bytes}
 use Rattle.std.specs.Prelude.{not, ◌&&◌, ◌==◌}
 use Rattle.std.proofs.Common.{replicate}
 use Rattle.indicatif_term.specs.Inside.Bytes.{paint_bytes, painting_bytes, drawing_lines, lines_bytes, next_row, rows_back, back_bytes}
@@ -23,16 +23,16 @@ led_on-nil (Bytes old) = ap Bytes (append-nil old)
 led_on-nil Nothing = refl
 
 -- a terminal that tells something still does
-pub still_tells : (told : Told) (bytes : List ℕ) → IsTrue (tells told) → IsTrue (tells (led_on told bytes))
+pub still_tells : (told : Told) (bytes : List ℕ) → IsTrue (is_told told) → IsTrue (is_told (led_on told bytes))
 still_tells (State t) bytes h = refl
 still_tells (Bytes old) bytes h = refl
 still_tells Nothing bytes h = h
 
 -- bytes after bytes
-pub told_then : (a b : List ℕ) (s t u : Told) → (IsTrue (tells s) → t ≡ led_on s a) → (IsTrue (tells t) → u ≡ led_on t b) → IsTrue (tells s) → u ≡ led_on s (a ++ b)
+pub told_then : (a b : List ℕ) (s t u : Told) → (IsTrue (is_told s) → t ≡ led_on s a) → (IsTrue (is_told t) → u ≡ led_on t b) → IsTrue (is_told s) → u ≡ led_on s (a ++ b)
 told_then a b s t u p q h =
     let e = p h in
-    q (subst (λ x. IsTrue (tells x)) (sym e) (still_tells s a h)) ∙ ap (λ x. led_on x b) e ∙ led_on-append s a b
+    q (subst (λ x. IsTrue (is_told x)) (sym e) (still_tells s a h)) ∙ ap (λ x. led_on x b) e ∙ led_on-append s a b
 
 pub reaches_none : (s : TermView) → LeadsOn [] s s
 reaches_none s = record { told_is = λ h. sym (led_on-nil s.told); columns_are = refl; rows_are = refl; faults_are = refl }

@@ -46,7 +46,7 @@ rests_same w h opening l t r = r
 
 pub paints_nothing : (v : TermView) (broke : Bool) (l : Lists) → Paints v v broke l l
 paints_nothing v broke l = record {
-  written = [];
+  bytes = [];
   told_is = λ h. sym (led_on-nil v.told);
   keeps = λ opening t r. nothing_keeps (opening.row + length l.above) t;
   rests = λ _ opening t r. rests_same v.columns v.rows opening l t r;
@@ -111,7 +111,7 @@ pub paints_by : {T : Type 0} (v v' : TermView) (next : Counts) (result : Result 
     failed ≡ l.failed → Writes (led failed bytes) v v' result → Redraws v.columns v.rows l l' bytes → (IsTrue l.failed → l ≡ forgotten_lists) → l'.failed ≡ false → Adds l l' →
     Paints v v' (is_failure result) l (lists_after result l l')
 paints_by v v' next (Ok u) new failed l l' bytes g e q p forgets made adds = record {
-  written = led failed bytes;
+  bytes = led failed bytes;
   told_is = q.told_is;
   keeps = λ opening t r. subst (λ b. RowsStay (opening.row + length l.above) t (led b bytes)) (sym e) (led_keeps v.columns v.rows l l' bytes p forgets opening t r);
   rests = λ _ opening t r. subst (λ b. Rests v'.columns v'.rows opening l' (after t (led b bytes))) (sym e)
@@ -122,7 +122,7 @@ paints_by v v' next (Ok u) new failed l l' bytes g e q p forgets made adds = rec
 paints_by v v' next (Err x) new failed l l' bytes g e q p forgets made adds =
     let broke : is_fault x ≡ true = ap is_fault g.0.1 in
     record {
-      written = q.front;
+      bytes = q.front;
       told_is = q.told_is;
       keeps = λ opening t r. keeps_front (opening.row + length l.above) t (led failed bytes) q.front q.rest q.whole
           (subst (λ b. RowsStay (opening.row + length l.above) t (led b bytes)) (sym e) (led_keeps v.columns v.rows l l' bytes p forgets opening t r));

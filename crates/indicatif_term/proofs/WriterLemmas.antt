@@ -5,7 +5,7 @@ use Rattle.std.specs.Result.{is_err}
 use Rattle.std.specs.Io.KnownBytes.{Appends, Keeps}
 use Rattle.std.proofs.lemmas.Bool.{false≢true}
 use Rattle.std.proofs.lemmas.List.{take_rest}
-use Rattle.indicatif_term.specs.Calls.{Bytes, tells, led_on, TermView, Writes}
+use Rattle.indicatif_term.specs.Calls.{Bytes, is_told, led_on, TermView, Writes}
 use Rattle.indicatif_term.specs.Writers.{Behind, told_by, view_behind, AppendsAllOrFront}
 
 -- ---- what a writer holds
@@ -30,7 +30,7 @@ pub appends_none : (a : Option (List ℕ)) → Appends a a []
 appends_none None = tt
 appends_none (Some x) = sym (append-nil x)
 
-told_appended : (old new : Option (List ℕ)) (bytes : List ℕ) → Appends old new bytes → IsTrue (tells (told_by old)) → told_by new ≡ led_on (told_by old) bytes
+told_appended : (old new : Option (List ℕ)) (bytes : List ℕ) → Appends old new bytes → IsTrue (is_told (told_by old)) → told_by new ≡ led_on (told_by old) bytes
 told_appended None new bytes p h = absurd (false≢true h)
 told_appended (Some x) None bytes p h = absurd p
 told_appended (Some x) (Some y) bytes p h = ap Bytes p

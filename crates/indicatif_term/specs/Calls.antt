@@ -45,10 +45,10 @@ pub data Told : Type 0 where
   Nothing : Told
 
 -- whether it tells anything
-abbrev pub tells : Told → Bool
-tells (State t) = true
-tells (Bytes bytes) = true
-tells Nothing = false
+abbrev pub is_told : Told → Bool
+is_told (State t) = true
+is_told (Bytes bytes) = true
+is_told Nothing = false
 
 -- what it tells after these bytes
 abbrev pub led_on : Told → List ℕ → Told
@@ -65,7 +65,7 @@ pub record TermView : Type 0 where
 
 -- these bytes led from the one to the other, where the one tells anything, and nothing else changed
 pub record LeadsOn (bytes : List ℕ) (old new : TermView) : Type 0 where
-  pub told_is : IsTrue (tells old.told) → new.told ≡ led_on old.told bytes
+  pub told_is : IsTrue (is_told old.told) → new.told ≡ led_on old.told bytes
   pub columns_are : new.columns ≡ old.columns
   pub rows_are : new.rows ≡ old.rows
   pub faults_are : new.faults ≡ old.faults
@@ -75,7 +75,7 @@ pub record BreaksOff (bytes : List ℕ) (old new : TermView) : Type 0 where
   pub front : List ℕ
   pub rest : List ℕ
   pub whole : front ++ rest ≡ bytes
-  pub told_is : IsTrue (tells old.told) → new.told ≡ led_on old.told front
+  pub told_is : IsTrue (is_told old.told) → new.told ≡ led_on old.told front
   pub columns_are : new.columns ≡ old.columns
   pub rows_are : new.rows ≡ old.rows
   pub faults_are : new.faults ≡ (old.faults + 1) % 2 ^ 64

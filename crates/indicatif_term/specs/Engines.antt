@@ -5,7 +5,7 @@ use Rattle.indicatif_text.specs.Columns.{Cell}
 use Rattle.indicatif_term.specs.Lists.{Lists, forgotten_lists}
 use Rattle.indicatif_term.specs.Screen.{Screen}
 use Rattle.indicatif_term.specs.Terminal as cells
-use Rattle.indicatif_term.specs.Calls.{tells, led_on, TermView}
+use Rattle.indicatif_term.specs.Calls.{is_told, led_on, TermView}
 use Rattle.indicatif_term.specs.Shows.{Rests, RowsStay}
 use Rattle.indicatif_term.specs.Frames.{some_wide, RefusesLines, is_fault}
 use Rattle.indicatif_term.specs.Counts.{CountsOf}
@@ -20,8 +20,8 @@ is_bottom Bottom = true
 
 module _ {T : Type 0} where
   -- the terminal that the engine draws on
-  abbrev pub terminal : Engine T → T
-  terminal e = e.term
+  abbrev pub engine_term : Engine T → T
+  engine_term e = e.term
 
   -- the engine's rows are as many, of the same bars, as those of the lists; after a failure of the terminal there are none
   unfoldable pub Fits : Engine T → Lists → Type 0
@@ -41,10 +41,10 @@ pub record Counted {A : Type 0} (v v' : TermView) (answer : Result A Refusal) : 
 -- some bytes were written to a terminal at rest: after each beginning of them the untouched rows and the rows above are as
 -- they were; and unless the terminal broke off, it rests with the lists then, and rows above were only added, at their end
 pub record Paints (v v' : TermView) (broke : Bool) (l l' : Lists) : Type 0 where
-  pub written : List ℕ
-  pub told_is : IsTrue (tells v.told) → v'.told ≡ led_on v.told written
-  pub keeps : (opening : Screen) (t : cells.Terminal) → Rests v.columns v.rows opening l t → RowsStay (opening.row + length l.above) t written
-  pub rests : IsFalse broke → (opening : Screen) (t : cells.Terminal) → Rests v.columns v.rows opening l t → Rests v'.columns v'.rows opening l' (cells.after t written)
+  pub bytes : List ℕ
+  pub told_is : IsTrue (is_told v.told) → v'.told ≡ led_on v.told bytes
+  pub keeps : (opening : Screen) (t : cells.Terminal) → Rests v.columns v.rows opening l t → RowsStay (opening.row + length l.above) t bytes
+  pub rests : IsFalse broke → (opening : Screen) (t : cells.Terminal) → Rests v.columns v.rows opening l t → Rests v'.columns v'.rows opening l' (cells.after t bytes)
   pub added : IsFalse broke → (rows : List (List Cell)) × (l'.above ≡ l.above ++ rows)
 
 -- ---- a drawing

@@ -78,7 +78,7 @@ impl<T: TermLike + Drop> Engine<T> {
     ghost use Rattle.indicatif_term.specs.Inside.Bytes.{paint_bytes, drawing_lines};
     ghost use Rattle.indicatif_term.specs.Frames.{bar_lines, all_lines, are_plain, logged_lines, text_lines, is_fault};
     ghost use Rattle.indicatif_term.specs.Inside.Plans.{frame_lines};
-    ghost use Rattle.indicatif_term.specs.Engines.{is_bottom, terminal, Fits, is_failure, Answers, Counted, Paints, lists_after};
+    ghost use Rattle.indicatif_term.specs.Engines.{is_bottom, engine_term, Fits, is_failure, Answers, Counted, Paints, lists_after};
     ghost use Rattle.indicatif_term.specs.Inside.Remembering.{Remembers};
     ghost use Rattle.indicatif_term.specs.Shows.{IsOpening, Rests, resting};
     ghost use Rattle.indicatif_term.specs.Screen.{Screen};
@@ -86,7 +86,7 @@ impl<T: TermLike + Drop> Engine<T> {
 
     /// An engine that has drawn nothing yet. It takes no memory and writes nothing.
     pub fn new(alloc: Global, term: T) -> Self
-        ensures terminal { terminal result ≡ term }
+        ensures terminal { engine_term result ≡ term }
         ensures lists { Fits result opening_lists }
         ensures rests { (w h : ℕ) (opening : Screen) → IsOpening w h opening →
             Rests w h opening opening_lists (resting opening) }
@@ -102,14 +102,14 @@ impl<T: TermLike + Drop> Engine<T> {
 
     /// The terminal.
     pub fn term(&self) -> &T
-        ensures { result.now ≡ terminal self.now }
+        ensures { result.now ≡ engine_term self.now }
     {
         &self.term
     }
 
     /// The terminal; what was drawn stays on it.
     pub fn into_term(self) -> T
-        ensures { result ≡ terminal self }
+        ensures { result ≡ engine_term self }
     {
         self.term
     }
@@ -129,17 +129,17 @@ impl<T: TermLike + Drop> Engine<T> {
         pass: usize,
         alignment: MultiProgressAlignment,
     ) -> Result<(), Refusal>
-        ensures answer { Answers (T.view (terminal self.old)).columns
+        ensures answer { Answers (T.view (engine_term self.old)).columns
             (all_lines (map bar_lines frame.now)) result }
-        ensures counted { Counted (T.view (terminal self.old)) (T.view (terminal self.new)) result }
+        ensures counted { Counted (T.view (engine_term self.old)) (T.view (engine_term self.new)) result }
         ensures unchanged { IfErr result (λ e. IsFalse (is_fault e) → self.new ≡ self.old) }
-        ensures lists { (l : Lists) → Fits self.old l → let s = T.view (terminal self.old) in
+        ensures lists { (l : Lists) → Fits self.old l → let s = T.view (engine_term self.old) in
             Fits self.new (lists_after result l
             (drawn s.columns s.rows (is_bottom alignment) pass (map bar_lines frame.now) l)) }
         ensures paints { (l : Lists) → Fits self.old l →
             IsTrue (are_plain (all_lines (map bar_lines frame.now))) →
-            let s = T.view (terminal self.old) in
-            Paints s (T.view (terminal self.new)) (is_failure result) l (lists_after result l
+            let s = T.view (engine_term self.old) in
+            Paints s (T.view (engine_term self.new)) (is_failure result) l (lists_after result l
             (drawn s.columns s.rows (is_bottom alignment) pass (map bar_lines frame.now) l)) }
     {
         let window = Window::of(&self.term)?;
@@ -172,18 +172,18 @@ impl<T: TermLike + Drop> Engine<T> {
         frame: &[Segment],
         alignment: MultiProgressAlignment,
     ) -> Result<(), Refusal>
-        ensures answer { Answers (T.view (terminal self.old)).columns
+        ensures answer { Answers (T.view (engine_term self.old)).columns
             (text_lines (logged_lines text.now) ++ all_lines (map bar_lines frame.now)) result }
-        ensures counted { Counted (T.view (terminal self.old)) (T.view (terminal self.new)) result }
+        ensures counted { Counted (T.view (engine_term self.old)) (T.view (engine_term self.new)) result }
         ensures unchanged { IfErr result (λ e. IsFalse (is_fault e) → self.new ≡ self.old) }
-        ensures lists { (l : Lists) → Fits self.old l → let s = T.view (terminal self.old) in
+        ensures lists { (l : Lists) → Fits self.old l → let s = T.view (engine_term self.old) in
             Fits self.new (lists_after result l (logged s.columns s.rows (is_bottom alignment)
             (text_lines (logged_lines text.now)) (map bar_lines frame.now) l)) }
         ensures paints { (l : Lists) → Fits self.old l →
             IsTrue (are_plain
             (text_lines (logged_lines text.now) ++ all_lines (map bar_lines frame.now))) →
-            let s = T.view (terminal self.old) in
-            Paints s (T.view (terminal self.new)) (is_failure result) l (lists_after result l
+            let s = T.view (engine_term self.old) in
+            Paints s (T.view (engine_term self.new)) (is_failure result) l (lists_after result l
             (logged s.columns s.rows (is_bottom alignment)
             (text_lines (logged_lines text.now)) (map bar_lines frame.now) l)) }
     {
@@ -212,14 +212,14 @@ impl<T: TermLike + Drop> Engine<T> {
     ///
     /// Refused: `NoColumns` where the terminal has no columns; then `Terminal`.
     pub fn clear(&mut self) -> Result<(), Refusal>
-        ensures answer { Answers (T.view (terminal self.old)).columns [] result }
+        ensures answer { Answers (T.view (engine_term self.old)).columns [] result }
         ensures no_memory { result ≢ Err Refusal.Memory }
-        ensures counted { Counted (T.view (terminal self.old)) (T.view (terminal self.new)) result }
+        ensures counted { Counted (T.view (engine_term self.old)) (T.view (engine_term self.new)) result }
         ensures unchanged { IfErr result (λ e. IsFalse (is_fault e) → self.new ≡ self.old) }
         ensures lists { (l : Lists) → Fits self.old l →
             Fits self.new (lists_after result l (cleared l)) }
         ensures paints { (l : Lists) → Fits self.old l →
-            Paints (T.view (terminal self.old)) (T.view (terminal self.new)) (is_failure result) l
+            Paints (T.view (engine_term self.old)) (T.view (engine_term self.new)) (is_failure result) l
             (lists_after result l (cleared l)) }
     {
         Window::of(&self.term)?;
@@ -239,8 +239,8 @@ impl<T: TermLike + Drop> Engine<T> {
     pub fn keep(&mut self, bar: u64) -> Keep
         ensures fate { (l : Lists) → Fits self.old l → result ≡ fate bar l }
         ensures lists { (l : Lists) → Fits self.old l →
-            Fits self.new (kept_of (T.view (terminal self.old)).columns bar l) }
-        ensures terminal { terminal self.new ≡ terminal self.old }
+            Fits self.new (kept_of (T.view (engine_term self.old)).columns bar l) }
+        ensures terminal { engine_term self.new ≡ engine_term self.old }
         ensures rests { (w h : ℕ) (l : Lists) (opening : Screen) (t : Terminal) →
             Rests w h opening l t → Rests w h opening (kept_of w bar l) t }
     {
@@ -263,7 +263,7 @@ impl<T: TermLike + Drop> Engine<T> {
         ensures writes { Writes
             (paint_bytes self.old.failed self.old.counts.below taken (drawing_lines drawing.now) next.below
             ++ replicate fill 0x20)
-            (T.view (terminal self.old)) (T.view (terminal self.new)) result }
+            (T.view (engine_term self.old)) (T.view (engine_term self.new)) result }
         ensures remembers { Remembers next result self.new }
     {
         let painting = Painting {

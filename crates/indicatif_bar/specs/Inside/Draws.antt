@@ -6,7 +6,7 @@ use Rattle.indicatif_text.specs.declared.refusal.Drawn.{Drawn}
 use Rattle.indicatif_term.specs.Calls.{TermView}
 use Rattle.indicatif_term.specs.Lists.{Lists, BarLines}
 use Rattle.indicatif_term.specs.Frames.{are_plain, is_fault}
-use Rattle.indicatif_term.specs.Engines.{terminal, Fits, Answers, Counted, Paints, is_failure, lists_after}
+use Rattle.indicatif_term.specs.Engines.{engine_term, Fits, Answers, Counted, Paints, is_failure, lists_after}
 use Rattle.indicatif_term.specs.declared.draw_target.Engine.{Engine}
 use Rattle.indicatif_bar.specs.Machines.{target_of, Machine, Draw, Draws, Leads}
 use Rattle.indicatif_bar.specs.Runs.{WritesLines}
@@ -21,8 +21,8 @@ pub record DrewBy {S C A T : Type 0} (m : Machine S C A) (P : S → Type 0) (vie
   pub next : S
   pub holds : P next
   pub fits : Fits new (m.lists next)
-  pub leads : (s : S) → Leads m (target_of (Some (view (terminal old)))) s (Draws d (λ x. x) (λ x. x)) (m.says answer) next
-  pub writes : WritesLines (view (terminal old)) (view (terminal new)) d.lines l (m.lists next) answer
+  pub leads : (s : S) → Leads m (target_of (Some (view (engine_term old)))) s (Draws d (λ x. x) (λ x. x)) (m.says answer) next
+  pub writes : WritesLines (view (engine_term old)) (view (engine_term new)) d.lines l (m.lists next) answer
 
 -- the same of a target that may be hidden
 pub record DrewOn {S C A : Type 0} (m : Machine S C A) (old new : Option TermView) (d : Draw S) (l : Lists) (answer : Result Drawn Refusal) (next : S) : Type 0 where
@@ -31,10 +31,10 @@ pub record DrewOn {S C A : Type 0} (m : Machine S C A) (old new : Option TermVie
 
 -- an engine was asked to write so below the rows above, and answered this
 pub record EngineWrites {T : Type 0} (view : T → TermView) (writing : Writing) (frame : List BarLines) (old new : Engine T) (answer : Result Unit Refusal) : Type 0 where
-  pub answers : Answers (view (terminal old)).columns (lines_to_write writing 0 frame) answer
+  pub answers : Answers (view (engine_term old)).columns (lines_to_write writing 0 frame) answer
   pub memory : answer ≡ Err Memory → IsTrue (rows_take writing)
-  pub counted : Counted (view (terminal old)) (view (terminal new)) answer
+  pub counted : Counted (view (engine_term old)) (view (engine_term new)) answer
   pub unchanged : IfErr answer (λ e. IsFalse (is_fault e) → new ≡ old)
-  pub lists : (l : Lists) → Fits old l → Fits new (lists_after answer l (written_lists writing (target_of (Some (view (terminal old)))) false 0 frame l))
+  pub lists : (l : Lists) → Fits old l → Fits new (lists_after answer l (written_lists writing (target_of (Some (view (engine_term old)))) false 0 frame l))
   pub paints : (l : Lists) → Fits old l → IsTrue (are_plain (lines_to_write writing 0 frame)) →
-      Paints (view (terminal old)) (view (terminal new)) (is_failure answer) l (lists_after answer l (written_lists writing (target_of (Some (view (terminal old)))) false 0 frame l))
+      Paints (view (engine_term old)) (view (engine_term new)) (is_failure answer) l (lists_after answer l (written_lists writing (target_of (Some (view (engine_term old)))) false 0 frame l))

@@ -6,7 +6,7 @@ use Rattle.indicatif_term.specs.Calls.{TermView}
 use Rattle.indicatif_term.specs.Lists.{Lists, BarLines}
 use Rattle.indicatif_term.specs.Limiters.{Limiter}
 use Rattle.indicatif_term.specs.Frames.{bar_lines, are_plain, is_fault}
-use Rattle.indicatif_term.specs.Engines.{terminal, Fits, Answers, Counted, Paints, is_failure, lists_after}
+use Rattle.indicatif_term.specs.Engines.{engine_term, Fits, Answers, Counted, Paints, is_failure, lists_after}
 use Rattle.indicatif_term.specs.declared.draw_target.Engine.{Engine}
 use Rattle.indicatif_term.specs.declared.lines.Segment.{Segment}
 use Rattle.indicatif_bar.specs.Trackers.{Tracking}
@@ -43,10 +43,10 @@ laid_by m target now (Some number) s = laid_out (board_bars m) target now number
 
 -- an engine was asked to write so, where so many bars at the head of the frame are gone, and answered this
 pub record PutsFrame {T : Type 0} (view : T → TermView) (writing : Writing) (bottom : Bool) (gone : ℕ) (frame : List BarLines) (old new : Engine T) (answer : Result Unit Refusal) : Type 0 where
-  pub answers : Answers (view (terminal old)).columns (lines_to_write writing gone frame) answer
+  pub answers : Answers (view (engine_term old)).columns (lines_to_write writing gone frame) answer
   pub memory : answer ≡ Err Memory → IsTrue (rows_take writing)
-  pub counted : Counted (view (terminal old)) (view (terminal new)) answer
+  pub counted : Counted (view (engine_term old)) (view (engine_term new)) answer
   pub unchanged : IfErr answer (λ e. IsFalse (is_fault e) → new ≡ old)
-  pub lists : (l : Lists) → Fits old l → Fits new (lists_after answer l (written_lists writing (target_of (Some (view (terminal old)))) bottom gone frame l))
+  pub lists : (l : Lists) → Fits old l → Fits new (lists_after answer l (written_lists writing (target_of (Some (view (engine_term old)))) bottom gone frame l))
   pub paints : (l : Lists) → Fits old l → IsTrue (are_plain (lines_to_write writing gone frame)) →
-      Paints (view (terminal old)) (view (terminal new)) (is_failure answer) l (lists_after answer l (written_lists writing (target_of (Some (view (terminal old)))) bottom gone frame l))
+      Paints (view (engine_term old)) (view (engine_term new)) (is_failure answer) l (lists_after answer l (written_lists writing (target_of (Some (view (engine_term old)))) bottom gone frame l))

@@ -1,7 +1,7 @@
 use Rattle.std.proofs.Common.{Some, None, option_map, refl, sym, ◌∙◌, ap, subst, Ok}
 use Rattle.std.specs.Prelude.{MatchOption}
 use Rattle.indicatif_text.specs.declared.refusal.Drawn.TheVariants.{Limited, Hidden}
-use Rattle.indicatif_term.specs.Engines.{terminal, Fits}
+use Rattle.indicatif_term.specs.Engines.{engine_term, Fits}
 use Rattle.indicatif_bar.specs.Bars.{bar_kind}
 use Rattle.indicatif_bar.specs.Machines.{target_of}
 use Rattle.indicatif_bar.specs.Lone.{draw_asked, lone}
@@ -22,21 +22,21 @@ pub returns-in-Some-clause-drew : goal.returns-in-Some-clause-drew
 unfolding IsIn
 returns-in-Some-clause-drew g c = λ takes s inside.
     let view = g.T.TermLike.view in
-    let known_is = ap (λ o. option_map view (option_map terminal o)) c.in-Some.is in
+    let known_is = ap (λ o. option_map view (option_map engine_term o)) c.in-Some.is in
     let fit = subst (λ o. MatchOption o (Unit {0}) (λ e. Fits e s.lists)) c.in-Some.is inside.1 in
     let d = c.draw_on.ensures.drew takes s (sym c.is_no.ensures ∙ c.if-is_no.false) inside.0 fit in (
       d.next,
       (d.holds, d.fits),
-      subst (λ o. DrewOn (lone (bar_kind g.K.ProgressTracker.means)) o (Some (view (terminal c.draw_on.new.engine)))
+      subst (λ o. DrewOn (lone (bar_kind g.K.ProgressTracker.means)) o (Some (view (engine_term c.draw_on.new.engine)))
           (draw_asked (bar_kind g.K.ProgressTracker.means) (target_of o) takes c.args.ask c.args.now (writing_as c.args.writing) s) s.lists c.draw_on.result d.next) (sym known_is)
-          (record { leads = d.leads; writes = (view (terminal c.draw_on.new.engine), refl, d.writes) }),
+          (record { leads = d.leads; writes = (view (engine_term c.draw_on.new.engine), refl, d.writes) }),
     )
 
 pub returns-in-None-clause-drew : goal.returns-in-None-clause-drew
 unfolding IsIn
 returns-in-None-clause-drew g c = λ takes s inside.
     let view = g.T.TermLike.view in
-    let known_is = ap (λ o. option_map view (option_map terminal o)) c.in-None.is in
+    let known_is = ap (λ o. option_map view (option_map engine_term o)) c.in-None.is in
     let d = draw_asked (bar_kind g.K.ProgressTracker.means) (target_of None) takes c.args.ask c.args.now (writing_as c.args.writing) s in (
       s,
       (inside.0, subst (λ o. MatchOption o (Unit {0}) (λ e. Fits e s.lists)) (sym c.in-None.is) tt),

@@ -1,7 +1,7 @@
 use Rattle.std.proofs.Common.{◌≡◌, ◌∙◌, refl, sym, ap, subst, Ok, Some, None, option_map}
 use Rattle.std.specs.Prelude.{MatchOption}
 use Rattle.indicatif_text.specs.declared.refusal.Drawn.TheVariants.{Limited, Hidden}
-use Rattle.indicatif_term.specs.Engines.{terminal, Fits}
+use Rattle.indicatif_term.specs.Engines.{engine_term, Fits}
 use Rattle.indicatif_term.specs.Lists.{opening_lists}
 use Rattle.indicatif_bar.specs.Machines.{target_of}
 use Rattle.indicatif_bar.specs.Inside.Draws.{DrewOn}
@@ -27,14 +27,14 @@ unfolding IsIn
 returns-in-Some-clause-drew g c = λ mark takes s number inside placed.
     let tracks = g.K.ProgressTracker.means in
     let view = g.T.TermLike.view in
-    let known_is = ap (λ o. option_map view (option_map terminal o)) c.in-Some.is in
+    let known_is = ap (λ o. option_map view (option_map engine_term o)) c.in-Some.is in
     let fit = subst (λ o. MatchOption o (s.lists ≡ opening_lists) (λ e. Fits e s.lists)) c.in-Some.is inside.2 in
     let d = c.draw_on.ensures.drew mark takes s number (sym c.is_no.ensures ∙ c.if-is_no.false) inside.1 placed fit in (
       d.next,
       (inside.0, d.holds, d.fits),
-      subst (λ o. DrewOn (board (board_bars tracks) mark) o (Some (view (terminal c.draw_on.new.engine)))
+      subst (λ o. DrewOn (board (board_bars tracks) mark) o (Some (view (engine_term c.draw_on.new.engine)))
           (draw_of (target_of o) takes c.args.ask c.args.now (writing_by c.args.writing) s (laid_by tracks (target_of o) c.args.now number s)) s.lists c.draw_on.result d.next) (sym known_is)
-          (record { leads = d.leads; writes = (view (terminal c.draw_on.new.engine), refl, d.writes) }),
+          (record { leads = d.leads; writes = (view (engine_term c.draw_on.new.engine), refl, d.writes) }),
     )
 
 pub returns-in-None-clause-drew : goal.returns-in-None-clause-drew
@@ -42,7 +42,7 @@ unfolding IsIn
 returns-in-None-clause-drew g c = λ mark takes s number inside placed.
     let tracks = g.K.ProgressTracker.means in
     let view = g.T.TermLike.view in
-    let known_is = ap (λ o. option_map view (option_map terminal o)) c.in-None.is in
+    let known_is = ap (λ o. option_map view (option_map engine_term o)) c.in-None.is in
     let target = target_of None in
     let d = draw_of target takes c.args.ask c.args.now (writing_by c.args.writing) s (laid_by tracks target c.args.now number s) in (
       s,

@@ -1,7 +1,7 @@
 use Rattle.std.proofs.Common.{◌≡◌, ◌<◌, ◌∙◌, true, refl, sym, ap, subst, arith, Err, Some, inl, inr}
 use Rattle.std.proofs.lemmas.Result.{err_from_is_err_and}
 use Rattle.indicatif_text.specs.declared.refusal.Refusal.TheVariants.{NoColumns}
-use Rattle.indicatif_term.specs.Engines.{terminal, is_bottom}
+use Rattle.indicatif_term.specs.Engines.{engine_term, is_bottom}
 use Rattle.indicatif_bar.specs.Machines.{target_of}
 use Rattle.indicatif_bar.specs.Kinds.{asked_of}
 use Rattle.indicatif_bar.proofs.OutcomeLemmas.{drew_withheld, drew_limited}
@@ -19,8 +19,8 @@ returns-then-width-eq0-clause-drew g c = λ mark takes s number asked holds plac
     let tracks = g.K.ProgressTracker.means in
     let view = g.T.TermLike.view in
     let engine = c.args.engine.now in
-    let target = target_of (Some (view (terminal engine))) in
-    let none : (view (terminal engine)).columns ≡ 0 = ap (λ t. (view t).columns) (sym c.term.ensures) ∙ sym c.width-width.ensures ∙ c.if-width-eq0.true in
+    let target = target_of (Some (view (engine_term engine))) in
+    let none : (view (engine_term engine)).columns ≡ 0 = ap (λ t. (view t).columns) (sym c.term.ensures) ∙ sym c.width-width.ensures ∙ c.if-width-eq0.true in
     drew_withheld (board (board_bars tracks) mark) (Shown c.args.self.now) view engine (draw_of target takes c.args.ask c.args.now (writing_by c.args.writing) s
     (laid_by tracks target c.args.now number s)) s.lists
     NoColumns asked (inl (refl, none)) (λ e. cc) fits refl holds
@@ -30,8 +30,8 @@ returns-in_err-lay_out-clause-drew g c = λ mark takes s number asked holds plac
     let tracks = g.K.ProgressTracker.means in
     let view = g.T.TermLike.view in
     let engine = c.args.engine.now in
-    let target = target_of (Some (view (terminal engine))) in
-    let some : 0 < (view (terminal engine)).columns = omega (arith, ap (λ t. (view t).columns) c.term.ensures, c.width-width.ensures, c.if-width-eq0.false) in
+    let target = target_of (Some (view (engine_term engine))) in
+    let some : 0 < (view (engine_term engine)).columns = omega (arith, ap (λ t. (view t).columns) c.term.ensures, c.width-width.ensures, c.if-width-eq0.false) in
     let x = err_from_is_err_and c.from_residual.result c.from_residual.ensures.1 in
     let memory = c.in_err-lay_out.ensures.memory in
     rw (x.1 ∙ ap Err x.2, c.in_err-lay_out.ensures.unchanged)
@@ -46,8 +46,8 @@ returns-then-not-allows-clause-drew g c = λ mark takes s number asked holds pla
     let engine = c.args.engine.now in
     let b = c.lay_out.new.self in
     let writing = writing_by c.args.writing in
-    let target = target_of (Some (view (terminal engine))) in
-    let some : 0 < (view (terminal engine)).columns = omega (arith, ap (λ t. (view t).columns) c.term.ensures, c.width-width.ensures, c.if-width-eq0.false) in
+    let target = target_of (Some (view (engine_term engine))) in
+    let some : 0 < (view (engine_term engine)).columns = omega (arith, ap (λ t. (view t).columns) c.term.ensures, c.width-width.ensures, c.if-width-eq0.false) in
     let laid = c.in_ok-lay_out.ensures.laid target s number (ap (λ t. (view t).columns) (sym c.term.ensures) ∙ sym c.width-width.ensures) placed holds in
     let after = laid_by tracks target c.args.now number s in
     let withheld = sym (c.allows.ensures.answer ∙ allowed_same tracks view mark takes c.args.ask c.args.now writing s after engine b.frame.items b.members.items b.table.made
@@ -63,8 +63,8 @@ returns-clause-drew g c = λ mark takes s number asked holds placed fits.
     let view = g.T.TermLike.view in
     let engine = c.args.engine.now in
     let b = c.lay_out.new.self in
-    let target = target_of (Some (view (terminal engine))) in
-    let some : 0 < (view (terminal engine)).columns = omega (arith, ap (λ t. (view t).columns) c.term.ensures, c.width-width.ensures, c.if-width-eq0.false) in
+    let target = target_of (Some (view (engine_term engine))) in
+    let some : 0 < (view (engine_term engine)).columns = omega (arith, ap (λ t. (view t).columns) c.term.ensures, c.width-width.ensures, c.if-width-eq0.false) in
     let laid = c.in_ok-lay_out.ensures.laid target s number (ap (λ t. (view t).columns) (sym c.term.ensures) ∙ sym c.width-width.ensures) placed holds in
     let after = laid_by tracks target c.args.now number s in
     let yes : (asked_of c.args.ask c.args.now b.limiter).0 ≡ true = sym c.allows.ensures.answer ∙ c.if-not-allows.false in

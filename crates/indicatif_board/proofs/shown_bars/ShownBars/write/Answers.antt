@@ -3,7 +3,7 @@ use Rattle.std.proofs.lemmas.Result.{err_from_is_err_and}
 use Rattle.std.proofs.lemmas.List.Sums.{prefix_len-le-length}
 use Rattle.indicatif_term.specs.Frames.{bar_lines}
 use Rattle.indicatif_text.specs.declared.refusal.Drawn.TheVariants.{Yes}
-use Rattle.indicatif_term.specs.Engines.{is_bottom, terminal}
+use Rattle.indicatif_term.specs.Engines.{is_bottom, engine_term}
 use Rattle.indicatif_term.specs.declared.lines.Segment.{Segment}
 use Rattle.indicatif_bar.specs.Machines.{target_of}
 use Rattle.indicatif_bar.specs.Inside.Draws.{DrewBy}
@@ -63,7 +63,7 @@ returns-clause-drew g c = λ mark now takes ask s laid asked some allows holds l
     let ready = kept_ready b.frame.items b.members.items b.table.made bottom b.limiter ask now laid allows holds in
     let made = sym (ap (λ (t : SlotTable). t.made) c.remove_first.ensures) in
     subst (λ n. DrewBy (board (board_bars tracks) mark) (Holds c.drop_front.new.items.items c.drop_front-2.new.items.items n bottom b.limiter) view c.args.engine.now c.put.new.engine
-    (draw_of (target_of (Some (view (terminal c.args.engine.now)))) takes ask now writing s laid) s.lists (Ok Yes)) made
+    (draw_of (target_of (Some (view (engine_term c.args.engine.now)))) takes ask now writing s laid) s.lists (Ok Yes)) made
     (frame_drew tracks view mark takes ask now writing s laid c.args.engine.now b.frame.items b.members.items b.table.made bottom b.limiter
     (Holds c.drop_front.new.items.items c.drop_front-2.new.items.items b.table.made bottom b.limiter) c.put.new.engine (Ok tt) gone gone_is asked some (ap
     (λ a. a.0) allows) lists_stay fits ready puts

@@ -3,7 +3,7 @@ use Rattle.std.proofs.lemmas.Result.{err_from_is_err_and}
 use Rattle.indicatif_term.specs.Inside.Bytes.{paint_bytes}
 use Rattle.indicatif_term.specs.Frames.{is_fault}
 use Rattle.indicatif_term.specs.Lists.{cleared}
-use Rattle.indicatif_term.specs.Engines.{terminal}
+use Rattle.indicatif_term.specs.Engines.{engine_term}
 use Rattle.indicatif_term.proofs.DrawingLemmas.{cleared-adds, cleared-sound}
 use Rattle.indicatif_term.proofs.EngineLemmas.{paints_refused, paints_by, fill_led, fits_counts, fits_failed, fits_forgets, fits_refused, fits_by, clear_paints}
 use Rattle.indicatif_term.proofs.draw_target.Engine.clear.Goals as goal
@@ -22,10 +22,10 @@ returns-clause-lists g c = λ l fits. fits_by c.cleared-next.result c.repaint.re
 
 pub returns-clause-paints : goal.returns-clause-paints
 returns-clause-paints g c = λ l fits.
-    let s = g.T.TermLike.view (terminal c.args.self.now) in
+    let s = g.T.TermLike.view (engine_term c.args.self.now) in
     let old = c.args.self.now.counts in
     let o = fits_counts c.args.self.now l fits in
-    paints_by s (g.T.TermLike.view (terminal c.repaint.new.self)) c.cleared-next.result c.repaint.result c.repaint.new.self c.args.self.now.failed l (cleared l)
+    paints_by s (g.T.TermLike.view (engine_term c.repaint.new.self)) c.cleared-next.result c.repaint.result c.repaint.new.self c.args.self.now.failed l (cleared l)
     (paint_bytes false old.below (old.kept + old.live) [] c.cleared-next.result.below) c.repaint.ensures.remembers (fits_failed c.args.self.now l fits)
     (rw (fill_led, append-nil) at c.repaint.ensures.writes)
     (clear_paints s.columns s.rows l old c.cleared-next.result (rw c.in_ok-of.ensures.0 at c.in_ok-of.field-0.some) o (c.cleared-next.ensures l o))

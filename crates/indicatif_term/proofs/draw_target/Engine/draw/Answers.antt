@@ -5,7 +5,7 @@ use Rattle.indicatif_term.specs.Inside.Bytes.{paint_bytes}
 use Rattle.indicatif_term.specs.Inside.Fills.{fill_bytes}
 use Rattle.indicatif_term.specs.Inside.Plans.{frame_lines}
 use Rattle.indicatif_term.specs.Frames.{bar_lines, is_fault}
-use Rattle.indicatif_term.specs.Engines.{terminal, is_bottom}
+use Rattle.indicatif_term.specs.Engines.{engine_term, is_bottom}
 use Rattle.indicatif_term.proofs.DrawingLemmas.{drawn-adds, drawn-sound}
 use Rattle.indicatif_term.proofs.LineEndLemmas.{draw_fill}
 use Rattle.indicatif_term.proofs.EngineLemmas.{paints_refused, paints_by, fill_led, fits_counts, fits_failed, fits_forgets, fits_refused, fits_by, draw_paints}
@@ -36,7 +36,7 @@ repaint-requires g c = rw c.in_ok-plan.ensures.plan.1.lines_are (frame_lines_le 
 
 pub returns-clause-lists : goal.returns-clause-lists
 returns-clause-lists g c = λ l fits.
-    let s = g.T.TermLike.view (terminal c.args.self.now) in
+    let s = g.T.TermLike.view (engine_term c.args.self.now) in
     let frame = map bar_lines c.args.frame.now in
     let bottom = is_bottom c.args.alignment in
     let window = c.in_ok-window.window in
@@ -47,7 +47,7 @@ returns-clause-lists g c = λ l fits.
 
 pub returns-clause-paints : goal.returns-clause-paints
 returns-clause-paints g c = λ l fits plain.
-    let s = g.T.TermLike.view (terminal c.args.self.now) in
+    let s = g.T.TermLike.view (engine_term c.args.self.now) in
     let frame = map bar_lines c.args.frame.now in
     let bottom = is_bottom c.args.alignment in
     let old = c.args.self.now.counts in
@@ -60,7 +60,7 @@ returns-clause-paints g c = λ l fits plain.
     let lines = [] ++ replicate c.blanks_of-blanks.result [] ++ take plan.lines (frame_lines c.args.frame.now) in
     let fill = draw_fill window.columns window.rows c.args.pass c.blanks_of-blanks.result old.live 0 bottom c.args.frame.now plan c.in_ok-plan.ensures.plan.1 c.in_ok-plan.ensures.ends blanks
     c.drawn-next.result.below c.fill-fill.result c.fill-fill.ensures in
-    paints_by s (g.T.TermLike.view (terminal c.repaint.new.self)) c.drawn-next.result c.repaint.result c.repaint.new.self c.args.self.now.failed l (drawn s.columns s.rows bottom c.args.pass frame l)
+    paints_by s (g.T.TermLike.view (engine_term c.repaint.new.self)) c.drawn-next.result c.repaint.result c.repaint.new.self c.args.self.now.failed l (drawn s.columns s.rows bottom c.args.pass frame l)
     (paint_bytes false old.below old.live lines c.drawn-next.result.below ++ fill_bytes c.drawn-next.result.below s.columns lines) c.repaint.ensures.remembers (fits_failed c.args.self.now l fits)
     (rw (fill_led, fill, c.in_ok-window.ensures.0) at c.repaint.ensures.writes)
     (draw_paints s.columns s.rows l old c.drawn-next.result c.args.pass c.blanks_of-blanks.result bottom c.args.frame.now plan

@@ -1,6 +1,6 @@
 use Rattle.std.proofs.Common.{sym, ◌∙◌}
 use Rattle.indicatif_term.specs.Lists.{kept_of}
-use Rattle.indicatif_term.specs.Engines.{terminal}
+use Rattle.indicatif_term.specs.Engines.{engine_term}
 use Rattle.indicatif_term.proofs.DrawingLemmas.{kept_rests, kept-failed, kept_forgets}
 use Rattle.indicatif_term.proofs.EngineLemmas.{fits_counts, fits_failed, fits_forgets, fits_made}
 use Rattle.indicatif_term.proofs.draw_target.Engine.keep.Goals as goal
@@ -10,7 +10,7 @@ returns-clause-fate g c = λ l fits. c.keep-outcome.ensures.fate l (rw c.replace
 
 pub returns-clause-lists : goal.returns-clause-lists
 returns-clause-lists g c = λ l fits.
-    let w = (g.T.TermLike.view (terminal c.args.self.now)).columns in
+    let w = (g.T.TermLike.view (engine_term c.args.self.now)).columns in
     fits_made _ (kept_of w c.args.bar l) (c.keep-outcome.ensures.counts w l (rw c.replace-counts.ensures.value (fits_counts c.args.self.now l fits)))
     (fits_failed c.args.self.now l fits ∙ sym (kept-failed w c.args.bar l)) (kept_forgets w c.args.bar l (fits_forgets c.args.self.now l fits))
 

@@ -5,7 +5,7 @@ use Rattle.indicatif_term.specs.Inside.Bytes.{paint_bytes}
 use Rattle.indicatif_term.specs.Inside.Fills.{fill_bytes}
 use Rattle.indicatif_term.specs.Inside.Plans.{frame_lines}
 use Rattle.indicatif_term.specs.Frames.{bar_lines, logged_lines, text_lines, all_lines, is_fault}
-use Rattle.indicatif_term.specs.Engines.{terminal, is_bottom}
+use Rattle.indicatif_term.specs.Engines.{engine_term, is_bottom}
 use Rattle.indicatif_term.proofs.DrawingLemmas.{logged-adds, logged-sound}
 use Rattle.indicatif_term.proofs.LineEndLemmas.{log_fill}
 use Rattle.indicatif_term.proofs.EngineLemmas.{paints_refused, paints_by, fill_led, fits_counts, fits_failed, fits_forgets, fits_refused, fits_by, log_paints, answer_withheld, wide_left, wide_right, narrow_both, answer_made}
@@ -71,7 +71,7 @@ returns-clause-answer g c =
 
 pub returns-clause-lists : goal.returns-clause-lists
 returns-clause-lists g c = λ l fits.
-    let s = g.T.TermLike.view (terminal c.args.self.now) in
+    let s = g.T.TermLike.view (engine_term c.args.self.now) in
     let frame = map bar_lines c.args.frame.now in
     let bottom = is_bottom c.args.alignment in
     let window = c.in_ok-window.window in
@@ -84,7 +84,7 @@ returns-clause-lists g c = λ l fits.
 
 pub returns-clause-paints : goal.returns-clause-paints
 returns-clause-paints g c = λ l fits plain.
-    let s = g.T.TermLike.view (terminal c.args.self.now) in
+    let s = g.T.TermLike.view (engine_term c.args.self.now) in
     let frame = map bar_lines c.args.frame.now in
     let bottom = is_bottom c.args.alignment in
     let old = c.args.self.now.counts in
@@ -100,7 +100,7 @@ returns-clause-paints g c = λ l fits plain.
     let lines = text ++ replicate c.blanks_of-blanks.result [] ++ take plan.lines (frame_lines c.args.frame.now) in
     let fill = log_fill window.columns window.rows 0 c.blanks_of-blanks.result (old.kept + old.live) rows bottom c.args.frame.now plan c.in_ok-plan.ensures.plan.1 c.in_ok-plan.ensures.ends blanks
     c.logged-next.result.below c.fill-fill.result c.unwrap_or-last.result text (logged_length c.args.text.now) (rw c.in_ok-metrics.ensures.2 at c.unwrap_or-last.ensures) c.fill-fill.ensures in
-    paints_by s (g.T.TermLike.view (terminal c.repaint.new.self)) c.logged-next.result c.repaint.result c.repaint.new.self c.args.self.now.failed l
+    paints_by s (g.T.TermLike.view (engine_term c.repaint.new.self)) c.logged-next.result c.repaint.result c.repaint.new.self c.args.self.now.failed l
     (logged s.columns s.rows bottom (text_lines text) frame l)
     (paint_bytes false old.below (old.kept + old.live) lines c.logged-next.result.below ++ fill_bytes c.logged-next.result.below s.columns lines) c.repaint.ensures.remembers
     (fits_failed c.args.self.now l fits)
