@@ -4,6 +4,7 @@
 //! - `calls`: each call of a board.
 //! - `runs`: a run with what it is to print, for tables.
 //! - `boards`: what stands on boards.
+//! - `orders`: the order of bars, and their slots.
 //! - `bad_input`: commands, arguments and sizes that are refused.
 //! - `streams`: readers and writers that fail.
 //! - `examples`: the examples of the documentation.
@@ -17,6 +18,8 @@ mod boards;
 mod calls;
 #[cfg(test)]
 mod examples;
+#[cfg(test)]
+mod orders;
 #[cfg(test)]
 mod runs;
 #[cfg(test)]

@@ -54,6 +54,15 @@ impl Shown {
         self.board.is_hidden()
     }
 
+    /// The bars' numbers, from the top.
+    pub fn order(&self) -> &[u64] {
+        self.board.order()
+    }
+
+    pub fn slot(&self, id: BarId) -> Option<usize> {
+        self.board.slot(id)
+    }
+
     /// Whether a bar's message is this.
     pub fn says(&self, id: BarId, text: &str) -> Result<bool, Refusal> {
         Ok(self.board.bar(id)?.message() == text)

@@ -148,7 +148,8 @@ impl<K: ProgressTracker, T: TermLike + Drop> LoneBar<K, T> {
 
     /// Whether a steady ticker is installed. No draw is asked.
     pub fn set_ticker(&mut self, installed: bool, now: Moment) -> Result<Drawn, Refusal>
-        ensures { Obeys K.means T.view self.old self.new (SetTicker installed) now result }
+        ensures obeys { Obeys K.means T.view self.old self.new (SetTicker installed) now result }
+        ensures limited { result ≡ Ok Drawn.Limited }
     {
         let ask = self.shown.bar.set_ticker(installed, now);
         self.obey(ask, now)
@@ -232,7 +233,8 @@ impl<K: ProgressTracker, T: TermLike + Drop> LoneBar<K, T> {
 
     /// The rate is counted from this moment on. No draw is asked.
     pub fn reset_eta(&mut self, now: Moment) -> Result<Drawn, Refusal>
-        ensures { Obeys K.means T.view self.old self.new ResetEta now result }
+        ensures obeys { Obeys K.means T.view self.old self.new ResetEta now result }
+        ensures limited { result ≡ Ok Drawn.Limited }
     {
         let ask = self.shown.bar.reset_eta(now);
         self.obey(ask, now)
@@ -240,7 +242,8 @@ impl<K: ProgressTracker, T: TermLike + Drop> LoneBar<K, T> {
 
     /// The rate and the time are counted from this moment on. No draw is asked.
     pub fn reset_elapsed(&mut self, now: Moment) -> Result<Drawn, Refusal>
-        ensures { Obeys K.means T.view self.old self.new ResetElapsed now result }
+        ensures obeys { Obeys K.means T.view self.old self.new ResetElapsed now result }
+        ensures limited { result ≡ Ok Drawn.Limited }
     {
         let ask = self.shown.bar.reset_elapsed(now);
         self.obey(ask, now)
@@ -280,7 +283,8 @@ impl<K: ProgressTracker, T: TermLike + Drop> LoneBar<K, T> {
 
     /// Another position. No draw is asked, and the rate doesn't count it.
     pub fn with_position(&mut self, position: u64, now: Moment) -> Result<Drawn, Refusal>
-        ensures { Obeys K.means T.view self.old self.new (PutPosition position) now result }
+        ensures obeys { Obeys K.means T.view self.old self.new (PutPosition position) now result }
+        ensures limited { result ≡ Ok Drawn.Limited }
     {
         let ask = self.shown.bar.with_position(position, now);
         self.obey(ask, now)
@@ -288,7 +292,8 @@ impl<K: ProgressTracker, T: TermLike + Drop> LoneBar<K, T> {
 
     /// What finishes the bar by `finish_using_style`. No draw is asked.
     pub fn with_finish(&mut self, finish: ProgressFinish, now: Moment) -> Result<Drawn, Refusal>
-        ensures { Obeys K.means T.view self.old self.new (PutFinish (finish_of finish)) now result }
+        ensures obeys { Obeys K.means T.view self.old self.new (PutFinish (finish_of finish)) now result }
+        ensures limited { result ≡ Ok Drawn.Limited }
     {
         let ask = self.shown.bar.with_finish(finish, now);
         self.obey(ask, now)
@@ -324,6 +329,7 @@ impl<K: ProgressTracker, T: TermLike + Drop> LoneBar<K, T> {
         ensures memory { IfErr result (λ e. (e ≡ Refusal.Memory)
             × IsTrue (takes_memory (SetStyle style) (record_of self.old))) }
         ensures unchanged { OnErr result (self.new ≡ self.old) }
+        ensures limited { IfOk result (λ drawn. drawn ≡ Drawn.Limited) }
     {
         let asked = self.shown.bar.set_style(style, now);
         self.obey_unless(asked, now)
@@ -336,7 +342,11 @@ impl<K: ProgressTracker, T: TermLike + Drop> LoneBar<K, T> {
     /// let drawn = bar.with_style(style, now)?; // Drawn::Limited; the next draw is in this style
     /// ```
     pub fn with_style(&mut self, style: ProgressStyle<K>, now: Moment) -> Result<Drawn, Refusal>
-        ensures { ObeysOrNot K.means T.view self.old self.new (SetStyle style) now result }
+        ensures obeys { ObeysOrNot K.means T.view self.old self.new (SetStyle style) now result }
+        ensures memory { IfErr result (λ e. (e ≡ Refusal.Memory)
+            × IsTrue (takes_memory (SetStyle style) (record_of self.old))) }
+        ensures unchanged { OnErr result (self.new ≡ self.old) }
+        ensures limited { IfOk result (λ drawn. drawn ≡ Drawn.Limited) }
     {
         let asked = self.shown.bar.with_style(style, now);
         self.obey_unless(asked, now)
@@ -348,6 +358,7 @@ impl<K: ProgressTracker, T: TermLike + Drop> LoneBar<K, T> {
         ensures memory { IfErr result (λ e. (e ≡ Refusal.Memory)
             × IsTrue (takes_memory (PutMessage text.now) (record_of self.old))) }
         ensures unchanged { OnErr result (self.new ≡ self.old) }
+        ensures limited { IfOk result (λ drawn. drawn ≡ Drawn.Limited) }
     {
         let asked = self.shown.bar.with_message(text, now);
         self.obey_unless(asked, now)
@@ -359,6 +370,7 @@ impl<K: ProgressTracker, T: TermLike + Drop> LoneBar<K, T> {
         ensures memory { IfErr result (λ e. (e ≡ Refusal.Memory)
             × IsTrue (takes_memory (PutPrefix text.now) (record_of self.old))) }
         ensures unchanged { OnErr result (self.new ≡ self.old) }
+        ensures limited { IfOk result (λ drawn. drawn ≡ Drawn.Limited) }
     {
         let asked = self.shown.bar.with_prefix(text, now);
         self.obey_unless(asked, now)
@@ -366,7 +378,11 @@ impl<K: ProgressTracker, T: TermLike + Drop> LoneBar<K, T> {
 
     /// As many spaces for a tab, in the message, the prefix and the style. No draw is asked.
     pub fn with_tab_width(&mut self, tab: usize, now: Moment) -> Result<Drawn, Refusal>
-        ensures { ObeysOrNot K.means T.view self.old self.new (PutTabWidth tab) now result }
+        ensures obeys { ObeysOrNot K.means T.view self.old self.new (PutTabWidth tab) now result }
+        ensures memory { IfErr result (λ e. (e ≡ Refusal.Memory)
+            × IsTrue (takes_memory (PutTabWidth tab) (record_of self.old))) }
+        ensures unchanged { OnErr result (self.new ≡ self.old) }
+        ensures limited { IfOk result (λ drawn. drawn ≡ Drawn.Limited) }
     {
         let asked = self.shown.bar.with_tab_width(tab, now);
         self.obey_unless(asked, now)
@@ -401,6 +417,7 @@ impl<K: ProgressTracker, T: TermLike + Drop> LoneBar<K, T> {
     pub fn with_elapsed(&mut self, nanos: u64, now: Moment) -> Result<Drawn, Refusal>
         ensures obeys { ObeysOrNot K.means T.view self.old self.new (SetElapsed nanos) now result }
         ensures beyond { (result ≡ Err Refusal.ElapsedBeyondClock) ↔ (now < nanos) }
+        ensures no_other { IfErr result (λ e. e ≡ Refusal.ElapsedBeyondClock) }
         ensures unchanged { OnErr result (self.new ≡ self.old) }
         ensures limited { IfOk result (λ drawn. drawn ≡ Drawn.Limited) }
     {
@@ -545,8 +562,9 @@ impl<K: ProgressTracker, T: TermLike + Drop> LoneBar<K, T> {
 
     /// Draws what a command asked, once the bar has changed.
     fn obey(&mut self, ask: Ask, now: Moment) -> Result<Drawn, Refusal>
-        ensures { (old : LoneBar K T) (command : Command K) → IsTold K.means old self.old command now ask →
+        ensures obeys { (old : LoneBar K T) (command : Command K) → IsTold K.means old self.old command now ask →
             Obeys K.means T.view old self.new command now result }
+        ensures unasked { ask ≡ Ask.No → result ≡ Ok Drawn.Limited }
     {
         self.draw(ask, Writing::Frame, now)
     }

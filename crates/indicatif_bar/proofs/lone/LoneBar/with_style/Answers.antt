@@ -3,8 +3,8 @@ use Rattle.indicatif_bar.specs.Commands.{SetStyle}
 use Rattle.indicatif_bar.proofs.CommandAnswerLemmas.{told_with_memory}
 use Rattle.indicatif_bar.proofs.lone.LoneBar.with_style.Goals as goal
 
-pub returns : goal.returns
-returns g c =
+pub returns-clause-obeys : goal.returns-clause-obeys
+returns-clause-obeys g c =
     c.obey_unless.ensures.obeys c.args.self.now (SetStyle c.args.style)
     (record {
       told = told_with_memory g.K.ProgressTracker.means c.args.self.now.shown.bar c.with_style-asked.new.self c.args.now
