@@ -70,11 +70,7 @@ fn again(rt: &impl Abort, board: &mut Shown) -> Result<(), Fail> {
             Err(Refusal::NotMember),
         ),
         (InsertLocation::Index(0), other, Err(Refusal::ForeignBar)),
-        (
-            InsertLocation::IndexFromBack(0),
-            bar(7),
-            Err(Refusal::NotMember),
-        ),
+        (InsertLocation::FromBack(0), bar(7), Err(Refusal::NotMember)),
     ];
     for (at, id, wanted) in table {
         assert_eq!(rt; board.insert_again(at, id), wanted, "of {at:?} and {id:?}");
@@ -90,9 +86,9 @@ fn indices(rt: HostRuntime) -> Result<(), Fail> {
         (InsertLocation::Index(5), "0"),
         (InsertLocation::Index(0), "1"),
         (InsertLocation::Index(1), "2"),
-        (InsertLocation::IndexFromBack(0), "3"),
-        (InsertLocation::IndexFromBack(1), "4"),
-        (InsertLocation::IndexFromBack(9), "5"),
+        (InsertLocation::FromBack(0), "3"),
+        (InsertLocation::FromBack(1), "4"),
+        (InsertLocation::FromBack(9), "5"),
     ];
     let mut board = Shown::new(rt.alloc(), (10, 10))?;
     fill(&mut board, &bars)?;

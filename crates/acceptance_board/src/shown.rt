@@ -87,7 +87,7 @@ impl Shown {
         let taken = match at {
             InsertLocation::End => self.board.add(candidate),
             InsertLocation::Index(index) => self.board.insert(index, candidate),
-            InsertLocation::IndexFromBack(count) => self.board.insert_from_back(count, candidate),
+            InsertLocation::FromBack(count) => self.board.insert_from_back(count, candidate),
             InsertLocation::Before(anchor) => self.board.insert_before(anchor, candidate),
             InsertLocation::After(anchor) => self.board.insert_after(anchor, candidate),
         };
@@ -135,7 +135,7 @@ impl Shown {
 
     /// Suspended round a closure that answers this number.
     pub fn suspend(&mut self, answer: u64) -> (u64, Result<Drawn, Refusal>) {
-        self.board.suspend(|| answer, 0)
+        self.board.suspend(0, || answer)
     }
 
     /// Goes on on a terminal of this size, and gives what stands on the old one.

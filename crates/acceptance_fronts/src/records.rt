@@ -40,7 +40,10 @@ fn bar_saying(alloc: Global, text: &str) -> Result<BarState<NoTracker>, Refusal>
 /// The call that takes such a bar in behind all others.
 fn add(alloc: Global, text: &str) -> Result<Call<NoTracker>, Refusal> {
     let bar = bar_saying(alloc, text)?;
-    Ok(Call::Insert(InsertLocation::End, Candidate::New(bar)))
+    Ok(Call::Insert {
+        at: InsertLocation::End,
+        candidate: Candidate::New(bar),
+    })
 }
 
 /// The bar of this number.
@@ -149,7 +152,10 @@ fn bars_that_come_back(rt: HostRuntime) -> Result<(), Fail> {
     assert!(rt; answer == Answer::Id(id(0)) && message.is_empty());
     let foreign = BarId { mark: 2, number: 0 };
     let bar = Candidate::New(bar_saying(rt.alloc(), "b")?);
-    let call = Call::Insert(InsertLocation::Before(foreign), bar);
+    let call = Call::Insert {
+        at: InsertLocation::Before(foreign),
+        candidate: bar,
+    };
     let (answer, message) = handed(rt.alloc(), &mut board, call)?;
     assert!(rt; answer == Answer::Refused(Refusal::ForeignBar) && message.as_str() == "b");
     let (answer, message) = handed(rt.alloc(), &mut board, Call::Remove(id(0)))?;

@@ -74,7 +74,10 @@ impl Stage {
         match command {
             Command::Add(text) => {
                 let bar = bar_saying(self.alloc, text)?;
-                Ok(Call::Insert(InsertLocation::End, Candidate::New(bar)))
+                Ok(Call::Insert {
+                    at: InsertLocation::End,
+                    candidate: Candidate::New(bar),
+                })
             }
             Command::Log(text) => Ok(Call::Log(String::from_str(self.alloc, text)?)),
             Command::Clear => Ok(Call::Clear),

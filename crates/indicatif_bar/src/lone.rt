@@ -485,7 +485,7 @@ impl<K: ProgressTracker, T: TermLike + Drop> LoneBar<K, T> {
     /// Clears the bar, calls `f` once, which may write to the terminal's place by other ways, and draws the bar again by
     /// force, at the same moment. Answers what `f` gave, and what the draw answered; where the clear was refused, `f` is
     /// called all the same, no draw is made, and the answer is that refusal.
-    pub fn suspend<F: FnOnce() -> A, A>(&mut self, f: F, now: Moment) -> (A, Result<Drawn, Refusal>)
+    pub fn suspend<F: FnOnce() -> A, A>(&mut self, now: Moment, f: F) -> (A, Result<Drawn, Refusal>)
         requires { F.pre f }
         ensures value { F.post f result.0 }
         ensures bar { record_of self.new ≡ record_of self.old }

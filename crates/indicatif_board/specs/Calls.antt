@@ -37,7 +37,7 @@ removal (Err e) = Refused e
 abbrev pub place_at : InsertLocation → Location
 place_at location.End = End
 place_at (location.Index index) = Index index
-place_at (location.IndexFromBack count) = FromBack count
+place_at (location.FromBack count) = FromBack count
 place_at (location.Before anchor) = Before (id_of anchor)
 place_at (location.After anchor) = After (id_of anchor)
 

@@ -20,7 +20,10 @@ impl<K: ProgressTracker> Call<K> {
         ensures memory { IfErr result (λ e. e ≡ Refusal.Memory) }
     {
         Ok(match self {
-            Call::Insert(at, candidate) => Call::Insert(*at, candidate.try_clone()?),
+            Call::Insert { at, candidate } => Call::Insert {
+                at: *at,
+                candidate: candidate.try_clone()?,
+            },
             Call::Remove(id) => Call::Remove(*id),
             Call::Drop(id) => Call::Drop(*id),
             Call::Log(text) => Call::Log(same_text(alloc, text)?),

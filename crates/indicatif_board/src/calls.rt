@@ -47,7 +47,7 @@ pub enum InsertLocation {
     /// Where so many bars stand before it, or behind all others where there are fewer.
     Index(usize),
     /// Where so many bars stand behind it, or before all others where there are fewer.
-    IndexFromBack(usize),
+    FromBack(usize),
     /// Right before this bar.
     Before(BarId),
     /// Right after this bar.
@@ -58,7 +58,10 @@ pub enum InsertLocation {
 #[derive(Drop)]
 pub enum Call<K> {
     /// A bar taken in.
-    Insert(InsertLocation, Candidate<K>),
+    Insert {
+        at: InsertLocation,
+        candidate: Candidate<K>,
+    },
     /// A bar taken out of the order.
     Remove(BarId),
     /// A bar whose owner is gone.

@@ -340,7 +340,7 @@ impl<K: ProgressTracker, T: TermLike + Drop> Board<K, T> {
     /// Takes the bars' rows back, calls `f` once, which may write to the terminal's place by other ways, and draws the bars again
     /// by force, at the same moment. Answers what `f` gave, and what the draw answered; where the clear was refused, `f` is
     /// called all the same, no draw is made, and the answer is that refusal.
-    pub fn suspend<F: FnOnce() -> A, A>(&mut self, f: F, now: Moment) -> (A, Result<Drawn, Refusal>)
+    pub fn suspend<F: FnOnce() -> A, A>(&mut self, now: Moment, f: F) -> (A, Result<Drawn, Refusal>)
         requires { F.pre f }
         ensures value { F.post f result.0 }
         ensures leads { Suspends K.means T.view self.old self.new now result.1 }
@@ -362,7 +362,7 @@ impl<K: ProgressTracker, T: TermLike + Drop> Board<K, T> {
         ensures leads { LeadsBy K.means T.view self.old self.new (call_of call) now (answer_of result) }
     {
         match call {
-            Call::Insert(at, candidate) => self.insert_by(at, candidate),
+            Call::Insert { at, candidate } => self.insert_by(at, candidate),
             Call::Remove(id) => removal_answer(self.remove(id)),
             Call::Drop(id) => draw_answer(self.drop_bar(id, now)),
             Call::Log(text) => draw_answer(self.println(text.as_str(), now)),
@@ -405,7 +405,7 @@ impl<K: ProgressTracker, T: TermLike + Drop> Board<K, T> {
         match at {
             InsertLocation::End => insertion_answer(self.add(candidate)),
             InsertLocation::Index(index) => insertion_answer(self.insert(index, candidate)),
-            InsertLocation::IndexFromBack(count) => {
+            InsertLocation::FromBack(count) => {
                 insertion_answer(self.insert_from_back(count, candidate))
             }
             InsertLocation::Before(anchor) => insertion_answer(self.insert_before(

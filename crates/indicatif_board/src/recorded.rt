@@ -190,7 +190,7 @@ fn turned_away<K: ProgressTracker>(call: Call<K>) -> Option<BarState<K>>
     ensures { (s : BoardState (BarRecord K)) (other : BarRecord K) → result ≡ handed_back (call_of call) (Refused Refusal.Memory) other s.members }
 {
     match call {
-        Call::Insert(_, candidate) => new_bar_in(candidate),
+        Call::Insert { candidate, .. } => new_bar_in(candidate),
         Call::Remove(_)
         | Call::Drop(_)
         | Call::Log(_)
@@ -223,7 +223,7 @@ fn made_on<K: ProgressTracker, T: TermLike + Drop>(
         result.1 ≡ handed_back (call_of call) (answer_of result.0) other s.members }
 {
     match call {
-        Call::Insert(at, candidate) => insertion(inserted_on(board, at, candidate)),
+        Call::Insert { at, candidate } => insertion(inserted_on(board, at, candidate)),
         Call::Remove(id) => removal(board.remove(id)),
         Call::Drop(id) => (draw_answer(board.drop_bar(id, now)), None),
         Call::Log(text) => (draw_answer(board.println(text.as_str(), now)), None),
@@ -250,7 +250,7 @@ fn inserted_on<K: ProgressTracker, T: TermLike + Drop>(
     match at {
         InsertLocation::End => board.add(candidate),
         InsertLocation::Index(index) => board.insert(index, candidate),
-        InsertLocation::IndexFromBack(count) => board.insert_from_back(count, candidate),
+        InsertLocation::FromBack(count) => board.insert_from_back(count, candidate),
         InsertLocation::Before(anchor) => board.insert_before(anchor, candidate),
         InsertLocation::After(anchor) => board.insert_after(anchor, candidate),
     }

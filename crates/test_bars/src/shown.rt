@@ -81,7 +81,7 @@ impl<T: TermLike + Drop> Shown<T> {
 
     /// Suspended round a closure that answers this number.
     pub fn suspend(&mut self, answer: u64, now: Moment) -> (u64, Result<Drawn, Refusal>) {
-        self.bar.suspend(|| answer, now)
+        self.bar.suspend(now, || answer)
     }
 
     /// Suspended round a closure that answers what this counts then.
@@ -90,7 +90,7 @@ impl<T: TermLike + Drop> Shown<T> {
         count: &Cell<u64>,
         now: Moment,
     ) -> (u64, Result<Drawn, Refusal>) {
-        self.bar.suspend(|| count.get(), now)
+        self.bar.suspend(now, || count.get())
     }
 
     pub fn set_draw_target(&mut self, target: ProgressDrawTarget<T>) -> ProgressDrawTarget<T> {

@@ -153,7 +153,7 @@ impl<T: TermLike + Drop, C: Clock + Drop> Held<T, C> {
         ensures leads { (now : ℕ) × Suspends writes_nothing T.view self.old.bar self.new.bar now result.1 }
     {
         let now = self.clock.now();
-        self.bar.suspend(f, now)
+        self.bar.suspend(now, f)
     }
 
     /// Another target; the old one is given up.

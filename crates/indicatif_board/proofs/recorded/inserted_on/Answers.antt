@@ -6,8 +6,8 @@ returns-in-End-clause-leads g c = λ now. rw c.in-End.is (c.add.ensures.leads no
 pub returns-in-Index-clause-leads : goal.returns-in-Index-clause-leads
 returns-in-Index-clause-leads g c = λ now. rw c.in-Index.is (c.insert.ensures.leads now)
 
-pub returns-in-IndexFromBack-clause-leads : goal.returns-in-IndexFromBack-clause-leads
-returns-in-IndexFromBack-clause-leads g c = λ now. rw c.in-IndexFromBack.is (c.insert_from_back.ensures.leads now)
+pub returns-in-FromBack-clause-leads : goal.returns-in-FromBack-clause-leads
+returns-in-FromBack-clause-leads g c = λ now. rw c.in-FromBack.is (c.insert_from_back.ensures.leads now)
 
 pub returns-in-Before-clause-leads : goal.returns-in-Before-clause-leads
 returns-in-Before-clause-leads g c = λ now. rw c.in-Before.is (c.insert_before.ensures.leads now)
