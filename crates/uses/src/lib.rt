@@ -4,11 +4,13 @@
 //! - `drawings`: what a terminal shows after one drawing.
 //! - `runs`: what a terminal shows after a list of calls of a bar.
 //! - `boards`: what a terminal shows after a list of calls of a board.
+//! - `logs`: that a logged line stands, whatever is drawn after it.
 //! - `lent`: what is known of a bar that was lent.
 #![tactic(auto)]
 
 pub mod boards;
 pub mod drawings;
 pub mod lent;
+pub mod logs;
 pub mod runs;
 pub mod texts;
