@@ -54,9 +54,11 @@ texts_begin opening front w l blank texts first read =
     let below = first.0 ++ l.kept ++ live in
     let inner : all_rows w l ≡ front ++ below =
     ap (λ above. above ++ l.kept ++ live) first.1 ∙ ap (λ xs. xs ++ live) (append_assoc front first.0 l.kept) ∙ append_assoc front (first.0 ++ l.kept) live in
-    let rows : opening ++ all_rows w l ≡ opening ++ front ++ below = ap (λ xs. opening ++ xs) inner ∙ sym (append_assoc opening front below) in
-    (map row_text below ++ replicate blank [], read ∙ ap (λ xs. map row_text xs ++ replicate blank []) rows ∙ ap (λ xs. xs ++ replicate blank []) (map-append row_text (opening ++ front) below)
-        ∙ append_assoc (map row_text (opening ++ front)) (map row_text below) (replicate blank []))
+    let rows : opening ++ all_rows w l ≡ opening ++ front ++ below = ap (λ xs. opening ++ xs) inner ∙ sym (append_assoc opening front below) in (
+      map row_text below ++ replicate blank [],
+      read ∙ ap (λ xs. map row_text xs ++ replicate blank []) rows ∙ ap (λ xs. xs ++ replicate blank []) (map-append row_text (opening ++ front) below)
+          ∙ append_assoc (map row_text (opening ++ front)) (map row_text below) (replicate blank []),
+    )
 
 -- where no answer is so, none of the first is
 none_first : {X : Type 0} (p : X → Bool) (k : ℕ) (xs : List X) → list_any p xs ≡ false → AllByRecursion (λ x. IsFalse (p x)) (take k xs)
