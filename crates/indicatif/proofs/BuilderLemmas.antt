@@ -21,6 +21,7 @@ module _ {K T : Type 0} (m : Tracking K) (view : T → TermView) where
   obeyed-well old new command now drawn obeys = record {
     bar = ⊎_elim (λ obeyed. obeyed) (λ disobeyed. cc (disobeyed.1)) obeys.bar;
     silent = obeys.silent;
+    nowhere = obeys.nowhere;
     leads = obeys.leads;
   }
 

@@ -153,7 +153,10 @@ module _ {S C A : Type 0} (m : Machine S C A) (target : Target) (s : S) (answer 
   short_takes (Draws d ends breaks) (inl made) e = absurd (drawn-ample d (sym (ap (λ o. m.tells o.0) made ∙ m.tells_said (drawn_by target d).0) ∙ e))
   short_takes (Draws d ends breaks) (inr (inl short)) e = elim short.1 [
     | inl text ↦ rw text.0 refl
-    | inr rows ↦ rw (rows.0, rows.1) (or-true d.text_takes)
+    | inr shown ↦ elim shown.1 [
+      | inl lines ↦ rw (shown.0, lines.0) (or-true d.text_takes)
+      | inr rows ↦ rw (shown.0, rows.0, rows.1, or-true d.lines_take) (or-true d.text_takes)
+    ]
   ]
   short_takes (Draws d ends breaks) (inr (inr broken)) e = absurd (let q = sym (ap m.tells broken.1 ∙ m.tells_said (Err (Failure broken.0))) ∙ e in cc)
 

@@ -87,9 +87,9 @@ module _ {S C A : Type 0} (m : Machine S C A) (limiter : S → Option Limiter) (
       let other : is_yes (m.tells answer) ≡ false = ap is_yes said in
       elim short.1 [
         | inl text ↦ inl (ap limiter text.1 ∙ asks.2 s ∙ is, and-false (is_unforced d.ask) (is_yes (m.tells answer)) other)
-        | inr rows ↦ elim rows.2 [
-          | inl first ↦ untouched target s is d asks.0 next (m.tells answer) (ap limiter first ∙ asks.2 d.after_command) other
-          | inr later ↦ unmade target s is d asks.0 next (m.tells answer) (ap limiter later.1 ∙ asks.2 d.ready) other
+        | inr shown ↦ elim shown.1 [
+          | inl lines ↦ untouched target s is d asks.0 next (m.tells answer) (ap limiter lines.1 ∙ asks.2 d.after_command) other
+          | inr rows ↦ unmade target s is d asks.0 next (m.tells answer) (ap limiter rows.2 ∙ asks.2 d.ready) other
         ]
       ]
   call_step target s (Draws d ends breaks) answer next is asks (inr (inr broken)) =

@@ -18,7 +18,7 @@ use Rattle.indicatif_bar.specs.Kinds.{Kind, Writing, Frame, TextAndFrame, NoFram
 use Rattle.indicatif_bar.specs.Machines.{target_of, Draw, is_no, Leads}
 use Rattle.indicatif_bar.specs.Runs.{CallMade, wrote, lines_by, deed_on}
 use Rattle.indicatif_bar.specs.Lone.{LoneState, Call, Change, Log, Clear, stored_lines, frame_of, draw_asked, draw_by, refused_at_once, deed_unless, takes_text, lone}
-use Rattle.indicatif_bar.specs.LoneBars.{IsIn, lone_bar, LeadsBy, Obeys, ObeysOrNot, RefusesCommand, known, record_of, terminal_of}
+use Rattle.indicatif_bar.specs.LoneBars.{IsIn, IsNowhere, lone_bar, LeadsBy, Obeys, ObeysOrNot, RefusesCommand, known, record_of, terminal_of}
 use Rattle.indicatif_bar.specs.Inside.Draws.{DrewBy, DrewOn, EngineWrites, WritesLinesOn}
 use Rattle.indicatif_bar.specs.Inside.Obeying.{IsTold, IsToldOrNot}
 use Rattle.indicatif_bar.specs.Inside.Shown.{ShownAs}
@@ -128,6 +128,7 @@ module _ {K T : Type 0} (m : Tracking K) (view : T → TermView) (old mid new : 
   pub record Draws (ask : Ask) (writing : Writing) : Type 0 where
     pub bar : record_of new ≡ record_of mid
     pub silent : IsFalse (wrote answer) → terminal_of new ≡ terminal_of mid
+    pub nowhere : IsNowhere view mid → IsFalse (wrote answer)
     pub drew : (takes : Bool) (s : LoneState (BarRecord K)) → IsIn mid s → (next : LoneState (BarRecord K)) × IsIn new next
         × DrewOn (lone_bar m) (known view mid) (known view new) (draw_asked (bar_kind m) (target_of (known view mid)) takes ask now writing s) s.lists answer next
 
@@ -166,12 +167,13 @@ module _ {K T : Type 0} (m : Tracking K) (view : T → TermView) (old mid new : 
   obeys command ask told draws = record {
     bar = draws.bar ∙ ap (λ o. o.0) told.told;
     silent = λ quiet. draws.silent quiet ∙ ap terminal_of told.rest;
+    nowhere = λ none. draws.nowhere (ap (λ b. (target_of (known view b)).columns) told.rest ∙ none);
     leads = command_leads command ask told draws;
   }
 
   pub obeys_or_not : (command : Command K) (ask : Ask) → IsToldOrNot m old mid command now (Ok ask) → Draws ask Frame → ObeysOrNot m view old new command now answer
   obeys_or_not command ask told draws = let o = obeys command ask (record { told = told.told.0; in_time = told.told.1; rest = told.rest }) draws in
-      record { bar = inl o.bar; silent = o.silent; leads = o.leads }
+      record { bar = inl o.bar; silent = o.silent; nowhere = o.nowhere; leads = o.leads }
 
   pub log_leads : (text : List ℕ) → Draws Forced (TextAndFrame (text_lines (logged_lines text))) → LeadsBy m view mid new (Log text) now answer
   log_leads text draws = λ s inside.
@@ -193,12 +195,17 @@ module _ {K T : Type 0} (m : Tracking K) (view : T → TermView) (old : LoneBar 
       let beyond : is_beyond_clock command now ≡ true = late.1 in
       (s, inside, rw late.0 (call_refused (bar_kind m) (known view old) (Change command) now s ElapsedBeyondClock refl (rw beyond refl)))
 
+  refused_quietly : (e : Refusal) → RefusesCommand command old.shown.bar now e → wrote (Err e) ≡ false
+  refused_quietly e (inl short) = ap (λ x. wrote (Err x)) short.0
+  refused_quietly e (inr late) = ap (λ x. wrote (Err x)) late.0
+
   pub refuses : (mid : LoneBar K T) (e : Refusal) → IsToldOrNot m old mid command now (Err e) → ObeysOrNot m view old mid command now (Err e)
   refuses mid e told =
       let same : mid ≡ old = told.rest ∙ ap (λ b. record old { shown = record old.shown { bar = b } }) told.told.1 in
       record {
         bar = inr (e, refl, told.told.0, same);
         silent = λ quiet. ap terminal_of same;
+        nowhere = λ none. refused_quietly e told.told.0;
         leads = subst (λ b. LeadsBy m view old b (Change command) now (Err e)) (sym same) (refused_leads e told.told.0);
       }
 

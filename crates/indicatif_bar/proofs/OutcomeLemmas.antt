@@ -133,7 +133,7 @@ module _ {S C A T : Type 0} (m : Machine S C A) (P : S → Type 0) (view : T →
     drew_err stays breaks TooWide e =
         drew_same stays TooWide refl (e.unchanged refl) (λ s. leads_made target d m s (Err TooWide) d.ready (outcome-too_wide target d ready.asked refl ready.some ready.allowed e.answers.1))
     drew_err stays breaks Memory e = drew_same stays Memory refl (e.unchanged refl)
-        (λ s. inr (inl (refl, inr (e.memory refl, comes-shown v d ready.asked ready.some, inr (ready.allowed, refl)))))
+        (λ s. inr (inl (refl, inr (comes-shown v d ready.asked ready.some, inr (e.memory refl, ready.allowed, refl)))))
     drew_err stays breaks (Failure kind) e = record {
       next = d.broken;
       holds = breaks;
@@ -166,7 +166,7 @@ module _ {S C A T : Type 0} (m : Machine S C A) (P : S → Type 0) (view : T →
 
   -- the lines were not laid out: no columns, or no memory
   pub drew_withheld : (e : Refusal) → is_no d.ask ≡ false → ((e ≡ NoColumns) × ((view (engine_term engine)).columns ≡ 0)) ⊎ ((e ≡ Memory) × (0 < (view (engine_term engine)).columns)) →
-      (e ≡ Memory → d.rows_take ≡ true) → Fits engine l → m.lists d.after_command ≡ l → P d.after_command → DrewBy m P view engine engine d l (Err e)
+      (e ≡ Memory → d.lines_take ≡ true) → Fits engine l → m.lists d.after_command ≡ l → P d.after_command → DrewBy m P view engine engine d l (Err e)
   drew_withheld e asked (inl none) takes fits same p =
       let target = target_of (Some (view (engine_term engine))) in
       rw none.0 (record {
@@ -182,7 +182,7 @@ module _ {S C A T : Type 0} (m : Machine S C A) (P : S → Type 0) (view : T →
         next = d.after_command;
         holds = p;
         fits = subst (Fits engine) (sym same) fits;
-        leads = λ s. inr (inl (refl, inr (takes short.0, comes-shown (view (engine_term engine)) d asked short.1, inl refl)));
+        leads = λ s. inr (inl (refl, inr (comes-shown (view (engine_term engine)) d asked short.1, inl (takes short.0, refl))));
         writes = wrote_nothing (view (engine_term engine)) d.lines l (m.lists d.after_command) (Err Memory) refl same;
       })
 

@@ -24,6 +24,11 @@ use Rattle.indicatif_bar.specs.Machines.{Target, target_of, Machine, Deed, Leads
 use Rattle.indicatif_bar.specs.Inside.Draws.{WritesLinesOn}
 use Rattle.indicatif_bar.specs.Runs.{CallMade, Runs, AllPlain, broke, Headline, RunsAreRead, is_undisturbed, OneOutcome, deed_on, lines_by}
 
+-- a list of no calls
+pub nothing : {X : Type 0} (xs : List X) → length xs ≡ 0 → xs ≡ []
+nothing [] e = refl
+nothing (x ∷ xs) e = absurd (omega (arith, e))
+
 -- one call more at the end
 pub runs-push : {S C A : Type 0} (m : Machine S C A) (calls : List (C × ℕ)) (answers : List A) (old : Option TermView) (s : S) (v : Option TermView) (x : S) (new : Option TermView) (next : S)
     (call : C × ℕ) (answer : A) →

@@ -48,9 +48,9 @@ module _ {S C A : Type 0} (m : Machine S C A) where
       ap (λ o. (m.lists o.1).failed) made ∙ goes.1 (drawn_by target d).1 (drawn_soundly target d (goes.0.numbers sound) (goes.0.ready sound) (goes.0.written sound))
   leads_soundly target s next (Draws d ends breaks) answer goes (inr (inl short)) fine sound = elim short.1 [
     | inl text ↦ ap (λ x. (m.lists x).failed) text.1 ∙ goes.2 s sound
-    | inr rows ↦ elim rows.2 [
-      | inl first ↦ ap (λ x. (m.lists x).failed) first ∙ goes.2 d.after_command (goes.0.numbers sound)
-      | inr later ↦ ap (λ x. (m.lists x).failed) later.1 ∙ goes.2 d.ready (goes.0.ready sound)
+    | inr shown ↦ elim shown.1 [
+      | inl lines ↦ ap (λ x. (m.lists x).failed) lines.1 ∙ goes.2 d.after_command (goes.0.numbers sound)
+      | inr rows ↦ ap (λ x. (m.lists x).failed) rows.2 ∙ goes.2 d.ready (goes.0.ready sound)
     ]
   ]
   leads_soundly target s next (Draws d ends breaks) answer goes (inr (inr broken)) fine sound =

@@ -1,5 +1,5 @@
 -- What a bar is to whatever draws it, a lone bar or a board; how often that may draw, and what a draw writes.
-use Rattle.std.specs.Prelude.{ℕ, Bool, true, false, List, [], ◌++◌, drop, Option, Some}
+use Rattle.std.specs.Prelude.{ℕ, Bool, true, false, nat_lt, List, [], ◌++◌, length, drop, Option, Some}
 use Rattle.indicatif_text.specs.declared.refusal.Refusal.{Refusal}
 use Rattle.indicatif_term.specs.Lists.{Lists, BarLines, drawn, logged, cleared}
 use Rattle.indicatif_term.specs.Frames.{all_lines}
@@ -18,8 +18,9 @@ pub record Kind (B C : Type 0) : Type 0 where
   pub takes : C → B → ℕ → Bool
   -- the bar then, and the draw that is asked for
   pub after : C → B → ℕ → B × Ask
-  -- the lines of a bar at a moment, on a terminal of so many columns
+  -- the lines of a bar at a moment, on a terminal of so many columns; and whether they take memory as they are laid out
   pub lines : B → ℕ → ℕ → List (List ℕ)
+  pub lays : B → Bool
 
 -- ---- how often it is drawn
 
@@ -36,17 +37,20 @@ pub data Writing : Type 0 where
   TextAndFrame : (text : List (List ℕ)) → Writing
   NoFrame : Writing
 
--- whether that takes memory for lines and rows
-abbrev pub rows_take : Writing → Bool
-rows_take Frame = true
-rows_take (TextAndFrame text) = true
-rows_take NoFrame = false
-
 -- all lines that are laid out for it, where the frame's first bars, so many, are gone: below a text those are left out
 abbrev pub lines_to_write : Writing → ℕ → List BarLines → List (List ℕ)
 lines_to_write Frame gone frame = all_lines frame
 lines_to_write (TextAndFrame text) gone frame = text ++ all_lines (drop gone frame)
 lines_to_write NoFrame gone frame = []
+
+-- whether its rows take memory: those of a frame that has a line do
+abbrev pub has_line : List BarLines → Bool
+has_line frame = nat_lt 0 (length (all_lines frame))
+
+abbrev pub rows_take : Writing → ℕ → List BarLines → Bool
+rows_take Frame gone frame = has_line frame
+rows_take (TextAndFrame text) gone frame = has_line (drop gone frame)
+rows_take NoFrame gone frame = false
 
 -- the lists then, with the bars at the bottom or not; in a frame the bars that are gone are drawn once more, and their rows kept
 abbrev pub written_lists : Writing → Target → Bool → ℕ → List BarLines → Lists → Lists

@@ -58,6 +58,11 @@ module _ {B C : Type 0} (kind : Kind B C) where
   bar_after (Change command) now bar = (kind.after command bar now).0
   bar_after _ now bar = bar
 
+  -- the bar after calls at their moments, one after another
+  abbrev pub bar_after_all : List (Call C × ℕ) → B → B
+  bar_after_all [] bar = bar
+  bar_after_all (call ∷ calls) bar = bar_after_all calls (bar_after call.0 call.1 bar)
+
   -- whether it asks for a draw
   abbrev pub asks : Call C → ℕ → B → Ask
   asks (Change command) now bar = (kind.after command bar now).1
@@ -68,6 +73,11 @@ module _ {B C : Type 0} (kind : Kind B C) where
   stored_lines NoFrame target now s = s.stored
   stored_lines _ target now s = map chars (kind.lines s.bar now target.columns)
 
+  -- whether that takes memory
+  abbrev pub lines_take : Writing → B → Bool
+  lines_take NoFrame bar = false
+  lines_take _ bar = kind.lays bar
+
   -- a draw, once the bar's numbers have changed
   abbrev pub draw_asked : Target → Bool → Ask → ℕ → Writing → LoneState B → Draw (LoneState B)
   draw_asked target takes ask now writing s =
@@ -75,7 +85,8 @@ module _ {B C : Type 0} (kind : Kind B C) where
       let ready = record s { stored = stored_lines writing target now s; limiter = asked.1 } in
       record {
         text_takes = takes;
-        rows_take = rows_take writing;
+        lines_take = lines_take writing s.bar;
+        rows_take = rows_take writing 0 (frame_of ready);
         ask = ask;
         after_command = s;
         ready = ready;

@@ -1,5 +1,5 @@
 -- What contracts see of a lone bar: its record, its terminal, whether it is in a given state, and what a call leads to.
-use Rattle.std.specs.Prelude.{◌≡◌, ◌⊎◌, ℕ, IsTrue, IsFalse, string_bytes, Option, MatchOption, option_map, [], ◌∷◌, Result, Ok, Err}
+use Rattle.std.specs.Prelude.{◌≡◌, ◌⊎◌, ℕ, IsTrue, IsFalse, string_bytes, Option, MatchOption, option_map, List, [], ◌∷◌, Result, Ok, Err}
 use Rattle.indicatif_text.specs.declared.refusal.Refusal.{Refusal}
 use Rattle.indicatif_text.specs.declared.refusal.Refusal.TheVariants.{Memory, ElapsedBeyondClock}
 use Rattle.indicatif_text.specs.declared.refusal.Drawn.{Drawn}
@@ -8,7 +8,7 @@ use Rattle.indicatif_term.specs.Engines.{engine_term, Fits}
 use Rattle.indicatif_bar.specs.Trackers.{Tracking}
 use Rattle.indicatif_bar.specs.Commands.{BarRecord, Command, ForceDraw, obeyed, command_of, is_beyond_clock, takes_memory}
 use Rattle.indicatif_bar.specs.Bars.{bar_kind}
-use Rattle.indicatif_bar.specs.Machines.{Machine}
+use Rattle.indicatif_bar.specs.Machines.{Machine, target_of}
 use Rattle.indicatif_bar.specs.Runs.{CallMade, Runs, wrote}
 use Rattle.indicatif_bar.specs.Lone.{LoneState, Call, Change, Log, Clear, lone}
 use Rattle.indicatif_bar.specs.Inside.Shown.{ShownAs}
@@ -32,6 +32,10 @@ module _ {K T : Type 0} where
   -- what is known of its terminal
   abbrev pub known : (T → TermView) → LoneBar K T → Option TermView
   known view b = option_map view (terminal_of b)
+
+  -- there is nothing to draw on: its target is hidden, or a terminal without columns
+  abbrev pub IsNowhere : (T → TermView) → LoneBar K T → Type 0
+  IsNowhere view b = (target_of (known view b)).columns ≡ 0
 
 -- a lone bar whose trackers mean this
 abbrev pub lone_bar : {K : Type 0} → Tracking K → Machine (LoneState (BarRecord K)) (Call (Command K)) (Result Drawn Refusal)
@@ -63,8 +67,9 @@ module _ {K T : Type 0} (m : Tracking K) (view : T → TermView) (old new : Lone
   pub record Obeys (command : Command K) (now : ℕ) (answer : Result Drawn Refusal) : Type 0 where
     -- its record is as the command says
     pub bar : record_of new ≡ (obeyed m command (record_of old) now).0
-    -- where nothing was written, the terminal was not touched
+    -- where nothing was written, the terminal was not touched; and where there is nothing to draw on, nothing was written
     pub silent : IsFalse (wrote answer) → terminal_of new ≡ terminal_of old
+    pub nowhere : IsNowhere view old → IsFalse (wrote answer)
     -- its step
     pub leads : LeadsBy (Change command) now answer
 
@@ -72,12 +77,25 @@ module _ {K T : Type 0} (m : Tracking K) (view : T → TermView) (old new : Lone
   pub record ObeysOrNot (command : Command K) (now : ℕ) (answer : Result Drawn Refusal) : Type 0 where
     pub bar : (record_of new ≡ (obeyed m command (record_of old) now).0) ⊎ Disobeys old new command now answer
     pub silent : IsFalse (wrote answer) → terminal_of new ≡ terminal_of old
+    pub nowhere : IsNowhere view old → IsFalse (wrote answer)
     pub leads : LeadsBy (Change command) now answer
 
 -- what became of the bar in a call with this answer: a command made of it what it says, or was refused; else it stays
 abbrev pub CallDone : {K T : Type 0} → Tracking K → LoneBar K T → LoneBar K T → Call (Command K) → ℕ → Result Drawn Refusal → Type 0
 CallDone m old new (Change command) now answer = (record_of new ≡ (obeyed m command (record_of old) now).0) ⊎ Disobeys old new command now answer
 CallDone m old new _ now answer = record_of new ≡ record_of old
+
+-- what became of a record in a call with this answer: a command made of it what it says, or was refused; else it stays
+abbrev pub RecordGoes : {K : Type 0} → Tracking K → Call (Command K) → ℕ → Result Drawn Refusal → BarRecord K → BarRecord K → Type 0
+RecordGoes m (Change command) now answer bar bar' =
+    (bar' ≡ (obeyed m command bar now).0) ⊎ ((e : Refusal) × (answer ≡ Err e) × RefusesCommand command bar now e × (bar' ≡ bar))
+RecordGoes m _ now answer bar bar' = bar' ≡ bar
+
+-- the same of calls at their moments, one after another, with an answer each
+abbrev pub RecordsGo : {K : Type 0} → Tracking K → List (Call (Command K) × ℕ) → List (Result Drawn Refusal) → BarRecord K → BarRecord K → Type 0
+RecordsGo m [] [] bar bar' = bar' ≡ bar
+RecordsGo {K} m (call ∷ calls) (answer ∷ answers) bar bar' = (x : BarRecord K) × RecordGoes m call.0 call.1 answer bar x × RecordsGo m calls answers x bar'
+RecordsGo m _ _ bar bar' = ⊥
 
 -- a call that is a value, as its definition
 abbrev pub call_of : {K : Type 0} → LoneCall K → Call (Command K)

@@ -12,7 +12,7 @@ use Rattle.indicatif_term.specs.Lists.{Lists}
 use Rattle.std.specs.List.{list_any}
 use Rattle.indicatif_text.specs.Columns.{has_wide}
 use Rattle.indicatif_bar.specs.declared.state.Ask.{Ask}
-use Rattle.indicatif_bar.specs.declared.state.Ask.TheVariants.{No, Unforced, Forced}
+use Rattle.indicatif_bar.specs.declared.state.Ask.TheVariants.{No}
 
 -- ---- where it draws
 
@@ -30,15 +30,15 @@ target_of (Some view) = record { hidden = false; columns = view.columns; rows = 
 -- whether no draw is asked
 abbrev pub is_no : Ask → Bool
 is_no No = true
-is_no Unforced = false
-is_no Forced = false
+is_no _ = false
 
 -- ---- what a call is about to do
 
 -- a draw: what decides how far it comes, and the states on its way
 pub record Draw (State : Type 0) : Type 0 where
-  -- whether a text takes memory, before the numbers change; and whether lines and rows do
+  -- what takes memory: a text, before the numbers change; lines, as they are laid out; and their rows, as they are planned
   pub text_takes : Bool
+  pub lines_take : Bool
   pub rows_take : Bool
   pub ask : Ask
   -- the numbers have changed
@@ -107,7 +107,7 @@ abbrev pub IsOutOfMemory : {State Answer : Type 0} → Target → State → Deed
 IsOutOfMemory target s (AtOnce takes answer after) next = IsTrue takes × (next ≡ s)
 IsOutOfMemory target s (Draws d ends breaks) next =
     (IsTrue d.text_takes × (next ≡ breaks s))
-    ⊎ (IsTrue d.rows_take × IsTrue (comes_to_lines target d) × ((next ≡ breaks d.after_command) ⊎ (IsTrue d.allowed × (next ≡ breaks d.ready))))
+    ⊎ (IsTrue (comes_to_lines target d) × ((IsTrue d.lines_take × (next ≡ breaks d.after_command)) ⊎ (IsTrue d.rows_take × IsTrue d.allowed × (next ≡ breaks d.ready))))
 
 -- the terminal fails while it is written
 abbrev pub IsBroken : {State Answer : Type 0} → Target → Deed State Answer → State → Type 0

@@ -2,7 +2,7 @@
 ghost use Rattle.std.specs.Prelude.{◌≡◌, IfOk, IfErr, IsTrue, map};
 ghost use Rattle.std.specs.List.{list_all};
 ghost use Rattle.indicatif_term.specs.Frames.{line_text};
-ghost use Rattle.indicatif_bar.specs.Bars.{lines_of_bar, is_bar_line};
+ghost use Rattle.indicatif_bar.specs.Bars.{lines_of_bar, lines_take_memory, is_bar_line};
 
 use crate::bar_state::BarState;
 use crate::spare::SpareLines;
@@ -15,11 +15,11 @@ impl<K: ProgressTracker> BarState<K> {
     /// The lines that the bar shows on a terminal of `width` columns at this moment: those of its style, and none once it
     /// finished hidden.
     ///
-    /// Refused: `Memory`.
+    /// Refused: `Memory`, and never once it finished hidden.
     pub fn lines(&self, now: Moment, width: u16) -> Result<Vec<LineType>, Refusal>
         ensures lines { IfOk result (λ v. map line_text v.items ≡ lines_of_bar K.means self.now now width) }
         ensures kind { IfOk result (λ v. IsTrue (list_all is_bar_line v.items)) }
-        ensures memory { IfErr result (λ e. e ≡ Refusal.Memory) }
+        ensures memory { IfErr result (λ e. (e ≡ Refusal.Memory) × IsTrue (lines_take_memory self.now)) }
     {
         let mut spare = SpareLines::new(self.alloc());
         self.lines_in(&mut spare, now, width)
@@ -28,7 +28,7 @@ impl<K: ProgressTracker> BarState<K> {
     /// The same, in room of `spare`, whatever that holds: the lines are those of `lines`. A bar that is laid out again and again,
     /// each time with the lines of before kept there, takes no memory once all have room.
     ///
-    /// Refused: `Memory`.
+    /// Refused: `Memory`, and never once it finished hidden.
     ///
     /// ```
     /// let lines = bar.lines_in(&mut spare, now, 80)?;
@@ -41,7 +41,7 @@ impl<K: ProgressTracker> BarState<K> {
     ) -> Result<Vec<LineType>, Refusal>
         ensures lines { IfOk result (λ v. map line_text v.items ≡ lines_of_bar K.means self.now now width) }
         ensures kind { IfOk result (λ v. IsTrue (list_all is_bar_line v.items)) }
-        ensures memory { IfErr result (λ e. e ≡ Refusal.Memory) }
+        ensures memory { IfErr result (λ e. (e ≡ Refusal.Memory) × IsTrue (lines_take_memory self.now)) }
     {
         if self.state().is_hidden() {
             return Ok(spare.lines());

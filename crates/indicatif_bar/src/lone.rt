@@ -1,6 +1,7 @@
 //! A bar that stands alone on its target.
-ghost use Rattle.std.specs.Prelude.{◌≡◌, ◌<◌, ◌⊎◌, Bool, Option, Some, None, Ok, Err, option_map, IsTrue, IsFalse, ◌↔◌, map, IfOk, IfErr, IfSome, OnErr, MatchOption};
+ghost use Rattle.std.specs.Prelude.{◌≡◌, ◌≢◌, ◌<◌, ◌⊎◌, vec_len, is_ok, Bool, Option, Some, None, Ok, Err, option_map, IsTrue, IsFalse, ◌↔◌, map, IfOk, IfErr, IfSome, OnErr, MatchOption};
 ghost use Rattle.std.specs.Fn.{FnOnceReturnsAt};
+ghost use Rattle.std.specs.List.{All, list_any};
 ghost use Rattle.indicatif_term.specs.Lists.{opening_lists};
 ghost use Rattle.indicatif_term.specs.Engines.{engine_term, Fits};
 ghost use Rattle.indicatif_term.specs.Targets.{term_of, limiter_of};
@@ -78,8 +79,8 @@ impl<K: ProgressTracker, T: TermLike + Drop> LoneBar<K, T> {
     ghost use Rattle.indicatif_bar.specs.Inside.Obeying.{IsTold, IsToldOrNot};
     ghost use Rattle.indicatif_bar.specs.Runs.{Runs, Headline};
     ghost use Rattle.indicatif_bar.specs.Machines.{target_of};
-    ghost use Rattle.indicatif_bar.specs.Lone.{LoneState, Log, Clear, opening_state, draw_asked};
-    ghost use Rattle.indicatif_bar.specs.LoneBars.{IsIn, record_of, terminal_of, known, lone_bar, LeadsBy, Suspends, Obeys, ObeysOrNot, CallDone, call_of, timed};
+    ghost use Rattle.indicatif_bar.specs.Lone.{LoneState, Log, Clear, bar_after_all, opening_state, draw_asked};
+    ghost use Rattle.indicatif_bar.specs.LoneBars.{IsIn, IsNowhere, record_of, terminal_of, known, lone_bar, LeadsBy, Suspends, Obeys, ObeysOrNot, CallDone, RecordsGo, call_of, timed};
 
     /// The bar on this target. It takes no memory and writes nothing.
     pub fn new(bar: BarState<K>, target: ProgressDrawTarget<T>) -> Self
@@ -454,6 +455,7 @@ impl<K: ProgressTracker, T: TermLike + Drop> LoneBar<K, T> {
     pub fn println(&mut self, text: &str, now: Moment) -> Result<Drawn, Refusal>
         ensures bar { record_of self.new ≡ record_of self.old }
         ensures silent { IsFalse (wrote result) → terminal_of self.new ≡ terminal_of self.old }
+        ensures nowhere { IsNowhere T.view self.old → IsFalse (wrote result) }
         ensures leads { LeadsBy K.means T.view self.old self.new (Log text.now) now result }
     {
         self.draw(Ask::Forced, Writing::TextAndFrame(text), now)
@@ -463,6 +465,7 @@ impl<K: ProgressTracker, T: TermLike + Drop> LoneBar<K, T> {
     pub fn clear(&mut self, now: Moment) -> Result<Drawn, Refusal>
         ensures bar { record_of self.new ≡ record_of self.old }
         ensures silent { IsFalse (wrote result) → terminal_of self.new ≡ terminal_of self.old }
+        ensures nowhere { IsNowhere T.view self.old → IsFalse (wrote result) }
         ensures leads { LeadsBy K.means T.view self.old self.new Clear now result }
     {
         self.draw(Ask::Forced, Writing::NoFrame, now)
@@ -489,6 +492,7 @@ impl<K: ProgressTracker, T: TermLike + Drop> LoneBar<K, T> {
         requires { F.pre f }
         ensures value { F.post f result.0 }
         ensures bar { record_of self.new ≡ record_of self.old }
+        ensures silent { IsNowhere T.view self.old → terminal_of self.new ≡ terminal_of self.old }
         ensures leads { Suspends K.means T.view self.old self.new now result.1 }
     {
         let cleared = self.clear(now);
@@ -525,6 +529,7 @@ impl<K: ProgressTracker, T: TermLike + Drop> LoneBar<K, T> {
     pub fn call(&mut self, call: LoneCall<K>, now: Moment) -> Result<Drawn, Refusal>
         ensures bar { CallDone K.means self.old self.new (call_of call) now result }
         ensures silent { IsFalse (wrote result) → terminal_of self.new ≡ terminal_of self.old }
+        ensures nowhere { IsNowhere T.view self.old → IsFalse (wrote result) }
         ensures leads { LeadsBy K.means T.view self.old self.new (call_of call) now result }
     {
         match call {
@@ -537,7 +542,8 @@ impl<K: ProgressTracker, T: TermLike + Drop> LoneBar<K, T> {
         }
     }
 
-    /// Makes the calls one after another, each at its moment, and answers what each answered.
+    /// Makes the calls one after another, each at its moment, and answers what each answered. No calls change nothing, and are never
+    /// refused.
     ///
     /// Refused: `Memory` for the answers alone, and nothing is run.
     pub fn run(
@@ -549,10 +555,23 @@ impl<K: ProgressTracker, T: TermLike + Drop> LoneBar<K, T> {
             IfOk result (λ answers. (next : LoneState _) × IsIn self.new next
             × (run : Runs (lone_bar K.means) (map timed calls.items) answers.items old s new next)
             × Headline (lone_bar K.means) (map timed calls.items) answers.items old s new next run) }
+        ensures count { IfOk result (λ answers. vec_len answers ≡ vec_len calls) }
+        ensures bar { IfOk result (λ answers.
+            RecordsGo K.means (map timed calls.items) answers.items (record_of self.old) (record_of self.new)) }
+        ensures ample { IfOk result (λ answers. All (λ answer. answer ≢ Err Refusal.Memory) answers.items →
+            record_of self.new ≡ bar_after_all (bar_kind K.means) (map timed calls.items) (record_of self.old)) }
+        ensures silent { IfOk result (λ answers. IsFalse (list_any wrote answers.items) →
+            terminal_of self.new ≡ terminal_of self.old) }
+        ensures nowhere { IfOk result (λ answers. IsNowhere T.view self.old → IsFalse (list_any wrote answers.items)) }
+        ensures idle { vec_len calls ≡ 0 → IsTrue (is_ok result) × (self.new ≡ self.old) }
         ensures memory { IfErr result (λ e. e ≡ Refusal.Memory) }
         ensures unrun { OnErr result (self.new ≡ self.old) }
     {
-        let mut answers = Vec::with_capacity(self.shown.bar.alloc(), calls.len())?;
+        let alloc = self.shown.bar.alloc();
+        if calls.is_empty() {
+            return Ok(Vec::new(alloc));
+        }
+        let mut answers = Vec::with_capacity(alloc, calls.len())?;
         for (call, now) in calls {
             let answer = self.call(call, now);
             answers.push_reserved(answer);
@@ -585,6 +604,7 @@ impl<K: ProgressTracker, T: TermLike + Drop> LoneBar<K, T> {
         ensures unasked { ask ≡ Ask.No → result ≡ Ok Drawn.Limited }
         ensures bar { record_of self.new ≡ record_of self.old }
         ensures silent { IsFalse (wrote result) → terminal_of self.new ≡ terminal_of self.old }
+        ensures nowhere { IsNowhere T.view self.old → IsFalse (wrote result) }
         ensures drew { (takes : Bool) (s : LoneState _) → IsIn self.old s →
             let old = known T.view self.old in
             (next : LoneState _) × IsIn self.new next

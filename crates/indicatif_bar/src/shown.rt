@@ -4,9 +4,9 @@ ghost use Rattle.indicatif_term.specs.Frames.{bar_lines};
 ghost use Rattle.indicatif_term.specs.Engines.{engine_term, Fits};
 ghost use Rattle.indicatif_bar.specs.Machines.{Target, is_no, target_of};
 ghost use Rattle.indicatif_bar.specs.Runs.{wrote};
-ghost use Rattle.indicatif_bar.specs.Kinds.{rows_take, asked_of};
-ghost use Rattle.indicatif_bar.specs.Bars.{bar_kind, lines_of_bar};
-ghost use Rattle.indicatif_bar.specs.Lone.{LoneState, stored_lines, draw_asked, lone};
+ghost use Rattle.indicatif_bar.specs.Kinds.{asked_of};
+ghost use Rattle.indicatif_bar.specs.Bars.{bar_kind, lines_of_bar, lines_take_memory};
+ghost use Rattle.indicatif_bar.specs.Lone.{LoneState, stored_lines, lines_take, draw_asked, lone};
 ghost use Rattle.indicatif_bar.specs.Inside.Draws.{DrewBy, EngineWrites};
 ghost use Rattle.indicatif_bar.specs.Inside.Shown.{writing_as};
 
@@ -80,6 +80,7 @@ impl<K: ProgressTracker> ShownBar<K> {
     ) -> Result<Drawn, Refusal>
         ensures bar { self.new.bar ≡ self.old.bar }
         ensures silent { IsFalse (wrote result) → engine.new ≡ engine.old }
+        ensures nowhere { (T.view (engine_term engine.old)).columns ≡ 0 → IsFalse (wrote result) }
         ensures drew { (takes : Bool) (s : LoneState _) → is_no ask ≡ false → ShownAs self.old s → Fits engine.old s.lists →
             let target = target_of (Some (T.view (engine_term engine.old))) in
             DrewBy (lone (bar_kind K.means)) (ShownAs self.new) T.view engine.old engine.new
@@ -102,7 +103,8 @@ impl<K: ProgressTracker> ShownBar<K> {
         ensures bar { self.new.bar ≡ self.old.bar }
         ensures laid { IfOk result (λ _. (s : LoneState _) (target : Target) → target.columns ≡ width → ShownAs self.old s →
             ShownAs self.new (record s { stored = stored_lines (bar_kind K.means) (writing_as writing.entry) target now s })) }
-        ensures memory { IfErr result (λ e. (e ≡ Refusal.Memory) × IsTrue (rows_take (writing_as writing.entry))) }
+        ensures memory { IfErr result (λ e. (e ≡ Refusal.Memory)
+            × IsTrue (lines_take (bar_kind K.means) (writing_as writing.entry) self.old.bar)) }
         ensures unchanged { OnErr result (self.new ≡ self.old) }
     {
         match writing {
@@ -117,7 +119,7 @@ impl<K: ProgressTracker> ShownBar<K> {
         ensures limiter { self.new.limiter ≡ self.old.limiter }
         ensures laid { IfOk result (λ _. bar_lines self.new.frame
             ≡ record { bar = self.old.frame.bar; lines = map chars (lines_of_bar K.means self.old.bar now width) }) }
-        ensures memory { IfErr result (λ e. e ≡ Refusal.Memory) }
+        ensures memory { IfErr result (λ e. (e ≡ Refusal.Memory) × IsTrue (lines_take_memory self.old.bar)) }
         ensures unchanged { OnErr result (self.new ≡ self.old) }
     {
         let lines = self.bar.lines_in(&mut self.spare, now, width)?;

@@ -1,7 +1,9 @@
 -- What the answer of a board's engine makes of a draw.
-use Rattle.std.proofs.Common.{◌≡◌, ℕ, ◌<◌, Bool, true, false, List, ◌++◌, map, drop, refl, sym, ◌∙◌, ap, subst, Result, Option, Some}
+use Rattle.std.proofs.Common.{◌≡◌, ℕ, ◌<◌, Bool, true, false, List, ◌++◌, length, map, drop, refl, sym, ◌∙◌, ap, subst, Result, Err, Option, Some}
 use Rattle.std.specs.Prelude.{IsTrue, IsFalse, IfErr, MatchResult}
+use Rattle.std.proofs.lemmas.Bool.{lt-ltb}
 use Rattle.indicatif_text.specs.declared.refusal.Refusal.{Refusal}
+use Rattle.indicatif_text.specs.declared.refusal.Refusal.TheVariants.{Memory}
 use Rattle.indicatif_term.specs.Calls.{TermView}
 use Rattle.indicatif_term.specs.Lists.{Lists, BarLines, logged}
 use Rattle.indicatif_term.specs.Limiters.{Limiter}
@@ -12,7 +14,7 @@ use Rattle.indicatif_term.specs.declared.lines.Segment.{Segment}
 use Rattle.indicatif_bar.specs.Trackers.{Tracking}
 use Rattle.indicatif_bar.specs.Commands.{BarRecord}
 use Rattle.indicatif_bar.specs.Machines.{target_of, Draw, is_no}
-use Rattle.indicatif_bar.specs.Kinds.{Writing, TextAndFrame, asked_of, written_lists}
+use Rattle.indicatif_bar.specs.Kinds.{Writing, TextAndFrame, has_line, asked_of, written_lists}
 use Rattle.indicatif_bar.specs.Inside.Draws.{DrewBy}
 use Rattle.indicatif_bar.specs.declared.state.Ask.{Ask}
 use Rattle.indicatif_bar.proofs.OutcomeLemmas.{drew, answer_of}
@@ -25,19 +27,19 @@ use Rattle.indicatif_board.proofs.MemberLemmas.{drop-map}
 
 -- a text above the rest of a frame
 pub puts_text : {T : Type 0} (view : T → TermView) (text : List (List ℕ)) (bottom : Bool) (gone : ℕ) (frame rest : List BarLines) (old new : Engine T) (r : Result Unit Refusal) →
-    drop gone frame ≡ rest →
+    drop gone frame ≡ rest → (r ≡ Err Memory → 0 < length (all_lines rest)) →
     Answers (view (engine_term old)).columns (text ++ all_lines rest) r → Counted (view (engine_term old)) (view (engine_term new)) r → IfErr r (λ e. IsFalse (is_fault e) → new ≡ old) →
     ((l : Lists) → Fits old l → Fits new (lists_after r l (logged (view (engine_term old)).columns (view (engine_term old)).rows bottom text rest l))) →
     ((l : Lists) → Fits old l → IsTrue (are_plain (text ++ all_lines rest)) →
     Paints (view (engine_term old)) (view (engine_term new)) (is_failure r) l (lists_after r l (logged (view (engine_term old)).columns (view (engine_term old)).rows bottom text rest l))) →
     PutsFrame view (TextAndFrame text) bottom gone frame old new r
-puts_text view text bottom gone frame rest old new r e answers counted unchanged lists paints =
+puts_text view text bottom gone frame rest old new r e takes answers counted unchanged lists paints =
     let v = view (engine_term old) in
     let v' = view (engine_term new) in
     let b = sym e in
     record {
       answers = subst (λ x. Answers v.columns (text ++ all_lines x) r) b answers;
-      memory = λ m. refl;
+      memory = λ short. subst (λ x. has_line x ≡ true) b (lt-ltb 0 (length (all_lines rest)) (takes short));
       counted = counted;
       unchanged = unchanged;
       lists = λ l f. subst (λ x. Fits new (lists_after r l (logged v.columns v.rows bottom text x l))) b (lists l f);
@@ -57,10 +59,10 @@ kept_ready frame members made bottom limiter ask now laid allows holds = record 
   limiter_is = sym (ap (λ a. a.1) allows);
 }
 
-module _ {K T : Type 0} (tracks : Tracking K) (view : T → TermView) (mark : ℕ) (takes : Bool) (ask : Ask) (now : ℕ) (writing : Writing) (s laid : BoardState (BarRecord K)) (old : Engine T)
+module _ {K T : Type 0} (tracks : Tracking K) (view : T → TermView) (mark : ℕ) (takes : Bool) (ask : Ask) (now : ℕ) (writing : Writing) (s laid : BoardState (BarRecord K)) (lays : Bool) (old : Engine T)
     (frame : List Segment) (members : List (MemberValue K)) (made : ℕ) (bottom : Bool) (limiter : Option Limiter) where
   abbrev d : Draw (BoardState (BarRecord K))
-  d = draw_of (target_of (Some (view (engine_term old)))) takes ask now writing s laid
+  d = draw_of (target_of (Some (view (engine_term old)))) takes ask now writing s laid lays
 
   pub allowed_same : Holds frame members made bottom limiter laid → (asked_of ask now limiter).0 ≡ d.allowed
   allowed_same holds = ap (λ l. (asked_of ask now l).0) holds.limiter_is

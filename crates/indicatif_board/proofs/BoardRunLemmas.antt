@@ -16,7 +16,7 @@ use Rattle.indicatif_bar.specs.declared.state.Ask.TheVariants.{No, Forced}
 use Rattle.indicatif_bar.proofs.SoundRunLemmas.{DrawsSoundly, GoesSoundly, sound_read_after}
 use Rattle.indicatif_bar.proofs.LoneRunLemmas.{written_soundly}
 use Rattle.indicatif_board.specs.Members.{is_member, is_head, without, said_of, leaders, frame_of}
-use Rattle.indicatif_board.specs.Boards.{BoardState, BoardKind, Call, Insert, Remove, Drop, Log, BarLog, Clear, Redraw, Align, Tell, Answer, Location, Entrant, New, Old, turned_away, anchor_turned_away, or_refused, inserted, taken_out, draws, draw_of, told, laid_out, left_by, left_on, marked_on, board}
+use Rattle.indicatif_board.specs.Boards.{BoardState, BoardKind, Call, Insert, Remove, Drop, Log, BarLog, Clear, Redraw, Align, Tell, Answer, Location, Entrant, New, Old, turned_away, anchor_turned_away, or_refused, inserted, taken_out, draws, draw_of, told, laid_out, lays_out, left_by, left_on, marked_on, board}
 
 -- the first segment's rows pass to kept, and none are forgotten
 kept_soundly : (columns number : ℕ) (l : Lists) → l.failed ≡ false → (kept_of columns number l).failed ≡ false
@@ -55,15 +55,15 @@ module _ {B C : Type 0} (kind : BoardKind B C) (mark : ℕ) where
   left_soundly target number s sound =
       cond_both (is_head number s.members) (left_by target number (fate number s.lists) s) (marked_on number s) Stands (λ a. left_by_soundly target number (fate number s.lists) s sound) (λ a. sound)
 
-  draw_soundly : (target : Target) (takes : Bool) (ask : Ask) (now : ℕ) (writing : Writing) (s after laid : BoardState B) → (Stands s → Stands after) → (Stands s → Stands laid) →
-      DrawsSoundly (board kind mark) s (draw_of target takes ask now writing after laid)
-  draw_soundly target takes ask now writing s after laid numbers ready =
+  draw_soundly : (target : Target) (takes : Bool) (ask : Ask) (now : ℕ) (writing : Writing) (s after laid : BoardState B) (lays : Bool) → (Stands s → Stands after) → (Stands s → Stands laid) →
+      DrawsSoundly (board kind mark) s (draw_of target takes ask now writing after laid lays)
+  draw_soundly target takes ask now writing s after laid lays numbers ready =
       record { numbers = numbers; ready = ready; written = λ sound. written_soundly writing target laid.bottom (leaders laid.members) (frame_of laid.members) laid.lists }
 
   -- a draw that nothing follows, of a board as it is and with its lines laid out
-  only_draws : (target : Target) (takes : Bool) (ask : Ask) (now : ℕ) (writing : Writing) (s after laid : BoardState B) → (Stands s → Stands after) → (Stands s → Stands laid) →
-      Goes s (draws (draw_of target takes ask now writing after laid))
-  only_draws target takes ask now writing s after laid numbers ready = (draw_soundly target takes ask now writing s after laid numbers ready, (λ x sound. sound), λ x sound. sound)
+  only_draws : (target : Target) (takes : Bool) (ask : Ask) (now : ℕ) (writing : Writing) (s after laid : BoardState B) (lays : Bool) → (Stands s → Stands after) → (Stands s → Stands laid) →
+      Goes s (draws (draw_of target takes ask now writing after laid lays))
+  only_draws target takes ask now writing s after laid lays numbers ready = (draw_soundly target takes ask now writing s after laid lays numbers ready, (λ x sound. sound), λ x sound. sound)
 
   deed_soundly : (target : Target) (call : Call B C) (now : ℕ) (s : BoardState B) → Goes s ((board kind mark).deed target call now s)
   deed_soundly target (Insert at entrant) now s = unless_refused s (anchor_turned_away mark at s) _ (inserted_soundly s at entrant)
@@ -72,23 +72,23 @@ module _ {B C : Type 0} (kind : BoardKind B C) (mark : ℕ) where
       let after = told id.number (kind.left now) s in
       unless_refused s (turned_away mark id s) _ (
         draw_soundly target (said_of false (kind.left_takes now) id.number s.members) (said_of No (kind.left_asked now) id.number s.members) now Frame s after
-            (laid_out kind target now id.number after) (λ sound. sound) (λ sound. sound),
+            (laid_out kind target now id.number after) (lays_out kind id.number after) (λ sound. sound) (λ sound. sound),
         left_soundly target id.number,
         λ x sound. sound,
       )
-  deed_soundly target (Log text) now s = only_draws target false Forced now (TextAndFrame (text_lines (logged_lines text))) s s s (λ sound. sound) (λ sound. sound)
+  deed_soundly target (Log text) now s = only_draws target false Forced now (TextAndFrame (text_lines (logged_lines text))) s s s false (λ sound. sound) (λ sound. sound)
   deed_soundly target (BarLog id text) now s =
       unless_refused s (turned_away mark id s) _
-      (only_draws target false Forced now (TextAndFrame (text_lines (logged_lines text))) s s (laid_out kind target now id.number s) (λ sound. sound) (λ sound. sound))
-  deed_soundly target Clear now s = only_draws target false Forced now NoFrame s s s (λ sound. sound) (λ sound. sound)
-  deed_soundly target Redraw now s = only_draws target false Forced now Frame s s s (λ sound. sound) (λ sound. sound)
+      (only_draws target false Forced now (TextAndFrame (text_lines (logged_lines text))) s s (laid_out kind target now id.number s) (lays_out kind id.number s) (λ sound. sound) (λ sound. sound))
+  deed_soundly target Clear now s = only_draws target false Forced now NoFrame s s s false (λ sound. sound) (λ sound. sound)
+  deed_soundly target Redraw now s = only_draws target false Forced now Frame s s s false (λ sound. sound) (λ sound. sound)
   deed_soundly target (Align bottom) now s = λ sound. sound
   deed_soundly target (Tell id command) now s =
       let after = told id.number (λ bar. (kind.bars.after command bar now).0) s in
       unless_refused s (turned_away mark id s) _
       (unless_refused s (said_of None (λ bar. kind.bars.refused command bar now) id.number s.members) _
       (only_draws target (said_of false (λ bar. kind.bars.takes command bar now) id.number s.members) (said_of No (λ bar. (kind.bars.after command bar now).1) id.number s.members) now Frame s after
-      (laid_out kind target now id.number after) (λ sound. sound) (λ sound. sound)))
+      (laid_out kind target now id.number after) (lays_out kind id.number after) (λ sound. sound) (λ sound. sound)))
 
   pub board_read_after : (calls : List (Call B C × ℕ)) (answers : List Answer) (v : TermView) (s : BoardState B) (new : Option TermView) (next : BoardState B) →
       IsFalse s.lists.failed → ReadsAfter (board kind mark) calls answers v s new next

@@ -193,7 +193,7 @@ module _ {S C A : Type 0} (m : Machine S C A) (target : Target) (s : S) (d : Dra
     short.0,
     elim short.1 [
       | inl text ↦ inl (text.0, ap breaks text.1)
-      | inr rows ↦ inr (rows.0, rows.1, elim rows.2 [ inl first ↦ inl (ap breaks first) | inr later ↦ inr (later.0, ap breaks later.1) ])
+      | inr shown ↦ inr (shown.0, elim shown.1 [ inl lines ↦ inl (lines.0, ap breaks lines.1) | inr rows ↦ inr (rows.0, rows.1, ap breaks rows.2) ])
     ],
   ))
   leads_breaks (inr (inr broken)) off = inr (inr (broken.0, broken.1, (broken.2.0, ap breaks broken.2.1)))

@@ -34,9 +34,9 @@ module _ {S C A : Type 0} (m : Machine S C A) (P : S → Type 0) where
       subst P (sym (ap (λ o. o.1) made)) (keeps.4 (drawn_by target d).1 (drawn_keeps target d keeps.0 keeps.1 keeps.2))
   leads_keep target s next (Draws d ends breaks) answer keeps (inr (inl short)) is = elim short.1 [
     | inl text ↦ subst P (sym text.1) (keeps.5 s is)
-    | inr rows ↦ elim rows.2 [
-      | inl first ↦ subst P (sym first) (keeps.5 d.after_command keeps.0)
-      | inr later ↦ subst P (sym later.1) (keeps.5 d.ready keeps.1)
+    | inr shown ↦ elim shown.1 [
+      | inl lines ↦ subst P (sym lines.1) (keeps.5 d.after_command keeps.0)
+      | inr rows ↦ subst P (sym rows.2) (keeps.5 d.ready keeps.1)
     ]
   ]
   leads_keep target s next (Draws d ends breaks) answer keeps (inr (inr broken)) is = subst P (sym broken.2.1) (keeps.5 d.broken keeps.3)

@@ -13,12 +13,12 @@ use Rattle.std.proofs.lemmas.Simd.{map-map}
 use Rattle.std.proofs.lemmas.List.{length-map}
 use Rattle.indicatif_bar.specs.Trackers.{Tracking}
 use Rattle.indicatif_bar.specs.Commands.{BarRecord}
-use Rattle.indicatif_bar.specs.Bars.{lines_of_bar}
+use Rattle.indicatif_bar.specs.Bars.{lines_of_bar, lines_take_memory}
 use Rattle.indicatif_bar.specs.Machines.{Target}
 use Rattle.indicatif_board.specs.Boards.{BoardState, Id, Location, index_of, taken_in, turned_away, told}
 use Rattle.indicatif_text.specs.declared.refusal.Refusal.TheVariants.{ForeignBar, NotMember}
 use Rattle.indicatif_board.specs.Members.{Member, place_of, leaders, frame_of, order_of, changed_at, new_member, is_member, without, said_of}
-use Rattle.indicatif_board.specs.Inside.Keeps.{member_of, Holds, HasPlace, laid_by}
+use Rattle.indicatif_board.specs.Inside.Keeps.{member_of, Holds, HasPlace, laid_by, lays_by}
 use Rattle.indicatif_board.specs.declared.members.Member.{Member as MemberValue}
 
 pub drop-map : {X Y : Type 0} (f : X → Y) (n : ℕ) (xs : List X) → drop n (map f xs) ≡ map f (drop n xs)
@@ -330,6 +330,15 @@ said_of_place other f members ms number at item same here within item_is =
     let place : place_of number ms < length ms = subst (λ k. k < length ms) here inside in
     let item_of : item ≡ member_of (get_or ms at d) = item_is ∙ ap (λ xs. get_or xs at item) same ∙ get_or-map_at member_of ms at d item inside in
     ap (λ x. f x.bar) item_of ∙ ap (λ k. f (get_or ms k d).bar) here ∙ sym (said_at other f number d ms place)
+
+-- whether a named bar's lines take memory is said of the bar at its place
+pub lays_at : {K : Type 0} (tracks : Tracking K) (members : List (MemberValue K)) (s : BoardState (BarRecord K)) (number bar : Option ℕ) (at : ℕ) (item : MemberValue K) →
+    members ≡ map member_of s.members → bar ≡ Some at → HasPlace number bar s.members → at < length members → item ≡ get_or members at item →
+    lines_take_memory item.bar ≡ true → lays_by tracks number s ≡ true
+lays_at tracks members s None bar at item same bar_is placed within item_is takes = absurd (subst (λ b. HasPlace None b s.members) bar_is placed)
+lays_at tracks members s (Some n) bar at item same bar_is placed within item_is takes =
+    let here = subst (λ b. HasPlace (Some n) b s.members) bar_is placed in
+    sym (said_of_place false lines_take_memory members s.members n at item same here.0 within item_is) ∙ takes
 
 -- a bar taken out
 pub removed_with : {K : Type 0} → (frame frame' : List Segment) (members members' : List (MemberValue K)) (made : ℕ) (bottom : Bool) (limiter : Option Limiter) (s : BoardState

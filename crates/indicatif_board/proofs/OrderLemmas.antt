@@ -15,7 +15,7 @@ use Rattle.indicatif_bar.specs.Kinds.{Writing, Frame, TextAndFrame, NoFrame}
 use Rattle.indicatif_bar.specs.declared.state.Ask.{Ask}
 use Rattle.indicatif_bar.specs.declared.state.Ask.TheVariants.{No, Forced}
 use Rattle.indicatif_board.specs.Members.{Member, is_member, is_head, without, said_of, order_of, place_of, new_member, leaders, changed_at}
-use Rattle.indicatif_board.specs.Boards.{BoardState, BoardKind, Call, Insert, Remove, Drop, Log, BarLog, Clear, Redraw, Align, Tell, Answer, Given, Refused, Id, Location, Entrant, New, Old, opening_board, turned_away, anchor_turned_away, or_refused, inserted, index_of, taken_in, taken_out, draws, draw_of, told, laid_out, left_by, left_on, marked_on, board}
+use Rattle.indicatif_board.specs.Boards.{BoardState, BoardKind, Call, Insert, Remove, Drop, Log, BarLog, Clear, Redraw, Align, Tell, Answer, Given, Refused, Id, Location, Entrant, New, Old, opening_board, turned_away, anchor_turned_away, or_refused, inserted, index_of, taken_in, taken_out, draws, draw_of, told, laid_out, lays_out, left_by, left_on, marked_on, board}
 use Rattle.indicatif_board.specs.Slots.{occurrences}
 use Rattle.indicatif_board.specs.OrderLaws.{RunsKeep, StandsOnce, IsGone, with_new, new_bars, new_numbers, NumbersCount, NumbersAreNew}
 use Rattle.indicatif_board.proofs.MemberLemmas.{place-changed, map-inserted, map-removed, drop-map}
@@ -83,9 +83,9 @@ module _ {B C : Type 0} (kind : BoardKind B C) (mark : ℕ) (Q : List ℕ → �
   written_keeps : (s : BoardState B) → P s → Q (order_of (drop (leaders s.members) s.members)) s.made
   written_keeps s is = subst (λ o. Q o s.made) (drop-map (λ (m : Member B). m.number) (leaders s.members) s.members) (lasts.go_first (order_of s.members) s.made (leaders s.members) is)
 
-  only_draws : (target : Target) (takes : Bool) (ask : Ask) (now : ℕ) (writing : Writing) (after laid : BoardState B) → P after → P laid →
-      KeepsIt (draws (draw_of target takes ask now writing after laid))
-  only_draws target takes ask now writing after laid numbers ready = (numbers, ready, written_keeps laid ready, ready, (λ x is. is), λ x is. is)
+  only_draws : (target : Target) (takes : Bool) (ask : Ask) (now : ℕ) (writing : Writing) (after laid : BoardState B) (lays : Bool) → P after → P laid →
+      KeepsIt (draws (draw_of target takes ask now writing after laid lays))
+  only_draws target takes ask now writing after laid lays numbers ready = (numbers, ready, written_keeps laid ready, ready, (λ x is. is), λ x is. is)
 
   laid_keeps : (target : Target) (now number : ℕ) (s : BoardState B) → P s → P (laid_out kind target now number s)
   laid_keeps target now number s is = changed_keeps number _ s (λ m. refl) is
@@ -101,12 +101,12 @@ module _ {B C : Type 0} (kind : BoardKind B C) (mark : ℕ) (Q : List ℕ → �
       let laid = laid_keeps target now id.number (told id.number (kind.left now) s) after in
       unless_refused s (turned_away mark id s) _ is
       (after, laid, written_keeps (laid_out kind target now id.number (told id.number (kind.left now) s)) laid, laid, left_keeps target id.number, marked_keeps id.number)
-  deed_keeps target (Log text) now s is comes = only_draws target false Forced now (TextAndFrame (text_lines (logged_lines text))) s s is is
+  deed_keeps target (Log text) now s is comes = only_draws target false Forced now (TextAndFrame (text_lines (logged_lines text))) s s false is is
   deed_keeps target (BarLog id text) now s is comes =
       unless_refused s (turned_away mark id s) _ is
-      (only_draws target false Forced now (TextAndFrame (text_lines (logged_lines text))) s (laid_out kind target now id.number s) is (laid_keeps target now id.number s is))
-  deed_keeps target Clear now s is comes = only_draws target false Forced now NoFrame s s is is
-  deed_keeps target Redraw now s is comes = only_draws target false Forced now Frame s s is is
+      (only_draws target false Forced now (TextAndFrame (text_lines (logged_lines text))) s (laid_out kind target now id.number s) (lays_out kind id.number s) is (laid_keeps target now id.number s is))
+  deed_keeps target Clear now s is comes = only_draws target false Forced now NoFrame s s false is is
+  deed_keeps target Redraw now s is comes = only_draws target false Forced now Frame s s false is is
   deed_keeps target (Align bottom) now s is comes = is
   deed_keeps target (Tell id command) now s is comes =
       let after = told id.number (λ bar. (kind.bars.after command bar now).0) s in
@@ -114,7 +114,7 @@ module _ {B C : Type 0} (kind : BoardKind B C) (mark : ℕ) (Q : List ℕ → �
       unless_refused s (turned_away mark id s) _ is
       (unless_refused s (said_of None (λ bar. kind.bars.refused command bar now) id.number s.members) _ is
       (only_draws target (said_of false (λ bar. kind.bars.takes command bar now) id.number s.members) (said_of No (λ bar. (kind.bars.after command bar now).1) id.number s.members) now Frame after
-      (laid_out kind target now id.number after) numbers (laid_keeps target now id.number after numbers)))
+      (laid_out kind target now id.number after) (lays_out kind id.number after) numbers (laid_keeps target now id.number after numbers)))
 
   -- a run keeps what lasts also as the next bar is taken in anywhere
   module _ (come : (order : List ℕ) (made at : ℕ) → Q order made → Q (insert order at made) (made + 1)) where

@@ -5,7 +5,8 @@ use Rattle.indicatif_text.specs.declared.refusal.Refusal.TheVariants.{ForeignBar
 use Rattle.indicatif_text.specs.declared.refusal.Drawn.TheVariants.{Yes, Limited, Hidden}
 use Rattle.indicatif_term.specs.Lists.{forgotten_lists, all_rows}
 use Rattle.indicatif_term.specs.Limiters.{Limiter, draw_limiter}
-use Rattle.indicatif_bar.specs.Machines.{Target, outcomes, Leads}
+use Rattle.indicatif_bar.specs.Machines.{Target, Deed, outcomes, Leads}
+use Rattle.indicatif_bar.specs.Says.{TakesMemory}
 use Rattle.indicatif_bar.specs.Cases.{terminal_of_size, nowhere, rows_of_lines, bar_saying, untracked as no_trackers}
 use Rattle.indicatif_bar.specs.Finishes.{AndLeave}
 use Rattle.indicatif_bar.specs.Commands.{BarRecord, Command, Tick, SetElapsed, PutFinish}
@@ -68,6 +69,11 @@ abbrev pub end_asked : Stage → Ask
 end_asked Running = Forced
 end_asked _ = No
 
+-- whether they take memory
+abbrev pub is_seen : Stage → Bool
+is_seen Gone = false
+is_seen _ = true
+
 abbrev pub plain : BoardKind Plain Word
 plain = record {
   bars = record {
@@ -75,6 +81,7 @@ plain = record {
     takes = says_text;
     after = plain_after;
     lines = λ b now columns. lines_at b.stage b.text;
+    lays = λ b. is_seen b.stage;
   };
   left = λ now b. record b { stage = plain_end b.stage b.at_finish };
   left_asked = λ now b. end_asked b.stage;
@@ -260,24 +267,28 @@ Unseen =
 
 -- ---- a drop whose own draw is refused
 
--- one bar was drawn
-abbrev pub one_shown : BoardState Plain
-one_shown = (ran_in 4 10 (add (codes "a") ∷ touch 0 ∷ [])).1
+-- one bar, of this finish, was drawn
+abbrev pub one_shown : Stage → BoardState Plain
+one_shown at_finish = (ran_in 4 10 (Insert End (New (record { text = codes "a"; stage = Running; at_finish = at_finish })) ∷ touch 0 ∷ [])).1
 
--- it is marked and stays, though it is the first: where the terminal fails, its rows forgotten; where memory is refused, its
--- rows as they were
+-- it is dropped
+abbrev pub its_drop : Stage → Deed (BoardState Plain) Answer
+its_drop at_finish = (board plain 1).deed (terminal_of_size 4 10) (drop_it 0) 0 (one_shown at_finish)
+
+-- it is marked and stays, though it is the first, with these lines
+abbrev pub stays : Stage → List (List ℕ) → List (Member Plain)
+stays at_finish lines =
+    let m : Member Plain = record { number = 0; bar = record { text = codes "a"; stage = at_finish; at_finish = at_finish }; stored = lines; dropped = true } in m ∷ []
+
+-- where the terminal fails, its rows are forgotten; where memory is refused, they are as they were; and none is refused to a bar
+-- that finishes hidden, since it has no lines
 abbrev pub DropRefused : Type 0
 DropRefused =
-    let stays = λ (stage : Stage) (lines : List (List ℕ)). let m : Member Plain = record {
-      number = 0;
-      bar = record { text = codes "a"; stage = stage; at_finish = Gone };
-      stored = lines;
-      dropped = true;
-    } in m ∷ [] in
-    let dropped = (board plain 1).deed (terminal_of_size 4 10) (drop_it 0) 0 one_shown in
-    ((kind : ErrorKind) → Leads (board plain 1) (terminal_of_size 4 10) one_shown dropped (Refused (Failure kind)) (record one_shown { members = stays Gone []; lists = forgotten_lists }))
-    × Leads (board plain 1) (terminal_of_size 4 10) one_shown dropped (Refused Memory) (record one_shown { members = stays Gone (codes "a" ∷ []) })
-    × Leads (board plain 1) (terminal_of_size 4 10) one_shown dropped (Refused Memory) (record one_shown { members = stays Gone [] })
+    let machine = board plain 1 in
+    let target = terminal_of_size 4 10 in
+    ((kind : ErrorKind) → Leads machine target (one_shown Gone) (its_drop Gone) (Refused (Failure kind)) (record (one_shown Gone) { members = stays Gone []; lists = forgotten_lists }))
+    × Leads machine target (one_shown Shown) (its_drop Shown) (Refused Memory) (record (one_shown Shown) { members = stays Shown (codes "a" ∷ []) })
+    × (TakesMemory machine target (its_drop Gone) → ⊥)
 
 -- ---- bars of the product, without trackers
 

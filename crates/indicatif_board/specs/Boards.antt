@@ -167,14 +167,15 @@ once_written target writing s = record s {
   members = followers s.members;
 }
 
--- a draw, from a state whose numbers have changed and the same with its lines laid out
-abbrev pub draw_of : {B : Type 0} → Target → Bool → Ask → ℕ → Writing → BoardState B → BoardState B → Draw (BoardState B)
-draw_of target takes ask now writing s laid =
+-- a draw, from a state whose numbers have changed and the same with its lines laid out, which takes memory or not
+abbrev pub draw_of : {B : Type 0} → Target → Bool → Ask → ℕ → Writing → BoardState B → BoardState B → Bool → Draw (BoardState B)
+draw_of target takes ask now writing s laid lays =
     let asked = asked_of ask now laid.limiter in
     let ready = record laid { limiter = asked.1 } in
     record {
       text_takes = takes;
-      rows_take = rows_take writing;
+      lines_take = lays;
+      rows_take = rows_take writing (leaders ready.members) (frame_of ready.members);
       ask = ask;
       after_command = s;
       ready = ready;
@@ -217,22 +218,27 @@ module _ {B C : Type 0} (kind : BoardKind B C) where
   laid_out target now number s =
       record s { members = changed_at number (λ m. record m { stored = map chars (kind.bars.lines m.bar now target.columns) }) s.members }
 
+  -- whether that takes memory
+  abbrev pub lays_out : ℕ → BoardState B → Bool
+  lays_out number s = said_of false kind.bars.lays number s.members
+
   -- the draw of a command of a bar
   abbrev pub draw_by : Target → ℕ → C → ℕ → BoardState B → Draw (BoardState B)
   draw_by target number command now s =
       let after = told number (λ bar. (kind.bars.after command bar now).0) s in
       draw_of target (said_of false (λ bar. kind.bars.takes command bar now) number s.members) (said_of No (λ bar. (kind.bars.after command bar now).1) number s.members) now Frame after
-      (laid_out target now number after)
+      (laid_out target now number after) (lays_out number after)
 
   -- the draw of a bar whose owner is gone
   abbrev pub last_draw : Target → ℕ → ℕ → BoardState B → Draw (BoardState B)
   last_draw target number now s =
       let after = told number (kind.left now) s in
       draw_of target (said_of false (kind.left_takes now) number s.members) (said_of No (kind.left_asked now) number s.members) now Frame after (laid_out target now number after)
+      (lays_out number after)
 
   -- the draw of a text above the bars
-  abbrev pub log_of : Target → List ℕ → ℕ → BoardState B → BoardState B → Draw (BoardState B)
-  log_of target text now s laid = draw_of target false Forced now (TextAndFrame (text_lines (logged_lines text))) s laid
+  abbrev pub log_of : Target → List ℕ → ℕ → BoardState B → BoardState B → Bool → Draw (BoardState B)
+  log_of target text now s laid lays = draw_of target false Forced now (TextAndFrame (text_lines (logged_lines text))) s laid lays
 
   -- what a call at a moment is about to do on the board of a mark
   abbrev pub deed_of : ℕ → Target → Call B C → ℕ → BoardState B → Deed (BoardState B) Answer
@@ -240,10 +246,10 @@ module _ {B C : Type 0} (kind : BoardKind B C) where
   deed_of mark target (Remove id) now s = removed mark id s
   deed_of mark target (Drop id) now s =
       or_refused (turned_away mark id s) (Draws (last_draw target id.number now s) (left_on target id.number) (marked_on id.number)) s
-  deed_of mark target (Log text) now s = draws (log_of target text now s s)
-  deed_of mark target (BarLog id text) now s = or_refused (turned_away mark id s) (draws (log_of target text now s (laid_out target now id.number s))) s
-  deed_of mark target Clear now s = draws (draw_of target false Forced now NoFrame s s)
-  deed_of mark target Redraw now s = draws (draw_of target false Forced now Frame s s)
+  deed_of mark target (Log text) now s = draws (log_of target text now s s false)
+  deed_of mark target (BarLog id text) now s = or_refused (turned_away mark id s) (draws (log_of target text now s (laid_out target now id.number s) (lays_out id.number s))) s
+  deed_of mark target Clear now s = draws (draw_of target false Forced now NoFrame s s false)
+  deed_of mark target Redraw now s = draws (draw_of target false Forced now Frame s s false)
   deed_of mark target (Align bottom) now s = AtOnce false Done (record s { bottom = bottom })
   deed_of mark target (Tell id command) now s =
       or_refused (turned_away mark id s) (or_refused (said_of None (λ bar. kind.bars.refused command bar now) id.number s.members) (draws (draw_by target id.number command now s)) s) s

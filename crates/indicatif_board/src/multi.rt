@@ -1,10 +1,9 @@
 //! A board: several bars on one target, in an order.
-ghost use Rattle.std.specs.Prelude.{◌≡◌, ◌==◌, ◌⊎◌, ◌↔◌, ◌<◌, ◌≤◌, ℕ, Bool, Option, Some, None, Err, true, option_map, IsTrue, IsFalse, IfOk, IfErr, IfSome, MatchResult, MatchOption, map, OnErr, vec_len, if◌then◌else◌};
+ghost use Rattle.std.specs.Prelude.{◌≡◌, ◌==◌, ◌↔◌, ◌<◌, ◌≤◌, ℕ, Bool, Option, Some, None, Err, true, option_map, IsTrue, IsFalse, IfOk, IfErr, IfSome, MatchResult, MatchOption, map, OnErr, is_ok, vec_len, if◌then◌else◌};
 ghost use Rattle.indicatif_term.specs.Engines.{is_bottom, engine_term, Fits};
 ghost use Rattle.indicatif_term.specs.Lists.{fate, kept_of, opening_lists};
 ghost use Rattle.indicatif_term.specs.Targets.{term_of, limiter_of};
 ghost use Rattle.indicatif_bar.specs.Commands.{BarRecord, command_of};
-ghost use Rattle.indicatif_bar.specs.Kinds.{rows_take};
 ghost use Rattle.indicatif_bar.specs.Machines.{Target, Leads, is_no, target_of};
 ghost use Rattle.indicatif_bar.specs.Runs.{wrote, Runs, Headline};
 ghost use Rattle.indicatif_bar.specs.Inside.Draws.{DrewOn};
@@ -13,7 +12,7 @@ ghost use Rattle.indicatif_board.specs.Boards.{BoardState, Tell, Log, BarLog, Cl
 ghost use Rattle.indicatif_board.specs.BoardValues.{id_of};
 ghost use Rattle.indicatif_board.specs.Members.{is_member, order_of, said_of};
 ghost use Rattle.indicatif_board.specs.Slots.{slot_of, IsSeated};
-ghost use Rattle.indicatif_board.specs.Inside.Keeps.{HasPlace, laid_by};
+ghost use Rattle.indicatif_board.specs.Inside.Keeps.{HasPlace, laid_by, lays_by};
 ghost use Rattle.indicatif_board.specs.Inside.Parting.{parted, RestsOn};
 ghost use Rattle.indicatif_board.specs.Inside.Writings.{writing_by};
 
@@ -377,7 +376,8 @@ impl<K: ProgressTracker, T: TermLike + Drop> Board<K, T> {
         }
     }
 
-    /// Makes the calls one after another, each at its moment, and answers what each answered.
+    /// Makes the calls one after another, each at its moment, and answers what each answered. No calls change nothing, and are never
+    /// refused.
     ///
     /// Refused: `Memory` for the answers alone, and nothing is run.
     pub fn run(&mut self, calls: Vec<(Call<K>, Moment)>) -> Result<Vec<Answer>, Refusal>
@@ -386,10 +386,15 @@ impl<K: ProgressTracker, T: TermLike + Drop> Board<K, T> {
             IfOk result (λ answers. (next : BoardState (BarRecord K)) × IsIn mark self.new next
             × (run : Runs (board (board_bars K.means) mark) (map timed calls.items) (map answer_of answers.items) old s new next)
             × Headline (board (board_bars K.means) mark) (map timed calls.items) (map answer_of answers.items) old s new next run) }
+        ensures idle { vec_len calls ≡ 0 → IsTrue (is_ok result) × (self.new ≡ self.old) }
         ensures memory { IfErr result (λ e. e ≡ Refusal.Memory) }
         ensures unrun { OnErr result (self.new ≡ self.old) }
     {
-        let mut answers = Vec::with_capacity(self.shown.alloc, calls.len())?;
+        let alloc = self.shown.alloc;
+        if calls.is_empty() {
+            return Ok(Vec::new(alloc));
+        }
+        let mut answers = Vec::with_capacity(alloc, calls.len())?;
         for (call, now) in calls {
             let answer = self.call(call, now);
             answers.push_reserved(answer);
@@ -515,12 +520,12 @@ impl<K: ProgressTracker, T: TermLike + Drop> Board<K, T> {
         now: Moment,
     ) -> Result<Drawn, Refusal>
         requires placed { IfSome bar (λ at. at < vec_len self.old.shown.members) }
-        requires cleared { (bar ≡ None) ⊎ IsTrue (rows_take (writing_by writing)) }
         ensures silent { IsFalse (wrote result) → terminal_of self.new ≡ terminal_of self.old }
         ensures drew { (mark : ℕ) (takes : Bool) (s : BoardState (BarRecord K)) (number : Option ℕ) → IsIn mark self.old s → HasPlace number bar s.members →
             let old = known T.view self.old in
             (next : BoardState (BarRecord K)) × IsIn mark self.new next × DrewOn (board (board_bars K.means) mark) old (known T.view self.new)
-            (draw_of (target_of old) takes ask now (writing_by writing.entry) s (laid_by K.means (target_of old) now number s)) s.lists result next }
+            (draw_of (target_of old) takes ask now (writing_by writing.entry) s (laid_by K.means (target_of old) now number s)
+            (lays_by K.means number s)) s.lists result next }
     {
         if is_no(ask) {
             return Ok(Drawn::Limited);

@@ -1,17 +1,17 @@
 //! The bars of a board with the lines that they show, and how they are written.
-ghost use Rattle.std.specs.Prelude.{◌≡◌, ◌≢◌, ◌⊎◌, ◌<◌, ◌≤◌, ◌^◌, MatchResult, ℕ, Bool, Option, Some, None, true, false, IsTrue, IsFalse, map, length, vec_len, IfSome, IfOk, IfErr, OnErr};
+ghost use Rattle.std.specs.Prelude.{◌≡◌, ◌<◌, ◌≤◌, ◌^◌, MatchResult, ℕ, Bool, Option, Some, None, true, false, IsTrue, IsFalse, map, length, vec_len, IfSome, IfOk, IfErr, OnErr};
 ghost use Rattle.indicatif_term.specs.Frames.{bar_lines, line_text};
 ghost use Rattle.indicatif_term.specs.Engines.{engine_term, Fits, is_bottom};
-ghost use Rattle.indicatif_bar.specs.Bars.{lines_of_bar};
+ghost use Rattle.indicatif_bar.specs.Bars.{lines_of_bar, lines_take_memory};
 ghost use Rattle.indicatif_bar.specs.Commands.{BarRecord};
 ghost use Rattle.indicatif_bar.specs.Machines.{Target, is_no, target_of};
-ghost use Rattle.indicatif_bar.specs.Kinds.{rows_take, asked_of};
+ghost use Rattle.indicatif_bar.specs.Kinds.{asked_of};
 ghost use Rattle.indicatif_bar.specs.Runs.{wrote};
 ghost use Rattle.indicatif_bar.specs.Inside.Draws.{DrewBy};
 ghost use Rattle.indicatif_board.specs.BoardBars.{board_bars};
 ghost use Rattle.indicatif_board.specs.Boards.{BoardState, Location, opening_board, draw_of, index_of, taken_in, marked_on, board};
 ghost use Rattle.indicatif_board.specs.Members.{place_of, without, is_head, said_of};
-ghost use Rattle.indicatif_board.specs.Inside.Keeps.{PutsFrame, HasPlace, laid_by};
+ghost use Rattle.indicatif_board.specs.Inside.Keeps.{PutsFrame, HasPlace, laid_by, lays_by};
 ghost use Rattle.indicatif_board.specs.Inside.Writings.{writing_by};
 
 use crate::members::{Member, drop_front, leading, place, put_at};
@@ -142,13 +142,13 @@ impl<K: ProgressTracker> ShownBars<K> {
         now: Moment,
     ) -> Result<Drawn, Refusal>
         requires placed { IfSome bar (λ at. at < vec_len self.old.members) }
-        requires cleared { (bar ≡ None) ⊎ IsTrue (rows_take (writing_by writing)) }
         ensures silent { IsFalse (wrote result) → engine.new ≡ engine.old }
         ensures drew { (mark : ℕ) (takes : Bool) (s : BoardState (BarRecord K)) (number : Option ℕ) → is_no ask ≡ false →
             Shown self.old s → HasPlace number bar s.members → Fits engine.old s.lists →
             let target = target_of (Some (T.view (engine_term engine.old))) in
             DrewBy (board (board_bars K.means) mark) (Shown self.new) T.view engine.old engine.new
-            (draw_of target takes ask now (writing_by writing.entry) s (laid_by K.means target now number s)) s.lists result }
+            (draw_of target takes ask now (writing_by writing.entry) s (laid_by K.means target now number s) (lays_by K.means number s))
+            s.lists result }
     {
         let width = engine.term().width();
         if width == 0 {
@@ -164,7 +164,8 @@ impl<K: ProgressTracker> ShownBars<K> {
     /// Lays a bar's lines out and stores them, if one is named, in the room of those before.
     fn lay_out(&mut self, bar: Option<usize>, width: u16, now: Moment) -> Result<(), Refusal>
         requires placed { IfSome bar (λ at. at < vec_len self.old.members) }
-        ensures memory { IfErr result (λ e. (e ≡ Refusal.Memory) × (bar ≢ None)) }
+        ensures memory { IfErr result (λ e. (e ≡ Refusal.Memory) × ((s : BoardState (BarRecord K)) (number : Option ℕ) →
+            HasPlace number bar s.members → Shown self.old s → IsTrue (lays_by K.means number s))) }
         ensures unchanged { OnErr result (self.new ≡ self.old) }
         ensures laid { IfOk result (λ _. (target : Target) (s : BoardState (BarRecord K)) (number : Option ℕ) →
             target.columns ≡ width → HasPlace number bar s.members → Shown self.old s →
@@ -197,11 +198,11 @@ impl<K: ProgressTracker> ShownBars<K> {
         writing: Writing<'_>,
     ) -> Result<Drawn, Refusal>
         ensures silent { IsFalse (wrote result) → engine.new ≡ engine.old }
-        ensures drew { (mark now : ℕ) (takes : Bool) (ask : Ask) (s laid : BoardState (BarRecord K)) → is_no ask ≡ false →
+        ensures drew { (mark now : ℕ) (takes lays : Bool) (ask : Ask) (s laid : BoardState (BarRecord K)) → is_no ask ≡ false →
             0 < (T.view (engine_term engine.old)).columns → asked_of ask now laid.limiter ≡ (true, self.old.limiter) →
             Shown self.old (record laid { limiter = self.old.limiter }) → laid.lists ≡ s.lists → Fits engine.old s.lists →
             DrewBy (board (board_bars K.means) mark) (Shown self.new) T.view engine.old engine.new
-            (draw_of (target_of (Some (T.view (engine_term engine.old)))) takes ask now (writing_by writing.entry) s laid) s.lists result }
+            (draw_of (target_of (Some (T.view (engine_term engine.old)))) takes ask now (writing_by writing.entry) s laid lays) s.lists result }
     {
         let gone = leading(&self.members);
         put(engine, &self.frame, gone, self.alignment, writing)?;
@@ -221,7 +222,7 @@ fn relay<K: ProgressTracker>(
     now: Moment,
 ) -> Result<(), Refusal>
     ensures lines { IfOk result (λ _. map line_text stored.new.items ≡ lines_of_bar K.means bar.now now width) }
-    ensures memory { IfErr result (λ e. e ≡ Refusal.Memory) }
+    ensures memory { IfErr result (λ e. (e ≡ Refusal.Memory) × IsTrue (lines_take_memory bar.now)) }
     ensures unchanged { OnErr result (stored.new ≡ stored.old) }
 {
     let lines = bar.lines_in(spare, now, width)?;

@@ -1,1 +1,3 @@
+mod LogLemmas
+mod MoveLemmas
 mod PictureLemmas

@@ -13,3 +13,7 @@ AreTextsOf texts rows = (blank : ℕ) × (texts ≡ map row_text rows ++ replica
 -- a terminal that rests at an opening of its own size
 abbrev pub StartsAt : Terminal → Screen → Type 0
 StartsAt t opening = (t ≡ resting opening) × IsOpening opening.columns opening.height opening
+
+-- texts begin with those of these rows
+abbrev pub BeginAs : List (List ℕ) → List (List Cell) → Type 0
+BeginAs texts rows = (others : List (List ℕ)) × (texts ≡ map row_text rows ++ others)

@@ -4,11 +4,15 @@
 //! - `drawings`: what a terminal shows after one drawing.
 //! - `runs`: what a terminal shows after a list of calls of a bar.
 //! - `boards`: what a terminal shows after a list of calls of a board.
+//! - `logs`: that a logged line stands, whatever is drawn after it.
+//! - `loops`: what a loop makes of the bar that shows its progress.
 //! - `lent`: what is known of a bar that was lent.
 #![tactic(auto)]
 
 pub mod boards;
 pub mod drawings;
 pub mod lent;
+pub mod logs;
+pub mod loops;
 pub mod runs;
 pub mod texts;

@@ -32,7 +32,7 @@ pub record DrewOn {S C A : Type 0} (m : Machine S C A) (old new : Option TermVie
 -- an engine was asked to write so below the rows above, and answered this
 pub record EngineWrites {T : Type 0} (view : T → TermView) (writing : Writing) (frame : List BarLines) (old new : Engine T) (answer : Result Unit Refusal) : Type 0 where
   pub answers : Answers (view (engine_term old)).columns (lines_to_write writing 0 frame) answer
-  pub memory : answer ≡ Err Memory → IsTrue (rows_take writing)
+  pub memory : answer ≡ Err Memory → IsTrue (rows_take writing 0 frame)
   pub counted : Counted (view (engine_term old)) (view (engine_term new)) answer
   pub unchanged : IfErr answer (λ e. IsFalse (is_fault e) → new ≡ old)
   pub lists : (l : Lists) → Fits old l → Fits new (lists_after answer l (written_lists writing (target_of (Some (view (engine_term old)))) false 0 frame l))

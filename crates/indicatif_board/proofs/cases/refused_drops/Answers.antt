@@ -1,4 +1,5 @@
 use Rattle.std.proofs.Common.{refl, inl, inr}
+use Rattle.std.proofs.lemmas.Bool.{false≢true}
 use Rattle.std.specs.Str.{chars}
 use Rattle.unicode_width.specs.Width.{char_width}
 use Rattle.unicode_width.proofs.Computing.{unicode_width}
@@ -11,6 +12,6 @@ pub returns : goal.returns
 unfolding char_width unicode_width rows_of visible has_wide drawn logged cleared fate kept_of shown_rows lines_of fitting grouped chars drawn_by
 returns c = (
   λ kind. inr (inr (kind, refl, (refl, refl))),
-  inr (inl (refl, inr (refl, refl, inl refl))),
-  inr (inl (refl, inr (refl, refl, inr (refl, refl)))),
+  inr (inl (refl, inr (refl, inl (refl, refl)))),
+  λ takes. false≢true takes,
 )

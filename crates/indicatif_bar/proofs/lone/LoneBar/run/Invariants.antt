@@ -1,9 +1,11 @@
 use Rattle.std.proofs.Common.{◌≡◌, ◌≤◌, length, map, option_map}
+use Rattle.std.specs.Prelude.{IsFalse}
+use Rattle.std.specs.List.{list_any}
 use Rattle.std.specs.Vec.{vec_len, vec_capacity}
 use Rattle.indicatif_bar.specs.Commands.{BarRecord}
-use Rattle.indicatif_bar.specs.Runs.{Runs}
+use Rattle.indicatif_bar.specs.Runs.{Runs, wrote}
 use Rattle.indicatif_bar.specs.Lone.{LoneState}
-use Rattle.indicatif_bar.specs.LoneBars.{IsIn, lone_bar, terminal_of, timed}
+use Rattle.indicatif_bar.specs.LoneBars.{IsIn, IsNowhere, RecordsGo, lone_bar, record_of, terminal_of, timed}
 use Rattle.indicatif_bar.proofs.lone.LoneBar.run.Given as goal
 
 abbrev pub invariant-loop-call : goal.invariant-loop-call
@@ -12,4 +14,7 @@ invariant-loop-call g l = record {
   room : length l.fn.calls.items ≤ vec_capacity l.answers;
   ran : (s : LoneState (BarRecord g.row.K.Denot)) → IsIn l.fn.self s → (m : LoneState (BarRecord g.row.K.Denot)) × IsIn l.self m ×
       Runs (lone_bar g.K.ProgressTracker.means) (map timed l.yielded) l.answers.items (option_map g.T.TermLike.view (terminal_of l.fn.self)) s (option_map g.T.TermLike.view (terminal_of l.self)) m;
+  went : RecordsGo g.K.ProgressTracker.means (map timed l.yielded) l.answers.items (record_of l.fn.self) (record_of l.self);
+  silent : IsFalse (list_any wrote l.answers.items) → terminal_of l.self ≡ terminal_of l.fn.self;
+  nowhere : IsNowhere g.T.TermLike.view l.fn.self → IsFalse (list_any wrote l.answers.items);
 }

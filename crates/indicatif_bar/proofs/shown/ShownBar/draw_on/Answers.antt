@@ -1,4 +1,4 @@
-use Rattle.std.proofs.Common.{◌≡◌, ◌<◌, [], ◌∷◌, map, refl, sym, ◌∙◌, ap, arith, Ok, Err, Some, inl, inr}
+use Rattle.std.proofs.Common.{◌≡◌, ◌<◌, true, [], ◌∷◌, map, refl, sym, ◌∙◌, ap, subst, arith, Ok, Err, Some, inl, inr}
 use Rattle.std.proofs.lemmas.Result.{err_from_is_err_and}
 use Rattle.indicatif_text.specs.declared.refusal.Refusal.TheVariants.{NoColumns}
 use Rattle.indicatif_term.specs.Frames.{bar_lines}
@@ -6,7 +6,7 @@ use Rattle.indicatif_term.specs.Engines.{engine_term}
 use Rattle.indicatif_bar.specs.Bars.{bar_kind}
 use Rattle.indicatif_bar.specs.Kinds.{asked_of}
 use Rattle.indicatif_bar.specs.Machines.{target_of}
-use Rattle.indicatif_bar.specs.Lone.{draw_asked, lone}
+use Rattle.indicatif_bar.specs.Lone.{lines_take, draw_asked, lone}
 use Rattle.indicatif_bar.specs.Inside.Shown.{ShownAs, writing_as}
 use Rattle.indicatif_bar.proofs.OutcomeLemmas.{drew_withheld, drew_limited}
 use Rattle.indicatif_bar.proofs.LoneDrawLemmas.{drew_so, asked_same, holds_ready}
@@ -31,7 +31,7 @@ returns-in_err-lay_out-clause-drew g c = λ takes s asked holds fits.
     rw (x.1 ∙ ap Err x.2, c.in_err-lay_out.ensures.unchanged)
     (drew_withheld (lone (bar_kind g.K.ProgressTracker.means)) (ShownAs c.args.self.now) view engine
     (draw_asked (bar_kind g.K.ProgressTracker.means) (target_of (Some (view (engine_term engine)))) takes c.args.ask c.args.now (writing_as c.args.writing) s) s.lists
-    c.in_err-lay_out.field-0.0 asked (inr (memory.0, some)) (λ e. memory.1) fits refl (record { bar_is = holds.bar_is; lines_are = holds.lines_are; limiter_is = holds.limiter_is }))
+    c.in_err-lay_out.field-0.0 asked (inr (memory.0, some)) (λ e. subst (λ bar. lines_take (bar_kind g.K.ProgressTracker.means) (writing_as c.args.writing) bar ≡ true) holds.bar_is memory.1) fits refl (record { bar_is = holds.bar_is; lines_are = holds.lines_are; limiter_is = holds.limiter_is }))
 
 pub returns-then-not-allows-clause-drew : goal.returns-then-not-allows-clause-drew
 returns-then-not-allows-clause-drew g c = λ takes s asked holds fits.

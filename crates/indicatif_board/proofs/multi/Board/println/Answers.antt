@@ -14,5 +14,5 @@ returns-clause-leads g c = λ mark s inside.
       d.0,
       d.1,
       made_by_draw tracks mark old (known g.T.TermLike.view c.draw.new.self) (Log c.args.text.now) c.args.now s (log_of (board_bars tracks)
-          (target_of old) c.args.text.now c.args.now s s) s.lists c.draw.result d.0 refl refl d.2,
+          (target_of old) c.args.text.now c.args.now s s false) s.lists c.draw.result d.0 refl refl d.2,
     )

@@ -15,5 +15,5 @@ returns-clause-leads g c = λ mark s inside.
       d.0,
       d.1,
       made_by_draw tracks mark old (known g.T.TermLike.view c.draw.new.self) Redraw c.args.now s (draw_of
-          (target_of old) false Forced c.args.now Frame s s) s.lists c.draw.result d.0 refl refl d.2,
+          (target_of old) false Forced c.args.now Frame s s false) s.lists c.draw.result d.0 refl refl d.2,
     )

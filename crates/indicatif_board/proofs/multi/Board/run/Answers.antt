@@ -1,14 +1,25 @@
 use Rattle.std.proofs.Common.{[], ◌∷◌, map, refl, sym, ◌∙◌, subst, arith, length-append}
+use Rattle.std.specs.Prelude.{vec_len}
+use Rattle.std.proofs.lemmas.Bool.{eqb-true}
 use Rattle.std.proofs.lemmas.List.{map-append, map-id}
 use Rattle.std.proofs.lemmas.Iterator.Adapters.{YieldsList-from_vec}
 use Rattle.std.proofs.lemmas.Iterator.Consumers.{YieldsList-turn, YieldsList-end}
 use Rattle.indicatif_bar.specs.Runs.{Runs}
-use Rattle.indicatif_bar.proofs.RunLemmas.{runs-push, headline}
+use Rattle.indicatif_bar.proofs.RunLemmas.{nothing, runs-push, headline}
 use Rattle.indicatif_board.specs.BoardBars.{board_bars}
 use Rattle.indicatif_board.specs.Boards.{board}
 use Rattle.indicatif_board.specs.Calls.{timed, answer_of}
 use Rattle.indicatif_board.specs.Multi.{known}
 use Rattle.indicatif_board.proofs.multi.Board.run.Goals as goal
+
+pub returns-then-is_empty-clause-run : goal.returns-then-is_empty-clause-run
+returns-then-is_empty-clause-run g c = λ mark s inside.
+    let machine = board (board_bars g.K.ProgressTracker.means) mark in
+    let old = known g.T.TermLike.view c.args.self.now in
+    let none = nothing c.args.calls.items (omega (arith, eqb-true (vec_len c.args.calls) 0 (sym c.is_empty.ensures ∙ c.if-is_empty.true), c.args.calls.ok)) in
+    let run = subst (λ xs. Runs machine (map timed xs) (map answer_of c.new.result.items) old s old s) (sym none)
+    (subst (λ xs. Runs machine [] (map answer_of xs) old s old s) (sym c.new.ensures.items) (refl, refl)) in
+    (s, inside, run, headline machine (map timed c.args.calls.items) (map answer_of c.new.result.items) old s old s run)
 
 pub loop-call-init : goal.loop-call-init
 loop-call-init g c = record {

@@ -1,12 +1,16 @@
 use Rattle.std.proofs.Common.{◌∙◌, ◌<◌, arith, length, subst, Result, Ok, Err}
-use Rattle.std.specs.Prelude.{vec_len, IfSome, IfOk}
+use Rattle.std.specs.Prelude.{vec_len, IfSome, IfOk, IfErr}
 use Rattle.indicatif_term.specs.Engines.{is_bottom}
-use Rattle.indicatif_board.proofs.MemberLemmas.{laid_at, relaid_bars}
+use Rattle.indicatif_board.proofs.MemberLemmas.{laid_at, lays_at, relaid_bars}
 use Rattle.indicatif_board.proofs.shown_bars.ShownBars.lay_out.Goals as goal
 
 when_ok : {X E : Type 0} {P Q : Type 0} (r : Result X E) → IfOk r (λ _. P) → (P → Q) → IfOk r (λ _. Q)
 when_ok (Ok x) p f = f p
 when_ok (Err e) p f = tt
+
+when_err : {X E : Type 0} {P Q : E → Type 0} (r : Result X E) → IfErr r P → ((e : E) → P e → Q e) → IfErr r Q
+when_err (Ok x) p f = tt
+when_err (Err e) p f = f e p
 
 pub invariant_of-self-clause-seated : goal.invariant_of-self-clause-seated
 invariant_of-self-clause-seated g c =
@@ -23,3 +27,14 @@ returns-in-Some-clause-laid g c =
     laid_at tracks b.frame.items b.members.items b.table.made
     (is_bottom b.alignment) b.limiter s target c.args.now c.args.width c.in-Some.at c.index.result.now c.index_mut.result.now c.relay.new.stored
     columns holds c.index.ensures c.index_mut.ensures.value lines number c.args.bar c.in-Some.is placed)
+
+pub returns-in-Some-clause-memory : goal.returns-in-Some-clause-memory
+returns-in-Some-clause-memory g c =
+    let b = c.args.self.now in
+    let placed : c.in-Some.at < vec_len b.members = subst (λ o. IfSome o (λ at. at < vec_len b.members)) c.in-Some.is c.requires.placed in
+    let within : c.in-Some.at < length b.members.items = omega (arith, placed, b.members.ok) in
+    when_err c.relay.result c.relay.ensures.memory (λ e short. (
+      short.0,
+      λ s number named holds.
+          lays_at g.K.ProgressTracker.means b.members.items s number c.args.bar c.in-Some.at c.index.result.now holds.members_are c.in-Some.is named within c.index.ensures short.1,
+    ))

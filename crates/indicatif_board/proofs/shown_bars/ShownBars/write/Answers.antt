@@ -22,7 +22,7 @@ put-requires g c =
     omega (arith, prefix_len-le-length (λ m. m.dropped) c.deref.result.now, c.leading-gone.ensures, c.deref.ensures.len, c.deref-2.ensures.len, c.args.self.now.even)
 
 pub returns-in_err-put-clause-drew : goal.returns-in_err-put-clause-drew
-returns-in_err-put-clause-drew g c = λ mark now takes ask s laid asked some allows holds lists_stay fits.
+returns-in_err-put-clause-drew g c = λ mark now takes lays ask s laid asked some allows holds lists_stay fits.
     let tracks = g.K.ProgressTracker.means in
     let b = c.args.self.now in
     let view = g.T.TermLike.view in
@@ -33,7 +33,7 @@ returns-in_err-put-clause-drew g c = λ mark now takes ask s laid asked some all
     let puts = subst (λ f. PutsFrame view writing bottom gone (map bar_lines f) c.args.engine.now c.put.new.engine (Err c.in_err-put.field-0.0)) c.deref-2.ensures.value c.in_err-put.ensures in
     let ready = kept_ready b.frame.items b.members.items b.table.made bottom b.limiter ask now laid allows holds in
     let x = err_from_is_err_and c.from_residual.result c.from_residual.ensures.1 in
-    rw (x.1 ∙ ap Err x.2) (frame_drew tracks view mark takes ask now writing s laid c.args.engine.now b.frame.items b.members.items b.table.made bottom b.limiter
+    rw (x.1 ∙ ap Err x.2) (frame_drew tracks view mark takes ask now writing s laid lays c.args.engine.now b.frame.items b.members.items b.table.made bottom b.limiter
     (Holds b.frame.items b.members.items b.table.made bottom b.limiter) c.put.new.engine (Err c.in_err-put.field-0.0) gone gone_is asked some (ap (λ a. a.0) allows) lists_stay fits ready puts
     (ready, record { members_are = ready.members_are; frame_is = ready.frame_is; made_is = ready.made_is; bottom_is = ready.bottom_is; limiter_is = ready.limiter_is }))
 
@@ -51,7 +51,7 @@ invariant_of-self-clause-seated g c =
     ap (map (λ (x : Segment). x.bar)) c.drop_front.ensures ∙ dropped_bars b.frame.items b.table.order c.leading-gone.result b.seated ∙ sym (ap (λ (t : SlotTable). t.order) c.remove_first.ensures)
 
 pub returns-clause-drew : goal.returns-clause-drew
-returns-clause-drew g c = λ mark now takes ask s laid asked some allows holds lists_stay fits.
+returns-clause-drew g c = λ mark now takes lays ask s laid asked some allows holds lists_stay fits.
     let tracks = g.K.ProgressTracker.means in
     let b = c.args.self.now in
     let view = g.T.TermLike.view in
@@ -63,9 +63,9 @@ returns-clause-drew g c = λ mark now takes ask s laid asked some allows holds l
     let ready = kept_ready b.frame.items b.members.items b.table.made bottom b.limiter ask now laid allows holds in
     let made = sym (ap (λ (t : SlotTable). t.made) c.remove_first.ensures) in
     subst (λ n. DrewBy (board (board_bars tracks) mark) (Holds c.drop_front.new.items.items c.drop_front-2.new.items.items n bottom b.limiter) view c.args.engine.now c.put.new.engine
-    (draw_of (target_of (Some (view (engine_term c.args.engine.now)))) takes ask now writing s laid) s.lists (Ok Yes)) made
-    (frame_drew tracks view mark takes ask now writing s laid c.args.engine.now b.frame.items b.members.items b.table.made bottom b.limiter
+    (draw_of (target_of (Some (view (engine_term c.args.engine.now)))) takes ask now writing s laid lays) s.lists (Ok Yes)) made
+    (frame_drew tracks view mark takes ask now writing s laid lays c.args.engine.now b.frame.items b.members.items b.table.made bottom b.limiter
     (Holds c.drop_front.new.items.items c.drop_front-2.new.items.items b.table.made bottom b.limiter) c.put.new.engine (Ok tt) gone gone_is asked some (ap
     (λ a. a.0) allows) lists_stay fits ready puts
-    (written_holds tracks view mark takes ask now writing s laid c.args.engine.now b.frame.items b.members.items
+    (written_holds tracks view mark takes ask now writing s laid lays c.args.engine.now b.frame.items b.members.items
     b.table.made bottom b.limiter gone c.drop_front.new.items.items c.drop_front-2.new.items.items c.drop_front.ensures c.drop_front-2.ensures gone_is ready))

@@ -1,0 +1,20 @@
+//! What a loop makes of the bar that shows its progress.
+ghost use Rattle.std.specs.Prelude.{◌≡◌, ◌<◌, ◌^◌, Some, IfSome, IsTrue};
+ghost use Rattle.indicatif.specs.Moves.{Advance, after_bar_move};
+
+use indicatif::{Moves, ProgressBarIter};
+use std::vec::IntoIter;
+
+/// Passes over so many items of a list, and answers whether there were as many: then a bar that tells where it stands has gone on
+/// by their number.
+pub fn skip<T: Drop, P: Moves>(list: &mut ProgressBarIter<IntoIter<T>, P>, count: u64) -> bool
+    ensures { IsTrue result → IfSome (P.told list.old.progress) (λ bar. bar.position < 2 ^ 64 →
+        P.told list.new.progress ≡ Some (after_bar_move bar (Advance count))) }
+{
+    for _ in 0..count {
+        if list.next().is_none() {
+            return false;
+        }
+    }
+    true
+}
