@@ -1,6 +1,6 @@
 -- A bar takes as many columns as its cells, and its text is its filled clusters, at most a shade, and its unfilled ones.
 use Rattle.std.proofs.Common.{◌≡◌, ℕ, zero, suc, ◌+◌, ◌-◌, ◌*◌, ◌/◌, ◌%◌, ◌<◌, ◌≤◌, Bool, true, false, List, [], ◌∷◌, ◌++◌, append-nil, length, refl, sym, ◌∙◌, ap, subst, arith, if◌then◌else◌, Option, Some, None, map}
-use Rattle.std.specs.Prelude.{not, ◌==◌, ◌&&◌, nat_lt, option_to_list, IfSome}
+use Rattle.std.specs.Prelude.{All, not, ◌==◌, ◌&&◌, nat_lt, option_to_list, IfSome}
 use Rattle.std.specs.List.{list_all, concat}
 use Rattle.std.proofs.lemmas.Bool.{eqb-true}
 use Rattle.std.proofs.lemmas.Bool.Decides.{nat_tests}
@@ -11,10 +11,11 @@ use Rattle.indicatif_text.specs.StyleWords.{styled}
 use Rattle.indicatif_bar.specs.declared.measures.Fraction.{Fraction}
 use Rattle.indicatif_bar.specs.Measures.{fraction_of}
 use Rattle.indicatif_bar.specs.Layout.{text_columns, cluster, times, bar_text}
-use Rattle.indicatif_bar.specs.Builders.{progress_fault}
+use Rattle.indicatif_bar.specs.Builders.{clusters_of, progress_fault}
 use Rattle.indicatif_bar.specs.Inside.Cells.{shade_of, begun_text, rest_text, cells_left}
-use Rattle.indicatif_bar.specs.StyleLaws.{IsPlainText, ArePlainClusters, cells_in, filled_cells, BarsTakeTheirCells, BarsFill, BarsFit, ShowsFilled, FilledAreShown, NeverShowsFewer}
+use Rattle.indicatif_bar.specs.StyleLaws.{IsPlainText, AreTaken, TakenArePlain, cells_in, filled_cells, BarsTakeTheirCells, BarsFill, BarsFit, ShowsFilled, FilledAreShown, NeverShowsFewer}
 use Rattle.indicatif_bar.proofs.LayoutLemmas.{bar_parts}
+use Rattle.indicatif_bar.proofs.ClusterLemmas.{clusters_are_plain}
 use Rattle.indicatif_bar.proofs.BarLawLemmas.{never_fewer, cells_fit}
 use Rattle.indicatif_bar.proofs.TextWidthLemmas.{Takes, takes_none, takes_as, takes_both, takes_times, takes_styled}
 
@@ -52,6 +53,17 @@ same_at : (width : ℕ) (clusters : List (List ℕ)) (k : ℕ) → k < length cl
 same_at width [] k h e = absurd (omega (arith, h))
 same_at width (c ∷ cs) zero h e = eqb-true (text_columns c) width (both_true (text_columns c == width) (list_all (λ c. text_columns c == width) cs) e).0
 same_at width (c ∷ cs) (suc k) h e = same_at width cs k (omega (arith, h)) (both_true (text_columns c == width) (list_all (λ c. text_columns c == width) cs) e).1
+
+-- clusters that a style takes, each a plain text
+abbrev ArePlainClusters : List (List ℕ) → Type 0
+ArePlainClusters clusters = (progress_fault clusters ≡ None) × All IsPlainText clusters
+
+pub taken_are_plain : TakenArePlain
+taken_are_plain clusters x =
+    let width = text_columns (cluster clusters 0) in
+    let is = lawful clusters x.taken in
+    let all : list_all (λ c. text_columns c == width) (clusters_of x.text) ≡ true = ap (list_all (λ c. text_columns c == width)) (sym x.same) ∙ is.same in
+    subst (All IsPlainText) (sym x.same) (clusters_are_plain width x.text x.utf8 all is.some)
 
 takes_cluster : (clusters : List (List ℕ)) (k : ℕ) → k < length clusters → ArePlainClusters clusters → Takes (text_columns (cluster clusters 0)) (cluster clusters k)
 takes_cluster clusters k h are =
@@ -109,9 +121,10 @@ takes_shade clusters (Some k) are between =
 distributes : (a b c u n : ℕ) → a + b + c ≡ n → a * u + b * u + c * u ≡ n * u
 distributes a b c u n e = ap (λ k. k + c * u) (sym (add-mul a b u)) ∙ sym (add-mul (a + b) c u) ∙ ap (λ k. k * u) e
 
-pub takes_bar : (clusters : List (List ℕ)) (colours : Bool) (alternative : List ℕ) (position : ℕ) (len : Option ℕ) (width : ℕ) → ArePlainClusters clusters
+pub takes_bar : (clusters : List (List ℕ)) (colours : Bool) (alternative : List ℕ) (position : ℕ) (len : Option ℕ) (width : ℕ) → AreTaken clusters
     → Takes (cells_in clusters width * text_columns (cluster clusters 0)) (bar_text clusters colours alternative (fraction_of position len) width)
-takes_bar clusters colours alternative position len width are =
+takes_bar clusters colours alternative position len width x =
+    let are : ArePlainClusters clusters = (x.taken, taken_are_plain clusters x) in
     let f = fraction_of position len in
     let n = cells_in clusters width in
     let u = text_columns (cluster clusters 0) in

@@ -18,6 +18,7 @@ pub mod LoneRunLemmas
 pub mod CommandAnswerLemmas
 pub mod BoundLemmas
 pub mod TextWidthLemmas
+pub mod ClusterLemmas
 pub mod BarWidthLemmas
 pub mod WideBarLemmas
 pub mod PlainLineLemmas

@@ -11,7 +11,7 @@ use Rattle.indicatif_bar.specs.Layout.{text_columns, cluster}
 use Rattle.indicatif_bar.specs.Keys.{named}
 use Rattle.indicatif_bar.specs.BarStyles.{Style, WideBarOf, wide_part, part_text, is_line_break, lines}
 use Rattle.indicatif_bar.specs.Commands.{BarRecord, SetTabWidth, obeyed}
-use Rattle.indicatif_bar.specs.StyleLaws.{IsPlainText, ArePlainClusters}
+use Rattle.indicatif_bar.specs.StyleLaws.{IsPlainText, AreTaken}
 
 -- ---- a line with a wide bar
 
@@ -31,7 +31,7 @@ module _ {K : Type 0} (m : Tracking K) (style : Style K) (p : Progress) (now : �
     pub alone : filter_map (wide_part m style p now) style.parts ≡ WideBarOf layout ∷ []
     pub plain_front : IsPlainText (parts_text front)
     pub plain_back : IsPlainText (parts_text back)
-    pub clusters : ArePlainClusters style.clusters
+    pub clusters : AreTaken style.clusters
     pub narrow : text_columns (cluster style.clusters 0) ≡ 1
     pub room : text_columns (parts_text style.parts) ≤ columns
 
@@ -53,10 +53,10 @@ module _ {K : Type 0} (m : Tracking K) (style : Style K) (p : Progress) (now : �
   abbrev pub IsPlainPart : TemplatePart → Type 0
   IsPlainPart part = wide_part m style p now part ≡ None → IsPlainText (part_text m style p now part)
 
-  -- so do all parts, the clusters and the message
+  -- so do all parts and the message, and the clusters are such as a style takes
   pub record HasPlainParts : Type 0 where
     pub parts : All IsPlainPart style.parts
-    pub clusters : ArePlainClusters style.clusters
+    pub clusters : AreTaken style.clusters
     pub message : IsPlainText (shown_message p)
 
 -- then the lines do, whatever the wide keys are and however wide the terminal is
@@ -70,11 +70,11 @@ IsPlainLiteral style (LiteralText text) = IsPlainText (expanded style.tab (encod
 IsPlainLiteral style LineBreak = Unit {0}
 IsPlainLiteral style (KeyText key layout) = Unit {0}
 
--- all that a style and a bar have of texts does: literals, spinner, clusters, trackers, message and prefix
+-- all that a style and a bar have of texts does: literals, spinner, trackers, message and prefix; and the clusters are such as a style takes
 pub record HasPlainTexts {K : Type 0} (m : Tracking K) (style : Style K) (p : Progress) (now : ℕ) : Type 0 where
   pub literals : All (IsPlainLiteral style) style.parts
   pub ticks : All IsPlainText style.tick_strings
-  pub clusters : ArePlainClusters style.clusters
+  pub clusters : AreTaken style.clusters
   pub trackers : All (λ entry. IsPlainText (expanded style.tab (m.text entry.1 p now))) style.keys
   pub message : IsPlainText (shown_message p)
   pub prefix : IsPlainText (shown_prefix p)

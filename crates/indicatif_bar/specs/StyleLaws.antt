@@ -8,7 +8,7 @@ use Rattle.indicatif_text.specs.declared.template.Alignment.{Alignment}
 use Rattle.indicatif_bar.specs.Measures.{fraction_of}
 use Rattle.indicatif_bar.specs.declared.measures.Fraction.{Fraction}
 use Rattle.indicatif_bar.specs.Layout.{text_columns, padded, cluster, times, bar_text}
-use Rattle.indicatif_bar.specs.Builders.{progress_fault}
+use Rattle.indicatif_bar.specs.Builders.{clusters_of, progress_fault, first_clusters}
 
 -- ---- texts at a width
 
@@ -30,9 +30,20 @@ NeverWider = (text : List ℕ) (width : ℕ) (align : Alignment) → IsUtf8 text
 abbrev pub IsPlainText : List ℕ → Type 0
 IsPlainText text = IsUtf8 text × IsTrue (is_plain (chars text))
 
--- clusters that a style takes, each such a text
-abbrev pub ArePlainClusters : List (List ℕ) → Type 0
-ArePlainClusters clusters = (progress_fault clusters ≡ None) × All IsPlainText clusters
+-- the clusters of a text that a style takes
+pub record AreTaken (clusters : List (List ℕ)) : Type 0 where
+  pub text : List ℕ
+  pub utf8 : IsUtf8 text
+  pub same : clusters ≡ clusters_of text
+  pub taken : progress_fault clusters ≡ None
+
+-- they consist of characters with a width: a control character is a cluster of no columns
+abbrev pub TakenArePlain : Type 0
+TakenArePlain = (clusters : List (List ℕ)) → AreTaken clusters → All IsPlainText clusters
+
+-- those that a style has at first are such clusters
+abbrev pub FirstAreTaken : Type 0
+FirstAreTaken = AreTaken first_clusters
 
 -- how many cells a bar of `width` columns has
 abbrev pub cells_in : List (List ℕ) → ℕ → ℕ
@@ -66,17 +77,17 @@ CellsFit = (clusters : List (List ℕ)) (width : ℕ) → cells_in clusters widt
 
 -- a bar takes as many columns as its cells
 abbrev pub BarsTakeTheirCells : Type 0
-BarsTakeTheirCells = (clusters : List (List ℕ)) (colours : Bool) (alternative : List ℕ) (position : ℕ) (len : Option ℕ) (width : ℕ) → ArePlainClusters clusters
+BarsTakeTheirCells = (clusters : List (List ℕ)) (colours : Bool) (alternative : List ℕ) (position : ℕ) (len : Option ℕ) (width : ℕ) → AreTaken clusters
     → text_columns (bar_text clusters colours alternative (fraction_of position len) width) ≡ cells_in clusters width * text_columns (cluster clusters 0)
 
 -- a bar takes exactly its width where its clusters' columns divide it
 abbrev pub BarsFill : Type 0
-BarsFill = (clusters : List (List ℕ)) (colours : Bool) (alternative : List ℕ) (position : ℕ) (len : Option ℕ) (width : ℕ) → ArePlainClusters clusters
+BarsFill = (clusters : List (List ℕ)) (colours : Bool) (alternative : List ℕ) (position : ℕ) (len : Option ℕ) (width : ℕ) → AreTaken clusters
     → width % text_columns (cluster clusters 0) ≡ 0 → text_columns (bar_text clusters colours alternative (fraction_of position len) width) ≡ width
 
 -- a bar never takes more columns than its width
 abbrev pub BarsFit : Type 0
-BarsFit = (clusters : List (List ℕ)) (colours : Bool) (alternative : List ℕ) (position : ℕ) (len : Option ℕ) (width : ℕ) → ArePlainClusters clusters
+BarsFit = (clusters : List (List ℕ)) (colours : Bool) (alternative : List ℕ) (position : ℕ) (len : Option ℕ) (width : ℕ) → AreTaken clusters
     → text_columns (bar_text clusters colours alternative (fraction_of position len) width) ≤ width
 
 -- a bar's text with `filled` filled clusters: these, at most one of the clusters between the first and the last, and unfilled ones, as many as cells in all

@@ -15,7 +15,8 @@ pub struct Change {
     pub len: Option<u64>,
 }
 
-/// A command of a bar as a value. Each is the call of `BarState` with its name.
+/// A command of a bar as a value. Each is the call of `BarState` with its name; `with_style` and `with_elapsed` are `SetStyle`
+/// and `SetElapsed`.
 ///
 /// ```
 /// let ask = bar.apply(BarCommand::Inc(2), now)?; // as `bar.inc(2, now)`

@@ -3,7 +3,7 @@
 ghost use Rattle.indicatif_bar.specs.Tabs.{TabsAreGone, OthersStay};
 ghost use Rattle.indicatif_bar.specs.ProgressLaws.{FractionsAreProper, WholeAtTheEnd, RatesHaveTime, TimesFit, TimesAreQuotients, StepsAreQuotients, TabsAgree, FinishedDrawsAreForced};
 ghost use Rattle.indicatif_bar.specs.LineLaws.{WideBarsFill, PlainPartsGivePlainLines, PlainTextsGivePlainLines, PlainLinesAreAsked, NewTabWidths, LastTabWidthCounts};
-ghost use Rattle.indicatif_bar.specs.StyleLaws.{PaddedFills, NeverNarrower, NeverWider, FullAtItsLength, EmptyAtItsStart, NeverFewerCells, NeverMoreCells, CellsFit, FilledAreShown, NeverShowsFewer, BarsTakeTheirCells, BarsFill, BarsFit};
+ghost use Rattle.indicatif_bar.specs.StyleLaws.{PaddedFills, NeverNarrower, NeverWider, FullAtItsLength, EmptyAtItsStart, NeverFewerCells, NeverMoreCells, CellsFit, FilledAreShown, NeverShowsFewer, BarsTakeTheirCells, BarsFill, BarsFit, TakenArePlain, FirstAreTaken};
 ghost use Rattle.std.specs.Prelude.{ℕ, List, ◌≡◌, Option, None, Result, IsTrue, IsFalse};
 ghost use Rattle.indicatif_text.specs.declared.refusal.Refusal.{Refusal};
 ghost use Rattle.indicatif_text.specs.declared.refusal.Drawn.{Drawn};
@@ -94,8 +94,8 @@ pub fn commands<K>()
 {}
 
 /// A line with one wide bar, of clusters of one column, fills its row exactly where its other parts have a width and room: it
-/// never wraps. Where literals, spinner, clusters, trackers, message and prefix consist of characters with a width and colour
-/// sequences, so do the lines.
+/// never wraps. Where literals, spinner, trackers, message and prefix consist of characters with a width and colour sequences,
+/// so do the lines.
 pub fn lines<K>()
     ensures fill { WideBarsFill K }
     ensures plain_parts { PlainPartsGivePlainLines K }
@@ -118,7 +118,8 @@ pub fn padded_texts()
 
 /// A bar is full at its length and empty at its start, and its cells take no more columns than it has. Its text shows the filled
 /// clusters, never fewer at a later position; of clusters that a style takes, it has never more columns than its width, and
-/// exactly these where the clusters' columns divide them.
+/// exactly these where the clusters' columns divide them. Clusters that a style takes consist of characters with a width, and
+/// those that it has at first are such.
 pub fn bars()
     ensures full { FullAtItsLength }
     ensures empty { EmptyAtItsStart }
@@ -130,4 +131,6 @@ pub fn bars()
     ensures cells { BarsTakeTheirCells }
     ensures fills { BarsFill }
     ensures within { BarsFit }
+    ensures plain { TakenArePlain }
+    ensures first { FirstAreTaken }
 {}

@@ -1,5 +1,6 @@
 use Rattle.indicatif_bar.proofs.BarLawLemmas.{full_at_its_length, empty_at_its_start, never_fewer, never_more, cells_fit}
-use Rattle.indicatif_bar.proofs.BarWidthLemmas.{filled_are_shown, never_shows_fewer, bars_take_their_cells, bars_fill, bars_fit}
+use Rattle.indicatif_bar.proofs.BarWidthLemmas.{filled_are_shown, never_shows_fewer, bars_take_their_cells, bars_fill, bars_fit, taken_are_plain}
+use Rattle.indicatif_bar.proofs.ClusterLemmas.{first_are_taken}
 use Rattle.indicatif_bar.proofs.laws.bars.Goals as goal
 
 pub returns : goal.returns
@@ -14,4 +15,6 @@ returns c = record {
   cells = bars_take_their_cells;
   fills = bars_fill;
   within = bars_fit;
+  plain = taken_are_plain;
+  first = first_are_taken;
 }
