@@ -91,6 +91,7 @@ SOURCES = {
         "Progress": (CRATE, {}),
         "Runs": (OWN, {}),
         "Says": (OWN, {}),
+        "Shown": (OWN, {}),
         "Tabs": (CRATE, {}),
         "Trackers": (OWN, {}),
     },
@@ -104,6 +105,7 @@ SOURCES = {
         "Slots": (CRATE + ", and this project's own rule where its documents are silent", {}),
         "Multi": (OWN, {}),
         "Recorded": (OWN, {}),
+        "ShownBars": (OWN, {}),
     },
     "indicatif": {
         "Fronts": (OWN, {}),

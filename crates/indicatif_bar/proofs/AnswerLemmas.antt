@@ -12,7 +12,7 @@ use Rattle.indicatif_term.specs.Lists.{Lists}
 use Rattle.indicatif_term.specs.Frames.{some_wide}
 use Rattle.indicatif_term.specs.Engines.{is_failure}
 use Rattle.indicatif_bar.specs.Machines.{Target, target_of, Machine, Draw, Deed, AtOnce, Draws, Leads, is_no, comes_to_lines, drawn_by}
-use Rattle.indicatif_bar.specs.Inside.Draws.{WritesLinesOn}
+use Rattle.indicatif_bar.specs.Shown.{WritesLinesOn}
 use Rattle.indicatif_bar.specs.Runs.{wrote, deed_on, lines_by}
 use Rattle.indicatif_bar.specs.Says.{Decided, DecidedBy, TakesMemory, EachSays}
 

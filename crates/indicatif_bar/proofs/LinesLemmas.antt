@@ -17,8 +17,8 @@ use Rattle.std.specs.declared.alloc.Global.{Global}
 use Rattle.indicatif_bar.specs.Trackers.{Tracking, entries, changed_trackers}
 use Rattle.indicatif_bar.specs.Keys.{named, key_named}
 use Rattle.indicatif_bar.specs.declared.style.keys.Key.{Key}
-use Rattle.indicatif_bar.specs.BarStyles.{Style, Wide, wide_of, key_text, named_text, in_layout, part_text, wide_part, latest_wide, lines_with, lines_of_groups, lines, is_line_break}
-use Rattle.indicatif_bar.specs.Inside.Steps.{Effect, Holds, source_at, source_of, names_of, effect_of_part, wide_source, wide_after, source_text, effect_text, lines_from}
+use Rattle.indicatif_bar.specs.BarStyles.{BarStyle, Wide, wide_of, key_text, named_text, in_layout, part_text, wide_part, latest_wide, lines_with, lines_of_groups, lines, is_line_break}
+use Rattle.indicatif_bar.specs.Inside.Steps.{Effect, PutsSource, source_at, source_of, names_of, effect_of_part, wide_source, wide_after, source_text, effect_text, lines_from}
 use Rattle.indicatif_bar.specs.declared.style.steps.Source.TheVariants.{Known, Nothing}
 
 -- ---- names
@@ -53,7 +53,7 @@ module _ {K : Type 0} where
       found_by (bytes_eq name e.0) e es (position_or_len (bytes_eq name) (names es)) (named name es) (found name es)
       ∙ ap (λ k. option_map (λ x. x.1) (slice_get (e ∷ es) k)) (not_not (bytes_eq name e.0) (position_or_len (bytes_eq name) (names es)))
 
-module _ {K : Type 0} (m : Tracking K) (style : Style K) (p : Progress) (now : ℕ) where
+module _ {K : Type 0} (m : Tracking K) (style : BarStyle K) (p : Progress) (now : ℕ) where
   known_text : (layout : Layout) (o : Option Key) → option_map_or (key_text m style p now layout) o [] ≡ source_text m style p now layout (option_map_or Known o Nothing)
   known_text layout None = refl
   known_text layout (Some key) = refl
@@ -159,8 +159,8 @@ module _ {K : Type 0} (m : Tracking K) (style : Style K) (p : Progress) (now : �
       let source = source_of (names style.keys) (encode_utf8_all key) in
       onto columns wide text (KeyText key layout) (slice_split is_line_break parts) (some_groups parts)
       ∙ ap (λ w. groups_from columns (wide_behind wide w) (text ++ part_text m style p now (KeyText key layout)) (slice_split is_line_break parts)) (wide_of_name layout key)
-      ∙ ap (λ t. groups_from columns (wide_after wide (Holds source layout)) (text ++ in_layout m style p now layout t) (slice_split is_line_break parts)) (text_of_name layout (encode_utf8_all key))
-      ∙ stepwise columns parts (wide_after wide (Holds source layout)) (text ++ effect_text m style p now (Holds source layout))
+      ∙ ap (λ t. groups_from columns (wide_after wide (PutsSource source layout)) (text ++ in_layout m style p now layout t) (slice_split is_line_break parts)) (text_of_name layout (encode_utf8_all key))
+      ∙ stepwise columns parts (wide_after wide (PutsSource source layout)) (text ++ effect_text m style p now (PutsSource source layout))
 
   -- the lines of a style are those of its steps
   pub lines_by_steps : (columns : ℕ) → lines m style p now columns ≡ lines_from m style p now columns None [] (deeds style.parts)
@@ -182,13 +182,13 @@ pub keys_stay : {K : Type 0} (change : K → K) (old new : List (String Global �
 keys_stay change old new e = sym (names_are old) ∙ sym (names_stay change (entries old)) ∙ ap names (sym e) ∙ names_are new
 
 -- what a style's parts do, as its fields say it
-pub deeds_are : {K : Type 0} (items : List (String Global × K)) (view style : Style K) (ds : List Effect) → view.keys ≡ entries items →
+pub deeds_are : {K : Type 0} (items : List (String Global × K)) (view style : BarStyle K) (ds : List Effect) → view.keys ≡ entries items →
     ds ≡ map (effect_of_part (names_of items) view.tab) view.parts → view ≡ style
     → ds ≡ map (effect_of_part (names style.keys) style.tab) style.parts
 deeds_are items view style ds keys is same =
     is ∙ ap (λ ns. map (effect_of_part ns view.tab) view.parts) (sym (names_are items) ∙ ap names (sym keys)) ∙ ap (λ s. map (effect_of_part (names s.keys) s.tab) s.parts) same
 
 -- behind the last step only the line at hand is left
-pub ended : {K : Type 0} (m : Tracking K) (style : Style K) (p : Progress) (now columns : ℕ) (wide : Option Wide) (text : List ℕ) (ds : List Effect) (b : Bool) → ds ≡ [] → (length text == 0) ≡ b
+pub ended : {K : Type 0} (m : Tracking K) (style : BarStyle K) (p : Progress) (now columns : ℕ) (wide : Option Wide) (text : List ℕ) (ds : List Effect) (b : Bool) → ds ≡ [] → (length text == 0) ≡ b
     → lines_from m style p now columns wide text ds ≡ (if b then [] else lines_with style p columns wide text)
 ended m style p now columns wide text ds b e f = ap (lines_from m style p now columns wide text) e ∙ ap (λ x. if x then [] else lines_with style p columns wide text) f

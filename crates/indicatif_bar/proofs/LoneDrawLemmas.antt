@@ -19,9 +19,10 @@ use Rattle.indicatif_bar.specs.Machines.{target_of, Draw, is_no, Leads}
 use Rattle.indicatif_bar.specs.Runs.{CallMade, wrote, lines_by, deed_on}
 use Rattle.indicatif_bar.specs.Lone.{LoneState, Call, Change, Log, Clear, stored_lines, frame_of, draw_asked, draw_by, refused_at_once, deed_unless, takes_text, lone}
 use Rattle.indicatif_bar.specs.LoneBars.{IsIn, IsNowhere, lone_bar, LeadsBy, Obeys, ObeysOrNot, RefusesCommand, known, record_of, terminal_of}
-use Rattle.indicatif_bar.specs.Inside.Draws.{DrewBy, DrewOn, EngineWrites, WritesLinesOn}
+use Rattle.indicatif_bar.specs.Shown.{DrewBy, DrewOn, WritesLinesOn}
+use Rattle.indicatif_bar.specs.Inside.Writings.{EngineWrites}
 use Rattle.indicatif_bar.specs.Inside.Obeying.{IsTold, IsToldOrNot}
-use Rattle.indicatif_bar.specs.Inside.Shown.{ShownAs}
+use Rattle.indicatif_bar.specs.Shown.{ShownAs}
 use Rattle.indicatif_bar.specs.declared.shown.ShownBar.{ShownBar}
 use Rattle.indicatif_bar.specs.declared.state.Ask.{Ask}
 use Rattle.indicatif_bar.specs.declared.state.Ask.TheVariants.{Forced}

@@ -14,7 +14,7 @@ use Rattle.indicatif_term.specs.declared.draw_target.Engine.{Engine}
 use Rattle.indicatif_term.proofs.EngineLemmas.{paints_nothing}
 use Rattle.indicatif_bar.specs.Machines.{Target, target_of, Machine, Draw, Draws, is_no, comes_to_lines, drawn_by, Leads}
 use Rattle.indicatif_bar.specs.Runs.{wrote, WritesLines}
-use Rattle.indicatif_bar.specs.Inside.Draws.{DrewBy, DrewOn, WritesLinesOn}
+use Rattle.indicatif_bar.specs.Shown.{DrewBy, DrewOn, WritesLinesOn}
 
 -- ---- the outcome, case by case
 

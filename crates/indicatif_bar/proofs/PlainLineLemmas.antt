@@ -12,7 +12,7 @@ use Rattle.indicatif_text.specs.Template.{Layout, TemplatePart, LiteralText, Lin
 use Rattle.indicatif_bar.specs.Progress.{Progress, shown_message}
 use Rattle.indicatif_bar.specs.Trackers.{Tracking}
 use Rattle.indicatif_bar.specs.Layout.{padded, cluster, text_columns}
-use Rattle.indicatif_bar.specs.BarStyles.{Style, Wide, WideBarOf, WideMessageOf, is_wide_mark, is_newline, is_line_break, wide_mark, ends_in_mark, columns_left, with_marks_as, wide_text, filled, lines_with, in_layout, part_text, wide_part, latest_wide, lines_of_groups, lines}
+use Rattle.indicatif_bar.specs.BarStyles.{BarStyle, Wide, WideBarOf, WideMessageOf, is_wide_mark, is_newline, is_line_break, wide_mark, ends_in_mark, columns_left, with_marks_as, wide_text, filled, lines_with, in_layout, part_text, wide_part, latest_wide, lines_of_groups, lines}
 use Rattle.indicatif_bar.specs.StyleLaws.{IsPlainText, cells_in}
 use Rattle.indicatif_bar.specs.LineLaws.{IsPlainPart, HasPlainParts, PlainPartsGivePlainLines}
 use Rattle.indicatif_bar.specs.Inside.Steps.{wide_source, source_text, source_of}
@@ -77,7 +77,7 @@ split_all P ends (x ∷ xs) all =
     cond_both (ends x) ([] ∷ slice_split ends xs) (onto_first x (slice_split ends xs)) (λ gs. AllByRecursion (λ g. AllByRecursion P g) gs)
     (λ _. (tt, rest)) (λ _. onto_all P x (slice_split ends xs) all.0 rest)
 
-module _ {K : Type 0} (m : Tracking K) (style : Style K) (p : Progress) (now : ℕ) where
+module _ {K : Type 0} (m : Tracking K) (style : BarStyle K) (p : Progress) (now : ℕ) where
   -- ---- parts
 
   -- a wide key leaves a mark

@@ -21,7 +21,7 @@ use Rattle.indicatif_bar.specs.Tabs.{expanded}
 use Rattle.indicatif_bar.specs.Trackers.{Tracking}
 use Rattle.indicatif_bar.specs.Layout.{padded, cluster, text_columns}
 use Rattle.indicatif_bar.specs.Keys.{named, key_named, count_text, time_text, percent_text, rate_text, whole_rate_text}
-use Rattle.indicatif_bar.specs.BarStyles.{Style, Wide, wide_of, tick_string, final_tick_string, key_text, named_text, in_layout}
+use Rattle.indicatif_bar.specs.BarStyles.{BarStyle, Wide, wide_of, tick_string, final_tick_string, key_text, named_text, in_layout}
 use Rattle.indicatif_bar.specs.StyleLaws.{IsPlainText, cells_in}
 use Rattle.indicatif_bar.specs.LineLaws.{IsPlainLiteral, IsPlainPart, HasPlainParts, HasPlainTexts, PlainTextsGivePlainLines, PlainLinesAreAsked}
 use Rattle.indicatif_bar.specs.declared.style.keys.CountForm.{CountForm}
@@ -75,7 +75,7 @@ named_such Q name [] all = tt
 named_such Q name (entry ∷ keys) all =
     cond_both (bytes_eq name entry.0) (Some entry.1) (named name keys) (λ o. IfSome o Q) (λ _. all.0) (λ _. named_such Q name keys all.1)
 
-module _ {K : Type 0} (m : Tracking K) (style : Style K) (p : Progress) (now : ℕ) (h : HasPlainTexts m style p now) where
+module _ {K : Type 0} (m : Tracking K) (style : BarStyle K) (p : Progress) (now : ℕ) (h : HasPlainTexts m style p now) where
   ticks : AllByRecursion IsPlainText style.tick_strings
   ticks = recursion_from_All IsPlainText style.tick_strings h.ticks
 

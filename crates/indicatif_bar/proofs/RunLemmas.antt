@@ -21,7 +21,7 @@ use Rattle.indicatif_term.proofs.FeedLemmas.{after-append}
 use Rattle.indicatif_term.proofs.EngineLemmas.{paints_nothing}
 use Rattle.indicatif_term.proofs.RowReadingLemmas.{shown_is_read}
 use Rattle.indicatif_bar.specs.Machines.{Target, target_of, Machine, Deed, Leads, done_by, outcomes}
-use Rattle.indicatif_bar.specs.Inside.Draws.{WritesLinesOn}
+use Rattle.indicatif_bar.specs.Shown.{WritesLinesOn}
 use Rattle.indicatif_bar.specs.Runs.{CallMade, Runs, AllPlain, broke, Headline, RunsAreRead, is_undisturbed, OneOutcome, deed_on, lines_by}
 
 -- a list of no calls

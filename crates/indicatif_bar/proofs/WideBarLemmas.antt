@@ -25,7 +25,7 @@ use Rattle.indicatif_bar.specs.Tabs.{expanded}
 use Rattle.indicatif_bar.specs.Trackers.{Tracking}
 use Rattle.indicatif_bar.specs.Layout.{text_columns, spaces, surrounded, padded, cluster}
 use Rattle.indicatif_bar.specs.Keys.{key_named}
-use Rattle.indicatif_bar.specs.BarStyles.{Style, WideBarOf, wide_mark, is_wide_mark, is_newline, columns_left, with_marks_as, wide_text, lines_with, key_text, named_text, in_layout, part_text, latest_wide, lines_of_groups, lines, is_line_break}
+use Rattle.indicatif_bar.specs.BarStyles.{BarStyle, WideBarOf, wide_mark, is_wide_mark, is_newline, columns_left, with_marks_as, wide_text, lines_with, key_text, named_text, in_layout, part_text, latest_wide, lines_of_groups, lines, is_line_break}
 use Rattle.indicatif_bar.specs.StyleLaws.{cells_in}
 use Rattle.indicatif_bar.specs.LineLaws.{parts_text, HasWideBar, FillsRow, WideBarsFill}
 use Rattle.indicatif_bar.proofs.FillingLemmas.{no_marks}
@@ -243,7 +243,7 @@ kept_by b xs e = rw e refl
 filled_row : (columns : ℕ) (line : List ℕ) → Takes columns line → FillsRow columns line
 filled_row columns line t = record { plain = (t.utf8, t.plain); columns_are = t.columns; one_row = one_row (chars line) columns (omega (arith, t.columns)) }
 
-module _ {K : Type 0} (m : Tracking K) (style : Style K) (p : Progress) (now columns : ℕ) (h : HasWideBar m style p now columns) where
+module _ {K : Type 0} (m : Tracking K) (style : BarStyle K) (p : Progress) (now columns : ℕ) (h : HasWideBar m style p now columns) where
   bar_named : named_text m style p now (encode_utf8_all (codes "wide_bar")) h.layout ≡ wide_mark
   unfolding encode
   bar_named = ap (λ o. elim o as (λ _. List ℕ) [

@@ -14,7 +14,7 @@ use Rattle.indicatif_bar.specs.declared.style.keys.Key.{Key}
 use Rattle.indicatif_bar.specs.declared.style.keys.Key.TheVariants.{Bar, WideBar, WideMessage, Spinner, Prefix, Message, Position, Length, Percent, PercentPrecise, Elapsed, Eta, Duration, PerSecond, BytesPerSecond}
 
 -- how a bar looks, with trackers under keys of their own
-pub record Style (K : Type 0) : Type 0 where
+pub record BarStyle (K : Type 0) : Type 0 where
   -- what its template is made of
   pub parts : List TemplatePart
   -- the characters of a bar: done, the shades between, not done
@@ -71,7 +71,7 @@ columns_left columns text = columns - option_map_or text_columns (find (list_any
 abbrev pub with_marks_as : List ℕ → List ℕ → List ℕ
 with_marks_as shown text = flat_map (λ b. if is_wide_mark b then shown else b ∷ []) text
 
-module _ {K : Type 0} (style : Style K) (p : Progress) where
+module _ {K : Type 0} (style : BarStyle K) (p : Progress) where
   -- what stands in the place of each mark of a text
   abbrev pub wide_text : ℕ → List ℕ → Wide → List ℕ
   wide_text columns text (WideBarOf layout) = bar_text style.clusters style.colours (unwrap_or layout.alternative []) (fraction p) (columns_left columns text)
@@ -88,7 +88,7 @@ module _ {K : Type 0} (style : Style K) (p : Progress) where
   abbrev pub lines_with : ℕ → Option Wide → List ℕ → List (List ℕ)
   lines_with columns wide text = slice_split is_newline (filled columns wide text)
 
-module _ {K : Type 0} (m : Tracking K) (style : Style K) (p : Progress) (now : ℕ) where
+module _ {K : Type 0} (m : Tracking K) (style : BarStyle K) (p : Progress) (now : ℕ) where
   -- the text of a key, as a placeholder asks for it
   abbrev pub key_text : Layout → Key → List ℕ
   key_text layout Bar = bar_text style.clusters style.colours (unwrap_or layout.alternative []) (fraction p) (unwrap_or layout.width 20)

@@ -7,7 +7,7 @@ use Rattle.indicatif_text.specs.declared.refusal.Refusal.{Refusal}
 use Rattle.indicatif_text.specs.declared.refusal.Refusal.TheVariants.{FewTicks, FewProgressChars, UnequalWidths, ZeroWidthChars}
 use Rattle.indicatif_text.specs.Template.{TemplatePart}
 use Rattle.indicatif_bar.specs.Layout.{text_columns, cluster}
-use Rattle.indicatif_bar.specs.BarStyles.{Style}
+use Rattle.indicatif_bar.specs.BarStyles.{BarStyle}
 
 -- the grapheme clusters of a text (Unicode, UAX #29)
 abbrev pub clusters_of : List ℕ → List (List ℕ)
@@ -41,5 +41,5 @@ abbrev pub first_clusters : List (List ℕ)
 first_clusters = encode_utf8 0x2588 ∷ encode_utf8 0x2591 ∷ []
 
 -- a style as it is made with a template
-abbrev pub first_style : {K : Type 0} → List ℕ → List TemplatePart → Style K
+abbrev pub first_style : {K : Type 0} → List ℕ → List TemplatePart → BarStyle K
 first_style ticks parts = record { parts = parts; clusters = first_clusters; tick_strings = characters_of ticks; keys = []; colours = false; tab = 8 }

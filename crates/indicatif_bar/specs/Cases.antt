@@ -1,6 +1,6 @@
 -- Worked cases of a lone bar: what calls at the moment 0 answer, and the rows that stand then. The terminal never fails.
 use Rattle.indicatif_text.specs.Template.{KeyText, plain_layout}
-use Rattle.indicatif_bar.specs.BarStyles.{Style}
+use Rattle.indicatif_bar.specs.BarStyles.{BarStyle}
 use Rattle.std.specs.Prelude.{◌≡◌, ℕ, true, false, List, [], ◌∷◌, ◌++◌, map, replicate, Some, None, flat_map, codes, Result, Ok, Err}
 use Rattle.indicatif_text.specs.declared.refusal.Refusal.{Refusal}
 use Rattle.indicatif_text.specs.declared.refusal.Refusal.TheVariants.{NoColumns, TooWide, ElapsedBeyondClock}
@@ -33,7 +33,7 @@ abbrev pub untracked : Tracking (Unit {0})
 untracked = writes_nothing
 
 -- a style that shows the message alone
-abbrev pub message_style : Style (Unit {0})
+abbrev pub message_style : BarStyle (Unit {0})
 message_style = record { parts = KeyText (codes "msg") plain_layout ∷ []; clusters = []; tick_strings = []; keys = []; colours = false; tab = 8 }
 
 -- a lone bar without trackers, with this message, as it was made at the moment 0

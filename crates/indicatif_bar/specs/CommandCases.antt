@@ -8,7 +8,7 @@ use Rattle.indicatif_bar.specs.Measures.{greatest_u64, fraction_of, first_marks,
 use Rattle.indicatif_bar.specs.Progress.{eta, per_sec, elapsed, duration, shown_message}
 use Rattle.indicatif_bar.specs.Finishes.{AndLeave, Abandon, WithMessage}
 use Rattle.indicatif_bar.specs.Trackers.{writes_nothing}
-use Rattle.indicatif_bar.specs.BarStyles.{Style}
+use Rattle.indicatif_bar.specs.BarStyles.{BarStyle}
 use Rattle.indicatif_bar.specs.Commands.{BarRecord, Command, Inc, Dec, SetPosition, PutPosition, Tick, TickerTick, SetTicker, SetMessage, SetTabWidth, SetLength, IncLength, DecLength, SetElapsed, ResetEta, Reset, FinishBy, FinishUsingStyle, PutFinish, new_bar, obeyed, is_beyond_clock}
 
 abbrev pub ms : ℕ
@@ -55,7 +55,7 @@ Rates =
 
 -- ---- commands of a bar, whatever its style
 
-module _ (style : Style ℕ) where
+module _ (style : BarStyle ℕ) where
   -- a bar as made at moment 0
   abbrev pub plain : Option ℕ → BarRecord ℕ
   plain len = new_bar style len 0

@@ -7,14 +7,14 @@ use Rattle.indicatif_bar.specs.PositionLimiters.{PositionLimiter, position_limit
 use Rattle.indicatif_bar.specs.Progress.{Progress, new_progress, is_finished, elapsed, rate_reset, progress_reset}
 use Rattle.indicatif_bar.specs.Tabs.{has_tab, is_some_text}
 use Rattle.indicatif_bar.specs.Trackers.{Tracking, changed_trackers}
-use Rattle.indicatif_bar.specs.BarStyles.{Style}
+use Rattle.indicatif_bar.specs.BarStyles.{BarStyle}
 use Rattle.indicatif_bar.specs.declared.command.BarCommand.{BarCommand}
 use Rattle.indicatif_bar.specs.declared.command.BarCommand.TheVariants as told
 use Rattle.indicatif_bar.specs.Finishes.{Finish, AndClear, finish_of, finished_by, finish_takes_memory}
 
 pub record BarRecord (K : Type 0) : Type 0 where
   pub progress : Progress
-  pub style : Style K
+  pub style : BarStyle K
   pub on_finish : Finish
   -- a steady ticker is installed
   pub ticker : Bool
@@ -36,7 +36,7 @@ pub data Command (K : Type 0) : Type 0 where
   DecLength : (n : ℕ) → Command K
   SetMessage : (text : List ℕ) → Command K
   SetPrefix : (text : List ℕ) → Command K
-  SetStyle : (style : Style K) → Command K
+  SetStyle : (style : BarStyle K) → Command K
   PutPosition : (position : ℕ) → Command K
   PutMessage : (text : List ℕ) → Command K
   PutPrefix : (text : List ℕ) → Command K
@@ -59,7 +59,7 @@ some_or None other = other
 some_or (Some x) other = Some x
 
 -- the record as made, in a style
-abbrev pub new_bar : {K : Type 0} → Style K → Option ℕ → ℕ → BarRecord K
+abbrev pub new_bar : {K : Type 0} → BarStyle K → Option ℕ → ℕ → BarRecord K
 new_bar style len now = record {
   progress = new_progress len now;
   style = record style { tab = 8 };

@@ -1,7 +1,6 @@
 -- What only the contracts of private functions cite.
-pub mod Draws
 pub mod Obeying
-pub mod Shown
+pub mod Writings
 pub mod Cells
 pub mod Steps
 pub mod Texts

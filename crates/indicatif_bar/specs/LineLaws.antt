@@ -9,13 +9,13 @@ use Rattle.indicatif_bar.specs.Progress.{Progress, shown_message, shown_prefix}
 use Rattle.indicatif_bar.specs.Trackers.{Tracking}
 use Rattle.indicatif_bar.specs.Layout.{text_columns, cluster}
 use Rattle.indicatif_bar.specs.Keys.{named}
-use Rattle.indicatif_bar.specs.BarStyles.{Style, WideBarOf, wide_part, part_text, is_line_break, lines}
+use Rattle.indicatif_bar.specs.BarStyles.{BarStyle, WideBarOf, wide_part, part_text, is_line_break, lines}
 use Rattle.indicatif_bar.specs.Commands.{BarRecord, SetTabWidth, obeyed}
 use Rattle.indicatif_bar.specs.StyleLaws.{IsPlainText, AreTaken}
 
 -- ---- a line with a wide bar
 
-module _ {K : Type 0} (m : Tracking K) (style : Style K) (p : Progress) (now : ℕ) where
+module _ {K : Type 0} (m : Tracking K) (style : BarStyle K) (p : Progress) (now : ℕ) where
   -- the text of parts of a template, with a mark for each wide key
   abbrev pub parts_text : List TemplatePart → List ℕ
   parts_text parts = flat_map (part_text m style p now) parts
@@ -43,12 +43,12 @@ pub record FillsRow (columns : ℕ) (line : List ℕ) : Type 0 where
 
 -- such a template gives one line, which fills a row exactly, so that it never wraps
 abbrev pub WideBarsFill : Type 0 → Type 0
-WideBarsFill K = (m : Tracking K) (style : Style K) (p : Progress) (now columns : ℕ) → HasWideBar m style p now columns
+WideBarsFill K = (m : Tracking K) (style : BarStyle K) (p : Progress) (now columns : ℕ) → HasWideBar m style p now columns
     → (line : List ℕ) × (lines m style p now columns ≡ line ∷ []) × FillsRow columns line
 
 -- ---- plain lines
 
-module _ {K : Type 0} (m : Tracking K) (style : Style K) (p : Progress) (now : ℕ) where
+module _ {K : Type 0} (m : Tracking K) (style : BarStyle K) (p : Progress) (now : ℕ) where
   -- what a part of a template writes consists of characters with a width and colour sequences, where it is no wide key
   abbrev pub IsPlainPart : TemplatePart → Type 0
   IsPlainPart part = wide_part m style p now part ≡ None → IsPlainText (part_text m style p now part)
@@ -61,17 +61,17 @@ module _ {K : Type 0} (m : Tracking K) (style : Style K) (p : Progress) (now : �
 
 -- then the lines do, whatever the wide keys are and however wide the terminal is
 abbrev pub PlainPartsGivePlainLines : Type 0 → Type 0
-PlainPartsGivePlainLines K = (m : Tracking K) (style : Style K) (p : Progress) (now columns : ℕ) → HasPlainParts m style p now
+PlainPartsGivePlainLines K = (m : Tracking K) (style : BarStyle K) (p : Progress) (now columns : ℕ) → HasPlainParts m style p now
     → All IsPlainText (lines m style p now columns)
 
 -- a literal text of a template consists of such characters, with its tabs as spaces
-abbrev pub IsPlainLiteral : {K : Type 0} → Style K → TemplatePart → Type 0
+abbrev pub IsPlainLiteral : {K : Type 0} → BarStyle K → TemplatePart → Type 0
 IsPlainLiteral style (LiteralText text) = IsPlainText (expanded style.tab (encode_utf8_all text))
 IsPlainLiteral style LineBreak = Unit {0}
 IsPlainLiteral style (KeyText key layout) = Unit {0}
 
 -- all that a style and a bar have of texts does: literals, spinner, trackers, message and prefix; and the clusters are such as a style takes
-pub record HasPlainTexts {K : Type 0} (m : Tracking K) (style : Style K) (p : Progress) (now : ℕ) : Type 0 where
+pub record HasPlainTexts {K : Type 0} (m : Tracking K) (style : BarStyle K) (p : Progress) (now : ℕ) : Type 0 where
   pub literals : All (IsPlainLiteral style) style.parts
   pub ticks : All IsPlainText style.tick_strings
   pub clusters : AreTaken style.clusters
@@ -81,7 +81,7 @@ pub record HasPlainTexts {K : Type 0} (m : Tracking K) (style : Style K) (p : Pr
 
 -- then the lines do, of whatever keys the template has
 abbrev pub PlainTextsGivePlainLines : Type 0 → Type 0
-PlainTextsGivePlainLines K = (m : Tracking K) (style : Style K) (p : Progress) (now columns : ℕ) → HasPlainTexts m style p now
+PlainTextsGivePlainLines K = (m : Tracking K) (style : BarStyle K) (p : Progress) (now columns : ℕ) → HasPlainTexts m style p now
     → All IsPlainText (lines m style p now columns)
 
 -- and such lines are plain as the headline asks it, which has them in characters

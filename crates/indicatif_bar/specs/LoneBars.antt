@@ -11,7 +11,7 @@ use Rattle.indicatif_bar.specs.Bars.{bar_kind}
 use Rattle.indicatif_bar.specs.Machines.{Machine, target_of}
 use Rattle.indicatif_bar.specs.Runs.{CallMade, Runs, wrote}
 use Rattle.indicatif_bar.specs.Lone.{LoneState, Call, Change, Log, Clear, lone}
-use Rattle.indicatif_bar.specs.Inside.Shown.{ShownAs}
+use Rattle.indicatif_bar.specs.Shown.{ShownAs}
 use Rattle.indicatif_bar.specs.declared.lone.LoneBar.{LoneBar}
 use Rattle.indicatif_bar.specs.declared.lone.LoneCall.{LoneCall}
 use Rattle.indicatif_bar.specs.declared.lone.LoneCall.TheVariants.{Bar as BarCall, Log as LogCall, Clear as ClearCall}

@@ -6,7 +6,7 @@ use Rattle.indicatif_bar.specs.Measures.{greatest_u64, fraction_of, time_for, st
 use Rattle.indicatif_bar.specs.Progress.{Progress, per_sec, eta, duration, fraction, is_finished}
 use Rattle.indicatif_bar.specs.Trackers.{Tracking}
 use Rattle.indicatif_bar.specs.Commands.{BarRecord, Command, obeyed, new_bar}
-use Rattle.indicatif_bar.specs.BarStyles.{Style}
+use Rattle.indicatif_bar.specs.BarStyles.{BarStyle}
 
 -- a fraction is a part of a whole: its whole is above 0, and its part no more than that
 abbrev pub FractionsAreProper : Type 0
@@ -36,7 +36,7 @@ StepsAreQuotients = (rate : Rate) → 0 < rate.nanos → steps_a_second rate < g
 
 -- a tab is as wide in a bar's style as in its texts, as it is made and after each command
 abbrev pub TabsAgree : Type 0 → Type 0
-TabsAgree K = (m : Tracking K) (style : Style K) (len : Option ℕ) (bar : BarRecord K) (command : Command K) (now : ℕ) →
+TabsAgree K = (m : Tracking K) (style : BarStyle K) (len : Option ℕ) (bar : BarRecord K) (command : Command K) (now : ℕ) →
     ((new_bar style len now).style.tab ≡ (new_bar style len now).progress.tab)
     × (bar.style.tab ≡ bar.progress.tab → (obeyed m command bar now).0.style.tab ≡ (obeyed m command bar now).0.progress.tab)
 

@@ -4,11 +4,12 @@ use Rattle.indicatif_text.specs.declared.template.Alignment.TheVariants.{Center}
 use Rattle.indicatif_text.specs.declared.refusal.Refusal.TheVariants.{FewTicks, FewProgressChars, UnequalWidths, ZeroWidthChars}
 use Rattle.indicatif_text.specs.Template.{TemplatePart, LiteralText, LineBreak, KeyText}
 use Rattle.indicatif_text.specs.Template.{plain_layout}
+use Rattle.indicatif_text.specs.ColumnCases.{escape}
 use Rattle.indicatif_text.specs.StyleWords.{style_of}
 use Rattle.indicatif_bar.specs.Measures.{greatest_u64, first_marks, recorded}
 use Rattle.indicatif_bar.specs.Progress.{Progress, new_progress}
 use Rattle.indicatif_bar.specs.Trackers.{Tracking, telling}
-use Rattle.indicatif_bar.specs.BarStyles.{Style, lines, tick_string, final_tick_string}
+use Rattle.indicatif_bar.specs.BarStyles.{BarStyle, lines, tick_string, final_tick_string}
 use Rattle.indicatif_bar.specs.Builders.{tick_fault, progress_fault, clusters_of, characters_of}
 
 -- a tracker that writes the text that it is
@@ -21,10 +22,10 @@ key name = KeyText name plain_layout
 abbrev pub key_wide : List ℕ → ℕ → TemplatePart
 key_wide name width = KeyText name (record plain_layout { width = Some width })
 
-abbrev pub style_with : List TemplatePart → Style (List ℕ)
+abbrev pub style_with : List TemplatePart → BarStyle (List ℕ)
 style_with parts = record { parts = parts; clusters = codes "=" ∷ codes ">" ∷ codes "-" ∷ []; tick_strings = codes "1" ∷ codes "2" ∷ codes "F" ∷ []; keys = []; colours = false; tab = 8 }
 
-abbrev pub one : TemplatePart → Style (List ℕ)
+abbrev pub one : TemplatePart → BarStyle (List ℕ)
 one part = style_with (part ∷ [])
 
 abbrev pub reached : ℕ → Option ℕ → Progress
@@ -33,13 +34,10 @@ reached position len = record (new_progress len 0) { position = position }
 abbrev pub saying : List ℕ → Progress
 saying text = record (new_progress None 0) { message = text }
 
-abbrev pub shows : Style (List ℕ) → Progress → ℕ → List (List ℕ)
+abbrev pub shows : BarStyle (List ℕ) → Progress → ℕ → List (List ℕ)
 shows style p columns = lines texts style p 0 columns
 
-abbrev pub escape : List ℕ
-escape = 0x1B ∷ []
-
-abbrev pub foo : Style (List ℕ)
+abbrev pub foo : BarStyle (List ℕ)
 foo = record (one (KeyText (codes "foo") (record plain_layout { align = Center; width = Some 5; style = Some (style_of (codes "red.on_blue")) }))) { keys = (codes "foo", codes "XXX") ∷ [] }
 
 -- a tracker's text, padded and coloured, and with its tabs expanded
@@ -48,7 +46,7 @@ TrackersCases = (shows (record foo { colours = true }) (reached 0 None) 80 ≡ (
     × (shows foo (reached 0 None) 80 ≡ codes " XXX " ∷ [])
     × (shows (record (one (key (codes "t"))) { keys = (codes "t", codes "a" ++ (9 ∷ []) ++ codes "b") ∷ []; tab = 4 }) (reached 0 None) 80 ≡ codes "a    b" ∷ [])
 
-abbrev pub wide_bar : Style (List ℕ)
+abbrev pub wide_bar : BarStyle (List ℕ)
 wide_bar = one (key (codes "wide_bar"))
 
 -- bars that fill their line
@@ -72,7 +70,7 @@ MessageCases = (shows (one (key (codes "wide_msg"))) (saying (encode_utf8_all (c
     × (shows (one (key (codes "wide_msg"))) (saying (codes "ab")) 10 ≡ codes "ab" ∷ [])
     × (shows (style_with (key (codes "msg") ∷ key (codes "wide_bar") ∷ [])) (record (saying (codes "x" ++ (0 ∷ []) ++ codes "y")) { len = Some 4 }) 10 ≡ codes "x--------y--------" ∷ [])
 
-abbrev pub bar_of : List (List ℕ) → ℕ → Style (List ℕ)
+abbrev pub bar_of : List (List ℕ) → ℕ → BarStyle (List ℕ)
 bar_of clusters width = record (one (key_wide (codes "bar") width)) { clusters = clusters }
 
 -- bars with shades, without any, and of wide characters

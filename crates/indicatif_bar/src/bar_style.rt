@@ -44,11 +44,11 @@ impl<K> Model for ProgressStyle<K> {
     ghost use Rattle.std.specs.Arc.{arc_value};
     ghost use Rattle.indicatif_bar.specs.Trackers.{entries};
     ghost use Rattle.indicatif_bar.specs.Layout.{text_columns, cluster};
-    ghost use Rattle.indicatif_bar.specs.BarStyles.{Style};
+    ghost use Rattle.indicatif_bar.specs.BarStyles.{BarStyle};
     ghost use Rattle.indicatif_bar.specs.Inside.Texts.{texts_in};
     ghost use Rattle.indicatif_bar.specs.Inside.Steps.{effect_of, effect_of_part, names_of};
 
-    ghost Value = { Style K };
+    ghost Value = { BarStyle K };
 
     ghost view = { λ s. record {
       parts = arc_value s.template;

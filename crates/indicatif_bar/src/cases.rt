@@ -1,6 +1,6 @@
 //! Worked cases of the definitions: each clause computes.
 ghost use Rattle.std.specs.Prelude.{ℕ};
-ghost use Rattle.indicatif_bar.specs.BarStyles.{Style};
+ghost use Rattle.indicatif_bar.specs.BarStyles.{BarStyle};
 ghost use Rattle.indicatif_bar.specs.CommandCases.{Fractions, Greatest, Rates, TwelveSteps, RateAndEta, Asks, ResetRates, Ends, ElapsedTimes, TabWidths, Finishes, Resets};
 ghost use Rattle.indicatif_bar.specs.StyleCases.{TrackersCases, WideBarCases, PercentCases, MessageCases, BarCases, TickCases, RateCases, LineCases, FaultCases};
 ghost use Rattle.indicatif_bar.specs.Cases.{Lines, ShorterMessage, EmptyMessage, WideCharacter, NoColumn, Nowhere, LogsAbove, WideLog, Cleared, LateElapsed, LimitedDraws};
@@ -37,15 +37,15 @@ pub fn measures()
 
 /// What lists of commands leave, and what they ask.
 pub fn commands()
-    ensures twelve_steps { (style : Style ℕ) → TwelveSteps style }
-    ensures rate_and_eta { (style : Style ℕ) → RateAndEta style }
-    ensures asks { (style : Style ℕ) → Asks style }
-    ensures reset_rates { (style : Style ℕ) → ResetRates style }
-    ensures ends { (style : Style ℕ) → Ends style }
-    ensures elapsed_times { (style : Style ℕ) → ElapsedTimes style }
-    ensures tab_widths { (style : Style ℕ) → TabWidths style }
-    ensures finishes { (style : Style ℕ) → Finishes style }
-    ensures resets { (style : Style ℕ) → Resets style }
+    ensures twelve_steps { (style : BarStyle ℕ) → TwelveSteps style }
+    ensures rate_and_eta { (style : BarStyle ℕ) → RateAndEta style }
+    ensures asks { (style : BarStyle ℕ) → Asks style }
+    ensures reset_rates { (style : BarStyle ℕ) → ResetRates style }
+    ensures ends { (style : BarStyle ℕ) → Ends style }
+    ensures elapsed_times { (style : BarStyle ℕ) → ElapsedTimes style }
+    ensures tab_widths { (style : BarStyle ℕ) → TabWidths style }
+    ensures finishes { (style : BarStyle ℕ) → Finishes style }
+    ensures resets { (style : BarStyle ℕ) → Resets style }
 {}
 
 /// The lines of styles, worked out.

@@ -74,8 +74,8 @@ impl<K: ProgressTracker, T: TermLike + Drop> LoneBar<K, T> {
     ghost use Rattle.indicatif_bar.specs.Commands.{PutPosition, PutMessage, PutPrefix, PutFinish, PutTabWidth, SetTabWidth, SetElapsed, ResetEta};
     ghost use Rattle.indicatif_bar.specs.Commands.{ResetElapsed, Reset, FinishBy, FinishUsingStyle, ForceDraw, obeyed, takes_memory, command_of};
     ghost use Rattle.indicatif_bar.specs.Bars.{bar_kind};
-    ghost use Rattle.indicatif_bar.specs.Inside.Draws.{DrewOn};
-    ghost use Rattle.indicatif_bar.specs.Inside.Shown.{writing_as};
+    ghost use Rattle.indicatif_bar.specs.Shown.{DrewOn};
+    ghost use Rattle.indicatif_bar.specs.Inside.Writings.{writing_as};
     ghost use Rattle.indicatif_bar.specs.Inside.Obeying.{IsTold, IsToldOrNot};
     ghost use Rattle.indicatif_bar.specs.Runs.{Runs, Headline};
     ghost use Rattle.indicatif_bar.specs.Machines.{target_of};

@@ -7,8 +7,8 @@ ghost use Rattle.indicatif_bar.specs.Runs.{wrote};
 ghost use Rattle.indicatif_bar.specs.Kinds.{asked_of};
 ghost use Rattle.indicatif_bar.specs.Bars.{bar_kind, lines_of_bar, lines_take_memory};
 ghost use Rattle.indicatif_bar.specs.Lone.{LoneState, stored_lines, lines_take, draw_asked, lone};
-ghost use Rattle.indicatif_bar.specs.Inside.Draws.{DrewBy, EngineWrites};
-ghost use Rattle.indicatif_bar.specs.Inside.Shown.{writing_as};
+ghost use Rattle.indicatif_bar.specs.Shown.{DrewBy};
+ghost use Rattle.indicatif_bar.specs.Inside.Writings.{EngineWrites, writing_as};
 
 use crate::spare::SpareLines;
 use crate::state::{Ask, BarState};
@@ -40,7 +40,7 @@ pub struct ShownBar<K> {
 }
 
 impl<K: ProgressTracker> ShownBar<K> {
-    ghost use Rattle.indicatif_bar.specs.Inside.Shown.{ShownAs};
+    ghost use Rattle.indicatif_bar.specs.Shown.{ShownAs};
     ghost use Rattle.std.specs.Prelude.{[]};
 
     /// A bar of which nothing was laid out yet.

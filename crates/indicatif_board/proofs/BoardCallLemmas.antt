@@ -13,7 +13,7 @@ use Rattle.indicatif_bar.specs.Commands.{BarRecord, Command, is_beyond_clock}
 use Rattle.indicatif_bar.specs.declared.state.Ask.{Ask}
 use Rattle.indicatif_bar.specs.Machines.{Target, target_of, Draw, Deed, AtOnce, Leads}
 use Rattle.indicatif_bar.specs.Runs.{CallMade, lines_by, wrote}
-use Rattle.indicatif_bar.specs.Inside.Draws.{DrewOn, WritesLinesOn}
+use Rattle.indicatif_bar.specs.Shown.{DrewOn, WritesLinesOn}
 use Rattle.indicatif_bar.proofs.OutcomeLemmas.{writes_nothing}
 use Rattle.indicatif_board.specs.BoardBars.{board_bars}
 use Rattle.indicatif_board.specs.Boards.{BoardState, Call, Id, Location, Entrant, removed, Done, New, Insert, Given, inserted, taken_in, anchor_turned_away, Answer, Refused, Tell, says, drawn_of, drawn_of_said, turned_away, or_refused, draws, draw_by, deed_of, board}

@@ -15,13 +15,14 @@ use Rattle.indicatif_bar.specs.Trackers.{Tracking}
 use Rattle.indicatif_bar.specs.Commands.{BarRecord}
 use Rattle.indicatif_bar.specs.Machines.{target_of, Draw, is_no}
 use Rattle.indicatif_bar.specs.Kinds.{Writing, TextAndFrame, has_line, asked_of, written_lists}
-use Rattle.indicatif_bar.specs.Inside.Draws.{DrewBy}
+use Rattle.indicatif_bar.specs.Shown.{DrewBy}
 use Rattle.indicatif_bar.specs.declared.state.Ask.{Ask}
 use Rattle.indicatif_bar.proofs.OutcomeLemmas.{drew, answer_of}
 use Rattle.indicatif_board.specs.BoardBars.{board_bars}
 use Rattle.indicatif_board.specs.Members.{leaders, frame_of}
 use Rattle.indicatif_board.specs.Boards.{BoardState, draw_of, board}
-use Rattle.indicatif_board.specs.Inside.Keeps.{Holds, PutsFrame, member_of}
+use Rattle.indicatif_board.specs.ShownBars.{Holds, member_of}
+use Rattle.indicatif_board.specs.Inside.Keeps.{PutsFrame}
 use Rattle.indicatif_board.specs.declared.members.Member.{Member as MemberValue}
 use Rattle.indicatif_board.proofs.MemberLemmas.{drop-map}
 

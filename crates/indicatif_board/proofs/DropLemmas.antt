@@ -19,13 +19,13 @@ use Rattle.indicatif_bar.specs.Trackers.{Tracking}
 use Rattle.indicatif_bar.specs.Commands.{BarRecord, Command}
 use Rattle.indicatif_bar.specs.Machines.{Target, target_of, Machine, Deed, Draw, Draws, Leads, drawn_by, is_no}
 use Rattle.indicatif_bar.specs.Runs.{CallMade, lines_by, is_undisturbed}
-use Rattle.indicatif_bar.specs.Inside.Draws.{DrewOn, WritesLinesOn}
+use Rattle.indicatif_bar.specs.Shown.{DrewOn, WritesLinesOn}
 use Rattle.indicatif_bar.proofs.OutcomeLemmas.{writes_nothing}
 use Rattle.indicatif_board.specs.BoardBars.{board_bars}
 use Rattle.indicatif_board.specs.Boards.{BoardState, Call, Answer, Id, Drop, Refused, says, drawn_of, drawn_of_said, turned_away, or_refused, last_draw, deed_of, left_on, left_by, marked_on, board}
 use Rattle.indicatif_board.specs.Members.{Member, place_of, is_head, without, marked, changed_at, new_member}
 use Rattle.indicatif_board.specs.Multi.{IsIn}
-use Rattle.indicatif_board.specs.Inside.Keeps.{Holds, member_of}
+use Rattle.indicatif_board.specs.ShownBars.{Holds, member_of}
 use Rattle.indicatif_board.specs.Inside.Parting.{parted, RestsOn}
 use Rattle.indicatif_board.specs.declared.members.Member.{Member as MemberValue}
 use Rattle.indicatif_board.specs.declared.multi.Board.{Board}

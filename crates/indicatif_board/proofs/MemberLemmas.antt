@@ -18,7 +18,8 @@ use Rattle.indicatif_bar.specs.Machines.{Target}
 use Rattle.indicatif_board.specs.Boards.{BoardState, Id, Location, index_of, taken_in, turned_away, told}
 use Rattle.indicatif_text.specs.declared.refusal.Refusal.TheVariants.{ForeignBar, NotMember}
 use Rattle.indicatif_board.specs.Members.{Member, place_of, leaders, frame_of, order_of, changed_at, new_member, is_member, without, said_of}
-use Rattle.indicatif_board.specs.Inside.Keeps.{member_of, Holds, HasPlace, laid_by, lays_by}
+use Rattle.indicatif_board.specs.ShownBars.{member_of, Holds}
+use Rattle.indicatif_board.specs.Inside.Keeps.{HasPlace, laid_by, lays_by}
 use Rattle.indicatif_board.specs.declared.members.Member.{Member as MemberValue}
 
 pub drop-map : {X Y : Type 0} (f : X → Y) (n : ℕ) (xs : List X) → drop n (map f xs) ≡ map f (drop n xs)

@@ -1,5 +1,4 @@
 -- What only the contracts of private functions cite.
 pub mod Keeps
 pub mod Writings
-pub mod ShownBars
 pub mod Parting

@@ -7,6 +7,7 @@ pub mod BoardCases
 pub mod BoardBars
 pub mod BoardValues
 pub mod Calls
+pub mod ShownBars
 pub mod Multi
 pub mod OrderLaws
 pub mod LimitLaws

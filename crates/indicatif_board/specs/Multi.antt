@@ -11,7 +11,7 @@ use Rattle.indicatif_bar.specs.Runs.{CallMade, Runs}
 use Rattle.indicatif_board.specs.BoardBars.{board_bars}
 use Rattle.indicatif_board.specs.Boards.{BoardState, Call, Clear, Redraw, Answer, Drew, Refused, says, board}
 use Rattle.indicatif_board.specs.Slots.{SlotTable}
-use Rattle.indicatif_board.specs.Inside.ShownBars.{Shown}
+use Rattle.indicatif_board.specs.ShownBars.{AreShownAs}
 use Rattle.indicatif_board.specs.declared.multi.Board.{Board}
 
 module _ {K T : Type 0} where
@@ -26,7 +26,7 @@ module _ {K T : Type 0} where
   -- the board of this mark may be in this state; on a hidden target it has no rows. Of the rows only the numbers are kept, so many
   -- states fit one board; what is claimed holds of each
   unfoldable pub IsIn : ℕ → Board K T → BoardState (BarRecord K) → Type 0
-  IsIn mark b s = (b.mark ≡ mark) × Shown b.shown s × MatchOption b.engine (s.lists ≡ opening_lists) (λ e. Fits e s.lists)
+  IsIn mark b s = (b.mark ≡ mark) × AreShownAs b.shown s × MatchOption b.engine (s.lists ≡ opening_lists) (λ e. Fits e s.lists)
 
   -- what is known of its terminal
   abbrev pub known : (T → TermView) → Board K T → Option TermView

@@ -40,6 +40,11 @@ pub struct Turned<K> {
 }
 
 /// Where a bar is to stand in the order.
+///
+/// ```
+/// let first = board.add(Candidate::New(bar))?;
+/// board.call(Call::Insert(InsertLocation::Before(first), Candidate::New(other)), now); // `other` stands above `bar`
+/// ```
 #[derive(Clone, Copy, Debug, Drop, PartialEq, Eq)]
 pub enum InsertLocation {
     /// Behind all others.
@@ -55,6 +60,10 @@ pub enum InsertLocation {
 }
 
 /// A call of a board as a value. Each is the call of `Board` with its name.
+///
+/// ```
+/// board.call(Call::Log(text), now) // as board.println(text.as_str(), now)
+/// ```
 #[derive(Drop)]
 pub enum Call<K> {
     /// A bar taken in.
@@ -81,6 +90,11 @@ pub enum Call<K> {
 }
 
 /// What a board answers to a call.
+///
+/// ```
+/// board.call(Call::Clear, now) // Answer::Drawn(Drawn::Yes)
+/// board.call(Call::Remove(id), now) // Answer::Done; of another board's bar Answer::Refused(Refusal::ForeignBar)
+/// ```
 #[derive(Debug, Drop, PartialEq, Eq)]
 pub enum Answer {
     /// The bar that was taken in, or was there already.

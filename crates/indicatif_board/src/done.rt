@@ -24,6 +24,11 @@ use std::alloc::Global;
 use std::marker::Model;
 
 /// What a worker knows. Contracts alone speak of it, with numbers of any size; no value of it is made.
+///
+/// ```
+/// fn add_all(done: &Done, mut worker: BarWorker) -> BarWorker // adds 1 a thousand times
+///     ensures added { result.account.added ≡ worker.account.added + 1000 }
+/// ```
 pub struct Account {
     /// Its share of the sum, in parts of the whole.
     pub parts: u64,

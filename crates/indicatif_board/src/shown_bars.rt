@@ -7,7 +7,7 @@ ghost use Rattle.indicatif_bar.specs.Commands.{BarRecord};
 ghost use Rattle.indicatif_bar.specs.Machines.{Target, is_no, target_of};
 ghost use Rattle.indicatif_bar.specs.Kinds.{asked_of};
 ghost use Rattle.indicatif_bar.specs.Runs.{wrote};
-ghost use Rattle.indicatif_bar.specs.Inside.Draws.{DrewBy};
+ghost use Rattle.indicatif_bar.specs.Shown.{DrewBy};
 ghost use Rattle.indicatif_board.specs.BoardBars.{board_bars};
 ghost use Rattle.indicatif_board.specs.Boards.{BoardState, Location, opening_board, draw_of, index_of, taken_in, marked_on, board};
 ghost use Rattle.indicatif_board.specs.Members.{place_of, without, is_head, said_of};
@@ -54,11 +54,11 @@ pub struct ShownBars<K> {
 }
 
 impl<K: ProgressTracker> ShownBars<K> {
-    ghost use Rattle.indicatif_board.specs.Inside.ShownBars.{Shown};
+    ghost use Rattle.indicatif_board.specs.ShownBars.{AreShownAs};
 
     /// No bars, at the top, drawn as often as this says. Takes no memory.
     pub fn new(alloc: Global, limiter: Option<RateLimiter>) -> Self
-        ensures state { Shown result (opening_board limiter) }
+        ensures state { AreShownAs result (opening_board limiter) }
     {
         ShownBars {
             alloc,
@@ -75,8 +75,8 @@ impl<K: ProgressTracker> ShownBars<K> {
     /// no number; the others stay as they are then.
     pub fn take_in(&mut self, at: usize, bar: BarState<K>) -> Result<u64, BarState<K>>
         requires within { at ≤ vec_len self.old.members }
-        ensures taken { (s : BoardState (BarRecord K)) (spot : Location) → Shown self.old s → at ≡ index_of spot s.members →
-            MatchResult result (λ n. (s.made ≡ n) × (n < 2 ^ 64) × Shown self.new (taken_in spot bar s)) (λ b. (b ≡ bar) × Shown self.new s) }
+        ensures taken { (s : BoardState (BarRecord K)) (spot : Location) → AreShownAs self.old s → at ≡ index_of spot s.members →
+            MatchResult result (λ n. (s.made ≡ n) × (n < 2 ^ 64) × AreShownAs self.new (taken_in spot bar s)) (λ b. (b ≡ bar) × AreShownAs self.new s) }
         ensures bar { IfErr result (λ b. b ≡ bar) }
     {
         if self.members.reserve(1).is_err() {
@@ -99,9 +99,9 @@ impl<K: ProgressTracker> ShownBars<K> {
     /// Takes the bar at a place out.
     pub fn take_out(&mut self, at: usize) -> BarState<K>
         requires within { at < vec_len self.old.members }
-        ensures out { (s : BoardState (BarRecord K)) (number : ℕ) → Shown self.old s → at ≡ place_of number s.members →
-            Shown self.new (record s { members = without number s.members }) }
-        ensures bar { (s : BoardState (BarRecord K)) (number : ℕ) (other : BarRecord K) → Shown self.old s → at ≡ place_of number s.members →
+        ensures out { (s : BoardState (BarRecord K)) (number : ℕ) → AreShownAs self.old s → at ≡ place_of number s.members →
+            AreShownAs self.new (record s { members = without number s.members }) }
+        ensures bar { (s : BoardState (BarRecord K)) (number : ℕ) (other : BarRecord K) → AreShownAs self.old s → at ≡ place_of number s.members →
             result ≡ said_of other (λ bar. bar) number s.members }
     {
         let member = self.members.remove(at);
@@ -112,7 +112,7 @@ impl<K: ProgressTracker> ShownBars<K> {
 
     /// Whether a bar is the first.
     pub fn is_first(&self, number: u64) -> bool
-        ensures first { (s : BoardState (BarRecord K)) → Shown self.now s → result ≡ is_head number s.members }
+        ensures first { (s : BoardState (BarRecord K)) → AreShownAs self.now s → result ≡ is_head number s.members }
         ensures some { IsTrue result → 0 < vec_len self.now.members }
     {
         match self.frame.first() {
@@ -123,7 +123,7 @@ impl<K: ProgressTracker> ShownBars<K> {
 
     /// Marks a bar, if it is there: its owner is gone.
     pub fn mark(&mut self, number: u64)
-        ensures { (s : BoardState (BarRecord K)) → Shown self.old s → Shown self.new (marked_on number s) }
+        ensures { (s : BoardState (BarRecord K)) → AreShownAs self.old s → AreShownAs self.new (marked_on number s) }
     {
         let at = place(&self.frame, number);
         if at < self.members.len() {
@@ -144,9 +144,9 @@ impl<K: ProgressTracker> ShownBars<K> {
         requires placed { IfSome bar (λ at. at < vec_len self.old.members) }
         ensures silent { IsFalse (wrote result) → engine.new ≡ engine.old }
         ensures drew { (mark : ℕ) (takes : Bool) (s : BoardState (BarRecord K)) (number : Option ℕ) → is_no ask ≡ false →
-            Shown self.old s → HasPlace number bar s.members → Fits engine.old s.lists →
+            AreShownAs self.old s → HasPlace number bar s.members → Fits engine.old s.lists →
             let target = target_of (Some (T.view (engine_term engine.old))) in
-            DrewBy (board (board_bars K.means) mark) (Shown self.new) T.view engine.old engine.new
+            DrewBy (board (board_bars K.means) mark) (AreShownAs self.new) T.view engine.old engine.new
             (draw_of target takes ask now (writing_by writing.entry) s (laid_by K.means target now number s) (lays_by K.means number s))
             s.lists result }
     {
@@ -165,11 +165,11 @@ impl<K: ProgressTracker> ShownBars<K> {
     fn lay_out(&mut self, bar: Option<usize>, width: u16, now: Moment) -> Result<(), Refusal>
         requires placed { IfSome bar (λ at. at < vec_len self.old.members) }
         ensures memory { IfErr result (λ e. (e ≡ Refusal.Memory) × ((s : BoardState (BarRecord K)) (number : Option ℕ) →
-            HasPlace number bar s.members → Shown self.old s → IsTrue (lays_by K.means number s))) }
+            HasPlace number bar s.members → AreShownAs self.old s → IsTrue (lays_by K.means number s))) }
         ensures unchanged { OnErr result (self.new ≡ self.old) }
         ensures laid { IfOk result (λ _. (target : Target) (s : BoardState (BarRecord K)) (number : Option ℕ) →
-            target.columns ≡ width → HasPlace number bar s.members → Shown self.old s →
-            Shown self.new (laid_by K.means target now number s)) }
+            target.columns ≡ width → HasPlace number bar s.members → AreShownAs self.old s →
+            AreShownAs self.new (laid_by K.means target now number s)) }
     {
         match bar {
             Some(at) => {
@@ -200,8 +200,8 @@ impl<K: ProgressTracker> ShownBars<K> {
         ensures silent { IsFalse (wrote result) → engine.new ≡ engine.old }
         ensures drew { (mark now : ℕ) (takes lays : Bool) (ask : Ask) (s laid : BoardState (BarRecord K)) → is_no ask ≡ false →
             0 < (T.view (engine_term engine.old)).columns → asked_of ask now laid.limiter ≡ (true, self.old.limiter) →
-            Shown self.old (record laid { limiter = self.old.limiter }) → laid.lists ≡ s.lists → Fits engine.old s.lists →
-            DrewBy (board (board_bars K.means) mark) (Shown self.new) T.view engine.old engine.new
+            AreShownAs self.old (record laid { limiter = self.old.limiter }) → laid.lists ≡ s.lists → Fits engine.old s.lists →
+            DrewBy (board (board_bars K.means) mark) (AreShownAs self.new) T.view engine.old engine.new
             (draw_of (target_of (Some (T.view (engine_term engine.old)))) takes ask now (writing_by writing.entry) s laid lays) s.lists result }
     {
         let gone = leading(&self.members);

@@ -1,10 +1,9 @@
 -- What an engine did to a terminal, by what it remembers: the drawing was made, refused or broken off.
 use Rattle.std.proofs.Common.{◌≡◌, ℕ, zero, suc, ◌+◌, ◌-◌, ◌<◌, Bool, true, false, List, [], ◌∷◌, ◌++◌, length, map, take, replicate, refl, sym, ◌∙◌, ap, subst, arith, length-append, append_assoc, append-nil, Result, Ok, Err, chars, inl, inr, if◌then◌else◌}
-use Rattle.std.specs.Prelude.{IsTrue, IsFalse, flat_map, ◌||◌, min, ◌^◌}
+use Rattle.std.specs.Prelude.{IsTrue, IsFalse, IsErrAnd, flat_map, ◌||◌, min, ◌^◌}
 use Rattle.std.specs.Str.{IsUtf8}
 use Rattle.std.specs.List.{AllByRecursion}
 use Rattle.std.proofs.lemmas.Bool.{and_parts, or_parts, cases_Bool, false≢true}
-use Rattle.std.proofs.Math.Bool.{or-true}
 use Rattle.std.proofs.lemmas.Str.{IsUtf8-nil, IsUtf8-string_bytes, chars-nil}
 use Rattle.std.proofs.lemmas.List.Folds.{list_any-append, list_all-append}
 use Rattle.indicatif_text.specs.Columns.{rows_of, has_wide, is_plain, visible}
@@ -17,13 +16,12 @@ use Rattle.indicatif_term.specs.Shows.{Shows, Rests, RowsStay}
 use Rattle.indicatif_term.specs.Lists.{Lists, forgotten_lists, Live, live_of_frame, live_height, live_rows, lines_of, fitting, shown_rows, drawn, cleared, logged, blanks_for, segments_height}
 use Rattle.indicatif_term.specs.Inside.Bytes.{paint_bytes}
 use Rattle.indicatif_term.specs.Frames.{is_fault, bar_lines, all_lines, are_plain, some_wide, text_lines, line_text}
-use Rattle.indicatif_term.specs.Inside.Plans.{frame_lines, IsPlan, text_height, IsWithheld}
+use Rattle.indicatif_term.specs.Inside.Plans.{frame_lines, IsPlan, text_height}
 use Rattle.indicatif_term.specs.Counts.{CountsOf}
 use Rattle.indicatif_term.specs.Engines.{Paints, Answers, Fits, is_failure, lists_after}
 use Rattle.indicatif_term.specs.Inside.Remembering.{Remembers}
 use Rattle.indicatif_term.specs.declared.draw_target.Engine.{Engine}
 use Rattle.indicatif_text.specs.declared.refusal.Refusal.{Refusal}
-use Rattle.indicatif_term.proofs.MeasureLemmas.{withheld_by}
 use Rattle.indicatif_term.specs.declared.lines.Segment.{Segment}
 use Rattle.indicatif_term.specs.declared.lines.LineType.{LineType}
 use Rattle.indicatif_term.specs.declared.lines.LineType.TheVariants.{Text, Bar, Empty}
@@ -132,10 +130,11 @@ paints_by v v' next (Err x) new failed l l' bytes g e q p forgets made adds =
 
 -- a refusal is handed on
 abbrev pub IsRefused : Result Unit Refusal → Refusal → Type 0
-IsRefused result e = (x : Refusal) × (result ≡ Err x) × (x ≡ e)
+IsRefused result e = IsErrAnd result (λ x. x ≡ e)
 
 refused_with : (result : Result Unit Refusal) (e : Refusal) → IsRefused result e → result ≡ Err e
-refused_with result e q = q.1 ∙ ap (λ x. let r : Result Unit Refusal = Err x in r) q.2
+refused_with (Ok u) e q = absurd q
+refused_with (Err x) e q = ap (λ x. let r : Result Unit Refusal = Err x in r) q
 
 -- a drawing that was refused with nothing written
 pub paints_refused : (v : TermView) (result : Result Unit Refusal) (e : Refusal) (l l' : Lists) → IsRefused result e → is_fault e ≡ false → Paints v v (is_failure result) l (lists_after result l l')
@@ -160,10 +159,6 @@ fits_forgets e l f = f.2
 pub fits_made : {T : Type 0} (e : Engine T) (l : Lists) → CountsOf e.counts l → e.failed ≡ l.failed → (IsTrue l.failed → l ≡ forgotten_lists) → Fits e l
 unfolding Fits
 fits_made e l a b c = (a, b, c)
-
-pub fits_refused : {T : Type 0} (engine : Engine T) (result : Result Unit Refusal) (e : Refusal) (l l' : Lists) → IsRefused result e → is_fault e ≡ false → Fits engine l →
-    Fits engine (lists_after result l l')
-fits_refused engine result e l l' q f fits = subst (λ r. Fits engine (lists_after r l l')) (sym (refused_with result e q)) (subst (λ b. Fits engine (if b then forgotten_lists else l)) (sym f) fits)
 
 pub fits_by : {T : Type 0} (next : Counts) (result : Result Unit Refusal) (new : Engine T) (l l' : Lists) → Remembers next result new → CountsOf next l' → l'.failed ≡ false →
     Fits new (lists_after result l l')
@@ -260,16 +255,6 @@ clear_paints w h l c next p1 o o' =
 
 some_wide-append : (w : ℕ) (a b : List (List ℕ)) → some_wide w (a ++ b) ≡ (some_wide w a || some_wide w b)
 some_wide-append w a b = list_any-append (has_wide w) a b
-
-pub answer_withheld : (w : ℕ) (some lines : List (List ℕ)) (e : Refusal) (r : Result Unit Refusal) → IsRefused r e → (some_wide w some ≡ true → some_wide w lines ≡ true) → IsWithheld w some e →
-    Answers w lines r
-answer_withheld w some lines e r q f m = rw (refused_with r e q) (withheld_by w some lines e f m).1
-
-pub wide_left : (w : ℕ) (a b : List (List ℕ)) → some_wide w a ≡ true → some_wide w (a ++ b) ≡ true
-wide_left w a b t = some_wide-append w a b ∙ rw t refl
-
-pub wide_right : (w : ℕ) (a b : List (List ℕ)) → some_wide w b ≡ true → some_wide w (a ++ b) ≡ true
-wide_right w a b t = some_wide-append w a b ∙ rw t (or-true (some_wide w a))
 
 pub answer_made : {T : Type 0} (w : ℕ) (lines : List (List ℕ)) (next : Counts) (r : Result Unit Refusal) (new : Engine T) → Remembers next r new →
     0 < w → IsFalse (some_wide w lines) → Answers w lines r

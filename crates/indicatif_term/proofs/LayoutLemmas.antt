@@ -14,7 +14,7 @@ use Rattle.indicatif_text.specs.Columns.{rows_of, has_wide}
 use Rattle.indicatif_term.specs.Lists.{BarRows, BarLines, segments_height, shown_rows, fitting, grouped, onto_segments, lines_of}
 use Rattle.indicatif_term.specs.Frames.{bar_lines, all_lines, some_wide, line_text}
 use Rattle.indicatif_term.specs.Counts.{row_count}
-use Rattle.indicatif_term.specs.Inside.Plans.{IsLaidOut, IsSummed, IsPlaced, IsPlan, Measured, IsWithheld}
+use Rattle.indicatif_term.specs.Inside.Plans.{IsLaidOut, IsSummed, IsPlaced, IsPlan, IsWithheld}
 use Rattle.indicatif_term.specs.declared.layout.RowCount.{RowCount}
 use Rattle.indicatif_term.specs.declared.layout.Plan.{Plan}
 use Rattle.indicatif_term.specs.declared.lines.Segment.{Segment}
@@ -205,9 +205,8 @@ module _ (w h : ℕ) (frame : List Segment) (i : ℕ) (s : Segment) (within : i 
       ∙ ap (λ b. some_wide w (all_lines (map bar_lines (take i frame))) || b) (list_any-append (has_wide w) (bar_lines s).lines (all_lines (map bar_lines (drop (i + 1) frame))) ∙ rw e refl)
       ∙ or-true (some_wide w (all_lines (map bar_lines (take i frame))))
 
-  pub frame_refused : (before : List BarRows) (p : Plan) (e : Refusal) (pass : ℕ) (r : Result Plan Refusal) → r ≡ Err e → IsPlaced w h before (bar_lines s) p (Err e) →
-      Measured w h pass (map bar_lines frame) r
-  frame_refused before p e pass r q m = rw q (withheld_by w (bar_lines s).lines (all_lines (map bar_lines frame)) e wide_member m)
+  pub frame_refused : (before : List BarRows) (p : Plan) (e : Refusal) → IsPlaced w h before (bar_lines s) p (Err e) → IsWithheld w (all_lines (map bar_lines frame)) e
+  frame_refused before p e m = withheld_by w (bar_lines s).lines (all_lines (map bar_lines frame)) e wide_member m
 
 -- a member with a line is in a frame with one
 pub some_line : (frame : List Segment) (i : ℕ) (s : Segment) → i < length frame → get_or frame i s ≡ s → 0 < length (bar_lines s).lines → 0 < length (all_lines (map bar_lines frame))

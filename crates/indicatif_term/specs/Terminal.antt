@@ -82,9 +82,9 @@ is_leading b = nat_lt b 0x80 || nat_le 0xC0 b
 abbrev pub spelling_with : List ℕ → ℕ → List ℕ
 spelling_with spelling b = (if is_leading b then [] else spelling) ++ b ∷ []
 
--- what is kept of bytes that spell no character: nothing once they are four, as many as a character has
-abbrev pub kept : List ℕ → List ℕ
-kept bytes = if nat_lt (length bytes) 4 then bytes else []
+-- what is left of bytes that spell no character: nothing once they are four, as many as a character has
+abbrev pub left_over : List ℕ → List ℕ
+left_over bytes = if nat_lt (length bytes) 4 then bytes else []
 
 -- the character that bytes spell
 abbrev pub first_char : List ℕ → ℕ
@@ -101,7 +101,7 @@ abbrev pub byte_reader : Reader → ℕ → Reader
 byte_reader r b =
     let bytes = spelling_with r.spelling b in
     if is_utf8 bytes then record { place = char_place r.place (first_char bytes); spelling = [] }
-    else record { place = r.place; spelling = kept bytes }
+    else record { place = r.place; spelling = left_over bytes }
 
 -- what bytes ask for, and the reader after them
 abbrev pub ops_of : Reader → List ℕ → List Op

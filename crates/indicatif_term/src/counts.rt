@@ -85,7 +85,7 @@ impl Counts {
             };
             return rows.settled(self.reached, height);
         }
-        let passing_rows = rows_of(&plan.segments[..plan.passing]);
+        let passing_rows = total_rows(&plan.segments[..plan.passing]);
         let rows = NextRows {
             kept: self.kept + (blanks + passing_rows),
             blanks: 0,
@@ -209,7 +209,7 @@ pub fn blanks_of(bottom: bool, free: usize, bars: usize) -> usize
 }
 
 /// All rows of these segments.
-fn rows_of(segments: &[RowCount]) -> usize
+fn total_rows(segments: &[RowCount]) -> usize
     requires { sum_by (λ s. s.rows) segments.now ≤ 65535 }
     ensures { result ≡ sum_by (λ s. s.rows) segments.now }
 {

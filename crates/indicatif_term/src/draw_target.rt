@@ -9,7 +9,7 @@ ghost use Rattle.indicatif_term.specs.Lists.{opening_lists};
 
 pub use crate::counts::Keep;
 use crate::counts::{Counts, blanks_of};
-use crate::layout::{metrics_of_text, plan_frame};
+use crate::layout::plan_drawing;
 pub use crate::limiter::RateLimiter;
 pub use crate::lines::{LineType, Segment};
 use crate::painting::{Drawing, Painting, paint};
@@ -145,9 +145,9 @@ impl<T: TermLike + Drop> Engine<T> {
             Paints s (T.view (engine_term self.new)) (is_failure result) l (lists_after result l
             (drawn s.columns s.rows (is_bottom alignment) pass (map bar_lines frame.now) l)) }
     {
-        let window = Window::of(&self.term)?;
-        let segments = self.spare.take(self.alloc);
-        let plan = plan_frame(segments, frame, pass, window)?;
+        let planned = plan_drawing(&self.term, &mut self.spare, None, frame, pass)?;
+        let window = planned.window;
+        let plan = planned.plan;
         let taken = self.counts.live;
         let blanks = blanks_of(alignment.is_bottom(), taken, plan.rows);
         let drawing = Drawing {
@@ -192,10 +192,10 @@ impl<T: TermLike + Drop> Engine<T> {
             (logged s.columns s.rows (is_bottom alignment)
             (text_lines (logged_lines text.now)) (map bar_lines frame.now) l)) }
     {
-        let window = Window::of(&self.term)?;
-        let metrics = metrics_of_text(text, window)?;
-        let segments = self.spare.take(self.alloc);
-        let plan = plan_frame(segments, frame, 0, window)?;
+        let planned = plan_drawing(&self.term, &mut self.spare, Some(text), frame, 0)?;
+        let window = planned.window;
+        let metrics = planned.text;
+        let plan = planned.plan;
         let taken = self.counts.kept + self.counts.live;
         let free = taken.saturating_sub(metrics.height);
         let blanks = blanks_of(alignment.is_bottom(), free, plan.rows);

@@ -2,11 +2,13 @@
 ghost use Rattle.std.specs.Prelude.{◌≡◌, ◌≢◌, Err, ◌+◌, ◌<◌, ◌≤◌, ◌++◌, ◌∷◌, [], ℕ, map, length, chars, List, IfOk, IfErr, sum_by};
 ghost use Rattle.indicatif_term.specs.Lists.{BarRows, onto_segments};
 ghost use Rattle.indicatif_term.specs.Frames.{bar_lines, all_lines, logged_lines};
-ghost use Rattle.indicatif_term.specs.Inside.Plans.{IsSummed, IsLaidOut, IsPlaced, Measured, MeasuredLine, MeasuredText};
+ghost use Rattle.indicatif_term.specs.Inside.Plans.{IsSummed, IsLaidOut, IsPlaced, Measured, MeasuredLine, MeasuredText, PlannedFor, text_above};
 ghost use Rattle.indicatif_term.specs.Inside.Fills.{PlanEndsAt, member_ends, frame_ends};
 ghost use Rattle.indicatif_term.specs.Counts.{row_count};
 
 use crate::lines::Segment;
+use crate::spare::SpareCounts;
+use crate::term_like::TermLike;
 use crate::window::Window;
 use indicatif_text::columns::{Metrics, Refusal, wrapped};
 use std::convert::AsStr;
@@ -33,20 +35,48 @@ pub struct Plan {
     pub passing: usize,
 }
 
-/// The plan of a frame of which the first `pass` members are dropped; its segments stand in `segments`.
-pub fn plan_frame(
-    segments: Vec<RowCount>,
+/// A text and a frame, measured for a terminal's window.
+#[derive(Drop)]
+pub struct Planned {
+    pub window: Window,
+    /// The rows of the text, and how many columns its last line takes of its last row; both 0 where there is no text.
+    pub text: Metrics,
+    pub plan: Plan,
+}
+
+/// Measures what is to be written on a terminal; the first `pass` members of the frame are to be dropped. Its counts stand in
+/// spare room.
+pub fn plan_drawing<T: TermLike>(
+    term: &T,
+    spare: &mut SpareCounts,
+    text: Option<&str>,
+    frame: &[Segment],
+    pass: usize,
+) -> Result<Planned, Refusal>
+    ensures planned { PlannedFor (T.view term.now) pass (text_above text.entry) frame.now result }
+    ensures memory { result ≡ Err Refusal.Memory →
+        (0 < (T.view term.now).columns) × (0 < length (all_lines (map bar_lines frame.now))) }
+{
+    let window = Window::of(term)?;
+    let text = metrics_above(text, window)?;
+    let plan = plan_frame(spare, frame, pass, window)?;
+    Ok(Planned { window, text, plan })
+}
+
+/// The plan of a frame of which the first `pass` members are dropped. Its counts stand in spare room, which is kept where the
+/// frame is refused.
+fn plan_frame(
+    spare: &mut SpareCounts,
     frame: &[Segment],
     pass: usize,
     window: Window,
 ) -> Result<Plan, Refusal>
-    requires { segments.items ≡ [] }
     ensures plan { Measured window.columns window.rows pass (map bar_lines frame.now) result }
     ensures ends { IfOk result (λ p. PlanEndsAt (frame_ends window.columns frame.now) p) }
     ensures memory { result ≡ Err Refusal.Memory → 0 < length (all_lines (map bar_lines frame.now)) }
 {
     let mut plan = Plan {
-        segments,
+        segments: spare.take(),
         rows: 0,
         lines: 0,
         last: None,
@@ -55,7 +85,10 @@ pub fn plan_frame(
     };
     let mut left = pass;
     for member in frame {
-        place_member(&mut plan, member, window)?;
+        if let Err(e) = place_member(&mut plan, member, window) {
+            spare.keep(plan.segments);
+            return Err(e);
+        }
         if left > 0 {
             left -= 1;
             plan.passing = plan.segments.len();
@@ -135,9 +168,23 @@ fn metrics_of(line: &str, window: Window) -> Result<Metrics, Refusal>
     wrapped(line, window.columns)
 }
 
+/// The same of a text that is logged, if any is: without one 0 rows, and 0 columns.
+fn metrics_above(text: Option<&str>, window: Window) -> Result<Metrics, Refusal>
+    ensures measured { MeasuredText window.columns (text_above text.entry) result }
+    ensures no_memory { result ≢ Err Refusal.Memory }
+{
+    match text {
+        Some(text) => metrics_of_text(text, window),
+        None => Ok(Metrics {
+            height: 0,
+            last_line_width: 0,
+        }),
+    }
+}
+
 /// The rows of the lines of a text that is logged, or 2^64 - 1 where there are more, and how many columns the last line takes
 /// of its last row.
-pub fn metrics_of_text(text: &str, window: Window) -> Result<Metrics, Refusal>
+fn metrics_of_text(text: &str, window: Window) -> Result<Metrics, Refusal>
     ensures measured { MeasuredText window.columns (logged_lines text.now) result }
     ensures no_memory { result ≢ Err Refusal.Memory }
 {

@@ -10,6 +10,11 @@ use std::io::Write;
 use std::marker::Model;
 
 /// What a program knows of a stream that may be a terminal. The library looks none of it up.
+///
+/// ```
+/// let facts = Facts { rows: 24, cols: 80, attended: true, term: None };
+/// facts.hides() // true: where TERM is unset, moves of the cursor may do nothing
+/// ```
 #[derive(Debug, Drop)]
 pub struct Facts {
     /// The terminal's rows.

@@ -10,7 +10,7 @@ use Rattle.indicatif_bar.specs.Tabs.{expanded}
 use Rattle.indicatif_bar.specs.Progress.{Progress}
 use Rattle.indicatif_bar.specs.Trackers.{Tracking}
 use Rattle.indicatif_bar.specs.Keys.{key_named}
-use Rattle.indicatif_bar.specs.BarStyles.{Style, Wide, WideBarOf, WideMessageOf, wide_of, key_text, in_layout, lines_with}
+use Rattle.indicatif_bar.specs.BarStyles.{BarStyle, Wide, WideBarOf, WideMessageOf, wide_of, key_text, in_layout, lines_with}
 use Rattle.indicatif_bar.specs.declared.style.steps.Source.{Source}
 use Rattle.indicatif_bar.specs.declared.style.steps.Source.TheVariants.{Tracker, Known, Nothing}
 use Rattle.indicatif_bar.specs.declared.style.steps.Held.{Held}
@@ -23,7 +23,7 @@ use Rattle.indicatif_bar.specs.declared.style.steps.Step.TheVariants as step
 pub data Effect : Type 0 where
   WritesText : (text : List ℕ) → Effect
   Breaks : Effect
-  Holds : (source : Source) → (layout : Layout) → Effect
+  PutsSource : (source : Source) → (layout : Layout) → Effect
 
 -- the layout of a placeholder
 abbrev pub held_layout : Held → Layout
@@ -39,7 +39,7 @@ abbrev pub effect_of : List TemplatePart → Step → Effect
 effect_of parts (step.Text text) = WritesText (string_bytes text)
 effect_of parts (step.Literal place) = WritesText (literal_text (slice_get parts place))
 effect_of parts step.Break = Breaks
-effect_of parts (step.Placeholder held) = Holds held.source (held_layout held)
+effect_of parts (step.Placeholder held) = PutsSource held.source (held_layout held)
 
 -- the names of trackers
 abbrev pub names_of : {K : Type 0} → List (String Global × K) → List (List ℕ)
@@ -58,7 +58,7 @@ source_of names name = source_at name (position (bytes_eq name) names)
 abbrev pub effect_of_part : List (List ℕ) → ℕ → TemplatePart → Effect
 effect_of_part names tab (LiteralText text) = WritesText (expanded tab (encode_utf8_all text))
 effect_of_part names tab LineBreak = Breaks
-effect_of_part names tab (KeyText key layout) = Holds (source_of names (encode_utf8_all key)) layout
+effect_of_part names tab (KeyText key layout) = PutsSource (source_of names (encode_utf8_all key)) layout
 
 -- the wide placeholder that a deed is
 abbrev pub wide_source : Layout → Source → Option Wide
@@ -66,7 +66,7 @@ wide_source layout (Known key) = wide_of layout key
 wide_source layout _ = None
 
 abbrev pub wide_effect : Effect → Option Wide
-wide_effect (Holds source layout) = wide_source layout source
+wide_effect (PutsSource source layout) = wide_source layout source
 wide_effect _ = None
 
 -- the wide placeholder that a found one is
@@ -78,7 +78,7 @@ wide_found (wide_key.Message held) = WideMessageOf (held_layout held)
 abbrev pub wide_after : Option Wide → Effect → Option Wide
 wide_after before deed = elim (wide_effect deed) [ Some wide ↦ Some wide | None ↦ before ]
 
-module _ {K : Type 0} (m : Tracking K) (style : Style K) (p : Progress) (now : ℕ) where
+module _ {K : Type 0} (m : Tracking K) (style : BarStyle K) (p : Progress) (now : ℕ) where
   -- the text from a source
   abbrev pub source_text : Layout → Source → List ℕ
   source_text layout (Tracker k) = option_map_or (λ entry. expanded style.tab (m.text entry.1 p now)) (slice_get style.keys k) []
@@ -89,12 +89,12 @@ module _ {K : Type 0} (m : Tracking K) (style : Style K) (p : Progress) (now : �
   abbrev pub effect_text : Effect → List ℕ
   effect_text (WritesText text) = text
   effect_text Breaks = []
-  effect_text (Holds source layout) = in_layout m style p now layout (source_text layout source)
+  effect_text (PutsSource source layout) = in_layout m style p now layout (source_text layout source)
 
   -- the lines of deeds, where a wide key has stood so far and the line at hand has this text
   abbrev pub lines_from : ℕ → Option Wide → List ℕ → List Effect → List (List ℕ)
   lines_from columns wide text [] = if length text == 0 then [] else lines_with style p columns wide text
   lines_from columns wide text (Breaks ∷ deeds) = lines_with style p columns wide text ++ lines_from columns wide [] deeds
   lines_from columns wide text (WritesText more ∷ deeds) = lines_from columns wide (text ++ more) deeds
-  lines_from columns wide text (Holds source layout ∷ deeds) =
-      lines_from columns (wide_after wide (Holds source layout)) (text ++ effect_text (Holds source layout)) deeds
+  lines_from columns wide text (PutsSource source layout ∷ deeds) =
+      lines_from columns (wide_after wide (PutsSource source layout)) (text ++ effect_text (PutsSource source layout)) deeds

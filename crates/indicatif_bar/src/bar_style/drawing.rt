@@ -9,7 +9,7 @@ ghost use Rattle.indicatif_bar.specs.Tabs.{expanded};
 ghost use Rattle.indicatif_bar.specs.Progress.{fraction, is_finished, shown_message};
 ghost use Rattle.indicatif_bar.specs.Layout.{bar_text, padded};
 ghost use Rattle.indicatif_bar.specs.BarStyles.{key_text, tick_string, final_tick_string, wide_text, lines_with, lines, columns_left, ends_in_mark};
-ghost use Rattle.indicatif_bar.specs.Inside.Steps.{Holds, held_layout, source_text, effect_text, wide_found};
+ghost use Rattle.indicatif_bar.specs.Inside.Steps.{PutsSource, held_layout, source_text, effect_text, wide_found};
 
 use crate::bar_style::ProgressStyle;
 use crate::progress::ProgressState;
@@ -177,7 +177,7 @@ impl<K: ProgressTracker> ProgressStyle<K> {
         out: &mut String,
     ) -> Result<(), Refusal>
         ensures text { OnOk result (string_bytes out.new ≡ string_bytes out.old
-            ++ effect_text K.means self.now state.now now (Holds held.now.source (held_layout held.now))) }
+            ++ effect_text K.means self.now state.now now (PutsSource held.now.source (held_layout held.now))) }
         ensures memory { IfErr result (λ e. e ≡ Refusal.Memory) }
     {
         let style = held.text_style();

@@ -1,34 +1,19 @@
--- The members of a board, their numbers and their lines as they are kept, and what an engine made of them.
-use Rattle.std.specs.Prelude.{◌≡◌, ℕ, ◌<◌, Bool, false, IsTrue, IsFalse, List, map, length, Option, Some, None, Result, Err, IfErr}
+-- A bar's place and its lines, if one is named, and what an engine made of a board's lines.
+use Rattle.std.specs.Prelude.{◌≡◌, ℕ, ◌<◌, Bool, false, IsTrue, IsFalse, List, length, Option, Some, None, Result, Err, IfErr}
 use Rattle.indicatif_text.specs.declared.refusal.Refusal.{Refusal}
 use Rattle.indicatif_text.specs.declared.refusal.Refusal.TheVariants.{Memory}
 use Rattle.indicatif_term.specs.Calls.{TermView}
 use Rattle.indicatif_term.specs.Lists.{Lists, BarLines}
-use Rattle.indicatif_term.specs.Limiters.{Limiter}
-use Rattle.indicatif_term.specs.Frames.{bar_lines, are_plain, is_fault}
+use Rattle.indicatif_term.specs.Frames.{are_plain, is_fault}
 use Rattle.indicatif_term.specs.Engines.{engine_term, Fits, Answers, Counted, Paints, is_failure, lists_after}
 use Rattle.indicatif_term.specs.declared.draw_target.Engine.{Engine}
-use Rattle.indicatif_term.specs.declared.lines.Segment.{Segment}
 use Rattle.indicatif_bar.specs.Trackers.{Tracking}
 use Rattle.indicatif_bar.specs.Commands.{BarRecord}
 use Rattle.indicatif_bar.specs.Machines.{Target, target_of}
 use Rattle.indicatif_bar.specs.Kinds.{Writing, rows_take, lines_to_write, written_lists}
 use Rattle.indicatif_board.specs.BoardBars.{board_bars}
-use Rattle.indicatif_board.specs.Members.{Member, place_of, frame_of}
+use Rattle.indicatif_board.specs.Members.{Member, place_of}
 use Rattle.indicatif_board.specs.Boards.{BoardState, laid_out, lays_out}
-use Rattle.indicatif_board.specs.declared.members.Member.{Member as MemberValue}
-
--- a member without its number and lines
-abbrev pub member_of : {K : Type 0} → Member (BarRecord K) → MemberValue K
-member_of m = record { bar = m.bar; dropped = m.dropped }
-
--- the members, numbers and lines of a state stand in these lists
-pub record Holds {K : Type 0} (frame : List Segment) (members : List (MemberValue K)) (made : ℕ) (bottom : Bool) (limiter : Option Limiter) (s : BoardState (BarRecord K)) : Type 0 where
-  pub members_are : members ≡ map member_of s.members
-  pub frame_is : map bar_lines frame ≡ frame_of s.members
-  pub made_is : made ≡ s.made
-  pub bottom_is : bottom ≡ s.bottom
-  pub limiter_is : limiter ≡ s.limiter
 
 -- a bar's place, if one is named
 abbrev pub HasPlace : {B : Type 0} → Option ℕ → Option ℕ → List (Member B) → Type 0

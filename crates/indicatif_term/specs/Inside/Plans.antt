@@ -5,12 +5,14 @@ use Rattle.indicatif_text.specs.Columns.{has_wide, rows_of, last_columns}
 use Rattle.indicatif_text.specs.declared.columns.Metrics.{Metrics}
 use Rattle.indicatif_text.specs.declared.refusal.Refusal.{Refusal}
 use Rattle.indicatif_term.specs.Lists.{BarLines, BarRows, shown_rows, fitting, grouped, lines_of, segments_height}
-use Rattle.indicatif_term.specs.Frames.{line_text, all_lines, text_lines, logged_lines, some_wide, RefusesLines, is_fault}
+use Rattle.indicatif_term.specs.Calls.{TermView}
+use Rattle.indicatif_term.specs.Frames.{line_text, bar_lines, all_lines, text_lines, logged_lines, some_wide, RefusesLines, is_fault}
 use Rattle.indicatif_term.specs.Counts.{row_count}
-use Rattle.indicatif_term.specs.Inside.Fills.{line_end, last_or_none}
+use Rattle.indicatif_term.specs.Inside.Fills.{line_end, last_or_none, PlanEndsAt, frame_ends}
 use Rattle.indicatif_term.specs.declared.lines.Segment.{Segment}
 use Rattle.indicatif_term.specs.declared.layout.RowCount.{RowCount}
 use Rattle.indicatif_term.specs.declared.layout.Plan.{Plan}
+use Rattle.indicatif_term.specs.declared.layout.Planned.{Planned}
 
 -- ---- what is written
 
@@ -75,3 +77,20 @@ abbrev pub MeasuredText : ℕ → List (List ℕ) → Result Metrics Refusal →
 MeasuredText w text result =
     MatchResult result (λ m. IsFalse (some_wide w (text_lines text)) × (m.height ≡ min (text_height w (text_lines text)) (2 ^ 64 - 1))
     × (m.last_line_width ≡ line_end w (last_or_none text))) (λ e. IsWithheld w (text_lines text) e)
+
+-- what is written is measured for a terminal's window, and none of its lines is too wide
+pub record IsPlannedFor (v : TermView) (pass : ℕ) (text : List (List ℕ)) (frame : List Segment) (p : Planned) : Type 0 where
+  pub columns_are : p.window.columns ≡ v.columns
+  pub rows_are : p.window.rows ≡ v.rows
+  pub narrow_text : IsFalse (some_wide v.columns (text_lines text))
+  pub narrow_frame : IsFalse (some_wide v.columns (all_lines (map bar_lines frame)))
+  pub height_is : p.text.height ≡ min (text_height v.columns (text_lines text)) (2 ^ 64 - 1)
+  pub text_ends : p.text.last_line_width ≡ line_end v.columns (last_or_none text)
+  pub plan_is : IsPlan v.columns v.rows pass (map bar_lines frame) p.plan
+  pub is_summed : IsSummed v.rows p.plan
+  pub plan_ends : PlanEndsAt (frame_ends v.columns frame) p.plan
+
+-- the same, or why nothing is written
+abbrev pub PlannedFor : TermView → ℕ → List (List ℕ) → List Segment → Result Planned Refusal → Type 0
+PlannedFor v pass text frame result =
+    MatchResult result (λ p. IsPlannedFor v pass text frame p) (λ e. IsWithheld v.columns (text_lines text ++ all_lines (map bar_lines frame)) e)

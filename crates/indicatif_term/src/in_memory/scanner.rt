@@ -171,7 +171,7 @@ impl Scanner {
         let spelling = self.spelling.with(byte);
         let (op, stage, spelling) = match spelling.character() {
             Some(c) => (self.stage.op(c), self.stage.after(c), Spelling::empty()),
-            None => (None, self.stage, spelling.kept()),
+            None => (None, self.stage, spelling.left_over()),
         };
         Reading {
             op,

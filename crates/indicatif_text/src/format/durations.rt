@@ -75,29 +75,29 @@ impl TimeUnit {
 
 /// A duration as so many of a unit.
 #[derive(Clone, Copy, Drop)]
-struct Told {
+struct CountOfUnit {
     count: u64,
     unit: TimeUnit,
 }
 
-impl Told {
+impl CountOfUnit {
     /// A duration in the unit that people tell it in.
-    fn of(nanos: u64) -> Told
+    fn of(nanos: u64) -> CountOfUnit
         ensures count { result.count ≡ (count_and_unit nanos).0 }
         ensures unit { span_of result.unit ≡ (count_and_unit nanos).1 }
     {
         if nanos >= YEAR + YEAR / 2 - WEEK / 2 {
-            Told::at_least_two(nanos, TimeUnit::Year)
+            CountOfUnit::at_least_two(nanos, TimeUnit::Year)
         } else if nanos >= WEEK + WEEK / 2 - DAY / 2 {
-            Told::at_least_two(nanos, TimeUnit::Week)
+            CountOfUnit::at_least_two(nanos, TimeUnit::Week)
         } else if nanos >= DAY + DAY / 2 - HOUR / 2 {
-            Told::at_least_two(nanos, TimeUnit::Day)
+            CountOfUnit::at_least_two(nanos, TimeUnit::Day)
         } else if nanos >= HOUR + HOUR / 2 - MINUTE / 2 {
-            Told::at_least_two(nanos, TimeUnit::Hour)
+            CountOfUnit::at_least_two(nanos, TimeUnit::Hour)
         } else if nanos >= MINUTE + MINUTE / 2 - SECOND / 2 {
-            Told::at_least_two(nanos, TimeUnit::Minute)
+            CountOfUnit::at_least_two(nanos, TimeUnit::Minute)
         } else {
-            Told {
+            CountOfUnit {
                 count: rounded_half_up(nanos, SECOND),
                 unit: TimeUnit::Second,
             }
@@ -106,11 +106,11 @@ impl Told {
 
     /// A duration in a unit, rounded to nearest, a half up, and at least 2.
     #[inline(always)]
-    fn at_least_two(nanos: u64, unit: TimeUnit) -> Told
+    fn at_least_two(nanos: u64, unit: TimeUnit) -> CountOfUnit
         ensures count { result.count ≡ max 2 (rounded_half_up nanos (span_of unit).nanos) }
         ensures unit { result.unit ≡ unit }
     {
-        Told {
+        CountOfUnit {
             count: rounded_half_up(nanos, unit.nanos()).max(2),
             unit,
         }
@@ -140,7 +140,7 @@ pub(crate) fn formatted_text(nanos: u64) -> ShortText
 pub(crate) fn words_text(nanos: u64) -> ShortText
     ensures { result ≡ human_duration nanos }
 {
-    let told = Told::of(nanos);
+    let told = CountOfUnit::of(nanos);
     let mut text = ShortText::new();
     if told.count != 1 {
         text.prepend(b's');
@@ -155,7 +155,7 @@ pub(crate) fn words_text(nanos: u64) -> ShortText
 pub(crate) fn letter_text(nanos: u64) -> ShortText
     ensures { result ≡ short_duration nanos }
 {
-    let told = Told::of(nanos);
+    let told = CountOfUnit::of(nanos);
     let mut text = ShortText::new();
     text.prepend(told.unit.letter());
     text.prepend_number(told.count);

@@ -1,6 +1,5 @@
 use Rattle.std.proofs.Common.{arith, ◌+◌, ◌≡◌, ◌∙◌, refl, sym, ap, Err, map, take, []}
 use Rattle.indicatif_text.specs.declared.refusal.Refusal.TheVariants.{Memory}
-use Rattle.std.proofs.lemmas.Result.{err_from_is_err_and}
 use Rattle.std.proofs.lemmas.List.{take_all}
 use Rattle.indicatif_term.specs.Lists.{lines_of}
 use Rattle.indicatif_term.specs.Inside.Fills.{PlanEndsAt, frame_ends}
@@ -12,29 +11,27 @@ use Rattle.indicatif_term.proofs.layout.plan_frame.Goals.{then-left-gt0, else-le
 
 pub loop-member-init : goal.loop-member-init
 loop-member-init c =
-    let empty = nothing_laid c.args.window.rows c.args.segments c.requires in
+    let empty = nothing_laid c.args.window.rows c.take.result c.take.ensures in
     record {
       left_is = omega arith;
       summed = empty.0;
       narrow = refl;
       laid = nothing_of c.args.window.columns c.args.window.rows [] _ empty.1;
       passing = nothing_passes c.args.window.columns c.args.window.rows c.args.pass c.args.frame.now;
-      ends = nothing_ends c.args.segments;
+      ends = nothing_ends c.take.result;
     }
 
-pub returns-in_err-place_member-clause-plan : goal.returns-in_err-place_member-clause-plan
-returns-in_err-place_member-clause-plan c =
-    let x = err_from_is_err_and c.from_residual.result c.from_residual.ensures.1 in
+pub returns-in-Err-clause-plan : goal.returns-in-Err-clause-plan
+returns-in-Err-clause-plan c =
+    let wide = c.args.window.columns in
     let i = c.loop-member.member-index in
-    frame_refused c.args.window.columns c.args.window.rows c.args.frame.now i c.member-item.result (omega arith) (sym c.member-item.is)
-    (lines_of c.args.window.columns (map bar_lines (take i c.args.frame.now))) c.place_member.new.plan c.in_err-place_member.field-0.0 c.args.pass c.from_residual.result (x.1 ∙ ap Err x.2)
-    (c.in_err-place_member.ensures.placed _ c.loop-member.invariant.laid)
+    frame_refused wide c.args.window.rows c.args.frame.now i c.member-item.result (omega arith) (sym c.member-item.is) (lines_of wide (map bar_lines (take i c.args.frame.now))) c.place_member.new.plan
+    c.in-Err.e (c.in-Err.ensures.placed _ c.loop-member.invariant.laid)
 
-pub returns-in_err-place_member-clause-memory : goal.returns-in_err-place_member-clause-memory
-returns-in_err-place_member-clause-memory c = λ e.
-    let x = err_from_is_err_and c.from_residual.result c.from_residual.ensures.1 in
-    let same : c.in_err-place_member.field-0.0 ≡ Memory = cc (x.1, x.2, e) in
-    some_line c.args.frame.now c.loop-member.member-index c.member-item.result (omega arith) (sym c.member-item.is) (c.in_err-place_member.ensures.memory (ap Err same))
+pub returns-in-Err-clause-memory : goal.returns-in-Err-clause-memory
+returns-in-Err-clause-memory c = λ e.
+    let same : c.in-Err.e ≡ Memory = cc e in
+    some_line c.args.frame.now c.loop-member.member-index c.member-item.result (omega arith) (sym c.member-item.is) (c.in-Err.ensures.memory (ap Err same))
 
 pub loop-member-preserved : goal.loop-member-preserved
 loop-member-preserved c =
@@ -45,14 +42,14 @@ loop-member-preserved c =
     let s = c.member-item.result in
     let p = c.place_member.new.plan in
     let old = c.loop-member.invariant in
-    let placed = c.in_ok-place_member.ensures.placed _ old.laid in
+    let placed = c.in_default.ensures.placed _ old.laid in
     let narrow = narrow_step wide high frame i s (omega arith) (sym c.member-item.is) old.narrow placed.0 in
     let laid = lines_step wide high frame i s (omega arith) (sym c.member-item.is) [] p placed.1 in
-    let ends : PlanEndsAt (frame_ends wide (take (i + 1) frame)) p = rw (member_ends_step wide frame i s (omega arith) (sym c.member-item.is)) (c.in_ok-place_member.ensures.ends _ old.ends) in
+    let ends : PlanEndsAt (frame_ends wide (take (i + 1) frame)) p = rw (member_ends_step wide frame i s (omega arith) (sym c.member-item.is)) (c.in_default.ensures.ends _ old.ends) in
     elim c.if-left-gt0.branch [
       | then-left-gt0 w ↦ rw (w.plan-is, w.left-is) (record {
         left_is = omega (arith, old.left_is, w.if-left-gt0.true);
-        summed = still_summed high w.len.result p c.in_ok-place_member.ensures.summed (omega (arith, w.len.ensures));
+        summed = still_summed high w.len.result p c.in_default.ensures.summed (omega (arith, w.len.ensures));
         narrow = narrow;
         laid = still_laid high w.len.result _ p laid;
         passing = passing_now wide high c.args.pass i w.len.result frame p laid (omega (arith, old.left_is, w.if-left-gt0.true)) (omega (arith, w.len.ensures));
@@ -60,7 +57,7 @@ loop-member-preserved c =
       })
       | else-left-gt0 w ↦ rw (w.plan-is, w.left-is) (record {
         left_is = omega (arith, old.left_is, w.if-left-gt0.false);
-        summed = c.in_ok-place_member.ensures.summed;
+        summed = c.in_default.ensures.summed;
         narrow = narrow;
         laid = laid;
         passing = passing_same wide high c.args.pass i _ frame (omega (arith, old.left_is, w.if-left-gt0.false)) (c.place_member.ensures.passing ∙ old.passing);

@@ -6,8 +6,8 @@ use Rattle.indicatif_bar.specs.Bars.{bar_kind}
 use Rattle.indicatif_bar.specs.Machines.{target_of}
 use Rattle.indicatif_bar.specs.Lone.{draw_asked, lone}
 use Rattle.indicatif_bar.specs.LoneBars.{IsIn, known}
-use Rattle.indicatif_bar.specs.Inside.Draws.{DrewOn}
-use Rattle.indicatif_bar.specs.Inside.Shown.{writing_as}
+use Rattle.indicatif_bar.specs.Shown.{DrewOn}
+use Rattle.indicatif_bar.specs.Inside.Writings.{writing_as}
 use Rattle.indicatif_bar.proofs.OutcomeLemmas.{drew_none, outcome-unasked, outcome-hidden}
 use Rattle.indicatif_bar.proofs.lone.LoneBar.draw.Goals as goal
 

@@ -7,7 +7,8 @@ use Rattle.indicatif_bar.specs.Bars.{bar_kind}
 use Rattle.indicatif_bar.specs.Kinds.{asked_of}
 use Rattle.indicatif_bar.specs.Machines.{target_of}
 use Rattle.indicatif_bar.specs.Lone.{lines_take, draw_asked, lone}
-use Rattle.indicatif_bar.specs.Inside.Shown.{ShownAs, writing_as}
+use Rattle.indicatif_bar.specs.Shown.{ShownAs}
+use Rattle.indicatif_bar.specs.Inside.Writings.{writing_as}
 use Rattle.indicatif_bar.proofs.OutcomeLemmas.{drew_withheld, drew_limited}
 use Rattle.indicatif_bar.proofs.LoneDrawLemmas.{drew_so, asked_same, holds_ready}
 use Rattle.indicatif_bar.proofs.shown.ShownBar.draw_on.Goals as goal

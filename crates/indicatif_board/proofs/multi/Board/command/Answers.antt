@@ -5,7 +5,7 @@ use Rattle.indicatif_term.specs.Engines.{is_bottom}
 use Rattle.indicatif_bar.specs.Commands.{BarRecord, obeyed, command_of, is_beyond_clock, takes_memory}
 use Rattle.indicatif_bar.specs.Kinds.{Frame}
 use Rattle.indicatif_bar.specs.Machines.{target_of}
-use Rattle.indicatif_bar.specs.Inside.Draws.{DrewOn}
+use Rattle.indicatif_bar.specs.Shown.{DrewOn}
 use Rattle.indicatif_bar.specs.declared.state.Ask.TheVariants.{No}
 use Rattle.indicatif_board.specs.BoardBars.{board_bars}
 use Rattle.indicatif_board.specs.BoardValues.{id_of}

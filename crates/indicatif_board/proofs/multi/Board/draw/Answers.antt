@@ -4,7 +4,7 @@ use Rattle.indicatif_text.specs.declared.refusal.Drawn.TheVariants.{Limited, Hid
 use Rattle.indicatif_term.specs.Engines.{engine_term, Fits}
 use Rattle.indicatif_term.specs.Lists.{opening_lists}
 use Rattle.indicatif_bar.specs.Machines.{target_of}
-use Rattle.indicatif_bar.specs.Inside.Draws.{DrewOn}
+use Rattle.indicatif_bar.specs.Shown.{DrewOn}
 use Rattle.indicatif_bar.proofs.OutcomeLemmas.{drew_none, outcome-unasked, outcome-hidden}
 use Rattle.indicatif_board.specs.BoardBars.{board_bars}
 use Rattle.indicatif_board.specs.Boards.{draw_of, board}

@@ -5,7 +5,7 @@ use Rattle.indicatif_bar.specs.Commands.{BarRecord, after_drop}
 use Rattle.indicatif_bar.specs.Kinds.{Frame}
 use Rattle.indicatif_bar.specs.Machines.{target_of, Draws}
 use Rattle.indicatif_bar.specs.Runs.{CallMade}
-use Rattle.indicatif_bar.specs.Inside.Draws.{DrewOn}
+use Rattle.indicatif_bar.specs.Shown.{DrewOn}
 use Rattle.indicatif_bar.specs.declared.state.Ask.TheVariants.{No}
 use Rattle.indicatif_board.specs.Inside.Parting.{parted}
 use Rattle.indicatif_board.specs.BoardBars.{board_bars}

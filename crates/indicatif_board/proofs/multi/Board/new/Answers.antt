@@ -1,6 +1,6 @@
 use Rattle.std.proofs.Common.{refl, subst}
 use Rattle.indicatif_board.specs.Boards.{opening_board}
-use Rattle.indicatif_board.specs.Inside.ShownBars.{Shown}
+use Rattle.indicatif_board.specs.ShownBars.{AreShownAs}
 use Rattle.indicatif_board.specs.Multi.{IsIn}
 use Rattle.indicatif_board.proofs.multi.Board.new.Goals as goal
 
@@ -8,6 +8,6 @@ pub returns-clause-state : goal.returns-clause-state
 unfolding IsIn
 returns-clause-state g c = (
   refl,
-  subst (λ l. Shown c.new.result (opening_board l)) c.opened_on-engine.ensures.limiter c.new.ensures.state,
+  subst (λ l. AreShownAs c.new.result (opening_board l)) c.opened_on-engine.ensures.limiter c.new.ensures.state,
   c.opened_on-engine.ensures.opened,
 )

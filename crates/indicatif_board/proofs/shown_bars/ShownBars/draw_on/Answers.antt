@@ -9,7 +9,7 @@ use Rattle.indicatif_board.specs.BoardBars.{board_bars}
 use Rattle.indicatif_board.specs.Boards.{draw_of, board}
 use Rattle.indicatif_board.specs.Inside.Keeps.{laid_by, lays_by}
 use Rattle.indicatif_board.specs.Inside.Writings.{writing_by}
-use Rattle.indicatif_board.specs.Inside.ShownBars.{Shown}
+use Rattle.indicatif_board.specs.ShownBars.{AreShownAs}
 use Rattle.indicatif_board.proofs.MemberLemmas.{laid_lists}
 use Rattle.indicatif_board.proofs.BoardDrawLemmas.{allowed_same, ready_holds, asked_holds}
 use Rattle.indicatif_board.proofs.shown_bars.ShownBars.draw_on.Goals as goal
@@ -21,7 +21,7 @@ returns-then-width-eq0-clause-drew g c = λ mark takes s number asked holds plac
     let engine = c.args.engine.now in
     let target = target_of (Some (view (engine_term engine))) in
     let none : (view (engine_term engine)).columns ≡ 0 = ap (λ t. (view t).columns) (sym c.term.ensures) ∙ sym c.width-width.ensures ∙ c.if-width-eq0.true in
-    drew_withheld (board (board_bars tracks) mark) (Shown c.args.self.now) view engine (draw_of target takes c.args.ask c.args.now (writing_by c.args.writing) s
+    drew_withheld (board (board_bars tracks) mark) (AreShownAs c.args.self.now) view engine (draw_of target takes c.args.ask c.args.now (writing_by c.args.writing) s
     (laid_by tracks target c.args.now number s) (lays_by tracks number s)) s.lists
     NoColumns asked (inl (refl, none)) (λ e. cc) fits refl holds
 
@@ -35,7 +35,7 @@ returns-in_err-lay_out-clause-drew g c = λ mark takes s number asked holds plac
     let x = err_from_is_err_and c.from_residual.result c.from_residual.ensures.1 in
     let memory = c.in_err-lay_out.ensures.memory in
     rw (x.1 ∙ ap Err x.2, c.in_err-lay_out.ensures.unchanged)
-    (drew_withheld (board (board_bars tracks) mark) (Shown c.args.self.now) view engine (draw_of target takes c.args.ask c.args.now (writing_by c.args.writing) s
+    (drew_withheld (board (board_bars tracks) mark) (AreShownAs c.args.self.now) view engine (draw_of target takes c.args.ask c.args.now (writing_by c.args.writing) s
     (laid_by tracks target c.args.now number s) (lays_by tracks number s)) s.lists
     c.in_err-lay_out.field-0.0 asked (inr (memory.0, some)) (λ e. memory.1 s number placed holds) fits refl holds)
 
@@ -72,4 +72,4 @@ returns-clause-drew g c = λ mark takes s number asked holds placed fits.
     let next = c.allows.ensures.next in
     let limiter_is : c.allows.new.self.limiter ≡ (asked_of c.args.ask c.args.now b.limiter).1 = ap (λ x. x.limiter) next in
     c.write.ensures.drew mark c.args.now takes (lays_by tracks number s) c.args.ask s after asked some (held.0 ∙ ap (λ l. (true, l)) (sym limiter_is))
-    (subst (λ x. Shown x (record after { limiter = x.limiter })) (sym next) held.1) (laid_lists tracks target c.args.now number s) fits
+    (subst (λ x. AreShownAs x (record after { limiter = x.limiter })) (sym next) held.1) (laid_lists tracks target c.args.now number s) fits

@@ -2,7 +2,7 @@ use Rattle.std.proofs.Common.{◌∙◌, ◌+◌, ap, sym, map, subst, false}
 use Rattle.std.specs.List.{insert}
 use Rattle.indicatif_term.specs.Engines.{is_bottom}
 use Rattle.indicatif_term.specs.declared.lines.Segment.{Segment}
-use Rattle.indicatif_board.specs.Inside.Keeps.{Holds}
+use Rattle.indicatif_board.specs.ShownBars.{Holds}
 use Rattle.indicatif_board.specs.Slots.{SlotTable}
 use Rattle.indicatif_board.proofs.MemberLemmas.{taken_holds, inserted_bars}
 use Rattle.indicatif_board.proofs.shown_bars.ShownBars.take_in.Goals as goal

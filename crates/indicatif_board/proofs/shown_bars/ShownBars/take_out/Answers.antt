@@ -1,7 +1,7 @@
 use Rattle.std.proofs.Common.{◌<◌, ◌∙◌, length, arith, sym, ap, subst, map}
 use Rattle.indicatif_term.specs.Engines.{is_bottom}
 use Rattle.indicatif_term.specs.declared.lines.Segment.{Segment}
-use Rattle.indicatif_board.specs.Inside.Keeps.{Holds}
+use Rattle.indicatif_board.specs.ShownBars.{Holds}
 use Rattle.indicatif_board.specs.Slots.{SlotTable}
 use Rattle.indicatif_board.proofs.MemberLemmas.{removed_with, removed_bars, said_of_place}
 use Rattle.indicatif_board.proofs.shown_bars.ShownBars.take_out.Goals as goal

@@ -1,20 +1,15 @@
 use Rattle.std.proofs.Common.{ap, append-nil, ◌+◌, [], false}
-use Rattle.std.proofs.lemmas.Result.{err_from_is_err_and}
 use Rattle.indicatif_term.specs.Inside.Bytes.{paint_bytes}
 use Rattle.indicatif_term.specs.Frames.{is_fault}
 use Rattle.indicatif_term.specs.Lists.{cleared}
 use Rattle.indicatif_term.specs.Engines.{engine_term}
 use Rattle.indicatif_term.proofs.DrawingLemmas.{cleared-adds, cleared-sound}
-use Rattle.indicatif_term.proofs.EngineLemmas.{paints_refused, paints_by, fill_led, fits_counts, fits_failed, fits_forgets, fits_refused, fits_by, clear_paints}
+use Rattle.indicatif_term.proofs.EngineLemmas.{paints_refused, paints_by, fill_led, fits_counts, fits_failed, fits_forgets, fits_by, clear_paints}
 use Rattle.indicatif_term.proofs.draw_target.Engine.clear.Goals as goal
-
-pub returns-in_err-of-clause-lists : goal.returns-in_err-of-clause-lists
-returns-in_err-of-clause-lists g c = λ l fits.
-    fits_refused c.args.self.now c.from_residual.result c.in_err-of.field-0.0 l _ (err_from_is_err_and c.from_residual.result c.from_residual.ensures.1) (ap is_fault c.in_err-of.ensures.0) fits
 
 pub returns-in_err-of-clause-paints : goal.returns-in_err-of-clause-paints
 returns-in_err-of-clause-paints g c = λ l fits.
-    paints_refused _ c.from_residual.result c.in_err-of.field-0.0 l _ (err_from_is_err_and c.from_residual.result c.from_residual.ensures.1) (ap is_fault c.in_err-of.ensures.0)
+    paints_refused _ c.from_residual.result c.in_err-of.field-0.0 l _ c.from_residual.ensures.1 (ap is_fault c.in_err-of.ensures.0)
 
 pub returns-clause-lists : goal.returns-clause-lists
 returns-clause-lists g c = λ l fits. fits_by c.cleared-next.result c.repaint.result c.repaint.new.self l (cleared l) c.repaint.ensures.remembers

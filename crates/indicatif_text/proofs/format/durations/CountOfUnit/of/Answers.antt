@@ -1,7 +1,7 @@
 use Rattle.std.proofs.Common.{arith, ap, sym, ◌∙◌}
 use Rattle.indicatif_text.specs.Inside.Durations.{span_of}
 use Rattle.indicatif_text.proofs.DurationLemmas.{told-years, told-weeks, told-days, told-hours, told-minutes, told-seconds}
-use Rattle.indicatif_text.proofs.format.durations.Told.of.Goals as goal
+use Rattle.indicatif_text.proofs.format.durations.CountOfUnit.of.Goals as goal
 
 pub returns-then-nanos-clause-count : goal.returns-then-nanos-clause-count
 returns-then-nanos-clause-count c = c.at_least_two.ensures.count ∙ ap (λ t. t.0) (sym (told-years c.args.nanos (omega arith)))

@@ -1,0 +1,25 @@
+//! Shows a bar of fine characters: a cell is full, empty or one of seven parts, so that 14 columns tell 112 steps apart.
+#![tactic(auto)]
+
+use anyhow::{Result, anyhow};
+use indicatif::style::{NoTracker, ProgressStyle};
+use indicatif::{BarState, InMemoryTerm, LoneBar, ProgressDrawTarget};
+
+fn fill(rt: &HostRuntime, bar: &mut LoneBar<NoTracker, InMemoryTerm>) -> Result<()> {
+    for done in [0, 1, 2, 7, 13, 30, 50, 64, 99, 100] {
+        bar.set_position(done, done * 1_000_000_000)?;
+        let term = bar.term().ok_or(anyhow!("no terminal"))?;
+        println!(rt; "{}", term.contents()?)?;
+    }
+    Ok(())
+}
+
+fn main(rt: HostRuntime) -> Result<()> {
+    let target = ProgressDrawTarget::term_like(InMemoryTerm::new(rt.alloc(), 2, 20)?);
+    let style = ProgressStyle::with_template(rt.alloc(), "▕{wide_bar}▏{percent}%")?;
+    let style = style.progress_chars("█▉▊▋▌▍▎▏ ")?;
+    fill(
+        &rt,
+        &mut LoneBar::new(BarState::styled(rt.alloc(), style, Some(100), 0)?, target),
+    )
+}
