@@ -48,8 +48,8 @@ pub fn a_whole_loop<I: Iterator, P: Moves>()
     ensures { (items : List I.Item) (start end : ProgressBarIter I P) → YieldsThen ⟦<ProgressBarIter<I, P> as Iterator>⟧.next_gives start items None end →
         YieldsThen I.next_gives (inner_of start) items None (inner_of end)
         × IfSome (P.told start.progress) (λ bar. bar.position < 2 ^ 64 → bar.finished ≡ false →
-            (P.told end.progress ≡ Some (after_bar_move (after_bar_move bar (Advance (length items))) FinishAsStored))
-            ⊎ ((last_draw_of end ≡ Some (Err Memory)) × (P.told end.progress ≡ Some (after_bar_move bar (Advance (length items)))))) }
+        (P.told end.progress ≡ Some (after_bar_move (after_bar_move bar (Advance (length items))) FinishAsStored))
+        ⊎ ((last_draw_of end ≡ Some (Err Memory)) × (P.told end.progress ≡ Some (after_bar_move bar (Advance (length items)))))) }
 {}
 
 /// What a loop over all items asks of its bar: an advance by 1 for each item, one after another, then the finish, and nothing
