@@ -1,8 +1,7 @@
 //! Each call of a board on its ordinary path, and bars that aren't there.
 use crate::shown::{MARK, Shown};
 use indicatif_bar::state::ProgressFinish;
-use indicatif_board::bar_id::BarId;
-use indicatif_board::multi::InsertLocation;
+use indicatif_board::multi::{BarId, InsertLocation};
 use indicatif_text::columns::{Drawn, Refusal};
 use std::process::Abort;
 use std::test::Fail;

@@ -1,8 +1,7 @@
 //! A board on a terminal in memory whose calls promise nothing here, so that a test of many calls is proved call by call.
 use indicatif_bar::state::{BarCommand, BarState, ProgressFinish};
 use indicatif_bar::style::{NoTracker, ProgressStyle};
-use indicatif_board::bar_id::BarId;
-use indicatif_board::multi::{Board, Candidate, InsertLocation};
+use indicatif_board::multi::{BarId, Board, Candidate, InsertLocation};
 use indicatif_term::draw_target::ProgressDrawTarget;
 use indicatif_term::in_memory::InMemoryTerm;
 use indicatif_text::columns::{Drawn, Refusal};

@@ -1,8 +1,7 @@
 //! Boards that keep their history: a fresh board that makes the calls that were kept gives the same answers and the same picture.
 use indicatif_bar::state::{BarCommand, BarState, ProgressFinish};
 use indicatif_bar::style::{NoTracker, ProgressStyle};
-use indicatif_board::bar_id::BarId;
-use indicatif_board::multi::{Answer, Board, Call, Candidate, InsertLocation, Recorded};
+use indicatif_board::multi::{Answer, BarId, Board, Call, Candidate, InsertLocation, Recorded};
 use indicatif_term::draw_target::ProgressDrawTarget;
 use indicatif_term::in_memory::InMemoryTerm;
 use indicatif_text::columns::{Drawn, Refusal};

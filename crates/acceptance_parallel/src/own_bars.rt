@@ -1,8 +1,7 @@
 //! Lists with a bar of their own, on a terminal in memory.
-use indicatif::style::NoTracker;
 use indicatif::{
-    InMemoryTerm, Moves, OwnedBar, ParallelProgressIterator, ProgressBarIter, ProgressDrawTarget,
-    ProgressStyle, Refusal, Setup, StepClock,
+    InMemoryTerm, Moves, NoTracker, OwnedBar, ParallelProgressIterator, ProgressBarIter,
+    ProgressDrawTarget, ProgressStyle, Refusal, Setup, StepClock,
 };
 use std::alloc::Global;
 use std::test::Fail;

@@ -3,8 +3,10 @@
 //! - `counted`: a bar of the tests', and wrappers over it.
 //! - `places`: the greatest of the last places, and the place that moves and seeks show.
 //! - `items`: lists from both ends. `owned`: loops with a bar of their own on a terminal in memory.
+//! - `made`: how an iterator gets its bar. `told`: what is said of that bar before it moves.
 //! - `readers`, `buffered`, `seeks`, `writers`: bytes that are read and written.
 //! - `streams`, `polled`: streams, and readers and writers that are polled.
+//! - `machines`: what is asked of the machine, with a made-up environment.
 #![tactic(auto)]
 
 #[cfg(test)]
@@ -13,6 +15,10 @@ mod buffered;
 mod counted;
 #[cfg(test)]
 mod items;
+#[cfg(test)]
+mod machines;
+#[cfg(test)]
+mod made;
 #[cfg(test)]
 mod owned;
 #[cfg(test)]
@@ -25,5 +31,7 @@ mod readers;
 mod seeks;
 #[cfg(test)]
 mod streams;
+#[cfg(test)]
+mod told;
 #[cfg(test)]
 mod writers;

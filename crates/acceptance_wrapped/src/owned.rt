@@ -1,8 +1,7 @@
 //! A loop with a bar of its own on a terminal in memory, every name by the paths of crate `indicatif`. The rows are the crate's:
 //! 16 cells of a wide bar for 1 of 3, 2 of 3 and 3 of 3, rounded down.
-use indicatif::style::NoTracker;
 use indicatif::{
-    Drawn, InMemoryTerm, OwnedBar, ProgressBarIter, ProgressDrawTarget, ProgressFinish,
+    Drawn, InMemoryTerm, NoTracker, OwnedBar, ProgressBarIter, ProgressDrawTarget, ProgressFinish,
     ProgressIterator, Refusal, Setup, StepClock,
 };
 use std::alloc::Global;

@@ -2,8 +2,7 @@
 use crate::measured::{Made, Measured};
 use anyhow::Result;
 use indicatif::machine::MachineClock;
-use indicatif::style::NoTracker;
-use indicatif::{OwnedBar, ProgressBarIter, ProgressDrawTarget, Setup, Term};
+use indicatif::{NoTracker, OwnedBar, ProgressBarIter, ProgressDrawTarget, Setup, Term};
 use std::io::Stderr;
 use std::ops::Range;
 use std::time::Instant;

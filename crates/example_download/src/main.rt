@@ -2,8 +2,9 @@
 #![tactic(auto)]
 
 use anyhow::{Result, anyhow};
-use indicatif::style::{NoTracker, ProgressStyle};
-use indicatif::{BarState, HumanBytes, InMemoryTerm, LoneBar, ProgressDrawTarget};
+use indicatif::{
+    BarState, HumanBytes, InMemoryTerm, LoneBar, NoTracker, ProgressDrawTarget, ProgressStyle,
+};
 
 /// The file's length in bytes.
 const LENGTH: u64 = 3_000_000;

@@ -3,8 +3,7 @@
 #![tactic(auto)]
 
 use anyhow::{Result, anyhow};
-use indicatif::style::{NoTracker, ProgressStyle};
-use indicatif::{BarState, InMemoryTerm, LoneBar, ProgressDrawTarget};
+use indicatif::{BarState, InMemoryTerm, LoneBar, NoTracker, ProgressDrawTarget, ProgressStyle};
 
 fn copy_all(rt: &HostRuntime, bar: &mut LoneBar<NoTracker, InMemoryTerm>) -> Result<()> {
     for (name, done) in [("a.txt", 1), ("b.txt", 2), ("c.txt", 3), ("d.txt", 4)] {

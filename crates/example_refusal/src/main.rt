@@ -2,8 +2,7 @@
 #![tactic(auto)]
 
 use anyhow::{Result, anyhow};
-use indicatif::style::{NoTracker, ProgressStyle};
-use indicatif::{BarState, InMemoryTerm, LoneBar, ProgressDrawTarget};
+use indicatif::{BarState, InMemoryTerm, LoneBar, NoTracker, ProgressDrawTarget, ProgressStyle};
 
 fn say_all(rt: &HostRuntime, bar: &mut LoneBar<NoTracker, InMemoryTerm>) -> Result<()> {
     for message in ["a", "国", "b"] {

@@ -4,8 +4,7 @@
 
 use anyhow::Result;
 use indicatif::machine::on_stderr;
-use indicatif::style::{NoTracker, ProgressStyle};
-use indicatif::{BarState, LoneBar, TermLike};
+use indicatif::{BarState, LoneBar, NoTracker, ProgressStyle, TermLike};
 
 /// Says `copying`, and logs a line above it.
 fn copy<T: TermLike + Drop>(bar: &mut LoneBar<NoTracker, T>) -> Result<()> {

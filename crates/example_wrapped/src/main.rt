@@ -3,10 +3,9 @@
 #![tactic(auto)]
 
 use anyhow::{Result, anyhow};
-use indicatif::style::NoTracker;
 use indicatif::{
-    InMemoryTerm, OwnedBar, ProgressBarIter, ProgressDrawTarget, ProgressFinish, ProgressIterator,
-    Setup, StepClock,
+    InMemoryTerm, NoTracker, OwnedBar, ProgressBarIter, ProgressDrawTarget, ProgressFinish,
+    ProgressIterator, Setup, StepClock,
 };
 use std::alloc::Global;
 use std::vec::IntoIter;

@@ -1,3 +1,4 @@
+mod RestLemmas
 mod RingLemmas
 mod SeekLemmas
 mod LoopLemmas

@@ -1,5 +1,6 @@
 -- What the moves of a loop are, and that moves of a bar with its clock are a run of it.
-use Rattle.std.proofs.Common.{◌≡◌, ℕ, zero, suc, inl, inr, ⊎_elim, List, [], ◌∷◌, map, Option, Result, refl, sym, ap, subst}
+use Rattle.std.proofs.Common.{◌≡◌, ℕ, length, false, inl, inr, ⊎_elim, List, [], ◌∷◌, map, Option, Result, refl, sym, ap, subst, ◌∙◌}
+use Rattle.std.specs.Iterator.{Yields}
 use Rattle.indicatif_text.specs.declared.refusal.Drawn.{Drawn}
 use Rattle.indicatif_text.specs.declared.refusal.Refusal.{Refusal}
 use Rattle.indicatif_term.specs.Calls.{TermView}
@@ -15,24 +16,27 @@ use Rattle.indicatif_bar.proofs.RunLemmas.{headline}
 use Rattle.indicatif.specs.declared.owned.OwnedBar.{OwnedBar}
 use Rattle.indicatif.specs.declared.wrap.ProgressBarIter.{ProgressBarIter}
 use Rattle.indicatif.specs.Moves.{Standing, Move, Advance, PlaceAt, FinishAsStored, MovedAlong, AreOfLoop}
-use Rattle.indicatif.specs.Wrap.{Loops}
+use Rattle.indicatif.specs.Wrap.{Counts, NextGives}
 use Rattle.indicatif.specs.Owned.{lone_of, standing_of, command_of_move, Commanded, IsRun}
 
 -- the moves of a loop
 abbrev pub LoopMade : {P : Type 0} → (P → Move → Result Drawn Refusal → P → Type 0) → ℕ → P → P → Type 0
 LoopMade leads items old new = (made : List (Move × Result Drawn Refusal)) × MovedAlong leads made old new × AreOfLoop items (map (λ x. x.0) made)
 
-pub loop-made : {T P : Type 0} (told : P → Option Standing) (leads : P → Move → Result Drawn Refusal → P → Type 0) (items : ℕ) (s t : ProgressBarIter T P)
-    → Loops told leads items s t → LoopMade leads items s.progress t.progress
-loop-made told leads zero s t loops = ⊎_elim
-    (λ made. ((FinishAsStored, made.0.answer) ∷ [], (t.progress, made.0.led, refl), inl refl))
-    (λ same. ([], same.0.0, inr refl))
-    loops
-loop-made told leads (suc items) s t loops =
-    let others = loop-made told leads items loops.0 t loops.2 in
-    let made = loops.1.0 in (
+pub loop-made : {T P A : Type 0} (told : P → Option Standing) (leads : P → Move → Result Drawn Refusal → P → Type 0) (gives : T → Option A → T → Type 0)
+    → (items : List A) (s m t : ProgressBarIter T P) → Yields (NextGives told leads gives) s items m → Counts told leads false m t
+    → LoopMade leads (length items) s.progress t.progress
+loop-made told leads gives [] s m t same end =
+    let from : s.progress ≡ m.progress = ap (λ w. w.progress) same in
+    ⊎_elim
+    (λ made. ((FinishAsStored, made.0.answer) ∷ [], (t.progress, subst (λ p. leads p FinishAsStored made.0.answer t.progress) (sym from) made.0.led, refl), inl refl))
+    (λ kept. ([], kept.0.0 ∙ sym from, inr refl))
+    end
+loop-made told leads gives (x ∷ items) s m t along end =
+    let others = loop-made told leads gives items along.0 m t along.2 end in
+    let made = along.1.1.0 in (
       (Advance 1, made.answer) ∷ others.0,
-      (loops.0.progress, made.led, others.1),
+      (along.0.progress, made.led, others.1),
       ⊎_elim (λ e. inl (ap (λ xs. Advance 1 ∷ xs) e)) (λ e. inr (ap (λ xs. Advance 1 ∷ xs) e)) others.2,
     )
 

@@ -46,7 +46,7 @@ command_of_move (Advance n) = Inc n
 command_of_move (PlaceAt place) = SetPosition place
 command_of_move FinishAsStored = FinishUsingStyle
 
--- a move is the bar's command at a moment of its clock
+-- a move is the bar's command at some moment
 abbrev pub Commanded : {K T C : Type 0} → Tracking K → (T → TermView) → OwnedBar K T C → Move → Result Drawn Refusal → OwnedBar K T C → Type 0
 Commanded m view old (Advance n) answer new = (now : ℕ) × Obeys m view (lone_of old) (lone_of new) (Inc n) now answer
 Commanded m view old (PlaceAt place) answer new = (now : ℕ) × Obeys m view (lone_of old) (lone_of new) (SetPosition place) now answer
@@ -85,7 +85,7 @@ module _ {I K T C : Type 0} (m : Tracking K) (view : T → TermView) where
     pub answer : Result Drawn Refusal
     pub obeys : Obeys m view (lone_of old.progress) (lone_of new.progress) command moment answer
 
-  -- its bar obeyed a command, at some moment of its clock and with some answer, no earlier than the command asks; or it refused the
+  -- its bar obeyed a command, at some moment and with some answer, no earlier than the command asks; or it refused the
   -- command for want of memory, or since its elapsed time is beyond that moment, and the wrapper was given up with its bar
   abbrev pub MayBuild : ProgressBarIter I (OwnedBar K T C) → Command K → Result (ProgressBarIter I (OwnedBar K T C)) Refusal → Type 0
   MayBuild old command (Ok new) = (built : Built old command new) × IsFalse (is_beyond_clock command built.moment)

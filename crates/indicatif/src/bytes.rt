@@ -1,9 +1,11 @@
 //! Bytes that are read and written.
-ghost use Rattle.std.specs.Prelude.{◌≡◌, Some, None, IfSome, MatchResult, OnOk, length, string_bytes, ◌++◌};
-ghost use Rattle.std.specs.Io.{ReadsAtMost, WritesAtMost};
+ghost use Rattle.std.specs.Prelude.{◌≡◌, [], Some, None, IfSome, IfOk, MatchResult, OnOk, length, string_bytes, ◌++◌};
+ghost use Rattle.std.specs.Borrow.{sem};
+ghost use Rattle.std.specs.Io.{ReadsAtMost, WritesAtMost, StartsWith};
 ghost use Rattle.std.specs.Io.KnownBytes.{ReadConsumes, WriteAppends, Consumes, Keeps};
-ghost use Rattle.std.specs.Io.BufRead.{DropsConsumable};
+ghost use Rattle.std.specs.Io.BufRead.{Rests, FillKeeps, DropsConsumable};
 ghost use Rattle.indicatif.specs.Wrap.{inner_of, Placed, SameBar};
+ghost use Rattle.indicatif.specs.contracts.wrap.ProgressBarIter.{the_row};
 
 use crate::moves::Moves;
 use crate::wrap::ProgressBarIter;
@@ -39,7 +41,11 @@ impl<T: Read, P: Moves> Read for ProgressBarIter<T, P> {
 impl<T: BufRead, P: Moves> BufRead for ProgressBarIter<T, P> {
     ghost consumable_len = { λ s. T.consumable_len (inner_of s) };
 
-    fn fill_buf(&mut self) -> io::Result<&[u8]> {
+    fn fill_buf(&mut self) -> io::Result<&[u8]>
+        ensures front { IfSome (T.remaining (inner_of self.old)) (λ xs. IfOk result (λ s. StartsWith xs s.now)) }
+        ensures end { IfSome (T.remaining (inner_of self.old)) (λ xs. IfOk result (λ s. length s.now ≡ 0 → xs ≡ [])) }
+        ensures* after_borrow { sem 𝓛 (Rests (the_row T.row P.row) self.entry (λ new. FillKeeps (T.remaining (inner_of self.old)) (T.remaining (inner_of new)) (T.consumable_len (inner_of new)) result × SameBar self.old new)) }
+    {
         self.it.fill_buf()
     }
 

@@ -22,14 +22,13 @@ impl<T, P: Moves> ProgressBarIter<T, P> {
 
 /// The inner one's items; each advances the bar by 1, and the end finishes a bar that isn't finished.
 impl<T: Iterator, P: Moves> Iterator for ProgressBarIter<T, P> {
-    ghost use Rattle.std.specs.Prelude.{is_some};
-    ghost use Rattle.indicatif.specs.Wrap.{inner_of, Counts};
+    ghost use Rattle.indicatif.specs.Wrap.{inner_of, NextGives};
 
     type Item = T::Item;
 
     ghost can_next = { λ s. T.can_next (inner_of s) };
 
-    ghost next_gives = { λ s r t. T.next_gives (inner_of s) r (inner_of t) × Counts P.told P.leads (is_some r) s t };
+    ghost next_gives = { NextGives P.told P.leads T.next_gives };
 
     ghost remaining = { λ s. T.remaining (inner_of s) };
 
@@ -46,12 +45,11 @@ impl<T: Iterator, P: Moves> Iterator for ProgressBarIter<T, P> {
 
 /// The same from the back.
 impl<T: DoubleEndedIterator, P: Moves> DoubleEndedIterator for ProgressBarIter<T, P> {
-    ghost use Rattle.std.specs.Prelude.{is_some};
-    ghost use Rattle.indicatif.specs.Wrap.{inner_of, Counts};
+    ghost use Rattle.indicatif.specs.Wrap.{inner_of, NextGives};
 
     ghost can_next_back = { λ s. T.can_next_back (inner_of s) };
 
-    ghost next_back_gives = { λ s r t. T.next_back_gives (inner_of s) r (inner_of t) × Counts P.told P.leads (is_some r) s t };
+    ghost next_back_gives = { NextGives P.told P.leads T.next_back_gives };
 
     fn next_back(&mut self) -> Option<T::Item> {
         let item = self.it.next_back();

@@ -1,18 +1,19 @@
 //! Laws of the definitions: functions that do nothing, each with a law as its contract.
-ghost use Rattle.std.specs.Prelude.{◌≡◌, ◌≤◌, ◌<◌, ◌^◌, false, ℕ, List, Some, IfSome, Result, Err, ◌⊎◌, take, reverse, map, sum, length};
+ghost use Rattle.std.specs.Prelude.{◌≡◌, ◌≤◌, ◌<◌, ◌^◌, false, ℕ, List, None, Some, IfSome, Result, Err, ◌⊎◌, take, reverse, map, sum, length};
+ghost use Rattle.std.specs.Iterator.{YieldsThen};
 ghost use Rattle.indicatif_text.specs.declared.refusal.Drawn.{Drawn};
 ghost use Rattle.indicatif_text.specs.declared.refusal.Refusal.{Refusal};
 ghost use Rattle.indicatif_text.specs.declared.refusal.Refusal.TheVariants.{Memory};
-ghost use Rattle.indicatif.specs.declared.wrap.ProgressBarIter.{ProgressBarIter};
 ghost use Rattle.indicatif.specs.Moves.{Move, Advance, FinishAsStored, after_bar_move, MovedAlong, AreOfLoop};
 ghost use Rattle.indicatif.specs.Owned.{Commanded, IsRun};
 ghost use Rattle.indicatif.specs.Parallel.{Blocks};
 ghost use Rattle.indicatif.specs.declared.owned.OwnedBar.{OwnedBar};
-ghost use Rattle.indicatif.specs.Wrap.{Loops, last_draw_of};
+ghost use Rattle.indicatif.specs.Wrap.{inner_of, last_draw_of};
 ghost use Rattle.indicatif.specs.Ring.{kept_updates};
 ghost use Rattle.indicatif.specs.Seek.{Seeks, no_seeks, saturated, Forward, after_seek, after_steps};
 
 use crate::moves::Moves;
+use crate::wrap::ProgressBarIter;
 use indicatif_bar::style::ProgressTracker;
 use indicatif_term::term_like::TermLike;
 
@@ -38,20 +39,24 @@ pub fn a_seek_shows_its_place_at_least()
     ensures { (size place : ℕ) (seeks : Seeks) → 0 < size → place ≤ (after_seek size seeks place).0 }
 {}
 
-/// A loop over all items: a bar that tells where it stands goes on by their number, and is finished by its stored finish, if it
-/// wasn't finished; it stays unfinished only where the finish was refused memory, as `last_draw` tells.
-pub fn a_whole_loop<T, P: Moves>()
-    ensures { (items : ℕ) (start end : ProgressBarIter T P) → Loops P.told P.leads items start end →
-        IfSome (P.told start.progress) (λ bar. bar.position < 2 ^ 64 → bar.finished ≡ false →
-        (P.told end.progress ≡ Some (after_bar_move (after_bar_move bar (Advance items)) FinishAsStored))
-        ⊎ ((last_draw_of end ≡ Some (Err Memory)) × (P.told end.progress ≡ Some (after_bar_move bar (Advance items))))) }
+/// A loop over all items: they are the inner iterator's, in its order, and the inner iterator came to its end. A bar that tells
+/// where it stands goes on by their number, and is finished by its stored finish, if it wasn't finished; it stays unfinished only
+/// where the finish was refused memory, as `last_draw` tells.
+///
+/// The premise is what std says of a loop over a wrapper: `next` gave these items one after another, and then nothing.
+pub fn a_whole_loop<I: Iterator, P: Moves>()
+    ensures { (items : List I.Item) (start end : ProgressBarIter I P) → YieldsThen ⟦<ProgressBarIter<I, P> as Iterator>⟧.next_gives start items None end →
+        YieldsThen I.next_gives (inner_of start) items None (inner_of end)
+        × IfSome (P.told start.progress) (λ bar. bar.position < 2 ^ 64 → bar.finished ≡ false →
+        (P.told end.progress ≡ Some (after_bar_move (after_bar_move bar (Advance (length items))) FinishAsStored))
+        ⊎ ((last_draw_of end ≡ Some (Err Memory)) × (P.told end.progress ≡ Some (after_bar_move bar (Advance (length items)))))) }
 {}
 
 /// What a loop over all items asks of its bar: an advance by 1 for each item, one after another, then the finish, and nothing
 /// else; of a bar that was finished already no finish.
-pub fn the_moves_of_a_loop<T, P: Moves>()
-    ensures { (items : ℕ) (start end : ProgressBarIter T P) → Loops P.told P.leads items start end →
-        (made : List (Move × Result Drawn Refusal)) × MovedAlong P.leads made start.progress end.progress × AreOfLoop items (map (λ x. x.0) made) }
+pub fn the_moves_of_a_loop<I: Iterator, P: Moves>()
+    ensures { (items : List I.Item) (start end : ProgressBarIter I P) → YieldsThen ⟦<ProgressBarIter<I, P> as Iterator>⟧.next_gives start items None end →
+        (made : List (Move × Result Drawn Refusal)) × MovedAlong P.leads made start.progress end.progress × AreOfLoop (length items) (map (λ x. x.0) made) }
 {}
 
 /// Any list of moves of a bar with its clock, as those of a loop, is a run of that bar, call by call with these answers; and the

@@ -47,13 +47,13 @@ pub use crate::workers::{Gate, run_workers};
 pub use crate::wrap::ProgressBarIter;
 pub use indicatif_bar::lone::{LoneBar, LoneCall};
 pub use indicatif_bar::state::{
-    Ask, BarCommand, BarState, Change, Fraction, ProgressFinish, ProgressState, Rate,
+    Ask, BarCommand, BarState, Change, Fraction, ProgressFinish, ProgressState, Rate, SpareLines,
 };
-pub use indicatif_bar::style::ProgressStyle;
-pub use indicatif_board::bar_id::BarId;
-pub use indicatif_board::done::{BarWorker, Done};
+pub use indicatif_bar::style::{FnTracker, NoTracker, ProgressStyle, TICKS, TellsText};
+pub use indicatif_board::done::{Account, BarWorker, Done};
 pub use indicatif_board::multi::{
-    Answer, Board, Call, Candidate, InsertLocation, MultiState, Recorded, Turned,
+    Answer, BarId, Board, Call, Candidate, Entry, InsertLocation, MultiState, Opening, Recorded,
+    Size, Turned,
 };
 pub use indicatif_term::draw_target::{
     Engine, Facts, Keep, LineType, MultiProgressAlignment, ProgressDrawTarget, RateLimiter,
@@ -62,8 +62,8 @@ pub use indicatif_term::draw_target::{
 pub use indicatif_term::in_memory::{Cells, InMemoryTerm};
 pub use indicatif_term::term_like::{Term, TermLike, write_whole};
 pub use indicatif_text::columns::{
-    Clock, Drawn, Metrics, Moment, Piece, Pieces, Refusal, StepClock, Style, columns, pieces,
-    width, wrapped,
+    Clock, Drawn, Metrics, Moment, Piece, Pieces, Refusal, StepClock, Style, TemplateState,
+    columns, pieces, width, wrapped,
 };
 pub use indicatif_text::format::{
     BinaryBytes, DecimalBytes, FormattedDuration, HumanBytes, HumanCount, HumanDuration,

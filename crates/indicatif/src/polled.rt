@@ -84,11 +84,25 @@ impl<T: AsyncWrite, P: Moves> AsyncWrite for ProgressBarIter<T, P> {
         polled
     }
 
-    fn poll_flush(&mut self, cx: &mut Context<'_>) -> Poll<io::Result<()>> {
+    fn poll_flush(&mut self, cx: &mut Context<'_>) -> Poll<io::Result<()>>
+        ensures flushed { OnReadyOk result (T.is_flushed (inner_of self.new)) }
+        ensures bytes { T.writes (inner_of self.old) [] (inner_of self.new) }
+        ensures failed { IfReadyErr result (T.fails (inner_of self.new)) }
+        ensures registered { OnPending result (Covers cx.new (T.needs (inner_of self.new))) }
+        ensures kept { Keeps cx.old cx.new }
+        ensures placed { SameBar self.old self.new }
+    {
         self.it.poll_flush(cx)
     }
 
-    fn poll_shutdown(&mut self, cx: &mut Context<'_>) -> Poll<io::Result<()>> {
+    fn poll_shutdown(&mut self, cx: &mut Context<'_>) -> Poll<io::Result<()>>
+        ensures shut_down { OnReadyOk result (T.is_shut_down (inner_of self.new)) }
+        ensures bytes { T.writes (inner_of self.old) [] (inner_of self.new) }
+        ensures failed { IfReadyErr result (T.fails (inner_of self.new)) }
+        ensures registered { OnPending result (Covers cx.new (T.needs (inner_of self.new))) }
+        ensures kept { Keeps cx.old cx.new }
+        ensures placed { SameBar self.old self.new }
+    {
         self.it.poll_shutdown(cx)
     }
 }

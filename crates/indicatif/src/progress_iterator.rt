@@ -1,6 +1,6 @@
 //! Iterators with a bar of their own.
-ghost use Rattle.std.specs.Prelude.{◌≡◌, ℕ, Some, None, IfOk, IfErr, IfSome};
-ghost use Rattle.std.specs.Iterator.{size};
+ghost use Rattle.std.specs.Prelude.{◌≡◌, ℕ, Some, None, Ok, IfOk, IfErr, IfSome, IfNone, IsSome};
+ghost use Rattle.std.specs.Iterator.{size, UpTo};
 ghost use Rattle.indicatif_bar.specs.Commands.{new_bar};
 ghost use Rattle.indicatif.specs.Wrap.{Wraps};
 ghost use Rattle.indicatif.specs.Owned.{Begins, BeginsPlain};
@@ -70,7 +70,12 @@ pub trait ProgressIterator: Iterator + Sized {
         ensures bar { IfOk result (λ w. (now : ℕ) × Begins w.progress (new_bar style (Some (size (Self.remaining self))) now) setup.target) }
         ensures memory { IfErr result (λ e. e ≡ Refusal.Memory) };
 
-    /// A bar of the most that may be left, by the iterator's `size_hint`; `None`, and nothing is made, where it says no such number.
+    /// A bar of the most that may be left, by the upper bound of the iterator's `size_hint`; `None`, and nothing is made, where
+    /// that says no such number. So the bar's length is never below the number of items that come.
+    ///
+    /// ```
+    /// let Some(mut wrapped) = list.into_iter().try_progress(alloc, setup)? else { .. }; // of 3 items: `0/3` at first
+    /// ```
     ///
     /// Refused: `Memory`.
     fn try_progress<W: TermLike + Drop, C: Clock + Drop>(
@@ -79,7 +84,7 @@ pub trait ProgressIterator: Iterator + Sized {
         setup: Setup<W, C>,
     ) -> Result<Option<ProgressBarIter<Self, OwnedBar<NoTracker, W, C>>>, Refusal>
         ensures wraps { IfOk result (λ found. IfSome found (λ w. Wraps w self)) }
-        ensures bar { IfOk result (λ found. IfSome found (λ w. (len : ℕ) × BeginsPlain w.progress TICKS.now (Some len) setup.target)) }
+        ensures bar { IfOk result (λ found. IfSome found (λ w. (len : ℕ) × UpTo (Self.remaining self) len × BeginsPlain w.progress TICKS.now (Some len) setup.target)) }
         ensures memory { IfErr result (λ e. e ≡ Refusal.Memory) };
 }
 
@@ -132,10 +137,26 @@ impl<I: Iterator> ProgressIterator for I {
         setup: Setup<W, C>,
     ) -> Result<Option<ProgressBarIter<I, OwnedBar<NoTracker, W, C>>>, Refusal> {
         let (_, most) = self.size_hint();
-        let Some(len) = most else {
-            return Ok(None);
-        };
-        let bar = OwnedBar::plain(alloc, Some(len as u64), setup)?;
-        Ok(Some(ProgressBarIter::new(self, bar)))
+        bounded(self, most, alloc, setup)
     }
+}
+
+// With a bar of this length, and none where there is no length.
+fn bounded<I: Drop, W: TermLike + Drop, C: Clock + Drop>(
+    it: I,
+    most: Option<usize>,
+    alloc: Global,
+    setup: Setup<W, C>,
+) -> Result<Option<ProgressBarIter<I, OwnedBar<NoTracker, W, C>>>, Refusal>
+    ensures none { IfNone most (result ≡ Ok None) }
+    ensures some { IfSome most (λ _. IfOk result IsSome) }
+    ensures wraps { IfOk result (λ found. IfSome found (λ w. Wraps w it)) }
+    ensures bar { IfSome most (λ len. IfOk result (λ found. IfSome found (λ w. BeginsPlain w.progress TICKS.now (Some len) setup.target))) }
+    ensures memory { IfErr result (λ e. e ≡ Refusal.Memory) }
+{
+    let Some(len) = most else {
+        return Ok(None);
+    };
+    let bar = OwnedBar::plain(alloc, Some(len as u64), setup)?;
+    Ok(Some(ProgressBarIter::new(it, bar)))
 }

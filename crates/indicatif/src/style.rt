@@ -1,6 +1,4 @@
-//! How a bar looks, and what templates are made of: the names that stand at `indicatif::style`.
-pub use indicatif_bar::style::{
-    FnTracker, NoTracker, ProgressStyle, ProgressTracker, TICKS, TellsText,
-};
-pub use indicatif_text::columns::{TemplateState, write_ansi_range};
+//! How a bar looks: the names that the crate `indicatif` has at `indicatif::style`. All others stand at the root.
+pub use indicatif_bar::style::{ProgressStyle, ProgressTracker};
+pub use indicatif_text::columns::write_ansi_range;
 pub use indicatif_text::template::TemplateError;

@@ -12,7 +12,8 @@ use indicatif_text::columns::{Drawn, Refusal};
 /// - an item, from either end, advances the bar by 1, and the end finishes a bar that isn't finished, by its stored finish;
 /// - bytes that were read, consumed or written place the bar behind them, and a seek places it at its target, as
 ///   `SeekMax<5, 10>` says, which keeps a bar from jumping with a reader that seeks back and forth;
-/// - an error, and a poll that is pending, leave the bar as it is.
+/// - an error, and a poll that is pending, leave the bar as it is, but for a polled read that failed: it places the bar behind no
+///   more bytes, as the Rust crate does, so that the position stays where no seek is remembered.
 ///
 /// What a draw answered is kept for `last_draw`, since an iterator has no place for it.
 ///

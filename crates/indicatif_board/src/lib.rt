@@ -1,7 +1,7 @@
 //! Bars that share something: a terminal, or a sum that many threads add to.
 //!
 //! - `multi`: a board, several bars on one target in an order.
-//! - `bar_id`: bars by their board's mark and their number.
+//! - `bar_id`: bars by their board's mark and their number; `multi` has its public name (private).
 //! - `calls`: a board's calls and answers as values; `multi` has their public names (private). `call_copies`: their copies (private).
 //! - `recorded`: a board with its history; `multi` has its public names (private).
 //! - `members`: a board's bars in their order (private).
@@ -13,7 +13,7 @@
 //! - `sums`: the rule of the word that the workers share, and what each step on it tells (private).
 #![tactic(auto)]
 
-pub mod bar_id;
+mod bar_id;
 mod call_copies;
 mod calls;
 pub mod cases;

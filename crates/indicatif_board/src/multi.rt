@@ -16,7 +16,7 @@ ghost use Rattle.indicatif_board.specs.Inside.Keeps.{HasPlace, laid_by, lays_by}
 ghost use Rattle.indicatif_board.specs.Inside.Parting.{parted, RestsOn};
 ghost use Rattle.indicatif_board.specs.Inside.Writings.{writing_by};
 
-use crate::bar_id::BarId;
+pub use crate::bar_id::BarId;
 pub use crate::calls::{Answer, Call, Candidate, InsertLocation, Turned};
 use crate::calls::{draw_answer, insertion_answer, is_undisturbed, removal_answer};
 use crate::members::place;

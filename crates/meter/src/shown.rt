@@ -1,9 +1,9 @@
 //! How the bytes are shown.
 use crate::arguments::Asked;
 use indicatif::machine::{MachineClock, facts_of, told_setup};
-use indicatif::style::{NoTracker, ProgressStyle};
 use indicatif::{
-    BarState, Clock, LoneBar, OwnedBar, ProgressBarIter, ProgressFinish, Refusal, Setup, Term,
+    BarState, Clock, LoneBar, NoTracker, OwnedBar, ProgressBarIter, ProgressFinish, ProgressStyle,
+    Refusal, Setup, Term,
 };
 use std::alloc::Global;
 use std::io::{BufWriter, Stderr, Stdin};

@@ -1,0 +1,127 @@
+//! Iterators that get a bar when they are wrapped. The rows are the crate's: of a terminal of 20 columns 16 are cells of the wide
+//! bar, filled in the proportion of position and length, rounded down.
+use crate::counted::{Counted, stands};
+use indicatif::{
+    InMemoryTerm, NoTracker, OwnedBar, ProgressBarIter, ProgressDrawTarget, ProgressIterator,
+    ProgressStyle, Refusal, Setup, StepClock,
+};
+use std::alloc::Global;
+use std::test::Fail;
+
+/// What is wrapped by a bar of its own.
+type Shown<I> = ProgressBarIter<I, OwnedBar<NoTracker, InMemoryTerm, StepClock>>;
+
+/// The number 7, over and over, of which nobody says how often.
+#[derive(Drop)]
+struct Sevens;
+
+impl Iterator for Sevens {
+    type Item = u32;
+
+    fn next(&mut self) -> Option<u32> {
+        Some(7)
+    }
+}
+
+/// A terminal of 20 columns, and a clock that goes on by a millisecond a reading.
+fn setup(alloc: Global) -> Result<Setup<InMemoryTerm, StepClock>, Refusal> {
+    let term = InMemoryTerm::new(alloc, 4, 20)?;
+    Ok(Setup {
+        target: ProgressDrawTarget::term_like(term),
+        clock: StepClock {
+            next: 0,
+            step: 1_000_000,
+        },
+    })
+}
+
+/// Whether the terminal shows this.
+fn shows<I>(wrapped: &Shown<I>, rows: &str) -> Result<bool, Refusal> {
+    match wrapped.progress.bar().term() {
+        Some(term) => {
+            let contents = term.contents()?;
+            Ok(contents.as_str() == rows)
+        }
+        None => Ok(false),
+    }
+}
+
+/// The length of the bar.
+fn length<I>(wrapped: &Shown<I>) -> Option<u64> {
+    wrapped.progress.bar().bar().state().len()
+}
+
+/// The next item.
+fn next<I: Iterator<Item = u32>>(wrapped: &mut Shown<I>) -> Option<u32> {
+    wrapped.next()
+}
+
+#[test]
+fn a_length_by_the_upper_bound(rt: HostRuntime) -> Result<(), Fail> {
+    let even = vec![in rt.alloc(); 1u32, 2, 3, 4]?
+        .into_iter()
+        .filter(|x| *x % 2 == 0);
+    // As far as anybody knows, up to 4 items come: `size_hint` is (0, Some(4)).
+    let found = even.try_progress(rt.alloc(), setup(rt.alloc())?)?;
+    let Some(mut wrapped) = found else {
+        return Err(Fail::new("no bar"));
+    };
+    assert_eq!(rt; length(&wrapped), Some(4));
+    assert_eq!(rt; next(&mut wrapped), Some(2));
+    assert!(rt; shows(&wrapped, "████░░░░░░░░░░░░ 1/4")?);
+    assert_eq!(rt; next(&mut wrapped), Some(4));
+    assert!(rt; shows(&wrapped, "████████░░░░░░░░ 2/4")?);
+    assert_eq!(rt; next(&mut wrapped), None);
+    Ok(())
+}
+
+#[test]
+fn no_length_no_bar(rt: HostRuntime) -> Result<(), Fail> {
+    let found = Sevens.try_progress(rt.alloc(), setup(rt.alloc())?)?;
+    assert!(rt; found.is_none());
+    Ok(())
+}
+
+#[test]
+fn a_length_that_is_told(rt: HostRuntime) -> Result<(), Fail> {
+    let list = vec![in rt.alloc(); 7u32, 8, 9]?.into_iter();
+    let mut wrapped = list.progress_count(rt.alloc(), 8, setup(rt.alloc())?)?;
+    assert_eq!(rt; length(&wrapped), Some(8));
+    assert_eq!(rt; next(&mut wrapped), Some(7));
+    assert!(rt; shows(&wrapped, "██░░░░░░░░░░░░░░ 1/8")?);
+    // Of an endless one too.
+    let mut sevens = Sevens.progress_count(rt.alloc(), 2, setup(rt.alloc())?)?;
+    assert_eq!(rt; next(&mut sevens), Some(7));
+    assert!(rt; shows(&sevens, "████████░░░░░░░░ 1/2")?);
+    Ok(())
+}
+
+#[test]
+fn a_style_of_ones_own(rt: HostRuntime) -> Result<(), Fail> {
+    let list = vec![in rt.alloc(); 7u32, 8, 9]?.into_iter();
+    let style = ProgressStyle::with_template(rt.alloc(), "{pos} of {len}")?;
+    let mut wrapped = list.progress_with_style(rt.alloc(), style, setup(rt.alloc())?)?;
+    assert!(rt; shows(&wrapped, "")?);
+    assert_eq!(rt; next(&mut wrapped), Some(7));
+    assert!(rt; shows(&wrapped, "1 of 3")?);
+    assert_eq!(rt; next(&mut wrapped), Some(8));
+    assert!(rt; shows(&wrapped, "2 of 3")?);
+    Ok(())
+}
+
+#[test]
+fn a_bar_that_is_handed_in(rt: HostRuntime) -> Result<(), Fail> {
+    let bar = Counted {
+        position: 5,
+        finished: false,
+        moves: 0,
+    };
+    let mut wrapped = vec![in rt.alloc(); 7u32]?.into_iter().progress_with(bar);
+    assert_eq!(rt; stands(&wrapped), (5, 0));
+    assert_eq!(rt; wrapped.last_draw(), None);
+    assert_eq!(rt; wrapped.next(), Some(7));
+    assert_eq!(rt; stands(&wrapped), (6, 1));
+    assert_eq!(rt; wrapped.next(), None);
+    assert!(rt; wrapped.progress.finished);
+    Ok(())
+}
