@@ -67,6 +67,25 @@ fn a_whole_block_and_one_item_more(rt: HostRuntime) -> Result<(), Fail> {
     Ok(())
 }
 
+/// A million items: 244 whole blocks, which are 999,424 items, and one of 576.
+#[test]
+fn a_million_items(rt: HostRuntime) -> Result<(), Fail> {
+    let items = numbers(rt.alloc(), 1_000_000)?;
+    let list = items.as_slice().progress_with(bar_at(rt.alloc(), 0));
+    let (made, bar) = list.map_collect(&rt, rt.alloc(), |x: &u32| x.wrapping_mul(2));
+    let made = made?;
+    assert_eq!(rt; made.len(), 1_000_000);
+    for (k, x) in made.iter().enumerate() {
+        assert_eq!(rt; *x as usize, k.wrapping_mul(2));
+    }
+    assert_eq!(rt; bar.steps.len(), 245);
+    assert_eq!(rt; bar.steps[0], 4096);
+    assert_eq!(rt; bar.steps[243], 4096);
+    assert_eq!(rt; bar.steps[244], 576);
+    assert_eq!(rt; bar.position, 1_000_000);
+    Ok(())
+}
+
 #[test]
 fn each_item_is_met_once(rt: HostRuntime) -> Result<(), Fail> {
     let mut met = Vec::new(rt.alloc());

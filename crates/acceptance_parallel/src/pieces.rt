@@ -137,6 +137,18 @@ fn two_pieces_of_a_thousand_items(rt: HostRuntime) -> Result<(), Fail> {
 }
 
 #[test]
+fn four_pieces_of_a_million_items_in_all(rt: HostRuntime) -> Result<(), Fail> {
+    let pieces = pieces_of_ones(rt.alloc(), 4, 250_000)?;
+    let mut bar = bar_at(rt.alloc(), 0);
+    assert_eq!(rt;
+        answers_of(&rt, rt.alloc(), pieces.as_slice(), &mut bar)?,
+        1_000_000
+    );
+    assert!(rt; bar.steps.as_slice() == [1_000_000].as_slice());
+    Ok(())
+}
+
+#[test]
 fn one_piece_of_one_item(rt: HostRuntime) -> Result<(), Fail> {
     let pieces = pieces_of_ones(rt.alloc(), 1, 1)?;
     let mut bar = bar_at(rt.alloc(), 0);

@@ -11,7 +11,7 @@
 //! - `ring`: the greatest of the last places (`MaxRingBuf`).
 //! - `seek`: the place that moves and seeks show (`SeekMax`).
 //! - `style`: how a bar looks, with the names that the crate `indicatif` has there.
-//! - `progress_bar`: a bar that its owners share (`ProgressBar`, `WeakProgressBar`).
+//! - `progress_bar`: a bar that its owners share (`ProgressBar`, `WeakProgressBar`). `counting`: threads that count for one.
 //! - `machine`: the machine's clock, and bars on its terminals; all that this library asks of the machine.
 //! - `workers`: pieces of work, each in a thread of its own (`run_workers`, `Gate`).
 //! - `laws`: laws of the definitions.
@@ -19,6 +19,7 @@
 
 mod builders;
 mod bytes;
+mod counting;
 mod items;
 pub mod laws;
 pub mod machine;
