@@ -43,10 +43,11 @@ lines_to_write Frame gone frame = all_lines frame
 lines_to_write (TextAndFrame text) gone frame = text ++ all_lines (drop gone frame)
 lines_to_write NoFrame gone frame = []
 
--- whether its rows take memory: those of a frame that has a line do
+-- whether a frame has a line
 abbrev pub has_line : List BarLines → Bool
 has_line frame = nat_lt 0 (length (all_lines frame))
 
+-- whether the rows of that take memory, as they are planned: those of a frame that has a line do
 abbrev pub rows_take : Writing → ℕ → List BarLines → Bool
 rows_take Frame gone frame = has_line frame
 rows_take (TextAndFrame text) gone frame = has_line (drop gone frame)

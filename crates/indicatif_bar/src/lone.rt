@@ -542,8 +542,9 @@ impl<K: ProgressTracker, T: TermLike + Drop> LoneBar<K, T> {
         }
     }
 
-    /// Makes the calls one after another, each at its moment, and answers what each answered. No calls change nothing, and are never
-    /// refused.
+    /// Makes the calls one after another, each at its moment, and answers what each answered. The record goes from call to call: a
+    /// command makes of it what it says, or is refused. Where no call was refused memory, it is what the commands make of it in their
+    /// order. No calls change nothing, and are never refused.
     ///
     /// Refused: `Memory` for the answers alone, and nothing is run.
     pub fn run(

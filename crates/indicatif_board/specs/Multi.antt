@@ -7,6 +7,7 @@ use Rattle.indicatif_term.specs.Engines.{engine_term, Fits}
 use Rattle.indicatif_term.specs.Lists.{opening_lists}
 use Rattle.indicatif_bar.specs.Trackers.{Tracking}
 use Rattle.indicatif_bar.specs.Commands.{BarRecord, Command}
+use Rattle.indicatif_bar.specs.Machines.{target_of}
 use Rattle.indicatif_bar.specs.Runs.{CallMade, Runs}
 use Rattle.indicatif_board.specs.BoardBars.{board_bars}
 use Rattle.indicatif_board.specs.Boards.{BoardState, Call, Clear, Redraw, Answer, Drew, Refused, says, board}
@@ -31,6 +32,14 @@ module _ {K T : Type 0} where
   -- what is known of its terminal
   abbrev pub known : (T → TermView) → Board K T → Option TermView
   known view b = option_map view (terminal_of b)
+
+  -- there is nothing to draw on: its target is hidden, or a terminal without columns
+  abbrev pub IsNowhere : (T → TermView) → Board K T → Type 0
+  IsNowhere view b = (target_of (known view b)).columns ≡ 0
+
+  -- the mark that its bars have
+  abbrev pub mark_of : Board K T → ℕ
+  mark_of b = b.mark
 
   -- whatever state the board may have been in, there is one that it is in now, and the call led from the one to the other with
   -- this answer

@@ -1,5 +1,6 @@
 //! A board: several bars on one target, in an order.
-ghost use Rattle.std.specs.Prelude.{◌≡◌, ◌==◌, ◌↔◌, ◌<◌, ◌≤◌, ℕ, Bool, Option, Some, None, Err, true, option_map, IsTrue, IsFalse, IfOk, IfErr, IfSome, MatchResult, MatchOption, map, OnErr, is_ok, vec_len, if◌then◌else◌};
+ghost use Rattle.std.specs.Prelude.{◌≡◌, ◌≢◌, ◌==◌, ◌↔◌, ◌<◌, ◌≤◌, ℕ, Bool, Option, Some, None, Err, true, option_map, IsTrue, IsFalse, IfOk, IfErr, IfSome, MatchResult, MatchOption, map, OnErr, is_ok, vec_len, if◌then◌else◌};
+ghost use Rattle.std.specs.List.{list_any};
 ghost use Rattle.indicatif_term.specs.Engines.{is_bottom, engine_term, Fits};
 ghost use Rattle.indicatif_term.specs.Lists.{fate, kept_of, opening_lists};
 ghost use Rattle.indicatif_term.specs.Targets.{term_of, limiter_of};
@@ -58,11 +59,12 @@ pub struct Board<K, T: Drop> {
 
 impl<K: ProgressTracker, T: TermLike + Drop> Board<K, T> {
     ghost use Rattle.indicatif_board.specs.Calls.{entrant_of, given, removal, answer_of, place_at, call_of, timed};
-    ghost use Rattle.indicatif_board.specs.Multi.{IsIn, LeadsBy, Suspends, known, slots_of, terminal_of};
+    ghost use Rattle.indicatif_board.specs.Multi.{IsIn, IsNowhere, mark_of, LeadsBy, Suspends, known, slots_of, terminal_of};
 
     /// A board without bars on this target, of this mark. It takes no memory and writes nothing.
     pub fn new(alloc: Global, target: ProgressDrawTarget<T>, mark: u64) -> Self
         ensures state { IsIn mark result (opening_board (limiter_of target)) }
+        ensures mark { mark_of result ≡ mark }
         ensures terminal { terminal_of result ≡ term_of target }
     {
         let (engine, limiter) = opened_on(alloc, target);
@@ -94,6 +96,7 @@ impl<K: ProgressTracker, T: TermLike + Drop> Board<K, T> {
     ///
     /// Refused: `ForeignBar` or `NotMember`, as `Board` says.
     pub fn bar(&self, id: BarId) -> Result<&BarState<K>, Refusal>
+        ensures foreign { id.mark ≢ mark_of self.now → result ≡ Err Refusal.ForeignBar }
         ensures bar { (mark : ℕ) (s : BoardState (BarRecord K)) (other : BarRecord K) → IsIn mark self.now s →
             MatchResult result (λ bar. (turned_away mark (id_of id) s ≡ None) × (bar.now ≡ said_of other (λ b. b) id.number s.members)) (λ e. turned_away mark (id_of id) s ≡ Some e) }
     {
@@ -128,6 +131,7 @@ impl<K: ProgressTracker, T: TermLike + Drop> Board<K, T> {
         ensures old { term_of result ≡ terminal_of self.old }
         ensures old_limiter { (mark : ℕ) (s : BoardState (BarRecord K)) → IsIn mark self.old s → IfSome result (λ t. t.1 ≡ s.limiter) }
         ensures new { terminal_of self.new ≡ term_of target }
+        ensures mark { mark_of self.new ≡ mark_of self.old }
         ensures state { (mark : ℕ) (s : BoardState (BarRecord K)) → IsIn mark self.old s →
             IsIn mark self.new (record s { limiter = limiter_of target; lists = opening_lists }) }
     {
@@ -143,6 +147,7 @@ impl<K: ProgressTracker, T: TermLike + Drop> Board<K, T> {
     /// Whether bars stand at the top of what is taken back, or at its bottom, from the next draw on.
     pub fn set_alignment(&mut self, alignment: MultiProgressAlignment)
         ensures terminal { terminal_of self.new ≡ terminal_of self.old }
+        ensures mark { mark_of self.new ≡ mark_of self.old }
         ensures leads { (now : ℕ) → LeadsBy K.means T.view self.old self.new (Align (is_bottom alignment)) now Done }
     {
         self.shown.alignment = alignment;
@@ -153,6 +158,7 @@ impl<K: ProgressTracker, T: TermLike + Drop> Board<K, T> {
     /// Refused, with the candidate handed back and nothing changed: `ForeignBar` or `NotMember` for a bar that is not this board's; `Memory`.
     pub fn add(&mut self, candidate: Candidate<K>) -> Result<BarId, Turned<K>>
         ensures terminal { terminal_of self.new ≡ terminal_of self.old }
+        ensures mark { mark_of self.new ≡ mark_of self.old }
         ensures turned { IfErr result (λ t. t.candidate ≡ candidate) }
         ensures leads { (now : ℕ) → LeadsBy K.means T.view self.old self.new (Insert End (entrant_of candidate)) now (given result) }
     {
@@ -165,6 +171,7 @@ impl<K: ProgressTracker, T: TermLike + Drop> Board<K, T> {
     /// Refused, with the candidate handed back and nothing changed: `ForeignBar` or `NotMember` for a bar that is not this board's; `Memory`.
     pub fn insert(&mut self, index: usize, candidate: Candidate<K>) -> Result<BarId, Turned<K>>
         ensures terminal { terminal_of self.new ≡ terminal_of self.old }
+        ensures mark { mark_of self.new ≡ mark_of self.old }
         ensures turned { IfErr result (λ t. t.candidate ≡ candidate) }
         ensures leads { (now : ℕ) → LeadsBy K.means T.view self.old self.new (Insert (Index index) (entrant_of candidate)) now (given result) }
     {
@@ -181,6 +188,7 @@ impl<K: ProgressTracker, T: TermLike + Drop> Board<K, T> {
         candidate: Candidate<K>,
     ) -> Result<BarId, Turned<K>>
         ensures terminal { terminal_of self.new ≡ terminal_of self.old }
+        ensures mark { mark_of self.new ≡ mark_of self.old }
         ensures turned { IfErr result (λ t. t.candidate ≡ candidate) }
         ensures leads { (now : ℕ) → LeadsBy K.means T.view self.old self.new (Insert (FromBack count) (entrant_of candidate)) now (given result) }
     {
@@ -198,6 +206,7 @@ impl<K: ProgressTracker, T: TermLike + Drop> Board<K, T> {
         candidate: Candidate<K>,
     ) -> Result<BarId, Turned<K>>
         ensures terminal { terminal_of self.new ≡ terminal_of self.old }
+        ensures mark { mark_of self.new ≡ mark_of self.old }
         ensures turned { IfErr result (λ t. t.candidate ≡ candidate) }
         ensures leads { (now : ℕ) → LeadsBy K.means T.view self.old self.new (Insert (Before (id_of anchor)) (entrant_of candidate)) now (given result) }
     {
@@ -218,6 +227,7 @@ impl<K: ProgressTracker, T: TermLike + Drop> Board<K, T> {
         candidate: Candidate<K>,
     ) -> Result<BarId, Turned<K>>
         ensures terminal { terminal_of self.new ≡ terminal_of self.old }
+        ensures mark { mark_of self.new ≡ mark_of self.old }
         ensures turned { IfErr result (λ t. t.candidate ≡ candidate) }
         ensures leads { (now : ℕ) → LeadsBy K.means T.view self.old self.new (Insert (After (id_of anchor)) (entrant_of candidate)) now (given result) }
     {
@@ -234,7 +244,9 @@ impl<K: ProgressTracker, T: TermLike + Drop> Board<K, T> {
     /// Refused: `ForeignBar`, exactly where the bar has another board's mark.
     pub fn remove(&mut self, id: BarId) -> Result<Option<BarState<K>>, Refusal>
         ensures terminal { terminal_of self.new ≡ terminal_of self.old }
+        ensures mark { mark_of self.new ≡ mark_of self.old }
         ensures leads { (now : ℕ) → LeadsBy K.means T.view self.old self.new (Remove (id_of id)) now (removal result) }
+        ensures foreign { id.mark ≢ mark_of self.old → (result ≡ Err Refusal.ForeignBar) × (self.new ≡ self.old) }
         ensures bar { (mark : ℕ) (s : BoardState (BarRecord K)) (other : BarRecord K) → IsIn mark self.old s →
             IfOk result (λ bar. bar ≡ (if is_member id.number s.members then Some (said_of other (λ b. b) id.number s.members) else None)) }
     {
@@ -257,7 +269,10 @@ impl<K: ProgressTracker, T: TermLike + Drop> Board<K, T> {
     /// and finished where its lines found none. After `NoColumns` or `TooWide` it has left or is marked, as if it had been drawn.
     pub fn drop_bar(&mut self, id: BarId, now: Moment) -> Result<Drawn, Refusal>
         ensures silent { IsFalse (wrote result) → terminal_of self.new ≡ terminal_of self.old }
+        ensures nowhere { IsNowhere T.view self.old → IsFalse (wrote result) }
+        ensures mark { mark_of self.new ≡ mark_of self.old }
         ensures leads { LeadsBy K.means T.view self.old self.new (Drop (id_of id)) now (says result) }
+        ensures foreign { id.mark ≢ mark_of self.old → (result ≡ Err Refusal.ForeignBar) × (self.new ≡ self.old) }
     {
         let at = self.find(id)?;
         let shown = &mut self.shown;
@@ -285,7 +300,10 @@ impl<K: ProgressTracker, T: TermLike + Drop> Board<K, T> {
         now: Moment,
     ) -> Result<Drawn, Refusal>
         ensures silent { IsFalse (wrote result) → terminal_of self.new ≡ terminal_of self.old }
+        ensures nowhere { IsNowhere T.view self.old → IsFalse (wrote result) }
+        ensures mark { mark_of self.new ≡ mark_of self.old }
         ensures leads { LeadsBy K.means T.view self.old self.new (Tell (id_of id) (command_of command)) now (says result) }
+        ensures foreign { id.mark ≢ mark_of self.old → (result ≡ Err Refusal.ForeignBar) × (self.new ≡ self.old) }
     {
         let at = self.find(id)?;
         let shown = &mut self.shown;
@@ -299,6 +317,8 @@ impl<K: ProgressTracker, T: TermLike + Drop> Board<K, T> {
     /// Refused: `NoColumns`, `TooWide`, `Terminal` or `Memory`, as `Board` says; nothing of the text is kept.
     pub fn println(&mut self, text: &str, now: Moment) -> Result<Drawn, Refusal>
         ensures silent { IsFalse (wrote result) → terminal_of self.new ≡ terminal_of self.old }
+        ensures nowhere { IsNowhere T.view self.old → IsFalse (wrote result) }
+        ensures mark { mark_of self.new ≡ mark_of self.old }
         ensures leads { LeadsBy K.means T.view self.old self.new (Log text.now) now (says result) }
     {
         self.draw(Ask::Forced, None, Writing::TextAndFrame(text), now)
@@ -309,7 +329,10 @@ impl<K: ProgressTracker, T: TermLike + Drop> Board<K, T> {
     /// Refused: `ForeignBar`, `NotMember`, `NoColumns`, `TooWide`, `Terminal` or `Memory`, as `Board` says.
     pub fn bar_println(&mut self, id: BarId, text: &str, now: Moment) -> Result<Drawn, Refusal>
         ensures silent { IsFalse (wrote result) → terminal_of self.new ≡ terminal_of self.old }
+        ensures nowhere { IsNowhere T.view self.old → IsFalse (wrote result) }
+        ensures mark { mark_of self.new ≡ mark_of self.old }
         ensures leads { LeadsBy K.means T.view self.old self.new (BarLog (id_of id) text.now) now (says result) }
+        ensures foreign { id.mark ≢ mark_of self.old → (result ≡ Err Refusal.ForeignBar) × (self.new ≡ self.old) }
     {
         let at = self.find(id)?;
         self.draw(Ask::Forced, Some(at), Writing::TextAndFrame(text), now)
@@ -321,6 +344,8 @@ impl<K: ProgressTracker, T: TermLike + Drop> Board<K, T> {
     /// Refused: `NoColumns` or `Terminal`, as `Board` says.
     pub fn clear(&mut self, now: Moment) -> Result<Drawn, Refusal>
         ensures silent { IsFalse (wrote result) → terminal_of self.new ≡ terminal_of self.old }
+        ensures nowhere { IsNowhere T.view self.old → IsFalse (wrote result) }
+        ensures mark { mark_of self.new ≡ mark_of self.old }
         ensures leads { LeadsBy K.means T.view self.old self.new Clear now (says result) }
     {
         self.draw(Ask::Forced, None, Writing::NoFrame, now)
@@ -331,6 +356,8 @@ impl<K: ProgressTracker, T: TermLike + Drop> Board<K, T> {
     /// Refused: `NoColumns`, `TooWide`, `Terminal` or `Memory`, as `Board` says.
     pub fn redraw(&mut self, now: Moment) -> Result<Drawn, Refusal>
         ensures silent { IsFalse (wrote result) → terminal_of self.new ≡ terminal_of self.old }
+        ensures nowhere { IsNowhere T.view self.old → IsFalse (wrote result) }
+        ensures mark { mark_of self.new ≡ mark_of self.old }
         ensures leads { LeadsBy K.means T.view self.old self.new Redraw now (says result) }
     {
         self.draw(Ask::Forced, None, Writing::Frame, now)
@@ -342,6 +369,8 @@ impl<K: ProgressTracker, T: TermLike + Drop> Board<K, T> {
     pub fn suspend<F: FnOnce() -> A, A>(&mut self, now: Moment, f: F) -> (A, Result<Drawn, Refusal>)
         requires { F.pre f }
         ensures value { F.post f result.0 }
+        ensures silent { IsNowhere T.view self.old → terminal_of self.new ≡ terminal_of self.old }
+        ensures mark { mark_of self.new ≡ mark_of self.old }
         ensures leads { Suspends K.means T.view self.old self.new now result.1 }
     {
         let cleared = self.clear(now);
@@ -358,6 +387,8 @@ impl<K: ProgressTracker, T: TermLike + Drop> Board<K, T> {
     /// A call as a value: what the method of the same name does and refuses. A bar that is removed or turned away is given up.
     pub fn call(&mut self, call: Call<K>, now: Moment) -> Answer
         ensures silent { IsFalse (wrote (drawn_of (answer_of result))) → terminal_of self.new ≡ terminal_of self.old }
+        ensures nowhere { IsNowhere T.view self.old → terminal_of self.new ≡ terminal_of self.old }
+        ensures mark { mark_of self.new ≡ mark_of self.old }
         ensures leads { LeadsBy K.means T.view self.old self.new (call_of call) now (answer_of result) }
     {
         match call {
@@ -386,6 +417,11 @@ impl<K: ProgressTracker, T: TermLike + Drop> Board<K, T> {
             IfOk result (λ answers. (next : BoardState (BarRecord K)) × IsIn mark self.new next
             × (run : Runs (board (board_bars K.means) mark) (map timed calls.items) (map answer_of answers.items) old s new next)
             × Headline (board (board_bars K.means) mark) (map timed calls.items) (map answer_of answers.items) old s new next run) }
+        ensures count { IfOk result (λ answers. vec_len answers ≡ vec_len calls) }
+        ensures silent { IfOk result (λ answers. IsFalse (list_any (λ answer. wrote (drawn_of (answer_of answer))) answers.items) →
+            terminal_of self.new ≡ terminal_of self.old) }
+        ensures nowhere { IsNowhere T.view self.old → terminal_of self.new ≡ terminal_of self.old }
+        ensures mark { mark_of self.new ≡ mark_of self.old }
         ensures idle { vec_len calls ≡ 0 → IsTrue (is_ok result) × (self.new ≡ self.old) }
         ensures memory { IfErr result (λ e. e ≡ Refusal.Memory) }
         ensures unrun { OnErr result (self.new ≡ self.old) }
@@ -405,6 +441,7 @@ impl<K: ProgressTracker, T: TermLike + Drop> Board<K, T> {
     /// Takes a bar in at a place.
     fn insert_by(&mut self, at: InsertLocation, candidate: Candidate<K>) -> Answer
         ensures terminal { terminal_of self.new ≡ terminal_of self.old }
+        ensures mark { mark_of self.new ≡ mark_of self.old }
         ensures leads { (now : ℕ) → LeadsBy K.means T.view self.old self.new (Insert (place_at at) (entrant_of candidate)) now (answer_of result) }
     {
         match at {
@@ -424,6 +461,7 @@ impl<K: ProgressTracker, T: TermLike + Drop> Board<K, T> {
     fn insert_at(&mut self, at: usize, candidate: Candidate<K>) -> Result<BarId, Turned<K>>
         requires within { at ≤ vec_len self.old.shown.members }
         ensures terminal { terminal_of self.new ≡ terminal_of self.old }
+        ensures mark { mark_of self.new ≡ mark_of self.old }
         ensures turned { IfErr result (λ t. t.candidate ≡ candidate) }
         ensures quiet { IsFalse (wrote (drawn_of (given result))) }
         ensures inserted { (mark : ℕ) (s : BoardState (BarRecord K)) (spot : Location) → IsIn mark self.old s → at ≡ index_of spot s.members →
@@ -455,6 +493,7 @@ impl<K: ProgressTracker, T: TermLike + Drop> Board<K, T> {
     /// A bar leaves or is marked, once it was drawn for the last time, or that draw was refused so.
     fn part(&mut self, number: u64, drawn: &Result<Drawn, Refusal>)
         ensures terminal { terminal_of self.new ≡ terminal_of self.old }
+        ensures mark { mark_of self.new ≡ mark_of self.old }
         ensures parted { (mark : ℕ) (s : BoardState (BarRecord K)) → IsIn mark self.old s →
             let target = target_of (known T.view self.old) in
             let next = parted target number drawn.now s in
@@ -480,6 +519,7 @@ impl<K: ProgressTracker, T: TermLike + Drop> Board<K, T> {
     fn keep(&mut self, number: u64) -> Keep
         ensures shown { self.new.shown ≡ self.old.shown }
         ensures terminal { terminal_of self.new ≡ terminal_of self.old }
+        ensures mark { mark_of self.new ≡ mark_of self.old }
         ensures kept { (mark : ℕ) (s : BoardState (BarRecord K)) → IsIn mark self.old s →
             let columns = (target_of (known T.view self.old)).columns in
             let lists = kept_of columns number s.lists in
@@ -493,6 +533,7 @@ impl<K: ProgressTracker, T: TermLike + Drop> Board<K, T> {
 
     /// A bar's place in the order.
     fn find(&self, id: BarId) -> Result<usize, Refusal>
+        ensures foreign { id.mark ≢ mark_of self.now → result ≡ Err Refusal.ForeignBar }
         ensures found { (mark : ℕ) (s : BoardState (BarRecord K)) → IsIn mark self.now s →
             MatchResult result (λ p. (turned_away mark (id_of id) s ≡ None) × HasPlace (Some id.number) (Some p) s.members) (λ e. turned_away mark (id_of id) s ≡ Some e) }
         ensures within { IfOk result (λ p. p < vec_len self.now.shown.members) }
@@ -521,6 +562,8 @@ impl<K: ProgressTracker, T: TermLike + Drop> Board<K, T> {
     ) -> Result<Drawn, Refusal>
         requires placed { IfSome bar (λ at. at < vec_len self.old.shown.members) }
         ensures silent { IsFalse (wrote result) → terminal_of self.new ≡ terminal_of self.old }
+        ensures nowhere { IsNowhere T.view self.old → IsFalse (wrote result) }
+        ensures mark { mark_of self.new ≡ mark_of self.old }
         ensures drew { (mark : ℕ) (takes : Bool) (s : BoardState (BarRecord K)) (number : Option ℕ) → IsIn mark self.old s → HasPlace number bar s.members →
             let old = known T.view self.old in
             (next : BoardState (BarRecord K)) × IsIn mark self.new next × DrewOn (board (board_bars K.means) mark) old (known T.view self.new)

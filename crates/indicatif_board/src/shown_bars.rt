@@ -143,6 +143,7 @@ impl<K: ProgressTracker> ShownBars<K> {
     ) -> Result<Drawn, Refusal>
         requires placed { IfSome bar (λ at. at < vec_len self.old.members) }
         ensures silent { IsFalse (wrote result) → engine.new ≡ engine.old }
+        ensures nowhere { (T.view (engine_term engine.old)).columns ≡ 0 → IsFalse (wrote result) }
         ensures drew { (mark : ℕ) (takes : Bool) (s : BoardState (BarRecord K)) (number : Option ℕ) → is_no ask ≡ false →
             AreShownAs self.old s → HasPlace number bar s.members → Fits engine.old s.lists →
             let target = target_of (Some (T.view (engine_term engine.old))) in

@@ -1,8 +1,8 @@
 //! What is known of a bar that was lent, by one who doesn't know how it was used before.
-ghost use Rattle.std.specs.Prelude.{◌≡◌, ◌⊎◌, ◌+◌, ◌%◌, ◌^◌, IsFalse};
+ghost use Rattle.std.specs.Prelude.{◌≡◌, ◌⊎◌, ◌+◌, ◌%◌, ◌^◌, None, IfOk, IsFalse, vec_len};
 ghost use Rattle.indicatif_bar.specs.LoneBars.{record_of, terminal_of};
 
-use indicatif_bar::lone::LoneBar;
+use indicatif_bar::lone::{LoneBar, LoneCall};
 use indicatif_bar::style::ProgressTracker;
 use indicatif_term::term_like::TermLike;
 use indicatif_text::columns::{Drawn, Moment, Refusal};
@@ -41,4 +41,16 @@ pub fn may_have_logged<K: ProgressTracker, T: TermLike + Drop>(
         Ok(Drawn::Yes) | Err(Refusal::Terminal(_)) => true,
         _ => false,
     }
+}
+
+/// Plays calls on a bar that was lent, and answers how many there were; on a hidden target no terminal appears.
+pub fn play<K: ProgressTracker, T: TermLike + Drop>(
+    bar: &mut LoneBar<K, T>,
+    calls: Vec<(LoneCall<K>, Moment)>,
+) -> Result<usize, Refusal>
+    ensures count { IfOk result (λ n. n ≡ vec_len calls) }
+    ensures hidden { terminal_of bar.old ≡ None → terminal_of bar.new ≡ None }
+{
+    let answers = bar.run(calls)?;
+    Ok(answers.len())
 }

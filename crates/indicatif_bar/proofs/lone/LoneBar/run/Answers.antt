@@ -1,4 +1,4 @@
-use Rattle.std.proofs.Common.{◌≡◌, List, [], ◌∷◌, length, map, refl, sym, ◌∙◌, ap, subst, Err, arith, length-append, option_map}
+use Rattle.std.proofs.Common.{[], ◌∷◌, map, refl, sym, ◌∙◌, ap, subst, Err, arith, length-append, option_map}
 use Rattle.std.specs.List.{list_any}
 use Rattle.std.specs.Prelude.{◌≢◌, vec_len}
 use Rattle.std.proofs.lemmas.Bool.{or_parts, eqb-true}

@@ -8,6 +8,7 @@ use Rattle.indicatif_board.proofs.multi.Board.bar.Goals as goal
 pub returns : goal.returns
 unfolding IsIn
 returns g c = record {
+  foreign = λ other. absurd (let q = c.in_ok-at.ensures.foreign other in cc);
   bar = λ mark s other inside.
       let b = c.args.self.now.shown in
       let f = c.in_ok-at.ensures.found mark s inside in

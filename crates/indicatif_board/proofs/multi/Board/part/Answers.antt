@@ -47,6 +47,7 @@ pub returns-in-Absent : goal.returns-in-Absent
 unfolding IsIn
 returns-in-Absent g c = record {
   terminal = c.keep.ensures.terminal;
+  mark = c.keep.ensures.mark;
   parted = λ mark s inside.
       let target = target_of (known g.T.TermLike.view c.args.self.now) in
       let number = c.args.number in

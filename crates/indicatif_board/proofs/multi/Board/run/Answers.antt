@@ -1,13 +1,17 @@
-use Rattle.std.proofs.Common.{[], ◌∷◌, map, refl, sym, ◌∙◌, subst, arith, length-append}
+use Rattle.std.proofs.Common.{[], ◌∷◌, map, refl, sym, ◌∙◌, ap, subst, arith, length-append, option_map}
 use Rattle.std.specs.Prelude.{vec_len}
-use Rattle.std.proofs.lemmas.Bool.{eqb-true}
+use Rattle.std.specs.List.{list_any}
+use Rattle.std.proofs.lemmas.Bool.{eqb-true, or_parts}
 use Rattle.std.proofs.lemmas.List.{map-append, map-id}
 use Rattle.std.proofs.lemmas.Iterator.Adapters.{YieldsList-from_vec}
 use Rattle.std.proofs.lemmas.Iterator.Consumers.{YieldsList-turn, YieldsList-end}
-use Rattle.indicatif_bar.specs.Runs.{Runs}
+use Rattle.indicatif_bar.specs.Runs.{Runs, wrote}
+use Rattle.indicatif_bar.specs.Machines.{target_of}
 use Rattle.indicatif_bar.proofs.RunLemmas.{nothing, runs-push, headline}
+use Rattle.indicatif_bar.proofs.LoneRunLemmas.{any-push}
 use Rattle.indicatif_board.specs.BoardBars.{board_bars}
-use Rattle.indicatif_board.specs.Boards.{board}
+use Rattle.indicatif_board.specs.Boards.{drawn_of, board}
+use Rattle.indicatif_board.specs.declared.calls.Answer.{Answer as AnswerValue}
 use Rattle.indicatif_board.specs.Calls.{timed, answer_of}
 use Rattle.indicatif_board.specs.Multi.{known}
 use Rattle.indicatif_board.proofs.multi.Board.run.Goals as goal
@@ -28,6 +32,9 @@ loop-call-init g c = record {
   ran = λ mark s inside.
       let old = known g.T.TermLike.view c.args.self.now in
       (s, inside, subst (λ xs. Runs (board (board_bars g.K.ProgressTracker.means) mark) [] (map answer_of xs) old s old s) (sym c.in_ok-answers.ensures.items) (refl, refl));
+  silent = λ quiet. refl;
+  nowhere = λ none. refl;
+  mark = refl;
 }
 
 pub push_reserved-requires : goal.push_reserved-requires
@@ -50,6 +57,15 @@ loop-call-preserved g c = record {
             (runs-push (board (board_bars g.K.ProgressTracker.means) mark) _ _ (known g.T.TermLike.view c.args.self.now) s (known g.T.TermLike.view c.loop-call.self) before.0
             (known g.T.TermLike.view c.call-answer.new.self) made.0 (timed (c.in-Some.call, c.in-Some.now)) (answer_of c.call-answer.result) before.2 made.2),
       );
+  silent = λ quiet.
+      let wrote_so = λ (answer : AnswerValue). wrote (drawn_of (answer_of answer)) in
+      let parts = or_parts (list_any wrote_so c.loop-call.answers.items) (wrote_so c.call-answer.result)
+      (sym (ap (list_any wrote_so) c.push_reserved.ensures.items ∙ any-push wrote_so c.loop-call.answers.items c.call-answer.result) ∙ quiet) in
+      c.call-answer.ensures.silent parts.1 ∙ c.loop-call.invariant.silent parts.0;
+  nowhere = λ none.
+      let same = c.loop-call.invariant.nowhere none in
+      c.call-answer.ensures.nowhere (ap (λ o. (target_of (option_map g.T.TermLike.view o)).columns) same ∙ none) ∙ same;
+  mark = c.call-answer.ensures.mark ∙ c.loop-call.invariant.mark;
 }
 
 pub returns-clause-run : goal.returns-clause-run

@@ -1,11 +1,13 @@
 use Rattle.std.proofs.Common.{◌≡◌, ◌≤◌, ℕ, length, map}
+use Rattle.std.specs.Prelude.{IsFalse}
+use Rattle.std.specs.List.{list_any}
 use Rattle.std.specs.Vec.{vec_len, vec_capacity}
 use Rattle.indicatif_bar.specs.Commands.{BarRecord}
-use Rattle.indicatif_bar.specs.Runs.{Runs}
+use Rattle.indicatif_bar.specs.Runs.{Runs, wrote}
 use Rattle.indicatif_board.specs.BoardBars.{board_bars}
-use Rattle.indicatif_board.specs.Boards.{BoardState, board}
+use Rattle.indicatif_board.specs.Boards.{BoardState, drawn_of, board}
 use Rattle.indicatif_board.specs.Calls.{timed, answer_of}
-use Rattle.indicatif_board.specs.Multi.{IsIn, known}
+use Rattle.indicatif_board.specs.Multi.{IsIn, IsNowhere, mark_of, terminal_of, known}
 use Rattle.indicatif_board.proofs.multi.Board.run.Given as goal
 
 abbrev pub invariant-loop-call : goal.invariant-loop-call
@@ -14,4 +16,7 @@ invariant-loop-call g l = record {
   room : length l.fn.calls.items ≤ vec_capacity l.answers;
   ran : (mark : ℕ) (s : BoardState (BarRecord g.row.K.Denot)) → IsIn mark l.fn.self s → (m : BoardState (BarRecord g.row.K.Denot)) × IsIn mark l.self m ×
       Runs (board (board_bars g.K.ProgressTracker.means) mark) (map timed l.yielded) (map answer_of l.answers.items) (known g.T.TermLike.view l.fn.self) s (known g.T.TermLike.view l.self) m;
+  silent : IsFalse (list_any (λ answer. wrote (drawn_of (answer_of answer))) l.answers.items) → terminal_of l.self ≡ terminal_of l.fn.self;
+  nowhere : IsNowhere g.T.TermLike.view l.fn.self → terminal_of l.self ≡ terminal_of l.fn.self;
+  mark : mark_of l.self ≡ mark_of l.fn.self;
 }
