@@ -36,6 +36,16 @@ fn marks_of_a_templates_own(rt: HostRuntime) -> Result<(), Fail> {
     Ok(())
 }
 
+/// A message's NUL stands for the wide bar behind it, which fills what the rest of the line leaves in both places.
+#[test]
+fn a_mark_of_the_messages_own(rt: HostRuntime) -> Result<(), Fail> {
+    let row = Row {
+        message: "x\0y",
+        ..standing("{msg}{wide_bar}", "=>-", (0, Some(4)))
+    };
+    shows(&rt, rt.alloc(), row.on(10), Some("x--------y--------"))
+}
+
 /// Control characters take no columns.
 #[test]
 fn control_characters(rt: HostRuntime) -> Result<(), Fail> {
