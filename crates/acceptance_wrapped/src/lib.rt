@@ -4,6 +4,7 @@
 //! - `places`: the greatest of the last places, and the place that moves and seeks show.
 //! - `items`: lists from both ends. `owned`: loops with a bar of their own on a terminal in memory.
 //! - `readers`, `buffered`, `seeks`, `writers`: bytes that are read and written.
+//! - `setups`: what a bar on a terminal behind a writer is made with.
 //! - `streams`, `polled`: streams, and readers and writers that are polled.
 #![tactic(auto)]
 
@@ -23,6 +24,8 @@ mod polled;
 mod readers;
 #[cfg(test)]
 mod seeks;
+#[cfg(test)]
+mod setups;
 #[cfg(test)]
 mod streams;
 #[cfg(test)]
