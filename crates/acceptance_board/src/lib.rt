@@ -1,7 +1,7 @@
 //! Tests of boards, by their calls and by what the program `bars run` prints of them, with values from outside.
 //!
 //! - `shown`: a board for tests, whose calls have no clauses.
-//! - `calls`: each call of a board.
+//! - `calls`: each call of a board. `call_values`: calls as values, and answers.
 //! - `runs`: a run with what it is to print, for tables.
 //! - `boards`: what stands on boards.
 //! - `orders`: the order of bars, and their slots.
@@ -14,6 +14,8 @@
 mod bad_input;
 #[cfg(test)]
 mod boards;
+#[cfg(test)]
+mod call_values;
 #[cfg(test)]
 mod calls;
 #[cfg(test)]

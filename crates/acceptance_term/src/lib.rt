@@ -8,6 +8,8 @@ mod differences;
 #[cfg(test)]
 mod engine;
 #[cfg(test)]
+mod facts_tests;
+#[cfg(test)]
 mod in_memory;
 #[cfg(test)]
 mod limiter_tests;

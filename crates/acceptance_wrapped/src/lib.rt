@@ -5,6 +5,7 @@
 //! - `items`: lists from both ends. `owned`: loops with a bar of their own on a terminal in memory.
 //! - `made`: how an iterator gets its bar. `told`: what is said of that bar before it moves.
 //! - `readers`, `buffered`, `seeks`, `writers`: bytes that are read and written.
+//! - `setups`: what a bar on a terminal behind a writer is made with.
 //! - `streams`, `polled`: streams, and readers and writers that are polled.
 //! - `machines`: what is asked of the machine, with a made-up environment.
 #![tactic(auto)]
@@ -29,6 +30,8 @@ mod polled;
 mod readers;
 #[cfg(test)]
 mod seeks;
+#[cfg(test)]
+mod setups;
 #[cfg(test)]
 mod streams;
 #[cfg(test)]

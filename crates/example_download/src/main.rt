@@ -1,18 +1,18 @@
-//! Shows a bar whose message tells how far a download is, and what stands on the terminal after each step.
+//! Shows a download of 500,000 bytes a second: bytes, rate and time left, and what stands on the terminal at four moments.
 #![tactic(auto)]
 
 use anyhow::{Result, anyhow};
 use indicatif::{
-    BarState, HumanBytes, InMemoryTerm, LoneBar, NoTracker, ProgressDrawTarget, ProgressStyle,
+    BarState, InMemoryTerm, LoneBar, NoTracker, ProgressDrawTarget, ProgressStyle,
 };
 
 /// The file's length in bytes.
 const LENGTH: u64 = 3_000_000;
 
 fn download(rt: &HostRuntime, bar: &mut LoneBar<NoTracker, InMemoryTerm>) -> Result<()> {
-    for done in [0, 1_500_000, LENGTH] {
-        let message = format!(in rt.alloc(); "{} of {}", HumanBytes(done), HumanBytes(LENGTH))?;
-        bar.set_message(message.as_str(), 0)?;
+    for second in [0u32, 1, 3, 6] {
+        let second = u64::from(second);
+        bar.set_position(second * 500_000, second * 1_000_000_000)?;
         let term = bar.term().ok_or(anyhow!("no terminal"))?;
         println!(rt; "{}", term.contents()?)?;
     }
@@ -20,10 +20,9 @@ fn download(rt: &HostRuntime, bar: &mut LoneBar<NoTracker, InMemoryTerm>) -> Res
 }
 
 fn main(rt: HostRuntime) -> Result<()> {
-    let target = ProgressDrawTarget::term_like(InMemoryTerm::new(rt.alloc(), 3, 40)?);
-    let style = ProgressStyle::with_template(rt.alloc(), "{msg}")?;
-    download(
-        &rt,
-        &mut LoneBar::new(BarState::styled(rt.alloc(), style, None, 0)?, target),
-    )
+    let target = ProgressDrawTarget::term_like(InMemoryTerm::new(rt.alloc(), 3, 60)?);
+    let template = "{bytes} of {total_bytes}, {bytes_per_sec}, {eta} left";
+    let style = ProgressStyle::with_template(rt.alloc(), template)?;
+    let bar = BarState::styled(rt.alloc(), style, Some(LENGTH), 0)?;
+    download(&rt, &mut LoneBar::new(bar, target))
 }

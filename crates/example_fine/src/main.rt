@@ -6,7 +6,8 @@ use indicatif::style::{NoTracker, ProgressStyle};
 use indicatif::{BarState, InMemoryTerm, LoneBar, ProgressDrawTarget};
 
 fn fill(rt: &HostRuntime, bar: &mut LoneBar<NoTracker, InMemoryTerm>) -> Result<()> {
-    for done in [0, 1, 2, 7, 13, 30, 50, 64, 99, 100] {
+    for percent in [0u32, 1, 2, 7, 13, 30, 50, 64, 99, 100] {
+        let done = u64::from(percent);
         bar.set_position(done, done * 1_000_000_000)?;
         let term = bar.term().ok_or(anyhow!("no terminal"))?;
         println!(rt; "{}", term.contents()?)?;

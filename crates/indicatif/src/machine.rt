@@ -131,6 +131,9 @@ fn text_said<R: Env + AllocGlobal>(rt: &R, name: &str) -> Result<Option<String>,
 }
 
 /// What a bar is made with on a terminal behind a writer, by the machine's clock.
+///
+///     let setup: TerminalSetup<Stderr> = on_stderr(&rt)?;
+///     let bar = LoneBar::new(bar, setup.target);
 pub type TerminalSetup<W> = Setup<Term<BufWriter<W>>, MachineClock<HostRuntime>>;
 
 /// A bar's setup on standard error, where bars stand by custom, so that standard output is the program's own: 20 draws a second
