@@ -58,4 +58,5 @@ board_draw 2000
 inc_limited 20000
 inc_clock 20000
 wrap_iter 20000
+inc_front 20000
 LIST

@@ -1,5 +1,5 @@
 //! The arguments.
-use indicatif_text::columns::Refusal;
+use indicatif::Refusal;
 use std::alloc::Global;
 use std::env;
 use std::env::Env;

@@ -1,55 +1,60 @@
-//! A bar on a terminal of 4 rows and 10 columns.
-use indicatif_bar::lone::LoneBar;
-use indicatif_bar::state::BarState;
-use indicatif_bar::style::{NoTracker, ProgressStyle};
-use indicatif_term::draw_target::ProgressDrawTarget;
-use indicatif_term::in_memory::InMemoryTerm;
-use indicatif_text::columns::Refusal;
+//! A bar on a terminal of 4 rows and 10 columns, which threads tick.
+use indicatif::{
+    InMemoryTerm, ProgressBar, ProgressDrawTarget, ProgressStyle, Refusal, Setup, StepClock,
+};
 use std::alloc::Global;
+use std::sync::Wait;
+use std::thread::{Threads, join};
 
-/// The demo's bar. Each call of it has a function of its own, so that the program is proved fast: what is known after one call
-/// isn't carried through all that follow.
-type Bar = LoneBar<NoTracker, InMemoryTerm>;
+/// An owner of the demo's bar.
+type Bar<R> = ProgressBar<InMemoryTerm, StepClock, R>;
 
 /// A bar that says `hello`; nothing is drawn yet.
-fn started(alloc: Global) -> Result<Bar, Refusal> {
-    let target = ProgressDrawTarget::term_like(InMemoryTerm::new(alloc, 4, 10)?);
+fn started<R: Wait + Clone + Drop>(rt: R, alloc: Global) -> Result<Bar<R>, Refusal> {
+    let setup = Setup {
+        target: ProgressDrawTarget::term_like(InMemoryTerm::new(alloc, 4, 10)?),
+        clock: StepClock { next: 0, step: 0 },
+    };
     let style = ProgressStyle::with_template(alloc, "{msg}")?;
-    let mut state = BarState::styled(alloc, style, None, 0)?;
-    state.set_message("hello", 0)?;
-    Ok(LoneBar::new(state, target))
+    ProgressBar::no_length(rt, alloc, setup)?
+        .with_style(style)?
+        .with_message("hello")
 }
 
-fn tick(bar: &mut Bar) -> Result<(), Refusal> {
-    bar.tick(0)?;
-    Ok(())
-}
-
-fn say(bar: &mut Bar, message: &str) -> Result<(), Refusal> {
-    bar.set_message(message, 0)?;
+/// A tick in each of two threads, through an owner of its own.
+fn tick_in_two_threads<R: Threads + Wait + Sync + Clone + Drop>(
+    rt: &R,
+    bar: &Bar<R>,
+) -> Result<(), Refusal> {
+    let first = bar.clone()?;
+    let second = bar.clone()?;
+    let (one, other) = join(rt, || first.tick(), || second.tick());
+    one?;
+    other?;
     Ok(())
 }
 
 /// Three ticks, and another message after the first.
-fn play(bar: &mut Bar) -> Result<(), Refusal> {
-    tick(bar)?;
-    say(bar, "progress bars")?;
-    tick(bar)?;
-    tick(bar)
+fn play<R: Threads + Wait + Sync + Clone + Drop>(rt: &R, bar: &Bar<R>) -> Result<(), Refusal> {
+    bar.tick()?;
+    bar.set_message("progress bars")?;
+    tick_in_two_threads(rt, bar)
 }
 
-/// What stands on the bar's terminal, and how often it ticked.
-fn seen(alloc: Global, bar: &Bar) -> Result<(String, u64), Refusal> {
-    let contents = match bar.term() {
-        Some(term) => term.contents()?,
-        None => String::new(alloc),
-    };
-    Ok((contents, bar.bar().state().ticks()))
+/// What stands on the bar's terminal.
+fn contents<R: Wait + Clone + Drop>(alloc: Global, bar: &Bar<R>) -> Result<String, Refusal> {
+    bar.with_term(|term| match term {
+        Some(term) => term.contents(),
+        None => Ok(String::new(alloc)),
+    })
 }
 
 /// What stands on the terminal after the bar ticked thrice, and how often it ticked.
-pub fn shown(alloc: Global) -> Result<(String, u64), Refusal> {
-    let mut bar = started(alloc)?;
-    play(&mut bar)?;
-    seen(alloc, &bar)
+pub fn shown<R: Threads + Wait + Sync + Copy + Clone + Drop>(
+    rt: R,
+    alloc: Global,
+) -> Result<(String, u64), Refusal> {
+    let bar = started(rt, alloc)?;
+    play(&rt, &bar)?;
+    Ok((contents(alloc, &bar)?, bar.ticks()))
 }

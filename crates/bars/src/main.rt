@@ -14,29 +14,17 @@ mod demo;
 use arguments::words;
 use bars_run::fault::Fault;
 use bars_run::run_bars;
-use indicatif_text::columns::Refusal;
+use indicatif::Refusal;
 use std::io::BufWriter;
 use std::process::ExitCode;
 
 fn main(rt: HostRuntime) -> ExitCode {
-    match words(&rt) {
-        Ok(words) => ExitCode::from(status_of(rt, &words)),
-        Err(refusal) => ExitCode::from(say(rt, Fault::Refused(refusal))),
-    }
-}
-
-/// Does what the words ask for.
-fn status_of(rt: HostRuntime, words: &[String]) -> u8 {
-    if is_demo(words) {
-        return match print_demo(rt) {
-            Ok(()) => 0,
-            Err(fault) => say(rt, fault),
-        };
-    }
-    match BufWriter::new(rt.alloc(), rt.stdout()) {
-        Ok(mut out) => run_bars(rt.alloc(), words, rt.stdin(), &mut out, &mut rt.stderr()),
-        Err(_) => say(rt, Fault::Refused(Refusal::Memory)),
-    }
+    let status = match words(&rt) {
+        Ok(words) if is_demo(&words) => print_demo(rt, demo::shown(rt, rt.alloc())),
+        Ok(words) => run(rt, &words),
+        Err(refusal) => say(rt, Fault::Refused(refusal)),
+    };
+    ExitCode::from(status)
 }
 
 /// Whether the one word is `demo`.
@@ -47,10 +35,23 @@ fn is_demo(words: &[String]) -> bool {
     }
 }
 
-/// Prints what the demo shows.
-fn print_demo(rt: HostRuntime) -> Result<(), Fault> {
-    let (contents, ticks) = demo::shown(rt.alloc()).map_err(Fault::Refused)?;
-    println!(rt; "{contents}\nticks {ticks}").map_err(|_| Fault::Output)
+/// Prints what the demo shows, and answers the status.
+fn print_demo(rt: HostRuntime, shown: Result<(String, u64), Refusal>) -> u8 {
+    match shown {
+        Ok((contents, ticks)) => match println!(rt; "{contents}\nticks {ticks}") {
+            Ok(()) => 0,
+            Err(_) => say(rt, Fault::Output),
+        },
+        Err(refusal) => say(rt, Fault::Refused(refusal)),
+    }
+}
+
+/// Does what other words ask for, and answers the status.
+fn run(rt: HostRuntime, words: &[String]) -> u8 {
+    match BufWriter::new(rt.alloc(), rt.stdout()) {
+        Ok(mut out) => run_bars(rt.alloc(), words, rt.stdin(), &mut out, &mut rt.stderr()),
+        Err(_) => say(rt, Fault::Refused(Refusal::Memory)),
+    }
 }
 
 /// Says what was wrong, and answers the status that it has.

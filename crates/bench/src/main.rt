@@ -12,6 +12,7 @@
 //! - `board_benches`: drawings of bars on a board.
 //! - `command_benches`: steps of a bar.
 //! - `wrap_benches`: a loop with a bar.
+//! - `thread_benches`: bars that are shared, and work in several threads.
 #![tactic(auto)]
 
 mod board_benches;
@@ -23,6 +24,7 @@ mod shown;
 mod template_benches;
 mod terminal_benches;
 mod text_benches;
+mod thread_benches;
 mod wrap_benches;
 
 use crate::measured::Measured;
@@ -40,14 +42,18 @@ fn main(rt: HostRuntime) -> Result<()> {
         None => bail!("usage: bench NAME N"),
     };
     let name = name.as_str();
-    let Some(measured) = measured_by(&rt, name, count)? else {
+    let found = match measured_by(&rt, name, count)? {
+        None => thread_benches::run(&rt, rt.alloc(), name, count)?,
+        found => found,
+    };
+    let Some(measured) = found else {
         bail!("no measurement of this name");
     };
     println!(rt; "{name} {count} {measured}")?;
     Ok(())
 }
 
-/// The measurement of a name, if there is one.
+/// The measurement of a name in one thread, if there is one.
 fn measured_by(rt: &HostRuntime, name: &str, count: u64) -> Result<Option<Measured>> {
     if let Some(measured) = format_benches::run(rt, name, count)? {
         return Ok(Some(measured));
@@ -97,6 +103,9 @@ fn names(rt: &HostRuntime) -> Result<()> {
         println!(rt; "{name}")?;
     }
     for name in wrap_benches::NAMES {
+        println!(rt; "{name}")?;
+    }
+    for name in thread_benches::NAMES {
         println!(rt; "{name}")?;
     }
     Ok(())

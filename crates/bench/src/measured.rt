@@ -1,5 +1,5 @@
 //! What a measurement tells, and the values that it works on.
-use std::time::Instant;
+use std::time::{Clock, Instant};
 use std::{fmt, io};
 
 /// How long a piece of work took, done so many times.
@@ -30,7 +30,7 @@ pub enum Made {
 
 impl Measured {
     /// That this was made since the start, by doing a piece of work so many times.
-    pub fn since(rt: &HostRuntime, start: Instant, count: u64, made: Made) -> io::Result<Measured> {
+    pub fn since<R: Clock>(rt: &R, start: Instant, count: u64, made: Made) -> io::Result<Measured> {
         let nanos = start.elapsed(rt)?.as_nanos();
         Ok(Measured {
             count,
