@@ -47,7 +47,7 @@ pub use crate::workers::{Gate, run_workers};
 pub use crate::wrap::ProgressBarIter;
 pub use indicatif_bar::lone::{LoneBar, LoneCall};
 pub use indicatif_bar::state::{
-    Ask, BarCommand, BarState, Change, Fraction, ProgressFinish, ProgressState, Rate,
+    Ask, BarCommand, BarState, Change, Fraction, ProgressFinish, ProgressState, Rate, SpareLines,
 };
 pub use indicatif_bar::style::ProgressStyle;
 pub use indicatif_board::bar_id::BarId;
