@@ -4,6 +4,7 @@ use indicatif_term::draw_target::{Facts, ProgressDrawTarget};
 use indicatif_term::in_memory::InMemoryTerm;
 use indicatif_text::columns::{Drawn, Refusal};
 use std::alloc::Global;
+use std::process::Abort;
 use std::test::Fail;
 use test_bars::calls::{Call, Told};
 use test_bars::watched::Watched;
@@ -15,7 +16,7 @@ fn rated(alloc: Global, making: u64) -> Result<Watched<NoTracker>, Refusal> {
     let term = InMemoryTerm::new(alloc, 4, 10)?;
     let target = ProgressDrawTarget::term_like_with_hz(term, 20, making)?;
     let bar = Told::new(alloc, "{msg}", None, 0)?;
-    Ok(Watched::on(bar, target))
+    Watched::on(alloc, bar, target)
 }
 
 /// What is known of a stream of 4 rows and 10 columns.
@@ -86,37 +87,63 @@ const STREAMS: [(bool, Option<&str>, bool); 5] = [
     (false, Some("xterm"), true),
 ];
 
+/// A rate of 0 is refused on this stream.
+fn refuses_no_rate(
+    rt: &impl Abort,
+    alloc: Global,
+    attended: bool,
+    term: Option<&str>,
+) -> Result<(), Fail> {
+    let out: Vec<u8> = Vec::new(alloc);
+    let target = ProgressDrawTarget::stdout_with_hz(out, facts(alloc, attended, term)?, 0, 0);
+    assert_eq!(rt; target.err(), Some(Refusal::ZeroRate), "at {term:?}");
+    let out: Vec<u8> = Vec::new(alloc);
+    let target = ProgressDrawTarget::stderr_with_hz(out, facts(alloc, attended, term)?, 0, 0);
+    assert_eq!(rt; target.err(), Some(Refusal::ZeroRate), "at {term:?}");
+    Ok(())
+}
+
 /// A rate of 0 is refused, also where the target would be hidden.
 #[test]
 fn rates_of_none(rt: HostRuntime) -> Result<(), Fail> {
-    let alloc = rt.alloc();
     for (attended, term, _) in STREAMS {
-        let out: Vec<u8> = Vec::new(alloc);
-        let target = ProgressDrawTarget::stdout_with_hz(out, facts(alloc, attended, term)?, 0, 0);
-        assert_eq!(rt; target.err(), Some(Refusal::ZeroRate), "at {term:?}");
-        let out: Vec<u8> = Vec::new(alloc);
-        let target = ProgressDrawTarget::stderr_with_hz(out, facts(alloc, attended, term)?, 0, 0);
-        assert_eq!(rt; target.err(), Some(Refusal::ZeroRate), "at {term:?}");
+        refuses_no_rate(&rt, rt.alloc(), attended, term)?;
     }
     Ok(())
+}
+
+/// Whether bars on this stream are hidden, on the standard output and on the standard error.
+fn hides(
+    rt: &impl Abort,
+    alloc: Global,
+    (attended, term, hidden): (bool, Option<&str>, bool),
+) -> Result<(), Fail> {
+    let out: Vec<u8> = Vec::new(alloc);
+    let target = ProgressDrawTarget::stdout(out, facts(alloc, attended, term)?, 0);
+    assert_eq!(rt; target.is_hidden(), hidden, "at {term:?}");
+    let out: Vec<u8> = Vec::new(alloc);
+    let target = ProgressDrawTarget::stderr(out, facts(alloc, attended, term)?, 0);
+    assert_eq!(rt; target.is_hidden(), hidden, "at {term:?}");
+    Ok(())
+}
+
+/// What a tick answers where a terminal in memory stands for this stream.
+fn ticked(alloc: Global, attended: bool, term: Option<&str>) -> Result<Drawn, Refusal> {
+    let memory = InMemoryTerm::new(alloc, 4, 10)?;
+    let target = ProgressDrawTarget::term(memory, facts(alloc, attended, term)?, 20, 0)?;
+    let bar: Told<NoTracker> = Told::new(alloc, "{msg}", None, 0)?;
+    let mut bar = Watched::on(alloc, bar, target)?;
+    bar.obey(Call::Tick, 0)
 }
 
 /// A stream that is no terminal, or one without a `TERM` that has moves, is hidden.
 #[test]
 fn who_is_hidden(rt: HostRuntime) -> Result<(), Fail> {
-    let alloc = rt.alloc();
     for (attended, term, hidden) in STREAMS {
-        let out: Vec<u8> = Vec::new(alloc);
-        let target = ProgressDrawTarget::stdout(out, facts(alloc, attended, term)?, 0);
-        assert_eq!(rt; target.is_hidden(), hidden, "at {term:?}");
-        let out: Vec<u8> = Vec::new(alloc);
-        let target = ProgressDrawTarget::stderr(out, facts(alloc, attended, term)?, 0);
-        assert_eq!(rt; target.is_hidden(), hidden, "at {term:?}");
-        let memory = InMemoryTerm::new(alloc, 4, 10)?;
-        let target = ProgressDrawTarget::term(memory, facts(alloc, attended, term)?, 20, 0)?;
-        let mut bar: Watched<NoTracker> = Watched::on(Told::new(alloc, "{msg}", None, 0)?, target);
+        hides(&rt, rt.alloc(), (attended, term, hidden))?;
         let wanted = if hidden { Drawn::Hidden } else { Drawn::Yes };
-        assert_eq!(rt; bar.obey(Call::Tick, 0), Ok(wanted), "at {term:?}");
+        let drawn = ticked(rt.alloc(), attended, term);
+        assert_eq!(rt; drawn, Ok(wanted), "at {term:?}");
     }
     Ok(())
 }

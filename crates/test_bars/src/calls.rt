@@ -1,8 +1,11 @@
 //! Commands of a bar as rows of a table, and a bar's record whose calls promise nothing here, so that a test of many calls is
 //! proved call by call.
 use crate::look::Look;
-use indicatif_bar::state::{Ask, BarCommand, BarState, Change, ProgressFinish, Rate};
+use indicatif_bar::state::{
+    Ask, BarCommand, BarState, Change, Fraction, ProgressFinish, Rate, SpareLines,
+};
 use indicatif_bar::style::{ProgressStyle, ProgressTracker};
+use indicatif_term::draw_target::LineType;
 use indicatif_text::columns::{Moment, Refusal};
 use std::alloc::Global;
 use std::convert::AsStr;
@@ -131,10 +134,20 @@ pub struct Times {
     pub rate: Rate,
 }
 
+/// Whether these lines have these texts.
+fn are_lines(lines: &[LineType], wanted: &[&str]) -> bool {
+    for (line, text) in lines.iter().zip(wanted) {
+        if !line.is_text(text) {
+            return false;
+        }
+    }
+    lines.len() == wanted.len()
+}
+
 /// A bar's record.
 #[derive(Drop)]
 pub struct Told<K> {
-    bar: BarState<K>,
+    bar: Box<BarState<K>>,
 }
 
 impl<K: ProgressTracker> Told<K> {
@@ -156,19 +169,24 @@ impl<K: ProgressTracker> Told<K> {
         len: Option<u64>,
         now: Moment,
     ) -> Result<Told<K>, Refusal> {
-        let bar = BarState::styled(alloc, style, len, now)?;
+        let bar = Box::new(alloc, BarState::styled(alloc, style, len, now)?)?;
         Ok(Told { bar })
     }
 
     /// A bar as `BarState::new` makes it.
     pub fn default_bar(alloc: Global, len: Option<u64>, now: Moment) -> Result<Told<K>, Refusal> {
-        let bar = BarState::new(alloc, len, now)?;
+        let bar = Box::new(alloc, BarState::new(alloc, len, now)?)?;
         Ok(Told { bar })
     }
 
     pub fn into_bar(self) -> BarState<K> {
         let Told { bar } = self;
-        bar
+        Box::into_inner(bar)
+    }
+
+    /// The part that is done.
+    pub fn fraction(&self) -> Fraction {
+        self.bar.state().fraction()
     }
 
     pub fn reached(&self) -> Reached {
@@ -219,6 +237,20 @@ impl<K: ProgressTracker> Told<K> {
             text.push_str(line.as_str())?;
         }
         Ok(if lines.is_empty() { None } else { Some(text) })
+    }
+
+    /// Whether its lines on 80 columns at the moment 0 are these.
+    pub fn shows(&self, wanted: &[&str]) -> Result<bool, Refusal> {
+        let lines = self.bar.lines(0, 80)?;
+        Ok(are_lines(&lines, wanted))
+    }
+
+    /// The same of lines that are laid out in this room, which is then kept.
+    pub fn shows_in(&self, spare: &mut SpareLines, wanted: &[&str]) -> Result<bool, Refusal> {
+        let lines = self.bar.lines_in(spare, 0, 80)?;
+        let found = are_lines(&lines, wanted);
+        spare.keep(lines);
+        Ok(found)
     }
 
     pub fn apply(&mut self, command: BarCommand<K>, now: Moment) -> Result<Ask, Refusal> {

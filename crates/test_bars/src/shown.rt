@@ -1,18 +1,20 @@
 //! A bar on a terminal whose calls promise nothing here, so that a test of many calls is proved call by call: what the prover knows
-//! of one call isn't carried through all that follow it.
+//! of one call isn't carried through all that follow it. It stands in a box, so that each way out of a test drops it by one call.
 use indicatif_bar::lone::{LoneBar, LoneCall};
 use indicatif_bar::state::BarState;
 use indicatif_bar::style::{NoTracker, ProgressStyle};
 use indicatif_term::draw_target::ProgressDrawTarget;
-use indicatif_term::term_like::TermLike;
+use indicatif_term::in_memory::InMemoryTerm;
+use indicatif_term::term_like::{Term, TermLike};
 use indicatif_text::columns::{Drawn, Moment, Refusal};
 use std::alloc::Global;
 use std::cell::Cell;
+use std::test::Fail;
 
 /// A bar on a terminal, or on none.
 #[derive(Drop)]
 pub struct Shown<T: Drop> {
-    bar: LoneBar<NoTracker, T>,
+    bar: Box<LoneBar<NoTracker, T>>,
 }
 
 /// A record of this template that says this.
@@ -31,9 +33,8 @@ impl<T: TermLike + Drop> Shown<T> {
         target: ProgressDrawTarget<T>,
     ) -> Result<Shown<T>, Refusal> {
         let state = state_of(alloc, "{msg}", message)?;
-        Ok(Shown {
-            bar: LoneBar::new(state, target),
-        })
+        let bar = Box::new(alloc, LoneBar::new(state, target))?;
+        Ok(Shown { bar })
     }
 
     /// The terminal; `None` where there is none.
@@ -44,7 +45,7 @@ impl<T: TermLike + Drop> Shown<T> {
     /// The terminal, and no bar any more.
     pub fn into_term(self) -> Option<T> {
         let Shown { bar } = self;
-        bar.into_term()
+        Box::into_inner(bar).into_term()
     }
 
     pub fn is_hidden(&self) -> bool {
@@ -102,5 +103,27 @@ impl<T: TermLike + Drop> Shown<T> {
         calls: Vec<(LoneCall<NoTracker>, Moment)>,
     ) -> Result<Vec<Result<Drawn, Refusal>>, Refusal> {
         self.bar.run(calls)
+    }
+}
+
+impl Shown<InMemoryTerm> {
+    /// What stands in the window.
+    pub fn contents(&self) -> Result<String, Fail> {
+        let term = self.bar.term().ok_or("no terminal")?;
+        Ok(term.contents()?)
+    }
+
+    /// All rows, also those scrolled away.
+    pub fn picture(&self) -> Result<Vec<String>, Fail> {
+        let term = self.bar.term().ok_or("no terminal")?;
+        Ok(term.picture()?)
+    }
+}
+
+impl Shown<Term<Vec<u8>>> {
+    /// The bytes that were written.
+    pub fn bytes(&self) -> Result<&[u8], Fail> {
+        let term = self.bar.term().ok_or("no terminal")?;
+        Ok(term.writer().as_slice())
     }
 }

@@ -13,26 +13,29 @@ use std::test::Fail;
 /// A bar on a terminal in memory.
 #[derive(Drop)]
 pub struct Watched<K> {
-    bar: LoneBar<K, InMemoryTerm>,
+    bar: Box<LoneBar<K, InMemoryTerm>>,
 }
 
 impl<K: ProgressTracker> Watched<K> {
     /// This bar on a terminal of so many rows and columns.
     pub fn new(alloc: Global, bar: Told<K>, size: (u16, u16)) -> Result<Watched<K>, Refusal> {
         let term = InMemoryTerm::new(alloc, size.0, size.1)?;
-        Ok(Watched::on(bar, ProgressDrawTarget::term_like(term)))
+        Watched::on(alloc, bar, ProgressDrawTarget::term_like(term))
     }
 
     /// This bar on this target.
-    pub fn on(bar: Told<K>, target: ProgressDrawTarget<InMemoryTerm>) -> Watched<K> {
-        Watched {
-            bar: LoneBar::new(bar.into_bar(), target),
-        }
+    pub fn on(
+        alloc: Global,
+        bar: Told<K>,
+        target: ProgressDrawTarget<InMemoryTerm>,
+    ) -> Result<Watched<K>, Refusal> {
+        let bar = Box::new(alloc, LoneBar::new(bar.into_bar(), target))?;
+        Ok(Watched { bar })
     }
 
     /// This bar on no terminal.
-    pub fn hidden(bar: Told<K>) -> Watched<K> {
-        Watched::on(bar, ProgressDrawTarget::hidden())
+    pub fn hidden(alloc: Global, bar: Told<K>) -> Result<Watched<K>, Refusal> {
+        Watched::on(alloc, bar, ProgressDrawTarget::hidden())
     }
 
     pub fn position(&self) -> u64 {
@@ -54,7 +57,7 @@ impl<K: ProgressTracker> Watched<K> {
     /// What stands in the window once the bar is gone, the program has printed a line, and the shell its prompt.
     pub fn then_done(self) -> Result<String, Fail> {
         let Watched { bar } = self;
-        let mut term = bar.into_term().ok_or("no terminal")?;
+        let mut term = Box::into_inner(bar).into_term().ok_or("no terminal")?;
         term.write_line("done")?;
         term.write_str("$ ")?;
         Ok(term.contents()?)
