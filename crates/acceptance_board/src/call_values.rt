@@ -2,8 +2,7 @@
 use crate::shown::MARK;
 use indicatif_bar::state::BarState;
 use indicatif_bar::style::{NoTracker, ProgressStyle};
-use indicatif_board::bar_id::BarId;
-use indicatif_board::multi::{Answer, Board, Call, Candidate, InsertLocation};
+use indicatif_board::multi::{Answer, BarId, Board, Call, Candidate, InsertLocation};
 use indicatif_term::draw_target::ProgressDrawTarget;
 use indicatif_term::in_memory::InMemoryTerm;
 use indicatif_text::columns::{Drawn, Refusal};
@@ -17,7 +16,7 @@ fn taken_in(alloc: Global, at: InsertLocation, text: &str) -> Result<Call<NoTrac
     let style = ProgressStyle::with_template(alloc, "{msg}")?;
     let mut bar = BarState::styled(alloc, style, None, 0)?;
     bar.with_message(text, 0)?;
-    Ok(Call::Insert(at, Candidate::New(bar)))
+    Ok(Call::Insert { at, candidate: Candidate::New(bar) })
 }
 
 /// A board on a terminal of 4 rows and 10 columns.

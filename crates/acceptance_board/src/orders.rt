@@ -1,7 +1,6 @@
 //! The order of bars and the slots that they have, as a board and its table tell them.
 use crate::shown::{MARK, Shown};
-use indicatif_board::bar_id::BarId;
-use indicatif_board::multi::{InsertLocation, MultiState};
+use indicatif_board::multi::{BarId, InsertLocation, MultiState};
 use std::process::Abort;
 use std::test::Fail;
 

@@ -1,7 +1,6 @@
 //! What a bar is made with on a terminal behind a writer: the example of the documentation.
 use indicatif::machine::{TerminalSetup, told_setup};
-use indicatif::style::NoTracker;
-use indicatif::{BarState, Clock, Drawn, Facts, LoneBar, Moment, Refusal, TermLike};
+use indicatif::{BarState, Clock, Drawn, Facts, LoneBar, Moment, NoTracker, Refusal, TermLike};
 use std::alloc::Global;
 use std::test::Fail;
 

@@ -3,8 +3,9 @@
 #![tactic(auto)]
 
 use anyhow::{Result, anyhow};
-use indicatif::style::ProgressStyle;
-use indicatif::{InMemoryTerm, ProgressBar, ProgressDrawTarget, Setup, StepClock};
+use indicatif::{
+    InMemoryTerm, ProgressBar, ProgressDrawTarget, ProgressStyle, Setup, StepClock,
+};
 use std::sync::Wait;
 use std::time::Duration;
 use std::{thread, time};

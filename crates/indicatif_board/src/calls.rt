@@ -43,7 +43,7 @@ pub struct Turned<K> {
 ///
 /// ```
 /// let first = board.add(Candidate::New(bar))?;
-/// board.call(Call::Insert(InsertLocation::Before(first), Candidate::New(other)), now); // `other` stands above `bar`
+/// board.call(Call::Insert { at: InsertLocation::Before(first), candidate: Candidate::New(other) }, now); // `other` stands above `bar`
 /// ```
 #[derive(Clone, Copy, Debug, Drop, PartialEq, Eq)]
 pub enum InsertLocation {
