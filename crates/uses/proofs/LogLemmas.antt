@@ -1,6 +1,6 @@
 -- What a log put above a bar stands at the front of all that is above it later.
-use Rattle.std.proofs.Common.{◌≡◌, ℕ, zero, suc, ◌-◌, Bool, true, false, List, [], ◌∷◌, ◌++◌, length, map, take, replicate, flat_map, refl, sym, ◌∙◌, ap, subst, arith, append_assoc, Result, Ok, Err, Option, Some, None, inl, inr}
-use Rattle.std.specs.Prelude.{IsFalse, not, ◌==◌}
+use Rattle.std.proofs.Common.{◌≡◌, ℕ, zero, suc, ◌-◌, Bool, false, List, [], ◌∷◌, ◌++◌, length, map, take, replicate, flat_map, refl, sym, ◌∙◌, ap, append_assoc, Result, Ok, Err, Option, Some, None, inl, inr}
+use Rattle.std.specs.Prelude.{IsFalse, ◌==◌}
 use Rattle.std.specs.List.{AllByRecursion, list_any}
 use Rattle.std.proofs.lemmas.Bool.{cond_both, or_parts}
 use Rattle.std.proofs.lemmas.List.{map-append}
@@ -8,15 +8,15 @@ use Rattle.std.proofs.lemmas.List.Elements.{All-from_recursion}
 use Rattle.indicatif_text.specs.declared.refusal.Refusal.{Refusal}
 use Rattle.indicatif_text.specs.declared.refusal.Refusal.TheVariants.{NoColumns, TooWide}
 use Rattle.indicatif_text.specs.declared.refusal.Drawn.{Drawn}
-use Rattle.indicatif_text.specs.declared.refusal.Drawn.TheVariants.{Yes, Limited, Hidden}
+use Rattle.indicatif_text.specs.declared.refusal.Drawn.TheVariants.{Yes, Hidden}
 use Rattle.indicatif_text.specs.Columns.{Cell, rows_of}
 use Rattle.indicatif_term.specs.Calls.{TermView}
 use Rattle.indicatif_term.specs.Lists.{Lists, BarLines, logged, all_rows, live_rows}
-use Rattle.indicatif_term.specs.Frames.{some_wide, text_lines, logged_lines}
+use Rattle.indicatif_term.specs.Frames.{some_wide}
 use Rattle.indicatif_term.specs.Pictures.{row_text}
 use Rattle.indicatif_bar.specs.Trackers.{Tracking}
 use Rattle.indicatif_bar.specs.Commands.{BarRecord}
-use Rattle.indicatif_bar.specs.Machines.{Target, Machine, Draw, Draws, Leads, target_of, is_no, drawn_by}
+use Rattle.indicatif_bar.specs.Machines.{Target, Machine, Draws, Leads, drawn_by}
 use Rattle.indicatif_bar.specs.Runs.{Runs, AllPlain, Headline, broke}
 use Rattle.indicatif_bar.specs.Lone.{LoneState, Log, draw_by}
 use Rattle.indicatif_bar.specs.Bars.{bar_kind}
