@@ -4,37 +4,27 @@ ghost use Rattle.indicatif_bar.specs.Progress.{Progress};
 
 use indicatif_bar::lone::LoneCall;
 use indicatif_bar::state::{
-    Ask, BarCommand, BarState, Change, Fraction, ProgressFinish, ProgressState, Rate,
+    Ask, BarCommand, Change, Fraction, ProgressFinish, ProgressState, Rate, SpareLines,
 };
-use indicatif_bar::style::{FnTracker, NoTracker, ProgressStyle, ProgressTracker, TellsText};
+use indicatif_bar::style::{FnTracker, NoTracker, TellsText};
 use indicatif_term::draw_target::{ProgressDrawTarget, Setup};
 use indicatif_term::in_memory::InMemoryTerm;
 use indicatif_text::columns::{Clock, Drawn, Moment, Refusal, StepClock};
 use std::alloc::Global;
+use std::process::Abort;
 use std::test::Fail;
+use test_bars::calls::Told;
+use test_bars::look::Look;
 use test_bars::script::bar_on;
-
-/// A record of ten steps in this style.
-fn ten_steps<K: ProgressTracker>(
-    alloc: Global,
-    style: ProgressStyle<K>,
-) -> Result<BarState<K>, Refusal> {
-    BarState::styled(alloc, style, Some(10), 0)
-}
+use test_bars::shown::Shown;
 
 /// A record of ten steps that shows its position.
-fn plain_bar(alloc: Global) -> Result<BarState<NoTracker>, Refusal> {
-    ten_steps(alloc, ProgressStyle::with_template(alloc, "{pos}")?)
+fn plain_bar(alloc: Global) -> Result<Told<NoTracker>, Refusal> {
+    Told::new(alloc, "{pos}", Some(10), 0)
 }
 
-fn apply(bar: &mut BarState<NoTracker>, command: BarCommand<NoTracker>) -> Result<Ask, Refusal> {
+fn apply(bar: &mut Told<NoTracker>, command: BarCommand<NoTracker>) -> Result<Ask, Refusal> {
     bar.apply(command, 0)
-}
-
-/// The one line that a record shows.
-fn line_of<K: ProgressTracker>(bar: &BarState<K>, wanted: &str) -> Result<bool, Refusal> {
-    let lines = bar.lines(0, 80)?;
-    Ok(lines.len() == 1 && lines.iter().all(|line| line.is_text(wanted)))
 }
 
 #[test]
@@ -52,7 +42,7 @@ fn setup(rt: HostRuntime) {
 fn bar_command_and_ask(rt: HostRuntime) -> Result<(), Fail> {
     let mut bar = plain_bar(rt.alloc())?;
     assert_eq!(rt; apply(&mut bar, BarCommand::Inc(2))?, Ask::Unforced);
-    assert_eq!(rt; bar.state().pos(), 2);
+    assert_eq!(rt; bar.reached().position, 2);
     assert_eq!(rt; apply(&mut bar, BarCommand::ResetEta)?, Ask::No);
     assert_eq!(rt; apply(&mut bar, BarCommand::ForceDraw)?, Ask::Forced);
     Ok(())
@@ -67,9 +57,9 @@ fn change_and_fraction_and_rate(rt: HostRuntime) -> Result<(), Fail> {
         len: Some(4),
     };
     apply(&mut bar, BarCommand::Update(change))?;
-    assert_eq!(rt; bar.state().fraction(), Fraction { num: 3, den: 4 });
+    assert_eq!(rt; bar.fraction(), Fraction { num: 3, den: 4 });
     let new = plain_bar(rt.alloc())?;
-    assert_eq!(rt; new.state().per_sec(0), Rate { steps: 0, nanos: 1 });
+    assert_eq!(rt; new.times(0).rate, Rate { steps: 0, nanos: 1 });
     Ok(())
 }
 
@@ -78,18 +68,18 @@ fn progress_finish(rt: HostRuntime) -> Result<(), Fail> {
     let mut bar = plain_bar(rt.alloc())?;
     apply(&mut bar, BarCommand::WithFinish(ProgressFinish::AndLeave))?;
     assert_eq!(rt; apply(&mut bar, BarCommand::FinishUsingStyle)?, Ask::Forced);
-    assert_eq!(rt; bar.state().pos(), 10);
-    assert!(rt; bar.state().is_finished());
+    assert_eq!(rt; bar.reached().position, 10);
+    assert!(rt; bar.reached().finished);
     Ok(())
 }
 
 /// Five of ten steps: five of ten columns, then the bar's tip.
 #[test]
 fn progress_style(rt: HostRuntime) -> Result<(), Fail> {
-    let style = ProgressStyle::<NoTracker>::with_template(rt.alloc(), "{bar:10} {pos}/{len}")?;
-    let mut bar = ten_steps(rt.alloc(), style.progress_chars("=> ")?)?;
+    let style = Look::with_template(rt.alloc(), "{bar:10} {pos}/{len}")?.progress_chars("=> ")?;
+    let mut bar = style.bar(rt.alloc(), Some(10), 0)?;
     apply(&mut bar, BarCommand::SetPosition(5))?;
-    assert!(rt; line_of(&bar, "=====>     5/10")?);
+    assert!(rt; bar.shows(&["=====>     5/10"])?);
     Ok(())
 }
 
@@ -113,27 +103,54 @@ fn fn_tracker_and_tells_text(rt: HostRuntime) -> Result<(), Fail> {
         text: String::from_str(rt.alloc(), "ready")?,
     };
     let tracker = FnTracker::new(rt.alloc(), teller)?;
-    let style = ProgressStyle::with_template(rt.alloc(), "{word}!")?.with_key("word", tracker)?;
-    let bar = ten_steps(rt.alloc(), style)?;
-    assert!(rt; line_of(&bar, "ready!")?);
+    let style = Look::with_template(rt.alloc(), "{word}!")?.with_key("word", tracker)?;
+    let bar = style.bar(rt.alloc(), Some(10), 0)?;
+    assert!(rt; bar.shows(&["ready!"])?);
+    Ok(())
+}
+
+/// One room for two bars, whose lines are those that each has without it.
+#[test]
+fn spare_lines(rt: HostRuntime) -> Result<(), Fail> {
+    let mut first = plain_bar(rt.alloc())?;
+    let second = plain_bar(rt.alloc())?;
+    let mut spare = SpareLines::new(rt.alloc());
+    assert!(rt; first.shows_in(&mut spare, &["0"])?);
+    assert_eq!(rt; apply(&mut first, BarCommand::Inc(10))?, Ask::Unforced);
+    assert!(rt; first.shows_in(&mut spare, &["10"])?);
+    assert!(rt; second.shows_in(&mut spare, &["0"])?);
+    assert!(rt; first.shows(&["10"])?);
+    Ok(())
+}
+
+/// A draw, a line of text above the bar, and a clear.
+fn three_calls(alloc: Global) -> Result<Vec<(LoneCall<NoTracker>, Moment)>, Refusal> {
+    let log = LoneCall::Log(String::from_str(alloc, "a.txt")?);
+    Ok(vec![in alloc;
+        (LoneCall::Bar(BarCommand::Tick), 0),
+        (log, 0),
+        (LoneCall::Clear, 5),
+    ]?)
+}
+
+/// Makes three calls, each of which is drawn.
+fn makes_three_calls(
+    rt: &impl Abort,
+    alloc: Global,
+    bar: &mut Shown<InMemoryTerm>,
+) -> Result<(), Fail> {
+    let answers = bar.run(three_calls(alloc)?)?;
+    assert_eq!(rt; answers.len(), 3);
+    for answer in answers.iter() {
+        assert_eq!(rt; *answer, Ok(Drawn::Yes));
+    }
     Ok(())
 }
 
 #[test]
 fn lone_call(rt: HostRuntime) -> Result<(), Fail> {
     let mut bar = bar_on(rt.alloc(), "ab", InMemoryTerm::new(rt.alloc(), 4, 10)?)?;
-    let log = LoneCall::Log(String::from_str(rt.alloc(), "a.txt")?);
-    let calls = vec![in rt.alloc();
-        (LoneCall::Bar(BarCommand::Tick), 0),
-        (log, 0),
-        (LoneCall::Clear, 5),
-    ]?;
-    let answers = bar.run(calls)?;
-    assert_eq!(rt; answers.len(), 3);
-    for answer in answers.iter() {
-        assert_eq!(rt; *answer, Ok(Drawn::Yes));
-    }
-    let term = bar.term().ok_or("no terminal")?;
-    assert_eq!(rt; term.contents()?.as_str(), "a.txt");
+    makes_three_calls(&rt, rt.alloc(), &mut bar)?;
+    assert_eq!(rt; bar.contents()?.as_str(), "a.txt");
     Ok(())
 }

@@ -1,6 +1,6 @@
 //! An example of each public type, as its documentation gives it.
-use indicatif_bar::state::{Ask, BarState};
-use indicatif_bar::style::{NoTracker, ProgressStyle};
+use indicatif_bar::state::Ask;
+use indicatif_bar::style::NoTracker;
 use indicatif_term::draw_target::{
     Engine, Keep, LineType, MultiProgressAlignment, ProgressDrawTarget, Segment,
 };
@@ -17,6 +17,7 @@ use indicatif_text::template::{Alignment, Part, Template};
 use std::alloc::Global;
 use std::process::Abort;
 use std::test::Fail;
+use test_bars::calls::{Call, Told};
 use test_bars::script::bar_on;
 
 const SECOND: u64 = 1_000_000_000;
@@ -136,22 +137,53 @@ fn term(rt: HostRuntime) -> Result<(), Fail> {
     Ok(())
 }
 
-#[test]
-fn terminal_in_memory(rt: HostRuntime) -> Result<(), Fail> {
-    let mut term = InMemoryTerm::new(rt.alloc(), 3, 10)?;
+/// A terminal in memory, in a box: each way out of a test drops it by one call.
+fn terminal(alloc: Global, rows: u16, cols: u16) -> Result<Box<InMemoryTerm>, Refusal> {
+    Ok(Box::new(alloc, InMemoryTerm::new(alloc, rows, cols)?)?)
+}
+
+fn write_two_rows(term: &mut InMemoryTerm) -> Result<(), Fail> {
     term.write_line("one")?;
     term.write_str("two ")?;
-    assert_eq!(rt; term.contents()?.as_str(), "one\ntwo");
-    assert_eq!(rt; term.cursor(), (1, 4));
+    Ok(())
+}
+
+/// The terminal shows this, and its cursor stands there.
+fn stands(
+    rt: &impl Abort,
+    term: &InMemoryTerm,
+    wanted: &str,
+    cursor: (u16, u16),
+) -> Result<(), Fail> {
+    assert_eq!(rt; term.contents()?.as_str(), wanted);
+    assert_eq!(rt; term.cursor(), cursor);
+    Ok(())
+}
+
+/// All rows, also those scrolled away, are these.
+fn has_rows(rt: &impl Abort, term: &InMemoryTerm, wanted: &[&str]) -> Result<(), Fail> {
     let picture = term.picture()?;
-    assert_eq!(rt; picture.len(), 3);
-    for (row, wanted) in picture.iter().zip(["one", "two", ""]) {
-        assert_eq!(rt; row.as_str(), wanted);
+    assert_eq!(rt; picture.len(), wanted.len());
+    for (row, wanted) in picture.iter().zip(wanted) {
+        assert_eq!(rt; row.as_str(), *wanted);
     }
-    assert_eq!(rt;
-        term.moves_since_last_check().as_str(),
-        "Str(\"one\")\nNewLine\nStr(\"two \")\n"
-    );
+    Ok(())
+}
+
+/// The calls since the last look at them are these.
+fn has_moves(rt: &impl Abort, term: &mut InMemoryTerm, wanted: &str) {
+    let moves = term.moves_since_last_check();
+    assert_eq!(rt; moves.as_str(), wanted);
+}
+
+#[test]
+fn terminal_in_memory(rt: HostRuntime) -> Result<(), Fail> {
+    let mut term = terminal(rt.alloc(), 3, 10)?;
+    write_two_rows(&mut term)?;
+    stands(&rt, &term, "one\ntwo", (1, 4))?;
+    has_rows(&rt, &term, &["one", "two", ""])?;
+    let wanted = "Str(\"one\")\nNewLine\nStr(\"two \")\n";
+    has_moves(&rt, &mut term, wanted);
     Ok(())
 }
 
@@ -175,23 +207,35 @@ fn line_type(rt: HostRuntime) -> Result<(), Fail> {
     Ok(())
 }
 
-/// A segment of two lines, drawn and kept; a text is logged in its place then.
-#[test]
-fn engine_and_segment(rt: HostRuntime) -> Result<(), Fail> {
-    let top = MultiProgressAlignment::Top;
-    let first = LineType::Bar(String::from_str(rt.alloc(), "ab")?);
-    let second = LineType::Bar(String::from_str(rt.alloc(), "c")?);
-    let lines = vec![in rt.alloc(); first, second]?;
-    let frame = vec![in rt.alloc(); Segment { bar: 1, lines }]?;
-    let mut engine = Engine::new(rt.alloc(), InMemoryTerm::new(rt.alloc(), 4, 5)?);
-    assert_eq!(rt; engine.draw(&frame, 0, top), Ok(()));
-    assert_eq!(rt; engine.term().contents()?.as_str(), "ab\nc");
-    assert_eq!(rt; engine.log("done", &frame, top), Ok(()));
-    assert_eq!(rt; engine.term().contents()?.as_str(), "done\nab\nc");
-    assert_eq!(rt; engine.keep(1), Keep::Passed);
-    assert_eq!(rt; engine.log("end", &[], top), Ok(()));
-    assert_eq!(rt; engine.term().contents()?.as_str(), "done\nend");
-    Ok(())
+/// An engine on a terminal in memory, whose calls promise nothing here, in a box as terminals are.
+#[derive(Drop)]
+struct Drawing {
+    engine: Box<Engine<InMemoryTerm>>,
+}
+
+impl Drawing {
+    /// On 4 rows and 5 columns.
+    fn new(alloc: Global) -> Result<Drawing, Refusal> {
+        let term = InMemoryTerm::new(alloc, 4, 5)?;
+        let engine = Box::new(alloc, Engine::new(alloc, term))?;
+        Ok(Drawing { engine })
+    }
+
+    fn draw(&mut self, frame: &[Segment], at: MultiProgressAlignment) -> Result<(), Refusal> {
+        self.engine.draw(frame, 0, at)
+    }
+
+    fn log(&mut self, text: &str, frame: &[Segment]) -> Result<(), Refusal> {
+        self.engine.log(text, frame, MultiProgressAlignment::Top)
+    }
+
+    fn keep(&mut self, bar: u64) -> Keep {
+        self.engine.keep(bar)
+    }
+
+    fn contents(&self) -> Result<String, Refusal> {
+        self.engine.term().contents()
+    }
 }
 
 /// A frame of one bar with these lines.
@@ -203,24 +247,39 @@ fn frame_of(alloc: Global, texts: &[&str]) -> Result<Vec<Segment>, Refusal> {
     Ok(vec![in alloc; Segment { bar: 1, lines }]?)
 }
 
+/// The terminal shows this.
+fn shows(rt: &impl Abort, drawing: &Drawing, wanted: &str) -> Result<(), Fail> {
+    assert_eq!(rt; drawing.contents()?.as_str(), wanted);
+    Ok(())
+}
+
+/// A segment of two lines, drawn and kept; a text is logged in its place then.
+#[test]
+fn engine_and_segment(rt: HostRuntime) -> Result<(), Fail> {
+    let frame = frame_of(rt.alloc(), &["ab", "c"])?;
+    let mut drawing = Drawing::new(rt.alloc())?;
+    assert_eq!(rt; drawing.draw(&frame, MultiProgressAlignment::Top), Ok(()));
+    shows(&rt, &drawing, "ab\nc")?;
+    assert_eq!(rt; drawing.log("done", &frame), Ok(()));
+    shows(&rt, &drawing, "done\nab\nc")?;
+    assert_eq!(rt; drawing.keep(1), Keep::Passed);
+    assert_eq!(rt; drawing.log("end", &[]), Ok(()));
+    shows(&rt, &drawing, "done\nend")
+}
+
 /// Draws a frame with the bars at the bottom.
-fn draw_at_bottom(
-    alloc: Global,
-    engine: &mut Engine<InMemoryTerm>,
-    texts: &[&str],
-) -> Result<(), Refusal> {
+fn draw_at_bottom(alloc: Global, drawing: &mut Drawing, texts: &[&str]) -> Result<(), Refusal> {
     let frame = frame_of(alloc, texts)?;
-    engine.draw(&frame, 0, MultiProgressAlignment::Bottom)
+    drawing.draw(&frame, MultiProgressAlignment::Bottom)
 }
 
 /// One line in the place of two stands on the lower one's row.
 #[test]
 fn alignment(rt: HostRuntime) -> Result<(), Fail> {
-    let mut engine = Engine::new(rt.alloc(), InMemoryTerm::new(rt.alloc(), 4, 5)?);
-    draw_at_bottom(rt.alloc(), &mut engine, &["ab", "c"])?;
-    draw_at_bottom(rt.alloc(), &mut engine, &["d"])?;
-    assert_eq!(rt; engine.term().contents()?.as_str(), "\nd");
-    Ok(())
+    let mut drawing = Drawing::new(rt.alloc())?;
+    draw_at_bottom(rt.alloc(), &mut drawing, &["ab", "c"])?;
+    draw_at_bottom(rt.alloc(), &mut drawing, &["d"])?;
+    shows(&rt, &drawing, "\nd")
 }
 
 #[test]
@@ -237,22 +296,14 @@ fn draw_target(rt: HostRuntime) -> Result<(), Fail> {
 
 #[test]
 fn bar_state(rt: HostRuntime) -> Result<(), Fail> {
-    let mut bar: BarState<NoTracker> = BarState::styled(
-        rt.alloc(),
-        ProgressStyle::with_template(rt.alloc(), "{msg}")?,
-        None,
-        0,
-    )?;
-    assert_eq!(rt; bar.set_message("a\tb\nc", 0)?, Ask::Unforced);
-    assert_eq!(rt; bar.tick(0), Ask::Unforced);
-    assert_eq!(rt; bar.force_draw(0), Ask::Forced);
-    assert_eq!(rt; bar.state().ticks(), 1);
+    let mut bar: Told<NoTracker> = Told::new(rt.alloc(), "{msg}", None, 0)?;
+    let message = Call::SetMessage("a\tb\nc");
+    assert_eq!(rt; bar.obey(message, 0), Ok(Ask::Unforced));
+    assert_eq!(rt; bar.obey(Call::Tick, 0), Ok(Ask::Unforced));
+    assert_eq!(rt; bar.obey(Call::ForceDraw, 0), Ok(Ask::Forced));
+    assert_eq!(rt; bar.reached().ticks, 1);
     assert_eq!(rt; bar.message(), "a        b\nc");
-    let lines = bar.lines(0, 80)?;
-    assert_eq!(rt; lines.len(), 2);
-    for (line, wanted) in lines.iter().zip(["a        b", "c"]) {
-        assert!(rt; line.is_text(wanted));
-    }
+    assert!(rt; bar.shows(&["a        b", "c"])?);
     Ok(())
 }
 
@@ -261,7 +312,6 @@ fn lone_bar(rt: HostRuntime) -> Result<(), Fail> {
     let mut bar = bar_on(rt.alloc(), "", InMemoryTerm::new(rt.alloc(), 4, 10)?)?;
     assert_eq!(rt; bar.set_message("copying", 0)?, Drawn::Yes);
     assert_eq!(rt; bar.println("a.txt", 0)?, Drawn::Yes);
-    let term = bar.term().ok_or("no terminal")?;
-    assert_eq!(rt; term.contents()?.as_str(), "a.txt\ncopying");
+    assert_eq!(rt; bar.contents()?.as_str(), "a.txt\ncopying");
     Ok(())
 }

@@ -1,4 +1,4 @@
-//! The first program of the README, as it stands there.
+//! A first program, over a terminal whose bytes can be looked at.
 use indicatif_bar::lone::LoneBar;
 use indicatif_bar::state::BarState;
 use indicatif_bar::style::{NoTracker, ProgressStyle};
@@ -9,31 +9,39 @@ use indicatif_text::columns::Refusal;
 use std::alloc::Global;
 use std::test::Fail;
 
-/// The bytes that a bar and a line above it write to a terminal of 24 rows and 80 columns.
-fn first(alloc: Global) -> Result<LoneBar<NoTracker, Term<Vec<u8>>>, Refusal> {
-    let writer: Vec<u8> = Vec::new(alloc);
-    let target = ProgressDrawTarget::term_like(Term::new(writer, 24, 80));
-    let mut bar = LoneBar::new(
-        BarState::styled(
-            alloc,
-            ProgressStyle::with_template(alloc, "{msg}")?,
-            None,
-            0,
-        )?,
-        target,
-    );
+type Bar = LoneBar<NoTracker, Term<Vec<u8>>>;
+
+/// A bar on a terminal of 24 rows and 80 columns.
+fn bar_on(alloc: Global) -> Result<Bar, Refusal> {
+    let style = ProgressStyle::with_template(alloc, "{msg}")?;
+    let bar = BarState::styled(alloc, style, None, 0)?;
+    let term = Term::new(Vec::new(alloc), 24, 80);
+    Ok(LoneBar::new(bar, ProgressDrawTarget::term_like(term)))
+}
+
+/// A message, a line above it, and a tick.
+fn unpack(bar: &mut Bar) -> Result<(), Refusal> {
     bar.set_message("unpacking", 0)?;
     bar.println("fetched 12 files", 0)?;
     bar.tick(0)?;
-    Ok(bar)
+    Ok(())
+}
+
+/// What the bytes that were written show.
+fn shown(alloc: Global, bar: &Bar) -> Result<String, Fail> {
+    let term = bar.term().ok_or("no terminal")?;
+    let mut cells = Cells::new(alloc, 24, 80)?;
+    match cells.feed(term.writer()) {
+        Ok(()) => Ok(cells.contents()?),
+        Err((_, refusal)) => Err(Fail::from(refusal)),
+    }
 }
 
 #[test]
 fn the_first_program(rt: HostRuntime) -> Result<(), Fail> {
-    let bar = first(rt.alloc())?;
-    let term = bar.term().ok_or("no terminal")?;
-    let mut cells = Cells::new(rt.alloc(), 24, 80)?;
-    assert_eq!(rt; cells.feed(term.writer()), Ok(()));
-    assert_eq!(rt; cells.contents()?.as_str(), "fetched 12 files\nunpacking");
+    let mut bar = bar_on(rt.alloc())?;
+    unpack(&mut bar)?;
+    let shown = shown(rt.alloc(), &bar)?;
+    assert_eq!(rt; shown.as_str(), "fetched 12 files\nunpacking");
     Ok(())
 }

@@ -7,6 +7,7 @@ use indicatif_term::in_memory::{Cells, InMemoryTerm};
 use indicatif_term::term_like::{Term, TermLike};
 use indicatif_text::columns::{Drawn, Moment, Refusal};
 use std::alloc::Global;
+use std::process::Abort;
 use std::test::Fail;
 use test_bars::script::bar_on;
 use test_bars::shown::Shown;
@@ -35,41 +36,34 @@ fn bar_behind(
     Ok(bar_on(alloc, message, term)?)
 }
 
-/// The bytes that were written.
-fn bytes(bar: &Shown<Term<Vec<u8>>>) -> Result<&[u8], Fail> {
-    let term = bar.term().ok_or("no terminal")?;
-    Ok(term.writer().as_slice())
-}
-
-/// What stands in the window.
-fn contents(bar: &Shown<InMemoryTerm>) -> Result<String, Fail> {
-    let term = bar.term().ok_or("no terminal")?;
-    Ok(term.contents()?)
-}
-
-/// All rows, also those scrolled away, joined by newlines.
+/// All rows, also those scrolled away, each ended by a newline.
 fn picture(alloc: Global, bar: &Shown<InMemoryTerm>) -> Result<String, Fail> {
-    let term = bar.term().ok_or("no terminal")?;
-    Ok(joined(alloc, term.picture()?)?)
+    Ok(joined(alloc, &bar.picture()?)?)
 }
 
-fn joined(alloc: Global, rows: Vec<String>) -> Result<String, Refusal> {
+fn joined(alloc: Global, rows: &[String]) -> Result<String, Refusal> {
     let mut text = String::new(alloc);
-    for row in &rows {
+    for row in rows {
         text.push_str(row.as_str())?;
         text.push('\n')?;
     }
     Ok(text)
 }
 
+/// The bar shows this.
+fn shows(rt: &impl Abort, bar: &Shown<InMemoryTerm>, wanted: &str) -> Result<(), Fail> {
+    assert_eq!(rt; bar.contents()?.as_str(), wanted);
+    Ok(())
+}
+
 #[test]
 fn a_character_wider_than_the_terminal(rt: HostRuntime) -> Result<(), Fail> {
     let mut bar = bar_below(rt.alloc(), (3, 1), &[], "国")?;
     assert_eq!(rt; bar.tick(0), Err(Refusal::TooWide));
-    assert_eq!(rt; contents(&bar)?.as_str(), "");
+    shows(&rt, &bar, "")?;
     assert_eq!(rt; bar.ticks(), 1);
     assert_eq!(rt; bar.set_message("a", 0), Ok(Drawn::Yes));
-    assert_eq!(rt; contents(&bar)?.as_str(), "a");
+    shows(&rt, &bar, "a")?;
     Ok(())
 }
 
@@ -78,13 +72,13 @@ fn a_refused_draw_writes_no_byte(rt: HostRuntime) -> Result<(), Fail> {
     let mut wide = bar_behind(rt.alloc(), (3, 1), "国")?;
     assert_eq!(rt; wide.tick(0), Err(Refusal::TooWide));
     assert_eq!(rt; wide.println("l", 0), Err(Refusal::TooWide));
-    assert_eq!(rt; bytes(&wide)?.len(), 0);
+    assert_eq!(rt; wide.bytes()?.len(), 0);
     assert_eq!(rt; wide.set_message("a", 0), Ok(Drawn::Yes));
-    assert!(rt; !bytes(&wide)?.is_empty());
+    assert!(rt; !wide.bytes()?.is_empty());
     let mut narrow = bar_behind(rt.alloc(), (3, 0), "a")?;
     assert_eq!(rt; narrow.tick(0), Err(Refusal::NoColumns));
     assert_eq!(rt; narrow.println("l", 0), Err(Refusal::NoColumns));
-    assert_eq!(rt; bytes(&narrow)?.len(), 0);
+    assert_eq!(rt; narrow.bytes()?.len(), 0);
     Ok(())
 }
 
@@ -92,9 +86,9 @@ fn a_refused_draw_writes_no_byte(rt: HostRuntime) -> Result<(), Fail> {
 fn a_shorter_message_takes_the_longer_ones_place(rt: HostRuntime) -> Result<(), Fail> {
     let mut bar = bar_below(rt.alloc(), (4, 10), &[], "progress bars")?;
     assert_eq!(rt; bar.tick(0), Ok(Drawn::Yes));
-    assert_eq!(rt; contents(&bar)?.as_str(), "progress b\nars");
+    shows(&rt, &bar, "progress b\nars")?;
     assert_eq!(rt; bar.set_message("x", 0), Ok(Drawn::Yes));
-    assert_eq!(rt; contents(&bar)?.as_str(), "x");
+    shows(&rt, &bar, "x")?;
     Ok(())
 }
 
@@ -102,9 +96,9 @@ fn a_shorter_message_takes_the_longer_ones_place(rt: HostRuntime) -> Result<(), 
 fn an_empty_message_has_no_line(rt: HostRuntime) -> Result<(), Fail> {
     let mut bar = bar_below(rt.alloc(), (4, 10), &[], "")?;
     assert_eq!(rt; bar.tick(0), Ok(Drawn::Yes));
-    assert_eq!(rt; contents(&bar)?.as_str(), "");
+    shows(&rt, &bar, "")?;
     assert_eq!(rt; bar.set_message("a", 0), Ok(Drawn::Yes));
-    assert_eq!(rt; contents(&bar)?.as_str(), "a");
+    shows(&rt, &bar, "a")?;
     Ok(())
 }
 
@@ -113,7 +107,7 @@ fn tabs_and_newlines_of_a_message(rt: HostRuntime) -> Result<(), Fail> {
     let mut bar = bar_below(rt.alloc(), (4, 20), &[], "a\tb\n\nc")?;
     assert_eq!(rt; bar.message(), "a        b\n\nc");
     assert_eq!(rt; bar.force_draw(0), Ok(Drawn::Yes));
-    assert_eq!(rt; contents(&bar)?.as_str(), "a        b\n\nc");
+    shows(&rt, &bar, "a        b\n\nc")?;
     Ok(())
 }
 
@@ -122,7 +116,7 @@ fn a_log_on_the_last_row_scrolls(rt: HostRuntime) -> Result<(), Fail> {
     let mut bar = bar_below(rt.alloc(), (3, 10), &["u1", "u2"], "x")?;
     assert_eq!(rt; bar.tick(0), Ok(Drawn::Yes));
     assert_eq!(rt; bar.println("l", 0), Ok(Drawn::Yes));
-    assert_eq!(rt; contents(&bar)?.as_str(), "u2\nl\nx");
+    shows(&rt, &bar, "u2\nl\nx")?;
     assert_eq!(rt; picture(rt.alloc(), &bar)?.as_str(), "u1\nu2\nl\nx\n");
     Ok(())
 }
@@ -132,12 +126,36 @@ fn lines_of_a_log(rt: HostRuntime) -> Result<(), Fail> {
     let mut bar = bar_below(rt.alloc(), (5, 10), &[], "x")?;
     assert_eq!(rt; bar.tick(0), Ok(Drawn::Yes));
     assert_eq!(rt; bar.println("a\r\nb", 0), Ok(Drawn::Yes));
-    assert_eq!(rt; contents(&bar)?.as_str(), "a\nb\nx");
+    shows(&rt, &bar, "a\nb\nx")?;
     let mut bar = bar_below(rt.alloc(), (5, 10), &[], "a")?;
     assert_eq!(rt; bar.tick(0), Ok(Drawn::Yes));
     assert_eq!(rt; bar.println("", 0), Ok(Drawn::Yes));
-    assert_eq!(rt; contents(&bar)?.as_str(), "\na");
+    shows(&rt, &bar, "\na")?;
     Ok(())
+}
+
+/// Writes these bytes to a terminal.
+fn feed(cells: &mut Cells, bytes: &[u8]) -> Result<(), Refusal> {
+    match cells.feed(bytes) {
+        Ok(()) => Ok(()),
+        Err((_, refusal)) => Err(refusal),
+    }
+}
+
+/// What these bytes show on 3 rows and 5 columns.
+fn at_once(alloc: Global, bytes: &[u8]) -> Result<String, Refusal> {
+    let mut cells = Cells::new(alloc, 3, 5)?;
+    feed(&mut cells, bytes)?;
+    joined(alloc, &cells.picture()?)
+}
+
+/// The same, each byte by a call of its own.
+fn byte_by_byte(alloc: Global, bytes: &[u8]) -> Result<String, Refusal> {
+    let mut cells = Cells::new(alloc, 3, 5)?;
+    for byte in bytes {
+        feed(&mut cells, &[*byte])?;
+    }
+    joined(alloc, &cells.picture()?)
 }
 
 #[test]
@@ -145,17 +163,10 @@ fn the_bytes_of_a_bar_and_a_log(rt: HostRuntime) -> Result<(), Fail> {
     let mut bar = bar_behind(rt.alloc(), (3, 5), "ab")?;
     assert_eq!(rt; bar.tick(0), Ok(Drawn::Yes));
     assert_eq!(rt; bar.println("l", 0), Ok(Drawn::Yes));
-    let mut whole = Cells::new(rt.alloc(), 3, 5)?;
-    assert_eq!(rt; whole.feed(bytes(&bar)?), Ok(()));
-    assert_eq!(rt; joined(rt.alloc(), whole.picture()?)?.as_str(), "l\nab\n\n");
-    let mut single = Cells::new(rt.alloc(), 3, 5)?;
-    for byte in bytes(&bar)? {
-        assert_eq!(rt; single.feed(&[*byte]), Ok(()));
-    }
-    assert_eq!(rt;
-        joined(rt.alloc(), single.picture()?)?.as_str(),
-        "l\nab\n\n"
-    );
+    let whole = at_once(rt.alloc(), bar.bytes()?)?;
+    assert_eq!(rt; whole.as_str(), "l\nab\n\n");
+    let single = byte_by_byte(rt.alloc(), bar.bytes()?)?;
+    assert_eq!(rt; single.as_str(), "l\nab\n\n");
     Ok(())
 }
 
@@ -175,23 +186,38 @@ fn message(alloc: Global, text: &str) -> Result<LoneCall<NoTracker>, Refusal> {
     Ok(LoneCall::Bar(BarCommand::SetMessage(text)))
 }
 
-#[test]
-fn a_run_answers_each_call(rt: HostRuntime) -> Result<(), Fail> {
-    let mut bar = bar_below(rt.alloc(), (3, 2), &[], "a")?;
-    let answers = bar.run(five_calls(rt.alloc())?)?;
+/// Makes five calls, each of which is drawn.
+fn makes_five_calls(
+    rt: &impl Abort,
+    alloc: Global,
+    bar: &mut Shown<InMemoryTerm>,
+) -> Result<(), Fail> {
+    let answers = bar.run(five_calls(alloc)?)?;
     for answer in &answers {
         assert_eq!(rt; *answer, Ok(Drawn::Yes));
     }
     assert_eq!(rt; answers.len(), 5);
-    assert_eq!(rt; picture(rt.alloc(), &bar)?.as_str(), "l\nb\n\n");
     Ok(())
 }
 
 #[test]
-fn hidden_targets(rt: HostRuntime) -> Result<(), Fail> {
+fn a_run_answers_each_call(rt: HostRuntime) -> Result<(), Fail> {
+    let mut bar = bar_below(rt.alloc(), (3, 2), &[], "a")?;
+    makes_five_calls(&rt, rt.alloc(), &mut bar)?;
+    assert_eq!(rt; picture(rt.alloc(), &bar)?.as_str(), "l\nb\n\n");
+    Ok(())
+}
+
+/// A bar on no terminal.
+fn bar_on_none(rt: &impl Abort, alloc: Global) -> Result<Shown<InMemoryTerm>, Refusal> {
     let target: ProgressDrawTarget<InMemoryTerm> = ProgressDrawTarget::hidden();
     assert!(rt; target.is_hidden());
-    let mut bar = Shown::saying(rt.alloc(), "x", target)?;
+    Shown::saying(alloc, "x", target)
+}
+
+#[test]
+fn hidden_targets(rt: HostRuntime) -> Result<(), Fail> {
+    let mut bar = bar_on_none(&rt, rt.alloc())?;
     assert!(rt; bar.is_hidden());
     assert_eq!(rt; bar.tick(0), Ok(Drawn::Hidden));
     assert_eq!(rt; bar.println("l", 0), Ok(Drawn::Hidden));
@@ -203,11 +229,11 @@ fn hidden_targets(rt: HostRuntime) -> Result<(), Fail> {
 fn a_clear_takes_the_rows_back(rt: HostRuntime) -> Result<(), Fail> {
     let mut bar = bar_below(rt.alloc(), (4, 5), &[], "x")?;
     assert_eq!(rt; bar.println("a", 0), Ok(Drawn::Yes));
-    assert_eq!(rt; contents(&bar)?.as_str(), "a\nx");
+    shows(&rt, &bar, "a\nx")?;
     assert_eq!(rt; bar.clear(0), Ok(Drawn::Yes));
-    assert_eq!(rt; contents(&bar)?.as_str(), "a");
+    shows(&rt, &bar, "a")?;
     assert_eq!(rt; bar.tick(0), Ok(Drawn::Yes));
-    assert_eq!(rt; contents(&bar)?.as_str(), "a\nx");
+    shows(&rt, &bar, "a\nx")?;
     Ok(())
 }
 
@@ -218,7 +244,7 @@ fn suspended_bars_are_drawn_again(rt: HostRuntime) -> Result<(), Fail> {
     let (value, drawn) = bar.suspend(7, 0);
     assert_eq!(rt; value, 7);
     assert_eq!(rt; drawn, Ok(Drawn::Yes));
-    assert_eq!(rt; contents(&bar)?.as_str(), "x");
+    shows(&rt, &bar, "x")?;
     let mut narrow = bar_below(rt.alloc(), (4, 1), &[], "国")?;
     let (value, drawn) = narrow.suspend(8, 0);
     assert_eq!(rt; value, 8);
@@ -226,17 +252,32 @@ fn suspended_bars_are_drawn_again(rt: HostRuntime) -> Result<(), Fail> {
     Ok(())
 }
 
+/// Goes on on another terminal, and tells what stands on the old one.
+fn moved(alloc: Global, bar: &mut Shown<InMemoryTerm>) -> Result<String, Fail> {
+    let other = InMemoryTerm::new(alloc, 2, 3)?;
+    let old = bar.set_draw_target(ProgressDrawTarget::term_like(other));
+    contents_of(old.into_term())
+}
+
+/// What stands on the terminal of a bar that is no more.
+fn left_by(bar: Shown<InMemoryTerm>) -> Result<String, Fail> {
+    contents_of(bar.into_term())
+}
+
+fn contents_of(term: Option<InMemoryTerm>) -> Result<String, Fail> {
+    let term = term.ok_or("no terminal")?;
+    Ok(term.contents()?)
+}
+
 #[test]
 fn another_target(rt: HostRuntime) -> Result<(), Fail> {
     let mut bar = bar_below(rt.alloc(), (4, 5), &[], "x")?;
     assert_eq!(rt; bar.tick(0), Ok(Drawn::Yes));
-    let other = InMemoryTerm::new(rt.alloc(), 2, 3)?;
-    let old = bar.set_draw_target(ProgressDrawTarget::term_like(other));
-    let old = old.into_term().ok_or("no terminal")?;
-    assert_eq!(rt; old.contents()?.as_str(), "x");
-    assert_eq!(rt; contents(&bar)?.as_str(), "");
+    let old = moved(rt.alloc(), &mut bar)?;
+    assert_eq!(rt; old.as_str(), "x");
+    shows(&rt, &bar, "")?;
     assert_eq!(rt; bar.tick(0), Ok(Drawn::Yes));
-    let term = bar.into_term().ok_or("no terminal")?;
-    assert_eq!(rt; term.contents()?.as_str(), "x");
+    let left = left_by(bar)?;
+    assert_eq!(rt; left.as_str(), "x");
     Ok(())
 }
