@@ -173,59 +173,116 @@ fn what_each_command_leaves_and_asks(rt: HostRuntime) -> Result<(), Fail> {
     Ok(())
 }
 
+/// The bar of a row on 3 rows and 20 columns.
+fn shown_half(alloc: Global) -> Result<Watched<NoTracker>, Refusal> {
+    Watched::new(alloc, half(alloc)?, (3, 20))
+}
+
+/// What is drawn of a row at once, and shown then.
+fn drawn_at_once(row: Row) -> (Drawn, &'static str) {
+    match row.1 {
+        Ask::No => (Drawn::Limited, ""),
+        Ask::Unforced | Ask::Forced => (Drawn::Yes, row.4),
+    }
+}
+
+/// The bar shows this.
+fn shows(
+    rt: &impl Abort,
+    alloc: Global,
+    bar: &Watched<NoTracker>,
+    wanted: &str,
+    call: Call,
+) -> Result<(), Fail> {
+    let shown = bar.contents(alloc)?;
+    assert_eq!(rt; shown.as_str(), wanted, "at {call:?}");
+    Ok(())
+}
+
+fn draws_call(rt: &impl Abort, alloc: Global, row: Row) -> Result<(), Fail> {
+    let (drawn, at_once) = drawn_at_once(row);
+    let call = row.0;
+    let mut bar = shown_half(alloc)?;
+    assert_eq!(rt; bar.obey(call, 0), Ok(drawn), "at {call:?}");
+    shows(rt, alloc, &bar, at_once, call)?;
+    assert_eq!(rt; bar.obey(Call::ForceDraw, 0), Ok(Drawn::Yes));
+    shows(rt, alloc, &bar, row.4, call)
+}
+
+fn draws_value(rt: &impl Abort, alloc: Global, row: Row) -> Result<(), Fail> {
+    let (drawn, at_once) = drawn_at_once(row);
+    let call = row.0;
+    let mut bar = shown_half(alloc)?;
+    let command = LoneCall::Bar(call.command(alloc)?);
+    assert_eq!(rt; bar.call(command, 0), Ok(drawn), "at {call:?}");
+    shows(rt, alloc, &bar, at_once, call)
+}
+
 /// Where no draw is asked nothing is shown; a draw by force shows it then.
 #[test]
 fn what_each_command_draws(rt: HostRuntime) -> Result<(), Fail> {
-    for (call, ask, _, _, wanted) in COMMANDS {
-        let (drawn, at_once) = match ask {
-            Ask::No => (Drawn::Limited, ""),
-            Ask::Unforced | Ask::Forced => (Drawn::Yes, wanted),
-        };
-        let mut called = Watched::new(rt.alloc(), half(rt.alloc())?, (3, 20))?;
-        assert_eq!(rt; called.obey(call, 0), Ok(drawn), "at {call:?}");
-        let shown = called.contents(rt.alloc())?;
-        assert_eq!(rt; shown.as_str(), at_once, "at {call:?}");
-        assert_eq!(rt; called.obey(Call::ForceDraw, 0), Ok(Drawn::Yes));
-        let shown = called.contents(rt.alloc())?;
-        assert_eq!(rt; shown.as_str(), wanted, "at {call:?}");
-        let mut told = Watched::new(rt.alloc(), half(rt.alloc())?, (3, 20))?;
-        let command = LoneCall::Bar(call.command(rt.alloc())?);
-        assert_eq!(rt; told.call(command, 0), Ok(drawn), "at {call:?}");
-        let shown = told.contents(rt.alloc())?;
-        assert_eq!(rt; shown.as_str(), at_once, "at {call:?}");
+    for row in COMMANDS {
+        draws_call(&rt, rt.alloc(), row)?;
+        draws_value(&rt, rt.alloc(), row)?;
     }
+    Ok(())
+}
+
+fn answers_on_no_terminal(rt: &impl Abort, alloc: Global, row: Row) -> Result<(), Fail> {
+    let (call, ask, (position, _), _, _) = row;
+    let drawn = match ask {
+        Ask::No => Drawn::Limited,
+        Ask::Unforced | Ask::Forced => Drawn::Hidden,
+    };
+    let mut bar = Watched::hidden(alloc, half(alloc)?)?;
+    assert_eq!(rt; bar.obey(call, 0), Ok(drawn), "at {call:?}");
+    assert_eq!(rt; bar.position(), position, "at {call:?}");
+    assert_eq!(rt; bar.is_finished(), finishes(call), "at {call:?}");
     Ok(())
 }
 
 /// On no terminal a draw that is asked answers `Hidden`, and the bar goes on.
 #[test]
 fn what_each_command_answers_on_no_terminal(rt: HostRuntime) -> Result<(), Fail> {
-    for (call, ask, (position, _), _, _) in COMMANDS {
-        let drawn = match ask {
-            Ask::No => Drawn::Limited,
-            Ask::Unforced | Ask::Forced => Drawn::Hidden,
-        };
-        let mut bar = Watched::hidden(half(rt.alloc())?);
-        assert_eq!(rt; bar.obey(call, 0), Ok(drawn), "at {call:?}");
-        assert_eq!(rt; bar.position(), position, "at {call:?}");
-        assert_eq!(rt; bar.is_finished(), finishes(call), "at {call:?}");
+    for row in COMMANDS {
+        answers_on_no_terminal(&rt, rt.alloc(), row)?;
     }
+    Ok(())
+}
+
+fn asks_when_finished(rt: &impl Abort, alloc: Global, row: Row) -> Result<(), Fail> {
+    let (call, ask, _, _, _) = row;
+    let wanted = match call {
+        Call::Reset => Ask::Unforced,
+        _ if ask == Ask::No => Ask::No,
+        _ => Ask::Forced,
+    };
+    let mut bar = half(alloc)?;
+    bar.obey(Call::Abandon, 0)?;
+    assert_eq!(rt; bar.obey(call, 0), Ok(wanted), "at {call:?}");
     Ok(())
 }
 
 /// Of a finished bar each draw is forced, but that of a reset, which is in progress then.
 #[test]
 fn what_a_finished_bar_asks(rt: HostRuntime) -> Result<(), Fail> {
-    for (call, ask, _, _, _) in COMMANDS {
-        let wanted = match call {
-            Call::Reset => Ask::Unforced,
-            _ if ask == Ask::No => Ask::No,
-            _ => Ask::Forced,
-        };
-        let mut bar = half(rt.alloc())?;
-        bar.obey(Call::Abandon, 0)?;
-        assert_eq!(rt; bar.obey(call, 0), Ok(wanted), "at {call:?}");
+    for row in COMMANDS {
+        asks_when_finished(&rt, rt.alloc(), row)?;
     }
+    Ok(())
+}
+
+fn asks_under_a_ticker(rt: &impl Abort, alloc: Global, row: Row) -> Result<(), Fail> {
+    let (call, ask, (position, _), _, _) = row;
+    let wanted = match call {
+        Call::Tick | Call::Inc(_) | Call::Dec(_) | Call::SetPosition(_) | Call::SetChange(_) =>
+            Ask::No,
+        _ => ask,
+    };
+    let mut bar = half(alloc)?;
+    assert_eq!(rt; bar.obey(Call::SetTicker(true), 0), Ok(Ask::No));
+    assert_eq!(rt; bar.obey(call, 0), Ok(wanted), "at {call:?}");
+    assert_eq!(rt; bar.reached().position, position, "at {call:?}");
     Ok(())
 }
 
@@ -233,16 +290,8 @@ fn what_a_finished_bar_asks(rt: HostRuntime) -> Result<(), Fail> {
 /// tick.
 #[test]
 fn what_a_bar_asks_under_a_ticker(rt: HostRuntime) -> Result<(), Fail> {
-    for (call, ask, (position, _), _, _) in COMMANDS {
-        let wanted = match call {
-            Call::Tick | Call::Inc(_) | Call::Dec(_) | Call::SetPosition(_) | Call::SetChange(_) =>
-                Ask::No,
-            _ => ask,
-        };
-        let mut bar = half(rt.alloc())?;
-        assert_eq!(rt; bar.obey(Call::SetTicker(true), 0), Ok(Ask::No));
-        assert_eq!(rt; bar.obey(call, 0), Ok(wanted), "at {call:?}");
-        assert_eq!(rt; bar.reached().position, position, "at {call:?}");
+    for row in COMMANDS {
+        asks_under_a_ticker(&rt, rt.alloc(), row)?;
     }
     Ok(())
 }

@@ -176,22 +176,27 @@ fn with_done(alloc: Global, shown: &str) -> Result<String, Refusal> {
     Ok(text)
 }
 
+/// A bar that ends so on a terminal of this size, by its call and by its stored finish.
+fn prints_after(rt: &impl Abort, alloc: Global, row: Row, size: (u16, u16)) -> Result<(), Fail> {
+    let (call, _, _, wanted) = row;
+    let done = with_done(alloc, wanted)?;
+    let (drawn, shown, then) = ended(alloc, half(alloc)?, call, size)?;
+    assert_eq!(rt; drawn, Ok(Drawn::Yes), "at {call:?}");
+    assert_eq!(rt; shown.as_str(), wanted, "at {call:?}");
+    assert_eq!(rt; then.as_str(), done.as_str(), "at {call:?}");
+    let stored = ending(alloc, call)?;
+    let (drawn, _, then) = ended(alloc, stored, Call::FinishUsingStyle, size)?;
+    assert_eq!(rt; drawn, Ok(Drawn::Yes), "at {call:?}");
+    assert_eq!(rt; then.as_str(), done.as_str(), "at {call:?}");
+    Ok(())
+}
+
 /// On a row that the bar doesn't fill, and on one that `m 10/10` does.
 #[test]
 fn a_line_printed_after_each_finish(rt: HostRuntime) -> Result<(), Fail> {
-    let alloc = rt.alloc();
-    for (call, _, _, wanted) in FINISHES {
-        for size in [(5, 12), (5, 7)] {
-            let (drawn, shown, then) = ended(alloc, half(alloc)?, call, size)?;
-            assert_eq!(rt; drawn, Ok(Drawn::Yes), "at {call:?}");
-            assert_eq!(rt; shown.as_str(), wanted, "at {call:?}");
-            let done = with_done(alloc, wanted)?;
-            assert_eq!(rt; then.as_str(), done.as_str(), "at {call:?}");
-            let stored = ending(alloc, call)?;
-            let (drawn, _, then) = ended(alloc, stored, Call::FinishUsingStyle, size)?;
-            assert_eq!(rt; drawn, Ok(Drawn::Yes), "at {call:?}");
-            assert_eq!(rt; then.as_str(), done.as_str(), "at {call:?}");
-        }
+    for row in FINISHES {
+        prints_after(&rt, rt.alloc(), row, (5, 12))?;
+        prints_after(&rt, rt.alloc(), row, (5, 7))?;
     }
     Ok(())
 }
@@ -217,32 +222,47 @@ fn a_line_printed_after_two_rows(rt: HostRuntime) -> Result<(), Fail> {
     Ok(())
 }
 
+fn draws_round(rt: &impl Abort, bar: &mut Watched<NoTracker>, call: Call) {
+    assert_eq!(rt; bar.println("one", 0), Ok(Drawn::Yes));
+    assert_eq!(rt; bar.obey(call, 0), Ok(Drawn::Yes));
+    assert_eq!(rt; bar.println("two", 0), Ok(Drawn::Yes));
+    assert_eq!(rt; bar.obey(Call::Tick, 0), Ok(Drawn::Yes));
+}
+
+fn logs_round(rt: &impl Abort, alloc: Global, row: Row) -> Result<(), Fail> {
+    let (call, _, _, shown) = row;
+    let mut bar = Watched::new(alloc, half(alloc)?, (6, 12))?;
+    draws_round(rt, &mut bar, call);
+    let mut wanted = String::from_str(alloc, "one\ntwo\n")?;
+    wanted.push_str(with_done(alloc, shown)?.as_str())?;
+    assert_eq!(rt; bar.then_done()?.as_str(), wanted.as_str(), "at {call:?}");
+    Ok(())
+}
+
 /// What was logged stays above a bar that left, and what a finished bar logs stands above it.
 #[test]
 fn lines_logged_round_a_finish(rt: HostRuntime) -> Result<(), Fail> {
-    let alloc = rt.alloc();
-    for (call, _, _, shown) in FINISHES {
-        let mut bar = Watched::new(alloc, half(alloc)?, (6, 12))?;
-        assert_eq!(rt; bar.println("one", 0), Ok(Drawn::Yes));
-        assert_eq!(rt; bar.obey(call, 0), Ok(Drawn::Yes));
-        assert_eq!(rt; bar.println("two", 0), Ok(Drawn::Yes));
-        assert_eq!(rt; bar.obey(Call::Tick, 0), Ok(Drawn::Yes));
-        let mut wanted = String::from_str(alloc, "one\ntwo\n")?;
-        wanted.push_str(with_done(alloc, shown)?.as_str())?;
-        assert_eq!(rt; bar.then_done()?.as_str(), wanted.as_str(), "at {call:?}");
+    for row in FINISHES {
+        logs_round(&rt, rt.alloc(), row)?;
     }
+    Ok(())
+}
+
+fn finishes_hidden(rt: &impl Abort, alloc: Global, row: Row) -> Result<(), Fail> {
+    let (call, position, _, _) = row;
+    let mut bar = Watched::hidden(alloc, half(alloc)?)?;
+    assert_eq!(rt; bar.obey(call, 0), Ok(Drawn::Hidden), "at {call:?}");
+    assert_eq!(rt; bar.position(), position, "at {call:?}");
+    assert!(rt; bar.is_finished(), "at {call:?}");
+    assert_eq!(rt; bar.obey(Call::Tick, 0), Ok(Drawn::Hidden));
     Ok(())
 }
 
 /// On no terminal each finish is counted, and nothing is drawn.
 #[test]
 fn finishes_on_no_terminal(rt: HostRuntime) -> Result<(), Fail> {
-    for (call, position, _, _) in FINISHES {
-        let mut bar = Watched::hidden(half(rt.alloc())?);
-        assert_eq!(rt; bar.obey(call, 0), Ok(Drawn::Hidden), "at {call:?}");
-        assert_eq!(rt; bar.position(), position, "at {call:?}");
-        assert!(rt; bar.is_finished(), "at {call:?}");
-        assert_eq!(rt; bar.obey(Call::Tick, 0), Ok(Drawn::Hidden));
+    for row in FINISHES {
+        finishes_hidden(&rt, rt.alloc(), row)?;
     }
     Ok(())
 }
