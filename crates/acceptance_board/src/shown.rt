@@ -1,4 +1,5 @@
-//! A board on a terminal in memory whose calls promise nothing here, so that a test of many calls is proved call by call.
+//! A board on a terminal in memory whose calls promise nothing here, so that a test of many calls is proved call by call. It
+//! stands in a box, so that each way out of a test drops it by one call.
 use indicatif_bar::state::{BarCommand, BarState, ProgressFinish};
 use indicatif_bar::style::{NoTracker, ProgressStyle};
 use indicatif_board::multi::{BarId, Board, Candidate, InsertLocation};
@@ -17,7 +18,7 @@ pub type Told = BarCommand<NoTracker>;
 #[derive(Drop)]
 pub struct Shown {
     alloc: Global,
-    board: Board<NoTracker, InMemoryTerm>,
+    board: Box<Board<NoTracker, InMemoryTerm>>,
 }
 
 /// A bar that shows its message, which is this.
@@ -37,7 +38,7 @@ fn target(alloc: Global, size: (u16, u16)) -> Result<ProgressDrawTarget<InMemory
 impl Shown {
     /// A board without bars on a terminal of this size.
     pub fn new(alloc: Global, size: (u16, u16)) -> Result<Shown, Refusal> {
-        let board = Board::new(alloc, target(alloc, size)?, MARK);
+        let board = Box::new(alloc, Board::new(alloc, target(alloc, size)?, MARK))?;
         Ok(Shown { alloc, board })
     }
 

@@ -1,5 +1,7 @@
-//! A bar of the tests', which tells where it stands and counts its moves.
+//! A bar of the tests', which tells where it stands and counts its moves; and the calls of wrappers over it. They promise nothing
+//! here, so that a test of many calls is proved call by call.
 use indicatif::{Drawn, Moves, ProgressBarIter, Refusal};
+use std::io::{self, BufRead, Read, Seek, SeekFrom, Write};
 
 /// A bar without a length, so that finishing leaves its position.
 #[derive(Drop)]
@@ -54,4 +56,55 @@ pub fn wrapped_at<T>(it: T, position: u64) -> ProgressBarIter<T, Counted> {
 /// Where a wrapper's bar stands, and how many moves it made.
 pub fn stands<T>(wrapped: &ProgressBarIter<T, Counted>) -> (u64, u64) {
     (wrapped.progress.position, wrapped.progress.moves)
+}
+
+/// What is wrapped, with a bar of the tests'.
+pub type Wrapped<T> = ProgressBarIter<T, Counted>;
+
+pub fn last_draw<T>(wrapped: &Wrapped<T>) -> Option<Result<Drawn, Refusal>> {
+    wrapped.last_draw()
+}
+
+pub fn next<T: Iterator>(wrapped: &mut Wrapped<T>) -> Option<T::Item> {
+    wrapped.next()
+}
+
+pub fn next_back<T: DoubleEndedIterator>(wrapped: &mut Wrapped<T>) -> Option<T::Item> {
+    wrapped.next_back()
+}
+
+pub fn read<T: Read>(wrapped: &mut Wrapped<T>, room: &mut [u8]) -> io::Result<usize> {
+    wrapped.read(room)
+}
+
+pub fn read_exact<T: Read>(wrapped: &mut Wrapped<T>, room: &mut [u8]) -> io::Result<()> {
+    wrapped.read_exact(room)
+}
+
+pub fn read_line<T: BufRead>(wrapped: &mut Wrapped<T>, line: &mut String) -> io::Result<usize> {
+    wrapped.read_line(line)
+}
+
+pub fn fill_buf<T: BufRead>(wrapped: &mut Wrapped<T>) -> io::Result<&[u8]> {
+    wrapped.fill_buf()
+}
+
+pub fn consume<T: BufRead>(wrapped: &mut Wrapped<T>, amount: usize) {
+    wrapped.consume(amount)
+}
+
+pub fn seek<T: Seek>(wrapped: &mut Wrapped<T>, to: SeekFrom) -> io::Result<u64> {
+    wrapped.seek(to)
+}
+
+pub fn write<T: Write>(wrapped: &mut Wrapped<T>, bytes: &[u8]) -> io::Result<usize> {
+    wrapped.write(bytes)
+}
+
+pub fn write_all<T: Write>(wrapped: &mut Wrapped<T>, bytes: &[u8]) -> io::Result<()> {
+    wrapped.write_all(bytes)
+}
+
+pub fn flush<T: Write>(wrapped: &mut Wrapped<T>) -> io::Result<()> {
+    wrapped.flush()
 }

@@ -8,10 +8,11 @@ use std::alloc::Global;
 use std::test::Fail;
 use std::vec;
 
-/// A loop whose calls promise nothing here, so that a test of many calls is proved call by call.
+/// A loop whose calls promise nothing here, so that a test of many calls is proved call by call. It stands in a box, so that
+/// each way out of a test drops it by one call.
 #[derive(Drop)]
 struct Looped {
-    wrapped: ProgressBarIter<vec::IntoIter<u32>, OwnedBar<NoTracker, InMemoryTerm, StepClock>>,
+    wrapped: Box<ProgressBarIter<vec::IntoIter<u32>, OwnedBar<NoTracker, InMemoryTerm, StepClock>>>,
 }
 
 /// A terminal of 20 columns, and a clock that goes on by a millisecond a reading.
@@ -34,12 +35,12 @@ impl Looped {
         finish: Option<ProgressFinish>,
     ) -> Result<Looped, Refusal> {
         let wrapped = items.into_iter().progress(alloc, setup(alloc)?)?;
-        Ok(Looped {
-            wrapped: match finish {
-                Some(finish) => wrapped.with_finish(finish),
-                None => wrapped,
-            },
-        })
+        let wrapped = match finish {
+            Some(finish) => wrapped.with_finish(finish),
+            None => wrapped,
+        };
+        let wrapped = Box::new(alloc, wrapped)?;
+        Ok(Looped { wrapped })
     }
 
     fn next(&mut self) -> Option<u32> {

@@ -4,7 +4,7 @@ ghost use Rattle.futures.specs.Poll.{OnPending};
 ghost use Rattle.futures.specs.Task.{Covers, Keeps};
 ghost use Rattle.tokio.specs.Io.Moved.{count_moved};
 
-use crate::counted::{Counted, stands, wrapped_at};
+use crate::counted::{Counted, last_draw, stands, wrapped_at};
 use futures::task::{Context, Poll};
 use futures::test::MockTask;
 use indicatif::ProgressBarIter;
@@ -146,7 +146,7 @@ fn a_pending_read_changes_nothing(rt: HostRuntime) -> Result<(), Fail> {
     let mut room = [0u8; 8];
     assert_eq!(rt; read(&task, &mut wrapped, &mut room), Came::Pending);
     assert_eq!(rt; stands(&wrapped), (0, 0));
-    assert_eq!(rt; wrapped.last_draw(), None);
+    assert_eq!(rt; last_draw(&wrapped), None);
     assert_eq!(rt; read(&task, &mut wrapped, &mut room), Came::Bytes(3));
     assert_eq!(rt; stands(&wrapped), (3, 1));
     assert_eq!(rt; read(&task, &mut wrapped, &mut room), Came::Pending);

@@ -1,5 +1,5 @@
 //! Readers: of one byte a call, interrupted, and failing.
-use crate::counted::{Counted, stands, wrapped_at};
+use crate::counted::{Counted, last_draw, read, read_exact, stands, wrapped_at};
 use indicatif::ProgressBarIter;
 use std::io::{self, ErrorKind, Read};
 use std::test::Fail;
@@ -30,17 +30,17 @@ fn bytes_are_copied(rt: HostRuntime) -> Result<(), Fail> {
 fn one_byte_after_another(rt: HostRuntime) -> Result<(), Fail> {
     let mut wrapped = wrapped_at("abc".as_bytes(), 0);
     let mut byte = [0u8; 1];
-    assert_eq!(rt; wrapped.read(&mut byte)?, 1);
+    assert_eq!(rt; read(&mut wrapped, &mut byte)?, 1);
     assert_eq!(rt; byte[0], 97);
     assert_eq!(rt; wrapped.progress.position, 1);
     let mut two = [0u8; 2];
-    wrapped.read_exact(&mut two)?;
+    read_exact(&mut wrapped, &mut two)?;
     assert!(rt; two == [98, 99]);
     assert_eq!(rt; wrapped.progress.position, 3);
-    assert_eq!(rt; wrapped.read(&mut byte)?, 0);
+    assert_eq!(rt; read(&mut wrapped, &mut byte)?, 0);
     assert_eq!(rt; wrapped.progress.position, 3);
     // What can't be read moves nothing.
-    assert!(rt; wrapped.read_exact(&mut two).is_err());
+    assert!(rt; read_exact(&mut wrapped, &mut two).is_err());
     assert_eq!(rt; stands(&wrapped), (3, 3));
     Ok(())
 }
@@ -49,7 +49,7 @@ fn one_byte_after_another(rt: HostRuntime) -> Result<(), Fail> {
 fn a_place_stays_at_the_greatest_number(rt: HostRuntime) -> Result<(), Fail> {
     let mut wrapped = wrapped_at("abcde".as_bytes(), u64::MAX - 2);
     let mut five = [0u8; 5];
-    assert_eq!(rt; wrapped.read(&mut five)?, 5);
+    assert_eq!(rt; read(&mut wrapped, &mut five)?, 5);
     assert_eq!(rt; wrapped.progress.position, u64::MAX);
     Ok(())
 }
@@ -103,7 +103,7 @@ impl Read for Trickle {
 /// Reads with room for eight bytes; the first of them.
 fn first_of_eight(wrapped: &mut ProgressBarIter<Trickle, Counted>) -> io::Result<Option<u8>> {
     let mut room = [0u8; 8];
-    match wrapped.read(&mut room)? {
+    match read(wrapped, &mut room)? {
         0 => Ok(None),
         _ => Ok(Some(room[0])),
     }
@@ -150,13 +150,13 @@ fn a_reader_that_fails_in_the_middle(rt: HostRuntime) -> Result<(), Fail> {
     let mut wrapped = wrapped_at(reader, 0);
     assert_eq!(rt; first_of_eight(&mut wrapped)?, Some(0));
     assert_eq!(rt; first_of_eight(&mut wrapped)?, Some(1));
-    let last = wrapped.last_draw();
+    let last = last_draw(&wrapped);
     assert_eq!(rt;
         kind_of_read(&mut wrapped),
         Some(ErrorKind::ConnectionReset)
     );
     assert_eq!(rt; stands(&wrapped), (2, 2));
-    assert_eq!(rt; wrapped.last_draw(), last);
+    assert_eq!(rt; last_draw(&wrapped), last);
     Ok(())
 }
 
@@ -178,13 +178,11 @@ fn no_exact_read_where_the_reader_fails(rt: HostRuntime) -> Result<(), Fail> {
     reader.then = Some(ErrorKind::BrokenPipe);
     let mut wrapped = wrapped_at(reader, 0);
     let mut two = [9u8; 2];
-    wrapped.read_exact(&mut two)?;
+    read_exact(&mut wrapped, &mut two)?;
     assert!(rt; two == [0, 1]);
     assert_eq!(rt; stands(&wrapped), (2, 1));
     assert!(rt;
-        wrapped
-            .read_exact(&mut two)
-            .is_err_and(|e| e.kind() == ErrorKind::BrokenPipe)
+        read_exact(&mut wrapped, &mut two).is_err_and(|e| e.kind() == ErrorKind::BrokenPipe)
     );
     assert_eq!(rt; stands(&wrapped), (2, 1));
     Ok(())

@@ -1,5 +1,5 @@
 //! Streams, polled by hand.
-use crate::counted::{Counted, stands, wrapped_at};
+use crate::counted::{Counted, last_draw, stands, wrapped_at};
 use futures::stream::Stream;
 use futures::task::{Context, Poll};
 use futures::test::MockTask;
@@ -71,13 +71,13 @@ fn a_poll_that_is_pending_changes_nothing(rt: HostRuntime) -> Result<(), Fail> {
     let mut wrapped = all_letters(true);
     assert!(rt; poll(&task, &mut wrapped) == Poll::Pending);
     assert_eq!(rt; stands(&wrapped), (0, 0));
-    assert_eq!(rt; wrapped.last_draw(), None);
+    assert_eq!(rt; last_draw(&wrapped), None);
     assert!(rt; poll(&task, &mut wrapped) == Poll::Ready(Some(b'a')));
     assert_eq!(rt; stands(&wrapped), (1, 1));
-    let last = wrapped.last_draw();
+    let last = last_draw(&wrapped);
     assert!(rt; poll(&task, &mut wrapped) == Poll::Pending);
     assert_eq!(rt; stands(&wrapped), (1, 1));
-    assert_eq!(rt; wrapped.last_draw(), last);
+    assert_eq!(rt; last_draw(&wrapped), last);
     assert!(rt; poll(&task, &mut wrapped) == Poll::Ready(Some(b'b')));
     assert_eq!(rt; stands(&wrapped), (2, 2));
     Ok(())

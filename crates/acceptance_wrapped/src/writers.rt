@@ -1,5 +1,5 @@
 //! Writers: one that takes less than it was given, and one that fails.
-use crate::counted::{stands, wrapped_at};
+use crate::counted::{flush, stands, wrapped_at, write, write_all};
 use std::io::{self, ErrorKind, Write};
 use std::test::Fail;
 
@@ -26,16 +26,15 @@ impl Write for Narrow {
 #[test]
 fn what_was_taken_places(rt: HostRuntime) -> Result<(), Fail> {
     let mut wrapped = wrapped_at(Narrow { calls: 0 }, 0);
-    assert_eq!(rt; wrapped.write("abcdef".as_bytes())?, 2);
+    assert_eq!(rt; write(&mut wrapped, "abcdef".as_bytes())?, 2);
     assert_eq!(rt; wrapped.progress.position, 2);
     // Two more are taken, then the writer fails.
     assert!(rt;
-        wrapped
-            .write_all("cdef".as_bytes())
-            .is_err_and(|e| e.kind() == ErrorKind::StorageFull)
+        write_all(&mut wrapped, "cdef".as_bytes()).is_err_and(|e| e.kind()
+            == ErrorKind::StorageFull)
     );
     assert_eq!(rt; stands(&wrapped), (4, 2));
-    wrapped.flush()?;
+    flush(&mut wrapped)?;
     assert_eq!(rt; stands(&wrapped), (4, 2));
     Ok(())
 }
@@ -43,8 +42,8 @@ fn what_was_taken_places(rt: HostRuntime) -> Result<(), Fail> {
 #[test]
 fn written_bytes_are_the_writers(rt: HostRuntime) -> Result<(), Fail> {
     let mut wrapped = wrapped_at(Vec::new(rt.alloc()), 5);
-    wrapped.write_all("abc".as_bytes())?;
-    wrapped.write_all("de".as_bytes())?;
+    write_all(&mut wrapped, "abc".as_bytes())?;
+    write_all(&mut wrapped, "de".as_bytes())?;
     assert_eq!(rt; stands(&wrapped), (10, 2));
     let (written, _) = wrapped.into_inner();
     assert!(rt; written.as_slice() == "abcde".as_bytes());
