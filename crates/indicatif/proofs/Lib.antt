@@ -6,3 +6,4 @@ mod BuilderLemmas
 mod BlockLemmas
 mod SumLemmas
 mod WorkerLemmas
+mod SharedLemmas
