@@ -7,3 +7,4 @@ mod BlockLemmas
 mod SumLemmas
 mod WorkerLemmas
 mod SharedLemmas
+mod FrontLemmas

@@ -8,6 +8,7 @@ pub mod Places
 pub mod Ring
 pub mod Seek
 pub mod SharedBoards
+pub mod Worded
 pub mod Workers
 pub mod Wrap
 pub mod Inside

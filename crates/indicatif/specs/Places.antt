@@ -5,7 +5,7 @@ use Rattle.indicatif_text.specs.declared.refusal.Drawn.{Drawn}
 use Rattle.indicatif_text.specs.declared.refusal.Drawn.TheVariants.{Limited}
 use Rattle.indicatif_term.specs.Calls.{TermView}
 use Rattle.indicatif_bar.specs.Trackers.{writes_nothing}
-use Rattle.indicatif_bar.specs.Commands.{BarRecord, Command, FinishUsingStyle}
+use Rattle.indicatif_bar.specs.Commands.{Command, FinishUsingStyle}
 use Rattle.indicatif_bar.specs.Progress.{Progress, is_finished}
 use Rattle.indicatif_bar.specs.Lone.{Call, Change}
 use Rattle.indicatif_bar.specs.LoneBars.{record_of, terminal_of}
@@ -37,10 +37,10 @@ module _ {T C : Type 0} where
       × (IsFalse (is_finished (record_of old).progress) → (bar : LoneBar NoTracker T) × (new ≡ Alone bar) × Makes writes_nothing view old bar (Change FinishUsingStyle) answer)
   PlaceEnds view (On seat) answer new = (new ≡ On seat) × SharedDraws view (Drop (id_of seat.id)) answer
 
-  -- what was read of the bar's record: alone, of the record there; on a board, of some bar, if the board has it
-  abbrev pub ReadsBy : {A : Type 0} → (BarRecord NoTracker → A → Type 0) → Place T C → Option A → Type 0
-  ReadsBy {A} R (Alone bar) found = (a : A) × (found ≡ Some a) × R (record_of bar) a
-  ReadsBy R (On seat) found = IfSome found (λ a. (bar : BarRecord NoTracker) × R bar a)
+  -- what was read of the bar's state: alone, of the one there; on a board, of some bar's, if the board has the bar
+  abbrev pub ReadsBy : {A : Type 0} → (Progress → A → Type 0) → Place T C → Option A → Type 0
+  ReadsBy {A} R (Alone bar) found = (a : A) × (found ≡ Some a) × R (record_of bar).progress a
+  ReadsBy R (On seat) found = IfSome found (λ a. (shown : Progress) × R shown a)
 
   -- a measure of the bar at some moment; on a board, of some bar
   abbrev pub Measures : {A : Type 0} → (Progress → ℕ → A) → Place T C → A → Type 0
@@ -55,7 +55,7 @@ module _ {T C : Type 0} where
   -- what a closure answered of the bar's state; on a board, of some bar's, or nothing where the board hasn't the bar
   abbrev pub IsOf : (Progress → Changed → Type 0) → Place T C → Changed → Type 0
   IsOf R (Alone bar) change = R (record_of bar).progress change
-  IsOf R (On seat) change = (shown : Progress) × R shown change ⊎ (change ≡ unchanged)
+  IsOf R (On seat) change = ((shown : Progress) × R shown change) ⊎ (change ≡ unchanged)
 
   -- another target was asked for: alone, the bar is as it was, on that; a board's bar stands alone on that, or stays where it was
   abbrev pub PlaceTurns : Place T C → Option T → Result Drawn Refusal → Place T C → Type 0

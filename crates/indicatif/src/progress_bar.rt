@@ -3,7 +3,7 @@
 //! - `held`: what its lock keeps (private).
 //! - `ticker`: which steady ticker it has; `steady`: the thread that ticks (private).
 //! - `weak`: a bar without an owner (private).
-ghost use Rattle.std.specs.Prelude.{◌≡◌, ℕ, IfErr, Err};
+ghost use Rattle.std.specs.Prelude.{◌≡◌, ◌⊎◌, ℕ, IfErr, Err};
 ghost use Rattle.std.specs.Fn.{FnOnceReturnsAt};
 ghost use Rattle.indicatif_bar.specs.Commands as Command;
 ghost use Rattle.indicatif_bar.specs.Finishes as Finish;
@@ -16,6 +16,7 @@ ghost use Rattle.indicatif_bar.specs.declared.command.Change.{Change as Changed}
 ghost use Rattle.indicatif_board.specs.Boards.{Id, Remove, Refused};
 ghost use Rattle.indicatif_board.specs.Calls.{place_at};
 ghost use Rattle.indicatif.specs.Fronts.{CanAnswer, Joins};
+ghost use Rattle.indicatif.specs.Places.{unchanged};
 ghost use Rattle.indicatif.specs.SharedBoards.{SharedAnswers, SharedTakes};
 
 mod held;
@@ -143,8 +144,8 @@ impl<T: TermLike + Drop, C: Clock + Drop, R: Wait + Clone + Drop> ProgressBar<T,
         self.state.lock.lock(&self.rt).tell(&self.rt, command)
     }
 
-    /// What the closure finds of the bar's record; `None` where its board hasn't the bar.
-    fn read<F: FnOnce(&BarState<NoTracker>) -> A, A>(&self, f: F) -> Option<A>
+    /// What the closure finds of the bar's state; `None` where its board hasn't the bar.
+    fn read<F: FnOnce(&ProgressState) -> A, A>(&self, f: F) -> Option<A>
         requires { F.IsAlwaysCallable f }
     {
         self.state.lock.lock(&self.rt).place().read(&self.rt, f)
@@ -318,8 +319,8 @@ impl<T: TermLike + Drop, C: Clock + Drop, R: Wait + Clone + Drop> ProgressBar<T,
     /// Sets what the closure answers of the state that it is shown, under the lock; then as `tick`.
     pub fn update<F: FnOnce(&ProgressState) -> Change>(&self, f: F) -> Result<Drawn, Refusal>
         requires { F.IsAlwaysCallable f }
-        ensures { (shown : Progress) × (change : Changed) × FnOnceReturnsAt F.FnOnce f shown change
-            × CanAnswer T.view (Lone.Change (Command.Update change.pos change.len)) result }
+        ensures { (change : Changed) × CanAnswer T.view (Lone.Change (Command.Update change.pos change.len)) result
+            × (((shown : Progress) × FnOnceReturnsAt F.FnOnce f shown change) ⊎ (change ≡ unchanged)) }
     {
         self.state.lock.lock(&self.rt).update(&self.rt, f)
     }
@@ -357,22 +358,22 @@ impl<T: TermLike + Drop, C: Clock + Drop, R: Wait + Clone + Drop> ProgressBar<T,
 
     /// The position.
     pub fn position(&self) -> u64 {
-        self.read(|bar| bar.state().pos()).unwrap_or(0)
+        self.read(|state| state.pos()).unwrap_or(0)
     }
 
     /// The length, if there is one.
     pub fn length(&self) -> Option<u64> {
-        self.read(|bar| bar.state().len()).flatten()
+        self.read(|state| state.len()).flatten()
     }
 
     /// How often the bar has ticked; it stays at 2^64 - 1.
     pub fn ticks(&self) -> u64 {
-        self.read(|bar| bar.state().ticks()).unwrap_or(0)
+        self.read(|state| state.ticks()).unwrap_or(0)
     }
 
     /// Whether the bar is finished.
     pub fn is_finished(&self) -> bool {
-        self.read(|bar| bar.state().is_finished()).unwrap_or(true)
+        self.read(|state| state.is_finished()).unwrap_or(true)
     }
 
     /// Whether nothing is ever drawn.
@@ -382,27 +383,23 @@ impl<T: TermLike + Drop, C: Clock + Drop, R: Wait + Clone + Drop> ProgressBar<T,
 
     /// How many spaces stand for a tab.
     pub fn tab_width(&self) -> usize {
-        self.read(|bar| bar.tab_width()).unwrap_or(8)
+        self.state.lock.lock(&self.rt).place().tab_width(&self.rt)
     }
 
     /// The message, with its tabs expanded.
     ///
     /// Refused: `Memory`.
     pub fn message(&self) -> Result<String, Refusal> {
-        match self.read(|bar| String::from_str(self.alloc, bar.message())) {
-            Some(text) => Ok(text?),
-            None => Err(Refusal::NotMember),
-        }
+        let held = self.state.lock.lock(&self.rt);
+        held.place().message(&self.rt, self.alloc)
     }
 
     /// The prefix, with its tabs expanded.
     ///
     /// Refused: `Memory`.
     pub fn prefix(&self) -> Result<String, Refusal> {
-        match self.read(|bar| String::from_str(self.alloc, bar.prefix())) {
-            Some(text) => Ok(text?),
-            None => Err(Refusal::NotMember),
-        }
+        let held = self.state.lock.lock(&self.rt);
+        held.place().prefix(&self.rt, self.alloc)
     }
 
     /// The nanoseconds that are left, by the rate so far, at most 2^64 - 1; 0 where the bar is finished, has no length or no rate.

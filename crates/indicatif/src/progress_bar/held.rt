@@ -16,10 +16,10 @@ ghost use Rattle.indicatif.specs.Places.{PlaceMakes, PlaceEnds, IsOf, IsUnfinish
 ghost use Rattle.indicatif.specs.SharedBoards.{SharedTakes, SharedAnswers};
 
 use crate::progress_bar::kept::{Shared, SharedBoard};
-use crate::progress_bar::place::{Place, Seat};
+use crate::progress_bar::place::{Place, Seat, Worded};
 use crate::progress_bar::ticker::Ticker;
 use indicatif_bar::lone::{LoneBar, LoneCall};
-use indicatif_bar::state::{BarCommand, Change, ProgressFinish, ProgressState, Rate};
+use indicatif_bar::state::{BarCommand, Change, ProgressState, Rate};
 use indicatif_bar::style::NoTracker;
 use indicatif_board::multi::InsertLocation;
 use indicatif_term::draw_target::ProgressDrawTarget;
@@ -102,10 +102,7 @@ impl<T: TermLike + Drop, C: Clock + Drop> Held<T, C> {
         let now = self.clock.now();
         match &mut self.place {
             Place::Alone(bar) => bar.set_message(text, now),
-            Place::On(seat) => {
-                let text = seat.copy(text)?;
-                seat.tell(rt, BarCommand::SetMessage(text), now)
-            }
+            Place::On(seat) => seat.tell_text(rt, Worded::Message, text, now),
         }
     }
 
@@ -116,10 +113,7 @@ impl<T: TermLike + Drop, C: Clock + Drop> Held<T, C> {
         let now = self.clock.now();
         match &mut self.place {
             Place::Alone(bar) => bar.set_prefix(text, now),
-            Place::On(seat) => {
-                let text = seat.copy(text)?;
-                seat.tell(rt, BarCommand::SetPrefix(text), now)
-            }
+            Place::On(seat) => seat.tell_text(rt, Worded::Prefix, text, now),
         }
     }
 
@@ -130,10 +124,7 @@ impl<T: TermLike + Drop, C: Clock + Drop> Held<T, C> {
         let now = self.clock.now();
         match &mut self.place {
             Place::Alone(bar) => bar.with_message(text, now),
-            Place::On(seat) => {
-                let text = seat.copy(text)?;
-                seat.tell(rt, BarCommand::WithMessage(text), now)
-            }
+            Place::On(seat) => seat.tell_text(rt, Worded::PutMessage, text, now),
         }
     }
 
@@ -144,10 +135,7 @@ impl<T: TermLike + Drop, C: Clock + Drop> Held<T, C> {
         let now = self.clock.now();
         match &mut self.place {
             Place::Alone(bar) => bar.with_prefix(text, now),
-            Place::On(seat) => {
-                let text = seat.copy(text)?;
-                seat.tell(rt, BarCommand::WithPrefix(text), now)
-            }
+            Place::On(seat) => seat.tell_text(rt, Worded::PutPrefix, text, now),
         }
     }
 
@@ -158,10 +146,7 @@ impl<T: TermLike + Drop, C: Clock + Drop> Held<T, C> {
         let now = self.clock.now();
         match &mut self.place {
             Place::Alone(bar) => bar.finish_with_message(text, now),
-            Place::On(seat) => {
-                let text = seat.copy(text)?;
-                seat.tell(rt, BarCommand::Finish(ProgressFinish::WithMessage(text)), now)
-            }
+            Place::On(seat) => seat.tell_text(rt, Worded::Finish, text, now),
         }
     }
 
@@ -172,10 +157,7 @@ impl<T: TermLike + Drop, C: Clock + Drop> Held<T, C> {
         let now = self.clock.now();
         match &mut self.place {
             Place::Alone(bar) => bar.abandon_with_message(text, now),
-            Place::On(seat) => {
-                let text = seat.copy(text)?;
-                seat.tell(rt, BarCommand::Finish(ProgressFinish::AbandonWithMessage(text)), now)
-            }
+            Place::On(seat) => seat.tell_text(rt, Worded::Abandon, text, now),
         }
     }
 
@@ -186,7 +168,7 @@ impl<T: TermLike + Drop, C: Clock + Drop> Held<T, C> {
         let now = self.clock.now();
         match &mut self.place {
             Place::Alone(bar) => bar.println(text, now),
-            Place::On(seat) => seat.println(rt, text, now),
+            Place::On(seat) => seat.tell_text(rt, Worded::Log, text, now),
         }
     }
 
@@ -256,7 +238,7 @@ impl<T: TermLike + Drop, C: Clock + Drop> Held<T, C> {
         ensures { Measures eta self.old.place result }
     {
         let now = self.clock.now();
-        let told = self.place.read(rt, |bar| bar.state().eta(now));
+        let told = self.place.read(rt, |state| state.eta(now));
         told.unwrap_or(0)
     }
 
@@ -265,7 +247,7 @@ impl<T: TermLike + Drop, C: Clock + Drop> Held<T, C> {
         ensures { Measures per_sec self.old.place result }
     {
         let now = self.clock.now();
-        let told = self.place.read(rt, |bar| bar.state().per_sec(now));
+        let told = self.place.read(rt, |state| state.per_sec(now));
         told.unwrap_or(NO_RATE)
     }
 
@@ -274,7 +256,7 @@ impl<T: TermLike + Drop, C: Clock + Drop> Held<T, C> {
         ensures { Measures duration self.old.place result }
     {
         let now = self.clock.now();
-        let told = self.place.read(rt, |bar| bar.state().duration(now));
+        let told = self.place.read(rt, |state| state.duration(now));
         told.unwrap_or(0)
     }
 
@@ -283,7 +265,7 @@ impl<T: TermLike + Drop, C: Clock + Drop> Held<T, C> {
         ensures { Measures elapsed self.old.place result }
     {
         let now = self.clock.now();
-        let told = self.place.read(rt, |bar| bar.state().elapsed(now));
+        let told = self.place.read(rt, |state| state.elapsed(now));
         told.unwrap_or(0)
     }
 
