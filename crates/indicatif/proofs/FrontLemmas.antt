@@ -4,9 +4,12 @@ use Rattle.indicatif_text.specs.declared.refusal.Refusal.{Refusal}
 use Rattle.indicatif_text.specs.declared.refusal.Refusal.TheVariants.{Memory}
 use Rattle.indicatif_text.specs.declared.refusal.Drawn.{Drawn}
 use Rattle.indicatif_term.specs.Calls.{TermView}
+use Rattle.indicatif_bar.specs.Trackers.{writes_nothing}
 use Rattle.indicatif_bar.specs.Commands.{Command}
-use Rattle.indicatif_bar.specs.Lone.{Call}
+use Rattle.indicatif_bar.specs.Lone.{Call, Change}
+use Rattle.indicatif_bar.specs.LoneBars.{CallDone, LeadsBy, ObeysOrNot}
 use Rattle.indicatif_bar.specs.Progress.{Progress, new_progress, eta, per_sec, duration, elapsed}
+use Rattle.indicatif_bar.specs.declared.lone.LoneBar.{LoneBar}
 use Rattle.indicatif_bar.specs.declared.tracker.NoTracker.{NoTracker}
 use Rattle.indicatif_board.specs.Boards.{Id, Location, Old, Refused}
 use Rattle.indicatif_board.specs.BoardValues.{id_of}
@@ -45,3 +48,12 @@ no_duration = (new_progress None 0, 0, refl)
 
 pub no_elapsed : (p : Progress) × (now : ℕ) × (0 ≡ elapsed p now)
 no_elapsed = (new_progress None 0, 0, refl)
+
+-- a bar that stands alone and obeyed or refused a command; one that made a call
+pub alone_obeys : {T C : Type 0} (view : T → TermView) (old new : LoneBar NoTracker T) (command : Command NoTracker) (now : ℕ) (answer : Result Drawn Refusal) →
+    ObeysOrNot writes_nothing view old new command now answer → PlaceMakes {T = T} {C = C} view (Alone old) (Change command) answer (Alone new)
+alone_obeys view old new command now answer obeys = (new, refl, (now, obeys.bar, obeys.leads))
+
+pub alone_makes : {T C : Type 0} (view : T → TermView) (old new : LoneBar NoTracker T) (call : Call (Command NoTracker)) (now : ℕ) (answer : Result Drawn Refusal) →
+    CallDone writes_nothing old new call now answer → LeadsBy writes_nothing view old new call now answer → PlaceMakes {T = T} {C = C} view (Alone old) call answer (Alone new)
+alone_makes view old new call now answer done leads = (new, refl, (now, done, leads))

@@ -29,7 +29,7 @@ mod weak;
 
 use self::held::{Cell, Held};
 use self::kept::{Shared, SharedBoard};
-pub use self::multi::MultiProgress;
+pub use self::multi::{MultiProgress, RecordReader};
 pub use self::weak::WeakProgressBar;
 use crate::moves::Moves;
 use crate::wrap::ProgressBarIter;
@@ -138,6 +138,7 @@ impl<T: TermLike + Drop, C: Clock + Drop, R: Wait + Clone + Drop> ProgressBar<T,
     }
 
     /// A command of the bar.
+    #[tactic(auto, using(crate::proofs::FrontLemmas::place_answers))]
     fn tell(&self, command: BarCommand<NoTracker>) -> Result<Drawn, Refusal>
         ensures { CanAnswer T.view (Lone.Change (command_of command)) result }
     {
@@ -208,6 +209,7 @@ impl<T: TermLike + Drop, C: Clock + Drop, R: Wait + Clone + Drop> ProgressBar<T,
     }
 
     /// Another message, and a draw.
+    #[tactic(auto, using(crate::proofs::FrontLemmas::place_answers))]
     pub fn set_message(&self, text: &str) -> Result<Drawn, Refusal>
         ensures { CanAnswer T.view (Lone.Change (Command.SetMessage text.now)) result }
     {
@@ -215,6 +217,7 @@ impl<T: TermLike + Drop, C: Clock + Drop, R: Wait + Clone + Drop> ProgressBar<T,
     }
 
     /// Another prefix, and a draw.
+    #[tactic(auto, using(crate::proofs::FrontLemmas::place_answers))]
     pub fn set_prefix(&self, text: &str) -> Result<Drawn, Refusal>
         ensures { CanAnswer T.view (Lone.Change (Command.SetPrefix text.now)) result }
     {
@@ -275,6 +278,7 @@ impl<T: TermLike + Drop, C: Clock + Drop, R: Wait + Clone + Drop> ProgressBar<T,
     }
 
     /// As `finish`, with this message.
+    #[tactic(auto, using(crate::proofs::FrontLemmas::place_answers))]
     pub fn finish_with_message(&self, text: &str) -> Result<Drawn, Refusal>
         ensures { CanAnswer T.view (Lone.Change (Command.FinishBy (Finish.WithMessage text.now))) result }
     {
@@ -296,6 +300,7 @@ impl<T: TermLike + Drop, C: Clock + Drop, R: Wait + Clone + Drop> ProgressBar<T,
     }
 
     /// As `abandon`, with this message.
+    #[tactic(auto, using(crate::proofs::FrontLemmas::place_answers))]
     pub fn abandon_with_message(&self, text: &str) -> Result<Drawn, Refusal>
         ensures { CanAnswer T.view (Lone.Change (Command.FinishBy (Finish.AbandonWithMessage text.now))) result }
     {
@@ -326,6 +331,7 @@ impl<T: TermLike + Drop, C: Clock + Drop, R: Wait + Clone + Drop> ProgressBar<T,
     }
 
     /// Writes the text's lines above the bar, by force. On a hidden target the text is dropped.
+    #[tactic(auto, using(crate::proofs::FrontLemmas::place_answers))]
     pub fn println(&self, text: &str) -> Result<Drawn, Refusal>
         ensures { CanAnswer T.view (Lone.Log text.now) result }
     {

@@ -234,6 +234,7 @@ impl<T: TermLike + Drop, C: Clock + Drop> Held<T, C> {
     }
 
     /// The nanoseconds that are left, by the rate so far.
+    #[tactic(auto, using(crate::proofs::FrontLemmas::no_eta))]
     pub fn eta<R: Wait>(&mut self, rt: &R) -> u64
         ensures { Measures eta self.old.place result }
     {
@@ -243,6 +244,7 @@ impl<T: TermLike + Drop, C: Clock + Drop> Held<T, C> {
     }
 
     /// The rate so far.
+    #[tactic(auto, using(crate::proofs::FrontLemmas::no_rate))]
     pub fn per_sec<R: Wait>(&mut self, rt: &R) -> Rate
         ensures { Measures per_sec self.old.place result }
     {
@@ -252,6 +254,7 @@ impl<T: TermLike + Drop, C: Clock + Drop> Held<T, C> {
     }
 
     /// The nanoseconds that all of it takes.
+    #[tactic(auto, using(crate::proofs::FrontLemmas::no_duration))]
     pub fn duration<R: Wait>(&mut self, rt: &R) -> u64
         ensures { Measures duration self.old.place result }
     {
@@ -261,6 +264,7 @@ impl<T: TermLike + Drop, C: Clock + Drop> Held<T, C> {
     }
 
     /// The nanoseconds since the start.
+    #[tactic(auto, using(crate::proofs::FrontLemmas::no_elapsed))]
     pub fn elapsed<R: Wait>(&mut self, rt: &R) -> u64
         ensures { Measures elapsed self.old.place result }
     {
@@ -293,6 +297,7 @@ impl<T: TermLike + Drop, C: Clock + Drop> Held<T, C> {
     }
 
     /// Takes the bar in on a board. A bar that is on one stays.
+    #[tactic(auto, using(crate::proofs::FrontLemmas::not_taken))]
     pub fn take_in<R: Wait>(
         &mut self,
         rt: &R,
@@ -302,7 +307,9 @@ impl<T: TermLike + Drop, C: Clock + Drop> Held<T, C> {
     ) -> Result<(), Refusal>
         ensures { IfErr result (λ e. SharedTakes T.view (place_at at) (Err e)) }
     {
-        let candidate = self.place.candidate()?;
+        let Ok(candidate) = self.place.candidate() else {
+            return Err(Refusal::Memory);
+        };
         let taken = board.lock(rt).insert(at, candidate);
         let id = taken?;
         if self.place.id().is_none() {

@@ -232,15 +232,32 @@ impl<T: TermLike + Drop, C: Clock + Drop, R: Wait + Clone + Drop> MultiProgress<
         f(shown)
     }
 
-    /// Lends the board with its history to `f` under the lock; `None` where it keeps none.
-    pub fn with_record<F: FnOnce(Option<&Recorded<NoTracker, T>>) -> A, A>(&self, f: F) -> A
-        requires { F.IsAlwaysCallable f }
-        ensures { (shown : _) × F.post f shown result }
-    {
+    /// Lends the board with its history to the reader under the lock; `None` where it keeps none.
+    pub fn with_record<F: RecordReader<T>>(&self, reader: F) -> F::Found {
         let on = self.board.lock(&self.rt);
-        let shown = on.kept.record();
-        f(shown)
+        reader.read(on.kept.record())
     }
+}
+
+/// What reads a board's history: a closure as a type, with what it holds as its fields.
+///
+/// ```
+/// struct Length;
+///
+/// impl<T: Drop> RecordReader<T> for Length {
+///     type Found = usize;
+///
+///     fn read(self, record: Option<&Recorded<NoTracker, T>>) -> usize {
+///         record.map_or(0, |record| record.entries().len())
+///     }
+/// }
+/// ```
+pub trait RecordReader<T: Drop> {
+    /// What it finds.
+    type Found;
+
+    /// What it finds of a history, if there is one.
+    fn read(self, record: Option<&Recorded<NoTracker, T>>) -> Self::Found;
 }
 
 /// The same board. Refused: want of memory.
