@@ -1,6 +1,6 @@
 //! Bars on boards that are shared: their order, what the last owner leaves, and bars that move.
 use crate::on_boards::{
-    Bar, Shared, alone, bar_on, board_on, contents, order, recorded_on, shows, target,
+    Bar, Shared, alone, bar_on, board_on, contents, order, order_is_unknown, recorded_on, shows, target,
 };
 use indicatif::{
     Drawn, MultiProgressAlignment, ProgressBar, ProgressFinish, Refusal, StepClock,
@@ -173,7 +173,7 @@ fn a_boards_calls(rt: HostRuntime) -> Result<(), Fail> {
     assert!(rt; !board.is_hidden() && !bar.is_hidden());
     assert_eq!(rt; bar.set_message("z"), Ok(Drawn::Yes));
     shows(&rt, &board, "z");
-    assert!(rt; !board.with_record(|record| record.is_some()));
+    order_is_unknown(&rt, &board);
     Ok(())
 }
 

@@ -4,7 +4,7 @@ use crate::on_boards::{Bar, Shared, alone, bar_on, recorded_on, target};
 use indicatif::style::NoTracker;
 use indicatif::{
     Answer, Board, Call, Change, Drawn, InMemoryTerm, MultiProgressAlignment, ProgressStyle,
-    Recorded, Refusal,
+    RecordReader, Recorded, Refusal,
 };
 use std::alloc::Global;
 use std::process::Abort;
@@ -42,10 +42,18 @@ fn replays(alloc: Global, kept: &Kept) -> Result<bool, Refusal> {
 }
 
 /// The same of what a board has kept; false where it keeps no history.
-fn replayed(alloc: Global, record: Option<&Kept>) -> bool {
-    match record {
-        Some(kept) => replays(alloc, kept) == Ok(true),
-        None => false,
+struct Replays {
+    alloc: Global,
+}
+
+impl RecordReader<InMemoryTerm> for Replays {
+    type Found = bool;
+
+    fn read(self, record: Option<&Recorded<NoTracker, InMemoryTerm>>) -> bool {
+        match record {
+            Some(kept) => replays(self.alloc, kept) == Ok(true),
+            None => false,
+        }
     }
 }
 
@@ -54,28 +62,43 @@ fn is_one_run<R: Wait + Copy + Clone + Drop>(
     alloc: Global,
     board: &Shared<R>,
 ) {
-    assert!(rt; board.with_record(|record| replayed(alloc, record)));
+    assert!(rt; board.with_record(Replays { alloc }));
 }
 
-/// How many calls a board has kept.
-fn length(record: Option<&Kept>) -> usize {
-    match record {
-        Some(kept) => kept.entries().len(),
-        None => 0,
+/// How many calls a board has kept; 0 where it keeps no history.
+struct Length;
+
+impl RecordReader<InMemoryTerm> for Length {
+    type Found = usize;
+
+    fn read(self, record: Option<&Recorded<NoTracker, InMemoryTerm>>) -> usize {
+        match record {
+            Some(kept) => kept.entries().len(),
+            None => 0,
+        }
     }
 }
 
 fn kept_calls<R: Wait + Copy + Clone + Drop>(board: &Shared<R>) -> usize {
-    board.with_record(|record| length(record))
+    board.with_record(Length)
 }
 
 /// Whether each call that was kept logged a text and was drawn.
-fn are_logs(record: Option<&Kept>) -> bool {
-    match record {
-        Some(kept) => kept.entries().iter().all(|entry| {
-            matches!(&entry.call, Call::Log(_)) && entry.answer == Answer::Drawn(Drawn::Yes)
-        }),
-        None => false,
+struct AreLogs;
+
+impl RecordReader<InMemoryTerm> for AreLogs {
+    type Found = bool;
+
+    fn read(self, record: Option<&Recorded<NoTracker, InMemoryTerm>>) -> bool {
+        let Some(kept) = record else {
+            return false;
+        };
+        for entry in kept.entries() {
+            if !matches!(&entry.call, Call::Log(_)) || entry.answer != Answer::Drawn(Drawn::Yes) {
+                return false;
+            }
+        }
+        true
     }
 }
 
@@ -103,7 +126,7 @@ fn two_threads_log(rt: HostRuntime) -> Result<(), Fail> {
     );
     assert_eq!(rt; drawn, (50, 50));
     assert_eq!(rt; kept_calls(&board), 100);
-    assert!(rt; board.with_record(|record| are_logs(record)));
+    assert!(rt; board.with_record(AreLogs));
     is_one_run(&rt, rt.alloc(), &board);
     Ok(())
 }

@@ -1,8 +1,8 @@
 //! Boards and bars for tests, of which each call stands in a function of its own.
 use indicatif::style::NoTracker;
 use indicatif::{
-    InMemoryTerm, MultiProgress, ProgressBar, ProgressDrawTarget, ProgressStyle, Recorded, Refusal,
-    StepClock,
+    InMemoryTerm, MultiProgress, ProgressBar, ProgressDrawTarget, ProgressStyle, RecordReader,
+    Recorded, Refusal, StepClock,
 };
 use std::alloc::Global;
 use std::process::Abort;
@@ -85,13 +85,26 @@ pub fn shows<R: Wait + Copy + Clone + Drop>(rt: &impl Abort, board: &Shared<R>, 
 }
 
 /// Whether a board with its history has these bars, in this order.
-fn has_order(record: Option<&Recorded<NoTracker, InMemoryTerm>>, wanted: &[u64]) -> bool {
-    match record {
-        Some(record) => record.board().order() == wanted,
-        None => false,
+struct HasOrder<'a> {
+    wanted: &'a [u64],
+}
+
+impl<'a> RecordReader<InMemoryTerm> for HasOrder<'a> {
+    type Found = bool;
+
+    fn read(self, record: Option<&Recorded<NoTracker, InMemoryTerm>>) -> bool {
+        match record {
+            Some(record) => record.board().order() == self.wanted,
+            None => false,
+        }
     }
 }
 
 pub fn order<R: Wait + Copy + Clone + Drop>(rt: &impl Abort, board: &Shared<R>, wanted: &[u64]) {
-    assert!(rt; board.with_record(|record| has_order(record, wanted)));
+    assert!(rt; board.with_record(HasOrder { wanted }));
+}
+
+/// A board without a history tells none.
+pub fn order_is_unknown<R: Wait + Copy + Clone + Drop>(rt: &impl Abort, board: &Shared<R>) {
+    assert!(rt; !board.with_record(HasOrder { wanted: &[] }));
 }
