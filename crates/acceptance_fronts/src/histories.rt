@@ -42,6 +42,7 @@ fn replays(alloc: Global, kept: &Kept) -> Result<bool, Refusal> {
 }
 
 /// The same of what a board has kept; false where it keeps no history.
+#[derive(Drop)]
 struct Replays {
     alloc: Global,
 }
@@ -66,6 +67,7 @@ fn is_one_run<R: Wait + Copy + Clone + Drop>(
 }
 
 /// How many calls a board has kept; 0 where it keeps no history.
+#[derive(Drop)]
 struct Length;
 
 impl RecordReader<InMemoryTerm> for Length {
@@ -84,6 +86,7 @@ fn kept_calls<R: Wait + Copy + Clone + Drop>(board: &Shared<R>) -> usize {
 }
 
 /// Whether each call that was kept logged a text and was drawn.
+#[derive(Drop)]
 struct AreLogs;
 
 impl RecordReader<InMemoryTerm> for AreLogs {

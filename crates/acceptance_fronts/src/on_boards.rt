@@ -85,6 +85,7 @@ pub fn shows<R: Wait + Copy + Clone + Drop>(rt: &impl Abort, board: &Shared<R>, 
 }
 
 /// Whether a board with its history has these bars, in this order.
+#[derive(Drop)]
 struct HasOrder<'a> {
     wanted: &'a [u64],
 }
