@@ -1,5 +1,5 @@
 -- What is said of a bar's place is an answer that a bar under a lock can give; and want of memory is one.
-use Rattle.std.proofs.Common.{◌≡◌, ℕ, inl, inr, refl, sym, subst, Option, Some, None, IfSome, Result, Ok, Err, MatchResult}
+use Rattle.std.proofs.Common.{◌≡◌, ◌⊎◌, ℕ, inl, inr, refl, sym, subst, Option, Some, None, IfSome, Result, Ok, Err, MatchResult}
 use Rattle.indicatif_text.specs.declared.refusal.Refusal.{Refusal}
 use Rattle.indicatif_text.specs.declared.refusal.Refusal.TheVariants.{Memory}
 use Rattle.indicatif_text.specs.declared.refusal.Drawn.{Drawn}
@@ -7,14 +7,15 @@ use Rattle.indicatif_term.specs.Calls.{TermView}
 use Rattle.indicatif_bar.specs.Trackers.{writes_nothing}
 use Rattle.indicatif_bar.specs.Commands.{Command}
 use Rattle.indicatif_bar.specs.Lone.{Call, Change}
-use Rattle.indicatif_bar.specs.LoneBars.{CallDone, LeadsBy, ObeysOrNot}
+use Rattle.indicatif_bar.specs.LoneBars.{record_of, CallDone, LeadsBy, ObeysOrNot}
 use Rattle.indicatif_bar.specs.Progress.{Progress, new_progress, eta, per_sec, duration, elapsed}
+use Rattle.indicatif_bar.specs.declared.command.Change.{Change as Changed}
 use Rattle.indicatif_bar.specs.declared.lone.LoneBar.{LoneBar}
 use Rattle.indicatif_bar.specs.declared.tracker.NoTracker.{NoTracker}
 use Rattle.indicatif_board.specs.Boards.{Id, Location, Old, Refused}
 use Rattle.indicatif_board.specs.BoardValues.{id_of}
 use Rattle.indicatif.specs.Fronts.{CanAnswer}
-use Rattle.indicatif.specs.Places.{PlaceMakes}
+use Rattle.indicatif.specs.Places.{PlaceMakes, IsOf, unchanged}
 use Rattle.indicatif.specs.SharedBoards.{SharedCall, SharedDraws, SharedTakes}
 use Rattle.indicatif.specs.declared.progress_bar.place.Place.{Place}
 use Rattle.indicatif.specs.declared.progress_bar.place.Place.TheVariants.{Alone, On}
@@ -57,3 +58,8 @@ alone_obeys view old new command now answer obeys = (new, refl, (now, obeys.bar,
 pub alone_makes : {T C : Type 0} (view : T → TermView) (old new : LoneBar NoTracker T) (call : Call (Command NoTracker)) (now : ℕ) (answer : Result Drawn Refusal) →
     CallDone writes_nothing old new call now answer → LeadsBy writes_nothing view old new call now answer → PlaceMakes {T = T} {C = C} view (Alone old) call answer (Alone new)
 alone_makes view old new call now answer done leads = (new, refl, (now, done, leads))
+
+-- what a closure answered, wherever the bar stands
+pub is_of : {T C : Type 0} (R : Progress → Changed → Type 0) (place : Place T C) (change : Changed) → IsOf R place change → ((shown : Progress) × R shown change) ⊎ (change ≡ unchanged)
+is_of R (Alone bar) change is = inl ((record_of bar).progress, is)
+is_of R (On seat) change is = is

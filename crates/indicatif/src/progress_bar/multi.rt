@@ -151,6 +151,7 @@ impl<T: TermLike + Drop, C: Clock + Drop, R: Wait + Clone + Drop> MultiProgress<
     }
 
     /// Takes a bar in at a place.
+    #[tactic(auto, using(crate::proofs::FrontLemmas::not_taken))]
     fn take_in(
         &self,
         at: InsertLocation,
@@ -158,7 +159,9 @@ impl<T: TermLike + Drop, C: Clock + Drop, R: Wait + Clone + Drop> MultiProgress<
     ) -> Result<ProgressBar<T, C, R>, Refusal>
         ensures { IfErr result (λ e. SharedTakes T.view (place_at at) (Err e)) }
     {
-        let board = Arc::try_clone(&self.board)?;
+        let Ok(board) = Arc::try_clone(&self.board) else {
+            return Err(Refusal::Memory);
+        };
         bar.take_in(board, at)?;
         Ok(bar)
     }
@@ -177,8 +180,10 @@ impl<T: TermLike + Drop, C: Clock + Drop, R: Wait + Clone + Drop> MultiProgress<
     pub fn println(&self, text: &str) -> Result<Drawn, Refusal>
         ensures { SharedDraws T.view (Log text.now) result }
     {
-        let text = String::from_str(self.alloc, text)?;
-        self.board.lock(&self.rt).draw(Call::Log(text))
+        match String::from_str(self.alloc, text) {
+            Ok(text) => self.board.lock(&self.rt).draw(Call::Log(text)),
+            Err(_) => Err(Refusal::Memory),
+        }
     }
 
     /// Takes the bars' rows back, by force. The next draw shows the bars again, but for those that were dropped.
@@ -242,6 +247,7 @@ impl<T: TermLike + Drop, C: Clock + Drop, R: Wait + Clone + Drop> MultiProgress<
 /// What reads a board's history: a closure as a type, with what it holds as its fields.
 ///
 /// ```
+/// #[derive(Drop)]
 /// struct Length;
 ///
 /// impl<T: Drop> RecordReader<T> for Length {
