@@ -1,10 +1,9 @@
 //! Bars on boards that are shared: their order, what the last owner leaves, and bars that move.
 use crate::on_boards::{
-    Bar, Shared, alone, bar_on, board_on, contents, order, order_is_unknown, recorded_on, shows, target,
+    Bar, Shared, alone, bar_on, board_on, contents, order, order_is_unknown, recorded_on, shows,
+    target,
 };
-use indicatif::{
-    Drawn, MultiProgressAlignment, ProgressBar, ProgressFinish, Refusal, StepClock,
-};
+use indicatif::{Drawn, MultiProgressAlignment, ProgressBar, ProgressFinish, Refusal, StepClock};
 use std::alloc::Global;
 use std::process::Abort;
 use std::sync::Wait;
@@ -147,7 +146,10 @@ fn a_target_of_its_own(rt: HostRuntime) -> Result<(), Fail> {
     assert_eq!(rt; first.tick(), Ok(Drawn::Yes));
     assert!(rt; contents(&first).is_some_and(|text| text.as_str() == "a"));
     shows(&rt, &board, "b");
-    assert_eq!(rt; first.set_draw_target(target(rt.alloc())?), Ok(Drawn::Limited));
+    assert_eq!(rt;
+        first.set_draw_target(target(rt.alloc())?),
+        Ok(Drawn::Limited)
+    );
     Ok(())
 }
 
@@ -188,7 +190,10 @@ fn readings_on_a_board(rt: HostRuntime) -> Result<(), Fail> {
         len: None,
     });
     assert_eq!(rt; drawn, Ok(Drawn::Yes));
-    assert_eq!(rt; (bar.position(), bar.length(), bar.ticks()), (4, Some(10), 1));
+    assert_eq!(rt;
+        (bar.position(), bar.length(), bar.ticks()),
+        (4, Some(10), 1)
+    );
     assert_eq!(rt; (bar.eta(), bar.duration(), bar.elapsed()), (0, 0, 0));
     assert_eq!(rt; bar.set_tab_width(4), Ok(Drawn::Yes));
     assert_eq!(rt; bar.tab_width(), 4);

@@ -58,11 +58,7 @@ impl RecordReader<InMemoryTerm> for Replays {
     }
 }
 
-fn is_one_run<R: Wait + Copy + Clone + Drop>(
-    rt: &impl Abort,
-    alloc: Global,
-    board: &Shared<R>,
-) {
+fn is_one_run<R: Wait + Copy + Clone + Drop>(rt: &impl Abort, alloc: Global, board: &Shared<R>) {
     assert!(rt; board.with_record(Replays { alloc }));
 }
 

@@ -9,13 +9,12 @@ use std::process::Abort;
 use std::sync::Wait;
 
 pub type Bar<R> = ProgressBar<InMemoryTerm, StepClock, R>;
+
 pub type Shared<R> = MultiProgress<InMemoryTerm, StepClock, R>;
 
 /// A terminal in memory of 4 rows and 10 columns.
 pub fn target(alloc: Global) -> Result<ProgressDrawTarget<InMemoryTerm>, Refusal> {
-    Ok(ProgressDrawTarget::term_like(InMemoryTerm::new(
-        alloc, 4, 10,
-    )?))
+    Ok(ProgressDrawTarget::term_like(InMemoryTerm::new(alloc, 4, 10)?))
 }
 
 fn clock() -> StepClock {

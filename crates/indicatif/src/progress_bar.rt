@@ -282,7 +282,10 @@ impl<T: TermLike + Drop, C: Clock + Drop, R: Wait + Clone + Drop> ProgressBar<T,
     pub fn finish_with_message(&self, text: &str) -> Result<Drawn, Refusal>
         ensures { CanAnswer T.view (Lone.Change (Command.FinishBy (Finish.WithMessage text.now))) result }
     {
-        self.state.lock.lock(&self.rt).finish_with_message(&self.rt, text)
+        self.state
+            .lock
+            .lock(&self.rt)
+            .finish_with_message(&self.rt, text)
     }
 
     /// The bar is finished at its length and has no lines any more. A draw by force.
@@ -304,7 +307,10 @@ impl<T: TermLike + Drop, C: Clock + Drop, R: Wait + Clone + Drop> ProgressBar<T,
     pub fn abandon_with_message(&self, text: &str) -> Result<Drawn, Refusal>
         ensures { CanAnswer T.view (Lone.Change (Command.FinishBy (Finish.AbandonWithMessage text.now))) result }
     {
-        self.state.lock.lock(&self.rt).abandon_with_message(&self.rt, text)
+        self.state
+            .lock
+            .lock(&self.rt)
+            .abandon_with_message(&self.rt, text)
     }
 
     /// The bar is finished by its stored finish. A draw by force.

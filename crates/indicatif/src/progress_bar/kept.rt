@@ -112,11 +112,7 @@ impl<T: TermLike + Drop> Kept<T> {
     }
 
     /// Takes a bar out of the order and hands it back; `None` where it isn't there.
-    pub fn remove(
-        &mut self,
-        id: BarId,
-        now: Moment,
-    ) -> Result<Option<BarState<NoTracker>>, Refusal>
+    pub fn remove(&mut self, id: BarId, now: Moment) -> Result<Option<BarState<NoTracker>>, Refusal>
         ensures { IfErr result (λ e. SharedAnswers T.view (Remove (id_of id)) (Refused e)) }
     {
         match self {

@@ -56,7 +56,10 @@ impl Worded {
                 Call::Bar(id, BarCommand::Finish(ProgressFinish::WithMessage(text)))
             }
             Worded::Abandon => {
-                Call::Bar(id, BarCommand::Finish(ProgressFinish::AbandonWithMessage(text)))
+                Call::Bar(
+                    id,
+                    BarCommand::Finish(ProgressFinish::AbandonWithMessage(text)),
+                )
             }
         }
     }
@@ -72,7 +75,10 @@ fn change_by<F: FnOnce(&ProgressState) -> Change>(
 {
     match bar {
         Ok(bar) => told_of(bar.state(), f),
-        Err(_) => Change { pos: None, len: None },
+        Err(_) => Change {
+            pos: None,
+            len: None,
+        },
     }
 }
 
@@ -142,7 +148,8 @@ impl<T: TermLike + Drop, C: Clock + Drop> Seat<T, C> {
     {
         let mut on = self.board.lock(rt);
         let change = change_by(on.kept.board().bar(self.id), f);
-        on.kept.draw(Call::Bar(self.id, BarCommand::Update(change)), now)
+        on.kept
+            .draw(Call::Bar(self.id, BarCommand::Update(change)), now)
     }
 
     /// A call with a text, of which the board is handed a copy.
