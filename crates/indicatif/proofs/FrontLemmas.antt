@@ -12,7 +12,7 @@ use Rattle.indicatif_bar.specs.Progress.{Progress, new_progress, eta, per_sec, d
 use Rattle.indicatif_bar.specs.declared.command.Change.{Change as Changed}
 use Rattle.indicatif_bar.specs.declared.lone.LoneBar.{LoneBar}
 use Rattle.indicatif_bar.specs.declared.tracker.NoTracker.{NoTracker}
-use Rattle.indicatif_board.specs.Boards.{Id, Location, Old, Refused}
+use Rattle.indicatif_board.specs.Boards.{Location, Old, Refused}
 use Rattle.indicatif_board.specs.BoardValues.{id_of}
 use Rattle.indicatif.specs.Fronts.{CanAnswer}
 use Rattle.indicatif.specs.Places.{PlaceMakes, IsOf, unchanged}
