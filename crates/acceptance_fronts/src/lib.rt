@@ -2,7 +2,13 @@
 #![tactic(auto)]
 
 #[cfg(test)]
+mod boards;
+#[cfg(test)]
 mod fronts;
+#[cfg(test)]
+mod histories;
+#[cfg(test)]
+mod on_boards;
 #[cfg(test)]
 mod records;
 #[cfg(test)]

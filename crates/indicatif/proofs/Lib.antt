@@ -7,3 +7,5 @@ mod BuilderLemmas
 mod BlockLemmas
 mod SumLemmas
 mod WorkerLemmas
+mod SharedLemmas
+mod FrontLemmas

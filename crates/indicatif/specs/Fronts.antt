@@ -5,10 +5,12 @@ use Rattle.indicatif_text.specs.declared.refusal.Drawn.{Drawn}
 use Rattle.indicatif_term.specs.Calls.{TermView}
 use Rattle.indicatif_bar.specs.Trackers.{Tracking, writes_nothing}
 use Rattle.indicatif_bar.specs.Commands.{Command}
-use Rattle.indicatif_bar.specs.Lone.{Call}
+use Rattle.indicatif_bar.specs.Lone.{Call, Change, Log, Clear}
 use Rattle.indicatif_bar.specs.LoneBars.{LeadsBy, CallDone}
 use Rattle.indicatif_bar.specs.declared.lone.LoneBar.{LoneBar}
 use Rattle.indicatif_bar.specs.declared.tracker.NoTracker.{NoTracker}
+use Rattle.indicatif_board.specs.Boards.{Id, Tell, BarLog, Clear as ClearBoard, Call as BoardCall}
+use Rattle.indicatif.specs.SharedBoards.{SharedDraws}
 
 -- ---- calls
 
@@ -17,9 +19,19 @@ module _ {K T : Type 0} (m : Tracking K) (view : T → TermView) where
   abbrev pub Makes : LoneBar K T → LoneBar K T → Call (Command K) → Result Drawn Refusal → Type 0
   Makes old new call answer = (now : ℕ) × CallDone m old new call now answer × LeadsBy m view old new call now answer
 
--- there are a bar and a moment at which it answers so: the strongest that can be said of a bar under a lock
+-- there are a bar that stands alone and a moment at which it answers so
+abbrev pub CanAnswerAlone : {T : Type 0} → (T → TermView) → Call (Command NoTracker) → Result Drawn Refusal → Type 0
+CanAnswerAlone {T} view call answer = (old : LoneBar NoTracker T) × (new : LoneBar NoTracker T) × Makes writes_nothing view old new call answer
+
+-- what a bar's call is on its board
+abbrev pub on_board : {B C : Type 0} → Id → Call C → BoardCall B C
+on_board id (Change command) = Tell id command
+on_board id (Log text) = BarLog id text
+on_board id Clear = ClearBoard
+
+-- a bar that stands alone can answer so, or a board that is asked for one of its bars: the strongest that can be said of a bar under a lock
 abbrev pub CanAnswer : {T : Type 0} → (T → TermView) → Call (Command NoTracker) → Result Drawn Refusal → Type 0
-CanAnswer {T} view call answer = (old : LoneBar NoTracker T) × (new : LoneBar NoTracker T) × Makes writes_nothing view old new call answer
+CanAnswer view call answer = CanAnswerAlone view call answer ⊎ ((id : Id) × SharedDraws view (on_board id call) answer)
 
 -- ---- owners
 

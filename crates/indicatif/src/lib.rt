@@ -40,7 +40,7 @@ mod wrap;
 pub use crate::moves::Moves;
 pub use crate::owned::OwnedBar;
 pub use crate::parallel::ParallelProgressIterator;
-pub use crate::progress_bar::{ProgressBar, WeakProgressBar};
+pub use crate::progress_bar::{MultiProgress, ProgressBar, RecordReader, WeakProgressBar};
 pub use crate::progress_iterator::ProgressIterator;
 pub use crate::ring::MaxRingBuf;
 pub use crate::seek::SeekMax;

@@ -3,7 +3,7 @@
 //! - `held`: what its lock keeps (private).
 //! - `ticker`: which steady ticker it has; `steady`: the thread that ticks (private).
 //! - `weak`: a bar without an owner (private).
-ghost use Rattle.std.specs.Prelude.{◌≡◌, ℕ};
+ghost use Rattle.std.specs.Prelude.{◌≡◌, ◌⊎◌, ℕ, IfErr, Err};
 ghost use Rattle.std.specs.Fn.{FnOnceReturnsAt};
 ghost use Rattle.indicatif_bar.specs.Commands as Command;
 ghost use Rattle.indicatif_bar.specs.Finishes as Finish;
@@ -13,20 +13,30 @@ ghost use Rattle.indicatif_bar.specs.Lone as Lone;
 ghost use Rattle.indicatif_bar.specs.Progress as Told;
 ghost use Rattle.indicatif_bar.specs.Progress.{Progress};
 ghost use Rattle.indicatif_bar.specs.declared.command.Change.{Change as Changed};
+ghost use Rattle.indicatif_board.specs.Boards.{Id, Remove, Refused};
+ghost use Rattle.indicatif_board.specs.Calls.{place_at};
 ghost use Rattle.indicatif.specs.Fronts.{CanAnswer, Joins};
+ghost use Rattle.indicatif.specs.Places.{unchanged};
+ghost use Rattle.indicatif.specs.SharedBoards.{SharedAnswers, SharedTakes};
 
 mod held;
+mod kept;
+mod multi;
+mod place;
 mod steady;
 mod ticker;
 mod weak;
 
 use self::held::{Cell, Held};
+use self::kept::{Shared, SharedBoard};
+pub use self::multi::{MultiProgress, RecordReader};
 pub use self::weak::WeakProgressBar;
 use crate::moves::Moves;
 use crate::wrap::ProgressBarIter;
 use indicatif_bar::lone::LoneBar;
 use indicatif_bar::state::{BarCommand, BarState, Change, ProgressFinish, ProgressState, Rate};
 use indicatif_bar::style::{NoTracker, ProgressStyle};
+use indicatif_board::multi::{BarId, InsertLocation};
 use indicatif_term::draw_target::{ProgressDrawTarget, Setup};
 use indicatif_term::term_like::TermLike;
 use indicatif_text::columns::{Clock, Drawn, Refusal};
@@ -127,10 +137,18 @@ impl<T: TermLike + Drop, C: Clock + Drop, R: Wait + Clone + Drop> ProgressBar<T,
     }
 
     /// A command of the bar.
+    #[tactic(auto, using(crate::proofs::FrontLemmas::place_answers))]
     fn tell(&self, command: BarCommand<NoTracker>) -> Result<Drawn, Refusal>
         ensures { CanAnswer T.view (Lone.Change (command_of command)) result }
     {
-        self.state.lock.lock(&self.rt).tell(command)
+        self.state.lock.lock(&self.rt).tell(&self.rt, command)
+    }
+
+    /// What the closure finds of the bar's state; `None` where its board hasn't the bar.
+    fn read<F: FnOnce(&ProgressState) -> A, A>(&self, f: F) -> Option<A>
+        requires { F.IsAlwaysCallable f }
+    {
+        self.state.lock.lock(&self.rt).place().read(&self.rt, f)
     }
 
     /// One more tick, up to 2^64 - 1, and a draw.
@@ -190,17 +208,19 @@ impl<T: TermLike + Drop, C: Clock + Drop, R: Wait + Clone + Drop> ProgressBar<T,
     }
 
     /// Another message, and a draw.
+    #[tactic(auto, using(crate::proofs::FrontLemmas::place_answers))]
     pub fn set_message(&self, text: &str) -> Result<Drawn, Refusal>
         ensures { CanAnswer T.view (Lone.Change (Command.SetMessage text.now)) result }
     {
-        self.state.lock.lock(&self.rt).set_message(text)
+        self.state.lock.lock(&self.rt).set_message(&self.rt, text)
     }
 
     /// Another prefix, and a draw.
+    #[tactic(auto, using(crate::proofs::FrontLemmas::place_answers))]
     pub fn set_prefix(&self, text: &str) -> Result<Drawn, Refusal>
         ensures { CanAnswer T.view (Lone.Change (Command.SetPrefix text.now)) result }
     {
-        self.state.lock.lock(&self.rt).set_prefix(text)
+        self.state.lock.lock(&self.rt).set_prefix(&self.rt, text)
     }
 
     /// Another style, with the bar's width of tabs. No draw is asked.
@@ -257,10 +277,14 @@ impl<T: TermLike + Drop, C: Clock + Drop, R: Wait + Clone + Drop> ProgressBar<T,
     }
 
     /// As `finish`, with this message.
+    #[tactic(auto, using(crate::proofs::FrontLemmas::place_answers))]
     pub fn finish_with_message(&self, text: &str) -> Result<Drawn, Refusal>
         ensures { CanAnswer T.view (Lone.Change (Command.FinishBy (Finish.WithMessage text.now))) result }
     {
-        self.state.lock.lock(&self.rt).finish_with_message(text)
+        self.state
+            .lock
+            .lock(&self.rt)
+            .finish_with_message(&self.rt, text)
     }
 
     /// The bar is finished at its length and has no lines any more. A draw by force.
@@ -278,10 +302,14 @@ impl<T: TermLike + Drop, C: Clock + Drop, R: Wait + Clone + Drop> ProgressBar<T,
     }
 
     /// As `abandon`, with this message.
+    #[tactic(auto, using(crate::proofs::FrontLemmas::place_answers))]
     pub fn abandon_with_message(&self, text: &str) -> Result<Drawn, Refusal>
         ensures { CanAnswer T.view (Lone.Change (Command.FinishBy (Finish.AbandonWithMessage text.now))) result }
     {
-        self.state.lock.lock(&self.rt).abandon_with_message(text)
+        self.state
+            .lock
+            .lock(&self.rt)
+            .abandon_with_message(&self.rt, text)
     }
 
     /// The bar is finished by its stored finish. A draw by force.
@@ -301,17 +329,18 @@ impl<T: TermLike + Drop, C: Clock + Drop, R: Wait + Clone + Drop> ProgressBar<T,
     /// Sets what the closure answers of the state that it is shown, under the lock; then as `tick`.
     pub fn update<F: FnOnce(&ProgressState) -> Change>(&self, f: F) -> Result<Drawn, Refusal>
         requires { F.IsAlwaysCallable f }
-        ensures { (shown : Progress) × (change : Changed) × FnOnceReturnsAt F.FnOnce f shown change
-            × CanAnswer T.view (Lone.Change (Command.Update change.pos change.len)) result }
+        ensures { (change : Changed) × CanAnswer T.view (Lone.Change (Command.Update change.pos change.len)) result
+            × (((shown : Progress) × FnOnceReturnsAt F.FnOnce f shown change) ⊎ (change ≡ unchanged)) }
     {
-        self.state.lock.lock(&self.rt).update(f)
+        self.state.lock.lock(&self.rt).update(&self.rt, f)
     }
 
     /// Writes the text's lines above the bar, by force. On a hidden target the text is dropped.
+    #[tactic(auto, using(crate::proofs::FrontLemmas::place_answers))]
     pub fn println(&self, text: &str) -> Result<Drawn, Refusal>
         ensures { CanAnswer T.view (Lone.Log text.now) result }
     {
-        self.state.lock.lock(&self.rt).println(text)
+        self.state.lock.lock(&self.rt).println(&self.rt, text)
     }
 
     /// Takes the bar's rows back, calls `f` once, and draws the bar again by force; the lock is held meanwhile. Answers what `f`
@@ -320,12 +349,13 @@ impl<T: TermLike + Drop, C: Clock + Drop, R: Wait + Clone + Drop> ProgressBar<T,
         requires { F.pre f }
         ensures { F.post f result.0 }
     {
-        self.state.lock.lock(&self.rt).suspend(f)
+        self.state.lock.lock(&self.rt).suspend(&self.rt, f)
     }
 
     /// Another target, on which the bar begins anew with its next draw; the old one is given up. Nothing is written to either.
-    pub fn set_draw_target(&self, target: ProgressDrawTarget<T>) {
-        self.state.lock.lock(&self.rt).set_draw_target(target);
+    pub fn set_draw_target(&self, target: ProgressDrawTarget<T>) -> Result<Drawn, Refusal> {
+        let mut held = self.state.lock.lock(&self.rt);
+        held.set_draw_target(&self.rt, target)
     }
 
     /// Lends the terminal to `f` under the lock; `None` where the target is hidden.
@@ -334,38 +364,37 @@ impl<T: TermLike + Drop, C: Clock + Drop, R: Wait + Clone + Drop> ProgressBar<T,
         ensures { (shown : _) × F.post f shown result }
     {
         let held = self.state.lock.lock(&self.rt);
-        let shown = held.term();
-        f(shown)
+        held.place().with_term(&self.rt, f)
     }
 
     /// The position.
     pub fn position(&self) -> u64 {
-        self.state.lock.lock(&self.rt).bar().state().pos()
+        self.read(|state| state.pos()).unwrap_or(0)
     }
 
     /// The length, if there is one.
     pub fn length(&self) -> Option<u64> {
-        self.state.lock.lock(&self.rt).bar().state().len()
+        self.read(|state| state.len()).flatten()
     }
 
     /// How often the bar has ticked; it stays at 2^64 - 1.
     pub fn ticks(&self) -> u64 {
-        self.state.lock.lock(&self.rt).bar().state().ticks()
+        self.read(|state| state.ticks()).unwrap_or(0)
     }
 
     /// Whether the bar is finished.
     pub fn is_finished(&self) -> bool {
-        self.state.lock.lock(&self.rt).bar().state().is_finished()
+        self.read(|state| state.is_finished()).unwrap_or(true)
     }
 
     /// Whether nothing is ever drawn.
     pub fn is_hidden(&self) -> bool {
-        self.state.lock.lock(&self.rt).is_hidden()
+        self.state.lock.lock(&self.rt).place().is_hidden(&self.rt)
     }
 
     /// How many spaces stand for a tab.
     pub fn tab_width(&self) -> usize {
-        self.state.lock.lock(&self.rt).bar().tab_width()
+        self.state.lock.lock(&self.rt).place().tab_width(&self.rt)
     }
 
     /// The message, with its tabs expanded.
@@ -373,7 +402,7 @@ impl<T: TermLike + Drop, C: Clock + Drop, R: Wait + Clone + Drop> ProgressBar<T,
     /// Refused: `Memory`.
     pub fn message(&self) -> Result<String, Refusal> {
         let held = self.state.lock.lock(&self.rt);
-        Ok(String::from_str(self.alloc, held.bar().message())?)
+        held.place().message(&self.rt, self.alloc)
     }
 
     /// The prefix, with its tabs expanded.
@@ -381,42 +410,42 @@ impl<T: TermLike + Drop, C: Clock + Drop, R: Wait + Clone + Drop> ProgressBar<T,
     /// Refused: `Memory`.
     pub fn prefix(&self) -> Result<String, Refusal> {
         let held = self.state.lock.lock(&self.rt);
-        Ok(String::from_str(self.alloc, held.bar().prefix())?)
+        held.place().prefix(&self.rt, self.alloc)
     }
 
     /// The nanoseconds that are left, by the rate so far, at most 2^64 - 1; 0 where the bar is finished, has no length or no rate.
     pub fn eta(&self) -> u64
         ensures { (p : Progress) × (now : ℕ) × (result ≡ Told.eta p now) }
     {
-        self.state.lock.lock(&self.rt).eta()
+        self.state.lock.lock(&self.rt).eta(&self.rt)
     }
 
     /// The rate so far.
     pub fn per_sec(&self) -> Rate
         ensures { (p : Progress) × (now : ℕ) × (result ≡ Told.per_sec p now) }
     {
-        self.state.lock.lock(&self.rt).per_sec()
+        self.state.lock.lock(&self.rt).per_sec(&self.rt)
     }
 
     /// The nanoseconds that all of it takes, by the rate so far; of a finished bar those that it took.
     pub fn duration(&self) -> u64
         ensures { (p : Progress) × (now : ℕ) × (result ≡ Told.duration p now) }
     {
-        self.state.lock.lock(&self.rt).duration()
+        self.state.lock.lock(&self.rt).duration(&self.rt)
     }
 
     /// The nanoseconds since the start.
     pub fn elapsed(&self) -> u64
         ensures { (p : Progress) × (now : ℕ) × (result ≡ Told.elapsed p now) }
     {
-        self.state.lock.lock(&self.rt).elapsed()
+        self.state.lock.lock(&self.rt).elapsed(&self.rt)
     }
 
     /// No thread ticks the bar from now on. It waits until any that did has ended.
     pub fn disable_steady_tick(&self) {
         let mut held = self.state.lock.lock(&self.rt);
         held.ticker.disable();
-        let _ = held.tell(BarCommand::SetTicker(false));
+        let _ = held.tell(&self.rt, BarCommand::SetTicker(false));
         self.state.changed.notify_all();
         let held = self
             .state
@@ -437,6 +466,26 @@ impl<T: TermLike + Drop, C: Clock + Drop, R: Wait + Clone + Drop> ProgressBar<T,
     /// Gives this owner up. The last one finishes a bar that isn't finished, by its stored finish.
     pub fn release(self) {
         drop(self);
+    }
+
+    /// The bar's number on its board; `None` where it stands alone.
+    pub(crate) fn id(&self) -> Option<BarId> {
+        self.state.lock.lock(&self.rt).place().id()
+    }
+
+    /// Takes the bar in on a board.
+    pub(crate) fn take_in(&self, board: Shared<T, C>, at: InsertLocation) -> Result<(), Refusal>
+        ensures { IfErr result (λ e. SharedTakes T.view (place_at at) (Err e)) }
+    {
+        let mut held = self.state.lock.lock(&self.rt);
+        held.take_in(&self.rt, board, at, self.alloc)
+    }
+
+    /// Takes the bar out of the order of a board.
+    pub(crate) fn take_out(&self, board: &Mutex<SharedBoard<T, C>>) -> Result<(), Refusal>
+        ensures { IfErr result (λ e. (id : Id) × SharedAnswers T.view (Remove id) (Refused e)) }
+    {
+        self.state.lock.lock(&self.rt).take_out(&self.rt, board)
     }
 
     /// One owner more on the count.
@@ -469,7 +518,7 @@ impl<T: TermLike + Drop, C: Clock + Drop, R: Wait + Clone + Drop> ProgressBar<T,
     ///
     /// Refused: `Memory`; this owner is given up.
     pub fn with_prefix(self, text: &str) -> Result<Self, Refusal> {
-        self.state.lock.lock(&self.rt).with_prefix(text)?;
+        self.state.lock.lock(&self.rt).with_prefix(&self.rt, text)?;
         Ok(self)
     }
 
@@ -477,7 +526,7 @@ impl<T: TermLike + Drop, C: Clock + Drop, R: Wait + Clone + Drop> ProgressBar<T,
     ///
     /// Refused: `Memory`; this owner is given up.
     pub fn with_message(self, text: &str) -> Result<Self, Refusal> {
-        self.state.lock.lock(&self.rt).with_message(text)?;
+        self.state.lock.lock(&self.rt).with_message(&self.rt, text)?;
         Ok(self)
     }
 
@@ -559,7 +608,7 @@ impl<T: TermLike + Drop, C: Clock + Drop, R: Wait + Clone + Drop> Drop for Progr
         {
             let mut held = state.lock.lock(&rt);
             if held.leave() {
-                let _ = held.gone();
+                let _ = held.gone(&rt);
             }
         }
         state.changed.notify_all();

@@ -18,10 +18,10 @@ fn run_ticker<T: TermLike + Drop, C: Clock + Drop, R: Wait + time::Clock>(
 ) {
     for _ in rt.forever() {
         let mut held = cell.lock.lock(rt);
-        if !held.ticks_by(number) {
+        if !held.ticks_by(rt, number) {
             break;
         }
-        let _ = held.tell(BarCommand::TickerTick);
+        let _ = held.tell(rt, BarCommand::TickerTick);
         let (held, _) = cell.changed.wait_timeout(rt, held, interval);
         drop(held);
     }
@@ -68,7 +68,7 @@ impl<
             Ok(thread) => {
                 drop(thread);
                 held.ticker.install(number);
-                let _ = held.tell(BarCommand::SetTicker(true));
+                let _ = held.tell(&self.rt, BarCommand::SetTicker(true));
                 drop(held);
                 self.state.changed.notify_all();
                 Ok(())

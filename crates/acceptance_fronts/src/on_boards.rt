@@ -1,0 +1,110 @@
+//! Boards and bars for tests, of which each call stands in a function of its own.
+use indicatif::style::NoTracker;
+use indicatif::{
+    InMemoryTerm, MultiProgress, ProgressBar, ProgressDrawTarget, ProgressStyle, RecordReader,
+    Recorded, Refusal, StepClock,
+};
+use std::alloc::Global;
+use std::process::Abort;
+use std::sync::Wait;
+
+pub type Bar<R> = ProgressBar<InMemoryTerm, StepClock, R>;
+
+pub type Shared<R> = MultiProgress<InMemoryTerm, StepClock, R>;
+
+/// A terminal in memory of 4 rows and 10 columns.
+pub fn target(alloc: Global) -> Result<ProgressDrawTarget<InMemoryTerm>, Refusal> {
+    Ok(ProgressDrawTarget::term_like(InMemoryTerm::new(alloc, 4, 10)?))
+}
+
+fn clock() -> StepClock {
+    StepClock { next: 0, step: 1 }
+}
+
+/// A board of this mark that keeps no history.
+pub fn board_on<R: Wait + Copy + Clone + Drop>(
+    rt: R,
+    alloc: Global,
+    mark: u64,
+) -> Result<Shared<R>, Refusal> {
+    MultiProgress::with_draw_target(rt, alloc, target(alloc)?, clock(), mark)
+}
+
+/// A board of this mark that keeps its history.
+pub fn recorded_on<R: Wait + Copy + Clone + Drop>(
+    rt: R,
+    alloc: Global,
+    mark: u64,
+) -> Result<Shared<R>, Refusal> {
+    MultiProgress::recorded(rt, alloc, target(alloc)?, clock(), mark)
+}
+
+/// A bar that stands alone and whose one line is this text.
+pub fn alone<R: Wait + Copy + Clone + Drop>(
+    rt: R,
+    alloc: Global,
+    text: &str,
+) -> Result<Bar<R>, Refusal> {
+    let style = ProgressStyle::with_template(alloc, "{msg}")?;
+    ProgressBar::with_draw_target(rt, alloc, None, target(alloc)?, clock())?
+        .with_style(style)?
+        .with_message(text)
+}
+
+/// Such a bar behind all others of a board.
+pub fn bar_on<R: Wait + Copy + Clone + Drop>(
+    board: &Shared<R>,
+    rt: R,
+    alloc: Global,
+    text: &str,
+) -> Result<Bar<R>, Refusal> {
+    board.add(alone(rt, alloc, text)?)
+}
+
+/// What stands on a terminal.
+fn text_of(term: Option<&InMemoryTerm>) -> Option<String> {
+    match term {
+        Some(term) => term.contents().ok(),
+        None => None,
+    }
+}
+
+/// What stands on a bar's terminal.
+pub fn contents<R: Wait + Copy + Clone + Drop>(bar: &Bar<R>) -> Option<String> {
+    bar.with_term(|term| text_of(term))
+}
+
+/// What stands on a board's terminal.
+fn shown<R: Wait + Copy + Clone + Drop>(board: &Shared<R>) -> Option<String> {
+    board.with_term(|term| text_of(term))
+}
+
+pub fn shows<R: Wait + Copy + Clone + Drop>(rt: &impl Abort, board: &Shared<R>, wanted: &str) {
+    assert!(rt; shown(board).is_some_and(|text| text.as_str() == wanted));
+}
+
+/// Whether a board with its history has these bars, in this order.
+#[derive(Drop)]
+struct HasOrder<'a> {
+    wanted: &'a [u64],
+}
+
+impl<'a> RecordReader<InMemoryTerm> for HasOrder<'a> {
+    type Found = bool;
+
+    fn read(self, record: Option<&Recorded<NoTracker, InMemoryTerm>>) -> bool {
+        match record {
+            Some(record) => record.board().order() == self.wanted,
+            None => false,
+        }
+    }
+}
+
+pub fn order<R: Wait + Copy + Clone + Drop>(rt: &impl Abort, board: &Shared<R>, wanted: &[u64]) {
+    assert!(rt; board.with_record(HasOrder { wanted }));
+}
+
+/// A board without a history tells none.
+pub fn order_is_unknown<R: Wait + Copy + Clone + Drop>(rt: &impl Abort, board: &Shared<R>) {
+    assert!(rt; !board.with_record(HasOrder { wanted: &[] }));
+}

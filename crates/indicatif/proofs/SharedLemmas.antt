@@ -1,0 +1,48 @@
+-- What is said of a board under a lock: a call leads from some state to some state, and its answer is one that a board can give.
+use Rattle.std.proofs.Common.{◌≡◌, ℕ, ◌⊎◌, inl, inr, subst, ap, Option, Result, Ok, Err, IfErr}
+use Rattle.indicatif_text.specs.declared.refusal.Refusal.{Refusal}
+use Rattle.indicatif_text.specs.declared.refusal.Refusal.TheVariants.{Memory}
+use Rattle.indicatif_term.specs.Calls.{TermView}
+use Rattle.indicatif_bar.specs.Trackers.{writes_nothing}
+use Rattle.indicatif_bar.specs.declared.tracker.NoTracker.{NoTracker}
+use Rattle.indicatif_bar.specs.Commands.{BarRecord}
+use Rattle.indicatif_board.specs.Boards.{Id, Remove, Answer, Refused}
+use Rattle.indicatif_board.specs.Calls.{answer_of, removal}
+use Rattle.indicatif_board.specs.declared.calls.Answer.{Answer as AnswerValue}
+use Rattle.indicatif_board.specs.declared.calls.Answer.TheVariants as answer
+use Rattle.indicatif_board.specs.Multi.{LeadsBy}
+use Rattle.indicatif_board.specs.Recorded.{Record, IsOneRun, Grows}
+use Rattle.indicatif_board.specs.declared.multi.Board.{Board}
+use Rattle.indicatif.specs.SharedBoards.{SharedCall, IsSomewhere, BoardCan, SharedAnswers}
+
+module _ {T : Type 0} (view : T → TermView) where
+  module _ (old new : Board NoTracker T) (call : SharedCall) (now : ℕ) (answer : Answer) where
+    pub still_somewhere : IsSomewhere old → LeadsBy writes_nothing view old new call now answer → IsSomewhere new
+    still_somewhere is led = let made = led is.0 is.1 is.2 in (is.0, made.0, made.1)
+
+    pub can_answer : IsSomewhere old → LeadsBy writes_nothing view old new call now answer → BoardCan view call answer
+    can_answer is led = let made = led is.0 is.1 is.2 in (is.0, now, old, new, is.1, made.0, is.2, made.1, made.2)
+
+  -- the same of a board with its history
+  pub record_answers : (old new : Record NoTracker T) (call : SharedCall) (now : ℕ) (answer : Answer) →
+      IsOneRun writes_nothing old → Grows writes_nothing view old call now answer new ⊎ ((new ≡ old) × (answer ≡ Refused Memory)) → SharedAnswers view call answer
+  record_answers old new call now answer run (inl grows) = inl (can_answer old.board new.board call now answer (old.mark, run.0, run.2) grows.leads)
+  record_answers old new call now answer run (inr same) = inr same.1
+
+  -- what a history says of its growth, of the answer as its definition
+  pub grows_so : (old new : Record NoTracker T) (call : SharedCall) (now : ℕ) (told : AnswerValue) →
+      Grows writes_nothing view old call now (answer_of told) new ⊎ ((new ≡ old) × (told ≡ answer.Refused Memory)) →
+      Grows writes_nothing view old call now (answer_of told) new ⊎ ((new ≡ old) × (answer_of told ≡ Refused Memory))
+  grows_so old new call now told (inl grows) = inl grows
+  grows_so old new call now told (inr same) = inr (same.0, ap answer_of same.1)
+
+  -- a removal that was refused
+  pub refused_so : (id : Id) (r : Result (Option (BarRecord NoTracker)) Refusal) → BoardCan view (Remove id) (removal r) → IfErr r (λ e. SharedAnswers view (Remove id) (Refused e))
+  refused_so id (Ok bar) can = tt
+  refused_so id (Err e) can = inl can
+
+  -- the same of what a history answered
+  pub refused_as : (id : Id) (r : Result (Option (BarRecord NoTracker)) Refusal) (told : AnswerValue) →
+      IfErr r (λ e. told ≡ answer.Refused e) → SharedAnswers view (Remove id) (answer_of told) → IfErr r (λ e. SharedAnswers view (Remove id) (Refused e))
+  refused_as id (Ok bar) told is can = tt
+  refused_as id (Err e) told is can = subst (λ t. SharedAnswers view (Remove id) (answer_of t)) is can

@@ -1,0 +1,6 @@
+use Rattle.std.proofs.Common.{refl, ap}
+use Rattle.indicatif.specs.declared.progress_bar.place.Place.TheVariants.{Alone}
+use Rattle.indicatif.proofs.progress_bar.held.Held.gone.Goals as goal
+
+pub returns-in-Alone : goal.returns-in-Alone
+returns-in-Alone g c = rw c.in-Alone.is (λ f. ap Alone (c.end.ensures.finished f), λ u. (c.end.new.bar, refl, c.end.ensures.unfinished u))

@@ -1,0 +1,13 @@
+use Rattle.std.proofs.Common.{subst, ap, ◌∙◌}
+use Rattle.indicatif_board.specs.BoardValues.{id_of}
+use Rattle.indicatif.specs.SharedBoards.{SharedDraws}
+use Rattle.indicatif.specs.Worded.{worded}
+use Rattle.indicatif.proofs.FrontLemmas.{no_memory}
+use Rattle.indicatif.proofs.progress_bar.place.Seat.tell_text.Goals as goal
+
+pub returns-in-Ok : goal.returns-in-Ok
+returns-in-Ok g c = subst (λ call. SharedDraws g.T.TermLike.view call c.draw.result)
+    (c.call-call.ensures ∙ ap (worded c.args.told (id_of c.args.self.now.id)) c.in-Ok.ensures.ok) c.draw.ensures
+
+pub returns-in-Err : goal.returns-in-Err
+returns-in-Err g c = no_memory g.T.TermLike.view (worded c.args.told (id_of c.args.self.now.id) c.args.text.now)

@@ -1,0 +1,55 @@
+-- Boards that are shared: which answers one can give, of which nothing is known but that it is a board.
+use Rattle.std.specs.Prelude.{◌≡◌, ◌⊎◌, ℕ, Result, Ok, Err}
+use Rattle.indicatif_text.specs.declared.refusal.Refusal.{Refusal}
+use Rattle.indicatif_text.specs.declared.refusal.Refusal.TheVariants.{Memory, NotMember}
+use Rattle.indicatif_text.specs.declared.refusal.Drawn.{Drawn}
+use Rattle.indicatif_term.specs.Calls.{TermView}
+use Rattle.indicatif_bar.specs.Trackers.{writes_nothing}
+use Rattle.indicatif_bar.specs.Commands.{BarRecord, Command}
+use Rattle.indicatif_bar.specs.Runs.{CallMade}
+use Rattle.indicatif_bar.specs.declared.tracker.NoTracker.{NoTracker}
+use Rattle.indicatif_board.specs.BoardBars.{board_bars}
+use Rattle.indicatif_board.specs.Boards.{BoardState, Call, Clear, Redraw, Insert, Location, Entrant, Id, Answer, Given, Done, Drew, Refused, drawn_of, board}
+use Rattle.indicatif_board.specs.Multi.{IsIn, known}
+use Rattle.indicatif_board.specs.declared.multi.Board.{Board}
+
+-- a call of a board whose bars have no trackers; a state of one
+abbrev pub SharedCall : Type 0
+SharedCall = Call (BarRecord NoTracker) (Command NoTracker)
+
+abbrev pub SharedState : Type 0
+SharedState = BoardState (BarRecord NoTracker)
+
+-- there is a state that the board is in
+abbrev pub IsSomewhere : {T : Type 0} → Board NoTracker T → Type 0
+IsSomewhere b = (mark : ℕ) × (s : SharedState) × IsIn mark b s
+
+-- what an answer gives of a bar that was to be taken in. An insertion answers nothing but the first two
+abbrev pub given_by : Answer → Result Id Refusal
+given_by (Given id) = Ok id
+given_by (Refused e) = Err e
+given_by Done = Err NotMember
+given_by (Drew drawn) = Err NotMember
+
+module _ {T : Type 0} (view : T → TermView) where
+  -- there are a board, a state of it and a moment at which it answers so
+  abbrev pub BoardCan : SharedCall → Answer → Type 0
+  BoardCan call answer =
+      (mark : ℕ) × (now : ℕ) × (old : Board NoTracker T) × (new : Board NoTracker T) × (s : SharedState) × (next : SharedState)
+      × IsIn mark old s × IsIn mark new next × CallMade (board (board_bars writes_nothing) mark) (known view old) (known view new) (call, now) s answer next
+
+  -- a board under a lock answers as some board does; or its history, or a text that it is handed, finds no memory
+  abbrev pub SharedAnswers : SharedCall → Answer → Type 0
+  SharedAnswers call answer = BoardCan call answer ⊎ (answer ≡ Refused Memory)
+
+  -- what such an answer tells of a draw
+  abbrev pub SharedDraws : SharedCall → Result Drawn Refusal → Type 0
+  SharedDraws call drawn = (told : Answer) × (drawn ≡ drawn_of told) × SharedAnswers call told
+
+  -- one that was suspended was cleared and drawn again; or the clear was refused
+  abbrev pub SharedSuspends : Result Drawn Refusal → Type 0
+  SharedSuspends drawn = SharedDraws Redraw drawn ⊎ ((e : Refusal) × (drawn ≡ Err e) × SharedDraws Clear drawn)
+
+  -- what one gives that is to take a bar in at a place
+  abbrev pub SharedTakes : Location → Result Id Refusal → Type 0
+  SharedTakes at taken = (entrant : Entrant (BarRecord NoTracker)) × (told : Answer) × (taken ≡ given_by told) × SharedAnswers (Insert at entrant) told

@@ -1,0 +1,273 @@
+//! What the lock of a shared board keeps.
+ghost use Rattle.std.specs.Prelude.{◌≡◌, ℕ, IfOk, IfErr, Ok, Err, MatchResult};
+ghost use Rattle.indicatif_term.specs.Targets.{term_of};
+ghost use Rattle.indicatif_bar.specs.Trackers.{writes_nothing};
+ghost use Rattle.indicatif_board.specs.Boards.{Remove, Refused, drawn_of};
+ghost use Rattle.indicatif_board.specs.BoardValues.{id_of};
+ghost use Rattle.indicatif_board.specs.Calls.{call_of, answer_of, place_at, removal};
+ghost use Rattle.indicatif_board.specs.Multi.{LeadsBy, terminal_of};
+ghost use Rattle.indicatif.specs.SharedBoards.{BoardCan, SharedAnswers, SharedDraws, SharedSuspends, SharedTakes, given_by};
+ghost use Rattle.indicatif.specs.Kept.{KeptMakes};
+
+use indicatif_bar::state::BarState;
+use indicatif_bar::style::NoTracker;
+use indicatif_board::multi::{Answer, BarId, Board, Call, Candidate, InsertLocation, Recorded};
+use indicatif_term::draw_target::ProgressDrawTarget;
+use indicatif_term::term_like::TermLike;
+use indicatif_text::columns::{Clock, Drawn, Moment, Refusal};
+use std::alloc::Global;
+use std::marker::Model;
+use std::sync::{Arc, Mutex};
+
+/// A board that keeps no history. It is always in some state.
+#[derive(Drop)]
+pub struct Unrecorded<T: Drop> {
+    board: Board<NoTracker, T>,
+}
+
+/// Contracts see the board.
+impl<T: Drop> Model for Unrecorded<T> {
+    ghost use Rattle.indicatif.specs.SharedBoards.{IsSomewhere};
+    ghost use Rattle.indicatif_bar.specs.declared.tracker.NoTracker.{NoTracker};
+    ghost use Rattle.indicatif_board.specs.declared.multi.Board.{Board};
+
+    ghost Value = { Board NoTracker T };
+
+    ghost view = { λ u. u.board };
+
+    ghost invariant = { λ u. IsSomewhere u.board };
+}
+
+impl<T: TermLike + Drop> Unrecorded<T> {
+    /// A board without bars on this target, of this mark.
+    pub fn new(alloc: Global, target: ProgressDrawTarget<T>, mark: u64) -> Self
+        ensures { terminal_of result ≡ term_of target }
+    {
+        Unrecorded {
+            board: Board::new(alloc, target, mark),
+        }
+    }
+
+    /// Makes a call. A bar that is removed or turned away is given up.
+    pub fn call(&mut self, call: Call<NoTracker>, now: Moment) -> Answer
+        ensures leads { LeadsBy writes_nothing T.view self.old self.new (call_of call) now (answer_of result) }
+        ensures can { BoardCan T.view (call_of call) (answer_of result) }
+    {
+        self.board.call(call, now)
+    }
+
+    /// Takes a bar out of the order and hands it back.
+    pub fn remove(&mut self, id: BarId) -> Result<Option<BarState<NoTracker>>, Refusal>
+        ensures leads { (now : ℕ) → LeadsBy writes_nothing T.view self.old self.new (Remove (id_of id)) now (removal result) }
+        ensures can { BoardCan T.view (Remove (id_of id)) (removal result) }
+    {
+        self.board.remove(id)
+    }
+
+    /// Another target; the old one is given up.
+    pub fn set_draw_target(&mut self, target: ProgressDrawTarget<T>)
+        ensures { terminal_of self.new ≡ term_of target }
+    {
+        let _ = self.board.set_draw_target(target);
+    }
+
+    /// The board.
+    pub fn board(&self) -> &Board<NoTracker, T>
+        ensures { result.now ≡ self.now }
+    {
+        &self.board
+    }
+}
+
+/// A board under its lock, with its history or without.
+#[derive(Drop)]
+pub enum Kept<T: Drop> {
+    /// It keeps no history.
+    Open(Unrecorded<T>),
+    /// It keeps its history.
+    Recorded(Recorded<NoTracker, T>),
+}
+
+impl<T: TermLike + Drop> Kept<T> {
+    /// Makes a call. A bar that is removed or turned away is given up.
+    pub fn call(&mut self, call: Call<NoTracker>, now: Moment) -> Answer
+        ensures made { KeptMakes T.view self.old (call_of call) now (answer_of result) self.new }
+        ensures can { SharedAnswers T.view (call_of call) (answer_of result) }
+    {
+        match self {
+            Kept::Open(board) => board.call(call, now),
+            Kept::Recorded(record) => {
+                record.replays();
+                answer_of(record.apply(call, now))
+            }
+        }
+    }
+
+    /// A call that draws.
+    pub fn draw(&mut self, call: Call<NoTracker>, now: Moment) -> Result<Drawn, Refusal>
+        ensures { SharedDraws T.view (call_of call) result }
+    {
+        drawn_of(self.call(call, now))
+    }
+
+    /// Takes a bar out of the order and hands it back; `None` where it isn't there.
+    pub fn remove(&mut self, id: BarId, now: Moment) -> Result<Option<BarState<NoTracker>>, Refusal>
+        ensures { IfErr result (λ e. SharedAnswers T.view (Remove (id_of id)) (Refused e)) }
+    {
+        match self {
+            Kept::Open(board) => board.remove(id),
+            Kept::Recorded(record) => {
+                record.replays();
+                removed(record.apply(Call::Remove(id), now))
+            }
+        }
+    }
+
+    /// Another target; the old one is given up. A board with its history keeps its target.
+    pub fn set_draw_target(&mut self, target: ProgressDrawTarget<T>) -> Result<(), Refusal>
+        ensures { IfErr result (λ e. (e ≡ Refusal.RecordedTarget) × (self.new ≡ self.old)) }
+    {
+        match self {
+            Kept::Open(board) => {
+                board.set_draw_target(target);
+                Ok(())
+            }
+            Kept::Recorded(_) => Err(Refusal::RecordedTarget),
+        }
+    }
+
+    /// The board.
+    pub fn board(&self) -> &Board<NoTracker, T> {
+        match self {
+            Kept::Open(board) => board.board(),
+            Kept::Recorded(record) => record.board(),
+        }
+    }
+
+    /// The board with its history; `None` where it keeps none.
+    pub fn record(&self) -> Option<&Recorded<NoTracker, T>> {
+        match self {
+            Kept::Open(_) => None,
+            Kept::Recorded(record) => Some(record),
+        }
+    }
+
+    /// Clears the board, calls `f`, and draws the board again at the same moment; where the clear was refused, `f` is called all
+    /// the same.
+    pub fn suspend<F: FnOnce() -> A, A>(&mut self, now: Moment, f: F) -> (A, Result<Drawn, Refusal>)
+        requires { F.pre f }
+        ensures value { F.post f result.0 }
+        ensures drawn { SharedSuspends T.view result.1 }
+    {
+        let cleared = self.draw(Call::Clear, now);
+        let value = f();
+        match cleared {
+            Ok(_) => {
+                let drawn = self.draw(Call::Redraw, now);
+                (value, drawn)
+            }
+            Err(refusal) => (value, Err(refusal)),
+        }
+    }
+}
+
+/// What a board with its history answered.
+type Answered = (Answer, Option<BarState<NoTracker>>);
+
+/// The answer; a bar that was handed back is given up.
+fn answer_of(answered: Answered) -> Answer
+    ensures { result ≡ answered.0 }
+{
+    answered.0
+}
+
+/// The bar that was handed back, unless the call was refused.
+fn removed(answered: Answered) -> Result<Option<BarState<NoTracker>>, Refusal>
+    ensures { IfErr result (λ e. answered.0 ≡ Answer.Refused e) }
+{
+    let (answer, bar) = answered;
+    match answer {
+        Answer::Refused(refusal) => Err(refusal),
+        Answer::Id(_) | Answer::Done | Answer::Drawn(_) => Ok(bar),
+    }
+}
+
+/// What an answer tells of a draw.
+fn drawn_of(answer: Answer) -> Result<Drawn, Refusal>
+    ensures { result ≡ drawn_of (answer_of answer) }
+{
+    match answer {
+        Answer::Id(_) | Answer::Done => Ok(Drawn::Limited),
+        Answer::Drawn(drawn) => Ok(drawn),
+        Answer::Refused(refusal) => Err(refusal),
+    }
+}
+
+/// What an answer gives of a bar that was to be taken in; an insertion gives a bar or refuses it.
+fn given(answer: Answer) -> Result<BarId, Refusal>
+    ensures ok { IfOk result (λ id. given_by (answer_of answer) ≡ Ok (id_of id)) }
+    ensures err { IfErr result (λ e. given_by (answer_of answer) ≡ Err e) }
+{
+    match answer {
+        Answer::Id(id) => Ok(id),
+        Answer::Refused(refusal) => Err(refusal),
+        Answer::Done | Answer::Drawn(_) => Err(Refusal::NotMember),
+    }
+}
+
+/// What stands under the lock of a shared board: the board and its clock.
+#[derive(Drop)]
+pub struct SharedBoard<T: Drop, C> {
+    pub kept: Kept<T>,
+    clock: C,
+}
+
+/// A board that bars and others share.
+pub type Shared<T, C> = Arc<Mutex<SharedBoard<T, C>>, Global>;
+
+impl<T: Drop, C> SharedBoard<T, C> {
+    /// A board with its clock.
+    pub fn new(kept: Kept<T>, clock: C) -> SharedBoard<T, C> {
+        SharedBoard { kept, clock }
+    }
+}
+
+impl<T: TermLike + Drop, C: Clock + Drop> SharedBoard<T, C> {
+    /// A call that draws.
+    pub fn draw(&mut self, call: Call<NoTracker>) -> Result<Drawn, Refusal>
+        ensures { SharedDraws T.view (call_of call) result }
+    {
+        let now = self.clock.now();
+        self.kept.draw(call, now)
+    }
+
+    /// Takes a bar in.
+    pub fn insert(
+        &mut self,
+        at: InsertLocation,
+        candidate: Candidate<NoTracker>,
+    ) -> Result<BarId, Refusal>
+        ensures { MatchResult result (λ id. SharedTakes T.view (place_at at) (Ok (id_of id))) (λ e. SharedTakes T.view (place_at at) (Err e)) }
+    {
+        let now = self.clock.now();
+        given(self.kept.call(Call::Insert { at, candidate }, now))
+    }
+
+    /// Takes a bar out of the order and hands it back; `None` where it isn't there.
+    pub fn remove(&mut self, id: BarId) -> Result<Option<BarState<NoTracker>>, Refusal>
+        ensures { IfErr result (λ e. SharedAnswers T.view (Remove (id_of id)) (Refused e)) }
+    {
+        let now = self.clock.now();
+        self.kept.remove(id, now)
+    }
+
+    /// Clears the board, calls `f`, and draws the board again.
+    pub fn suspend<F: FnOnce() -> A, A>(&mut self, f: F) -> (A, Result<Drawn, Refusal>)
+        requires { F.pre f }
+        ensures value { F.post f result.0 }
+        ensures drawn { SharedSuspends T.view result.1 }
+    {
+        let now = self.clock.now();
+        self.kept.suspend(now, f)
+    }
+}

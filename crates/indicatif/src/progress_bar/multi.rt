@@ -1,0 +1,284 @@
+//! Several bars on one target, which threads share.
+ghost use Rattle.std.specs.Prelude.{◌≡◌, ◌⊎◌, IfErr, Err};
+ghost use Rattle.indicatif_term.specs.Engines.{is_bottom};
+ghost use Rattle.indicatif_board.specs.Boards.{Id, End, Index, FromBack, Before, After, Log, Clear, Align, Remove, Refused};
+ghost use Rattle.indicatif_board.specs.Calls.{place_at};
+ghost use Rattle.indicatif.specs.SharedBoards.{SharedAnswers, SharedDraws, SharedSuspends, SharedTakes};
+
+use crate::progress_bar::ProgressBar;
+use crate::progress_bar::kept::{Kept, Shared, SharedBoard, Unrecorded};
+use indicatif_bar::style::NoTracker;
+use indicatif_board::multi::{Call, InsertLocation, Recorded};
+use indicatif_term::draw_target::{MultiProgressAlignment, ProgressDrawTarget, Setup};
+use indicatif_term::term_like::TermLike;
+use indicatif_text::columns::{Clock, Drawn, Refusal};
+use std::alloc::{AllocError, Global};
+use std::fmt::{self, Debug, Formatter};
+use std::sync::{Arc, Mutex, Wait};
+
+/// A board that threads share: several bars on one target, in an order. A clone is the same board.
+///
+/// Each call takes the board's lock and does what the `Board` under it does, at the moment that the board's clock tells, and
+/// answers what that answers; what a call does and refuses is said there. A bar's own calls go on from its clock. A call of a bar
+/// takes the bar's lock first and then the board's, and no call takes them the other way.
+///
+/// Boards are told apart by their marks alone: give those that live at one time marks of their own.
+///
+/// Its clauses say which answers come: for some board and some moment they are the board's; or `Memory`, where the history or a
+/// text that the board is handed finds none. That the board under the lock was changed so is what tests show.
+///
+/// ```
+/// let board = MultiProgress::new(rt, rt.alloc(), setup, 1)?;
+/// let bar = board.add(ProgressBar::hidden(rt, rt.alloc(), clock)?)?;
+/// board.println("a.txt")?; // stands above the bars from now on
+/// ```
+#[derive(Drop)]
+pub struct MultiProgress<T: TermLike + Drop, C: Clock + Drop, R: Wait + Clone + Drop> {
+    board: Shared<T, C>,
+    alloc: Global,
+    rt: R,
+}
+
+impl<T: TermLike + Drop, C: Clock + Drop, R: Wait + Clone + Drop> MultiProgress<T, C, R> {
+    /// A board without bars, of this mark. It writes nothing yet.
+    ///
+    /// Refused: `Memory`.
+    pub fn new(rt: R, alloc: Global, setup: Setup<T, C>, mark: u64) -> Result<Self, Refusal> {
+        let Setup { target, clock } = setup;
+        MultiProgress::with_draw_target(rt, alloc, target, clock, mark)
+    }
+
+    /// A board without bars on this target, by this clock, of this mark.
+    ///
+    /// Refused: `Memory`.
+    pub fn with_draw_target(
+        rt: R,
+        alloc: Global,
+        target: ProgressDrawTarget<T>,
+        clock: C,
+        mark: u64,
+    ) -> Result<Self, Refusal> {
+        let kept = Kept::Open(Unrecorded::new(alloc, target, mark));
+        MultiProgress::shared(rt, alloc, SharedBoard::new(kept, clock))
+    }
+
+    /// The same, and the board keeps its history; `with_record` lends it. It grows with each call.
+    ///
+    /// Refused: `Memory`.
+    pub fn recorded(
+        rt: R,
+        alloc: Global,
+        target: ProgressDrawTarget<T>,
+        clock: C,
+        mark: u64,
+    ) -> Result<Self, Refusal> {
+        let kept = Kept::Recorded(Recorded::new(alloc, target, mark));
+        MultiProgress::shared(rt, alloc, SharedBoard::new(kept, clock))
+    }
+
+    /// A board under its lock.
+    fn shared(rt: R, alloc: Global, board: SharedBoard<T, C>) -> Result<Self, Refusal> {
+        match Arc::new(alloc, Mutex::new(board)) {
+            Ok(board) => Ok(MultiProgress { board, alloc, rt }),
+            Err(_) => Err(Refusal::Memory),
+        }
+    }
+
+    /// Takes a bar in behind all others, and hands its owner back. A bar that stood alone leaves its target, where what it drew
+    /// stays; one that is on this board already stays where it is.
+    ///
+    /// Refused: `ForeignBar` for a bar of another board; `Memory`. Nothing has changed then, and this owner is given up.
+    ///
+    /// ```
+    /// let bar = board.add(bar)?; // it is drawn among the board's bars from now on
+    /// ```
+    pub fn add(&self, bar: ProgressBar<T, C, R>) -> Result<ProgressBar<T, C, R>, Refusal>
+        ensures { IfErr result (λ e. SharedTakes T.view End (Err e)) }
+    {
+        self.take_in(InsertLocation::End, bar)
+    }
+
+    /// Takes a bar in where `index` bars stand before it, or behind all others where there are fewer; else as `add`.
+    pub fn insert(
+        &self,
+        index: usize,
+        bar: ProgressBar<T, C, R>,
+    ) -> Result<ProgressBar<T, C, R>, Refusal>
+        ensures { IfErr result (λ e. SharedTakes T.view (Index index) (Err e)) }
+    {
+        self.take_in(InsertLocation::Index(index), bar)
+    }
+
+    /// Takes a bar in where `count` bars stand behind it, or before all others where there are fewer; else as `add`.
+    pub fn insert_from_back(
+        &self,
+        count: usize,
+        bar: ProgressBar<T, C, R>,
+    ) -> Result<ProgressBar<T, C, R>, Refusal>
+        ensures { IfErr result (λ e. SharedTakes T.view (FromBack count) (Err e)) }
+    {
+        self.take_in(InsertLocation::FromBack(count), bar)
+    }
+
+    /// Takes a bar in right before the anchor; else as `add`.
+    ///
+    /// Refused too: `ForeignBar` for an anchor of another board, `NotMember` for one that stands alone.
+    pub fn insert_before(
+        &self,
+        anchor: &ProgressBar<T, C, R>,
+        bar: ProgressBar<T, C, R>,
+    ) -> Result<ProgressBar<T, C, R>, Refusal>
+        ensures { IfErr result (λ e. (e ≡ Refusal.NotMember) ⊎ ((id : Id) × SharedTakes T.view (Before id) (Err e))) }
+    {
+        match anchor.id() {
+            Some(id) => self.take_in(InsertLocation::Before(id), bar),
+            None => Err(Refusal::NotMember),
+        }
+    }
+
+    /// Takes a bar in right after the anchor; else as `insert_before`.
+    pub fn insert_after(
+        &self,
+        anchor: &ProgressBar<T, C, R>,
+        bar: ProgressBar<T, C, R>,
+    ) -> Result<ProgressBar<T, C, R>, Refusal>
+        ensures { IfErr result (λ e. (e ≡ Refusal.NotMember) ⊎ ((id : Id) × SharedTakes T.view (After id) (Err e))) }
+    {
+        match anchor.id() {
+            Some(id) => self.take_in(InsertLocation::After(id), bar),
+            None => Err(Refusal::NotMember),
+        }
+    }
+
+    /// Takes a bar in at a place.
+    #[tactic(auto, using(crate::proofs::FrontLemmas::not_taken))]
+    fn take_in(
+        &self,
+        at: InsertLocation,
+        bar: ProgressBar<T, C, R>,
+    ) -> Result<ProgressBar<T, C, R>, Refusal>
+        ensures { IfErr result (λ e. SharedTakes T.view (place_at at) (Err e)) }
+    {
+        let Ok(board) = Arc::try_clone(&self.board) else {
+            return Err(Refusal::Memory);
+        };
+        bar.take_in(board, at)?;
+        Ok(bar)
+    }
+
+    /// Takes a bar out of the order: it stands alone from now on, and is hidden. What it shows stays until the next draw. A bar that
+    /// stands alone stays as it is.
+    ///
+    /// Refused: `ForeignBar` for a bar of another board; `Memory`, where the history finds none. Nothing has changed then.
+    pub fn remove(&self, bar: &ProgressBar<T, C, R>) -> Result<(), Refusal>
+        ensures { IfErr result (λ e. (id : Id) × SharedAnswers T.view (Remove id) (Refused e)) }
+    {
+        bar.take_out(&self.board)
+    }
+
+    /// Writes the text's lines above the bars, by force. On a hidden target the text is dropped.
+    pub fn println(&self, text: &str) -> Result<Drawn, Refusal>
+        ensures { SharedDraws T.view (Log text.now) result }
+    {
+        match String::from_str(self.alloc, text) {
+            Ok(text) => self.board.lock(&self.rt).draw(Call::Log(text)),
+            Err(_) => Err(Refusal::Memory),
+        }
+    }
+
+    /// Takes the bars' rows back, by force. The next draw shows the bars again, but for those that were dropped.
+    pub fn clear(&self) -> Result<Drawn, Refusal>
+        ensures { SharedDraws T.view Clear result }
+    {
+        self.board.lock(&self.rt).draw(Call::Clear)
+    }
+
+    /// Takes the bars' rows back, calls `f` once, and draws the bars again by force; the lock is held meanwhile. Answers what `f`
+    /// gave, and what the draw answered; where the clear was refused, no draw is made, and the answer is that refusal.
+    pub fn suspend<F: FnOnce() -> A, A>(&self, f: F) -> (A, Result<Drawn, Refusal>)
+        requires { F.pre f }
+        ensures value { F.post f result.0 }
+        ensures drawn { SharedSuspends T.view result.1 }
+    {
+        self.board.lock(&self.rt).suspend(f)
+    }
+
+    /// Whether bars stand at the top of what is taken back, or at its bottom, from the next draw on.
+    ///
+    /// Refused: `Memory`, where the history finds none; nothing has changed then.
+    pub fn set_alignment(&self, alignment: MultiProgressAlignment) -> Result<(), Refusal>
+        ensures { IfErr result (λ e. SharedDraws T.view (Align (is_bottom alignment)) (Err e)) }
+    {
+        self.board.lock(&self.rt).draw(Call::Align(alignment))?;
+        Ok(())
+    }
+
+    /// Another target, on which the bars begin anew with their next draw; the old one is given up. Nothing is written to either.
+    ///
+    /// Refused: `RecordedTarget` for a board that keeps its history; nothing has changed then.
+    pub fn set_draw_target(&self, target: ProgressDrawTarget<T>) -> Result<(), Refusal>
+        ensures { IfErr result (λ e. e ≡ Refusal.RecordedTarget) }
+    {
+        self.board.lock(&self.rt).kept.set_draw_target(target)
+    }
+
+    /// Whether nothing is ever drawn.
+    pub fn is_hidden(&self) -> bool {
+        self.board.lock(&self.rt).kept.board().is_hidden()
+    }
+
+    /// Lends the terminal to `f` under the lock; `None` where the target is hidden.
+    pub fn with_term<F: FnOnce(Option<&T>) -> A, A>(&self, f: F) -> A
+        requires { F.IsAlwaysCallable f }
+        ensures { (shown : _) × F.post f shown result }
+    {
+        let on = self.board.lock(&self.rt);
+        let shown = on.kept.board().term();
+        f(shown)
+    }
+
+    /// Lends the board with its history to the reader under the lock; `None` where it keeps none.
+    pub fn with_record<F: RecordReader<T>>(&self, reader: F) -> F::Found {
+        let on = self.board.lock(&self.rt);
+        reader.read(on.kept.record())
+    }
+}
+
+/// What reads a board's history: a closure as a type, with what it holds as its fields.
+///
+/// ```
+/// #[derive(Drop)]
+/// struct Length;
+///
+/// impl<T: Drop> RecordReader<T> for Length {
+///     type Found = usize;
+///
+///     fn read(self, record: Option<&Recorded<NoTracker, T>>) -> usize {
+///         record.map_or(0, |record| record.entries().len())
+///     }
+/// }
+/// ```
+pub trait RecordReader<T: Drop> {
+    /// What it finds.
+    type Found;
+
+    /// What it finds of a history, if there is one.
+    fn read(self, record: Option<&Recorded<NoTracker, T>>) -> Self::Found;
+}
+
+/// The same board. Refused: want of memory.
+impl<T: TermLike + Drop, C: Clock + Drop, R: Wait + Clone + Drop> Clone for MultiProgress<T, C, R> {
+    fn clone(&self) -> Result<MultiProgress<T, C, R>, AllocError> {
+        Ok(MultiProgress {
+            board: Arc::try_clone(&self.board)?,
+            alloc: self.alloc,
+            rt: self.rt.clone()?,
+        })
+    }
+}
+
+impl<T: TermLike + Drop, C: Clock + Drop, R: Wait + Clone + Drop> Debug for MultiProgress<T, C, R> {
+    fn fmt<W: fmt::Write>(&self, f: &mut Formatter<W>) -> fmt::Result {
+        f.write_str("MultiProgress")
+    }
+}
