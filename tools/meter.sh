@@ -6,7 +6,7 @@
 #           `--columns 20`
 #   race    4 GiB of zeros through `meter` and through `cat`, in turn, seven times each: the times in milliseconds, and the middle
 #           one of each. The bar is hidden: standard error is no terminal
-#   shown   4 GiB of zeros once through `meter` in a pane of 80 columns, its bar shown, and once through `cat` there
+#   shown   the same race in a pane of 80 columns, where the bar of `meter` is shown, and what stands there at last
 # Without a word all three, one after another.
 #
 # It wants `meter` as `(cd crates/meter && rt run < /dev/null)` builds it, and Debian's package tmux.
@@ -45,6 +45,17 @@ look() {
 # the milliseconds that 4 GiB of zeros take through a program
 race() { local from=$EPOCHREALTIME; head -c 4G /dev/zero | "$@" 2> "$folder/errors" | cat > /dev/null; echo $(((${EPOCHREALTIME/./} - ${from/./}) / 1000)); }
 
+# the same in a pane of 80 columns, which is kept as it stands at the end
+shown() {
+  printf '%s\n' 'from=$EPOCHREALTIME' "head -c 4G /dev/zero | $1 | cat > /dev/null" \
+    "echo \$(((\${EPOCHREALTIME/./} - \${from/./}) / 1000)) > $folder/took" "tmux wait-for -S raced" 'exec sleep 1000' > "$folder/shown"
+  mux new-session -d -s race -x 80 -y 8 "bash $folder/shown" || exit 2
+  mux wait-for raced
+  mux capture-pane -p -t race | sed '/^$/d' > "$folder/pane"
+  mux kill-session -t race
+  cat "$folder/took"
+}
+
 # the middle one of seven numbers
 middle() { sort -n | sed -n 4p; }
 
@@ -63,14 +74,13 @@ if [ "$wanted" = race ] || [ "$wanted" = all ]; then
   echo "cat: $(paste -sd ' ' "$folder/cats"), the middle one $(middle < "$folder/cats") ms"
 fi
 if [ "$wanted" = shown ] || [ "$wanted" = all ]; then
-  for program in "$folder/meter --size 4GiB" cat; do
-    printf '%s\n' 'from=$EPOCHREALTIME' "head -c 4G /dev/zero | $program | cat > /dev/null" \
-      "echo \$(((\${EPOCHREALTIME/./} - \${from/./}) / 1000)) > $folder/took" "tmux wait-for -S raced" 'exec sleep 1000' > "$folder/shown"
-    mux new-session -d -s race -x 80 -y 8 "bash $folder/shown" || exit 2
-    mux wait-for raced
-    echo "in a pane of 80 columns, ${program##*/}: $(cat "$folder/took") ms"
-    mux capture-pane -p -t race | sed '/^$/d'
-    mux kill-session -t race
+  for turn in 1 2 3 4 5 6 7; do
+    shown "$folder/meter --size 4GiB" >> "$folder/shown_meters"
+    cp "$folder/pane" "$folder/last"
+    shown cat >> "$folder/shown_cats"
   done
+  echo "meter in a pane: $(paste -sd ' ' "$folder/shown_meters"), the middle one $(middle < "$folder/shown_meters") ms"
+  cat "$folder/last"
+  echo "cat there: $(paste -sd ' ' "$folder/shown_cats"), the middle one $(middle < "$folder/shown_cats") ms"
 fi
 uptime
