@@ -7,6 +7,7 @@
 //! - `logs`: that a logged line stands, whatever is drawn after it.
 //! - `loops`: what a loop makes of the bar that shows its progress.
 //! - `lent`: what is known of a bar that was lent.
+//! - `sums`: what threads add up to.
 #![tactic(auto)]
 
 pub mod boards;
@@ -15,4 +16,5 @@ pub mod lent;
 pub mod logs;
 pub mod loops;
 pub mod runs;
+pub mod sums;
 pub mod texts;

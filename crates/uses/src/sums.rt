@@ -1,0 +1,18 @@
+//! What threads add up to.
+ghost use Rattle.std.specs.Prelude.{◌≡◌, ◌+◌, ◌%◌, ◌^◌, IfOk, IfErr};
+
+use indicatif::{Done, Refusal};
+use std::alloc::Global;
+
+/// What two workers of one sum add, modulo 2^64, whichever adds first.
+pub fn sum_of_two(alloc: Global, first: u64, second: u64) -> Result<u64, Refusal>
+    ensures sum { IfOk result (λ sum. sum ≡ (first + second) % 2 ^ 64) }
+    ensures memory { IfErr result (λ e. e ≡ Refusal.Memory) }
+{
+    let (done, worker) = Done::new(alloc)?;
+    let (mut mine, mut theirs) = worker.split(&done)?;
+    theirs.add(&done, second);
+    mine.add(&done, first);
+    let whole = mine.join(theirs, &done);
+    Ok(done.close(whole))
+}
