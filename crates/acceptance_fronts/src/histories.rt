@@ -1,10 +1,9 @@
 //! Boards that are shared and keep their history: a fresh board that makes the calls that were kept gives the same answers and the
 //! same picture.
 use crate::on_boards::{Bar, Shared, alone, bar_on, recorded_on, target};
-use indicatif::style::NoTracker;
 use indicatif::{
-    Answer, Board, Call, Change, Drawn, InMemoryTerm, MultiProgressAlignment, ProgressStyle,
-    RecordReader, Recorded, Refusal,
+    Answer, Board, Call, Change, Drawn, InMemoryTerm, MultiProgressAlignment, NoTracker,
+    ProgressStyle, RecordReader, Recorded, Refusal,
 };
 use std::alloc::Global;
 use std::process::Abort;
@@ -30,7 +29,7 @@ fn same_rows(one: Option<&InMemoryTerm>, other: Option<&InMemoryTerm>) -> Result
 }
 
 /// Whether a fresh board makes the calls that were kept with the same answers, and then shows the same rows.
-fn replays(alloc: Global, kept: &Kept) -> Result<bool, Refusal> {
+fn is_replayed(alloc: Global, kept: &Kept) -> Result<bool, Refusal> {
     let mut fresh = Board::new(alloc, target(alloc)?, kept.opening().mark);
     for entry in kept.entries() {
         let answer = fresh.call(entry.call.try_clone(alloc)?, entry.now);
@@ -52,7 +51,7 @@ impl RecordReader<InMemoryTerm> for Replays {
 
     fn read(self, record: Option<&Recorded<NoTracker, InMemoryTerm>>) -> bool {
         match record {
-            Some(kept) => replays(self.alloc, kept) == Ok(true),
+            Some(kept) => is_replayed(self.alloc, kept) == Ok(true),
             None => false,
         }
     }

@@ -1,8 +1,7 @@
 //! Boards and bars for tests, of which each call stands in a function of its own.
-use indicatif::style::NoTracker;
 use indicatif::{
-    InMemoryTerm, MultiProgress, ProgressBar, ProgressDrawTarget, ProgressStyle, RecordReader,
-    Recorded, Refusal, StepClock,
+    InMemoryTerm, MultiProgress, NoTracker, ProgressBar, ProgressDrawTarget, ProgressStyle,
+    RecordReader, Recorded, Refusal, StepClock,
 };
 use std::alloc::Global;
 use std::process::Abort;
