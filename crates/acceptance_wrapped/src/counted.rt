@@ -2,6 +2,7 @@
 //! here, so that a test of many calls is proved call by call.
 use indicatif::{Drawn, Moves, ProgressBarIter, Refusal};
 use std::io::{self, BufRead, Read, Seek, SeekFrom, Write};
+use std::vec::IntoIter;
 
 /// A bar without a length, so that finishing leaves its position.
 #[derive(Drop)]
@@ -65,11 +66,11 @@ pub fn last_draw<T>(wrapped: &Wrapped<T>) -> Option<Result<Drawn, Refusal>> {
     wrapped.last_draw()
 }
 
-pub fn next<T: Iterator>(wrapped: &mut Wrapped<T>) -> Option<T::Item> {
+pub fn next(wrapped: &mut Wrapped<IntoIter<u32>>) -> Option<u32> {
     wrapped.next()
 }
 
-pub fn next_back<T: DoubleEndedIterator>(wrapped: &mut Wrapped<T>) -> Option<T::Item> {
+pub fn next_back(wrapped: &mut Wrapped<IntoIter<u32>>) -> Option<u32> {
     wrapped.next_back()
 }
 
