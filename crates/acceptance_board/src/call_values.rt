@@ -16,7 +16,10 @@ fn taken_in(alloc: Global, at: InsertLocation, text: &str) -> Result<Call<NoTrac
     let style = ProgressStyle::with_template(alloc, "{msg}")?;
     let mut bar = BarState::styled(alloc, style, None, 0)?;
     bar.with_message(text, 0)?;
-    Ok(Call::Insert { at, candidate: Candidate::New(bar) })
+    Ok(Call::Insert {
+        at,
+        candidate: Candidate::New(bar),
+    })
 }
 
 /// A board on a terminal of 4 rows and 10 columns.

@@ -2,9 +2,7 @@
 #![tactic(auto)]
 
 use anyhow::{Result, anyhow};
-use indicatif::{
-    BarState, InMemoryTerm, LoneBar, NoTracker, ProgressDrawTarget, ProgressStyle,
-};
+use indicatif::{BarState, InMemoryTerm, LoneBar, NoTracker, ProgressDrawTarget, ProgressStyle};
 
 /// The file's length in bytes.
 const LENGTH: u64 = 3_000_000;

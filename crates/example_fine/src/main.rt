@@ -2,9 +2,7 @@
 #![tactic(auto)]
 
 use anyhow::{Result, anyhow};
-use indicatif::{
-    BarState, InMemoryTerm, LoneBar, NoTracker, ProgressDrawTarget, ProgressStyle,
-};
+use indicatif::{BarState, InMemoryTerm, LoneBar, NoTracker, ProgressDrawTarget, ProgressStyle};
 
 fn fill(rt: &HostRuntime, bar: &mut LoneBar<NoTracker, InMemoryTerm>) -> Result<()> {
     for percent in [0u32, 1, 2, 7, 13, 30, 50, 64, 99, 100] {

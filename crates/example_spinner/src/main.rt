@@ -3,9 +3,7 @@
 #![tactic(auto)]
 
 use anyhow::{Result, anyhow};
-use indicatif::{
-    InMemoryTerm, ProgressBar, ProgressDrawTarget, ProgressStyle, Setup, StepClock,
-};
+use indicatif::{InMemoryTerm, ProgressBar, ProgressDrawTarget, ProgressStyle, Setup, StepClock};
 use std::sync::Wait;
 use std::time::Duration;
 use std::{thread, time};
