@@ -114,11 +114,10 @@ impl<K: ProgressTracker, T: TermLike + Drop> LoneBar<K, T> {
     }
 
     /// The terminal, with what stands on it; `None` where the target is hidden. Nothing is written.
-    pub fn into_term(self) -> Option<T>
+    pub fn into_term(mut self) -> Option<T>
         ensures { result ≡ terminal_of self }
     {
-        let LoneBar { engine, .. } = self;
-        match engine {
+        match replace(&mut self.engine, None) {
             Some(engine) => Some(engine.into_term()),
             None => None,
         }

@@ -79,14 +79,14 @@ impl Rate {
 }
 
 /// So many steps were made by a moment.
-#[derive(Clone, Copy, Debug, Drop, PartialEq, Eq)]
+#[derive(Clone, Copy, Debug, Drop)]
 pub struct Mark {
     steps: u64,
     moment: Moment,
 }
 
 /// The two marks that a rate is read from: where its count began, and where it stands.
-#[derive(Clone, Copy, Debug, Drop, PartialEq, Eq)]
+#[derive(Clone, Copy, Debug, Drop)]
 pub struct Marks {
     base: Mark,
     last: Mark,

@@ -7,7 +7,7 @@ use std::marker::Model;
 
 /// How often a new position is looked at: 10 looks may come at once, and one more with each millisecond after that, of which
 /// no more than 10 are ever in hand. Moments are counted from its making.
-#[derive(Debug, Drop)]
+#[derive(Drop)]
 pub(crate) struct PositionLimiter {
     making: Moment,
     capacity: u64,

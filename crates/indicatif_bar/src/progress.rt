@@ -17,7 +17,7 @@ use std::marker::Model;
 use std::mem::replace;
 
 /// Whether a bar goes on, or how it was finished.
-#[derive(Clone, Copy, Debug, Drop, PartialEq, Eq)]
+#[derive(Clone, Copy, Debug, Drop)]
 pub(crate) enum Status {
     /// It goes on.
     InProgress,

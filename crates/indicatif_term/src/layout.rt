@@ -14,7 +14,7 @@ use indicatif_text::columns::{Metrics, Refusal, wrapped};
 use std::convert::AsStr;
 
 /// How many rows of a bar are shown.
-#[derive(Clone, Copy, Debug, Drop)]
+#[derive(Clone, Copy, Drop)]
 pub struct RowCount {
     pub bar: u64,
     pub rows: usize,

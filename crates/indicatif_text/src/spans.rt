@@ -5,7 +5,7 @@ ghost use Rattle.indicatif_text.specs.Inside.Spans.{belongs, in_words};
 ghost use Rattle.indicatif_text.specs.Template.{after_run};
 
 /// How far the words of a style go. What ends them is always ASCII.
-#[derive(Clone, Copy, Debug, Drop, PartialEq, Eq)]
+#[derive(Clone, Copy, Drop)]
 pub(crate) enum Words {
     /// To the end of the text.
     All,
@@ -16,7 +16,7 @@ pub(crate) enum Words {
 }
 
 /// The characters that a run is made of. What ends a run is always ASCII.
-#[derive(Clone, Copy, Debug, Drop, PartialEq, Eq)]
+#[derive(Clone, Copy, Drop)]
 pub(crate) enum Span {
     /// All but braces and newlines.
     Literal,

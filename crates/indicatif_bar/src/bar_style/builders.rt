@@ -1,5 +1,5 @@
 //! How a style is made.
-ghost use Rattle.std.specs.Prelude.{◌≡◌, ◌⊎◌, None, Some, map, codes, chars, IfOk, IfErr, IsTrue};
+ghost use Rattle.std.specs.Prelude.{◌≡◌, ◌⊎◌, None, Some, map, codes, chars, string_bytes, IfOk, IfErr, IsTrue};
 ghost use Rattle.std.specs.List.{list_all};
 ghost use Rattle.indicatif_bar.specs.Bars.{is_bar_line};
 ghost use Rattle.indicatif_text.specs.declared.template.TemplateError.{TemplateError};
@@ -8,6 +8,7 @@ ghost use Rattle.indicatif_text.specs.Template.{refusal_of};
 ghost use Rattle.indicatif_term.specs.Frames.{line_text};
 ghost use Rattle.indicatif_bar.specs.Trackers.{entries};
 ghost use Rattle.indicatif_bar.specs.BarStyles.{lines};
+ghost use Rattle.indicatif_bar.specs.Inside.Cells.{texts_of};
 ghost use Rattle.indicatif_bar.specs.Builders.{characters_of, clusters_of, tick_fault, progress_fault, with_key, first_style};
 
 use crate::bar_style::ProgressStyle;
@@ -114,30 +115,35 @@ impl<K: ProgressTracker> ProgressStyle<K> {
     /// The spinner's texts: each character of `chars` is one, the last one of a finished bar.
     ///
     /// Refused: `FewTicks` where there are fewer than two; `Memory`. The style is given up then.
-    pub fn tick_chars(mut self, chars: &str) -> Result<ProgressStyle<K>, Refusal>
+    pub fn tick_chars(self, chars: &str) -> Result<ProgressStyle<K>, Refusal>
         ensures style { IfOk result (λ style. style ≡ record self { tick_strings = characters_of chars.now }) }
         ensures taken { IfOk result (λ _. tick_fault (characters_of chars.now) ≡ None) }
         ensures refused { IfErr result (λ e. (e ≡ Refusal.Memory)
             ⊎ (tick_fault (characters_of chars.now) ≡ Some e)) }
     {
         let strings = clusters::characters_of(self.alloc, chars)?;
-        if let Some(refusal) = clusters::tick_fault(strings.as_slice()) {
-            return Err(refusal);
-        }
-        self.tick_strings = Texts::Own(strings);
-        Ok(self)
+        self.with_ticks(strings)
     }
 
     /// The spinner's texts, the last one of a finished bar.
     ///
     /// Refused: `FewTicks` where there are fewer than two; `Memory`. The style is given up then.
-    pub fn tick_strings(mut self, strings: &[&str]) -> Result<ProgressStyle<K>, Refusal>
+    pub fn tick_strings(self, strings: &[&str]) -> Result<ProgressStyle<K>, Refusal>
         ensures style { IfOk result (λ style. style ≡ record self { tick_strings = map (λ text. text.now) strings.now }) }
         ensures taken { IfOk result (λ _. tick_fault (map (λ text. text.now) strings.now) ≡ None) }
         ensures refused { IfErr result (λ e. (e ≡ Refusal.Memory)
             ⊎ (tick_fault (map (λ text. text.now) strings.now) ≡ Some e)) }
     {
         let strings = clusters::copied(self.alloc, strings)?;
+        self.with_ticks(strings)
+    }
+
+    /// The same of texts that stand in memory of their own, which takes no more.
+    fn with_ticks(mut self, strings: Vec<String>) -> Result<ProgressStyle<K>, Refusal>
+        ensures style { IfOk result (λ style. style ≡ record self { tick_strings = texts_of strings.items }) }
+        ensures taken { IfOk result (λ _. tick_fault (texts_of strings.items) ≡ None) }
+        ensures refused { IfErr result (λ e. tick_fault (texts_of strings.items) ≡ Some e) }
+    {
         if let Some(refusal) = clusters::tick_fault(strings.as_slice()) {
             return Err(refusal);
         }
@@ -251,10 +257,16 @@ fn cloned_keys<K: ProgressTracker>(
 {
     let mut all = Vec::with_capacity(alloc, keys.len())?;
     'keys: for entry in keys {
-        all.push((
-            String::from_str(alloc, entry.0.as_str())?,
-            entry.1.try_clone()?,
-        ))?;
+        all.push(cloned_key(alloc, entry)?)?;
     }
     Ok(all)
+}
+
+/// An equal tracker, under the same name.
+fn cloned_key<K: ProgressTracker>(alloc: Global, key: &(String, K)) -> Result<(String, K), Refusal>
+    ensures key { IfOk result (λ made. (string_bytes made.0 ≡ string_bytes key.now.0) × (made.1 ≡ key.now.1)) }
+    ensures memory { IfErr result (λ e. e ≡ Refusal.Memory) }
+{
+    let name = String::from_str(alloc, key.0.as_str())?;
+    Ok((name, key.1.try_clone()?))
 }

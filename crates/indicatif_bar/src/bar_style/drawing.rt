@@ -106,11 +106,27 @@ impl<K: ProgressTracker> ProgressStyle<K> {
             (slice_get self.now.keys place) []) }
         ensures memory { IfErr result (λ e. e ≡ Refusal.Memory) }
     {
-        let Some(entry) = self.keys.get(place) else {
-            return Ok(());
-        };
+        match self.keys.get(place) {
+            Some(entry) => self.push_text_of(&entry.1, state, now, spare, out),
+            None => Ok(()),
+        }
+    }
+
+    /// Appends a tracker's text, its tabs expanded.
+    fn push_text_of(
+        &self,
+        tracker: &K,
+        state: &ProgressState,
+        now: Moment,
+        spare: &mut SpareLines,
+        out: &mut String,
+    ) -> Result<(), Refusal>
+        ensures text { OnOk result (string_bytes out.new ≡ string_bytes out.old
+            ++ expanded self.now.tab (K.means.text tracker.now state.now now)) }
+        ensures memory { IfErr result (λ e. e ≡ Refusal.Memory) }
+    {
         let mut text = spare.text();
-        entry.1.write(state, now, &mut text)?;
+        tracker.write(state, now, &mut text)?;
         push_expanded(text.as_str(), self.tab, out)?;
         spare.keep_text(text);
         Ok(())

@@ -11,7 +11,7 @@ use crate::style::texts::Texts;
 use indicatif_text::columns::{Refusal, Style, columns};
 
 /// How the rest of a bar is styled, where colours are on.
-#[derive(Clone, Copy, Debug, Drop)]
+#[derive(Clone, Copy, Drop)]
 pub(crate) struct RestLook {
     pub(crate) colours: bool,
     pub(crate) style: Style,

@@ -19,7 +19,7 @@ pub(crate) fn has_mark(text: &str) -> bool
 }
 
 /// Where a text's marks stand: how many columns their line leaves free, and whether one ends the text.
-#[derive(Clone, Copy, Debug, Drop)]
+#[derive(Clone, Copy, Drop)]
 pub(crate) struct Gap {
     pub(crate) columns: usize,
     pub(crate) is_last: bool,

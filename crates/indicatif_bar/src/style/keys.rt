@@ -3,7 +3,7 @@ ghost use Rattle.std.specs.Prelude.{◌≡◌};
 ghost use Rattle.indicatif_bar.specs.Keys.{key_named};
 
 /// How a count is written.
-#[derive(Clone, Copy, Debug, Drop, PartialEq, Eq)]
+#[derive(Clone, Copy, Drop)]
 pub enum CountForm {
     /// Its decimal digits.
     Plain,
@@ -16,7 +16,7 @@ pub enum CountForm {
 }
 
 /// How a time is written.
-#[derive(Clone, Copy, Debug, Drop, PartialEq, Eq)]
+#[derive(Clone, Copy, Drop)]
 pub enum TimeForm {
     /// As days, hours, minutes and seconds.
     Clock,
@@ -25,7 +25,7 @@ pub enum TimeForm {
 }
 
 /// A key that needs no tracker.
-#[derive(Clone, Copy, Debug, Drop, PartialEq, Eq)]
+#[derive(Clone, Copy, Drop)]
 pub enum Key {
     /// The bar, at the placeholder's width or 20 columns.
     Bar,

@@ -6,7 +6,7 @@ use indicatif_text::columns::{Refusal, columns, write_ansi_range};
 use indicatif_text::template::Alignment;
 
 /// Where a text stands in a width, and whether it is cut where it is longer.
-#[derive(Clone, Copy, Debug, Drop)]
+#[derive(Clone, Copy, Drop)]
 pub(crate) struct Place {
     pub(crate) width: usize,
     pub(crate) align: Alignment,

@@ -12,7 +12,7 @@ use indicatif_text::template::{Alignment, Part};
 use std::alloc::Global;
 
 /// Where the text of a placeholder comes from.
-#[derive(Clone, Copy, Debug, Drop)]
+#[derive(Clone, Copy, Drop)]
 pub(crate) enum Source {
     /// The tracker at this place.
     Tracker(usize),
@@ -23,7 +23,7 @@ pub(crate) enum Source {
 }
 
 /// A placeholder.
-#[derive(Clone, Copy, Debug, Drop)]
+#[derive(Clone, Copy, Drop)]
 pub(crate) struct Held {
     pub(crate) source: Source,
     pub(crate) align: Alignment,
@@ -34,7 +34,7 @@ pub(crate) struct Held {
 }
 
 /// The placeholder of a wide key.
-#[derive(Clone, Copy, Debug, Drop)]
+#[derive(Clone, Copy, Drop)]
 pub(crate) enum WideKey {
     /// Of a bar.
     Bar(Held),
@@ -70,7 +70,7 @@ impl Held {
 }
 
 /// What a part of a template does.
-#[derive(Debug, Drop)]
+#[derive(Drop)]
 pub(crate) enum Step {
     /// It writes this text: a literal of the template, its tabs expanded.
     Text(String),

@@ -8,7 +8,7 @@ use indicatif_text::columns::Refusal;
 use std::alloc::Global;
 
 /// Texts in an order.
-#[derive(Debug, Drop)]
+#[derive(Drop)]
 pub(crate) enum Texts {
     /// Texts of the program itself, which take no memory.
     Fixed(&'static [&'static str]),

@@ -11,7 +11,7 @@ use crate::style_words::Style;
 use crate::template::{Alignment, TemplateError};
 
 /// How a placeholder's text is laid out.
-#[derive(Clone, Copy, Debug, Drop)]
+#[derive(Clone, Copy, Drop)]
 pub(super) struct Options {
     pub align: Alignment,
     pub width: Option<u16>,
@@ -45,7 +45,7 @@ fn style_named<'a>(text: &'a str, words: Words) -> (Option<Style>, &'a str)
 }
 
 /// Digits and exclamation marks, in any mix.
-#[derive(Clone, Copy, Debug, Drop)]
+#[derive(Clone, Copy, Drop)]
 struct Mix {
     /// The number of the digits, if there are any; it counts only where it isn't too large.
     width: Option<u16>,
@@ -222,7 +222,7 @@ pub(super) fn with_options(text: &str) -> Result<(Options, &str), TemplateError>
 }
 
 /// What stands in front of a text.
-#[derive(Clone, Copy, Debug, Drop)]
+#[derive(Clone, Copy, Drop)]
 pub(super) enum Token<'a> {
     /// A character that stands for itself.
     Literal(char),
