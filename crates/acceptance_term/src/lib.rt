@@ -14,4 +14,6 @@ mod in_memory;
 #[cfg(test)]
 mod limiter_tests;
 #[cfg(test)]
+mod runs;
+#[cfg(test)]
 mod term;

@@ -155,6 +155,7 @@ impl<T: TermLike + Drop> Engine<T> {
             blanks,
             frame,
             lines: plan.lines,
+            runs_on: plan.runs_on,
         };
         let last = plan.last;
         let next = self.counts.drawn(plan, blanks, window.rows);
@@ -204,6 +205,7 @@ impl<T: TermLike + Drop> Engine<T> {
             blanks,
             frame,
             lines: plan.lines,
+            runs_on: plan.runs_on,
         };
         let last = plan.last.unwrap_or(metrics.last_line_width);
         let next = self
@@ -235,6 +237,7 @@ impl<T: TermLike + Drop> Engine<T> {
             blanks: 0,
             frame: &[],
             lines: 0,
+            runs_on: false,
         };
         self.repaint(next, taken, &nothing, 0)
     }

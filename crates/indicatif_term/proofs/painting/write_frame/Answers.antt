@@ -1,0 +1,30 @@
+use Rattle.std.proofs.Common.{arith, ◌≡◌, length, take, sym, ap}
+use Rattle.std.proofs.lemmas.List.{take_all}
+use Rattle.std.proofs.Math.Seq.{take-nil}
+use Rattle.indicatif_term.proofs.CallTurnLemmas.{reaches_none}
+use Rattle.indicatif_term.proofs.MemberLineLemmas.{now_left}
+use Rattle.indicatif_term.proofs.JoinedBytesLemmas.{member_leads, member_breaks}
+use Rattle.indicatif_term.proofs.painting.write_frame.Goals as goal
+
+pub loop-member-init : goal.loop-member-init
+loop-member-init g c = record { left_is = omega arith; leads = rw (take-nil c.args.count) (reaches_none _) }
+
+pub returns-in_err-write_lines : goal.returns-in_err-write_lines
+returns-in_err-write_lines g c =
+    member_breaks c.args.count c.args.frame.now c.loop-member.member-index c.loop-member.left c.min-n.result c.member-item.result
+    (omega arith) (sym c.member-item.is) c.loop-member.invariant.left_is (omega (arith, c.min-n.ensures, c.len.ensures, c.deref.ensures.len, ap length c.deref.ensures.value))
+    c.loop-member.invariant.leads c.from_residual.result c.from_residual.ensures.0 (rw c.deref.ensures.value at c.in_err-write_lines.ensures)
+
+pub loop-member-preserved : goal.loop-member-preserved
+loop-member-preserved g c = record {
+  left_is = now_left c.args.count c.args.frame.now c.loop-member.member-index c.loop-member.left c.min-n.result c.member-item.result
+      (omega arith) (sym c.member-item.is) c.loop-member.invariant.left_is (omega (arith, c.min-n.ensures, c.len.ensures, c.deref.ensures.len, ap length c.deref.ensures.value));
+  leads = member_leads c.args.count c.args.frame.now c.loop-member.member-index c.loop-member.left c.min-n.result c.member-item.result
+      (omega arith) (sym c.member-item.is) c.loop-member.invariant.left_is (omega (arith, c.min-n.ensures, c.len.ensures, c.deref.ensures.len, ap length c.deref.ensures.value))
+      c.loop-member.invariant.leads (rw c.deref.ensures.value at c.in_ok-write_lines.ensures);
+}
+
+pub returns : goal.returns
+returns g c =
+    let all : take c.loop-member.member-index c.args.frame.now ≡ c.args.frame.now = take_all c.loop-member.member-index c.args.frame.now (omega arith) in
+    rw all at c.loop-member.invariant.leads
