@@ -13,3 +13,4 @@ pub mod KeptLemmas
 pub mod OrderLemmas
 pub mod SeatLemmas
 pub mod RecordLemmas
+pub mod StandingLemmas

@@ -2,3 +2,4 @@
 pub mod Keeps
 pub mod Writings
 pub mod Parting
+pub mod Standing

@@ -1,5 +1,5 @@
 -- What contracts see of a board: its terminal, whether it is in a given state, and what a call leads to.
-use Rattle.std.specs.Prelude.{◌≡◌, ◌⊎◌, ℕ, [], ◌∷◌, Option, MatchOption, option_map, Result, Err}
+use Rattle.std.specs.Prelude.{◌≡◌, ◌≢◌, ◌⊎◌, ℕ, [], ◌∷◌, Option, Some, None, MatchOption, option_map, Result, Err}
 use Rattle.indicatif_text.specs.declared.refusal.Refusal.{Refusal}
 use Rattle.indicatif_text.specs.declared.refusal.Drawn.{Drawn}
 use Rattle.indicatif_term.specs.Calls.{TermView}
@@ -7,12 +7,14 @@ use Rattle.indicatif_term.specs.Engines.{engine_term, Fits}
 use Rattle.indicatif_term.specs.Lists.{opening_lists}
 use Rattle.indicatif_bar.specs.Trackers.{Tracking}
 use Rattle.indicatif_bar.specs.Commands.{BarRecord, Command}
+use Rattle.indicatif_bar.specs.Lone.{Change}
+use Rattle.indicatif_bar.specs.LoneBars.{RecordGoes}
 use Rattle.indicatif_bar.specs.Machines.{target_of}
 use Rattle.indicatif_bar.specs.Runs.{CallMade, Runs}
 use Rattle.indicatif_board.specs.BoardBars.{board_bars}
-use Rattle.indicatif_board.specs.Boards.{BoardState, Call, Clear, Redraw, Answer, Drew, Refused, says, board}
+use Rattle.indicatif_board.specs.Boards.{BoardState, Id, Entrant, New, Call, Insert, Remove, Drop, Clear, Redraw, Tell, Answer, Given, Drew, Refused, says, drawn_of, board}
 use Rattle.indicatif_board.specs.Slots.{SlotTable}
-use Rattle.indicatif_board.specs.ShownBars.{AreShownAs}
+use Rattle.indicatif_board.specs.ShownBars.{AreShownAs, record_on}
 use Rattle.indicatif_board.specs.declared.multi.Board.{Board}
 
 module _ {K T : Type 0} where
@@ -40,6 +42,43 @@ module _ {K T : Type 0} where
   -- the mark that its bars have
   abbrev pub mark_of : Board K T → ℕ
   mark_of b = b.mark
+
+  -- the record of its bar of a number; none where no call may name that: it was removed, dropped or never given
+  abbrev pub record_at : ℕ → Board K T → Option (BarRecord K)
+  record_at number b = record_on number b.shown
+
+  -- every bar's record is as before
+  abbrev pub RecordsStay : Board K T → Board K T → Type 0
+  RecordsStay old new = (number : ℕ) → record_at number new ≡ record_at number old
+
+  -- every bar's is, but for that of this number
+  abbrev pub OthersStay : ℕ → Board K T → Board K T → Type 0
+  OthersStay number old new = (other : ℕ) → other ≢ number → record_at other new ≡ record_at other old
+
+  -- a bar was told a command: if it has a record, that goes as a lone bar's does
+  abbrev pub RecordObeys : Tracking K → ℕ → Command K → ℕ → Result Drawn Refusal → Board K T → Board K T → Type 0
+  RecordObeys m number command now answer old new =
+      (bar : BarRecord K) → record_at number old ≡ Some bar →
+      (bar' : BarRecord K) × (record_at number new ≡ Some bar') × RecordGoes m (Change command) now answer bar bar'
+
+  -- one was to be taken in: a new bar's number had no record, and has the bar's now; where it was turned away, or was there
+  -- already, all stay
+  abbrev pub RecordsTake : Entrant (BarRecord K) → Answer → Board K T → Board K T → Type 0
+  RecordsTake (New bar) (Given id) old new =
+      (id.mark ≡ old.mark) × (record_at id.number old ≡ None) × (record_at id.number new ≡ Some bar) × OthersStay id.number old new
+  RecordsTake _ _ old new = RecordsStay old new
+
+  -- a call named a bar: of a bar of this board it made what is said, and others stay; of another board's, all stay
+  abbrev pub NamedGoes : Id → Type 0 → Board K T → Board K T → Type 0
+  NamedGoes id goes old new = (id.mark ≡ old.mark → goes) × (id.mark ≢ old.mark → RecordsStay old new) × OthersStay id.number old new
+
+  -- what a call with this answer made of the records
+  abbrev pub RecordsGo : Tracking K → Call (BarRecord K) (Command K) → ℕ → Answer → Board K T → Board K T → Type 0
+  RecordsGo m (Insert at entrant) now answer old new = RecordsTake entrant answer old new
+  RecordsGo m (Remove id) now answer old new = NamedGoes id (record_at id.number new ≡ None) old new
+  RecordsGo m (Drop id) now answer old new = NamedGoes id (record_at id.number new ≡ None) old new
+  RecordsGo m (Tell id command) now answer old new = NamedGoes id (RecordObeys m id.number command now (drawn_of answer) old new) old new
+  RecordsGo m _ now answer old new = RecordsStay old new
 
   -- whatever state the board may have been in, there is one that it is in now, and the call led from the one to the other with
   -- this answer

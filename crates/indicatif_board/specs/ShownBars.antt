@@ -1,5 +1,5 @@
 -- The bars of a board as they are shown: their members, numbers and lines stand as a state says.
-use Rattle.std.specs.Prelude.{◌≡◌, ℕ, Bool, List, map, Option}
+use Rattle.std.specs.Prelude.{◌≡◌, ℕ, Bool, ◌==◌, List, ◌∷◌, map, Option, Some, None, if◌then◌else◌}
 use Rattle.indicatif_term.specs.Limiters.{Limiter}
 use Rattle.indicatif_term.specs.Frames.{bar_lines}
 use Rattle.indicatif_term.specs.Engines.{is_bottom}
@@ -25,3 +25,19 @@ pub record Holds {K : Type 0} (frame : List Segment) (members : List (MemberValu
 -- they are shown as this state says
 abbrev pub AreShownAs : {K : Type 0} → ShownBars K → BoardState (BarRecord K) → Type 0
 AreShownAs b s = Holds b.frame.items b.members.items b.table.made (is_bottom b.alignment) b.limiter s
+
+-- ---- records by their numbers
+
+module _ {K : Type 0} where
+  -- a bar's record; none where its owner is gone
+  abbrev pub owned_record : MemberValue K → Option (BarRecord K)
+  owned_record m = if m.dropped then None else Some m.bar
+
+  -- the record of the bar of a number, where bars of these numbers stand; none where none has it, or its owner is gone
+  abbrev pub record_in : ℕ → List ℕ → List (MemberValue K) → Option (BarRecord K)
+  record_in number (n ∷ order) (m ∷ members) = if n == number then owned_record m else record_in number order members
+  record_in number _ _ = None
+
+  -- the same of bars as they are shown
+  abbrev pub record_on : ℕ → ShownBars K → Option (BarRecord K)
+  record_on number b = record_in number b.table.order b.members.items

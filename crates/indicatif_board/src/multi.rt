@@ -1,10 +1,10 @@
 //! A board: several bars on one target, in an order.
-ghost use Rattle.std.specs.Prelude.{◌≡◌, ◌≢◌, ◌==◌, ◌↔◌, ◌<◌, ◌≤◌, ℕ, Bool, Option, Some, None, Err, true, option_map, IsTrue, IsFalse, IfOk, IfErr, IfSome, MatchResult, MatchOption, map, OnErr, is_ok, vec_len, if◌then◌else◌};
+ghost use Rattle.std.specs.Prelude.{◌≡◌, ◌≢◌, ◌==◌, ◌↔◌, ◌<◌, ◌≤◌, ℕ, Bool, Option, Some, None, Ok, Err, is_some, true, option_map, IsTrue, IsFalse, IfOk, IfErr, IfSome, MatchResult, MatchOption, map, OnErr, is_ok, vec_len, if◌then◌else◌};
 ghost use Rattle.std.specs.List.{list_any};
 ghost use Rattle.indicatif_term.specs.Engines.{is_bottom, engine_term, Fits};
 ghost use Rattle.indicatif_term.specs.Lists.{fate, kept_of, opening_lists};
 ghost use Rattle.indicatif_term.specs.Targets.{term_of, limiter_of};
-ghost use Rattle.indicatif_bar.specs.Commands.{BarRecord, command_of};
+ghost use Rattle.indicatif_bar.specs.Commands.{BarRecord, command_of, is_beyond_clock};
 ghost use Rattle.indicatif_bar.specs.Machines.{Target, Leads, is_no, target_of};
 ghost use Rattle.indicatif_bar.specs.Runs.{wrote, Runs, Headline};
 ghost use Rattle.indicatif_bar.specs.Shown.{DrewOn};
@@ -15,6 +15,7 @@ ghost use Rattle.indicatif_board.specs.Members.{is_member, order_of, said_of};
 ghost use Rattle.indicatif_board.specs.Slots.{slot_of, IsSeated};
 ghost use Rattle.indicatif_board.specs.Inside.Keeps.{HasPlace, laid_by, lays_by};
 ghost use Rattle.indicatif_board.specs.Inside.Parting.{parted, RestsOn};
+ghost use Rattle.indicatif_board.specs.Inside.Standing.{is_of_draw, StandsAt};
 ghost use Rattle.indicatif_board.specs.Inside.Writings.{writing_by};
 
 pub use crate::bar_id::BarId;
@@ -59,12 +60,13 @@ pub struct Board<K, T: Drop> {
 
 impl<K: ProgressTracker, T: TermLike + Drop> Board<K, T> {
     ghost use Rattle.indicatif_board.specs.Calls.{entrant_of, given, removal, answer_of, place_at, call_of, timed};
-    ghost use Rattle.indicatif_board.specs.Multi.{IsIn, IsNowhere, mark_of, LeadsBy, Suspends, known, slots_of, terminal_of};
+    ghost use Rattle.indicatif_board.specs.Multi.{IsIn, IsNowhere, mark_of, record_at, RecordsStay, OthersStay, RecordObeys, RecordsTake, RecordsGo, LeadsBy, Suspends, known, slots_of, terminal_of};
 
     /// A board without bars on this target, of this mark. It takes no memory and writes nothing.
     pub fn new(alloc: Global, target: ProgressDrawTarget<T>, mark: u64) -> Self
         ensures state { IsIn mark result (opening_board (limiter_of target)) }
         ensures mark { mark_of result ≡ mark }
+        ensures records { (number : ℕ) → record_at number result ≡ None }
         ensures terminal { terminal_of result ≡ term_of target }
     {
         let (engine, limiter) = opened_on(alloc, target);
@@ -99,6 +101,8 @@ impl<K: ProgressTracker, T: TermLike + Drop> Board<K, T> {
         ensures foreign { id.mark ≢ mark_of self.now → result ≡ Err Refusal.ForeignBar }
         ensures bar { (mark : ℕ) (s : BoardState (BarRecord K)) (other : BarRecord K) → IsIn mark self.now s →
             MatchResult result (λ bar. (turned_away mark (id_of id) s ≡ None) × (bar.now ≡ said_of other (λ b. b) id.number s.members)) (λ e. turned_away mark (id_of id) s ≡ Some e) }
+        ensures record { id.mark ≡ mark_of self.now →
+            MatchResult result (λ bar. record_at id.number self.now ≡ Some bar.now) (λ e. (e ≡ Refusal.NotMember) × (record_at id.number self.now ≡ None)) }
     {
         let at = self.find(id)?;
         Ok(&self.shown.members[at].bar)
@@ -132,6 +136,7 @@ impl<K: ProgressTracker, T: TermLike + Drop> Board<K, T> {
         ensures old_limiter { (mark : ℕ) (s : BoardState (BarRecord K)) → IsIn mark self.old s → IfSome result (λ t. t.1 ≡ s.limiter) }
         ensures new { terminal_of self.new ≡ term_of target }
         ensures mark { mark_of self.new ≡ mark_of self.old }
+        ensures records { RecordsStay self.old self.new }
         ensures state { (mark : ℕ) (s : BoardState (BarRecord K)) → IsIn mark self.old s →
             IsIn mark self.new (record s { limiter = limiter_of target; lists = opening_lists }) }
     {
@@ -149,6 +154,7 @@ impl<K: ProgressTracker, T: TermLike + Drop> Board<K, T> {
         ensures terminal { terminal_of self.new ≡ terminal_of self.old }
         ensures mark { mark_of self.new ≡ mark_of self.old }
         ensures leads { (now : ℕ) → LeadsBy K.means T.view self.old self.new (Align (is_bottom alignment)) now Done }
+        ensures records { RecordsStay self.old self.new }
     {
         self.shown.alignment = alignment;
     }
@@ -161,6 +167,7 @@ impl<K: ProgressTracker, T: TermLike + Drop> Board<K, T> {
         ensures mark { mark_of self.new ≡ mark_of self.old }
         ensures turned { IfErr result (λ t. t.candidate ≡ candidate) }
         ensures leads { (now : ℕ) → LeadsBy K.means T.view self.old self.new (Insert End (entrant_of candidate)) now (given result) }
+        ensures records { RecordsTake (entrant_of candidate) (given result) self.old self.new }
     {
         let at = self.shown.members.len();
         self.insert_at(at, candidate)
@@ -174,6 +181,7 @@ impl<K: ProgressTracker, T: TermLike + Drop> Board<K, T> {
         ensures mark { mark_of self.new ≡ mark_of self.old }
         ensures turned { IfErr result (λ t. t.candidate ≡ candidate) }
         ensures leads { (now : ℕ) → LeadsBy K.means T.view self.old self.new (Insert (Index index) (entrant_of candidate)) now (given result) }
+        ensures records { RecordsTake (entrant_of candidate) (given result) self.old self.new }
     {
         let at = index.min(self.shown.members.len());
         self.insert_at(at, candidate)
@@ -191,6 +199,7 @@ impl<K: ProgressTracker, T: TermLike + Drop> Board<K, T> {
         ensures mark { mark_of self.new ≡ mark_of self.old }
         ensures turned { IfErr result (λ t. t.candidate ≡ candidate) }
         ensures leads { (now : ℕ) → LeadsBy K.means T.view self.old self.new (Insert (FromBack count) (entrant_of candidate)) now (given result) }
+        ensures records { RecordsTake (entrant_of candidate) (given result) self.old self.new }
     {
         let at = self.shown.members.len().saturating_sub(count);
         self.insert_at(at, candidate)
@@ -209,6 +218,7 @@ impl<K: ProgressTracker, T: TermLike + Drop> Board<K, T> {
         ensures mark { mark_of self.new ≡ mark_of self.old }
         ensures turned { IfErr result (λ t. t.candidate ≡ candidate) }
         ensures leads { (now : ℕ) → LeadsBy K.means T.view self.old self.new (Insert (Before (id_of anchor)) (entrant_of candidate)) now (given result) }
+        ensures records { RecordsTake (entrant_of candidate) (given result) self.old self.new }
     {
         let at = match self.find(anchor) {
             Ok(at) => at,
@@ -230,6 +240,7 @@ impl<K: ProgressTracker, T: TermLike + Drop> Board<K, T> {
         ensures mark { mark_of self.new ≡ mark_of self.old }
         ensures turned { IfErr result (λ t. t.candidate ≡ candidate) }
         ensures leads { (now : ℕ) → LeadsBy K.means T.view self.old self.new (Insert (After (id_of anchor)) (entrant_of candidate)) now (given result) }
+        ensures records { RecordsTake (entrant_of candidate) (given result) self.old self.new }
     {
         let at = match self.find(anchor) {
             Ok(at) => at,
@@ -249,6 +260,9 @@ impl<K: ProgressTracker, T: TermLike + Drop> Board<K, T> {
         ensures foreign { id.mark ≢ mark_of self.old → (result ≡ Err Refusal.ForeignBar) × (self.new ≡ self.old) }
         ensures bar { (mark : ℕ) (s : BoardState (BarRecord K)) (other : BarRecord K) → IsIn mark self.old s →
             IfOk result (λ bar. bar ≡ (if is_member id.number s.members then Some (said_of other (λ b. b) id.number s.members) else None)) }
+        ensures record { id.mark ≡ mark_of self.old → result ≡ Ok (record_at id.number self.old) }
+        ensures gone { id.mark ≡ mark_of self.old → record_at id.number self.new ≡ None }
+        ensures others { OthersStay id.number self.old self.new }
     {
         if id.mark != self.mark {
             return Err(Refusal::ForeignBar);
@@ -273,6 +287,9 @@ impl<K: ProgressTracker, T: TermLike + Drop> Board<K, T> {
         ensures mark { mark_of self.new ≡ mark_of self.old }
         ensures leads { LeadsBy K.means T.view self.old self.new (Drop (id_of id)) now (says result) }
         ensures foreign { id.mark ≢ mark_of self.old → (result ≡ Err Refusal.ForeignBar) × (self.new ≡ self.old) }
+        ensures not_member { id.mark ≡ mark_of self.old → (result ≡ Err Refusal.NotMember) ↔ (record_at id.number self.old ≡ None) }
+        ensures gone { id.mark ≡ mark_of self.old → record_at id.number self.new ≡ None }
+        ensures others { OthersStay id.number self.old self.new }
     {
         let at = self.find(id)?;
         let shown = &mut self.shown;
@@ -304,6 +321,11 @@ impl<K: ProgressTracker, T: TermLike + Drop> Board<K, T> {
         ensures mark { mark_of self.new ≡ mark_of self.old }
         ensures leads { LeadsBy K.means T.view self.old self.new (Tell (id_of id) (command_of command)) now (says result) }
         ensures foreign { id.mark ≢ mark_of self.old → (result ≡ Err Refusal.ForeignBar) × (self.new ≡ self.old) }
+        ensures not_member { id.mark ≡ mark_of self.old → (result ≡ Err Refusal.NotMember) ↔ (record_at id.number self.old ≡ None) }
+        ensures beyond { id.mark ≡ mark_of self.old → IsTrue (is_some (record_at id.number self.old)) →
+            (result ≡ Err Refusal.ElapsedBeyondClock) ↔ IsTrue (is_beyond_clock (command_of command) now) }
+        ensures record { id.mark ≡ mark_of self.old → RecordObeys K.means id.number (command_of command) now result self.old self.new }
+        ensures others { OthersStay id.number self.old self.new }
     {
         let at = self.find(id)?;
         let shown = &mut self.shown;
@@ -320,6 +342,7 @@ impl<K: ProgressTracker, T: TermLike + Drop> Board<K, T> {
         ensures nowhere { IsNowhere T.view self.old → IsFalse (wrote result) }
         ensures mark { mark_of self.new ≡ mark_of self.old }
         ensures leads { LeadsBy K.means T.view self.old self.new (Log text.now) now (says result) }
+        ensures records { RecordsStay self.old self.new }
     {
         self.draw(Ask::Forced, None, Writing::TextAndFrame(text), now)
     }
@@ -333,6 +356,8 @@ impl<K: ProgressTracker, T: TermLike + Drop> Board<K, T> {
         ensures mark { mark_of self.new ≡ mark_of self.old }
         ensures leads { LeadsBy K.means T.view self.old self.new (BarLog (id_of id) text.now) now (says result) }
         ensures foreign { id.mark ≢ mark_of self.old → (result ≡ Err Refusal.ForeignBar) × (self.new ≡ self.old) }
+        ensures not_member { id.mark ≡ mark_of self.old → (result ≡ Err Refusal.NotMember) ↔ (record_at id.number self.old ≡ None) }
+        ensures records { RecordsStay self.old self.new }
     {
         let at = self.find(id)?;
         self.draw(Ask::Forced, Some(at), Writing::TextAndFrame(text), now)
@@ -347,6 +372,7 @@ impl<K: ProgressTracker, T: TermLike + Drop> Board<K, T> {
         ensures nowhere { IsNowhere T.view self.old → IsFalse (wrote result) }
         ensures mark { mark_of self.new ≡ mark_of self.old }
         ensures leads { LeadsBy K.means T.view self.old self.new Clear now (says result) }
+        ensures records { RecordsStay self.old self.new }
     {
         self.draw(Ask::Forced, None, Writing::NoFrame, now)
     }
@@ -359,6 +385,7 @@ impl<K: ProgressTracker, T: TermLike + Drop> Board<K, T> {
         ensures nowhere { IsNowhere T.view self.old → IsFalse (wrote result) }
         ensures mark { mark_of self.new ≡ mark_of self.old }
         ensures leads { LeadsBy K.means T.view self.old self.new Redraw now (says result) }
+        ensures records { RecordsStay self.old self.new }
     {
         self.draw(Ask::Forced, None, Writing::Frame, now)
     }
@@ -372,6 +399,7 @@ impl<K: ProgressTracker, T: TermLike + Drop> Board<K, T> {
         ensures silent { IsNowhere T.view self.old → terminal_of self.new ≡ terminal_of self.old }
         ensures mark { mark_of self.new ≡ mark_of self.old }
         ensures leads { Suspends K.means T.view self.old self.new now result.1 }
+        ensures records { RecordsStay self.old self.new }
     {
         let cleared = self.clear(now);
         let value = f();
@@ -390,6 +418,7 @@ impl<K: ProgressTracker, T: TermLike + Drop> Board<K, T> {
         ensures nowhere { IsNowhere T.view self.old → terminal_of self.new ≡ terminal_of self.old }
         ensures mark { mark_of self.new ≡ mark_of self.old }
         ensures leads { LeadsBy K.means T.view self.old self.new (call_of call) now (answer_of result) }
+        ensures records { RecordsGo K.means (call_of call) now (answer_of result) self.old self.new }
     {
         match call {
             Call::Insert { at, candidate } => self.insert_by(at, candidate),
@@ -443,6 +472,7 @@ impl<K: ProgressTracker, T: TermLike + Drop> Board<K, T> {
         ensures terminal { terminal_of self.new ≡ terminal_of self.old }
         ensures mark { mark_of self.new ≡ mark_of self.old }
         ensures leads { (now : ℕ) → LeadsBy K.means T.view self.old self.new (Insert (place_at at) (entrant_of candidate)) now (answer_of result) }
+        ensures records { RecordsTake (entrant_of candidate) (answer_of result) self.old self.new }
     {
         match at {
             InsertLocation::End => insertion_answer(self.add(candidate)),
@@ -464,6 +494,7 @@ impl<K: ProgressTracker, T: TermLike + Drop> Board<K, T> {
         ensures mark { mark_of self.new ≡ mark_of self.old }
         ensures turned { IfErr result (λ t. t.candidate ≡ candidate) }
         ensures quiet { IsFalse (wrote (drawn_of (given result))) }
+        ensures records { RecordsTake (entrant_of candidate) (given result) self.old self.new }
         ensures inserted { (mark : ℕ) (s : BoardState (BarRecord K)) (spot : Location) → IsIn mark self.old s → at ≡ index_of spot s.members →
             (next : BoardState (BarRecord K)) × IsIn mark self.new next × (next.lists ≡ s.lists)
             × ((target : Target) → Leads (board (board_bars K.means) mark) target s (inserted mark spot (entrant_of candidate) s) (given result) next) }
@@ -498,6 +529,8 @@ impl<K: ProgressTracker, T: TermLike + Drop> Board<K, T> {
             let target = target_of (known T.view self.old) in
             let next = parted target number drawn.now s in
             IsIn mark self.new next × RestsOn target.columns s.lists next.lists }
+        ensures gone { record_at number self.new ≡ None }
+        ensures others { OthersStay number self.old self.new }
     {
         if !is_undisturbed(drawn) {
             self.shown.mark(number);
@@ -538,6 +571,8 @@ impl<K: ProgressTracker, T: TermLike + Drop> Board<K, T> {
             MatchResult result (λ p. (turned_away mark (id_of id) s ≡ None) × HasPlace (Some id.number) (Some p) s.members) (λ e. turned_away mark (id_of id) s ≡ Some e) }
         ensures within { IfOk result (λ p. p < vec_len self.now.shown.members) }
         ensures quiet { IfErr result (λ e. IsFalse (wrote (Err e))) }
+        ensures own { IfOk result (λ p. StandsAt id.number p self.now.shown) }
+        ensures absent { id.mark ≡ mark_of self.now → IfErr result (λ e. (e ≡ Refusal.NotMember) × (record_at id.number self.now ≡ None)) }
     {
         if id.mark != self.mark {
             return Err(Refusal::ForeignBar);
@@ -564,6 +599,8 @@ impl<K: ProgressTracker, T: TermLike + Drop> Board<K, T> {
         ensures silent { IsFalse (wrote result) → terminal_of self.new ≡ terminal_of self.old }
         ensures nowhere { IsNowhere T.view self.old → IsFalse (wrote result) }
         ensures mark { mark_of self.new ≡ mark_of self.old }
+        ensures records { RecordsStay self.old self.new }
+        ensures refusal { IfErr result (λ e. IsTrue (is_of_draw e)) }
         ensures drew { (mark : ℕ) (takes : Bool) (s : BoardState (BarRecord K)) (number : Option ℕ) → IsIn mark self.old s → HasPlace number bar s.members →
             let old = known T.view self.old in
             (next : BoardState (BarRecord K)) × IsIn mark self.new next × DrewOn (board (board_bars K.means) mark) old (known T.view self.new)

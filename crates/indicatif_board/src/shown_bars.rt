@@ -54,11 +54,13 @@ pub struct ShownBars<K> {
 }
 
 impl<K: ProgressTracker> ShownBars<K> {
-    ghost use Rattle.indicatif_board.specs.ShownBars.{AreShownAs};
+    ghost use Rattle.indicatif_board.specs.ShownBars.{AreShownAs, record_on};
+    ghost use Rattle.indicatif_board.specs.Inside.Standing.{is_of_draw, seat_of, StandsAt, AllStay, AllOthersStay};
 
     /// No bars, at the top, drawn as often as this says. Takes no memory.
     pub fn new(alloc: Global, limiter: Option<RateLimiter>) -> Self
         ensures state { AreShownAs result (opening_board limiter) }
+        ensures records { (number : ℕ) → record_on number result ≡ None }
     {
         ShownBars {
             alloc,
@@ -78,6 +80,7 @@ impl<K: ProgressTracker> ShownBars<K> {
         ensures taken { (s : BoardState (BarRecord K)) (spot : Location) → AreShownAs self.old s → at ≡ index_of spot s.members →
             MatchResult result (λ n. (s.made ≡ n) × (n < 2 ^ 64) × AreShownAs self.new (taken_in spot bar s)) (λ b. (b ≡ bar) × AreShownAs self.new s) }
         ensures bar { IfErr result (λ b. b ≡ bar) }
+        ensures records { MatchResult result (λ n. (record_on n self.old ≡ None) × (record_on n self.new ≡ Some bar) × AllOthersStay n self.old self.new) (λ _. AllStay self.old self.new) }
     {
         if self.members.reserve(1).is_err() {
             return Err(bar);
@@ -103,6 +106,9 @@ impl<K: ProgressTracker> ShownBars<K> {
             AreShownAs self.new (record s { members = without number s.members }) }
         ensures bar { (s : BoardState (BarRecord K)) (number : ℕ) (other : BarRecord K) → AreShownAs self.old s → at ≡ place_of number s.members →
             result ≡ said_of other (λ bar. bar) number s.members }
+        ensures record { (number : ℕ) → StandsAt number at self.old → record_on number self.old ≡ Some result }
+        ensures gone { (number : ℕ) → at ≡ seat_of number self.old.table.order → record_on number self.new ≡ None }
+        ensures others { (number : ℕ) → at ≡ seat_of number self.old.table.order → AllOthersStay number self.old self.new }
     {
         let member = self.members.remove(at);
         self.frame.remove(at);
@@ -114,6 +120,7 @@ impl<K: ProgressTracker> ShownBars<K> {
     pub fn is_first(&self, number: u64) -> bool
         ensures first { (s : BoardState (BarRecord K)) → AreShownAs self.now s → result ≡ is_head number s.members }
         ensures some { IsTrue result → 0 < vec_len self.now.members }
+        ensures seat { IsTrue result → 0 ≡ seat_of number self.now.table.order }
     {
         match self.frame.first() {
             Some(segment) => segment.bar == number,
@@ -123,7 +130,9 @@ impl<K: ProgressTracker> ShownBars<K> {
 
     /// Marks a bar, if it is there: its owner is gone.
     pub fn mark(&mut self, number: u64)
-        ensures { (s : BoardState (BarRecord K)) → AreShownAs self.old s → AreShownAs self.new (marked_on number s) }
+        ensures marked { (s : BoardState (BarRecord K)) → AreShownAs self.old s → AreShownAs self.new (marked_on number s) }
+        ensures record { record_on number self.new ≡ None }
+        ensures others { AllOthersStay number self.old self.new }
     {
         let at = place(&self.frame, number);
         if at < self.members.len() {
@@ -144,6 +153,8 @@ impl<K: ProgressTracker> ShownBars<K> {
         requires placed { IfSome bar (λ at. at < vec_len self.old.members) }
         ensures silent { IsFalse (wrote result) → engine.new ≡ engine.old }
         ensures nowhere { (T.view (engine_term engine.old)).columns ≡ 0 → IsFalse (wrote result) }
+        ensures records { AllStay self.old self.new }
+        ensures refusal { IfErr result (λ e. IsTrue (is_of_draw e)) }
         ensures drew { (mark : ℕ) (takes : Bool) (s : BoardState (BarRecord K)) (number : Option ℕ) → is_no ask ≡ false →
             AreShownAs self.old s → HasPlace number bar s.members → Fits engine.old s.lists →
             let target = target_of (Some (T.view (engine_term engine.old))) in
@@ -168,6 +179,7 @@ impl<K: ProgressTracker> ShownBars<K> {
         ensures memory { IfErr result (λ e. (e ≡ Refusal.Memory) × ((s : BoardState (BarRecord K)) (number : Option ℕ) →
             HasPlace number bar s.members → AreShownAs self.old s → IsTrue (lays_by K.means number s))) }
         ensures unchanged { OnErr result (self.new ≡ self.old) }
+        ensures records { AllStay self.old self.new }
         ensures laid { IfOk result (λ _. (target : Target) (s : BoardState (BarRecord K)) (number : Option ℕ) →
             target.columns ≡ width → HasPlace number bar s.members → AreShownAs self.old s →
             AreShownAs self.new (laid_by K.means target now number s)) }
@@ -199,6 +211,8 @@ impl<K: ProgressTracker> ShownBars<K> {
         writing: Writing<'_>,
     ) -> Result<Drawn, Refusal>
         ensures silent { IsFalse (wrote result) → engine.new ≡ engine.old }
+        ensures records { AllStay self.old self.new }
+        ensures refusal { IfErr result (λ e. IsTrue (is_of_draw e)) }
         ensures drew { (mark now : ℕ) (takes lays : Bool) (ask : Ask) (s laid : BoardState (BarRecord K)) → is_no ask ≡ false →
             0 < (T.view (engine_term engine.old)).columns → asked_of ask now laid.limiter ≡ (true, self.old.limiter) →
             AreShownAs self.old (record laid { limiter = self.old.limiter }) → laid.lists ≡ s.lists → Fits engine.old s.lists →

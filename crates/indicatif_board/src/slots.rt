@@ -83,6 +83,7 @@ impl MultiState {
         ensures number { IfOk result (λ n. n ≡ self.old.made) }
         ensures fits { IfOk result (λ n. n < 2 ^ 64) }
         ensures inserted { IfOk result (λ _. self.new ≡ seated at self.old) }
+        ensures seated { IsSeated self.old }
         ensures memory { IfErr result (λ e. e ≡ Refusal.Memory) }
         ensures unchanged { OnErr result (self.new ≡ self.old) }
     {
@@ -114,7 +115,8 @@ impl MultiState {
 
     /// Takes the bar at a place out, if there is one. Its slot is the next that is used. Takes no memory.
     pub fn remove(&mut self, at: usize)
-        ensures { self.new ≡ unseated at self.old }
+        ensures removed { self.new ≡ unseated at self.old }
+        ensures seated { IsSeated self.old }
     {
         if at < self.order.len() {
             self.order.remove(at);
@@ -124,7 +126,8 @@ impl MultiState {
 
     /// Takes so many bars at the head out, or all where there are fewer. Takes no memory.
     pub fn remove_first(&mut self, count: usize)
-        ensures { self.new ≡ head_unseated count self.old }
+        ensures removed { self.new ≡ head_unseated count self.old }
+        ensures seated { IsSeated self.old }
     {
         let count = count.min(self.order.len());
         put_behind(&mut self.free, &self.slots[..count]);

@@ -3,6 +3,7 @@ use Rattle.indicatif_term.specs.Engines.{is_bottom}
 use Rattle.indicatif_board.specs.BoardValues.{id_of}
 use Rattle.indicatif_board.specs.Multi.{IsIn}
 use Rattle.indicatif_board.proofs.MemberLemmas.{said_of_place, members_length}
+use Rattle.indicatif_board.proofs.StandingLemmas.{record_stands}
 use Rattle.indicatif_board.proofs.multi.Board.bar.Goals as goal
 
 pub returns : goal.returns
@@ -15,4 +16,5 @@ returns g c = record {
       let size = members_length b.frame.items b.members.items b.table.made (is_bottom b.alignment) b.limiter s inside.1 in
       let within : c.in_ok-at.at < length b.members.items = omega (arith, size, f.1.1) in
       (f.0, said_of_place other (λ bar. bar) b.members.items s.members (id_of c.args.id).number c.in_ok-at.at c.index.result.now inside.1.members_are f.1.0 within c.index.ensures);
+  «record» = λ own. record_stands c.args.self.now.shown c.args.id.number c.in_ok-at.at c.in_ok-at.ensures.own c.index.result.now c.index.ensures;
 }

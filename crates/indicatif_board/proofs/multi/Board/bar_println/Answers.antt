@@ -6,6 +6,8 @@ use Rattle.indicatif_board.specs.BoardValues.{id_of}
 use Rattle.indicatif_board.specs.Boards.{BarLog, log_of, laid_out, lays_out, or_refused, draws}
 use Rattle.indicatif_board.specs.Multi.{known}
 use Rattle.indicatif_board.proofs.BoardCallLemmas.{made_by_draw, made_turned_away, turned_quietly}
+use Rattle.indicatif_text.specs.declared.refusal.Refusal.TheVariants.{NotMember}
+use Rattle.indicatif_board.proofs.StandingLemmas.{not_of_draw, has_record}
 use Rattle.indicatif_board.proofs.multi.Board.bar_println.Goals as goal
 
 pub returns-in_err-at-clause-leads : goal.returns-in_err-at-clause-leads
@@ -38,3 +40,15 @@ returns-clause-leads g c = λ mark s inside.
       made_by_draw tracks mark old (known g.T.TermLike.view c.draw.new.self) (BarLog id c.args.text.now) c.args.now s d s.lists c.draw.result drawn.0 (ap
           (λ o. or_refused o (draws d) s) f.0) refl drawn.2,
     )
+
+pub returns-in_err-at-clause-not_member : goal.returns-in_err-at-clause-not_member
+returns-in_err-at-clause-not_member g c = λ own.
+    let x = err_from_is_err_and c.from_residual.result c.from_residual.ensures.1 in
+    let absent = c.in_err-at.ensures.absent own in
+    (λ e. absent.1, λ none. x.1 ∙ ap Err (x.2 ∙ absent.0))
+
+pub returns-clause-not_member : goal.returns-clause-not_member
+returns-clause-not_member g c = λ own. (
+  λ e. absurd (not_of_draw c.draw.result NotMember c.draw.ensures.refusal refl e),
+  λ none. absurd (has_record c.args.self.now.shown c.args.id.number c.in_ok-at.at c.in_ok-at.ensures.own none),
+)

@@ -1,6 +1,9 @@
-use Rattle.std.proofs.Common.{subst}
-use Rattle.indicatif_board.specs.Boards.{Log, says}
+use Rattle.std.proofs.Common.{subst, ap, sym, ◌∙◌}
+use Rattle.indicatif_board.specs.Boards.{Log, says, drawn_of, drawn_of_said}
 use Rattle.indicatif_board.specs.Multi.{LeadsBy}
+use Rattle.indicatif_board.specs.Multi.{record_at, RecordObeys}
+use Rattle.indicatif_bar.specs.Commands.{command_of}
+use Rattle.indicatif_board.specs.BoardValues.{id_of}
 use Rattle.indicatif_board.proofs.multi.Board.call.Goals as goal
 
 pub returns-in-Insert-clause-leads : goal.returns-in-Insert-clause-leads
@@ -24,3 +27,39 @@ returns-in-Redraw-clause-leads g c = rw (c.in-Redraw.is, c.draw_answer-in-Redraw
 
 pub returns-in-Align-clause-leads : goal.returns-in-Align-clause-leads
 returns-in-Align-clause-leads g c = rw c.in-Align.is (c.set_alignment.ensures.leads c.args.now)
+
+pub returns-in-Insert-clause-records : goal.returns-in-Insert-clause-records
+returns-in-Insert-clause-records g c = rw c.in-Insert.is c.insert_by.ensures.records
+
+pub returns-in-Remove-clause-records : goal.returns-in-Remove-clause-records
+returns-in-Remove-clause-records g c =
+    rw c.in-Remove.is (c.remove.ensures.gone, λ foreign number. ap (record_at number) (c.remove.ensures.foreign foreign).1, c.remove.ensures.others)
+
+pub returns-in-Drop-clause-records : goal.returns-in-Drop-clause-records
+returns-in-Drop-clause-records g c =
+    rw c.in-Drop.is (c.drop_bar.ensures.gone, λ foreign number. ap (record_at number) (c.drop_bar.ensures.foreign foreign).1, c.drop_bar.ensures.others)
+
+pub returns-in-Log-clause-records : goal.returns-in-Log-clause-records
+returns-in-Log-clause-records g c = rw c.in-Log.is c.println.ensures.records
+
+pub returns-in-BarLog-clause-records : goal.returns-in-BarLog-clause-records
+returns-in-BarLog-clause-records g c = rw c.in-BarLog.is c.bar_println.ensures.records
+
+pub returns-in-Clear-clause-records : goal.returns-in-Clear-clause-records
+returns-in-Clear-clause-records g c = rw c.in-Clear.is c.clear.ensures.records
+
+pub returns-in-Redraw-clause-records : goal.returns-in-Redraw-clause-records
+returns-in-Redraw-clause-records g c = rw c.in-Redraw.is c.redraw.ensures.records
+
+pub returns-in-Align-clause-records : goal.returns-in-Align-clause-records
+returns-in-Align-clause-records g c = rw c.in-Align.is c.set_alignment.ensures.records
+
+pub returns-in-Bar-clause-records : goal.returns-in-Bar-clause-records
+returns-in-Bar-clause-records g c =
+    let said = sym (ap drawn_of c.draw_answer-in-Bar.ensures ∙ drawn_of_said c.command.result) in
+    rw c.in-Bar.is (
+      λ own. subst (λ r. RecordObeys g.K.ProgressTracker.means (id_of c.in-Bar.id).number (command_of c.in-Bar.command) c.args.now r c.args.self.now c.command.new.self) said
+          (c.command.ensures.«record» own),
+      λ foreign number. ap (record_at number) (c.command.ensures.foreign foreign).1,
+      c.command.ensures.others,
+    )

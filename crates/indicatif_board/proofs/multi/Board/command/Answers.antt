@@ -1,6 +1,6 @@
-use Rattle.std.proofs.Common.{◌<◌, ◌∙◌, false, refl, sym, ap, subst, length, arith, Ok, Err, Some, None, inl, inr}
+use Rattle.std.proofs.Common.{◌≡◌, ◌<◌, ◌∙◌, is_some, true, false, refl, sym, ap, subst, length, arith, Ok, Err, Some, None, inl, inr}
 use Rattle.std.proofs.lemmas.Result.{err_from_is_err_and}
-use Rattle.indicatif_text.specs.declared.refusal.Refusal.TheVariants.{ElapsedBeyondClock}
+use Rattle.indicatif_text.specs.declared.refusal.Refusal.TheVariants.{ElapsedBeyondClock, NotMember}
 use Rattle.indicatif_term.specs.Engines.{is_bottom}
 use Rattle.indicatif_bar.specs.Commands.{BarRecord, obeyed, command_of, is_beyond_clock, takes_memory}
 use Rattle.indicatif_bar.specs.Kinds.{Frame}
@@ -11,9 +11,10 @@ use Rattle.indicatif_board.specs.BoardBars.{board_bars}
 use Rattle.indicatif_board.specs.BoardValues.{id_of}
 use Rattle.indicatif_board.specs.Boards.{Tell, Refused, draw_of, draw_by, laid_out, lays_out, told, or_refused, draws, board}
 use Rattle.indicatif_board.specs.Members.{place_of, said_of}
-use Rattle.indicatif_board.specs.Multi.{IsIn, known}
+use Rattle.indicatif_board.specs.Multi.{IsIn, known, record_at}
 use Rattle.indicatif_board.proofs.MemberLemmas.{told_at, told_placed, same_at, said_of_place, members_length}
 use Rattle.indicatif_board.proofs.BoardCallLemmas.{made_by_draw, made_at_once, made_short, made_turned_away, turned_quietly, command_deed, late_deed, in_time_of}
+use Rattle.indicatif_board.proofs.StandingLemmas.{is_there, same_error, not_of_draw, record_stands, has_record, told_on, told_apart}
 use Rattle.indicatif_board.proofs.multi.Board.command.Goals as goal
 
 pub returns-in_err-at-clause-leads : goal.returns-in_err-at-clause-leads
@@ -97,3 +98,83 @@ returns-clause-leads g c = λ mark s inside.
           (subst (λ ask. DrewOn (board (board_bars tracks) mark) old new (draw_of (target_of old) takes_is ask now Frame next (laid_out (board_bars tracks)
           (target_of old) now id.number next) (lays_out (board_bars tracks) id.number next)) next.lists c.draw.result drawn.0) ask_is drawn.2),
     )
+
+pub returns-in_err-at-clause-not_member : goal.returns-in_err-at-clause-not_member
+returns-in_err-at-clause-not_member g c = λ own.
+    let x = err_from_is_err_and c.from_residual.result c.from_residual.ensures.1 in
+    let absent = c.in_err-at.ensures.absent own in
+    (λ e. absent.1, λ none. x.1 ∙ ap Err (x.2 ∙ absent.0))
+
+pub returns-in_err-at-clause-beyond : goal.returns-in_err-at-clause-beyond
+returns-in_err-at-clause-beyond g c = λ own some. absurd (cc (sym (ap is_some (c.in_err-at.ensures.absent own).1) ∙ some))
+
+pub returns-in_err-at-clause-record : goal.returns-in_err-at-clause-record
+returns-in_err-at-clause-record g c = λ own bar some. absurd (is_there (record_at c.args.id.number c.args.self.now) bar some (c.in_err-at.ensures.absent own).1)
+
+pub returns-in_err-ask-clause-not_member : goal.returns-in_err-ask-clause-not_member
+returns-in_err-ask-clause-not_member g c = λ own.
+    let x = err_from_is_err_and c.from_residual-in_err-ask.result c.from_residual-in_err-ask.ensures.1 in (
+      λ e.
+          let same = same_error c.from_residual-in_err-ask.result (x.1 ∙ ap Err x.2) e in
+          absurd (elim c.in_err-ask.ensures.no_other [ inl late ↦ cc (sym late ∙ same) | inr short ↦ cc (sym short ∙ same) ]),
+      λ none. absurd (has_record c.args.self.now.shown c.args.id.number c.in_ok-at.at c.in_ok-at.ensures.own none),
+    )
+
+pub returns-in_err-ask-clause-beyond : goal.returns-in_err-ask-clause-beyond
+returns-in_err-ask-clause-beyond g c = λ own some.
+    let x = err_from_is_err_and c.from_residual-in_err-ask.result c.from_residual-in_err-ask.ensures.1 in (
+      λ e. c.in_err-ask.ensures.beyond.0 (ap Err (same_error c.from_residual-in_err-ask.result (x.1 ∙ ap Err x.2) e)),
+      λ late. x.1 ∙ ap Err x.2 ∙ ap Err (same_error (Err c.in_err-ask.field-0.0) refl (c.in_err-ask.ensures.beyond.1 late)),
+    )
+
+pub returns-in_err-ask-clause-record : goal.returns-in_err-ask-clause-record
+returns-in_err-ask-clause-record g c = λ own bar some.
+    let x = err_from_is_err_and c.from_residual-in_err-ask.result c.from_residual-in_err-ask.ensures.1 in
+    let b = c.args.self.now.shown in
+    let item = c.index_mut.result.now in
+    let stood = record_stands b c.args.id.number c.in_ok-at.at c.in_ok-at.ensures.own item c.index_mut.ensures.value in
+    let bar_is : item.bar ≡ bar = cc (sym stood ∙ some) in (
+      c.apply.new.self,
+      told_on b c.args.id.number c.in_ok-at.at c.in_ok-at.ensures.own item c.apply.new.self c.index_mut.ensures.value,
+      inr (
+        c.in_err-ask.field-0.0,
+        x.1 ∙ ap Err x.2,
+        elim c.in_err-ask.ensures.no_other [
+          | inl late ↦ inr (late, c.in_err-ask.ensures.beyond.0 (ap Err late))
+          | inr short ↦ inl (short, subst (λ r. takes_memory (command_of c.args.command) r ≡ true) bar_is (c.in_err-ask.ensures.memory (ap Err short)))
+        ],
+        c.in_err-ask.ensures.unchanged ∙ bar_is,
+      ),
+    )
+
+pub returns-in_err-ask-clause-others : goal.returns-in_err-ask-clause-others
+returns-in_err-ask-clause-others g c =
+    told_apart c.args.self.now.shown c.args.id.number c.in_ok-at.at c.in_ok-at.ensures.own (record { bar = c.apply.new.self; dropped = c.index_mut.result.now.dropped })
+
+pub returns-clause-not_member : goal.returns-clause-not_member
+returns-clause-not_member g c = λ own. (
+  λ e. absurd (not_of_draw c.draw.result NotMember c.draw.ensures.refusal refl e),
+  λ none. absurd (has_record c.args.self.now.shown c.args.id.number c.in_ok-at.at c.in_ok-at.ensures.own none),
+)
+
+pub returns-clause-beyond : goal.returns-clause-beyond
+returns-clause-beyond g c = λ own some. (
+  λ e. absurd (not_of_draw c.draw.result ElapsedBeyondClock c.draw.ensures.refusal refl e),
+  λ late. absurd (let e = c.in_ok-ask.ensures.beyond.1 late in cc e),
+)
+
+pub returns-clause-record : goal.returns-clause-record
+returns-clause-record g c = λ own bar some.
+    let b = c.args.self.now.shown in
+    let item = c.index_mut.result.now in
+    let stood = record_stands b c.args.id.number c.in_ok-at.at c.in_ok-at.ensures.own item c.index_mut.ensures.value in
+    let bar_is : item.bar ≡ bar = cc (sym stood ∙ some) in (
+      c.apply.new.self,
+      c.draw.ensures.records c.args.id.number ∙ told_on b c.args.id.number c.in_ok-at.at c.in_ok-at.ensures.own item c.apply.new.self c.index_mut.ensures.value,
+      inl (ap (λ r. r.0) c.in_ok-ask.ensures.done ∙ ap (λ r. (obeyed g.K.ProgressTracker.means (command_of c.args.command) r c.args.now).0) bar_is),
+    )
+
+pub returns-clause-others : goal.returns-clause-others
+returns-clause-others g c = λ other apart.
+    c.draw.ensures.records other
+    ∙ told_apart c.args.self.now.shown c.args.id.number c.in_ok-at.at c.in_ok-at.ensures.own (record { bar = c.apply.new.self; dropped = c.index_mut.result.now.dropped }) other apart

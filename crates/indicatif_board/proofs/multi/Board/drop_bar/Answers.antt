@@ -16,6 +16,8 @@ use Rattle.indicatif_board.specs.Multi.{IsIn, known}
 use Rattle.indicatif_board.proofs.MemberLemmas.{told_at, told_placed, same_at, said_of_place, members_length}
 use Rattle.indicatif_board.proofs.BoardCallLemmas.{made_turned_away, turned_quietly}
 use Rattle.indicatif_board.proofs.DropLemmas.{made_by_drop, drop_short}
+use Rattle.indicatif_text.specs.declared.refusal.Refusal.TheVariants.{NotMember}
+use Rattle.indicatif_board.proofs.StandingLemmas.{not_of_draw, has_record, told_apart}
 use Rattle.indicatif_board.proofs.multi.Board.drop_bar.Goals as goal
 
 pub returns-in_err-at-clause-leads : goal.returns-in_err-at-clause-leads
@@ -83,6 +85,37 @@ returns-in-Err-clause-leads g c = λ mark s inside.
     let short = c.in-Err.ensures.memory.2 in
     rw (c.in-Err.ensures.memory.0) (
       marked_on id.number s,
-      (inside.0, c.mark.ensures s same, inside.2),
+      (inside.0, c.mark.ensures.marked s same, inside.2),
       drop_short tracks mark old old id now s f.0 (sym takes ∙ rw (unfinished, short) refl),
     )
+
+pub returns-in_err-at-clause-not_member : goal.returns-in_err-at-clause-not_member
+returns-in_err-at-clause-not_member g c = λ own.
+    let x = err_from_is_err_and c.from_residual.result c.from_residual.ensures.1 in
+    let absent = c.in_err-at.ensures.absent own in
+    (λ e. absent.1, λ none. x.1 ∙ ap Err (x.2 ∙ absent.0))
+
+pub returns-in_err-at-clause-gone : goal.returns-in_err-at-clause-gone
+returns-in_err-at-clause-gone g c = λ own. (c.in_err-at.ensures.absent own).1
+
+pub returns-in-Ok-clause-not_member : goal.returns-in-Ok-clause-not_member
+returns-in-Ok-clause-not_member g c = λ own. (
+  λ e. absurd (not_of_draw c.draw-drawn.result NotMember c.draw-drawn.ensures.refusal refl e),
+  λ none. absurd (has_record c.args.self.now.shown c.args.id.number c.in_ok-at.at c.in_ok-at.ensures.own none),
+)
+
+pub returns-in-Ok-clause-others : goal.returns-in-Ok-clause-others
+returns-in-Ok-clause-others g c = λ other apart.
+    c.part.ensures.others other apart ∙ c.draw-drawn.ensures.records other
+    ∙ told_apart c.args.self.now.shown c.args.id.number c.in_ok-at.at c.in_ok-at.ensures.own (record { bar = c.dropped.new.self; dropped = c.index_mut.result.now.dropped }) other apart
+
+pub returns-in-Err-clause-not_member : goal.returns-in-Err-clause-not_member
+returns-in-Err-clause-not_member g c = λ own. (
+  λ e. absurd (cc (c.in-Err.ensures.memory.0, e)),
+  λ none. absurd (has_record c.args.self.now.shown c.args.id.number c.in_ok-at.at c.in_ok-at.ensures.own none),
+)
+
+pub returns-in-Err-clause-others : goal.returns-in-Err-clause-others
+returns-in-Err-clause-others g c = λ other apart.
+    c.mark.ensures.others other apart
+    ∙ told_apart c.args.self.now.shown c.args.id.number c.in_ok-at.at c.in_ok-at.ensures.own (record { bar = c.dropped.new.self; dropped = c.index_mut.result.now.dropped }) other apart

@@ -1,4 +1,4 @@
-use Rattle.std.proofs.Common.{◌<◌, ◌∙◌, sym, ap, length, arith}
+use Rattle.std.proofs.Common.{◌<◌, ◌≤◌, ◌∙◌, sym, ap, length, arith, refl}
 use Rattle.std.proofs.lemmas.List.Sums.{prefix_len-le-length}
 use Rattle.std.specs.Prelude.{not, ◌==◌}
 use Rattle.std.specs.List.{position_or_len}
@@ -6,6 +6,8 @@ use Rattle.indicatif_term.specs.Engines.{is_bottom}
 use Rattle.indicatif_board.specs.BoardValues.{id_of}
 use Rattle.indicatif_board.specs.Multi.{IsIn}
 use Rattle.indicatif_board.proofs.MemberLemmas.{placed_at, found_foreign, found_none, found_gone, found_there, frame_length}
+use Rattle.indicatif_board.proofs.StandingLemmas.{seat_is, stands, dropped_on, absent_on}
+use Rattle.indicatif_board.specs.Inside.Standing.{seat_of}
 use Rattle.indicatif_board.proofs.multi.Board.find.Goals as goal
 
 pub index-requires : goal.index-requires
@@ -71,3 +73,26 @@ returns-clause-found g c = λ mark s inside.
 pub returns-clause-within : goal.returns-clause-within
 returns-clause-within g c =
     omega (arith, prefix_len-le-length (λ s. not (s.bar == c.args.id.number)) c.deref.result.now, c.place-at.ensures, c.deref.ensures.len, c.len.ensures, c.if-at-len.false, c.args.self.now.shown.even)
+
+pub returns-clause-own : goal.returns-clause-own
+returns-clause-own g c =
+    let b = c.args.self.now.shown in
+    let here = c.place-at.ensures ∙ ap (position_or_len (λ x. x.bar == c.args.id.number)) c.deref.ensures.value ∙ seat_is b.frame.items b.table.order c.args.id.number b.seated in
+    let within : c.place-at.result < length b.members.items =
+    omega (arith, prefix_len-le-length (λ s. not (s.bar == c.args.id.number)) c.deref.result.now, c.place-at.ensures, c.deref.ensures.len, c.len.ensures, c.if-at-len.false, b.even, b.members.ok) in
+    stands b c.args.id.number c.place-at.result c.index.result.now here within c.index.ensures c.if-index.false
+
+pub returns-then-index-clause-absent : goal.returns-then-index-clause-absent
+returns-then-index-clause-absent g c = λ own.
+    let b = c.args.self.now.shown in
+    let here = c.place-at.ensures ∙ ap (position_or_len (λ x. x.bar == c.args.id.number)) c.deref.ensures.value ∙ seat_is b.frame.items b.table.order c.args.id.number b.seated in
+    let within : c.place-at.result < length b.members.items =
+    omega (arith, prefix_len-le-length (λ s. not (s.bar == c.args.id.number)) c.deref.result.now, c.place-at.ensures, c.deref.ensures.len, c.len.ensures, c.if-at-len.false, b.even, b.members.ok) in
+    (refl, dropped_on b c.args.id.number c.place-at.result c.index.result.now here within c.index.ensures c.if-index.true)
+
+pub returns-then-at-len-clause-absent : goal.returns-then-at-len-clause-absent
+returns-then-at-len-clause-absent g c = λ own.
+    let b = c.args.self.now.shown in
+    let here = c.place-at.ensures ∙ ap (position_or_len (λ x. x.bar == c.args.id.number)) c.deref.ensures.value ∙ seat_is b.frame.items b.table.order c.args.id.number b.seated in
+    let past : length b.members.items ≤ seat_of c.args.id.number b.table.order = omega (arith, here, c.if-at-len.true, c.len.ensures, b.even, b.members.ok) in
+    (refl, absent_on b c.args.id.number past)

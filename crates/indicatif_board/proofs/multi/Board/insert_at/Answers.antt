@@ -25,3 +25,8 @@ returns-in-Err-take_in-clause-inserted g c = λ mark s spot inside here.
     let tracks = g.K.ProgressTracker.means in
     let t = c.in-Err-take_in.ensures.taken s spot inside.1 here in
     (s, (inside.0, t.1, inside.2), refl, λ target. rw c.in-New.is (new_refused tracks mark s spot c.in-New.bar target))
+
+pub returns-in-Ok-take_in-clause-records : goal.returns-in-Ok-take_in-clause-records
+returns-in-Ok-take_in-clause-records g c =
+    let r = c.in-Ok-take_in.ensures.records in
+    rw c.in-New.is (refl, r.0, r.1, r.2)

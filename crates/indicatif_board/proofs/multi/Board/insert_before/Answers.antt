@@ -7,6 +7,7 @@ use Rattle.indicatif_board.specs.Boards.{Before, Insert, or_refused, inserted, b
 use Rattle.indicatif_board.specs.Calls.{entrant_of, given}
 use Rattle.indicatif_board.specs.Multi.{IsIn, known}
 use Rattle.indicatif_board.proofs.BoardCallLemmas.{made_by_insertion, made_turned_away, turned_quietly}
+use Rattle.indicatif_board.proofs.StandingLemmas.{none_taken}
 use Rattle.indicatif_board.proofs.multi.Board.insert_before.Goals as goal
 
 pub returns-clause-leads : goal.returns-clause-leads
@@ -34,3 +35,6 @@ returns-in-Err-clause-leads g c = λ now mark s inside.
       made_turned_away tracks mark old old (Insert (Before id) (entrant_of c.args.candidate)) now s c.in-Err.refusal
           (ap (λ o. or_refused o (inserted mark (Before id) (entrant_of c.args.candidate) s) s) why) (turned_quietly mark id s c.in-Err.refusal why),
     )
+
+pub returns-in-Err-clause-records : goal.returns-in-Err-clause-records
+returns-in-Err-clause-records g c = none_taken (entrant_of c.args.candidate) c.in-Err.refusal c.args.self.now

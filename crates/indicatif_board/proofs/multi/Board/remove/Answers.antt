@@ -1,4 +1,4 @@
-use Rattle.std.proofs.Common.{◌∙◌, true, false, refl, sym, ap, Some}
+use Rattle.std.proofs.Common.{◌∙◌, true, false, refl, sym, ap, Some, Ok}
 use Rattle.indicatif_board.specs.BoardValues.{id_of}
 use Rattle.indicatif_board.specs.Boards.{Remove, Refused, Done}
 use Rattle.indicatif_board.specs.Members.{without}
@@ -50,3 +50,18 @@ unfolding IsIn
 returns-in-Err-clause-bar g c = λ mark s other inside.
     let id = id_of c.args.id in
     rw (absent_is_none mark id s c.in-Err.field-0 (c.if-id-self.false ∙ inside.0) (c.in-Err.ensures.found mark s inside)) refl
+
+pub returns-in-Ok-clause-record : goal.returns-in-Ok-clause-record
+returns-in-Ok-clause-record g c = λ own. ap Ok (sym (c.take_out.ensures.record c.args.id.number c.in-Ok.ensures.own))
+
+pub returns-in-Ok-clause-gone : goal.returns-in-Ok-clause-gone
+returns-in-Ok-clause-gone g c = λ own. c.take_out.ensures.gone c.args.id.number c.in-Ok.ensures.own.seat
+
+pub returns-in-Ok-clause-others : goal.returns-in-Ok-clause-others
+returns-in-Ok-clause-others g c = c.take_out.ensures.others c.args.id.number c.in-Ok.ensures.own.seat
+
+pub returns-in-Err-clause-record : goal.returns-in-Err-clause-record
+returns-in-Err-clause-record g c = λ own. ap Ok (sym (c.in-Err.ensures.absent own).1)
+
+pub returns-in-Err-clause-gone : goal.returns-in-Err-clause-gone
+returns-in-Err-clause-gone g c = λ own. (c.in-Err.ensures.absent own).1

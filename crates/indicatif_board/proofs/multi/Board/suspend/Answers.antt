@@ -1,4 +1,4 @@
-use Rattle.std.proofs.Common.{refl, inl, inr}
+use Rattle.std.proofs.Common.{refl, inl, inr, ◌∙◌}
 use Rattle.indicatif_board.specs.Multi.{known}
 use Rattle.indicatif_board.proofs.multi.Board.suspend.Goals as goal
 
@@ -16,3 +16,6 @@ pub returns-in-Err-clause-leads : goal.returns-in-Err-clause-leads
 returns-in-Err-clause-leads g c = λ mark s inside.
     let cleared = c.in-Err.ensures.leads mark s inside in
     (cleared.0, cleared.1, inr (c.in-Err.e, refl, (known g.T.TermLike.view c.clear-cleared.new.self, cleared.0, cleared.2, (refl, refl))))
+
+pub returns-in-Ok-clause-records : goal.returns-in-Ok-clause-records
+returns-in-Ok-clause-records g c = λ number. c.redraw-drawn.ensures.records number ∙ c.clear-cleared.ensures.records number

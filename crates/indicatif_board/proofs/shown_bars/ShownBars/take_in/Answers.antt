@@ -1,10 +1,12 @@
-use Rattle.std.proofs.Common.{◌∙◌, ◌+◌, ap, sym, map, subst, false}
+use Rattle.std.proofs.Common.{◌≡◌, ◌≤◌, ◌∙◌, ◌+◌, ap, sym, map, subst, false, length, arith}
 use Rattle.std.specs.List.{insert}
 use Rattle.indicatif_term.specs.Engines.{is_bottom}
 use Rattle.indicatif_term.specs.declared.lines.Segment.{Segment}
 use Rattle.indicatif_board.specs.ShownBars.{Holds}
-use Rattle.indicatif_board.specs.Slots.{SlotTable}
+use Rattle.indicatif_board.specs.Slots.{SlotTable, occurrences}
+use Rattle.indicatif_board.specs.declared.members.Member.{Member as MemberValue}
 use Rattle.indicatif_board.proofs.MemberLemmas.{taken_holds, inserted_bars}
+use Rattle.indicatif_board.proofs.StandingLemmas.{evenly, record_none, taken_record, taken_others}
 use Rattle.indicatif_board.proofs.shown_bars.ShownBars.take_in.Goals as goal
 
 pub invariant_of-self-2-clause-seated : goal.invariant_of-self-2-clause-seated
@@ -29,4 +31,19 @@ returns-clause-taken g c = λ s spot holds here.
           (c.put_at-2.ensures ∙ ap (λ xs. insert xs c.args.at (record { bar = number; lines = c.new-lines.result })) c.reserve-2.ensures.items)
           (c.put_at.ensures ∙ ap (λ xs. insert xs c.args.at (record { bar = c.args.bar; dropped = false })) c.reserve.ensures.items)
           (ap (λ (t : SlotTable). t.made) c.in-Ok.ensures.inserted ∙ ap (λ n. n + 1) (sym c.in-Ok.ensures.number)),
+    )
+
+pub returns-clause-records : goal.returns-clause-records
+returns-clause-records g c =
+    let b = c.args.self.now in
+    let number = c.in-Ok.number in
+    let item : MemberValue g.row.K.Denot = record { bar = c.args.bar; dropped = false } in
+    let even = evenly b.frame.items b.table.order b.members.items (omega (arith, b.even, b.members.ok, b.frame.ok)) b.seated in
+    let members = c.put_at.ensures ∙ ap (λ xs. insert xs c.args.at item) c.reserve.ensures.items in
+    let order = ap (λ (t : SlotTable). t.order) c.in-Ok.ensures.inserted ∙ ap (insert b.table.order c.args.at) (sym c.in-Ok.ensures.number) in
+    let none : occurrences number b.table.order ≡ 0 = c.in-Ok.ensures.seated.given number (omega (arith, c.in-Ok.ensures.number)) in
+    let within : c.args.at ≤ length b.table.order = omega (arith, c.requires.within, even, b.members.ok) in (
+      record_none number b.table.order b.members.items none,
+      taken_record number c.args.at b.table.order b.members.items even c.insert.new.self.order c.put_at.new.items.items item order members none within,
+      taken_others number c.args.at b.table.order b.members.items even c.insert.new.self.order c.put_at.new.items.items item order members within,
     )

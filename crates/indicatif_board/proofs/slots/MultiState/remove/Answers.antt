@@ -15,8 +15,8 @@ invariant_of-self c =
       omega (arith, c.self.invariant.1, c.push_reserved.ensures.capacity, c.push_reserved.ensures.len, c.remove-then-at-len.ensures.len),
     )
 
-pub returns-else-at-len : goal.returns-else-at-len
-returns-else-at-len c =
+pub returns-else-at-len-clause-removed : goal.returns-else-at-len-clause-removed
+returns-else-at-len-clause-removed c =
     let s = c.self.inside in
     let t : SlotTable = record { order = s.order.items; slots = s.slots.items; free = s.free.items; made = made_by s.next } in
     let past : length s.order.items ≤ c.args.at = omega (arith, c.if-at-len.false, c.len.ensures, s.order.ok) in
