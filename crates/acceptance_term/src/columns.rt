@@ -1,8 +1,9 @@
 //! Rows and columns of lines, clocks, and the bytes of a terminal's calls.
-use indicatif_term::term_like::{Term, TermLike};
+use crate::calls::{Call, Terminal};
 use indicatif_text::columns::{
     Clock, Metrics, Piece, Refusal, StepClock, columns, pieces, wrapped, write_ansi_range,
 };
+use std::alloc::Global;
 use std::test::Fail;
 
 #[test]
@@ -40,6 +41,13 @@ fn pieces_of_a_text(rt: HostRuntime) {
     assert!(rt; left.next().is_none());
 }
 
+/// What stands of a text within a range, behind a bar.
+fn range_of(alloc: Global, text: &str, (start, end): (usize, usize)) -> Result<String, Refusal> {
+    let mut out = String::from_str(alloc, "|")?;
+    write_ansi_range(text, start, end, &mut out)?;
+    Ok(out)
+}
+
 /// Every sequence, and the characters that stand whole within the range, in texts that begin before its end.
 #[test]
 fn ranges_of_a_text(rt: HostRuntime) -> Result<(), Fail> {
@@ -55,22 +63,26 @@ fn ranges_of_a_text(rt: HostRuntime) -> Result<(), Fail> {
         ("ab\u{1b}[1m\u{308}", (0, 2), "ab\u{1b}[1m"),
     ];
     for (text, (start, end), wanted) in table {
-        let mut out = String::from_str(rt.alloc(), "|")?;
-        write_ansi_range(text, start, end, &mut out)?;
+        let out = range_of(rt.alloc(), text, (start, end))?;
         let within = out.as_str().strip_prefix("|");
         assert_eq!(rt; within, Some(wanted), "at {text:?} from {start} to {end}");
     }
     Ok(())
 }
 
+/// What the clock tells.
+fn told(clock: &mut StepClock) -> u64 {
+    clock.now()
+}
+
 #[test]
 fn a_clock_that_steps(rt: HostRuntime) {
     let mut clock = StepClock { next: 5, step: 2 };
-    assert_eq!(rt; clock.now(), 5);
-    assert_eq!(rt; clock.now(), 7);
+    assert_eq!(rt; told(&mut clock), 5);
+    assert_eq!(rt; told(&mut clock), 7);
     clock.next = u64::MAX;
-    assert_eq!(rt; clock.now(), u64::MAX);
-    assert_eq!(rt; clock.now(), u64::MAX);
+    assert_eq!(rt; told(&mut clock), u64::MAX);
+    assert_eq!(rt; told(&mut clock), u64::MAX);
 }
 
 #[test]
@@ -82,15 +94,16 @@ fn texts_of_refusals(rt: HostRuntime) -> Result<(), Fail> {
 }
 
 #[test]
-fn bytes_of_a_terminals_calls(rt: HostRuntime) {
-    let writer: Vec<u8> = Vec::new(rt.alloc());
-    let mut term = Term::new(writer, 24, 80);
-    assert!(rt; term.move_cursor_up(2).is_ok());
-    assert!(rt; term.move_cursor_up(0).is_ok());
-    assert!(rt; term.clear_line().is_ok());
-    assert!(rt; term.write_str("ab").is_ok());
-    assert!(rt; term.write_line("c").is_ok());
-    let bytes: &[u8] = term.writer();
-    assert!(rt; bytes == b"\x1b[2A\r\x1b[2Kabc\r\n".as_slice());
+fn bytes_of_a_terminals_calls(rt: HostRuntime) -> Result<(), Fail> {
+    let mut term = Terminal::behind_bytes(rt.alloc())?;
+    term.make(&[
+        Call::Up(2),
+        Call::Up(0),
+        Call::ClearLine,
+        Call::Text("ab"),
+        Call::Line("c"),
+    ])?;
+    assert!(rt; term.bytes() == b"\x1b[2A\r\x1b[2Kabc\r\n".as_slice());
     assert_eq!(rt; term.faults(), 0);
+    Ok(())
 }

@@ -1,9 +1,11 @@
 //! The engine by itself: lines drawn, logged above, kept and cleared on a terminal in memory.
+use crate::calls::are_rows;
 use indicatif_term::draw_target::{Engine, Keep, LineType, MultiProgressAlignment, Segment};
 use indicatif_term::in_memory::InMemoryTerm;
 use indicatif_term::term_like::{Term, TermLike};
 use indicatif_text::columns::Refusal;
 use std::alloc::Global;
+use std::process::Abort;
 use std::test::Fail;
 
 /// A bar of one line.
@@ -22,27 +24,137 @@ fn bars(alloc: Global, table: &[(u64, &str)]) -> Result<Vec<Segment>, Refusal> {
     Ok(frame)
 }
 
-/// An engine on a terminal in memory of this size.
-fn engine(alloc: Global, rows: u16, cols: u16) -> Result<Engine<InMemoryTerm>, Refusal> {
-    let term = InMemoryTerm::new(alloc, rows, cols)?;
-    Ok(Engine::new(alloc, term))
+/// Bars of one line each: their numbers and lines.
+type Bars = &'static [(u64, &'static str)];
+
+/// An engine whose calls promise nothing here, so that a test of many calls is proved call by call. It stands in a box, so that
+/// each way out of a test drops it by one call.
+#[derive(Drop)]
+struct Drawing<T: Drop> {
+    alloc: Global,
+    at: MultiProgressAlignment,
+    engine: Box<Engine<T>>,
+}
+
+impl<T: TermLike + Drop> Drawing<T> {
+    /// An engine on this terminal, with the bars there.
+    fn on(alloc: Global, term: T, at: MultiProgressAlignment) -> Result<Drawing<T>, Refusal> {
+        let engine = Box::new(alloc, Engine::new(alloc, term))?;
+        Ok(Drawing { alloc, at, engine })
+    }
+
+    /// Draws these bars, of which the first so many pass.
+    fn draw(&mut self, table: Bars, pass: usize) -> Result<(), Refusal> {
+        let frame = bars(self.alloc, table)?;
+        self.engine.draw(&frame, pass, self.at)
+    }
+
+    fn log(&mut self, text: &str, table: Bars) -> Result<(), Refusal> {
+        let frame = bars(self.alloc, table)?;
+        self.engine.log(text, &frame, self.at)
+    }
+
+    fn clear(&mut self) -> Result<(), Refusal> {
+        self.engine.clear()
+    }
+
+    fn keep(&mut self, bar: u64) -> Keep {
+        self.engine.keep(bar)
+    }
+}
+
+impl Drawing<Term<Vec<u8>>> {
+    /// An engine on a terminal of 3 rows and so many columns whose bytes can be looked at, with the bars at the top.
+    fn behind_bytes(alloc: Global, cols: u16) -> Result<Drawing<Term<Vec<u8>>>, Refusal> {
+        let writer: Vec<u8> = Vec::new(alloc);
+        Drawing::on(
+            alloc,
+            Term::new(writer, 3, cols),
+            MultiProgressAlignment::Top,
+        )
+    }
+
+    /// The bytes that were written.
+    fn bytes(&self) -> &[u8] {
+        self.engine.term().writer()
+    }
+}
+
+impl Drawing<InMemoryTerm> {
+    /// An engine on a terminal in memory of this size, with the bars there.
+    fn in_memory(
+        alloc: Global,
+        size: (u16, u16),
+        at: MultiProgressAlignment,
+    ) -> Result<Drawing<InMemoryTerm>, Refusal> {
+        Drawing::on(alloc, InMemoryTerm::new(alloc, size.0, size.1)?, at)
+    }
+
+    fn contents(&self) -> Result<String, Refusal> {
+        self.engine.term().contents()
+    }
+
+    fn picture(&self) -> Result<Vec<String>, Refusal> {
+        self.engine.term().picture()
+    }
+
+    /// The cursor of its terminal, and how often a call of it has failed.
+    fn left(&self) -> ((u16, u16), u64) {
+        let term = self.engine.term();
+        (term.cursor(), term.faults())
+    }
+}
+
+/// A call of an engine and its answer, or what its terminal shows then.
+#[derive(Clone, Copy, Drop)]
+enum Step {
+    /// These bars are drawn.
+    Draws(Bars),
+    /// These bars are drawn, of which the first one passes.
+    Passes(Bars),
+    /// This text is logged above these bars.
+    Logs(&'static str, Bars),
+    Keeps(u64, Keep),
+    Clears,
+    Shows(&'static str),
+}
+
+fn makes(rt: &impl Abort, drawing: &mut Drawing<InMemoryTerm>, step: Step) -> Result<(), Fail> {
+    match step {
+        Step::Draws(table) => assert_eq!(rt; drawing.draw(table, 0), Ok(())),
+        Step::Passes(table) => assert_eq!(rt; drawing.draw(table, 1), Ok(())),
+        Step::Logs(text, table) => assert_eq!(rt; drawing.log(text, table), Ok(())),
+        Step::Keeps(bar, keep) => assert_eq!(rt; drawing.keep(bar), keep),
+        Step::Clears => assert_eq!(rt; drawing.clear(), Ok(())),
+        Step::Shows(wanted) => assert_eq!(rt; drawing.contents()?.as_str(), wanted),
+    }
+    Ok(())
+}
+
+fn makes_all(
+    rt: &impl Abort,
+    drawing: &mut Drawing<InMemoryTerm>,
+    steps: &[Step],
+) -> Result<(), Fail> {
+    for step in steps {
+        makes(rt, drawing, *step)?;
+    }
+    Ok(())
 }
 
 #[test]
 fn a_shorter_line_in_the_place_of_a_longer_one(rt: HostRuntime) -> Result<(), Fail> {
-    let top = MultiProgressAlignment::Top;
-    let mut engine = engine(rt.alloc(), 4, 6)?;
-    let long = bars(rt.alloc(), &[(1, "aaaaaaaa"), (2, "b")])?;
-    assert_eq!(rt; engine.draw(&long, 0, top), Ok(()));
-    assert_eq!(rt; engine.term().contents()?.as_str(), "aaaaaa\naa\nb");
-    let short = bars(rt.alloc(), &[(1, "a"), (2, "b")])?;
-    assert_eq!(rt; engine.draw(&short, 0, top), Ok(()));
-    assert_eq!(rt; engine.term().contents()?.as_str(), "a\nb");
-    assert_eq!(rt; engine.clear(), Ok(()));
-    assert_eq!(rt; engine.term().contents()?.as_str(), "");
-    let term = engine.into_term();
-    assert_eq!(rt; term.cursor(), (0, 0));
-    assert_eq!(rt; term.faults(), 0);
+    let mut drawing = Drawing::in_memory(rt.alloc(), (4, 6), MultiProgressAlignment::Top)?;
+    let steps = [
+        Step::Draws(&[(1, "aaaaaaaa"), (2, "b")]),
+        Step::Shows("aaaaaa\naa\nb"),
+        Step::Draws(&[(1, "a"), (2, "b")]),
+        Step::Shows("a\nb"),
+        Step::Clears,
+        Step::Shows(""),
+    ];
+    makes_all(&rt, &mut drawing, &steps)?;
+    assert_eq!(rt; drawing.left(), ((0, 0), 0));
     Ok(())
 }
 
@@ -50,129 +162,145 @@ fn a_shorter_line_in_the_place_of_a_longer_one(rt: HostRuntime) -> Result<(), Fa
 /// takes it back.
 #[test]
 fn bars_at_the_bottom(rt: HostRuntime) -> Result<(), Fail> {
-    let bottom = MultiProgressAlignment::Bottom;
-    let mut engine = engine(rt.alloc(), 6, 9)?;
-    let three = bars(rt.alloc(), &[(1, "m1"), (2, "m2"), (3, "m3")])?;
-    assert_eq!(rt; engine.draw(&three, 0, bottom), Ok(()));
-    assert_eq!(rt; engine.term().contents()?.as_str(), "m1\nm2\nm3");
-    let two = bars(rt.alloc(), &[(1, "m1"), (3, "m3")])?;
-    assert_eq!(rt; engine.draw(&two, 0, bottom), Ok(()));
-    assert_eq!(rt; engine.term().contents()?.as_str(), "\nm1\nm3");
-    assert_eq!(rt; engine.keep(1), Keep::Passed);
-    let last = bars(rt.alloc(), &[(3, "m3")])?;
-    assert_eq!(rt; engine.log("L", &last, bottom), Ok(()));
-    assert_eq!(rt; engine.term().contents()?.as_str(), "L\n\nm3");
-    Ok(())
+    let mut drawing = Drawing::in_memory(rt.alloc(), (6, 9), MultiProgressAlignment::Bottom)?;
+    let steps = [
+        Step::Draws(&[(1, "m1"), (2, "m2"), (3, "m3")]),
+        Step::Shows("m1\nm2\nm3"),
+        Step::Draws(&[(1, "m1"), (3, "m3")]),
+        Step::Shows("\nm1\nm3"),
+        Step::Keeps(1, Keep::Passed),
+        Step::Logs("L", &[(3, "m3")]),
+        Step::Shows("L\n\nm3"),
+    ];
+    makes_all(&rt, &mut drawing, &steps)
 }
 
 /// Where fewer rows are shown at the top, they stand at the place of the first.
 #[test]
 fn bars_at_the_top(rt: HostRuntime) -> Result<(), Fail> {
-    let top = MultiProgressAlignment::Top;
-    let mut engine = engine(rt.alloc(), 6, 9)?;
-    let three = bars(rt.alloc(), &[(1, "m1"), (2, "m2"), (3, "m3")])?;
-    assert_eq!(rt; engine.draw(&three, 0, top), Ok(()));
-    let two = bars(rt.alloc(), &[(1, "m1"), (3, "m3")])?;
-    assert_eq!(rt; engine.draw(&two, 0, top), Ok(()));
-    assert_eq!(rt; engine.term().contents()?.as_str(), "m1\nm3");
-    Ok(())
+    let mut drawing = Drawing::in_memory(rt.alloc(), (6, 9), MultiProgressAlignment::Top)?;
+    let steps = [
+        Step::Draws(&[(1, "m1"), (2, "m2"), (3, "m3")]),
+        Step::Draws(&[(1, "m1"), (3, "m3")]),
+        Step::Shows("m1\nm3"),
+    ];
+    makes_all(&rt, &mut drawing, &steps)
 }
 
 #[test]
 fn bars_that_are_kept(rt: HostRuntime) -> Result<(), Fail> {
-    let top = MultiProgressAlignment::Top;
-    let mut engine = engine(rt.alloc(), 4, 9)?;
-    let two = bars(rt.alloc(), &[(1, "a"), (2, "b")])?;
-    assert_eq!(rt; engine.draw(&two, 0, top), Ok(()));
-    assert_eq!(rt; engine.keep(3), Keep::Absent);
-    assert_eq!(rt; engine.keep(2), Keep::Behind);
-    assert_eq!(rt; engine.keep(1), Keep::Passed);
-    assert_eq!(rt; engine.keep(1), Keep::Absent);
-    let second = bars(rt.alloc(), &[(2, "c")])?;
-    assert_eq!(rt; engine.draw(&second, 0, top), Ok(()));
-    assert_eq!(rt; engine.term().contents()?.as_str(), "a\nc");
-    assert_eq!(rt; engine.log("L", &second, top), Ok(()));
-    assert_eq!(rt; engine.term().contents()?.as_str(), "L\nc");
-    Ok(())
+    let mut drawing = Drawing::in_memory(rt.alloc(), (4, 9), MultiProgressAlignment::Top)?;
+    let steps = [
+        Step::Draws(&[(1, "a"), (2, "b")]),
+        Step::Keeps(3, Keep::Absent),
+        Step::Keeps(2, Keep::Behind),
+        Step::Keeps(1, Keep::Passed),
+        Step::Keeps(1, Keep::Absent),
+        Step::Draws(&[(2, "c")]),
+        Step::Shows("a\nc"),
+        Step::Logs("L", &[(2, "c")]),
+        Step::Shows("L\nc"),
+    ];
+    makes_all(&rt, &mut drawing, &steps)
 }
 
 /// Members that are dropped as they are drawn become kept rows.
 #[test]
 fn members_that_pass(rt: HostRuntime) -> Result<(), Fail> {
-    let top = MultiProgressAlignment::Top;
-    let mut engine = engine(rt.alloc(), 4, 9)?;
-    let two = bars(rt.alloc(), &[(1, "a"), (2, "b")])?;
-    assert_eq!(rt; engine.draw(&two, 1, top), Ok(()));
-    let second = bars(rt.alloc(), &[(2, "c")])?;
-    assert_eq!(rt; engine.draw(&second, 0, top), Ok(()));
-    assert_eq!(rt; engine.term().contents()?.as_str(), "a\nc");
-    assert_eq!(rt; engine.clear(), Ok(()));
-    assert_eq!(rt; engine.term().contents()?.as_str(), "");
-    Ok(())
+    let mut drawing = Drawing::in_memory(rt.alloc(), (4, 9), MultiProgressAlignment::Top)?;
+    let steps = [
+        Step::Passes(&[(1, "a"), (2, "b")]),
+        Step::Draws(&[(2, "c")]),
+        Step::Shows("a\nc"),
+        Step::Clears,
+        Step::Shows(""),
+    ];
+    makes_all(&rt, &mut drawing, &steps)
+}
+
+/// A terminal of 3 rows and 5 columns whose cursor stands on the last row, below two others.
+fn term_below_two_rows(alloc: Global) -> Result<InMemoryTerm, Fail> {
+    let mut term = InMemoryTerm::new(alloc, 3, 5)?;
+    term.write_line("u1")?;
+    term.write_line("u2")?;
+    Ok(term)
 }
 
 /// Begun on the last row, below two others: the first scrolls away unchanged.
 #[test]
 fn a_log_that_scrolls(rt: HostRuntime) -> Result<(), Fail> {
-    let top = MultiProgressAlignment::Top;
-    let mut term = InMemoryTerm::new(rt.alloc(), 3, 5)?;
-    term.write_line("u1")?;
-    term.write_line("u2")?;
-    let mut engine = Engine::new(rt.alloc(), term);
-    let frame = bars(rt.alloc(), &[(1, "x")])?;
-    assert_eq!(rt; engine.draw(&frame, 0, top), Ok(()));
-    assert_eq!(rt; engine.log("l", &frame, top), Ok(()));
-    let picture = engine.term().picture()?;
-    assert_eq!(rt; picture.len(), 4);
-    for (row, wanted) in picture.iter().zip(["u1", "u2", "l", "x"]) {
-        assert_eq!(rt; row.as_str(), wanted);
-    }
-    assert_eq!(rt; engine.term().contents()?.as_str(), "u2\nl\nx");
-    assert_eq!(rt; engine.log("", &frame, top), Ok(()));
-    assert_eq!(rt; engine.term().contents()?.as_str(), "l\n\nx");
-    Ok(())
+    let term = term_below_two_rows(rt.alloc())?;
+    let mut drawing = Drawing::on(rt.alloc(), term, MultiProgressAlignment::Top)?;
+    let first = [Step::Draws(&[(1, "x")]), Step::Logs("l", &[(1, "x")])];
+    makes_all(&rt, &mut drawing, &first)?;
+    are_rows(&rt, &drawing.picture()?, &["u1", "u2", "l", "x"]);
+    let then = [
+        Step::Shows("u2\nl\nx"),
+        Step::Logs("", &[(1, "x")]),
+        Step::Shows("l\n\nx"),
+    ];
+    makes_all(&rt, &mut drawing, &then)
+}
+
+/// A line, an empty one and a bar of one member.
+fn frame_of_each_kind(alloc: Global) -> Result<Vec<Segment>, Refusal> {
+    let mut lines = Vec::new(alloc);
+    lines.push(LineType::Text(String::from_str(alloc, "t")?))?;
+    lines.push(LineType::Empty)?;
+    lines.push(LineType::Bar(String::from_str(alloc, "b")?))?;
+    Ok(vec![in alloc; Segment { bar: 7, lines }]?)
+}
+
+/// What a terminal of 5 rows and 4 columns shows of this frame.
+fn shown(alloc: Global, frame: &[Segment]) -> Result<String, Refusal> {
+    let term = InMemoryTerm::new(alloc, 5, 4)?;
+    let mut engine = Box::new(alloc, Engine::new(alloc, term))?;
+    engine.draw(frame, 0, MultiProgressAlignment::Top)?;
+    engine.term().contents()
 }
 
 #[test]
 fn lines_of_each_kind(rt: HostRuntime) -> Result<(), Fail> {
-    let text = LineType::Text(String::from_str(rt.alloc(), "t")?);
-    let bar = LineType::Bar(String::from_str(rt.alloc(), "b")?);
+    let frame = frame_of_each_kind(rt.alloc())?;
+    let [Segment { lines, .. }] = frame.as_slice() else {
+        return Err(Fail::new("one member"));
+    };
+    let [text, LineType::Empty, bar] = lines.as_slice() else {
+        return Err(Fail::new("three lines"));
+    };
     assert!(rt; text.is_text("t"));
     assert!(rt; bar.is_text("b"));
     assert!(rt; !bar.is_text("t"));
     assert!(rt; LineType::Empty.is_text(""));
     assert!(rt; !LineType::Empty.is_text("t"));
-    let mut lines = Vec::new(rt.alloc());
-    lines.push(text)?;
-    lines.push(LineType::Empty)?;
-    lines.push(bar)?;
-    let mut frame = Vec::new(rt.alloc());
-    frame.push(Segment { bar: 7, lines })?;
-    let mut engine = engine(rt.alloc(), 5, 4)?;
-    assert_eq!(rt; engine.draw(&frame, 0, MultiProgressAlignment::Top), Ok(()));
-    assert_eq!(rt; engine.term().contents()?.as_str(), "t\n\nb");
+    assert_eq!(rt; shown(rt.alloc(), &frame)?.as_str(), "t\n\nb");
     Ok(())
+}
+
+/// The engine refuses to draw this line and to log it, and has written no byte.
+fn refuses(
+    rt: &impl Abort,
+    drawing: &mut Drawing<Term<Vec<u8>>>,
+    (text, table): (&str, Bars),
+    refusal: Refusal,
+) {
+    assert_eq!(rt; drawing.draw(table, 0), Err(refusal));
+    assert_eq!(rt; drawing.log(text, &[]), Err(refusal));
+    assert!(rt; drawing.bytes().is_empty());
 }
 
 /// A drawing that is refused has written nothing, and can be made again.
 #[test]
 fn drawings_that_are_refused(rt: HostRuntime) -> Result<(), Fail> {
-    let top = MultiProgressAlignment::Top;
-    let writer: Vec<u8> = Vec::new(rt.alloc());
-    let mut narrow = Engine::new(rt.alloc(), Term::new(writer, 3, 1));
-    let wide = bars(rt.alloc(), &[(1, "\u{56FD}")])?;
-    assert_eq!(rt; narrow.draw(&wide, 0, top), Err(Refusal::TooWide));
-    assert_eq!(rt; narrow.log("\u{56FD}", &[], top), Err(Refusal::TooWide));
-    assert!(rt; narrow.term().writer().is_empty());
-    let letter = bars(rt.alloc(), &[(1, "a")])?;
-    assert_eq!(rt; narrow.draw(&letter, 0, top), Ok(()));
-    let bytes: &[u8] = narrow.term().writer();
-    assert!(rt; bytes == b"a".as_slice());
-    let writer: Vec<u8> = Vec::new(rt.alloc());
-    let mut nothing = Engine::new(rt.alloc(), Term::new(writer, 3, 0));
-    assert_eq!(rt; nothing.draw(&letter, 0, top), Err(Refusal::NoColumns));
-    assert_eq!(rt; nothing.log("a", &[], top), Err(Refusal::NoColumns));
+    let mut narrow = Drawing::behind_bytes(rt.alloc(), 1)?;
+    let wide = ("\u{56FD}", &[(1u64, "\u{56FD}")] as Bars);
+    refuses(&rt, &mut narrow, wide, Refusal::TooWide);
+    assert_eq!(rt; narrow.draw(&[(1, "a")], 0), Ok(()));
+    assert!(rt; narrow.bytes() == b"a".as_slice());
+    let mut nothing = Drawing::behind_bytes(rt.alloc(), 0)?;
+    let letter = ("a", &[(1u64, "a")] as Bars);
+    refuses(&rt, &mut nothing, letter, Refusal::NoColumns);
     assert_eq!(rt; nothing.clear(), Err(Refusal::NoColumns));
-    assert!(rt; nothing.into_term().writer().is_empty());
+    assert!(rt; nothing.bytes().is_empty());
     Ok(())
 }

@@ -1,20 +1,22 @@
 //! The terminal in memory, with the answers of the Rust crate where it has any.
+use crate::calls::{Call, Terminal, are_rows, has_moves, stands};
 use indicatif_term::in_memory::{Cells, InMemoryTerm};
 use indicatif_term::term_like::TermLike;
 use indicatif_text::columns::Refusal;
 use std::io::ErrorKind;
+use std::process::Abort;
 use std::test::Fail;
 
 #[test]
 fn long_lines(rt: HostRuntime) -> Result<(), Fail> {
-    let mut term = InMemoryTerm::new(rt.alloc(), 10, 5)?;
-    for line in ["A", "B", "Longer than cols"] {
-        term.write_line(line)?;
-    }
-    assert_eq!(rt; term.contents()?.as_str(), "A\nB\nLonge\nr tha\nn col\ns");
-    assert_eq!(rt; term.cursor(), (6, 0));
-    assert_eq!(rt; term.width(), 5);
-    assert_eq!(rt; term.height(), 10);
+    let mut term = Terminal::in_memory(rt.alloc(), 10, 5)?;
+    term.make(&[
+        Call::Line("A"),
+        Call::Line("B"),
+        Call::Line("Longer than cols"),
+    ])?;
+    stands(&rt, &term, "A\nB\nLonge\nr tha\nn col\ns", (6, 0))?;
+    assert_eq!(rt; term.size(), (10, 5));
     assert_eq!(rt; term.faults(), 0);
     Ok(())
 }
@@ -39,52 +41,58 @@ fn sizes_of_zero(rt: HostRuntime) {
 
 #[test]
 fn calls_as_text(rt: HostRuntime) -> Result<(), Fail> {
-    let mut term = InMemoryTerm::new(rt.alloc(), 10, 80)?;
-    term.write_line("ABC \"d\\\"\t\0\u{1B}[0m")?;
-    term.move_cursor_up(1)?;
-    term.move_cursor_up(0)?;
-    term.move_cursor_right(2)?;
-    term.clear_line()?;
-    term.write_str("DEF")?;
-    term.move_cursor_left(3)?;
-    term.move_cursor_down(12)?;
-    term.flush()?;
+    let mut term = Terminal::in_memory(rt.alloc(), 10, 80)?;
+    term.make(&[
+        Call::Line("ABC \"d\\\"\t\0\u{1B}[0m"),
+        Call::Up(1),
+        Call::Up(0),
+        Call::Right(2),
+        Call::ClearLine,
+        Call::Text("DEF"),
+        Call::Left(3),
+        Call::Down(12),
+        Call::Flush,
+    ])?;
     let wanted =
         "Str(\"ABC \\\"d\\\\\\\"\\t\\0\\u{1b}[0m\")\nNewLine\nUp(1)\nRight(2)\nClear\nStr(\"DEF\")\nLeft(3)\nDown(12)\nFlush\n";
-    assert_eq!(rt; term.moves_since_last_check().as_str(), wanted);
-    assert_eq!(rt; term.moves_since_last_check().as_str(), "");
-    assert_eq!(rt; term.contents()?.as_str(), "DEF");
-    assert_eq!(rt; term.cursor(), (9, 0));
-    Ok(())
+    has_moves(&rt, &mut term, wanted);
+    has_moves(&rt, &mut term, "");
+    stands(&rt, &term, "DEF", (9, 0))
 }
 
 #[test]
 fn made_anew(rt: HostRuntime) -> Result<(), Fail> {
-    let mut term = InMemoryTerm::new(rt.alloc(), 2, 3)?;
-    for line in ["a", "b", "c"] {
-        term.write_line(line)?;
-    }
+    let mut term = Terminal::in_memory(rt.alloc(), 2, 3)?;
+    term.make(&[Call::Line("a"), Call::Line("b"), Call::Line("c")])?;
     assert_eq!(rt; term.picture()?.len(), 4);
     term.reset();
-    assert_eq!(rt; term.contents()?.as_str(), "");
+    stands(&rt, &term, "", (0, 0))?;
     assert_eq!(rt; term.picture()?.len(), 2);
-    assert_eq!(rt; term.cursor(), (0, 0));
-    assert_eq!(rt; term.moves_since_last_check().as_str(), "");
+    has_moves(&rt, &mut term, "");
     Ok(())
+}
+
+/// Writes these bytes to a terminal.
+fn feed(rt: &impl Abort, cells: &mut Cells, bytes: &[u8]) {
+    assert_eq!(rt; cells.feed(bytes), Ok(()));
+}
+
+fn contents(cells: &Cells) -> Result<String, Refusal> {
+    cells.contents()
+}
+
+fn picture(cells: &Cells) -> Result<Vec<String>, Refusal> {
+    cells.picture()
 }
 
 #[test]
 fn rows_that_scroll_away(rt: HostRuntime) -> Result<(), Fail> {
-    let mut cells = Cells::new(rt.alloc(), 2, 4)?;
+    let mut cells = Box::new(rt.alloc(), Cells::new(rt.alloc(), 2, 4)?)?;
     for part in [b"u1\r\nu2 \r\n".as_slice(), b"\xE5\x9B", b"\xBDx"] {
-        assert_eq!(rt; cells.feed(part), Ok(()));
+        feed(&rt, &mut cells, part);
     }
-    let picture = cells.picture()?;
-    assert_eq!(rt; picture.len(), 3);
-    for (row, wanted) in picture.iter().zip(["u1", "u2", "\u{56FD}x"]) {
-        assert_eq!(rt; row.as_str(), wanted);
-    }
-    assert_eq!(rt; cells.contents()?.as_str(), "u2\n\u{56FD}x");
+    are_rows(&rt, &picture(&cells)?, &["u1", "u2", "\u{56FD}x"]);
+    assert_eq!(rt; contents(&cells)?.as_str(), "u2\n\u{56FD}x");
     assert_eq!(rt; cells.cursor(), (1, 3));
     Ok(())
 }

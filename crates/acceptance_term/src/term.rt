@@ -1,74 +1,68 @@
 //! The eight calls of a terminal behind a writer and of one in memory, and where a bar is drawn.
+use crate::calls::{Call, Terminal, has_moves, stands};
 use indicatif_term::draw_target::{MultiProgressAlignment, ProgressDrawTarget, Setup};
 use indicatif_term::in_memory::InMemoryTerm;
-use indicatif_term::term_like::{Term, TermLike};
+use indicatif_term::term_like::TermLike;
 use indicatif_text::columns::{Clock, StepClock};
 use std::test::Fail;
 
 #[test]
 fn each_call_by_its_bytes(rt: HostRuntime) -> Result<(), Fail> {
-    let writer: Vec<u8> = Vec::new(rt.alloc());
-    let mut term = Term::new(writer, 24, 80);
-    term.move_cursor_up(1)?;
-    term.move_cursor_down(10)?;
-    term.move_cursor_right(3)?;
-    term.move_cursor_left(65535)?;
-    let moves: &[u8] = term.writer();
-    assert!(rt; moves == b"\x1b[1A\x1b[10B\x1b[3C\x1b[65535D".as_slice());
-    term.write_str("a\u{56FD}")?;
-    term.write_line("")?;
-    term.clear_line()?;
-    term.flush()?;
-    let all: &[u8] = term.writer();
-    assert!(rt; all == b"\x1b[1A\x1b[10B\x1b[3C\x1b[65535Da\xE5\x9B\xBD\r\n\r\x1b[2K".as_slice());
-    assert_eq!(rt; term.width(), 80);
-    assert_eq!(rt; term.height(), 24);
+    let mut term = Terminal::behind_bytes(rt.alloc())?;
+    term.make(&[
+        Call::Up(1),
+        Call::Down(10),
+        Call::Right(3),
+        Call::Left(65535),
+    ])?;
+    assert!(rt; term.bytes() == b"\x1b[1A\x1b[10B\x1b[3C\x1b[65535D".as_slice());
+    term.make(&[
+        Call::Text("a\u{56FD}"),
+        Call::Line(""),
+        Call::ClearLine,
+        Call::Flush,
+    ])?;
+    let all = b"\x1b[1A\x1b[10B\x1b[3C\x1b[65535Da\xE5\x9B\xBD\r\n\r\x1b[2K".as_slice();
+    assert!(rt; term.bytes() == all);
+    assert_eq!(rt; term.size(), (24, 80));
     assert_eq!(rt; term.faults(), 0);
     Ok(())
 }
 
 #[test]
 fn a_move_by_none_has_no_bytes(rt: HostRuntime) -> Result<(), Fail> {
-    let writer: Vec<u8> = Vec::new(rt.alloc());
-    let mut term = Term::new(writer, 24, 80);
-    term.move_cursor_up(0)?;
-    term.move_cursor_down(0)?;
-    term.move_cursor_right(0)?;
-    term.move_cursor_left(0)?;
-    let bytes: &[u8] = term.writer();
-    assert!(rt; bytes.is_empty());
+    let mut term = Terminal::behind_bytes(rt.alloc())?;
+    term.make(&[Call::Up(0), Call::Down(0), Call::Right(0), Call::Left(0)])?;
+    assert!(rt; term.bytes().is_empty());
     Ok(())
 }
 
 #[test]
 fn each_call_by_its_cells(rt: HostRuntime) -> Result<(), Fail> {
-    let mut term = InMemoryTerm::new(rt.alloc(), 3, 5)?;
-    term.write_line("ab")?;
-    term.write_str("cd")?;
-    assert_eq!(rt; term.cursor(), (1, 2));
-    term.move_cursor_down(1)?;
-    assert_eq!(rt; term.cursor(), (2, 2));
-    term.move_cursor_up(2)?;
-    assert_eq!(rt; term.cursor(), (0, 2));
-    term.move_cursor_right(1)?;
-    assert_eq!(rt; term.cursor(), (0, 3));
-    term.move_cursor_left(2)?;
-    assert_eq!(rt; term.cursor(), (0, 1));
-    term.write_str("x")?;
-    term.flush()?;
+    let mut term = Terminal::in_memory(rt.alloc(), 3, 5)?;
+    term.make(&[Call::Line("ab")])?;
+    for (call, cursor) in [
+        (Call::Text("cd"), (1, 2)),
+        (Call::Down(1), (2, 2)),
+        (Call::Up(2), (0, 2)),
+        (Call::Right(1), (0, 3)),
+        (Call::Left(2), (0, 1)),
+    ] {
+        term.make(&[call])?;
+        assert_eq!(rt; term.cursor(), cursor);
+    }
+    term.make(&[Call::Text("x"), Call::Flush])?;
     assert_eq!(rt; term.contents()?.as_str(), "ax\ncd");
-    term.clear_line()?;
-    assert_eq!(rt; term.contents()?.as_str(), "\ncd");
-    assert_eq!(rt; term.cursor(), (0, 0));
-    Ok(())
+    term.make(&[Call::ClearLine])?;
+    stands(&rt, &term, "\ncd", (0, 0))
 }
 
 /// A NUL stands in the text of a call as `\0`.
 #[test]
 fn a_nul_as_text(rt: HostRuntime) -> Result<(), Fail> {
-    let mut term = InMemoryTerm::new(rt.alloc(), 1, 5)?;
-    term.write_str("a\0b")?;
-    assert_eq!(rt; term.moves_since_last_check().as_str(), "Str(\"a\\0b\")\n");
+    let mut term = Terminal::in_memory(rt.alloc(), 1, 5)?;
+    term.make(&[Call::Text("a\0b")])?;
+    has_moves(&rt, &mut term, "Str(\"a\\0b\")\n");
     assert_eq!(rt; term.contents()?.as_str(), "ab");
     Ok(())
 }
