@@ -1,6 +1,8 @@
 //! The engine by itself: lines drawn, logged above, kept and cleared on a terminal in memory.
 use crate::calls::are_rows;
-use indicatif_term::draw_target::{Engine, Keep, LineType, MultiProgressAlignment, Segment};
+use indicatif_term::draw_target::{
+    Engine, Keep, LineType, MultiProgressAlignment, ProgressDrawTarget, Segment,
+};
 use indicatif_term::in_memory::InMemoryTerm;
 use indicatif_term::term_like::{Term, TermLike};
 use indicatif_text::columns::Refusal;
@@ -139,6 +141,21 @@ fn makes_all(
     for step in steps {
         makes(rt, drawing, *step)?;
     }
+    Ok(())
+}
+
+#[test]
+fn engines_of_targets(rt: HostRuntime) -> Result<(), Fail> {
+    let term = InMemoryTerm::new(rt.alloc(), 2, 3)?;
+    let (engine, limiter) = Engine::opened_on(rt.alloc(), ProgressDrawTarget::term_like(term));
+    assert!(rt; engine.is_some() && limiter.is_none());
+    let nowhere: ProgressDrawTarget<InMemoryTerm> = ProgressDrawTarget::hidden();
+    let (engine, limiter) = Engine::opened_on(rt.alloc(), nowhere);
+    assert!(rt; engine.is_none() && limiter.is_none());
+    let term = InMemoryTerm::new(rt.alloc(), 2, 3)?;
+    let often = ProgressDrawTarget::term_like_with_hz(term, 1, 0)?;
+    let (engine, limiter) = Engine::opened_on(rt.alloc(), often);
+    assert!(rt; engine.is_some() && limiter.is_some());
     Ok(())
 }
 
