@@ -60,4 +60,5 @@ module _ (count : ℕ) (frame : List Segment) (i left n : ℕ) (s : Segment) (h 
     pub now_fails : {e : Error} (result : Result Unit Error) → IsErr result → Puts view (map line_text (take n s.lines.items)) q r (Err e) → Puts view (take count (frame_lines frame)) p r result
     now_fails {e} result k g =
         subst (λ xs. Puts view xs p r result) (now_whole count frame i)
-        (puts_fail view (take count (frame_lines (take (i + 1) frame))) (now_rest count frame i) p r {e = e} result k (rw now_lines (puts_then view (take count before) (map line_text (take n s.lines.items)) p q r (Err e) f g)))
+        (puts_fail view (take count (frame_lines (take (i + 1) frame))) (now_rest count frame i) p r {e = e} result k
+        (rw now_lines (puts_then view (take count before) (map line_text (take n s.lines.items)) p q r (Err e) f g)))

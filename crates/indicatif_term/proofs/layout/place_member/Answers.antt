@@ -55,7 +55,8 @@ loop-line-preserved c =
           let items = c.args.member.now.lines.items in
           let edges_before = map (λ line. edges_of c.args.window.columns (line_text line)) (take c.loop-line.line-index items) in
           let edges = edges_of c.args.window.columns (line_text c.line-item.result) in
-          let now = c.in_ok-place.ensures.ends c.args.window.columns (before ++ edges_before) edges (c.loop-line.invariant.ends before e) (sym m.2) (rw c.as_str-text.ensures at c.runs_on_to-runs_on.ensures) in
+          let now = c.in_ok-place.ensures.ends c.args.window.columns (before ++ edges_before) edges (c.loop-line.invariant.ends before e) (sym m.2)
+          (rw c.as_str-text.ensures at c.runs_on_to-runs_on.ensures) in
           subst (λ xs. PlanEndsAt c.args.window.columns xs c.place.new.plan) (append_assoc before edges_before (_ ∷ [])
           ∙ ap (λ xs. before ++ xs) (sym (line_edges_step c.args.window.columns items c.loop-line.line-index c.line-item.result (omega (arith, ap length c.deref-line-items.ensures.value))
           (sym (c.line-item.is ∙ ap (λ xs. get_or xs c.loop-line.line-index c.line-item.result) c.deref-line-items.ensures.value))))) now;
