@@ -1,3 +1,4 @@
+mod LentLemmas
 mod LogLemmas
 mod MoveLemmas
 mod PictureLemmas

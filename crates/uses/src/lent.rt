@@ -1,9 +1,13 @@
-//! What is known of a bar that was lent, by one who doesn't know how it was used before.
-ghost use Rattle.std.specs.Prelude.{◌≡◌, ◌⊎◌, ◌+◌, ◌%◌, ◌^◌, None, IfOk, IsFalse, vec_len};
+//! What is known of a bar or a board that was lent, by one who doesn't know how it was used before.
+ghost use Rattle.std.specs.Prelude.{◌≡◌, ◌⊎◌, ◌+◌, ◌%◌, ◌^◌, Some, None, IfOk, IsTrue, IsFalse, is_some, string_bytes, vec_len};
+ghost use Rattle.indicatif_bar.specs.Commands.{BarRecord};
 ghost use Rattle.indicatif_bar.specs.LoneBars.{record_of, lone_terminal};
+ghost use Rattle.indicatif_board.specs.Multi.{mark_of, record_at, OthersStay};
 
 use indicatif_bar::lone::{LoneBar, LoneCall};
+use indicatif_bar::state::BarCommand;
 use indicatif_bar::style::ProgressTracker;
+use indicatif_board::multi::{BarId, Board};
 use indicatif_term::term_like::TermLike;
 use indicatif_text::columns::{Drawn, Moment, Refusal};
 
@@ -53,4 +57,40 @@ pub fn play<K: ProgressTracker, T: TermLike + Drop>(
 {
     let answers = bar.run(calls)?;
     Ok(answers.len())
+}
+
+/// One more step of a bar on a board that was lent. Of the bar nothing is known but that the board answers for it; the bars
+/// beside it stay as they were.
+pub fn step_on<K: ProgressTracker, T: TermLike + Drop>(
+    board: &mut Board<K, T>,
+    id: BarId,
+    now: Moment,
+) -> Result<Drawn, Refusal>
+    ensures step { (bar : BarRecord K) → id.mark ≡ mark_of board.old → record_at id.number board.old ≡ Some bar →
+        (next : BarRecord K) × (record_at id.number board.new ≡ Some next) × (next.progress.position ≡ (bar.progress.position + 1) % 2 ^ 64) }
+    ensures others { OthersStay id.number board.old board.new }
+{
+    board.command(id, BarCommand::Inc(1), now)
+}
+
+/// Another message of such a bar, or memory was refused and its record stays; the bars beside it stay as they were.
+pub fn say_on<K: ProgressTracker, T: TermLike + Drop>(
+    board: &mut Board<K, T>,
+    id: BarId,
+    text: String,
+    now: Moment,
+) -> Result<Drawn, Refusal>
+    ensures message { (bar : BarRecord K) → id.mark ≡ mark_of board.old → record_at id.number board.old ≡ Some bar →
+        (next : BarRecord K) × (record_at id.number board.new ≡ Some next) × ((next.progress.message ≡ string_bytes text) ⊎ (next ≡ bar)) }
+    ensures others { OthersStay id.number board.old board.new }
+{
+    board.command(id, BarCommand::SetMessage(text), now)
+}
+
+/// Whether a board that was lent answers for a bar; if not, no command reaches it.
+pub fn answers_for<K: ProgressTracker, T: TermLike + Drop>(board: &Board<K, T>, id: BarId) -> bool
+    ensures own { IsTrue result → id.mark ≡ mark_of board.now → IsTrue (is_some (record_at id.number board.now)) }
+    ensures absent { IsFalse result → id.mark ≡ mark_of board.now → record_at id.number board.now ≡ None }
+{
+    board.bar(id).is_ok()
 }

@@ -6,7 +6,7 @@
 //! - `boards`: what a terminal shows after a list of calls of a board.
 //! - `logs`: that a logged line stands, whatever is drawn after it.
 //! - `loops`: what a loop makes of the bar that shows its progress.
-//! - `lent`: what is known of a bar that was lent.
+//! - `lent`: what is known of a bar or a board that was lent.
 //! - `sums`: what threads add up to.
 #![tactic(auto)]
 
