@@ -27,6 +27,11 @@ fn apply(bar: &mut Told<NoTracker>, command: BarCommand<NoTracker>) -> Result<As
     bar.apply(command, 0)
 }
 
+/// What the clock tells.
+fn told(clock: &mut StepClock) -> u64 {
+    clock.now()
+}
+
 #[test]
 fn setup(rt: HostRuntime) {
     let mut setup = Setup {
@@ -34,17 +39,22 @@ fn setup(rt: HostRuntime) {
         clock: StepClock { next: 0, step: 1 },
     };
     assert!(rt; setup.target.is_hidden());
-    assert_eq!(rt; setup.clock.now(), 0);
-    assert_eq!(rt; setup.clock.now(), 1);
+    assert_eq!(rt; told(&mut setup.clock), 0);
+    assert_eq!(rt; told(&mut setup.clock), 1);
+}
+
+/// The command asks this.
+fn asks(rt: &impl Abort, bar: &mut Told<NoTracker>, command: BarCommand<NoTracker>, wanted: Ask) {
+    assert_eq!(rt; apply(bar, command), Ok(wanted));
 }
 
 #[test]
 fn bar_command_and_ask(rt: HostRuntime) -> Result<(), Fail> {
     let mut bar = plain_bar(rt.alloc())?;
-    assert_eq!(rt; apply(&mut bar, BarCommand::Inc(2))?, Ask::Unforced);
+    asks(&rt, &mut bar, BarCommand::Inc(2), Ask::Unforced);
     assert_eq!(rt; bar.reached().position, 2);
-    assert_eq!(rt; apply(&mut bar, BarCommand::ResetEta)?, Ask::No);
-    assert_eq!(rt; apply(&mut bar, BarCommand::ForceDraw)?, Ask::Forced);
+    asks(&rt, &mut bar, BarCommand::ResetEta, Ask::No);
+    asks(&rt, &mut bar, BarCommand::ForceDraw, Ask::Forced);
     assert!(rt; Ask::No.is_no() && !Ask::Forced.is_no());
     Ok(())
 }
@@ -59,7 +69,12 @@ fn change_and_fraction_and_rate(rt: HostRuntime) -> Result<(), Fail> {
     };
     apply(&mut bar, BarCommand::Update(change))?;
     assert_eq!(rt; bar.fraction(), Fraction { num: 3, den: 4 });
-    let new = plain_bar(rt.alloc())?;
+    has_no_rate(&rt, rt.alloc())
+}
+
+/// A new bar has made no steps.
+fn has_no_rate(rt: &impl Abort, alloc: Global) -> Result<(), Fail> {
+    let new = plain_bar(alloc)?;
     assert_eq!(rt; new.times(0).rate, Rate { steps: 0, nanos: 1 });
     Ok(())
 }
@@ -98,15 +113,33 @@ impl TellsText for Always {
     }
 }
 
+/// Tells `ready` always.
+fn ready(alloc: Global) -> Result<FnTracker<Always>, Refusal> {
+    let text = String::from_str(alloc, "ready")?;
+    FnTracker::new(alloc, Always { text })
+}
+
+/// A style that shows what this tells.
+fn telling(alloc: Global, tracker: FnTracker<Always>) -> Result<Look<FnTracker<Always>>, Refusal> {
+    Look::with_template(alloc, "{word}!")?.with_key("word", tracker)
+}
+
 #[test]
 fn fn_tracker_and_tells_text(rt: HostRuntime) -> Result<(), Fail> {
-    let teller = Always {
-        text: String::from_str(rt.alloc(), "ready")?,
-    };
-    let tracker = FnTracker::new(rt.alloc(), teller)?;
-    let style = Look::with_template(rt.alloc(), "{word}!")?.with_key("word", tracker)?;
+    let style = telling(rt.alloc(), ready(rt.alloc())?)?;
     let bar = style.bar(rt.alloc(), Some(10), 0)?;
     assert!(rt; bar.shows(&["ready!"])?);
+    Ok(())
+}
+
+/// Its line in this room is this, and the room is kept.
+fn shows_in(
+    rt: &impl Abort,
+    bar: &Told<NoTracker>,
+    spare: &mut SpareLines,
+    wanted: &str,
+) -> Result<(), Fail> {
+    assert!(rt; bar.shows_in(spare, &[wanted])?);
     Ok(())
 }
 
@@ -116,10 +149,10 @@ fn spare_lines(rt: HostRuntime) -> Result<(), Fail> {
     let mut first = plain_bar(rt.alloc())?;
     let second = plain_bar(rt.alloc())?;
     let mut spare = SpareLines::new(rt.alloc());
-    assert!(rt; first.shows_in(&mut spare, &["0"])?);
-    assert_eq!(rt; apply(&mut first, BarCommand::Inc(10))?, Ask::Unforced);
-    assert!(rt; first.shows_in(&mut spare, &["10"])?);
-    assert!(rt; second.shows_in(&mut spare, &["0"])?);
+    shows_in(&rt, &first, &mut spare, "0")?;
+    asks(&rt, &mut first, BarCommand::Inc(10), Ask::Unforced);
+    shows_in(&rt, &first, &mut spare, "10")?;
+    shows_in(&rt, &second, &mut spare, "0")?;
     assert!(rt; first.shows(&["10"])?);
     Ok(())
 }

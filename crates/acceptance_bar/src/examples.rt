@@ -14,7 +14,7 @@ use indicatif_text::format::{
     HumanFloatCount,
 };
 use indicatif_text::template::{Alignment, Part, Template};
-use std::alloc::Global;
+use std::alloc::{AllocError, Global};
 use std::process::Abort;
 use std::test::Fail;
 use test_bars::calls::{Call, Told};
@@ -74,37 +74,43 @@ fn refusal(rt: HostRuntime) -> Result<(), Fail> {
     Ok(())
 }
 
+/// What the clock tells.
+fn told(clock: &mut StepClock) -> u64 {
+    clock.now()
+}
+
 #[test]
 fn step_clock(rt: HostRuntime) {
     let mut clock = StepClock { next: 0, step: 50 };
-    assert_eq!(rt; clock.now(), 0);
-    assert_eq!(rt; clock.now(), 50);
-    assert_eq!(rt; clock.now(), 100);
+    for moment in [0u64, 50, 100] {
+        assert_eq!(rt; told(&mut clock), moment);
+    }
+}
+
+/// The text is this.
+fn is_text(rt: &impl Abort, text: Result<String, AllocError>, wanted: &str) -> Result<(), Fail> {
+    let text = text?;
+    assert_eq!(rt; text.as_str(), wanted);
+    Ok(())
 }
 
 #[test]
 fn formatters(rt: HostRuntime) -> Result<(), Fail> {
     let alloc = rt.alloc();
+    let day = FormattedDuration(90_061 * SECOND).to_string(alloc);
+    is_text(&rt, day, "1d 01:01:01")?;
+    let minutes = HumanDuration(89 * SECOND + SECOND / 2).to_string(alloc);
+    is_text(&rt, minutes, "2 minutes")?;
+    is_text(&rt, HumanBytes(1_048_575).to_string(alloc), "1024.00 KiB")?;
+    is_text(
+        &rt,
+        BinaryBytes(3 * 1024 * 1024).to_string(alloc),
+        "3.00 MiB",
+    )?;
+    is_text(&rt, DecimalBytes(1_005).to_string(alloc), "1.00 kB")?;
+    is_text(&rt, HumanCount(1_000).to_string(alloc), "1,000")?;
     let quotient = HumanFloatCount::new(10_001, 8).ok_or("a divisor of 0")?;
-    let table = [
-        (
-            FormattedDuration(90_061 * SECOND).to_string(alloc)?,
-            "1d 01:01:01",
-        ),
-        (
-            HumanDuration(89 * SECOND + SECOND / 2).to_string(alloc)?,
-            "2 minutes",
-        ),
-        (HumanBytes(1_048_575).to_string(alloc)?, "1024.00 KiB"),
-        (BinaryBytes(3 * 1024 * 1024).to_string(alloc)?, "3.00 MiB"),
-        (DecimalBytes(1_005).to_string(alloc)?, "1.00 kB"),
-        (HumanCount(1_000).to_string(alloc)?, "1,000"),
-        (quotient.to_string(alloc)?, "1,250.125"),
-    ];
-    for (text, wanted) in &table {
-        assert_eq!(rt; text.as_str(), *wanted);
-    }
-    Ok(())
+    is_text(&rt, quotient.to_string(alloc), "1,250.125")
 }
 
 #[test]
@@ -170,6 +176,14 @@ fn has_rows(rt: &impl Abort, term: &InMemoryTerm, wanted: &[&str]) -> Result<(),
     Ok(())
 }
 
+/// Three rows, of which two are written, and the calls that wrote them.
+fn has_two_rows(rt: &impl Abort, term: &mut InMemoryTerm) -> Result<(), Fail> {
+    stands(rt, term, "one\ntwo", (1, 4))?;
+    has_rows(rt, term, &["one", "two", ""])?;
+    has_moves(rt, term, "Str(\"one\")\nNewLine\nStr(\"two \")\n");
+    Ok(())
+}
+
 /// The calls since the last look at them are these.
 fn has_moves(rt: &impl Abort, term: &mut InMemoryTerm, wanted: &str) {
     let moves = term.moves_since_last_check();
@@ -180,11 +194,7 @@ fn has_moves(rt: &impl Abort, term: &mut InMemoryTerm, wanted: &str) {
 fn terminal_in_memory(rt: HostRuntime) -> Result<(), Fail> {
     let mut term = terminal(rt.alloc(), 3, 10)?;
     write_two_rows(&mut term)?;
-    stands(&rt, &term, "one\ntwo", (1, 4))?;
-    has_rows(&rt, &term, &["one", "two", ""])?;
-    let wanted = "Str(\"one\")\nNewLine\nStr(\"two \")\n";
-    has_moves(&rt, &mut term, wanted);
-    Ok(())
+    has_two_rows(&rt, &mut term)
 }
 
 #[test]
@@ -207,6 +217,11 @@ fn line_type(rt: HostRuntime) -> Result<(), Fail> {
     Ok(())
 }
 
+/// An engine on this terminal.
+fn engine_on(alloc: Global, term: InMemoryTerm) -> Engine<InMemoryTerm> {
+    Engine::new(alloc, term)
+}
+
 /// An engine on a terminal in memory, whose calls promise nothing here, in a box as terminals are.
 #[derive(Drop)]
 struct Drawing {
@@ -216,8 +231,8 @@ struct Drawing {
 impl Drawing {
     /// On 4 rows and 5 columns.
     fn new(alloc: Global) -> Result<Drawing, Refusal> {
-        let term = InMemoryTerm::new(alloc, 4, 5)?;
-        let engine = Box::new(alloc, Engine::new(alloc, term))?;
+        let engine = engine_on(alloc, InMemoryTerm::new(alloc, 4, 5)?);
+        let engine = Box::new(alloc, engine)?;
         Ok(Drawing { engine })
     }
 

@@ -11,12 +11,13 @@ use std::test::Fail;
 
 type Bar = LoneBar<NoTracker, Term<Vec<u8>>>;
 
-/// A bar on a terminal of 24 rows and 80 columns.
-fn bar_on(alloc: Global) -> Result<Bar, Refusal> {
+/// A bar on a terminal of 24 rows and 80 columns, in a box: each way out of a test drops it by one call.
+fn bar_on(alloc: Global) -> Result<Box<Bar>, Refusal> {
     let style = ProgressStyle::with_template(alloc, "{msg}")?;
     let bar = BarState::styled(alloc, style, None, 0)?;
     let term = Term::new(Vec::new(alloc), 24, 80);
-    Ok(LoneBar::new(bar, ProgressDrawTarget::term_like(term)))
+    let bar = LoneBar::new(bar, ProgressDrawTarget::term_like(term));
+    Ok(Box::new(alloc, bar)?)
 }
 
 /// A message, a line above it, and a tick.

@@ -56,82 +56,157 @@ fn shows(rt: &impl Abort, bar: &Shown<InMemoryTerm>, wanted: &str) -> Result<(),
     Ok(())
 }
 
+/// What a call of a bar answers.
+type Answer = Result<Drawn, Refusal>;
+
+/// A call of a bar at the moment 0, and its answer; or what is seen of the bar then.
+#[derive(Clone, Copy, Drop)]
+enum Step {
+    Ticks(Answer),
+    Says(&'static str, Answer),
+    Logs(&'static str, Answer),
+    IsForced(Answer),
+    Clears(Answer),
+    Shows(&'static str),
+    /// How often it has ticked.
+    Ticked(u64),
+}
+
+/// What the call answers, and what it is to answer; `None` of a look at the bar.
+fn answers(bar: &mut Shown<InMemoryTerm>, step: Step) -> Option<(Answer, Answer)> {
+    match step {
+        Step::Ticks(answer) => Some((bar.tick(0), answer)),
+        Step::Says(text, answer) => Some((bar.set_message(text, 0), answer)),
+        Step::Logs(text, answer) => Some((bar.println(text, 0), answer)),
+        Step::IsForced(answer) => Some((bar.force_draw(0), answer)),
+        Step::Clears(answer) => Some((bar.clear(0), answer)),
+        Step::Shows(_) | Step::Ticked(_) => None,
+    }
+}
+
+fn has_ticked(rt: &impl Abort, bar: &Shown<InMemoryTerm>, ticks: u64) {
+    assert_eq!(rt; bar.ticks(), ticks);
+}
+
+fn makes(rt: &impl Abort, bar: &mut Shown<InMemoryTerm>, step: Step) -> Result<(), Fail> {
+    match step {
+        Step::Shows(wanted) => shows(rt, bar, wanted)?,
+        Step::Ticked(ticks) => has_ticked(rt, bar, ticks),
+        call => {
+            if let Some((answer, wanted)) = answers(bar, call) {
+                assert_eq!(rt; answer, wanted);
+            }
+        }
+    }
+    Ok(())
+}
+
+fn makes_all(rt: &impl Abort, bar: &mut Shown<InMemoryTerm>, steps: &[Step]) -> Result<(), Fail> {
+    for step in steps {
+        makes(rt, bar, *step)?;
+    }
+    Ok(())
+}
+
 #[test]
 fn a_character_wider_than_the_terminal(rt: HostRuntime) -> Result<(), Fail> {
     let mut bar = bar_below(rt.alloc(), (3, 1), &[], "国")?;
-    assert_eq!(rt; bar.tick(0), Err(Refusal::TooWide));
-    shows(&rt, &bar, "")?;
-    assert_eq!(rt; bar.ticks(), 1);
-    assert_eq!(rt; bar.set_message("a", 0), Ok(Drawn::Yes));
-    shows(&rt, &bar, "a")?;
+    let steps = [
+        Step::Ticks(Err(Refusal::TooWide)),
+        Step::Shows(""),
+        Step::Ticked(1),
+        Step::Says("a", Ok(Drawn::Yes)),
+        Step::Shows("a"),
+    ];
+    makes_all(&rt, &mut bar, &steps)
+}
+
+/// A tick and a log are refused so, and no byte is written.
+fn refuses(rt: &impl Abort, bar: &mut Shown<Term<Vec<u8>>>, refusal: Refusal) -> Result<(), Fail> {
+    assert_eq!(rt; bar.tick(0), Err(refusal));
+    assert_eq!(rt; bar.println("l", 0), Err(refusal));
+    assert_eq!(rt; bar.bytes()?.len(), 0);
     Ok(())
 }
 
 #[test]
 fn a_refused_draw_writes_no_byte(rt: HostRuntime) -> Result<(), Fail> {
     let mut wide = bar_behind(rt.alloc(), (3, 1), "国")?;
-    assert_eq!(rt; wide.tick(0), Err(Refusal::TooWide));
-    assert_eq!(rt; wide.println("l", 0), Err(Refusal::TooWide));
-    assert_eq!(rt; wide.bytes()?.len(), 0);
+    refuses(&rt, &mut wide, Refusal::TooWide)?;
     assert_eq!(rt; wide.set_message("a", 0), Ok(Drawn::Yes));
     assert!(rt; !wide.bytes()?.is_empty());
     let mut narrow = bar_behind(rt.alloc(), (3, 0), "a")?;
-    assert_eq!(rt; narrow.tick(0), Err(Refusal::NoColumns));
-    assert_eq!(rt; narrow.println("l", 0), Err(Refusal::NoColumns));
-    assert_eq!(rt; narrow.bytes()?.len(), 0);
-    Ok(())
+    refuses(&rt, &mut narrow, Refusal::NoColumns)
 }
 
 #[test]
 fn a_shorter_message_takes_the_longer_ones_place(rt: HostRuntime) -> Result<(), Fail> {
     let mut bar = bar_below(rt.alloc(), (4, 10), &[], "progress bars")?;
-    assert_eq!(rt; bar.tick(0), Ok(Drawn::Yes));
-    shows(&rt, &bar, "progress b\nars")?;
-    assert_eq!(rt; bar.set_message("x", 0), Ok(Drawn::Yes));
-    shows(&rt, &bar, "x")?;
-    Ok(())
+    let steps = [
+        Step::Ticks(Ok(Drawn::Yes)),
+        Step::Shows("progress b\nars"),
+        Step::Says("x", Ok(Drawn::Yes)),
+        Step::Shows("x"),
+    ];
+    makes_all(&rt, &mut bar, &steps)
 }
 
 #[test]
 fn an_empty_message_has_no_line(rt: HostRuntime) -> Result<(), Fail> {
     let mut bar = bar_below(rt.alloc(), (4, 10), &[], "")?;
-    assert_eq!(rt; bar.tick(0), Ok(Drawn::Yes));
-    shows(&rt, &bar, "")?;
-    assert_eq!(rt; bar.set_message("a", 0), Ok(Drawn::Yes));
-    shows(&rt, &bar, "a")?;
-    Ok(())
+    let steps = [
+        Step::Ticks(Ok(Drawn::Yes)),
+        Step::Shows(""),
+        Step::Says("a", Ok(Drawn::Yes)),
+        Step::Shows("a"),
+    ];
+    makes_all(&rt, &mut bar, &steps)
 }
 
 #[test]
 fn tabs_and_newlines_of_a_message(rt: HostRuntime) -> Result<(), Fail> {
     let mut bar = bar_below(rt.alloc(), (4, 20), &[], "a\tb\n\nc")?;
     assert_eq!(rt; bar.message(), "a        b\n\nc");
-    assert_eq!(rt; bar.force_draw(0), Ok(Drawn::Yes));
-    shows(&rt, &bar, "a        b\n\nc")?;
-    Ok(())
+    let steps = [
+        Step::IsForced(Ok(Drawn::Yes)),
+        Step::Shows("a        b\n\nc"),
+    ];
+    makes_all(&rt, &mut bar, &steps)
 }
 
 #[test]
 fn a_log_on_the_last_row_scrolls(rt: HostRuntime) -> Result<(), Fail> {
     let mut bar = bar_below(rt.alloc(), (3, 10), &["u1", "u2"], "x")?;
-    assert_eq!(rt; bar.tick(0), Ok(Drawn::Yes));
-    assert_eq!(rt; bar.println("l", 0), Ok(Drawn::Yes));
-    shows(&rt, &bar, "u2\nl\nx")?;
+    let steps = [
+        Step::Ticks(Ok(Drawn::Yes)),
+        Step::Logs("l", Ok(Drawn::Yes)),
+        Step::Shows("u2\nl\nx"),
+    ];
+    makes_all(&rt, &mut bar, &steps)?;
     assert_eq!(rt; picture(rt.alloc(), &bar)?.as_str(), "u1\nu2\nl\nx\n");
     Ok(())
 }
 
+/// A bar that says this on five rows of ten columns shows this once it was drawn and this text was logged.
+fn logs(
+    rt: &impl Abort,
+    alloc: Global,
+    message: &str,
+    (text, wanted): (&'static str, &'static str),
+) -> Result<(), Fail> {
+    let mut bar = bar_below(alloc, (5, 10), &[], message)?;
+    let steps = [
+        Step::Ticks(Ok(Drawn::Yes)),
+        Step::Logs(text, Ok(Drawn::Yes)),
+        Step::Shows(wanted),
+    ];
+    makes_all(rt, &mut bar, &steps)
+}
+
 #[test]
 fn lines_of_a_log(rt: HostRuntime) -> Result<(), Fail> {
-    let mut bar = bar_below(rt.alloc(), (5, 10), &[], "x")?;
-    assert_eq!(rt; bar.tick(0), Ok(Drawn::Yes));
-    assert_eq!(rt; bar.println("a\r\nb", 0), Ok(Drawn::Yes));
-    shows(&rt, &bar, "a\nb\nx")?;
-    let mut bar = bar_below(rt.alloc(), (5, 10), &[], "a")?;
-    assert_eq!(rt; bar.tick(0), Ok(Drawn::Yes));
-    assert_eq!(rt; bar.println("", 0), Ok(Drawn::Yes));
-    shows(&rt, &bar, "\na")?;
-    Ok(())
+    logs(&rt, rt.alloc(), "x", ("a\r\nb", "a\nb\nx"))?;
+    logs(&rt, rt.alloc(), "a", ("", "\na"))
 }
 
 /// Writes these bytes to a terminal.
@@ -228,27 +303,25 @@ fn hidden_targets(rt: HostRuntime) -> Result<(), Fail> {
 #[test]
 fn a_clear_takes_the_rows_back(rt: HostRuntime) -> Result<(), Fail> {
     let mut bar = bar_below(rt.alloc(), (4, 5), &[], "x")?;
-    assert_eq!(rt; bar.println("a", 0), Ok(Drawn::Yes));
-    shows(&rt, &bar, "a\nx")?;
-    assert_eq!(rt; bar.clear(0), Ok(Drawn::Yes));
-    shows(&rt, &bar, "a")?;
-    assert_eq!(rt; bar.tick(0), Ok(Drawn::Yes));
-    shows(&rt, &bar, "a\nx")?;
-    Ok(())
+    let steps = [
+        Step::Logs("a", Ok(Drawn::Yes)),
+        Step::Shows("a\nx"),
+        Step::Clears(Ok(Drawn::Yes)),
+        Step::Shows("a"),
+        Step::Ticks(Ok(Drawn::Yes)),
+        Step::Shows("a\nx"),
+    ];
+    makes_all(&rt, &mut bar, &steps)
 }
 
 #[test]
 fn suspended_bars_are_drawn_again(rt: HostRuntime) -> Result<(), Fail> {
     let mut bar = bar_below(rt.alloc(), (4, 5), &[], "x")?;
     assert_eq!(rt; bar.tick(0), Ok(Drawn::Yes));
-    let (value, drawn) = bar.suspend(7, 0);
-    assert_eq!(rt; value, 7);
-    assert_eq!(rt; drawn, Ok(Drawn::Yes));
+    assert_eq!(rt; bar.suspend(7, 0), (7, Ok(Drawn::Yes)));
     shows(&rt, &bar, "x")?;
     let mut narrow = bar_below(rt.alloc(), (4, 1), &[], "国")?;
-    let (value, drawn) = narrow.suspend(8, 0);
-    assert_eq!(rt; value, 8);
-    assert_eq!(rt; drawn, Err(Refusal::TooWide));
+    assert_eq!(rt; narrow.suspend(8, 0), (8, Err(Refusal::TooWide)));
     Ok(())
 }
 
