@@ -12,4 +12,8 @@ mod on_boards;
 #[cfg(test)]
 mod records;
 #[cfg(test)]
+mod styles;
+#[cfg(test)]
 mod tickers;
+#[cfg(test)]
+mod wraps;

@@ -5,6 +5,7 @@ use Rattle.indicatif_text.specs.declared.refusal.Drawn.{Drawn}
 use Rattle.indicatif_text.specs.declared.refusal.Drawn.TheVariants.{Limited}
 use Rattle.indicatif_term.specs.Calls.{TermView}
 use Rattle.indicatif_bar.specs.Trackers.{writes_nothing}
+use Rattle.indicatif_bar.specs.BarStyles.{BarStyle}
 use Rattle.indicatif_bar.specs.Commands.{Command, FinishUsingStyle}
 use Rattle.indicatif_bar.specs.Progress.{Progress, is_finished}
 use Rattle.indicatif_bar.specs.Lone.{LoneCall, Change}
@@ -46,6 +47,11 @@ module _ {T C : Type 0} where
   abbrev pub Measures : {A : Type 0} → (Progress → ℕ → A) → Place T C → A → Type 0
   Measures measure (Alone bar) found = (now : ℕ) × (found ≡ measure (record_of bar).progress now)
   Measures measure (On seat) found = (p : Progress) × (now : ℕ) × (found ≡ measure p now)
+
+  -- a bar that stands alone looks so
+  abbrev pub LooksSo : Place T C → BarStyle NoTracker → Type 0
+  LooksSo (Alone bar) style = style ≡ (record_of bar).style
+  LooksSo (On seat) style = Unit {0}
 
   -- a bar that stands alone is not finished
   abbrev pub IsUnfinished : Place T C → Type 0

@@ -3,7 +3,7 @@
 //! - `held`: what its lock keeps (private).
 //! - `ticker`: which steady ticker it has; `steady`: the thread that ticks (private).
 //! - `weak`: a bar without an owner (private).
-ghost use Rattle.std.specs.Prelude.{◌≡◌, ◌⊎◌, ℕ, IfErr, Err};
+ghost use Rattle.std.specs.Prelude.{◌≡◌, ◌⊎◌, ℕ, IfOk, IfErr, Err};
 ghost use Rattle.std.specs.Fn.{FnOnceReturnsAt};
 ghost use Rattle.indicatif_bar.specs.Commands as Command;
 ghost use Rattle.indicatif_bar.specs.Finishes as Finish;
@@ -18,6 +18,7 @@ ghost use Rattle.indicatif_board.specs.Calls.{place_at};
 ghost use Rattle.indicatif.specs.Fronts.{CanAnswer, OwnerJoins};
 ghost use Rattle.indicatif.specs.Places.{unchanged};
 ghost use Rattle.indicatif.specs.SharedBoards.{SharedAnswers, SharedTakes};
+ghost use Rattle.indicatif.specs.Wrap.{Wraps};
 
 mod held;
 mod kept;
@@ -33,6 +34,7 @@ pub use self::multi::{MultiProgress, RecordReader};
 pub use self::weak::WeakProgressBar;
 use crate::moves::Moves;
 use crate::wrap::ProgressBarIter;
+use futures::stream::Stream;
 use indicatif_bar::lone::LoneBar;
 use indicatif_bar::state::{BarCommand, BarState, Change, ProgressFinish, ProgressState, Rate};
 use indicatif_bar::style::{NoTracker, ProgressStyle};
@@ -44,6 +46,7 @@ use std::alloc::{AllocError, Global};
 use std::fmt::{self, Debug, Formatter};
 use std::io::{Read, Write};
 use std::sync::{Arc, Condvar, Mutex, Wait};
+use tokio::io::{AsyncRead, AsyncWrite};
 
 /// One owner of a bar that others may own too, in this thread or in others: a clone is another owner of the same bar.
 ///
@@ -413,6 +416,21 @@ impl<T: TermLike + Drop, C: Clock + Drop, R: Wait + Clone + Drop> ProgressBar<T,
         held.place().prefix(&self.rt, self.alloc)
     }
 
+    /// A style equal to the bar's: what is made of it leaves the bar as it is.
+    ///
+    /// ```
+    /// let style = bar.style()?.template("{pos}")?; // another template for the same characters
+    /// let drawn = bar.set_style(style)?; // Drawn::Limited; the next draw is in this style
+    /// ```
+    ///
+    /// Refused: `Memory`.
+    pub fn style(&self) -> Result<ProgressStyle<NoTracker>, Refusal>
+        ensures { IfErr result (λ e. e ≡ Refusal.Memory) }
+    {
+        let held = self.state.lock.lock(&self.rt);
+        held.place().style(&self.rt, self.alloc)
+    }
+
     /// The nanoseconds that are left, by the rate so far, at most 2^64 - 1; 0 where the bar is finished, has no length or no rate.
     pub fn eta(&self) -> u64
         ensures { (p : Progress) × (now : ℕ) × (result ≡ Figures.eta p now) }
@@ -555,31 +573,94 @@ impl<T: TermLike + Drop, C: Clock + Drop, R: Wait + Clone + Drop> ProgressBar<T,
 impl<T: TermLike + Drop, C: Clock + Drop, R: Wait + Clone + Drop> ProgressBar<T, C, R> {
     /// An iterator that advances the bar by its items and finishes it at its end.
     ///
+    /// ```
+    /// let mut wrapped = bar.wrap_iter(items.into_iter())?; // wrapped.next() is the first item
+    /// ```
+    ///
     /// Refused: want of memory, or of owners; the iterator is given up.
     pub fn wrap_iter<I: Iterator + Drop>(
         &self,
         it: I,
-    ) -> Result<ProgressBarIter<I, Self>, AllocError> {
+    ) -> Result<ProgressBarIter<I, Self>, AllocError>
+        ensures { IfOk result (λ wrapped. Wraps wrapped it) }
+    {
         Ok(ProgressBarIter::new(it, self.clone()?))
     }
 
     /// A reader that places the bar behind what was read.
     ///
+    /// ```
+    /// let mut wrapped = bar.wrap_read(file)?; // wrapped.read(&mut room) places the bar
+    /// ```
+    ///
     /// Refused: want of memory, or of owners; the reader is given up.
-    pub fn wrap_read<I: Read + Drop>(
-        &self,
-        read: I,
-    ) -> Result<ProgressBarIter<I, Self>, AllocError> {
+    pub fn wrap_read<I: Read + Drop>(&self, read: I) -> Result<ProgressBarIter<I, Self>, AllocError>
+        ensures { IfOk result (λ wrapped. Wraps wrapped read) }
+    {
         Ok(ProgressBarIter::new(read, self.clone()?))
     }
 
     /// A writer that places the bar behind what was written.
     ///
+    /// ```
+    /// let mut wrapped = bar.wrap_write(file)?; // wrapped.write(text.as_bytes()) places the bar
+    /// ```
+    ///
     /// Refused: want of memory, or of owners; the writer is given up.
     pub fn wrap_write<I: Write + Drop>(
         &self,
         write: I,
-    ) -> Result<ProgressBarIter<I, Self>, AllocError> {
+    ) -> Result<ProgressBarIter<I, Self>, AllocError>
+        ensures { IfOk result (λ wrapped. Wraps wrapped write) }
+    {
+        Ok(ProgressBarIter::new(write, self.clone()?))
+    }
+
+    /// A stream that advances the bar by its items and finishes it at each end.
+    ///
+    /// ```
+    /// let mut wrapped = bar.wrap_stream(stream)?; // wrapped.poll_next(cx) advances the bar by an item
+    /// ```
+    ///
+    /// Refused: want of memory, or of owners; the stream is given up.
+    pub fn wrap_stream<I: Stream + Drop>(
+        &self,
+        stream: I,
+    ) -> Result<ProgressBarIter<I, Self>, AllocError>
+        ensures { IfOk result (λ wrapped. Wraps wrapped stream) }
+    {
+        Ok(ProgressBarIter::new(stream, self.clone()?))
+    }
+
+    /// A reader that is polled, and places the bar behind what was read.
+    ///
+    /// ```
+    /// let mut wrapped = bar.wrap_async_read(socket)?; // wrapped.poll_read(cx, &mut room) places the bar
+    /// ```
+    ///
+    /// Refused: want of memory, or of owners; the reader is given up.
+    pub fn wrap_async_read<I: AsyncRead + Drop>(
+        &self,
+        read: I,
+    ) -> Result<ProgressBarIter<I, Self>, AllocError>
+        ensures { IfOk result (λ wrapped. Wraps wrapped read) }
+    {
+        Ok(ProgressBarIter::new(read, self.clone()?))
+    }
+
+    /// A writer that is polled, and places the bar behind what was written.
+    ///
+    /// ```
+    /// let mut wrapped = bar.wrap_async_write(socket)?; // wrapped.poll_write(cx, bytes) places the bar
+    /// ```
+    ///
+    /// Refused: want of memory, or of owners; the writer is given up.
+    pub fn wrap_async_write<I: AsyncWrite + Drop>(
+        &self,
+        write: I,
+    ) -> Result<ProgressBarIter<I, Self>, AllocError>
+        ensures { IfOk result (λ wrapped. Wraps wrapped write) }
+    {
         Ok(ProgressBarIter::new(write, self.clone()?))
     }
 }

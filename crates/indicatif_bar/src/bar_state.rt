@@ -95,7 +95,11 @@ impl<K: ProgressTracker> BarState<K> {
     }
 
     /// How it looks.
-    pub(crate) fn style(&self) -> &ProgressStyle<K>
+    ///
+    /// ```
+    /// let style = bar.style().try_clone()?.template("{pos}")?; // the bar's stays as it is
+    /// ```
+    pub fn style(&self) -> &ProgressStyle<K>
         ensures { result.now ≡ self.now.style }
     {
         &self.style

@@ -1,5 +1,5 @@
 //! Where a shared bar stands: alone on its target, or on a board.
-ghost use Rattle.std.specs.Prelude.{◌≡◌, ◌⊎◌, Some, None, MatchResult, IfErr, false, string_bytes};
+ghost use Rattle.std.specs.Prelude.{◌≡◌, ◌⊎◌, Some, None, MatchResult, IfOk, IfErr, false, string_bytes};
 ghost use Rattle.std.specs.Fn.{FnOnceReturnsAt};
 ghost use Rattle.indicatif_bar.specs.Commands.{Update, command_of};
 ghost use Rattle.indicatif_bar.specs.Progress.{Progress};
@@ -8,13 +8,13 @@ ghost use Rattle.indicatif_board.specs.Boards.{Tell, Drop as Dropped};
 ghost use Rattle.indicatif_board.specs.BoardValues.{id_of};
 ghost use Rattle.indicatif_board.specs.Calls.{call_of};
 ghost use Rattle.indicatif.specs.Worded.{worded};
-ghost use Rattle.indicatif.specs.Places.{ReadsBy, IsUnfinished, unchanged};
+ghost use Rattle.indicatif.specs.Places.{ReadsBy, LooksSo, IsUnfinished, unchanged};
 ghost use Rattle.indicatif.specs.SharedBoards.{SharedDraws};
 
 use crate::progress_bar::kept::Shared;
 use indicatif_bar::lone::LoneBar;
 use indicatif_bar::state::{BarCommand, BarState, Change, ProgressFinish, ProgressState};
-use indicatif_bar::style::NoTracker;
+use indicatif_bar::style::{NoTracker, ProgressStyle};
 use indicatif_board::multi::{BarId, Call, Candidate};
 use indicatif_term::term_like::TermLike;
 use indicatif_text::columns::{Clock, Drawn, Moment, Refusal};
@@ -249,6 +249,20 @@ impl<T: TermLike + Drop, C: Clock + Drop> Place<T, C> {
                 let bar = on.kept.board().bar(seat.id)?;
                 Ok(String::from_str(alloc, bar.prefix())?)
             }
+        }
+    }
+
+    /// A style equal to the bar's; that of a new bar where its board hasn't the bar.
+    pub fn style<R: Wait>(&self, rt: &R, alloc: Global) -> Result<ProgressStyle<NoTracker>, Refusal>
+        ensures style { IfOk result (λ style. LooksSo self.now style) }
+        ensures memory { IfErr result (λ e. e ≡ Refusal.Memory) }
+    {
+        match self {
+            Place::Alone(bar) => bar.bar().style().try_clone(),
+            Place::On(seat) => match seat.board.lock(rt).kept.board().bar(seat.id) {
+                Ok(bar) => bar.style().try_clone(),
+                Err(_) => ProgressStyle::default_bar(alloc),
+            },
         }
     }
 
