@@ -45,6 +45,7 @@ fn bar_command_and_ask(rt: HostRuntime) -> Result<(), Fail> {
     assert_eq!(rt; bar.reached().position, 2);
     assert_eq!(rt; apply(&mut bar, BarCommand::ResetEta)?, Ask::No);
     assert_eq!(rt; apply(&mut bar, BarCommand::ForceDraw)?, Ask::Forced);
+    assert!(rt; Ask::No.is_no() && !Ask::Forced.is_no());
     Ok(())
 }
 
@@ -90,7 +91,7 @@ struct Always {
 }
 
 impl TellsText for Always {
-    ghost told = { λ always p now. string_bytes always.text };
+    ghost told_text = { λ always p now. string_bytes always.text };
 
     fn tell(&self, _state: &ProgressState, _now: Moment) -> Result<String, Refusal> {
         Ok(self.text.clone()?)

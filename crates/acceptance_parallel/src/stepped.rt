@@ -14,7 +14,7 @@ pub struct Stepped {
 impl Moves for Stepped {
     ghost use Rattle.std.specs.Prelude.{Some, None};
 
-    ghost told = { λ bar. Some (record { position = bar.position; finished = bar.finished; ends_at = None }) };
+    ghost stands = { λ bar. Some (record { position = bar.position; finished = bar.finished; ends_at = None }) };
 
     fn advance(&mut self, n: u64) -> Result<Drawn, Refusal> {
         self.position = self.position.wrapping_add(n);

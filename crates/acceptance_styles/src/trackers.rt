@@ -20,7 +20,7 @@ struct Says {
 }
 
 impl TellsText for Says {
-    ghost told = { λ says p now. says.text.now };
+    ghost told_text = { λ says p now. says.text.now };
 
     fn tell(&self, _state: &ProgressState, _now: Moment) -> Result<String, Refusal> {
         Ok(String::from_str(self.alloc, self.text)?)

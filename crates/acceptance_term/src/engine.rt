@@ -1,5 +1,7 @@
 //! The engine by itself: lines drawn, logged above, kept and cleared on a terminal in memory.
-use indicatif_term::draw_target::{Engine, Keep, LineType, MultiProgressAlignment, Segment};
+use indicatif_term::draw_target::{
+    Engine, Keep, LineType, MultiProgressAlignment, ProgressDrawTarget, Segment,
+};
 use indicatif_term::in_memory::InMemoryTerm;
 use indicatif_term::term_like::{Term, TermLike};
 use indicatif_text::columns::Refusal;
@@ -26,6 +28,21 @@ fn bars(alloc: Global, table: &[(u64, &str)]) -> Result<Vec<Segment>, Refusal> {
 fn engine(alloc: Global, rows: u16, cols: u16) -> Result<Engine<InMemoryTerm>, Refusal> {
     let term = InMemoryTerm::new(alloc, rows, cols)?;
     Ok(Engine::new(alloc, term))
+}
+
+#[test]
+fn engines_of_targets(rt: HostRuntime) -> Result<(), Fail> {
+    let term = InMemoryTerm::new(rt.alloc(), 2, 3)?;
+    let (engine, limiter) = Engine::opened_on(rt.alloc(), ProgressDrawTarget::term_like(term));
+    assert!(rt; engine.is_some() && limiter.is_none());
+    let nowhere: ProgressDrawTarget<InMemoryTerm> = ProgressDrawTarget::hidden();
+    let (engine, limiter) = Engine::opened_on(rt.alloc(), nowhere);
+    assert!(rt; engine.is_none() && limiter.is_none());
+    let term = InMemoryTerm::new(rt.alloc(), 2, 3)?;
+    let often = ProgressDrawTarget::term_like_with_hz(term, 1, 0)?;
+    let (engine, limiter) = Engine::opened_on(rt.alloc(), often);
+    assert!(rt; engine.is_some() && limiter.is_some());
+    Ok(())
 }
 
 #[test]

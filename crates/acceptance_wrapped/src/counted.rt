@@ -15,7 +15,7 @@ pub struct Counted {
 impl Moves for Counted {
     ghost use Rattle.std.specs.Prelude.{Some, None};
 
-    ghost told = { λ bar. Some (record { position = bar.position; finished = bar.finished; ends_at = None }) };
+    ghost stands = { λ bar. Some (record { position = bar.position; finished = bar.finished; ends_at = None }) };
 
     fn advance(&mut self, n: u64) -> Result<Drawn, Refusal> {
         self.position = self.position.wrapping_add(n);

@@ -6,8 +6,8 @@ use Rattle.indicatif_text.specs.declared.refusal.Drawn.{Drawn}
 use Rattle.indicatif_term.specs.Calls.{TermView}
 use Rattle.indicatif_bar.specs.Trackers.{writes_nothing}
 use Rattle.indicatif_bar.specs.Commands.{Command}
-use Rattle.indicatif_bar.specs.Lone.{Call, Change}
-use Rattle.indicatif_bar.specs.LoneBars.{record_of, CallDone, LeadsBy, ObeysOrNot}
+use Rattle.indicatif_bar.specs.Lone.{LoneCall, Change}
+use Rattle.indicatif_bar.specs.LoneBars.{record_of, CallDone, LoneLeadsBy, ObeysOrNot}
 use Rattle.indicatif_bar.specs.Progress.{Progress, new_progress, eta, per_sec, duration, elapsed}
 use Rattle.indicatif_bar.specs.declared.command.Change.{Change as Changed}
 use Rattle.indicatif_bar.specs.declared.lone.LoneBar.{LoneBar}
@@ -20,7 +20,7 @@ use Rattle.indicatif.specs.SharedBoards.{SharedCall, SharedDraws, SharedTakes}
 use Rattle.indicatif.specs.declared.progress_bar.place.Place.{Place}
 use Rattle.indicatif.specs.declared.progress_bar.place.Place.TheVariants.{Alone, On}
 
-pub place_answers : {T C : Type 0} (view : T → TermView) (old new : Place T C) (call : Call (Command NoTracker)) (answer : Result Drawn Refusal) →
+pub place_answers : {T C : Type 0} (view : T → TermView) (old new : Place T C) (call : LoneCall (Command NoTracker)) (answer : Result Drawn Refusal) →
     PlaceMakes view old call answer new → CanAnswer view call answer
 place_answers view (Alone old) new call answer made = inl (old, made.0, made.2)
 place_answers view (On seat) new call answer made = inr (id_of seat.id, made.1)
@@ -55,8 +55,8 @@ pub alone_obeys : {T C : Type 0} (view : T → TermView) (old new : LoneBar NoTr
     ObeysOrNot writes_nothing view old new command now answer → PlaceMakes {T = T} {C = C} view (Alone old) (Change command) answer (Alone new)
 alone_obeys view old new command now answer obeys = (new, refl, (now, obeys.bar, obeys.leads))
 
-pub alone_makes : {T C : Type 0} (view : T → TermView) (old new : LoneBar NoTracker T) (call : Call (Command NoTracker)) (now : ℕ) (answer : Result Drawn Refusal) →
-    CallDone writes_nothing old new call now answer → LeadsBy writes_nothing view old new call now answer → PlaceMakes {T = T} {C = C} view (Alone old) call answer (Alone new)
+pub alone_makes : {T C : Type 0} (view : T → TermView) (old new : LoneBar NoTracker T) (call : LoneCall (Command NoTracker)) (now : ℕ) (answer : Result Drawn Refusal) →
+    CallDone writes_nothing old new call now answer → LoneLeadsBy writes_nothing view old new call now answer → PlaceMakes {T = T} {C = C} view (Alone old) call answer (Alone new)
 alone_makes view old new call now answer done leads = (new, refl, (now, done, leads))
 
 -- what a closure answered, wherever the bar stands

@@ -7,7 +7,7 @@ use Rattle.indicatif_text.specs.declared.refusal.Refusal.{Refusal}
 use Rattle.indicatif_text.specs.declared.refusal.Refusal.TheVariants.{Memory}
 use Rattle.indicatif.specs.declared.wrap.ProgressBarIter.{ProgressBarIter}
 use Rattle.indicatif.specs.Moves.{Standing, Move, Advance, FinishAsStored, Goes, after_bar_move}
-use Rattle.indicatif.specs.Wrap.{inner_of, last_draw_of, Counts, NextGives, Loops}
+use Rattle.indicatif.specs.Wrap.{inner_of, last_draw_of, CountsItem, NextGives, Loops}
 
 -- the bar at another position
 abbrev pub at_position : Standing → ℕ → Standing
@@ -27,7 +27,7 @@ module _ {T P : Type 0} (told : P → Option Standing) (leads : P → Move → R
     loop-inner (x ∷ items) s m along = (inner_of along.0, along.1.0, loop-inner items along.0 m along.2)
 
     loop-told : (items : List A) (bar : Standing) (s m t : ProgressBarIter T P) → told s.progress ≡ Some bar → Yields (NextGives told leads gives) s items m
-        → Counts told leads false m t → bar.position < 18446744073709551616
+        → CountsItem told leads false m t → bar.position < 18446744073709551616
         → bar.finished ≡ false → EndsAt bar t ((bar.position + length items) % 18446744073709551616)
     loop-told [] bar s m t before same end fits going =
         let none : bar.position ≡ (bar.position + 0) % 18446744073709551616 = omega (arith, fits) in

@@ -10,13 +10,13 @@ use Rattle.indicatif_bar.specs.declared.state.Ask.TheVariants.{No}
 use Rattle.indicatif_bar.specs.PositionLimiters.{allow_position}
 use Rattle.indicatif_bar.specs.Commands.{BarRecord, Command, tick, ticker_tick, moved_to}
 use Rattle.indicatif_bar.specs.Runs.{Runs}
-use Rattle.indicatif_bar.specs.Lone.{LoneState, Call, Change}
-use Rattle.indicatif_bar.specs.LoneBars.{known, lone_bar, IsIn, LeadsBy}
+use Rattle.indicatif_bar.specs.Lone.{LoneState, LoneCall, Change}
+use Rattle.indicatif_bar.specs.LoneBars.{lone_known, lone_bar, LoneIsIn, LoneLeadsBy}
 use Rattle.indicatif_bar.proofs.RunLemmas.{headline}
 use Rattle.indicatif.specs.declared.owned.OwnedBar.{OwnedBar}
 use Rattle.indicatif.specs.declared.wrap.ProgressBarIter.{ProgressBarIter}
 use Rattle.indicatif.specs.Moves.{Standing, Move, Advance, PlaceAt, FinishAsStored, MovedAlong, AreOfLoop}
-use Rattle.indicatif.specs.Wrap.{Counts, NextGives}
+use Rattle.indicatif.specs.Wrap.{CountsItem, NextGives}
 use Rattle.indicatif.specs.Owned.{lone_of, standing_of, command_of_move, Commanded, IsRun}
 
 -- the moves of a loop
@@ -24,7 +24,7 @@ abbrev pub LoopMade : {P : Type 0} → (P → Move → Result Drawn Refusal → 
 LoopMade leads items old new = (made : List (Move × Result Drawn Refusal)) × MovedAlong leads made old new × AreOfLoop items (map (λ x. x.0) made)
 
 pub loop-made : {T P A : Type 0} (told : P → Option Standing) (leads : P → Move → Result Drawn Refusal → P → Type 0) (gives : T → Option A → T → Type 0)
-    → (items : List A) (s m t : ProgressBarIter T P) → Yields (NextGives told leads gives) s items m → Counts told leads false m t
+    → (items : List A) (s m t : ProgressBarIter T P) → Yields (NextGives told leads gives) s items m → CountsItem told leads false m t
     → LoopMade leads (length items) s.progress t.progress
 loop-made told leads gives [] s m t same end =
     let from : s.progress ≡ m.progress = ap (λ w. w.progress) same in
@@ -43,7 +43,7 @@ loop-made told leads gives (x ∷ items) s m t along end =
 module _ {K T C : Type 0} (m : Tracking K) (view : T → TermView) where
   -- a move leads as its command does, at some moment
   command-leads : (old : OwnedBar K T C) (move : Move) (answer : Result Drawn Refusal) (new : OwnedBar K T C) → Commanded m view old move answer new
-      → (now : ℕ) × LeadsBy m view (lone_of old) (lone_of new) (Change (command_of_move move)) now answer
+      → (now : ℕ) × LoneLeadsBy m view (lone_of old) (lone_of new) (Change (command_of_move move)) now answer
   command-leads old (Advance n) answer new made = (made.0, made.1.leads)
   command-leads old (PlaceAt place) answer new made = (made.0, made.1.leads)
   command-leads old FinishAsStored answer new made = (made.0, made.1.leads)
@@ -51,14 +51,14 @@ module _ {K T C : Type 0} (m : Tracking K) (view : T → TermView) where
   -- the run without its headline
   abbrev pub RunFrom : List (Move × Result Drawn Refusal) → OwnedBar K T C → OwnedBar K T C → LoneState (BarRecord K) → Type 0
   RunFrom made old new s =
-      (calls : List (Call (Command K) × ℕ)) × (map (λ call. call.0) calls ≡ map (λ x. Change (command_of_move x.0)) made)
-      × (next : LoneState (BarRecord K)) × IsIn (lone_of new) next
-      × Runs (lone_bar m) calls (map (λ x. x.1) made) (known view (lone_of old)) s (known view (lone_of new)) next
+      (calls : List (LoneCall (Command K) × ℕ)) × (map (λ call. call.0) calls ≡ map (λ x. Change (command_of_move x.0)) made)
+      × (next : LoneState (BarRecord K)) × LoneIsIn (lone_of new) next
+      × Runs (lone_bar m) calls (map (λ x. x.1) made) (lone_known view (lone_of old)) s (lone_known view (lone_of new)) next
 
   run-from : (made : List (Move × Result Drawn Refusal)) (old new : OwnedBar K T C) → MovedAlong (Commanded m view) made old new
-      → (s : LoneState (BarRecord K)) → IsIn (lone_of old) s → RunFrom made old new s
+      → (s : LoneState (BarRecord K)) → LoneIsIn (lone_of old) s → RunFrom made old new s
   run-from [] old new same s inside =
-      ([], refl, s, subst (λ b. IsIn (lone_of b) s) (sym same) inside, (ap (λ b. known view (lone_of b)) same, refl))
+      ([], refl, s, subst (λ b. LoneIsIn (lone_of b) s) (sym same) inside, (ap (λ b. lone_known view (lone_of b)) same, refl))
   run-from ((move, answer) ∷ made) old new along s inside =
       let step = command-leads old move answer along.0 along.1 in
       let led = step.1 s inside in
@@ -67,13 +67,13 @@ module _ {K T C : Type 0} (m : Tracking K) (view : T → TermView) where
         ap (λ xs. Change (command_of_move move) ∷ xs) others.1,
         others.2,
         others.3,
-        (known view (lone_of along.0), led.0, led.2, others.4),
+        (lone_known view (lone_of along.0), led.0, led.2, others.4),
       )
 
   pub moves-run : (made : List (Move × Result Drawn Refusal)) (old new : OwnedBar K T C) → MovedAlong (Commanded m view) made old new → IsRun m view made old new
   moves-run made old new along s inside =
       let r = run-from made old new along s inside in
-      (r.0, r.1, r.2, r.3, r.4, headline (lone_bar m) r.0 (map (λ x. x.1) made) (known view (lone_of old)) s (known view (lone_of new)) r.2 r.4)
+      (r.0, r.1, r.2, r.3, r.4, headline (lone_bar m) r.0 (map (λ x. x.1) made) (lone_known view (lone_of old)) s (lone_known view (lone_of new)) r.2 r.4)
 
 -- ---- where a bar stands
 

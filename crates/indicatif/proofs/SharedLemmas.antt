@@ -11,7 +11,7 @@ use Rattle.indicatif_board.specs.Calls.{answer_of, removal}
 use Rattle.indicatif_board.specs.declared.calls.Answer.{Answer as AnswerValue}
 use Rattle.indicatif_board.specs.declared.calls.Answer.TheVariants as answer
 use Rattle.indicatif_board.specs.Multi.{LeadsBy}
-use Rattle.indicatif_board.specs.Recorded.{Record, IsOneRun, Grows}
+use Rattle.indicatif_board.specs.Recorded.{Record, IsOneRun, AddsCall}
 use Rattle.indicatif_board.specs.declared.multi.Board.{Board}
 use Rattle.indicatif.specs.SharedBoards.{SharedCall, IsSomewhere, BoardCan, SharedAnswers}
 
@@ -25,14 +25,14 @@ module _ {T : Type 0} (view : T → TermView) where
 
   -- the same of a board with its history
   pub record_answers : (old new : Record NoTracker T) (call : SharedCall) (now : ℕ) (answer : Answer) →
-      IsOneRun writes_nothing old → Grows writes_nothing view old call now answer new ⊎ ((new ≡ old) × (answer ≡ Refused Memory)) → SharedAnswers view call answer
+      IsOneRun writes_nothing old → AddsCall writes_nothing view old call now answer new ⊎ ((new ≡ old) × (answer ≡ Refused Memory)) → SharedAnswers view call answer
   record_answers old new call now answer run (inl grows) = inl (can_answer old.board new.board call now answer (old.mark, run.0, run.2) grows.leads)
   record_answers old new call now answer run (inr same) = inr same.1
 
   -- what a history says of its growth, of the answer as its definition
   pub grows_so : (old new : Record NoTracker T) (call : SharedCall) (now : ℕ) (told : AnswerValue) →
-      Grows writes_nothing view old call now (answer_of told) new ⊎ ((new ≡ old) × (told ≡ answer.Refused Memory)) →
-      Grows writes_nothing view old call now (answer_of told) new ⊎ ((new ≡ old) × (answer_of told ≡ Refused Memory))
+      AddsCall writes_nothing view old call now (answer_of told) new ⊎ ((new ≡ old) × (told ≡ answer.Refused Memory)) →
+      AddsCall writes_nothing view old call now (answer_of told) new ⊎ ((new ≡ old) × (answer_of told ≡ Refused Memory))
   grows_so old new call now told (inl grows) = inl grows
   grows_so old new call now told (inr same) = inr (same.0, ap answer_of same.1)
 

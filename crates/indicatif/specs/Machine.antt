@@ -2,9 +2,9 @@
 use Rattle.std.specs.Prelude.{◌≡◌, ℕ, Option, Some, None, if◌then◌else◌}
 use Rattle.indicatif_term.specs.Limiters.{Limiter, draw_limiter}
 use Rattle.indicatif_term.specs.Targets.{hides, term_behind}
-use Rattle.indicatif_term.specs.Writers.{Behind}
+use Rattle.indicatif_term.specs.Writers.{WriterTerm}
 use Rattle.indicatif_term.specs.declared.target.Facts.{Facts}
 
 -- a target on the terminal behind some writer, which may be drawn 20 times a second; a hidden one where the facts say so
-abbrev pub IsBehind : {W : Type 0} → Option (Behind W × Option Limiter) → Facts → Type 0
+abbrev pub IsBehind : {W : Type 0} → Option (WriterTerm W × Option Limiter) → Facts → Type 0
 IsBehind {W} target facts = (w : W) × (now : ℕ) × (target ≡ (if hides facts then None else Some (term_behind w facts, Some (draw_limiter 20 now))))

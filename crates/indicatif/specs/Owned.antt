@@ -7,13 +7,13 @@ use Rattle.indicatif_term.specs.Calls.{TermView}
 use Rattle.indicatif_term.specs.Limiters.{Limiter}
 use Rattle.indicatif_term.specs.Targets.{term_of, limiter_of}
 use Rattle.indicatif_bar.specs.Progress.{is_finished}
-use Rattle.indicatif_bar.specs.Finishes.{Finish, AndLeave, WithMessage, AndClear, Abandon, AbandonWithMessage}
+use Rattle.indicatif_bar.specs.Finishes.{BarFinish, AndLeave, WithMessage, AndClear, Abandon, AbandonWithMessage}
 use Rattle.indicatif_bar.specs.Trackers.{Tracking}
 use Rattle.indicatif_bar.specs.Builders.{first_style}
 use Rattle.indicatif_bar.specs.Commands.{BarRecord, Command, Inc, SetPosition, FinishUsingStyle, new_bar, is_beyond_clock}
 use Rattle.indicatif_bar.specs.Runs.{Runs, Headline}
-use Rattle.indicatif_bar.specs.Lone.{LoneState, Call, Change, opening_state}
-use Rattle.indicatif_bar.specs.LoneBars.{record_of, terminal_of, known, lone_bar, IsIn, Obeys, ObeysOrNot, RefusesCommand}
+use Rattle.indicatif_bar.specs.Lone.{LoneState, LoneCall, Change, opening_state}
+use Rattle.indicatif_bar.specs.LoneBars.{record_of, lone_terminal, lone_known, lone_bar, LoneIsIn, Obeys, ObeysOrNot, RefusesCommand}
 use Rattle.indicatif_bar.specs.declared.lone.LoneBar.{LoneBar}
 use Rattle.indicatif.specs.Moves.{Standing, Move, Advance, PlaceAt, FinishAsStored}
 use Rattle.indicatif.specs.Wrap.{inner_of, seeks_kept, last_draw_of}
@@ -21,7 +21,7 @@ use Rattle.indicatif.specs.declared.owned.OwnedBar.{OwnedBar}
 use Rattle.indicatif.specs.declared.wrap.ProgressBarIter.{ProgressBarIter}
 
 -- where a finish puts the position, if it moves it: at the length
-abbrev pub end_place : Finish → Option ℕ → Option ℕ
+abbrev pub end_place : BarFinish → Option ℕ → Option ℕ
 end_place AndLeave len = len
 end_place (WithMessage text) len = len
 end_place AndClear len = len
@@ -56,16 +56,16 @@ Commanded m view old FinishAsStored answer new = (now : ℕ) × ObeysOrNot m vie
 -- headline holds of them
 abbrev pub IsRun : {K T C : Type 0} → Tracking K → (T → TermView) → List (Move × Result Drawn Refusal) → OwnedBar K T C → OwnedBar K T C → Type 0
 IsRun {K} m view made old new =
-    (s : LoneState (BarRecord K)) → IsIn (lone_of old) s →
-    let answers = map (λ x. x.1) made in let before = known view (lone_of old) in let now = known view (lone_of new) in
-    (calls : List (Call (Command K) × ℕ)) × (map (λ call. call.0) calls ≡ map (λ x. Change (command_of_move x.0)) made)
-    × (next : LoneState (BarRecord K)) × IsIn (lone_of new) next
+    (s : LoneState (BarRecord K)) → LoneIsIn (lone_of old) s →
+    let answers = map (λ x. x.1) made in let before = lone_known view (lone_of old) in let now = lone_known view (lone_of new) in
+    (calls : List (LoneCall (Command K) × ℕ)) × (map (λ call. call.0) calls ≡ map (λ x. Change (command_of_move x.0)) made)
+    × (next : LoneState (BarRecord K)) × LoneIsIn (lone_of new) next
     × (run : Runs (lone_bar m) calls answers before s now next) × Headline (lone_bar m) calls answers before s now next run
 
 -- a bar as it begins: with this record, on this target, nothing drawn yet
 abbrev pub Begins : {K T C : Type 0} → OwnedBar K T C → BarRecord K → Option (T × Option Limiter) → Type 0
 Begins owned bar target =
-    (record_of (lone_of owned) ≡ bar) × (terminal_of (lone_of owned) ≡ term_of target) × IsIn (lone_of owned) (opening_state bar (limiter_of target))
+    (record_of (lone_of owned) ≡ bar) × (lone_terminal (lone_of owned) ≡ term_of target) × LoneIsIn (lone_of owned) (opening_state bar (limiter_of target))
 
 -- the same in the style that a bar has where none is given, with these tick characters
 abbrev pub BeginsPlain : {K T C : Type 0} → OwnedBar K T C → List ℕ → Option ℕ → Option (T × Option Limiter) → Type 0

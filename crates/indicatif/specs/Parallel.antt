@@ -10,12 +10,12 @@ abbrev pub block_length : ℕ
 block_length = 4096
 
 -- by what the bar tells, and where a move leads it with an answer
-module _ {P : Type 0} (told : P → Option Standing) (leads : P → Move → Result Drawn Refusal → P → Type 0) where
+module _ {P : Type 0} (stands : P → Option Standing) (leads : P → Move → Result Drawn Refusal → P → Type 0) where
   -- advances one after another, each with its answer
   abbrev pub AdvancedAlong : List (ℕ × Result Drawn Refusal) → P → P → Type 0
   AdvancedAlong [] old new = new ≡ old
   AdvancedAlong (made ∷ others) old new =
-      (between : P) × leads old (Advance made.0) made.1 between × Goes (told old) (Advance made.0) made.1 (told between) × AdvancedAlong others between new
+      (between : P) × leads old (Advance made.0) made.1 between × Goes (stands old) (Advance made.0) made.1 (stands between) × AdvancedAlong others between new
 
   -- the bar was advanced by so many items in all, block by block: no block is empty or longer than a block may be
   pub record Blocks (old : P) (items : ℕ) (new : P) : Type 0 where

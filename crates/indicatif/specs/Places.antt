@@ -7,8 +7,8 @@ use Rattle.indicatif_term.specs.Calls.{TermView}
 use Rattle.indicatif_bar.specs.Trackers.{writes_nothing}
 use Rattle.indicatif_bar.specs.Commands.{Command, FinishUsingStyle}
 use Rattle.indicatif_bar.specs.Progress.{Progress, is_finished}
-use Rattle.indicatif_bar.specs.Lone.{Call, Change}
-use Rattle.indicatif_bar.specs.LoneBars.{record_of, terminal_of}
+use Rattle.indicatif_bar.specs.Lone.{LoneCall, Change}
+use Rattle.indicatif_bar.specs.LoneBars.{record_of, lone_terminal}
 use Rattle.indicatif_bar.specs.declared.command.Change.{Change as Changed}
 use Rattle.indicatif_bar.specs.declared.lone.LoneBar.{LoneBar}
 use Rattle.indicatif_bar.specs.declared.tracker.NoTracker.{NoTracker}
@@ -26,7 +26,7 @@ unchanged = record { pos = None; len = None }
 module _ {T C : Type 0} where
   -- a call made of the place of a bar its place, with this answer: alone, the bar there made it; on a board, the bar stays there, and the
   -- board can answer so
-  abbrev pub PlaceMakes : (T → TermView) → Place T C → Call (Command NoTracker) → Result Drawn Refusal → Place T C → Type 0
+  abbrev pub PlaceMakes : (T → TermView) → Place T C → LoneCall (Command NoTracker) → Result Drawn Refusal → Place T C → Type 0
   PlaceMakes view (Alone old) call answer new = (bar : LoneBar NoTracker T) × (new ≡ Alone bar) × Makes writes_nothing view old bar call answer
   PlaceMakes view (On seat) call answer new = (new ≡ On seat) × SharedDraws view (on_board (id_of seat.id) call) answer
 
@@ -60,6 +60,6 @@ module _ {T C : Type 0} where
   -- another target was asked for: alone, the bar is as it was, on that; a board's bar stands alone on that, or stays where it was
   abbrev pub PlaceTurns : Place T C → Option T → Result Drawn Refusal → Place T C → Type 0
   PlaceTurns (Alone old) term answer new =
-      (bar : LoneBar NoTracker T) × (new ≡ Alone bar) × (record_of bar ≡ record_of old) × (terminal_of bar ≡ term) × (answer ≡ Ok Limited)
+      (bar : LoneBar NoTracker T) × (new ≡ Alone bar) × (record_of bar ≡ record_of old) × (lone_terminal bar ≡ term) × (answer ≡ Ok Limited)
   PlaceTurns (On seat) term answer new =
-      ((bar : LoneBar NoTracker T) × (new ≡ Alone bar) × (terminal_of bar ≡ term)) ⊎ ((e : Refusal) × (answer ≡ Err e) × (new ≡ On seat))
+      ((bar : LoneBar NoTracker T) × (new ≡ Alone bar) × (lone_terminal bar ≡ term)) ⊎ ((e : Refusal) × (answer ≡ Err e) × (new ≡ On seat))

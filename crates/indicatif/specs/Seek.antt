@@ -41,19 +41,19 @@ after_seek size seeks place = greatest_shown (take size (place ∷ places_of see
 -- ---- lists of moves and seeks
 
 -- a step of a reader
-pub data Step : Type 0 where
+pub data ReaderStep : Type 0 where
   -- so much more
-  Forward : (n : ℕ) → Step
+  Forward : (n : ℕ) → ReaderStep
   -- a seek to a place
-  To : (place : ℕ) → Step
+  To : (place : ℕ) → ReaderStep
 
 -- the place that is shown and what is remembered after a step
-abbrev pub after_step : ℕ → ℕ → ℕ × Seeks → Step → ℕ × Seeks
+abbrev pub after_step : ℕ → ℕ → ℕ × Seeks → ReaderStep → ℕ × Seeks
 after_step reset size (at, seeks) (Forward n) = after_move reset size seeks at n
 after_step reset size (at, seeks) (To place) = after_seek size seeks place
 
 -- the same after a list of steps
-abbrev pub after_steps : ℕ → ℕ → ℕ × Seeks → List Step → ℕ × Seeks
+abbrev pub after_steps : ℕ → ℕ → ℕ × Seeks → List ReaderStep → ℕ × Seeks
 after_steps reset size = fold (after_step reset size)
 
 -- ---- how it is kept

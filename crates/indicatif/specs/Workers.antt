@@ -11,6 +11,6 @@ items_in pieces = sum_by (λ piece. length piece.items) pieces
 
 -- by what the bar tells, and where a move leads it with an answer: the bar was advanced once by so many items, as 64 bits hold their number
 abbrev pub Absorbed : {P : Type 0} → (P → Option Standing) → (P → Move → Result Drawn Refusal → P → Type 0) → P → ℕ → P → Type 0
-Absorbed told leads old items new =
+Absorbed stands leads old items new =
     let move = Advance (items % 2 ^ 64) in
-    (answer : Result Drawn Refusal) × leads old move answer new × Goes (told old) move answer (told new)
+    (answer : Result Drawn Refusal) × leads old move answer new × Goes (stands old) move answer (stands new)

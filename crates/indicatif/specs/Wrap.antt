@@ -36,26 +36,26 @@ SameBar s t = (t.progress ≡ s.progress) × (seeks_kept t ≡ seeks_kept s) × 
 -- ---- what becomes of the bar
 
 -- by what the bar tells, and where a move leads it with an answer
-module _ {T P : Type 0} (told : P → Option Standing) (leads : P → Move → Result Drawn Refusal → P → Type 0) where
+module _ {T P : Type 0} (stands : P → Option Standing) (leads : P → Move → Result Drawn Refusal → P → Type 0) where
   -- the bar made one move, and its answer is kept
   pub record Moved (s : ProgressBarIter T P) (move : Move) (t : ProgressBarIter T P) : Type 0 where
     pub answer : Result Drawn Refusal
     pub led : leads s.progress move answer t.progress
-    pub goes : Goes (told s.progress) move answer (told t.progress)
+    pub goes : Goes (stands s.progress) move answer (stands t.progress)
     pub last : last_draw_of t ≡ Some answer
 
   -- an item advances the bar by 1; the end finishes one that isn't finished, and changes nothing of one that is
-  abbrev pub Counts : Bool → ProgressBarIter T P → ProgressBarIter T P → Type 0
-  Counts true s t = Moved s (Advance 1) t × (seeks_kept t ≡ seeks_kept s)
-  Counts false s t =
-      (Moved s FinishAsStored t × (seeks_kept t ≡ seeks_kept s) × IfSome (told s.progress) (λ bar. bar.finished ≡ false))
-      ⊎ (SameBar s t × IfSome (told s.progress) (λ bar. bar.finished ≡ true))
+  abbrev pub CountsItem : Bool → ProgressBarIter T P → ProgressBarIter T P → Type 0
+  CountsItem true s t = Moved s (Advance 1) t × (seeks_kept t ≡ seeks_kept s)
+  CountsItem false s t =
+      (Moved s FinishAsStored t × (seeks_kept t ≡ seeks_kept s) × IfSome (stands s.progress) (λ bar. bar.finished ≡ false))
+      ⊎ (SameBar s t × IfSome (stands s.progress) (λ bar. bar.finished ≡ true))
 
   -- the bar was placed after n more bytes
   pub record Placed (s : ProgressBarIter T P) (n : ℕ) (t : ProgressBarIter T P) : Type 0 where
     pub position : ℕ
     pub place : ℕ
-    pub here : IfSome (told s.progress) (λ bar. position ≡ bar.position)
+    pub here : IfSome (stands s.progress) (λ bar. position ≡ bar.position)
     pub by_seeks : (place, seeks_kept t) ≡ after_move 5 10 (seeks_kept s) position n
     pub moved : Moved s (PlaceAt place) t
 
@@ -67,7 +67,7 @@ module _ {T P : Type 0} (told : P → Option Standing) (leads : P → Move → R
 
   -- a call of `next`: what the inner one gave, by what its calls may give, was handed on, and counted
   abbrev pub NextGives : {Item : Type 0} → (T → Option Item → T → Type 0) → ProgressBarIter T P → Option Item → ProgressBarIter T P → Type 0
-  NextGives gives s r t = gives (inner_of s) r (inner_of t) × Counts (is_some r) s t
+  NextGives gives s r t = gives (inner_of s) r (inner_of t) × CountsItem (is_some r) s t
 
   -- calls of `next` from the first to the second: they gave these items, one after another, and then the end
   abbrev pub Loops : {Item : Type 0} → (T → Option Item → T → Type 0) → List Item → ProgressBarIter T P → ProgressBarIter T P → Type 0

@@ -20,7 +20,7 @@ impl<T: Read, P: Moves> Read for ProgressBarIter<T, P> {
     fn read(&mut self, buf: &mut [u8]) -> io::Result<usize>
         ensures bound { ReadsAtMost result buf.new }
         ensures bytes { ReadConsumes (T.remaining (inner_of self.old)) (T.remaining (inner_of self.new)) result buf.new }
-        ensures placed { MatchResult result (λ n. Placed P.told P.leads self.old n self.new) (λ _. SameBar self.old self.new) }
+        ensures placed { MatchResult result (λ n. Placed P.stands P.leads self.old n self.new) (λ _. SameBar self.old self.new) }
     {
         let n = self.it.read(buf)?;
         self.went_on(n as u64);
@@ -29,7 +29,7 @@ impl<T: Read, P: Moves> Read for ProgressBarIter<T, P> {
 
     fn read_exact(&mut self, buf: &mut [u8]) -> io::Result<()>
         ensures bytes { OnOk result (Consumes (T.remaining (inner_of self.old)) (T.remaining (inner_of self.new)) buf.new) }
-        ensures placed { MatchResult result (λ _. Placed P.told P.leads self.old (length buf.new) self.new) (λ _. SameBar self.old self.new) }
+        ensures placed { MatchResult result (λ _. Placed P.stands P.leads self.old (length buf.new) self.new) (λ _. SameBar self.old self.new) }
     {
         self.it.read_exact(buf)?;
         self.went_on(buf.len() as u64);
@@ -44,14 +44,16 @@ impl<T: BufRead, P: Moves> BufRead for ProgressBarIter<T, P> {
     fn fill_buf(&mut self) -> io::Result<&[u8]>
         ensures front { IfSome (T.remaining (inner_of self.old)) (λ xs. IfOk result (λ s. StartsWith xs s.now)) }
         ensures end { IfSome (T.remaining (inner_of self.old)) (λ xs. IfOk result (λ s. length s.now ≡ 0 → xs ≡ [])) }
-        ensures* after_borrow { sem 𝓛 (Rests (the_row T.row P.row) self.entry (λ new. FillKeeps (T.remaining (inner_of self.old)) (T.remaining (inner_of new)) (T.consumable_len (inner_of new)) result × SameBar self.old new)) }
+        ensures* after_borrow { sem 𝓛 (Rests (the_row T.row P.row) self.entry (λ new.
+            FillKeeps (T.remaining (inner_of self.old)) (T.remaining (inner_of new)) (T.consumable_len (inner_of new)) result
+            × SameBar self.old new)) }
     {
         self.it.fill_buf()
     }
 
     fn consume(&mut self, amount: usize)
         ensures bytes { DropsConsumable (T.remaining (inner_of self.old)) (T.remaining (inner_of self.new)) (T.consumable_len (inner_of self.old)) amount }
-        ensures placed { Placed P.told P.leads self.old amount self.new }
+        ensures placed { Placed P.stands P.leads self.old amount self.new }
     {
         self.it.consume(amount);
         self.went_on(amount as u64);
@@ -65,7 +67,7 @@ impl<T: Write, P: Moves> Write for ProgressBarIter<T, P> {
     fn write(&mut self, buf: &[u8]) -> io::Result<usize>
         ensures bound { WritesAtMost result buf.now }
         ensures bytes { WriteAppends (T.contents (inner_of self.old)) (T.contents (inner_of self.new)) result buf.now }
-        ensures placed { MatchResult result (λ n. Placed P.told P.leads self.old n self.new) (λ _. SameBar self.old self.new) }
+        ensures placed { MatchResult result (λ n. Placed P.stands P.leads self.old n self.new) (λ _. SameBar self.old self.new) }
     {
         let n = self.it.write(buf)?;
         self.went_on(n as u64);
@@ -87,7 +89,7 @@ impl<T: Read, P: Moves> ProgressBarIter<T, P> {
     /// Refused: as the inner one's, and the bar stays as it is.
     pub fn read_to_string(&mut self, buf: &mut String) -> io::Result<usize>
         ensures bytes { OnOk result (IfSome (T.remaining (inner_of self.old)) (λ xs. string_bytes buf.new ≡ string_bytes buf.old ++ xs)) }
-        ensures placed { MatchResult result (λ n. Placed P.told P.leads self.old n self.new) (λ _. SameBar self.old self.new) }
+        ensures placed { MatchResult result (λ n. Placed P.stands P.leads self.old n self.new) (λ _. SameBar self.old self.new) }
     {
         let n = self.it.read_to_string(buf)?;
         self.went_on(n as u64);

@@ -1,6 +1,6 @@
 //! Items from either end.
 ghost use Rattle.std.specs.Prelude.{◌≡◌, Some, None, IfSome};
-ghost use Rattle.indicatif.specs.Wrap.{inner_of, Counts};
+ghost use Rattle.indicatif.specs.Wrap.{inner_of, CountsItem};
 
 use crate::moves::Moves;
 use crate::wrap::ProgressBarIter;
@@ -10,7 +10,7 @@ impl<T, P: Moves> ProgressBarIter<T, P> {
     // Counts an item, or the end.
     fn counted(&mut self, is_item: bool)
         ensures it { (inner_of self.new) ≡ (inner_of self.old) }
-        ensures counted { Counts P.told P.leads is_item self.old self.new }
+        ensures counted { CountsItem P.stands P.leads is_item self.old self.new }
     {
         if is_item {
             self.last = Some(self.progress.advance(1));
@@ -28,7 +28,7 @@ impl<T: Iterator, P: Moves> Iterator for ProgressBarIter<T, P> {
 
     ghost can_next = { λ s. T.can_next (inner_of s) };
 
-    ghost next_gives = { NextGives P.told P.leads T.next_gives };
+    ghost next_gives = { NextGives P.stands P.leads T.next_gives };
 
     ghost remaining = { λ s. T.remaining (inner_of s) };
 
@@ -49,7 +49,7 @@ impl<T: DoubleEndedIterator, P: Moves> DoubleEndedIterator for ProgressBarIter<T
 
     ghost can_next_back = { λ s. T.can_next_back (inner_of s) };
 
-    ghost next_back_gives = { NextGives P.told P.leads T.next_back_gives };
+    ghost next_back_gives = { NextGives P.stands P.leads T.next_back_gives };
 
     fn next_back(&mut self) -> Option<T::Item> {
         let item = self.it.next_back();

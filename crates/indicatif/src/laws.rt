@@ -47,9 +47,9 @@ pub fn a_seek_shows_its_place_at_least()
 pub fn a_whole_loop<I: Iterator, P: Moves>()
     ensures { (items : List I.Item) (start end : ProgressBarIter I P) → YieldsThen ⟦<ProgressBarIter<I, P> as Iterator>⟧.next_gives start items None end →
         YieldsThen I.next_gives (inner_of start) items None (inner_of end)
-        × IfSome (P.told start.progress) (λ bar. bar.position < 2 ^ 64 → bar.finished ≡ false →
-        (P.told end.progress ≡ Some (after_bar_move (after_bar_move bar (Advance (length items))) FinishAsStored))
-        ⊎ ((last_draw_of end ≡ Some (Err Memory)) × (P.told end.progress ≡ Some (after_bar_move bar (Advance (length items)))))) }
+        × IfSome (P.stands start.progress) (λ bar. bar.position < 2 ^ 64 → bar.finished ≡ false →
+        (P.stands end.progress ≡ Some (after_bar_move (after_bar_move bar (Advance (length items))) FinishAsStored))
+        ⊎ ((last_draw_of end ≡ Some (Err Memory)) × (P.stands end.progress ≡ Some (after_bar_move bar (Advance (length items)))))) }
 {}
 
 /// What a loop over all items asks of its bar: an advance by 1 for each item, one after another, then the finish, and nothing
@@ -68,12 +68,12 @@ pub fn moves_are_a_run<K: ProgressTracker, T: TermLike + Drop, C>()
 
 /// A bar that tells where it stands goes on by as many items as a list had on which threads worked with it.
 pub fn blocks_add_up<P: Moves>()
-    ensures { (items : ℕ) (old new : P) → Blocks P.told P.leads old items new →
-        IfSome (P.told old) (λ bar. bar.position < 2 ^ 64 → P.told new ≡ Some (after_bar_move bar (Advance items))) }
+    ensures { (items : ℕ) (old new : P) → Blocks P.stands P.leads old items new →
+        IfSome (P.stands old) (λ bar. bar.position < 2 ^ 64 → P.stands new ≡ Some (after_bar_move bar (Advance items))) }
 {}
 
 /// The advances of such a list are moves of its bar, each of a block; so of a bar with its clock they are a run.
 pub fn blocks_are_moves<P: Moves>()
-    ensures { (items : ℕ) (old new : P) → (blocks : Blocks P.told P.leads old items new) →
+    ensures { (items : ℕ) (old new : P) → (blocks : Blocks P.stands P.leads old items new) →
         MovedAlong P.leads (map (λ x. (Advance x.0, x.1)) blocks.made) old new }
 {}

@@ -17,7 +17,7 @@ use indicatif_text::columns::{Drawn, Refusal};
 /// ```
 pub trait Moves: Drop {
     /// Where the bar stands, where it is told.
-    ghost told: { Self → Option Standing } = { λ _. None };
+    ghost stands: { Self → Option Standing } = { λ _. None };
 
     /// A move led from the first to the second, with this answer.
     ghost leads: { Self → Move → Result Drawn Refusal → Self → Type 0 } = { λ _ _ _ _. ⊤ };
@@ -25,25 +25,25 @@ pub trait Moves: Drop {
     /// The position goes on by `n`.
     fn advance(&mut self, n: u64) -> Result<Drawn, Refusal>
         ensures led { leads self.old (Advance n) result self.new }
-        ensures told { Goes (told self.old) (Advance n) result (told self.new) };
+        ensures goes { Goes (stands self.old) (Advance n) result (stands self.new) };
 
     /// The position becomes `place`.
     fn place(&mut self, place: u64) -> Result<Drawn, Refusal>
         ensures led { leads self.old (PlaceAt place) result self.new }
-        ensures told { Goes (told self.old) (PlaceAt place) result (told self.new) };
+        ensures goes { Goes (stands self.old) (PlaceAt place) result (stands self.new) };
 
     /// The bar is finished by its stored finish.
     ///
     /// Refused: as a draw is; where it is refused `Memory`, it may be that the bar isn't finished.
     fn finish(&mut self) -> Result<Drawn, Refusal>
         ensures led { leads self.old FinishAsStored result self.new }
-        ensures told { Goes (told self.old) FinishAsStored result (told self.new) };
+        ensures goes { Goes (stands self.old) FinishAsStored result (stands self.new) };
 
     /// The position.
     fn position(&self) -> u64
-        ensures { IfSome (told self.now) (λ bar. result ≡ bar.position) };
+        ensures { IfSome (stands self.now) (λ bar. result ≡ bar.position) };
 
     /// Whether the bar is finished.
     fn finished(&self) -> bool
-        ensures { IfSome (told self.now) (λ bar. result ≡ bar.finished) };
+        ensures { IfSome (stands self.now) (λ bar. result ≡ bar.finished) };
 }

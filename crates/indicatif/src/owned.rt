@@ -92,7 +92,7 @@ impl<T: TermLike + Drop, C: Clock + Drop> Moves for OwnedBar<NoTracker, T, C> {
     ghost use Rattle.indicatif_bar.specs.Trackers.{writes_nothing};
     ghost use Rattle.indicatif.specs.Owned.{lone_of, standing_of, Commanded};
 
-    ghost told = { λ owned. Some (standing_of (record_of (lone_of owned))) };
+    ghost stands = { λ owned. Some (standing_of (record_of (lone_of owned))) };
 
     ghost leads = { λ old move answer new. Commanded writes_nothing T.view old move answer new };
 

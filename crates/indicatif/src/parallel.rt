@@ -135,8 +135,8 @@ impl<'a, T: Sync, P: Moves> ProgressBarIter<&'a [T], P> {
     ) -> (Result<Vec<A>, Refusal>, P)
         requires { F.IsAlwaysCallable f }
         ensures list { IfOk result.0 (λ made. AllZip (FnReturnsAt F.Fn f) (inner_of self.entry).now made.items) }
-        ensures bar { OnOk result.0 (Blocks P.told P.leads self.entry.progress (length (inner_of self.entry).now) result.1) }
-        ensures memory { IfErr result.0 (λ e. (e ≡ Refusal.Memory) × ((n : ℕ) × (n ≤ length (inner_of self.entry).now) × Blocks P.told P.leads self.entry.progress n result.1)) }
+        ensures bar { OnOk result.0 (Blocks P.stands P.leads self.entry.progress (length (inner_of self.entry).now) result.1) }
+        ensures memory { IfErr result.0 (λ e. (e ≡ Refusal.Memory) × ((n : ℕ) × (n ≤ length (inner_of self.entry).now) × Blocks P.stands P.leads self.entry.progress n result.1)) }
     {
         let (items, mut bar) = self.into_inner();
         let made = map_blocks(rt, alloc, items, &mut bar, &f);
@@ -155,7 +155,7 @@ impl<'a, T: Sync, P: Moves> ProgressBarIter<&'a [T], P> {
     ) -> (Result<(), Refusal>, P)
         requires { F.IsAlwaysCallable f }
         ensures always { result.0 ≡ Ok tt }
-        ensures bar { Blocks P.told P.leads self.entry.progress (length (inner_of self.entry).now) result.1 }
+        ensures bar { Blocks P.stands P.leads self.entry.progress (length (inner_of self.entry).now) result.1 }
     {
         let (items, mut bar) = self.into_inner();
         run_blocks(rt, items, &mut bar, &f);
@@ -194,8 +194,8 @@ fn map_blocks<R: Threads + Sync, T: Sync, A: Send + Drop, F: Fn(&T) -> A + Sync,
 ) -> Result<Vec<A>, Refusal>
     requires { F.IsAlwaysCallable f.now }
     ensures list { IfOk result (λ made. AllZip (FnReturnsAt F.Fn f.now) items.now made.items) }
-    ensures bar { OnOk result (Blocks P.told P.leads bar.old (length items.now) bar.new) }
-    ensures memory { IfErr result (λ e. (e ≡ Refusal.Memory) × ((n : ℕ) × (n ≤ length items.now) × Blocks P.told P.leads bar.old n bar.new)) }
+    ensures bar { OnOk result (Blocks P.stands P.leads bar.old (length items.now) bar.new) }
+    ensures memory { IfErr result (λ e. (e ≡ Refusal.Memory) × ((n : ℕ) × (n ≤ length items.now) × Blocks P.stands P.leads bar.old n bar.new)) }
 {
     let mut made = Vec::with_capacity(alloc, items.len())?;
     let mut start = 0;
@@ -217,7 +217,7 @@ fn run_blocks<R: Threads + Sync, T: Sync, F: Fn(&T) + Sync, P: Moves>(
     f: &F,
 )
     requires { F.IsAlwaysCallable f.now }
-    ensures { Blocks P.told P.leads bar.old (length items.now) bar.new }
+    ensures { Blocks P.stands P.leads bar.old (length items.now) bar.new }
 {
     let mut start = 0;
     while start < items.len() {

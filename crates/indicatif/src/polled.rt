@@ -33,7 +33,7 @@ impl<T: AsyncRead, P: Moves> AsyncRead for ProgressBarIter<T, P> {
         ensures failed { IfReadyErr result (T.fails (inner_of self.new)) }
         ensures registered { OnPending result (Covers cx.new (T.needs (inner_of self.new))) }
         ensures kept { Keeps cx.old cx.new }
-        ensures placed { ReadPlaces P.told P.leads self.old result self.new }
+        ensures placed { ReadPlaces P.stands P.leads self.old result self.new }
     {
         let polled = self.it.poll_read(cx, buf);
         match &polled {
@@ -74,7 +74,7 @@ impl<T: AsyncWrite, P: Moves> AsyncWrite for ProgressBarIter<T, P> {
         ensures failed { IfReadyErr result (T.fails (inner_of self.new)) }
         ensures registered { OnPending result (Covers cx.new (T.needs (inner_of self.new))) }
         ensures kept { Keeps cx.old cx.new }
-        ensures placed { WritePlaces P.told P.leads self.old result self.new }
+        ensures placed { WritePlaces P.stands P.leads self.old result self.new }
     {
         let polled = self.it.poll_write(cx, buf);
         if let Poll::Ready(Ok(n)) = &polled {

@@ -10,12 +10,12 @@ ghost use Rattle.indicatif_bar.specs.Finishes as Finish;
 ghost use Rattle.indicatif_bar.specs.Finishes.{finish_of};
 ghost use Rattle.indicatif_bar.specs.Commands.{command_of};
 ghost use Rattle.indicatif_bar.specs.Lone as Lone;
-ghost use Rattle.indicatif_bar.specs.Progress as Told;
+ghost use Rattle.indicatif_bar.specs.Progress as Figures;
 ghost use Rattle.indicatif_bar.specs.Progress.{Progress};
 ghost use Rattle.indicatif_bar.specs.declared.command.Change.{Change as Changed};
 ghost use Rattle.indicatif_board.specs.Boards.{Id, Remove, Refused};
 ghost use Rattle.indicatif_board.specs.Calls.{place_at};
-ghost use Rattle.indicatif.specs.Fronts.{CanAnswer, Joins};
+ghost use Rattle.indicatif.specs.Fronts.{CanAnswer, OwnerJoins};
 ghost use Rattle.indicatif.specs.Places.{unchanged};
 ghost use Rattle.indicatif.specs.SharedBoards.{SharedAnswers, SharedTakes};
 
@@ -415,28 +415,28 @@ impl<T: TermLike + Drop, C: Clock + Drop, R: Wait + Clone + Drop> ProgressBar<T,
 
     /// The nanoseconds that are left, by the rate so far, at most 2^64 - 1; 0 where the bar is finished, has no length or no rate.
     pub fn eta(&self) -> u64
-        ensures { (p : Progress) × (now : ℕ) × (result ≡ Told.eta p now) }
+        ensures { (p : Progress) × (now : ℕ) × (result ≡ Figures.eta p now) }
     {
         self.state.lock.lock(&self.rt).eta(&self.rt)
     }
 
     /// The rate so far.
     pub fn per_sec(&self) -> Rate
-        ensures { (p : Progress) × (now : ℕ) × (result ≡ Told.per_sec p now) }
+        ensures { (p : Progress) × (now : ℕ) × (result ≡ Figures.per_sec p now) }
     {
         self.state.lock.lock(&self.rt).per_sec(&self.rt)
     }
 
     /// The nanoseconds that all of it takes, by the rate so far; of a finished bar those that it took.
     pub fn duration(&self) -> u64
-        ensures { (p : Progress) × (now : ℕ) × (result ≡ Told.duration p now) }
+        ensures { (p : Progress) × (now : ℕ) × (result ≡ Figures.duration p now) }
     {
         self.state.lock.lock(&self.rt).duration(&self.rt)
     }
 
     /// The nanoseconds since the start.
     pub fn elapsed(&self) -> u64
-        ensures { (p : Progress) × (now : ℕ) × (result ≡ Told.elapsed p now) }
+        ensures { (p : Progress) × (now : ℕ) × (result ≡ Figures.elapsed p now) }
     {
         self.state.lock.lock(&self.rt).elapsed(&self.rt)
     }
@@ -490,7 +490,7 @@ impl<T: TermLike + Drop, C: Clock + Drop, R: Wait + Clone + Drop> ProgressBar<T,
 
     /// One owner more on the count.
     fn counted(&self) -> bool
-        ensures { (before : ℕ) × (now : ℕ) × Joins result before now }
+        ensures { (before : ℕ) × (now : ℕ) × OwnerJoins result before now }
     {
         self.state.lock.lock(&self.rt).join()
     }

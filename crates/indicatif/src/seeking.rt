@@ -12,7 +12,7 @@ impl<T, P: Moves> ProgressBarIter<T, P> {
     // Places the bar by a seek to `at`.
     fn sought(&mut self, at: u64)
         ensures it { (inner_of self.new) ≡ (inner_of self.old) }
-        ensures sought { Sought P.told P.leads self.old at self.new }
+        ensures sought { Sought P.stands P.leads self.old at self.new }
     {
         let place = self.seeks.update_seek(at);
         self.last = Some(self.progress.place(place));
@@ -28,7 +28,7 @@ impl<T: Seek, P: Moves> Seek for ProgressBarIter<T, P> {
     fn seek(&mut self, to: SeekFrom) -> io::Result<u64>
         ensures moves { SeekMoves (T.stream_position (inner_of self.old)) (T.stream_position (inner_of self.new)) (T.stream_bytes (inner_of self.old)) to result }
         ensures bytes { Keeps (T.stream_bytes (inner_of self.old)) (T.stream_bytes (inner_of self.new)) }
-        ensures sought { IfOk result (λ at. SeekMovesBar to (SameBar self.old self.new) (Sought P.told P.leads self.old at self.new)) }
+        ensures sought { IfOk result (λ at. SeekMovesBar to (SameBar self.old self.new) (Sought P.stands P.leads self.old at self.new)) }
         ensures err { OnErr result (SameBar self.old self.new) }
     {
         let at = self.it.seek(to)?;

@@ -14,7 +14,7 @@ impl<T, P: Moves> ProgressBarIter<T, P> {
     // Counts an item; at each end the bar is finished.
     fn polled(&mut self, is_item: bool)
         ensures it { (inner_of self.new) ≡ (inner_of self.old) }
-        ensures polled { Polled P.told P.leads is_item self.old self.new }
+        ensures polled { Polled P.stands P.leads is_item self.old self.new }
     {
         self.last = if is_item {
             Some(self.progress.advance(1))
@@ -43,7 +43,7 @@ impl<T: Stream, P: Moves> Stream for ProgressBarIter<T, P> {
         ensures same { OnPending result (Within (T.yields (inner_of self.old)) (T.yields (inner_of self.new))) }
         ensures registered { OnPending result (Covers cx.new (T.needs (inner_of self.new))) }
         ensures kept { Keeps cx.old cx.new }
-        ensures polled { IfReady result (λ o. Polled P.told P.leads (is_some o) self.old self.new) }
+        ensures polled { IfReady result (λ o. Polled P.stands P.leads (is_some o) self.old self.new) }
         ensures pending { OnPending result (SameBar self.old self.new) }
     {
         match self.it.poll_next(cx) {

@@ -4,7 +4,7 @@ ghost use Rattle.std.specs.List.{AllZip};
 ghost use Rattle.std.specs.Fn.{FnReturnsAt};
 ghost use Rattle.indicatif_board.specs.Done.{shares_of, added_by};
 ghost use Rattle.indicatif.specs.Workers.{items_in, Absorbed};
-ghost use Rattle.indicatif.specs.Inside.Pieces.{JobAt, IsEnded, Counts};
+ghost use Rattle.indicatif.specs.Inside.Pieces.{JobAt, IsEnded, CountsPieces};
 
 use crate::moves::Moves;
 use indicatif_board::done::{BarWorker, Done};
@@ -66,11 +66,11 @@ pub fn run_workers<
 ) -> Result<Vec<Vec<A>>, Refusal>
     requires { F.IsAlwaysCallable f }
     ensures answers { IfOk result (λ made. AllZip (λ piece answers. AllZip (FnReturnsAt F.Fn f) piece.items answers.items) pieces.now made.items) }
-    ensures bar { OnOk result (Absorbed P.told P.leads bar.old (items_in pieces.now) bar.new) }
+    ensures bar { OnOk result (Absorbed P.stands P.leads bar.old (items_in pieces.now) bar.new) }
     ensures none { (result ≡ Err Refusal.ZeroPieces) ↔ (length pieces.now ≡ 0) }
     ensures refused { IfErr result (λ e.
         ((e ≡ Refusal.ZeroPieces) × (bar.new ≡ bar.old))
-        ⊎ ((e ≡ Refusal.Memory) × ((bar.new ≡ bar.old) ⊎ ((met : ℕ) × (met ≤ items_in pieces.now) × Absorbed P.told P.leads bar.old met bar.new)))) }
+        ⊎ ((e ≡ Refusal.Memory) × ((bar.new ≡ bar.old) ⊎ ((met : ℕ) × (met ≤ items_in pieces.now) × Absorbed P.stands P.leads bar.old met bar.new)))) }
 {
     if pieces.is_empty() {
         return Err(Refusal::ZeroPieces);
@@ -90,7 +90,7 @@ fn counted<R: Threads + Sync, T: Sync, A: Send + Drop, F: Fn(&T) -> A + Sync, G:
 ) -> Result<(Option<Vec<Vec<A>>>, u64), Refusal>
     requires callable { F.IsAlwaysCallable f.now }
     requires some { 0 < length pieces.now }
-    ensures counts { IfOk result (λ r. Counts (FnReturnsAt F.Fn f.now) pieces.now r.0 r.1) }
+    ensures counts { IfOk result (λ r. CountsPieces (FnReturnsAt F.Fn f.now) pieces.now r.0 r.1) }
     ensures memory { IfErr result (λ e. e ≡ Refusal.Memory) }
 {
     let room = Vec::with_capacity(alloc, pieces.len())?;

@@ -65,7 +65,7 @@ impl<T, P: Moves> ProgressBarIter<T, P> {
     // Places the bar after `n` more bytes.
     pub(crate) fn went_on(&mut self, n: u64)
         ensures it { inner_of self.new ≡ inner_of self.old }
-        ensures placed { Placed P.told P.leads self.old n self.new }
+        ensures placed { Placed P.stands P.leads self.old n self.new }
     {
         let place = self.seeks.update_seq(self.progress.position(), n);
         self.last = Some(self.progress.place(place));

@@ -16,7 +16,7 @@ use Rattle.indicatif_bar.specs.declared.state.Ask.TheVariants.{No, Unforced, For
 use Rattle.indicatif_bar.specs.Machines.{Target, target_of, Machine, Draw, Deed, AtOnce, Draws, Leads, is_no, drawn_by}
 use Rattle.indicatif_bar.specs.Kinds.{Kind, asked_of}
 use Rattle.indicatif_bar.specs.Runs.{Runs, deed_on}
-use Rattle.indicatif_bar.specs.Lone.{LoneState, lone, refused_at_once, draw_by, deed_unless}
+use Rattle.indicatif_bar.specs.Lone.{LoneState, lone, refused_at_once, draw_of_call, deed_unless}
 use Rattle.indicatif_bar.specs.Bounds.{AsksLimiter, DeedAsks, IsLimited, is_unforced, is_yes, drew_unforced, unforced_draws, RunsAreBounded}
 
 and-false : (a b : Bool) → b ≡ false → (a && b) ≡ false
@@ -25,12 +25,12 @@ and-false false b e = refl
 
 module _ {S C A : Type 0} (m : Machine S C A) (limiter : S → Option Limiter) (l : Limiter) (now : ℕ) where
   -- what a call made of the limiter: nothing, and no unforced draw was made; or it was asked and allowed one
-  abbrev Step : S → Bool → Type 0
-  Step next drew = ((limiter next ≡ Some l) × (drew ≡ false)) ⊎ (((allow l now).0 ≡ true) × (limiter next ≡ Some (allow l now).1))
+  abbrev LimiterStep : S → Bool → Type 0
+  LimiterStep next drew = ((limiter next ≡ Some l) × (drew ≡ false)) ⊎ (((allow l now).0 ≡ true) × (limiter next ≡ Some (allow l now).1))
 
   -- a state after the limiter was asked
   asked_step : (ask : Ask) (next : S) (drew : Bool) → limiter next ≡ (asked_of ask now (Some l)).1 → ((asked_of ask now (Some l)).0 ≡ false → drew ≡ false) →
-      (is_unforced ask ≡ false → drew ≡ false) → Step next drew
+      (is_unforced ask ≡ false → drew ≡ false) → LimiterStep next drew
   asked_step No next drew e quiet forced = inl (e, forced refl)
   asked_step Forced next drew e quiet forced = inl (e, forced refl)
   asked_step Unforced next drew e quiet forced = elim (answered l now) [
@@ -55,16 +55,16 @@ module _ {S C A : Type 0} (m : Machine S C A) (limiter : S → Option Limiter) (
     decides = asks.decides ∙ ap (λ o. (asked_of d.ask now o).0) is
 
     -- a state with the limiter asked, whose answer isn't that a draw was made
-    unmade : (next : S) (said : Result Drawn Refusal) → limiter next ≡ limiter d.ready → is_yes said ≡ false → Step next (drew said)
+    unmade : (next : S) (said : Result Drawn Refusal) → limiter next ≡ limiter d.ready → is_yes said ≡ false → LimiterStep next (drew said)
     unmade next said e other = asked_step d.ask next (drew said) (e ∙ ready_is) (λ f. and-false (is_unforced d.ask) (is_yes said) other) (λ f. unforced_no said f)
 
-    untouched : (next : S) (said : Result Drawn Refusal) → limiter next ≡ limiter d.after_command → is_yes said ≡ false → Step next (drew said)
+    untouched : (next : S) (said : Result Drawn Refusal) → limiter next ≡ limiter d.after_command → is_yes said ≡ false → LimiterStep next (drew said)
     untouched next said e other = inl (e ∙ before_is, and-false (is_unforced d.ask) (is_yes said) other)
 
-    drawn_step : (ends : S → S) → ((x : S) → limiter (ends x) ≡ limiter x) → Step (ends (drawn_by target d).1) (drew (drawn_by target d).0)
+    drawn_step : (ends : S → S) → ((x : S) → limiter (ends x) ≡ limiter x) → LimiterStep (ends (drawn_by target d).1) (drew (drawn_by target d).0)
     unfolding drawn_by
     drawn_step ends keeps =
-        let P = λ (o : Result Drawn Refusal × S). Step (ends o.1) (drew o.0) in
+        let P = λ (o : Result Drawn Refusal × S). LimiterStep (ends o.1) (drew o.0) in
         cond_both (is_no d.ask) (Ok Limited, d.after_command) _ P (λ a. untouched (ends d.after_command) (Ok Limited) (keeps d.after_command) refl)
         (λ a. cond_both target.hidden (Ok Hidden, d.after_command) _ P (λ b. untouched (ends d.after_command) (Ok Hidden) (keeps d.after_command) refl)
         (λ b. cond_both (target.columns == 0) (Err NoColumns, d.after_command) _ P (λ c. untouched (ends d.after_command) (Err NoColumns) (keeps d.after_command) refl)
@@ -74,14 +74,14 @@ module _ {S C A : Type 0} (m : Machine S C A) (limiter : S → Option Limiter) (
         (λ off. let not_allowed : d.allowed ≡ false = decides ∙ off in absurd (false≢true (sym e ∙ ap not not_allowed))) (λ g. unforced_no (Ok Yes) g))))))
 
   call_step : (target : Target) (s : S) (deed : Deed S A) (answer : A) (next : S) → limiter s ≡ Some l → DeedAsks limiter now s deed → Leads m target s deed answer next →
-      Step next (drew_unforced deed (m.tells answer))
+      LimiterStep next (drew_unforced deed (m.tells answer))
   call_step target s (AtOnce takes said after) answer next is asks (inl made) = inl (ap (λ o. limiter o.1) made ∙ asks ∙ is, refl)
   call_step target s (AtOnce takes said after) answer next is asks (inr (inl short)) = inl (ap limiter short.1.1 ∙ is, refl)
   call_step target s (AtOnce takes said after) answer next is asks (inr (inr broken)) = absurd broken.2
   call_step target s (Draws d ends breaks) answer next is asks (inl made) =
       let said : m.tells answer ≡ (drawn_by target d).0 = ap (λ o. m.tells o.0) made ∙ m.tells_said (drawn_by target d).0 in
-      subst (λ r. Step next (drew_unforced {Answer = A} (Draws d ends breaks) r)) (sym said)
-      (subst (λ x. Step x (drew_unforced {Answer = A} (Draws d ends breaks) (drawn_by target d).0)) (sym (ap (λ o. o.1) made)) (drawn_step target s is d asks.0 ends asks.1))
+      subst (λ r. LimiterStep next (drew_unforced {Answer = A} (Draws d ends breaks) r)) (sym said)
+      (subst (λ x. LimiterStep x (drew_unforced {Answer = A} (Draws d ends breaks) (drawn_by target d).0)) (sym (ap (λ o. o.1) made)) (drawn_step target s is d asks.0 ends asks.1))
   call_step target s (Draws d ends breaks) answer next is asks (inr (inl short)) =
       let said : m.tells answer ≡ Err Memory = ap m.tells short.0 ∙ m.tells_said (Err Memory) in
       let other : is_yes (m.tells answer) ≡ false = ap is_yes said in
@@ -98,7 +98,7 @@ module _ {S C A : Type 0} (m : Machine S C A) (limiter : S → Option Limiter) (
 
 module _ {S C A : Type 0} (m : Machine S C A) (limiter : S → Option Limiter) (limited : IsLimited m limiter) where
   -- one call more at the front
-  with_step : (l : Limiter) (now : ℕ) (next : S) (drew : Bool) (others : List ℕ) → 0 < l.interval → Step m limiter l now next drew →
+  with_step : (l : Limiter) (now : ℕ) (next : S) (drew : Bool) (others : List ℕ) → 0 < l.interval → LimiterStep m limiter l now next drew →
       ((k : Limiter) → 0 < k.interval → limiter next ≡ Some k → Claim k others) →
       Claim l (if drew then now ∷ others else others)
   with_step l now next drew others positive (inl same) claims = rw same.1 (claims l positive same.0)
@@ -137,7 +137,7 @@ deed_asks kind None d now s asks = (asks, (λ x. refl), (λ x. refl))
 
 pub lone_limited : {B C : Type 0} (kind : Kind B C) → IsLimited (lone kind) (λ s. s.limiter)
 lone_limited kind target call now s =
-    deed_asks kind (refused_at_once kind call now s.bar) (draw_by kind target call now s) now s (record { before = refl; decides = refl; asked = refl; written = refl; broken = refl })
+    deed_asks kind (refused_at_once kind call now s.bar) (draw_of_call kind target call now s) now s (record { before = refl; decides = refl; asked = refl; written = refl; broken = refl })
 
 -- without a limiter each draw is allowed
 pub allowed_without : (ask : Ask) (now : ℕ) (limiter : Option Limiter) → limiter ≡ None → (asked_of ask now limiter).0 ≡ true

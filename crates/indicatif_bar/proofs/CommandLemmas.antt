@@ -6,7 +6,7 @@ use Rattle.indicatif_bar.specs.declared.state.Ask.TheVariants.{No, Unforced, For
 use Rattle.indicatif_bar.specs.Progress.{is_finished}
 use Rattle.indicatif_bar.specs.PositionLimiters.{allow_position}
 use Rattle.indicatif_bar.specs.Trackers.{Tracking}
-use Rattle.indicatif_bar.specs.Finishes.{Finish, AndLeave, WithMessage, AndClear, Abandon, AbandonWithMessage}
+use Rattle.indicatif_bar.specs.Finishes.{BarFinish, AndLeave, WithMessage, AndClear, Abandon, AbandonWithMessage}
 use Rattle.indicatif_bar.specs.Commands.{BarRecord, Command, obeyed, tick, ticker_tick, moved_to, finish, asks_draw, with_progress, some_or, Tick, TickerTick, SetTicker, Inc, Dec, SetPosition, Update, SetLength, UnsetLength, IncLength, DecLength, SetMessage, SetPrefix, SetStyle, PutPosition, PutMessage, PutPrefix, PutFinish, PutTabWidth, SetTabWidth, SetElapsed, ResetEta, ResetElapsed, Reset, FinishBy, FinishUsingStyle, ForceDraw}
 use Rattle.indicatif_bar.specs.ProgressLaws.{TabsAgree, FinishedDrawsAreForced}
 
@@ -26,7 +26,7 @@ tick_agrees m bar now e = either_agrees bar.ticker _ _ e e
 moved_agrees : {K : Type 0} (m : Tracking K) (position : ℕ) (bar : BarRecord K) (now : ℕ) → bar.style.tab ≡ bar.progress.tab → Agrees (moved_to m position bar now)
 moved_agrees m position bar now e = either_agrees (allow_position bar.limiter now).0 _ _ (tick_agrees m _ now e) e
 
-finish_agrees : {K : Type 0} (by : Finish) (bar : BarRecord K) (now : ℕ) → bar.style.tab ≡ bar.progress.tab → Agrees (finish by bar now)
+finish_agrees : {K : Type 0} (by : BarFinish) (bar : BarRecord K) (now : ℕ) → bar.style.tab ≡ bar.progress.tab → Agrees (finish by bar now)
 finish_agrees AndLeave bar now e = e
 finish_agrees (WithMessage text) bar now e = e
 finish_agrees AndClear bar now e = e

@@ -9,15 +9,15 @@ use Rattle.std.specs.List.{list_any}
 use Rattle.indicatif_bar.specs.BarStyles.{with_marks_as, is_wide_mark}
 
 -- parts with a text between them
-abbrev pub parted : List ℕ → List (List ℕ) → List ℕ
-parted s [] = []
-parted s (part ∷ parts) = part ++ flat_map (λ p. s ++ p) parts
+abbrev pub parted_by : List ℕ → List (List ℕ) → List ℕ
+parted_by s [] = []
+parted_by s (part ∷ parts) = part ++ flat_map (λ p. s ++ p) parts
 
-parted_some : (s : List ℕ) (parts : List (List ℕ)) → 0 < length parts → flat_map (λ p. s ++ p) parts ≡ s ++ parted s parts
+parted_some : (s : List ℕ) (parts : List (List ℕ)) → 0 < length parts → flat_map (λ p. s ++ p) parts ≡ s ++ parted_by s parts
 parted_some s [] h = absurd (omega arith)
 parted_some s (part ∷ parts) h = append_assoc s part (flat_map (λ p. s ++ p) parts)
 
-parted_onto : (s : List ℕ) (x : ℕ) (parts : List (List ℕ)) → 0 < length parts → parted s (onto_first x parts) ≡ x ∷ parted s parts
+parted_onto : (s : List ℕ) (x : ℕ) (parts : List (List ℕ)) → 0 < length parts → parted_by s (onto_first x parts) ≡ x ∷ parted_by s parts
 parted_onto s x [] h = absurd (omega arith)
 parted_onto s x (part ∷ parts) h = refl
 
@@ -25,7 +25,7 @@ some_parts : (text : List ℕ) → 0 < length (slice_split (λ b. eqb b 0) text)
 some_parts text = omega (arith, length-slice_split (λ b. eqb b 0) text)
 
 -- the parts between marks, with a text between them
-pub parted_split : (s text : List ℕ) → parted s (slice_split (λ b. eqb b 0) text) ≡ with_marks_as s text
+pub parted_split : (s text : List ℕ) → parted_by s (slice_split (λ b. eqb b 0) text) ≡ with_marks_as s text
 parted_split s [] = refl
 parted_split s (b ∷ text) = elim (cases_Bool (eqb b 0)) [
   | inl mark ↦ rw mark (parted_some s (slice_split (λ b. eqb b 0) text) (some_parts text) ∙ ap (λ x. s ++ x) (parted_split s text))

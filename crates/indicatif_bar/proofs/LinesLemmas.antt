@@ -159,7 +159,8 @@ module _ {K : Type 0} (m : Tracking K) (style : BarStyle K) (p : Progress) (now 
       let source = source_of (names style.keys) (encode_utf8_all key) in
       onto columns wide text (KeyText key layout) (slice_split is_line_break parts) (some_groups parts)
       ∙ ap (λ w. groups_from columns (wide_behind wide w) (text ++ part_text m style p now (KeyText key layout)) (slice_split is_line_break parts)) (wide_of_name layout key)
-      ∙ ap (λ t. groups_from columns (wide_after wide (PutsSource source layout)) (text ++ in_layout m style p now layout t) (slice_split is_line_break parts)) (text_of_name layout (encode_utf8_all key))
+      ∙ ap (λ t. groups_from columns (wide_after wide (PutsSource source layout)) (text ++ in_layout m style p now layout t) (slice_split is_line_break parts))
+      (text_of_name layout (encode_utf8_all key))
       ∙ stepwise columns parts (wide_after wide (PutsSource source layout)) (text ++ effect_text m style p now (PutsSource source layout))
 
   -- the lines of a style are those of its steps

@@ -17,17 +17,16 @@ use Rattle.indicatif_bar.specs.Bars.{bar_kind}
 use Rattle.indicatif_bar.specs.Kinds.{Kind, Writing, Frame, TextAndFrame, NoFrame, asked_of}
 use Rattle.indicatif_bar.specs.Machines.{target_of, Draw, is_no, Leads}
 use Rattle.indicatif_bar.specs.Runs.{CallMade, wrote, lines_by, deed_on}
-use Rattle.indicatif_bar.specs.Lone.{LoneState, Call, Change, Log, Clear, stored_lines, frame_of, draw_asked, draw_by, refused_at_once, deed_unless, takes_text, lone}
-use Rattle.indicatif_bar.specs.LoneBars.{IsIn, IsNowhere, lone_bar, LeadsBy, Obeys, ObeysOrNot, RefusesCommand, known, record_of, terminal_of}
-use Rattle.indicatif_bar.specs.Shown.{DrewBy, DrewOn, WritesLinesOn}
-use Rattle.indicatif_bar.specs.Inside.Writings.{EngineWrites}
+use Rattle.indicatif_bar.specs.Lone.{LoneState, LoneCall, Change, Log, Clear, stored_lines, lone_frame, draw_asked, draw_of_call, refused_at_once, deed_unless, takes_text, lone}
+use Rattle.indicatif_bar.specs.LoneBars.{LoneIsIn, LoneIsNowhere, lone_bar, LoneLeadsBy, Obeys, ObeysOrNot, RefusesCommand, lone_known, record_of, lone_terminal}
+use Rattle.indicatif_bar.specs.Shown.{PutsFrame, DrewBy, DrewOn, WritesLinesOn}
 use Rattle.indicatif_bar.specs.Inside.Obeying.{IsTold, IsToldOrNot}
 use Rattle.indicatif_bar.specs.Shown.{ShownAs}
 use Rattle.indicatif_bar.specs.declared.shown.ShownBar.{ShownBar}
 use Rattle.indicatif_bar.specs.declared.state.Ask.{Ask}
 use Rattle.indicatif_bar.specs.declared.state.Ask.TheVariants.{Forced}
 use Rattle.indicatif_bar.specs.declared.lone.LoneBar.{LoneBar}
-use Rattle.indicatif_bar.proofs.OutcomeLemmas.{drew, answer_of, writes_nothing}
+use Rattle.indicatif_bar.proofs.OutcomeLemmas.{drew, drawn_answer, writes_nothing}
 
 either_way : (r : Result Unit Refusal) (A B : Type 0) → A → B → MatchResult r (λ _. A) (λ _. B)
 either_way (Ok u) A B a b = a
@@ -51,10 +50,10 @@ module _ {K T : Type 0} (m : Tracking K) (view : T → TermView) (takes : Bool) 
   holds_ready holds = record { bar_is = holds.bar_is; lines_are = holds.lines_are; limiter_is = ap (λ limiter. (asked_of ask now limiter).1) holds.limiter_is }
 
   pub drew_so : (new : Engine T) (r : Result Unit Refusal) (frame : List BarLines) → is_no ask ≡ false → 0 < (view (engine_term old)).columns → d.allowed ≡ true → Fits old s.lists →
-      ShownAs laid stored → frame ≡ frame_of d.ready → EngineWrites view writing frame old new r → DrewBy (lone_bar m) (ShownAs allowing) view old new d s.lists (answer_of r)
+      ShownAs laid stored → frame ≡ lone_frame d.ready → PutsFrame view writing false 0 frame old new r → DrewBy (lone_bar m) (ShownAs allowing) view old new d s.lists (drawn_answer r)
   drew_so new r frame asked some allowed fits holds same puts =
       let ready = holds_ready holds in
-      let q = subst (λ f. EngineWrites view writing f old new r) same puts in
+      let q = subst (λ f. PutsFrame view writing false 0 f old new r) same puts in
       drew (lone_bar m) (ShownAs allowing) view old new d s.lists (record { asked = asked; some = some; allowed = allowed; fits = fits; lists_stay = refl; lists_go = refl }) r
       (either_way r (ShownAs allowing d.written) (ShownAs allowing d.ready × ShownAs allowing d.broken)
       (record { bar_is = ready.bar_is; lines_are = ready.lines_are; limiter_is = ready.limiter_is })
@@ -63,12 +62,12 @@ module _ {K T : Type 0} (m : Tracking K) (view : T → TermView) (takes : Bool) 
 
 -- ---- calls, of any kind of bars
 
-module _ {B C : Type 0} (kind : Kind B C) (old : Option TermView) (call : Call C) (now : ℕ) (s : LoneState B) where
+module _ {B C : Type 0} (kind : Kind B C) (old : Option TermView) (call : LoneCall C) (now : ℕ) (s : LoneState B) where
   -- a call that isn't refused at once, from its draw
   pub call_of : (new : Option TermView) (answer : Result Drawn Refusal) (next : LoneState B) → refused_at_once kind call now s.bar ≡ None →
-      DrewOn (lone kind) old new (draw_by kind (target_of old) call now s) s.lists answer next → CallMade (lone kind) old new (call, now) s answer next
+      DrewOn (lone kind) old new (draw_of_call kind (target_of old) call now s) s.lists answer next → CallMade (lone kind) old new (call, now) s answer next
   call_of new answer next allowed e =
-      let d = draw_by kind (target_of old) call now s in
+      let d = draw_of_call kind (target_of old) call now s in
       record {
         leads = subst (λ o. Leads (lone kind) (target_of old) s (deed_unless kind o d s) answer next) (sym allowed) (e.leads s);
         writes = subst (λ o. WritesLinesOn old new (lines_by (deed_unless kind o d s)) s.lists next.lists answer) (sym allowed) e.writes;
@@ -77,7 +76,7 @@ module _ {B C : Type 0} (kind : Kind B C) (old : Option TermView) (call : Call C
   -- one that was refused for want of memory before anything changed
   pub call_short : refused_at_once kind call now s.bar ≡ None → takes_text kind call now s.bar ≡ true → CallMade (lone kind) old old (call, now) s (Err Memory) s
   call_short allowed taken =
-      let d = draw_by kind (target_of old) call now s in
+      let d = draw_of_call kind (target_of old) call now s in
       record {
         leads = subst (λ o. Leads (lone kind) (target_of old) s (deed_unless kind o d s) (Err Memory) s) (sym allowed) (inr (inl (refl, inl (taken, refl))));
         writes = writes_nothing old (lines_by (deed_on (lone kind) old (call, now) s)) s.lists s.lists (Err Memory) refl refl;
@@ -86,7 +85,7 @@ module _ {B C : Type 0} (kind : Kind B C) (old : Option TermView) (call : Call C
   -- one that is refused at once
   pub call_refused : (e : Refusal) → wrote (Err e) ≡ false → refused_at_once kind call now s.bar ≡ Some e → CallMade (lone kind) old old (call, now) s (Err e) s
   call_refused e quiet refused =
-      let d = draw_by kind (target_of old) call now s in
+      let d = draw_of_call kind (target_of old) call now s in
       record {
         leads = subst (λ o. Leads (lone kind) (target_of old) s (deed_unless kind o d s) (Err e) s) (sym refused) (inl refl);
         writes = writes_nothing old (lines_by (deed_on (lone kind) old (call, now) s)) s.lists s.lists (Err e) quiet refl;
@@ -128,73 +127,74 @@ module _ {K T : Type 0} (m : Tracking K) (view : T → TermView) (old mid new : 
   -- what a draw of a bar says, which was so before it
   pub record Draws (ask : Ask) (writing : Writing) : Type 0 where
     pub bar : record_of new ≡ record_of mid
-    pub silent : IsFalse (wrote answer) → terminal_of new ≡ terminal_of mid
-    pub nowhere : IsNowhere view mid → IsFalse (wrote answer)
-    pub drew : (takes : Bool) (s : LoneState (BarRecord K)) → IsIn mid s → (next : LoneState (BarRecord K)) × IsIn new next
-        × DrewOn (lone_bar m) (known view mid) (known view new) (draw_asked (bar_kind m) (target_of (known view mid)) takes ask now writing s) s.lists answer next
+    pub silent : IsFalse (wrote answer) → lone_terminal new ≡ lone_terminal mid
+    pub nowhere : LoneIsNowhere view mid → IsFalse (wrote answer)
+    pub drew : (takes : Bool) (s : LoneState (BarRecord K)) → LoneIsIn mid s → (next : LoneState (BarRecord K)) × LoneIsIn new next
+        × DrewOn (lone_bar m) (lone_known view mid) (lone_known view new) (draw_asked (bar_kind m) (target_of (lone_known view mid)) takes ask now writing s) s.lists answer next
 
   -- a bar that was told a command is in the state after it
   told_in : (command : Command K) (s : LoneState (BarRecord K)) → mid.shown.bar ≡ (obeyed m command old.shown.bar now).0 → mid ≡ record old { shown = record old.shown { bar = mid.shown.bar } } →
-      IsIn old s →
-      IsIn mid (record s { bar = (obeyed m command s.bar now).0 })
-  unfolding IsIn
+      LoneIsIn old s →
+      LoneIsIn mid (record s { bar = (obeyed m command s.bar now).0 })
+  unfolding LoneIsIn
   told_in command s told rest inside =
       let next : LoneState (BarRecord K) = record s { bar = (obeyed m command s.bar now).0 } in
-      subst (λ b. IsIn b next) (sym rest) (
+      subst (λ b. LoneIsIn b next) (sym rest) (
         record { bar_is = told ∙ ap (λ bar. (obeyed m command bar now).0) inside.0.bar_is; lines_are = inside.0.lines_are; limiter_is = inside.0.limiter_is },
         inside.1,
       )
 
   -- the record of the bar is that of its state
-  bar_in : (s : LoneState (BarRecord K)) → IsIn old s → old.shown.bar ≡ s.bar
-  unfolding IsIn
+  bar_in : (s : LoneState (BarRecord K)) → LoneIsIn old s → old.shown.bar ≡ s.bar
+  unfolding LoneIsIn
   bar_in s inside = inside.0.bar_is
 
-  command_leads : (command : Command K) (ask : Ask) → IsTold m old mid command now ask → Draws ask Frame → LeadsBy m view old new (Change command) now answer
+  command_leads : (command : Command K) (ask : Ask) → IsTold m old mid command now ask → Draws ask Frame → LoneLeadsBy m view old new (Change command) now answer
   command_leads command ask told draws = λ s inside.
       let bar = bar_in s inside in
       let next : LoneState (BarRecord K) = record s { bar = (obeyed m command s.bar now).0 } in
-      let d = draws.drew (takes_memory command s.bar) next (told_in command s (ap (λ o. o.0) told.told) told.rest inside) in
-      let asked : ask ≡ (obeyed m command s.bar now).1 = ap (λ o. o.1) told.told ∙ ap (λ b. (obeyed m command b now).1) bar in
-      let Drew = λ (o : Option TermView) (a : Ask). DrewOn (lone_bar m) o (known view new) (draw_asked (bar_kind m) (target_of o) (takes_memory command s.bar) a now Frame next) s.lists answer d.0 in
+      let d = draws.drew (takes_memory command s.bar) next (told_in command s (ap (λ o. o.0) told.as_told) told.rest inside) in
+      let asked : ask ≡ (obeyed m command s.bar now).1 = ap (λ o. o.1) told.as_told ∙ ap (λ b. (obeyed m command b now).1) bar in
+      let Drew = λ (o : Option TermView) (a : Ask).
+      DrewOn (lone_bar m) o (lone_known view new) (draw_asked (bar_kind m) (target_of o) (takes_memory command s.bar) a now Frame next) s.lists answer d.0 in
       let in_time : is_beyond_clock command now ≡ false = told.in_time in (
         d.0,
         d.1,
-        call_of (bar_kind m) (known view old) (Change command) now s (known view new) answer d.0 (rw in_time refl)
-            (subst (Drew (known view old)) asked (subst (λ b. Drew (known view b) ask) told.rest d.2)),
+        call_of (bar_kind m) (lone_known view old) (Change command) now s (lone_known view new) answer d.0 (rw in_time refl)
+            (subst (Drew (lone_known view old)) asked (subst (λ b. Drew (lone_known view b) ask) told.rest d.2)),
       )
 
   pub obeys : (command : Command K) (ask : Ask) → IsTold m old mid command now ask → Draws ask Frame → Obeys m view old new command now answer
   obeys command ask told draws = record {
-    bar = draws.bar ∙ ap (λ o. o.0) told.told;
-    silent = λ quiet. draws.silent quiet ∙ ap terminal_of told.rest;
-    nowhere = λ none. draws.nowhere (ap (λ b. (target_of (known view b)).columns) told.rest ∙ none);
+    bar = draws.bar ∙ ap (λ o. o.0) told.as_told;
+    silent = λ quiet. draws.silent quiet ∙ ap lone_terminal told.rest;
+    nowhere = λ none. draws.nowhere (ap (λ b. (target_of (lone_known view b)).columns) told.rest ∙ none);
     leads = command_leads command ask told draws;
   }
 
   pub obeys_or_not : (command : Command K) (ask : Ask) → IsToldOrNot m old mid command now (Ok ask) → Draws ask Frame → ObeysOrNot m view old new command now answer
-  obeys_or_not command ask told draws = let o = obeys command ask (record { told = told.told.0; in_time = told.told.1; rest = told.rest }) draws in
+  obeys_or_not command ask told draws = let o = obeys command ask (record { as_told = told.as_told.0; in_time = told.as_told.1; rest = told.rest }) draws in
       record { bar = inl o.bar; silent = o.silent; nowhere = o.nowhere; leads = o.leads }
 
-  pub log_leads : (text : List ℕ) → Draws Forced (TextAndFrame (text_lines (logged_lines text))) → LeadsBy m view mid new (Log text) now answer
+  pub log_leads : (text : List ℕ) → Draws Forced (TextAndFrame (text_lines (logged_lines text))) → LoneLeadsBy m view mid new (Log text) now answer
   log_leads text draws = λ s inside.
-      let d = draws.drew false s inside in (d.0, d.1, call_of (bar_kind m) (known view mid) (Log text) now s (known view new) answer d.0 refl d.2)
+      let d = draws.drew false s inside in (d.0, d.1, call_of (bar_kind m) (lone_known view mid) (Log text) now s (lone_known view new) answer d.0 refl d.2)
 
-  pub clear_leads : Draws Forced NoFrame → LeadsBy m view mid new Clear now answer
+  pub clear_leads : Draws Forced NoFrame → LoneLeadsBy m view mid new Clear now answer
   clear_leads draws = λ s inside.
-      let d = draws.drew false s inside in (d.0, d.1, call_of (bar_kind m) (known view mid) Clear now s (known view new) answer d.0 refl d.2)
+      let d = draws.drew false s inside in (d.0, d.1, call_of (bar_kind m) (lone_known view mid) Clear now s (lone_known view new) answer d.0 refl d.2)
 
 -- a command that was refused
 module _ {K T : Type 0} (m : Tracking K) (view : T → TermView) (old : LoneBar K T) (command : Command K) (now : ℕ) where
-  refused_leads : (e : Refusal) → RefusesCommand command old.shown.bar now e → LeadsBy m view old old (Change command) now (Err e)
+  refused_leads : (e : Refusal) → RefusesCommand command old.shown.bar now e → LoneLeadsBy m view old old (Change command) now (Err e)
   refused_leads e (inl short) = λ s inside.
       let bar : old.shown.bar ≡ s.bar = bar_in m view old old old now (Err e) s inside in
       let takes : takes_memory command s.bar ≡ true = ap (takes_memory command) (sym bar) ∙ short.1 in
       let in_time : is_beyond_clock command now ≡ false = memory_in_time command s.bar now takes in
-      (s, inside, rw short.0 (call_short (bar_kind m) (known view old) (Change command) now s (rw in_time refl) takes))
+      (s, inside, rw short.0 (call_short (bar_kind m) (lone_known view old) (Change command) now s (rw in_time refl) takes))
   refused_leads e (inr late) = λ s inside.
       let beyond : is_beyond_clock command now ≡ true = late.1 in
-      (s, inside, rw late.0 (call_refused (bar_kind m) (known view old) (Change command) now s ElapsedBeyondClock refl (rw beyond refl)))
+      (s, inside, rw late.0 (call_refused (bar_kind m) (lone_known view old) (Change command) now s ElapsedBeyondClock refl (rw beyond refl)))
 
   refused_quietly : (e : Refusal) → RefusesCommand command old.shown.bar now e → wrote (Err e) ≡ false
   refused_quietly e (inl short) = ap (λ x. wrote (Err x)) short.0
@@ -202,20 +202,20 @@ module _ {K T : Type 0} (m : Tracking K) (view : T → TermView) (old : LoneBar 
 
   pub refuses : (mid : LoneBar K T) (e : Refusal) → IsToldOrNot m old mid command now (Err e) → ObeysOrNot m view old mid command now (Err e)
   refuses mid e told =
-      let same : mid ≡ old = told.rest ∙ ap (λ b. record old { shown = record old.shown { bar = b } }) told.told.1 in
+      let same : mid ≡ old = told.rest ∙ ap (λ b. record old { shown = record old.shown { bar = b } }) told.as_told.1 in
       record {
-        bar = inr (e, refl, told.told.0, same);
-        silent = λ quiet. ap terminal_of same;
-        nowhere = λ none. refused_quietly e told.told.0;
-        leads = subst (λ b. LeadsBy m view old b (Change command) now (Err e)) (sym same) (refused_leads e told.told.0);
+        bar = inr (e, refl, told.as_told.0, same);
+        silent = λ quiet. ap lone_terminal same;
+        nowhere = λ none. refused_quietly e told.as_told.0;
+        leads = subst (λ b. LoneLeadsBy m view old b (Change command) now (Err e)) (sym same) (refused_leads e told.as_told.0);
       }
 
 -- a bar whose engine was replaced by one that has drawn nothing, and its limiter
 pub in_anew : {K T : Type 0} (old : LoneBar K T) (shown : ShownBar K) (engine opened : Option (Engine T)) (limiter given : Option Limiter) →
     shown ≡ record old.shown { limiter = given } → given ≡ limiter → engine ≡ opened →
     MatchOption opened (Unit {0}) (λ e. Fits e opening_lists) →
-    (s : LoneState (BarRecord K)) → IsIn old s → IsIn (record { shown = shown; engine = engine }) (record s { limiter = limiter; lists = opening_lists })
-unfolding IsIn
+    (s : LoneState (BarRecord K)) → LoneIsIn old s → LoneIsIn (record { shown = shown; engine = engine }) (record s { limiter = limiter; lists = opening_lists })
+unfolding LoneIsIn
 in_anew {K} {T} old shown engine opened limiter given same given_is engine_is fits s inside =
     let next : LoneState (BarRecord K) = record s { limiter = limiter; lists = opening_lists } in (
       subst (λ x. ShownAs x next) (sym same) (record { bar_is = inside.0.bar_is; lines_are = inside.0.lines_are; limiter_is = given_is }),
@@ -223,6 +223,6 @@ in_anew {K} {T} old shown engine opened limiter given same given_is engine_is fi
     )
 
 -- the limiter of a bar that is in a state is the state's
-pub limiter_in : {K T : Type 0} (b : LoneBar K T) (s : LoneState (BarRecord K)) → IsIn b s → b.shown.limiter ≡ s.limiter
-unfolding IsIn
+pub limiter_in : {K T : Type 0} (b : LoneBar K T) (s : LoneState (BarRecord K)) → LoneIsIn b s → b.shown.limiter ≡ s.limiter
+unfolding LoneIsIn
 limiter_in b s inside = inside.0.limiter_is

@@ -18,7 +18,7 @@ use Rattle.indicatif_bar.specs.Bars.{bar_kind}
 use Rattle.indicatif_bar.specs.Commands.{BarRecord, Command, SetElapsed, obeyed, is_beyond_clock}
 use Rattle.indicatif_bar.specs.LoneBars.{CallDone, RecordGoes, RecordsGo, record_of}
 use Rattle.indicatif_bar.specs.declared.lone.LoneBar.{LoneBar}
-use Rattle.indicatif_bar.specs.Lone.{LoneState, Call, Change, Log, Clear, bar_after, bar_after_all, draw_by, refused_at_once, deed_unless, lone}
+use Rattle.indicatif_bar.specs.Lone.{LoneState, LoneCall, Change, Log, Clear, bar_after, bar_after_all, draw_of_call, refused_at_once, deed_unless, lone}
 use Rattle.indicatif_bar.proofs.SoundRunLemmas.{GoesSoundly, sound_read_after}
 
 pub written_soundly : (writing : Writing) (target : Target) (bottom : Bool) (leave : ℕ) (frame : List BarLines) (l : Lists) → (written_lists writing target bottom leave frame l).failed ≡ false
@@ -28,20 +28,20 @@ written_soundly (TextAndFrame text) target bottom leave frame l = refl
 written_soundly NoFrame target bottom leave frame l = refl
 
 module _ {B C : Type 0} (kind : Kind B C) where
-  deed_soundly : (refused : Option Refusal) (target : Target) (call : Call C) (now : ℕ) (s : LoneState B) →
-      GoesSoundly (lone kind) s (deed_unless kind refused (draw_by kind target call now s) s)
+  deed_soundly : (refused : Option Refusal) (target : Target) (call : LoneCall C) (now : ℕ) (s : LoneState B) →
+      GoesSoundly (lone kind) s (deed_unless kind refused (draw_of_call kind target call now s) s)
   deed_soundly (Some e) target call now s = λ sound. sound
   deed_soundly None target call now s =
       (record { numbers = λ sound. sound; ready = λ sound. sound; written = λ sound. written_soundly _ target _ _ _ s.lists }, (λ x sound. sound), λ x sound. sound)
 
-  pub lone_read_after : (calls : List (Call C × ℕ)) (answers : List (Result Drawn Refusal)) (v : TermView) (s : LoneState B) (new : Option TermView) (next : LoneState B) →
+  pub lone_read_after : (calls : List (LoneCall C × ℕ)) (answers : List (Result Drawn Refusal)) (v : TermView) (s : LoneState B) (new : Option TermView) (next : LoneState B) →
       IsFalse s.lists.failed → ReadsAfter (lone kind) calls answers v s new next
   lone_read_after = sound_read_after (lone kind) (λ target call now s. deed_soundly (refused_at_once kind call now s.bar) target call now s)
 
 -- ---- what becomes of a record
 
 -- a call of a lone bar makes this of its record
-pub goes_by : {K T : Type 0} (m : Tracking K) (old new : LoneBar K T) (call : Call (Command K)) (now : ℕ) (answer : Result Drawn Refusal) → CallDone m old new call now answer →
+pub goes_by : {K T : Type 0} (m : Tracking K) (old new : LoneBar K T) (call : LoneCall (Command K)) (now : ℕ) (answer : Result Drawn Refusal) → CallDone m old new call now answer →
     RecordGoes m call now answer (record_of old) (record_of new)
 goes_by m old new (Change command) now answer (inl done) = inl done
 goes_by m old new (Change command) now answer (inr refused) = inr (refused.0, refused.1, refused.2, ap record_of refused.3)
@@ -50,7 +50,7 @@ goes_by m old new Clear now answer done = done
 
 module _ {K : Type 0} (m : Tracking K) where
   -- one call more at the end
-  pub goes-push : (calls : List (Call (Command K) × ℕ)) (answers : List (Result Drawn Refusal)) (bar x bar' : BarRecord K) (call : Call (Command K) × ℕ) (answer : Result Drawn Refusal) →
+  pub goes-push : (calls : List (LoneCall (Command K) × ℕ)) (answers : List (Result Drawn Refusal)) (bar x bar' : BarRecord K) (call : LoneCall (Command K) × ℕ) (answer : Result Drawn Refusal) →
       RecordsGo m calls answers bar x → RecordGoes m call.0 call.1 answer x bar' → RecordsGo m (calls ++ call ∷ []) (answers ++ answer ∷ []) bar bar'
   goes-push [] [] bar x bar' call answer went goes = (bar', subst (λ y. RecordGoes m call.0 call.1 answer y bar') went goes, refl)
   goes-push (c ∷ calls) (a ∷ answers) bar x bar' call answer went goes = (went.0, went.1, goes-push calls answers went.0 x bar' call answer went.2 goes)
@@ -62,7 +62,7 @@ module _ {K : Type 0} (m : Tracking K) where
   late_stays (SetElapsed nanos) bar now late = rw late refl
   late_stays _ bar now late = absurd (false≢true late)
 
-  goes_as_told : (call : Call (Command K)) (now : ℕ) (answer : Result Drawn Refusal) (bar bar' : BarRecord K) → answer ≢ Err Memory → RecordGoes m call now answer bar bar' →
+  goes_as_told : (call : LoneCall (Command K)) (now : ℕ) (answer : Result Drawn Refusal) (bar bar' : BarRecord K) → answer ≢ Err Memory → RecordGoes m call now answer bar bar' →
       bar' ≡ bar_after (bar_kind m) call now bar
   goes_as_told (Change command) now answer bar bar' ample (inl done) = done
   goes_as_told (Change command) now answer bar bar' ample (inr (e, said, inl short, stays)) = absurd (ample (said ∙ ap Err short.0))
@@ -71,7 +71,7 @@ module _ {K : Type 0} (m : Tracking K) where
   goes_as_told Clear now answer bar bar' ample stays = stays
 
   -- where no call found too little memory, a record goes as the commands say
-  pub go_as_told : (calls : List (Call (Command K) × ℕ)) (answers : List (Result Drawn Refusal)) (bar bar' : BarRecord K) → AllByRecursion (λ answer. answer ≢ Err Memory) answers →
+  pub go_as_told : (calls : List (LoneCall (Command K) × ℕ)) (answers : List (Result Drawn Refusal)) (bar bar' : BarRecord K) → AllByRecursion (λ answer. answer ≢ Err Memory) answers →
       RecordsGo m calls answers bar bar' → bar' ≡ bar_after_all (bar_kind m) calls bar
   go_as_told [] [] bar bar' ample went = went
   go_as_told (call ∷ calls) (answer ∷ answers) bar bar' ample went =

@@ -72,9 +72,9 @@ pub comes-shown : {S : Type 0} (v : TermView) (d : Draw S) → is_no d.ask ≡ f
 comes-shown v d asked some = let columns : eqb v.columns 0 ≡ false = ne_eqb v.columns 0 (λ e. omega (arith, e)) in rw (asked, columns) refl
 
 -- the answer of a draw whose engine answered so
-abbrev pub answer_of : Result Unit Refusal → Result Drawn Refusal
-answer_of (Ok u) = Ok Yes
-answer_of (Err e) = Err e
+abbrev pub drawn_answer : Result Unit Refusal → Result Drawn Refusal
+drawn_answer (Ok u) = Ok Yes
+drawn_answer (Err e) = Err e
 
 module _ {S C A T : Type 0} (m : Machine S C A) (P : S → Type 0) (view : T → TermView) (old new : Engine T) (d : Draw S) (l : Lists) where
   abbrev v : TermView
@@ -148,7 +148,7 @@ module _ {S C A T : Type 0} (m : Machine S C A) (P : S → Type 0) (view : T →
     drew_err stays breaks _ e = absurd e.answers
 
     -- the draw, whatever the engine answered
-    pub drew : (r : Result Unit Refusal) → MatchResult r (λ _. P d.written) (λ _. P d.ready × P d.broken) → Drawing r → DrewBy m P view old new d l (answer_of r)
+    pub drew : (r : Result Unit Refusal) → MatchResult r (λ _. P d.written) (λ _. P d.ready × P d.broken) → Drawing r → DrewBy m P view old new d l (drawn_answer r)
     drew (Ok u) holds e = drew_ok holds e
     drew (Err x) holds e = drew_err holds.0 holds.1 x e
 

@@ -267,10 +267,10 @@ module _ {K : Type 0} (m : Tracking K) (style : BarStyle K) (p : Progress) (now 
       subst SomeMarked (sym whole) (record { many = text_columns before + (bar_marked.many + text_columns behind); is = all })
 
   -- the line: the text with the bar in the place of its mark
-  abbrev line_text : List ℕ
-  line_text = with_marks_as (wide_text style p columns (parts_text m style p now style.parts) (WideBarOf h.layout)) (parts_text m style p now style.parts)
+  abbrev text_of_line : List ℕ
+  text_of_line = with_marks_as (wide_text style p columns (parts_text m style p now style.parts) (WideBarOf h.layout)) (parts_text m style p now style.parts)
 
-  line_takes : Takes columns line_text
+  line_takes : Takes columns text_of_line
   line_takes =
       let text = parts_text m style p now style.parts in
       let x = text_marked.is in
@@ -281,9 +281,9 @@ module _ {K : Type 0} (m : Tracking K) (style : BarStyle K) (p : Progress) (now 
       let bar = takes_bar style.clusters style.colours (unwrap_or h.layout.alternative []) p.position p.len left h.clusters in
       let shown = takes_as (cells_in style.clusters left * u) left _ (exact left u even) bar in
       let all : n + left ≡ columns = omega (arith, left_is n text x columns, marked_columns n text x, h.room) in
-      takes_as (n + left) columns line_text all (replaced_takes n text x left (wide_text style p columns text (WideBarOf h.layout)) shown)
+      takes_as (n + left) columns text_of_line all (replaced_takes n text x left (wide_text style p columns text (WideBarOf h.layout)) shown)
 
-  line_alone : lines m style p now columns ≡ line_text ∷ []
+  line_alone : lines m style p now columns ≡ text_of_line ∷ []
   unfolding lines
   line_alone =
       let text = parts_text m style p now style.parts in
@@ -291,11 +291,11 @@ module _ {K : Type 0} (m : Tracking K) (style : BarStyle K) (p : Progress) (now 
       ap (lines_of_groups m style p now columns None) (slice_split_none is_line_break style.parts h.one_line)
       ∙ kept_by (length text == 0) (lines_with style p columns (latest_wide m style p now None style.parts) text) some
       ∙ ap (λ ws. lines_with style p columns (last_or None ws) text) h.alone
-      ∙ slice_split_none is_newline line_text (takes_without 0x0A columns line_text strange_newline line_takes)
+      ∙ slice_split_none is_newline text_of_line (takes_without 0x0A columns text_of_line strange_newline line_takes)
 
 pub wide_bars_fill : {K : Type 0} → WideBarsFill K
 wide_bars_fill m style p now columns h = (
-  line_text m style p now columns h,
+  text_of_line m style p now columns h,
   line_alone m style p now columns h,
-  filled_row columns (line_text m style p now columns h) (line_takes m style p now columns h),
+  filled_row columns (text_of_line m style p now columns h) (line_takes m style p now columns h),
 )

@@ -14,7 +14,7 @@ use Rattle.indicatif_bar.specs.Commands.{BarRecord, Command, new_bar, obeyed, Ti
 use Rattle.indicatif_bar.specs.LoneBars.{lone_bar}
 use Rattle.indicatif_term.specs.Limiters.{draw_limiter}
 use Rattle.indicatif_bar.specs.Machines.{Target, outcomes}
-use Rattle.indicatif_bar.specs.Lone.{LoneState, Call, Change, Log, Clear, opening_state}
+use Rattle.indicatif_bar.specs.Lone.{LoneState, LoneCall, Change, Log, Clear, opening_state}
 
 -- ---- messages
 
@@ -51,7 +51,7 @@ Lines =
     × (shown (codes "\n") ≡ [] ∷ [] ∷ [])
 
 -- what calls of it answer, and its state then
-abbrev pub ran : Target → List ℕ → List (Call (Command (Unit {0}))) → List (Result Drawn Refusal) × LoneState (BarRecord (Unit {0}))
+abbrev pub ran : Target → List ℕ → List (LoneCall (Command (Unit {0}))) → List (Result Drawn Refusal) × LoneState (BarRecord (Unit {0}))
 ran target message calls = outcomes (lone_bar untracked) target (map (λ call. (call, 0)) calls) (opening_state (bar_saying message) None)
 
 -- the rows of lines

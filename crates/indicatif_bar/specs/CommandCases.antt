@@ -57,60 +57,60 @@ Rates =
 
 module _ (style : BarStyle ℕ) where
   -- a bar as made at moment 0
-  abbrev pub plain : Option ℕ → BarRecord ℕ
-  plain len = new_bar style len 0
+  abbrev pub plain_record : Option ℕ → BarRecord ℕ
+  plain_record len = new_bar style len 0
 
   -- twelve steps at the moment of making, and one a millisecond later: ten ask a draw, two don't, the last does
   abbrev pub TwelveSteps : Type 0
-  TwelveSteps = (asks_of (plain None) (replicate 12 (Inc 1, 0) ++ (Inc 1, ms) ∷ []) ≡ replicate 10 Unforced ++ No ∷ No ∷ Unforced ∷ [])
-      × ((after_all (plain None) (replicate 12 (Inc 1, 0))).progress.position ≡ 12)
-      × ((after_all (plain None) (replicate 12 (Inc 1, 0))).progress.ticks ≡ 10)
-      × ((after_all (plain None) (replicate 12 (Inc 1, 0) ++ (Inc 1, ms) ∷ [])).progress.position ≡ 13)
+  TwelveSteps = (asks_of (plain_record None) (replicate 12 (Inc 1, 0) ++ (Inc 1, ms) ∷ []) ≡ replicate 10 Unforced ++ No ∷ No ∷ Unforced ∷ [])
+      × ((after_all (plain_record None) (replicate 12 (Inc 1, 0))).progress.position ≡ 12)
+      × ((after_all (plain_record None) (replicate 12 (Inc 1, 0))).progress.ticks ≡ 10)
+      × ((after_all (plain_record None) (replicate 12 (Inc 1, 0) ++ (Inc 1, ms) ∷ [])).progress.position ≡ 13)
 
   -- three of nine in two seconds: three steps in two seconds, and four seconds to come
   abbrev pub RateAndEta : Type 0
   RateAndEta =
-      let bar = after_all (plain (Some 9)) ((SetPosition 3, 2 * one_second) ∷ []) in
+      let bar = after_all (plain_record (Some 9)) ((SetPosition 3, 2 * one_second) ∷ []) in
       let rate : Rate = record { steps = 3; nanos = 2000000000 } in
       (per_sec bar.progress (2 * one_second) ≡ rate) × (eta bar.progress (2 * one_second) ≡ 4 * one_second) × (duration bar.progress (2 * one_second) ≡ 6 * one_second)
 
   -- a finished bar's draws are forced, and an installed ticker keeps a bar from ticking
   abbrev pub Asks : Type 0
-  Asks = (asks_of (plain None) ((Tick, 0) ∷ (FinishBy AndLeave, 0) ∷ (Tick, 0) ∷ []) ≡ Unforced ∷ Forced ∷ Forced ∷ [])
-      × (asks_of (plain None) ((SetTicker true, 0) ∷ (Inc 1, 0) ∷ (TickerTick, 0) ∷ []) ≡ No ∷ No ∷ Unforced ∷ [])
-      × ((after_all (plain None) ((SetTicker true, 0) ∷ (Inc 1, 0) ∷ [])).progress.position ≡ 1)
+  Asks = (asks_of (plain_record None) ((Tick, 0) ∷ (FinishBy AndLeave, 0) ∷ (Tick, 0) ∷ []) ≡ Unforced ∷ Forced ∷ Forced ∷ [])
+      × (asks_of (plain_record None) ((SetTicker true, 0) ∷ (Inc 1, 0) ∷ (TickerTick, 0) ∷ []) ≡ No ∷ No ∷ Unforced ∷ [])
+      × ((after_all (plain_record None) ((SetTicker true, 0) ∷ (Inc 1, 0) ∷ [])).progress.position ≡ 1)
 
   -- the rate since a reset of it, of steps that went back, and the time that is left then
   abbrev pub ResetRates : Type 0
   ResetRates =
-      let slow = after_all (plain None) ((PutPosition 2, 0) ∷ (Tick, one_second) ∷ (ResetEta, one_second) ∷ (SetPosition 3, 2 * one_second) ∷ []) in
-      let back = after_all (plain (Some 9)) ((SetPosition 5, one_second) ∷ (SetPosition 2, 2 * one_second) ∷ []) in
+      let slow = after_all (plain_record None) ((PutPosition 2, 0) ∷ (Tick, one_second) ∷ (ResetEta, one_second) ∷ (SetPosition 3, 2 * one_second) ∷ []) in
+      let back = after_all (plain_record (Some 9)) ((SetPosition 5, one_second) ∷ (SetPosition 2, 2 * one_second) ∷ []) in
       let rate : Rate = record { steps = 1; nanos = 1000000000 } in
       (per_sec slow.progress (2 * one_second) ≡ rate) × ((per_sec back.progress (3 * one_second)).steps ≡ 0) × (eta back.progress (3 * one_second) ≡ 0)
 
   -- positions go round; lengths stop at both ends, and none stays none
   abbrev pub Ends : Type 0
-  Ends = ((after_all (plain None) ((Dec 1, 0) ∷ [])).progress.position ≡ greatest_u64)
-      × ((after_all (plain None) ((SetPosition greatest_u64, 0) ∷ (Inc 2, 0) ∷ [])).progress.position ≡ 1)
-      × ((after_all (plain None) ((SetLength greatest_u64, 0) ∷ (IncLength 1, 0) ∷ [])).progress.len ≡ Some greatest_u64)
-      × ((after_all (plain None) ((SetLength 3, 0) ∷ (DecLength 5, 0) ∷ [])).progress.len ≡ Some 0)
-      × ((after_all (plain None) ((IncLength 5, 0) ∷ [])).progress.len ≡ None)
+  Ends = ((after_all (plain_record None) ((Dec 1, 0) ∷ [])).progress.position ≡ greatest_u64)
+      × ((after_all (plain_record None) ((SetPosition greatest_u64, 0) ∷ (Inc 2, 0) ∷ [])).progress.position ≡ 1)
+      × ((after_all (plain_record None) ((SetLength greatest_u64, 0) ∷ (IncLength 1, 0) ∷ [])).progress.len ≡ Some greatest_u64)
+      × ((after_all (plain_record None) ((SetLength 3, 0) ∷ (DecLength 5, 0) ∷ [])).progress.len ≡ Some 0)
+      × ((after_all (plain_record None) ((IncLength 5, 0) ∷ [])).progress.len ≡ None)
 
   -- an elapsed time beyond the moment is refused; one that isn't sets the start
   abbrev pub ElapsedTimes : Type 0
-  ElapsedTimes = (is_beyond_clock {K = ℕ} (SetElapsed 5) 4 ≡ true) × (after_all (plain None) ((SetElapsed 5, 4) ∷ []) ≡ plain None)
-      × (elapsed (after_all (plain None) ((SetElapsed 5, 5) ∷ [])).progress 7 ≡ 7)
+  ElapsedTimes = (is_beyond_clock {K = ℕ} (SetElapsed 5) 4 ≡ true) × (after_all (plain_record None) ((SetElapsed 5, 4) ∷ []) ≡ plain_record None)
+      × (elapsed (after_all (plain_record None) ((SetElapsed 5, 5) ∷ [])).progress 7 ≡ 7)
 
   -- a tab is eight spaces, and as many as are set after that
   abbrev pub TabWidths : Type 0
   TabWidths =
-      let tabbed = after_all (plain None) ((SetMessage (codes "a" ++ (9 ∷ []) ++ codes "b"), 0) ∷ []) in
+      let tabbed = after_all (plain_record None) ((SetMessage (codes "a" ++ (9 ∷ []) ++ codes "b"), 0) ∷ []) in
       (shown_message tabbed.progress ≡ codes "a        b") × (shown_message (obeyed writes_nothing (SetTabWidth 2) tabbed 0).0.progress ≡ codes "a  b")
 
   -- each finish: where the bar stands then, and what it took
   abbrev pub Finishes : Type 0
   Finishes =
-      let half = after_all (plain (Some 10)) ((PutPosition 5, 0) ∷ []) in
+      let half = after_all (plain_record (Some 10)) ((PutPosition 5, 0) ∷ []) in
       let left = after_all half ((FinishBy AndLeave, 3) ∷ []) in
       let told = after_all half ((FinishBy (WithMessage (codes "done")), 3) ∷ []) in
       let gone = after_all half ((FinishUsingStyle, 3) ∷ []) in
@@ -121,5 +121,5 @@ module _ (style : BarStyle ℕ) where
   -- a reset goes back to position 0 and leaves what the position's limiter has in hand
   abbrev pub Resets : Type 0
   Resets =
-      let spent = after_all (plain None) (replicate 10 (Inc 1, 0)) in
+      let spent = after_all (plain_record None) (replicate 10 (Inc 1, 0)) in
       (asks_of spent ((Reset, 0) ∷ (Inc 1, 0) ∷ []) ≡ Unforced ∷ No ∷ []) × ((after_all spent ((Reset, 0) ∷ (Inc 1, 0) ∷ [])).progress.position ≡ 1)

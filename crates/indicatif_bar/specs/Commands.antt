@@ -10,12 +10,12 @@ use Rattle.indicatif_bar.specs.Trackers.{Tracking, changed_trackers}
 use Rattle.indicatif_bar.specs.BarStyles.{BarStyle}
 use Rattle.indicatif_bar.specs.declared.command.BarCommand.{BarCommand}
 use Rattle.indicatif_bar.specs.declared.command.BarCommand.TheVariants as told
-use Rattle.indicatif_bar.specs.Finishes.{Finish, AndClear, finish_of, finished_by, finish_takes_memory}
+use Rattle.indicatif_bar.specs.Finishes.{BarFinish, AndClear, finish_of, finished_by, finish_takes_memory}
 
 pub record BarRecord (K : Type 0) : Type 0 where
   pub progress : Progress
   pub style : BarStyle K
-  pub on_finish : Finish
+  pub on_finish : BarFinish
   -- a steady ticker is installed
   pub ticker : Bool
   pub limiter : PositionLimiter
@@ -40,14 +40,14 @@ pub data Command (K : Type 0) : Type 0 where
   PutPosition : (position : ℕ) → Command K
   PutMessage : (text : List ℕ) → Command K
   PutPrefix : (text : List ℕ) → Command K
-  PutFinish : (finish : Finish) → Command K
+  PutFinish : (finish : BarFinish) → Command K
   PutTabWidth : (tab : ℕ) → Command K
   SetTabWidth : (tab : ℕ) → Command K
   SetElapsed : (nanos : ℕ) → Command K
   ResetEta : Command K
   ResetElapsed : Command K
   Reset : Command K
-  FinishBy : (finish : Finish) → Command K
+  FinishBy : (finish : BarFinish) → Command K
   FinishUsingStyle : Command K
   ForceDraw : Command K
 
@@ -90,7 +90,7 @@ with_tab bar tab = record bar { progress = record bar.progress { tab = tab }; st
 -- ---- finishing
 
 -- a finish stores the time since the start, and its draw is forced
-abbrev pub finish : {K : Type 0} → Finish → BarRecord K → ℕ → BarRecord K × Ask
+abbrev pub finish : {K : Type 0} → BarFinish → BarRecord K → ℕ → BarRecord K × Ask
 finish by bar now = (with_progress bar (finished_by by (record bar.progress { took = elapsed bar.progress now })), Forced)
 
 -- ---- commands

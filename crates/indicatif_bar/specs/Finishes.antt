@@ -7,15 +7,15 @@ use Rattle.indicatif_bar.specs.Tabs.{is_some_text}
 use Rattle.indicatif_bar.specs.Progress.{Progress, at_end}
 
 -- how a bar is finished
-pub data Finish : Type 0 where
-  AndLeave : Finish
-  WithMessage : (text : List ℕ) → Finish
-  AndClear : Finish
-  Abandon : Finish
-  AbandonWithMessage : (text : List ℕ) → Finish
+pub data BarFinish : Type 0 where
+  AndLeave : BarFinish
+  WithMessage : (text : List ℕ) → BarFinish
+  AndClear : BarFinish
+  Abandon : BarFinish
+  AbandonWithMessage : (text : List ℕ) → BarFinish
 
 -- the same of a finish as a value
-abbrev pub finish_of : ProgressFinish → Finish
+abbrev pub finish_of : ProgressFinish → BarFinish
 finish_of by.AndLeave = AndLeave
 finish_of (by.WithMessage text) = WithMessage (string_bytes text)
 finish_of by.AndClear = AndClear
@@ -23,7 +23,7 @@ finish_of by.Abandon = Abandon
 finish_of (by.AbandonWithMessage text) = AbandonWithMessage (string_bytes text)
 
 -- the progress after a finish
-abbrev pub finished_by : Finish → Progress → Progress
+abbrev pub finished_by : BarFinish → Progress → Progress
 finished_by AndLeave p = record (at_end p) { status = DoneVisible }
 finished_by (WithMessage text) p = record (at_end p) { status = DoneVisible; message = text }
 finished_by AndClear p = record (at_end p) { status = DoneHidden }
@@ -31,7 +31,7 @@ finished_by Abandon p = record p { status = DoneVisible }
 finished_by (AbandonWithMessage text) p = record p { status = DoneVisible; message = text }
 
 -- a finish that sets a message takes memory for it, unless it is empty
-abbrev pub finish_takes_memory : Finish → Bool
+abbrev pub finish_takes_memory : BarFinish → Bool
 finish_takes_memory (WithMessage text) = is_some_text text
 finish_takes_memory (AbandonWithMessage text) = is_some_text text
 finish_takes_memory _ = false

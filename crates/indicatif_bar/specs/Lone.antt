@@ -27,44 +27,44 @@ abbrev pub opening_state : {B : Type 0} → B → Option Limiter → LoneState B
 opening_state bar limiter = record { bar = bar; stored = []; limiter = limiter; lists = opening_lists }
 
 -- the bar as the one member of a frame
-abbrev pub frame_of : {B : Type 0} → LoneState B → List BarLines
-frame_of s = record { bar = 0; lines = s.stored } ∷ []
+abbrev pub lone_frame : {B : Type 0} → LoneState B → List BarLines
+lone_frame s = record { bar = 0; lines = s.stored } ∷ []
 
 -- ---- calls
 
 -- what a lone bar can be asked
-pub data Call (C : Type 0) : Type 0 where
+pub data LoneCall (C : Type 0) : Type 0 where
   -- a command of the bar
-  Change : (command : C) → Call C
+  Change : (command : C) → LoneCall C
   -- lines of text above the bar
-  Log : (text : List ℕ) → Call C
+  Log : (text : List ℕ) → LoneCall C
   -- the bar's rows taken back
-  Clear : Call C
+  Clear : LoneCall C
 
 -- what it writes
-abbrev pub writing_of : {C : Type 0} → Call C → Writing
+abbrev pub writing_of : {C : Type 0} → LoneCall C → Writing
 writing_of (Change command) = Frame
 writing_of (Log text) = TextAndFrame (text_lines (logged_lines text))
 writing_of Clear = NoFrame
 
 module _ {B C : Type 0} (kind : Kind B C) where
   -- whether it takes memory for a text of the bar
-  abbrev pub takes_text : Call C → ℕ → B → Bool
+  abbrev pub takes_text : LoneCall C → ℕ → B → Bool
   takes_text (Change command) now bar = kind.takes command bar now
   takes_text _ now bar = false
 
   -- the bar then
-  abbrev pub bar_after : Call C → ℕ → B → B
+  abbrev pub bar_after : LoneCall C → ℕ → B → B
   bar_after (Change command) now bar = (kind.after command bar now).0
   bar_after _ now bar = bar
 
   -- the bar after calls at their moments, one after another
-  abbrev pub bar_after_all : List (Call C × ℕ) → B → B
+  abbrev pub bar_after_all : List (LoneCall C × ℕ) → B → B
   bar_after_all [] bar = bar
   bar_after_all (call ∷ calls) bar = bar_after_all calls (bar_after call.0 call.1 bar)
 
   -- whether it asks for a draw
-  abbrev pub asks : Call C → ℕ → B → Ask
+  abbrev pub asks : LoneCall C → ℕ → B → Ask
   asks (Change command) now bar = (kind.after command bar now).1
   asks _ now bar = Forced
 
@@ -86,23 +86,23 @@ module _ {B C : Type 0} (kind : Kind B C) where
       record {
         text_takes = takes;
         lines_take = lines_take writing s.bar;
-        rows_take = rows_take writing 0 (frame_of ready);
+        rows_take = rows_take writing 0 (lone_frame ready);
         ask = ask;
         after_command = s;
         ready = ready;
         allowed = asked.0;
-        lines = lines_to_write writing 0 (frame_of ready);
-        written = record ready { lists = written_lists writing target false 0 (frame_of ready) s.lists };
+        lines = lines_to_write writing 0 (lone_frame ready);
+        written = record ready { lists = written_lists writing target false 0 (lone_frame ready) s.lists };
         broken = record ready { lists = forgotten_lists };
       }
 
   -- that of a call
-  abbrev pub draw_by : Target → Call C → ℕ → LoneState B → Draw (LoneState B)
-  draw_by target call now s =
+  abbrev pub draw_of_call : Target → LoneCall C → ℕ → LoneState B → Draw (LoneState B)
+  draw_of_call target call now s =
       draw_asked target (takes_text call now s.bar) (asks call now s.bar) now (writing_of call) (record s { bar = bar_after call now s.bar })
 
   -- why a call is refused at once, if it is
-  abbrev pub refused_at_once : Call C → ℕ → B → Option Refusal
+  abbrev pub refused_at_once : LoneCall C → ℕ → B → Option Refusal
   refused_at_once (Change command) now bar = kind.refused command bar now
   refused_at_once _ now bar = None
 
@@ -112,10 +112,10 @@ module _ {B C : Type 0} (kind : Kind B C) where
   deed_unless None draw s = Draws draw (λ x. x) (λ x. x)
 
   -- a lone bar of this kind
-  abbrev pub lone : Machine (LoneState B) (Call C) (Result Drawn Refusal)
+  abbrev pub lone : Machine (LoneState B) (LoneCall C) (Result Drawn Refusal)
   lone = record {
     lists = λ s. s.lists;
-    deed = λ target call now s. deed_unless (refused_at_once call now s.bar) (draw_by target call now s) s;
+    deed = λ target call now s. deed_unless (refused_at_once call now s.bar) (draw_of_call target call now s) s;
     says = λ answer. answer;
     tells = λ answer. answer;
     tells_said = λ answer. refl;

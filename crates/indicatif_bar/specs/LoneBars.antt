@@ -10,10 +10,10 @@ use Rattle.indicatif_bar.specs.Commands.{BarRecord, Command, ForceDraw, obeyed, 
 use Rattle.indicatif_bar.specs.Bars.{bar_kind}
 use Rattle.indicatif_bar.specs.Machines.{Machine, target_of}
 use Rattle.indicatif_bar.specs.Runs.{CallMade, Runs, wrote}
-use Rattle.indicatif_bar.specs.Lone.{LoneState, Call, Change, Log, Clear, lone}
+use Rattle.indicatif_bar.specs.Lone.{LoneState, LoneCall, Change, Log, Clear, lone}
 use Rattle.indicatif_bar.specs.Shown.{ShownAs}
 use Rattle.indicatif_bar.specs.declared.lone.LoneBar.{LoneBar}
-use Rattle.indicatif_bar.specs.declared.lone.LoneCall.{LoneCall}
+use Rattle.indicatif_bar.specs.declared.lone.LoneCall.{LoneCall as LoneCallValue}
 use Rattle.indicatif_bar.specs.declared.lone.LoneCall.TheVariants.{Bar as BarCall, Log as LogCall, Clear as ClearCall}
 
 module _ {K T : Type 0} where
@@ -22,23 +22,23 @@ module _ {K T : Type 0} where
   record_of b = b.shown.bar
 
   -- its terminal; none where the target is hidden
-  abbrev pub terminal_of : LoneBar K T → Option T
-  terminal_of b = option_map engine_term b.engine
+  abbrev pub lone_terminal : LoneBar K T → Option T
+  lone_terminal b = option_map engine_term b.engine
 
   -- the bar may be in this state. Of the rows only the numbers are kept, so many states fit one bar; what is claimed holds of each
-  unfoldable pub IsIn : LoneBar K T → LoneState (BarRecord K) → Type 0
-  IsIn b s = ShownAs b.shown s × MatchOption b.engine (Unit {0}) (λ e. Fits e s.lists)
+  unfoldable pub LoneIsIn : LoneBar K T → LoneState (BarRecord K) → Type 0
+  LoneIsIn b s = ShownAs b.shown s × MatchOption b.engine (Unit {0}) (λ e. Fits e s.lists)
 
   -- what is known of its terminal
-  abbrev pub known : (T → TermView) → LoneBar K T → Option TermView
-  known view b = option_map view (terminal_of b)
+  abbrev pub lone_known : (T → TermView) → LoneBar K T → Option TermView
+  lone_known view b = option_map view (lone_terminal b)
 
   -- there is nothing to draw on: its target is hidden, or a terminal without columns
-  abbrev pub IsNowhere : (T → TermView) → LoneBar K T → Type 0
-  IsNowhere view b = (target_of (known view b)).columns ≡ 0
+  abbrev pub LoneIsNowhere : (T → TermView) → LoneBar K T → Type 0
+  LoneIsNowhere view b = (target_of (lone_known view b)).columns ≡ 0
 
 -- a lone bar whose trackers mean this
-abbrev pub lone_bar : {K : Type 0} → Tracking K → Machine (LoneState (BarRecord K)) (Call (Command K)) (Result Drawn Refusal)
+abbrev pub lone_bar : {K : Type 0} → Tracking K → Machine (LoneState (BarRecord K)) (LoneCall (Command K)) (Result Drawn Refusal)
 lone_bar m = lone (bar_kind m)
 
 -- a command is refused: it finds no memory for a text, or its elapsed time is beyond the moment
@@ -52,57 +52,58 @@ Disobeys old new command now answer = (e : Refusal) × (answer ≡ Err e) × Ref
 module _ {K T : Type 0} (m : Tracking K) (view : T → TermView) (old new : LoneBar K T) where
   -- whatever state the bar may have been in, there is one that it is in now, and the call led from the one to the other with
   -- this answer
-  abbrev pub LeadsBy : Call (Command K) → ℕ → Result Drawn Refusal → Type 0
-  LeadsBy call now answer =
-      (s : LoneState (BarRecord K)) → IsIn old s → (next : LoneState (BarRecord K)) × IsIn new next × CallMade (lone_bar m) (known view old) (known view new) (call, now) s answer next
+  abbrev pub LoneLeadsBy : LoneCall (Command K) → ℕ → Result Drawn Refusal → Type 0
+  LoneLeadsBy call now answer =
+      (s : LoneState (BarRecord K)) → LoneIsIn old s →
+      (next : LoneState (BarRecord K)) × LoneIsIn new next × CallMade (lone_bar m) (lone_known view old) (lone_known view new) (call, now) s answer next
 
   -- the same of a bar that was suspended: it was cleared and drawn again by force; or the clear was refused, and nothing drawn
-  abbrev pub Suspends : ℕ → Result Drawn Refusal → Type 0
-  Suspends now answer =
-      (s : LoneState (BarRecord K)) → IsIn old s → (next : LoneState (BarRecord K)) × IsIn new next
-      × (((cleared : Drawn) × Runs (lone_bar m) ((Clear, now) ∷ (Change ForceDraw, now) ∷ []) (Ok cleared ∷ answer ∷ []) (known view old) s (known view new) next)
-      ⊎ ((e : Refusal) × (answer ≡ Err e) × Runs (lone_bar m) ((Clear, now) ∷ []) (Err e ∷ []) (known view old) s (known view new) next))
+  abbrev pub LoneSuspends : ℕ → Result Drawn Refusal → Type 0
+  LoneSuspends now answer =
+      (s : LoneState (BarRecord K)) → LoneIsIn old s → (next : LoneState (BarRecord K)) × LoneIsIn new next
+      × (((cleared : Drawn) × Runs (lone_bar m) ((Clear, now) ∷ (Change ForceDraw, now) ∷ []) (Ok cleared ∷ answer ∷ []) (lone_known view old) s (lone_known view new) next)
+      ⊎ ((e : Refusal) × (answer ≡ Err e) × Runs (lone_bar m) ((Clear, now) ∷ []) (Err e ∷ []) (lone_known view old) s (lone_known view new) next))
 
   -- a bar that obeyed a command with this answer
   pub record Obeys (command : Command K) (now : ℕ) (answer : Result Drawn Refusal) : Type 0 where
     -- its record is as the command says
     pub bar : record_of new ≡ (obeyed m command (record_of old) now).0
     -- where nothing was written, the terminal was not touched; and where there is nothing to draw on, nothing was written
-    pub silent : IsFalse (wrote answer) → terminal_of new ≡ terminal_of old
-    pub nowhere : IsNowhere view old → IsFalse (wrote answer)
+    pub silent : IsFalse (wrote answer) → lone_terminal new ≡ lone_terminal old
+    pub nowhere : LoneIsNowhere view old → IsFalse (wrote answer)
     -- its step
-    pub leads : LeadsBy (Change command) now answer
+    pub leads : LoneLeadsBy (Change command) now answer
 
   -- a bar that obeyed a command, or refused it
   pub record ObeysOrNot (command : Command K) (now : ℕ) (answer : Result Drawn Refusal) : Type 0 where
     pub bar : (record_of new ≡ (obeyed m command (record_of old) now).0) ⊎ Disobeys old new command now answer
-    pub silent : IsFalse (wrote answer) → terminal_of new ≡ terminal_of old
-    pub nowhere : IsNowhere view old → IsFalse (wrote answer)
-    pub leads : LeadsBy (Change command) now answer
+    pub silent : IsFalse (wrote answer) → lone_terminal new ≡ lone_terminal old
+    pub nowhere : LoneIsNowhere view old → IsFalse (wrote answer)
+    pub leads : LoneLeadsBy (Change command) now answer
 
 -- what became of the bar in a call with this answer: a command made of it what it says, or was refused; else it stays
-abbrev pub CallDone : {K T : Type 0} → Tracking K → LoneBar K T → LoneBar K T → Call (Command K) → ℕ → Result Drawn Refusal → Type 0
+abbrev pub CallDone : {K T : Type 0} → Tracking K → LoneBar K T → LoneBar K T → LoneCall (Command K) → ℕ → Result Drawn Refusal → Type 0
 CallDone m old new (Change command) now answer = (record_of new ≡ (obeyed m command (record_of old) now).0) ⊎ Disobeys old new command now answer
 CallDone m old new _ now answer = record_of new ≡ record_of old
 
 -- what became of a record in a call with this answer: a command made of it what it says, or was refused; else it stays
-abbrev pub RecordGoes : {K : Type 0} → Tracking K → Call (Command K) → ℕ → Result Drawn Refusal → BarRecord K → BarRecord K → Type 0
+abbrev pub RecordGoes : {K : Type 0} → Tracking K → LoneCall (Command K) → ℕ → Result Drawn Refusal → BarRecord K → BarRecord K → Type 0
 RecordGoes m (Change command) now answer bar bar' =
     (bar' ≡ (obeyed m command bar now).0) ⊎ ((e : Refusal) × (answer ≡ Err e) × RefusesCommand command bar now e × (bar' ≡ bar))
 RecordGoes m _ now answer bar bar' = bar' ≡ bar
 
 -- the same of calls at their moments, one after another, with an answer each
-abbrev pub RecordsGo : {K : Type 0} → Tracking K → List (Call (Command K) × ℕ) → List (Result Drawn Refusal) → BarRecord K → BarRecord K → Type 0
+abbrev pub RecordsGo : {K : Type 0} → Tracking K → List (LoneCall (Command K) × ℕ) → List (Result Drawn Refusal) → BarRecord K → BarRecord K → Type 0
 RecordsGo m [] [] bar bar' = bar' ≡ bar
 RecordsGo {K} m (call ∷ calls) (answer ∷ answers) bar bar' = (x : BarRecord K) × RecordGoes m call.0 call.1 answer bar x × RecordsGo m calls answers x bar'
 RecordsGo m _ _ bar bar' = ⊥
 
 -- a call that is a value, as its definition
-abbrev pub call_of : {K : Type 0} → LoneCall K → Call (Command K)
-call_of (BarCall command) = Change (command_of command)
-call_of (LogCall text) = Log (string_bytes text)
-call_of ClearCall = Clear
+abbrev pub lone_call_of : {K : Type 0} → LoneCallValue K → LoneCall (Command K)
+lone_call_of (BarCall command) = Change (command_of command)
+lone_call_of (LogCall text) = Log (string_bytes text)
+lone_call_of ClearCall = Clear
 
 -- the same with its moment
-abbrev pub timed : {K : Type 0} → LoneCall K × ℕ → Call (Command K) × ℕ
-timed c = (call_of c.0, c.1)
+abbrev pub lone_timed : {K : Type 0} → LoneCallValue K × ℕ → LoneCall (Command K) × ℕ
+lone_timed c = (lone_call_of c.0, c.1)

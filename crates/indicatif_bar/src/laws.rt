@@ -13,7 +13,7 @@ ghost use Rattle.indicatif_bar.specs.Bounds.{IsLimited, RunsAreBounded};
 ghost use Rattle.indicatif_bar.specs.Commands.{BarRecord, Command};
 ghost use Rattle.indicatif_bar.specs.Bars.{bar_kind};
 ghost use Rattle.indicatif_bar.specs.LoneBars.{lone_bar};
-ghost use Rattle.indicatif_bar.specs.Lone.{LoneState, Call, draw_by};
+ghost use Rattle.indicatif_bar.specs.Lone.{LoneState, LoneCall, draw_of_call};
 ghost use Rattle.indicatif_bar.specs.Machines.{Machine, Target};
 ghost use Rattle.indicatif_bar.specs.Runs.{RunsPaint, RunsAreRead, ReadsAfter, OneOutcome};
 ghost use Rattle.indicatif_bar.specs.Says.{EachSays};
@@ -38,7 +38,7 @@ pub fn what_a_run_reads<S, C, A>()
 /// The same of a lone bar, whose rows are forgotten only where the terminal failed: from a terminal that shows the lists of
 /// the run's start, whatever the calls are.
 pub fn what_a_lone_run_reads<K: ProgressTracker>()
-    ensures { (calls : List (Call (Command K) × ℕ)) (answers : List (Result Drawn Refusal)) (v : TermView) (s : LoneState (BarRecord K))
+    ensures { (calls : List (LoneCall (Command K) × ℕ)) (answers : List (Result Drawn Refusal)) (v : TermView) (s : LoneState (BarRecord K))
         (new : Option TermView) (next : LoneState (BarRecord K)) →
         IsFalse s.lists.failed → ReadsAfter (lone_bar K.means) calls answers v s new next }
 {}
@@ -67,8 +67,8 @@ pub fn how_often_a_run_draws<S, C, A>()
 pub fn a_lone_bar_is_limited<K: ProgressTracker>()
     ensures asks { IsLimited (lone_bar K.means) (λ s. s.limiter) }
     ensures bounded { RunsAreBounded (lone_bar K.means) (λ s. s.limiter) }
-    ensures free { (target : Target) (call : Call (Command K)) (now : ℕ) (s : LoneState (BarRecord K)) → s.limiter ≡ None →
-        IsTrue (draw_by (bar_kind K.means) target call now s).allowed }
+    ensures free { (target : Target) (call : LoneCall (Command K)) (now : ℕ) (s : LoneState (BarRecord K)) → s.limiter ≡ None →
+        IsTrue (draw_of_call (bar_kind K.means) target call now s).allowed }
 {}
 
 /// Measures are the quotients that they are said to be, and fit their types.

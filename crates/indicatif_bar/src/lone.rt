@@ -11,7 +11,7 @@ ghost use Rattle.indicatif_bar.specs.Machines.{is_no};
 ghost use Rattle.indicatif_bar.specs.Finishes.{AndLeave, WithMessage, AndClear, Abandon, AbandonWithMessage, finish_of};
 
 use crate::bar_style::ProgressStyle;
-use crate::shown::{ShownBar, Writing};
+use crate::shown::{LoneWriting, ShownBar};
 use crate::state::{Ask, BarCommand, BarState, Change, ProgressFinish, ProgressState};
 use crate::tracker::ProgressTracker;
 use indicatif_term::draw_target::{Engine, ProgressDrawTarget, RateLimiter};
@@ -80,15 +80,16 @@ impl<K: ProgressTracker, T: TermLike + Drop> LoneBar<K, T> {
     ghost use Rattle.indicatif_bar.specs.Runs.{Runs, Headline};
     ghost use Rattle.indicatif_bar.specs.Machines.{target_of};
     ghost use Rattle.indicatif_bar.specs.Lone.{LoneState, Log, Clear, bar_after_all, opening_state, draw_asked};
-    ghost use Rattle.indicatif_bar.specs.LoneBars.{IsIn, IsNowhere, record_of, terminal_of, known, lone_bar, LeadsBy, Suspends, Obeys, ObeysOrNot, CallDone, RecordsGo, call_of, timed};
+    ghost use Rattle.indicatif_bar.specs.LoneBars.{LoneIsIn, LoneIsNowhere, record_of, lone_terminal, lone_known, lone_bar, lone_call_of, lone_timed};
+    ghost use Rattle.indicatif_bar.specs.LoneBars.{LoneLeadsBy, LoneSuspends, Obeys, ObeysOrNot, CallDone, RecordsGo};
 
     /// The bar on this target. It takes no memory and writes nothing.
     pub fn new(bar: BarState<K>, target: ProgressDrawTarget<T>) -> Self
-        ensures state { IsIn result (opening_state bar (limiter_of target)) }
+        ensures state { LoneIsIn result (opening_state bar (limiter_of target)) }
         ensures bar { record_of result ≡ bar }
-        ensures terminal { terminal_of result ≡ term_of target }
+        ensures terminal { lone_terminal result ≡ term_of target }
     {
-        let (engine, limiter) = opened_on(bar.alloc(), target);
+        let (engine, limiter) = Engine::opened_on(bar.alloc(), target);
         LoneBar {
             shown: ShownBar::new(bar, limiter),
             engine,
@@ -98,14 +99,14 @@ impl<K: ProgressTracker, T: TermLike + Drop> LoneBar<K, T> {
     /// The bar's record.
     pub fn bar(&self) -> &BarState<K>
         ensures bar { result.now ≡ record_of self.now }
-        ensures state { (s : LoneState _) → IsIn self.now s → result.now ≡ s.bar }
+        ensures state { (s : LoneState _) → LoneIsIn self.now s → result.now ≡ s.bar }
     {
         &self.shown.bar
     }
 
     /// The terminal; `None` where the target is hidden.
     pub fn term(&self) -> Option<&T>
-        ensures { option_map (λ t. t.now) result ≡ terminal_of self.now }
+        ensures { option_map (λ t. t.now) result ≡ lone_terminal self.now }
     {
         match &self.engine {
             Some(engine) => Some(engine.term()),
@@ -115,7 +116,7 @@ impl<K: ProgressTracker, T: TermLike + Drop> LoneBar<K, T> {
 
     /// The terminal, with what stands on it; `None` where the target is hidden. Nothing is written.
     pub fn into_term(self) -> Option<T>
-        ensures { result ≡ terminal_of self }
+        ensures { result ≡ lone_terminal self }
     {
         let LoneBar { engine, .. } = self;
         match engine {
@@ -126,7 +127,7 @@ impl<K: ProgressTracker, T: TermLike + Drop> LoneBar<K, T> {
 
     /// Whether nothing is ever drawn.
     pub fn is_hidden(&self) -> bool
-        ensures { IsTrue result ↔ (terminal_of self.now ≡ None) }
+        ensures { IsTrue result ↔ (lone_terminal self.now ≡ None) }
     {
         self.engine.is_none()
     }
@@ -454,21 +455,21 @@ impl<K: ProgressTracker, T: TermLike + Drop> LoneBar<K, T> {
     /// line; tabs stay as they are. The bar's lines are laid out anew. On a hidden target the text is dropped.
     pub fn println(&mut self, text: &str, now: Moment) -> Result<Drawn, Refusal>
         ensures bar { record_of self.new ≡ record_of self.old }
-        ensures silent { IsFalse (wrote result) → terminal_of self.new ≡ terminal_of self.old }
-        ensures nowhere { IsNowhere T.view self.old → IsFalse (wrote result) }
-        ensures leads { LeadsBy K.means T.view self.old self.new (Log text.now) now result }
+        ensures silent { IsFalse (wrote result) → lone_terminal self.new ≡ lone_terminal self.old }
+        ensures nowhere { LoneIsNowhere T.view self.old → IsFalse (wrote result) }
+        ensures leads { LoneLeadsBy K.means T.view self.old self.new (Log text.now) now result }
     {
-        self.draw(Ask::Forced, Writing::TextAndFrame(text), now)
+        self.draw(Ask::Forced, LoneWriting::TextAndFrame(text), now)
     }
 
     /// Takes the bar's rows back, by force. The next draw shows them again. Takes no memory.
     pub fn clear(&mut self, now: Moment) -> Result<Drawn, Refusal>
         ensures bar { record_of self.new ≡ record_of self.old }
-        ensures silent { IsFalse (wrote result) → terminal_of self.new ≡ terminal_of self.old }
-        ensures nowhere { IsNowhere T.view self.old → IsFalse (wrote result) }
-        ensures leads { LeadsBy K.means T.view self.old self.new Clear now result }
+        ensures silent { IsFalse (wrote result) → lone_terminal self.new ≡ lone_terminal self.old }
+        ensures nowhere { LoneIsNowhere T.view self.old → IsFalse (wrote result) }
+        ensures leads { LoneLeadsBy K.means T.view self.old self.new Clear now result }
     {
-        self.draw(Ask::Forced, Writing::NoFrame, now)
+        self.draw(Ask::Forced, LoneWriting::NoFrame, now)
     }
 
     /// Sets what the closure answers of the state that it is shown; then as `tick`.
@@ -492,8 +493,8 @@ impl<K: ProgressTracker, T: TermLike + Drop> LoneBar<K, T> {
         requires { F.pre f }
         ensures value { F.post f result.0 }
         ensures bar { record_of self.new ≡ record_of self.old }
-        ensures silent { IsNowhere T.view self.old → terminal_of self.new ≡ terminal_of self.old }
-        ensures leads { Suspends K.means T.view self.old self.new now result.1 }
+        ensures silent { LoneIsNowhere T.view self.old → lone_terminal self.new ≡ lone_terminal self.old }
+        ensures leads { LoneSuspends K.means T.view self.old self.new now result.1 }
     {
         let cleared = self.clear(now);
         let value = f();
@@ -510,14 +511,14 @@ impl<K: ProgressTracker, T: TermLike + Drop> LoneBar<K, T> {
     /// on the old one stays, and on the new one the bar begins anew: at the front of an empty row, so a line end is written
     /// first where something of another bar stands on it.
     pub fn set_draw_target(&mut self, target: ProgressDrawTarget<T>) -> ProgressDrawTarget<T>
-        ensures old { term_of result ≡ terminal_of self.old }
-        ensures old_limiter { (s : LoneState _) → IsIn self.old s → IfSome result (λ t. t.1 ≡ s.limiter) }
-        ensures new { terminal_of self.new ≡ term_of target }
+        ensures old { term_of result ≡ lone_terminal self.old }
+        ensures old_limiter { (s : LoneState _) → LoneIsIn self.old s → IfSome result (λ t. t.1 ≡ s.limiter) }
+        ensures new { lone_terminal self.new ≡ term_of target }
         ensures bar { record_of self.new ≡ record_of self.old }
-        ensures state { (s : LoneState _) → IsIn self.old s →
-            IsIn self.new (record s { limiter = limiter_of target; lists = opening_lists }) }
+        ensures state { (s : LoneState _) → LoneIsIn self.old s →
+            LoneIsIn self.new (record s { limiter = limiter_of target; lists = opening_lists }) }
     {
-        let (engine, limiter) = opened_on(self.shown.bar.alloc(), target);
+        let (engine, limiter) = Engine::opened_on(self.shown.bar.alloc(), target);
         let limiter = self.shown.replace_limiter(limiter);
         match replace(&mut self.engine, engine) {
             Some(engine) => ProgressDrawTarget::from_parts(Some((engine.into_term(), limiter))),
@@ -527,10 +528,10 @@ impl<K: ProgressTracker, T: TermLike + Drop> LoneBar<K, T> {
 
     /// A call as a value: what the method of the same name does and refuses.
     pub fn call(&mut self, call: LoneCall<K>, now: Moment) -> Result<Drawn, Refusal>
-        ensures bar { CallDone K.means self.old self.new (call_of call) now result }
-        ensures silent { IsFalse (wrote result) → terminal_of self.new ≡ terminal_of self.old }
-        ensures nowhere { IsNowhere T.view self.old → IsFalse (wrote result) }
-        ensures leads { LeadsBy K.means T.view self.old self.new (call_of call) now result }
+        ensures bar { CallDone K.means self.old self.new (lone_call_of call) now result }
+        ensures silent { IsFalse (wrote result) → lone_terminal self.new ≡ lone_terminal self.old }
+        ensures nowhere { LoneIsNowhere T.view self.old → IsFalse (wrote result) }
+        ensures leads { LoneLeadsBy K.means T.view self.old self.new (lone_call_of call) now result }
     {
         match call {
             LoneCall::Bar(command) => {
@@ -551,19 +552,19 @@ impl<K: ProgressTracker, T: TermLike + Drop> LoneBar<K, T> {
         &mut self,
         calls: Vec<(LoneCall<K>, Moment)>,
     ) -> Result<Vec<Result<Drawn, Refusal>>, Refusal>
-        ensures run { (s : LoneState _) → IsIn self.old s →
-            let old = known T.view self.old in let new = known T.view self.new in
-            IfOk result (λ answers. (next : LoneState _) × IsIn self.new next
-            × (run : Runs (lone_bar K.means) (map timed calls.items) answers.items old s new next)
-            × Headline (lone_bar K.means) (map timed calls.items) answers.items old s new next run) }
+        ensures run { (s : LoneState _) → LoneIsIn self.old s →
+            let old = lone_known T.view self.old in let new = lone_known T.view self.new in
+            IfOk result (λ answers. (next : LoneState _) × LoneIsIn self.new next
+            × (run : Runs (lone_bar K.means) (map lone_timed calls.items) answers.items old s new next)
+            × Headline (lone_bar K.means) (map lone_timed calls.items) answers.items old s new next run) }
         ensures count { IfOk result (λ answers. vec_len answers ≡ vec_len calls) }
         ensures bar { IfOk result (λ answers.
-            RecordsGo K.means (map timed calls.items) answers.items (record_of self.old) (record_of self.new)) }
+            RecordsGo K.means (map lone_timed calls.items) answers.items (record_of self.old) (record_of self.new)) }
         ensures ample { IfOk result (λ answers. All (λ answer. answer ≢ Err Refusal.Memory) answers.items →
-            record_of self.new ≡ bar_after_all (bar_kind K.means) (map timed calls.items) (record_of self.old)) }
+            record_of self.new ≡ bar_after_all (bar_kind K.means) (map lone_timed calls.items) (record_of self.old)) }
         ensures silent { IfOk result (λ answers. IsFalse (list_any wrote answers.items) →
-            terminal_of self.new ≡ terminal_of self.old) }
-        ensures nowhere { IfOk result (λ answers. IsNowhere T.view self.old → IsFalse (list_any wrote answers.items)) }
+            lone_terminal self.new ≡ lone_terminal self.old) }
+        ensures nowhere { IfOk result (λ answers. LoneIsNowhere T.view self.old → IsFalse (list_any wrote answers.items)) }
         ensures idle { vec_len calls ≡ 0 → IsTrue (is_ok result) × (self.new ≡ self.old) }
         ensures memory { IfErr result (λ e. e ≡ Refusal.Memory) }
         ensures unrun { OnErr result (self.new ≡ self.old) }
@@ -586,7 +587,7 @@ impl<K: ProgressTracker, T: TermLike + Drop> LoneBar<K, T> {
             Obeys K.means T.view old self.new command now result }
         ensures unasked { ask ≡ Ask.No → result ≡ Ok Drawn.Limited }
     {
-        self.draw(ask, Writing::Frame, now)
+        self.draw(ask, LoneWriting::Frame, now)
     }
 
     /// The same, unless the command was refused.
@@ -597,52 +598,27 @@ impl<K: ProgressTracker, T: TermLike + Drop> LoneBar<K, T> {
         ensures unasked { asked ≡ Ok Ask.No → result ≡ Ok Drawn.Limited }
     {
         let ask = asked?;
-        self.draw(ask, Writing::Frame, now)
+        self.draw(ask, LoneWriting::Frame, now)
     }
 
     /// Writes, if asked.
-    fn draw(&mut self, ask: Ask, writing: Writing<'_>, now: Moment) -> Result<Drawn, Refusal>
+    fn draw(&mut self, ask: Ask, writing: LoneWriting<'_>, now: Moment) -> Result<Drawn, Refusal>
         ensures unasked { ask ≡ Ask.No → result ≡ Ok Drawn.Limited }
         ensures bar { record_of self.new ≡ record_of self.old }
-        ensures silent { IsFalse (wrote result) → terminal_of self.new ≡ terminal_of self.old }
-        ensures nowhere { IsNowhere T.view self.old → IsFalse (wrote result) }
-        ensures drew { (takes : Bool) (s : LoneState _) → IsIn self.old s →
-            let old = known T.view self.old in
-            (next : LoneState _) × IsIn self.new next
-            × DrewOn (lone_bar K.means) old (known T.view self.new)
+        ensures silent { IsFalse (wrote result) → lone_terminal self.new ≡ lone_terminal self.old }
+        ensures nowhere { LoneIsNowhere T.view self.old → IsFalse (wrote result) }
+        ensures drew { (takes : Bool) (s : LoneState _) → LoneIsIn self.old s →
+            let old = lone_known T.view self.old in
+            (next : LoneState _) × LoneIsIn self.new next
+            × DrewOn (lone_bar K.means) old (lone_known T.view self.new)
             (draw_asked (bar_kind K.means) (target_of old) takes ask now (writing_as writing.entry) s) s.lists result next }
     {
-        if is_no(ask) {
+        if ask.is_no() {
             return Ok(Drawn::Limited);
         }
         match &mut self.engine {
             Some(engine) => self.shown.draw_on(engine, ask, writing, now),
             None => Ok(Drawn::Hidden),
         }
-    }
-}
-
-/// An engine on this target's terminal, and the target's limiter; none where it is hidden.
-fn opened_on<T: TermLike + Drop>(
-    alloc: Global,
-    target: ProgressDrawTarget<T>,
-) -> (Option<Engine<T>>, Option<RateLimiter>)
-    ensures terminal { option_map engine_term result.0 ≡ term_of target }
-    ensures opened { MatchOption result.0 Unit (λ engine. Fits engine opening_lists) }
-    ensures limiter { result.1 ≡ limiter_of target }
-{
-    match target.into_parts() {
-        Some((term, limiter)) => (Some(Engine::new(alloc, term)), limiter),
-        None => (None, None),
-    }
-}
-
-/// Whether no draw is asked.
-fn is_no(ask: Ask) -> bool
-    ensures { result ≡ is_no ask }
-{
-    match ask {
-        Ask::No => true,
-        Ask::Unforced | Ask::Forced => false,
     }
 }

@@ -7,8 +7,8 @@ ghost use Rattle.indicatif_bar.specs.Runs.{wrote};
 ghost use Rattle.indicatif_bar.specs.Kinds.{asked_of};
 ghost use Rattle.indicatif_bar.specs.Bars.{bar_kind, lines_of_bar, lines_take_memory};
 ghost use Rattle.indicatif_bar.specs.Lone.{LoneState, stored_lines, lines_take, draw_asked, lone};
-ghost use Rattle.indicatif_bar.specs.Shown.{DrewBy};
-ghost use Rattle.indicatif_bar.specs.Inside.Writings.{EngineWrites, writing_as};
+ghost use Rattle.indicatif_bar.specs.Shown.{PutsFrame, DrewBy};
+ghost use Rattle.indicatif_bar.specs.Inside.Writings.{writing_as};
 
 use crate::spare::SpareLines;
 use crate::state::{Ask, BarState};
@@ -21,7 +21,7 @@ use std::slice;
 
 /// What a draw writes.
 #[derive(Clone, Copy)]
-pub enum Writing<'a> {
+pub enum LoneWriting<'a> {
     /// The bar's lines.
     Frame,
     /// A text, which stays, and the bar's lines below it.
@@ -75,7 +75,7 @@ impl<K: ProgressTracker> ShownBar<K> {
         &mut self,
         engine: &mut Engine<T>,
         ask: Ask,
-        writing: Writing<'_>,
+        writing: LoneWriting<'_>,
         now: Moment,
     ) -> Result<Drawn, Refusal>
         ensures bar { self.new.bar ≡ self.old.bar }
@@ -99,7 +99,7 @@ impl<K: ProgressTracker> ShownBar<K> {
     }
 
     /// Lays the bar's lines out and stores them, where they are to be written.
-    fn lay_out(&mut self, writing: Writing<'_>, width: u16, now: Moment) -> Result<(), Refusal>
+    fn lay_out(&mut self, writing: LoneWriting<'_>, width: u16, now: Moment) -> Result<(), Refusal>
         ensures bar { self.new.bar ≡ self.old.bar }
         ensures laid { IfOk result (λ _. (s : LoneState _) (target : Target) → target.columns ≡ width → ShownAs self.old s →
             ShownAs self.new (record s { stored = stored_lines (bar_kind K.means) (writing_as writing.entry) target now s })) }
@@ -108,8 +108,8 @@ impl<K: ProgressTracker> ShownBar<K> {
         ensures unchanged { OnErr result (self.new ≡ self.old) }
     {
         match writing {
-            Writing::NoFrame => Ok(()),
-            Writing::Frame | Writing::TextAndFrame(_) => self.lay_lines_out(width, now),
+            LoneWriting::NoFrame => Ok(()),
+            LoneWriting::Frame | LoneWriting::TextAndFrame(_) => self.lay_lines_out(width, now),
         }
     }
 
@@ -144,13 +144,13 @@ impl<K: ProgressTracker> ShownBar<K> {
 fn put<T: TermLike + Drop>(
     engine: &mut Engine<T>,
     frame: &[Segment],
-    writing: Writing<'_>,
+    writing: LoneWriting<'_>,
 ) -> Result<(), Refusal>
-    ensures { EngineWrites T.view (writing_as writing.entry) (map bar_lines frame.now) engine.old engine.new result }
+    ensures { PutsFrame T.view (writing_as writing.entry) false 0 (map bar_lines frame.now) engine.old engine.new result }
 {
     match writing {
-        Writing::Frame => engine.draw(frame, 0, MultiProgressAlignment::Top),
-        Writing::TextAndFrame(text) => engine.log(text, frame, MultiProgressAlignment::Top),
-        Writing::NoFrame => engine.clear(),
+        LoneWriting::Frame => engine.draw(frame, 0, MultiProgressAlignment::Top),
+        LoneWriting::TextAndFrame(text) => engine.log(text, frame, MultiProgressAlignment::Top),
+        LoneWriting::NoFrame => engine.clear(),
     }
 }

@@ -81,20 +81,20 @@ impl ProgressTracker for NoTracker {
 ///
 /// ```
 /// impl TellsText for Ticks {
-///     ghost told = { .. };
+///     ghost told_text = { .. };
 ///
 ///     fn tell(&self, state: &ProgressState, _now: Moment) -> Result<String, Refusal> { .. }
 /// }
 /// ```
 pub trait TellsText: Sized + Send + Sync + Drop {
     /// The text at a state and a moment, in bytes of UTF-8.
-    ghost told: { Self → Progress → ℕ → List ℕ };
+    ghost told_text: { Self → Progress → ℕ → List ℕ };
 
     /// That text.
     ///
     /// Refused: `Memory`.
     fn tell(&self, state: &ProgressState, now: Moment) -> Result<String, Refusal>
-        ensures text { IfOk result (λ text. string_bytes text ≡ told self.now state.now now) }
+        ensures text { IfOk result (λ text. string_bytes text ≡ told_text self.now state.now now) }
         ensures memory { IfErr result (λ e. e ≡ Refusal.Memory) };
 }
 
@@ -133,7 +133,7 @@ impl<F: TellsText> FnTracker<F> {
 }
 
 impl<F: TellsText> ProgressTracker for FnTracker<F> {
-    ghost means = { telling F.told };
+    ghost means = { telling F.told_text };
 
     fn tick(&mut self, _state: &ProgressState, _now: Moment) {}
 

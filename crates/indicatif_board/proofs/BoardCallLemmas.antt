@@ -16,7 +16,7 @@ use Rattle.indicatif_bar.specs.Runs.{CallMade, lines_by, wrote}
 use Rattle.indicatif_bar.specs.Shown.{DrewOn, WritesLinesOn}
 use Rattle.indicatif_bar.proofs.OutcomeLemmas.{writes_nothing}
 use Rattle.indicatif_board.specs.BoardBars.{board_bars}
-use Rattle.indicatif_board.specs.Boards.{BoardState, Call, Id, Location, Entrant, removed, Done, New, Insert, Given, inserted, taken_in, anchor_turned_away, Answer, Refused, Tell, says, drawn_of, drawn_of_said, turned_away, or_refused, draws, draw_by, deed_of, board}
+use Rattle.indicatif_board.specs.Boards.{BoardState, Call, Id, Location, Entrant, removed, Done, New, Insert, Given, inserted, taken_in, anchor_turned_away, Answer, Refused, Tell, says, drawn_of, drawn_of_said, turned_away, or_refused, draws, draw_of_command, deed_of, board}
 use Rattle.indicatif_board.specs.Members.{place_of, is_member, without, said_of}
 use Rattle.indicatif_board.proofs.MemberLemmas.{said_none, said_there}
 
@@ -56,16 +56,16 @@ module _ {K : Type 0} (tracks : Tracking K) (mark : ℕ) (old new : Option TermV
 
 module _ {K : Type 0} (tracks : Tracking K) (mark : ℕ) (old : Option TermView) (id : Id) (command : Command K) (now : ℕ) (s : BoardState (BarRecord K)) where
   abbrev ask_of : Deed (BoardState (BarRecord K)) Answer
-  ask_of = draws (draw_by (board_bars tracks) (target_of old) id.number command now s)
+  ask_of = draws (draw_of_command (board_bars tracks) (target_of old) id.number command now s)
 
   -- why a command that is late or not is refused
-  abbrev refusal_of : Bool → Option Refusal
-  refusal_of late = said_of None (λ bar. if late then Some ElapsedBeyondClock else None) id.number s.members
+  abbrev foreign_unless : Bool → Option Refusal
+  foreign_unless late = said_of None (λ bar. if late then Some ElapsedBeyondClock else None) id.number s.members
 
   deed_is : turned_away mark id s ≡ None → (late : Bool) → is_beyond_clock command now ≡ late →
-      deed_of (board_bars tracks) mark (target_of old) (Tell id command) now s ≡ or_refused (refusal_of late) ask_of s
+      deed_of (board_bars tracks) mark (target_of old) (Tell id command) now s ≡ or_refused (foreign_unless late) ask_of s
   deed_is there late e =
-      ap (λ o. or_refused o (or_refused (refusal_of (is_beyond_clock command now)) ask_of s) s) there ∙ ap (λ b. or_refused (refusal_of b) ask_of s) e
+      ap (λ o. or_refused o (or_refused (foreign_unless (is_beyond_clock command now)) ask_of s) s) there ∙ ap (λ b. or_refused (foreign_unless b) ask_of s) e
 
   -- what a command of a bar that is there is about to do
   pub command_deed : turned_away mark id s ≡ None → is_beyond_clock command now ≡ false → deed_of (board_bars tracks) mark (target_of old) (Tell id command) now s ≡ ask_of

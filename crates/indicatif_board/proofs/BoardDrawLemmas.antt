@@ -15,14 +15,13 @@ use Rattle.indicatif_bar.specs.Trackers.{Tracking}
 use Rattle.indicatif_bar.specs.Commands.{BarRecord}
 use Rattle.indicatif_bar.specs.Machines.{target_of, Draw, is_no}
 use Rattle.indicatif_bar.specs.Kinds.{Writing, TextAndFrame, has_line, asked_of, written_lists}
-use Rattle.indicatif_bar.specs.Shown.{DrewBy}
+use Rattle.indicatif_bar.specs.Shown.{PutsFrame, DrewBy}
 use Rattle.indicatif_bar.specs.declared.state.Ask.{Ask}
-use Rattle.indicatif_bar.proofs.OutcomeLemmas.{drew, answer_of}
+use Rattle.indicatif_bar.proofs.OutcomeLemmas.{drew, drawn_answer}
 use Rattle.indicatif_board.specs.BoardBars.{board_bars}
 use Rattle.indicatif_board.specs.Members.{leaders, frame_of}
 use Rattle.indicatif_board.specs.Boards.{BoardState, draw_of, board}
 use Rattle.indicatif_board.specs.ShownBars.{Holds, member_of}
-use Rattle.indicatif_board.specs.Inside.Keeps.{PutsFrame}
 use Rattle.indicatif_board.specs.declared.members.Member.{Member as MemberValue}
 use Rattle.indicatif_board.proofs.MemberLemmas.{drop-map}
 
@@ -60,7 +59,8 @@ kept_ready frame members made bottom limiter ask now laid allows holds = record 
   limiter_is = sym (ap (λ a. a.1) allows);
 }
 
-module _ {K T : Type 0} (tracks : Tracking K) (view : T → TermView) (mark : ℕ) (takes : Bool) (ask : Ask) (now : ℕ) (writing : Writing) (s laid : BoardState (BarRecord K)) (lays : Bool) (old : Engine T)
+module _ {K T : Type 0} (tracks : Tracking K) (view : T → TermView) (mark : ℕ) (takes : Bool) (ask : Ask) (now : ℕ)
+    (writing : Writing) (s laid : BoardState (BarRecord K)) (lays : Bool) (old : Engine T)
     (frame : List Segment) (members : List (MemberValue K)) (made : ℕ) (bottom : Bool) (limiter : Option Limiter) where
   abbrev d : Draw (BoardState (BarRecord K))
   d = draw_of (target_of (Some (view (engine_term old)))) takes ask now writing s laid lays
@@ -90,7 +90,7 @@ module _ {K T : Type 0} (tracks : Tracking K) (view : T → TermView) (mark : �
   pub frame_drew : (P : BoardState (BarRecord K) → Type 0) (new : Engine T) (r : Result Unit Refusal) (gone : ℕ) → gone ≡ leaders laid.members → is_no ask ≡ false →
       0 < (view (engine_term old)).columns → d.allowed ≡ true →
       laid.lists ≡ s.lists → Fits old s.lists → Holds frame members made bottom limiter d.ready → PutsFrame view writing bottom gone (map bar_lines frame) old new r →
-      MatchResult r (λ _. P d.written) (λ _. P d.ready × P d.broken) → DrewBy (board (board_bars tracks) mark) P view old new d s.lists (answer_of r)
+      MatchResult r (λ _. P d.written) (λ _. P d.ready × P d.broken) → DrewBy (board (board_bars tracks) mark) P view old new d s.lists (drawn_answer r)
   frame_drew P new r gone gone_is asked some allowed lists_stay fits holds puts held =
       let p = subst (λ f. PutsFrame view writing laid.bottom (leaders laid.members) f old new r) holds.frame_is
       (subst (λ k. PutsFrame view writing laid.bottom k (map bar_lines frame) old new r) gone_is (subst (λ b. PutsFrame view writing b gone (map bar_lines frame) old new r) holds.bottom_is puts)) in

@@ -16,7 +16,7 @@ use Rattle.indicatif_bar.specs.declared.state.Ask.TheVariants.{No, Forced}
 use Rattle.indicatif_bar.proofs.SoundRunLemmas.{DrawsSoundly, GoesSoundly, sound_read_after}
 use Rattle.indicatif_bar.proofs.LoneRunLemmas.{written_soundly}
 use Rattle.indicatif_board.specs.Members.{is_member, is_head, without, said_of, leaders, frame_of}
-use Rattle.indicatif_board.specs.Boards.{BoardState, BoardKind, Call, Insert, Remove, Drop, Log, BarLog, Clear, Redraw, Align, Tell, Answer, Location, Entrant, New, Old, turned_away, anchor_turned_away, or_refused, inserted, taken_out, draws, draw_of, told, laid_out, lays_out, left_by, left_on, marked_on, board}
+use Rattle.indicatif_board.specs.Boards.{BoardState, BoardKind, Call, Insert, Remove, Drop, Log, BarLog, Clear, Redraw, Align, Tell, Answer, Location, Entrant, New, Old, turned_away, anchor_turned_away, or_refused, inserted, taken_out, draws, draw_of, bar_changed, laid_out, lays_out, left_by, left_on, marked_on, board}
 
 -- the first segment's rows pass to kept, and none are forgotten
 kept_soundly : (columns number : ℕ) (l : Lists) → l.failed ≡ false → (kept_of columns number l).failed ≡ false
@@ -25,51 +25,54 @@ kept_soundly columns number l sound = cond_both (is_first number l.live.segments
 
 module _ {B C : Type 0} (kind : BoardKind B C) (mark : ℕ) where
   -- the rows of a board aren't forgotten
-  abbrev Stands : BoardState B → Type 0
-  Stands s = s.lists.failed ≡ false
+  abbrev RowsStand : BoardState B → Type 0
+  RowsStand s = s.lists.failed ≡ false
 
-  abbrev Goes : BoardState B → Deed (BoardState B) Answer → Type 0
-  Goes s deed = GoesSoundly (board kind mark) s deed
+  abbrev BoardGoes : BoardState B → Deed (BoardState B) Answer → Type 0
+  BoardGoes s deed = GoesSoundly (board kind mark) s deed
 
-  unless_refused : (s : BoardState B) (refused : Option Refusal) (deed : Deed (BoardState B) Answer) → Goes s deed → Goes s (or_refused refused deed s)
+  unless_refused : (s : BoardState B) (refused : Option Refusal) (deed : Deed (BoardState B) Answer) → BoardGoes s deed → BoardGoes s (or_refused refused deed s)
   unless_refused s None deed goes = goes
   unless_refused s (Some e) deed goes = λ sound. sound
 
-  either : (s : BoardState B) (b : Bool) (one other : Deed (BoardState B) Answer) → Goes s one → Goes s other → Goes s (if b then one else other)
+  either : (s : BoardState B) (b : Bool) (one other : Deed (BoardState B) Answer) → BoardGoes s one → BoardGoes s other → BoardGoes s (if b then one else other)
   either s true one other a b = a
   either s false one other a b = b
 
-  inserted_soundly : (s : BoardState B) (at : Location) (entrant : Entrant B) → Goes s (inserted mark at entrant s)
+  inserted_soundly : (s : BoardState B) (at : Location) (entrant : Entrant B) → BoardGoes s (inserted mark at entrant s)
   inserted_soundly s at (New bar) = either s (s.made == 2 ^ 64) _ _ (λ sound. sound) (λ sound. sound)
   inserted_soundly s at (Old id) = unless_refused s (turned_away mark id s) _ (λ sound. sound)
 
-  taken_out_soundly : (s : BoardState B) (number : ℕ) → Stands s → Stands (taken_out number s)
-  taken_out_soundly s number sound = cond_both (is_member number s.members) (record s { members = without number s.members }) s Stands (λ a. sound) (λ a. sound)
+  taken_out_soundly : (s : BoardState B) (number : ℕ) → RowsStand s → RowsStand (taken_out number s)
+  taken_out_soundly s number sound = cond_both (is_member number s.members) (record s { members = without number s.members }) s RowsStand (λ a. sound) (λ a. sound)
 
-  left_by_soundly : (target : Target) (number : ℕ) (keep : Keep) (s : BoardState B) → Stands s → Stands (left_by target number keep s)
+  left_by_soundly : (target : Target) (number : ℕ) (keep : Keep) (s : BoardState B) → RowsStand s → RowsStand (left_by target number keep s)
   left_by_soundly target number Absent s sound = kept_soundly target.columns number s.lists sound
   left_by_soundly target number Passed s sound = kept_soundly target.columns number s.lists sound
   left_by_soundly target number Behind s sound = sound
 
-  left_soundly : (target : Target) (number : ℕ) (s : BoardState B) → Stands s → Stands (left_on target number s)
+  left_soundly : (target : Target) (number : ℕ) (s : BoardState B) → RowsStand s → RowsStand (left_on target number s)
   left_soundly target number s sound =
-      cond_both (is_head number s.members) (left_by target number (fate number s.lists) s) (marked_on number s) Stands (λ a. left_by_soundly target number (fate number s.lists) s sound) (λ a. sound)
+      cond_both (is_head number s.members) (left_by target number (fate number s.lists) s) (marked_on number s) RowsStand
+      (λ a. left_by_soundly target number (fate number s.lists) s sound) (λ a. sound)
 
-  draw_soundly : (target : Target) (takes : Bool) (ask : Ask) (now : ℕ) (writing : Writing) (s after laid : BoardState B) (lays : Bool) → (Stands s → Stands after) → (Stands s → Stands laid) →
+  draw_soundly : (target : Target) (takes : Bool) (ask : Ask) (now : ℕ) (writing : Writing) (s after laid : BoardState B) (lays : Bool) →
+      (RowsStand s → RowsStand after) → (RowsStand s → RowsStand laid) →
       DrawsSoundly (board kind mark) s (draw_of target takes ask now writing after laid lays)
   draw_soundly target takes ask now writing s after laid lays numbers ready =
       record { numbers = numbers; ready = ready; written = λ sound. written_soundly writing target laid.bottom (leaders laid.members) (frame_of laid.members) laid.lists }
 
   -- a draw that nothing follows, of a board as it is and with its lines laid out
-  only_draws : (target : Target) (takes : Bool) (ask : Ask) (now : ℕ) (writing : Writing) (s after laid : BoardState B) (lays : Bool) → (Stands s → Stands after) → (Stands s → Stands laid) →
-      Goes s (draws (draw_of target takes ask now writing after laid lays))
+  only_draws : (target : Target) (takes : Bool) (ask : Ask) (now : ℕ) (writing : Writing) (s after laid : BoardState B) (lays : Bool) →
+      (RowsStand s → RowsStand after) → (RowsStand s → RowsStand laid) →
+      BoardGoes s (draws (draw_of target takes ask now writing after laid lays))
   only_draws target takes ask now writing s after laid lays numbers ready = (draw_soundly target takes ask now writing s after laid lays numbers ready, (λ x sound. sound), λ x sound. sound)
 
-  deed_soundly : (target : Target) (call : Call B C) (now : ℕ) (s : BoardState B) → Goes s ((board kind mark).deed target call now s)
+  deed_soundly : (target : Target) (call : Call B C) (now : ℕ) (s : BoardState B) → BoardGoes s ((board kind mark).deed target call now s)
   deed_soundly target (Insert at entrant) now s = unless_refused s (anchor_turned_away mark at s) _ (inserted_soundly s at entrant)
   deed_soundly target (Remove id) now s = either s (not (id.mark == mark)) _ _ (λ sound. sound) (taken_out_soundly s id.number)
   deed_soundly target (Drop id) now s =
-      let after = told id.number (kind.left now) s in
+      let after = bar_changed id.number (kind.left now) s in
       unless_refused s (turned_away mark id s) _ (
         draw_soundly target (said_of false (kind.left_takes now) id.number s.members) (said_of No (kind.left_asked now) id.number s.members) now Frame s after
             (laid_out kind target now id.number after) (lays_out kind id.number after) (λ sound. sound) (λ sound. sound),
@@ -84,7 +87,7 @@ module _ {B C : Type 0} (kind : BoardKind B C) (mark : ℕ) where
   deed_soundly target Redraw now s = only_draws target false Forced now Frame s s s false (λ sound. sound) (λ sound. sound)
   deed_soundly target (Align bottom) now s = λ sound. sound
   deed_soundly target (Tell id command) now s =
-      let after = told id.number (λ bar. (kind.bars.after command bar now).0) s in
+      let after = bar_changed id.number (λ bar. (kind.bars.after command bar now).0) s in
       unless_refused s (turned_away mark id s) _
       (unless_refused s (said_of None (λ bar. kind.bars.refused command bar now) id.number s.members) _
       (only_draws target (said_of false (λ bar. kind.bars.takes command bar now) id.number s.members) (said_of No (λ bar. (kind.bars.after command bar now).1) id.number s.members) now Frame s after

@@ -1,6 +1,6 @@
 -- A bar whose owner is gone: how it leaves or is marked, that the rows it leaves still rest there, and the step of its drop.
 use Rattle.std.proofs.Common.{◌≡◌, ◌<◌, ℕ, ◌+◌, Bool, true, false, not, List, [], ◌∷◌, map, length, arith, refl, sym, ◌∙◌, ap, subst, Option, Some, None, Result, Ok, Err, inl, inr, ◌⊎◌, if◌then◌else◌}
-use Rattle.std.specs.Prelude.{◌==◌}
+use Rattle.std.specs.Prelude.{◌==◌, IfSome, MatchOption}
 use Rattle.std.proofs.Common.{set, get_or}
 use Rattle.std.proofs.lemmas.Bool.{cases_Bool, cond_both, false≢true}
 use Rattle.indicatif_text.specs.declared.refusal.Refusal.{Refusal}
@@ -8,10 +8,12 @@ use Rattle.indicatif_text.specs.declared.refusal.Refusal.TheVariants.{NoColumns,
 use Rattle.indicatif_text.specs.declared.refusal.Drawn.{Drawn}
 use Rattle.indicatif_text.specs.declared.refusal.Drawn.TheVariants.{Yes, Limited, Hidden}
 use Rattle.indicatif_term.specs.Calls.{TermView}
+use Rattle.indicatif_term.specs.Engines.{Fits}
 use Rattle.indicatif_term.specs.Frames.{some_wide}
 use Rattle.indicatif_term.specs.Limiters.{Limiter}
 use Rattle.indicatif_term.specs.Lists.{Lists, opening_lists, fate, kept_of, is_first}
 use Rattle.indicatif_term.specs.Terminal.{after}
+use Rattle.indicatif_term.specs.declared.draw_target.Engine.{Engine}
 use Rattle.indicatif_term.specs.declared.draw_target.Keep.{Keep}
 use Rattle.indicatif_term.specs.declared.draw_target.Keep.TheVariants.{Absent, Passed, Behind}
 use Rattle.indicatif_term.specs.declared.lines.Segment.{Segment}
@@ -74,6 +76,12 @@ held_anew frame members made bottom limiter given next s l given_is holds = reco
   bottom_is = holds.bottom_is;
   limiter_is = given_is;
 }
+
+-- an engine that has drawn nothing fits, and where there is none no rows do
+pub fits_or_none : {T : Type 0} (o : Option (Engine T)) → IfSome o (λ e. Fits e opening_lists) →
+    MatchOption o (opening_lists ≡ opening_lists) (λ e. Fits e opening_lists)
+fits_or_none None fits = refl
+fits_or_none (Some e) fits = fits
 
 -- ---- how it leaves
 

@@ -15,7 +15,7 @@ use Rattle.indicatif_bar.specs.Trackers.{Tracking}
 use Rattle.indicatif_bar.specs.Commands.{BarRecord}
 use Rattle.indicatif_bar.specs.Bars.{lines_of_bar, lines_take_memory}
 use Rattle.indicatif_bar.specs.Machines.{Target}
-use Rattle.indicatif_board.specs.Boards.{BoardState, Id, Location, index_of, taken_in, turned_away, told}
+use Rattle.indicatif_board.specs.Boards.{BoardState, Id, Location, index_of, taken_in, turned_away, bar_changed}
 use Rattle.indicatif_text.specs.declared.refusal.Refusal.TheVariants.{ForeignBar, NotMember}
 use Rattle.indicatif_board.specs.Members.{Member, place_of, leaders, frame_of, order_of, changed_at, new_member, is_member, without, said_of}
 use Rattle.indicatif_board.specs.ShownBars.{member_of, Holds}
@@ -176,7 +176,7 @@ module _ {K : Type 0} (frame : List Segment) (members : List (MemberValue K)) (m
 pub told_at : {K : Type 0} → (f : BarRecord K → BarRecord K) (frame : List Segment) (members : List (MemberValue K)) (made : ℕ) (bottom : Bool) (limiter : Option Limiter) (mark : ℕ)
     (s : BoardState (BarRecord K)) (number at : ℕ) (item : MemberValue K) (bar : BarRecord K) →
     Holds frame members made bottom limiter s → at ≡ place_of number s.members → at < length s.members → item ≡ get_or members at item → bar ≡ f item.bar →
-    Holds frame (set members at (record { bar = bar; dropped = item.dropped })) made bottom limiter (told number f s)
+    Holds frame (set members at (record { bar = bar; dropped = item.dropped })) made bottom limiter (bar_changed number f s)
 told_at {K = K} f frame members made bottom limiter mark s number at item bar holds here within item_is bar_is =
     let ms = s.members in
     let change = λ (m : Member (BarRecord K)). let x : Member (BarRecord K) = record m { bar = f m.bar } in x in

@@ -15,7 +15,7 @@ use Rattle.indicatif_bar.specs.Kinds.{Writing, Frame, TextAndFrame, NoFrame}
 use Rattle.indicatif_bar.specs.declared.state.Ask.{Ask}
 use Rattle.indicatif_bar.specs.declared.state.Ask.TheVariants.{No, Forced}
 use Rattle.indicatif_board.specs.Members.{Member, is_member, is_head, without, said_of, order_of, place_of, new_member, leaders, changed_at}
-use Rattle.indicatif_board.specs.Boards.{BoardState, BoardKind, Call, Insert, Remove, Drop, Log, BarLog, Clear, Redraw, Align, Tell, Answer, Given, Refused, Id, Location, Entrant, New, Old, opening_board, turned_away, anchor_turned_away, or_refused, inserted, index_of, taken_in, taken_out, draws, draw_of, told, laid_out, lays_out, left_by, left_on, marked_on, board}
+use Rattle.indicatif_board.specs.Boards.{BoardState, BoardKind, Call, Insert, Remove, Drop, Log, BarLog, Clear, Redraw, Align, Tell, Answer, Given, Refused, Id, Location, Entrant, New, Old, opening_board, turned_away, anchor_turned_away, or_refused, inserted, index_of, taken_in, taken_out, draws, draw_of, bar_changed, laid_out, lays_out, left_by, left_on, marked_on, board}
 use Rattle.indicatif_board.specs.Slots.{occurrences}
 use Rattle.indicatif_board.specs.OrderLaws.{RunsKeep, StandsOnce, IsGone, with_new, new_bars, new_numbers, NumbersCount, NumbersAreNew}
 use Rattle.indicatif_board.proofs.MemberLemmas.{place-changed, map-inserted, map-removed, drop-map}
@@ -90,7 +90,7 @@ module _ {B C : Type 0} (kind : BoardKind B C) (mark : ℕ) (Q : List ℕ → �
   laid_keeps : (target : Target) (now number : ℕ) (s : BoardState B) → P s → P (laid_out kind target now number s)
   laid_keeps target now number s is = changed_keeps number _ s (λ m. refl) is
 
-  told_keeps : (number : ℕ) (f : B → B) (s : BoardState B) → P s → P (told number f s)
+  told_keeps : (number : ℕ) (f : B → B) (s : BoardState B) → P s → P (bar_changed number f s)
   told_keeps number f s is = changed_keeps number (λ m. record m { bar = f m.bar }) s (λ m. refl) is
 
   deed_keeps : (target : Target) (call : Call B C) (now : ℕ) (s : BoardState B) → P s → Comes call s → KeepsIt ((board kind mark).deed target call now s)
@@ -98,18 +98,19 @@ module _ {B C : Type 0} (kind : BoardKind B C) (mark : ℕ) (Q : List ℕ → �
   deed_keeps target (Remove id) now s is comes = either (not (id.mark == mark)) _ _ is (taken_out_keeps s id.number is)
   deed_keeps target (Drop id) now s is comes =
       let after = told_keeps id.number (kind.left now) s is in
-      let laid = laid_keeps target now id.number (told id.number (kind.left now) s) after in
+      let laid = laid_keeps target now id.number (bar_changed id.number (kind.left now) s) after in
       unless_refused s (turned_away mark id s) _ is
-      (after, laid, written_keeps (laid_out kind target now id.number (told id.number (kind.left now) s)) laid, laid, left_keeps target id.number, marked_keeps id.number)
+      (after, laid, written_keeps (laid_out kind target now id.number (bar_changed id.number (kind.left now) s)) laid, laid, left_keeps target id.number, marked_keeps id.number)
   deed_keeps target (Log text) now s is comes = only_draws target false Forced now (TextAndFrame (text_lines (logged_lines text))) s s false is is
   deed_keeps target (BarLog id text) now s is comes =
       unless_refused s (turned_away mark id s) _ is
-      (only_draws target false Forced now (TextAndFrame (text_lines (logged_lines text))) s (laid_out kind target now id.number s) (lays_out kind id.number s) is (laid_keeps target now id.number s is))
+      (only_draws target false Forced now (TextAndFrame (text_lines (logged_lines text))) s (laid_out kind target now id.number s) (lays_out kind id.number s) is
+      (laid_keeps target now id.number s is))
   deed_keeps target Clear now s is comes = only_draws target false Forced now NoFrame s s false is is
   deed_keeps target Redraw now s is comes = only_draws target false Forced now Frame s s false is is
   deed_keeps target (Align bottom) now s is comes = is
   deed_keeps target (Tell id command) now s is comes =
-      let after = told id.number (λ bar. (kind.bars.after command bar now).0) s in
+      let after = bar_changed id.number (λ bar. (kind.bars.after command bar now).0) s in
       let numbers = told_keeps id.number (λ bar. (kind.bars.after command bar now).0) s is in
       unless_refused s (turned_away mark id s) _ is
       (unless_refused s (said_of None (λ bar. kind.bars.refused command bar now) id.number s.members) _ is
@@ -200,8 +201,8 @@ module _ {B C : Type 0} (kind : BoardKind B C) (mark : ℕ) where
   id_in number = record { mark = mark; number = number }
 
   -- a call took no bar in; or it took one in by the next number
-  abbrev Counts : Call B C → Answer → BoardState B → BoardState B → Type 0
-  Counts call answer s next =
+  abbrev CountsUp : Call B C → Answer → BoardState B → BoardState B → Type 0
+  CountsUp call answer s next =
       (((others : List Id) → with_new call answer others ≡ others) × (next.made ≡ s.made))
       ⊎ (((others : List Id) → with_new call answer others ≡ id_in s.made ∷ others) × (next.made ≡ s.made + 1))
 
@@ -218,7 +219,7 @@ module _ {B C : Type 0} (kind : BoardKind B C) (mark : ℕ) where
 
     module _ (at : Location) (bar : B) where
       abbrev CountsNew : Type 0
-      CountsNew = Counts (Insert at (New bar)) answer s next
+      CountsNew = CountsUp (Insert at (New bar)) answer s next
 
       not_new : (e : Refusal) → answer ≡ Refused e → next ≡ s → CountsNew
       not_new e said same = inl ((λ others. ap (λ a. with_new {C = C} (Insert at (New bar)) a others) said), ap (λ x. x.made) same)
@@ -239,7 +240,7 @@ module _ {B C : Type 0} (kind : BoardKind B C) (mark : ℕ) where
           cond_both (s.made == 2 ^ 64) (AtOnce true (Refused Memory) s) (AtOnce true (Given (id_in s.made)) (taken_in at bar s))
           (λ deed. Leads (board kind mark) target s deed answer next → CountsNew) (λ a. refused_counts true Memory) (λ a. given_counts) leads
 
-    counts : (call : Call B C) → Leads (board kind mark) target s ((board kind mark).deed target call now s) answer next → Counts call answer s next
+    counts : (call : Call B C) → Leads (board kind mark) target s ((board kind mark).deed target call now s) answer next → CountsUp call answer s next
     counts (Insert at (New bar)) leads = new_counts at bar (anchor_turned_away mark at s) leads
     counts (Insert at (Old id)) leads = inl ((λ others. refl), same_made (Insert at (Old id)) tt leads)
     counts (Remove id) leads = inl ((λ others. refl), same_made (Remove id) tt leads)

@@ -12,12 +12,12 @@ use Rattle.indicatif_board.specs.Boards.{Call, Remove, Id, Answer, opening_board
 use Rattle.indicatif_board.specs.Calls.{call_of, answer_of, removal}
 use Rattle.indicatif_board.specs.Members.{Member, is_member, said_of}
 use Rattle.indicatif_board.specs.Multi.{LeadsBy, known}
-use Rattle.indicatif_board.specs.Recorded.{Step, BoardStep, Replays, IsOneRun, Grows, step_of, target_by, handed_back, removed_back}
+use Rattle.indicatif_board.specs.Recorded.{CallStep, BoardStep, Replays, IsOneRun, AddsCall, step_of, target_by, handed_back, removed_back}
 use Rattle.indicatif_board.specs.declared.multi.Board.{Board}
 use Rattle.indicatif_board.specs.declared.recorded.Entry.{Entry}
 
 -- a step more at the end
-replays_more : {S C A : Type 0} (m : Machine S C A) (s x next : S) (es : List (Step C A)) (e : Step C A) →
+replays_more : {S C A : Type 0} (m : Machine S C A) (s x next : S) (es : List (CallStep C A)) (e : CallStep C A) →
     Replays m s es x → Leads m e.target x (m.deed e.target e.call e.now x) e.answer next → Replays m s (es ++ e ∷ []) next
 replays_more m s x next [] e r led = (next, subst (λ y. Leads m e.target y (m.deed e.target e.call e.now y) e.answer next) r led, refl)
 replays_more m s x next (f ∷ es) e r led = (r.0, r.1, replays_more m r.0 x next es e r.2 led)
@@ -49,7 +49,7 @@ pub grown : {K T : Type 0} (m : Tracking K) (view : T → TermView) (mark : ℕ)
     (call : Call (BarRecord K) (Command K)) (now : ℕ) (answer : Answer) →
     LeadsBy m view old new call now answer →
     now_steps ≡ steps ++ record { target = target_of (known view old); call = call; now = now; answer = answer } ∷ [] →
-    Grows m view (record { mark = mark; limiter = limiter; board = old; steps = steps }) call now answer (record { mark = mark; limiter = limiter; board = new; steps = now_steps })
+    AddsCall m view (record { mark = mark; limiter = limiter; board = old; steps = steps }) call now answer (record { mark = mark; limiter = limiter; board = new; steps = now_steps })
 grown m view mark limiter old new steps now_steps call now answer led more = record { mark = refl; limiter = refl; steps = more; leads = led }
 
 -- the bar of a removal

@@ -25,7 +25,7 @@ pub data Stage : Type 0 where
   Gone : Stage
 
 -- one line, a stage, and the stage that its finish gives
-pub record Plain : Type 0 where
+pub record PlainBar : Type 0 where
   pub text : List ℕ
   pub stage : Stage
   pub at_finish : Stage
@@ -34,7 +34,7 @@ pub record Plain : Type 0 where
 pub data Word : Type 0 where
   Touch : Word
   Say : (text : List ℕ) → Word
-  Finish : (stage : Stage) → Word
+  FinishAs : (stage : Stage) → Word
 
 -- a draw of a bar at this stage
 abbrev pub ask_at : Stage → Ask
@@ -42,12 +42,12 @@ ask_at Running = Unforced
 ask_at _ = Forced
 
 -- the bar then, and the draw that is asked for
-abbrev pub plain_after : Word → Plain → ℕ → Plain × Ask
+abbrev pub plain_after : Word → PlainBar → ℕ → PlainBar × Ask
 plain_after Touch b now = (b, ask_at b.stage)
 plain_after (Say text) b now = (record b { text = text }, ask_at b.stage)
-plain_after (Finish stage) b now = (record b { stage = stage }, Forced)
+plain_after (FinishAs stage) b now = (record b { stage = stage }, Forced)
 
-abbrev pub says_text : Word → Plain → ℕ → Bool
+abbrev pub says_text : Word → PlainBar → ℕ → Bool
 says_text (Say text) b now = true
 says_text _ b now = false
 
@@ -74,8 +74,8 @@ abbrev pub is_seen : Stage → Bool
 is_seen Gone = false
 is_seen _ = true
 
-abbrev pub plain : BoardKind Plain Word
-plain = record {
+abbrev pub plain_bars : BoardKind PlainBar Word
+plain_bars = record {
   bars = record {
     refused = λ word b now. None;
     takes = says_text;
@@ -91,14 +91,14 @@ plain = record {
 -- ---- runs
 
 abbrev pub PlainCall : Type 0
-PlainCall = Call Plain Word
+PlainCall = Call PlainBar Word
 
 -- a bar of the board with the mark 1
 abbrev pub id : ℕ → Id
 id number = record { mark = 1; number = number }
 
 -- a bar that finishes hidden where nobody says how, with this text
-abbrev pub plain_bar : List ℕ → Plain
+abbrev pub plain_bar : List ℕ → PlainBar
 plain_bar text = record { text = text; stage = Running; at_finish = Gone }
 
 abbrev pub add : List ℕ → PlainCall
@@ -111,7 +111,7 @@ abbrev pub say : ℕ → List ℕ → PlainCall
 say number text = Tell (id number) (Say text)
 
 abbrev pub finish_it : ℕ → PlainCall
-finish_it number = Tell (id number) (Finish Shown)
+finish_it number = Tell (id number) (FinishAs Shown)
 
 abbrev pub drop_it : ℕ → PlainCall
 drop_it number = Drop (id number)
@@ -120,48 +120,48 @@ abbrev pub remove_it : ℕ → PlainCall
 remove_it number = Remove (id number)
 
 -- what calls answer, and the state then
-abbrev pub ran_on : Option Limiter → Target → List PlainCall → List Answer × BoardState Plain
-ran_on limiter target calls = outcomes (board plain 1) target (map (λ call. (call, 0)) calls) (opening_board limiter)
+abbrev pub ran_on : Option Limiter → Target → List PlainCall → List Answer × BoardState PlainBar
+ran_on limiter target calls = outcomes (board plain_bars 1) target (map (λ call. (call, 0)) calls) (opening_board limiter)
 
-abbrev pub ran_in : ℕ → ℕ → List PlainCall → List Answer × BoardState Plain
+abbrev pub ran_in : ℕ → ℕ → List PlainCall → List Answer × BoardState PlainBar
 ran_in rows columns calls = ran_on None (terminal_of_size rows columns) calls
 
 -- the rows that stand after calls are those of these lines
-abbrev pub Leaves : ℕ → ℕ → List PlainCall → List (List ℕ) → Type 0
-Leaves rows columns calls lines = all_rows columns (ran_in rows columns calls).1.lists ≡ rows_of_lines columns lines
+abbrev pub LeavesRows : ℕ → ℕ → List PlainCall → List (List ℕ) → Type 0
+LeavesRows rows columns calls lines = all_rows columns (ran_in rows columns calls).1.lists ≡ rows_of_lines columns lines
 
 -- ---- rows
 
 -- a line of 8 columns on 6 takes two rows; a shorter one takes their place
 abbrev pub TwoBars : Type 0
 TwoBars =
-    Leaves 4 6 (add (codes "aaaaaaaa") ∷ add (codes "b") ∷ touch 0 ∷ touch 1 ∷ []) (codes "aaaaaa" ∷ codes "aa" ∷ codes "b" ∷ [])
-    × Leaves 4 6 (add (codes "aaaaaaaa") ∷ add (codes "b") ∷ touch 0 ∷ touch 1 ∷ say 0 (codes "a") ∷ []) (codes "a" ∷ codes "b" ∷ [])
+    LeavesRows 4 6 (add (codes "aaaaaaaa") ∷ add (codes "b") ∷ touch 0 ∷ touch 1 ∷ []) (codes "aaaaaa" ∷ codes "aa" ∷ codes "b" ∷ [])
+    × LeavesRows 4 6 (add (codes "aaaaaaaa") ∷ add (codes "b") ∷ touch 0 ∷ touch 1 ∷ say 0 (codes "a") ∷ []) (codes "a" ∷ codes "b" ∷ [])
 
 -- of three bars on two rows the first two are shown
-abbrev pub ThreeOnTwo : Type 0
-ThreeOnTwo = Leaves 2 9 (add (codes "a") ∷ add (codes "b") ∷ add (codes "c") ∷ touch 0 ∷ touch 1 ∷ touch 2 ∷ []) (codes "a" ∷ codes "b" ∷ [])
+abbrev pub ThreeBarsOnTwo : Type 0
+ThreeBarsOnTwo = LeavesRows 2 9 (add (codes "a") ∷ add (codes "b") ∷ add (codes "c") ∷ touch 0 ∷ touch 1 ∷ touch 2 ∷ []) (codes "a" ∷ codes "b" ∷ [])
 
 -- a finished bar that is dropped leaves its row above
 abbrev pub LeftAbove : Type 0
 LeftAbove =
-    Leaves 2 10 (add (codes "k") ∷ add (codes "x") ∷ touch 0 ∷ touch 1 ∷ finish_it 0 ∷ drop_it 0 ∷ add (codes "y") ∷ touch 2 ∷ Log (codes "l") ∷ [])
+    LeavesRows 2 10 (add (codes "k") ∷ add (codes "x") ∷ touch 0 ∷ touch 1 ∷ finish_it 0 ∷ drop_it 0 ∷ add (codes "y") ∷ touch 2 ∷ Log (codes "l") ∷ [])
     (codes "k" ∷ codes "l" ∷ codes "x" ∷ codes "y" ∷ [])
-    × Leaves 2 10 (Align true ∷ add (codes "k") ∷ add (codes "x") ∷ touch 0 ∷ touch 1 ∷ finish_it 0 ∷ drop_it 0 ∷ add (codes "y") ∷ touch 2 ∷ remove_it 1 ∷ Log (codes "l") ∷ [])
+    × LeavesRows 2 10 (Align true ∷ add (codes "k") ∷ add (codes "x") ∷ touch 0 ∷ touch 1 ∷ finish_it 0 ∷ drop_it 0 ∷ add (codes "y") ∷ touch 2 ∷ remove_it 1 ∷ Log (codes "l") ∷ [])
     (codes "k" ∷ codes "l" ∷ codes "y" ∷ [])
 
 -- a bar that leaves its row and one that hides, both dropped: a log takes the row that was kept
 abbrev pub BothDropped : Type 0
-BothDropped = Leaves 10 9
+BothDropped = LeavesRows 10 9
     (Insert End (New (record { text = codes "A"; stage = Running; at_finish = Shown })) ∷ add (codes "B") ∷ touch 0 ∷ touch 1 ∷ drop_it 0 ∷ drop_it 1 ∷ Log (codes "L") ∷ [])
     (codes "L" ∷ [])
 
 -- at the bottom: a bar that is removed leaves a blank row above; one that is dropped passes on with it
-abbrev pub AtTheBottom : Type 0
-AtTheBottom =
+abbrev pub BoardAtTheBottom : Type 0
+BoardAtTheBottom =
     let calls = Align true ∷ add (codes "m1") ∷ add (codes "m2") ∷ add (codes "m3") ∷ touch 0 ∷ touch 1 ∷ touch 2 ∷ remove_it 1 ∷ touch 0 ∷ [] in
-    Leaves 6 9 calls ([] ∷ codes "m1" ∷ codes "m3" ∷ [])
-    × Leaves 6 9 (calls ++ finish_it 0 ∷ drop_it 0 ∷ Log (codes "L") ∷ []) (codes "L" ∷ [] ∷ codes "m3" ∷ [])
+    LeavesRows 6 9 calls ([] ∷ codes "m1" ∷ codes "m3" ∷ [])
+    × LeavesRows 6 9 (calls ++ finish_it 0 ∷ drop_it 0 ∷ Log (codes "L") ∷ []) (codes "L" ∷ [] ∷ codes "m3" ∷ [])
 
 -- the order after insertions at all places; a bar that is there stays; a bar of another board, and one that is gone
 abbrev pub Ordered : Type 0
@@ -179,23 +179,23 @@ Ordered =
 
 -- an empty text is one empty line above the bar
 abbrev pub EmptyLog : Type 0
-EmptyLog = Leaves 5 9 (add (codes "a") ∷ touch 0 ∷ Log [] ∷ []) ([] ∷ codes "a" ∷ [])
+EmptyLog = LeavesRows 5 9 (add (codes "a") ∷ touch 0 ∷ Log [] ∷ []) ([] ∷ codes "a" ∷ [])
 
 -- a bar that is removed stays shown until the next draw
 abbrev pub RemovedLater : Type 0
 RemovedLater =
-    Leaves 4 10 (add (codes "a") ∷ add (codes "b") ∷ touch 0 ∷ touch 1 ∷ remove_it 0 ∷ []) (codes "a" ∷ codes "b" ∷ [])
-    × Leaves 4 10 (add (codes "a") ∷ add (codes "b") ∷ touch 0 ∷ touch 1 ∷ remove_it 0 ∷ touch 1 ∷ []) (codes "b" ∷ [])
+    LeavesRows 4 10 (add (codes "a") ∷ add (codes "b") ∷ touch 0 ∷ touch 1 ∷ remove_it 0 ∷ []) (codes "a" ∷ codes "b" ∷ [])
+    × LeavesRows 4 10 (add (codes "a") ∷ add (codes "b") ∷ touch 0 ∷ touch 1 ∷ remove_it 0 ∷ touch 1 ∷ []) (codes "b" ∷ [])
 
 -- a bar that is dropped behind the rows of a removed one waits for the next draw
 abbrev pub WaitsBehind : Type 0
-WaitsBehind = Leaves 4 10 (add (codes "a") ∷ add (codes "b") ∷ touch 0 ∷ finish_it 1 ∷ remove_it 0 ∷ drop_it 1 ∷ add (codes "c") ∷ touch 2 ∷ []) (codes "b" ∷ codes "c" ∷ [])
+WaitsBehind = LeavesRows 4 10 (add (codes "a") ∷ add (codes "b") ∷ touch 0 ∷ finish_it 1 ∷ remove_it 0 ∷ drop_it 1 ∷ add (codes "c") ∷ touch 2 ∷ []) (codes "b" ∷ codes "c" ∷ [])
 
 -- a long text takes all its rows; bars that don't fit are cut off
 abbrev pub LongLog : Type 0
 LongLog =
-    Leaves 3 5 (add (codes "x") ∷ touch 0 ∷ Log (codes "abcdefghijk") ∷ []) (codes "abcde" ∷ codes "fghij" ∷ codes "k" ∷ codes "x" ∷ [])
-    × Leaves 2 10 (add (codes "a") ∷ add (codes "b") ∷ add (codes "c") ∷ touch 0 ∷ touch 1 ∷ touch 2 ∷ Log (codes "l") ∷ []) (codes "l" ∷ codes "a" ∷ codes "b" ∷ [])
+    LeavesRows 3 5 (add (codes "x") ∷ touch 0 ∷ Log (codes "abcdefghijk") ∷ []) (codes "abcde" ∷ codes "fghij" ∷ codes "k" ∷ codes "x" ∷ [])
+    × LeavesRows 2 10 (add (codes "a") ∷ add (codes "b") ∷ add (codes "c") ∷ touch 0 ∷ touch 1 ∷ touch 2 ∷ Log (codes "l") ∷ []) (codes "l" ∷ codes "a" ∷ codes "b" ∷ [])
 
 -- removed twice is done twice; told then, it isn't there
 abbrev pub RemovedTwice : Type 0
@@ -207,8 +207,8 @@ TooWideForAll = (ran_in 1 1 (add (codes "a") ∷ touch 0 ∷ add (0xE5 ∷ 0x9B 
     ≡ Given (id 0) ∷ Drew Yes ∷ Given (id 1) ∷ Refused TooWide ∷ Refused TooWide ∷ Done ∷ Drew Yes ∷ []
 
 -- 20 draws a second: the 21st at once is limited, a forced one isn't
-abbrev pub TwentyAtOnce : Type 0
-TwentyAtOnce = (ran_on (Some (draw_limiter 20 0)) (terminal_of_size 5 9) (add (codes "a") ∷ replicate 21 (touch 0) ++ say 0 (codes "b") ∷ Redraw ∷ finish_it 0 ∷ touch 0 ∷ [])).0
+abbrev pub TwentyDrawsAtOnce : Type 0
+TwentyDrawsAtOnce = (ran_on (Some (draw_limiter 20 0)) (terminal_of_size 5 9) (add (codes "a") ∷ replicate 21 (touch 0) ++ say 0 (codes "b") ∷ Redraw ∷ finish_it 0 ∷ touch 0 ∷ [])).0
     ≡ Given (id 0) ∷ replicate 20 (Drew Yes) ++ Drew Limited ∷ Drew Limited ∷ Drew Yes ∷ Drew Yes ∷ Drew Yes ∷ []
 
 -- a bar's own text stands above all bars, and that bar's lines are laid out anew, here for the first time; rows of bars that are
@@ -217,9 +217,9 @@ abbrev pub OwnText : Type 0
 OwnText =
     let both = add (codes "a") ∷ add (codes "b") ∷ touch 0 ∷ [] in
     let foreign : Id = record { mark = 2; number = 0 } in
-    Leaves 4 10 (both ++ Log (codes "l") ∷ []) (codes "l" ∷ codes "a" ∷ [])
-    × Leaves 4 10 (both ++ BarLog (id 1) (codes "l") ∷ []) (codes "l" ∷ codes "a" ∷ codes "b" ∷ [])
-    × Leaves 4 10 (both ++ touch 1 ∷ finish_it 0 ∷ drop_it 0 ∷ BarLog (id 1) (codes "l") ∷ []) (codes "l" ∷ codes "b" ∷ [])
+    LeavesRows 4 10 (both ++ Log (codes "l") ∷ []) (codes "l" ∷ codes "a" ∷ [])
+    × LeavesRows 4 10 (both ++ BarLog (id 1) (codes "l") ∷ []) (codes "l" ∷ codes "a" ∷ codes "b" ∷ [])
+    × LeavesRows 4 10 (both ++ touch 1 ∷ finish_it 0 ∷ drop_it 0 ∷ BarLog (id 1) (codes "l") ∷ []) (codes "l" ∷ codes "b" ∷ [])
     × ((ran_in 4 10 (both ++ BarLog (id 1) [] ∷ remove_it 1 ∷ BarLog (id 1) [] ∷ BarLog foreign [] ∷ [])).0
     ≡ Given (id 0) ∷ Given (id 1) ∷ Drew Yes ∷ Drew Yes ∷ Done ∷ Refused NotMember ∷ Refused ForeignBar ∷ [])
 
@@ -228,19 +228,19 @@ abbrev pub ClearedRows : Type 0
 ClearedRows =
     let logged = add (codes "a") ∷ add (codes "b") ∷ touch 0 ∷ touch 1 ∷ Log (codes "l") ∷ [] in
     let left = finish_it 0 ∷ drop_it 0 ∷ [] in
-    Leaves 4 10 (logged ++ Clear ∷ []) (codes "l" ∷ [])
-    × Leaves 4 10 (logged ++ Clear ∷ touch 1 ∷ []) (codes "l" ∷ codes "a" ∷ codes "b" ∷ [])
-    × Leaves 4 10 (logged ++ left) (codes "l" ∷ codes "a" ∷ codes "b" ∷ [])
-    × Leaves 4 10 (logged ++ left ++ Clear ∷ []) (codes "l" ∷ [])
-    × Leaves 4 10 (logged ++ left ++ Clear ∷ touch 1 ∷ []) (codes "l" ∷ codes "b" ∷ [])
+    LeavesRows 4 10 (logged ++ Clear ∷ []) (codes "l" ∷ [])
+    × LeavesRows 4 10 (logged ++ Clear ∷ touch 1 ∷ []) (codes "l" ∷ codes "a" ∷ codes "b" ∷ [])
+    × LeavesRows 4 10 (logged ++ left) (codes "l" ∷ codes "a" ∷ codes "b" ∷ [])
+    × LeavesRows 4 10 (logged ++ left ++ Clear ∷ []) (codes "l" ∷ [])
+    × LeavesRows 4 10 (logged ++ left ++ Clear ∷ touch 1 ∷ []) (codes "l" ∷ codes "b" ∷ [])
 
 -- a dropped bar that waited, first in the order at last: a draw leaves its row above; a clear lets it go, and it isn't drawn again
 abbrev pub ClearedHead : Type 0
 ClearedHead =
     let waits = add (codes "a") ∷ add (codes "b") ∷ add (codes "c") ∷ touch 0 ∷ touch 1 ∷ touch 2 ∷ finish_it 1 ∷ drop_it 1 ∷ remove_it 0 ∷ [] in
-    Leaves 4 10 (waits ++ Redraw ∷ []) (codes "b" ∷ codes "c" ∷ [])
-    × Leaves 4 10 (waits ++ Clear ∷ []) []
-    × Leaves 4 10 (waits ++ Clear ∷ Redraw ∷ []) (codes "c" ∷ [])
+    LeavesRows 4 10 (waits ++ Redraw ∷ []) (codes "b" ∷ codes "c" ∷ [])
+    × LeavesRows 4 10 (waits ++ Clear ∷ []) []
+    × LeavesRows 4 10 (waits ++ Clear ∷ Redraw ∷ []) (codes "c" ∷ [])
     × (order_of (ran_in 4 10 waits).1.members ≡ 1 ∷ 2 ∷ [])
     × (order_of (ran_in 4 10 (waits ++ Clear ∷ [])).1.members ≡ 2 ∷ [])
 
@@ -249,8 +249,8 @@ ClearedHead =
 abbrev pub WithoutColumns : Type 0
 WithoutColumns =
     let first = ran_in 4 0 (add (codes "a") ∷ add (codes "b") ∷ touch 1 ∷ say 1 (codes "c") ∷ Log (codes "l") ∷ drop_it 0 ∷ []) in
-    let then = outcomes (board plain 1) (terminal_of_size 4 10) ((Redraw, 0) ∷ []) first.1 in
-    let later = outcomes (board plain 1) (terminal_of_size 4 10) ((touch 1, 0) ∷ []) first.1 in
+    let then = outcomes (board plain_bars 1) (terminal_of_size 4 10) ((Redraw, 0) ∷ []) first.1 in
+    let later = outcomes (board plain_bars 1) (terminal_of_size 4 10) ((touch 1, 0) ∷ []) first.1 in
     (first.0 ≡ Given (id 0) ∷ Given (id 1) ∷ Refused NoColumns ∷ Refused NoColumns ∷ Refused NoColumns ∷ Refused NoColumns ∷ [])
     × (order_of first.1.members ≡ 1 ∷ [])
     × (then.0 ≡ Drew Yes ∷ [])
@@ -268,23 +268,23 @@ Unseen =
 -- ---- a drop whose own draw is refused
 
 -- one bar, of this finish, was drawn
-abbrev pub one_shown : Stage → BoardState Plain
+abbrev pub one_shown : Stage → BoardState PlainBar
 one_shown at_finish = (ran_in 4 10 (Insert End (New (record { text = codes "a"; stage = Running; at_finish = at_finish })) ∷ touch 0 ∷ [])).1
 
 -- it is dropped
-abbrev pub its_drop : Stage → Deed (BoardState Plain) Answer
-its_drop at_finish = (board plain 1).deed (terminal_of_size 4 10) (drop_it 0) 0 (one_shown at_finish)
+abbrev pub its_drop : Stage → Deed (BoardState PlainBar) Answer
+its_drop at_finish = (board plain_bars 1).deed (terminal_of_size 4 10) (drop_it 0) 0 (one_shown at_finish)
 
 -- it is marked and stays, though it is the first, with these lines
-abbrev pub stays : Stage → List (List ℕ) → List (Member Plain)
+abbrev pub stays : Stage → List (List ℕ) → List (Member PlainBar)
 stays at_finish lines =
-    let m : Member Plain = record { number = 0; bar = record { text = codes "a"; stage = at_finish; at_finish = at_finish }; stored = lines; dropped = true } in m ∷ []
+    let m : Member PlainBar = record { number = 0; bar = record { text = codes "a"; stage = at_finish; at_finish = at_finish }; stored = lines; dropped = true } in m ∷ []
 
 -- where the terminal fails, its rows are forgotten; where memory is refused, they are as they were; and none is refused to a bar
 -- that finishes hidden, since it has no lines
 abbrev pub DropRefused : Type 0
 DropRefused =
-    let machine = board plain 1 in
+    let machine = board plain_bars 1 in
     let target = terminal_of_size 4 10 in
     ((kind : ErrorKind) → Leads machine target (one_shown Gone) (its_drop Gone) (Refused (Failure kind)) (record (one_shown Gone) { members = stays Gone []; lists = forgotten_lists }))
     × Leads machine target (one_shown Shown) (its_drop Shown) (Refused Memory) (record (one_shown Shown) { members = stays Shown (codes "a" ∷ []) })

@@ -209,8 +209,8 @@ left_on target number s =
 -- ---- a board
 
 -- the member's bar told something
-abbrev pub told : {B : Type 0} → ℕ → (B → B) → BoardState B → BoardState B
-told number f s = record s { members = changed_at number (λ m. record m { bar = f m.bar }) s.members }
+abbrev pub bar_changed : {B : Type 0} → ℕ → (B → B) → BoardState B → BoardState B
+bar_changed number f s = record s { members = changed_at number (λ m. record m { bar = f m.bar }) s.members }
 
 module _ {B C : Type 0} (kind : BoardKind B C) where
   -- a bar's lines are laid out and stored
@@ -223,16 +223,16 @@ module _ {B C : Type 0} (kind : BoardKind B C) where
   lays_out number s = said_of false kind.bars.lays number s.members
 
   -- the draw of a command of a bar
-  abbrev pub draw_by : Target → ℕ → C → ℕ → BoardState B → Draw (BoardState B)
-  draw_by target number command now s =
-      let after = told number (λ bar. (kind.bars.after command bar now).0) s in
+  abbrev pub draw_of_command : Target → ℕ → C → ℕ → BoardState B → Draw (BoardState B)
+  draw_of_command target number command now s =
+      let after = bar_changed number (λ bar. (kind.bars.after command bar now).0) s in
       draw_of target (said_of false (λ bar. kind.bars.takes command bar now) number s.members) (said_of No (λ bar. (kind.bars.after command bar now).1) number s.members) now Frame after
       (laid_out target now number after) (lays_out number after)
 
   -- the draw of a bar whose owner is gone
   abbrev pub last_draw : Target → ℕ → ℕ → BoardState B → Draw (BoardState B)
   last_draw target number now s =
-      let after = told number (kind.left now) s in
+      let after = bar_changed number (kind.left now) s in
       draw_of target (said_of false (kind.left_takes now) number s.members) (said_of No (kind.left_asked now) number s.members) now Frame after (laid_out target now number after)
       (lays_out number after)
 
@@ -252,7 +252,7 @@ module _ {B C : Type 0} (kind : BoardKind B C) where
   deed_of mark target Redraw now s = draws (draw_of target false Forced now Frame s s false)
   deed_of mark target (Align bottom) now s = AtOnce false Done (record s { bottom = bottom })
   deed_of mark target (Tell id command) now s =
-      or_refused (turned_away mark id s) (or_refused (said_of None (λ bar. kind.bars.refused command bar now) id.number s.members) (draws (draw_by target id.number command now s)) s) s
+      or_refused (turned_away mark id s) (or_refused (said_of None (λ bar. kind.bars.refused command bar now) id.number s.members) (draws (draw_of_command target id.number command now s)) s) s
 
   -- the board of this mark
   abbrev pub board : ℕ → Machine (BoardState B) (Call B C) Answer

@@ -20,14 +20,14 @@ use Rattle.indicatif_board.specs.declared.recorded.Entry.{Entry}
 -- ---- steps
 
 -- a call at a moment, the target that it was made on, and its answer
-pub record Step (C A : Type 0) : Type 0 where
+pub record CallStep (C A : Type 0) : Type 0 where
   pub target : Target
   pub call : C
   pub now : ℕ
   pub answer : A
 
 -- from one state to another by steps, each on its own target: each call at its moment led on, with its answer
-abbrev pub Replays : {State C A : Type 0} → Machine State C A → State → List (Step C A) → State → Type 0
+abbrev pub Replays : {State C A : Type 0} → Machine State C A → State → List (CallStep C A) → State → Type 0
 Replays m s [] next = next ≡ s
 Replays {State} m s (e ∷ es) next = (x : State) × Leads m e.target s (m.deed e.target e.call e.now s) e.answer x × Replays m x es next
 
@@ -40,7 +40,7 @@ target_by (Some size) = record { hidden = false; columns = size.columns; rows = 
 
 -- a step of a board
 abbrev pub BoardStep : Type 0 → Type 0
-BoardStep K = Step (Call (BarRecord K) (Command K)) Answer
+BoardStep K = CallStep (Call (BarRecord K) (Command K)) Answer
 
 -- an entry, as its definition
 abbrev pub step_of : {K : Type 0} → Entry K → BoardStep K
@@ -60,7 +60,7 @@ module _ {K T : Type 0} where
       (s : BoardState (BarRecord K)) × Replays (board (board_bars m) r.mark) (opening_board r.limiter) r.steps s × IsIn r.mark r.board s
 
   -- the board made this call, with this answer, and exactly that was added
-  pub record Grows (m : Tracking K) (view : T → TermView) (old : Record K T) (call : Call (BarRecord K) (Command K)) (now : ℕ) (answer : Answer) (new : Record K T) : Type 0 where
+  pub record AddsCall (m : Tracking K) (view : T → TermView) (old : Record K T) (call : Call (BarRecord K) (Command K)) (now : ℕ) (answer : Answer) (new : Record K T) : Type 0 where
     pub mark : new.mark ≡ old.mark
     pub limiter : new.limiter ≡ old.limiter
     pub steps : new.steps ≡ old.steps ++ record { target = target_of (known view old.board); call = call; now = now; answer = answer } ∷ []

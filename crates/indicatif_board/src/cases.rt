@@ -1,14 +1,14 @@
 //! Worked cases of the definitions: each clause computes.
 ghost use Rattle.indicatif_board.specs.SlotCases.{UsedAgain, FreedLastFirst, EachItsOwn};
-ghost use Rattle.indicatif_board.specs.BoardCases.{TwoBars, ThreeOnTwo, LeftAbove, BothDropped, AtTheBottom, Ordered, EmptyLog, RemovedLater, WaitsBehind, LongLog, RemovedTwice, TooWideForAll, TwentyAtOnce, Unseen, DropRefused, LateOnBoard, OneIsLeft, OwnText, ClearedRows, ClearedHead, WithoutColumns};
+ghost use Rattle.indicatif_board.specs.BoardCases.{TwoBars, ThreeBarsOnTwo, LeftAbove, BothDropped, BoardAtTheBottom, Ordered, EmptyLog, RemovedLater, WaitsBehind, LongLog, RemovedTwice, TooWideForAll, TwentyDrawsAtOnce, Unseen, DropRefused, LateOnBoard, OneIsLeft, OwnText, ClearedRows, ClearedHead, WithoutColumns};
 
 /// What stands after calls of a board.
 pub fn rows()
     ensures two_bars { TwoBars }
-    ensures three_on_two { ThreeOnTwo }
+    ensures three_on_two { ThreeBarsOnTwo }
     ensures left_above { LeftAbove }
     ensures both_dropped { BothDropped }
-    ensures at_the_bottom { AtTheBottom }
+    ensures at_the_bottom { BoardAtTheBottom }
     ensures empty_log { EmptyLog }
     ensures removed_later { RemovedLater }
     ensures waits_behind { WaitsBehind }
@@ -28,7 +28,7 @@ pub fn answers()
     ensures ordered { Ordered }
     ensures removed_twice { RemovedTwice }
     ensures too_wide_for_all { TooWideForAll }
-    ensures twenty_at_once { TwentyAtOnce }
+    ensures twenty_at_once { TwentyDrawsAtOnce }
     ensures unseen { Unseen }
 {}
 

@@ -22,7 +22,7 @@ pub use crate::calls::{Answer, Call, Candidate, InsertLocation, Turned};
 use crate::calls::{draw_answer, insertion_answer, is_undisturbed, removal_answer};
 use crate::members::place;
 pub use crate::recorded::{Entry, Opening, Recorded, Size};
-use crate::shown_bars::{ShownBars, Writing};
+use crate::shown_bars::{BoardWriting, ShownBars};
 pub use crate::slots::MultiState;
 use indicatif_bar::state::{Ask, BarCommand, BarState};
 use indicatif_bar::style::ProgressTracker;
@@ -67,7 +67,7 @@ impl<K: ProgressTracker, T: TermLike + Drop> Board<K, T> {
         ensures mark { mark_of result ≡ mark }
         ensures terminal { terminal_of result ≡ term_of target }
     {
-        let (engine, limiter) = opened_on(alloc, target);
+        let (engine, limiter) = Engine::opened_on(alloc, target);
         Board {
             mark,
             shown: ShownBars::new(alloc, limiter),
@@ -135,7 +135,7 @@ impl<K: ProgressTracker, T: TermLike + Drop> Board<K, T> {
         ensures state { (mark : ℕ) (s : BoardState (BarRecord K)) → IsIn mark self.old s →
             IsIn mark self.new (record s { limiter = limiter_of target; lists = opening_lists }) }
     {
-        let (engine, limiter) = opened_on(self.shown.alloc, target);
+        let (engine, limiter) = Engine::opened_on(self.shown.alloc, target);
         let shown = &mut self.shown;
         let limiter = replace(&mut shown.limiter, limiter);
         match replace(&mut self.engine, engine) {
@@ -278,7 +278,7 @@ impl<K: ProgressTracker, T: TermLike + Drop> Board<K, T> {
         let shown = &mut self.shown;
         match shown.members[at].bar.dropped(now) {
             Ok(ask) => {
-                let drawn = self.draw(ask, Some(at), Writing::Frame, now);
+                let drawn = self.draw(ask, Some(at), BoardWriting::Frame, now);
                 self.part(id.number, &drawn);
                 drawn
             }
@@ -308,7 +308,7 @@ impl<K: ProgressTracker, T: TermLike + Drop> Board<K, T> {
         let at = self.find(id)?;
         let shown = &mut self.shown;
         let ask = shown.members[at].bar.apply(command, now)?;
-        self.draw(ask, Some(at), Writing::Frame, now)
+        self.draw(ask, Some(at), BoardWriting::Frame, now)
     }
 
     /// Writes the text's lines above the bars, by force. A line is ended by `\n` or `\r\n`; an empty text is one empty line;
@@ -321,7 +321,7 @@ impl<K: ProgressTracker, T: TermLike + Drop> Board<K, T> {
         ensures mark { mark_of self.new ≡ mark_of self.old }
         ensures leads { LeadsBy K.means T.view self.old self.new (Log text.now) now (says result) }
     {
-        self.draw(Ask::Forced, None, Writing::TextAndFrame(text), now)
+        self.draw(Ask::Forced, None, BoardWriting::TextAndFrame(text), now)
     }
 
     /// The same, with one bar's lines laid out anew.
@@ -335,7 +335,7 @@ impl<K: ProgressTracker, T: TermLike + Drop> Board<K, T> {
         ensures foreign { id.mark ≢ mark_of self.old → (result ≡ Err Refusal.ForeignBar) × (self.new ≡ self.old) }
     {
         let at = self.find(id)?;
-        self.draw(Ask::Forced, Some(at), Writing::TextAndFrame(text), now)
+        self.draw(Ask::Forced, Some(at), BoardWriting::TextAndFrame(text), now)
     }
 
     /// Takes the bars' rows back, by force. The next draw shows the bars again, but for what was dropped: rows that such bars left go
@@ -348,7 +348,7 @@ impl<K: ProgressTracker, T: TermLike + Drop> Board<K, T> {
         ensures mark { mark_of self.new ≡ mark_of self.old }
         ensures leads { LeadsBy K.means T.view self.old self.new Clear now (says result) }
     {
-        self.draw(Ask::Forced, None, Writing::NoFrame, now)
+        self.draw(Ask::Forced, None, BoardWriting::NoFrame, now)
     }
 
     /// Draws the bars as they were laid out, by force.
@@ -360,7 +360,7 @@ impl<K: ProgressTracker, T: TermLike + Drop> Board<K, T> {
         ensures mark { mark_of self.new ≡ mark_of self.old }
         ensures leads { LeadsBy K.means T.view self.old self.new Redraw now (says result) }
     {
-        self.draw(Ask::Forced, None, Writing::Frame, now)
+        self.draw(Ask::Forced, None, BoardWriting::Frame, now)
     }
 
     /// Takes the bars' rows back, calls `f` once, which may write to the terminal's place by other ways, and draws the bars again
@@ -557,7 +557,7 @@ impl<K: ProgressTracker, T: TermLike + Drop> Board<K, T> {
         &mut self,
         ask: Ask,
         bar: Option<usize>,
-        writing: Writing<'_>,
+        writing: BoardWriting<'_>,
         now: Moment,
     ) -> Result<Drawn, Refusal>
         requires placed { IfSome bar (λ at. at < vec_len self.old.shown.members) }
@@ -570,37 +570,12 @@ impl<K: ProgressTracker, T: TermLike + Drop> Board<K, T> {
             (draw_of (target_of old) takes ask now (writing_by writing.entry) s (laid_by K.means (target_of old) now number s)
             (lays_by K.means number s)) s.lists result next }
     {
-        if is_no(ask) {
+        if ask.is_no() {
             return Ok(Drawn::Limited);
         }
         match &mut self.engine {
             Some(engine) => self.shown.draw_on(engine, ask, bar, writing, now),
             None => Ok(Drawn::Hidden),
         }
-    }
-}
-
-/// An engine on this target's terminal; none where it is hidden.
-fn opened_on<T: TermLike + Drop>(
-    alloc: Global,
-    target: ProgressDrawTarget<T>,
-) -> (Option<Engine<T>>, Option<RateLimiter>)
-    ensures terminal { option_map engine_term result.0 ≡ term_of target }
-    ensures opened { MatchOption result.0 (opening_lists ≡ opening_lists) (λ engine. Fits engine opening_lists) }
-    ensures limiter { result.1 ≡ limiter_of target }
-{
-    match target.into_parts() {
-        Some((term, limiter)) => (Some(Engine::new(alloc, term)), limiter),
-        None => (None, None),
-    }
-}
-
-/// Whether no draw is asked.
-fn is_no(ask: Ask) -> bool
-    ensures { result ≡ is_no ask }
-{
-    match ask {
-        Ask::No => true,
-        Ask::Unforced | Ask::Forced => false,
     }
 }

@@ -7,7 +7,7 @@ ghost use Rattle.indicatif_bar.specs.Machines.{target_of};
 ghost use Rattle.indicatif_board.specs.Boards.{BoardState, Insert, Refused};
 ghost use Rattle.indicatif_board.specs.Calls.{call_of, answer_of, entrant_of, place_at, given, removal};
 ghost use Rattle.indicatif_board.specs.Multi.{IsIn, LeadsBy, known, terminal_of};
-ghost use Rattle.indicatif_board.specs.Recorded.{IsOneRun, Grows, target_by, step_of, handed_back, bar_in, turned_back, removed_back};
+ghost use Rattle.indicatif_board.specs.Recorded.{IsOneRun, AddsCall, target_by, step_of, handed_back, bar_in, turned_back, removed_back};
 ghost use Rattle.indicatif_board.specs.declared.calls.Answer.{Answer};
 ghost use Rattle.indicatif_text.specs.declared.refusal.Refusal.{Refusal};
 
@@ -105,7 +105,7 @@ impl<K: ProgressTracker, T: TermLike + Drop> Recorded<K, T> {
     /// Refused: what the call is refused; and `Memory` where the history finds no room: then the call isn't made, nothing has
     /// changed and nothing is kept.
     pub fn apply(&mut self, call: Call<K>, now: Moment) -> (Answer, Option<BarState<K>>)
-        ensures grows { Grows K.means T.view self.old (call_of call) now (answer_of result.0) self.new
+        ensures grows { AddsCall K.means T.view self.old (call_of call) now (answer_of result.0) self.new
             ⊎ ((self.new ≡ self.old) × (result.0 ≡ Answer.Refused Refusal.Memory)) }
         ensures back { (s : BoardState (BarRecord K)) (other : BarRecord K) → IsIn self.old.mark self.old.board s →
             result.1 ≡ handed_back (call_of call) (answer_of result.0) other s.members }

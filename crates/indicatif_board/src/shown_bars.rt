@@ -7,11 +7,11 @@ ghost use Rattle.indicatif_bar.specs.Commands.{BarRecord};
 ghost use Rattle.indicatif_bar.specs.Machines.{Target, is_no, target_of};
 ghost use Rattle.indicatif_bar.specs.Kinds.{asked_of};
 ghost use Rattle.indicatif_bar.specs.Runs.{wrote};
-ghost use Rattle.indicatif_bar.specs.Shown.{DrewBy};
+ghost use Rattle.indicatif_bar.specs.Shown.{PutsFrame, DrewBy};
 ghost use Rattle.indicatif_board.specs.BoardBars.{board_bars};
 ghost use Rattle.indicatif_board.specs.Boards.{BoardState, Location, opening_board, draw_of, index_of, taken_in, marked_on, board};
 ghost use Rattle.indicatif_board.specs.Members.{place_of, without, is_head, said_of};
-ghost use Rattle.indicatif_board.specs.Inside.Keeps.{PutsFrame, HasPlace, laid_by, lays_by};
+ghost use Rattle.indicatif_board.specs.Inside.Keeps.{HasPlace, laid_by, lays_by};
 ghost use Rattle.indicatif_board.specs.Inside.Writings.{writing_by};
 
 use crate::members::{Member, drop_front, leading, place, put_at};
@@ -26,7 +26,7 @@ use std::mem::replace;
 
 /// What a draw writes.
 #[derive(Clone, Copy)]
-pub enum Writing<'a> {
+pub enum BoardWriting<'a> {
     /// The bars' lines.
     Frame,
     /// A text, which stays, and the bars' lines below it.
@@ -138,7 +138,7 @@ impl<K: ProgressTracker> ShownBars<K> {
         engine: &mut Engine<T>,
         ask: Ask,
         bar: Option<usize>,
-        writing: Writing<'_>,
+        writing: BoardWriting<'_>,
         now: Moment,
     ) -> Result<Drawn, Refusal>
         requires placed { IfSome bar (λ at. at < vec_len self.old.members) }
@@ -196,7 +196,7 @@ impl<K: ProgressTracker> ShownBars<K> {
     fn write<T: TermLike + Drop>(
         &mut self,
         engine: &mut Engine<T>,
-        writing: Writing<'_>,
+        writing: BoardWriting<'_>,
     ) -> Result<Drawn, Refusal>
         ensures silent { IsFalse (wrote result) → engine.new ≡ engine.old }
         ensures drew { (mark now : ℕ) (takes lays : Bool) (ask : Ask) (s laid : BoardState (BarRecord K)) → is_no ask ≡ false →
@@ -237,14 +237,14 @@ fn put<T: TermLike + Drop>(
     frame: &[Segment],
     gone: usize,
     alignment: MultiProgressAlignment,
-    writing: Writing<'_>,
+    writing: BoardWriting<'_>,
 ) -> Result<(), Refusal>
     requires { gone ≤ length frame.now }
     ensures { PutsFrame T.view (writing_by writing.entry) (is_bottom alignment) gone (map bar_lines frame.now) engine.old engine.new result }
 {
     match writing {
-        Writing::Frame => engine.draw(frame, gone, alignment),
-        Writing::TextAndFrame(text) => engine.log(text, &frame[gone..], alignment),
-        Writing::NoFrame => engine.clear(),
+        BoardWriting::Frame => engine.draw(frame, gone, alignment),
+        BoardWriting::TextAndFrame(text) => engine.log(text, &frame[gone..], alignment),
+        BoardWriting::NoFrame => engine.clear(),
     }
 }

@@ -10,7 +10,7 @@ use Rattle.std.proofs.lemmas.Fmt.{decimal_by_steps}
 use Rattle.std.proofs.lemmas.Str.{encode_ascii}
 use Rattle.indicatif_text.specs.Columns.{Cell, visible, glyphs_of, pieces_of, row_of, rows_of, blank_row, is_parameter, columns_of_last}
 use Rattle.indicatif_term.specs.Screen.{Screen, Op, Put, Return, LineFeed, Up, EmptyRow, performed, performed_all}
-use Rattle.indicatif_term.specs.Terminal.{Plain, Sequence, Reader, idle, ops_of, reader_after, after, is_digit, number_with, GREATEST, sequence_ops}
+use Rattle.indicatif_term.specs.Terminal.{OutsideSequence, Sequence, Reader, idle, ops_of, reader_after, after, is_digit, number_with, GREATEST, sequence_ops}
 use Rattle.indicatif_term.specs.Calls.{clear_bytes, move_bytes}
 use Rattle.indicatif_term.specs.Shows.{resting}
 use Rattle.indicatif_term.proofs.CursorRowLemmas.{screen_at, screen_after, resting_below, IsShowable, IsText}
@@ -24,15 +24,15 @@ pub record Asks (bytes : List ℕ) (ops : List Op) : Type 0 where
   pub asked : ops_of idle bytes ≡ ops
   pub reader : reader_after idle bytes ≡ idle
 
-pub asks_chars : (cs : List ℕ) (ops : List Op) → scalars cs ≡ true → char_list_ops Plain cs ≡ ops → place_after Plain cs ≡ Plain → Asks (encodes cs) ops
+pub asks_chars : (cs : List ℕ) (ops : List Op) → scalars cs ≡ true → char_list_ops OutsideSequence cs ≡ ops → place_after OutsideSequence cs ≡ OutsideSequence → Asks (encodes cs) ops
 asks_chars cs ops s e₁ e₂ =
-    let c = chars_read Plain cs s in
+    let c = chars_read OutsideSequence cs s in
     record { asked = c.0 ∙ e₁; reader = c.1 ∙ ap (λ place. let r : Reader = record { place = place; spelling = [] } in r) e₂ }
 
 pub text_asks : (w : ℕ) (line : List ℕ) → IsText w line → Asks (encodes line) (map (λ c. Put c) (visible line))
 unfolding visible
 text_asks w line is =
-    let p : AsksToPut Plain line (visible line) = (reads line).plain
+    let p : AsksToPut OutsideSequence line (visible line) = (reads line).plain
     (recursion_from_All IsShown (visible line) (All-weaker (IsShowable w) IsShown (λ c h. h.shown_rows) (visible line) is.printable)) in
     asks_chars line (map (λ c. Put c) (visible line)) is.scalars p.ops p.after
 
@@ -95,7 +95,7 @@ digits_encodes (d ∷ ds) all = rw (encode_ascii d (omega (arith, all.0))) (ap (
 
 record IsMove (number : Option ℕ) (ds : List ℕ) : Type 0 where
   ops : char_list_ops (Sequence number) (ds ++ 0x41 ∷ []) ≡ sequence_ops (number_after number ds) 0x41 ++ []
-  place : place_after (Sequence number) (ds ++ 0x41 ∷ []) ≡ Plain
+  place : place_after (Sequence number) (ds ++ 0x41 ∷ []) ≡ OutsideSequence
 
 digits_read : (number : Option ℕ) (ds : List ℕ) → AllByRecursion IsDigit ds → IsMove number ds
 digits_read number [] all = record { ops = refl; place = refl }

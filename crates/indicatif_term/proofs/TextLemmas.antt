@@ -6,7 +6,7 @@ use Rattle.std.proofs.lemmas.Bool.{cases_Bool, eqb-true, and_parts, false≢true
 use Rattle.unicode_width.specs.Width.{char_width}
 use Rattle.indicatif_text.specs.Columns.{is_parameter, parameters_length, colour_length, visible_from}
 use Rattle.indicatif_term.specs.Screen.{Put}
-use Rattle.indicatif_term.specs.Terminal.{Place, Plain, Sequence, plain_ops, plain_place, sequence_ops, number_with}
+use Rattle.indicatif_term.specs.Terminal.{Place, OutsideSequence, Sequence, plain_ops, plain_place, sequence_ops, number_with}
 use Rattle.indicatif_term.proofs.ReaderLemmas.{char_list_ops, place_after}
 
 -- a character that a terminal shows
@@ -19,7 +19,7 @@ not_control c d shown_rows hidden =
 
 pub record IsPut (c : ℕ) : Type 0 where
   ops : plain_ops c ≡ Put c ∷ []
-  place : plain_place c ≡ Plain
+  place : plain_place c ≡ OutsideSequence
 
 pub is_put : (c : ℕ) → IsShown c → IsPut c
 unfolding char_width
@@ -31,7 +31,7 @@ is_put c shown_rows = record {
 -- what characters ask for, if they end outside a sequence: these are put
 pub record AsksToPut (place : Place) (text shown_rows : List ℕ) : Type 0 where
   pub ops : char_list_ops place text ≡ map (λ c. Put c) shown_rows
-  pub after : place_after place text ≡ Plain
+  pub after : place_after place text ≡ OutsideSequence
 
 -- the last character of a colour sequence asks for nothing
 colour_end : (n : Option ℕ) → sequence_ops n 0x6D ≡ []
@@ -45,10 +45,10 @@ pub none_some : {n : ℕ} → None ≡ Some n → ⊥
 none_some e = cc
 
 pub record Reads (text : List ℕ) : Type 0 where
-  pub plain : AllByRecursion IsShown (visible_from 0 text) → AsksToPut Plain text (visible_from 0 text)
+  pub plain : AllByRecursion IsShown (visible_from 0 text) → AsksToPut OutsideSequence text (visible_from 0 text)
   pub inside : (number : Option ℕ) (n : ℕ) → parameters_length text ≡ Some n → AllByRecursion IsShown (visible_from n text) → AsksToPut (Sequence number) text (visible_from n text)
 
-put_more : (c : ℕ) (cs shown_rows : List ℕ) → IsShown c → AsksToPut Plain cs shown_rows → AsksToPut Plain (c ∷ cs) (c ∷ shown_rows)
+put_more : (c : ℕ) (cs shown_rows : List ℕ) → IsShown c → AsksToPut OutsideSequence cs shown_rows → AsksToPut OutsideSequence (c ∷ cs) (c ∷ shown_rows)
 put_more c cs shown_rows h rest =
     let p : IsPut c = is_put c h in
     record { ops = rw (p.ops, p.place) (ap (λ ops. Put c ∷ ops) rest.ops); after = rw p.place rest.after }
@@ -67,7 +67,7 @@ inside_more c cs rest number n e all = elim (cases_Bool (eqb c 0x6D)) [
   | inl holds ↦
       let one : 1 ≡ n = some_same (rw holds at e) in
       let is : c ≡ 0x6D = eqb-true c 0x6D holds in
-      let after : AsksToPut Plain cs (visible_from 0 cs) = rest.plain (subst (λ k. AllByRecursion IsShown (visible_from k (c ∷ cs))) (sym one) all) in
+      let after : AsksToPut OutsideSequence cs (visible_from 0 cs) = rest.plain (subst (λ k. AllByRecursion IsShown (visible_from k (c ∷ cs))) (sym one) all) in
       subst (λ k. AsksToPut (Sequence number) (c ∷ cs) (visible_from k (c ∷ cs))) one
       (subst (λ d. AsksToPut (Sequence number) (d ∷ cs) (visible_from 0 cs)) (sym is)
       (record { ops = rw (colour_end number) after.ops; after = after.after }))
@@ -88,7 +88,7 @@ abbrev shown_by : Option ℕ → ℕ → List ℕ → List ℕ
 shown_by o c cs = if is_some o then visible_from (unwrap_or o 1 - 1) cs else c ∷ visible_from 0 cs
 
 plain_more : (c d : ℕ) (ds : List ℕ) → Reads (d ∷ ds) → Reads ds → (o : Option ℕ) → colour_length (c ∷ d ∷ ds) ≡ o →
-    AllByRecursion IsShown (shown_by o c (d ∷ ds)) → AsksToPut Plain (c ∷ d ∷ ds) (shown_by o c (d ∷ ds))
+    AllByRecursion IsShown (shown_by o c (d ∷ ds)) → AsksToPut OutsideSequence (c ∷ d ∷ ds) (shown_by o c (d ∷ ds))
 plain_more c d ds next rest None e all = put_more c (d ∷ ds) (visible_from 0 (d ∷ ds)) all.0 (next.plain all.1)
 plain_more c d ds next rest (Some n) e all = elim (cases_Bool (eqb c 0x1B && eqb d 0x5B)) [
   | inl holds ↦
@@ -97,9 +97,9 @@ plain_more c d ds next rest (Some n) e all = elim (cases_Bool (eqb c 0x1B && eqb
       let more : suc m.0 ≡ n - 1 = omega (arith, m.2) in
       let after : AsksToPut (Sequence (Some 0)) ds (visible_from m.0 ds) =
       rest.inside (Some 0) m.0 m.1 (subst (λ k. AllByRecursion IsShown (visible_from k (d ∷ ds))) (sym more) all) in
-      subst (λ k. AsksToPut Plain (c ∷ d ∷ ds) (visible_from k (d ∷ ds))) more
-      (subst (λ x. AsksToPut Plain (x ∷ d ∷ ds) (visible_from m.0 ds)) (sym (eqb-true c 0x1B is.0))
-      (subst (λ x. AsksToPut Plain (0x1B ∷ x ∷ ds) (visible_from m.0 ds)) (sym (eqb-true d 0x5B is.1))
+      subst (λ k. AsksToPut OutsideSequence (c ∷ d ∷ ds) (visible_from k (d ∷ ds))) more
+      (subst (λ x. AsksToPut OutsideSequence (x ∷ d ∷ ds) (visible_from m.0 ds)) (sym (eqb-true c 0x1B is.0))
+      (subst (λ x. AsksToPut OutsideSequence (0x1B ∷ x ∷ ds) (visible_from m.0 ds)) (sym (eqb-true d 0x5B is.1))
       (record { ops = after.ops; after = after.after })))
   | inr fails ↦ absurd (none_some (rw fails at e))
 ]

@@ -5,7 +5,7 @@ use Rattle.std.proofs.Math.Seq.{take-add}
 use Rattle.std.proofs.lemmas.List.{take_all}
 use Rattle.std.proofs.lemmas.Bool.{and_parts, ne_eqb, le-ltb, lt-ltb}
 use Rattle.indicatif_term.specs.Screen.{Screen, Put, performed, performed_all}
-use Rattle.indicatif_term.specs.Terminal.{Plain, Reader, Terminal, idle, plain_ops, plain_place, after}
+use Rattle.indicatif_term.specs.Terminal.{OutsideSequence, Reader, Terminal, idle, plain_ops, plain_place, after}
 use Rattle.indicatif_term.specs.Inside.Scanners.{IsWholeChar}
 use Rattle.indicatif_term.proofs.FeedLemmas.{after-append, same_terminal}
 use Rattle.indicatif_term.proofs.ReaderLemmas.{Spells, char_read}
@@ -34,7 +34,7 @@ whole_of_three c f s t is e f₁ f₂ s₁ s₂ t₁ t₂ = record {
 }
 
 -- what a character asks for that is no control character of ASCII
-asked : (c : ℕ) → 0x20 ≤ c → (plain_ops c ≡ Put c ∷ []) × (plain_place c ≡ Plain)
+asked : (c : ℕ) → 0x20 ≤ c → (plain_ops c ≡ Put c ∷ []) × (plain_place c ≡ OutsideSequence)
 asked c h =
     let escape : eqb c 0x1B ≡ false = ne_eqb c 0x1B (λ e. omega arith) in
     let return : eqb c 0x0D ≡ false = ne_eqb c 0x0D (λ e. omega arith) in

@@ -6,7 +6,7 @@ use Rattle.std.specs.Io.KnownBytes.{Appends, Keeps}
 use Rattle.std.proofs.lemmas.Bool.{false≢true}
 use Rattle.std.proofs.lemmas.List.{take_rest}
 use Rattle.indicatif_term.specs.Calls.{Bytes, is_told, led_on, TermView, Writes}
-use Rattle.indicatif_term.specs.Writers.{Behind, told_by, view_behind, AppendsAllOrFront}
+use Rattle.indicatif_term.specs.Writers.{WriterTerm, told_by, view_behind, AppendsAllOrFront}
 
 -- ---- what a writer holds
 
@@ -60,7 +60,7 @@ module _ {W : Type 0} (contents : W → Option (List ℕ)) (w w' : W) (columns r
     faults_are = refl;
   }
 
-  pub sent : {E : Type 0} (old new : Behind W) (done r : Result Unit E) → record { writer = w; columns = columns; rows = rows; faults = faults } ≡ old
+  pub sent : {E : Type 0} (old new : WriterTerm W) (done r : Result Unit E) → record { writer = w; columns = columns; rows = rows; faults = faults } ≡ old
       → new ≡ record { writer = w'; columns = columns; rows = rows; faults = if is_err done then (faults + 1) % 2 ^ 64 else faults }
       → AppendsAllOrFront (contents w) (contents w') bytes done → r ≡ done → Writes bytes (view_behind contents old) (view_behind contents new) r
   sent old new done r at to p same =

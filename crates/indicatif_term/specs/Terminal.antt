@@ -8,7 +8,7 @@ use Rattle.indicatif_term.specs.Screen.{Screen, Op, Put, Return, LineFeed, Up, D
 
 -- where in an escape sequence the next character stands
 pub data Place : Type 0 where
-  Plain : Place
+  OutsideSequence : Place
   -- after ESC
   Escaped : Place
   -- after ESC [ and the digits of this number, which is 0 before the first; None after a semicolon
@@ -48,19 +48,19 @@ plain_ops c = if c == 0x1B then [] else if c == 0x0D then Return ∷ [] else if 
 
 -- where the character after one outside a sequence stands
 abbrev pub plain_place : ℕ → Place
-plain_place c = if c == 0x1B then Escaped else Plain
+plain_place c = if c == 0x1B then Escaped else OutsideSequence
 
 -- the same at any place
 abbrev pub char_ops : Place → ℕ → List Op
-char_ops Plain c = plain_ops c
+char_ops OutsideSequence c = plain_ops c
 char_ops Escaped c = if c == 0x5B then [] else plain_ops c
 char_ops (Sequence number) c = if is_parameter c then [] else sequence_ops number c
 
 -- where the character after one at any place stands
 abbrev pub char_place : Place → ℕ → Place
-char_place Plain c = plain_place c
+char_place OutsideSequence c = plain_place c
 char_place Escaped c = if c == 0x5B then Sequence (Some 0) else plain_place c
-char_place (Sequence number) c = if is_parameter c then Sequence (number_with number c) else Plain
+char_place (Sequence number) c = if is_parameter c then Sequence (number_with number c) else OutsideSequence
 
 -- ---- bytes
 
@@ -72,7 +72,7 @@ pub record Reader : Type 0 where
 
 -- between two characters, outside a sequence
 abbrev pub idle : Reader
-idle = record { place = Plain; spelling = [] }
+idle = record { place = OutsideSequence; spelling = [] }
 
 -- whether a byte can begin a character
 abbrev pub is_leading : ℕ → Bool

@@ -4,7 +4,7 @@ use Rattle.std.specs.Io.KnownBytes.{Appends}
 use Rattle.indicatif_term.specs.Calls.{Told, Bytes, Nothing, TermView}
 
 -- the writer, its terminal's size, and how often a call has failed, modulo 2^64
-pub record Behind (W : Type 0) : Type 0 where
+pub record WriterTerm (W : Type 0) : Type 0 where
   pub writer : W
   pub columns : ℕ
   pub rows : ℕ
@@ -16,7 +16,7 @@ told_by None = Nothing
 told_by (Some bytes) = Bytes bytes
 
 -- what contracts see of a terminal behind a writer
-abbrev pub view_behind : {W : Type 0} → (W → Option (List ℕ)) → Behind W → TermView
+abbrev pub view_behind : {W : Type 0} → (W → Option (List ℕ)) → WriterTerm W → TermView
 view_behind contents t = record { told = told_by (contents t.writer); columns = t.columns; rows = t.rows; faults = t.faults }
 
 -- a beginning of these bytes was appended

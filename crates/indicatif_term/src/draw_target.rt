@@ -4,7 +4,7 @@
 //! *kept*, of bars that are gone; and the *live* ones, of the last frame. An engine remembers their counts and no text, so
 //! what it needs does not grow with what is logged. It takes kept and live rows back from the last one up, and writes the
 //! new ones in their place, so that the rows above stand at every moment.
-ghost use Rattle.std.specs.Prelude.{◌≡◌, ◌≢◌, map, length, replicate, ◌<◌, ◌≤◌, IfErr, IsTrue, IsFalse, ◌++◌, [], ℕ};
+ghost use Rattle.std.specs.Prelude.{◌≡◌, ◌≢◌, map, length, replicate, ◌<◌, ◌≤◌, IfErr, IfSome, option_map, IsTrue, IsFalse, ◌++◌, [], ℕ};
 ghost use Rattle.indicatif_term.specs.Lists.{opening_lists};
 
 pub use crate::counts::Keep;
@@ -83,6 +83,7 @@ impl<T: TermLike + Drop> Engine<T> {
     ghost use Rattle.indicatif_term.specs.Shows.{IsOpening, Rests, resting};
     ghost use Rattle.indicatif_term.specs.Screen.{Screen};
     ghost use Rattle.indicatif_term.specs.Terminal.{Terminal};
+    ghost use Rattle.indicatif_term.specs.Targets.{term_of, limiter_of};
 
     /// An engine that has drawn nothing yet. It takes no memory and writes nothing.
     pub fn new(alloc: Global, term: T) -> Self
@@ -97,6 +98,26 @@ impl<T: TermLike + Drop> Engine<T> {
             counts: Counts::new(alloc),
             spare: SpareCounts::new(alloc),
             failed: false,
+        }
+    }
+
+    /// An engine on this target's terminal, none where the target is hidden; and the target's limiter. It takes no memory and
+    /// writes nothing.
+    ///
+    /// ```
+    /// let (engine, limiter) = Engine::opened_on(alloc, ProgressDrawTarget::term_like(term)); // an engine, and no limiter
+    /// ```
+    pub fn opened_on(
+        alloc: Global,
+        target: ProgressDrawTarget<T>,
+    ) -> (Option<Self>, Option<RateLimiter>)
+        ensures terminal { option_map engine_term result.0 ≡ term_of target }
+        ensures opened { IfSome result.0 (λ engine. Fits engine opening_lists) }
+        ensures limiter { result.1 ≡ limiter_of target }
+    {
+        match target.into_parts() {
+            Some((term, limiter)) => (Some(Engine::new(alloc, term)), limiter),
+            None => (None, None),
         }
     }
 

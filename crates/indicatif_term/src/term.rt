@@ -2,7 +2,7 @@
 ghost use Rattle.std.specs.Prelude.{◌≡◌, ◌+◌, ◌%◌, ◌^◌, if◌then◌else◌, IsOk};
 ghost use Rattle.std.specs.Result.{is_err};
 ghost use Rattle.indicatif_term.specs.Calls.{Writes, move_bytes, UP, DOWN, RIGHT, LEFT};
-ghost use Rattle.indicatif_term.specs.Writers.{Behind, view_behind, AppendsAllOrFront};
+ghost use Rattle.indicatif_term.specs.Writers.{WriterTerm, view_behind, AppendsAllOrFront};
 
 use crate::move_bytes::MoveBytes;
 use crate::term_like::TermLike;
@@ -28,9 +28,9 @@ pub struct Term<W: Write> {
 }
 
 impl<W: Write> Model for Term<W> {
-    ghost use Rattle.indicatif_term.specs.Writers.{Behind};
+    ghost use Rattle.indicatif_term.specs.Writers.{WriterTerm};
 
-    ghost Value = { Behind W };
+    ghost Value = { WriterTerm W };
 
     ghost view = { λ t. record { writer = t.writer; columns = t.columns; rows = t.rows; faults = t.faults } };
 }

@@ -10,7 +10,7 @@ use Rattle.std.proofs.lemmas.Bool.{ne_eqb, eq-eqb}
 use Rattle.std.proofs.lemmas.Str.{IsAscii-append}
 use Rattle.std.proofs.lemmas.Str.Ascii.{IsAscii-cons, IsAscii-nil}
 use Rattle.indicatif_text.specs.Format.{round, rounds_up, last_digits, without_trailing_zeros, after_point, human_count, human_float_count}
-use Rattle.indicatif_text.specs.Inside.Quotients.{below, left_over, raised}
+use Rattle.indicatif_text.specs.Inside.Quotients.{below, division_rest, raised}
 
 -- ---- one digit more
 
@@ -25,30 +25,30 @@ ten_more a b some =
     let split : a * 10 ≡ a / b * 10 * b + a % b * 10 = omega (arith, div-add-mod' a b, mul_right_comm (a / b) 10 b) in
     ap (λ x. x / b) split ∙ mul-add-div_right some (a / b * 10) (a % b * 10)
 
-pub below_next : (num den places : ℕ) → 0 < den → below num den (places + 1) ≡ below num den places * 10 + left_over num den places * 10 / den
-unfolding below left_over
+pub below_next : (num den places : ℕ) → 0 < den → below num den (places + 1) ≡ below num den places * 10 + division_rest num den places * 10 / den
+unfolding below division_rest
 below_next num den places some = ap (λ x. x / den) (tenfold num places) ∙ ten_more (num * 10 ^ places) den some
 
-pub left_next : (num den places : ℕ) → left_over num den (places + 1) ≡ left_over num den places * 10 % den
-unfolding left_over
+pub left_next : (num den places : ℕ) → division_rest num den (places + 1) ≡ division_rest num den places * 10 % den
+unfolding division_rest
 left_next num den places = ap (λ x. x % den) (tenfold num places) ∙ sym (mul-mod_first (num * 10 ^ places) 10 den)
 
 pub below_none : (num den : ℕ) → below num den 0 ≡ num / den
 unfolding below
 below_none num den = ap (λ x. x / den) (times_none num)
 
-pub left_none : (num den : ℕ) → left_over num den 0 ≡ num % den
-unfolding left_over
+pub left_none : (num den : ℕ) → division_rest num den 0 ≡ num % den
+unfolding division_rest
 left_none num den = ap (λ x. x % den) (times_none num)
 
 -- the quotient at so many decimals, by the digits
-pub round_below : (num den places : ℕ) (up : Bool) → up ≡ rounds_up (below num den places % 2 == 1) (left_over num den places) den
+pub round_below : (num den places : ℕ) (up : Bool) → up ≡ rounds_up (below num den places % 2 == 1) (division_rest num den places) den
     → round (num * 10 ^ places) den ≡ raised up (below num den places)
-unfolding round below left_over
+unfolding round below division_rest
 round_below num den places up e = sym (ap (λ t. raised t (num * 10 ^ places / den)) e)
 
 -- the same of what a loop over the digits holds at its end
-pub rounded_at : (num den places place rest : ℕ) (odd up : Bool) → place ≡ places → odd ≡ (below num den place % 2 == 1) → rest ≡ left_over num den place
+pub rounded_at : (num den places place rest : ℕ) (odd up : Bool) → place ≡ places → odd ≡ (below num den place % 2 == 1) → rest ≡ division_rest num den place
     → up ≡ rounds_up odd rest den → round (num * 10 ^ places) den ≡ raised up (below num den places)
 rounded_at num den places place rest odd up place_is odd_is rest_is up_is =
     round_below num den places up (rw (odd_is, rest_is, place_is) at up_is)

@@ -30,29 +30,29 @@ pub one : (old new : List ℕ) (c : ℕ) → new ≡ old ++ encode_utf8 c → Ap
 one old new c e = e ∙ ap (λ x. old ++ x) (sym (append-nil (encode_utf8 c)))
 
 -- of a whole text the front was appended, and this is left
-pub record Leaves (old out left whole : List ℕ) : Type 0 where
+pub record LeavesText (old out left whole : List ℕ) : Type 0 where
   pub front : List ℕ
   pub parts : whole ≡ front ++ left
   pub is : Appends old out front
 
-pub leaves_all : (old whole : List ℕ) → Leaves old old whole whole
+pub leaves_all : (old whole : List ℕ) → LeavesText old old whole whole
 leaves_all old whole = record { front = []; parts = refl; is = none old }
 
-pub leaves_less : (old out new more left rest whole : List ℕ) → Leaves old out left whole → left ≡ more ++ rest → Appends out new more → Leaves old new rest whole
+pub leaves_less : (old out new more left rest whole : List ℕ) → LeavesText old out left whole → left ≡ more ++ rest → Appends out new more → LeavesText old new rest whole
 leaves_less old out new more left rest whole l e a = record {
   front = l.front ++ more;
   parts = l.parts ∙ ap (λ x. l.front ++ x) e ∙ sym (append_assoc l.front more rest);
   is = both old out new l.front more l.is a;
 }
 
-pub leaves_same : (old out left rest whole : List ℕ) → Leaves old out left whole → left ≡ rest → Leaves old out rest whole
+pub leaves_same : (old out left rest whole : List ℕ) → LeavesText old out left whole → left ≡ rest → LeavesText old out rest whole
 leaves_same old out left rest whole l e = record { front = l.front; parts = l.parts ∙ ap (λ x. l.front ++ x) e; is = l.is }
 
-pub leaves_none : (old out left whole : List ℕ) → Leaves old out left whole → left ≡ [] → Appends old out whole
+pub leaves_none : (old out left whole : List ℕ) → LeavesText old out left whole → left ≡ [] → Appends old out whole
 leaves_none old out left whole l e = subst (Appends old out) (sym (l.parts ∙ ap (λ x. l.front ++ x) e ∙ append-nil l.front)) l.is
 
 -- so far it has grown, and then it grew by what the last call left
-pub leaves_grown : (old out left whole new : List ℕ) → Leaves old out left whole → Grows out new → Grows old new
+pub leaves_grown : (old out left whole new : List ℕ) → LeavesText old out left whole → Grows out new → Grows old new
 leaves_grown old out left whole new l g = (l.front ++ g.0, both old out new l.front g.0 l.is g.1)
 
 -- what it was before begins a character, or is all

@@ -83,24 +83,25 @@ coloured_front n cs after s =
     ∙ ap (λ x. Colour (take n cs) ∷ pieces_of_text x) (drop-append-le n cs after (sequence_fits s))
 
 -- what is told of the pieces of a text with another behind it is told of pieces, and of the other's
-abbrev Joins : {X : Type 0} → (TextPiece → List X) → List ℕ → List ℕ → List TextPiece → Type 0
-Joins tell after cs ps = flat_map tell (pieces_of_text (cs ++ after)) ≡ flat_map tell ps ++ flat_map tell (pieces_of_text after)
+abbrev JoinsPieces : {X : Type 0} → (TextPiece → List X) → List ℕ → List ℕ → List TextPiece → Type 0
+JoinsPieces tell after cs ps = flat_map tell (pieces_of_text (cs ++ after)) ≡ flat_map tell ps ++ flat_map tell (pieces_of_text after)
 
 -- what is told of each piece, told of pieces: of a character that joins a run, by itself
 module _ {X : Type 0} (tell : TextPiece → List X) (one : ℕ → List X) (joins : (c : ℕ) (ps : List TextPiece) → flat_map tell (joined_to c ps) ≡ one c ++ flat_map tell ps) where
-  joins_character : (after : List ℕ) (c : ℕ) (cs : List ℕ) (ps : List TextPiece) → colour_length (c ∷ cs ++ after) ≡ None → Joins tell after cs ps → Joins tell after (c ∷ cs) (joined_to c ps)
+  joins_character : (after : List ℕ) (c : ℕ) (cs : List ℕ) (ps : List TextPiece) → colour_length (c ∷ cs ++ after) ≡ None →
+      JoinsPieces tell after cs ps → JoinsPieces tell after (c ∷ cs) (joined_to c ps)
   joins_character after c cs ps none e =
       ap (flat_map tell) (first_joined c (cs ++ after) none) ∙ joins c (pieces_of_text (cs ++ after)) ∙ ap (λ x. one c ++ x) e
       ∙ sym (append_assoc (one c) (flat_map tell ps) (flat_map tell (pieces_of_text after)))
       ∙ ap (λ x. x ++ flat_map tell (pieces_of_text after)) (sym (joins c ps))
 
-  joins_sequence : (after : List ℕ) (n : ℕ) (cs : List ℕ) (ps : List TextPiece) → Sequence cs n → Joins tell after (drop n cs) ps → Joins tell after cs (Colour (take n cs) ∷ ps)
+  joins_sequence : (after : List ℕ) (n : ℕ) (cs : List ℕ) (ps : List TextPiece) → Sequence cs n → JoinsPieces tell after (drop n cs) ps → JoinsPieces tell after cs (Colour (take n cs) ∷ ps)
   joins_sequence after n cs ps s e =
       ap (flat_map tell) (coloured_front n cs after s) ∙ ap (λ x. tell (Colour (take n cs)) ++ x) e
       ∙ sym (append_assoc (tell (Colour (take n cs))) (flat_map tell ps) (flat_map tell (pieces_of_text after)))
 
-  joins_apart : (text after : List ℕ) → is_apart after ≡ true → Joins tell after text (pieces_of_text text)
-  joins_apart text after a = by_pieces (Joins tell after) refl (λ c cs ps none e. joins_character after c cs ps (unopened c cs after a none) e)
+  joins_apart : (text after : List ℕ) → is_apart after ≡ true → JoinsPieces tell after text (pieces_of_text text)
+  joins_apart text after a = by_pieces (JoinsPieces tell after) refl (λ c cs ps none e. joins_character after c cs ps (unopened c cs after a none) e)
       (λ n cs ps s e. joins_sequence after n cs ps s e) text
 
 run_joins : (c : ℕ) (ps : List TextPiece) → flat_map run_text (joined_to c ps) ≡ (c ∷ []) ++ flat_map run_text ps
@@ -143,14 +144,14 @@ both_true : (a b : Bool) → (a && b) ≡ true → (a ≡ true) × (b ≡ true)
 both_true true b e = (refl, e)
 both_true false b e = absurd (cc e)
 
-plain_joins : (after : List ℕ) (c : ℕ) (cs : List ℕ) (ps : List TextPiece) → (list_all has_width (flat_map run_text ps) ≡ true → Joins run_text after cs ps)
-    → list_all has_width (flat_map run_text (joined_to c ps)) ≡ true → Joins run_text after (c ∷ cs) (joined_to c ps)
+plain_joins : (after : List ℕ) (c : ℕ) (cs : List ℕ) (ps : List TextPiece) → (list_all has_width (flat_map run_text ps) ≡ true → JoinsPieces run_text after cs ps)
+    → list_all has_width (flat_map run_text (joined_to c ps)) ≡ true → JoinsPieces run_text after (c ∷ cs) (joined_to c ps)
 plain_joins after c cs ps rest e =
     let all = both_true (has_width c) (list_all has_width (flat_map run_text ps)) (ap (list_all has_width) (sym (run_joins c ps)) ∙ e) in
     joins_character run_text (λ c. c ∷ []) run_joins after c cs ps (no_sequence c (cs ++ after) (no_escape c all.0)) (rest all.1)
 
-joins_plain : (text after : List ℕ) → list_all has_width (flat_map run_text (pieces_of_text text)) ≡ true → Joins run_text after text (pieces_of_text text)
-joins_plain text after = by_pieces (λ cs ps. list_all has_width (flat_map run_text ps) ≡ true → Joins run_text after cs ps) (λ _. refl)
+joins_plain : (text after : List ℕ) → list_all has_width (flat_map run_text (pieces_of_text text)) ≡ true → JoinsPieces run_text after text (pieces_of_text text)
+joins_plain text after = by_pieces (λ cs ps. list_all has_width (flat_map run_text ps) ≡ true → JoinsPieces run_text after cs ps) (λ _. refl)
     (λ c cs ps none rest e. plain_joins after c cs ps rest e) (λ n cs ps s rest e. joins_sequence run_text (λ c. c ∷ []) run_joins after n cs ps s (rest e)) text
 
 pub plain_texts_join : PlainTextsJoin

@@ -18,7 +18,7 @@ use Rattle.indicatif_bar.specs.Trackers.{Tracking}
 use Rattle.indicatif_bar.specs.Commands.{BarRecord}
 use Rattle.indicatif_bar.specs.Machines.{Target, Machine, Draws, Leads, drawn_by}
 use Rattle.indicatif_bar.specs.Runs.{Runs, AllPlain, Headline, broke}
-use Rattle.indicatif_bar.specs.Lone.{LoneState, Log, draw_by}
+use Rattle.indicatif_bar.specs.Lone.{LoneState, Log, draw_of_call}
 use Rattle.indicatif_bar.specs.Bars.{bar_kind}
 use Rattle.indicatif_bar.specs.LoneBars.{lone_bar}
 use Rattle.uses.specs.Readings.{BeginAs}
@@ -35,10 +35,10 @@ logged_front w h bottom text frame l = (_, refl)
 module _ {K : Type 0} (m : Tracking K) where
   -- a log that was answered well was written
   pub log_written : (target : Target) (text : List ℕ) (now : ℕ) (s next : LoneState (BarRecord K)) (drawn : Drawn) → target.hidden ≡ false → s.limiter ≡ None →
-      Leads (lone_bar m) target s (Draws (draw_by (bar_kind m) target (Log text) now s) (λ x. x) (λ x. x)) (Ok drawn) next → next ≡ (draw_by (bar_kind m) target (Log text) now s).written
+      Leads (lone_bar m) target s (Draws (draw_of_call (bar_kind m) target (Log text) now s) (λ x. x) (λ x. x)) (Ok drawn) next → next ≡ (draw_of_call (bar_kind m) target (Log text) now s).written
   unfolding drawn_by
   log_written target text now s next drawn shown free (inl made) =
-      let d = draw_by (bar_kind m) target (Log text) now s in
+      let d = draw_of_call (bar_kind m) target (Log text) now s in
       let P = λ (o : Result Drawn Refusal × LoneState (BarRecord K)). (Ok drawn, next) ≡ o → next ≡ d.written in
       cond_both target.hidden (Ok Hidden, d.after_command) _ P (λ a. absurd (cc (a, shown)))
       (λ a. cond_both (target.columns == 0) (Err NoColumns, d.after_command) _ P (λ b. λ e. absurd (let q = ap (λ o. o.0) e in cc))
@@ -47,7 +47,8 @@ module _ {K : Type 0} (m : Tracking K) where
   log_written target text now s next drawn shown free (inr (inr broken)) = absurd (let q = broken.1 in cc)
 
 -- texts of rows of which these stand first
-pub texts_begin : (opening front : List (List Cell)) (w : ℕ) (l : Lists) (blank : ℕ) (texts : List (List ℕ)) → Front front l.above → texts ≡ map row_text (opening ++ all_rows w l) ++ replicate blank [] →
+pub texts_begin : (opening front : List (List Cell)) (w : ℕ) (l : Lists) (blank : ℕ) (texts : List (List ℕ)) → Front front l.above →
+    texts ≡ map row_text (opening ++ all_rows w l) ++ replicate blank [] →
     BeginAs texts (opening ++ front)
 texts_begin opening front w l blank texts first read =
     let live = live_rows w l.live in

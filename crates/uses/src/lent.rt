@@ -1,6 +1,6 @@
 //! What is known of a bar that was lent, by one who doesn't know how it was used before.
 ghost use Rattle.std.specs.Prelude.{◌≡◌, ◌⊎◌, ◌+◌, ◌%◌, ◌^◌, None, IfOk, IsFalse, vec_len};
-ghost use Rattle.indicatif_bar.specs.LoneBars.{record_of, terminal_of};
+ghost use Rattle.indicatif_bar.specs.LoneBars.{record_of, lone_terminal};
 
 use indicatif_bar::lone::{LoneBar, LoneCall};
 use indicatif_bar::style::ProgressTracker;
@@ -35,7 +35,7 @@ pub fn may_have_logged<K: ProgressTracker, T: TermLike + Drop>(
     now: Moment,
 ) -> bool
     ensures record { record_of bar.new ≡ record_of bar.old }
-    ensures untouched { IsFalse result → terminal_of bar.new ≡ terminal_of bar.old }
+    ensures untouched { IsFalse result → lone_terminal bar.new ≡ lone_terminal bar.old }
 {
     match bar.println(text, now) {
         Ok(Drawn::Yes) | Err(Refusal::Terminal(_)) => true,
@@ -49,7 +49,7 @@ pub fn play<K: ProgressTracker, T: TermLike + Drop>(
     calls: Vec<(LoneCall<K>, Moment)>,
 ) -> Result<usize, Refusal>
     ensures count { IfOk result (λ n. n ≡ vec_len calls) }
-    ensures hidden { terminal_of bar.old ≡ None → terminal_of bar.new ≡ None }
+    ensures hidden { lone_terminal bar.old ≡ None → lone_terminal bar.new ≡ None }
 {
     let answers = bar.run(calls)?;
     Ok(answers.len())

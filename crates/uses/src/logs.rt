@@ -10,7 +10,7 @@ ghost use Rattle.indicatif_term.specs.Frames.{text_lines, logged_lines};
 ghost use Rattle.indicatif_bar.specs.Commands.{BarRecord};
 ghost use Rattle.indicatif_bar.specs.Runs.{Runs, AllPlain};
 ghost use Rattle.indicatif_bar.specs.Lone.{LoneState, Log, opening_state};
-ghost use Rattle.indicatif_bar.specs.LoneBars.{lone_bar, timed};
+ghost use Rattle.indicatif_bar.specs.LoneBars.{lone_bar, lone_timed};
 ghost use Rattle.uses.specs.Readings.{BeginAs, StartsAt};
 
 use crate::runs::unbroken;
@@ -34,7 +34,7 @@ pub fn log_stands<K: ProgressTracker>(
     calls: Vec<(LoneCall<K>, Moment)>,
 ) -> Result<Vec<String>, Refusal>
     ensures { (opening : Screen) → StartsAt term.terminal opening →
-        IfOk result (λ texts. let start = opening_state bar None in let made = (Log line.now, 0) ∷ map timed calls.items in
+        IfOk result (λ texts. let start = opening_state bar None in let made = (Log line.now, 0) ∷ map lone_timed calls.items in
         (answers : List (Result Answered Refused)) × (after : Option TermView) × (next : LoneState (BarRecord K))
         × (run : Runs (lone_bar K.means) made answers (Some (view_of term)) start after next)
         × (AllPlain (lone_bar K.means) made answers (Some (view_of term)) start after next run →

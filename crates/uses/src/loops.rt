@@ -8,8 +8,8 @@ use std::vec::IntoIter;
 /// Passes over so many items of a list, and answers whether there were as many: then a bar that tells where it stands has gone on
 /// by their number.
 pub fn skip<T: Drop, P: Moves>(list: &mut ProgressBarIter<IntoIter<T>, P>, count: u64) -> bool
-    ensures { IsTrue result → IfSome (P.told list.old.progress) (λ bar. bar.position < 2 ^ 64 →
-        P.told list.new.progress ≡ Some (after_bar_move bar (Advance count))) }
+    ensures { IsTrue result → IfSome (P.stands list.old.progress) (λ bar. bar.position < 2 ^ 64 →
+        P.stands list.new.progress ≡ Some (after_bar_move bar (Advance count))) }
 {
     for _ in 0..count {
         if list.next().is_none() {

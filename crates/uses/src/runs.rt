@@ -11,7 +11,7 @@ ghost use Rattle.indicatif_term.specs.Lists.{all_rows};
 ghost use Rattle.indicatif_bar.specs.Commands.{BarRecord};
 ghost use Rattle.indicatif_bar.specs.Runs.{Runs, AllPlain};
 ghost use Rattle.indicatif_bar.specs.Lone.{LoneState, opening_state};
-ghost use Rattle.indicatif_bar.specs.LoneBars.{lone_bar, timed};
+ghost use Rattle.indicatif_bar.specs.LoneBars.{lone_bar, lone_timed};
 ghost use Rattle.uses.specs.Readings.{AreTextsOf, StartsAt};
 
 use indicatif_bar::laws::what_a_lone_run_reads;
@@ -46,8 +46,8 @@ pub fn picture_after<K: ProgressTracker>(
     ensures { (opening : Screen) → StartsAt term.terminal opening →
         IfOk result (λ texts. let start = opening_state bar None in
         (answers : List (Result Answered Refused)) × (after : Option TermView) × (next : LoneState (BarRecord K))
-        × (run : Runs (lone_bar K.means) (map timed calls.items) answers (Some (view_of term)) start after next)
-        × (AllPlain (lone_bar K.means) (map timed calls.items) answers (Some (view_of term)) start after next run →
+        × (run : Runs (lone_bar K.means) (map lone_timed calls.items) answers (Some (view_of term)) start after next)
+        × (AllPlain (lone_bar K.means) (map lone_timed calls.items) answers (Some (view_of term)) start after next run →
         AreTextsOf (map (λ text. string_bytes text) texts.items)
         (take opening.row opening.rows ++ all_rows opening.columns next.lists))) }
 {

@@ -22,7 +22,7 @@ pub record IsEnded {T A : Type 0} (R : T → A → Type 0) (items : List T) (beg
   pub answers : IfSome ended.answers (λ made. (met ≡ length items) × AllZip R items made.items)
 
 -- what became of all pieces: so many items were met, as 64 bits hold their number, and if the answers are there, all were
-pub record Counts {T A : Type 0} (R : T → A → Type 0) (pieces : List (Vec T Global)) (answers : Option (Vec (Vec A Global) Global)) (sum : ℕ) : Type 0 where
+pub record CountsPieces {T A : Type 0} (R : T → A → Type 0) (pieces : List (Vec T Global)) (answers : Option (Vec (Vec A Global) Global)) (sum : ℕ) : Type 0 where
   pub met : ℕ
   pub at_most : met ≤ items_in pieces
   pub is_sum : sum ≡ met % 2 ^ 64

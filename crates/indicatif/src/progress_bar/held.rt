@@ -11,7 +11,7 @@ ghost use Rattle.indicatif_bar.specs.Trackers.{writes_nothing};
 ghost use Rattle.indicatif_bar.specs.declared.command.Change.{Change as Changed};
 ghost use Rattle.indicatif_board.specs.Boards.{Id, Remove, Refused};
 ghost use Rattle.indicatif_board.specs.Calls.{place_at};
-ghost use Rattle.indicatif.specs.Fronts.{Makes, Joins, Leaves};
+ghost use Rattle.indicatif.specs.Fronts.{Makes, OwnerJoins, OwnerLeaves};
 ghost use Rattle.indicatif.specs.Places.{PlaceMakes, PlaceEnds, IsOf, IsUnfinished, Measures, PlaceTurns};
 ghost use Rattle.indicatif.specs.SharedBoards.{SharedTakes, SharedAnswers};
 
@@ -59,7 +59,7 @@ impl<T: Drop, C> Held<T, C> {
 
     /// One owner more; not where there is none left, or the count is at its end.
     pub fn join(&mut self) -> bool
-        ensures { Joins result self.old.owners self.new.owners }
+        ensures { OwnerJoins result self.old.owners self.new.owners }
     {
         if self.owners == 0 || self.owners == u64::MAX {
             return false;
@@ -70,7 +70,7 @@ impl<T: Drop, C> Held<T, C> {
 
     /// One owner less; whether it was the last.
     pub fn leave(&mut self) -> bool
-        ensures owners { Leaves result self.old.owners self.new.owners }
+        ensures owners { OwnerLeaves result self.old.owners self.new.owners }
         ensures place { self.new.place ≡ self.old.place }
     {
         let last = self.owners == 1;

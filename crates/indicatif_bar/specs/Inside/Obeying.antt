@@ -10,12 +10,12 @@ use Rattle.indicatif_bar.specs.declared.state.Ask.{Ask}
 module _ {K T : Type 0} (m : Tracking K) (old mid : LoneBar K T) (command : Command K) (now : ℕ) where
   -- the bar has obeyed, and asks for this draw; nothing else has changed
   pub record IsTold (ask : Ask) : Type 0 where
-    pub told : (mid.shown.bar, ask) ≡ obeyed m command old.shown.bar now
+    pub as_told : (mid.shown.bar, ask) ≡ obeyed m command old.shown.bar now
     pub in_time : IsFalse (is_beyond_clock command now)
     pub rest : mid ≡ record old { shown = record old.shown { bar = mid.shown.bar } }
 
   -- the same, or it has refused
   pub record IsToldOrNot (asked : Result Ask Refusal) : Type 0 where
-    pub told : MatchResult asked (λ ask. ((mid.shown.bar, ask) ≡ obeyed m command old.shown.bar now) × IsFalse (is_beyond_clock command now))
+    pub as_told : MatchResult asked (λ ask. ((mid.shown.bar, ask) ≡ obeyed m command old.shown.bar now) × IsFalse (is_beyond_clock command now))
         (λ e. RefusesCommand command old.shown.bar now e × (mid.shown.bar ≡ old.shown.bar))
     pub rest : mid ≡ record old { shown = record old.shown { bar = mid.shown.bar } }

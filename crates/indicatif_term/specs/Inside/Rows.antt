@@ -11,7 +11,7 @@ use Rattle.indicatif_term.specs.declared.in_memory.row.Row.TheInside.{Inside}
 -- the cell that is kept in this way, with the place of its last mark in the place of its marks
 abbrev pub cell_of : kept.Kind → Cell
 cell_of variants.Empty = Blank
-cell_of (variants.Plain c) = Written (record { base = c; marks = [] })
+cell_of (variants.Single c) = Written (record { base = c; marks = [] })
 cell_of (variants.Joined c last) = Written (record { base = c; marks = last ∷ [] })
 cell_of variants.Continued = Continued
 

@@ -16,7 +16,7 @@ enum Kind {
     /// Nothing.
     Empty,
     /// A character without marks.
-    Plain(char),
+    Single(char),
     /// A character with marks, and the place of the last one among those of the row.
     Joined(char, u32),
     /// A continued cell of the wide character at its left.
@@ -64,7 +64,7 @@ impl Cell {
         ensures { result ≡ Written (record { base = c; marks = [] }) }
     {
         Cell {
-            kind: Kind::Plain(c),
+            kind: Kind::Single(c),
         }
     }
 
@@ -95,7 +95,7 @@ impl Cell {
     {
         match self.kind {
             Kind::Empty => true,
-            Kind::Plain(c) => c == ' ',
+            Kind::Single(c) => c == ' ',
             Kind::Joined(c, last) => c == ' ' && leads_to_none(marks, last),
             Kind::Continued => false,
         }
@@ -109,7 +109,7 @@ impl Cell {
         ensures refused { IfErr result (λ e. e ≡ Refusal.Memory) }
     {
         match self.kind {
-            Kind::Plain(c) => self.kind = Kind::Joined(c, keep_mark(marks, 0, mark)?),
+            Kind::Single(c) => self.kind = Kind::Joined(c, keep_mark(marks, 0, mark)?),
             Kind::Joined(c, last) => self.kind = Kind::Joined(c, keep_mark(marks, last, mark)?),
             Kind::Empty | Kind::Continued => {}
         }
@@ -129,7 +129,7 @@ impl Cell {
     {
         match self.kind {
             Kind::Empty => out.push(' ')?,
-            Kind::Plain(c) => out.push(c)?,
+            Kind::Single(c) => out.push(c)?,
             Kind::Joined(c, last) => {
                 out.push(c)?;
                 show_marks(alloc, marks, last, out)?;

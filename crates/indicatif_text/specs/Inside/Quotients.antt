@@ -6,8 +6,8 @@ unfoldable pub below : ℕ → ℕ → ℕ → ℕ
 below num den places = num * 10 ^ places / den
 
 -- and what is left of it
-unfoldable pub left_over : ℕ → ℕ → ℕ → ℕ
-left_over num den places = num * 10 ^ places % den
+unfoldable pub division_rest : ℕ → ℕ → ℕ → ℕ
+division_rest num den places = num * 10 ^ places % den
 
 -- the number, or the next one
 abbrev pub raised : Bool → ℕ → ℕ

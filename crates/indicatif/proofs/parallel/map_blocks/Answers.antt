@@ -14,5 +14,5 @@ loop-start-preserved g c =
     let part = ap (λ k. take k (drop c.loop-start.start c.args.items.now)) again in (
       omega (arith, c.loop-start.invariant.0, n),
       zip_more (FnReturnsAt g.F.Fn c.args.f.now) c.args.items.now _ c.loop-start.start c.min-n.result _ _ _ part whole c.loop-start.invariant.1 zipped,
-      blocks_more g.P.Moves.told g.P.Moves.leads _ _ _ _ _ some small c.loop-start.invariant.2 c.advance.result c.advance.ensures.led c.advance.ensures.told,
+      blocks_more g.P.Moves.stands g.P.Moves.leads _ _ _ _ _ some small c.loop-start.invariant.2 c.advance.result c.advance.ensures.led c.advance.ensures.goes,
     )

@@ -4,7 +4,7 @@ use Rattle.indicatif_text.specs.Columns.{width_of}
 use Rattle.indicatif_text.specs.PieceLaws.{run_text}
 use Rattle.indicatif_text.proofs.WidthLemmas.{columns_le}
 use Rattle.indicatif_text.specs.Range.{ansi_range, pieces_within}
-use Rattle.indicatif_text.proofs.RangeLemmas.{Leaves, leaves_all, leaves_less, leaves_none, columns_behind_run, all_columns, shown_colour, shown_run, leaves_grown}
+use Rattle.indicatif_text.proofs.RangeLemmas.{LeavesText, leaves_all, leaves_less, leaves_none, columns_behind_run, all_columns, shown_colour, shown_run, leaves_grown}
 use Rattle.indicatif_text.proofs.range.push_range.Goals as goal
 
 pub pieces-init : goal.pieces-init
@@ -14,7 +14,7 @@ pieces-init c =
     let at = c.pieces-rest.ensures in
     record {
       sum_is = omega (arith, ap (λ ps. sum_by width_of (flat_map run_text ps)) at, all_columns text);
-      out_is = subst (λ ps. Leaves (string_bytes c.args.out.now) (string_bytes c.args.out.now) (pieces_within c.args.start c.args.end 0 ps) (ansi_range text c.args.start c.args.end)) (sym at)
+      out_is = subst (λ ps. LeavesText (string_bytes c.args.out.now) (string_bytes c.args.out.now) (pieces_within c.args.start c.args.end 0 ps) (ansi_range text c.args.start c.args.end)) (sym at)
           (leaves_all (string_bytes c.args.out.now) (ansi_range text c.args.start c.args.end));
     }
 
@@ -41,7 +41,7 @@ pieces-preserved c =
     let less = leaves_less _ _ _ _ _ _ _ c.pieces.invariant.out_is left c.in_ok-column.ensures.text in
     record {
       sum_is = omega (arith, column, c.pieces.invariant.sum_is, columns_behind_run c.pieces.rest c.next.new.self run at);
-      out_is = subst (λ k. Leaves (string_bytes c.args.out.now) (string_bytes c.push_run.new.out) (pieces_within c.args.start c.args.end k c.next.new.self)
+      out_is = subst (λ k. LeavesText (string_bytes c.args.out.now) (string_bytes c.push_run.new.out) (pieces_within c.args.start c.args.end k c.next.new.self)
           (ansi_range (chars c.args.text.now) c.args.start c.args.end)) (sym column) less;
     }
 

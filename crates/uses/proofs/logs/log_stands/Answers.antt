@@ -14,8 +14,8 @@ use Rattle.indicatif_bar.specs.Commands.{BarRecord}
 use Rattle.indicatif_bar.specs.Bars.{bar_kind}
 use Rattle.indicatif_bar.specs.Machines.{target_of}
 use Rattle.indicatif_bar.specs.Runs.{CallMade, Starts}
-use Rattle.indicatif_bar.specs.Lone.{LoneState, Log, frame_of, draw_by, opening_state}
-use Rattle.indicatif_bar.specs.LoneBars.{IsIn, lone_bar, timed, known}
+use Rattle.indicatif_bar.specs.Lone.{LoneState, Log, lone_frame, draw_of_call, opening_state}
+use Rattle.indicatif_bar.specs.LoneBars.{LoneIsIn, lone_bar, lone_timed, lone_known}
 use Rattle.uses.proofs.PictureLemmas.{state_told}
 use Rattle.uses.proofs.LogLemmas.{Front, logged_front, log_written, texts_begin, above_grows, front_kept}
 use Rattle.uses.proofs.logs.log_stands.Goals as goal
@@ -28,21 +28,21 @@ returns-in-Some g c = λ opening starts.
     let start = opening_state c.args.bar None in
     let text = text_lines (logged_lines c.args.line.now) in
     let drawn = c.in_ok-println.field-0 in
-    let known_is : known view_of c.new-bar.result ≡ old = ap (option_map view_of) (c.new-bar.ensures.terminal ∙ ap term_of c.term_like.ensures) in
-    let begun = subst (λ target. IsIn c.new-bar.result (opening_state c.args.bar (limiter_of target))) c.term_like.ensures c.new-bar.ensures.state in
+    let known_is : lone_known view_of c.new-bar.result ≡ old = ap (option_map view_of) (c.new-bar.ensures.terminal ∙ ap term_of c.term_like.ensures) in
+    let begun = subst (λ target. LoneIsIn c.new-bar.result (opening_state c.args.bar (limiter_of target))) c.term_like.ensures c.new-bar.ensures.state in
     let log = c.in_ok-println.ensures.leads start begun in
-    let between = known view_of c.println.new.self in
+    let between = lone_known view_of c.println.new.self in
     let made = subst (λ o. CallMade machine o between (Log c.args.line.now, 0) start (Ok drawn) log.0) known_is log.2 in
     let later = c.in_ok-answers.ensures.run log.0 log.1 in
-    let after = known view_of c.run.new.self in
-    let calls = map timed c.args.calls.items in
+    let after = lone_known view_of c.run.new.self in
+    let calls = map lone_timed c.args.calls.items in
     let answers = c.in_ok-answers.answers.items in
     let unbroken = subst (λ xs. IsFalse (list_any is_failure xs)) c.deref.ensures.value c.in_ok-unbroken.ensures in
     let shows = c.an_opening_shows_nothing.ensures opening.columns opening.height opening starts.1 in
-    let draw = draw_by (bar_kind g.K.ProgressTracker.means) (target_of old) (Log c.args.line.now) 0 start in
+    let draw = draw_of_call (bar_kind g.K.ProgressTracker.means) (target_of old) (Log c.args.line.now) 0 start in
     let written : log.0 ≡ draw.written = log_written g.K.ProgressTracker.means (target_of old) c.args.line.now 0 start log.0 drawn refl refl made.leads in
     let first = subst (λ (s : LoneState (BarRecord g.row.K.Denot)). Front (flat_map (rows_of v.columns) text) s.lists.above) (sym written)
-    (logged_front v.columns v.rows false text (frame_of draw.ready) opening_lists) in (
+    (logged_front v.columns v.rows false text (lone_frame draw.ready) opening_lists) in (
       Ok drawn ∷ answers,
       after,
       later.0,

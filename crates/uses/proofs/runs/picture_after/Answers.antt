@@ -10,7 +10,7 @@ use Rattle.indicatif_term.specs.Targets.{term_of, limiter_of}
 use Rattle.indicatif_term.specs.Memory.{view_of}
 use Rattle.indicatif_bar.specs.Runs.{Runs, Starts}
 use Rattle.indicatif_bar.specs.Lone.{opening_state}
-use Rattle.indicatif_bar.specs.LoneBars.{IsIn, lone_bar, timed, known}
+use Rattle.indicatif_bar.specs.LoneBars.{LoneIsIn, lone_bar, lone_timed, lone_known}
 use Rattle.uses.proofs.PictureLemmas.{state_told}
 use Rattle.uses.proofs.runs.picture_after.Goals as goal
 
@@ -18,11 +18,11 @@ pub returns-in-Some : goal.returns-in-Some
 returns-in-Some g c = λ opening starts.
     let old = Some (view_of c.args.term) in
     let start = opening_state c.args.bar None in
-    let known_is : known view_of c.new-bar.result ≡ old = ap (option_map view_of) (c.new-bar.ensures.terminal ∙ ap term_of c.term_like.ensures) in
-    let begun = subst (λ target. IsIn c.new-bar.result (opening_state c.args.bar (limiter_of target))) c.term_like.ensures c.new-bar.ensures.state in
+    let known_is : lone_known view_of c.new-bar.result ≡ old = ap (option_map view_of) (c.new-bar.ensures.terminal ∙ ap term_of c.term_like.ensures) in
+    let begun = subst (λ target. LoneIsIn c.new-bar.result (opening_state c.args.bar (limiter_of target))) c.term_like.ensures c.new-bar.ensures.state in
     let made = c.in_ok-answers.ensures.run start begun in
-    let after = known view_of c.run.new.self in
-    let run = subst (λ o. Runs (lone_bar g.K.ProgressTracker.means) (map timed c.args.calls.items) c.in_ok-answers.answers.items o start after made.0) known_is made.2 in
+    let after = lone_known view_of c.run.new.self in
+    let run = subst (λ o. Runs (lone_bar g.K.ProgressTracker.means) (map lone_timed c.args.calls.items) c.in_ok-answers.answers.items o start after made.0) known_is made.2 in
     let unbroken = subst (λ xs. IsFalse (list_any is_failure xs)) c.deref.ensures.value c.in_ok-unbroken.ensures in
     let shows = c.an_opening_shows_nothing.ensures opening.columns opening.height opening starts.1 in (
       c.in_ok-answers.answers.items,
@@ -30,7 +30,7 @@ returns-in-Some g c = λ opening starts.
       made.0,
       run,
       λ plain.
-          let read = c.what_a_lone_run_reads.ensures (map timed c.args.calls.items) c.in_ok-answers.answers.items (view_of c.args.term) start after made.0 refl run unbroken plain opening
+          let read = c.what_a_lone_run_reads.ensures (map lone_timed c.args.calls.items) c.in_ok-answers.answers.items (view_of c.args.term) start after made.0 refl run unbroken plain opening
           (subst (λ t. Starts (record { told = State t; columns = t.screen.columns; rows = t.screen.height; faults = c.args.term.faults }) opening opening_lists) (sym starts.0)
           (resting opening, refl, shows)) in
           let t = state_told c.in-Some.term read.0 read.2.0 (ap (option_map view_of) (sym c.in-Some.is ∙ c.into_term.ensures) ∙ read.1) read.2.1 in

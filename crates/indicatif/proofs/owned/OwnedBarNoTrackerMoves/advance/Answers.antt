@@ -6,7 +6,7 @@ use Rattle.indicatif.specs.Owned.{standing_of}
 use Rattle.indicatif.proofs.OwnedLemmas.{moved_stands}
 use Rattle.indicatif.proofs.owned.OwnedBarNoTrackerMoves.advance.Goals as goal
 
-pub returns-clause-told : goal.returns-clause-told
-returns-clause-told g c =
+pub returns-clause-goes : goal.returns-clause-goes
+returns-clause-goes g c =
     ap (λ bar. Some (standing_of bar)) c.inc.ensures.bar
     ∙ ap Some (moved_stands writes_nothing (((record_of c.args.self.now.bar).progress.position + c.args.n) % 2 ^ 64) (record_of c.args.self.now.bar) c.now-now.result)

@@ -5,7 +5,7 @@ use Rattle.indicatif.specs.Owned.{standing_of}
 use Rattle.indicatif.proofs.OwnedLemmas.{moved_stands}
 use Rattle.indicatif.proofs.owned.OwnedBarNoTrackerMoves.place.Goals as goal
 
-pub returns-clause-told : goal.returns-clause-told
-returns-clause-told g c =
+pub returns-clause-goes : goal.returns-clause-goes
+returns-clause-goes g c =
     ap (λ bar. Some (standing_of bar)) c.set_position.ensures.bar
     ∙ ap Some (moved_stands writes_nothing (c.args.place) (record_of c.args.self.now.bar) c.now-now.result)

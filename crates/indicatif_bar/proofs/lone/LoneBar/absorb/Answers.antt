@@ -3,4 +3,4 @@ use Rattle.indicatif_bar.specs.Commands.{Inc}
 use Rattle.indicatif_bar.proofs.lone.LoneBar.absorb.Goals as goal
 
 pub returns : goal.returns
-returns g c = c.obey.ensures.obeys c.args.self.now (Inc c.args.sum) (record { told = c.absorb-ask.ensures; in_time = refl; rest = refl })
+returns g c = c.obey.ensures.obeys c.args.self.now (Inc c.args.sum) (record { as_told = c.absorb-ask.ensures; in_time = refl; rest = refl })

@@ -5,21 +5,21 @@ use Rattle.indicatif_term.specs.Engines.{engine_term, Fits}
 use Rattle.indicatif_bar.specs.Bars.{bar_kind}
 use Rattle.indicatif_bar.specs.Machines.{target_of}
 use Rattle.indicatif_bar.specs.Lone.{draw_asked, lone}
-use Rattle.indicatif_bar.specs.LoneBars.{IsIn, known}
+use Rattle.indicatif_bar.specs.LoneBars.{LoneIsIn, lone_known}
 use Rattle.indicatif_bar.specs.Shown.{DrewOn}
 use Rattle.indicatif_bar.specs.Inside.Writings.{writing_as}
 use Rattle.indicatif_bar.proofs.OutcomeLemmas.{drew_none, outcome-unasked, outcome-hidden}
 use Rattle.indicatif_bar.proofs.lone.LoneBar.draw.Goals as goal
 
 pub returns-then-is_no-clause-drew : goal.returns-then-is_no-clause-drew
-unfolding IsIn
+unfolding LoneIsIn
 returns-then-is_no-clause-drew g c = λ takes s inside.
-    let old = known g.T.TermLike.view c.args.self.now in
+    let old = lone_known g.T.TermLike.view c.args.self.now in
     let d = draw_asked (bar_kind g.K.ProgressTracker.means) (target_of old) takes c.args.ask c.args.now (writing_as c.args.writing) s in
     (s, inside, drew_none (lone (bar_kind g.K.ProgressTracker.means)) old d s.lists (Ok Limited) s refl refl (outcome-unasked (target_of old) d (sym c.is_no.ensures ∙ c.if-is_no.true)))
 
 pub returns-in-Some-clause-drew : goal.returns-in-Some-clause-drew
-unfolding IsIn
+unfolding LoneIsIn
 returns-in-Some-clause-drew g c = λ takes s inside.
     let view = g.T.TermLike.view in
     let known_is = ap (λ o. option_map view (option_map engine_term o)) c.in-Some.is in
@@ -33,7 +33,7 @@ returns-in-Some-clause-drew g c = λ takes s inside.
     )
 
 pub returns-in-None-clause-drew : goal.returns-in-None-clause-drew
-unfolding IsIn
+unfolding LoneIsIn
 returns-in-None-clause-drew g c = λ takes s inside.
     let view = g.T.TermLike.view in
     let known_is = ap (λ o. option_map view (option_map engine_term o)) c.in-None.is in

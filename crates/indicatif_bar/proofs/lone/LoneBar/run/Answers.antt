@@ -10,7 +10,7 @@ use Rattle.std.proofs.lemmas.Iterator.Consumers.{YieldsList-turn, YieldsList-end
 use Rattle.std.proofs.lemmas.List.{map-id}
 use Rattle.indicatif_bar.specs.Runs.{Runs, wrote}
 use Rattle.indicatif_bar.specs.Machines.{target_of}
-use Rattle.indicatif_bar.specs.LoneBars.{RecordsGo, call_of, lone_bar, record_of, terminal_of, timed}
+use Rattle.indicatif_bar.specs.LoneBars.{RecordsGo, lone_call_of, lone_bar, record_of, lone_terminal, lone_timed}
 use Rattle.indicatif_bar.proofs.LoneRunLemmas.{goes_by, goes-push, go_as_told, any-push}
 use Rattle.indicatif_bar.proofs.RunLemmas.{nothing, runs-push, headline}
 use Rattle.indicatif_bar.proofs.lone.LoneBar.run.Goals as goal
@@ -18,11 +18,11 @@ use Rattle.indicatif_bar.proofs.lone.LoneBar.run.Goals as goal
 pub returns-then-is_empty-clause-run : goal.returns-then-is_empty-clause-run
 returns-then-is_empty-clause-run g c = λ s inside.
     let machine = lone_bar g.K.ProgressTracker.means in
-    let old = option_map g.T.TermLike.view (terminal_of c.args.self.now) in
+    let old = option_map g.T.TermLike.view (lone_terminal c.args.self.now) in
     let none = nothing c.args.calls.items (omega (arith, eqb-true (vec_len c.args.calls) 0 (sym c.is_empty.ensures ∙ c.if-is_empty.true), c.args.calls.ok)) in
-    let run = subst (λ xs. Runs machine (map timed xs) c.new.result.items old s old s) (sym none)
+    let run = subst (λ xs. Runs machine (map lone_timed xs) c.new.result.items old s old s) (sym none)
     (subst (λ xs. Runs machine [] xs old s old s) (sym c.new.ensures.items) (refl, refl)) in
-    (s, inside, run, headline machine (map timed c.args.calls.items) c.new.result.items old s old s run)
+    (s, inside, run, headline machine (map lone_timed c.args.calls.items) c.new.result.items old s old s run)
 
 pub loop-call-init : goal.loop-call-init
 loop-call-init g c = record {
@@ -31,8 +31,8 @@ loop-call-init g c = record {
   ran = λ s inside. (
     s,
     inside,
-    subst (λ xs. Runs (lone_bar g.K.ProgressTracker.means) [] xs (option_map g.T.TermLike.view (terminal_of c.args.self.now)) s
-        (option_map g.T.TermLike.view (terminal_of c.args.self.now)) s) (sym c.in_ok-answers.ensures.items) (refl, refl),
+    subst (λ xs. Runs (lone_bar g.K.ProgressTracker.means) [] xs (option_map g.T.TermLike.view (lone_terminal c.args.self.now)) s
+        (option_map g.T.TermLike.view (lone_terminal c.args.self.now)) s) (sym c.in_ok-answers.ensures.items) (refl, refl),
   );
   went = let bar = record_of c.args.self.now in subst (λ xs. RecordsGo g.K.ProgressTracker.means [] xs bar bar) (sym c.in_ok-answers.ensures.items) refl;
   silent = λ quiet. refl;
@@ -56,13 +56,14 @@ loop-call-preserved g c = record {
         made.0,
         made.1,
         rw (c.push_reserved.ensures.items, map-append)
-            (runs-push (lone_bar g.K.ProgressTracker.means) _ _ (option_map g.T.TermLike.view (terminal_of c.args.self.now)) s (option_map g.T.TermLike.view (terminal_of c.loop-call.self)) before.0
-            (option_map g.T.TermLike.view (terminal_of c.call-answer.new.self)) made.0 (timed (c.in-Some.call, c.in-Some.now)) c.call-answer.result before.2 made.2),
+            (runs-push (lone_bar g.K.ProgressTracker.means) _ _
+            (option_map g.T.TermLike.view (lone_terminal c.args.self.now)) s (option_map g.T.TermLike.view (lone_terminal c.loop-call.self)) before.0
+            (option_map g.T.TermLike.view (lone_terminal c.call-answer.new.self)) made.0 (lone_timed (c.in-Some.call, c.in-Some.now)) c.call-answer.result before.2 made.2),
       );
   went =
-      let made = goes_by g.K.ProgressTracker.means c.loop-call.self c.call-answer.new.self (call_of c.in-Some.call) c.in-Some.now c.call-answer.result c.call-answer.ensures.bar in
+      let made = goes_by g.K.ProgressTracker.means c.loop-call.self c.call-answer.new.self (lone_call_of c.in-Some.call) c.in-Some.now c.call-answer.result c.call-answer.ensures.bar in
       rw (c.push_reserved.ensures.items, map-append)
-      (goes-push g.K.ProgressTracker.means _ _ (record_of c.args.self.now) (record_of c.loop-call.self) (record_of c.call-answer.new.self) (timed (c.in-Some.call, c.in-Some.now))
+      (goes-push g.K.ProgressTracker.means _ _ (record_of c.args.self.now) (record_of c.loop-call.self) (record_of c.call-answer.new.self) (lone_timed (c.in-Some.call, c.in-Some.now))
       c.call-answer.result c.loop-call.invariant.went made);
   silent = λ quiet.
       let parts = or_parts (list_any wrote c.loop-call.answers.items) (wrote c.call-answer.result)
@@ -80,11 +81,11 @@ returns-clause-run g c =
     (omega (arith, c.into_iter-call-iterator.ensures.into_iter_gives.1, c.args.calls.ok))) c.loop-call.yielded c.loop-call.call-iterator c.loop-call.yielded_by c.next.result c.next.new.self
     c.in-None.is c.next.ensures.steps in
     λ s inside.
-    let old = option_map g.T.TermLike.view (terminal_of c.args.self.now) in
-    let new = option_map g.T.TermLike.view (terminal_of c.loop-call.self) in
+    let old = option_map g.T.TermLike.view (lone_terminal c.args.self.now) in
+    let new = option_map g.T.TermLike.view (lone_terminal c.loop-call.self) in
     let all = c.loop-call.invariant.ran s inside in
-    let run = subst (λ xs. Runs (lone_bar g.K.ProgressTracker.means) (map timed xs) c.loop-call.answers.items old s new all.0) (sym (map-id c.loop-call.yielded) ∙ t.0) all.2 in
-    (all.0, all.1, run, headline (lone_bar g.K.ProgressTracker.means) (map timed c.args.calls.items) c.loop-call.answers.items old s new all.0 run)
+    let run = subst (λ xs. Runs (lone_bar g.K.ProgressTracker.means) (map lone_timed xs) c.loop-call.answers.items old s new all.0) (sym (map-id c.loop-call.yielded) ∙ t.0) all.2 in
+    (all.0, all.1, run, headline (lone_bar g.K.ProgressTracker.means) (map lone_timed c.args.calls.items) c.loop-call.answers.items old s new all.0 run)
 
 pub returns-clause-ample : goal.returns-clause-ample
 returns-clause-ample g c =
@@ -95,5 +96,5 @@ returns-clause-ample g c =
     let old = record_of c.args.self.now in
     let new = record_of c.loop-call.self in
     λ ample.
-    go_as_told tracks (map timed c.args.calls.items) c.loop-call.answers.items old new (recursion_from_All (λ answer. answer ≢ Err Memory) c.loop-call.answers.items ample)
-    (subst (λ xs. RecordsGo tracks (map timed xs) c.loop-call.answers.items old new) (sym (map-id c.loop-call.yielded) ∙ t.0) c.loop-call.invariant.went)
+    go_as_told tracks (map lone_timed c.args.calls.items) c.loop-call.answers.items old new (recursion_from_All (λ answer. answer ≢ Err Memory) c.loop-call.answers.items ample)
+    (subst (λ xs. RecordsGo tracks (map lone_timed xs) c.loop-call.answers.items old new) (sym (map-id c.loop-call.yielded) ∙ t.0) c.loop-call.invariant.went)

@@ -32,7 +32,9 @@ returns-in_err-lay_out-clause-drew g c = λ takes s asked holds fits.
     rw (x.1 ∙ ap Err x.2, c.in_err-lay_out.ensures.unchanged)
     (drew_withheld (lone (bar_kind g.K.ProgressTracker.means)) (ShownAs c.args.self.now) view engine
     (draw_asked (bar_kind g.K.ProgressTracker.means) (target_of (Some (view (engine_term engine)))) takes c.args.ask c.args.now (writing_as c.args.writing) s) s.lists
-    c.in_err-lay_out.field-0.0 asked (inr (memory.0, some)) (λ e. subst (λ bar. lines_take (bar_kind g.K.ProgressTracker.means) (writing_as c.args.writing) bar ≡ true) holds.bar_is memory.1) fits refl (record { bar_is = holds.bar_is; lines_are = holds.lines_are; limiter_is = holds.limiter_is }))
+    c.in_err-lay_out.field-0.0 asked (inr (memory.0, some))
+    (λ e. subst (λ bar. lines_take (bar_kind g.K.ProgressTracker.means) (writing_as c.args.writing) bar ≡ true) holds.bar_is memory.1)
+    fits refl (record { bar_is = holds.bar_is; lines_are = holds.lines_are; limiter_is = holds.limiter_is }))
 
 pub returns-then-not-allows-clause-drew : goal.returns-then-not-allows-clause-drew
 returns-then-not-allows-clause-drew g c = λ takes s asked holds fits.

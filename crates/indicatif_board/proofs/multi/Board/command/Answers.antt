@@ -9,7 +9,7 @@ use Rattle.indicatif_bar.specs.Shown.{DrewOn}
 use Rattle.indicatif_bar.specs.declared.state.Ask.TheVariants.{No}
 use Rattle.indicatif_board.specs.BoardBars.{board_bars}
 use Rattle.indicatif_board.specs.BoardValues.{id_of}
-use Rattle.indicatif_board.specs.Boards.{Tell, Refused, draw_of, draw_by, laid_out, lays_out, told, or_refused, draws, board}
+use Rattle.indicatif_board.specs.Boards.{Tell, Refused, draw_of, draw_of_command, laid_out, lays_out, bar_changed, or_refused, draws, board}
 use Rattle.indicatif_board.specs.Members.{place_of, said_of}
 use Rattle.indicatif_board.specs.Multi.{IsIn, known}
 use Rattle.indicatif_board.proofs.MemberLemmas.{told_at, told_placed, same_at, said_of_place, members_length}
@@ -24,7 +24,7 @@ returns-in_err-at-clause-leads g c = λ mark s inside.
     let command = command_of c.args.command in
     let x = err_from_is_err_and c.from_residual.result c.from_residual.ensures.1 in
     let why = c.in_err-at.ensures.found mark s inside in
-    let d = draws (draw_by (board_bars tracks) (target_of old) id.number command c.args.now s) in
+    let d = draws (draw_of_command (board_bars tracks) (target_of old) id.number command c.args.now s) in
     rw (x.1 ∙ ap Err x.2) (
       s,
       inside,
@@ -60,7 +60,7 @@ returns-in_err-ask-clause-leads g c = λ mark s inside.
             let text = sym (said_of_place false (λ bar. takes_memory command bar) b.members.items s.members id.number c.in_ok-at.at item inside.1.members_are f.1.0 within c.index_mut.ensures.value)
             ∙ c.in_err-ask.ensures.memory (ap Err short) in
             let in_time = in_time_of (is_beyond_clock command now) (Err c.in_err-ask.field-0.0) c.in_err-ask.ensures.beyond (λ e. cc) in
-            rw short (made_short tracks mark old old (Tell id command) now s (draw_by (board_bars tracks) (target_of old) id.number command now s)
+            rw short (made_short tracks mark old old (Tell id command) now s (draw_of_command (board_bars tracks) (target_of old) id.number command now s)
             (command_deed tracks mark old id command now s f.0 in_time) text)
       ],
     )
@@ -79,7 +79,7 @@ returns-clause-leads g c = λ mark s inside.
     let item = c.index_mut.result.now in
     let f = c.in_ok-at.ensures.found mark s inside in
     let change = λ (bar : BarRecord g.row.K.Denot). (obeyed tracks command bar now).0 in
-    let next = told id.number change s in
+    let next = bar_changed id.number change s in
     let size = members_length b.frame.items b.members.items b.table.made (is_bottom b.alignment) b.limiter s inside.1 in
     let within : c.in_ok-at.at < length b.members.items = omega (arith, size, f.1.1) in
     let holds = told_at change b.frame.items b.members.items b.table.made (is_bottom b.alignment) b.limiter mark s id.number c.in_ok-at.at item c.apply.new.self
@@ -90,7 +90,7 @@ returns-clause-leads g c = λ mark s inside.
     let ask_is = ap (λ r. r.1) c.in_ok-ask.ensures.done
     ∙ said_of_place No (λ bar. (obeyed tracks command bar now).1) b.members.items s.members id.number c.in_ok-at.at item inside.1.members_are f.1.0 within c.index_mut.ensures.value in
     let in_time = in_time_of (is_beyond_clock command now) (Ok c.in_ok-ask.ask) c.in_ok-ask.ensures.beyond (λ e. cc) in
-    let d = draw_by (board_bars tracks) (target_of old) id.number command now s in (
+    let d = draw_of_command (board_bars tracks) (target_of old) id.number command now s in (
       drawn.0,
       drawn.1,
       made_by_draw tracks mark old new (Tell id command) now s d next.lists c.draw.result drawn.0 (command_deed tracks mark old id command now s f.0 in_time) refl

@@ -10,7 +10,7 @@ use Rattle.indicatif_bar.specs.declared.state.Ask.TheVariants.{No}
 use Rattle.indicatif_board.specs.Inside.Parting.{parted}
 use Rattle.indicatif_board.specs.BoardBars.{board_bars}
 use Rattle.indicatif_board.specs.BoardValues.{id_of}
-use Rattle.indicatif_board.specs.Boards.{Drop, says, draw_of, last_draw, left_on, marked_on, laid_out, lays_out, told, or_refused, board}
+use Rattle.indicatif_board.specs.Boards.{Drop, says, draw_of, last_draw, left_on, marked_on, laid_out, lays_out, bar_changed, or_refused, board}
 use Rattle.indicatif_board.specs.Members.{said_of}
 use Rattle.indicatif_board.specs.Multi.{IsIn, known}
 use Rattle.indicatif_board.proofs.MemberLemmas.{told_at, told_placed, same_at, said_of_place, members_length}
@@ -45,7 +45,7 @@ returns-in-Ok-clause-leads g c = λ mark s inside.
     let item = c.index_mut.result.now in
     let f = c.in_ok-at.ensures.found mark s inside in
     let change = λ (bar : BarRecord g.row.K.Denot). (after_drop bar now).0 in
-    let next = told id.number change s in
+    let next = bar_changed id.number change s in
     let size = members_length b.frame.items b.members.items b.table.made (is_bottom b.alignment) b.limiter s inside.1 in
     let within : c.in_ok-at.at < length b.members.items = omega (arith, size, f.1.1) in
     let holds = told_at change b.frame.items b.members.items b.table.made (is_bottom b.alignment) b.limiter mark s id.number c.in_ok-at.at item c.dropped.new.self

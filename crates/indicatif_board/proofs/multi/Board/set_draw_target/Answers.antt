@@ -6,7 +6,7 @@ use Rattle.indicatif_term.specs.Lists.{opening_lists}
 use Rattle.indicatif_term.specs.Engines.{Fits, is_bottom}
 use Rattle.indicatif_term.specs.declared.draw_target.Engine.{Engine}
 use Rattle.indicatif_board.specs.Multi.{IsIn}
-use Rattle.indicatif_board.proofs.DropLemmas.{held_anew}
+use Rattle.indicatif_board.proofs.DropLemmas.{held_anew, fits_or_none}
 use Rattle.indicatif_board.proofs.multi.Board.set_draw_target.Goals as goal
 
 pub returns-in-Some-clause-old_limiter : goal.returns-in-Some-clause-old_limiter
@@ -22,7 +22,8 @@ returns-in-Some-clause-state g c = λ mark s inside.
       inside.0,
       held_anew b.frame.items b.members.items b.table.made (is_bottom b.alignment) b.limiter c.replace-limiter.new.dest (limiter_of c.args.target) s opening_lists
           (c.replace-limiter.ensures.after ∙ c.opened_on-engine.ensures.limiter) inside.1,
-      subst (λ (o : Option (Engine g.row.T.Denot)). MatchOption o (opening_lists ≡ opening_lists) (λ e. Fits e opening_lists)) (sym c.replace.ensures.after) c.opened_on-engine.ensures.opened,
+      subst (λ (o : Option (Engine g.row.T.Denot)). MatchOption o (opening_lists ≡ opening_lists) (λ e. Fits e opening_lists))
+          (sym c.replace.ensures.after) (fits_or_none c.opened_on-engine.result.0 c.opened_on-engine.ensures.opened),
     )
 
 pub returns-in-None-clause-state : goal.returns-in-None-clause-state
@@ -32,5 +33,6 @@ returns-in-None-clause-state g c = λ mark s inside.
       inside.0,
       held_anew b.frame.items b.members.items b.table.made (is_bottom b.alignment) b.limiter c.replace-limiter.new.dest (limiter_of c.args.target) s opening_lists
           (c.replace-limiter.ensures.after ∙ c.opened_on-engine.ensures.limiter) inside.1,
-      subst (λ (o : Option (Engine g.row.T.Denot)). MatchOption o (opening_lists ≡ opening_lists) (λ e. Fits e opening_lists)) (sym c.replace.ensures.after) c.opened_on-engine.ensures.opened,
+      subst (λ (o : Option (Engine g.row.T.Denot)). MatchOption o (opening_lists ≡ opening_lists) (λ e. Fits e opening_lists))
+          (sym c.replace.ensures.after) (fits_or_none c.opened_on-engine.result.0 c.opened_on-engine.ensures.opened),
     )

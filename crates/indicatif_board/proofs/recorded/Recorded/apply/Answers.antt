@@ -1,6 +1,6 @@
 use Rattle.std.proofs.Common.{◌≡◌, ◌++◌, ◌∷◌, [], map, refl, ap, ◌∙◌, subst, inl}
 use Rattle.indicatif_board.specs.Calls.{call_of, answer_of}
-use Rattle.indicatif_board.specs.Recorded.{Record, Grows, step_of}
+use Rattle.indicatif_board.specs.Recorded.{Record, AddsCall, step_of}
 use Rattle.indicatif_board.specs.declared.recorded.Entry.{Entry}
 use Rattle.indicatif_board.proofs.RecordLemmas.{steps_more, run_grows, grown}
 use Rattle.indicatif_board.proofs.recorded.Recorded.apply.Goals as goal
@@ -24,7 +24,7 @@ returns-clause-grows g c =
       board = c.made_on-answer.new.board;
       steps = map step_of c.push_reserved.new.self.items;
     } in
-    inl (subst (λ old. Grows g.K.ProgressTracker.means g.T.TermLike.view old (call_of c.args.call) c.args.now (answer_of c.made_on-answer.result.0) now) c.self.view_is
+    inl (subst (λ old. AddsCall g.K.ProgressTracker.means g.T.TermLike.view old (call_of c.args.call) c.args.now (answer_of c.made_on-answer.result.0) now) c.self.view_is
     (grown g.K.ProgressTracker.means g.T.TermLike.view c.self.inside.opening.mark c.self.inside.opening.limiter c.self.inside.board c.made_on-answer.new.board
     (map step_of c.self.inside.entries.items) (map step_of c.push_reserved.new.self.items) (call_of c.args.call) c.args.now (answer_of c.made_on-answer.result.0)
     c.made_on-answer.ensures.leads

@@ -6,13 +6,12 @@ use Rattle.indicatif_text.specs.declared.refusal.Drawn.TheVariants.{Yes}
 use Rattle.indicatif_term.specs.Engines.{is_bottom, engine_term}
 use Rattle.indicatif_term.specs.declared.lines.Segment.{Segment}
 use Rattle.indicatif_bar.specs.Machines.{target_of}
-use Rattle.indicatif_bar.specs.Shown.{DrewBy}
+use Rattle.indicatif_bar.specs.Shown.{PutsFrame, DrewBy}
 use Rattle.indicatif_board.specs.BoardBars.{board_bars}
 use Rattle.indicatif_board.specs.Boards.{draw_of, board}
 use Rattle.indicatif_board.specs.Slots.{SlotTable}
 use Rattle.indicatif_board.specs.Members.{leaders}
 use Rattle.indicatif_board.specs.ShownBars.{Holds}
-use Rattle.indicatif_board.specs.Inside.Keeps.{PutsFrame}
 use Rattle.indicatif_board.specs.Inside.Writings.{writing_by}
 use Rattle.indicatif_board.proofs.MemberLemmas.{leaders_of, dropped_bars}
 use Rattle.indicatif_board.proofs.BoardDrawLemmas.{frame_drew, written_holds, kept_ready}

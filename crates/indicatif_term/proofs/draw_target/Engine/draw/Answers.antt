@@ -27,7 +27,8 @@ returns-clause-lists g c = λ l fits.
     let p = c.in_ok-planned.ensures.planned in
     let blanks = rw c.is_bottom.ensures at (c.blanks_of-blanks.ensures.blanks c.args.self.now.counts.live 0 (omega arith)) in
     fits_by c.drawn-next.result c.repaint.result c.repaint.new.self l (drawn s.columns s.rows bottom c.args.pass frame l) c.repaint.ensures.remembers
-    (rw p.rows_are at (c.drawn-next.ensures s.columns c.args.pass bottom frame l (fits_counts c.args.self.now l fits) (rw (← p.rows_are) at p.plan_is) blanks)) (drawn-sound s.columns s.rows bottom c.args.pass frame l)
+    (rw p.rows_are at (c.drawn-next.ensures s.columns c.args.pass bottom frame l (fits_counts c.args.self.now l fits) (rw (← p.rows_are) at p.plan_is) blanks))
+    (drawn-sound s.columns s.rows bottom c.args.pass frame l)
 
 pub returns-clause-paints : goal.returns-clause-paints
 returns-clause-paints g c = λ l fits plain.

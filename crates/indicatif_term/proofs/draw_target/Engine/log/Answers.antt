@@ -27,7 +27,8 @@ returns-clause-answer g c =
     let p = c.in_ok-planned.ensures.planned in
     let w = c.in_ok-planned.planned.window.columns in
     rw (← p.columns_are) (answer_made w (text ++ frame) c.logged-next.result c.repaint.result c.repaint.new.self
-    c.repaint.ensures.remembers c.in_ok-planned.planned.window.some (rw (← p.columns_are) at (narrow_both (g.T.TermLike.view (engine_term c.args.self.now)).columns text frame p.narrow_text p.narrow_frame)))
+    c.repaint.ensures.remembers c.in_ok-planned.planned.window.some
+    (rw (← p.columns_are) at (narrow_both (g.T.TermLike.view (engine_term c.args.self.now)).columns text frame p.narrow_text p.narrow_frame)))
 
 pub returns-clause-lists : goal.returns-clause-lists
 returns-clause-lists g c = λ l fits.
@@ -39,7 +40,8 @@ returns-clause-lists g c = λ l fits.
     let text = text_lines (logged_lines c.args.text.now) in
     let blanks = rw c.is_bottom.ensures at (c.blanks_of-blanks.ensures.blanks (old.kept + old.live) c.in_ok-planned.planned.text.height c.saturating_sub-free.ensures) in
     fits_by c.logged-next.result c.repaint.result c.repaint.new.self l (logged s.columns s.rows bottom text frame l) c.repaint.ensures.remembers
-    (rw p.rows_are at (c.logged-next.ensures s.columns bottom text frame l (fits_counts c.args.self.now l fits) (rw (← p.rows_are) at p.plan_is) p.height_is blanks)) (logged-sound s.columns s.rows bottom text frame l)
+    (rw p.rows_are at (c.logged-next.ensures s.columns bottom text frame l (fits_counts c.args.self.now l fits) (rw (← p.rows_are) at p.plan_is) p.height_is blanks))
+    (logged-sound s.columns s.rows bottom text frame l)
 
 pub returns-clause-paints : goal.returns-clause-paints
 returns-clause-paints g c = λ l fits plain.
