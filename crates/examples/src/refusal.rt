@@ -1,6 +1,4 @@
 //! Shows a refusal: a character that is wider than the terminal. Nothing is written then, and the bar goes on.
-#![tactic(auto)]
-
 use anyhow::{Result, anyhow};
 use indicatif::{BarState, InMemoryTerm, LoneBar, NoTracker, ProgressDrawTarget, ProgressStyle};
 
@@ -16,11 +14,11 @@ fn say_all(rt: &HostRuntime, bar: &mut LoneBar<NoTracker, InMemoryTerm>) -> Resu
     Ok(())
 }
 
-fn main(rt: HostRuntime) -> Result<()> {
+pub fn main(rt: &HostRuntime) -> Result<()> {
     let target = ProgressDrawTarget::term_like(InMemoryTerm::new(rt.alloc(), 3, 1)?);
     let style = ProgressStyle::with_template(rt.alloc(), "{msg}")?;
     say_all(
-        &rt,
+        rt,
         &mut LoneBar::new(BarState::styled(rt.alloc(), style, None, 0)?, target),
     )
 }

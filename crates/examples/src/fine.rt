@@ -1,6 +1,4 @@
 //! Shows a bar of fine characters: a cell is full, empty or one of seven parts, so that 14 columns tell 112 steps apart.
-#![tactic(auto)]
-
 use anyhow::{Result, anyhow};
 use indicatif::{BarState, InMemoryTerm, LoneBar, NoTracker, ProgressDrawTarget, ProgressStyle};
 
@@ -14,12 +12,12 @@ fn fill(rt: &HostRuntime, bar: &mut LoneBar<NoTracker, InMemoryTerm>) -> Result<
     Ok(())
 }
 
-fn main(rt: HostRuntime) -> Result<()> {
+pub fn main(rt: &HostRuntime) -> Result<()> {
     let target = ProgressDrawTarget::term_like(InMemoryTerm::new(rt.alloc(), 2, 20)?);
     let style = ProgressStyle::with_template(rt.alloc(), "▕{wide_bar}▏{percent}%")?;
     let style = style.progress_chars("█▉▊▋▌▍▎▏ ")?;
     fill(
-        &rt,
+        rt,
         &mut LoneBar::new(BarState::styled(rt.alloc(), style, Some(100), 0)?, target),
     )
 }

@@ -1,7 +1,5 @@
 //! Shows lines that are logged above a bar: they stay, and the bar goes on below them. The terminal has four rows, so that the
 //! first line scrolls away; the picture has it all the same.
-#![tactic(auto)]
-
 use anyhow::{Result, anyhow};
 use indicatif::{BarState, InMemoryTerm, LoneBar, NoTracker, ProgressDrawTarget, ProgressStyle};
 
@@ -18,11 +16,11 @@ fn copy_all(rt: &HostRuntime, bar: &mut LoneBar<NoTracker, InMemoryTerm>) -> Res
     Ok(())
 }
 
-fn main(rt: HostRuntime) -> Result<()> {
+pub fn main(rt: &HostRuntime) -> Result<()> {
     let target = ProgressDrawTarget::term_like(InMemoryTerm::new(rt.alloc(), 4, 20)?);
     let style = ProgressStyle::with_template(rt.alloc(), "{msg}")?;
     copy_all(
-        &rt,
+        rt,
         &mut LoneBar::new(BarState::styled(rt.alloc(), style, None, 0)?, target),
     )
 }

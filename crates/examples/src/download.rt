@@ -1,6 +1,4 @@
 //! Shows a download of 500,000 bytes a second: bytes, rate and time left, and what stands on the terminal at four moments.
-#![tactic(auto)]
-
 use anyhow::{Result, anyhow};
 use indicatif::{BarState, InMemoryTerm, LoneBar, NoTracker, ProgressDrawTarget, ProgressStyle};
 
@@ -17,10 +15,10 @@ fn download(rt: &HostRuntime, bar: &mut LoneBar<NoTracker, InMemoryTerm>) -> Res
     Ok(())
 }
 
-fn main(rt: HostRuntime) -> Result<()> {
+pub fn main(rt: &HostRuntime) -> Result<()> {
     let target = ProgressDrawTarget::term_like(InMemoryTerm::new(rt.alloc(), 3, 60)?);
     let template = "{bytes} of {total_bytes}, {bytes_per_sec}, {eta} left";
     let style = ProgressStyle::with_template(rt.alloc(), template)?;
     let bar = BarState::styled(rt.alloc(), style, Some(LENGTH), 0)?;
-    download(&rt, &mut LoneBar::new(bar, target))
+    download(rt, &mut LoneBar::new(bar, target))
 }
