@@ -96,7 +96,7 @@ module _ {B C : Type 0} (kind : Kind B C) where
         broken = record ready { lists = forgotten_lists };
       }
 
-  -- that of a call
+  -- the draw of a call
   abbrev pub draw_of_call : Target → LoneCall C → ℕ → LoneState B → Draw (LoneState B)
   draw_of_call target call now s =
       draw_asked target (takes_text call now s.bar) (asks call now s.bar) now (writing_of call) (record s { bar = bar_after call now s.bar })
