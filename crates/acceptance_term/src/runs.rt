@@ -83,8 +83,14 @@ fn marks_and_wide_characters(rt: HostRuntime) -> Result<(), Fail> {
 /// What the terminal's rows cut off doesn't count.
 #[test]
 fn lines_that_are_not_shown(rt: HostRuntime) -> Result<(), Fail> {
-    assert_eq!(rt; first_drawing(rt.alloc(), 2, "aaaa|bbbb|")?.as_str(), "aaaabbbb");
-    assert_eq!(rt; first_drawing(rt.alloc(), 2, "aaaa|b||c")?.as_str(), "aaaab   ");
+    assert_eq!(rt;
+        first_drawing(rt.alloc(), 2, "aaaa|bbbb|")?.as_str(),
+        "aaaabbbb"
+    );
+    assert_eq!(rt;
+        first_drawing(rt.alloc(), 2, "aaaa|b||c")?.as_str(),
+        "aaaab   "
+    );
     assert_eq!(rt; first_drawing(rt.alloc(), 0, "aaaa|bbbb")?.as_str(), "");
     Ok(())
 }
