@@ -16,6 +16,4 @@ mod in_memory;
 #[cfg(test)]
 mod limiter_tests;
 #[cfg(test)]
-mod runs;
-#[cfg(test)]
 mod term;

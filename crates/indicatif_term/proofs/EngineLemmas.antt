@@ -13,7 +13,7 @@ use Rattle.indicatif_term.proofs.AnewLemmas.{anew_stays}
 use Rattle.indicatif_term.specs.Terminal.{Terminal, after}
 use Rattle.indicatif_term.specs.Calls.{TermView, Writes, anew_bytes}
 use Rattle.indicatif_term.specs.Shows.{Shows, Rests, RowsStay}
-use Rattle.indicatif_term.specs.Lists.{Lists, forgotten_lists, Live, live_of_frame, live_height, live_rows, shown_rows, drawn, cleared, logged, blanks_for}
+use Rattle.indicatif_term.specs.Lists.{Lists, forgotten_lists, Live, live_of_frame, live_height, live_rows, lines_of, fitting, shown_rows, drawn, cleared, logged, blanks_for, segments_height}
 use Rattle.indicatif_term.specs.Inside.Bytes.{paint_bytes}
 use Rattle.indicatif_term.specs.Frames.{is_fault, bar_lines, all_lines, are_plain, some_wide, text_lines, line_text}
 use Rattle.indicatif_term.specs.Inside.Plans.{frame_lines, IsPlan, text_height}
@@ -30,14 +30,10 @@ use Rattle.indicatif_term.specs.declared.layout.Plan.{Plan}
 use Rattle.indicatif_term.proofs.PaintingLemmas.{IsDrawable, AreDrawable, keeps_front}
 use Rattle.indicatif_term.proofs.RowsAboveLemmas.{nothing_keeps, both_keep}
 use Rattle.indicatif_term.proofs.FeedLemmas.{after-append}
-use Rattle.indicatif_term.proofs.ShownRowLemmas.{lines_rows, frame_chars, frame_rows, text_rows}
+use Rattle.indicatif_term.proofs.ShownRowLemmas.{lines_rows, frame_chars, frame_rows, log_rows}
 use Rattle.indicatif_term.proofs.CallTurnLemmas.{led_on-nil}
 use Rattle.indicatif_term.proofs.CountLemmas.{length-live, live_of, same_blanks_log}
 use Rattle.indicatif_term.specs.Inside.Fills.{fill_bytes}
-use Rattle.indicatif_term.specs.Inside.Runs.{PlanEndsAt, frame_edges, written}
-use Rattle.std.proofs.lemmas.Grind.{flat_map-append}
-use Rattle.indicatif_term.proofs.RunLemmas.{AsWritten, as_written}
-use Rattle.indicatif_term.proofs.LineEndLemmas.{plan_runs}
 use Rattle.indicatif_term.proofs.FilledLineLemmas.{refilled, refills, filled_paint}
 use Rattle.indicatif_term.proofs.DrawingLemmas.{lines_none, goes_filled, drawn_goes, cleared_goes, logged_goes, log_live, onward_shows, onward_keeps}
 
@@ -210,56 +206,33 @@ unfolding is_plain has_wide visible
 blanks_drawable w zero = tt
 blanks_drawable w (suc n) = (record { utf8 = IsUtf8-nil; plain = rw chars-nil refl; narrow = rw chars-nil refl }, blanks_drawable w n)
 
-frame_drawable : (w count : ℕ) (frame : List Segment) → IsTrue (are_plain (all_lines (map bar_lines frame))) → IsFalse (some_wide w (all_lines (map bar_lines frame))) →
-    AreDrawable w (take count (frame_lines frame))
-frame_drawable w count frame p n =
-    all_take (IsDrawable w) count (frame_lines frame) (lines_drawable w (frame_lines frame) (frame_utf8 frame) (rw (frame_chars frame) p) (rw (frame_chars frame) n))
-
--- the lines that a plan shows, as they are written
-pub plan_written : (w : ℕ) (frame : List Segment) (p : Plan) → PlanEndsAt w (frame_edges w frame) p →
-    IsTrue (are_plain (all_lines (map bar_lines frame))) → IsFalse (some_wide w (all_lines (map bar_lines frame))) →
-    AsWritten w (take p.lines (frame_lines frame)) (written p.runs_on (take p.lines (frame_lines frame)))
-plan_written w frame p e plain narrow = as_written w p.runs_on (take p.lines (frame_lines frame)) (frame_drawable w p.lines frame plain narrow) (plan_runs w frame p e)
-
--- lines with the same rows, behind others
-rows_behind : (w : ℕ) (front shown out : List (List ℕ)) → lines_rows w out ≡ lines_rows w shown → lines_rows w (front ++ out) ≡ lines_rows w (front ++ shown)
-rows_behind w front shown out e =
-    flat_map-append (λ line. rows_of w (chars line)) front out ∙ ap (λ rs. lines_rows w front ++ rs) e ∙ sym (flat_map-append (λ line. rows_of w (chars line)) front shown)
-
--- blank lines and those of a frame, as they are written
-abbrev below_text : ℕ → List (List ℕ) → List (List ℕ)
-below_text blanks out = replicate blanks [] ++ out
-
-blanks_and : (w blanks : ℕ) (out : List (List ℕ)) → AreDrawable w out → AreDrawable w (below_text blanks out)
-blanks_and w blanks out d = all_append (IsDrawable w) (replicate blanks []) out (blanks_drawable w blanks) d
-
--- they make the live rows
-out_rows : (w h pass blanks : ℕ) (frame : List Segment) (p : Plan) (out : List (List ℕ)) → IsPlan w h pass (map bar_lines frame) p → AsWritten w (take p.lines (frame_lines frame)) out →
-    lines_rows w (below_text blanks out) ≡ live_rows w (record { blanks = blanks; segments = shown_rows w h (map bar_lines frame) })
-out_rows w h pass blanks frame p out q a =
-    rows_behind w (replicate blanks []) (take p.lines (frame_lines frame)) out a.rows
-    ∙ ap (λ n. lines_rows w (below_text blanks (take n (frame_lines frame)))) q.lines_are ∙ frame_rows w h frame blanks
+pub frame_drawable : (w blanks count : ℕ) (frame : List Segment) → IsTrue (are_plain (all_lines (map bar_lines frame))) → IsFalse (some_wide w (all_lines (map bar_lines frame))) →
+    AreDrawable w (replicate blanks [] ++ take count (frame_lines frame))
+frame_drawable w blanks count frame p n =
+    all_append (IsDrawable w) (replicate blanks []) (take count (frame_lines frame)) (blanks_drawable w blanks)
+    (all_take (IsDrawable w) count (frame_lines frame) (lines_drawable w (frame_lines frame) (frame_utf8 frame) (rw (frame_chars frame) p) (rw (frame_chars frame) n)))
 
 -- a draw
-pub draw_paints : (w h : ℕ) (l : Lists) (c next : Counts) (pass blanks : ℕ) (bottom : Bool) (frame : List Segment) (plan : Plan) (out : List (List ℕ)) →
+pub draw_paints : (w h : ℕ) (l : Lists) (c next : Counts) (pass blanks : ℕ) (bottom : Bool) (frame : List Segment) (plan : Plan) →
     let l' = drawn w h bottom pass (map bar_lines frame) l in
-    0 < w → AsWritten w (take plan.lines (frame_lines frame)) out →
+    0 < w → IsTrue (are_plain (all_lines (map bar_lines frame))) → IsFalse (some_wide w (all_lines (map bar_lines frame))) →
     CountsOf c l → IsPlan w h pass (map bar_lines frame) plan → CountsOf next l' →
     blanks ≡ blanks_for bottom c.live 0 plan.rows →
-    Redraws w h l l' (paint_bytes false c.below c.live ([] ++ replicate blanks [] ++ out) next.below
-    ++ fill_bytes next.below w ([] ++ replicate blanks [] ++ out))
-draw_paints w h l c next pass blanks bottom frame plan out p1 a o q o' b =
+    Redraws w h l l' (paint_bytes false c.below c.live ([] ++ replicate blanks [] ++ take plan.lines (frame_lines frame)) next.below
+    ++ fill_bytes next.below w ([] ++ replicate blanks [] ++ take plan.lines (frame_lines frame)))
+draw_paints w h l c next pass blanks bottom frame plan p1 p2 p3 o q o' b =
     let l' = drawn w h bottom pass (map bar_lines frame) l in
-    let lines = below_text blanks out in
+    let lines = replicate blanks [] ++ take (length (fitting h (lines_of w (map bar_lines frame)))) (frame_lines frame) in
     let gone = live_rows w l.live in
     let same : blanks_for bottom c.live 0 plan.rows ≡ (live_of_frame w h bottom (live_height l.live) 0 (map bar_lines frame)).blanks = rw (live_of c l o, q.rows_are) refl in
-    let rows : lines_rows w lines ≡ live_rows w (live_of_frame w h bottom (live_height l.live) 0 (map bar_lines frame)) = out_rows w h pass blanks frame plan out q a
+    let rows : lines_rows w lines ≡ live_rows w (live_of_frame w h bottom (live_height l.live) 0 (map bar_lines frame)) = frame_rows w h frame blanks
     ∙ ap (λ n. live_rows w (record { blanks = n; segments = shown_rows w h (map bar_lines frame) })) (b ∙ same) in
     let count : c.live ≡ length gone = live_of c l o ∙ sym (length-live w l.live) in
     let goes = λ (opening : Screen) (t : Terminal) (x : Shows w h opening l t). drawn_goes w h pass bottom (map bar_lines frame) l lines x.reached x.movable rows in
-    let r = refills l'.below w lines p1 (blanks_and w blanks out a.drawable) in
+    let d = frame_drawable w blanks (length (fitting h (lines_of w (map bar_lines frame)))) frame p2 p3 in
+    let r = refills l'.below w lines p1 d in
     let filled = refilled l'.below w lines in
-    rw (o.below_is, count, o'.below_is, filled_paint w l.below l'.below (length gone) lines) (record {
+    rw (o.below_is, count, q.lines_are, o'.below_is, filled_paint w l.below l'.below (length gone) lines) (record {
       shows = λ opening t x. onward_shows w h opening l l' l.kept gone filled t x (goes_filled w h l l' l.kept gone lines filled r.looks r.count (goes opening t x)) p1 r.drawable r.full;
       keeps = λ opening t x. onward_keeps w h opening l l' l.kept gone filled t x (goes_filled w h l l' l.kept gone lines filled r.looks r.count (goes opening t x)) p1 r.drawable r.full;
     })
@@ -291,49 +264,46 @@ answer_made w lines next (Err e) new g p m = rw g.0.1 (p, m)
 pub narrow_both : (w : ℕ) (a b : List (List ℕ)) → IsFalse (some_wide w a) → IsFalse (some_wide w b) → IsFalse (some_wide w (a ++ b))
 narrow_both w a b m n = let f : some_wide w a ≡ false = m in some_wide-append w a b ∙ rw f n
 
--- of texts that are plain together each is
-plain_parts : (a b : List (List ℕ)) → IsTrue (are_plain (a ++ b)) → IsTrue (are_plain a) × IsTrue (are_plain b)
-plain_parts a b p = and_parts (are_plain a) (are_plain b) (sym (list_all-append is_plain a b) ∙ p)
-
-pub frame_plain : (a b : List (List ℕ)) → IsTrue (are_plain (a ++ b)) → IsTrue (are_plain b)
-frame_plain a b p = (plain_parts a b p).1
-
-log_drawable : (w blanks : ℕ) (text out : List (List ℕ)) (frame : List Segment) → AllByRecursion IsUtf8 text → IsTrue (are_plain (text_lines text ++ all_lines (map bar_lines frame))) →
-    IsFalse (some_wide w (text_lines text)) → AreDrawable w out → AreDrawable w (text ++ replicate blanks [] ++ out)
-log_drawable w blanks text out frame u p n d =
-    subst (AreDrawable w) (sym (append_assoc text (replicate blanks []) out))
-    (all_append (IsDrawable w) text (below_text blanks out) (lines_drawable w text u (plain_parts (text_lines text) (all_lines (map bar_lines frame)) p).0 n) (blanks_and w blanks out d))
+pub log_drawable : (w blanks count : ℕ) (text : List (List ℕ)) (frame : List Segment) → AllByRecursion IsUtf8 text → IsTrue (are_plain (text_lines text ++ all_lines (map bar_lines frame))) →
+    IsFalse (some_wide w (text_lines text)) → IsFalse (some_wide w (all_lines (map bar_lines frame))) →
+    AreDrawable w (text ++ replicate blanks [] ++ take count (frame_lines frame))
+log_drawable w blanks count text frame u p n m =
+    let parts = and_parts (are_plain (text_lines text)) (are_plain (all_lines (map bar_lines frame))) (sym (list_all-append is_plain (text_lines text) (all_lines (map bar_lines frame))) ∙ p) in
+    subst (AreDrawable w) (sym (append_assoc text (replicate blanks []) (take count (frame_lines frame))))
+    (all_append (IsDrawable w) text (replicate blanks [] ++ take count (frame_lines frame)) (lines_drawable w text u parts.0 n) (frame_drawable w blanks count frame parts.1 m))
 
 -- where no line is written, nothing is live
-log_none : (w blanks : ℕ) (text out : List (List ℕ)) (live : Live) → lines_rows w (below_text blanks out) ≡ live_rows w live →
-    length (text ++ replicate blanks [] ++ out) ≡ 0 → live_height live ≡ 0
-log_none w blanks text out live rows e =
-    let lines = below_text blanks out in
-    let none : length lines ≡ 0 = omega (arith, e, ap length (append_assoc text (replicate blanks []) out), length-append text lines) in
-    sym (length-live w live) ∙ ap length (sym rows) ∙ lines_none w lines none
+pub log_none : (w h blanks : ℕ) (text : List (List ℕ)) (frame : List Segment) →
+    length (text ++ replicate blanks [] ++ take (length (fitting h (lines_of w (map bar_lines frame)))) (frame_lines frame)) ≡ 0 →
+    live_height (record { blanks = blanks; segments = shown_rows w h (map bar_lines frame) }) ≡ 0
+log_none w h blanks text frame e =
+    let count = length (fitting h (lines_of w (map bar_lines frame))) in
+    let live : Live = record { blanks = blanks; segments = shown_rows w h (map bar_lines frame) } in
+    let lines = replicate blanks [] ++ take count (frame_lines frame) in
+    let none : length lines ≡ 0 = omega (arith, e, ap length (append_assoc text (replicate blanks []) (take count (frame_lines frame))), length-append text lines) in
+    sym (length-live w live) ∙ ap length (sym (frame_rows w h frame blanks)) ∙ lines_none w lines none
 
-pub log_paints : (w h : ℕ) (l : Lists) (c next : Counts) (rows blanks : ℕ) (bottom : Bool) (text : List (List ℕ)) (frame : List Segment) (plan : Plan) (out : List (List ℕ)) →
+pub log_paints : (w h : ℕ) (l : Lists) (c next : Counts) (rows blanks : ℕ) (bottom : Bool) (text : List (List ℕ)) (frame : List Segment) (plan : Plan) →
     let l' = logged w h bottom (text_lines text) (map bar_lines frame) l in
     0 < w → AllByRecursion IsUtf8 text → IsTrue (are_plain (text_lines text ++ all_lines (map bar_lines frame))) → IsFalse (some_wide w (text_lines text)) →
-    AsWritten w (take plan.lines (frame_lines frame)) out →
+    IsFalse (some_wide w (all_lines (map bar_lines frame))) →
     CountsOf c l → IsPlan w h 0 (map bar_lines frame) plan → CountsOf next l' → rows ≡ min (text_height w (text_lines text)) (2 ^ 64 - 1) →
     blanks ≡ blanks_for bottom (c.kept + c.live) rows plan.rows →
-    Redraws w h l l' (paint_bytes false c.below (c.kept + c.live) (text ++ replicate blanks [] ++ out) next.below
-    ++ fill_bytes next.below w (text ++ replicate blanks [] ++ out))
-log_paints w h l c next rows blanks bottom text frame plan out p1 u p2 p3 a o q o' rw_ b =
+    Redraws w h l l' (paint_bytes false c.below (c.kept + c.live) (text ++ replicate blanks [] ++ take plan.lines (frame_lines frame)) next.below
+    ++ fill_bytes next.below w (text ++ replicate blanks [] ++ take plan.lines (frame_lines frame)))
+log_paints w h l c next rows blanks bottom text frame plan p1 u p2 p3 p4 o q o' rw_ b =
     let l' = logged w h bottom (text_lines text) (map bar_lines frame) l in
-    let lines = text ++ replicate blanks [] ++ out in
+    let lines = text ++ replicate blanks [] ++ take (length (fitting h (lines_of w (map bar_lines frame)))) (frame_lines frame) in
     let gone = l.kept ++ live_rows w l.live in
     let same : blanks ≡ (log_live w h bottom (text_lines text) (map bar_lines frame) l).blanks = b ∙ same_blanks_log w h rows bottom (text_lines text) (map bar_lines frame) l c plan o q rw_ in
-    let live : lines_rows w (below_text blanks out) ≡ live_rows w (log_live w h bottom (text_lines text) (map bar_lines frame) l) =
-    out_rows w h 0 blanks frame plan out q a ∙ ap (λ n. live_rows w (record { blanks = n; segments = shown_rows w h (map bar_lines frame) })) same in
     let e : lines_rows w lines ≡ flat_map (rows_of w) (text_lines text) ++ live_rows w (log_live w h bottom (text_lines text) (map bar_lines frame) l) =
-    ap (lines_rows w) (append_assoc text (replicate blanks []) out) ∙ flat_map-append (λ line. rows_of w (chars line)) text (below_text blanks out) ∙ cc (text_rows w text, live) in
-    let z = log_none w blanks text out (log_live w h bottom (text_lines text) (map bar_lines frame) l) live in
+    log_rows w h frame blanks text ∙ ap (λ n. flat_map (rows_of w) (text_lines text) ++ live_rows w (record { blanks = n; segments = shown_rows w h (map bar_lines frame) })) same in
+    let z = λ (k : length lines ≡ 0). ap (λ n. n + segments_height (shown_rows w h (map bar_lines frame))) (sym same) ∙ log_none w h blanks text frame k in
     let count : c.kept + c.live ≡ length gone = sym (length-append l.kept (live_rows w l.live) ∙ ap (λ n. length l.kept + n) (length-live w l.live) ∙ sum_same c l o) in
-    let r = refills l'.below w lines p1 (log_drawable w blanks text out frame u p2 p3 a.drawable) in
+    let d = log_drawable w blanks (length (fitting h (lines_of w (map bar_lines frame)))) text frame u p2 p3 p4 in
+    let r = refills l'.below w lines p1 d in
     let filled = refilled l'.below w lines in
-    rw (o.below_is, count, o'.below_is, filled_paint w l.below l'.below (length gone) lines) (record {
+    rw (o.below_is, count, q.lines_are, o'.below_is, filled_paint w l.below l'.below (length gone) lines) (record {
       shows = λ opening t x. onward_shows w h opening l l' [] gone filled t x
           (goes_filled w h l l' [] gone lines filled r.looks r.count (logged_goes w h bottom (text_lines text) (map bar_lines frame) l lines x.reached x.movable e z)) p1 r.drawable r.full;
       keeps = λ opening t x. onward_keeps w h opening l l' [] gone filled t x

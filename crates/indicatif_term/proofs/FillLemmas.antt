@@ -1,6 +1,6 @@
 -- A line filled with spaces up to the end of its last row looks as it did, and its row is full.
-use Rattle.std.proofs.Common.{◌≡◌, ℕ, zero, suc, ◌+◌, ◌-◌, ◌<◌, ◌≤◌, Bool, true, false, List, [], ◌∷◌, ◌++◌, length, map, replicate, chars, refl, sym, ◌∙◌, ap, arith, append_assoc, append-nil, if◌then◌else◌, inl, inr, eqb}
-use Rattle.std.specs.Prelude.{slice_index, nat_le, flat_map}
+use Rattle.std.proofs.Common.{◌≡◌, ℕ, zero, suc, ◌+◌, ◌-◌, ◌<◌, ◌≤◌, Bool, true, false, List, [], ◌∷◌, ◌++◌, length, map, replicate, chars, refl, sym, ◌∙◌, ap, arith, append_assoc, append-nil, Option, Some, None, if◌then◌else◌, inl, inr, eqb, cond}
+use Rattle.std.specs.Prelude.{slice_index, nat_le, ◌&&◌, is_some, unwrap_or, option_map, flat_map}
 use Rattle.std.specs.List.{AllByRecursion, repeat}
 use Rattle.std.specs.Str.{IsUtf8, IsAscii}
 use Rattle.std.proofs.lemmas.Str.{IsUtf8-from_ascii, chars-append, chars-IsAscii}
@@ -8,13 +8,13 @@ use Rattle.std.proofs.lemmas.Bool.{cases_Bool, leb-true, le-leb}
 use Rattle.std.proofs.lemmas.List.{map-append}
 use Rattle.std.proofs.lemmas.Grind.{flat_map-append}
 use Rattle.unicode_width.specs.Width.{char_width}
-use Rattle.indicatif_text.specs.Columns.{Blank, Glyph, width_of, glyph_width, glyph_cells, glyphs_of, columns_in, pieces_after, pieces_of, row_of, rows_of, visible, visible_from, columns_of_last, last_columns}
+use Rattle.indicatif_text.specs.Columns.{Blank, Glyph, width_of, glyph_width, glyph_cells, glyphs_of, columns_in, pieces_after, pieces_of, row_of, rows_of, visible, visible_from, colour_length, parameters_length, is_parameter, columns_of_last, last_columns}
 use Rattle.indicatif_term.specs.Inside.Bytes.{lines_bytes, next_row}
 use Rattle.indicatif_term.specs.Inside.Fills.{fill_bytes}
 use Rattle.indicatif_term.specs.Shows.{look, looks_of}
 use Rattle.indicatif_term.proofs.CursorRowLemmas.{IsSized, IsShowable}
-use Rattle.indicatif_term.proofs.WrittenLineLemmas.{marks_before, marks_before-cons, glyphs_sized}
-use Rattle.indicatif_term.proofs.AppendedTextLemmas.{visible_more, shown_of, glyphs_more}
+use Rattle.indicatif_term.proofs.TextLemmas.{IsShown, not_control, mapped, none_some}
+use Rattle.indicatif_term.proofs.WrittenLineLemmas.{marks_before, marks_before-cons, has_no_width, glyphs_sized}
 use Rattle.indicatif_term.proofs.GlyphLemmas.{pieces_some, last_more, columns_push}
 
 -- spaces
@@ -53,10 +53,74 @@ filled_chars line n u = chars-append line (spaces n) u ∙ ap (λ cs. chars line
 
 -- ---- what is visible
 
+parameters_more : (cs ds : List ℕ) (k : ℕ) → parameters_length cs ≡ Some k → parameters_length (cs ++ ds) ≡ Some k
+parameters_more [] ds k e = absurd (none_some e)
+parameters_more (c ∷ cs) ds k e = elim (cases_Bool (eqb c 0x6D)) [
+  | inl ends ↦ rw ends (rw ends at e)
+  | inr more ↦ elim (cases_Bool (is_parameter c)) [
+    | inl is ↦
+        let m = mapped 1 (parameters_length cs) k (rw (more, is) at e) in
+        rw (more, is) (ap (option_map (λ n. n + 1)) (parameters_more cs ds m.0 m.1) ∙ ap Some (sym m.2))
+    | inr other ↦ absurd (none_some (rw (more, other) at e))
+  ]
+]
+
+some_is : {m n : ℕ} → Some m ≡ Some n → m ≡ n
+some_is e = cc
+
+parameters_within : (cs : List ℕ) (k : ℕ) → parameters_length cs ≡ Some k → k ≤ length cs
+parameters_within [] k e = absurd (none_some e)
+parameters_within (c ∷ cs) k e = elim (cases_Bool (eqb c 0x6D)) [
+  | inl ends ↦ let one : 1 ≡ k = some_is (rw ends at e) in omega arith
+  | inr more ↦ elim (cases_Bool (is_parameter c)) [
+    | inl is ↦
+        let m = mapped 1 (parameters_length cs) k (rw (more, is) at e) in
+        omega (arith, m.2, parameters_within cs m.0 m.1)
+    | inr other ↦ absurd (none_some (rw (more, other) at e))
+  ]
+]
+
+-- a colour sequence at the front stays one, and ends within the text
+colour_more : (c d : ℕ) (ds more : List ℕ) (k : ℕ) → colour_length (c ∷ d ∷ ds) ≡ Some k → (colour_length (c ∷ d ∷ (ds ++ more)) ≡ Some k) × (k - 1 ≤ length (d ∷ ds))
+colour_more c d ds more k e = elim (cases_Bool (eqb c 0x1B && eqb d 0x5B)) [
+  | inl holds ↦
+      let m = mapped 2 (parameters_length ds) k (rw holds at e) in
+      (rw holds (ap (option_map (λ n. n + 2)) (parameters_more ds more m.0 m.1) ∙ ap Some (sym m.2)), omega (arith, m.2, parameters_within ds m.0 m.1))
+  | inr fails ↦ absurd (none_some (rw fails at e))
+]
+
 visible_spaces : (n : ℕ) → visible_from 0 (spaces n) ≡ spaces n
 visible_spaces zero = refl
 visible_spaces (suc zero) = refl
 visible_spaces (suc (suc n)) = ap (λ cs. 0x20 ∷ cs) (visible_spaces (suc n))
+
+-- what shows of a text of at least two characters, where o is the length of the colour sequence at its front
+abbrev shown_after : Option ℕ → ℕ → List ℕ → List ℕ
+shown_after o c cs = if is_some o then visible_from (unwrap_or o 1 - 1) cs else c ∷ visible_from 0 cs
+
+no_colour : (c : ℕ) (cs : List ℕ) → IsShown c → colour_length (c ∷ cs) ≡ None
+unfolding char_width
+no_colour c [] shown = refl
+no_colour c (d ∷ cs) shown = rw (not_control c 0x1B shown refl) refl
+
+colour_case : (n c d : ℕ) (ds : List ℕ) (o : Option ℕ) → colour_length (c ∷ d ∷ ds) ≡ o → AllByRecursion IsShown (shown_after o c (d ∷ ds)) →
+    ((k : ℕ) → k ≤ length (d ∷ ds) → AllByRecursion IsShown (visible_from k (d ∷ ds)) → visible_from k ((d ∷ ds) ++ spaces n) ≡ visible_from k (d ∷ ds) ++ spaces n) →
+    shown_after (colour_length (c ∷ d ∷ (ds ++ spaces n))) c (d ∷ (ds ++ spaces n)) ≡ shown_after o c (d ∷ ds) ++ spaces n
+colour_case n c d ds None e all rest =
+    let o : colour_length (c ∷ d ∷ (ds ++ spaces n)) ≡ None = no_colour c (d ∷ (ds ++ spaces n)) all.0 in
+    rw o (ap (λ cs. c ∷ cs) (rest 0 (omega arith) all.1))
+colour_case n c d ds (Some k) e all rest =
+    let m = colour_more c d ds (spaces n) k e in
+    rw m.0 (rest (k - 1) m.1 all)
+
+visible_more : (n k : ℕ) (text : List ℕ) → k ≤ length text → AllByRecursion IsShown (visible_from k text) → visible_from k (text ++ spaces n) ≡ visible_from k text ++ spaces n
+visible_more n zero [] h all = visible_spaces n
+visible_more n (suc k) [] h all = absurd (omega arith)
+visible_more n (suc k) (c ∷ cs) h all = visible_more n k cs (omega arith) all
+visible_more n zero (c ∷ []) h all =
+    let o : colour_length (c ∷ spaces n) ≡ None = no_colour c (spaces n) all.0 in
+    rw o (ap (λ cs. c ∷ cs) (visible_spaces n))
+visible_more n zero (c ∷ d ∷ ds) h all = colour_case n c d ds (colour_length (c ∷ d ∷ ds)) refl all (λ k l a. visible_more n k (d ∷ ds) l a)
 
 -- ---- glyphs
 
@@ -70,6 +134,17 @@ glyphs_spaces (suc n) =
     let marks : marks_before (spaces n) ≡ [] = marks_spaces n in
     let rest : glyphs_of (spaces n) ≡ replicate n space = glyphs_spaces n in
     rw (space_takes, marks, rest) refl
+
+marks_more : (n : ℕ) (cs : List ℕ) → marks_before (cs ++ spaces n) ≡ marks_before cs
+marks_more n [] = marks_spaces n
+marks_more n (c ∷ cs) = marks_before-cons c (cs ++ spaces n) ∙ ap (λ ms. cond (has_no_width c) (c ∷ ms) []) (marks_more n cs) ∙ sym (marks_before-cons c cs)
+
+glyphs_more : (n : ℕ) (cs : List ℕ) → glyphs_of (cs ++ spaces n) ≡ glyphs_of cs ++ replicate n space
+glyphs_more n [] = glyphs_spaces n
+glyphs_more n (c ∷ cs) = elim (cases_Bool (eqb (width_of c) 0)) [
+  | inl none ↦ rw none (glyphs_more n cs)
+  | inr some ↦ rw (some, marks_more n cs, glyphs_more n cs) refl
+]
 
 -- ---- pieces
 
@@ -139,6 +214,10 @@ last_fits w p (g ∷ gs) h all = elim (cases_Bool (nat_le (columns_in p + glyph_
 
 -- ---- lines
 
+shown_of : (w : ℕ) (cs : List ℕ) → AllByRecursion (IsShowable w) cs → AllByRecursion IsShown cs
+shown_of w [] all = tt
+shown_of w (c ∷ cs) all = (all.0.shown_rows, shown_of w cs all.1)
+
 -- the columns that are free behind these characters
 abbrev pub free_behind : ℕ → List ℕ → ℕ
 free_behind w cs = w - last_columns w cs
@@ -155,10 +234,8 @@ filled_text w cs all =
     let n = w - columns_of_last (pieces_of w (glyphs_of (visible_from 0 cs))) in
     let gs = glyphs_of (visible_from 0 cs) in
     let room : columns_of_last (pieces_of w gs) ≤ w = last_fits w [] gs (omega arith) (glyphs_sized w (visible_from 0 cs) all) in
-    let seen : visible_from 0 (cs ++ spaces n) ≡ visible_from 0 cs ++ spaces n =
-    visible_more (spaces n) 0 cs (omega arith) (shown_of w (visible_from 0 cs) all) ∙ ap (λ ds. visible_from 0 cs ++ ds) (visible_spaces n) in
-    let glyphs : glyphs_of (visible_from 0 (cs ++ spaces n)) ≡ gs ++ replicate n space =
-    ap glyphs_of seen ∙ glyphs_more (visible_from 0 cs) (spaces n) (marks_spaces n) ∙ ap (λ x. gs ++ x) (glyphs_spaces n) in
+    let seen : visible_from 0 (cs ++ spaces n) ≡ visible_from 0 cs ++ spaces n = visible_more n 0 cs (omega arith) (shown_of w (visible_from 0 cs) all) in
+    let glyphs : glyphs_of (visible_from 0 (cs ++ spaces n)) ≡ gs ++ replicate n space = ap glyphs_of seen ∙ glyphs_more n (visible_from 0 cs) in
     record {
       full = ap (λ x. columns_of_last (pieces_of w x)) glyphs ∙ last_spaces w n [] gs (omega arith) ∙ omega arith;
       looks = ap (λ x. looks_of (map (row_of w) (pieces_of w x))) glyphs ∙ rows_spaces w n [] gs (omega arith);

@@ -216,7 +216,7 @@ some_line (x ∷ frame) (suc i) s h e p = omega (arith, length-append (bar_lines
 
 -- nothing yet
 pub nothing_laid : (h : ℕ) (v : Vec RowCount Global) → v.items ≡ [] →
-    let p : Plan = record { segments = v; rows = 0; lines = 0; last = None; runs_on = true; full = false; passing = 0 } in
+    let p : Plan = record { segments = v; rows = 0; lines = 0; last = None; full = false; passing = 0 } in
     IsSummed h p × IsLaidOut h [] p
 unfolding fitting grouped
 nothing_laid h v e = (

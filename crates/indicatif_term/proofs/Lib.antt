@@ -3,7 +3,6 @@ pub mod MoveByteLemmas
 pub mod CursorRowLemmas
 pub mod ScreenRowLemmas
 pub mod GlyphLemmas
-pub mod AppendedTextLemmas
 pub mod FillLemmas
 pub mod ReaderLemmas
 pub mod TextLemmas
@@ -20,10 +19,8 @@ pub mod TerminalStepLemmas
 pub mod ShownRowLemmas
 pub mod PaintingLemmas
 pub mod FilledLineLemmas
-pub mod RunLemmas
 pub mod CountLemmas
 pub mod MemberLineLemmas
-pub mod JoinedBytesLemmas
 pub mod MeasureLemmas
 pub mod LineEndLemmas
 pub mod LayoutLemmas

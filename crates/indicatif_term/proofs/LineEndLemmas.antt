@@ -1,11 +1,10 @@
--- Where the last line that a plan shows ends, and whether its lines run on, as lines are placed one after another.
+-- Where the last line that a plan shows ends, as lines are placed one after another.
 use Rattle.std.proofs.Common.{◌≡◌, ℕ, ◌+◌, ◌<◌, true, false, List, [], ◌∷◌, ◌++◌, length, map, take, replicate, get_or, refl, sym, ◌∙◌, ap, arith, append-nil, length-append, Option, Some, None, Bool, Vec, Global, Bor, Result, Ok, Err, chars}
 use Rattle.std.proofs.lemmas.Str.{chars-nil}
 use Rattle.indicatif_text.specs.Columns.{last_columns, visible, rows_of}
 use Rattle.indicatif_text.specs.declared.columns.Metrics.{Metrics}
 use Rattle.indicatif_text.specs.declared.refusal.Refusal.{Refusal}
-use Rattle.std.specs.Prelude.{option_map, unwrap_or, fold, ◌&&◌}
-use Rattle.std.proofs.Math.Bool.{and-true, and_assoc}
+use Rattle.std.specs.Prelude.{option_map, unwrap_or, fold}
 use Rattle.std.proofs.lemmas.Grind.{flat_map-append}
 use Rattle.std.proofs.lemmas.List.{take_more, take_all, take-map, map-append, take-append-le, length-take-le, nil_from_length}
 use Rattle.indicatif_term.specs.Frames.{line_text, bar_lines}
@@ -13,105 +12,73 @@ use Rattle.indicatif_term.specs.Lists.{BarLines, blanks_for, fitting, lines_of, 
 use Rattle.indicatif_term.proofs.ShownRowLemmas.{frame_lines_le}
 use Rattle.indicatif_term.specs.Inside.Plans.{frame_lines, IsPlan, MeasuredLine, MeasuredText}
 use Rattle.indicatif_term.proofs.MeasureLemmas.{empty_height, empty_narrow}
-use Rattle.indicatif_term.specs.Inside.Fills.{last_of, line_end, fill_columns, fill_bytes, spaces_behind, line_or_none, last_or_none}
-use Rattle.indicatif_term.specs.Inside.Runs.{Edges, PlanEndsAt, edges_of, member_edges, frame_edges, follows, run_on}
-use Rattle.indicatif_term.proofs.RunLemmas.{AsWritten}
+use Rattle.indicatif_term.specs.Inside.Fills.{PlanEndsAt, last_of, line_end, member_ends, frame_ends, fill_columns, fill_bytes, spaces_behind, line_or_none, last_or_none}
 use Rattle.indicatif_term.specs.declared.lines.Segment.{Segment}
 use Rattle.indicatif_term.specs.declared.lines.LineType.{LineType}
 use Rattle.indicatif_term.specs.declared.layout.Plan.{Plan}
 use Rattle.indicatif_term.specs.declared.layout.RowCount.{RowCount}
 use Rattle.indicatif_term.proofs.LastLineLemmas.{last_push, last_append, some_last}
 
-pub nothing_ends : (w : ℕ) (v : Vec RowCount Global) → let p : Plan = record { segments = v; rows = 0; lines = 0; last = None; runs_on = true; full = false; passing = 0 } in PlanEndsAt w [] p
-nothing_ends w v = record { lines_in = omega arith; all_in = λ e. refl; last_is = refl; runs_on_is = refl }
+pub nothing_ends : (v : Vec RowCount Global) → let p : Plan = record { segments = v; rows = 0; lines = 0; last = None; full = false; passing = 0 } in PlanEndsAt [] p
+nothing_ends v = record { lines_in = omega arith; all_in = λ e. refl; last_is = refl }
 
-abbrev end_of : List Edges → Option ℕ
-end_of es = option_map (λ (e : Edges). e.end) (last_of es)
-
--- one more line runs on where they do and it does
-run_push : (w : ℕ) (es : List Edges) (x : Edges) → run_on w (es ++ x ∷ []) ≡ (run_on w es && follows w (end_of es) x.front)
-run_push w [] x = refl
-run_push w (e ∷ []) x = and-true (follows w (Some e.end) x.front)
-run_push w (e ∷ next ∷ es) x =
-    ap (λ b. follows w (Some e.end) next.front && b) (run_push w (next ∷ es) x)
-    ∙ sym (and_assoc (follows w (Some e.end) next.front) (run_on w (next ∷ es)) (follows w (end_of (next ∷ es)) x.front))
-
-module _ (w : ℕ) (before : List Edges) (p p' : Plan) (e : PlanEndsAt w before p) where
+module _ (before : List ℕ) (p p' : Plan) (e : PlanEndsAt before p) where
   -- a line that is not shown, nor any after it
-  pub not_shown : (x : Edges) → p'.lines ≡ p.lines → p'.last ≡ p.last → p'.runs_on ≡ p.runs_on → p'.full ≡ true → PlanEndsAt w (before ++ x ∷ []) p'
-  not_shown x a b r c =
-      let same : take p.lines before ≡ take p'.lines (before ++ x ∷ []) =
-      sym (take-append-le p.lines before (x ∷ []) e.lines_in) ∙ ap (λ n. take n (before ++ x ∷ [])) (sym a) in
-      record {
-        lines_in = omega (arith, a, e.lines_in, length-append before (x ∷ []));
-        all_in = λ f. let no : true ≡ false = sym c ∙ f in cc;
-        last_is = b ∙ e.last_is ∙ ap end_of same;
-        runs_on_is = r ∙ e.runs_on_is ∙ ap (run_on w) same;
-      }
+  pub not_shown : (x : ℕ) → p'.lines ≡ p.lines → p'.last ≡ p.last → p'.full ≡ true → PlanEndsAt (before ++ x ∷ []) p'
+  not_shown x a b c = record {
+    lines_in = omega (arith, a, e.lines_in, length-append before (x ∷ []));
+    all_in = λ f. let no : true ≡ false = sym c ∙ f in cc;
+    last_is = b ∙ e.last_is ∙ ap last_of (sym (take-append-le p.lines before (x ∷ []) e.lines_in) ∙ ap (λ n. take n (before ++ x ∷ [])) (sym a));
+  }
 
   -- one that is
-  pub is_shown : (x : Edges) → p.full ≡ false → p'.lines ≡ p.lines + 1 → p'.last ≡ Some x.end → p'.runs_on ≡ (p.runs_on && follows w p.last x.front) →
-      PlanEndsAt w (before ++ x ∷ []) p'
-  is_shown x f a b r =
+  pub is_shown : (x : ℕ) → p.full ≡ false → p'.lines ≡ p.lines + 1 → p'.last ≡ Some x → PlanEndsAt (before ++ x ∷ []) p'
+  is_shown x f a b =
       let n : p'.lines ≡ length (before ++ x ∷ []) = omega (arith, a, e.all_in f, length-append before (x ∷ [])) in
-      let now : take p'.lines (before ++ x ∷ []) ≡ before ++ x ∷ [] = take_all p'.lines (before ++ x ∷ []) (omega (arith, n)) in
-      let old : take p.lines before ≡ before = take_all p.lines before (omega (arith, e.all_in f)) in
       record {
         lines_in = omega (arith, n);
         all_in = λ _. n;
-        last_is = b ∙ sym (ap (option_map (λ (e : Edges). e.end)) (ap last_of now ∙ last_push before x));
-        runs_on_is = r ∙ cc (e.runs_on_is, e.last_is, old) ∙ sym (ap (run_on w) now ∙ run_push w before x);
+        last_is = b ∙ sym (last_push before x) ∙ ap last_of (sym (take_all p'.lines (before ++ x ∷ []) (omega (arith, n))));
       }
 
   -- the plan changes elsewhere
-  pub still_ends : p'.lines ≡ p.lines → p'.last ≡ p.last → p'.runs_on ≡ p.runs_on → p'.full ≡ p.full → PlanEndsAt w before p'
-  still_ends a b r c = record {
-    lines_in = omega (arith, a, e.lines_in);
-    all_in = λ f. a ∙ e.all_in (sym c ∙ f);
-    last_is = b ∙ e.last_is ∙ ap (λ n. end_of (take n before)) (sym a);
-    runs_on_is = r ∙ e.runs_on_is ∙ ap (λ n. run_on w (take n before)) (sym a);
-  }
+  pub still_ends : p'.lines ≡ p.lines → p'.last ≡ p.last → p'.full ≡ p.full → PlanEndsAt before p'
+  still_ends a b c = record { lines_in = omega (arith, a, e.lines_in); all_in = λ f. a ∙ e.all_in (sym c ∙ f); last_is = b ∙ e.last_is ∙ ap (λ n. last_of (take n before)) (sym a) }
 
 -- ---- line by line, member by member
 
-pub line_edges_step : (w : ℕ) (items : List LineType) (j : ℕ) (x : LineType) → j < length items → get_or items j x ≡ x →
-    map (λ line. edges_of w (line_text line)) (take (j + 1) items) ≡ map (λ line. edges_of w (line_text line)) (take j items) ++ edges_of w (line_text x) ∷ []
-line_edges_step w items j x h e =
-    ap (map (λ line. edges_of w (line_text line))) (take_more items j x h ∙ ap (λ y. take j items ++ y ∷ []) e) ∙ map-append (λ line. edges_of w (line_text line)) (take j items) (x ∷ [])
+pub line_ends_step : (w : ℕ) (items : List LineType) (j : ℕ) (x : LineType) → j < length items → get_or items j x ≡ x →
+    map (λ line. line_end w (line_text line)) (take (j + 1) items) ≡ map (λ line. line_end w (line_text line)) (take j items) ++ line_end w (line_text x) ∷ []
+line_ends_step w items j x h e =
+    ap (map (λ line. line_end w (line_text line))) (take_more items j x h ∙ ap (λ y. take j items ++ y ∷ []) e) ∙ map-append (λ line. line_end w (line_text line)) (take j items) (x ∷ [])
 
-pub member_edges_step : (w : ℕ) (frame : List Segment) (i : ℕ) (s : Segment) → i < length frame → get_or frame i s ≡ s →
-    frame_edges w (take (i + 1) frame) ≡ frame_edges w (take i frame) ++ member_edges w s
-member_edges_step w frame i s h e =
-    ap (frame_edges w) (take_more frame i s h ∙ ap (λ y. take i frame ++ y ∷ []) e) ∙ flat_map-append (member_edges w) (take i frame) (s ∷ [])
-    ∙ ap (λ xs. frame_edges w (take i frame) ++ xs) (append-nil (member_edges w s))
+pub member_ends_step : (w : ℕ) (frame : List Segment) (i : ℕ) (s : Segment) → i < length frame → get_or frame i s ≡ s →
+    frame_ends w (take (i + 1) frame) ≡ frame_ends w (take i frame) ++ member_ends w s
+member_ends_step w frame i s h e =
+    ap (frame_ends w) (take_more frame i s h ∙ ap (λ y. take i frame ++ y ∷ []) e) ∙ flat_map-append (member_ends w) (take i frame) (s ∷ [])
+    ∙ ap (λ xs. frame_ends w (take i frame) ++ xs) (append-nil (member_ends w s))
 
 -- ---- what fills the last row
 
-both_maps : (w : ℕ) (items : List LineType) → map (edges_of w) (map line_text items) ≡ map (λ line. edges_of w (line_text line)) items
+both_maps : (w : ℕ) (items : List LineType) → map (line_end w) (map line_text items) ≡ map (λ line. line_end w (line_text line)) items
 both_maps w [] = refl
-both_maps w (x ∷ items) = ap (λ xs. edges_of w (line_text x) ∷ xs) (both_maps w items)
+both_maps w (x ∷ items) = ap (λ xs. line_end w (line_text x) ∷ xs) (both_maps w items)
 
-frame_edges_lines : (w : ℕ) (frame : List Segment) → map (edges_of w) (frame_lines frame) ≡ frame_edges w frame
-frame_edges_lines w [] = refl
-frame_edges_lines w (s ∷ frame) =
-    map-append (edges_of w) (map line_text s.lines.items) (frame_lines frame) ∙ cc (both_maps w s.lines.items, frame_edges_lines w frame)
+frame_ends_lines : (w : ℕ) (frame : List Segment) → map (line_end w) (frame_lines frame) ≡ frame_ends w frame
+frame_ends_lines w [] = refl
+frame_ends_lines w (s ∷ frame) =
+    map-append (line_end w) (map line_text s.lines.items) (frame_lines frame) ∙ cc (both_maps w s.lines.items, frame_ends_lines w frame)
 
-end_of_lines : (w : ℕ) (lines : List (List ℕ)) → end_of (map (edges_of w) lines) ≡ option_map (line_end w) (last_of lines)
-end_of_lines w [] = refl
-end_of_lines w (line ∷ []) = refl
-end_of_lines w (line ∷ next ∷ lines) = end_of_lines w (next ∷ lines)
+last_map : (f : List ℕ → ℕ) (lines : List (List ℕ)) → last_of (map f lines) ≡ option_map f (last_of lines)
+last_map f [] = refl
+last_map f (line ∷ []) = refl
+last_map f (line ∷ next ∷ lines) = last_map f (next ∷ lines)
 
-module _ (w : ℕ) (frame : List Segment) (p : Plan) (e : PlanEndsAt w (frame_edges w frame) p) where
-  shown_edges : take p.lines (frame_edges w frame) ≡ map (edges_of w) (take p.lines (frame_lines frame))
-  shown_edges = ap (take p.lines) (sym (frame_edges_lines w frame)) ∙ take-map (edges_of w) p.lines (frame_lines frame)
-
-  -- the last line that a plan shows ends there
-  plan_end : p.last ≡ option_map (line_end w) (last_of (take p.lines (frame_lines frame)))
-  plan_end = e.last_is ∙ ap end_of shown_edges ∙ end_of_lines w (take p.lines (frame_lines frame))
-
-  -- and the lines that it shows run on, or not
-  pub plan_runs : p.runs_on ≡ run_on w (map (edges_of w) (take p.lines (frame_lines frame)))
-  plan_runs = e.runs_on_is ∙ ap (run_on w) shown_edges
+-- the last line that a plan shows ends there
+pub plan_end : (w : ℕ) (frame : List Segment) (p : Plan) → PlanEndsAt (frame_ends w frame) p → p.last ≡ option_map (line_end w) (last_of (take p.lines (frame_lines frame)))
+plan_end w frame p e =
+    e.last_is ∙ ap (λ xs. last_of (take p.lines xs)) (sym (frame_ends_lines w frame)) ∙ ap last_of (take-map (line_end w) p.lines (frame_lines frame))
+    ∙ last_map (line_end w) (take p.lines (frame_lines frame))
 
 fill_by_last : (w : ℕ) (last : Option (List ℕ)) → replicate (fill_columns false w (option_map (line_end w) last)) 0x20 ≡ spaces_behind w last
 fill_by_last w None = refl
@@ -184,31 +151,28 @@ no_blanks : (bottom : Bool) (taken text : ℕ) → blanks_for bottom taken text 
 no_blanks true taken text = refl
 no_blanks false taken text = refl
 
-module _ (w h pass blanks taken text_rows : ℕ) (bottom : Bool) (frame : List Segment) (p : Plan) (q : IsPlan w h pass (map bar_lines frame) p) (e : PlanEndsAt w (frame_edges w frame) p)
-    (b : blanks ≡ blanks_for bottom taken text_rows p.rows) (out : List (List ℕ)) (a : AsWritten w (take p.lines (frame_lines frame)) out) where
+module _ (w h pass blanks taken text_rows : ℕ) (bottom : Bool) (frame : List Segment) (p : Plan) (q : IsPlan w h pass (map bar_lines frame) p) (e : PlanEndsAt (frame_ends w frame) p)
+    (b : blanks ≡ blanks_for bottom taken text_rows p.rows) where
   abbrev shown : List (List ℕ)
   shown = take p.lines (frame_lines frame)
 
   -- where no line of the frame is shown, no blank one is written
-  none_shown : length out ≡ 0 → blanks ≡ 0
+  none_shown : length shown ≡ 0 → blanks ≡ 0
   none_shown n =
       let k : length (fitting h (lines_of w (map bar_lines frame))) ≡ 0 =
-      omega (arith, q.lines_are, a.none n, length-take-le p.lines (frame_lines frame) (rw q.lines_are (frame_lines_le w h frame))) in
+      omega (arith, q.lines_are, n, length-take-le p.lines (frame_lines frame) (rw q.lines_are (frame_lines_le w h frame))) in
       b ∙ ap (blanks_for bottom taken text_rows) (q.rows_are ∙ nothing_fits w h (map bar_lines frame) k) ∙ no_blanks bottom taken text_rows
 
-  out_end : p.last ≡ option_map (line_end w) (last_of out)
-  out_end = plan_end w frame p e ∙ sym a.end
-
   -- the spaces behind a draw
-  pub draw_fill : (below : Bool) (n : ℕ) → n ≡ fill_columns below w p.last → replicate n 0x20 ≡ fill_bytes below w ([] ++ replicate blanks [] ++ out)
+  pub draw_fill : (below : Bool) (n : ℕ) → n ≡ fill_columns below w p.last → replicate n 0x20 ≡ fill_bytes below w ([] ++ replicate blanks [] ++ shown)
   draw_fill below n f =
-      ap (λ n. replicate n 0x20) (f ∙ ap (fill_columns below w) (out_end ∙ either_none _ ∙ sym (drawing_end w blanks [] out none_shown)))
-      ∙ fill_by below w ([] ++ replicate blanks [] ++ out)
+      ap (λ n. replicate n 0x20) (f ∙ ap (fill_columns below w) (plan_end w frame p e ∙ either_none _ ∙ sym (drawing_end w blanks [] shown none_shown)))
+      ∙ fill_by below w ([] ++ replicate blanks [] ++ shown)
 
   -- those behind a log
   pub log_fill : (below : Bool) (n last : ℕ) (text : List (List ℕ)) → 0 < length text → last ≡ unwrap_or p.last (line_end w (last_or_none text)) → n ≡ fill_columns below w (Some last) →
-      replicate n 0x20 ≡ fill_bytes below w (text ++ replicate blanks [] ++ out)
+      replicate n 0x20 ≡ fill_bytes below w (text ++ replicate blanks [] ++ shown)
   log_fill below n last text some u f =
-      ap (λ n. replicate n 0x20) (f ∙ ap (fill_columns below w) (ap Some (u ∙ ap (λ o. unwrap_or o (line_end w (last_or_none text))) out_end) ∙ either_last w text _ some
-      ∙ sym (drawing_end w blanks text out none_shown)))
-      ∙ fill_by below w (text ++ replicate blanks [] ++ out)
+      ap (λ n. replicate n 0x20) (f ∙ ap (fill_columns below w) (ap Some (u ∙ ap (λ o. unwrap_or o (line_end w (last_or_none text))) (plan_end w frame p e)) ∙ either_last w text _ some
+      ∙ sym (drawing_end w blanks text shown none_shown)))
+      ∙ fill_by below w (text ++ replicate blanks [] ++ shown)

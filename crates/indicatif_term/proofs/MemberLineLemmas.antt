@@ -30,13 +30,6 @@ take_both (suc n) [] ys = let e : suc n ≡ suc n - 0 = omega arith in ap (λ k.
 take_both zero (x ∷ xs) ys = let e : 0 ≡ zero - suc (length xs) = omega arith in ap (λ k. take k ys) e
 take_both (suc n) (x ∷ xs) ys = let e : n - length xs ≡ suc n - suc (length xs) = omega arith in ap (λ zs. x ∷ zs) (take_both n xs ys ∙ ap (λ k. take n xs ++ take k ys) e)
 
--- those of the first `count` lines that stand after these members
-abbrev pub now_rest : ℕ → List Segment → ℕ → List (List ℕ)
-now_rest count frame i = take (count - length (frame_lines (take (i + 1) frame))) (frame_lines (drop (i + 1) frame))
-
-pub now_whole : (count : ℕ) (frame : List Segment) (i : ℕ) → take count (frame_lines (take (i + 1) frame)) ++ now_rest count frame i ≡ take count (frame_lines frame)
-now_whole count frame i = sym (ap (take count) (frame_split frame (i + 1)) ∙ take_both count (frame_lines (take (i + 1) frame)) (frame_lines (drop (i + 1) frame)))
-
 module _ (count : ℕ) (frame : List Segment) (i left n : ℕ) (s : Segment) (h : i < length frame) (e : get_or frame i s ≡ s)
     (left_is : left ≡ count - length (frame_lines (take i frame))) (n_is : n ≡ min left (length s.lines.items)) where
   abbrev before : List (List ℕ)
@@ -59,6 +52,8 @@ module _ (count : ℕ) (frame : List Segment) (i left n : ℕ) (s : Segment) (h 
 
     pub now_fails : {e : Error} (result : Result Unit Error) → IsErr result → Puts view (map line_text (take n s.lines.items)) q r (Err e) → Puts view (take count (frame_lines frame)) p r result
     now_fails {e} result k g =
-        subst (λ xs. Puts view xs p r result) (now_whole count frame i)
-        (puts_fail view (take count (frame_lines (take (i + 1) frame))) (now_rest count frame i) p r {e = e} result k
-        (rw now_lines (puts_then view (take count before) (map line_text (take n s.lines.items)) p q r (Err e) f g)))
+        let begun = frame_lines (take (i + 1) frame) in
+        let rest = take (count - length begun) (frame_lines (drop (i + 1) frame)) in
+        let whole : take count begun ++ rest ≡ take count (frame_lines frame) = sym (ap (take count) (frame_split frame (i + 1)) ∙ take_both count begun (frame_lines (drop (i + 1) frame))) in
+        subst (λ xs. Puts view xs p r result) whole
+        (puts_fail view (take count begun) rest p r {e = e} result k (rw now_lines (puts_then view (take count before) (map line_text (take n s.lines.items)) p q r (Err e) f g)))

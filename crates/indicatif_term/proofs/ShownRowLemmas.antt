@@ -139,3 +139,11 @@ module _ (w h : ℕ) (frame : List Segment) where
       flat_map-append (λ line. rows_of w (chars line)) (replicate blanks []) (take count (frame_lines frame))
       ∙ ap (λ rs. rs ++ lines_rows w (take count (frame_lines frame))) (blank_rows w blanks)
       ∙ ap (λ rs. replicate blanks (blank_row w) ++ rs) (sym rows_shown)
+
+  pub log_rows : (blanks : ℕ) (text : List (List ℕ)) → lines_rows w (text ++ replicate blanks [] ++ take count (frame_lines frame))
+      ≡ flat_map (rows_of w) (text_lines text) ++ live_rows w (record { blanks = blanks; segments = shown_rows w h (map bar_lines frame) })
+  log_rows blanks text =
+      ap (lines_rows w) (append_assoc text (replicate blanks []) (take count (frame_lines frame)))
+      ∙ flat_map-append (λ line. rows_of w (chars line)) text (replicate blanks [] ++ take count (frame_lines frame))
+      ∙ ap (λ rs. rs ++ lines_rows w (replicate blanks [] ++ take count (frame_lines frame))) (text_rows w text)
+      ∙ ap (λ rs. flat_map (rows_of w) (text_lines text) ++ rs) (frame_rows blanks)

@@ -8,6 +8,5 @@ pub mod Rows
 pub mod Grids
 pub mod Scanners
 pub mod Fills
-pub mod Runs
 pub mod Pens
 pub mod Windows

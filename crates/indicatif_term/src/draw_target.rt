@@ -176,7 +176,6 @@ impl<T: TermLike + Drop> Engine<T> {
             blanks,
             frame,
             lines: plan.lines,
-            runs_on: plan.runs_on,
         };
         let last = plan.last;
         let next = self.counts.drawn(plan, blanks, window.rows);
@@ -226,7 +225,6 @@ impl<T: TermLike + Drop> Engine<T> {
             blanks,
             frame,
             lines: plan.lines,
-            runs_on: plan.runs_on,
         };
         let last = plan.last.unwrap_or(metrics.last_line_width);
         let next = self
@@ -258,7 +256,6 @@ impl<T: TermLike + Drop> Engine<T> {
             blanks: 0,
             frame: &[],
             lines: 0,
-            runs_on: false,
         };
         self.repaint(next, taken, &nothing, 0)
     }

@@ -1,16 +1,16 @@
 //! Which lines of a frame are shown, and how many rows they take.
-ghost use Rattle.std.specs.Prelude.{◌≡◌, ◌≢◌, Err, ◌+◌, ◌<◌, ◌≤◌, ◌&&◌, ◌++◌, ◌∷◌, [], ℕ, map, length, chars, List, IfOk, IfErr, sum_by};
+ghost use Rattle.std.specs.Prelude.{◌≡◌, ◌≢◌, Err, ◌+◌, ◌<◌, ◌≤◌, ◌++◌, ◌∷◌, [], ℕ, map, length, chars, List, IfOk, IfErr, sum_by};
 ghost use Rattle.indicatif_term.specs.Lists.{BarRows, onto_segments};
 ghost use Rattle.indicatif_term.specs.Frames.{bar_lines, all_lines, logged_lines};
 ghost use Rattle.indicatif_term.specs.Inside.Plans.{IsSummed, IsLaidOut, IsPlaced, Measured, MeasuredLine, MeasuredText, PlannedFor, text_above};
-ghost use Rattle.indicatif_term.specs.Inside.Runs.{PlanEndsAt, Edges, begins, member_edges, frame_edges, follows};
+ghost use Rattle.indicatif_term.specs.Inside.Fills.{PlanEndsAt, member_ends, frame_ends};
 ghost use Rattle.indicatif_term.specs.Counts.{row_count};
 
 use crate::lines::Segment;
 use crate::spare::SpareCounts;
 use crate::term_like::TermLike;
 use crate::window::Window;
-use indicatif_text::columns::{Metrics, Refusal, width, wrapped};
+use indicatif_text::columns::{Metrics, Refusal, wrapped};
 use std::convert::AsStr;
 
 /// How many rows of a bar are shown.
@@ -29,38 +29,10 @@ pub struct Plan {
     pub lines: usize,
     /// How many columns the last of these lines takes of its last row.
     pub last: Option<usize>,
-    /// Whether each of them but the first goes on in the next row by itself: the line before it fills its last row, and it
-    /// begins with a character that takes columns.
-    pub runs_on: bool,
     /// Whether a line did not fit, so that none after it is shown.
     pub full: bool,
     /// The segments of the members to be dropped.
     pub passing: usize,
-}
-
-impl Plan {
-    /// Whether the lines still run on with this one behind them.
-    fn runs_on_to(&self, line: &str, columns: usize) -> bool
-        ensures { result ≡ (self.now.runs_on && follows columns self.now.last (begins (chars line.now))) }
-    {
-        if !self.runs_on {
-            return false;
-        }
-        match self.last {
-            Some(end) => end == columns && begins(line),
-            None => true,
-        }
-    }
-}
-
-/// Whether a line begins with a character that takes columns. One that begins with a colour sequence doesn't.
-fn begins(line: &str) -> bool
-    ensures { result ≡ begins (chars line.now) }
-{
-    match line.chars().next() {
-        Some(c) => width(c) > 0,
-        None => false,
-    }
 }
 
 /// A text and a frame, measured for a terminal's window.
@@ -100,7 +72,7 @@ fn plan_frame(
     window: Window,
 ) -> Result<Plan, Refusal>
     ensures plan { Measured window.columns window.rows pass (map bar_lines frame.now) result }
-    ensures ends { IfOk result (λ p. PlanEndsAt window.columns (frame_edges window.columns frame.now) p) }
+    ensures ends { IfOk result (λ p. PlanEndsAt (frame_ends window.columns frame.now) p) }
     ensures memory { result ≡ Err Refusal.Memory → 0 < length (all_lines (map bar_lines frame.now)) }
 {
     let mut plan = Plan {
@@ -108,7 +80,6 @@ fn plan_frame(
         rows: 0,
         lines: 0,
         last: None,
-        runs_on: true,
         full: false,
         passing: 0,
     };
@@ -133,27 +104,19 @@ fn place_member(plan: &mut Plan, member: &Segment, window: Window) -> Result<(),
     ensures passing { plan.new.passing ≡ plan.old.passing }
     ensures placed { (before : List BarRows) → IsLaidOut window.rows before plan.old →
         IsPlaced window.columns window.rows before (bar_lines member.now) plan.new result }
-    ensures ends { (before : List Edges) → PlanEndsAt window.columns before plan.old →
-        IfOk result (λ _. PlanEndsAt window.columns (before ++ member_edges window.columns member.now) plan.new) }
+    ensures ends { (before : List ℕ) → PlanEndsAt before plan.old →
+        IfOk result (λ _. PlanEndsAt (before ++ member_ends window.columns member.now) plan.new) }
     ensures memory { result ≡ Err Refusal.Memory → 0 < length (bar_lines member.now).lines }
 {
     for line in &member.lines {
-        let text = line.as_str();
-        let metrics = metrics_of(text, window)?;
-        let runs_on = plan.runs_on_to(text, window.columns);
-        place(plan, member.bar, metrics, runs_on, window.rows)?;
+        let metrics = metrics_of(line.as_str(), window)?;
+        place(plan, member.bar, metrics, window.rows)?;
     }
     Ok(())
 }
 
-/// One more line, with which the lines run on, or not.
-fn place(
-    plan: &mut Plan,
-    bar: u64,
-    line: Metrics,
-    runs_on: bool,
-    height: usize,
-) -> Result<(), Refusal>
+/// One more line.
+fn place(plan: &mut Plan, bar: u64, line: Metrics, height: usize) -> Result<(), Refusal>
     requires summed { IsSummed height plan.old }
     requires small { height ≤ 65535 }
     requires some { 0 < line.height }
@@ -163,9 +126,8 @@ fn place(
     ensures placed { (before : List BarRows) (s : BarRows) → s.bar ≡ bar → length s.rows ≡ line.height →
         IsLaidOut height before plan.old →
         IfOk result (λ _. IsLaidOut height (before ++ s ∷ []) plan.new) }
-    ensures ends { (w : ℕ) (before : List Edges) (e : Edges) → PlanEndsAt w before plan.old →
-        e.end ≡ line.last_line_width → runs_on ≡ (plan.old.runs_on && follows w plan.old.last e.front) →
-        IfOk result (λ _. PlanEndsAt w (before ++ e ∷ []) plan.new) }
+    ensures ends { (before : List ℕ) → PlanEndsAt before plan.old →
+        IfOk result (λ _. PlanEndsAt (before ++ line.last_line_width ∷ []) plan.new) }
 {
     if plan.full || height - plan.rows < line.height {
         plan.full = true;
@@ -175,7 +137,6 @@ fn place(
     plan.rows += line.height;
     plan.lines += 1;
     plan.last = Some(line.last_line_width);
-    plan.runs_on = runs_on;
     Ok(())
 }
 

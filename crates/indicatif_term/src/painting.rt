@@ -3,8 +3,6 @@ ghost use Rattle.std.specs.Prelude.{◌≡◌, ◌<◌, ◌≤◌, ◌+◌, ◌-
 ghost use Rattle.indicatif_term.specs.Calls.{Writes, move_bytes, clear_bytes, anew_bytes};
 ghost use Rattle.indicatif_term.specs.Inside.Bytes.{back_bytes, painting_bytes, drawing_lines, next_row};
 ghost use Rattle.indicatif_term.specs.Inside.Pens.{Pens, Puts};
-ghost use Rattle.indicatif_term.specs.Inside.Runs.{joined};
-ghost use Rattle.std.specs.List.{concat};
 ghost use Rattle.indicatif_term.specs.Frames.{line_text, logged_lines};
 ghost use Rattle.indicatif_term.specs.Inside.Plans.{frame_lines, text_above};
 
@@ -20,10 +18,9 @@ pub struct Drawing<'a> {
     pub text: Option<&'a str>,
     /// The blank rows above the bars.
     pub blanks: usize,
-    /// The bars, how many of their lines are written, and whether these run on, so that they are written as one line.
+    /// The bars, and how many of their lines are written.
     pub frame: &'a [Segment],
     pub lines: usize,
-    pub runs_on: bool,
 }
 
 /// What a drawing does on the terminal, from its first byte to its last.
@@ -157,7 +154,7 @@ impl<'t, T: TermLike> Pen<'t, T> {
         Ok(())
     }
 
-    /// Writes the first `count` lines of a frame, each on a row of its own.
+    /// Writes the first `count` lines of a frame.
     fn put_frame(&mut self, frame: &[Segment], count: usize) -> io::Result<()>
         ensures { Puts T.view (take count (frame_lines frame.now)) self.old self.new result }
     {
@@ -170,32 +167,13 @@ impl<'t, T: TermLike> Pen<'t, T> {
         Ok(())
     }
 
-    /// Writes the first `count` lines of a frame as one line.
-    fn put_joined(&mut self, frame: &[Segment], count: usize) -> io::Result<()>
-        requires { count ≤ length (frame_lines frame.now) }
-        ensures { Puts T.view (joined (take count (frame_lines frame.now))) self.old self.new result }
-    {
-        if count == 0 {
-            return Ok(());
-        }
-        let asked = self.at_end;
-        self.new_row(asked)?;
-        self.at_end = true;
-        write_frame(self.term, frame, count)
-    }
-
     /// Writes the lines of a drawing.
     fn put_drawing(&mut self, drawing: &Drawing<'_>) -> io::Result<()>
-        requires { drawing.now.lines ≤ length (frame_lines drawing.now.frame.now) }
         ensures { Puts T.view (drawing_lines drawing.now) self.old self.new result }
     {
         self.put_above(drawing.text)?;
         self.put_blanks(drawing.blanks)?;
-        if drawing.runs_on {
-            self.put_joined(drawing.frame, drawing.lines)
-        } else {
-            self.put_frame(drawing.frame, drawing.lines)
-        }
+        self.put_frame(drawing.frame, drawing.lines)
     }
 
     /// Goes below the lines, if asked.
@@ -239,29 +217,6 @@ fn empty_row<T: TermLike>(term: &mut T, above: bool) -> io::Result<()>
         term.move_cursor_up(1)?;
     }
     term.clear_line()
-}
-
-/// Writes the first `count` lines of a frame, one right behind the other.
-fn write_frame<T: TermLike>(term: &mut T, frame: &[Segment], count: usize) -> io::Result<()>
-    ensures { Writes (concat (take count (frame_lines frame.now))) (T.view term.old) (T.view term.new) result }
-{
-    let mut left = count;
-    for member in frame {
-        let n = left.min(member.lines.len());
-        write_lines(term, &member.lines[..n])?;
-        left -= n;
-    }
-    Ok(())
-}
-
-/// Writes the lines of a bar, one right behind the other.
-fn write_lines<T: TermLike>(term: &mut T, lines: &[LineType]) -> io::Result<()>
-    ensures { Writes (concat (map line_text lines.now)) (T.view term.old) (T.view term.new) result }
-{
-    for line in lines {
-        term.write_str(line.as_str())?;
-    }
-    Ok(())
 }
 
 /// Writes so many spaces, many at once.

@@ -1,6 +1,9 @@
 -- The spaces that fill the last row of a drawing.
-use Rattle.std.specs.Prelude.{ℕ, ◌-◌, Bool, true, false, List, [], ◌∷◌, replicate, chars, Option, Some, None}
+use Rattle.std.specs.Prelude.{◌≡◌, ℕ, ◌-◌, ◌≤◌, length, take, map, flat_map, Bool, true, false, List, [], ◌∷◌, replicate, chars, Option, Some, None}
 use Rattle.indicatif_text.specs.Columns.{last_columns}
+use Rattle.indicatif_term.specs.Frames.{line_text}
+use Rattle.indicatif_term.specs.declared.lines.Segment.{Segment}
+use Rattle.indicatif_term.specs.declared.layout.Plan.{Plan}
 
 -- the last element of a list
 abbrev pub last_of : {A : Type 0} → List A → Option A
@@ -40,3 +43,19 @@ abbrev pub fill_columns : Bool → ℕ → Option ℕ → ℕ
 fill_columns true w last = 0
 fill_columns false w None = 0
 fill_columns false w (Some n) = w - n
+
+-- ---- how the lines of a frame end
+
+-- the columns that each line of a member takes of its last row
+abbrev pub member_ends : ℕ → Segment → List ℕ
+member_ends w member = map (λ line. line_end w (line_text line)) member.lines.items
+
+-- those of a frame's lines
+abbrev pub frame_ends : ℕ → List Segment → List ℕ
+frame_ends w frame = flat_map (member_ends w) frame
+
+-- a plan knows where the last line that it shows ends, of lines that end so
+pub record PlanEndsAt (ends : List ℕ) (p : Plan) : Type 0 where
+  pub lines_in : p.lines ≤ length ends
+  pub all_in : p.full ≡ false → p.lines ≡ length ends
+  pub last_is : p.last ≡ last_of (take p.lines ends)

@@ -8,8 +8,7 @@ use Rattle.indicatif_term.specs.Lists.{BarLines, BarRows, shown_rows, fitting, g
 use Rattle.indicatif_term.specs.Calls.{TermView}
 use Rattle.indicatif_term.specs.Frames.{line_text, bar_lines, all_lines, text_lines, logged_lines, some_wide, RefusesLines, is_fault}
 use Rattle.indicatif_term.specs.Counts.{row_count}
-use Rattle.indicatif_term.specs.Inside.Fills.{line_end, last_or_none}
-use Rattle.indicatif_term.specs.Inside.Runs.{PlanEndsAt, frame_edges}
+use Rattle.indicatif_term.specs.Inside.Fills.{line_end, last_or_none, PlanEndsAt, frame_ends}
 use Rattle.indicatif_term.specs.declared.lines.Segment.{Segment}
 use Rattle.indicatif_term.specs.declared.layout.RowCount.{RowCount}
 use Rattle.indicatif_term.specs.declared.layout.Plan.{Plan}
@@ -89,7 +88,7 @@ pub record IsPlannedFor (v : TermView) (pass : ℕ) (text : List (List ℕ)) (fr
   pub text_ends : p.text.last_line_width ≡ line_end v.columns (last_or_none text)
   pub plan_is : IsPlan v.columns v.rows pass (map bar_lines frame) p.plan
   pub is_summed : IsSummed v.rows p.plan
-  pub plan_ends : PlanEndsAt v.columns (frame_edges v.columns frame) p.plan
+  pub plan_ends : PlanEndsAt (frame_ends v.columns frame) p.plan
 
 -- the same, or why nothing is written
 abbrev pub PlannedFor : TermView → ℕ → List (List ℕ) → List Segment → Result Planned Refusal → Type 0

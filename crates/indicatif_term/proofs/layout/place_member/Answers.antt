@@ -5,8 +5,8 @@ use Rattle.indicatif_term.specs.Frames.{bar_lines, line_text}
 use Rattle.indicatif_term.specs.Inside.Plans.{IsLaidOut, IsWithheld}
 use Rattle.indicatif_term.proofs.TerminalStepLemmas.{rows_some}
 use Rattle.indicatif_term.proofs.MeasureLemmas.{narrow_more}
-use Rattle.indicatif_term.specs.Inside.Runs.{PlanEndsAt, edges_of}
-use Rattle.indicatif_term.proofs.LineEndLemmas.{line_edges_step}
+use Rattle.indicatif_term.specs.Inside.Fills.{PlanEndsAt, line_end}
+use Rattle.indicatif_term.proofs.LineEndLemmas.{line_ends_step}
 use Rattle.indicatif_term.proofs.LayoutLemmas.{line_placed, member_placed, member_refused, string_at}
 use Rattle.indicatif_term.proofs.layout.place_member.Goals as goal
 
@@ -17,7 +17,7 @@ loop-line-init c = record {
   narrow = refl;
   placed = λ before o. subst (λ ls. IsLaidOut c.args.window.rows ls c.args.plan.now)
       (sym (append-nil before)) o;
-  ends = λ before e. subst (λ xs. PlanEndsAt c.args.window.columns xs c.args.plan.now) (sym (append-nil before)) e;
+  ends = λ before e. subst (λ xs. PlanEndsAt xs c.args.plan.now) (sym (append-nil before)) e;
 }
 
 pub returns-in_err-metrics-clause-passing : goal.returns-in_err-metrics-clause-passing
@@ -29,13 +29,13 @@ returns-in_err-metrics-clause-placed c = λ before o.
     let at = string_at c.args.member.now c.deref-line-items.result.now c.loop-line.line-index c.line-item.result c.deref-line-items.ensures.value (omega arith) (sym c.line-item.is) in
     member_refused c.args.window.columns c.args.window.rows c.args.member.now c.loop-line.line-index
     (chars (line_text c.line-item.result)) before c.loop-line.plan c.in_err-metrics.field-0.0 c.from_residual.result (x.1 ∙ ap Err x.2)
-    at.0 at.1 (subst (λ b. IsWithheld c.args.window.columns (chars b ∷ []) c.in_err-metrics.field-0.0) c.as_str-text.ensures c.in_err-metrics.ensures.measured)
+    at.0 at.1 (subst (λ b. IsWithheld c.args.window.columns (chars b ∷ []) c.in_err-metrics.field-0.0) c.as_str.ensures c.in_err-metrics.ensures.measured)
 
 pub place-requires-clause-summed : goal.place-requires-clause-summed
 place-requires-clause-summed c = c.loop-line.invariant.summed
 
 pub place-requires-clause-some : goal.place-requires-clause-some
-place-requires-clause-some c = omega (arith, c.in_ok-metrics.ensures.measured.1, rows_some c.args.window.columns (chars c.as_str-text.result.now))
+place-requires-clause-some c = omega (arith, c.in_ok-metrics.ensures.measured.1, rows_some c.args.window.columns (chars c.as_str.result.now))
 
 pub returns-in_err-place-clause-passing : goal.returns-in_err-place-clause-passing
 returns-in_err-place-clause-passing c = c.place.ensures.passing ∙ c.loop-line.invariant.passing_stays
@@ -44,7 +44,7 @@ pub loop-line-preserved : goal.loop-line-preserved
 loop-line-preserved c =
     let line = chars (line_text c.line-item.result) in
     let at = string_at c.args.member.now c.deref-line-items.result.now c.loop-line.line-index c.line-item.result c.deref-line-items.ensures.value (omega arith) (sym c.line-item.is) in
-    let m = rw c.as_str-text.ensures at c.in_ok-metrics.ensures.measured in
+    let m = rw c.as_str.ensures at c.in_ok-metrics.ensures.measured in
     record {
       summed = c.in_ok-place.ensures.summed;
       passing_stays = c.place.ensures.passing ∙ c.loop-line.invariant.passing_stays;
@@ -53,12 +53,11 @@ loop-line-preserved c =
           (c.in_ok-place.ensures.placed _ _ refl (sym m.1) (c.loop-line.invariant.placed before o));
       ends = λ before e.
           let items = c.args.member.now.lines.items in
-          let edges_before = map (λ line. edges_of c.args.window.columns (line_text line)) (take c.loop-line.line-index items) in
-          let edges = edges_of c.args.window.columns (line_text c.line-item.result) in
-          let now = c.in_ok-place.ensures.ends c.args.window.columns (before ++ edges_before) edges (c.loop-line.invariant.ends before e) (sym m.2)
-          (rw c.as_str-text.ensures at c.runs_on_to-runs_on.ensures) in
-          subst (λ xs. PlanEndsAt c.args.window.columns xs c.place.new.plan) (append_assoc before edges_before (_ ∷ [])
-          ∙ ap (λ xs. before ++ xs) (sym (line_edges_step c.args.window.columns items c.loop-line.line-index c.line-item.result (omega (arith, ap length c.deref-line-items.ensures.value))
+          let ends_before = map (λ line. line_end c.args.window.columns (line_text line)) (take c.loop-line.line-index items) in
+          let now = c.in_ok-place.ensures.ends (before ++ ends_before) (c.loop-line.invariant.ends before e) in
+          subst (λ xs. PlanEndsAt xs c.place.new.plan) (append_assoc before ends_before (_ ∷ [])
+          ∙ ap (λ x. before ++ (ends_before ++ x ∷ [])) m.2
+          ∙ ap (λ xs. before ++ xs) (sym (line_ends_step c.args.window.columns items c.loop-line.line-index c.line-item.result (omega (arith, ap length c.deref-line-items.ensures.value))
           (sym (c.line-item.is ∙ ap (λ xs. get_or xs c.loop-line.line-index c.line-item.result) c.deref-line-items.ensures.value))))) now;
     }
 
@@ -80,4 +79,4 @@ pub returns-clause-ends : goal.returns-clause-ends
 returns-clause-ends c = λ before e.
     let items = c.args.member.now.lines.items in
     let all : take c.loop-line.line-index items ≡ items = take_all c.loop-line.line-index items (omega (arith, ap length c.deref-line-items.ensures.value)) in
-    subst (λ xs. PlanEndsAt c.args.window.columns (before ++ map (λ line. edges_of c.args.window.columns (line_text line)) xs) c.loop-line.plan) all (c.loop-line.invariant.ends before e)
+    subst (λ xs. PlanEndsAt (before ++ map (λ line. line_end c.args.window.columns (line_text line)) xs) c.loop-line.plan) all (c.loop-line.invariant.ends before e)

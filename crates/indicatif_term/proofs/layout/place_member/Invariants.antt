@@ -1,8 +1,8 @@
-use Rattle.std.proofs.Common.{◌≡◌, ◌++◌, false, List, map, take}
+use Rattle.std.proofs.Common.{◌≡◌, ◌++◌, false, List, ℕ, map, take}
 use Rattle.indicatif_term.specs.Lists.{BarRows}
 use Rattle.indicatif_term.specs.Frames.{bar_lines, line_text, some_wide}
 use Rattle.indicatif_term.specs.Inside.Plans.{IsSummed, IsLaidOut}
-use Rattle.indicatif_term.specs.Inside.Runs.{Edges, PlanEndsAt, edges_of}
+use Rattle.indicatif_term.specs.Inside.Fills.{PlanEndsAt, line_end}
 use Rattle.indicatif_term.proofs.ShownRowLemmas.{line_segments}
 use Rattle.indicatif_term.proofs.layout.place_member.Given as goal
 
@@ -13,6 +13,5 @@ invariant-loop-line l = record {
   narrow : some_wide l.window.columns (take l.line-index (bar_lines l.member).lines) ≡ false;
   placed : (before : List BarRows) → IsLaidOut l.window.rows before l.fn.plan →
       IsLaidOut l.window.rows (before ++ line_segments l.window.columns l.member.bar (take l.line-index (bar_lines l.member).lines)) l.plan;
-  ends : (before : List Edges) → PlanEndsAt l.window.columns before l.fn.plan →
-      PlanEndsAt l.window.columns (before ++ map (λ line. edges_of l.window.columns (line_text line)) (take l.line-index l.member.lines.items)) l.plan;
+  ends : (before : List ℕ) → PlanEndsAt before l.fn.plan → PlanEndsAt (before ++ map (λ line. line_end l.window.columns (line_text line)) (take l.line-index l.member.lines.items)) l.plan;
 }

@@ -2,10 +2,10 @@ use Rattle.std.proofs.Common.{arith, ◌+◌, ◌≡◌, ◌∙◌, refl, sym, a
 use Rattle.indicatif_text.specs.declared.refusal.Refusal.TheVariants.{Memory}
 use Rattle.std.proofs.lemmas.List.{take_all}
 use Rattle.indicatif_term.specs.Lists.{lines_of}
-use Rattle.indicatif_term.specs.Inside.Runs.{PlanEndsAt, frame_edges}
+use Rattle.indicatif_term.specs.Inside.Fills.{PlanEndsAt, frame_ends}
 use Rattle.indicatif_term.specs.Frames.{bar_lines}
 use Rattle.indicatif_term.proofs.LayoutLemmas.{nothing_laid, nothing_of, nothing_passes, still_summed, still_laid, lines_step, narrow_step, frame_refused, some_line, passing_now, passing_same, passing_all, planned}
-use Rattle.indicatif_term.proofs.LineEndLemmas.{nothing_ends, still_ends, member_edges_step}
+use Rattle.indicatif_term.proofs.LineEndLemmas.{nothing_ends, still_ends, member_ends_step}
 use Rattle.indicatif_term.proofs.layout.plan_frame.Goals as goal
 use Rattle.indicatif_term.proofs.layout.plan_frame.Goals.{then-left-gt0, else-left-gt0}
 
@@ -18,7 +18,7 @@ loop-member-init c =
       narrow = refl;
       laid = nothing_of c.args.window.columns c.args.window.rows [] _ empty.1;
       passing = nothing_passes c.args.window.columns c.args.window.rows c.args.pass c.args.frame.now;
-      ends = nothing_ends c.args.window.columns c.take.result;
+      ends = nothing_ends c.take.result;
     }
 
 pub returns-in-Err-clause-plan : goal.returns-in-Err-clause-plan
@@ -45,7 +45,7 @@ loop-member-preserved c =
     let placed = c.in_default.ensures.placed _ old.laid in
     let narrow = narrow_step wide high frame i s (omega arith) (sym c.member-item.is) old.narrow placed.0 in
     let laid = lines_step wide high frame i s (omega arith) (sym c.member-item.is) [] p placed.1 in
-    let ends : PlanEndsAt wide (frame_edges wide (take (i + 1) frame)) p = rw (member_edges_step wide frame i s (omega arith) (sym c.member-item.is)) (c.in_default.ensures.ends _ old.ends) in
+    let ends : PlanEndsAt (frame_ends wide (take (i + 1) frame)) p = rw (member_ends_step wide frame i s (omega arith) (sym c.member-item.is)) (c.in_default.ensures.ends _ old.ends) in
     elim c.if-left-gt0.branch [
       | then-left-gt0 w ↦ rw (w.plan-is, w.left-is) (record {
         left_is = omega (arith, old.left_is, w.if-left-gt0.true);
@@ -53,7 +53,7 @@ loop-member-preserved c =
         narrow = narrow;
         laid = still_laid high w.len.result _ p laid;
         passing = passing_now wide high c.args.pass i w.len.result frame p laid (omega (arith, old.left_is, w.if-left-gt0.true)) (omega (arith, w.len.ensures));
-        ends = still_ends wide _ p _ ends refl refl refl refl;
+        ends = still_ends _ p _ ends refl refl refl;
       })
       | else-left-gt0 w ↦ rw (w.plan-is, w.left-is) (record {
         left_is = omega (arith, old.left_is, w.if-left-gt0.false);

@@ -2,7 +2,7 @@ use Rattle.std.proofs.Common.{◌≡◌, ◌-◌, false, map, take}
 use Rattle.indicatif_term.specs.Lists.{lines_of}
 use Rattle.indicatif_term.specs.Frames.{bar_lines, all_lines, some_wide}
 use Rattle.indicatif_term.specs.Inside.Plans.{IsSummed, IsLaidOut}
-use Rattle.indicatif_term.specs.Inside.Runs.{PlanEndsAt, frame_edges}
+use Rattle.indicatif_term.specs.Inside.Fills.{PlanEndsAt, frame_ends}
 use Rattle.indicatif_term.proofs.LayoutLemmas.{passing_of}
 use Rattle.indicatif_term.proofs.layout.plan_frame.Given as goal
 
@@ -13,5 +13,5 @@ invariant-loop-member l = record {
   narrow : some_wide l.window.columns (all_lines (map bar_lines (take l.member-index l.frame))) ≡ false;
   laid : IsLaidOut l.window.rows (lines_of l.window.columns (map bar_lines (take l.member-index l.frame))) l.plan;
   passing : l.plan.passing ≡ passing_of l.window.columns l.window.rows l.fn.pass l.member-index l.frame;
-  ends : PlanEndsAt l.window.columns (frame_edges l.window.columns (take l.member-index l.frame)) l.plan;
+  ends : PlanEndsAt (frame_ends l.window.columns (take l.member-index l.frame)) l.plan;
 }

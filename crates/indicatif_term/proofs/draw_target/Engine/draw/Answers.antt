@@ -3,12 +3,11 @@ use Rattle.indicatif_term.specs.Lists.{drawn}
 use Rattle.indicatif_term.specs.Inside.Bytes.{paint_bytes}
 use Rattle.indicatif_term.specs.Inside.Fills.{fill_bytes}
 use Rattle.indicatif_term.specs.Inside.Plans.{frame_lines}
-use Rattle.indicatif_term.specs.Inside.Runs.{written}
 use Rattle.indicatif_term.specs.Frames.{bar_lines}
 use Rattle.indicatif_term.specs.Engines.{engine_term, is_bottom}
 use Rattle.indicatif_term.proofs.DrawingLemmas.{drawn-adds, drawn-sound}
 use Rattle.indicatif_term.proofs.LineEndLemmas.{draw_fill}
-use Rattle.indicatif_term.proofs.EngineLemmas.{paints_refused, paints_by, fill_led, fits_counts, fits_failed, fits_forgets, fits_by, plan_written, draw_paints}
+use Rattle.indicatif_term.proofs.EngineLemmas.{paints_refused, paints_by, fill_led, fits_counts, fits_failed, fits_forgets, fits_by, draw_paints}
 use Rattle.indicatif_term.proofs.ShownRowLemmas.{frame_lines_le}
 use Rattle.indicatif_term.proofs.draw_target.Engine.draw.Goals as goal
 
@@ -42,15 +41,13 @@ returns-clause-paints g c = λ l fits plain.
     let plan = c.in_ok-planned.planned.plan in
     let blanks = rw c.is_bottom.ensures at (c.blanks_of-blanks.ensures.blanks old.live 0 (omega arith)) in
     let next = rw p.rows_are at (c.drawn-next.ensures s.columns c.args.pass bottom frame l o (rw (← p.rows_are) at p.plan_is) blanks) in
-    let out = written plan.runs_on (take plan.lines (frame_lines c.args.frame.now)) in
-    let lines = [] ++ replicate c.blanks_of-blanks.result [] ++ out in
-    let a = plan_written s.columns c.args.frame.now plan p.plan_ends plain p.narrow_frame in
-    let fill = draw_fill s.columns s.rows c.args.pass c.blanks_of-blanks.result old.live 0 bottom c.args.frame.now plan p.plan_is p.plan_ends blanks out a
+    let lines = [] ++ replicate c.blanks_of-blanks.result [] ++ take plan.lines (frame_lines c.args.frame.now) in
+    let fill = draw_fill s.columns s.rows c.args.pass c.blanks_of-blanks.result old.live 0 bottom c.args.frame.now plan p.plan_is p.plan_ends blanks
     c.drawn-next.result.below c.fill-fill.result (rw p.columns_are at c.fill-fill.ensures) in
     paints_by s (g.T.TermLike.view (engine_term c.repaint.new.self)) c.drawn-next.result c.repaint.result c.repaint.new.self c.args.self.now.failed l
     (drawn s.columns s.rows bottom c.args.pass frame l)
     (paint_bytes false old.below old.live lines c.drawn-next.result.below ++ fill_bytes c.drawn-next.result.below s.columns lines) c.repaint.ensures.remembers (fits_failed c.args.self.now l fits)
     (rw (fill_led, fill) at c.repaint.ensures.writes)
-    (draw_paints s.columns s.rows l old c.drawn-next.result c.args.pass c.blanks_of-blanks.result bottom c.args.frame.now plan out
-    (rw p.columns_are at c.in_ok-planned.planned.window.some) a o p.plan_is next blanks)
+    (draw_paints s.columns s.rows l old c.drawn-next.result c.args.pass c.blanks_of-blanks.result bottom c.args.frame.now plan
+    (rw p.columns_are at c.in_ok-planned.planned.window.some) plain p.narrow_frame o p.plan_is next blanks)
     (fits_forgets c.args.self.now l fits) (drawn-sound s.columns s.rows bottom c.args.pass frame l) (drawn-adds s.columns s.rows bottom c.args.pass frame l)

@@ -3,12 +3,11 @@ use Rattle.indicatif_term.specs.Lists.{logged}
 use Rattle.indicatif_term.specs.Inside.Bytes.{paint_bytes}
 use Rattle.indicatif_term.specs.Inside.Fills.{fill_bytes}
 use Rattle.indicatif_term.specs.Inside.Plans.{frame_lines}
-use Rattle.indicatif_term.specs.Inside.Runs.{written}
 use Rattle.indicatif_term.specs.Frames.{bar_lines, logged_lines, text_lines, all_lines}
 use Rattle.indicatif_term.specs.Engines.{engine_term, is_bottom}
 use Rattle.indicatif_term.proofs.DrawingLemmas.{logged-adds, logged-sound}
 use Rattle.indicatif_term.proofs.LineEndLemmas.{log_fill}
-use Rattle.indicatif_term.proofs.EngineLemmas.{paints_refused, paints_by, fill_led, fits_counts, fits_failed, fits_forgets, fits_by, plan_written, frame_plain, log_paints, narrow_both, answer_made}
+use Rattle.indicatif_term.proofs.EngineLemmas.{paints_refused, paints_by, fill_led, fits_counts, fits_failed, fits_forgets, fits_by, log_paints, narrow_both, answer_made}
 use Rattle.indicatif_term.proofs.LoggedLineLemmas.{logged_length, logged_utf8}
 use Rattle.indicatif_term.proofs.ShownRowLemmas.{frame_lines_le}
 use Rattle.indicatif_term.proofs.draw_target.Engine.log.Goals as goal
@@ -57,10 +56,8 @@ returns-clause-paints g c = λ l fits plain.
     let text = logged_lines c.args.text.now in
     let blanks = rw c.is_bottom.ensures at (c.blanks_of-blanks.ensures.blanks (old.kept + old.live) rows c.saturating_sub-free.ensures) in
     let next = rw p.rows_are at (c.logged-next.ensures s.columns bottom (text_lines text) frame l o (rw (← p.rows_are) at p.plan_is) p.height_is blanks) in
-    let out = written plan.runs_on (take plan.lines (frame_lines c.args.frame.now)) in
-    let lines = text ++ replicate c.blanks_of-blanks.result [] ++ out in
-    let a = plan_written s.columns c.args.frame.now plan p.plan_ends (frame_plain (text_lines text) (all_lines frame) plain) p.narrow_frame in
-    let fill = log_fill s.columns s.rows 0 c.blanks_of-blanks.result (old.kept + old.live) rows bottom c.args.frame.now plan p.plan_is p.plan_ends blanks out a
+    let lines = text ++ replicate c.blanks_of-blanks.result [] ++ take plan.lines (frame_lines c.args.frame.now) in
+    let fill = log_fill s.columns s.rows 0 c.blanks_of-blanks.result (old.kept + old.live) rows bottom c.args.frame.now plan p.plan_is p.plan_ends blanks
     c.logged-next.result.below c.fill-fill.result c.unwrap_or-last.result text (logged_length c.args.text.now) (rw p.text_ends at c.unwrap_or-last.ensures)
     (rw p.columns_are at c.fill-fill.ensures) in
     paints_by s (g.T.TermLike.view (engine_term c.repaint.new.self)) c.logged-next.result c.repaint.result c.repaint.new.self c.args.self.now.failed l
@@ -68,6 +65,6 @@ returns-clause-paints g c = λ l fits plain.
     (paint_bytes false old.below (old.kept + old.live) lines c.logged-next.result.below ++ fill_bytes c.logged-next.result.below s.columns lines) c.repaint.ensures.remembers
     (fits_failed c.args.self.now l fits)
     (rw (fill_led, fill) at c.repaint.ensures.writes)
-    (log_paints s.columns s.rows l old c.logged-next.result rows c.blanks_of-blanks.result bottom text c.args.frame.now plan out
-    (rw p.columns_are at c.in_ok-planned.planned.window.some) (logged_utf8 c.args.text.now c.utf8.text) plain p.narrow_text a o p.plan_is next p.height_is blanks)
+    (log_paints s.columns s.rows l old c.logged-next.result rows c.blanks_of-blanks.result bottom text c.args.frame.now plan
+    (rw p.columns_are at c.in_ok-planned.planned.window.some) (logged_utf8 c.args.text.now c.utf8.text) plain p.narrow_text p.narrow_frame o p.plan_is next p.height_is blanks)
     (fits_forgets c.args.self.now l fits) (logged-sound s.columns s.rows bottom (text_lines text) frame l) (logged-adds s.columns s.rows bottom (text_lines text) frame l)
