@@ -12,6 +12,9 @@ use std::vec::IntoIter;
 /// What is wrapped by a bar of its own.
 type Shown<I> = ProgressBarIter<I, OwnedBar<NoTracker, InMemoryTerm, StepClock>>;
 
+/// A list that is wrapped so, in a box: each way out of a test drops it by one call.
+type Kept = Box<Shown<IntoIter<u32>>>;
+
 /// The number 7, over and over, of which nobody says how often.
 #[derive(Drop)]
 struct Sevens;
@@ -36,8 +39,40 @@ fn setup(alloc: Global) -> Result<Setup<InMemoryTerm, StepClock>, Refusal> {
     })
 }
 
+/// The length of the bar.
+fn length<I>(wrapped: &Shown<I>) -> Option<u64> {
+    wrapped.progress.bar().bar().state().len()
+}
+
+/// The next item.
+fn next(wrapped: &mut Kept) -> Option<u32> {
+    wrapped.next()
+}
+
+/// Three items, by a bar of this length.
+fn counted(alloc: Global, length: u64) -> Result<Kept, Refusal> {
+    let list = vec![in alloc; 7u32, 8, 9]?.into_iter();
+    Ok(Box::new(alloc, list.progress_count(alloc, length, setup(alloc)?)?)?)
+}
+
+/// The length of the bar of an endless iterator that was told this one.
+fn length_of_sevens(alloc: Global, told: u64) -> Result<Option<u64>, Refusal> {
+    let sevens = Sevens.progress_count(alloc, told, setup(alloc)?)?;
+    Ok(length(&sevens))
+}
+
+/// Three items, by a bar in this style.
+fn styled(alloc: Global, template: &str) -> Result<Kept, Refusal> {
+    let list = vec![in alloc; 7u32, 8, 9]?.into_iter();
+    let style = ProgressStyle::with_template(alloc, template)?;
+    Ok(Box::new(
+        alloc,
+        list.progress_with_style(alloc, style, setup(alloc)?)?,
+    )?)
+}
+
 /// Whether the terminal shows this.
-fn shows<I>(wrapped: &Shown<I>, rows: &str) -> Result<bool, Refusal> {
+fn shows(wrapped: &Kept, rows: &str) -> Result<bool, Refusal> {
     match wrapped.progress.bar().term() {
         Some(term) => {
             let contents = term.contents()?;
@@ -47,14 +82,9 @@ fn shows<I>(wrapped: &Shown<I>, rows: &str) -> Result<bool, Refusal> {
     }
 }
 
-/// The length of the bar.
-fn length<I>(wrapped: &Shown<I>) -> Option<u64> {
+/// The length of its bar.
+fn length_kept(wrapped: &Kept) -> Option<u64> {
     wrapped.progress.bar().bar().state().len()
-}
-
-/// The next item.
-fn next(wrapped: &mut Shown<IntoIter<u32>>) -> Option<u32> {
-    wrapped.next()
 }
 
 #[test]
@@ -80,22 +110,18 @@ fn no_length_no_bar(rt: HostRuntime) -> Result<(), Fail> {
 
 #[test]
 fn a_length_that_is_told(rt: HostRuntime) -> Result<(), Fail> {
-    let list = vec![in rt.alloc(); 7u32, 8, 9]?.into_iter();
-    let mut wrapped = list.progress_count(rt.alloc(), 8, setup(rt.alloc())?)?;
-    assert_eq!(rt; length(&wrapped), Some(8));
+    let mut wrapped = counted(rt.alloc(), 8)?;
+    assert_eq!(rt; length_kept(&wrapped), Some(8));
     assert_eq!(rt; next(&mut wrapped), Some(7));
     assert!(rt; shows(&wrapped, "██░░░░░░░░░░░░░░ 1/8")?);
     // Of an endless one too.
-    let sevens = Sevens.progress_count(rt.alloc(), 2, setup(rt.alloc())?)?;
-    assert_eq!(rt; length(&sevens), Some(2));
+    assert_eq!(rt; length_of_sevens(rt.alloc(), 2)?, Some(2));
     Ok(())
 }
 
 #[test]
 fn a_style_of_ones_own(rt: HostRuntime) -> Result<(), Fail> {
-    let list = vec![in rt.alloc(); 7u32, 8, 9]?.into_iter();
-    let style = ProgressStyle::with_template(rt.alloc(), "{pos} of {len}")?;
-    let mut wrapped = list.progress_with_style(rt.alloc(), style, setup(rt.alloc())?)?;
+    let mut wrapped = styled(rt.alloc(), "{pos} of {len}")?;
     assert!(rt; shows(&wrapped, "")?);
     assert_eq!(rt; next(&mut wrapped), Some(7));
     assert!(rt; shows(&wrapped, "1 of 3")?);

@@ -10,6 +10,11 @@ use std::vec;
 /// A wrapped list with a bar of its own.
 type Shown = ProgressBarIter<vec::IntoIter<u32>, OwnedBar<NoTracker, InMemoryTerm, StepClock>>;
 
+/// What was built, in a box, so that each way out of a test drops it by one call.
+fn kept(alloc: Global, built: Result<Shown, Refusal>) -> Result<Box<Shown>, Refusal> {
+    Ok(Box::new(alloc, built?)?)
+}
+
 /// Three items on a terminal of 30 columns, by a clock that stands at 10 seconds.
 fn three(alloc: Global) -> Result<Shown, Refusal> {
     let items = vec![in alloc; 7u32, 8, 9]?;
@@ -30,7 +35,7 @@ fn styled(alloc: Global, template: &str) -> Result<Shown, Refusal> {
 }
 
 /// Whether the terminal shows this.
-fn shows(wrapped: &Shown, rows: &str) -> Result<bool, Refusal> {
+fn shows(wrapped: &Box<Shown>, rows: &str) -> Result<bool, Refusal> {
     match wrapped.progress.bar().term() {
         Some(term) => {
             let contents = term.contents()?;
@@ -41,7 +46,7 @@ fn shows(wrapped: &Shown, rows: &str) -> Result<bool, Refusal> {
 }
 
 /// The next item.
-fn next(wrapped: &mut Shown) -> Option<u32> {
+fn next(wrapped: &mut Box<Shown>) -> Option<u32> {
     wrapped.next()
 }
 
@@ -53,11 +58,15 @@ fn refusal(built: Result<Shown, Refusal>) -> Option<Refusal> {
     }
 }
 
+/// Three items, with a prefix and a message.
+fn copying(alloc: Global) -> Result<Shown, Refusal> {
+    let prefixed = styled(alloc, "{prefix}: {msg} {pos}/{len}")?.with_prefix("copy")?;
+    prefixed.with_message("a.txt")
+}
+
 #[test]
 fn style_prefix_and_message(rt: HostRuntime) -> Result<(), Fail> {
-    let mut wrapped = styled(rt.alloc(), "{prefix}: {msg} {pos}/{len}")?
-        .with_prefix("copy")?
-        .with_message("a.txt")?;
+    let mut wrapped = kept(rt.alloc(), copying(rt.alloc()))?;
     // Nothing is drawn by these.
     assert!(rt; shows(&wrapped, "")?);
     assert_eq!(rt; wrapped.last_draw(), None);
@@ -68,23 +77,32 @@ fn style_prefix_and_message(rt: HostRuntime) -> Result<(), Fail> {
 
 #[test]
 fn another_position(rt: HostRuntime) -> Result<(), Fail> {
-    let mut wrapped = styled(rt.alloc(), "{pos}/{len}")?.with_position(1);
+    let placed = styled(rt.alloc(), "{pos}/{len}")?.with_position(1);
+    let mut wrapped = kept(rt.alloc(), Ok(placed))?;
     assert!(rt; shows(&wrapped, "")?);
     assert_eq!(rt; next(&mut wrapped), Some(7));
     assert!(rt; shows(&wrapped, "2/3")?);
     Ok(())
 }
 
+/// Three items whose bar was told this elapsed time, in nanoseconds.
+fn elapsed(alloc: Global, nanos: u64) -> Result<Shown, Refusal> {
+    styled(alloc, "{elapsed_precise}")?.with_elapsed(nanos)
+}
+
+/// Whether a bar that was told this elapsed time shows this after its first item.
+fn shows_elapsed(alloc: Global, nanos: u64, rows: &str) -> Result<bool, Refusal> {
+    let mut wrapped = kept(alloc, elapsed(alloc, nanos))?;
+    let first = next(&mut wrapped);
+    Ok(first == Some(7) && shows(&wrapped, rows)?)
+}
+
 #[test]
 fn an_elapsed_time(rt: HostRuntime) -> Result<(), Fail> {
-    let mut wrapped = styled(rt.alloc(), "{elapsed_precise}")?.with_elapsed(3_000_000_000)?;
-    assert_eq!(rt; next(&mut wrapped), Some(7));
-    assert!(rt; shows(&wrapped, "00:00:03")?);
+    assert!(rt; shows_elapsed(rt.alloc(), 3_000_000_000, "00:00:03")?);
     // As much as the clock tells, and no more.
-    let mut whole = styled(rt.alloc(), "{elapsed_precise}")?.with_elapsed(10_000_000_000)?;
-    assert_eq!(rt; next(&mut whole), Some(7));
-    assert!(rt; shows(&whole, "00:00:10")?);
-    let beyond = three(rt.alloc())?.with_elapsed(10_000_000_001);
+    assert!(rt; shows_elapsed(rt.alloc(), 10_000_000_000, "00:00:10")?);
+    let beyond = elapsed(rt.alloc(), 10_000_000_001);
     assert_eq!(rt; refusal(beyond), Some(Refusal::ElapsedBeyondClock));
     Ok(())
 }
