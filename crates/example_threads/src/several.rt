@@ -10,9 +10,7 @@ type Bar<R> = ProgressBar<InMemoryTerm, StepClock, R>;
 
 fn copy<R: Wait + Copy + Drop>(bar: &Bar<R>, parts: u32) -> Result<Drawn, Refusal> {
     bar.set_length(u64::from(parts))?;
-    for _ in 0..parts {
-        bar.inc(1)?;
-    }
+    for _ in bar.wrap_iter(0..parts)? {}
     bar.finish()
 }
 

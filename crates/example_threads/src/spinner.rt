@@ -1,4 +1,4 @@
-//! Shows a spinner that a thread ticks. How often it ticks hangs on the machine; what is printed doesn't.
+//! Shows a spinner that a thread ticks, until five ticks are seen, or for 10,000 turns of a millisecond.
 use anyhow::{Result, anyhow};
 use indicatif::{InMemoryTerm, ProgressBar, ProgressDrawTarget, ProgressStyle, Setup, StepClock};
 use std::sync::Wait;
@@ -16,7 +16,6 @@ pub fn main<R: AllocGlobal + Print + Threads + Wait + Clock + Copy + Send + Drop
     let style = style.tick_strings(&["-", "\\", "|", "/", "ok"])?;
     let spinner = ProgressBar::new_spinner(rt, rt.alloc(), setup)?.with_style(style)?;
     spinner.enable_steady_tick(1_000_000)?;
-    // Waits for five ticks, 10,000 turns of a millisecond at the most.
     for _ in 0..10_000u32 {
         if spinner.ticks() < 5 {
             sleep(&rt, Duration::from_millis(1));
