@@ -9,7 +9,7 @@ use std::alloc::Global;
 /// What became of the rows of a bar that is gone.
 ///
 /// ```
-/// engine.keep(1); // Keep::Passed: its rows were the frame's first, and stand among the logged lines now
+/// engine.keep(1); // Keep::Passed: its rows were the frame's first, and are kept rows now
 /// ```
 #[derive(Clone, Copy, Debug, Drop, PartialEq, Eq)]
 pub enum Keep {
