@@ -12,10 +12,10 @@ use test_bars::shown::Shown;
 
 // ---- a call of the terminal fails
 
-/// A bar on a terminal of which the call of this number fails; none where it is 0.
-fn bar_failing_at(alloc: Global, failing: u64) -> Result<Shown<FailsOnce>, Refusal> {
+/// A bar that says this on a terminal of which the call of this number fails; none where it is 0.
+fn bar_failing_at(alloc: Global, message: &str, failing: u64) -> Result<Shown<FailsOnce>, Refusal> {
     let term = InMemoryTerm::new(alloc, 20, 10)?;
-    bar_on(alloc, "ab", FailsOnce::new(term, failing))
+    bar_on(alloc, message, FailsOnce::new(term, failing))
 }
 
 /// What stands on the screen.
@@ -69,7 +69,7 @@ fn stepped(
 /// Runs the script and one more draw, and answers how many calls of the terminal the script made and how many of the
 /// script's own calls failed.
 fn run_failing_at(rt: &impl Abort, alloc: Global, failing: u64) -> Result<(u64, u64), Fail> {
-    let mut bar = bar_failing_at(alloc, failing)?;
+    let mut bar = bar_failing_at(alloc, "ab", failing)?;
     let mut left: Option<String> = None;
     let mut failures: u64 = 0;
     for call in SCRIPT {
@@ -99,7 +99,7 @@ fn each_call_of_the_terminal_fails_once(rt: HostRuntime) -> Result<(), Fail> {
 
 /// Runs the script, and tells what stands on the screen then.
 fn shown_failing_at(alloc: Global, failing: u64) -> Result<String, Refusal> {
-    let mut bar = bar_failing_at(alloc, failing)?;
+    let mut bar = bar_failing_at(alloc, "ab", failing)?;
     for (step, _) in SCRIPT {
         let _ = made(&mut bar, step);
     }
@@ -107,7 +107,7 @@ fn shown_failing_at(alloc: Global, failing: u64) -> Result<String, Refusal> {
 }
 
 /// The calls are, in turn: the text `ab`, fill, flush; clear, `l1`, end of line, `ab`, fill, flush; clear, `c`, end of line,
-/// `d`, fill, flush; clear, up, clear, `l2`, end of line, `c`, ..
+/// `d`, fill, flush; up, clear, end of line, clear, up, `l2`, end of line, `c`, ..
 #[test]
 fn screens_after_a_failure(rt: HostRuntime) -> Result<(), Fail> {
     for (failing, wanted) in [
@@ -117,10 +117,43 @@ fn screens_after_a_failure(rt: HostRuntime) -> Result<(), Fail> {
         (5, "\nl2\ne"),
         (7, "l1\n\nl2\ne"),
         (12, "l1\nc\nl2\ne"),
-        (17, "l1\nc\n\ne"),
-        (21, "l1\nl2\n\ne"),
+        (16, "l1\nc\nd\ne"),
+        (17, "l1\nc\ne"),
+        (18, "l1\n\ne"),
+        (19, "l1\n\nd\ne"),
+        (20, "l1\n\n\ne"),
+        (21, "l1\n\ne"),
+        (23, "l1\nl2\n\ne"),
     ] {
         let shown = shown_failing_at(rt.alloc(), failing)?;
+        assert_eq!(rt; shown.as_str(), wanted, "where call {failing} fails");
+    }
+    Ok(())
+}
+
+/// Draws three rows, breaks off where they are taken back, and tells what stands on the screen after one drawing more.
+fn left_of_three(alloc: Global, failing: u64) -> Result<String, Refusal> {
+    let mut bar = bar_failing_at(alloc, "aa\nbb\ncc", failing)?;
+    for step in [Step::Tick, Step::Message("e"), Step::Tick] {
+        let _ = made(&mut bar, step);
+    }
+    contents(alloc, &bar)
+}
+
+/// A drawing after a failure empties the row that it begins on, and none below it. The calls are, in turn: `aa`, end of line,
+/// `bb`, end of line, `cc`, fill, flush; up, clear, end of line, clear, end of line, clear, up, `e`, fill, flush.
+#[test]
+fn rows_below_a_failure_stay(rt: HostRuntime) -> Result<(), Fail> {
+    for (failing, wanted) in [
+        (0, "e"),
+        (8, "aa\nbb\ncc\ne"),
+        (9, "aa\ne\ncc"),
+        (10, "\ne\ncc"),
+        (12, "\n\ne"),
+        (14, "\n\n\ne"),
+        (15, "\ne"),
+    ] {
+        let shown = left_of_three(rt.alloc(), failing)?;
         assert_eq!(rt; shown.as_str(), wanted, "where call {failing} fails");
     }
     Ok(())

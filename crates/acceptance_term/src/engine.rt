@@ -321,3 +321,34 @@ fn drawings_that_are_refused(rt: HostRuntime) -> Result<(), Fail> {
     assert!(rt; nothing.bytes().is_empty());
     Ok(())
 }
+
+// ---- how rows are taken back
+
+/// Up to the first row; each emptied, with the end of a line between two; and up to the first again. Where one row is taken back
+/// there is nothing to go up.
+#[test]
+fn rows_are_taken_back_from_the_first(rt: HostRuntime) -> Result<(), Fail> {
+    let mut drawing = Drawing::behind_bytes(rt.alloc(), 2)?;
+    assert_eq!(rt; drawing.draw(&[(1, "a"), (2, "b"), (3, "c")], 0), Ok(()));
+    assert_eq!(rt; drawing.draw(&[(1, "d"), (2, "e")], 0), Ok(()));
+    assert_eq!(rt; drawing.draw(&[(1, "f")], 0), Ok(()));
+    assert_eq!(rt; drawing.clear(), Ok(()));
+    assert!(rt;
+        drawing.bytes()
+            == b"a\r\nb\r\nc \x1b[2A\r\x1b[2K\r\n\r\x1b[2K\r\n\r\x1b[2K\x1b[2Ad\r\ne \x1b[1A\r\x1b[2K\r\n\r\x1b[2K\x1b[1Af \r\x1b[2K".as_slice()
+    );
+    Ok(())
+}
+
+/// From below its last row a frame's kept rows are taken back by one row more up at first.
+#[test]
+fn rows_are_taken_back_from_below(rt: HostRuntime) -> Result<(), Fail> {
+    let mut drawing = Drawing::behind_bytes(rt.alloc(), 2)?;
+    assert_eq!(rt; drawing.draw(&[(1, "a"), (2, "b"), (3, "c")], 2), Ok(()));
+    assert_eq!(rt; drawing.draw(&[], 0), Ok(()));
+    assert_eq!(rt; drawing.clear(), Ok(()));
+    assert!(rt;
+        drawing.bytes() == b"a\r\nb\r\nc \r\x1b[2K\x1b[2A\r\x1b[2K\r\n\r\x1b[2K\x1b[1A".as_slice()
+    );
+    Ok(())
+}

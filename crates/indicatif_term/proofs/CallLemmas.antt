@@ -9,14 +9,13 @@ use Rattle.std.proofs.lemmas.Bool.{ne_eqb, le-leb}
 use Rattle.std.proofs.lemmas.Fmt.{decimal_by_steps}
 use Rattle.std.proofs.lemmas.Str.{encode_ascii}
 use Rattle.indicatif_text.specs.Columns.{Cell, visible, glyphs_of, pieces_of, row_of, rows_of, blank_row, is_parameter, columns_of_last}
-use Rattle.indicatif_term.specs.Screen.{Screen, Op, Put, Return, LineFeed, Up, EmptyRow, performed, performed_all}
+use Rattle.indicatif_term.specs.Screen.{Screen, Op, Put, Return, LineFeed, Up, EmptyRow, performed, performed_all, with_row}
 use Rattle.indicatif_term.specs.Terminal.{OutsideSequence, Sequence, Reader, idle, ops_of, reader_after, after, is_digit, number_with, GREATEST, sequence_ops}
 use Rattle.indicatif_term.specs.Calls.{clear_bytes, move_bytes}
 use Rattle.indicatif_term.specs.Shows.{resting}
-use Rattle.indicatif_term.proofs.CursorRowLemmas.{screen_at, screen_after, resting_below, IsShowable, IsText}
+use Rattle.indicatif_term.proofs.CursorRowLemmas.{screen_after, resting_below, IsShowable, IsText}
 use Rattle.indicatif_term.proofs.ReaderLemmas.{chars_read, char_list_ops, place_after}
 use Rattle.indicatif_term.proofs.TextLemmas.{IsShown, AsksToPut, reads}
-use Rattle.indicatif_term.proofs.ScreenRowLemmas.{with_row_at}
 use Rattle.indicatif_term.proofs.WrittenLineLemmas.{text_put}
 
 -- what bytes ask of a terminal between characters, which stays one
@@ -130,10 +129,8 @@ text_written w h above n line is =
     (text_put w h above n (visible line) (recursion_from_All (IsShowable w) (visible line) is.printable)
     ∙ cc (length-map (pieces_of w (glyphs_of (visible line))) (row_of w)))
 
-pub row_cleared : (w h : ℕ) (above : List (List Cell)) (here : List Cell) (n column : ℕ) →
-    after (resting (screen_at w h above here n column)) clear_bytes ≡ resting_below w h above n
-row_cleared w h above here n column =
-    after_asks _ _ clear_bytes (Return ∷ EmptyRow ∷ []) clear_asks (with_row_at w h above here n 0 (blank_row w))
+pub row_cleared : (s : Screen) → after (resting s) clear_bytes ≡ resting (with_row (record s { column = 0 }) (blank_row s.columns))
+row_cleared s = after_asks s _ clear_bytes (Return ∷ EmptyRow ∷ []) clear_asks refl
 
 pub moved_up : (s : Screen) (k : ℕ) → 0 < k → k < 2 ^ 64 → after (resting s) (move_bytes 0x41 k) ≡ resting (performed (Up (min k GREATEST)) s)
 moved_up s k some small = after_asks s (performed (Up (min k GREATEST)) s) (move_bytes 0x41 k) (Up (min k GREATEST) ∷ []) (up_asks k some small) refl

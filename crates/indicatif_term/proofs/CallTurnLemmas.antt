@@ -1,5 +1,5 @@
 -- The bytes of calls one after another are those of the whole drawing, also where one of them fails.
-use Rattle.std.proofs.Common.{◌≡◌, ℕ, zero, suc, ◌+◌, ◌<◌, Bool, true, false, ◌||◌, List, [], ◌∷◌, ◌++◌, length, Result, Ok, Err, refl, sym, ◌∙◌, ap, append_assoc, append-nil, arith, add-zero, add-suc, subst, ◌-◌, ◌≤◌, if◌then◌else◌}
+use Rattle.std.proofs.Common.{◌≡◌, ℕ, zero, suc, ◌+◌, ◌<◌, Bool, true, false, ◌||◌, List, [], ◌∷◌, ◌++◌, length, Result, Ok, Err, refl, sym, ◌∙◌, ap, append_assoc, append-nil, arith, subst, ◌-◌, if◌then◌else◌}
 use Rattle.std.specs.Prelude.{nat_lt, IsErr, IsTrue}
 use Rattle.std.proofs.Math.Bool.{or-false}
 use Rattle.std.proofs.lemmas.Bool.Decides.{nat_tests}
@@ -8,7 +8,7 @@ use Rattle.indicatif_term.proofs.FeedLemmas.{after-append}
 use Rattle.indicatif_term.specs.Calls.{Told, State, Bytes, Nothing, is_told, led_on, TermView, LeadsOn, BreaksOff, Writes, clear_bytes, move_bytes, anew_bytes}
 use Rattle.std.specs.Prelude.{not, ◌&&◌, ◌==◌}
 use Rattle.std.proofs.Common.{replicate}
-use Rattle.indicatif_term.specs.Inside.Bytes.{paint_bytes, painting_bytes, drawing_lines, lines_bytes, next_row, rows_back, back_bytes}
+use Rattle.indicatif_term.specs.Inside.Bytes.{paint_bytes, painting_bytes, drawing_lines, lines_bytes, next_row, rows_down, back_bytes}
 use Rattle.indicatif_term.specs.declared.painting.Painting.{Painting}
 
 pub led_on-append : (told : Told) (a b : List ℕ) → led_on (led_on told a) b ≡ led_on told (a ++ b)
@@ -94,33 +94,36 @@ lines-append at_end (x ∷ a) b = ap (λ y. ((if at_end then next_row else []) +
 
 -- ---- rows taken back
 
-abbrev pub row_up : List ℕ
-row_up = move_bytes 0x41 1 ++ clear_bytes
+-- down to the next row, which is emptied
+abbrev pub row_down : List ℕ
+row_down = next_row ++ clear_bytes
 
-rows_back-add : (m k : ℕ) → rows_back (m + k) ≡ rows_back m ++ rows_back k
-rows_back-add m zero = ap rows_back (add-zero m) ∙ sym (append-nil (rows_back m))
-rows_back-add m (suc k) = ap rows_back (add-suc m k) ∙ ap (λ x. x ++ row_up) (rows_back-add m k) ∙ append_assoc (rows_back m) (rows_back k) row_up
+rows_down-add : (m k : ℕ) → rows_down (m + k) ≡ rows_down m ++ rows_down k
+rows_down-add zero k = let e : zero + k ≡ k = omega arith in ap rows_down e
+rows_down-add (suc m) k =
+    let e : suc m + k ≡ suc (m + k) = omega arith in
+    ap rows_down e ∙ ap (λ x. row_down ++ x) (rows_down-add m k) ∙ sym (append_assoc row_down (rows_down m) (rows_down k))
 
-pub back_some : (below : Bool) (n : ℕ) → 0 < n → back_bytes below n ≡ ((if below then move_bytes 0x41 1 else []) ++ clear_bytes) ++ rows_back (n - 1)
+pub back_some : (below : Bool) (n : ℕ) → 0 < n →
+    back_bytes below n ≡ move_bytes 0x41 (if below then n else (n - 1)) ++ (clear_bytes ++ rows_down (n - 1)) ++ move_bytes 0x41 (n - 1)
 back_some below zero h = absurd (omega arith)
 back_some below (suc n) h = let e : suc n - 1 ≡ n = omega arith in rw e refl
 
-pub back_reaches : (a : List ℕ) (i : ℕ) {s t u : TermView} → 1 ≤ i → LeadsOn (a ++ rows_back (i - 1)) s t → LeadsOn row_up t u → LeadsOn (a ++ rows_back (i + 1 - 1)) s u
-back_reaches a zero h p q = absurd (omega arith)
-back_reaches a (suc m) {s} {t} {u} h p q =
-    let e : suc m - 1 ≡ m = omega arith in
-    let f : suc m + 1 - 1 ≡ suc m = omega arith in
-    let r : LeadsOn ((a ++ rows_back m) ++ row_up) s u = reaches_then (rw e at p) q in
-    rw f (rw append_assoc at r)
+-- one row more
+pub down_reaches : (a : List ℕ) (i : ℕ) {s t u : TermView} → LeadsOn (a ++ rows_down i) s t → LeadsOn row_down t u → LeadsOn (a ++ rows_down (i + 1)) s u
+down_reaches a i {s} {t} {u} p q =
+    let r : LeadsOn ((a ++ rows_down i) ++ row_down) s u = reaches_then p q in
+    subst (λ x. LeadsOn x s u) (append_assoc a (rows_down i) row_down ∙ ap (λ x. a ++ x) (sym (rows_down-add i 1))) r
 
-pub back_fails : {E : Type 0} (a : List ℕ) (i n : ℕ) {s t : TermView} (u : TermView) (r : Result Unit E) → 1 ≤ i → i < n → IsErr r → LeadsOn (a ++ rows_back (i - 1)) s t → BreaksOff row_up t u →
-    Writes (a ++ rows_back (n - 1)) s u r
-back_fails a i n {s} {t} u r h k e p q =
-    let f : n - 1 ≡ (i - 1) + (1 + (n - 1 - i)) = omega arith in
-    let g : rows_back (n - 1) ≡ rows_back (i - 1) ++ (row_up ++ rows_back (n - 1 - i)) =
-    ap rows_back f ∙ rows_back-add (i - 1) (1 + (n - 1 - i)) ∙ ap (λ x. rows_back (i - 1) ++ x) (rows_back-add 1 (n - 1 - i)) in
-    let w : Writes (((a ++ rows_back (i - 1)) ++ row_up) ++ rows_back (n - 1 - i)) s u r = writes_fail (rows_back (n - 1 - i)) r e (breaks_then p q) in
-    rw g (subst (λ x. Writes x s u r) (append_assoc (a ++ rows_back (i - 1)) row_up (rows_back (n - 1 - i)) ∙ append_assoc a (rows_back (i - 1)) (row_up ++ rows_back (n - 1 - i))) w)
+-- or it fails
+pub down_fails : {E : Type 0} (a : List ℕ) (i n : ℕ) {s t : TermView} (u : TermView) (r : Result Unit E) → i < n → IsErr r → LeadsOn (a ++ rows_down i) s t → BreaksOff row_down t u →
+    Writes (a ++ rows_down n) s u r
+down_fails a i n {s} {t} u r k e p q =
+    let rest = rows_down (n - 1 - i) in
+    let f : n ≡ i + (1 + (n - 1 - i)) = omega arith in
+    let g : rows_down n ≡ rows_down i ++ (row_down ++ rest) = ap rows_down f ∙ rows_down-add i (1 + (n - 1 - i)) ∙ ap (λ x. rows_down i ++ x) (rows_down-add 1 (n - 1 - i)) in
+    let w : Writes (((a ++ rows_down i) ++ row_down) ++ rest) s u r = writes_fail rest r e (breaks_then p q) in
+    rw g (subst (λ x. Writes x s u r) (append_assoc (a ++ rows_down i) row_down rest ∙ append_assoc a (rows_down i) (row_down ++ rest)) w)
 
 -- ---- a whole drawing
 

@@ -8,7 +8,7 @@ use Rattle.std.proofs.lemmas.List.Sums.{sum_by-take-drop}
 use Rattle.indicatif_term.proofs.CallTurnLemmas.{or_lt_after}
 use Rattle.indicatif_text.specs.Columns.{Cell, blank_row, rows_of}
 use Rattle.indicatif_term.specs.Screen.{Screen}
-use Rattle.indicatif_term.specs.Terminal.{Terminal, after}
+use Rattle.indicatif_term.specs.Terminal.{Terminal, GREATEST, after}
 use Rattle.indicatif_term.specs.Calls.{anew_bytes}
 use Rattle.indicatif_term.specs.Shows.{Shows, Rests, IsOpening, RowsStay, look, looks_of, resting, resting_row, resting_column}
 use Rattle.indicatif_term.proofs.CursorRowLemmas.{Stands}
@@ -131,7 +131,7 @@ column_by w h opening l t s [] taken f g =
 column_by w h opening l t s (line ∷ lines) taken f g = g (omega arith)
 
 module _ (w h : ℕ) (opening : Screen) (l l' : Lists) (more gone : List (List Cell)) (lines : List (List ℕ)) (t : Terminal)
-    (s : Shows w h opening l t) (g : Replaces w h l l' more gone lines) (p : 0 < w) (d : AreDrawable w lines) (full : l'.below ≡ false → IsFull w lines) where
+    (s : Shows w h opening l t) (g : Replaces w h l l' more gone lines) (p : 0 < w) (d : AreDrawable w lines) (full : l'.below ≡ false → IsFull w lines) (few : length gone ≤ GREATEST) where
   abbrev base : List (List Cell)
   base = l.above ++ more
 
@@ -165,6 +165,7 @@ module _ (w h : ℕ) (opening : Screen) (l l' : Lists) (more gone : List (List C
       let f = parts.0 in
       let k = parts.1 in
       paint_leads w h opening front taken lines l.below l'.below t l.reach p d
+      (omega (arith, k, few))
       (let a : l.reach ≤ length l.above + h = s.movable in omega (arith, f, length-append l.above more))
       (let a : lists_height l ≤ l.reach = s.reached in omega (arith, before_height, f, k))
       (λ e. let c = at_end_parts l.below (length taken) e in let b : 0 < lists_height l = s.on_a_row c.0 in omega (arith, before_height, c.1, f, k))
@@ -194,6 +195,7 @@ module _ (w h : ℕ) (opening : Screen) (l l' : Lists) (more gone : List (List C
       let k = parts.1 in
       subst (λ n. (after t (paint_bytes false l.below n lines false)).screen.column ≡ w) k
       (paint_column w h opening front taken lines l.below t l.reach p some d (full b)
+      (omega (arith, k, few))
       (let a : l.reach ≤ length l.above + h = s.movable in omega (arith, f, length-append l.above more))
       (let a : lists_height l ≤ l.reach = s.reached in omega (arith, before_height, f, k))
       (λ e. let c = at_end_parts l.below (length taken) e in let b : 0 < lists_height l = s.on_a_row c.0 in omega (arith, before_height, c.1, f, k))

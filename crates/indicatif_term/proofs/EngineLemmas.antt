@@ -1,5 +1,5 @@
 -- What an engine did to a terminal, by what it remembers: the drawing was made, refused or broken off.
-use Rattle.std.proofs.Common.{◌≡◌, ℕ, zero, suc, ◌+◌, ◌-◌, ◌<◌, Bool, true, false, List, [], ◌∷◌, ◌++◌, length, map, take, replicate, refl, sym, ◌∙◌, ap, subst, arith, length-append, append_assoc, append-nil, Result, Ok, Err, chars, inl, inr, if◌then◌else◌}
+use Rattle.std.proofs.Common.{◌≡◌, ℕ, zero, suc, ◌+◌, ◌-◌, ◌<◌, ◌≤◌, Bool, true, false, List, [], ◌∷◌, ◌++◌, length, map, take, replicate, refl, sym, ◌∙◌, ap, subst, arith, length-append, append_assoc, append-nil, Result, Ok, Err, chars, inl, inr, if◌then◌else◌}
 use Rattle.std.specs.Prelude.{IsTrue, IsFalse, IsErrAnd, flat_map, ◌||◌, min, ◌^◌}
 use Rattle.std.specs.Str.{IsUtf8}
 use Rattle.std.specs.List.{AllByRecursion}
@@ -10,7 +10,7 @@ use Rattle.indicatif_text.specs.Columns.{rows_of, has_wide, is_plain, visible}
 use Rattle.indicatif_term.specs.Screen.{Screen}
 use Rattle.indicatif_text.specs.Columns.{Cell}
 use Rattle.indicatif_term.proofs.AnewLemmas.{anew_stays}
-use Rattle.indicatif_term.specs.Terminal.{Terminal, after}
+use Rattle.indicatif_term.specs.Terminal.{Terminal, GREATEST, after}
 use Rattle.indicatif_term.specs.Calls.{TermView, Writes, anew_bytes}
 use Rattle.indicatif_term.specs.Shows.{Shows, Rests, RowsStay}
 use Rattle.indicatif_term.specs.Lists.{Lists, forgotten_lists, Live, live_of_frame, live_height, live_rows, lines_of, fitting, shown_rows, drawn, cleared, logged, blanks_for, segments_height}
@@ -228,13 +228,14 @@ draw_paints w h l c next pass blanks bottom frame plan p1 p2 p3 o q o' b =
     let rows : lines_rows w lines ≡ live_rows w (live_of_frame w h bottom (live_height l.live) 0 (map bar_lines frame)) = frame_rows w h frame blanks
     ∙ ap (λ n. live_rows w (record { blanks = n; segments = shown_rows w h (map bar_lines frame) })) (b ∙ same) in
     let count : c.live ≡ length gone = live_of c l o ∙ sym (length-live w l.live) in
+    let few : length gone ≤ GREATEST = let f : c.kept + c.live ≤ c.reached = c.fits in let k : c.reached ≤ 65535 = c.small in omega (arith, count) in
     let goes = λ (opening : Screen) (t : Terminal) (x : Shows w h opening l t). drawn_goes w h pass bottom (map bar_lines frame) l lines x.reached x.movable rows in
     let d = frame_drawable w blanks (length (fitting h (lines_of w (map bar_lines frame)))) frame p2 p3 in
     let r = refills l'.below w lines p1 d in
     let filled = refilled l'.below w lines in
     rw (o.below_is, count, q.lines_are, o'.below_is, filled_paint w l.below l'.below (length gone) lines) (record {
-      shows = λ opening t x. onward_shows w h opening l l' l.kept gone filled t x (goes_filled w h l l' l.kept gone lines filled r.looks r.count (goes opening t x)) p1 r.drawable r.full;
-      keeps = λ opening t x. onward_keeps w h opening l l' l.kept gone filled t x (goes_filled w h l l' l.kept gone lines filled r.looks r.count (goes opening t x)) p1 r.drawable r.full;
+      shows = λ opening t x. onward_shows w h opening l l' l.kept gone filled t x (goes_filled w h l l' l.kept gone lines filled r.looks r.count (goes opening t x)) p1 r.drawable r.full few;
+      keeps = λ opening t x. onward_keeps w h opening l l' l.kept gone filled t x (goes_filled w h l l' l.kept gone lines filled r.looks r.count (goes opening t x)) p1 r.drawable r.full few;
     })
 
 sum_same : (c : Counts) (l : Lists) → CountsOf c l → length l.kept + live_height l.live ≡ c.kept + c.live
@@ -246,9 +247,10 @@ pub clear_paints : (w h : ℕ) (l : Lists) (c next : Counts) → 0 < w → Count
 clear_paints w h l c next p1 o o' =
     let gone = l.kept ++ live_rows w l.live in
     let count : c.kept + c.live ≡ length gone = sym (length-append l.kept (live_rows w l.live) ∙ ap (λ n. length l.kept + n) (length-live w l.live) ∙ sum_same c l o) in
+    let few : length gone ≤ GREATEST = let f : c.kept + c.live ≤ c.reached = c.fits in let k : c.reached ≤ 65535 = c.small in omega (arith, count) in
     rw (o.below_is, count, o'.below_is) (record {
-      shows = λ opening t x. onward_shows w h opening l (cleared l) [] gone [] t x (cleared_goes w h l x.reached x.movable) p1 tt (λ e. tt);
-      keeps = λ opening t x. onward_keeps w h opening l (cleared l) [] gone [] t x (cleared_goes w h l x.reached x.movable) p1 tt (λ e. tt);
+      shows = λ opening t x. onward_shows w h opening l (cleared l) [] gone [] t x (cleared_goes w h l x.reached x.movable) p1 tt (λ e. tt) few;
+      keeps = λ opening t x. onward_keeps w h opening l (cleared l) [] gone [] t x (cleared_goes w h l x.reached x.movable) p1 tt (λ e. tt) few;
     })
 
 -- ---- a log
@@ -300,12 +302,13 @@ log_paints w h l c next rows blanks bottom text frame plan p1 u p2 p3 p4 o q o' 
     log_rows w h frame blanks text ∙ ap (λ n. flat_map (rows_of w) (text_lines text) ++ live_rows w (record { blanks = n; segments = shown_rows w h (map bar_lines frame) })) same in
     let z = λ (k : length lines ≡ 0). ap (λ n. n + segments_height (shown_rows w h (map bar_lines frame))) (sym same) ∙ log_none w h blanks text frame k in
     let count : c.kept + c.live ≡ length gone = sym (length-append l.kept (live_rows w l.live) ∙ ap (λ n. length l.kept + n) (length-live w l.live) ∙ sum_same c l o) in
+    let few : length gone ≤ GREATEST = let f : c.kept + c.live ≤ c.reached = c.fits in let k : c.reached ≤ 65535 = c.small in omega (arith, count) in
     let d = log_drawable w blanks (length (fitting h (lines_of w (map bar_lines frame)))) text frame u p2 p3 p4 in
     let r = refills l'.below w lines p1 d in
     let filled = refilled l'.below w lines in
     rw (o.below_is, count, q.lines_are, o'.below_is, filled_paint w l.below l'.below (length gone) lines) (record {
       shows = λ opening t x. onward_shows w h opening l l' [] gone filled t x
-          (goes_filled w h l l' [] gone lines filled r.looks r.count (logged_goes w h bottom (text_lines text) (map bar_lines frame) l lines x.reached x.movable e z)) p1 r.drawable r.full;
+          (goes_filled w h l l' [] gone lines filled r.looks r.count (logged_goes w h bottom (text_lines text) (map bar_lines frame) l lines x.reached x.movable e z)) p1 r.drawable r.full few;
       keeps = λ opening t x. onward_keeps w h opening l l' [] gone filled t x
-          (goes_filled w h l l' [] gone lines filled r.looks r.count (logged_goes w h bottom (text_lines text) (map bar_lines frame) l lines x.reached x.movable e z)) p1 r.drawable r.full;
+          (goes_filled w h l l' [] gone lines filled r.looks r.count (logged_goes w h bottom (text_lines text) (map bar_lines frame) l lines x.reached x.movable e z)) p1 r.drawable r.full few;
     })

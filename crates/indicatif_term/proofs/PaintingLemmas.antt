@@ -1,5 +1,5 @@
 -- A drawing's bytes lead from the rows taken back to the rows written, call by call.
-use Rattle.std.proofs.Common.{◌≡◌, ℕ, suc, ◌+◌, ◌-◌, ◌<◌, ◌≤◌, min, max, Bool, true, false, List, [], ◌∷◌, ◌++◌, length, take, refl, sym, ◌∙◌, ap, arith, chars, append_assoc, append-nil, not, subst, length-append, if◌then◌else◌, ◌||◌}
+use Rattle.std.proofs.Common.{◌≡◌, ℕ, zero, suc, ◌+◌, ◌-◌, ◌<◌, ◌≤◌, min, max, Bool, true, false, List, [], ◌∷◌, ◌++◌, length, take, replicate, refl, sym, ◌∙◌, ap, arith, chars, append_assoc, append-nil, not, subst, length-append, if◌then◌else◌, ◌||◌}
 use Rattle.std.specs.Prelude.{◌&&◌, ◌==◌}
 use Rattle.std.proofs.lemmas.Bool.Decides.{nat_tests}
 use Rattle.std.specs.Prelude.{IsTrue, IsFalse, nat_lt}
@@ -7,15 +7,15 @@ use Rattle.std.specs.Str.{IsUtf8}
 use Rattle.std.specs.List.{AllByRecursion}
 use Rattle.std.proofs.lemmas.List.{take_min, take-append-le}
 use Rattle.indicatif_term.proofs.CallTurnLemmas.{or_lt_after}
-use Rattle.indicatif_text.specs.Columns.{Cell, rows_of, last_columns, is_plain, has_wide}
+use Rattle.indicatif_text.specs.Columns.{Cell, blank_row, rows_of, last_columns, is_plain, has_wide}
 use Rattle.indicatif_term.specs.Screen.{Screen}
-use Rattle.indicatif_term.specs.Terminal.{Terminal, after}
+use Rattle.indicatif_term.specs.Terminal.{Terminal, GREATEST, after}
 use Rattle.indicatif_term.specs.Calls.{move_bytes, clear_bytes}
-use Rattle.indicatif_term.specs.Inside.Bytes.{next_row, rows_back, back_bytes, lines_bytes, paint_bytes}
+use Rattle.indicatif_term.specs.Inside.Bytes.{next_row, rows_down, back_bytes, lines_bytes, paint_bytes}
 use Rattle.indicatif_term.specs.Shows.{RowsStay}
 use Rattle.indicatif_term.proofs.CursorRowLemmas.{Stands}
 use Rattle.indicatif_term.proofs.FeedLemmas.{after-append}
-use Rattle.indicatif_term.proofs.TerminalStepLemmas.{StandsAfter, up_leads, clear_leads, next_leads, text_leads, text_column, rows_some}
+use Rattle.indicatif_term.proofs.TerminalStepLemmas.{StandsAfter, up_leads, clear_leads, down_leads, fades, next_leads, text_leads, text_column, rows_some}
 use Rattle.indicatif_term.proofs.FillLemmas.{IsFull}
 use Rattle.indicatif_term.proofs.ShownRowLemmas.{lines_rows}
 use Rattle.indicatif_term.proofs.RowsAboveLemmas.{both_keep, nothing_keeps}
@@ -68,23 +68,27 @@ module _ (w h : ℕ) (opening : Screen) (above : List (List Cell)) where
     stands = rw (after-append t a b) q.stands;
   }
 
-  back_rows : (gone more : List (List Cell)) (t : Terminal) (reach : ℕ) → reach ≤ length above + h →
-      Stands w h opening (above ++ (more ++ gone)) (length above + length more + length gone) reach true t →
-      StandsAfter w h opening above t (rows_back (length gone)) (above ++ more) (length above + length more) reach true
-  back_rows [] more t reach m s =
-      nothing_leads t _ (length above + length more) reach true
-      (restand t _ _ _ _ reach reach true true (ap (λ x. above ++ x) (append-nil more)) (omega arith) refl refl s)
-  back_rows (r ∷ gone) more t reach m s =
-      let before = rows_back (length gone) in
-      let n = length above + length more in
-      let first : StandsAfter w h opening above t before (above ++ (more ++ r ∷ [])) (length above + length (more ++ r ∷ [])) reach true =
-      back_rows gone (more ++ r ∷ []) t reach m
-      (restand t _ _ _ _ reach reach true true (ap (λ x. above ++ x) (sym (append_assoc more (r ∷ []) gone))) (simp length-append (omega arith)) refl refl s) in
-      let up = up_leads w h opening above (after t before) (more ++ r ∷ []) n reach true
-      (restand (after t before) _ _ _ _ reach reach true true refl (simp length-append (omega arith)) refl refl first.stands) (omega arith) in
-      let clear = clear_leads w h opening above (after (after t before) (move_bytes 0x41 1)) more r reach false up.stands in
-      leads_then t before (move_bytes 0x41 1 ++ clear_bytes) _ _ _ _ reach reach true true first
-      (leads_then (after t before) (move_bytes 0x41 1) clear_bytes _ _ n n reach reach false true up clear)
+  -- up so many rows, or none
+  rises : (rows : List (List Cell)) (k row reach : ℕ) (front : Bool) (t : Terminal) → k ≤ GREATEST → reach ≤ row + h → Stands w h opening (above ++ rows) (row + k) reach front t →
+      StandsAfter w h opening above t (move_bytes 0x41 k) (above ++ rows) row reach front
+  rises rows zero row reach front t small m s = nothing_leads t _ row reach front (restand t _ _ _ _ reach reach front front refl (omega arith) refl refl s)
+  rises rows (suc k) row reach front t small m s = up_leads w h opening above t rows (suc k) row reach front (omega arith) small s m
+
+  -- down through the rows below the cursor's, each emptied
+  empties : (gone more : List (List Cell)) (row reach : ℕ) (t : Terminal) → suc row ≡ length above + length more →
+      Stands w h opening (above ++ (more ++ gone)) row reach true t →
+      StandsAfter w h opening above t (rows_down (length gone)) (above ++ (more ++ replicate (length gone) (blank_row w))) (row + length gone) reach true
+  empties [] more row reach t e s = relead t [] _ _ _ _ reach reach true true refl (omega arith) refl refl (nothing_leads t _ row reach true s)
+  empties (r ∷ gone) more row reach t e s =
+      let blanks = replicate (length gone) (blank_row w) in
+      let down = down_leads w h opening above t (more ++ r ∷ gone) row reach true s (omega (arith, e, length-append more (r ∷ gone))) in
+      let clear = clear_leads w h opening above (after t next_row) more r gone reach true (restand (after t next_row) _ _ _ _ reach reach true true refl e refl refl down.stands) in
+      let both = leads_then t next_row clear_bytes _ _ _ _ reach reach true true down clear in
+      let rest = empties gone (more ++ blank_row w ∷ []) (suc row) reach (after t (next_row ++ clear_bytes)) (omega (arith, e, length-append more (blank_row w ∷ [])))
+      (restand (after t (next_row ++ clear_bytes)) _ _ _ _ reach reach true true (ap (λ x. above ++ x) (sym (append_assoc more (blank_row w ∷ []) gone))) (sym e) refl refl both.stands) in
+      leads_then t (next_row ++ clear_bytes) (rows_down (length gone)) _ _ _ _ reach reach true true both
+      (relead (after t (next_row ++ clear_bytes)) (rows_down (length gone)) _ _ _ _ reach reach true true
+      (ap (λ x. above ++ x) (append_assoc more (blank_row w ∷ []) blanks)) (omega arith) refl refl rest)
 
   -- a line on a row of its own
   put_leads : (line : List ℕ) (at_end : Bool) (more : List (List Cell)) (t : Terminal) (reach : ℕ) → 0 < w →
@@ -161,10 +165,6 @@ module _ (w h : ℕ) (opening : Screen) (above : List (List Cell)) where
       ∙ lines_column (next ∷ lines) true (more ++ rs) (after t bytes) (max reach (n + length rs)) p (omega arith) (λ q. simp length-append (omega arith)) (simp length-append (omega arith)) d.1 full
       (restand w h opening above (after t bytes) _ _ _ _ _ _ false false refl (simp length-append (omega arith)) refl refl first.stands)
 
-snoc : {A : Type 0} (r : A) (rs : List A) → (g : List A) × (x : A) × (r ∷ rs ≡ g ++ x ∷ []) × (length g ≡ length rs)
-snoc r [] = ([], r, refl, refl)
-snoc r (y ∷ ys) = let c = snoc y ys in (r ∷ c.0, c.1, ap (λ z. r ∷ z) c.2, ap suc c.3)
-
 -- whether the cursor is left at the end of a row
 abbrev pub left_at_end : Bool → ℕ → Bool
 left_at_end below taken = not below && (taken == 0)
@@ -183,41 +183,36 @@ ended w false n [] f e = absurd (cc)
 ended w false n (line ∷ lines) f e = let p : 0 < length (rows_of w (chars line)) = rows_some w (chars line) in simp length-append (omega arith)
 
 module _ (w h : ℕ) (opening : Screen) (base : List (List Cell)) where
-  back_some : (g : List (List Cell)) (x : List Cell) (below : Bool) (t : Terminal) (reach : ℕ) → reach ≤ length base + h →
-      Stands w h opening (base ++ (g ++ x ∷ [])) (if below then suc (length base + length g) else (length base + length g)) reach below t →
-      StandsAfter w h opening base t (((if below then move_bytes 0x41 1 else []) ++ clear_bytes) ++ rows_back (length g)) (base ++ []) (length base) reach true
-  back_some g x true t reach m s =
-      let n = length base + length g in
-      let up = up_leads w h opening base t (g ++ x ∷ []) n reach true s (omega arith) in
-      let clear = clear_leads w h opening base (after t (move_bytes 0x41 1)) g x reach false up.stands in
-      let both = leads_then w h opening base t (move_bytes 0x41 1) clear_bytes _ _ n n reach reach false true up clear in
-      leads_then w h opening base t (move_bytes 0x41 1 ++ clear_bytes) (rows_back (length g)) _ _ n _ reach reach true true both
-      (relead w h opening base (after t (move_bytes 0x41 1 ++ clear_bytes)) (rows_back (length g)) _ _ _ _ reach reach true true refl (omega arith) refl refl
-      (back_rows w h opening base g [] (after t (move_bytes 0x41 1 ++ clear_bytes)) reach m
-      (restand w h opening base (after t (move_bytes 0x41 1 ++ clear_bytes)) _ _ _ _ reach reach true true refl (omega arith) refl refl both.stands)))
-  back_some g x false t reach m s =
-      let n = length base + length g in
-      let clear = clear_leads w h opening base t g x reach false s in
-      leads_then w h opening base t clear_bytes (rows_back (length g)) _ _ n _ reach reach true true clear
-      (relead w h opening base (after t clear_bytes) (rows_back (length g)) _ _ _ _ reach reach true true refl (omega arith) refl refl
-      (back_rows w h opening base g [] (after t clear_bytes) reach m
-      (restand w h opening base (after t clear_bytes) _ _ _ _ reach reach true true refl (omega arith) refl refl clear.stands)))
+  -- rows taken back
+  back_some : (r : List Cell) (rs : List (List Cell)) (k : ℕ) (below : Bool) (t : Terminal) (reach : ℕ) → k ≤ GREATEST → length rs ≤ GREATEST → reach ≤ length base + h →
+      Stands w h opening (base ++ r ∷ rs) (length base + k) reach below t →
+      StandsAfter w h opening base t (move_bytes 0x41 k ++ (clear_bytes ++ rows_down (length rs)) ++ move_bytes 0x41 (length rs)) (base ++ []) (length base) reach true
+  back_some r rs k below t reach small fewer m s =
+      let n = length rs in
+      let none : List (List Cell) = [] in
+      let up = move_bytes 0x41 k in
+      let blanks = replicate n (blank_row w) in
+      let first = rises w h opening base (r ∷ rs) k (length base) reach below t small m s in
+      let clear = clear_leads w h opening base (after t up) none r rs reach below (restand w h opening base (after t up) _ _ _ _ reach reach below below refl (omega arith) refl refl first.stands) in
+      let down = empties w h opening base rs (blank_row w ∷ []) (length base) reach (after (after t up) clear_bytes) (omega arith)
+      (restand w h opening base (after (after t up) clear_bytes) _ _ _ _ reach reach true true refl (omega arith) refl refl clear.stands) in
+      let both = leads_then w h opening base (after t up) clear_bytes (rows_down n) _ _ _ _ reach reach true true clear down in
+      let rows = leads_then w h opening base t up (clear_bytes ++ rows_down n) _ _ _ _ reach reach below true first both in
+      let back = rises w h opening base (blank_row w ∷ blanks) n (length base) reach true (after t (up ++ (clear_bytes ++ rows_down n))) fewer m rows.stands in
+      fades w h opening base t (up ++ (clear_bytes ++ rows_down n) ++ move_bytes 0x41 n) (suc n) (length base) reach true
+      (leads_then w h opening base t (up ++ (clear_bytes ++ rows_down n)) (move_bytes 0x41 n) _ _ _ _ reach reach true true rows back)
 
-  back_leads : (gone : List (List Cell)) (below : Bool) (t : Terminal) (reach : ℕ) → reach ≤ length base + h →
+  back_leads : (gone : List (List Cell)) (below : Bool) (t : Terminal) (reach : ℕ) → length gone ≤ GREATEST → reach ≤ length base + h →
       Stands w h opening (base ++ gone) (if below then (length base + length gone) else (length base + length gone - 1)) reach below t →
       StandsAfter w h opening base t (back_bytes below (length gone)) (base ++ []) (row_for (left_at_end below (length gone)) (length base)) reach (not (left_at_end below (length gone)))
-  back_leads [] true t reach m s = nothing_leads w h opening base t _ (length base) reach true (restand w h opening base t _ _ _ _ reach reach true true refl (omega arith) refl refl s)
-  back_leads [] false t reach m s = nothing_leads w h opening base t _ (length base - 1) reach false (restand w h opening base t _ _ _ _ reach reach false false refl (omega arith) refl refl s)
-  back_leads (r ∷ rs) true t reach m s =
-      let c = snoc r rs in
-      let q : length c.0 ≡ length rs = c.3 in
-      let l = back_some c.0 c.1 true t reach m (restand w h opening base t _ _ _ _ reach reach true true (ap (λ z. base ++ z) c.2) (omega arith) refl refl s) in
-      relead w h opening base t _ _ _ _ _ reach reach _ _ refl (ap (λ b. row_for b (length base)) (left_more true (length rs))) refl (ap not (left_more true (length rs))) (rw q at l)
-  back_leads (r ∷ rs) false t reach m s =
-      let c = snoc r rs in
-      let q : length c.0 ≡ length rs = c.3 in
-      let l = back_some c.0 c.1 false t reach m (restand w h opening base t _ _ _ _ reach reach false false (ap (λ z. base ++ z) c.2) (omega arith) refl refl s) in
-      relead w h opening base t _ _ _ _ _ reach reach _ _ refl (ap (λ b. row_for b (length base)) (left_more false (length rs))) refl (ap not (left_more false (length rs))) (rw q at l)
+  back_leads [] true t reach few m s = nothing_leads w h opening base t _ (length base) reach true (restand w h opening base t _ _ _ _ reach reach true true refl (omega arith) refl refl s)
+  back_leads [] false t reach few m s = nothing_leads w h opening base t _ (length base - 1) reach false (restand w h opening base t _ _ _ _ reach reach false false refl (omega arith) refl refl s)
+  back_leads (r ∷ rs) true t reach few m s =
+      relead w h opening base t _ _ _ _ _ reach reach _ _ refl (ap (λ b. row_for b (length base)) (left_more true (length rs))) refl (ap not (left_more true (length rs)))
+      (back_some r rs (suc (length rs)) true t reach few (omega arith) m s)
+  back_leads (r ∷ rs) false t reach few m s =
+      relead w h opening base t _ _ _ _ _ reach reach _ _ refl (ap (λ b. row_for b (length base)) (left_more false (length rs))) refl (ap not (left_more false (length rs)))
+      (back_some r rs (length rs) false t reach (omega arith) (omega arith) m (restand w h opening base t _ _ _ _ reach reach false false refl (omega arith) refl refl s))
 
   -- below the lines at last, if asked
   finish : (ends_below at_end : Bool) (lines : List (List ℕ)) (t : Terminal) (bytes : List ℕ) (reach n : ℕ) →
@@ -236,7 +231,7 @@ module _ (w h : ℕ) (opening : Screen) (base : List (List Cell)) where
 
   -- the whole of a drawing's bytes
   pub paint_leads : (gone : List (List Cell)) (lines : List (List ℕ)) (below ends_below : Bool) (t : Terminal) (reach : ℕ) → 0 < w → AreDrawable w lines →
-      reach ≤ length base + h → length base + length gone ≤ reach →
+      length gone ≤ GREATEST → reach ≤ length base + h → length base + length gone ≤ reach →
       (left_at_end below (length gone) ≡ true → 0 < length base) →
       (ends_below ≡ true → length base + length (lines_rows w lines) < reach) →
       (ends_below ≡ false → (left_at_end below (length gone) || nat_lt 0 (length lines)) ≡ true) →
@@ -244,11 +239,11 @@ module _ (w h : ℕ) (opening : Screen) (base : List (List Cell)) where
       StandsAfter w h opening base t (paint_bytes false below (length gone) lines ends_below) (base ++ lines_rows w lines)
       (row_for (not ends_below) (length base + length (lines_rows w lines))) (max reach (length base + length (lines_rows w lines))) ends_below
   unfolding paint_bytes
-  paint_leads gone lines below ends_below t reach p d m k f e1 e2 s =
+  paint_leads gone lines below ends_below t reach p d few m k f e1 e2 s =
       let taken = length gone in
       let at_end = left_at_end below taken in
       let back = back_bytes below taken in
-      let first = back_leads gone below t reach m s in
+      let first = back_leads gone below t reach few m s in
       let n = length base + length (lines_rows w lines) in
       let text = lines_bytes at_end lines in
       let second = lines_lead w h opening base lines at_end [] (after t back) reach p (λ q. omega (arith, f q)) (omega arith) d
@@ -260,16 +255,16 @@ module _ (w h : ℕ) (opening : Screen) (base : List (List Cell)) where
 
   -- where the cursor is after a drawing whose last line fills its row
   pub paint_column : (gone : List (List Cell)) (lines : List (List ℕ)) (below : Bool) (t : Terminal) (reach : ℕ) → 0 < w → 0 < length lines → AreDrawable w lines → IsFull w lines →
-      reach ≤ length base + h → length base + length gone ≤ reach →
+      length gone ≤ GREATEST → reach ≤ length base + h → length base + length gone ≤ reach →
       (left_at_end below (length gone) ≡ true → 0 < length base) →
       Stands w h opening (base ++ gone) (if below then (length base + length gone) else (length base + length gone - 1)) reach below t →
       (after t (paint_bytes false below (length gone) lines false)).screen.column ≡ w
   unfolding paint_bytes
-  paint_column gone lines below t reach p some d full m k f s =
+  paint_column gone lines below t reach p some d full few m k f s =
       let taken = length gone in
       let at_end = left_at_end below taken in
       let back = back_bytes below taken in
-      let first = back_leads gone below t reach m s in
+      let first = back_leads gone below t reach few m s in
       ap (λ x. (after t x).screen.column) (append-nil (back ++ lines_bytes at_end lines))
       ∙ ap (λ u. u.screen.column) (after-append t back (lines_bytes at_end lines))
       ∙ lines_column w h opening base lines at_end [] (after t back) reach p some (λ q. omega (arith, f q)) (omega arith) d full

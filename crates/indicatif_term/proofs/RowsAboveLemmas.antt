@@ -1,5 +1,5 @@
 -- The calls leave the rows above alone, after each beginning of their bytes.
-use Rattle.std.proofs.Common.{◌≡◌, ℕ, zero, suc, ◌+◌, ◌-◌, ◌<◌, ◌≤◌, false, List, [], ◌∷◌, ◌++◌, length, take, drop, refl, sym, ◌∙◌, ap, subst, arith, length-append, map, eqb, Some, None, Option, ⊎_elim}
+use Rattle.std.proofs.Common.{◌≡◌, ℕ, zero, suc, ◌+◌, ◌-◌, ◌<◌, ◌≤◌, ◌^◌, min, false, List, [], ◌∷◌, ◌++◌, length, take, drop, refl, sym, ◌∙◌, ap, subst, arith, length-append, map, eqb, Some, None, Option, ⊎_elim}
 use Rattle.std.specs.Prelude.{nat_lt, nat_le, encode_utf8_all}
 use Rattle.std.specs.List.{AllByRecursion}
 use Rattle.std.proofs.lemmas.List.{take-set-le, take-append-le, take-append-drop, take_all, length-set}
@@ -7,7 +7,7 @@ use Rattle.std.proofs.lemmas.Bool.{cond_both, ltb-true, cases_lt}
 use Rattle.unicode_width.specs.Width.{char_width}
 use Rattle.indicatif_text.specs.Columns.{Cell, Glyph, visible, blank_row}
 use Rattle.indicatif_term.specs.Screen.{Screen, Op, Put, Return, LineFeed, Up, Down, Right, Left, EmptyRow, performed, performed_all, put_sized, put_mark, put_wide, put_here, with_row, line_feed}
-use Rattle.indicatif_term.specs.Terminal.{Terminal, idle, ops_of, reader_after, after}
+use Rattle.indicatif_term.specs.Terminal.{Terminal, GREATEST, idle, ops_of, reader_after, after}
 use Rattle.indicatif_term.specs.Calls.{line_bytes, clear_bytes, move_bytes}
 use Rattle.indicatif_term.specs.Shows.{RowsStay, resting}
 use Rattle.indicatif_term.proofs.CursorRowLemmas.{IsBelow, IsText}
@@ -137,5 +137,5 @@ pub clear_keeps : (n : ℕ) (s : Screen) → IsBelow n s → RowsStay n (resting
 clear_keeps n s below = keeps n s clear_bytes (Return ∷ EmptyRow ∷ []) clear_asks (kept_level n s (Return ∷ EmptyRow ∷ []) below (tt, (tt, tt)))
 
 -- nor does a move
-pub up_keeps : (n : ℕ) (s : Screen) → RowsStay n (resting s) (move_bytes 0x41 1)
-up_keeps n s = keeps n s (move_bytes 0x41 1) (Up 1 ∷ []) (up_asks 1 (omega arith) (omega arith)) (refl, tt)
+pub up_keeps : (n : ℕ) (s : Screen) (k : ℕ) → 0 < k → k < 2 ^ 64 → RowsStay n (resting s) (move_bytes 0x41 k)
+up_keeps n s k some small = keeps n s (move_bytes 0x41 k) (Up (min k GREATEST) ∷ []) (up_asks k some small) (refl, tt)

@@ -1,17 +1,17 @@
 -- A single call leads a terminal from rows that it shows to the rows after the call.
-use Rattle.std.proofs.Common.{◌≡◌, ℕ, suc, ◌+◌, ◌-◌, ◌<◌, ◌≤◌, Bool, true, false, List, [], ◌∷◌, ◌++◌, length, take, replicate, refl, sym, ◌∙◌, ap, subst, arith, length-append, append_assoc}
-use Rattle.std.specs.Prelude.{IsTrue, IsFalse, max, chars, nat_lt, is_some}
+use Rattle.std.proofs.Common.{◌≡◌, ℕ, suc, ◌+◌, ◌-◌, ◌<◌, ◌≤◌, Bool, true, false, List, [], ◌∷◌, ◌++◌, length, take, replicate, refl, sym, ◌∙◌, ap, subst, arith, length-append, append_assoc, append-nil}
+use Rattle.std.specs.Prelude.{IsTrue, IsFalse, max, chars, nat_lt, is_some, slice_set}
 use Rattle.std.specs.Str.{IsUtf8}
 use Rattle.std.specs.List.{list_any, list_all, AllByRecursion}
-use Rattle.std.proofs.lemmas.List.{length-take-le, length-map, length-replicate}
-use Rattle.std.proofs.lemmas.Bool.{and_parts, or_parts, ltb-false}
+use Rattle.std.proofs.lemmas.List.{length-take-le, length-map, length-replicate, set_at, replicate-append-replicate}
+use Rattle.std.proofs.lemmas.Bool.{and_parts, or_parts, ltb-false, lt-ltb}
 use Rattle.std.proofs.lemmas.Str.{encodes-chars, scalars-chars}
 use Rattle.std.proofs.Math.Utf8.{encodes}
 use Rattle.std.proofs.lemmas.List.Elements.{All-from_recursion}
 use Rattle.unicode_width.specs.Width.{char_width}
 use Rattle.indicatif_text.specs.Columns.{Cell, blank_row, width_of, visible, glyphs_of, pieces_of, row_of, columns_of_last, last_columns, rows_of, is_plain, has_wide}
 use Rattle.indicatif_term.specs.Screen.{Screen, Return, LineFeed, line_feed}
-use Rattle.indicatif_term.specs.Terminal.{Terminal, after}
+use Rattle.indicatif_term.specs.Terminal.{Terminal, GREATEST, after}
 use Rattle.indicatif_term.specs.Calls.{move_bytes, clear_bytes}
 use Rattle.indicatif_term.specs.Inside.Bytes.{next_row}
 use Rattle.indicatif_term.specs.Shows.{RowsStay, IsOpening, resting}
@@ -54,36 +54,74 @@ module _ (w h : ℕ) (opening : Screen) where
   total : (rows : List (List Cell)) (below : ℕ) → IsOpening w h opening → length (over ++ rows ++ replicate below (blank_row w)) ≡ opening.row + length rows + below
   total rows below o = omega (arith, length-append (over ++ rows) (replicate below (blank_row w)), length-append over rows, over_length o, length-replicate below (blank_row w))
 
-  pub up_leads : (above : List (List Cell)) (t : Terminal) (more : List (List Cell)) (row reach : ℕ) (front : Bool) → Stands w h opening (above ++ more) (suc row) reach front t →
-      reach ≤ row + h → StandsAfter w h opening above t (move_bytes 0x41 1) (above ++ more) row reach false
-  up_leads above t more row reach front s m =
-      let s' = screen_of (above ++ more) s.below (suc row) s.column in
-      leads_from above (above ++ more) (above ++ more) t (move_bytes 0x41 1) (suc row) row reach reach s.below s.column front false s
-      (up_keeps (opening.row + length above) s')
-      (moved_up s' 1 (omega arith) (omega arith) ∙ ap (λ s. resting s) (same_screen _ _ _ _ _ _ _ _ refl
+  pub up_leads : (above : List (List Cell)) (t : Terminal) (more : List (List Cell)) (k row reach : ℕ) (front : Bool) → 0 < k → k ≤ GREATEST →
+      Stands w h opening (above ++ more) (row + k) reach front t → reach ≤ row + h → StandsAfter w h opening above t (move_bytes 0x41 k) (above ++ more) row reach front
+  up_leads above t more k row reach front some small s m =
+      let s' = screen_of (above ++ more) s.below (row + k) s.column in
+      leads_from above (above ++ more) (above ++ more) t (move_bytes 0x41 k) (row + k) row reach reach s.below s.column front front s
+      (up_keeps (opening.row + length above) s' k some (omega arith))
+      (moved_up s' k some (omega arith) ∙ ap (λ s. resting s) (same_screen _ _ _ _ _ _ _ _ refl
       (omega (arith, total (above ++ more) s.below s.opens, s.scrolled, s.opens.in_window, s.opens.height)) refl))
-      (omega (arith, s.in_rows)) (λ e. cc) s.scrolled
+      (omega (arith, s.in_rows)) s.at_front s.scrolled
 
   window : IsOpening w h opening → 0 < h
   window o = omega (arith, o.in_window, o.in_rows, o.height)
 
-  pub clear_leads : (above : List (List Cell)) (t : Terminal) (more : List (List Cell)) (r : List Cell) (reach : ℕ) (front : Bool) →
-      Stands w h opening (above ++ (more ++ r ∷ [])) (length above + length more) reach front t →
-      StandsAfter w h opening above t clear_bytes (above ++ more) (length above + length more) reach true
-  clear_leads above t more r reach front s =
+  pub clear_leads : (above : List (List Cell)) (t : Terminal) (more : List (List Cell)) (r : List Cell) (rest : List (List Cell)) (reach : ℕ) (front : Bool) →
+      Stands w h opening (above ++ (more ++ r ∷ rest)) (length above + length more) reach front t →
+      StandsAfter w h opening above t clear_bytes (above ++ (more ++ blank_row w ∷ rest)) (length above + length more) reach true
+  clear_leads above t more r rest reach front s =
       let n = length above + length more in
       let base = over ++ (above ++ more) in
-      let lower = replicate s.below (blank_row w) in
+      let lower = rest ++ replicate s.below (blank_row w) in
       let base_length : length base ≡ opening.row + n = omega (arith, length-append over (above ++ more), length-append above more, over_length s.opens) in
-      let count : length (above ++ (more ++ r ∷ [])) ≡ n + 1 = omega (arith, length-append above (more ++ r ∷ []), length-append more (r ∷ [])) in
-      let at : screen_of (above ++ (more ++ r ∷ [])) s.below n s.column ≡ screen_at w h base r s.below s.column =
-      same_screen _ _ _ _ _ _ _ _ (simp append_assoc) (sym base_length) refl in
-      leads_from above (above ++ (more ++ r ∷ [])) (above ++ more) t clear_bytes n n reach reach (suc s.below) 0 front true s
-      (clear_keeps (opening.row + length above) (screen_of (above ++ (more ++ r ∷ [])) s.below n s.column)
-      (record { below = omega arith; in_rows = omega (arith, total (above ++ (more ++ r ∷ [])) s.below s.opens, count); window = window s.opens }))
-      (ap (λ u. after (resting u) clear_bytes) at ∙ row_cleared w h base r s.below s.column
-      ∙ ap (λ s. resting s) (same_screen _ _ _ _ _ _ _ _ refl base_length refl))
-      (omega (arith, length-append above more)) (λ e. refl) (omega (arith, s.scrolled, count, length-append above more))
+      let count : length (above ++ (more ++ r ∷ rest)) ≡ n + suc (length rest) = omega (arith, length-append above (more ++ r ∷ rest), length-append more (r ∷ rest)) in
+      let s' = screen_of (above ++ (more ++ r ∷ rest)) s.below n s.column in
+      let before : over ++ (above ++ (more ++ r ∷ rest)) ++ replicate s.below (blank_row w) ≡ base ++ r ∷ lower = simp append_assoc in
+      let emptied : over ++ (above ++ (more ++ blank_row w ∷ rest)) ++ replicate s.below (blank_row w) ≡ base ++ blank_row w ∷ lower = simp append_assoc in
+      leads_from above (above ++ (more ++ r ∷ rest)) (above ++ (more ++ blank_row w ∷ rest)) t clear_bytes n n reach reach s.below 0 front true s
+      (clear_keeps (opening.row + length above) s'
+      (record { below = omega arith; in_rows = omega (arith, total (above ++ (more ++ r ∷ rest)) s.below s.opens, count); window = window s.opens }))
+      (row_cleared s' ∙ ap (λ s. resting s) (same_screen _ _ _ _ _ _ _ _
+      (ap (λ rows. slice_set rows (opening.row + n) (blank_row w)) before ∙ set_at base r lower (blank_row w) (opening.row + n) base_length ∙ sym emptied) refl refl))
+      (omega (arith, length-append above (more ++ blank_row w ∷ rest), length-append more (blank_row w ∷ rest))) (λ e. refl)
+      (omega (arith, s.scrolled, count, length-append above (more ++ blank_row w ∷ rest), length-append more (blank_row w ∷ rest)))
+
+  -- down to a row that is there
+  pub down_leads : (above : List (List Cell)) (t : Terminal) (more : List (List Cell)) (row reach : ℕ) (front : Bool) → Stands w h opening (above ++ more) row reach front t →
+      suc row < length above + length more → StandsAfter w h opening above t next_row (above ++ more) (suc row) reach true
+  down_leads above t more row reach front s within =
+      let s' = screen_of (above ++ more) s.below row s.column in
+      let rows = over ++ (above ++ more) ++ replicate s.below (blank_row w) in
+      let inside : nat_lt (opening.row + row + 1) (length rows) ≡ true =
+      lt-ltb (opening.row + row + 1) (length rows) (omega (arith, total (above ++ more) s.below s.opens, length-append above more)) in
+      leads_from above (above ++ more) (above ++ more) t next_row row (suc row) reach reach s.below 0 front true s
+      (end_keeps (opening.row + length above) s' (omega (arith, total (above ++ more) s.below s.opens, length-append above more)))
+      (after_asks s' (screen_of (above ++ more) s.below (suc row) 0) next_row (Return ∷ LineFeed ∷ []) end_asks
+      (same_screen _ _ _ _ _ _ _ _ (rw inside refl) (omega arith) refl))
+      (omega (arith, length-append above more)) (λ e. refl) s.scrolled
+
+  -- blank rows are none of those that are shown
+  pub fades : (above : List (List Cell)) (t : Terminal) (bytes : List ℕ) (k row reach : ℕ) (front : Bool) →
+      StandsAfter w h opening above t bytes (above ++ replicate k (blank_row w)) row reach front → StandsAfter w h opening above t bytes (above ++ []) row reach front
+  fades above t bytes k row reach front l =
+      let s = l.stands in
+      let none : List (List Cell) = [] in
+      let more = length-append above (replicate k (blank_row w)) in
+      let blanks : over ++ (above ++ replicate k (blank_row w)) ++ replicate s.below (blank_row w) ≡ over ++ (above ++ []) ++ replicate (k + s.below) (blank_row w) =
+      simp (append_assoc, append-nil, replicate-append-replicate) in
+      record {
+        keeps = l.keeps;
+        stands = record {
+          opens = s.opens;
+          below = k + s.below;
+          column = s.column;
+          is = s.is ∙ ap (λ s. resting s) (same_screen _ _ _ _ _ _ _ _ blanks refl refl);
+          in_rows = omega (arith, s.in_rows, more, length-replicate k (blank_row w), length-append above none);
+          at_front = s.at_front;
+          scrolled = omega (arith, s.scrolled, more, length-replicate k (blank_row w), length-append above none);
+        };
+      }
 
   pub next_leads : (above : List (List Cell)) (t : Terminal) (more : List (List Cell)) (row reach : ℕ) (front : Bool) → Stands w h opening (above ++ more) row reach front t →
       suc row ≡ length above + length more → StandsAfter w h opening above t next_row (above ++ more) (suc row) (max reach (suc (suc row))) true

@@ -1,7 +1,7 @@
 //! Rows taken back, and lines written.
 ghost use Rattle.std.specs.Prelude.{◌≡◌, ◌<◌, ◌≤◌, ◌+◌, ◌-◌, [], ◌∷◌, ◌++◌, map, take, length, replicate, true, if◌then◌else◌, not, ◌&&◌, ◌||◌, ◌==◌, nat_lt, is_some};
-ghost use Rattle.indicatif_term.specs.Calls.{Writes, move_bytes, clear_bytes, anew_bytes};
-ghost use Rattle.indicatif_term.specs.Inside.Bytes.{back_bytes, painting_bytes, drawing_lines, next_row};
+ghost use Rattle.indicatif_term.specs.Calls.{Writes, UP, move_bytes, clear_bytes, anew_bytes};
+ghost use Rattle.indicatif_term.specs.Inside.Bytes.{rows_down, back_bytes, painting_bytes, drawing_lines, next_row};
 ghost use Rattle.indicatif_term.specs.Inside.Pens.{Pens, Puts};
 ghost use Rattle.indicatif_term.specs.Frames.{line_text, logged_lines};
 ghost use Rattle.indicatif_term.specs.Inside.Plans.{frame_lines, text_above};
@@ -84,11 +84,11 @@ impl<'t, T: TermLike> Pen<'t, T> {
         if !anew {
             return Ok(());
         }
-        self.term.write_line("")?;
-        empty_row(self.term, false)
+        empty_next(self.term)
     }
 
-    /// Takes back that many rows, from the cursor's, if it stands at the end of one, or from the row above.
+    /// Takes back that many rows, of which the last is the cursor's, if it stands at the end of one, or the row above; then the
+    /// cursor is at the front of the first.
     fn take_back(&mut self, rows: usize) -> io::Result<()>
         ensures { Pens T.view (back_bytes (not self.old.at_end) rows) (self.old.at_end && (rows == 0)) self.old self.new result }
     {
@@ -196,26 +196,50 @@ impl<'t, T: TermLike> Pen<'t, T> {
     }
 }
 
-/// Empties so many rows, up from the cursor's, or from the one above.
-fn empty_rows<T: TermLike>(term: &mut T, above: bool, rows: usize) -> io::Result<()>
+/// Empties so many rows from the first to the last, which is the cursor's or the one above, and goes back to the first.
+fn empty_rows<T: TermLike>(term: &mut T, below: bool, rows: usize) -> io::Result<()>
     requires { 0 < rows }
-    ensures { Writes (back_bytes above rows) (T.view term.old) (T.view term.new) result }
+    ensures { Writes (back_bytes below rows) (T.view term.old) (T.view term.new) result }
 {
-    empty_row(term, above)?;
-    for _ in 1..rows {
-        empty_row(term, true)?;
+    go_up(term, rows_to_first(below, rows))?;
+    empty_down(term, rows - 1)?;
+    go_up(term, rows - 1)
+}
+
+/// How far the first of so many rows is above the cursor, which stands on the last of them or below it.
+fn rows_to_first(below: bool, rows: usize) -> usize
+    requires { 0 < rows }
+    ensures { result ≡ (if below then rows else (rows - 1)) }
+{
+    if below { rows } else { rows - 1 }
+}
+
+/// Goes up so many rows; none is no call.
+fn go_up<T: TermLike>(term: &mut T, rows: usize) -> io::Result<()>
+    ensures { Writes (move_bytes UP rows) (T.view term.old) (T.view term.new) result }
+{
+    if rows == 0 {
+        return Ok(());
+    }
+    term.move_cursor_up(rows)
+}
+
+/// Empties the cursor's row and so many below it.
+fn empty_down<T: TermLike>(term: &mut T, more: usize) -> io::Result<()>
+    ensures { Writes (clear_bytes ++ rows_down more) (T.view term.old) (T.view term.new) result }
+{
+    term.clear_line()?;
+    for _ in 0..more {
+        empty_next(term)?;
     }
     Ok(())
 }
 
-/// Empties the cursor's row, or the one above.
-fn empty_row<T: TermLike>(term: &mut T, above: bool) -> io::Result<()>
-    ensures { Writes ((if above then move_bytes 0x41 1 else []) ++ clear_bytes)
-        (T.view term.old) (T.view term.new) result }
+/// Goes to the next row and empties it.
+fn empty_next<T: TermLike>(term: &mut T) -> io::Result<()>
+    ensures { Writes (next_row ++ clear_bytes) (T.view term.old) (T.view term.new) result }
 {
-    if above {
-        term.move_cursor_up(1)?;
-    }
+    term.write_line("")?;
     term.clear_line()
 }
 
