@@ -347,7 +347,7 @@ fn a_pause_beside_a_ticker(rt: HostRuntime) -> Result<(), Fail> {
     bar.enable_steady_tick(1_000_000)?;
     assert!(rt; has_ticked(&rt, &bar));
     assert_eq!(rt; board.suspend(|| 7u8), (7, Ok(Drawn::Yes)));
-    bar.disable_steady_tick();
+    bar.disable_steady_tick()?;
     let (first, second) = (bar.ticks(), bar.ticks());
     assert_eq!(rt; first, second);
     is_one_run(&rt, rt.alloc(), &board);

@@ -40,7 +40,7 @@ fn on_and_off(rt: HostRuntime) -> Result<(), Fail> {
     let bar = bar_on(rt, rt.alloc())?;
     bar.enable_steady_tick(1_000_000)?;
     assert!(rt; ticks_on(&rt, &bar, 0));
-    bar.disable_steady_tick();
+    bar.disable_steady_tick()?;
     let (first, second) = (bar.ticks(), bar.ticks());
     assert_eq!(rt; first, second);
     assert_eq!(rt; bar.tick(), Ok(Drawn::Yes));
@@ -77,7 +77,7 @@ fn replaced(rt: HostRuntime) -> Result<(), Fail> {
     assert!(rt; ticks_on(&rt, &bar, 3));
     bar.enable_steady_tick(HOUR)?;
     assert!(rt; rests(&rt, &bar));
-    bar.disable_steady_tick();
+    bar.disable_steady_tick()?;
     Ok(())
 }
 
@@ -95,7 +95,7 @@ fn an_update_beside_it(rt: HostRuntime) -> Result<(), Fail> {
     assert_eq!(rt; bar.tick(), Ok(Drawn::Limited));
     let (told, drawn) = bar.suspend(|| 7u8);
     assert_eq!(rt; (told, drawn), (7, Ok(Drawn::Yes)));
-    bar.disable_steady_tick();
+    bar.disable_steady_tick()?;
     Ok(())
 }
 
@@ -110,7 +110,7 @@ fn it_ends_with_its_bar(rt: HostRuntime) -> Result<(), Fail> {
     thread::sleep(&rt, Duration::from_millis(50));
     assert_eq!(rt; bar.ticks(), before);
     assert_eq!(rt; bar.tick(), Ok(Drawn::Limited));
-    bar.disable_steady_tick();
+    bar.disable_steady_tick()?;
     assert_eq!(rt; bar.tick(), Ok(Drawn::Yes));
     Ok(())
 }

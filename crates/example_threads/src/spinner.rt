@@ -22,7 +22,7 @@ pub fn main<R: AllocGlobal + Print + Threads + Wait + Clock + Copy + Send + Drop
         }
     }
     println!(rt; "five ticks: {}", spinner.ticks() >= 5)?;
-    spinner.disable_steady_tick();
+    spinner.disable_steady_tick()?;
     spinner.finish_with_message("copied")?;
     let shown = spinner.with_term(|term| term.map(|term| term.contents()));
     println!(rt; "{}", shown.ok_or(anyhow!("no terminal"))??)?;

@@ -1,29 +1,62 @@
 -- What is said of a bar's place is an answer that a bar under a lock can give; and want of memory is one.
-use Rattle.std.proofs.Common.{◌≡◌, ◌⊎◌, ℕ, inl, inr, refl, sym, subst, Option, Some, None, IfSome, Result, Ok, Err, MatchResult}
+use Rattle.std.proofs.Common.{◌≡◌, ◌≢◌, ◌⊎◌, ℕ, inl, inr, refl, sym, subst, Option, Some, None, IfSome, Result, Ok, Err, IfErr, MatchResult}
 use Rattle.indicatif_text.specs.declared.refusal.Refusal.{Refusal}
-use Rattle.indicatif_text.specs.declared.refusal.Refusal.TheVariants.{Memory}
+use Rattle.indicatif_text.specs.declared.refusal.Refusal.TheVariants.{Memory, ForeignBar, NotMember}
 use Rattle.indicatif_text.specs.declared.refusal.Drawn.{Drawn}
 use Rattle.indicatif_term.specs.Calls.{TermView}
-use Rattle.indicatif_bar.specs.Trackers.{writes_nothing}
 use Rattle.indicatif_bar.specs.Commands.{Command}
-use Rattle.indicatif_bar.specs.Lone.{LoneCall, Change}
-use Rattle.indicatif_bar.specs.LoneBars.{record_of, CallDone, LoneLeadsBy, ObeysOrNot}
+use Rattle.indicatif_bar.specs.Lone.{LoneCall}
+use Rattle.indicatif_bar.specs.LoneBars.{record_of}
 use Rattle.indicatif_bar.specs.Progress.{Progress, new_progress, eta, per_sec, duration, elapsed}
 use Rattle.indicatif_bar.specs.declared.command.Change.{Change as Changed}
 use Rattle.indicatif_bar.specs.declared.lone.LoneBar.{LoneBar}
 use Rattle.indicatif_bar.specs.declared.tracker.NoTracker.{NoTracker}
 use Rattle.indicatif_board.specs.Boards.{Location, Old, Refused}
 use Rattle.indicatif_board.specs.BoardValues.{id_of}
-use Rattle.indicatif.specs.Fronts.{CanAnswer}
-use Rattle.indicatif.specs.Places.{PlaceMakes, IsOf, unchanged}
+use Rattle.indicatif.specs.Fronts.{LoneIsSomewhere, MadeBy, SuspendedBy, CanAnswerAlone, CanAnswer, CanSuspend, CanTurn, NoText}
+use Rattle.indicatif.specs.Places.{PlaceMakes, PlaceSuspends, PlaceTurns, IsUntold, IsOf, unchanged}
 use Rattle.indicatif.specs.SharedBoards.{SharedCall, SharedDraws, SharedTakes}
 use Rattle.indicatif.specs.declared.progress_bar.place.Place.{Place}
 use Rattle.indicatif.specs.declared.progress_bar.place.Place.TheVariants.{Alone, On}
 
+module _ {T : Type 0} (view : T → TermView) where
+  -- a bar that made a call or was suspended is in a state; and it can answer so
+  module _ (old new : LoneBar NoTracker T) (now : ℕ) (answer : Result Drawn Refusal) where
+    pub made_somewhere : (call : LoneCall (Command NoTracker)) → MadeBy view old new call now answer → LoneIsSomewhere new
+    made_somewhere call made = let led = made.leads made.was.0 made.was.1 in (led.0, led.1)
+
+    pub made_answers : (call : LoneCall (Command NoTracker)) → MadeBy view old new call now answer → CanAnswerAlone view call answer
+    made_answers call made = let led = made.leads made.was.0 made.was.1 in (now, old, new, made.was.0, led.0, made.was.1, led.1, made.done, led.2)
+
+    pub suspended_somewhere : SuspendedBy view old new now answer → LoneIsSomewhere new
+    suspended_somewhere made = let led = made.leads made.was.0 made.was.1 in (led.0, led.1)
+
 pub place_answers : {T C : Type 0} (view : T → TermView) (old new : Place T C) (call : LoneCall (Command NoTracker)) (answer : Result Drawn Refusal) →
     PlaceMakes view old call answer new → CanAnswer view call answer
-place_answers view (Alone old) new call answer made = inl (old, made.0, made.2)
+place_answers view (Alone old) new call answer made = inl (made_answers view old made.0 made.2.0 answer call made.2.1)
 place_answers view (On seat) new call answer made = inr (id_of seat.id, made.1)
+
+pub place_suspends : {T C : Type 0} (view : T → TermView) (old new : Place T C) (answer : Result Drawn Refusal) →
+    PlaceSuspends view old answer new → CanSuspend view answer
+place_suspends view (Alone old) new answer made = inl (made.2, old, made.0, made.3)
+place_suspends view (On seat) new answer made = inr made.1
+
+pub place_turns : {T C : Type 0} (view : T → TermView) (old new : Place T C) (term : Option T) (answer : Result Drawn Refusal) →
+    PlaceTurns view old term answer new → CanTurn view answer
+place_turns view (Alone old) new term answer made = inl made.4
+place_turns view (On seat) new term answer (inl made) = inr (inl made.3)
+place_turns view (On seat) new term answer (inr made) = inr (inr (id_of seat.id, made.0, made.1, made.3))
+
+pub place_untold : {T C : Type 0} (place : Place T C) (e : Refusal) → IsUntold place e → NoText e
+place_untold (Alone bar) e untold = inl untold
+place_untold (On seat) e untold = untold
+
+-- a bar that a board doesn't find is another board's, or none
+pub not_found : {X A B : Type 0} (P : X → Type 0) (Q : Type 0) (mark ours : ℕ) (found : Result X Refusal) → (A × (mark ≡ ours)) ⊎ (B × (mark ≢ ours)) →
+    (mark ≢ ours → found ≡ Err ForeignBar) → (mark ≡ ours → MatchResult found P (λ e. (e ≡ NotMember) × Q)) → IfErr found NoText
+not_found P Q mark ours found (inr other) foreign here = subst (λ r. IfErr r NoText) (sym (foreign other.1)) (inr (inl refl))
+not_found P Q mark ours (Ok bar) (inl same) foreign here = tt
+not_found P Q mark ours (Err e) (inl same) foreign here = inr (inr (here same.1).0)
 
 pub no_memory : {T : Type 0} (view : T → TermView) (call : SharedCall) → SharedDraws view call (Err Memory)
 no_memory view call = (Refused Memory, refl, inr refl)
@@ -49,15 +82,6 @@ no_duration = (new_progress None 0, 0, refl)
 
 pub no_elapsed : (p : Progress) × (now : ℕ) × (0 ≡ elapsed p now)
 no_elapsed = (new_progress None 0, 0, refl)
-
--- a bar that stands alone and obeyed or refused a command; one that made a call
-pub alone_obeys : {T C : Type 0} (view : T → TermView) (old new : LoneBar NoTracker T) (command : Command NoTracker) (now : ℕ) (answer : Result Drawn Refusal) →
-    ObeysOrNot writes_nothing view old new command now answer → PlaceMakes {T = T} {C = C} view (Alone old) (Change command) answer (Alone new)
-alone_obeys view old new command now answer obeys = (new, refl, (now, obeys.bar, obeys.leads))
-
-pub alone_makes : {T C : Type 0} (view : T → TermView) (old new : LoneBar NoTracker T) (call : LoneCall (Command NoTracker)) (now : ℕ) (answer : Result Drawn Refusal) →
-    CallDone writes_nothing old new call now answer → LoneLeadsBy writes_nothing view old new call now answer → PlaceMakes {T = T} {C = C} view (Alone old) call answer (Alone new)
-alone_makes view old new call now answer done leads = (new, refl, (now, done, leads))
 
 -- what a closure answered, wherever the bar stands
 pub is_of : {T C : Type 0} (R : Progress → Changed → Type 0) (place : Place T C) (change : Changed) → IsOf R place change → ((shown : Progress) × R shown change) ⊎ (change ≡ unchanged)

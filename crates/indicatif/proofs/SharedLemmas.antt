@@ -1,18 +1,22 @@
 -- What is said of a board under a lock: a call leads from some state to some state, and its answer is one that a board can give.
-use Rattle.std.proofs.Common.{◌≡◌, ℕ, ◌⊎◌, inl, inr, subst, ap, Option, Result, Ok, Err, IfErr}
+use Rattle.std.proofs.Common.{◌≡◌, ℕ, ◌⊎◌, inl, inr, refl, sym, subst, ap, Option, Some, None, Result, Ok, Err, IfErr, MatchResult}
 use Rattle.indicatif_text.specs.declared.refusal.Refusal.{Refusal}
 use Rattle.indicatif_text.specs.declared.refusal.Refusal.TheVariants.{Memory}
+use Rattle.indicatif_text.specs.declared.refusal.Drawn.{Drawn}
 use Rattle.indicatif_term.specs.Calls.{TermView}
 use Rattle.indicatif_bar.specs.Trackers.{writes_nothing}
 use Rattle.indicatif_bar.specs.declared.tracker.NoTracker.{NoTracker}
 use Rattle.indicatif_bar.specs.Commands.{BarRecord}
-use Rattle.indicatif_board.specs.Boards.{Id, Remove, Answer, Refused}
+use Rattle.indicatif_board.specs.Boards.{Id, Remove, Clear, Redraw, Answer, Done, Refused}
 use Rattle.indicatif_board.specs.Calls.{answer_of, removal}
 use Rattle.indicatif_board.specs.declared.calls.Answer.{Answer as AnswerValue}
 use Rattle.indicatif_board.specs.declared.calls.Answer.TheVariants as answer
 use Rattle.indicatif_board.specs.Multi.{LeadsBy}
 use Rattle.indicatif_board.specs.Recorded.{Record, IsOneRun, AddsCall}
 use Rattle.indicatif_board.specs.declared.multi.Board.{Board}
+use Rattle.indicatif.specs.Kept.{KeptDraws, KeptRemoves, KeptSuspends, refusal_of}
+use Rattle.indicatif.specs.declared.progress_bar.kept.Kept.{Kept}
+use Rattle.indicatif.specs.declared.progress_bar.kept.Kept.TheVariants as kept
 use Rattle.indicatif.specs.SharedBoards.{SharedCall, IsSomewhere, BoardCan, SharedAnswers}
 
 module _ {T : Type 0} (view : T → TermView) where
@@ -43,6 +47,26 @@ module _ {T : Type 0} (view : T → TermView) where
 
   -- the same of what a history answered
   pub refused_as : (id : Id) (r : Result (Option (BarRecord NoTracker)) Refusal) (told : AnswerValue) →
-      IfErr r (λ e. told ≡ answer.Refused e) → SharedAnswers view (Remove id) (answer_of told) → IfErr r (λ e. SharedAnswers view (Remove id) (Refused e))
+      MatchResult r (λ bar. refusal_of (answer_of told) ≡ None) (λ e. told ≡ answer.Refused e) → SharedAnswers view (Remove id) (answer_of told) →
+      IfErr r (λ e. SharedAnswers view (Remove id) (Refused e))
   refused_as id (Ok bar) told is can = tt
   refused_as id (Err e) told is can = subst (λ t. SharedAnswers view (Remove id) (answer_of t)) is can
+
+  -- what a removal made of a board, and of one with its history, by whether it was refused
+  pub removed_open : (old new : Board NoTracker T) (id : Id) (now : ℕ) (r : Result (Option (BarRecord NoTracker)) Refusal) →
+      LeadsBy writes_nothing view old new (Remove id) now (removal r) →
+      MatchResult r (λ bar. KeptRemoves view (kept.Open old) id now None (kept.Open new)) (λ e. KeptRemoves view (kept.Open old) id now (Some e) (kept.Open new))
+  removed_open old new id now (Ok bar) led = (Done, refl, (new, refl, led))
+  removed_open old new id now (Err e) led = (Refused e, refl, (new, refl, led))
+
+  pub removed_recorded : (old new : Record NoTracker T) (id : Id) (now : ℕ) (r : Result (Option (BarRecord NoTracker)) Refusal) (told : AnswerValue) →
+      MatchResult r (λ bar. refusal_of (answer_of told) ≡ None) (λ e. told ≡ answer.Refused e) →
+      AddsCall writes_nothing view old (Remove id) now (answer_of told) new ⊎ ((new ≡ old) × (answer_of told ≡ Refused Memory)) →
+      MatchResult r (λ bar. KeptRemoves view (kept.Recorded old) id now None (kept.Recorded new)) (λ e. KeptRemoves view (kept.Recorded old) id now (Some e) (kept.Recorded new))
+  removed_recorded old new id now (Ok bar) told is grows = (answer_of told, sym is, (new, refl, grows))
+  removed_recorded old new id now (Err e) told is grows = (answer_of told, sym (ap (λ t. refusal_of (answer_of t)) is), (new, refl, grows))
+
+  -- what a suspension made of what was kept whose clear was not refused
+  pub cleared_and_drawn : (old between new : Kept T) (now : ℕ) (cleared : Drawn) (drawn : Result Drawn Refusal) →
+      KeptDraws view old Clear now (Ok cleared) between → KeptDraws view between Redraw now drawn new → KeptSuspends view old now drawn new
+  cleared_and_drawn old between new now cleared drawn first second = inl (cleared, between, first, second)

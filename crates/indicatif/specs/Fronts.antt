@@ -1,27 +1,55 @@
 -- Bars that are shared: what a call under their lock does, and which answers one can give.
-use Rattle.std.specs.Prelude.{◌≡◌, ◌⊎◌, ℕ, ◌+◌, ◌-◌, ◌<◌, ◌^◌, Bool, true, false, Result}
+use Rattle.std.specs.Prelude.{◌≡◌, ◌≢◌, ◌⊎◌, ℕ, ◌+◌, ◌-◌, ◌<◌, ◌^◌, Bool, true, false, Result, Ok, Err}
 use Rattle.indicatif_text.specs.declared.refusal.Refusal.{Refusal}
+use Rattle.indicatif_text.specs.declared.refusal.Refusal.TheVariants.{Memory, ForeignBar, NotMember}
 use Rattle.indicatif_text.specs.declared.refusal.Drawn.{Drawn}
+use Rattle.indicatif_text.specs.declared.refusal.Drawn.TheVariants.{Limited}
 use Rattle.indicatif_term.specs.Calls.{TermView}
-use Rattle.indicatif_bar.specs.Trackers.{Tracking, writes_nothing}
-use Rattle.indicatif_bar.specs.Commands.{Command}
-use Rattle.indicatif_bar.specs.Lone.{LoneCall, Change, Log, Clear}
-use Rattle.indicatif_bar.specs.LoneBars.{LoneLeadsBy, CallDone}
+use Rattle.indicatif_bar.specs.Trackers.{writes_nothing}
+use Rattle.indicatif_bar.specs.Commands.{BarRecord, Command}
+use Rattle.indicatif_bar.specs.Runs.{CallMade}
+use Rattle.indicatif_bar.specs.Lone.{LoneState, LoneCall, Change, Log, Clear}
+use Rattle.indicatif_bar.specs.LoneBars.{LoneIsIn, LoneLeadsBy, LoneSuspends, CallDone, lone_bar, lone_known, record_of}
 use Rattle.indicatif_bar.specs.declared.lone.LoneBar.{LoneBar}
 use Rattle.indicatif_bar.specs.declared.tracker.NoTracker.{NoTracker}
-use Rattle.indicatif_board.specs.Boards.{Id, Tell, BarLog, Clear as ClearBoard, Call as BoardCall}
-use Rattle.indicatif.specs.SharedBoards.{SharedDraws}
+use Rattle.indicatif_board.specs.Boards.{Id, Tell, BarLog, Redraw, Clear as ClearBoard, Call as BoardCall}
+use Rattle.indicatif.specs.SharedBoards.{SharedDraws, SharedSuspends, SharedKeeps}
+
+-- ---- bars that stand alone
+
+-- there is a state that the bar is in
+abbrev pub LoneIsSomewhere : {T : Type 0} → LoneBar NoTracker T → Type 0
+LoneIsSomewhere b = (s : LoneState (BarRecord NoTracker)) × LoneIsIn b s
+
+module _ {T : Type 0} (view : T → TermView) where
+  -- a bar that was in a state made a call at this moment, with this answer: what became of its record, and its step
+  pub record MadeBy (old new : LoneBar NoTracker T) (call : LoneCall (Command NoTracker)) (now : ℕ) (answer : Result Drawn Refusal) : Type 0 where
+    pub was : LoneIsSomewhere old
+    pub done : CallDone writes_nothing old new call now answer
+    pub leads : LoneLeadsBy writes_nothing view old new call now answer
+
+  -- the same at some moment of its clock
+  abbrev pub Makes : LoneBar NoTracker T → LoneBar NoTracker T → LoneCall (Command NoTracker) → Result Drawn Refusal → Type 0
+  Makes old new call answer = (now : ℕ) × MadeBy old new call now answer
+
+  -- a bar that was in a state was suspended at this moment, with this answer: its record is as before, and its step
+  pub record SuspendedBy (old new : LoneBar NoTracker T) (now : ℕ) (answer : Result Drawn Refusal) : Type 0 where
+    pub was : LoneIsSomewhere old
+    pub bar : record_of new ≡ record_of old
+    pub leads : LoneSuspends writes_nothing view old new now answer
+
+  -- there are a bar that stands alone, a state of it and a moment at which it answers so; and what became of it
+  abbrev pub CanAnswerAlone : LoneCall (Command NoTracker) → Result Drawn Refusal → Type 0
+  CanAnswerAlone call answer =
+      (now : ℕ) × (old : LoneBar NoTracker T) × (new : LoneBar NoTracker T) × (s : LoneState (BarRecord NoTracker)) × (next : LoneState (BarRecord NoTracker))
+      × LoneIsIn old s × LoneIsIn new next × CallDone writes_nothing old new call now answer
+      × CallMade (lone_bar writes_nothing) (lone_known view old) (lone_known view new) (call, now) s answer next
+
+  -- the same of one that is suspended
+  abbrev pub CanSuspendAlone : Result Drawn Refusal → Type 0
+  CanSuspendAlone answer = (now : ℕ) × (old : LoneBar NoTracker T) × (new : LoneBar NoTracker T) × SuspendedBy old new now answer
 
 -- ---- calls
-
-module _ {K T : Type 0} (m : Tracking K) (view : T → TermView) where
-  -- a bar made a call at some moment of its clock, with this answer: what became of its record, and its step
-  abbrev pub Makes : LoneBar K T → LoneBar K T → LoneCall (Command K) → Result Drawn Refusal → Type 0
-  Makes old new call answer = (now : ℕ) × CallDone m old new call now answer × LoneLeadsBy m view old new call now answer
-
--- there are a bar that stands alone and a moment at which it answers so
-abbrev pub CanAnswerAlone : {T : Type 0} → (T → TermView) → LoneCall (Command NoTracker) → Result Drawn Refusal → Type 0
-CanAnswerAlone {T} view call answer = (old : LoneBar NoTracker T) × (new : LoneBar NoTracker T) × Makes writes_nothing view old new call answer
 
 -- what a bar's call is on its board
 abbrev pub on_board : {B C : Type 0} → Id → LoneCall C → BoardCall B C
@@ -33,6 +61,18 @@ on_board id Clear = ClearBoard
 abbrev pub CanAnswer : {T : Type 0} → (T → TermView) → LoneCall (Command NoTracker) → Result Drawn Refusal → Type 0
 CanAnswer view call answer = CanAnswerAlone view call answer ⊎ ((id : Id) × SharedDraws view (on_board id call) answer)
 
+-- the same of a bar that is suspended
+abbrev pub CanSuspend : {T : Type 0} → (T → TermView) → Result Drawn Refusal → Type 0
+CanSuspend view answer = CanSuspendAlone view answer ⊎ SharedSuspends view answer
+
+-- the same of one that is to have another target: it stands alone; or the others of its board were drawn, or it stays there
+abbrev pub CanTurn : {T : Type 0} → (T → TermView) → Result Drawn Refusal → Type 0
+CanTurn view answer = (answer ≡ Ok Limited) ⊎ SharedDraws view Redraw answer ⊎ ((id : Id) × (e : Refusal) × (answer ≡ Err e) × SharedKeeps view id e)
+
+-- why a bar's text isn't told: there is no memory for it, or its board hasn't the bar
+abbrev pub NoText : Refusal → Type 0
+NoText e = (e ≡ Memory) ⊎ (e ≡ ForeignBar) ⊎ (e ≡ NotMember)
+
 -- ---- owners
 
 -- one more was asked for: there is one more; or there was none left, or the count is at its end, and it stays
@@ -43,4 +83,4 @@ OwnerJoins false before now = ((before ≡ 0) ⊎ (before ≡ 2 ^ 64 - 1)) × (n
 -- one is gone, and whether it was the last
 abbrev pub OwnerLeaves : Bool → ℕ → ℕ → Type 0
 OwnerLeaves true before now = (before ≡ 1) × (now ≡ 0)
-OwnerLeaves false before now = now ≡ before - 1
+OwnerLeaves false before now = (before ≢ 1) × (now ≡ before - 1)

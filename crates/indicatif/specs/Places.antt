@@ -1,10 +1,10 @@
 -- Where a shared bar stands, and what a call of the bar makes of its place.
 use Rattle.std.specs.Prelude.{◌≡◌, ◌⊎◌, ℕ, IsTrue, IsFalse, false, Option, Some, None, IfSome, Result, Ok, Err}
 use Rattle.indicatif_text.specs.declared.refusal.Refusal.{Refusal}
+use Rattle.indicatif_text.specs.declared.refusal.Refusal.TheVariants.{Memory}
 use Rattle.indicatif_text.specs.declared.refusal.Drawn.{Drawn}
 use Rattle.indicatif_text.specs.declared.refusal.Drawn.TheVariants.{Limited}
 use Rattle.indicatif_term.specs.Calls.{TermView}
-use Rattle.indicatif_bar.specs.Trackers.{writes_nothing}
 use Rattle.indicatif_bar.specs.BarStyles.{BarStyle}
 use Rattle.indicatif_bar.specs.Commands.{Command, FinishUsingStyle}
 use Rattle.indicatif_bar.specs.Progress.{Progress, is_finished}
@@ -13,10 +13,10 @@ use Rattle.indicatif_bar.specs.LoneBars.{record_of, lone_terminal}
 use Rattle.indicatif_bar.specs.declared.command.Change.{Change as Changed}
 use Rattle.indicatif_bar.specs.declared.lone.LoneBar.{LoneBar}
 use Rattle.indicatif_bar.specs.declared.tracker.NoTracker.{NoTracker}
-use Rattle.indicatif_board.specs.Boards.{Drop}
+use Rattle.indicatif_board.specs.Boards.{Drop, Redraw}
 use Rattle.indicatif_board.specs.BoardValues.{id_of}
-use Rattle.indicatif.specs.Fronts.{Makes, on_board}
-use Rattle.indicatif.specs.SharedBoards.{SharedDraws}
+use Rattle.indicatif.specs.Fronts.{Makes, SuspendedBy, NoText, on_board}
+use Rattle.indicatif.specs.SharedBoards.{SharedDraws, SharedSuspends, SharedKeeps}
 use Rattle.indicatif.specs.declared.progress_bar.place.Place.{Place}
 use Rattle.indicatif.specs.declared.progress_bar.place.Place.TheVariants.{Alone, On}
 
@@ -28,15 +28,20 @@ module _ {T C : Type 0} where
   -- a call made of the place of a bar its place, with this answer: alone, the bar there made it; on a board, the bar stays there, and the
   -- board can answer so
   abbrev pub PlaceMakes : (T → TermView) → Place T C → LoneCall (Command NoTracker) → Result Drawn Refusal → Place T C → Type 0
-  PlaceMakes view (Alone old) call answer new = (bar : LoneBar NoTracker T) × (new ≡ Alone bar) × Makes writes_nothing view old bar call answer
+  PlaceMakes view (Alone old) call answer new = (bar : LoneBar NoTracker T) × (new ≡ Alone bar) × Makes view old bar call answer
   PlaceMakes view (On seat) call answer new = (new ≡ On seat) × SharedDraws view (on_board (id_of seat.id) call) answer
 
   -- the same of the bar's end: alone, one that is finished stays as it is
   abbrev pub PlaceEnds : (T → TermView) → Place T C → Result Drawn Refusal → Place T C → Type 0
   PlaceEnds view (Alone old) answer new =
       (IsTrue (is_finished (record_of old).progress) → new ≡ Alone old)
-      × (IsFalse (is_finished (record_of old).progress) → (bar : LoneBar NoTracker T) × (new ≡ Alone bar) × Makes writes_nothing view old bar (Change FinishUsingStyle) answer)
+      × (IsFalse (is_finished (record_of old).progress) → (bar : LoneBar NoTracker T) × (new ≡ Alone bar) × Makes view old bar (Change FinishUsingStyle) answer)
   PlaceEnds view (On seat) answer new = (new ≡ On seat) × SharedDraws view (Drop (id_of seat.id)) answer
+
+  -- the same of a bar that is suspended
+  abbrev pub PlaceSuspends : (T → TermView) → Place T C → Result Drawn Refusal → Place T C → Type 0
+  PlaceSuspends view (Alone old) answer new = (bar : LoneBar NoTracker T) × (new ≡ Alone bar) × (now : ℕ) × SuspendedBy view old bar now answer
+  PlaceSuspends view (On seat) answer new = (new ≡ On seat) × SharedSuspends view answer
 
   -- what was read of the bar's state: alone, of the one there; on a board, of some bar's, if the board has the bar
   abbrev pub ReadsBy : {A : Type 0} → (Progress → A → Type 0) → Place T C → Option A → Type 0
@@ -63,9 +68,16 @@ module _ {T C : Type 0} where
   IsOf R (Alone bar) change = R (record_of bar).progress change
   IsOf R (On seat) change = ((shown : Progress) × R shown change) ⊎ (change ≡ unchanged)
 
-  -- another target was asked for: alone, the bar is as it was, on that; a board's bar stands alone on that, or stays where it was
-  abbrev pub PlaceTurns : Place T C → Option T → Result Drawn Refusal → Place T C → Type 0
-  PlaceTurns (Alone old) term answer new =
+  -- another target was asked for: alone, the bar is as it was, on that; a board's bar stands alone on that, and the others were
+  -- drawn, or it stays where it was
+  abbrev pub PlaceTurns : (T → TermView) → Place T C → Option T → Result Drawn Refusal → Place T C → Type 0
+  PlaceTurns view (Alone old) term answer new =
       (bar : LoneBar NoTracker T) × (new ≡ Alone bar) × (record_of bar ≡ record_of old) × (lone_terminal bar ≡ term) × (answer ≡ Ok Limited)
-  PlaceTurns (On seat) term answer new =
-      ((bar : LoneBar NoTracker T) × (new ≡ Alone bar) × (lone_terminal bar ≡ term)) ⊎ ((e : Refusal) × (answer ≡ Err e) × (new ≡ On seat))
+  PlaceTurns view (On seat) term answer new =
+      ((bar : LoneBar NoTracker T) × (new ≡ Alone bar) × (lone_terminal bar ≡ term) × SharedDraws view Redraw answer)
+      ⊎ ((e : Refusal) × (answer ≡ Err e) × (new ≡ On seat) × SharedKeeps view (id_of seat.id) e)
+
+  -- a text of the bar isn't told: there is no memory for it, or the board hasn't the bar
+  abbrev pub IsUntold : Place T C → Refusal → Type 0
+  IsUntold (Alone bar) e = e ≡ Memory
+  IsUntold (On seat) e = NoText e

@@ -9,7 +9,7 @@ use Rattle.indicatif_bar.specs.Commands.{BarRecord, Command}
 use Rattle.indicatif_bar.specs.Runs.{CallMade}
 use Rattle.indicatif_bar.specs.declared.tracker.NoTracker.{NoTracker}
 use Rattle.indicatif_board.specs.BoardBars.{board_bars}
-use Rattle.indicatif_board.specs.Boards.{BoardState, Call, Clear, Redraw, Insert, Location, Entrant, Id, Answer, Given, Done, Drew, Refused, drawn_of, board}
+use Rattle.indicatif_board.specs.Boards.{BoardState, Call, Clear, Redraw, Insert, Remove, Location, Entrant, Id, Answer, Given, Done, Drew, Refused, drawn_of, board}
 use Rattle.indicatif_board.specs.Multi.{IsIn, known}
 use Rattle.indicatif_board.specs.declared.multi.Board.{Board}
 
@@ -49,6 +49,10 @@ module _ {T : Type 0} (view : T → TermView) where
   -- one that was suspended was cleared and drawn again; or the clear was refused
   abbrev pub SharedSuspends : Result Drawn Refusal → Type 0
   SharedSuspends drawn = SharedDraws Redraw drawn ⊎ ((e : Refusal) × (drawn ≡ Err e) × SharedDraws Clear drawn)
+
+  -- a bar stays on its board: that hasn't it, or its removal was refused
+  abbrev pub SharedKeeps : Id → Refusal → Type 0
+  SharedKeeps id e = (e ≡ NotMember) ⊎ SharedAnswers (Remove id) (Refused e)
 
   -- what one gives that is to take a bar in at a place
   abbrev pub SharedTakes : Location → Result Id Refusal → Type 0

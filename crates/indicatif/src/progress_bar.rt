@@ -1,9 +1,10 @@
 //! A bar that its owners share.
 //!
-//! - `held`: what its lock keeps (private).
+//! - `held`: what its lock keeps; `place`: where the bar stands, `single` alone, or on a board, which `kept` is (private).
+//! - `worded`: what a bar is told with a text (private).
 //! - `ticker`: which steady ticker it has; `steady`: the thread that ticks (private).
 //! - `weak`: a bar without an owner (private).
-ghost use Rattle.std.specs.Prelude.{◌≡◌, ◌⊎◌, ℕ, IfOk, IfErr, Err};
+ghost use Rattle.std.specs.Prelude.{◌≡◌, ◌⊎◌, ℕ, false, IfOk, IfErr, Err};
 ghost use Rattle.std.specs.Fn.{FnOnceReturnsAt};
 ghost use Rattle.indicatif_bar.specs.Commands as Command;
 ghost use Rattle.indicatif_bar.specs.Finishes as Finish;
@@ -15,27 +16,31 @@ ghost use Rattle.indicatif_bar.specs.Progress.{Progress};
 ghost use Rattle.indicatif_bar.specs.declared.command.Change.{Change as Changed};
 ghost use Rattle.indicatif_board.specs.Boards.{Id, Remove, Refused};
 ghost use Rattle.indicatif_board.specs.Calls.{place_at};
-ghost use Rattle.indicatif.specs.Fronts.{CanAnswer, OwnerJoins};
+ghost use Rattle.indicatif.specs.Fronts.{CanAnswer, CanSuspend, CanTurn, NoText, OwnerJoins};
 ghost use Rattle.indicatif.specs.Places.{unchanged};
 ghost use Rattle.indicatif.specs.SharedBoards.{SharedAnswers, SharedTakes};
+ghost use Rattle.indicatif.specs.Worded.{worded};
 ghost use Rattle.indicatif.specs.Wrap.{Wraps};
 
 mod held;
 mod kept;
 mod multi;
 mod place;
+mod single;
 mod steady;
 mod ticker;
 mod weak;
+mod worded;
 
 use self::held::{Cell, Held};
 use self::kept::{Shared, SharedBoard};
 pub use self::multi::{MultiProgress, RecordReader};
+use self::single::Single;
 pub use self::weak::WeakProgressBar;
+use self::worded::Worded;
 use crate::moves::Moves;
 use crate::wrap::ProgressBarIter;
 use futures::stream::Stream;
-use indicatif_bar::lone::LoneBar;
 use indicatif_bar::state::{BarCommand, BarState, Change, ProgressFinish, ProgressState, Rate};
 use indicatif_bar::style::{NoTracker, ProgressStyle};
 use indicatif_board::multi::{BarId, InsertLocation};
@@ -74,7 +79,9 @@ impl<T: TermLike + Drop, C: Clock + Drop, R: Wait + Clone + Drop> ProgressBar<T,
     /// A bar of this length, which draws nothing yet.
     ///
     /// Refused: `Memory`.
-    pub fn new(rt: R, alloc: Global, len: u64, setup: Setup<T, C>) -> Result<Self, Refusal> {
+    pub fn new(rt: R, alloc: Global, len: u64, setup: Setup<T, C>) -> Result<Self, Refusal>
+        ensures { IfErr result (λ e. e ≡ Refusal.Memory) }
+    {
         let Setup { target, clock } = setup;
         ProgressBar::with_draw_target(rt, alloc, Some(len), target, clock)
     }
@@ -82,7 +89,9 @@ impl<T: TermLike + Drop, C: Clock + Drop, R: Wait + Clone + Drop> ProgressBar<T,
     /// A bar without a length, which draws nothing yet.
     ///
     /// Refused: `Memory`.
-    pub fn no_length(rt: R, alloc: Global, setup: Setup<T, C>) -> Result<Self, Refusal> {
+    pub fn no_length(rt: R, alloc: Global, setup: Setup<T, C>) -> Result<Self, Refusal>
+        ensures { IfErr result (λ e. e ≡ Refusal.Memory) }
+    {
         let Setup { target, clock } = setup;
         ProgressBar::with_draw_target(rt, alloc, None, target, clock)
     }
@@ -90,14 +99,18 @@ impl<T: TermLike + Drop, C: Clock + Drop, R: Wait + Clone + Drop> ProgressBar<T,
     /// A bar that is never drawn.
     ///
     /// Refused: `Memory`.
-    pub fn hidden(rt: R, alloc: Global, clock: C) -> Result<Self, Refusal> {
+    pub fn hidden(rt: R, alloc: Global, clock: C) -> Result<Self, Refusal>
+        ensures { IfErr result (λ e. e ≡ Refusal.Memory) }
+    {
         ProgressBar::with_draw_target(rt, alloc, None, ProgressDrawTarget::hidden(), clock)
     }
 
     /// A bar without a length, in the style of a spinner, which draws nothing yet.
     ///
     /// Refused: `Memory`.
-    pub fn new_spinner(rt: R, alloc: Global, setup: Setup<T, C>) -> Result<Self, Refusal> {
+    pub fn new_spinner(rt: R, alloc: Global, setup: Setup<T, C>) -> Result<Self, Refusal>
+        ensures { IfErr result (λ e. e ≡ Refusal.Memory) }
+    {
         let Setup { target, clock } = setup;
         let style = ProgressStyle::default_spinner(alloc)?;
         ProgressBar::made(rt, alloc, style, None, Setup { target, clock })
@@ -112,7 +125,9 @@ impl<T: TermLike + Drop, C: Clock + Drop, R: Wait + Clone + Drop> ProgressBar<T,
         len: Option<u64>,
         target: ProgressDrawTarget<T>,
         clock: C,
-    ) -> Result<Self, Refusal> {
+    ) -> Result<Self, Refusal>
+        ensures { IfErr result (λ e. e ≡ Refusal.Memory) }
+    {
         let style = ProgressStyle::default_bar(alloc)?;
         ProgressBar::made(rt, alloc, style, len, Setup { target, clock })
     }
@@ -124,11 +139,13 @@ impl<T: TermLike + Drop, C: Clock + Drop, R: Wait + Clone + Drop> ProgressBar<T,
         style: ProgressStyle<NoTracker>,
         len: Option<u64>,
         setup: Setup<T, C>,
-    ) -> Result<Self, Refusal> {
+    ) -> Result<Self, Refusal>
+        ensures { IfErr result (λ e. e ≡ Refusal.Memory) }
+    {
         let Setup { target, mut clock } = setup;
         let now = clock.now();
         let bar = BarState::styled(alloc, style, len, now)?;
-        let held = Held::owned(LoneBar::new(bar, target), clock);
+        let held = Held::owned(Single::new(bar, target), clock);
         let cell = Cell {
             lock: Mutex::new(held),
             changed: Condvar::new(),
@@ -145,6 +162,15 @@ impl<T: TermLike + Drop, C: Clock + Drop, R: Wait + Clone + Drop> ProgressBar<T,
         ensures { CanAnswer T.view (Lone.Change (command_of command)) result }
     {
         self.state.lock.lock(&self.rt).tell(&self.rt, command)
+    }
+
+    /// A call of the bar with a text.
+    #[tactic(auto, using(crate::proofs::FrontLemmas::place_answers))]
+    fn tell_text(&self, told: Worded, text: &str) -> Result<Drawn, Refusal>
+        ensures { CanAnswer T.view (worded told text.now) result }
+    {
+        let mut held = self.state.lock.lock(&self.rt);
+        held.tell_text(&self.rt, told, text)
     }
 
     /// What the closure finds of the bar's state; `None` where its board hasn't the bar.
@@ -211,19 +237,17 @@ impl<T: TermLike + Drop, C: Clock + Drop, R: Wait + Clone + Drop> ProgressBar<T,
     }
 
     /// Another message, and a draw.
-    #[tactic(auto, using(crate::proofs::FrontLemmas::place_answers))]
     pub fn set_message(&self, text: &str) -> Result<Drawn, Refusal>
         ensures { CanAnswer T.view (Lone.Change (Command.SetMessage text.now)) result }
     {
-        self.state.lock.lock(&self.rt).set_message(&self.rt, text)
+        self.tell_text(Worded::Message, text)
     }
 
     /// Another prefix, and a draw.
-    #[tactic(auto, using(crate::proofs::FrontLemmas::place_answers))]
     pub fn set_prefix(&self, text: &str) -> Result<Drawn, Refusal>
         ensures { CanAnswer T.view (Lone.Change (Command.SetPrefix text.now)) result }
     {
-        self.state.lock.lock(&self.rt).set_prefix(&self.rt, text)
+        self.tell_text(Worded::Prefix, text)
     }
 
     /// Another style, with the bar's width of tabs. No draw is asked.
@@ -280,14 +304,10 @@ impl<T: TermLike + Drop, C: Clock + Drop, R: Wait + Clone + Drop> ProgressBar<T,
     }
 
     /// As `finish`, with this message.
-    #[tactic(auto, using(crate::proofs::FrontLemmas::place_answers))]
     pub fn finish_with_message(&self, text: &str) -> Result<Drawn, Refusal>
         ensures { CanAnswer T.view (Lone.Change (Command.FinishBy (Finish.WithMessage text.now))) result }
     {
-        self.state
-            .lock
-            .lock(&self.rt)
-            .finish_with_message(&self.rt, text)
+        self.tell_text(Worded::Finish, text)
     }
 
     /// The bar is finished at its length and has no lines any more. A draw by force.
@@ -305,14 +325,10 @@ impl<T: TermLike + Drop, C: Clock + Drop, R: Wait + Clone + Drop> ProgressBar<T,
     }
 
     /// As `abandon`, with this message.
-    #[tactic(auto, using(crate::proofs::FrontLemmas::place_answers))]
     pub fn abandon_with_message(&self, text: &str) -> Result<Drawn, Refusal>
         ensures { CanAnswer T.view (Lone.Change (Command.FinishBy (Finish.AbandonWithMessage text.now))) result }
     {
-        self.state
-            .lock
-            .lock(&self.rt)
-            .abandon_with_message(&self.rt, text)
+        self.tell_text(Worded::Abandon, text)
     }
 
     /// The bar is finished by its stored finish. A draw by force.
@@ -339,24 +355,32 @@ impl<T: TermLike + Drop, C: Clock + Drop, R: Wait + Clone + Drop> ProgressBar<T,
     }
 
     /// Writes the text's lines above the bar, by force. On a hidden target the text is dropped.
-    #[tactic(auto, using(crate::proofs::FrontLemmas::place_answers))]
     pub fn println(&self, text: &str) -> Result<Drawn, Refusal>
         ensures { CanAnswer T.view (Lone.Log text.now) result }
     {
-        self.state.lock.lock(&self.rt).println(&self.rt, text)
+        self.tell_text(Worded::Log, text)
     }
 
     /// Takes the bar's rows back, calls `f` once, and draws the bar again by force; the lock is held meanwhile. Answers what `f`
     /// gave, and what the draw answered; where the clear was refused, no draw is made, and the answer is that refusal.
+    #[tactic(auto, using(crate::proofs::FrontLemmas::place_suspends))]
     pub fn suspend<F: FnOnce() -> A, A>(&self, f: F) -> (A, Result<Drawn, Refusal>)
         requires { F.pre f }
-        ensures { F.post f result.0 }
+        ensures value { F.post f result.0 }
+        ensures drawn { CanSuspend T.view result.1 }
     {
         self.state.lock.lock(&self.rt).suspend(&self.rt, f)
     }
 
-    /// Another target, on which the bar begins anew with its next draw; the old one is given up. Nothing is written to either.
-    pub fn set_draw_target(&self, target: ProgressDrawTarget<T>) -> Result<Drawn, Refusal> {
+    /// Another target, on which the bar begins anew with its next draw; the old one is given up. Of a bar that stands alone nothing is
+    /// written to either, and the answer is `Limited`. A board's bar leaves its board, whose others are drawn by force, and stands alone
+    /// from now on; the answer is that draw's.
+    ///
+    /// Refused: what a removal is, and `NotMember` where the board hasn't the bar: it stays there then.
+    #[tactic(auto, using(crate::proofs::FrontLemmas::place_turns))]
+    pub fn set_draw_target(&self, target: ProgressDrawTarget<T>) -> Result<Drawn, Refusal>
+        ensures { CanTurn T.view result }
+    {
         let mut held = self.state.lock.lock(&self.rt);
         held.set_draw_target(&self.rt, target)
     }
@@ -402,16 +426,22 @@ impl<T: TermLike + Drop, C: Clock + Drop, R: Wait + Clone + Drop> ProgressBar<T,
 
     /// The message, with its tabs expanded.
     ///
-    /// Refused: `Memory`.
-    pub fn message(&self) -> Result<String, Refusal> {
+    /// Refused: `Memory`; `ForeignBar` or `NotMember` where its board hasn't the bar.
+    #[tactic(auto, using(crate::proofs::FrontLemmas::place_untold))]
+    pub fn message(&self) -> Result<String, Refusal>
+        ensures { IfErr result NoText }
+    {
         let held = self.state.lock.lock(&self.rt);
         held.place().message(&self.rt, self.alloc)
     }
 
     /// The prefix, with its tabs expanded.
     ///
-    /// Refused: `Memory`.
-    pub fn prefix(&self) -> Result<String, Refusal> {
+    /// Refused: `Memory`; `ForeignBar` or `NotMember` where its board hasn't the bar.
+    #[tactic(auto, using(crate::proofs::FrontLemmas::place_untold))]
+    pub fn prefix(&self) -> Result<String, Refusal>
+        ensures { IfErr result NoText }
+    {
         let held = self.state.lock.lock(&self.rt);
         held.place().prefix(&self.rt, self.alloc)
     }
@@ -460,16 +490,23 @@ impl<T: TermLike + Drop, C: Clock + Drop, R: Wait + Clone + Drop> ProgressBar<T,
     }
 
     /// No thread ticks the bar from now on. It waits until any that did has ended.
-    pub fn disable_steady_tick(&self) {
+    ///
+    /// Refused: `Memory`, where the history of the bar's board finds none: the ticker that was installed goes on then.
+    #[tactic(auto, using(crate::proofs::FrontLemmas::place_answers))]
+    pub fn disable_steady_tick(&self) -> Result<(), Refusal>
+        ensures { IfErr result (λ e. CanAnswer T.view (Lone.Change (Command.SetTicker false)) (Err e)) }
+    {
         let mut held = self.state.lock.lock(&self.rt);
-        held.ticker.disable();
-        let _ = held.tell(&self.rt, BarCommand::SetTicker(false));
+        if let Err(refusal) = held.disable_ticker(&self.rt) {
+            return Err(refusal);
+        }
         self.state.changed.notify_all();
         let held = self
             .state
             .changed
             .wait_while(&self.rt, held, |held| held.ticker.runs());
         drop(held);
+        Ok(())
     }
 
     /// Another bar of which this is a weak one: it owns nothing.
@@ -519,33 +556,49 @@ impl<T: TermLike + Drop, C: Clock + Drop, R: Wait + Clone + Drop> ProgressBar<T,
     /// In another style.
     ///
     /// Refused: `Memory`; this owner is given up.
-    pub fn with_style(self, style: ProgressStyle<NoTracker>) -> Result<Self, Refusal> {
-        self.set_style(style)?;
-        Ok(self)
+    pub fn with_style(self, style: ProgressStyle<NoTracker>) -> Result<Self, Refusal>
+        ensures { IfErr result (λ e. CanAnswer T.view (Lone.Change (Command.SetStyle style)) (Err e)) }
+    {
+        match self.set_style(style) {
+            Ok(_) => Ok(self),
+            Err(refusal) => Err(refusal),
+        }
     }
 
     /// With so many spaces for a tab.
     ///
     /// Refused: `Memory`; this owner is given up.
-    pub fn with_tab_width(self, tab: usize) -> Result<Self, Refusal> {
-        self.tell(BarCommand::WithTabWidth(tab))?;
-        Ok(self)
+    pub fn with_tab_width(self, tab: usize) -> Result<Self, Refusal>
+        ensures { IfErr result (λ e. CanAnswer T.view (Lone.Change (Command.PutTabWidth tab)) (Err e)) }
+    {
+        match self.tell(BarCommand::WithTabWidth(tab)) {
+            Ok(_) => Ok(self),
+            Err(refusal) => Err(refusal),
+        }
     }
 
     /// With this prefix.
     ///
     /// Refused: `Memory`; this owner is given up.
-    pub fn with_prefix(self, text: &str) -> Result<Self, Refusal> {
-        self.state.lock.lock(&self.rt).with_prefix(&self.rt, text)?;
-        Ok(self)
+    pub fn with_prefix(self, text: &str) -> Result<Self, Refusal>
+        ensures { IfErr result (λ e. CanAnswer T.view (Lone.Change (Command.PutPrefix text.now)) (Err e)) }
+    {
+        match self.tell_text(Worded::PutPrefix, text) {
+            Ok(_) => Ok(self),
+            Err(refusal) => Err(refusal),
+        }
     }
 
     /// With this message.
     ///
     /// Refused: `Memory`; this owner is given up.
-    pub fn with_message(self, text: &str) -> Result<Self, Refusal> {
-        self.state.lock.lock(&self.rt).with_message(&self.rt, text)?;
-        Ok(self)
+    pub fn with_message(self, text: &str) -> Result<Self, Refusal>
+        ensures { IfErr result (λ e. CanAnswer T.view (Lone.Change (Command.PutMessage text.now)) (Err e)) }
+    {
+        match self.tell_text(Worded::PutMessage, text) {
+            Ok(_) => Ok(self),
+            Err(refusal) => Err(refusal),
+        }
     }
 
     /// At this position, which the rate doesn't count.
@@ -557,9 +610,13 @@ impl<T: TermLike + Drop, C: Clock + Drop, R: Wait + Clone + Drop> ProgressBar<T,
     /// So many nanoseconds after its start.
     ///
     /// Refused: `ElapsedBeyondClock`, where they are more than the moment; this owner is given up.
-    pub fn with_elapsed(self, nanos: u64) -> Result<Self, Refusal> {
-        self.set_elapsed(nanos)?;
-        Ok(self)
+    pub fn with_elapsed(self, nanos: u64) -> Result<Self, Refusal>
+        ensures { IfErr result (λ e. CanAnswer T.view (Lone.Change (Command.SetElapsed nanos)) (Err e)) }
+    {
+        match self.set_elapsed(nanos) {
+            Ok(_) => Ok(self),
+            Err(refusal) => Err(refusal),
+        }
     }
 
     /// With this stored finish.
@@ -686,13 +743,10 @@ impl<T: TermLike + Drop, C: Clock + Drop, R: Wait + Clone + Drop> Drop for Progr
     fn drop(self) {
         let ProgressBar { state, alloc, rt } = self;
         let _ = alloc;
-        {
-            let mut held = state.lock.lock(&rt);
-            if held.leave() {
-                let _ = held.gone(&rt);
-            }
+        let last = state.lock.lock(&rt).release(&rt);
+        if last {
+            state.changed.notify_all();
         }
-        state.changed.notify_all();
     }
 }
 

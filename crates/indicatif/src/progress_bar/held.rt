@@ -1,24 +1,24 @@
 //! What the lock of a shared bar keeps.
-ghost use Rattle.std.specs.Prelude.{◌≡◌, ◌<◌, Some, Err, true, IsTrue, IsFalse, IfErr};
+ghost use Rattle.std.specs.Prelude.{◌≡◌, ◌<◌, Some, None, Ok, Err, true, false, IfOk, IfErr};
 ghost use Rattle.std.specs.Fn.{FnOnceReturnsAt};
 ghost use Rattle.indicatif_term.specs.Targets.{term_of};
-ghost use Rattle.indicatif_bar.specs.Commands.{SetMessage, SetPrefix, PutMessage, PutPrefix, Update, FinishBy, FinishUsingStyle, command_of};
-ghost use Rattle.indicatif_bar.specs.Finishes.{WithMessage, AbandonWithMessage};
-ghost use Rattle.indicatif_bar.specs.LoneBars.{record_of};
+ghost use Rattle.indicatif_bar.specs.Commands.{Update, SetTicker, command_of};
 ghost use Rattle.indicatif_bar.specs.Lone as Lone;
-ghost use Rattle.indicatif_bar.specs.Progress.{is_finished, eta, per_sec, duration, elapsed};
-ghost use Rattle.indicatif_bar.specs.Trackers.{writes_nothing};
+ghost use Rattle.indicatif_bar.specs.Progress.{eta, per_sec, duration, elapsed};
 ghost use Rattle.indicatif_bar.specs.declared.command.Change.{Change as Changed};
 ghost use Rattle.indicatif_board.specs.Boards.{Id, Remove, Refused};
 ghost use Rattle.indicatif_board.specs.Calls.{place_at};
-ghost use Rattle.indicatif.specs.Fronts.{Makes, OwnerJoins, OwnerLeaves};
-ghost use Rattle.indicatif.specs.Places.{PlaceMakes, PlaceEnds, IsOf, IsUnfinished, Measures, PlaceTurns};
+ghost use Rattle.indicatif.specs.Fronts.{OwnerJoins, OwnerLeaves};
+ghost use Rattle.indicatif.specs.Places.{PlaceMakes, PlaceSuspends, PlaceEnds, IsOf, IsUnfinished, Measures, PlaceTurns};
 ghost use Rattle.indicatif.specs.SharedBoards.{SharedTakes, SharedAnswers};
+ghost use Rattle.indicatif.specs.Worded.{worded};
 
 use crate::progress_bar::kept::{Shared, SharedBoard};
-use crate::progress_bar::place::{Place, Seat, Worded};
+use crate::progress_bar::place::{Place, Seat};
+use crate::progress_bar::single::Single;
 use crate::progress_bar::ticker::Ticker;
-use indicatif_bar::lone::{LoneBar, LoneCall};
+use crate::progress_bar::worded::Worded;
+use indicatif_bar::lone::LoneCall;
 use indicatif_bar::state::{BarCommand, Change, ProgressState, Rate};
 use indicatif_bar::style::NoTracker;
 use indicatif_board::multi::InsertLocation;
@@ -46,7 +46,7 @@ pub struct Held<T: Drop, C> {
 
 impl<T: Drop, C> Held<T, C> {
     /// A bar with its first owner.
-    pub fn owned(bar: LoneBar<NoTracker, T>, clock: C) -> Held<T, C>
+    pub fn owned(bar: Single<T>, clock: C) -> Held<T, C>
         ensures { (result.owners ≡ 1) × (result.place ≡ Place.Alone bar) × (result.clock ≡ clock) }
     {
         Held {
@@ -69,7 +69,7 @@ impl<T: Drop, C> Held<T, C> {
     }
 
     /// One owner less; whether it was the last.
-    pub fn leave(&mut self) -> bool
+    fn leave(&mut self) -> bool
         ensures owners { OwnerLeaves result self.old.owners self.new.owners }
         ensures place { self.new.place ≡ self.old.place }
     {
@@ -86,7 +86,8 @@ impl<T: TermLike + Drop, C: Clock + Drop> Held<T, C> {
         rt: &R,
         command: BarCommand<NoTracker>,
     ) -> Result<Drawn, Refusal>
-        ensures { PlaceMakes T.view self.old.place (Lone.Change (command_of command)) result self.new.place }
+        ensures place { PlaceMakes T.view self.old.place (Lone.Change (command_of command)) result self.new.place }
+        ensures ticker { self.new.ticker ≡ self.old.ticker }
     {
         let now = self.clock.now();
         match &mut self.place {
@@ -95,80 +96,14 @@ impl<T: TermLike + Drop, C: Clock + Drop> Held<T, C> {
         }
     }
 
-    /// Another message, and a draw.
-    pub fn set_message<R: Wait>(&mut self, rt: &R, text: &str) -> Result<Drawn, Refusal>
-        ensures { PlaceMakes T.view self.old.place (Lone.Change (SetMessage text.now)) result self.new.place }
+    /// A call with a text.
+    pub fn tell_text<R: Wait>(&mut self, rt: &R, told: Worded, text: &str) -> Result<Drawn, Refusal>
+        ensures { PlaceMakes T.view self.old.place (worded told text.now) result self.new.place }
     {
         let now = self.clock.now();
         match &mut self.place {
-            Place::Alone(bar) => bar.set_message(text, now),
-            Place::On(seat) => seat.tell_text(rt, Worded::Message, text, now),
-        }
-    }
-
-    /// Another prefix, and a draw.
-    pub fn set_prefix<R: Wait>(&mut self, rt: &R, text: &str) -> Result<Drawn, Refusal>
-        ensures { PlaceMakes T.view self.old.place (Lone.Change (SetPrefix text.now)) result self.new.place }
-    {
-        let now = self.clock.now();
-        match &mut self.place {
-            Place::Alone(bar) => bar.set_prefix(text, now),
-            Place::On(seat) => seat.tell_text(rt, Worded::Prefix, text, now),
-        }
-    }
-
-    /// Another message, and no draw.
-    pub fn with_message<R: Wait>(&mut self, rt: &R, text: &str) -> Result<Drawn, Refusal>
-        ensures { PlaceMakes T.view self.old.place (Lone.Change (PutMessage text.now)) result self.new.place }
-    {
-        let now = self.clock.now();
-        match &mut self.place {
-            Place::Alone(bar) => bar.with_message(text, now),
-            Place::On(seat) => seat.tell_text(rt, Worded::PutMessage, text, now),
-        }
-    }
-
-    /// Another prefix, and no draw.
-    pub fn with_prefix<R: Wait>(&mut self, rt: &R, text: &str) -> Result<Drawn, Refusal>
-        ensures { PlaceMakes T.view self.old.place (Lone.Change (PutPrefix text.now)) result self.new.place }
-    {
-        let now = self.clock.now();
-        match &mut self.place {
-            Place::Alone(bar) => bar.with_prefix(text, now),
-            Place::On(seat) => seat.tell_text(rt, Worded::PutPrefix, text, now),
-        }
-    }
-
-    /// Finished at its length, with this message.
-    pub fn finish_with_message<R: Wait>(&mut self, rt: &R, text: &str) -> Result<Drawn, Refusal>
-        ensures { PlaceMakes T.view self.old.place (Lone.Change (FinishBy (WithMessage text.now))) result self.new.place }
-    {
-        let now = self.clock.now();
-        match &mut self.place {
-            Place::Alone(bar) => bar.finish_with_message(text, now),
-            Place::On(seat) => seat.tell_text(rt, Worded::Finish, text, now),
-        }
-    }
-
-    /// Finished where it stands, with this message.
-    pub fn abandon_with_message<R: Wait>(&mut self, rt: &R, text: &str) -> Result<Drawn, Refusal>
-        ensures { PlaceMakes T.view self.old.place (Lone.Change (FinishBy (AbandonWithMessage text.now))) result self.new.place }
-    {
-        let now = self.clock.now();
-        match &mut self.place {
-            Place::Alone(bar) => bar.abandon_with_message(text, now),
-            Place::On(seat) => seat.tell_text(rt, Worded::Abandon, text, now),
-        }
-    }
-
-    /// Lines of text above the bar.
-    pub fn println<R: Wait>(&mut self, rt: &R, text: &str) -> Result<Drawn, Refusal>
-        ensures { PlaceMakes T.view self.old.place (Lone.Log text.now) result self.new.place }
-    {
-        let now = self.clock.now();
-        match &mut self.place {
-            Place::Alone(bar) => bar.println(text, now),
-            Place::On(seat) => seat.tell_text(rt, Worded::Log, text, now),
+            Place::Alone(bar) => bar.tell_text(told, text, now),
+            Place::On(seat) => seat.tell_text(rt, told, text, now),
         }
     }
 
@@ -197,24 +132,64 @@ impl<T: TermLike + Drop, C: Clock + Drop> Held<T, C> {
         f: F,
     ) -> (A, Result<Drawn, Refusal>)
         requires { F.pre f }
-        ensures { F.post f result.0 }
+        ensures value { F.post f result.0 }
+        ensures place { PlaceSuspends T.view self.old.place result.1 self.new.place }
     {
         let now = self.clock.now();
         match &mut self.place {
             Place::Alone(bar) => bar.suspend(now, f),
-            Place::On(seat) => seat.board.lock(rt).kept.suspend(now, f),
+            Place::On(seat) => seat.suspend(rt, now, f),
         }
     }
 
+    /// One owner less; whether it was the last, and then the bar ends too.
+    pub fn release<R: Wait>(&mut self, rt: &R) -> bool
+        ensures owners { OwnerLeaves result self.old.owners self.new.owners }
+        ensures last { (result ≡ true) → (answer : _) × PlaceEnds T.view self.old.place answer self.new.place }
+        ensures others { (result ≡ false) → self.new.place ≡ self.old.place }
+    {
+        let last = self.leave();
+        if last {
+            let _ = self.gone(rt);
+        }
+        last
+    }
+
     /// What the last owner runs: a bar that stands alone and isn't finished is finished by its stored finish, a board's is dropped.
-    pub fn gone<R: Wait>(&mut self, rt: &R) -> Result<Drawn, Refusal>
-        ensures { PlaceEnds T.view self.old.place result self.new.place }
+    fn gone<R: Wait>(&mut self, rt: &R) -> Result<Drawn, Refusal>
+        ensures ends { PlaceEnds T.view self.old.place result self.new.place }
+        ensures owners { self.new.owners ≡ self.old.owners }
     {
         let now = self.clock.now();
         match &mut self.place {
-            Place::Alone(bar) => end(bar, now),
+            Place::Alone(bar) => bar.end(now),
             Place::On(seat) => seat.gone(rt, now),
         }
+    }
+
+    /// The ticker of this number in the place of any other. Where the bar can't be told so, the ticker stays as it is.
+    pub fn install_ticker<R: Wait>(&mut self, rt: &R, number: u64) -> Result<(), Refusal>
+        requires { number < self.old.ticker.next }
+        ensures installed { IfOk result (λ _. (self.new.ticker.installed ≡ Some number)
+            × ((drawn : _) × PlaceMakes T.view self.old.place (Lone.Change (SetTicker true)) (Ok drawn) self.new.place)) }
+        ensures refused { IfErr result (λ e. (self.new.ticker ≡ self.old.ticker)
+            × PlaceMakes T.view self.old.place (Lone.Change (SetTicker true)) (Err e) self.new.place) }
+    {
+        self.tell(rt, BarCommand::SetTicker(true))?;
+        self.ticker.install(number);
+        Ok(())
+    }
+
+    /// No ticker from now on. Where the bar can't be told so, the ticker stays as it is.
+    pub fn disable_ticker<R: Wait>(&mut self, rt: &R) -> Result<(), Refusal>
+        ensures disabled { IfOk result (λ _. (self.new.ticker.installed ≡ None)
+            × ((drawn : _) × PlaceMakes T.view self.old.place (Lone.Change (SetTicker false)) (Ok drawn) self.new.place)) }
+        ensures refused { IfErr result (λ e. (self.new.ticker ≡ self.old.ticker)
+            × PlaceMakes T.view self.old.place (Lone.Change (SetTicker false)) (Err e) self.new.place) }
+    {
+        self.tell(rt, BarCommand::SetTicker(false))?;
+        self.ticker.disable();
+        Ok(())
     }
 
     /// Whether the ticker of this number goes on: it is the installed one, the bar is not finished, and it has an owner.
@@ -236,7 +211,8 @@ impl<T: TermLike + Drop, C: Clock + Drop> Held<T, C> {
     /// The nanoseconds that are left, by the rate so far.
     #[tactic(auto, using(crate::proofs::FrontLemmas::no_eta))]
     pub fn eta<R: Wait>(&mut self, rt: &R) -> u64
-        ensures { Measures eta self.old.place result }
+        ensures measure { Measures eta self.old.place result }
+        ensures place { self.new.place ≡ self.old.place }
     {
         let now = self.clock.now();
         let told = self.place.read(rt, |state| state.eta(now));
@@ -246,7 +222,8 @@ impl<T: TermLike + Drop, C: Clock + Drop> Held<T, C> {
     /// The rate so far.
     #[tactic(auto, using(crate::proofs::FrontLemmas::no_rate))]
     pub fn per_sec<R: Wait>(&mut self, rt: &R) -> Rate
-        ensures { Measures per_sec self.old.place result }
+        ensures measure { Measures per_sec self.old.place result }
+        ensures place { self.new.place ≡ self.old.place }
     {
         let now = self.clock.now();
         let told = self.place.read(rt, |state| state.per_sec(now));
@@ -256,7 +233,8 @@ impl<T: TermLike + Drop, C: Clock + Drop> Held<T, C> {
     /// The nanoseconds that all of it takes.
     #[tactic(auto, using(crate::proofs::FrontLemmas::no_duration))]
     pub fn duration<R: Wait>(&mut self, rt: &R) -> u64
-        ensures { Measures duration self.old.place result }
+        ensures measure { Measures duration self.old.place result }
+        ensures place { self.new.place ≡ self.old.place }
     {
         let now = self.clock.now();
         let told = self.place.read(rt, |state| state.duration(now));
@@ -266,7 +244,8 @@ impl<T: TermLike + Drop, C: Clock + Drop> Held<T, C> {
     /// The nanoseconds since the start.
     #[tactic(auto, using(crate::proofs::FrontLemmas::no_elapsed))]
     pub fn elapsed<R: Wait>(&mut self, rt: &R) -> u64
-        ensures { Measures elapsed self.old.place result }
+        ensures measure { Measures elapsed self.old.place result }
+        ensures place { self.new.place ≡ self.old.place }
     {
         let now = self.clock.now();
         let told = self.place.read(rt, |state| state.elapsed(now));
@@ -280,17 +259,17 @@ impl<T: TermLike + Drop, C: Clock + Drop> Held<T, C> {
         rt: &R,
         target: ProgressDrawTarget<T>,
     ) -> Result<Drawn, Refusal>
-        ensures { PlaceTurns self.old.place (term_of target) result self.new.place }
+        ensures { PlaceTurns T.view self.old.place (term_of target) result self.new.place }
     {
         match &mut self.place {
             Place::Alone(bar) => {
-                let _ = bar.set_draw_target(target);
+                bar.set_draw_target(target);
                 Ok(Drawn::Limited)
             }
             Place::On(seat) => {
                 let now = self.clock.now();
                 let (bar, drawn) = seat.leave(rt, now)?;
-                self.place = Place::Alone(LoneBar::new(bar, target));
+                self.place = Place::Alone(Single::new(bar, target));
                 drawn
             }
         }
@@ -331,7 +310,7 @@ impl<T: TermLike + Drop, C: Clock + Drop> Held<T, C> {
         };
         let removed = board.lock(rt).remove(id);
         if let Some(bar) = removed? {
-            self.place = Place::Alone(LoneBar::new(bar, ProgressDrawTarget::hidden()));
+            self.place = Place::Alone(Single::new(bar, ProgressDrawTarget::hidden()));
         }
         Ok(())
     }
@@ -339,14 +318,3 @@ impl<T: TermLike + Drop, C: Clock + Drop> Held<T, C> {
 
 /// No steps in no time.
 const NO_RATE: Rate = Rate { steps: 0, nanos: 1 };
-
-/// A bar that isn't finished is finished by its stored finish.
-fn end<T: TermLike + Drop>(bar: &mut LoneBar<NoTracker, T>, now: Moment) -> Result<Drawn, Refusal>
-    ensures finished { IsTrue (is_finished (record_of bar.old).progress) → bar.new ≡ bar.old }
-    ensures unfinished { IsFalse (is_finished (record_of bar.old).progress) → Makes writes_nothing T.view bar.old bar.new (Lone.Change FinishUsingStyle) result }
-{
-    if bar.bar().state().is_finished() {
-        return Ok(Drawn::Limited);
-    }
-    bar.finish_using_style(now)
-}

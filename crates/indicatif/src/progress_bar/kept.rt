@@ -1,5 +1,5 @@
 //! What the lock of a shared board keeps.
-ghost use Rattle.std.specs.Prelude.{◌≡◌, ℕ, IfOk, IfErr, Ok, Err, MatchResult};
+ghost use Rattle.std.specs.Prelude.{◌≡◌, ℕ, Some, None, IfOk, IfErr, Ok, Err, MatchResult};
 ghost use Rattle.indicatif_term.specs.Targets.{term_of};
 ghost use Rattle.indicatif_bar.specs.Trackers.{writes_nothing};
 ghost use Rattle.indicatif_board.specs.Boards.{Remove, Refused, drawn_of};
@@ -7,7 +7,7 @@ ghost use Rattle.indicatif_board.specs.BoardValues.{id_of};
 ghost use Rattle.indicatif_board.specs.Calls.{call_of, answer_of, place_at, removal};
 ghost use Rattle.indicatif_board.specs.Multi.{LeadsBy, terminal_of};
 ghost use Rattle.indicatif.specs.SharedBoards.{BoardCan, SharedAnswers, SharedDraws, SharedSuspends, SharedTakes, given_by};
-ghost use Rattle.indicatif.specs.Kept.{KeptMakes};
+ghost use Rattle.indicatif.specs.Kept.{KeptMakes, KeptDraws, KeptRemoves, KeptSuspends, refusal_of};
 
 use indicatif_bar::state::BarState;
 use indicatif_bar::style::NoTracker;
@@ -105,14 +105,16 @@ impl<T: TermLike + Drop> Kept<T> {
 
     /// A call that draws.
     pub fn draw(&mut self, call: Call<NoTracker>, now: Moment) -> Result<Drawn, Refusal>
-        ensures { SharedDraws T.view (call_of call) result }
+        ensures made { KeptDraws T.view self.old (call_of call) now result self.new }
+        ensures can { SharedDraws T.view (call_of call) result }
     {
         drawn_of(self.call(call, now))
     }
 
     /// Takes a bar out of the order and hands it back; `None` where it isn't there.
     pub fn remove(&mut self, id: BarId, now: Moment) -> Result<Option<BarState<NoTracker>>, Refusal>
-        ensures { IfErr result (λ e. SharedAnswers T.view (Remove (id_of id)) (Refused e)) }
+        ensures made { MatchResult result (λ _. KeptRemoves T.view self.old (id_of id) now None self.new) (λ e. KeptRemoves T.view self.old (id_of id) now (Some e) self.new) }
+        ensures can { IfErr result (λ e. SharedAnswers T.view (Remove (id_of id)) (Refused e)) }
     {
         match self {
             Kept::Open(board) => board.remove(id),
@@ -157,6 +159,7 @@ impl<T: TermLike + Drop> Kept<T> {
     pub fn suspend<F: FnOnce() -> A, A>(&mut self, now: Moment, f: F) -> (A, Result<Drawn, Refusal>)
         requires { F.pre f }
         ensures value { F.post f result.0 }
+        ensures made { KeptSuspends T.view self.old now result.1 self.new }
         ensures drawn { SharedSuspends T.view result.1 }
     {
         let cleared = self.draw(Call::Clear, now);
@@ -183,7 +186,7 @@ fn answer_of(answered: Answered) -> Answer
 
 /// The bar that was handed back, unless the call was refused.
 fn removed(answered: Answered) -> Result<Option<BarState<NoTracker>>, Refusal>
-    ensures { IfErr result (λ e. answered.0 ≡ Answer.Refused e) }
+    ensures { MatchResult result (λ _. refusal_of (answer_of answered.0) ≡ None) (λ e. answered.0 ≡ Answer.Refused e) }
 {
     let (answer, bar) = answered;
     match answer {

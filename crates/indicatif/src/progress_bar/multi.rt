@@ -43,7 +43,9 @@ impl<T: TermLike + Drop, C: Clock + Drop, R: Wait + Clone + Drop> MultiProgress<
     /// A board without bars, of this mark. It writes nothing yet.
     ///
     /// Refused: `Memory`.
-    pub fn new(rt: R, alloc: Global, setup: Setup<T, C>, mark: u64) -> Result<Self, Refusal> {
+    pub fn new(rt: R, alloc: Global, setup: Setup<T, C>, mark: u64) -> Result<Self, Refusal>
+        ensures { IfErr result (λ e. e ≡ Refusal.Memory) }
+    {
         let Setup { target, clock } = setup;
         MultiProgress::with_draw_target(rt, alloc, target, clock, mark)
     }
@@ -57,7 +59,9 @@ impl<T: TermLike + Drop, C: Clock + Drop, R: Wait + Clone + Drop> MultiProgress<
         target: ProgressDrawTarget<T>,
         clock: C,
         mark: u64,
-    ) -> Result<Self, Refusal> {
+    ) -> Result<Self, Refusal>
+        ensures { IfErr result (λ e. e ≡ Refusal.Memory) }
+    {
         let kept = Kept::Open(Unrecorded::new(alloc, target, mark));
         MultiProgress::shared(rt, alloc, SharedBoard::new(kept, clock))
     }
@@ -71,13 +75,17 @@ impl<T: TermLike + Drop, C: Clock + Drop, R: Wait + Clone + Drop> MultiProgress<
         target: ProgressDrawTarget<T>,
         clock: C,
         mark: u64,
-    ) -> Result<Self, Refusal> {
+    ) -> Result<Self, Refusal>
+        ensures { IfErr result (λ e. e ≡ Refusal.Memory) }
+    {
         let kept = Kept::Recorded(Recorded::new(alloc, target, mark));
         MultiProgress::shared(rt, alloc, SharedBoard::new(kept, clock))
     }
 
     /// A board under its lock.
-    fn shared(rt: R, alloc: Global, board: SharedBoard<T, C>) -> Result<Self, Refusal> {
+    fn shared(rt: R, alloc: Global, board: SharedBoard<T, C>) -> Result<Self, Refusal>
+        ensures { IfErr result (λ e. e ≡ Refusal.Memory) }
+    {
         match Arc::new(alloc, Mutex::new(board)) {
             Ok(board) => Ok(MultiProgress { board, alloc, rt }),
             Err(_) => Err(Refusal::Memory),

@@ -1,68 +1,26 @@
 //! Where a shared bar stands: alone on its target, or on a board.
-ghost use Rattle.std.specs.Prelude.{◌≡◌, ◌⊎◌, Some, None, MatchResult, IfOk, IfErr, false, string_bytes};
+ghost use Rattle.std.specs.Prelude.{◌≡◌, ◌⊎◌, Some, None, MatchResult, IfOk, IfErr, false};
 ghost use Rattle.std.specs.Fn.{FnOnceReturnsAt};
 ghost use Rattle.indicatif_bar.specs.Commands.{Update, command_of};
 ghost use Rattle.indicatif_bar.specs.Progress.{Progress};
 ghost use Rattle.indicatif_bar.specs.declared.command.Change.{Change as Changed};
-ghost use Rattle.indicatif_board.specs.Boards.{Tell, Drop as Dropped};
+ghost use Rattle.indicatif_board.specs.Boards.{Tell, Redraw, Drop as Dropped};
 ghost use Rattle.indicatif_board.specs.BoardValues.{id_of};
-ghost use Rattle.indicatif_board.specs.Calls.{call_of};
+ghost use Rattle.indicatif.specs.Fronts.{on_board};
 ghost use Rattle.indicatif.specs.Worded.{worded};
-ghost use Rattle.indicatif.specs.Places.{ReadsBy, LooksSo, IsUnfinished, unchanged};
-ghost use Rattle.indicatif.specs.SharedBoards.{SharedDraws};
+ghost use Rattle.indicatif.specs.Places.{ReadsBy, LooksSo, IsUnfinished, IsUntold, unchanged};
+ghost use Rattle.indicatif.specs.SharedBoards.{SharedDraws, SharedSuspends, SharedKeeps};
 
 use crate::progress_bar::kept::Shared;
-use indicatif_bar::lone::LoneBar;
-use indicatif_bar::state::{BarCommand, BarState, Change, ProgressFinish, ProgressState};
+use crate::progress_bar::single::Single;
+use crate::progress_bar::worded::Worded;
+use indicatif_bar::state::{BarCommand, BarState, Change, ProgressState};
 use indicatif_bar::style::{NoTracker, ProgressStyle};
 use indicatif_board::multi::{BarId, Call, Candidate};
 use indicatif_term::term_like::TermLike;
 use indicatif_text::columns::{Clock, Drawn, Moment, Refusal};
 use std::alloc::Global;
 use std::sync::Wait;
-
-/// What a bar on a board is told with a text.
-#[derive(Clone, Copy, Drop)]
-pub enum Worded {
-    /// Lines of text above the bars.
-    Log,
-    /// Another message, and a draw.
-    Message,
-    /// Another prefix, and a draw.
-    Prefix,
-    /// Another message, and no draw.
-    PutMessage,
-    /// Another prefix, and no draw.
-    PutPrefix,
-    /// It is finished at its length, with this message.
-    Finish,
-    /// It is finished where it stands, with this message.
-    Abandon,
-}
-
-impl Worded {
-    /// The call of the board.
-    fn call(self, id: BarId, text: String) -> Call<NoTracker>
-        ensures { call_of result ≡ worded self (id_of id) (string_bytes text) }
-    {
-        match self {
-            Worded::Log => Call::BarLog(id, text),
-            Worded::Message => Call::Bar(id, BarCommand::SetMessage(text)),
-            Worded::Prefix => Call::Bar(id, BarCommand::SetPrefix(text)),
-            Worded::PutMessage => Call::Bar(id, BarCommand::WithMessage(text)),
-            Worded::PutPrefix => Call::Bar(id, BarCommand::WithPrefix(text)),
-            Worded::Finish => {
-                Call::Bar(id, BarCommand::Finish(ProgressFinish::WithMessage(text)))
-            }
-            Worded::Abandon => {
-                Call::Bar(
-                    id,
-                    BarCommand::Finish(ProgressFinish::AbandonWithMessage(text)),
-                )
-            }
-        }
-    }
-}
 
 /// What a closure answers of the bar's state, or nothing where there is no bar.
 fn change_by<F: FnOnce(&ProgressState) -> Change>(
@@ -115,7 +73,7 @@ pub struct Seat<T: Drop, C> {
 #[derive(Drop)]
 pub enum Place<T: Drop, C> {
     /// Alone on its target.
-    Alone(LoneBar<NoTracker, T>),
+    Alone(Single<T>),
     /// On a board.
     On(Seat<T, C>),
 }
@@ -159,7 +117,7 @@ impl<T: TermLike + Drop, C: Clock + Drop> Seat<T, C> {
         text: &str,
         now: Moment,
     ) -> Result<Drawn, Refusal>
-        ensures { SharedDraws T.view (worded told (id_of self.now.id) text.now) result }
+        ensures { SharedDraws T.view (on_board (id_of self.now.id) (worded told text.now)) result }
     {
         match String::from_str(self.alloc, text) {
             Ok(text) => {
@@ -168,6 +126,20 @@ impl<T: TermLike + Drop, C: Clock + Drop> Seat<T, C> {
             }
             Err(_) => Err(Refusal::Memory),
         }
+    }
+
+    /// Calls `f` with the rows of all bars of the board taken back, and draws them again.
+    pub fn suspend<R: Wait, F: FnOnce() -> A, A>(
+        &self,
+        rt: &R,
+        now: Moment,
+        f: F,
+    ) -> (A, Result<Drawn, Refusal>)
+        requires { F.pre f }
+        ensures value { F.post f result.0 }
+        ensures drawn { SharedSuspends T.view result.1 }
+    {
+        self.board.lock(rt).kept.suspend(now, f)
     }
 
     /// The bar's owner is gone.
@@ -182,14 +154,17 @@ impl<T: TermLike + Drop, C: Clock + Drop> Seat<T, C> {
         &self,
         rt: &R,
         now: Moment,
-    ) -> Result<(BarState<NoTracker>, Result<Drawn, Refusal>), Refusal> {
+    ) -> Result<(BarState<NoTracker>, Result<Drawn, Refusal>), Refusal>
+        ensures { MatchResult result (λ left. SharedDraws T.view Redraw left.1) (λ e. SharedKeeps T.view (id_of self.now.id) e) }
+    {
         let mut on = self.board.lock(rt);
-        match on.kept.remove(self.id, now)? {
-            Some(bar) => {
+        match on.kept.remove(self.id, now) {
+            Ok(Some(bar)) => {
                 let drawn = on.kept.draw(Call::Redraw, now);
                 Ok((bar, drawn))
             }
-            None => Err(Refusal::NotMember),
+            Ok(None) => Err(Refusal::NotMember),
+            Err(refusal) => Err(refusal),
         }
     }
 }
@@ -201,7 +176,7 @@ impl<T: TermLike + Drop, C: Clock + Drop> Place<T, C> {
         ensures { ReadsBy (FnOnceReturnsAt F.FnOnce f) self.now result }
     {
         match self {
-            Place::Alone(bar) => found_of(Ok(bar.bar()), f),
+            Place::Alone(bar) => found_of(Ok(bar.lone().bar()), f),
             Place::On(seat) => {
                 let on = seat.board.lock(rt);
                 found_of(on.kept.board().bar(seat.id), f)
@@ -220,7 +195,7 @@ impl<T: TermLike + Drop, C: Clock + Drop> Place<T, C> {
     /// How many spaces stand for a tab; 8 where its board hasn't the bar.
     pub fn tab_width<R: Wait>(&self, rt: &R) -> usize {
         match self {
-            Place::Alone(bar) => bar.bar().tab_width(),
+            Place::Alone(bar) => bar.lone().bar().tab_width(),
             Place::On(seat) => match seat.board.lock(rt).kept.board().bar(seat.id) {
                 Ok(bar) => bar.tab_width(),
                 Err(_) => 8,
@@ -229,9 +204,11 @@ impl<T: TermLike + Drop, C: Clock + Drop> Place<T, C> {
     }
 
     /// A copy of the message.
-    pub fn message<R: Wait>(&self, rt: &R, alloc: Global) -> Result<String, Refusal> {
+    pub fn message<R: Wait>(&self, rt: &R, alloc: Global) -> Result<String, Refusal>
+        ensures { IfErr result (λ e. IsUntold self.now e) }
+    {
         match self {
-            Place::Alone(bar) => Ok(String::from_str(alloc, bar.bar().message())?),
+            Place::Alone(bar) => Ok(String::from_str(alloc, bar.lone().bar().message())?),
             Place::On(seat) => {
                 let on = seat.board.lock(rt);
                 let bar = on.kept.board().bar(seat.id)?;
@@ -241,9 +218,11 @@ impl<T: TermLike + Drop, C: Clock + Drop> Place<T, C> {
     }
 
     /// A copy of the prefix.
-    pub fn prefix<R: Wait>(&self, rt: &R, alloc: Global) -> Result<String, Refusal> {
+    pub fn prefix<R: Wait>(&self, rt: &R, alloc: Global) -> Result<String, Refusal>
+        ensures { IfErr result (λ e. IsUntold self.now e) }
+    {
         match self {
-            Place::Alone(bar) => Ok(String::from_str(alloc, bar.bar().prefix())?),
+            Place::Alone(bar) => Ok(String::from_str(alloc, bar.lone().bar().prefix())?),
             Place::On(seat) => {
                 let on = seat.board.lock(rt);
                 let bar = on.kept.board().bar(seat.id)?;
@@ -258,7 +237,7 @@ impl<T: TermLike + Drop, C: Clock + Drop> Place<T, C> {
         ensures memory { IfErr result (λ e. e ≡ Refusal.Memory) }
     {
         match self {
-            Place::Alone(bar) => bar.bar().style().try_clone(),
+            Place::Alone(bar) => bar.lone().bar().style().try_clone(),
             Place::On(seat) => match seat.board.lock(rt).kept.board().bar(seat.id) {
                 Ok(bar) => bar.style().try_clone(),
                 Err(_) => ProgressStyle::default_bar(alloc),
@@ -269,7 +248,7 @@ impl<T: TermLike + Drop, C: Clock + Drop> Place<T, C> {
     /// Whether nothing is ever drawn.
     pub fn is_hidden<R: Wait>(&self, rt: &R) -> bool {
         match self {
-            Place::Alone(bar) => bar.is_hidden(),
+            Place::Alone(bar) => bar.lone().is_hidden(),
             Place::On(seat) => seat.board.lock(rt).kept.board().is_hidden(),
         }
     }
@@ -281,7 +260,7 @@ impl<T: TermLike + Drop, C: Clock + Drop> Place<T, C> {
     {
         match self {
             Place::Alone(bar) => {
-                let shown = bar.term();
+                let shown = bar.lone().term();
                 f(shown)
             }
             Place::On(seat) => {
@@ -305,7 +284,7 @@ impl<T: TermLike + Drop, C: Clock + Drop> Place<T, C> {
         ensures { IfErr result (λ e. e ≡ Refusal.Memory) }
     {
         match self {
-            Place::Alone(bar) => Ok(Candidate::New(bar.bar().try_clone()?)),
+            Place::Alone(bar) => Ok(Candidate::New(bar.lone().bar().try_clone()?)),
             Place::On(seat) => Ok(Candidate::Member(seat.id)),
         }
     }

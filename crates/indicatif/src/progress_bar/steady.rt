@@ -1,4 +1,9 @@
 //! A thread that ticks a bar.
+ghost use Rattle.std.specs.Prelude.{◌≡◌, ◌⊎◌, true, IsTrue, is_ok, IfErr, Err};
+ghost use Rattle.indicatif_bar.specs.Commands.{SetTicker};
+ghost use Rattle.indicatif_bar.specs.Lone as Lone;
+ghost use Rattle.indicatif.specs.Fronts.{CanAnswer};
+
 use crate::progress_bar::ProgressBar;
 use crate::progress_bar::held::Cell;
 use indicatif_bar::state::BarCommand;
@@ -44,11 +49,16 @@ impl<
     ///
     /// ```
     /// bar.enable_steady_tick(100_000_000)?; // ten times a second
-    /// bar.disable_steady_tick();
+    /// bar.disable_steady_tick()?;
     /// ```
     ///
-    /// Refused: `Memory`, where no thread can be started: the ticker that was installed goes on then.
-    pub fn enable_steady_tick(&self, nanos: u64) -> Result<(), Refusal> {
+    /// Refused: `Memory`, where no thread can be started or the history of the bar's board finds none: the ticker that was installed
+    /// goes on then.
+    #[tactic(auto, using(crate::proofs::FrontLemmas::place_answers))]
+    pub fn enable_steady_tick(&self, nanos: u64) -> Result<(), Refusal>
+        ensures idle { nanos ≡ 0 → IsTrue (is_ok result) }
+        ensures refused { IfErr result (λ e. (e ≡ Refusal.Memory) ⊎ CanAnswer T.view (Lone.Change (SetTicker true)) (Err e)) }
+    {
         if nanos == 0 {
             return Ok(());
         }
@@ -60,20 +70,24 @@ impl<
             return Err(Refusal::Memory);
         };
         let mut held = self.state.lock.lock(&self.rt);
-        let Some(number) = held.ticker.number() else {
+        let Some(number) = held.ticker.begin() else {
             return Err(Refusal::Memory);
         };
         let run = move || run_ticker(&rt, &*cell, number, interval);
         match thread::spawn(&self.rt, run) {
             Ok(thread) => {
                 drop(thread);
-                held.ticker.install(number);
-                let _ = held.tell(&self.rt, BarCommand::SetTicker(true));
+                if let Err(refusal) = held.install_ticker(&self.rt, number) {
+                    return Err(refusal);
+                }
                 drop(held);
                 self.state.changed.notify_all();
                 Ok(())
             }
-            Err(_) => Err(Refusal::Memory),
+            Err(_) => {
+                held.ticker.ended();
+                Err(Refusal::Memory)
+            }
         }
     }
 }

@@ -23,25 +23,28 @@ impl Ticker {
         }
     }
 
-    /// The number of the next installation; `None` where there is none left.
-    pub fn number(&self) -> Option<u64>
-        ensures some { IfSome result (λ n. (n ≡ self.now.next) × (n + 1 < 2 ^ 64) × (self.now.running + 1 < 2 ^ 64)) }
+    /// One thread more, and the number of its own that it is to be installed by; `None` where there is none left, and nothing has
+    /// changed then.
+    pub fn begin(&mut self) -> Option<u64>
+        ensures some { IfSome result (λ n. (n ≡ self.old.next) × (self.new.next ≡ n + 1) × (self.new.running ≡ self.old.running + 1)) }
+        ensures none { result ≡ None → self.new ≡ self.old }
+        ensures installed { self.new.installed ≡ self.old.installed }
     {
         if self.next == u64::MAX || self.running == u64::MAX {
-            None
-        } else {
-            Some(self.next)
+            return None;
         }
+        let number = self.next;
+        self.next += 1;
+        self.running += 1;
+        Some(number)
     }
 
     /// The ticker of this number in the place of any other.
     pub fn install(&mut self, number: u64)
-        requires { (number ≡ self.old.next) × (number + 1 < 2 ^ 64) × (self.old.running + 1 < 2 ^ 64) }
-        ensures { (self.new.installed ≡ Some number) × (self.new.next ≡ number + 1) × (self.new.running ≡ self.old.running + 1) }
+        requires { number < self.old.next }
+        ensures { (self.new.installed ≡ Some number) × (self.new.next ≡ self.old.next) × (self.new.running ≡ self.old.running) }
     {
         self.installed = Some(number);
-        self.next = number + 1;
-        self.running += 1;
     }
 
     /// None installed from now on; a thread that ticks is yet to end.
@@ -65,7 +68,7 @@ impl Ticker {
 
     /// A thread ends.
     pub fn ended(&mut self)
-        ensures { (self.new.installed ≡ self.old.installed) × (self.new.running ≡ self.old.running - 1) }
+        ensures { (self.new.installed ≡ self.old.installed) × (self.new.next ≡ self.old.next) × (self.new.running ≡ self.old.running - 1) }
     {
         self.running = self.running.saturating_sub(1);
     }

@@ -1,5 +1,6 @@
 use Rattle.std.proofs.Common.{subst, ap, ◌∙◌}
 use Rattle.indicatif_board.specs.BoardValues.{id_of}
+use Rattle.indicatif.specs.Fronts.{on_board}
 use Rattle.indicatif.specs.SharedBoards.{SharedDraws}
 use Rattle.indicatif.specs.Worded.{worded}
 use Rattle.indicatif.proofs.FrontLemmas.{no_memory}
@@ -7,7 +8,7 @@ use Rattle.indicatif.proofs.progress_bar.place.Seat.tell_text.Goals as goal
 
 pub returns-in-Ok : goal.returns-in-Ok
 returns-in-Ok g c = subst (λ call. SharedDraws g.T.TermLike.view call c.draw.result)
-    (c.call-call.ensures ∙ ap (worded c.args.told (id_of c.args.self.now.id)) c.in-Ok.ensures.ok) c.draw.ensures
+    (c.call-call.ensures ∙ ap (λ text. on_board (id_of c.args.self.now.id) (worded c.args.told text)) c.in-Ok.ensures.ok) c.draw.ensures.can
 
 pub returns-in-Err : goal.returns-in-Err
-returns-in-Err g c = no_memory g.T.TermLike.view (worded c.args.told (id_of c.args.self.now.id) c.args.text.now)
+returns-in-Err g c = no_memory g.T.TermLike.view (on_board (id_of c.args.self.now.id) (worded c.args.told c.args.text.now))

@@ -1,0 +1,135 @@
+//! A bar that stands alone under its lock.
+ghost use Rattle.std.specs.Prelude.{◌≡◌, IsTrue, IsFalse};
+ghost use Rattle.std.specs.Fn.{FnOnceReturnsAt};
+ghost use Rattle.indicatif_term.specs.Targets.{term_of};
+ghost use Rattle.indicatif_bar.specs.Commands.{Update, FinishUsingStyle};
+ghost use Rattle.indicatif_bar.specs.Lone as Lone;
+ghost use Rattle.indicatif_bar.specs.LoneBars.{record_of, lone_terminal, lone_call_of, CallDone, LoneLeadsBy};
+ghost use Rattle.indicatif_bar.specs.Progress.{is_finished};
+ghost use Rattle.indicatif_bar.specs.Trackers.{writes_nothing};
+ghost use Rattle.indicatif_bar.specs.declared.command.Change.{Change as Changed};
+ghost use Rattle.indicatif.specs.Fronts.{MadeBy, SuspendedBy};
+ghost use Rattle.indicatif.specs.Worded.{worded};
+
+use crate::progress_bar::worded::Worded;
+use indicatif_bar::lone::{LoneBar, LoneCall};
+use indicatif_bar::state::{BarCommand, BarState, Change, ProgressState};
+use indicatif_bar::style::NoTracker;
+use indicatif_term::draw_target::ProgressDrawTarget;
+use indicatif_term::term_like::TermLike;
+use indicatif_text::columns::{Drawn, Moment, Refusal};
+use std::marker::Model;
+
+/// A bar that stands alone on its target. It is always in some state.
+#[derive(Drop)]
+pub struct Single<T: Drop> {
+    bar: LoneBar<NoTracker, T>,
+}
+
+/// Contracts see the lone bar.
+impl<T: Drop> Model for Single<T> {
+    ghost use Rattle.indicatif.specs.Fronts.{LoneIsSomewhere};
+    ghost use Rattle.indicatif_bar.specs.declared.lone.LoneBar.{LoneBar};
+    ghost use Rattle.indicatif_bar.specs.declared.tracker.NoTracker.{NoTracker};
+
+    ghost Value = { LoneBar NoTracker T };
+
+    ghost view = { λ s. s.bar };
+
+    ghost invariant = { λ s. LoneIsSomewhere s.bar };
+}
+
+impl<T: TermLike + Drop> Single<T> {
+    /// The bar on this target.
+    pub fn new(bar: BarState<NoTracker>, target: ProgressDrawTarget<T>) -> Single<T>
+        ensures bar { record_of result ≡ bar }
+        ensures terminal { lone_terminal result ≡ term_of target }
+    {
+        Single {
+            bar: LoneBar::new(bar, target),
+        }
+    }
+
+    /// A call as a value.
+    pub fn call(&mut self, call: LoneCall<NoTracker>, now: Moment) -> Result<Drawn, Refusal>
+        ensures { MadeBy T.view self.old self.new (lone_call_of call) now result }
+    {
+        self.bar.call(call, now)
+    }
+
+    /// A call with a text.
+    pub fn tell_text(&mut self, told: Worded, text: &str, now: Moment) -> Result<Drawn, Refusal>
+        ensures { MadeBy T.view self.old self.new (worded told text.now) now result }
+    {
+        tell_lone(&mut self.bar, told, text, now)
+    }
+
+    /// Sets what the closure answers of the state that it is shown; then as a tick.
+    pub fn update<F: FnOnce(&ProgressState) -> Change>(
+        &mut self,
+        f: F,
+        now: Moment,
+    ) -> Result<Drawn, Refusal>
+        requires { F.IsAlwaysCallable f }
+        ensures { (change : Changed) × FnOnceReturnsAt F.FnOnce f (record_of self.old).progress change
+            × MadeBy T.view self.old self.new (Lone.Change (Update change.pos change.len)) now result }
+    {
+        self.bar.update(f, now)
+    }
+
+    /// Calls `f` with the bar's rows taken back, and draws them again.
+    pub fn suspend<F: FnOnce() -> A, A>(&mut self, now: Moment, f: F) -> (A, Result<Drawn, Refusal>)
+        requires { F.pre f }
+        ensures value { F.post f result.0 }
+        ensures suspended { SuspendedBy T.view self.old self.new now result.1 }
+    {
+        self.bar.suspend(now, f)
+    }
+
+    /// A bar that isn't finished is finished by its stored finish.
+    pub fn end(&mut self, now: Moment) -> Result<Drawn, Refusal>
+        ensures finished { IsTrue (is_finished (record_of self.old).progress) → self.new ≡ self.old }
+        ensures unfinished { IsFalse (is_finished (record_of self.old).progress) → MadeBy T.view self.old self.new (Lone.Change FinishUsingStyle) now result }
+    {
+        if self.bar.bar().state().is_finished() {
+            return Ok(Drawn::Limited);
+        }
+        self.call(LoneCall::Bar(BarCommand::FinishUsingStyle), now)
+    }
+
+    /// Another target; the old one is given up.
+    pub fn set_draw_target(&mut self, target: ProgressDrawTarget<T>)
+        ensures bar { record_of self.new ≡ record_of self.old }
+        ensures terminal { lone_terminal self.new ≡ term_of target }
+    {
+        let _ = self.bar.set_draw_target(target);
+    }
+
+    /// The lone bar.
+    pub fn lone(&self) -> &LoneBar<NoTracker, T>
+        ensures { result.now ≡ self.now }
+    {
+        &self.bar
+    }
+}
+
+/// A call of a lone bar with a text.
+fn tell_lone<T: TermLike + Drop>(
+    bar: &mut LoneBar<NoTracker, T>,
+    told: Worded,
+    text: &str,
+    now: Moment,
+) -> Result<Drawn, Refusal>
+    ensures done { CallDone writes_nothing bar.old bar.new (worded told text.now) now result }
+    ensures leads { LoneLeadsBy writes_nothing T.view bar.old bar.new (worded told text.now) now result }
+{
+    match told {
+        Worded::Log => bar.println(text, now),
+        Worded::Message => bar.set_message(text, now),
+        Worded::Prefix => bar.set_prefix(text, now),
+        Worded::PutMessage => bar.with_message(text, now),
+        Worded::PutPrefix => bar.with_prefix(text, now),
+        Worded::Finish => bar.finish_with_message(text, now),
+        Worded::Abandon => bar.abandon_with_message(text, now),
+    }
+}
