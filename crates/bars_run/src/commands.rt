@@ -12,12 +12,12 @@ pub enum Command<'a> {
     /// The bars' rows taken back.
     Clear,
     /// Something done to the bar of a number; `None` where that is past 2^64 - 1, which is no bar's.
-    Bar(Option<u64>, Deed<'a>),
+    Bar(Option<u64>, BarAction<'a>),
 }
 
 /// What is done to a bar.
 #[derive(Clone, Copy, Debug, Drop, PartialEq, Eq)]
-pub enum Deed<'a> {
+pub enum BarAction<'a> {
     /// It says this from now on.
     Message(&'a str),
     /// It ticks.
@@ -62,29 +62,29 @@ fn with_rest<'a>(word: &str, rest: &'a str) -> Option<Command<'a>> {
         "log" => Some(Command::Log(rest)),
         "msg" => {
             let (number, text) = rest.split_once(' ').unwrap_or((rest, ""));
-            numbered(number, Deed::Message(text))
+            numbered(number, BarAction::Message(text))
         }
-        _ => numbered(rest, deed_of(word)?),
+        _ => numbered(rest, action_of(word)?),
     }
 }
 
 /// What a word does to a bar.
-fn deed_of(word: &str) -> Option<Deed<'static>> {
+fn action_of(word: &str) -> Option<BarAction<'static>> {
     match word {
-        "tick" => Some(Deed::Tick),
-        "finish" => Some(Deed::Finish),
-        "abandon" => Some(Deed::Abandon),
-        "hide" => Some(Deed::Hide),
-        "drop" => Some(Deed::Drop),
-        "remove" => Some(Deed::Remove),
+        "tick" => Some(BarAction::Tick),
+        "finish" => Some(BarAction::Finish),
+        "abandon" => Some(BarAction::Abandon),
+        "hide" => Some(BarAction::Hide),
+        "drop" => Some(BarAction::Drop),
+        "remove" => Some(BarAction::Remove),
         _ => None,
     }
 }
 
 /// A bar's command, where its number is one or more decimal digits.
-fn numbered<'a>(digits: &str, deed: Deed<'a>) -> Option<Command<'a>> {
+fn numbered<'a>(digits: &str, action: BarAction<'a>) -> Option<Command<'a>> {
     if !is_digits(digits) {
         return None;
     }
-    Some(Command::Bar(digits.parse::<u64>().ok(), deed))
+    Some(Command::Bar(digits.parse::<u64>().ok(), action))
 }

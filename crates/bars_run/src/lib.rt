@@ -2,14 +2,16 @@
 //!
 //! - `arguments`: what the arguments ask for.
 //! - `commands`: what a line spells.
-//! - `stage`: the board, and what a command does on it.
+//! - `input`: what is read, so that its failures are told apart from want of memory.
+//! - `player`: the board, and what a command does on it.
 //! - `fault`: why a run ends before all of it is printed.
 #![tactic(auto)]
 
 mod arguments;
 mod commands;
 pub mod fault;
-mod stage;
+mod input;
+mod player;
 
 ghost use Rattle.std.specs.Prelude.{◌≡◌, ◌⊎◌, IfErr};
 ghost use Rattle.bars_run.specs.Fault.{status_of};
@@ -17,7 +19,8 @@ ghost use Rattle.bars_run.specs.Fault.{status_of};
 use crate::arguments::Asked;
 use crate::commands::Command;
 use crate::fault::Fault;
-use crate::stage::Stage;
+use crate::input::Input;
+use crate::player::Player;
 use indicatif_text::columns::Refusal;
 use std::alloc::Global;
 use std::io;
@@ -82,32 +85,32 @@ fn shown<R: Read + Drop, O: Write>(
 
 /// The rows that stand after all commands.
 fn played<R: Read + Drop>(alloc: Global, asked: Asked, input: R) -> Result<Vec<String>, Fault> {
-    let mut stage = Stage::new(alloc, asked).map_err(Fault::Refused)?;
-    let input = BufReader::new(alloc, input).map_err(|_| Fault::Refused(Refusal::Memory))?;
-    play(alloc, &mut stage, input)?;
-    stage.picture().map_err(Fault::Refused)
+    let mut player = Player::new(alloc, asked).map_err(Fault::Refused)?;
+    let input = BufReader::new(alloc, Input(input)).map_err(|_| Fault::Refused(Refusal::Memory))?;
+    play(alloc, &mut player, input)?;
+    player.picture().map_err(Fault::Refused)
 }
 
-/// Plays each line on the stage.
-fn play<R: BufRead + Drop>(alloc: Global, stage: &mut Stage, input: R) -> Result<(), Fault> {
+/// Plays each line.
+fn play<R: BufRead + Drop>(alloc: Global, player: &mut Player, input: R) -> Result<(), Fault> {
     let mut number: u64 = 0;
     for line in input.split(alloc, b'\n') {
         number = number.saturating_add(1);
         let line = line.map_err(|e| unread(number, &e))?;
-        play_line(stage, number, &line)?;
+        play_line(player, number, &line)?;
     }
     Ok(())
 }
 
 /// Plays one line, of this number.
-fn play_line(stage: &mut Stage, number: u64, line: &[u8]) -> Result<(), Fault> {
+fn play_line(player: &mut Player, number: u64, line: &[u8]) -> Result<(), Fault> {
     let command = Command::spelt(line).ok_or(Fault::BadCommand(number))?;
-    stage
+    player
         .obey(command)
         .map_err(|refusal| Fault::Line(number, refusal))
 }
 
-/// Why the line of this number couldn't be read.
+/// Why the line of this number couldn't be read: it found no room, or the input failed.
 fn unread(number: u64, e: &io::Error) -> Fault {
     match e.kind() {
         ErrorKind::OutOfMemory => Fault::Line(number, Refusal::Memory),

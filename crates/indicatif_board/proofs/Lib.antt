@@ -14,3 +14,4 @@ pub mod OrderLemmas
 pub mod SeatLemmas
 pub mod RecordLemmas
 pub mod StandingLemmas
+pub mod RunRecordLemmas

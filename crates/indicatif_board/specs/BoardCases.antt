@@ -19,25 +19,25 @@ use Rattle.indicatif_board.specs.Boards.{BoardKind, BoardState, opening_board, I
 -- ---- a plain bar
 
 -- how far a plain bar is
-pub data Stage : Type 0 where
-  Running : Stage
-  Shown : Stage
-  Gone : Stage
+pub data PlainStage : Type 0 where
+  Running : PlainStage
+  Shown : PlainStage
+  Gone : PlainStage
 
 -- one line, a stage, and the stage that its finish gives
 pub record PlainBar : Type 0 where
   pub text : List ℕ
-  pub stage : Stage
-  pub at_finish : Stage
+  pub stage : PlainStage
+  pub at_finish : PlainStage
 
 -- what it can be told
 pub data Word : Type 0 where
   Touch : Word
   Say : (text : List ℕ) → Word
-  FinishAs : (stage : Stage) → Word
+  FinishAs : (stage : PlainStage) → Word
 
 -- a draw of a bar at this stage
-abbrev pub ask_at : Stage → Ask
+abbrev pub ask_at : PlainStage → Ask
 ask_at Running = Unforced
 ask_at _ = Forced
 
@@ -56,21 +56,21 @@ abbrev pub line_of : List ℕ → List (List ℕ)
 line_of [] = []
 line_of (c ∷ text) = (c ∷ text) ∷ []
 
-abbrev pub lines_at : Stage → List ℕ → List (List ℕ)
+abbrev pub lines_at : PlainStage → List ℕ → List (List ℕ)
 lines_at Gone text = []
 lines_at _ text = line_of text
 
 -- its owner is gone: it is finished by a draw, unless it is already
-abbrev pub plain_end : Stage → Stage → Stage
+abbrev pub plain_end : PlainStage → PlainStage → PlainStage
 plain_end Running at_finish = at_finish
 plain_end stage at_finish = stage
 
-abbrev pub end_asked : Stage → Ask
+abbrev pub end_asked : PlainStage → Ask
 end_asked Running = Forced
 end_asked _ = No
 
 -- whether they take memory
-abbrev pub is_seen : Stage → Bool
+abbrev pub is_seen : PlainStage → Bool
 is_seen Gone = false
 is_seen _ = true
 
@@ -268,15 +268,15 @@ Unseen =
 -- ---- a drop whose own draw is refused
 
 -- one bar, of this finish, was drawn
-abbrev pub one_shown : Stage → BoardState PlainBar
+abbrev pub one_shown : PlainStage → BoardState PlainBar
 one_shown at_finish = (ran_in 4 10 (Insert End (New (record { text = codes "a"; stage = Running; at_finish = at_finish })) ∷ touch 0 ∷ [])).1
 
 -- it is dropped
-abbrev pub its_drop : Stage → Deed (BoardState PlainBar) Answer
+abbrev pub its_drop : PlainStage → Deed (BoardState PlainBar) Answer
 its_drop at_finish = (board plain_bars 1).deed (terminal_of_size 4 10) (drop_it 0) 0 (one_shown at_finish)
 
 -- it is marked and stays, though it is the first, with these lines
-abbrev pub stays : Stage → List (List ℕ) → List (Member PlainBar)
+abbrev pub stays : PlainStage → List (List ℕ) → List (Member PlainBar)
 stays at_finish lines =
     let m : Member PlainBar = record { number = 0; bar = record { text = codes "a"; stage = at_finish; at_finish = at_finish }; stored = lines; dropped = true } in m ∷ []
 

@@ -1,9 +1,10 @@
 -- What a board was asked, and what it answered, as their definitions.
-use Rattle.std.specs.Prelude.{ℕ, Option, Result, Ok, Err, string_bytes}
+use Rattle.std.specs.Prelude.{◌≡◌, ◌≢◌, ◌==◌, ◌&&◌, ℕ, Bool, false, List, [], ◌∷◌, Option, Result, Ok, Err, string_bytes}
 use Rattle.indicatif_text.specs.declared.refusal.Refusal.{Refusal}
+use Rattle.indicatif_text.specs.declared.refusal.Refusal.TheVariants.{ForeignBar}
 use Rattle.indicatif_bar.specs.Commands.{BarRecord, Command, command_of}
 use Rattle.indicatif_term.specs.Engines.{is_bottom}
-use Rattle.indicatif_board.specs.Boards.{Entrant, New, Old, Location, End, Index, FromBack, Before, After, Call, Insert, Remove, Drop, Log, BarLog, Clear, Redraw, Align, Tell, Answer, Given, Done, Drew, Refused}
+use Rattle.indicatif_board.specs.Boards.{Entrant, New, Old, Location, End, Index, FromBack, Before, After, Id, Call, Insert, Remove, Drop, Log, BarLog, Clear, Redraw, Align, Tell, Answer, Given, Done, Drew, Refused}
 use Rattle.indicatif_board.specs.BoardValues.{id_of}
 use Rattle.indicatif_board.specs.declared.bar_id.BarId.{BarId}
 use Rattle.indicatif_board.specs.declared.calls.Candidate.{Candidate}
@@ -63,3 +64,45 @@ answer_of (answer.Id id) = Given (id_of id)
 answer_of answer.Done = Done
 answer_of (answer.Drawn drawn) = Drew drawn
 answer_of (answer.Refused refusal) = Refused refusal
+
+-- ---- who is meant
+
+-- this is the bar of the number on the board of the mark
+abbrev pub is_bar : ℕ → ℕ → Id → Bool
+is_bar mark number id = id.mark == mark && id.number == number
+
+module _ {K : Type 0} where
+  -- another board's bar is to be taken in
+  abbrev pub IsForeign : ℕ → Entrant (BarRecord K) → Type 0
+  IsForeign mark (New bar) = ⊥
+  IsForeign mark (Old id) = id.mark ≢ mark
+
+  -- a call of the board of this mark names another board's bar; where one is to stand beside an anchor, the anchor is meant, which
+  -- is looked for first
+  abbrev pub NamesForeign : ℕ → Call (BarRecord K) (Command K) → Type 0
+  NamesForeign mark (Insert (Before anchor) entrant) = anchor.mark ≢ mark
+  NamesForeign mark (Insert (After anchor) entrant) = anchor.mark ≢ mark
+  NamesForeign mark (Insert at entrant) = IsForeign mark entrant
+  NamesForeign mark (Remove id) = id.mark ≢ mark
+  NamesForeign mark (Drop id) = id.mark ≢ mark
+  NamesForeign mark (BarLog id text) = id.mark ≢ mark
+  NamesForeign mark (Tell id command) = id.mark ≢ mark
+  NamesForeign mark _ = ⊥
+
+  -- of calls with these answers each that names another board's bar is answered so
+  abbrev pub AreTurnedAway : ℕ → List (Call (BarRecord K) (Command K) × ℕ) → List Answer → Type 0
+  AreTurnedAway mark [] [] = Unit {0}
+  AreTurnedAway mark (call ∷ calls) (answer ∷ answers) = (NamesForeign mark call.0 → answer ≡ Refused ForeignBar) × AreTurnedAway mark calls answers
+  AreTurnedAway mark _ _ = ⊥
+
+  -- a call of the board of this mark takes its bar of this number out, drops it or tells it something
+  abbrev pub acts_on : ℕ → ℕ → Call (BarRecord K) (Command K) → Bool
+  acts_on mark number (Remove id) = is_bar mark number id
+  acts_on mark number (Drop id) = is_bar mark number id
+  acts_on mark number (Tell id command) = is_bar mark number id
+  acts_on mark number _ = false
+
+-- an answer gives the bar of this number
+abbrev pub gives : ℕ → Answer → Bool
+gives number (Given id) = id.number == number
+gives number _ = false

@@ -1,5 +1,6 @@
 -- What contracts see of a board: its terminal, whether it is in a given state, and what a call leads to.
-use Rattle.std.specs.Prelude.{◌≡◌, ◌≢◌, ◌⊎◌, ℕ, [], ◌∷◌, Option, Some, None, MatchOption, option_map, Result, Err}
+use Rattle.std.specs.Prelude.{◌≡◌, ◌≢◌, ◌⊎◌, ℕ, IsTrue, List, [], ◌∷◌, Option, Some, None, MatchOption, option_map, Result, Err}
+use Rattle.std.specs.List.{list_any}
 use Rattle.indicatif_text.specs.declared.refusal.Refusal.{Refusal}
 use Rattle.indicatif_text.specs.declared.refusal.Drawn.{Drawn}
 use Rattle.indicatif_term.specs.Calls.{TermView}
@@ -13,8 +14,10 @@ use Rattle.indicatif_bar.specs.Machines.{target_of}
 use Rattle.indicatif_bar.specs.Runs.{CallMade, Runs}
 use Rattle.indicatif_board.specs.BoardBars.{board_bars}
 use Rattle.indicatif_board.specs.Boards.{BoardState, Id, Entrant, New, Call, Insert, Remove, Drop, Clear, Redraw, Tell, Answer, Given, Drew, Refused, says, drawn_of, board}
+use Rattle.indicatif_board.specs.Calls.{answer_of, gives}
 use Rattle.indicatif_board.specs.Slots.{SlotTable}
 use Rattle.indicatif_board.specs.ShownBars.{AreShownAs, record_on}
+use Rattle.indicatif_board.specs.declared.calls.Answer.{Answer as AnswerValue}
 use Rattle.indicatif_board.specs.declared.multi.Board.{Board}
 
 module _ {K T : Type 0} where
@@ -52,8 +55,8 @@ module _ {K T : Type 0} where
   RecordsStay old new = (number : ℕ) → record_at number new ≡ record_at number old
 
   -- every bar's is, but for that of this number
-  abbrev pub OthersStay : ℕ → Board K T → Board K T → Type 0
-  OthersStay number old new = (other : ℕ) → other ≢ number → record_at other new ≡ record_at other old
+  abbrev pub OtherRecordsStay : ℕ → Board K T → Board K T → Type 0
+  OtherRecordsStay number old new = (other : ℕ) → other ≢ number → record_at other new ≡ record_at other old
 
   -- a bar was told a command: if it has a record, that goes as a lone bar's does
   abbrev pub RecordObeys : Tracking K → ℕ → Command K → ℕ → Result Drawn Refusal → Board K T → Board K T → Type 0
@@ -65,20 +68,25 @@ module _ {K T : Type 0} where
   -- already, all stay
   abbrev pub RecordsTake : Entrant (BarRecord K) → Answer → Board K T → Board K T → Type 0
   RecordsTake (New bar) (Given id) old new =
-      (id.mark ≡ old.mark) × (record_at id.number old ≡ None) × (record_at id.number new ≡ Some bar) × OthersStay id.number old new
+      (id.mark ≡ old.mark) × (record_at id.number old ≡ None) × (record_at id.number new ≡ Some bar) × OtherRecordsStay id.number old new
   RecordsTake _ _ old new = RecordsStay old new
 
   -- a call named a bar: of a bar of this board it made what is said, and others stay; of another board's, all stay
   abbrev pub NamedGoes : Id → Type 0 → Board K T → Board K T → Type 0
-  NamedGoes id goes old new = (id.mark ≡ old.mark → goes) × (id.mark ≢ old.mark → RecordsStay old new) × OthersStay id.number old new
+  NamedGoes id goes old new = (id.mark ≡ old.mark → goes) × (id.mark ≢ old.mark → RecordsStay old new) × OtherRecordsStay id.number old new
 
   -- what a call with this answer made of the records
-  abbrev pub RecordsGo : Tracking K → Call (BarRecord K) (Command K) → ℕ → Answer → Board K T → Board K T → Type 0
-  RecordsGo m (Insert at entrant) now answer old new = RecordsTake entrant answer old new
-  RecordsGo m (Remove id) now answer old new = NamedGoes id (record_at id.number new ≡ None) old new
-  RecordsGo m (Drop id) now answer old new = NamedGoes id (record_at id.number new ≡ None) old new
-  RecordsGo m (Tell id command) now answer old new = NamedGoes id (RecordObeys m id.number command now (drawn_of answer) old new) old new
-  RecordsGo m _ now answer old new = RecordsStay old new
+  abbrev pub RecordsChange : Tracking K → Call (BarRecord K) (Command K) → ℕ → Answer → Board K T → Board K T → Type 0
+  RecordsChange m (Insert at entrant) now answer old new = RecordsTake entrant answer old new
+  RecordsChange m (Remove id) now answer old new = NamedGoes id (record_at id.number new ≡ None) old new
+  RecordsChange m (Drop id) now answer old new = NamedGoes id (record_at id.number new ≡ None) old new
+  RecordsChange m (Tell id command) now answer old new = NamedGoes id (RecordObeys m id.number command now (drawn_of answer) old new) old new
+  RecordsChange m _ now answer old new = RecordsStay old new
+
+  -- the record of a number is as before; or it had none, and one of these answers gave the bar of that number
+  abbrev pub StaysOrComes : ℕ → List AnswerValue → Board K T → Board K T → Type 0
+  StaysOrComes number answers old new =
+      (record_at number new ≡ record_at number old) ⊎ ((record_at number old ≡ None) × IsTrue (list_any (λ answer. gives number (answer_of answer)) answers))
 
   -- whatever state the board may have been in, there is one that it is in now, and the call led from the one to the other with
   -- this answer

@@ -4,7 +4,7 @@
 ///
 /// ```
 /// let elsewhere = BarId { mark: 0, number: 1 };
-/// assert_eq!(board.remove(elsewhere), Err(Refusal::ForeignBar));
+/// assert!(matches!(board.remove(elsewhere), Err(Refusal::ForeignBar)));
 /// ```
 #[derive(Clone, Copy, Debug, Drop, PartialEq, Eq)]
 pub struct BarId {

@@ -14,7 +14,7 @@ use indicatif_text::columns::{Drawn, Refusal};
 ///
 /// ```
 /// let id = board.add(Candidate::New(bar)).map_err(|turned| turned.refusal)?;
-/// assert_eq!(board.insert(0, Candidate::Member(id)), Ok(id)); // it stays where it is
+/// assert!(board.insert(0, Candidate::Member(id)).is_ok_and(|again| again == id)); // it stays where it is
 /// ```
 #[derive(Drop)]
 pub enum Candidate<K> {
@@ -42,7 +42,7 @@ pub struct Turned<K> {
 /// Where a bar is to stand in the order.
 ///
 /// ```
-/// let first = board.add(Candidate::New(bar))?;
+/// let first = board.add(Candidate::New(bar)).map_err(|turned| turned.refusal)?;
 /// board.call(Call::Insert { at: InsertLocation::Before(first), candidate: Candidate::New(other) }, now); // `other` stands above `bar`
 /// ```
 #[derive(Clone, Copy, Debug, Drop, PartialEq, Eq)]

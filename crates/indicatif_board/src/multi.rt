@@ -9,7 +9,7 @@ ghost use Rattle.indicatif_bar.specs.Machines.{Target, Leads, is_no, target_of};
 ghost use Rattle.indicatif_bar.specs.Runs.{wrote, Runs, Headline};
 ghost use Rattle.indicatif_bar.specs.Shown.{DrewOn};
 ghost use Rattle.indicatif_board.specs.BoardBars.{board_bars};
-ghost use Rattle.indicatif_board.specs.Boards.{BoardState, Tell, Log, BarLog, Clear, Redraw, Align, Insert, Remove, Drop, Location, End, Index, FromBack, Before, After, Done, opening_board, says, drawn_of, index_of, inserted, turned_away, draw_of, board};
+ghost use Rattle.indicatif_board.specs.Boards.{BoardState, Tell, Log, BarLog, Clear, Redraw, Align, Insert, Remove, Drop, Location, End, Index, FromBack, Before, After, Done, Refused, opening_board, says, drawn_of, index_of, inserted, turned_away, draw_of, board};
 ghost use Rattle.indicatif_board.specs.BoardValues.{id_of};
 ghost use Rattle.indicatif_board.specs.Members.{is_member, order_of, said_of};
 ghost use Rattle.indicatif_board.specs.Slots.{slot_of, IsSeated};
@@ -43,9 +43,10 @@ use std::mem::replace;
 /// sequences alone.
 ///
 /// A call that names a bar is refused with `ForeignBar` where the bar has another board's mark, and with `NotMember` where it was
-/// removed, dropped or never given; nothing has changed then. Else a call that draws goes the steps of a lone bar's, with the
+/// removed, dropped or never given; nothing has changed then. Else a call that draws goes the steps that `LoneBar` lists, with the
 /// stored lines of all bars in their order in the place of its own; of the bars only the one that is named is laid out anew. As
-/// many lines from the front are shown as have at most the terminal's rows together.
+/// many lines from the front are shown as have at most the terminal's rows together. A draw that was answered with `Yes` takes the
+/// dropped bars at the head of the order out of it. After `Terminal` no bar leaves the order, and the next draw begins on a new row.
 ///
 /// ```
 /// let mut board = Board::new(alloc, ProgressDrawTarget::term_like(term), 1);
@@ -59,8 +60,8 @@ pub struct Board<K, T: Drop> {
 }
 
 impl<K: ProgressTracker, T: TermLike + Drop> Board<K, T> {
-    ghost use Rattle.indicatif_board.specs.Calls.{entrant_of, given, removal, answer_of, place_at, call_of, timed};
-    ghost use Rattle.indicatif_board.specs.Multi.{IsIn, IsNowhere, mark_of, record_at, RecordsStay, OthersStay, RecordObeys, RecordsTake, RecordsGo, LeadsBy, Suspends, known, slots_of, terminal_of};
+    ghost use Rattle.indicatif_board.specs.Calls.{entrant_of, given, removal, answer_of, place_at, call_of, timed, IsForeign, NamesForeign, AreTurnedAway, acts_on};
+    ghost use Rattle.indicatif_board.specs.Multi.{IsIn, IsNowhere, mark_of, record_at, RecordsStay, OtherRecordsStay, RecordObeys, RecordsTake, RecordsChange, StaysOrComes, LeadsBy, Suspends, known, slots_of, terminal_of};
 
     /// A board without bars on this target, of this mark. It takes no memory and writes nothing.
     pub fn new(alloc: Global, target: ProgressDrawTarget<T>, mark: u64) -> Self
@@ -117,11 +118,10 @@ impl<K: ProgressTracker, T: TermLike + Drop> Board<K, T> {
         self.shown.table.order()
     }
 
-    /// A bar's slot; `None` where it isn't in the order, or has another board's mark. No two bars in the order have the same. The
-    /// slot that was freed last is used first, and a new one only where none is free: see `MultiState`.
+    /// A bar's slot; `None` where it isn't in the order, or has another board's mark. No two bars in the order have the same. A board
+    /// takes its slots from a `MultiState`, which says which one a new bar gets: the one that was freed last.
     pub fn slot(&self, id: BarId) -> Option<usize>
-        ensures { (mark : ℕ) (s : BoardState (BarRecord K)) → IsIn mark self.now s →
-            result ≡ (if id.mark == mark then slot_of id.number (slots_of self.now) else None) }
+        ensures { result ≡ (if id.mark == mark_of self.now then slot_of id.number (slots_of self.now) else None) }
     {
         if id.mark != self.mark {
             return None;
@@ -161,12 +161,14 @@ impl<K: ProgressTracker, T: TermLike + Drop> Board<K, T> {
 
     /// Takes a bar in behind all others. One that is there already stays where it is.
     ///
-    /// Refused, with the candidate handed back and nothing changed: `ForeignBar` or `NotMember` for a bar that is not this board's; `Memory`.
+    /// Refused, with the candidate handed back and nothing changed: `ForeignBar` or `NotMember` for a bar that is not this board's; `Memory`,
+    /// also where numbers ran out past 2^64 - 1.
     pub fn add(&mut self, candidate: Candidate<K>) -> Result<BarId, Turned<K>>
         ensures terminal { terminal_of self.new ≡ terminal_of self.old }
         ensures mark { mark_of self.new ≡ mark_of self.old }
         ensures turned { IfErr result (λ t. t.candidate ≡ candidate) }
         ensures leads { (now : ℕ) → LeadsBy K.means T.view self.old self.new (Insert End (entrant_of candidate)) now (given result) }
+        ensures foreign { NamesForeign (mark_of self.old) (Insert End (entrant_of candidate)) → (given result ≡ Refused Refusal.ForeignBar) × (self.new ≡ self.old) }
         ensures records { RecordsTake (entrant_of candidate) (given result) self.old self.new }
     {
         let at = self.shown.members.len();
@@ -175,12 +177,14 @@ impl<K: ProgressTracker, T: TermLike + Drop> Board<K, T> {
 
     /// Takes a bar in where `index` bars stand before it, or behind all others where there are fewer. One that is there already stays.
     ///
-    /// Refused, with the candidate handed back and nothing changed: `ForeignBar` or `NotMember` for a bar that is not this board's; `Memory`.
+    /// Refused, with the candidate handed back and nothing changed: `ForeignBar` or `NotMember` for a bar that is not this board's; `Memory`,
+    /// also where numbers ran out past 2^64 - 1.
     pub fn insert(&mut self, index: usize, candidate: Candidate<K>) -> Result<BarId, Turned<K>>
         ensures terminal { terminal_of self.new ≡ terminal_of self.old }
         ensures mark { mark_of self.new ≡ mark_of self.old }
         ensures turned { IfErr result (λ t. t.candidate ≡ candidate) }
         ensures leads { (now : ℕ) → LeadsBy K.means T.view self.old self.new (Insert (Index index) (entrant_of candidate)) now (given result) }
+        ensures foreign { NamesForeign (mark_of self.old) (Insert (Index index) (entrant_of candidate)) → (given result ≡ Refused Refusal.ForeignBar) × (self.new ≡ self.old) }
         ensures records { RecordsTake (entrant_of candidate) (given result) self.old self.new }
     {
         let at = index.min(self.shown.members.len());
@@ -189,7 +193,8 @@ impl<K: ProgressTracker, T: TermLike + Drop> Board<K, T> {
 
     /// Takes a bar in where `count` bars stand behind it, or before all others where there are fewer. One that is there already stays.
     ///
-    /// Refused, with the candidate handed back and nothing changed: `ForeignBar` or `NotMember` for a bar that is not this board's; `Memory`.
+    /// Refused, with the candidate handed back and nothing changed: `ForeignBar` or `NotMember` for a bar that is not this board's; `Memory`,
+    /// also where numbers ran out past 2^64 - 1.
     pub fn insert_from_back(
         &mut self,
         count: usize,
@@ -199,6 +204,7 @@ impl<K: ProgressTracker, T: TermLike + Drop> Board<K, T> {
         ensures mark { mark_of self.new ≡ mark_of self.old }
         ensures turned { IfErr result (λ t. t.candidate ≡ candidate) }
         ensures leads { (now : ℕ) → LeadsBy K.means T.view self.old self.new (Insert (FromBack count) (entrant_of candidate)) now (given result) }
+        ensures foreign { NamesForeign (mark_of self.old) (Insert (FromBack count) (entrant_of candidate)) → (given result ≡ Refused Refusal.ForeignBar) × (self.new ≡ self.old) }
         ensures records { RecordsTake (entrant_of candidate) (given result) self.old self.new }
     {
         let at = self.shown.members.len().saturating_sub(count);
@@ -208,7 +214,7 @@ impl<K: ProgressTracker, T: TermLike + Drop> Board<K, T> {
     /// Takes a bar in right before the anchor. One that is there already stays where it is.
     ///
     /// Refused, with the candidate handed back and nothing changed: `ForeignBar` or `NotMember` for the anchor, then for a bar that is not this
-    /// board's; `Memory`.
+    /// board's; `Memory`, also where numbers ran out past 2^64 - 1.
     pub fn insert_before(
         &mut self,
         anchor: BarId,
@@ -218,6 +224,9 @@ impl<K: ProgressTracker, T: TermLike + Drop> Board<K, T> {
         ensures mark { mark_of self.new ≡ mark_of self.old }
         ensures turned { IfErr result (λ t. t.candidate ≡ candidate) }
         ensures leads { (now : ℕ) → LeadsBy K.means T.view self.old self.new (Insert (Before (id_of anchor)) (entrant_of candidate)) now (given result) }
+        ensures foreign { NamesForeign (mark_of self.old) (Insert (Before (id_of anchor)) (entrant_of candidate)) → (given result ≡ Refused Refusal.ForeignBar) × (self.new ≡ self.old) }
+        ensures beside { IsTrue (is_some (record_at anchor.number self.old)) → IsForeign (mark_of self.old) (entrant_of candidate) →
+            (given result ≡ Refused Refusal.ForeignBar) × (self.new ≡ self.old) }
         ensures records { RecordsTake (entrant_of candidate) (given result) self.old self.new }
     {
         let at = match self.find(anchor) {
@@ -230,7 +239,7 @@ impl<K: ProgressTracker, T: TermLike + Drop> Board<K, T> {
     /// Takes a bar in right after the anchor. One that is there already stays where it is.
     ///
     /// Refused, with the candidate handed back and nothing changed: `ForeignBar` or `NotMember` for the anchor, then for a bar that is not this
-    /// board's; `Memory`.
+    /// board's; `Memory`, also where numbers ran out past 2^64 - 1.
     pub fn insert_after(
         &mut self,
         anchor: BarId,
@@ -240,6 +249,9 @@ impl<K: ProgressTracker, T: TermLike + Drop> Board<K, T> {
         ensures mark { mark_of self.new ≡ mark_of self.old }
         ensures turned { IfErr result (λ t. t.candidate ≡ candidate) }
         ensures leads { (now : ℕ) → LeadsBy K.means T.view self.old self.new (Insert (After (id_of anchor)) (entrant_of candidate)) now (given result) }
+        ensures foreign { NamesForeign (mark_of self.old) (Insert (After (id_of anchor)) (entrant_of candidate)) → (given result ≡ Refused Refusal.ForeignBar) × (self.new ≡ self.old) }
+        ensures beside { IsTrue (is_some (record_at anchor.number self.old)) → IsForeign (mark_of self.old) (entrant_of candidate) →
+            (given result ≡ Refused Refusal.ForeignBar) × (self.new ≡ self.old) }
         ensures records { RecordsTake (entrant_of candidate) (given result) self.old self.new }
     {
         let at = match self.find(anchor) {
@@ -262,7 +274,7 @@ impl<K: ProgressTracker, T: TermLike + Drop> Board<K, T> {
             IfOk result (λ bar. bar ≡ (if is_member id.number s.members then Some (said_of other (λ b. b) id.number s.members) else None)) }
         ensures record { id.mark ≡ mark_of self.old → result ≡ Ok (record_at id.number self.old) }
         ensures gone { id.mark ≡ mark_of self.old → record_at id.number self.new ≡ None }
-        ensures others { OthersStay id.number self.old self.new }
+        ensures others { OtherRecordsStay id.number self.old self.new }
     {
         if id.mark != self.mark {
             return Err(Refusal::ForeignBar);
@@ -289,7 +301,7 @@ impl<K: ProgressTracker, T: TermLike + Drop> Board<K, T> {
         ensures foreign { id.mark ≢ mark_of self.old → (result ≡ Err Refusal.ForeignBar) × (self.new ≡ self.old) }
         ensures not_member { id.mark ≡ mark_of self.old → (result ≡ Err Refusal.NotMember) ↔ (record_at id.number self.old ≡ None) }
         ensures gone { id.mark ≡ mark_of self.old → record_at id.number self.new ≡ None }
-        ensures others { OthersStay id.number self.old self.new }
+        ensures others { OtherRecordsStay id.number self.old self.new }
     {
         let at = self.find(id)?;
         let shown = &mut self.shown;
@@ -325,7 +337,7 @@ impl<K: ProgressTracker, T: TermLike + Drop> Board<K, T> {
         ensures beyond { id.mark ≡ mark_of self.old → IsTrue (is_some (record_at id.number self.old)) →
             (result ≡ Err Refusal.ElapsedBeyondClock) ↔ IsTrue (is_beyond_clock (command_of command) now) }
         ensures record { id.mark ≡ mark_of self.old → RecordObeys K.means id.number (command_of command) now result self.old self.new }
-        ensures others { OthersStay id.number self.old self.new }
+        ensures others { OtherRecordsStay id.number self.old self.new }
     {
         let at = self.find(id)?;
         let shown = &mut self.shown;
@@ -418,7 +430,8 @@ impl<K: ProgressTracker, T: TermLike + Drop> Board<K, T> {
         ensures nowhere { IsNowhere T.view self.old → terminal_of self.new ≡ terminal_of self.old }
         ensures mark { mark_of self.new ≡ mark_of self.old }
         ensures leads { LeadsBy K.means T.view self.old self.new (call_of call) now (answer_of result) }
-        ensures records { RecordsGo K.means (call_of call) now (answer_of result) self.old self.new }
+        ensures foreign { NamesForeign (mark_of self.old) (call_of call) → (answer_of result ≡ Refused Refusal.ForeignBar) × (self.new ≡ self.old) }
+        ensures records { RecordsChange K.means (call_of call) now (answer_of result) self.old self.new }
     {
         match call {
             Call::Insert { at, candidate } => self.insert_by(at, candidate),
@@ -437,7 +450,8 @@ impl<K: ProgressTracker, T: TermLike + Drop> Board<K, T> {
     }
 
     /// Makes the calls one after another, each at its moment, and answers what each answered. No calls change nothing, and are never
-    /// refused.
+    /// refused. A call that names another board's bar is answered so, and changes nothing. A bar that none of the calls removes,
+    /// drops or tells something keeps its record.
     ///
     /// Refused: `Memory` for the answers alone, and nothing is run.
     pub fn run(&mut self, calls: Vec<(Call<K>, Moment)>) -> Result<Vec<Answer>, Refusal>
@@ -451,6 +465,9 @@ impl<K: ProgressTracker, T: TermLike + Drop> Board<K, T> {
             terminal_of self.new ≡ terminal_of self.old) }
         ensures nowhere { IsNowhere T.view self.old → terminal_of self.new ≡ terminal_of self.old }
         ensures mark { mark_of self.new ≡ mark_of self.old }
+        ensures foreign { IfOk result (λ answers. AreTurnedAway (mark_of self.old) (map timed calls.items) (map answer_of answers.items)) }
+        ensures records { (number : ℕ) → IsFalse (list_any (λ call. acts_on (mark_of self.old) number (call_of call.0)) calls.items) →
+            IfOk result (λ answers. StaysOrComes number answers.items self.old self.new) }
         ensures idle { vec_len calls ≡ 0 → IsTrue (is_ok result) × (self.new ≡ self.old) }
         ensures memory { IfErr result (λ e. e ≡ Refusal.Memory) }
         ensures unrun { OnErr result (self.new ≡ self.old) }
@@ -472,6 +489,7 @@ impl<K: ProgressTracker, T: TermLike + Drop> Board<K, T> {
         ensures terminal { terminal_of self.new ≡ terminal_of self.old }
         ensures mark { mark_of self.new ≡ mark_of self.old }
         ensures leads { (now : ℕ) → LeadsBy K.means T.view self.old self.new (Insert (place_at at) (entrant_of candidate)) now (answer_of result) }
+        ensures foreign { NamesForeign (mark_of self.old) (Insert (place_at at) (entrant_of candidate)) → (answer_of result ≡ Refused Refusal.ForeignBar) × (self.new ≡ self.old) }
         ensures records { RecordsTake (entrant_of candidate) (answer_of result) self.old self.new }
     {
         match at {
@@ -494,6 +512,7 @@ impl<K: ProgressTracker, T: TermLike + Drop> Board<K, T> {
         ensures mark { mark_of self.new ≡ mark_of self.old }
         ensures turned { IfErr result (λ t. t.candidate ≡ candidate) }
         ensures quiet { IsFalse (wrote (drawn_of (given result))) }
+        ensures foreign { IsForeign (mark_of self.old) (entrant_of candidate) → (given result ≡ Refused Refusal.ForeignBar) × (self.new ≡ self.old) }
         ensures records { RecordsTake (entrant_of candidate) (given result) self.old self.new }
         ensures inserted { (mark : ℕ) (s : BoardState (BarRecord K)) (spot : Location) → IsIn mark self.old s → at ≡ index_of spot s.members →
             (next : BoardState (BarRecord K)) × IsIn mark self.new next × (next.lists ≡ s.lists)
@@ -530,7 +549,7 @@ impl<K: ProgressTracker, T: TermLike + Drop> Board<K, T> {
             let next = parted target number drawn.now s in
             IsIn mark self.new next × RestsOn target.columns s.lists next.lists }
         ensures gone { record_at number self.new ≡ None }
-        ensures others { OthersStay number self.old self.new }
+        ensures others { OtherRecordsStay number self.old self.new }
     {
         if !is_undisturbed(drawn) {
             self.shown.mark(number);

@@ -2,7 +2,7 @@
 ghost use Rattle.std.specs.Prelude.{◌≡◌, ◌⊎◌, ◌+◌, ◌%◌, ◌^◌, Some, None, IfOk, IsTrue, IsFalse, is_some, string_bytes, vec_len};
 ghost use Rattle.indicatif_bar.specs.Commands.{BarRecord};
 ghost use Rattle.indicatif_bar.specs.LoneBars.{record_of, lone_terminal};
-ghost use Rattle.indicatif_board.specs.Multi.{mark_of, record_at, OthersStay};
+ghost use Rattle.indicatif_board.specs.Multi.{mark_of, record_at, OtherRecordsStay};
 
 use indicatif_bar::lone::{LoneBar, LoneCall};
 use indicatif_bar::state::BarCommand;
@@ -68,7 +68,7 @@ pub fn step_on<K: ProgressTracker, T: TermLike + Drop>(
 ) -> Result<Drawn, Refusal>
     ensures step { (bar : BarRecord K) → id.mark ≡ mark_of board.old → record_at id.number board.old ≡ Some bar →
         (next : BarRecord K) × (record_at id.number board.new ≡ Some next) × (next.progress.position ≡ (bar.progress.position + 1) % 2 ^ 64) }
-    ensures others { OthersStay id.number board.old board.new }
+    ensures others { OtherRecordsStay id.number board.old board.new }
 {
     board.command(id, BarCommand::Inc(1), now)
 }
@@ -82,7 +82,7 @@ pub fn say_on<K: ProgressTracker, T: TermLike + Drop>(
 ) -> Result<Drawn, Refusal>
     ensures message { (bar : BarRecord K) → id.mark ≡ mark_of board.old → record_at id.number board.old ≡ Some bar →
         (next : BarRecord K) × (record_at id.number board.new ≡ Some next) × ((next.progress.message ≡ string_bytes text) ⊎ (next ≡ bar)) }
-    ensures others { OthersStay id.number board.old board.new }
+    ensures others { OtherRecordsStay id.number board.old board.new }
 {
     board.command(id, BarCommand::SetMessage(text), now)
 }

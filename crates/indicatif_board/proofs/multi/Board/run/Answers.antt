@@ -1,4 +1,4 @@
-use Rattle.std.proofs.Common.{[], ◌∷◌, map, refl, sym, ◌∙◌, ap, subst, arith, length-append, option_map}
+use Rattle.std.proofs.Common.{ℕ, [], ◌∷◌, map, inl, refl, sym, ◌∙◌, ap, subst, arith, length-append, option_map}
 use Rattle.std.specs.Prelude.{vec_len}
 use Rattle.std.specs.List.{list_any}
 use Rattle.std.proofs.lemmas.Bool.{eqb-true, or_parts}
@@ -12,8 +12,10 @@ use Rattle.indicatif_bar.proofs.LoneRunLemmas.{any-push}
 use Rattle.indicatif_board.specs.BoardBars.{board_bars}
 use Rattle.indicatif_board.specs.Boards.{drawn_of, board}
 use Rattle.indicatif_board.specs.declared.calls.Answer.{Answer as AnswerValue}
-use Rattle.indicatif_board.specs.Calls.{timed, answer_of}
-use Rattle.indicatif_board.specs.Multi.{known}
+use Rattle.indicatif_board.specs.declared.calls.Call.{Call as CallValue}
+use Rattle.indicatif_board.specs.Calls.{timed, call_of, answer_of, AreTurnedAway, NamesForeign, acts_on}
+use Rattle.indicatif_board.specs.Multi.{known, mark_of, StaysOrComes}
+use Rattle.indicatif_board.proofs.RunRecordLemmas.{turned_more, records_more}
 use Rattle.indicatif_board.proofs.multi.Board.run.Goals as goal
 
 pub returns-then-is_empty-clause-run : goal.returns-then-is_empty-clause-run
@@ -34,6 +36,8 @@ loop-call-init g c = record {
       (s, inside, subst (λ xs. Runs (board (board_bars g.K.ProgressTracker.means) mark) [] (map answer_of xs) old s old s) (sym c.in_ok-answers.ensures.items) (refl, refl));
   silent = λ quiet. refl;
   nowhere = λ none. refl;
+  foreign = subst (λ xs. AreTurnedAway {K = g.row.K.Denot} (mark_of c.args.self.now) [] (map answer_of xs)) (sym c.in_ok-answers.ensures.items) tt;
+  records = λ number apart. inl refl;
   mark = refl;
 }
 
@@ -65,6 +69,16 @@ loop-call-preserved g c = record {
   nowhere = λ none.
       let same = c.loop-call.invariant.nowhere none in
       c.call-answer.ensures.nowhere (ap (λ o. (target_of (option_map g.T.TermLike.view o)).columns) same ∙ none) ∙ same;
+  foreign = rw (c.push_reserved.ensures.items, map-append, map-append)
+      (turned_more (mark_of c.args.self.now) (map timed c.loop-call.yielded) (map answer_of c.loop-call.answers.items) (timed (c.in-Some.call, c.in-Some.now)) (answer_of c.call-answer.result)
+      c.loop-call.invariant.foreign (λ foreign. (c.call-answer.ensures.foreign (subst (λ mark. NamesForeign mark (call_of c.in-Some.call)) (sym c.loop-call.invariant.mark) foreign)).0));
+  records = λ number apart.
+      let tracks = g.K.ProgressTracker.means in
+      let acted = λ (call : CallValue g.row.K.Denot × ℕ). acts_on (mark_of c.args.self.now) number (call_of call.0) in
+      let parts = or_parts (list_any acted c.loop-call.yielded) (acted (c.in-Some.call, c.in-Some.now)) (sym (any-push acted c.loop-call.yielded (c.in-Some.call, c.in-Some.now)) ∙ apart) in
+      subst (λ xs. StaysOrComes number xs c.args.self.now c.call-answer.new.self) (sym c.push_reserved.ensures.items)
+      (records_more tracks number c.loop-call.answers.items (call_of c.in-Some.call) c.in-Some.now c.call-answer.result c.args.self.now c.loop-call.self c.call-answer.new.self
+      (c.loop-call.invariant.records number parts.0) c.call-answer.ensures.records (ap (λ mark. acts_on mark number (call_of c.in-Some.call)) c.loop-call.invariant.mark ∙ parts.1));
   mark = c.call-answer.ensures.mark ∙ c.loop-call.invariant.mark;
 }
 
@@ -81,3 +95,28 @@ returns-clause-run g c =
     let answers = map answer_of c.loop-call.answers.items in
     let run = subst (λ xs. Runs machine (map timed xs) answers old s new all.0) (sym (map-id c.loop-call.yielded) ∙ t.0) all.2 in
     (all.0, all.1, run, headline machine (map timed c.args.calls.items) answers old s new all.0 run)
+
+pub returns-then-is_empty-clause-foreign : goal.returns-then-is_empty-clause-foreign
+returns-then-is_empty-clause-foreign g c =
+    let none = nothing c.args.calls.items (omega (arith, eqb-true (vec_len c.args.calls) 0 (sym c.is_empty.ensures ∙ c.if-is_empty.true), c.args.calls.ok)) in
+    subst (λ xs. AreTurnedAway {K = g.row.K.Denot} (mark_of c.args.self.now) (map timed xs) (map answer_of c.new.result.items)) (sym none)
+    (subst (λ xs. AreTurnedAway {K = g.row.K.Denot} (mark_of c.args.self.now) [] (map answer_of xs)) (sym c.new.ensures.items) tt)
+
+pub returns-then-is_empty-clause-records : goal.returns-then-is_empty-clause-records
+returns-then-is_empty-clause-records g c = λ number apart. inl refl
+
+pub returns-clause-foreign : goal.returns-clause-foreign
+returns-clause-foreign g c =
+    let t = YieldsList-end (YieldsList-from_vec c.args.calls.items c.into_iter-call-iterator.ensures.into_iter_gives.0
+    (omega (arith, c.into_iter-call-iterator.ensures.into_iter_gives.1, c.args.calls.ok))) c.loop-call.yielded c.loop-call.call-iterator c.loop-call.yielded_by c.next.result c.next.new.self
+    c.in-None.is c.next.ensures.steps in
+    subst (λ xs. AreTurnedAway {K = g.row.K.Denot} (mark_of c.args.self.now) (map timed xs) (map answer_of c.loop-call.answers.items)) (sym (map-id c.loop-call.yielded) ∙ t.0) c.loop-call.invariant.foreign
+
+pub returns-clause-records : goal.returns-clause-records
+returns-clause-records g c =
+    let t = YieldsList-end (YieldsList-from_vec c.args.calls.items c.into_iter-call-iterator.ensures.into_iter_gives.0
+    (omega (arith, c.into_iter-call-iterator.ensures.into_iter_gives.1, c.args.calls.ok))) c.loop-call.yielded c.loop-call.call-iterator c.loop-call.yielded_by c.next.result c.next.new.self
+    c.in-None.is c.next.ensures.steps in
+    λ number apart.
+    let acted = λ (call : CallValue g.row.K.Denot × ℕ). acts_on (mark_of c.args.self.now) number (call_of call.0) in
+    c.loop-call.invariant.records number (ap (list_any acted) (sym (map-id c.loop-call.yielded) ∙ t.0) ∙ apart)

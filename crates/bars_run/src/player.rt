@@ -1,6 +1,6 @@
 //! A board in memory, and what a command does on it.
 use crate::arguments::Asked;
-use crate::commands::{Command, Deed};
+use crate::commands::{BarAction, Command};
 use indicatif_bar::state::{BarCommand, BarState, ProgressFinish};
 use indicatif_bar::style::{NoTracker, ProgressStyle};
 use indicatif_board::multi::{Answer, BarId, Board, Call, Candidate, InsertLocation};
@@ -11,7 +11,7 @@ use std::alloc::Global;
 
 /// A board on a terminal in memory, without a limiter, and how many bars it was given. All happens at the moment 0.
 #[derive(Drop)]
-pub struct Stage {
+pub struct Player {
     alloc: Global,
     board: Board<NoTracker, InMemoryTerm>,
     given: u64,
@@ -23,20 +23,20 @@ const MARK: u64 = 0;
 /// When all happens.
 const NOW: Moment = 0;
 
-impl Stage {
+impl Player {
     /// A board without bars on an empty terminal.
     ///
     /// Refused: `ZeroSize` where the terminal would have no cells, or `Memory`.
-    pub fn new(alloc: Global, asked: Asked) -> Result<Stage, Refusal> {
+    pub fn new(alloc: Global, asked: Asked) -> Result<Player, Refusal> {
         let term = InMemoryTerm::new(alloc, asked.rows, asked.columns)?;
         let board = Board::new(alloc, ProgressDrawTarget::term_like(term), MARK);
-        let mut stage = Stage {
+        let mut player = Player {
             alloc,
             board,
             given: 0,
         };
-        stage.make(Call::Align(asked.alignment))?;
-        Ok(stage)
+        player.make(Call::Align(asked.alignment))?;
+        Ok(player)
     }
 
     /// Does what a command says.
@@ -80,7 +80,7 @@ impl Stage {
             }
             Command::Log(text) => Ok(Call::Log(String::from_str(self.alloc, text)?)),
             Command::Clear => Ok(Call::Clear),
-            Command::Bar(number, deed) => bar_call(self.alloc, self.id_of(number)?, deed),
+            Command::Bar(number, action) => bar_call(self.alloc, self.id_of(number)?, action),
         }
     }
 
@@ -97,15 +97,15 @@ impl Stage {
 }
 
 /// The board's call for what is done to a bar.
-fn bar_call(alloc: Global, id: BarId, deed: Deed<'_>) -> Result<Call<NoTracker>, Refusal> {
-    let command = match deed {
-        Deed::Drop => return Ok(Call::Drop(id)),
-        Deed::Remove => return Ok(Call::Remove(id)),
-        Deed::Message(text) => BarCommand::SetMessage(String::from_str(alloc, text)?),
-        Deed::Tick => BarCommand::Tick,
-        Deed::Finish => BarCommand::Finish(ProgressFinish::AndLeave),
-        Deed::Hide => BarCommand::Finish(ProgressFinish::AndClear),
-        Deed::Abandon => BarCommand::Finish(ProgressFinish::Abandon),
+fn bar_call(alloc: Global, id: BarId, action: BarAction<'_>) -> Result<Call<NoTracker>, Refusal> {
+    let command = match action {
+        BarAction::Drop => return Ok(Call::Drop(id)),
+        BarAction::Remove => return Ok(Call::Remove(id)),
+        BarAction::Message(text) => BarCommand::SetMessage(String::from_str(alloc, text)?),
+        BarAction::Tick => BarCommand::Tick,
+        BarAction::Finish => BarCommand::Finish(ProgressFinish::AndLeave),
+        BarAction::Hide => BarCommand::Finish(ProgressFinish::AndClear),
+        BarAction::Abandon => BarCommand::Finish(ProgressFinish::Abandon),
     };
     Ok(Call::Bar(id, command))
 }

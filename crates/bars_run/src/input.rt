@@ -1,0 +1,17 @@
+//! What a run reads from.
+use std::io;
+use std::io::{ErrorKind, Read};
+
+/// A reader that never fails for want of memory: such a failure of the reader within is one of the input, as any other is, so
+/// that want of memory is always a line's that found no room.
+#[derive(Drop)]
+pub struct Input<R: Drop>(pub R);
+
+impl<R: Read + Drop> Read for Input<R> {
+    fn read(&mut self, buf: &mut [u8]) -> io::Result<usize> {
+        match self.0.read(buf) {
+            Err(e) if e.kind() == ErrorKind::OutOfMemory => Err(io::Error::from(ErrorKind::Other)),
+            done => done,
+        }
+    }
+}
