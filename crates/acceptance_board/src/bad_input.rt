@@ -1,6 +1,7 @@
 //! Commands, arguments and sizes that are refused. What stood before isn't printed then.
-use crate::runs::{Run, Said, all_as_wanted, ran};
+use crate::runs::{Run, Said, all_as_wanted, as_wanted, ran};
 use std::alloc::Global;
+use std::process::Abort;
 use std::test::Fail;
 
 const USAGE: &str = "usage: bars demo | bars run ROWS COLS [bottom]\n";
@@ -86,18 +87,27 @@ fn long_number(alloc: Global, digit: u8, last: u8) -> Result<Vec<u8>, Fail> {
     Ok(input)
 }
 
+/// A program with this input prints this, says this, and has this status.
+fn answers(
+    rt: &impl Abort,
+    alloc: Global,
+    input: &[u8],
+    printed: &[u8],
+    said: (&str, u8),
+) -> Result<(), Fail> {
+    let mut out: Vec<u8> = Vec::new(alloc);
+    let found = ran(alloc, "run 4 10", input, &mut out)?;
+    assert!(rt; found.is(said.0, said.1));
+    assert!(rt; out.as_slice() == printed);
+    Ok(())
+}
+
 #[test]
 fn numbers_of_a_thousand_digits(rt: HostRuntime) -> Result<(), Fail> {
-    let mut out: Vec<u8> = Vec::new(rt.alloc());
     let input = long_number(rt.alloc(), b'9', b'9')?;
-    let said = ran(rt.alloc(), "run 4 10", input.as_slice(), &mut out)?;
-    assert!(rt; said.is("bars: line 2: E9\n", 1));
-    assert!(rt; out.is_empty());
+    answers(&rt, rt.alloc(), &input, b"", ("bars: line 2: E9\n", 1))?;
     let input = long_number(rt.alloc(), b'0', b'1')?;
-    let said = ran(rt.alloc(), "run 4 10", input.as_slice(), &mut out)?;
-    assert!(rt; said.is("", 0));
-    assert!(rt; out.as_slice() == b"b\n".as_slice());
-    Ok(())
+    answers(&rt, rt.alloc(), &input, b"b\n", ("", 0))
 }
 
 #[test]
@@ -156,10 +166,8 @@ fn wrong_arguments(rt: HostRuntime) -> Result<(), Fail> {
         "demo demo",
     ];
     for words in words {
-        let mut out: Vec<u8> = Vec::new(rt.alloc());
-        let said = ran(rt.alloc(), words, b"foo\n".as_slice(), &mut out)?;
-        assert!(rt; said.is(USAGE, 2), "of {words:?}");
-        assert!(rt; out.is_empty());
+        let run = Run::failing(words, b"foo\n", USAGE, 2);
+        as_wanted(&rt, rt.alloc(), &run)?;
     }
     Ok(())
 }

@@ -86,10 +86,16 @@ fn is_as_wanted(alloc: Global, run: &Run) -> Result<bool, AllocError> {
     Ok(said.is(run.err, run.status) && out.as_slice() == run.out.as_bytes())
 }
 
+/// The run prints and says what it is to.
+pub fn as_wanted(rt: &impl Abort, alloc: Global, run: &Run) -> Result<(), Fail> {
+    assert!(rt; is_as_wanted(alloc, run)?, "of {run:?}");
+    Ok(())
+}
+
 /// All runs print and say what they are to.
 pub fn all_as_wanted(rt: &impl Abort, alloc: Global, runs: &[Run]) -> Result<(), Fail> {
     for run in runs {
-        assert!(rt; is_as_wanted(alloc, run)?, "of {run:?}");
+        as_wanted(rt, alloc, run)?;
     }
     Ok(())
 }

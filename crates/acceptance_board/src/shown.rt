@@ -2,7 +2,7 @@
 //! stands in a box, so that each way out of a test drops it by one call.
 use indicatif_bar::state::{BarCommand, BarState, ProgressFinish};
 use indicatif_bar::style::{NoTracker, ProgressStyle};
-use indicatif_board::multi::{BarId, Board, Candidate, InsertLocation};
+use indicatif_board::multi::{BarId, Board, Candidate, InsertLocation, Turned};
 use indicatif_term::draw_target::ProgressDrawTarget;
 use indicatif_term::in_memory::InMemoryTerm;
 use indicatif_text::columns::{Drawn, Refusal};
@@ -21,18 +21,38 @@ pub struct Shown {
     board: Box<Board<NoTracker, InMemoryTerm>>,
 }
 
-/// A bar that shows its message, which is this.
-fn bar_saying(alloc: Global, text: &str) -> Result<BarState<NoTracker>, Refusal> {
+/// A bar that shows its message, in a box: each way out of a function drops it by one call.
+fn plain_bar(alloc: Global) -> Result<Box<BarState<NoTracker>>, Refusal> {
     let style = ProgressStyle::with_template(alloc, "{msg}")?;
-    let mut bar = BarState::styled(alloc, style, None, 0)?;
+    Ok(Box::new(alloc, BarState::styled(alloc, style, None, 0)?)?)
+}
+
+/// A bar that shows its message, which is this, to be taken in.
+pub fn bar_saying(alloc: Global, text: &str) -> Result<Candidate<NoTracker>, Refusal> {
+    let mut bar = plain_bar(alloc)?;
     bar.with_message(text, 0)?;
-    Ok(bar)
+    Ok(Candidate::New(Box::into_inner(bar)))
 }
 
 /// A target of this size.
-fn target(alloc: Global, size: (u16, u16)) -> Result<ProgressDrawTarget<InMemoryTerm>, Refusal> {
+pub fn target(
+    alloc: Global,
+    size: (u16, u16),
+) -> Result<ProgressDrawTarget<InMemoryTerm>, Refusal> {
     let term = InMemoryTerm::new(alloc, size.0, size.1)?;
     Ok(ProgressDrawTarget::term_like(term))
+}
+
+/// Why a candidate was turned away; it is given up.
+fn refusal_of(turned: Turned<NoTracker>) -> Refusal {
+    let Turned { candidate, refusal } = turned;
+    drop(candidate);
+    refusal
+}
+
+/// Whether there was one; it is given up.
+fn is_given_up<B: Drop>(found: Option<B>) -> bool {
+    found.is_some()
 }
 
 impl Shown {
@@ -70,7 +90,7 @@ impl Shown {
 
     /// Takes a new bar that says this in at a place.
     pub fn insert(&mut self, at: InsertLocation, text: &str) -> Result<BarId, Refusal> {
-        let candidate = Candidate::New(bar_saying(self.alloc, text)?);
+        let candidate = bar_saying(self.alloc, text)?;
         self.take_in(at, candidate)
     }
 
@@ -84,19 +104,26 @@ impl Shown {
         at: InsertLocation,
         candidate: Candidate<NoTracker>,
     ) -> Result<BarId, Refusal> {
-        let taken = match at {
+        self.taken(at, candidate).map_err(refusal_of)
+    }
+
+    fn taken(
+        &mut self,
+        at: InsertLocation,
+        candidate: Candidate<NoTracker>,
+    ) -> Result<BarId, Turned<NoTracker>> {
+        match at {
             InsertLocation::End => self.board.add(candidate),
             InsertLocation::Index(index) => self.board.insert(index, candidate),
             InsertLocation::FromBack(count) => self.board.insert_from_back(count, candidate),
             InsertLocation::Before(anchor) => self.board.insert_before(anchor, candidate),
             InsertLocation::After(anchor) => self.board.insert_after(anchor, candidate),
-        };
-        taken.map_err(|turned| turned.refusal)
+        }
     }
 
     /// Takes a bar out, and tells whether it was there.
     pub fn remove(&mut self, id: BarId) -> Result<bool, Refusal> {
-        Ok(self.board.remove(id)?.is_some())
+        Ok(is_given_up(self.board.remove(id)?))
     }
 
     pub fn drop_bar(&mut self, id: BarId) -> Result<Drawn, Refusal> {

@@ -5,10 +5,11 @@
 use crate::cells::picture_of;
 use crate::commands::{Timed, call_of};
 use crate::kinds::Verdict;
+use crate::lines::{length_of, style_of};
 use crate::rows::{BadRow, Row, parsed, push_spelt};
 use indicatif_bar::lone::LoneBar;
 use indicatif_bar::state::{BarState, ProgressState, Rate};
-use indicatif_bar::style::{NoTracker, ProgressStyle};
+use indicatif_bar::style::NoTracker;
 use indicatif_term::draw_target::ProgressDrawTarget;
 use indicatif_term::in_memory::InMemoryTerm;
 use indicatif_text::columns::{Drawn, Moment, Refusal};
@@ -17,17 +18,20 @@ use std::alloc::Global;
 /// A bar on a terminal in memory.
 type Shown = LoneBar<NoTracker, InMemoryTerm>;
 
+/// What it draws on.
+type Target = ProgressDrawTarget<InMemoryTerm>;
+
 /// How many columns tell what became of the calls.
 const TOLD: usize = 10;
 
-// What is known of a bar isn't carried through a whole row: a function makes it, and others, which are lent it, go on.
+// What is known of a bar isn't carried through a whole row: a function makes it, and others, which are lent it, go on. It
+// stands in a box, so that each way out of a function drops it by one call.
 
 /// Asks the product.
 pub fn calls_agree(alloc: Global, mut row: Row<'_>) -> Result<Verdict, BadRow> {
     let rate = parsed(row.column()?)?;
     let making = parsed(row.column()?)?;
-    let target = target_of(alloc, &mut row, rate, making)?;
-    let mut bar = bar_on(alloc, &mut row, making, target)?;
+    let mut bar = bar_of(alloc, &mut row, rate, making)?;
     played(alloc, &mut row, &mut bar, making)
 }
 
@@ -67,15 +71,17 @@ fn last_moment(calls: &[Timed], making: Moment) -> Moment {
     }
 }
 
-/// The row's bar on this target.
-fn bar_on(
+/// The row's bar, on a target of this rate.
+fn bar_of(
     alloc: Global,
     row: &mut Row<'_>,
+    rate: u8,
     making: Moment,
-    target: ProgressDrawTarget<InMemoryTerm>,
-) -> Result<Shown, BadRow> {
+) -> Result<Box<Shown>, BadRow> {
+    let target = target_of(alloc, row, rate, making)?;
     let state = state_of(alloc, row, making)?;
-    Ok(LoneBar::new(state, target))
+    let bar = LoneBar::new(Box::into_inner(state), Box::into_inner(target));
+    Ok(Box::new(alloc, bar)?)
 }
 
 fn answers_of(bar: &mut Shown, calls: Vec<Timed>) -> Result<Vec<Result<Drawn, Refusal>>, BadRow> {
@@ -92,14 +98,15 @@ fn target_of(
     row: &mut Row<'_>,
     rate: u8,
     making: Moment,
-) -> Result<ProgressDrawTarget<InMemoryTerm>, BadRow> {
+) -> Result<Box<Target>, BadRow> {
     let rows = parsed(row.column()?)?;
     let cols = parsed(row.column()?)?;
     let term = InMemoryTerm::new(alloc, rows, cols)?;
-    match rate {
-        0 => Ok(ProgressDrawTarget::term_like(term)),
-        rate => Ok(ProgressDrawTarget::term_like_with_hz(term, rate, making)?),
-    }
+    let target = match rate {
+        0 => ProgressDrawTarget::term_like(term),
+        rate => ProgressDrawTarget::term_like_with_hz(term, rate, making)?,
+    };
+    Ok(Box::new(alloc, target)?)
 }
 
 /// A bar of the row's template and length.
@@ -107,14 +114,11 @@ fn state_of(
     alloc: Global,
     row: &mut Row<'_>,
     making: Moment,
-) -> Result<BarState<NoTracker>, BadRow> {
-    let template = row.text(alloc)?;
-    let style = ProgressStyle::with_template(alloc, template.as_str())?;
-    let len = match row.column()? {
-        "-" => None,
-        len => Some(parsed(len)?),
-    };
-    Ok(BarState::styled(alloc, style, len, making)?)
+) -> Result<Box<BarState<NoTracker>>, BadRow> {
+    let style = style_of(alloc, row)?;
+    let len = length_of(row)?;
+    let state = BarState::styled(alloc, Box::into_inner(style), len, making)?;
+    Ok(Box::new(alloc, state)?)
 }
 
 /// The calls of a column.
@@ -142,13 +146,13 @@ fn push_answers(out: &mut String, answers: &[Result<Drawn, Refusal>]) -> Result<
         if !out.is_empty() {
             out.push(' ')?;
         }
-        match answer {
-            Ok(Drawn::Yes) => out.push('Y')?,
-            Ok(Drawn::Limited) => out.push('L')?,
-            Ok(Drawn::Hidden) => out.push('H')?,
-            Err(Refusal::ElapsedBeyondClock) => out.push_str("E10")?,
+        out.push_str(match answer {
+            Ok(Drawn::Yes) => "Y",
+            Ok(Drawn::Limited) => "L",
+            Ok(Drawn::Hidden) => "H",
+            Err(Refusal::ElapsedBeyondClock) => "E10",
             Err(e) => return Err(BadRow::Refused(*e)),
-        }
+        })?;
     }
     out.push('\t')?;
     Ok(())

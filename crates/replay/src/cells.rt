@@ -14,20 +14,34 @@ struct Size {
 
 /// Asks the product with the bytes whole, byte by byte, and cut in two at each byte. A row with a resize is skipped.
 pub fn cells_agree(alloc: Global, mut row: Row<'_>) -> Result<Verdict, BadRow> {
-    let rows = size_of(row.number()?)?;
-    let cols = size_of(row.number()?)?;
+    let size = Size {
+        rows: size_of(row.number()?)?,
+        cols: size_of(row.number()?)?,
+    };
     let bytes = row.bytes(alloc)?;
     if row.column()? != "-" {
         return Ok(Verdict::Skipped);
     }
     row.column()?;
+    compared(alloc, size, &bytes, told(alloc, &mut row)?)
+}
+
+fn size_of(number: usize) -> Result<u16, BadRow> {
+    u16::try_from(number).map_err(|_| BadRow::Number)
+}
+
+/// The picture, the contents and the cursor that the row has.
+fn told(alloc: Global, row: &mut Row<'_>) -> Result<String, BadRow> {
     let picture = row.text(alloc)?;
     let contents = row.text(alloc)?;
     let cursor = row.column()?;
-    let wanted = format!(in alloc; "{picture}\t{contents}\t{cursor}")?;
-    let size = Size { rows, cols };
+    Ok(format!(in alloc; "{picture}\t{contents}\t{cursor}")?)
+}
+
+/// What becomes of a row of these bytes, after which this is wanted.
+fn compared(alloc: Global, size: Size, bytes: &[u8], wanted: String) -> Result<Verdict, BadRow> {
     for part in 0..=bytes.len() {
-        let got = shown(alloc, size, &bytes, part)?;
+        let got = shown(alloc, size, bytes, part)?;
         if got.as_str() != wanted.as_str() {
             return Ok(Verdict::Differs(got));
         }
@@ -35,26 +49,40 @@ pub fn cells_agree(alloc: Global, mut row: Row<'_>) -> Result<Verdict, BadRow> {
     Ok(Verdict::Agrees)
 }
 
-fn size_of(number: usize) -> Result<u16, BadRow> {
-    u16::try_from(number).map_err(|_| BadRow::Number)
-}
-
 /// The picture, the contents and the cursor after these bytes, fed in two parts of which the first has `part` bytes;
 /// where that is none, byte by byte.
 fn shown(alloc: Global, size: Size, bytes: &[u8], part: usize) -> Result<String, BadRow> {
-    let mut cells = Cells::new(alloc, size.rows, size.cols)?;
+    let mut cells = terminal(alloc, size)?;
     if part == 0 {
-        for byte in bytes.chunks(1) {
-            cells.feed(byte).map_err(|e| e.1)?;
-        }
+        feed_single(&mut cells, bytes)?;
     } else {
-        cells
-            .feed(&bytes[..part.min(bytes.len())])
-            .map_err(|e| e.1)?;
-        cells
-            .feed(&bytes[part.min(bytes.len())..])
-            .map_err(|e| e.1)?;
+        let part = part.min(bytes.len());
+        feed(&mut cells, &bytes[..part])?;
+        feed(&mut cells, &bytes[part..])?;
     }
+    reading_of(alloc, &cells)
+}
+
+/// A terminal in a box: each way out of a function drops it by one call.
+fn terminal(alloc: Global, size: Size) -> Result<Box<Cells>, BadRow> {
+    Ok(Box::new(alloc, Cells::new(alloc, size.rows, size.cols)?)?)
+}
+
+fn feed(cells: &mut Cells, bytes: &[u8]) -> Result<(), BadRow> {
+    cells.feed(bytes).map_err(|e| e.1)?;
+    Ok(())
+}
+
+/// Feeds these bytes one by one.
+fn feed_single(cells: &mut Cells, bytes: &[u8]) -> Result<(), BadRow> {
+    for byte in bytes.chunks(1) {
+        feed(cells, byte)?;
+    }
+    Ok(())
+}
+
+/// The picture, the contents and the cursor.
+fn reading_of(alloc: Global, cells: &Cells) -> Result<String, BadRow> {
     let picture = picture_of(alloc, &cells.picture()?)?;
     let contents = cells.contents()?;
     let (row, column) = cells.cursor();
