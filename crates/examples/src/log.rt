@@ -8,7 +8,10 @@ fn copy_all(rt: &HostRuntime, bar: &mut LoneBar<NoTracker, InMemoryTerm>) -> Res
         bar.println(format!(in rt.alloc(); "copied {name}")?.as_str(), 0)?;
         bar.set_message(format!(in rt.alloc(); "copying\n{done} of 4")?.as_str(), 0)?;
     }
-    let term = bar.term().ok_or(anyhow!("no terminal"))?;
+    show(rt, bar.term().ok_or(anyhow!("no terminal"))?)
+}
+
+fn show(rt: &HostRuntime, term: &InMemoryTerm) -> Result<()> {
     println!(rt; "{}\n-- and all rows:", term.contents()?)?;
     for row in term.picture()? {
         println!(rt; "{row}")?;
@@ -19,8 +22,6 @@ fn copy_all(rt: &HostRuntime, bar: &mut LoneBar<NoTracker, InMemoryTerm>) -> Res
 pub fn main(rt: &HostRuntime) -> Result<()> {
     let target = ProgressDrawTarget::term_like(InMemoryTerm::new(rt.alloc(), 4, 20)?);
     let style = ProgressStyle::with_template(rt.alloc(), "{msg}")?;
-    copy_all(
-        rt,
-        &mut LoneBar::new(BarState::styled(rt.alloc(), style, None, 0)?, target),
-    )
+    let bar = BarState::styled(rt.alloc(), style, None, 0)?;
+    copy_all(rt, &mut LoneBar::new(bar, target))
 }
