@@ -14,7 +14,7 @@ use Rattle.indicatif_board.specs.declared.calls.Answer.TheVariants as answer
 use Rattle.indicatif_board.specs.Multi.{LeadsBy}
 use Rattle.indicatif_board.specs.Recorded.{Record, IsOneRun, AddsCall}
 use Rattle.indicatif_board.specs.declared.multi.Board.{Board}
-use Rattle.indicatif.specs.Kept.{KeptDraws, KeptRemoves, KeptSuspends, refusal_of}
+use Rattle.indicatif.specs.Inside.Kept.{KeptDraws, KeptRemoves, KeptSuspends, refusal_of}
 use Rattle.indicatif.specs.declared.progress_bar.kept.Kept.{Kept}
 use Rattle.indicatif.specs.declared.progress_bar.kept.Kept.TheVariants as kept
 use Rattle.indicatif.specs.SharedBoards.{SharedCall, IsSomewhere, BoardCan, SharedAnswers}

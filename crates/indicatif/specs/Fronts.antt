@@ -1,5 +1,5 @@
 -- Bars that are shared: what a call under their lock does, and which answers one can give.
-use Rattle.std.specs.Prelude.{◌≡◌, ◌≢◌, ◌⊎◌, ℕ, ◌+◌, ◌-◌, ◌<◌, ◌^◌, Bool, true, false, Result, Ok, Err}
+use Rattle.std.specs.Prelude.{◌≡◌, ◌⊎◌, ℕ, ◌-◌, Result, Ok, Err}
 use Rattle.indicatif_text.specs.declared.refusal.Refusal.{Refusal}
 use Rattle.indicatif_text.specs.declared.refusal.Refusal.TheVariants.{Memory, ForeignBar, NotMember}
 use Rattle.indicatif_text.specs.declared.refusal.Drawn.{Drawn}
@@ -72,15 +72,3 @@ CanTurn view answer = (answer ≡ Ok Limited) ⊎ SharedDraws view Redraw answer
 -- why a bar's text isn't told: there is no memory for it, or its board hasn't the bar
 abbrev pub NoText : Refusal → Type 0
 NoText e = (e ≡ Memory) ⊎ (e ≡ ForeignBar) ⊎ (e ≡ NotMember)
-
--- ---- owners
-
--- one more was asked for: there is one more; or there was none left, or the count is at its end, and it stays
-abbrev pub OwnerJoins : Bool → ℕ → ℕ → Type 0
-OwnerJoins true before now = (0 < before) × (now ≡ before + 1) × (now < 2 ^ 64)
-OwnerJoins false before now = ((before ≡ 0) ⊎ (before ≡ 2 ^ 64 - 1)) × (now ≡ before)
-
--- one is gone, and whether it was the last
-abbrev pub OwnerLeaves : Bool → ℕ → ℕ → Type 0
-OwnerLeaves true before now = (before ≡ 1) × (now ≡ 0)
-OwnerLeaves false before now = (before ≢ 1) × (now ≡ before - 1)

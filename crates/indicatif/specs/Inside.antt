@@ -1,2 +1,6 @@
 -- What only the contracts of private functions cite.
+pub mod Kept
+pub mod Owners
 pub mod Pieces
+pub mod Places
+pub mod Worded

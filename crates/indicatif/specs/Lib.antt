@@ -1,14 +1,11 @@
 pub mod Fronts
-pub mod Kept
 pub mod Machine
 pub mod Moves
 pub mod Owned
 pub mod Parallel
-pub mod Places
 pub mod Ring
 pub mod Seek
 pub mod SharedBoards
-pub mod Worded
 pub mod Workers
 pub mod Wrap
 pub mod Inside

@@ -16,10 +16,11 @@ ghost use Rattle.indicatif_bar.specs.Progress.{Progress};
 ghost use Rattle.indicatif_bar.specs.declared.command.Change.{Change as Changed};
 ghost use Rattle.indicatif_board.specs.Boards.{Id, Remove, Refused};
 ghost use Rattle.indicatif_board.specs.Calls.{place_at};
-ghost use Rattle.indicatif.specs.Fronts.{CanAnswer, CanSuspend, CanTurn, NoText, OwnerJoins};
-ghost use Rattle.indicatif.specs.Places.{unchanged};
+ghost use Rattle.indicatif.specs.Fronts.{CanAnswer, CanSuspend, CanTurn, NoText};
+ghost use Rattle.indicatif.specs.Inside.Owners.{OwnerJoins};
+ghost use Rattle.indicatif.specs.Inside.Places.{unchanged};
 ghost use Rattle.indicatif.specs.SharedBoards.{SharedAnswers, SharedTakes};
-ghost use Rattle.indicatif.specs.Worded.{worded};
+ghost use Rattle.indicatif.specs.Inside.Worded.{worded};
 ghost use Rattle.indicatif.specs.Wrap.{Wraps};
 
 mod held;

@@ -16,7 +16,7 @@ use Rattle.indicatif_bar.specs.declared.state.Ask.TheVariants.{No, Forced}
 use Rattle.indicatif_bar.proofs.SoundRunLemmas.{DrawsSoundly, GoesSoundly, sound_read_after}
 use Rattle.indicatif_bar.proofs.LoneRunLemmas.{written_soundly}
 use Rattle.indicatif_board.specs.Members.{is_member, is_head, without, said_of, leaders, frame_of}
-use Rattle.indicatif_board.specs.Boards.{BoardState, BoardKind, Call, Insert, Remove, Drop, Log, BarLog, Clear, Redraw, Align, Tell, Answer, Location, Entrant, New, Old, turned_away, anchor_turned_away, or_refused, inserted, taken_out, draws, draw_of, bar_changed, laid_out, lays_out, left_by, left_on, marked_on, board}
+use Rattle.indicatif_board.specs.Boards.{BoardState, BoardKind, Call, Insert, Remove, Drop, Log, BarLog, Clear, Redraw, Align, Tell, Answer, Location, Entrant, New, Old, turned_away, anchor_turned_away, or_refused, inserted, taken_out, draws, draw_of, bar_changed, laid_out, layout_takes, left_by, left_on, marked_on, board}
 
 -- the first segment's rows pass to kept, and none are forgotten
 kept_soundly : (columns number : ℕ) (l : Lists) → l.failed ≡ false → (kept_of columns number l).failed ≡ false
@@ -75,14 +75,14 @@ module _ {B C : Type 0} (kind : BoardKind B C) (mark : ℕ) where
       let after = bar_changed id.number (kind.left now) s in
       unless_refused s (turned_away mark id s) _ (
         draw_soundly target (said_of false (kind.left_takes now) id.number s.members) (said_of No (kind.left_asked now) id.number s.members) now Frame s after
-            (laid_out kind target now id.number after) (lays_out kind id.number after) (λ sound. sound) (λ sound. sound),
+            (laid_out kind target now id.number after) (layout_takes kind id.number after) (λ sound. sound) (λ sound. sound),
         left_soundly target id.number,
         λ x sound. sound,
       )
   deed_soundly target (Log text) now s = only_draws target false Forced now (TextAndFrame (text_lines (logged_lines text))) s s s false (λ sound. sound) (λ sound. sound)
   deed_soundly target (BarLog id text) now s =
       unless_refused s (turned_away mark id s) _
-      (only_draws target false Forced now (TextAndFrame (text_lines (logged_lines text))) s s (laid_out kind target now id.number s) (lays_out kind id.number s) (λ sound. sound) (λ sound. sound))
+      (only_draws target false Forced now (TextAndFrame (text_lines (logged_lines text))) s s (laid_out kind target now id.number s) (layout_takes kind id.number s) (λ sound. sound) (λ sound. sound))
   deed_soundly target Clear now s = only_draws target false Forced now NoFrame s s s false (λ sound. sound) (λ sound. sound)
   deed_soundly target Redraw now s = only_draws target false Forced now Frame s s s false (λ sound. sound) (λ sound. sound)
   deed_soundly target (Align bottom) now s = λ sound. sound
@@ -91,7 +91,7 @@ module _ {B C : Type 0} (kind : BoardKind B C) (mark : ℕ) where
       unless_refused s (turned_away mark id s) _
       (unless_refused s (said_of None (λ bar. kind.bars.refused command bar now) id.number s.members) _
       (only_draws target (said_of false (λ bar. kind.bars.takes command bar now) id.number s.members) (said_of No (λ bar. (kind.bars.after command bar now).1) id.number s.members) now Frame s after
-      (laid_out kind target now id.number after) (lays_out kind id.number after) (λ sound. sound) (λ sound. sound)))
+      (laid_out kind target now id.number after) (layout_takes kind id.number after) (λ sound. sound) (λ sound. sound)))
 
   pub board_read_after : (calls : List (Call B C × ℕ)) (answers : List Answer) (v : TermView) (s : BoardState B) (new : Option TermView) (next : BoardState B) →
       IsFalse s.lists.failed → ReadsAfter (board kind mark) calls answers v s new next

@@ -12,9 +12,9 @@ use Rattle.indicatif_board.specs.OrderLaws.{RunsKeep}
 
 module _ {S C A : Type 0} (m : Machine S C A) (P : S → Type 0) where
   -- it is so in each state that a call may lead to
-  abbrev pub Keeps : Deed S A → Type 0
-  Keeps (AtOnce takes answer next) = P next
-  Keeps (Draws d ends breaks) = P d.after_command × P d.ready × P d.written × P d.broken × ((x : S) → P x → P (ends x)) × ((x : S) → P x → P (breaks x))
+  abbrev pub IsKept : Deed S A → Type 0
+  IsKept (AtOnce takes answer next) = P next
+  IsKept (Draws d ends breaks) = P d.after_command × P d.ready × P d.written × P d.broken × ((x : S) → P x → P (ends x)) × ((x : S) → P x → P (breaks x))
 
   drawn_keeps : (target : Target) (d : Draw S) → P d.after_command → P d.ready → P d.written → P (drawn_by target d).1
   unfolding drawn_by
@@ -26,7 +26,7 @@ module _ {S C A : Type 0} (m : Machine S C A) (P : S → Type 0) where
       (λ c. cond_both (not d.allowed) (Ok Limited, d.ready) _ Q (λ e. ready)
       (λ e. cond_both (some_wide target.columns d.lines) (Err TooWide, d.ready) (Ok Yes, d.written) Q (λ f. ready) (λ f. written)))))
 
-  pub leads_keep : (target : Target) (s next : S) (deed : Deed S A) (answer : A) → Keeps deed → Leads m target s deed answer next → P s → P next
+  pub leads_keep : (target : Target) (s next : S) (deed : Deed S A) (answer : A) → IsKept deed → Leads m target s deed answer next → P s → P next
   leads_keep target s next (AtOnce takes said after) answer keeps (inl made) is = subst P (sym (ap (λ o. o.1) made)) keeps
   leads_keep target s next (AtOnce takes said after) answer keeps (inr (inl short)) is = subst P (sym short.1.1) is
   leads_keep target s next (AtOnce takes said after) answer keeps (inr (inr broken)) is = absurd broken.2
@@ -41,7 +41,7 @@ module _ {S C A : Type 0} (m : Machine S C A) (P : S → Type 0) where
   ]
   leads_keep target s next (Draws d ends breaks) answer keeps (inr (inr broken)) is = subst P (sym broken.2.1) (keeps.5 d.broken keeps.3)
 
-  pub runs_keep : ((target : Target) (call : C) (now : ℕ) (s : S) → P s → Keeps (m.deed target call now s)) → RunsKeep m P
+  pub runs_keep : ((target : Target) (call : C) (now : ℕ) (s : S) → P s → IsKept (m.deed target call now s)) → RunsKeep m P
   runs_keep keeps [] [] old s new next run is = subst P (sym run.1) is
   runs_keep keeps (call ∷ calls) (answer ∷ answers) old s new next run is =
       runs_keep keeps calls answers run.0 run.1 new next run.3

@@ -19,7 +19,7 @@ use Rattle.indicatif_board.specs.Boards.{BoardState, Id, Location, index_of, tak
 use Rattle.indicatif_text.specs.declared.refusal.Refusal.TheVariants.{ForeignBar, NotMember}
 use Rattle.indicatif_board.specs.Members.{Member, place_of, leaders, frame_of, order_of, changed_at, new_member, is_member, without, said_of}
 use Rattle.indicatif_board.specs.ShownBars.{member_of, Holds}
-use Rattle.indicatif_board.specs.Inside.Keeps.{HasPlace, laid_by, lays_by}
+use Rattle.indicatif_board.specs.Inside.Named.{HasPlace, named_laid_out, named_layout_takes}
 use Rattle.indicatif_board.specs.declared.members.Member.{Member as MemberValue}
 
 pub drop-map : {X Y : Type 0} (f : X → Y) (n : ℕ) (xs : List X) → drop n (map f xs) ≡ map f (drop n xs)
@@ -85,7 +85,7 @@ module _ {K : Type 0} (tracks : Tracking K) (frame : List Segment) (members : Li
     (columns : target.columns ≡ width) (holds : Holds frame members made bottom limiter s)
     (item_is : item ≡ get_or members at item) (old_is : old ≡ get_or frame at old) (lines_are : map line_text items.items ≡ lines_of_bar tracks item.bar now width) where
   laid_some : (number : ℕ) → at ≡ place_of number s.members → at < length s.members →
-      Holds (set frame at (record { bar = old.bar; lines = items })) members made bottom limiter (laid_by tracks target now (Some number) s)
+      Holds (set frame at (record { bar = old.bar; lines = items })) members made bottom limiter (named_laid_out tracks target now (Some number) s)
   laid_some number here within =
       let ms = s.members in
       let m = get_or ms at (new_member 0 item.bar) in
@@ -114,12 +114,12 @@ module _ {K : Type 0} (tracks : Tracking K) (frame : List Segment) (members : Li
       }
 
   laid_named : (number : Option ℕ) → HasPlace number (Some at) s.members →
-      Holds (set frame at (record { bar = old.bar; lines = items })) members made bottom limiter (laid_by tracks target now number s)
+      Holds (set frame at (record { bar = old.bar; lines = items })) members made bottom limiter (named_laid_out tracks target now number s)
   laid_named None placed = absurd placed
   laid_named (Some n) placed = laid_some n placed.0 placed.1
 
   pub laid_at : (number bar : Option ℕ) → bar ≡ Some at → HasPlace number bar s.members →
-      Holds (set frame at (record { bar = old.bar; lines = items })) members made bottom limiter (laid_by tracks target now number s)
+      Holds (set frame at (record { bar = old.bar; lines = items })) members made bottom limiter (named_laid_out tracks target now number s)
   laid_at number bar e placed = laid_named number (subst (λ b. HasPlace number b s.members) e placed)
 
 -- ---- who is a member
@@ -243,7 +243,7 @@ told_placed {K = K} f number at ms placed =
     (placed.0 ∙ place-order number ms ∙ ap (position_or_len (λ k. k == number)) (sym order) ∙ sym (place-order number (changed_at number change ms)), omega (arith, size, placed.1))
 
 -- laying lines out leaves the rows
-pub laid_lists : {K : Type 0} (tracks : Tracking K) (target : Target) (now : ℕ) (number : Option ℕ) (s : BoardState (BarRecord K)) → (laid_by tracks target now number s).lists ≡ s.lists
+pub laid_lists : {K : Type 0} (tracks : Tracking K) (target : Target) (now : ℕ) (number : Option ℕ) (s : BoardState (BarRecord K)) → (named_laid_out tracks target now number s).lists ≡ s.lists
 laid_lists tracks target now None s = refl
 laid_lists tracks target now (Some number) s = refl
 
@@ -335,7 +335,7 @@ said_of_place other f members ms number at item same here within item_is =
 -- whether a named bar's lines take memory is said of the bar at its place
 pub lays_at : {K : Type 0} (tracks : Tracking K) (members : List (MemberValue K)) (s : BoardState (BarRecord K)) (number bar : Option ℕ) (at : ℕ) (item : MemberValue K) →
     members ≡ map member_of s.members → bar ≡ Some at → HasPlace number bar s.members → at < length members → item ≡ get_or members at item →
-    lines_take_memory item.bar ≡ true → lays_by tracks number s ≡ true
+    lines_take_memory item.bar ≡ true → named_layout_takes tracks number s ≡ true
 lays_at tracks members s None bar at item same bar_is placed within item_is takes = absurd (subst (λ b. HasPlace None b s.members) bar_is placed)
 lays_at tracks members s (Some n) bar at item same bar_is placed within item_is takes =
     let here = subst (λ b. HasPlace (Some n) b s.members) bar_is placed in

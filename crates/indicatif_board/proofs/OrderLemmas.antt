@@ -15,12 +15,12 @@ use Rattle.indicatif_bar.specs.Kinds.{Writing, Frame, TextAndFrame, NoFrame}
 use Rattle.indicatif_bar.specs.declared.state.Ask.{Ask}
 use Rattle.indicatif_bar.specs.declared.state.Ask.TheVariants.{No, Forced}
 use Rattle.indicatif_board.specs.Members.{Member, is_member, is_head, without, said_of, order_of, place_of, new_member, leaders, changed_at}
-use Rattle.indicatif_board.specs.Boards.{BoardState, BoardKind, Call, Insert, Remove, Drop, Log, BarLog, Clear, Redraw, Align, Tell, Answer, Given, Refused, Id, Location, Entrant, New, Old, opening_board, turned_away, anchor_turned_away, or_refused, inserted, index_of, taken_in, taken_out, draws, draw_of, bar_changed, laid_out, lays_out, left_by, left_on, marked_on, board}
+use Rattle.indicatif_board.specs.Boards.{BoardState, BoardKind, Call, Insert, Remove, Drop, Log, BarLog, Clear, Redraw, Align, Tell, Answer, Given, Refused, Id, Location, Entrant, New, Old, opening_board, turned_away, anchor_turned_away, or_refused, inserted, index_of, taken_in, taken_out, draws, draw_of, bar_changed, laid_out, layout_takes, left_by, left_on, marked_on, board}
 use Rattle.indicatif_board.specs.Slots.{occurrences}
 use Rattle.indicatif_board.specs.OrderLaws.{RunsKeep, StandsOnce, IsGone, with_new, new_bars, new_numbers, NumbersCount, NumbersAreNew}
 use Rattle.indicatif_board.proofs.MemberLemmas.{place-changed, map-inserted, map-removed, drop-map}
 use Rattle.indicatif_board.proofs.SlotLemmas.{ones_other, ones_most, occurrences-front, occurrences-inserted, occurrences-removed, occurrences-cut}
-use Rattle.indicatif_board.proofs.KeptLemmas.{Keeps, leads_keep, runs_keep}
+use Rattle.indicatif_board.proofs.KeptLemmas.{IsKept, leads_keep, runs_keep}
 
 -- ---- what bars that come and go keep
 
@@ -34,7 +34,7 @@ module _ {B C : Type 0} (kind : BoardKind B C) (mark : ℕ) (Q : List ℕ → �
   P s = Q (order_of s.members) s.made
 
   abbrev KeepsIt : Deed (BoardState B) Answer → Type 0
-  KeepsIt deed = Keeps (board kind mark) P deed
+  KeepsIt deed = IsKept (board kind mark) P deed
 
   unless_refused : (s : BoardState B) (refused : Option Refusal) (deed : Deed (BoardState B) Answer) → P s → KeepsIt deed → KeepsIt (or_refused refused deed s)
   unless_refused s None deed is keeps = keeps
@@ -104,7 +104,7 @@ module _ {B C : Type 0} (kind : BoardKind B C) (mark : ℕ) (Q : List ℕ → �
   deed_keeps target (Log text) now s is comes = only_draws target false Forced now (TextAndFrame (text_lines (logged_lines text))) s s false is is
   deed_keeps target (BarLog id text) now s is comes =
       unless_refused s (turned_away mark id s) _ is
-      (only_draws target false Forced now (TextAndFrame (text_lines (logged_lines text))) s (laid_out kind target now id.number s) (lays_out kind id.number s) is
+      (only_draws target false Forced now (TextAndFrame (text_lines (logged_lines text))) s (laid_out kind target now id.number s) (layout_takes kind id.number s) is
       (laid_keeps target now id.number s is))
   deed_keeps target Clear now s is comes = only_draws target false Forced now NoFrame s s false is is
   deed_keeps target Redraw now s is comes = only_draws target false Forced now Frame s s false is is
@@ -115,7 +115,7 @@ module _ {B C : Type 0} (kind : BoardKind B C) (mark : ℕ) (Q : List ℕ → �
       unless_refused s (turned_away mark id s) _ is
       (unless_refused s (said_of None (λ bar. kind.bars.refused command bar now) id.number s.members) _ is
       (only_draws target (said_of false (λ bar. kind.bars.takes command bar now) id.number s.members) (said_of No (λ bar. (kind.bars.after command bar now).1) id.number s.members) now Frame after
-      (laid_out kind target now id.number after) (lays_out kind id.number after) numbers (laid_keeps target now id.number after numbers)))
+      (laid_out kind target now id.number after) (layout_takes kind id.number after) numbers (laid_keeps target now id.number after numbers)))
 
   -- a run keeps what lasts also as the next bar is taken in anywhere
   module _ (come : (order : List ℕ) (made at : ℕ) → Q order made → Q (insert order at made) (made + 1)) where

@@ -219,22 +219,22 @@ module _ {B C : Type 0} (kind : BoardKind B C) where
       record s { members = changed_at number (λ m. record m { stored = map chars (kind.bars.lines m.bar now target.columns) }) s.members }
 
   -- whether that takes memory
-  abbrev pub lays_out : ℕ → BoardState B → Bool
-  lays_out number s = said_of false kind.bars.lays number s.members
+  abbrev pub layout_takes : ℕ → BoardState B → Bool
+  layout_takes number s = said_of false kind.bars.lays number s.members
 
   -- the draw of a command of a bar
   abbrev pub draw_of_command : Target → ℕ → C → ℕ → BoardState B → Draw (BoardState B)
   draw_of_command target number command now s =
       let after = bar_changed number (λ bar. (kind.bars.after command bar now).0) s in
       draw_of target (said_of false (λ bar. kind.bars.takes command bar now) number s.members) (said_of No (λ bar. (kind.bars.after command bar now).1) number s.members) now Frame after
-      (laid_out target now number after) (lays_out number after)
+      (laid_out target now number after) (layout_takes number after)
 
   -- the draw of a bar whose owner is gone
   abbrev pub last_draw : Target → ℕ → ℕ → BoardState B → Draw (BoardState B)
   last_draw target number now s =
       let after = bar_changed number (kind.left now) s in
       draw_of target (said_of false (kind.left_takes now) number s.members) (said_of No (kind.left_asked now) number s.members) now Frame after (laid_out target now number after)
-      (lays_out number after)
+      (layout_takes number after)
 
   -- the draw of a text above the bars
   abbrev pub log_of : Target → List ℕ → ℕ → BoardState B → BoardState B → Bool → Draw (BoardState B)
@@ -247,7 +247,7 @@ module _ {B C : Type 0} (kind : BoardKind B C) where
   deed_of mark target (Drop id) now s =
       or_refused (turned_away mark id s) (Draws (last_draw target id.number now s) (left_on target id.number) (marked_on id.number)) s
   deed_of mark target (Log text) now s = draws (log_of target text now s s false)
-  deed_of mark target (BarLog id text) now s = or_refused (turned_away mark id s) (draws (log_of target text now s (laid_out target now id.number s) (lays_out id.number s))) s
+  deed_of mark target (BarLog id text) now s = or_refused (turned_away mark id s) (draws (log_of target text now s (laid_out target now id.number s) (layout_takes id.number s))) s
   deed_of mark target Clear now s = draws (draw_of target false Forced now NoFrame s s false)
   deed_of mark target Redraw now s = draws (draw_of target false Forced now Frame s s false)
   deed_of mark target (Align bottom) now s = AtOnce false Done (record s { bottom = bottom })

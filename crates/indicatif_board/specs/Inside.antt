@@ -1,5 +1,6 @@
 -- What only the contracts of private functions cite.
-pub mod Keeps
+pub mod Named
 pub mod Writings
 pub mod Parting
 pub mod Standing
+pub mod Recorded

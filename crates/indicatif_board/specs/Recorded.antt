@@ -1,18 +1,15 @@
 -- A board with its calls and answers: what they are as definitions, and what a call adds to them.
-use Rattle.std.specs.Prelude.{◌≡◌, ℕ, true, false, List, [], ◌∷◌, ◌++◌, Option, Some, None, Result, Ok, Err, if◌then◌else◌}
-use Rattle.indicatif_text.specs.declared.refusal.Refusal.{Refusal}
+use Rattle.std.specs.Prelude.{◌≡◌, ℕ, true, false, List, [], ◌∷◌, ◌++◌, Option, Some, None, if◌then◌else◌}
 use Rattle.indicatif_term.specs.Calls.{TermView}
 use Rattle.indicatif_term.specs.Limiters.{Limiter}
 use Rattle.indicatif_bar.specs.Trackers.{Tracking}
 use Rattle.indicatif_bar.specs.Commands.{BarRecord, Command}
 use Rattle.indicatif_bar.specs.Machines.{Target, target_of, Machine, Leads}
 use Rattle.indicatif_board.specs.BoardBars.{board_bars}
-use Rattle.indicatif_board.specs.Boards.{BoardState, Call, Insert, Remove, Entrant, New, Old, Answer, Done, Refused, opening_board, board}
+use Rattle.indicatif_board.specs.Boards.{BoardState, Call, Insert, Remove, New, Answer, Done, Refused, opening_board, board}
 use Rattle.indicatif_board.specs.Members.{Member, is_member, said_of}
-use Rattle.indicatif_board.specs.Calls.{call_of, answer_of, entrant_of}
+use Rattle.indicatif_board.specs.Calls.{call_of, answer_of}
 use Rattle.indicatif_board.specs.Multi.{IsIn, LeadsBy, known}
-use Rattle.indicatif_board.specs.declared.bar_id.BarId.{BarId}
-use Rattle.indicatif_board.specs.declared.calls.Turned.{Turned}
 use Rattle.indicatif_board.specs.declared.multi.Board.{Board}
 use Rattle.indicatif_board.specs.declared.recorded.Size.{Size}
 use Rattle.indicatif_board.specs.declared.recorded.Entry.{Entry}
@@ -71,20 +68,3 @@ abbrev pub handed_back : {K : Type 0} → Call (BarRecord K) (Command K) → Ans
 handed_back (Insert at (New bar)) (Refused e) other members = Some bar
 handed_back (Remove id) Done other members = if is_member id.number members then Some (said_of other (λ b. b) id.number members) else None
 handed_back _ _ other members = None
-
--- ---- what is handed back, in parts
-
--- the new bar that is to be taken in
-abbrev pub bar_in : {B : Type 0} → Entrant B → Option B
-bar_in (New bar) = Some bar
-bar_in (Old id) = None
-
--- the new bar that was turned away
-abbrev pub turned_back : {K : Type 0} → Result BarId (Turned K) → Option (BarRecord K)
-turned_back (Ok id) = None
-turned_back (Err turned) = bar_in (entrant_of turned.candidate)
-
--- the bar that was removed
-abbrev pub removed_back : {K : Type 0} → Result (Option (BarRecord K)) Refusal → Option (BarRecord K)
-removed_back (Ok bar) = bar
-removed_back (Err e) = None

@@ -13,7 +13,7 @@ ghost use Rattle.indicatif_board.specs.Boards.{BoardState, Tell, Log, BarLog, Cl
 ghost use Rattle.indicatif_board.specs.BoardValues.{id_of};
 ghost use Rattle.indicatif_board.specs.Members.{is_member, order_of, said_of};
 ghost use Rattle.indicatif_board.specs.Slots.{slot_of, IsSeated};
-ghost use Rattle.indicatif_board.specs.Inside.Keeps.{HasPlace, laid_by, lays_by};
+ghost use Rattle.indicatif_board.specs.Inside.Named.{HasPlace, named_laid_out, named_layout_takes};
 ghost use Rattle.indicatif_board.specs.Inside.Parting.{parted, RestsOn};
 ghost use Rattle.indicatif_board.specs.Inside.Standing.{is_of_draw, StandsAt};
 ghost use Rattle.indicatif_board.specs.Inside.Writings.{writing_by};
@@ -623,8 +623,8 @@ impl<K: ProgressTracker, T: TermLike + Drop> Board<K, T> {
         ensures drew { (mark : ℕ) (takes : Bool) (s : BoardState (BarRecord K)) (number : Option ℕ) → IsIn mark self.old s → HasPlace number bar s.members →
             let old = known T.view self.old in
             (next : BoardState (BarRecord K)) × IsIn mark self.new next × DrewOn (board (board_bars K.means) mark) old (known T.view self.new)
-            (draw_of (target_of old) takes ask now (writing_by writing.entry) s (laid_by K.means (target_of old) now number s)
-            (lays_by K.means number s)) s.lists result next }
+            (draw_of (target_of old) takes ask now (writing_by writing.entry) s (named_laid_out K.means (target_of old) now number s)
+            (named_layout_takes K.means number s)) s.lists result next }
     {
         if ask.is_no() {
             return Ok(Drawn::Limited);

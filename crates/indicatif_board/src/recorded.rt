@@ -7,7 +7,8 @@ ghost use Rattle.indicatif_bar.specs.Machines.{target_of};
 ghost use Rattle.indicatif_board.specs.Boards.{BoardState, Insert, Refused};
 ghost use Rattle.indicatif_board.specs.Calls.{call_of, answer_of, entrant_of, place_at, given, removal};
 ghost use Rattle.indicatif_board.specs.Multi.{IsIn, LeadsBy, known, terminal_of};
-ghost use Rattle.indicatif_board.specs.Recorded.{IsOneRun, AddsCall, target_by, step_of, handed_back, bar_in, turned_back, removed_back};
+ghost use Rattle.indicatif_board.specs.Recorded.{IsOneRun, AddsCall, target_by, step_of, handed_back};
+ghost use Rattle.indicatif_board.specs.Inside.Recorded.{bar_in, turned_back, removed_back};
 ghost use Rattle.indicatif_board.specs.declared.calls.Answer.{Answer};
 ghost use Rattle.indicatif_text.specs.declared.refusal.Refusal.{Refusal};
 

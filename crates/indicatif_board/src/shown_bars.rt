@@ -11,7 +11,7 @@ ghost use Rattle.indicatif_bar.specs.Shown.{PutsFrame, DrewBy};
 ghost use Rattle.indicatif_board.specs.BoardBars.{board_bars};
 ghost use Rattle.indicatif_board.specs.Boards.{BoardState, Location, opening_board, draw_of, index_of, taken_in, marked_on, board};
 ghost use Rattle.indicatif_board.specs.Members.{place_of, without, is_head, said_of};
-ghost use Rattle.indicatif_board.specs.Inside.Keeps.{HasPlace, laid_by, lays_by};
+ghost use Rattle.indicatif_board.specs.Inside.Named.{HasPlace, named_laid_out, named_layout_takes};
 ghost use Rattle.indicatif_board.specs.Inside.Writings.{writing_by};
 
 use crate::members::{Member, drop_front, leading, place, put_at};
@@ -159,7 +159,7 @@ impl<K: ProgressTracker> ShownBars<K> {
             AreShownAs self.old s → HasPlace number bar s.members → Fits engine.old s.lists →
             let target = target_of (Some (T.view (engine_term engine.old))) in
             DrewBy (board (board_bars K.means) mark) (AreShownAs self.new) T.view engine.old engine.new
-            (draw_of target takes ask now (writing_by writing.entry) s (laid_by K.means target now number s) (lays_by K.means number s))
+            (draw_of target takes ask now (writing_by writing.entry) s (named_laid_out K.means target now number s) (named_layout_takes K.means number s))
             s.lists result }
     {
         let width = engine.term().width();
@@ -177,12 +177,12 @@ impl<K: ProgressTracker> ShownBars<K> {
     fn lay_out(&mut self, bar: Option<usize>, width: u16, now: Moment) -> Result<(), Refusal>
         requires placed { IfSome bar (λ at. at < vec_len self.old.members) }
         ensures memory { IfErr result (λ e. (e ≡ Refusal.Memory) × ((s : BoardState (BarRecord K)) (number : Option ℕ) →
-            HasPlace number bar s.members → AreShownAs self.old s → IsTrue (lays_by K.means number s))) }
+            HasPlace number bar s.members → AreShownAs self.old s → IsTrue (named_layout_takes K.means number s))) }
         ensures unchanged { OnErr result (self.new ≡ self.old) }
         ensures records { AllStay self.old self.new }
         ensures laid { IfOk result (λ _. (target : Target) (s : BoardState (BarRecord K)) (number : Option ℕ) →
             target.columns ≡ width → HasPlace number bar s.members → AreShownAs self.old s →
-            AreShownAs self.new (laid_by K.means target now number s)) }
+            AreShownAs self.new (named_laid_out K.means target now number s)) }
     {
         match bar {
             Some(at) => {

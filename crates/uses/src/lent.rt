@@ -1,13 +1,15 @@
 //! What is known of a bar or a board that was lent, by one who doesn't know how it was used before.
-ghost use Rattle.std.specs.Prelude.{◌≡◌, ◌⊎◌, ◌+◌, ◌%◌, ◌^◌, Some, None, IfOk, IsTrue, IsFalse, is_some, string_bytes, vec_len};
+ghost use Rattle.std.specs.Prelude.{◌≡◌, ◌≢◌, ◌⊎◌, ◌+◌, ◌%◌, ◌^◌, ℕ, Some, None, Err, IfOk, IsTrue, IsFalse, is_some, string_bytes, vec_len};
+ghost use Rattle.std.specs.List.{list_any};
 ghost use Rattle.indicatif_bar.specs.Commands.{BarRecord};
 ghost use Rattle.indicatif_bar.specs.LoneBars.{record_of, lone_terminal};
+ghost use Rattle.indicatif_board.specs.Calls.{acts_on, call_of};
 ghost use Rattle.indicatif_board.specs.Multi.{mark_of, record_at, OtherRecordsStay};
 
 use indicatif_bar::lone::{LoneBar, LoneCall};
-use indicatif_bar::state::BarCommand;
+use indicatif_bar::state::{BarCommand, BarState};
 use indicatif_bar::style::ProgressTracker;
-use indicatif_board::multi::{BarId, Board};
+use indicatif_board::multi::{BarId, Board, Call, Candidate};
 use indicatif_term::term_like::TermLike;
 use indicatif_text::columns::{Drawn, Moment, Refusal};
 
@@ -93,4 +95,33 @@ pub fn answers_for<K: ProgressTracker, T: TermLike + Drop>(board: &Board<K, T>, 
     ensures absent { IsFalse result → id.mark ≡ mark_of board.now → record_at id.number board.now ≡ None }
 {
     board.bar(id).is_ok()
+}
+
+/// Takes a bar in right after another one, on a board that was lent. Whatever was done with the board before, another board's
+/// anchor changes nothing.
+pub fn stand_after<K: ProgressTracker, T: TermLike + Drop>(
+    board: &mut Board<K, T>,
+    anchor: BarId,
+    bar: BarState<K>,
+) -> Result<BarId, Refusal>
+    ensures foreign { anchor.mark ≢ mark_of board.old → (result ≡ Err Refusal.ForeignBar) × (board.new ≡ board.old) }
+{
+    match board.insert_after(anchor, Candidate::New(bar)) {
+        Ok(id) => Ok(id),
+        Err(turned) => Err(turned.refusal),
+    }
+}
+
+/// Plays calls on a board that was lent, and answers how many there were. A bar that none of them removes, drops or tells
+/// something keeps its record, also where memory was refused.
+pub fn play_on<K: ProgressTracker, T: TermLike + Drop>(
+    board: &mut Board<K, T>,
+    calls: Vec<(Call<K>, Moment)>,
+) -> Result<usize, Refusal>
+    ensures count { IfOk result (λ n. n ≡ vec_len calls) }
+    ensures kept { (number : ℕ) (bar : BarRecord K) → IsFalse (list_any (λ call. acts_on (mark_of board.old) number (call_of call.0)) calls.items) →
+        record_at number board.old ≡ Some bar → record_at number board.new ≡ Some bar }
+{
+    let answers = board.run(calls)?;
+    Ok(answers.len())
 }

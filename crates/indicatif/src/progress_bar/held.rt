@@ -8,10 +8,10 @@ ghost use Rattle.indicatif_bar.specs.Progress.{eta, per_sec, duration, elapsed};
 ghost use Rattle.indicatif_bar.specs.declared.command.Change.{Change as Changed};
 ghost use Rattle.indicatif_board.specs.Boards.{Id, Remove, Refused};
 ghost use Rattle.indicatif_board.specs.Calls.{place_at};
-ghost use Rattle.indicatif.specs.Fronts.{OwnerJoins, OwnerLeaves};
-ghost use Rattle.indicatif.specs.Places.{PlaceMakes, PlaceSuspends, PlaceEnds, IsOf, IsUnfinished, Measures, PlaceTurns};
+ghost use Rattle.indicatif.specs.Inside.Owners.{OwnerJoins, OwnerLeaves};
+ghost use Rattle.indicatif.specs.Inside.Places.{PlaceMakes, PlaceSuspends, PlaceEnds, IsOf, IsUnfinished, Measures, PlaceTurns};
 ghost use Rattle.indicatif.specs.SharedBoards.{SharedTakes, SharedAnswers};
-ghost use Rattle.indicatif.specs.Worded.{worded};
+ghost use Rattle.indicatif.specs.Inside.Worded.{worded};
 
 use crate::progress_bar::kept::{Shared, SharedBoard};
 use crate::progress_bar::place::{Place, Seat};

@@ -7,7 +7,7 @@ ghost use Rattle.indicatif_board.specs.BoardValues.{id_of};
 ghost use Rattle.indicatif_board.specs.Calls.{call_of, answer_of, place_at, removal};
 ghost use Rattle.indicatif_board.specs.Multi.{LeadsBy, terminal_of};
 ghost use Rattle.indicatif.specs.SharedBoards.{BoardCan, SharedAnswers, SharedDraws, SharedSuspends, SharedTakes, given_by};
-ghost use Rattle.indicatif.specs.Kept.{KeptMakes, KeptDraws, KeptRemoves, KeptSuspends, refusal_of};
+ghost use Rattle.indicatif.specs.Inside.Kept.{KeptMakes, KeptDraws, KeptRemoves, KeptSuspends, refusal_of};
 
 use indicatif_bar::state::BarState;
 use indicatif_bar::style::NoTracker;

@@ -9,7 +9,7 @@ ghost use Rattle.indicatif_bar.specs.Progress.{is_finished};
 ghost use Rattle.indicatif_bar.specs.Trackers.{writes_nothing};
 ghost use Rattle.indicatif_bar.specs.declared.command.Change.{Change as Changed};
 ghost use Rattle.indicatif.specs.Fronts.{MadeBy, SuspendedBy};
-ghost use Rattle.indicatif.specs.Worded.{worded};
+ghost use Rattle.indicatif.specs.Inside.Worded.{worded};
 
 use crate::progress_bar::worded::Worded;
 use indicatif_bar::lone::{LoneBar, LoneCall};

@@ -3,7 +3,7 @@ ghost use Rattle.std.specs.Prelude.{◌≡◌, string_bytes};
 ghost use Rattle.indicatif_board.specs.BoardValues.{id_of};
 ghost use Rattle.indicatif_board.specs.Calls.{call_of};
 ghost use Rattle.indicatif.specs.Fronts.{on_board};
-ghost use Rattle.indicatif.specs.Worded.{worded};
+ghost use Rattle.indicatif.specs.Inside.Worded.{worded};
 
 use indicatif_bar::state::{BarCommand, ProgressFinish};
 use indicatif_bar::style::NoTracker;

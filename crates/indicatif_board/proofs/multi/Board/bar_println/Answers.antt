@@ -3,7 +3,7 @@ use Rattle.std.proofs.lemmas.Result.{err_from_is_err_and}
 use Rattle.indicatif_bar.specs.Machines.{target_of}
 use Rattle.indicatif_board.specs.BoardBars.{board_bars}
 use Rattle.indicatif_board.specs.BoardValues.{id_of}
-use Rattle.indicatif_board.specs.Boards.{BarLog, log_of, laid_out, lays_out, or_refused, draws}
+use Rattle.indicatif_board.specs.Boards.{BarLog, log_of, laid_out, layout_takes, or_refused, draws}
 use Rattle.indicatif_board.specs.Multi.{known}
 use Rattle.indicatif_board.proofs.BoardCallLemmas.{made_by_draw, made_turned_away, turned_quietly}
 use Rattle.indicatif_text.specs.declared.refusal.Refusal.TheVariants.{NotMember}
@@ -18,7 +18,7 @@ returns-in_err-at-clause-leads g c = λ mark s inside.
     let x = err_from_is_err_and c.from_residual.result c.from_residual.ensures.1 in
     let why = c.in_err-at.ensures.found mark s inside in
     let d = log_of (board_bars tracks) (target_of old) c.args.text.now c.args.now s (laid_out (board_bars tracks) (target_of old) c.args.now id.number s)
-    (lays_out (board_bars tracks) id.number s) in
+    (layout_takes (board_bars tracks) id.number s) in
     rw (x.1 ∙ ap Err x.2) (
       s,
       inside,
@@ -34,7 +34,7 @@ returns-clause-leads g c = λ mark s inside.
     let f = c.in_ok-at.ensures.found mark s inside in
     let drawn = c.draw.ensures.drew mark false s (Some id.number) inside f.1 in
     let d = log_of (board_bars tracks) (target_of old) c.args.text.now c.args.now s (laid_out (board_bars tracks) (target_of old) c.args.now id.number s)
-    (lays_out (board_bars tracks) id.number s) in (
+    (layout_takes (board_bars tracks) id.number s) in (
       drawn.0,
       drawn.1,
       made_by_draw tracks mark old (known g.T.TermLike.view c.draw.new.self) (BarLog id c.args.text.now) c.args.now s d s.lists c.draw.result drawn.0 (ap

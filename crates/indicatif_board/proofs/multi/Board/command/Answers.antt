@@ -9,7 +9,7 @@ use Rattle.indicatif_bar.specs.Shown.{DrewOn}
 use Rattle.indicatif_bar.specs.declared.state.Ask.TheVariants.{No}
 use Rattle.indicatif_board.specs.BoardBars.{board_bars}
 use Rattle.indicatif_board.specs.BoardValues.{id_of}
-use Rattle.indicatif_board.specs.Boards.{Tell, Refused, draw_of, draw_of_command, laid_out, lays_out, bar_changed, or_refused, draws, board}
+use Rattle.indicatif_board.specs.Boards.{Tell, Refused, draw_of, draw_of_command, laid_out, layout_takes, bar_changed, or_refused, draws, board}
 use Rattle.indicatif_board.specs.Members.{place_of, said_of}
 use Rattle.indicatif_board.specs.Multi.{IsIn, known, record_at}
 use Rattle.indicatif_board.proofs.MemberLemmas.{told_at, told_placed, same_at, said_of_place, members_length}
@@ -96,7 +96,7 @@ returns-clause-leads g c = λ mark s inside.
       drawn.1,
       made_by_draw tracks mark old new (Tell id command) now s d next.lists c.draw.result drawn.0 (command_deed tracks mark old id command now s f.0 in_time) refl
           (subst (λ ask. DrewOn (board (board_bars tracks) mark) old new (draw_of (target_of old) takes_is ask now Frame next (laid_out (board_bars tracks)
-          (target_of old) now id.number next) (lays_out (board_bars tracks) id.number next)) next.lists c.draw.result drawn.0) ask_is drawn.2),
+          (target_of old) now id.number next) (layout_takes (board_bars tracks) id.number next)) next.lists c.draw.result drawn.0) ask_is drawn.2),
     )
 
 pub returns-in_err-at-clause-not_member : goal.returns-in_err-at-clause-not_member

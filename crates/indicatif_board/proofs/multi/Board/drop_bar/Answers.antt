@@ -10,7 +10,7 @@ use Rattle.indicatif_bar.specs.declared.state.Ask.TheVariants.{No}
 use Rattle.indicatif_board.specs.Inside.Parting.{parted}
 use Rattle.indicatif_board.specs.BoardBars.{board_bars}
 use Rattle.indicatif_board.specs.BoardValues.{id_of}
-use Rattle.indicatif_board.specs.Boards.{Drop, says, draw_of, last_draw, left_on, marked_on, laid_out, lays_out, bar_changed, or_refused, board}
+use Rattle.indicatif_board.specs.Boards.{Drop, says, draw_of, last_draw, left_on, marked_on, laid_out, layout_takes, bar_changed, or_refused, board}
 use Rattle.indicatif_board.specs.Members.{said_of}
 use Rattle.indicatif_board.specs.Multi.{IsIn, known}
 use Rattle.indicatif_board.proofs.MemberLemmas.{told_at, told_placed, same_at, said_of_place, members_length}
@@ -63,7 +63,7 @@ returns-in-Ok-clause-leads g c = λ mark s inside.
       subst (λ o. CallMade (board (board_bars tracks) mark) old o (Drop id, now) s (says c.draw-drawn.result) (parted (target_of new) id.number c.draw-drawn.result drawn.0)) (sym
           (ap (option_map view) c.part.ensures.terminal)) (made_by_drop tracks mark old new id now s f.0 c.draw-drawn.result drawn.0
           (subst (λ ask. DrewOn (board (board_bars tracks) mark) old new (draw_of (target_of old) takes_is ask now Frame next (laid_out (board_bars tracks)
-          (target_of old) now id.number next) (lays_out (board_bars tracks) id.number next)) next.lists c.draw-drawn.result drawn.0) ask_is drawn.2) left.1),
+          (target_of old) now id.number next) (layout_takes (board_bars tracks) id.number next)) next.lists c.draw-drawn.result drawn.0) ask_is drawn.2) left.1),
     )
 
 pub returns-in-Err-clause-leads : goal.returns-in-Err-clause-leads

@@ -2,7 +2,7 @@ use Rattle.std.proofs.Common.{subst, ap, ◌∙◌}
 use Rattle.indicatif_board.specs.BoardValues.{id_of}
 use Rattle.indicatif.specs.Fronts.{on_board}
 use Rattle.indicatif.specs.SharedBoards.{SharedDraws}
-use Rattle.indicatif.specs.Worded.{worded}
+use Rattle.indicatif.specs.Inside.Worded.{worded}
 use Rattle.indicatif.proofs.FrontLemmas.{no_memory}
 use Rattle.indicatif.proofs.progress_bar.place.Seat.tell_text.Goals as goal
 

@@ -1,6 +1,6 @@
 use Rattle.std.proofs.Common.{subst}
 use Rattle.indicatif.specs.Fronts.{MadeBy}
-use Rattle.indicatif.specs.Worded.{worded}
+use Rattle.indicatif.specs.Inside.Worded.{worded}
 use Rattle.indicatif.proofs.progress_bar.single.Single.tell_text.Goals as goal
 
 pub returns : goal.returns
