@@ -4,15 +4,16 @@ use Rattle.std.specs.Io.KnownBytes.{Consumes, IsAtEnd}
 use Rattle.std.proofs.KnownBytes.{Consumes-trans, Appends-trans}
 use Rattle.meter.specs.declared.passing.Broken.{Broken}
 use Rattle.meter.specs.declared.passing.Broken.TheVariants.{Input, Output}
-use Rattle.meter.specs.Passing.{Passes, PassedOr, PassedSome}
+use Rattle.meter.specs.Passing.{Passes, PassedOr}
+use Rattle.meter.specs.Inside.Reads.{PassedSome}
 
 -- what came went, and then what came after it, but for what waits
 pub passes_on : (a b c u v w : Option (List ℕ)) (waiting : List ℕ) → Passes a b u v [] → Passes b c v w waiting → Passes a c u w waiting
 passes_on a b c u v w waiting p q = record {
-  written = p.written ++ q.written;
-  came = subst (λ l. Consumes a c l) (sym (append_assoc p.written q.written waiting))
-      (Consumes-trans a b c p.written (q.written ++ waiting) (subst (λ l. Consumes a b l) (append-nil p.written) p.came) q.came);
-  went = Appends-trans u v w p.written q.written p.went q.went;
+  handed_on = p.handed_on ++ q.handed_on;
+  came = subst (λ l. Consumes a c l) (sym (append_assoc p.handed_on q.handed_on waiting))
+      (Consumes-trans a b c p.handed_on (q.handed_on ++ waiting) (subst (λ l. Consumes a b l) (append-nil p.handed_on) p.came) q.came);
+  went = Appends-trans u v w p.handed_on q.handed_on p.went q.went;
 }
 
 module _ (a b c u v w : Option (List ℕ)) (before : Passes a b u v []) where

@@ -1,6 +1,7 @@
 //! Bytes handed on.
 ghost use Rattle.std.specs.Prelude.{◌≡◌, ◌<◌, length};
-ghost use Rattle.meter.specs.Passing.{PassedAll, PassedSome};
+ghost use Rattle.meter.specs.Passing.{PassedAll};
+ghost use Rattle.meter.specs.Inside.Reads.{PassedSome};
 
 use indicatif::write_whole;
 use std::io::{ErrorKind, Read, Write};
