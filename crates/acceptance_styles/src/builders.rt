@@ -60,23 +60,42 @@ fn texts_of_a_new_spinner(rt: HostRuntime) -> Result<(), Fail> {
     ticks(&rt, Look::default_spinner(rt.alloc()), &table, " ")
 }
 
+/// These characters are too few for a spinner.
+fn refuses_ticks(rt: &impl Abort, alloc: Global, chars: &str) -> Result<(), Fail> {
+    let made = style(alloc, "")?.tick_chars(chars);
+    refuses(rt, made, Refusal::FewTicks, chars);
+    Ok(())
+}
+
+/// The same of texts.
+fn refuses_strings(rt: &impl Abort, alloc: Global, strings: &[&str]) -> Result<(), Fail> {
+    let made = style(alloc, "")?.tick_strings(strings);
+    refuses(rt, made, Refusal::FewTicks, "texts");
+    Ok(())
+}
+
 #[test]
 fn few_texts_of_a_spinner(rt: HostRuntime) -> Result<(), Fail> {
-    for chars in ["", "a", "国", "\0"] {
-        let made = style(rt.alloc(), "")?.tick_chars(chars);
-        refuses(&rt, made, Refusal::FewTicks, chars);
+    let table: &[&str] = &["", "a", "国", "\0"];
+    for chars in table {
+        refuses_ticks(&rt, rt.alloc(), *chars)?;
     }
-    for strings in [&[] as &[&str], &["a"], &["a string"]] {
-        let made = style(rt.alloc(), "")?.tick_strings(strings);
-        refuses(&rt, made, Refusal::FewTicks, "texts");
-    }
+    refuses_strings(&rt, rt.alloc(), &[])?;
+    refuses_strings(&rt, rt.alloc(), &["a"])?;
+    refuses_strings(&rt, rt.alloc(), &["a string"])
+}
+
+/// These characters of a bar are refused so.
+fn refuses_chars(rt: &impl Abort, alloc: Global, chars: &str, wanted: Refusal) -> Result<(), Fail> {
+    let made = style(alloc, "")?.progress_chars(chars);
+    refuses(rt, made, wanted, chars);
     Ok(())
 }
 
 /// Few characters come before unequal widths, and these before no width. Control characters take no columns.
 #[test]
 fn characters_of_a_bar_that_are_refused(rt: HostRuntime) -> Result<(), Fail> {
-    let table = [
+    let table: &[(&str, Refusal)] = &[
         ("", Refusal::FewProgressChars),
         ("=", Refusal::FewProgressChars),
         ("国", Refusal::FewProgressChars),
@@ -97,15 +116,27 @@ fn characters_of_a_bar_that_are_refused(rt: HostRuntime) -> Result<(), Fail> {
         ("\0\0\0", Refusal::ZeroWidthChars),
     ];
     for (chars, wanted) in table {
-        let made = style(rt.alloc(), "")?.progress_chars(chars);
-        refuses(&rt, made, wanted, chars);
+        refuses_chars(&rt, rt.alloc(), *chars, *wanted)?;
     }
+    Ok(())
+}
+
+/// A style of this template is refused so, and so is the template for another style.
+fn refuses_template(
+    rt: &impl Abort,
+    alloc: Global,
+    template: &str,
+    wanted: Refusal,
+) -> Result<(), Fail> {
+    refuses(rt, style(alloc, template), wanted, template);
+    let made = style(alloc, "{msg}")?.template(template);
+    refuses(rt, made, wanted, template);
     Ok(())
 }
 
 #[test]
 fn templates_that_are_refused(rt: HostRuntime) -> Result<(), Fail> {
-    let table = [
+    let table: &[(&str, Refusal)] = &[
         (
             "}x",
             Refusal::Template {
@@ -130,9 +161,7 @@ fn templates_that_are_refused(rt: HostRuntime) -> Result<(), Fail> {
         ("{bar:70000}", Refusal::WidthTooLarge),
     ];
     for (template, wanted) in table {
-        refuses(&rt, style(rt.alloc(), template), wanted, template);
-        let made = style(rt.alloc(), "{msg}")?.template(template);
-        refuses(&rt, made, wanted, template);
+        refuses_template(&rt, rt.alloc(), *template, *wanted)?;
     }
     Ok(())
 }

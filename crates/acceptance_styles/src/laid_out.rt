@@ -96,3 +96,78 @@ pub fn shows(rt: &impl Abort, alloc: Global, row: Row, wanted: Option<&str>) -> 
     assert_eq!(rt; shown, wanted, "at {row:?}");
     Ok(())
 }
+
+/// A template, what a bar says, and the lines that it shows.
+pub type Said = (&'static str, &'static str, &'static str);
+
+/// A template, the characters of a bar, its place, and the lines that it shows.
+pub type Placed = (&'static str, &'static str, (u64, Option<u64>), &'static str);
+
+/// A place, and the lines that a bar shows there.
+pub type At = ((u64, Option<u64>), &'static str);
+
+/// A bar like this one that says so shows these lines.
+fn says(rt: &impl Abort, alloc: Global, like: Row, said: Said) -> Result<(), Fail> {
+    let (template, message, wanted) = said;
+    let row = Row {
+        template,
+        message,
+        ..like
+    };
+    shows(rt, alloc, row, Some(wanted))
+}
+
+/// The same of each row of a table.
+pub fn all_said(rt: &impl Abort, alloc: Global, like: Row, table: &[Said]) -> Result<(), Fail> {
+    for said in table {
+        says(rt, alloc, like, *said)?;
+    }
+    Ok(())
+}
+
+/// A bar like this one that stands so shows these lines.
+fn stands(rt: &impl Abort, alloc: Global, like: Row, placed: Placed) -> Result<(), Fail> {
+    let (template, chars, (position, len), wanted) = placed;
+    let row = Row {
+        template,
+        chars,
+        position,
+        len,
+        ..like
+    };
+    shows(rt, alloc, row, Some(wanted))
+}
+
+/// The same of each row of a table.
+pub fn all_placed(rt: &impl Abort, alloc: Global, like: Row, table: &[Placed]) -> Result<(), Fail> {
+    for placed in table {
+        stands(rt, alloc, like, *placed)?;
+    }
+    Ok(())
+}
+
+/// A bar of this template shows these lines at each place of a table.
+pub fn all_at(
+    rt: &impl Abort,
+    alloc: Global,
+    template: &'static str,
+    table: &[At],
+) -> Result<(), Fail> {
+    for (place, wanted) in table {
+        shows(rt, alloc, standing(template, "", *place), Some(*wanted))?;
+    }
+    Ok(())
+}
+
+/// Bars of these templates that say this have no line.
+pub fn none_shown(
+    rt: &impl Abort,
+    alloc: Global,
+    templates: &[&'static str],
+    message: &'static str,
+) -> Result<(), Fail> {
+    for template in templates {
+        shows(rt, alloc, saying(*template, message), None)?;
+    }
+    Ok(())
+}
