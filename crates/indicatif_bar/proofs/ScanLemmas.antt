@@ -60,5 +60,5 @@ module _ (byte : ℕ) (text hay : List ℕ) (same : hay ≡ text) (r : Option �
       ∙ ap (λ t. t ∷ slice_split (λ x. x == byte) (drop (k + 1) text)) (sym front)
       ∙ ap (λ t. before ∷ slice_split (λ x. x == byte) t) (sym back)
 
-  pub place_of : (k : ℕ) → r ≡ Some k → (k < length text) × (get_or text k 0 ≡ byte)
-  place_of k e = let h = said (Some k) e in (h.0.high, stands byte text k h)
+  pub found_at : (k : ℕ) → r ≡ Some k → (k < length text) × (get_or text k 0 ≡ byte)
+  found_at k e = let h = said (Some k) e in (h.0.high, stands byte text k h)

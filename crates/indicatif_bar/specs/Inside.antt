@@ -5,3 +5,4 @@ pub mod Cells
 pub mod Steps
 pub mod Texts
 pub mod Widths
+pub mod TabbedTexts

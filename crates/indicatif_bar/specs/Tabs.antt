@@ -27,7 +27,3 @@ OthersStay = (tab : ℕ) (text : List ℕ) → has_tab text ≡ false → expand
 pub record TabbedText : Type 0 where
   pub text : List ℕ
   pub tab : ℕ
-
--- the text as it is shown
-abbrev pub expanded_text : TabbedText → List ℕ
-expanded_text t = expanded t.tab t.text

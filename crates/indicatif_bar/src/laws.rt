@@ -1,4 +1,5 @@
-//! Laws of runs, of whatever draws by calls, a lone bar among it: functions that do nothing, each with a law as its contract.
+//! Laws of runs, of whatever draws by calls, a lone bar among it; and laws of measures, tabs, commands, lines, padded texts and
+//! bars: functions that do nothing, each with a law as its contract.
 
 ghost use Rattle.indicatif_bar.specs.Tabs.{TabsAreGone, OthersStay};
 ghost use Rattle.indicatif_bar.specs.ProgressLaws.{FractionsAreProper, WholeAtTheEnd, RatesHaveTime, TimesFit, TimesAreQuotients, StepsAreQuotients, TabsAgree, FinishedDrawsAreForced};

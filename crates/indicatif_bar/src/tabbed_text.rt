@@ -1,6 +1,7 @@
 //! A text that is kept beside what it is with its tabs expanded.
 ghost use Rattle.std.specs.Prelude.{◌≡◌, [], string_bytes, IfOk, OnErr, IsTrue};
-ghost use Rattle.indicatif_bar.specs.Tabs.{TabbedText, expanded, has_tab, is_some_text, expanded_text};
+ghost use Rattle.indicatif_bar.specs.Tabs.{TabbedText, expanded, has_tab, is_some_text};
+ghost use Rattle.indicatif_bar.specs.Inside.TabbedTexts.{expanded_text};
 
 use crate::tabs;
 use std::alloc::{AllocError, Global};

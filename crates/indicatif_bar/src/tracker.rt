@@ -16,6 +16,7 @@ use std::sync::Arc;
 /// them.
 ///
 /// ```
+/// // `Left { of: 10 }` writes how many of 10 steps are left: "files 7" at the position 3
 /// let style = ProgressStyle::with_template(alloc, "{msg} {left}")?.with_key("left", Left { of: 10 })?;
 /// ```
 pub trait ProgressTracker: Sized + Send + Sync + Drop {

@@ -24,6 +24,11 @@ use std::alloc::Global;
 use std::marker::Model;
 
 /// How large a terminal is.
+///
+/// ```
+/// let drawn = record.apply(Call::Clear, 5); // on a terminal of 4 rows and 10 columns
+/// assert_eq!(record.entries()[0].size, Some(Size { columns: 10, rows: 4 }));
+/// ```
 #[derive(Clone, Copy, Debug, Drop, PartialEq, Eq)]
 pub struct Size {
     /// Columns.
@@ -33,6 +38,12 @@ pub struct Size {
 }
 
 /// A call that a board has made, and what it answered.
+///
+/// ```
+/// let (answer, none) = record.apply(Call::Clear, 5);
+/// let entry = &record.entries()[0];
+/// assert!(matches!(entry.call, Call::Clear) && entry.now == 5 && entry.answer == answer);
+/// ```
 #[derive(Drop)]
 pub struct Entry<K> {
     /// The call.
@@ -46,6 +57,11 @@ pub struct Entry<K> {
 }
 
 /// What a board began with, its terminal apart.
+///
+/// ```
+/// let record = Recorded::new(alloc, ProgressDrawTarget::term_like_with_hz(term, 20, 0)?, 7);
+/// let opening = record.opening(); // its mark is 7, and its limiter has 20 draws in hand, whatever the board has drawn since
+/// ```
 #[derive(Drop)]
 pub struct Opening {
     /// Its mark.

@@ -12,7 +12,7 @@ use Rattle.indicatif_text.specs.Columns.{Cell, width_of, Blank, Continued, Glyph
 use Rattle.indicatif_term.specs.Screen.{Screen, Put, joined_at, with_mark, put_here, put_sized, line_feed, performed, performed_all}
 use Rattle.indicatif_term.proofs.CursorRowLemmas.{screen_at, screen_after, glyph_ops, IsSized}
 use Rattle.indicatif_term.proofs.FeedLemmas.{performed_all-append}
-use Rattle.indicatif_term.proofs.ScreenRowLemmas.{written, joined, cursor_row_at, with_row_at, line_feed_at}
+use Rattle.indicatif_term.proofs.ScreenRowLemmas.{written_behind, joined, cursor_row_at, with_row_at, line_feed_at}
 
 -- ---- one glyph
 
@@ -22,7 +22,7 @@ put_here_at w h above cells j n k column g e =
     rw (
       ← e,
       cursor_row_at w h above (cells ++ replicate j Blank) n (length cells),
-      written cells j (glyph_cells g),
+      written_behind cells j (glyph_cells g),
       set_at above (cells ++ replicate j Blank) (replicate n (blank_row w)) ((cells ++ glyph_cells g) ++ replicate (j - length (glyph_cells g)) Blank) (length above) refl,
     ) refl
 

@@ -8,7 +8,7 @@ use Rattle.indicatif_term.specs.Screen.{emptied_front, cut_before, written_at, j
 use Rattle.indicatif_term.specs.Pictures.{is_blank, is_written, has_written, trimmed}
 use Rattle.indicatif_term.specs.Inside.Rows.{whole_row}
 use Rattle.indicatif_term.proofs.RowEditLemmas.{reversed_more, trimmed-all}
-use Rattle.indicatif_term.proofs.ScreenRowLemmas.{blank_read, front_of_blanks, written}
+use Rattle.indicatif_term.proofs.ScreenRowLemmas.{blank_read, front_of_blanks, written_behind}
 use Rattle.indicatif_term.proofs.WholeScreenLemmas.{length-written_at, length-joined_at}
 
 pub length-whole_row : (w : ℕ) (cells : List Cell) → length cells ≤ w → length (whole_row w cells) ≡ w
@@ -52,7 +52,7 @@ whole_written w n new cells h fits =
 pub whole_appended : (w : ℕ) (new cells : List Cell) → whole_row w (cells ++ new) ≡ written_at (length cells) new (whole_row w cells)
 whole_appended w new cells =
     let left : w - length (cells ++ new) ≡ (w - length cells) - length new = omega (arith, length-append cells new) in
-    ap (λ k. (cells ++ new) ++ replicate k Blank) left ∙ sym (written cells (w - length cells) new)
+    ap (λ k. (cells ++ new) ++ replicate k Blank) left ∙ sym (written_behind cells (w - length cells) new)
 
 -- ---- joining a mark
 

@@ -16,8 +16,8 @@ pub front_of_blanks : (k : ℕ) → emptied_front (replicate k Blank) ≡ replic
 front_of_blanks zero = refl
 front_of_blanks (suc k) = refl
 
-pub written : (cells : List Cell) (k : ℕ) (new : List Cell) → written_at (length cells) new (cells ++ replicate k Blank) ≡ (cells ++ new) ++ replicate (k - length new) Blank
-written cells k new =
+pub written_behind : (cells : List Cell) (k : ℕ) (new : List Cell) → written_at (length cells) new (cells ++ replicate k Blank) ≡ (cells ++ new) ++ replicate (k - length new) Blank
+written_behind cells k new =
     let here : get_or (cells ++ replicate k Blank) (length cells) Blank ≡ Blank = get_or-append_right cells (replicate k Blank) (length cells) (length cells) Blank refl (omega arith)
     ∙ blank_read k (length cells - length cells) in
     let rest : drop (length cells + length new) (cells ++ replicate k Blank) ≡ replicate (k - length new) Blank = sym (drop-drop (length new) (length cells) (cells ++ replicate k Blank))

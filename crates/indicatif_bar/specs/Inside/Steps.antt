@@ -13,7 +13,7 @@ use Rattle.indicatif_bar.specs.Keys.{key_named}
 use Rattle.indicatif_bar.specs.BarStyles.{BarStyle, Wide, WideBarOf, WideMessageOf, wide_of, key_text, in_layout, lines_with}
 use Rattle.indicatif_bar.specs.declared.style.steps.Source.{Source}
 use Rattle.indicatif_bar.specs.declared.style.steps.Source.TheVariants.{Tracker, Known, Nothing}
-use Rattle.indicatif_bar.specs.declared.style.steps.Held.{Held}
+use Rattle.indicatif_bar.specs.declared.style.steps.Placeholder.{Placeholder}
 use Rattle.indicatif_bar.specs.declared.style.steps.WideKey.{WideKey}
 use Rattle.indicatif_bar.specs.declared.style.steps.WideKey.TheVariants as wide_key
 use Rattle.indicatif_bar.specs.declared.style.steps.Step.{Step}
@@ -26,8 +26,8 @@ pub data Effect : Type 0 where
   PutsSource : (source : Source) → (layout : Layout) → Effect
 
 -- the layout of a placeholder
-abbrev pub held_layout : Held → Layout
-held_layout h = record { align = h.align; width = h.width; truncate = h.truncate; style = option_map numbers_of h.style; alternative = option_map numbers_of h.alternative }
+abbrev pub placeholder_layout : Placeholder → Layout
+placeholder_layout h = record { align = h.align; width = h.width; truncate = h.truncate; style = option_map numbers_of h.style; alternative = option_map numbers_of h.alternative }
 
 -- the text of a literal part
 abbrev pub literal_text : Option TemplatePart → List ℕ
@@ -39,7 +39,7 @@ abbrev pub effect_of : List TemplatePart → Step → Effect
 effect_of parts (step.Text text) = WritesText (string_bytes text)
 effect_of parts (step.Literal place) = WritesText (literal_text (slice_get parts place))
 effect_of parts step.Break = Breaks
-effect_of parts (step.Placeholder held) = PutsSource held.source (held_layout held)
+effect_of parts (step.Placeholder placeholder) = PutsSource placeholder.source (placeholder_layout placeholder)
 
 -- the names of trackers
 abbrev pub names_of : {K : Type 0} → List (String Global × K) → List (List ℕ)
@@ -71,8 +71,8 @@ wide_effect _ = None
 
 -- the wide placeholder that a found one is
 abbrev pub wide_found : WideKey → Wide
-wide_found (wide_key.Bar held) = WideBarOf (held_layout held)
-wide_found (wide_key.Message held) = WideMessageOf (held_layout held)
+wide_found (wide_key.Bar placeholder) = WideBarOf (placeholder_layout placeholder)
+wide_found (wide_key.Message placeholder) = WideMessageOf (placeholder_layout placeholder)
 
 -- the latest wide placeholder behind a further deed
 abbrev pub wide_after : Option Wide → Effect → Option Wide

@@ -9,7 +9,7 @@ ghost use Rattle.indicatif_bar.specs.Tabs.{expanded};
 ghost use Rattle.indicatif_bar.specs.Progress.{fraction, is_finished, shown_message};
 ghost use Rattle.indicatif_bar.specs.Layout.{bar_text, padded};
 ghost use Rattle.indicatif_bar.specs.BarStyles.{key_text, tick_string, final_tick_string, wide_text, lines_with, lines, columns_left, ends_in_mark};
-ghost use Rattle.indicatif_bar.specs.Inside.Steps.{PutsSource, held_layout, source_text, effect_text, wide_found};
+ghost use Rattle.indicatif_bar.specs.Inside.Steps.{PutsSource, placeholder_layout, source_text, effect_text, wide_found};
 
 use crate::bar_style::ProgressStyle;
 use crate::progress::ProgressState;
@@ -20,8 +20,8 @@ use crate::style::key_texts::{
     push_count, push_percent, push_percent_precise, push_rate, push_time, push_whole_rate,
 };
 use crate::style::keys::Key;
-use crate::style::padding::{Place, push_padded};
-use crate::style::steps::{Held, Source, Step, WideKey, literal_at};
+use crate::style::padding::{AtWidth, push_padded};
+use crate::style::steps::{Placeholder, Source, Step, WideKey, literal_at};
 use crate::tabs::push_expanded;
 use crate::tracker::ProgressTracker;
 use indicatif_term::draw_target::LineType;
@@ -33,18 +33,18 @@ impl<K: ProgressTracker> ProgressStyle<K> {
     /// Appends a bar of so many columns, as a placeholder asks for it.
     fn push_bar(
         &self,
-        held: &Held,
+        placeholder: &Placeholder,
         state: &ProgressState,
         columns: u64,
         out: &mut String,
     ) -> Result<(), Refusal>
         ensures text { OnOk result (string_bytes out.new ≡ string_bytes out.old
-            ++ bar_text self.now.clusters self.now.colours (unwrap_or (held_layout held.now).alternative []) (fraction state.now) columns) }
+            ++ bar_text self.now.clusters self.now.colours (unwrap_or (placeholder_layout placeholder.now).alternative []) (fraction state.now) columns) }
         ensures memory { IfErr result (λ e. e ≡ Refusal.Memory) }
     {
         let rest = RestLook {
             colours: self.colours,
-            style: held.alternative_style(),
+            style: placeholder.alternative_style(),
         };
         push_bar(&self.clusters, rest, state.fraction(), columns, out)
     }
@@ -53,17 +53,22 @@ impl<K: ProgressTracker> ProgressStyle<K> {
     fn push_key(
         &self,
         key: Key,
-        held: &Held,
+        placeholder: &Placeholder,
         state: &ProgressState,
         now: Moment,
         out: &mut String,
     ) -> Result<(), Refusal>
         ensures text { OnOk result (string_bytes out.new ≡ string_bytes out.old
-            ++ key_text K.means self.now state.now now (held_layout held.now) key) }
+            ++ key_text K.means self.now state.now now (placeholder_layout placeholder.now) key) }
         ensures memory { IfErr result (λ e. e ≡ Refusal.Memory) }
     {
         match key {
-            Key::Bar => self.push_bar(held, state, u64::from(held.width.unwrap_or(20)), out)?,
+            Key::Bar => self.push_bar(
+                placeholder,
+                state,
+                u64::from(placeholder.width.unwrap_or(20)),
+                out,
+            )?,
             Key::WideBar | Key::WideMessage => out.push_str("\0")?,
             Key::Spinner => out.push_str(self.spinner_text(state))?,
             Key::Prefix => out.push_str(state.prefix())?,
@@ -75,7 +80,7 @@ impl<K: ProgressTracker> ProgressStyle<K> {
             Key::Elapsed(form) => push_time(form, state.elapsed(now), out)?,
             Key::Eta(form) => push_time(form, state.eta(now), out)?,
             Key::Duration(form) => push_time(form, state.duration(now), out)?,
-            Key::PerSecond => push_rate(state.per_sec(now), held.width.unwrap_or(4), out)?,
+            Key::PerSecond => push_rate(state.per_sec(now), placeholder.width.unwrap_or(4), out)?,
             Key::BytesPerSecond(form) => push_whole_rate(form, state.per_sec(now), out)?,
         }
         Ok(())
@@ -135,19 +140,19 @@ impl<K: ProgressTracker> ProgressStyle<K> {
     /// Appends the text of a placeholder as its source tells it.
     fn push_told(
         &self,
-        held: &Held,
+        placeholder: &Placeholder,
         state: &ProgressState,
         now: Moment,
         spare: &mut SpareLines,
         out: &mut String,
     ) -> Result<(), Refusal>
         ensures text { OnOk result (string_bytes out.new ≡ string_bytes out.old
-            ++ source_text K.means self.now state.now now (held_layout held.now) held.now.source) }
+            ++ source_text K.means self.now state.now now (placeholder_layout placeholder.now) placeholder.now.source) }
         ensures memory { IfErr result (λ e. e ≡ Refusal.Memory) }
     {
-        match held.source {
+        match placeholder.source {
             Source::Tracker(place) => self.push_tracked(place, state, now, spare, out)?,
-            Source::Known(key) => self.push_key(key, held, state, now, out)?,
+            Source::Known(key) => self.push_key(key, placeholder, state, now, out)?,
             Source::Nothing => {}
         }
         Ok(())
@@ -156,27 +161,27 @@ impl<K: ProgressTracker> ProgressStyle<K> {
     /// The same at the placeholder's width, where it has one.
     fn push_sized(
         &self,
-        held: &Held,
+        placeholder: &Placeholder,
         state: &ProgressState,
         now: Moment,
         spare: &mut SpareLines,
         out: &mut String,
     ) -> Result<(), Refusal>
-        ensures text { let text = source_text K.means self.now state.now now (held_layout held.now) held.now.source in
+        ensures text { let text = source_text K.means self.now state.now now (placeholder_layout placeholder.now) placeholder.now.source in
             OnOk result (string_bytes out.new ≡ string_bytes out.old
-            ++ option_map_or (λ width. padded text width held.now.align held.now.truncate) held.now.width text) }
+            ++ option_map_or (λ width. padded text width placeholder.now.align placeholder.now.truncate) placeholder.now.width text) }
         ensures memory { IfErr result (λ e. e ≡ Refusal.Memory) }
     {
-        let Some(width) = held.width else {
-            self.push_told(held, state, now, spare, out)?;
+        let Some(width) = placeholder.width else {
+            self.push_told(placeholder, state, now, spare, out)?;
             return Ok(());
         };
         let mut text = spare.text();
-        self.push_told(held, state, now, spare, &mut text)?;
-        let place = Place {
+        self.push_told(placeholder, state, now, spare, &mut text)?;
+        let place = AtWidth {
             width: usize::from(width),
-            align: held.align,
-            truncate: held.truncate,
+            align: placeholder.align,
+            truncate: placeholder.truncate,
         };
         push_padded(text.as_str(), place, out)?;
         spare.keep_text(text);
@@ -184,21 +189,21 @@ impl<K: ProgressTracker> ProgressStyle<K> {
     }
 
     /// Appends the text of a placeholder, at its width and in its style.
-    fn push_held(
+    fn push_styled(
         &self,
-        held: &Held,
+        placeholder: &Placeholder,
         state: &ProgressState,
         now: Moment,
         spare: &mut SpareLines,
         out: &mut String,
     ) -> Result<(), Refusal>
         ensures text { OnOk result (string_bytes out.new ≡ string_bytes out.old
-            ++ effect_text K.means self.now state.now now (PutsSource held.now.source (held_layout held.now))) }
+            ++ effect_text K.means self.now state.now now (PutsSource placeholder.now.source (placeholder_layout placeholder.now))) }
         ensures memory { IfErr result (λ e. e ≡ Refusal.Memory) }
     {
-        let style = held.text_style();
+        let style = placeholder.text_style();
         let some = style.open(self.colours, out)?;
-        self.push_sized(held, state, now, spare, out)?;
+        self.push_sized(placeholder, state, now, spare, out)?;
         if some {
             out.push_str("\x1b[0m")?;
             return Ok(());
@@ -221,8 +226,19 @@ impl<K: ProgressTracker> ProgressStyle<K> {
         ensures memory { IfErr result (λ e. e ≡ Refusal.Memory) }
     {
         match wide {
-            WideKey::Bar(held) => self.push_bar(&held, state, gap.columns as u64, out)?,
-            WideKey::Message(held) => push_message(held.align, gap, state, spare, out)?,
+            WideKey::Bar(placeholder) => self.push_bar(
+                &placeholder,
+                state,
+                gap.columns as u64,
+                out,
+            )?,
+            WideKey::Message(placeholder) => push_message(
+                placeholder.align,
+                gap,
+                state,
+                spare,
+                out,
+            )?,
         }
         Ok(())
     }
@@ -288,9 +304,9 @@ impl<K: ProgressTracker> ProgressStyle<K> {
                     let ended = line.end(spare.text());
                     self.push_lines(ended, state, width, spare, &mut lines)?;
                 }
-                Step::Placeholder(held) => {
-                    line.wide = held.wide().or(line.wide);
-                    self.push_held(held, state, now, spare, &mut line.text)?;
+                Step::Placeholder(placeholder) => {
+                    line.wide = placeholder.wide().or(line.wide);
+                    self.push_styled(placeholder, state, now, spare, &mut line.text)?;
                 }
             }
         }
@@ -336,7 +352,7 @@ fn push_message(
         ++ (if gap.is_last then trim_end message else message)) }
     ensures memory { IfErr result (λ e. e ≡ Refusal.Memory) }
 {
-    let place = Place {
+    let place = AtWidth {
         width: gap.columns,
         align,
         truncate: true,

@@ -7,14 +7,14 @@ use indicatif_text::template::Alignment;
 
 /// Where a text stands in a width, and whether it is cut where it is longer.
 #[derive(Clone, Copy, Drop)]
-pub(crate) struct Place {
+pub(crate) struct AtWidth {
     pub(crate) width: usize,
     pub(crate) align: Alignment,
     pub(crate) truncate: bool,
 }
 
 /// Appends `text` at a width: a longer one as it is or truncated, a shorter one with blanks.
-pub(crate) fn push_padded(text: &str, place: Place, out: &mut String) -> Result<(), Refusal>
+pub(crate) fn push_padded(text: &str, place: AtWidth, out: &mut String) -> Result<(), Refusal>
     ensures text { OnOk result (string_bytes out.new
         ≡ string_bytes out.old ++ padded text.now place.width place.align place.truncate) }
     ensures memory { IfErr result (λ e. e ≡ Refusal.Memory) }
@@ -33,7 +33,12 @@ pub(crate) fn push_padded(text: &str, place: Place, out: &mut String) -> Result<
 }
 
 /// Appends what is left of a text that takes more columns than there are.
-fn push_truncated(text: &str, columns: usize, place: Place, out: &mut String) -> Result<(), Refusal>
+fn push_truncated(
+    text: &str,
+    columns: usize,
+    place: AtWidth,
+    out: &mut String,
+) -> Result<(), Refusal>
     requires { place.width ≤ columns }
     ensures text { OnOk result (string_bytes out.new
         ≡ string_bytes out.old ++ truncated text.now columns place.align place.width) }

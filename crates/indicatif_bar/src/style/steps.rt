@@ -3,7 +3,7 @@ ghost use Rattle.std.specs.Prelude.{◌≡◌, [], List, Some, map, option_map, 
 ghost use Rattle.std.specs.List.{slice_get};
 ghost use Rattle.indicatif_text.specs.StyleWords.{numbers_of};
 ghost use Rattle.indicatif_text.specs.Template.{TemplatePart, part_of};
-ghost use Rattle.indicatif_bar.specs.Inside.Steps.{wide_found, wide_source, held_layout, names_of, literal_text, effect_of, effect_of_part, source_of};
+ghost use Rattle.indicatif_bar.specs.Inside.Steps.{wide_found, wide_source, placeholder_layout, names_of, literal_text, effect_of, effect_of_part, source_of};
 
 use crate::style::keys::{Key, key_named};
 use crate::tabs::{has_tab, push_expanded};
@@ -24,7 +24,7 @@ pub(crate) enum Source {
 
 /// A placeholder.
 #[derive(Clone, Copy, Drop)]
-pub(crate) struct Held {
+pub(crate) struct Placeholder {
     pub(crate) source: Source,
     pub(crate) align: Alignment,
     pub(crate) width: Option<u16>,
@@ -37,15 +37,15 @@ pub(crate) struct Held {
 #[derive(Clone, Copy, Drop)]
 pub(crate) enum WideKey {
     /// Of a bar.
-    Bar(Held),
+    Bar(Placeholder),
     /// Of the message.
-    Message(Held),
+    Message(Placeholder),
 }
 
-impl Held {
+impl Placeholder {
     /// The wide key that the placeholder is.
     pub(crate) fn wide(&self) -> Option<WideKey>
-        ensures { option_map wide_found result ≡ wide_source (held_layout self.now) self.now.source }
+        ensures { option_map wide_found result ≡ wide_source (placeholder_layout self.now) self.now.source }
     {
         match self.source {
             Source::Known(Key::WideBar) => Some(WideKey::Bar(*self)),
@@ -56,14 +56,14 @@ impl Held {
 
     /// The style of a bar's rest.
     pub(crate) fn alternative_style(&self) -> Style
-        ensures { numbers_of result ≡ unwrap_or (held_layout self.now).alternative [] }
+        ensures { numbers_of result ≡ unwrap_or (placeholder_layout self.now).alternative [] }
     {
         self.alternative.unwrap_or(Style::new())
     }
 
     /// The style of the text.
     pub(crate) fn text_style(&self) -> Style
-        ensures { numbers_of result ≡ unwrap_or (held_layout self.now).style [] }
+        ensures { numbers_of result ≡ unwrap_or (placeholder_layout self.now).style [] }
     {
         self.style.unwrap_or(Style::new())
     }
@@ -79,7 +79,7 @@ pub(crate) enum Step {
     /// It ends a line.
     Break,
     /// It writes the text of its source.
-    Placeholder(Held),
+    Placeholder(Placeholder),
 }
 
 /// What each part does, where trackers stand under these keys.
@@ -130,7 +130,7 @@ fn step_of<K>(
             style,
             alternative,
         } => {
-            Ok(Step::Placeholder(Held {
+            Ok(Step::Placeholder(Placeholder {
                 source: source_of(key.as_str(), keys),
                 align: *align,
                 width: *width,
@@ -167,7 +167,7 @@ fn literal_of(part: &Part) -> &str
 fn source_of<K>(name: &str, keys: &[(String, K)]) -> Source
     ensures { result ≡ source_of (names_of keys.now) name.now }
 {
-    match place_of(name, keys) {
+    match tracker_named(name, keys) {
         Some(place) => Source::Tracker(place),
         None => match key_named(name) {
             Some(key) => Source::Known(key),
@@ -177,7 +177,7 @@ fn source_of<K>(name: &str, keys: &[(String, K)]) -> Source
 }
 
 /// The place of the first tracker of a name.
-fn place_of<K>(name: &str, keys: &[(String, K)]) -> Option<usize>
+fn tracker_named<K>(name: &str, keys: &[(String, K)]) -> Option<usize>
     ensures { result ≡ position (λ entry. bytes_eq name.now (string_bytes entry.0)) keys.now }
 {
     keys.iter().position(|entry| name == entry.0.as_str())

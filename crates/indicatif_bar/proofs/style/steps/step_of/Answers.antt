@@ -3,7 +3,7 @@ use Rattle.std.specs.Prelude.{encode_utf8_all}
 use Rattle.std.proofs.lemmas.Str.{encodes-chars, IsUtf8-string_bytes}
 use Rattle.indicatif_text.specs.Template.{part_of}
 use Rattle.indicatif_bar.specs.Tabs.{expanded, has_tab}
-use Rattle.indicatif_bar.specs.Inside.Steps.{WritesText, PutsSource, literal_text, held_layout, source_of, names_of, effect_of_part}
+use Rattle.indicatif_bar.specs.Inside.Steps.{WritesText, PutsSource, literal_text, placeholder_layout, source_of, names_of, effect_of_part}
 use Rattle.indicatif_bar.proofs.TabLemmas.{others_stay}
 use Rattle.indicatif_bar.proofs.style.steps.step_of.Goals as goal
 
@@ -32,7 +32,7 @@ returns-in-NewLine-clause-step g c parts at = ap (λ part. effect_of_part (names
 pub returns-in-Placeholder-clause-step : goal.returns-in-Placeholder-clause-step
 unfolding part_of
 returns-in-Placeholder-clause-step g c parts at =
-    ap (λ source. PutsSource source (held_layout (record {
+    ap (λ source. PutsSource source (placeholder_layout (record {
       source = c.source_of.result;
       align = c.in-Placeholder.align;
       width = c.in-Placeholder.width;

@@ -1,0 +1,7 @@
+-- What is shown of a text with tabs. Texts are lists of bytes, in UTF-8.
+use Rattle.std.specs.Prelude.{ℕ, List}
+use Rattle.indicatif_bar.specs.Tabs.{TabbedText, expanded}
+
+-- the text as it is shown
+abbrev pub expanded_text : TabbedText → List ℕ
+expanded_text t = expanded t.tab t.text
