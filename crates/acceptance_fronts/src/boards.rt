@@ -1,9 +1,9 @@
-//! Bars on boards that are shared: their order, what the last owner leaves, and bars that move.
-use crate::on_boards::{
-    Bar, Shared, alone, bar_on, board_on, contents, order, order_is_unknown, recorded_on, shows,
-    target,
-};
-use indicatif::{Drawn, MultiProgressAlignment, ProgressBar, ProgressFinish, Refusal, StepClock};
+//! Bars on boards that are shared: what the last owner leaves, bars that move, and the board's own calls.
+use crate::on_boards::{Bar, bar_on};
+use crate::replays::has_order;
+use crate::stage::{HIDDEN, LIMITED, Put, Row, Stage, Step, YES, play};
+use crate::told::{End, Told, tell};
+use indicatif::{Drawn, MultiProgressAlignment, ProgressBar, Refusal, StepClock};
 use std::alloc::Global;
 use std::process::Abort;
 use std::sync::Wait;
@@ -13,196 +13,302 @@ use std::test::Fail;
 
 /// The last release of a bar that isn't finished finishes it, and its row stays until a text is logged; an owner that isn't the
 /// last leaves the bar as it is.
+const RELEASED: [Row; 15] = [
+    Row::Does(Step::New(Put::End, "b"), LIMITED),
+    Row::Does(Step::New(Put::Before(0), "a"), LIMITED),
+    Row::Does(Step::Tell(1, Told::WithFinish(End::Leave)), LIMITED),
+    Row::Does(Step::Tell(1, Told::Tick), YES),
+    Row::Does(Step::Tell(0, Told::Tick), YES),
+    Row::Shows("a\nb"),
+    Row::Does(Step::Own(1), LIMITED),
+    Row::Does(Step::Release, LIMITED),
+    Row::Stands(1, 1, false),
+    Row::Order(&[1, 0]),
+    Row::Does(Step::Release, LIMITED),
+    Row::Shows("a\nb"),
+    Row::Order(&[0]),
+    Row::Does(Step::Log("l"), YES),
+    Row::Shows("l\nb"),
+];
+
 #[test]
 fn the_last_release_leaves_its_rows(rt: HostRuntime) -> Result<(), Fail> {
-    let board = recorded_on(rt, rt.alloc(), 1)?;
-    let first = bar_on(&board, rt, rt.alloc(), "a")?.with_finish(ProgressFinish::AndLeave);
-    let second = bar_on(&board, rt, rt.alloc(), "b")?;
-    assert_eq!(rt; first.tick(), Ok(Drawn::Yes));
-    assert_eq!(rt; second.tick(), Ok(Drawn::Yes));
-    let other = first.clone()?;
-    first.release();
-    assert!(rt; !other.is_finished());
-    shows(&rt, &board, "a\nb");
-    other.release();
-    shows(&rt, &board, "a\nb");
-    order(&rt, &board, &[1]);
-    assert_eq!(rt; board.println("l"), Ok(Drawn::Yes));
-    shows(&rt, &board, "l\nb");
+    let mut on = Stage::recorded(rt, rt.alloc())?;
+    play(&rt, &mut on, &RELEASED);
     Ok(())
 }
 
 /// Draws a bar, whose one owner is dropped at the end of the block.
 fn drawn_and_dropped<R: Wait + Copy + Clone + Drop>(
-    board: &Shared<R>,
+    on: &Stage<R>,
     rt: R,
     alloc: Global,
-    finish: ProgressFinish,
+    end: End,
 ) -> Result<Drawn, Refusal> {
-    let bar = bar_on(board, rt, alloc, "a")?.with_finish(finish);
+    let bar = bar_on(on.board(), rt, alloc, "a")?;
+    tell(&bar, alloc, Told::WithFinish(end))?;
     bar.tick()
 }
 
-/// So does a plain drop; a bar that is to be cleared leaves no row.
+/// So does a plain drop.
 #[test]
 fn a_plain_drop_leaves_its_rows(rt: HostRuntime) -> Result<(), Fail> {
-    let board = recorded_on(rt, rt.alloc(), 1)?;
-    let drawn = drawn_and_dropped(&board, rt, rt.alloc(), ProgressFinish::AndLeave);
-    assert_eq!(rt; drawn, Ok(Drawn::Yes));
-    shows(&rt, &board, "a");
-    order(&rt, &board, &[]);
-    let cleared = board_on(rt, rt.alloc(), 2)?;
-    let drawn = drawn_and_dropped(&cleared, rt, rt.alloc(), ProgressFinish::AndClear);
-    assert_eq!(rt; drawn, Ok(Drawn::Yes));
-    shows(&rt, &cleared, "");
+    let mut on = Stage::recorded(rt, rt.alloc())?;
+    assert!(rt; drawn_and_dropped(&on, rt, rt.alloc(), End::Leave) == YES);
+    play(&rt, &mut on, &[Row::Shows("a"), Row::Order(&[])]);
     Ok(())
 }
 
-// ---- the order
-
-/// Bars at the end, then before and after others, and one that is there already.
+/// A bar that is to be cleared leaves no row.
 #[test]
-fn insertions(rt: HostRuntime) -> Result<(), Fail> {
-    let board = recorded_on(rt, rt.alloc(), 1)?;
-    let p0 = bar_on(&board, rt, rt.alloc(), "0")?;
-    let p1 = bar_on(&board, rt, rt.alloc(), "1")?;
-    let _p2 = bar_on(&board, rt, rt.alloc(), "2")?;
-    let p3 = board.insert_before(&p0, alone(rt, rt.alloc(), "3")?)?;
-    let p4 = board.insert_after(&p3, alone(rt, rt.alloc(), "4")?)?;
-    let _p5 = board.insert_after(&p3, alone(rt, rt.alloc(), "5")?)?;
-    let _p6 = board.insert_before(&p1, alone(rt, rt.alloc(), "6")?)?;
-    order(&rt, &board, &[3, 5, 4, 0, 6, 1, 2]);
-    let _p4 = board.add(p4)?;
-    order(&rt, &board, &[3, 5, 4, 0, 6, 1, 2]);
-    let _p7 = board.insert(1, alone(rt, rt.alloc(), "7")?)?;
-    let _p8 = board.insert_from_back(1, alone(rt, rt.alloc(), "8")?)?;
-    order(&rt, &board, &[3, 7, 5, 4, 0, 6, 1, 8, 2]);
+fn a_plain_drop_leaves_nothing(rt: HostRuntime) -> Result<(), Fail> {
+    let mut on = Stage::plain(rt, rt.alloc())?;
+    assert!(rt; drawn_and_dropped(&on, rt, rt.alloc(), End::Clear) == YES);
+    play(&rt, &mut on, &[Row::Shows("")]);
     Ok(())
 }
+
+// ---- bars from elsewhere
+
+/// Whether an insertion was refused so.
+fn refused<R: Wait + Copy + Clone + Drop>(
+    taken: Result<Bar<R>, Refusal>,
+    wanted: Refusal,
+) -> Result<bool, Refusal> {
+    match taken {
+        Ok(_) => Ok(false),
+        Err(refusal) => Ok(refusal == wanted),
+    }
+}
+
+/// The last owner of one board before the first of another board.
+fn before_a_foreign_one<R: Wait + Copy + Clone + Drop>(
+    on: &Stage<R>,
+    other: &Stage<R>,
+) -> Result<bool, Refusal> {
+    let bar = on.owner(1)?;
+    let taken = on.board().insert_before(other.bar(0)?, bar);
+    refused(taken, Refusal::ForeignBar)
+}
+
+/// The last owner behind the first, which stands alone.
+fn after_a_lone_one<R: Wait + Copy + Clone + Drop>(on: &Stage<R>) -> Result<bool, Refusal> {
+    let bar = on.owner(1)?;
+    let taken = on.board().insert_after(on.bar(0)?, bar);
+    refused(taken, Refusal::NotMember)
+}
+
+/// Whether the last owner in the list was the last one of its bar.
+fn is_last_owner<R: Wait + Copy + Clone + Drop>(on: &mut Stage<R>) -> Result<bool, Refusal> {
+    let weak = on.bar(1)?.downgrade()?;
+    on.release()?;
+    Ok(weak.upgrade().is_none())
+}
+
+/// Two bars that stand alone.
+const LONE: [Row; 2] = [
+    Row::Does(Step::Alone("l"), LIMITED),
+    Row::Does(Step::Alone("b"), LIMITED),
+];
 
 /// An anchor of another board, and one that stands alone: the order stays, and the owner that was handed in is given up.
 #[test]
 fn anchors_from_elsewhere(rt: HostRuntime) -> Result<(), Fail> {
-    let board = recorded_on(rt, rt.alloc(), 1)?;
-    let other = board_on(rt, rt.alloc(), 2)?;
-    let foreign = bar_on(&other, rt, rt.alloc(), "f")?;
-    let lone = alone(rt, rt.alloc(), "l")?;
-    let bar = alone(rt, rt.alloc(), "b")?;
-    let kept = bar.clone()?;
-    let weak = bar.downgrade()?;
-    assert!(rt; refused(board.insert_before(&foreign, bar), Refusal::ForeignBar));
-    assert!(rt; refused(board.insert_after(&lone, kept.clone()?), Refusal::NotMember));
-    order(&rt, &board, &[]);
-    assert_eq!(rt; kept.tick(), Ok(Drawn::Yes));
-    kept.release();
-    assert!(rt; weak.upgrade().is_none());
+    let mut on = Stage::recorded(rt, rt.alloc())?;
+    play(&rt, &mut on, &LONE);
+    let mut other = Stage::plain(rt, rt.alloc())?;
+    play(
+        &rt,
+        &mut other,
+        &[Row::Does(Step::New(Put::End, "f"), LIMITED)],
+    );
+    assert!(rt; before_a_foreign_one(&on, &other) == Ok(true));
+    assert!(rt; after_a_lone_one(&on) == Ok(true));
+    play(
+        &rt,
+        &mut on,
+        &[Row::Order(&[]), Row::Does(Step::Tell(1, Told::Tick), YES)],
+    );
+    assert!(rt; is_last_owner(&mut on) == Ok(true));
     Ok(())
 }
 
-/// Whether an insertion was refused so.
-fn refused<R: Wait + Clone + Drop>(taken: Result<Bar<R>, Refusal>, wanted: Refusal) -> bool {
-    match taken {
-        Ok(_) => false,
-        Err(refusal) => refusal == wanted,
-    }
+/// Whether a board turns the first bar of another board away, at an insertion and at a removal.
+fn turns_away<R: Wait + Copy + Clone + Drop>(
+    to: &Stage<R>,
+    from: &Stage<R>,
+) -> Result<bool, Refusal> {
+    let removed = to.board().remove(from.bar(0)?);
+    let taken = to.board().add(from.owner(0)?);
+    Ok(refused(taken, Refusal::ForeignBar)? && removed == Err(Refusal::ForeignBar))
 }
 
-// ---- bars that move
+/// Takes the first bar of another board in.
+fn moved<R: Wait + Copy + Clone + Drop>(
+    to: &mut Stage<R>,
+    from: &Stage<R>,
+) -> Result<Drawn, Refusal> {
+    let bar = to.board().add(from.owner(0)?)?;
+    to.keep(bar)
+}
+
+const LEAVES: [Row; 6] = [
+    Row::Order(&[0]),
+    Row::Does(Step::Remove(0), LIMITED),
+    Row::Order(&[]),
+    Row::Hidden(0, true),
+    Row::Does(Step::Tell(0, Told::Tick), HIDDEN),
+    Row::Does(Step::Remove(0), LIMITED),
+];
+
+const ONE_DRAWN: [Row; 2] = [
+    Row::Does(Step::New(Put::End, "a"), LIMITED),
+    Row::Does(Step::Tell(0, Told::Tick), YES),
+];
+
+const COMES: [Row; 3] = [
+    Row::Does(Step::Tell(0, Told::Tick), YES),
+    Row::Stands(0, 3, false),
+    Row::Shows("a"),
+];
 
 /// A bar of one board isn't taken in by another; once it was removed it stands alone and is hidden, and can be.
 #[test]
 fn between_boards(rt: HostRuntime) -> Result<(), Fail> {
-    let from = recorded_on(rt, rt.alloc(), 1)?;
-    let to = board_on(rt, rt.alloc(), 2)?;
-    let bar = bar_on(&from, rt, rt.alloc(), "a")?;
-    assert_eq!(rt; bar.tick(), Ok(Drawn::Yes));
-    assert!(rt; refused(to.add(bar.clone()?), Refusal::ForeignBar));
-    assert_eq!(rt; to.remove(&bar), Err(Refusal::ForeignBar));
-    order(&rt, &from, &[0]);
-    assert_eq!(rt; from.remove(&bar), Ok(()));
-    order(&rt, &from, &[]);
-    assert!(rt; bar.is_hidden());
-    assert_eq!(rt; bar.tick(), Ok(Drawn::Hidden));
-    assert_eq!(rt; from.remove(&bar), Ok(()));
-    let bar = to.add(bar)?;
-    assert_eq!(rt; bar.tick(), Ok(Drawn::Yes));
-    assert_eq!(rt; bar.ticks(), 3);
-    shows(&rt, &to, "a");
+    let mut from = Stage::recorded(rt, rt.alloc())?;
+    play(&rt, &mut from, &ONE_DRAWN);
+    let mut to = Stage::plain(rt, rt.alloc())?;
+    assert!(rt; turns_away(&to, &from) == Ok(true));
+    play(&rt, &mut from, &LEAVES);
+    assert!(rt; moved(&mut to, &from) == LIMITED);
+    play(&rt, &mut to, &COMES);
     Ok(())
 }
 
 /// Another target takes a bar out of the order of its board, which is drawn anew.
+const TURNED: [Row; 12] = [
+    Row::Does(Step::New(Put::End, "a"), LIMITED),
+    Row::Does(Step::New(Put::End, "b"), LIMITED),
+    Row::Does(Step::Tell(0, Told::Tick), YES),
+    Row::Does(Step::Tell(1, Told::Tick), YES),
+    Row::Shows("a\nb"),
+    Row::Does(Step::Target(0), YES),
+    Row::Shows("b"),
+    Row::Order(&[1]),
+    Row::Does(Step::Tell(0, Told::Tick), YES),
+    Row::BarShows(0, "a"),
+    Row::Shows("b"),
+    Row::Does(Step::Target(0), LIMITED),
+];
+
 #[test]
 fn a_target_of_its_own(rt: HostRuntime) -> Result<(), Fail> {
-    let board = recorded_on(rt, rt.alloc(), 1)?;
-    let first = bar_on(&board, rt, rt.alloc(), "a")?;
-    let second = bar_on(&board, rt, rt.alloc(), "b")?;
-    assert_eq!(rt; first.tick(), Ok(Drawn::Yes));
-    assert_eq!(rt; second.tick(), Ok(Drawn::Yes));
-    shows(&rt, &board, "a\nb");
-    assert_eq!(rt; first.set_draw_target(target(rt.alloc())?), Ok(Drawn::Yes));
-    shows(&rt, &board, "b");
-    order(&rt, &board, &[1]);
-    assert_eq!(rt; first.tick(), Ok(Drawn::Yes));
-    assert!(rt; contents(&first).is_some_and(|text| text.as_str() == "a"));
-    shows(&rt, &board, "b");
-    assert_eq!(rt;
-        first.set_draw_target(target(rt.alloc())?),
-        Ok(Drawn::Limited)
-    );
+    let mut on = Stage::recorded(rt, rt.alloc())?;
+    play(&rt, &mut on, &TURNED);
     Ok(())
 }
 
 // ---- the board's own calls
 
+const CALLS: [Row; 16] = [
+    Row::Does(Step::New(Put::End, "a"), LIMITED),
+    Row::Does(Step::Tell(0, Told::Tick), YES),
+    Row::Does(Step::Log("x"), YES),
+    Row::Shows("x\na"),
+    Row::Does(Step::Tell(0, Told::Println("y")), YES),
+    Row::Shows("x\ny\na"),
+    Row::Does(Step::Clear, YES),
+    Row::Shows("x\ny"),
+    Row::Does(Step::Suspend, YES),
+    Row::Does(Step::Tell(0, Told::Suspend), YES),
+    Row::Shows("x\ny\na"),
+    Row::Does(Step::Align(MultiProgressAlignment::Bottom), LIMITED),
+    Row::Does(Step::Turn, LIMITED),
+    Row::Hidden(0, false),
+    Row::Does(Step::Tell(0, Told::SetMessage("z")), YES),
+    Row::Shows("z"),
+];
+
+/// What the closures of two pauses give.
+fn given<R: Wait + Copy + Clone + Drop>(on: &Stage<R>) -> Result<(u8, u8), Refusal> {
+    let (mine, _) = on.bar(0)?.suspend(|| 7u8);
+    let (all, _) = on.board().suspend(|| 8u8);
+    Ok((mine, all))
+}
+
 #[test]
 fn a_boards_calls(rt: HostRuntime) -> Result<(), Fail> {
-    let board = board_on(rt, rt.alloc(), 1)?;
-    let bar = bar_on(&board, rt, rt.alloc(), "a")?;
-    assert_eq!(rt; bar.tick(), Ok(Drawn::Yes));
-    assert_eq!(rt; board.println("x"), Ok(Drawn::Yes));
-    shows(&rt, &board, "x\na");
-    assert_eq!(rt; bar.println("y"), Ok(Drawn::Yes));
-    shows(&rt, &board, "x\ny\na");
-    assert_eq!(rt; board.clear(), Ok(Drawn::Yes));
-    shows(&rt, &board, "x\ny");
-    assert_eq!(rt; board.suspend(|| 7u8), (7, Ok(Drawn::Yes)));
-    assert_eq!(rt; bar.suspend(|| 8u8), (8, Ok(Drawn::Yes)));
-    shows(&rt, &board, "x\ny\na");
-    assert_eq!(rt; board.set_alignment(MultiProgressAlignment::Bottom), Ok(()));
-    let again = board.clone()?;
-    assert_eq!(rt; again.set_draw_target(target(rt.alloc())?), Ok(()));
-    assert!(rt; !board.is_hidden() && !bar.is_hidden());
-    assert_eq!(rt; bar.set_message("z"), Ok(Drawn::Yes));
-    shows(&rt, &board, "z");
-    order_is_unknown(&rt, &board);
+    let mut on = Stage::plain(rt, rt.alloc())?;
+    play(&rt, &mut on, &CALLS);
+    assert!(rt; !has_order(on.board(), &[]));
+    assert!(rt; !on.board().is_hidden());
+    assert!(rt; given(&on) == Ok((7, 8)));
     Ok(())
 }
+
+// ---- readings
+
+/// A bar that was hidden, on the board.
+fn hidden_bar<R: Wait + Copy + Clone + Drop>(
+    on: &mut Stage<R>,
+    rt: R,
+    alloc: Global,
+) -> Result<Drawn, Refusal> {
+    let bar = ProgressBar::hidden(rt, alloc, StepClock { next: 5, step: 0 })?;
+    let bar = on.board().add(bar)?;
+    on.keep(bar)
+}
+
+/// Whether the message and the prefix of the first bar are these.
+fn texts<R: Wait + Copy + Clone + Drop>(
+    on: &Stage<R>,
+    wanted: (&str, &str),
+) -> Result<bool, Refusal> {
+    let bar = on.bar(0)?;
+    let message = bar.message()?.as_str() == wanted.0;
+    let prefix = bar.prefix()?.as_str() == wanted.1;
+    Ok(message && prefix)
+}
+
+/// The numbers of the first bar.
+fn numbers<R: Wait + Copy + Clone + Drop>(on: &Stage<R>) -> Result<(u64, Option<u64>), Refusal> {
+    let bar = on.bar(0)?;
+    Ok((bar.position(), bar.length()))
+}
+
+/// Its times.
+fn times<R: Wait + Copy + Clone + Drop>(on: &Stage<R>) -> Result<(u64, u64, u64), Refusal> {
+    let bar = on.bar(0)?;
+    Ok((bar.eta(), bar.duration(), bar.elapsed()))
+}
+
+const TELLS: [Row; 8] = [
+    Row::Does(Step::Tell(0, Told::SetLength(10)), YES),
+    Row::Does(Step::Tell(0, Told::Update(4)), YES),
+    Row::Stands(0, 1, false),
+    Row::Does(Step::Tell(0, Told::SetTabWidth(4)), YES),
+    Row::Does(Step::Tell(0, Told::WithPrefix("p")), LIMITED),
+    Row::Does(Step::Tell(0, Told::WithMessage("m")), LIMITED),
+    Row::Hidden(0, false),
+    Row::Stands(0, 1, false),
+];
+
+const ENDS: [Row; 2] = [
+    Row::Does(Step::Tell(0, Told::FinishWithMessage("d")), YES),
+    Row::Stands(0, 1, true),
+];
 
 /// What a bar tells of itself is the same on a board.
 #[test]
 fn readings_on_a_board(rt: HostRuntime) -> Result<(), Fail> {
-    let board = board_on(rt, rt.alloc(), 1)?;
-    let bar = board.add(ProgressBar::hidden(rt, rt.alloc(), StepClock { next: 5, step: 0 })?)?;
-    assert_eq!(rt; bar.set_length(10), Ok(Drawn::Yes));
-    let drawn = bar.update(|state| indicatif::Change {
-        pos: Some(state.pos().wrapping_add(4)),
-        len: None,
-    });
-    assert_eq!(rt; drawn, Ok(Drawn::Yes));
-    assert_eq!(rt;
-        (bar.position(), bar.length(), bar.ticks()),
-        (4, Some(10), 1)
-    );
-    assert_eq!(rt; (bar.eta(), bar.duration(), bar.elapsed()), (0, 0, 0));
-    assert_eq!(rt; bar.set_tab_width(4), Ok(Drawn::Yes));
-    assert_eq!(rt; bar.tab_width(), 4);
-    let bar = bar.with_prefix("p")?.with_message("m")?;
-    assert_eq!(rt; bar.message()?.as_str(), "m");
-    assert_eq!(rt; bar.prefix()?.as_str(), "p");
-    assert!(rt; !bar.is_hidden() && !bar.is_finished());
-    assert_eq!(rt; bar.finish_with_message("d"), Ok(Drawn::Yes));
-    assert!(rt; bar.is_finished());
-    assert_eq!(rt; bar.message()?.as_str(), "d");
+    let mut on = Stage::plain(rt, rt.alloc())?;
+    assert!(rt; hidden_bar(&mut on, rt, rt.alloc()) == LIMITED);
+    play(&rt, &mut on, &TELLS);
+    assert!(rt; numbers(&on) == Ok((4, Some(10))));
+    assert!(rt; times(&on) == Ok((0, 0, 0)));
+    assert!(rt; on.bar(0)?.tab_width() == 4);
+    assert!(rt; texts(&on, ("m", "p")) == Ok(true));
+    play(&rt, &mut on, &ENDS);
+    assert!(rt; texts(&on, ("d", "p")) == Ok(true));
     Ok(())
 }

@@ -1,106 +1,19 @@
-//! Boards that are shared and keep their history: a fresh board that makes the calls that were kept gives the same answers and the
-//! same picture.
-use crate::on_boards::{Bar, Shared, alone, bar_on, recorded_on, target};
-use indicatif::{
-    Answer, Board, Call, Change, Drawn, InMemoryTerm, MultiProgressAlignment, NoTracker,
-    ProgressStyle, RecordReader, Recorded, Refusal,
-};
+//! Boards that are shared among threads and keep their history: a fresh board that makes the calls that were kept gives the same
+//! answers and the same picture.
+use crate::numbers::next;
+use crate::on_boards::{Bar, Shared, bar_on, recorded_on, target};
+use crate::replays::{counted, is_one_run, kept_calls, removals};
+use crate::said::{Said, Word};
+use crate::stage::{Put, Stage, YES};
+use crate::tickers::{tick_off, ticks_on, waits};
+use indicatif::{Drawn, MultiProgressAlignment, Refusal};
 use std::alloc::Global;
 use std::process::Abort;
 use std::sync::Wait;
 use std::test::Fail;
-use std::thread::join;
-use std::{thread, time};
+use std::thread::{self, Threads, join};
 
-type Kept = Recorded<NoTracker, InMemoryTerm>;
-
-/// The rows of a terminal, those that have scrolled away first.
-fn rows(term: Option<&InMemoryTerm>) -> Result<Vec<String>, Refusal> {
-    match term {
-        Some(term) => term.picture(),
-        None => Err(Refusal::NotMember),
-    }
-}
-
-/// Whether a board shows the same rows as another.
-fn same_rows(one: Option<&InMemoryTerm>, other: Option<&InMemoryTerm>) -> Result<bool, Refusal> {
-    let (one, other) = (rows(one)?, rows(other)?);
-    Ok(one == other)
-}
-
-/// Whether a fresh board makes the calls that were kept with the same answers, and then shows the same rows.
-fn is_replayed(alloc: Global, kept: &Kept) -> Result<bool, Refusal> {
-    let mut fresh = Board::new(alloc, target(alloc)?, kept.opening().mark);
-    for entry in kept.entries() {
-        let answer = fresh.call(entry.call.try_clone(alloc)?, entry.now);
-        if answer != entry.answer {
-            return Ok(false);
-        }
-    }
-    same_rows(fresh.term(), kept.board().term())
-}
-
-/// The same of what a board has kept; false where it keeps no history.
-#[derive(Drop)]
-struct Replays {
-    alloc: Global,
-}
-
-impl RecordReader<InMemoryTerm> for Replays {
-    type Found = bool;
-
-    fn read(self, record: Option<&Recorded<NoTracker, InMemoryTerm>>) -> bool {
-        match record {
-            Some(kept) => is_replayed(self.alloc, kept) == Ok(true),
-            None => false,
-        }
-    }
-}
-
-fn is_one_run<R: Wait + Copy + Clone + Drop>(rt: &impl Abort, alloc: Global, board: &Shared<R>) {
-    assert!(rt; board.with_record(Replays { alloc }));
-}
-
-/// How many calls a board has kept; 0 where it keeps no history.
-#[derive(Drop)]
-struct Length;
-
-impl RecordReader<InMemoryTerm> for Length {
-    type Found = usize;
-
-    fn read(self, record: Option<&Recorded<NoTracker, InMemoryTerm>>) -> usize {
-        match record {
-            Some(kept) => kept.entries().len(),
-            None => 0,
-        }
-    }
-}
-
-fn kept_calls<R: Wait + Copy + Clone + Drop>(board: &Shared<R>) -> usize {
-    board.with_record(Length)
-}
-
-/// Whether each call that was kept logged a text and was drawn.
-#[derive(Drop)]
-struct AreLogs;
-
-impl RecordReader<InMemoryTerm> for AreLogs {
-    type Found = bool;
-
-    fn read(self, record: Option<&Recorded<NoTracker, InMemoryTerm>>) -> bool {
-        let Some(kept) = record else {
-            return false;
-        };
-        for entry in kept.entries() {
-            if !matches!(&entry.call, Call::Log(_)) || entry.answer != Answer::Drawn(Drawn::Yes) {
-                return false;
-            }
-        }
-        true
-    }
-}
-
-// ---- threads
+// ---- texts from two threads
 
 /// Logs a text fifty times; how often it was drawn.
 fn log_fifty<R: Wait + Copy + Clone + Drop>(board: &Shared<R>, text: &str) -> u64 {
@@ -113,51 +26,95 @@ fn log_fifty<R: Wait + Copy + Clone + Drop>(board: &Shared<R>, text: &str) -> u6
     drawn
 }
 
+/// How often a board has logged this text.
+fn logged<R: Wait + Copy + Clone + Drop>(board: &Shared<R>, text: &str) -> u64 {
+    counted(board, Said::Board(Word::Text("log", text)))
+}
+
 #[test]
 fn two_threads_log(rt: HostRuntime) -> Result<(), Fail> {
-    let board = recorded_on(rt, rt.alloc(), 1)?;
-    let other = board.clone()?;
+    let board = Box::new(rt.alloc(), recorded_on(rt, rt.alloc(), 1)?)?;
     let drawn = join(
         &rt,
         || log_fifty(&board, "mine"),
-        || log_fifty(&other, "theirs"),
+        || log_fifty(&board, "theirs"),
     );
     assert_eq!(rt; drawn, (50, 50));
     assert_eq!(rt; kept_calls(&board), 100);
-    assert!(rt; board.with_record(AreLogs));
+    assert_eq!(rt;
+        (logged(&board, "mine"), logged(&board, "theirs")),
+        (50, 50)
+    );
     is_one_run(&rt, rt.alloc(), &board);
     Ok(())
 }
 
-/// A fixed generator of numbers: Marsaglia's xorshift of 64 bits, with the shifts 13, 7 and 17.
-fn next(seed: &mut u64) -> u64 {
-    let mut x = *seed;
-    x ^= x.wrapping_shl(13);
-    x ^= x >> 7;
-    x ^= x.wrapping_shl(17);
-    *seed = x;
-    x
+// ---- a board in two threads
+
+fn crosses<X: Send + Sync>(_board: &X) {}
+
+/// A bar on the board that is drawn, fifty texts, and the bar's end; how many texts were drawn.
+fn adds_and_logs<R: Wait + Copy + Clone + Drop>(
+    board: &Shared<R>,
+    rt: R,
+    alloc: Global,
+    text: &str,
+) -> Result<u64, Refusal> {
+    let bar = bar_on(board, rt, alloc, text)?;
+    bar.tick()?;
+    let drawn = log_fifty(board, text);
+    bar.finish()?;
+    Ok(drawn)
 }
+
+/// How many bars the board has been given, and how many of them are gone.
+fn came_and_went<R: Wait + Copy + Clone + Drop>(board: &Shared<R>) -> (u64, u64) {
+    let gone = Word::Plain("drop");
+    (
+        kept_calls(board) as u64,
+        counted(board, Said::Bar(0, gone)).saturating_add(counted(board, Said::Bar(1, gone))),
+    )
+}
+
+/// One owner of a board goes into another thread, and both add bars and log.
+#[test]
+fn a_board_crosses_threads(rt: HostRuntime) -> Result<(), Fail> {
+    let board = Box::new(rt.alloc(), recorded_on(rt, rt.alloc(), 1)?)?;
+    crosses(&*board);
+    let other = board.clone()?;
+    let child = thread::spawn(&rt, move || {
+        adds_and_logs(&other, rt, rt.alloc(), "theirs").unwrap_or(0)
+    })?;
+    let mine = adds_and_logs(&board, rt, rt.alloc(), "mine").unwrap_or(0);
+    assert_eq!(rt; (mine, child.join(&rt)), (50, 50));
+    assert_eq!(rt;
+        (logged(&board, "mine"), logged(&board, "theirs")),
+        (50, 50)
+    );
+    assert_eq!(rt; came_and_went(&board), (108, 2));
+    is_one_run(&rt, rt.alloc(), &board);
+    Ok(())
+}
+
+// ---- a thousand calls
 
 /// One of a board's calls by a number.
 fn board_call<R: Wait + Copy + Clone + Drop>(board: &Shared<R>, number: u64) {
-    match number {
-        0 => {
-            let _ = board.println("log");
-        }
-        1 => {
-            let _ = board.clear();
-        }
-        2 => {
-            let _ = board.suspend(|| ());
-        }
-        3 => {
-            let _ = board.set_alignment(MultiProgressAlignment::Bottom);
-        }
-        _ => {
-            let _ = board.set_alignment(MultiProgressAlignment::Top);
-        }
-    }
+    let _ = match number {
+        0 => board.println("log"),
+        1 => board.clear(),
+        2 => board.suspend(|| ()).1,
+        3 => align(board, MultiProgressAlignment::Bottom),
+        _ => align(board, MultiProgressAlignment::Top),
+    };
+}
+
+fn align<R: Wait + Copy + Clone + Drop>(
+    board: &Shared<R>,
+    alignment: MultiProgressAlignment,
+) -> Result<Drawn, Refusal> {
+    board.set_alignment(alignment)?;
+    Ok(Drawn::Limited)
 }
 
 /// One of a bar's calls by a number.
@@ -176,140 +133,117 @@ fn bar_call<R: Wait + Copy + Clone + Drop>(bar: &Bar<R>, number: u64) {
     };
 }
 
-/// A bar in the place of another, which leaves its board by its last owner's drop.
-fn renewed<R: Wait + Copy + Clone + Drop>(
+/// What a thread plays with: a bar of its own, and how often it took a bar out of the order.
+#[derive(Drop)]
+struct Player<R: Wait + Copy + Clone + Drop> {
+    bar: Bar<R>,
+    removals: u64,
+}
+
+fn player_on<R: Wait + Copy + Clone + Drop>(
     board: &Shared<R>,
     rt: R,
     alloc: Global,
-    bar: Bar<R>,
-) -> Result<Bar<R>, Refusal> {
-    bar.release();
-    bar_on(board, rt, alloc, "new")
+) -> Result<Box<Player<R>>, Refusal> {
+    let bar = bar_on(board, rt, alloc, "bar")?;
+    Ok(Box::new(alloc, Player { bar, removals: 0 })?)
 }
 
-/// Two hundred and fifty calls on a board and a bar of it, by the numbers of a generator.
+impl<R: Wait + Copy + Clone + Drop> Player<R> {
+    /// A bar in the place of the other, which leaves its board by its last owner's drop.
+    fn renew(&mut self, board: &Shared<R>, rt: R, alloc: Global) -> Result<(), Refusal> {
+        self.bar = bar_on(board, rt, alloc, "new")?;
+        Ok(())
+    }
+
+    /// Takes the bar out of the order, tells it something while it stands alone, and takes it in before all others.
+    fn leave(&mut self, board: &Shared<R>) -> Result<(), Refusal> {
+        board.remove(&self.bar)?;
+        self.removals = self.removals.saturating_add(1);
+        let _ = self.bar.set_message("moved");
+        self.bar = board.insert(0, self.bar.clone()?)?;
+        Ok(())
+    }
+
+    /// A call by a number.
+    fn call(
+        &mut self,
+        board: &Shared<R>,
+        rt: R,
+        alloc: Global,
+        number: u64,
+    ) -> Result<(), Refusal> {
+        match number {
+            0..5 => board_call(board, number),
+            5 => self.renew(board, rt, alloc)?,
+            6 => self.leave(board)?,
+            _ => bar_call(&self.bar, number.wrapping_sub(7)),
+        }
+        Ok(())
+    }
+}
+
+/// Takes a bar that several threads have out of the order, and in again.
+fn toss<R: Wait + Copy + Clone + Drop>(board: &Shared<R>, bar: &Bar<R>) -> Result<(), Refusal> {
+    board.remove(bar)?;
+    let _ = bar.inc(1);
+    let _ = board.add(bar.clone()?)?;
+    Ok(())
+}
+
+/// Two hundred and fifty calls on a board and a bar of it, by the numbers of a generator, and some on a bar that other threads have
+/// too; how often the bar was taken out of the order.
 fn play<R: Wait + Copy + Clone + Drop>(
-    board: &Shared<R>,
+    on: &Stage<R>,
     rt: R,
     alloc: Global,
     mut seed: u64,
-) -> Result<(), Refusal> {
-    let mut bar = bar_on(board, rt, alloc, "bar")?;
+) -> Result<u64, Refusal> {
+    let mut player = player_on(on.board(), rt, alloc)?;
+    let common = on.bar(0)?;
     for _ in 0..250u32 {
-        let number = next(&mut seed) % 20;
-        if number < 5 {
-            board_call(board, number);
-        } else if number == 5 {
-            bar = renewed(board, rt, alloc, bar)?;
-        } else {
-            bar_call(&bar, number.wrapping_sub(6));
+        let number = next(&mut seed) % 21;
+        player.call(on.board(), rt, alloc, number)?;
+        if number == 9 {
+            toss(on.board(), common)?;
         }
     }
-    Ok(())
+    Ok(player.removals)
 }
 
-/// A thousand calls from four threads.
+/// The same in two threads; how often both took their bars out, 0 where one of them was refused something.
+fn play_two<R: Wait + Threads + Copy + Clone + Drop + Send + Sync>(
+    on: &Stage<R>,
+    rt: R,
+    alloc: Global,
+    seeds: (u64, u64),
+) -> (u64, u64) {
+    join(
+        &rt,
+        || play(on, rt, alloc, seeds.0).unwrap_or(0),
+        || play(on, rt, alloc, seeds.1).unwrap_or(0),
+    )
+}
+
+/// A thousand calls from four threads, with bars that are taken out and come back.
 #[test]
 fn a_thousand_calls(rt: HostRuntime) -> Result<(), Fail> {
-    let board = recorded_on(rt, rt.alloc(), 1)?;
-    let (first, second) = join(
+    let mut on = Stage::recorded(rt, rt.alloc())?;
+    on.take_in(Put::End, "all")?;
+    let (one, other) = join(
         &rt,
-        || {
-            join(
-                &rt,
-                || play(&board, rt, rt.alloc(), 1).is_ok(),
-                || play(&board, rt, rt.alloc(), 2).is_ok(),
-            )
-        },
-        || {
-            join(
-                &rt,
-                || play(&board, rt, rt.alloc(), 3).is_ok(),
-                || play(&board, rt, rt.alloc(), 4).is_ok(),
-            )
-        },
+        || play_two(&on, rt, rt.alloc(), (1, 2)),
+        || play_two(&on, rt, rt.alloc(), (3, 4)),
     );
-    assert_eq!(rt; (first, second), ((true, true), (true, true)));
-    assert!(rt; kept_calls(&board) >= 1000);
-    is_one_run(&rt, rt.alloc(), &board);
-    Ok(())
-}
-
-// ---- each call
-
-/// Each command of a bar adds one call, a pause two, and a reading none.
-#[test]
-fn each_call_is_kept_once(rt: HostRuntime) -> Result<(), Fail> {
-    let board = recorded_on(rt, rt.alloc(), 1)?;
-    let bar = bar_on(&board, rt, rt.alloc(), "a")?;
-    let before = kept_calls(&board);
-    assert_eq!(rt; before, 1);
-    commands(&bar);
-    assert_eq!(rt; kept_calls(&board), 13);
-    texts(rt.alloc(), &bar)?;
-    assert_eq!(rt; kept_calls(&board), 22);
-    ends(&bar);
-    assert_eq!(rt; kept_calls(&board), 29);
-    readings(&bar)?;
-    assert_eq!(rt; kept_calls(&board), 29);
-    assert_eq!(rt; bar.suspend(|| 7u8).0, 7);
-    assert_eq!(rt; board.suspend(|| 8u8).0, 8);
-    assert_eq!(rt; kept_calls(&board), 33);
-    bar.release();
-    assert_eq!(rt; kept_calls(&board), 34);
-    is_one_run(&rt, rt.alloc(), &board);
-    Ok(())
-}
-
-/// Twelve commands with numbers.
-fn commands<R: Wait + Copy + Clone + Drop>(bar: &Bar<R>) {
-    let _ = bar.tick();
-    let _ = bar.inc(2);
-    let _ = bar.dec(1);
-    let _ = bar.set_position(5);
-    let _ = bar.set_length(9);
-    let _ = bar.inc_length(3);
-    let _ = bar.dec_length(1);
-    let _ = bar.unset_length();
-    let _ = bar.update(|state| Change {
-        pos: Some(state.pos()),
-        len: None,
-    });
-    let _ = bar.set_elapsed(0);
-    let _ = bar.reset_eta();
-    let _ = bar.reset_elapsed();
-}
-
-/// Nine that change what a bar says.
-fn texts<R: Wait + Copy + Clone + Drop>(alloc: Global, bar: &Bar<R>) -> Result<(), Refusal> {
-    let _ = bar.set_message("m");
-    let _ = bar.set_prefix("p");
-    let _ = bar.println("l");
-    let _ = bar.set_style(ProgressStyle::with_template(alloc, "{prefix}{msg}")?);
-    let _ = bar.set_tab_width(2);
-    let _ = bar.force_draw();
-    let bar = bar.clone()?.with_message("n")?.with_prefix("q")?;
-    let _ = bar.with_position(3);
-    Ok(())
-}
-
-/// Seven that finish it, or let it go on.
-fn ends<R: Wait + Copy + Clone + Drop>(bar: &Bar<R>) {
-    let _ = bar.finish();
-    let _ = bar.reset();
-    let _ = bar.finish_with_message("f");
-    let _ = bar.abandon();
-    let _ = bar.abandon_with_message("g");
-    let _ = bar.finish_using_style();
-    let _ = bar.finish_and_clear();
-}
-
-/// What a bar tells of itself.
-fn readings<R: Wait + Copy + Clone + Drop>(bar: &Bar<R>) -> Result<(), Refusal> {
-    let _ = (bar.position(), bar.length(), bar.ticks());
-    let _ = (bar.is_finished(), bar.is_hidden(), bar.tab_width());
-    let _ = (bar.eta(), bar.duration(), bar.elapsed(), bar.per_sec());
-    let _ = (bar.message()?, bar.prefix()?);
+    assert!(rt; one.0 > 0 && one.1 > 0 && other.0 > 0 && other.1 > 0);
+    let own = one
+        .0
+        .saturating_add(one.1)
+        .saturating_add(other.0)
+        .saturating_add(other.1);
+    assert!(rt; own >= 20 && removals(on.board()) > own);
+    assert!(rt; kept_calls(on.board()) >= 1000);
+    is_one_run(&rt, rt.alloc(), on.board());
     Ok(())
 }
 
@@ -318,38 +252,35 @@ fn readings<R: Wait + Copy + Clone + Drop>(bar: &Bar<R>) -> Result<(), Refusal> 
 /// A board with its history keeps its target.
 #[test]
 fn a_target_stays(rt: HostRuntime) -> Result<(), Fail> {
-    let board = recorded_on(rt, rt.alloc(), 1)?;
-    let refused = board.set_draw_target(target(rt.alloc())?);
-    assert_eq!(rt; refused, Err(Refusal::RecordedTarget));
-    assert_eq!(rt; kept_calls(&board), 0);
-    let lone = alone(rt, rt.alloc(), "l")?;
-    assert_eq!(rt; board.remove(&lone), Ok(()));
-    assert_eq!(rt; kept_calls(&board), 0);
+    let on = Stage::recorded(rt, rt.alloc())?;
+    let refused = on.board().set_draw_target(target(rt.alloc())?);
+    assert!(rt; refused == Err(Refusal::RecordedTarget));
+    assert_eq!(rt; kept_calls(on.board()), 0);
     Ok(())
 }
 
-/// Whether the bar has ticked, by the last of 10,000 readings a millisecond apart.
-fn has_ticked<R: Wait + time::Clock + Copy + Clone + Drop>(rt: &R, bar: &Bar<R>) -> bool {
-    for _ in 0..10_000u32 {
-        if bar.ticks() > 0 {
-            return true;
-        }
-        thread::sleep(rt, time::Duration::from_millis(1));
-    }
-    false
+/// How often the first bar ticked by its ticker, and how often a ticker was set and told off.
+fn of_the_ticker<R: Wait + Copy + Clone + Drop>(board: &Shared<R>) -> (u64, u64, u64) {
+    let named = |name| counted(board, Said::Bar(0, Word::Plain(name)));
+    (
+        named("ticker's tick"),
+        named("ticker on"),
+        named("ticker off"),
+    )
 }
 
-/// A board that is suspended beside a ticker draws again.
+/// A board that is suspended beside a ticker draws again; the history has the ticker's ticks, and no more once it is told off.
 #[test]
 fn a_pause_beside_a_ticker(rt: HostRuntime) -> Result<(), Fail> {
-    let board = recorded_on(rt, rt.alloc(), 1)?;
-    let bar = bar_on(&board, rt, rt.alloc(), "a")?;
-    bar.enable_steady_tick(1_000_000)?;
-    assert!(rt; has_ticked(&rt, &bar));
-    assert_eq!(rt; board.suspend(|| 7u8), (7, Ok(Drawn::Yes)));
-    bar.disable_steady_tick()?;
-    let (first, second) = (bar.ticks(), bar.ticks());
-    assert_eq!(rt; first, second);
-    is_one_run(&rt, rt.alloc(), &board);
+    let mut on = Stage::recorded(rt, rt.alloc())?;
+    on.take_in(Put::End, "a")?;
+    on.bar(0)?.enable_steady_tick(1_000_000)?;
+    assert!(rt; ticks_on(&rt, on.bar(0)?, 0));
+    assert!(rt; on.board().suspend(|| 7u8) == (7, YES));
+    tick_off(on.bar(0)?)?;
+    let ticks = on.bar(0)?.ticks();
+    waits(&rt);
+    assert_eq!(rt; of_the_ticker(on.board()), (ticks, 1, 1));
+    is_one_run(&rt, rt.alloc(), on.board());
     Ok(())
 }

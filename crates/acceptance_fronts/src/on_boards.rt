@@ -1,7 +1,7 @@
 //! Boards and bars for tests, of which each call stands in a function of its own.
 use indicatif::{
     InMemoryTerm, MultiProgress, NoTracker, ProgressBar, ProgressDrawTarget, ProgressStyle,
-    RecordReader, Recorded, Refusal, StepClock,
+    Refusal, StepClock,
 };
 use std::alloc::Global;
 use std::process::Abort;
@@ -60,6 +60,11 @@ pub fn bar_on<R: Wait + Copy + Clone + Drop>(
     board.add(alone(rt, alloc, text)?)
 }
 
+/// A spinner of three texts and the message; the last text is for a finished bar.
+pub fn spinner(alloc: Global, last: &str) -> Result<ProgressStyle<NoTracker>, Refusal> {
+    ProgressStyle::with_template(alloc, "{spinner} {msg}")?.tick_strings(&["-", "+", last])
+}
+
 /// What stands on a terminal.
 fn text_of(term: Option<&InMemoryTerm>) -> Option<String> {
     match term {
@@ -68,42 +73,22 @@ fn text_of(term: Option<&InMemoryTerm>) -> Option<String> {
     }
 }
 
-/// What stands on a bar's terminal.
-pub fn contents<R: Wait + Copy + Clone + Drop>(bar: &Bar<R>) -> Option<String> {
-    bar.with_term(|term| text_of(term))
+/// Whether this text stands on a bar's terminal.
+pub fn is_on_bar<R: Wait + Copy + Clone + Drop>(bar: &Bar<R>, wanted: &str) -> bool {
+    let text = bar.with_term(|term| text_of(term));
+    text.is_some_and(|text| text.as_str() == wanted)
 }
 
-/// What stands on a board's terminal.
-fn shown<R: Wait + Copy + Clone + Drop>(board: &Shared<R>) -> Option<String> {
-    board.with_term(|term| text_of(term))
+/// Whether this text stands on a board's terminal.
+pub fn is_on_board<R: Wait + Copy + Clone + Drop>(board: &Shared<R>, wanted: &str) -> bool {
+    let text = board.with_term(|term| text_of(term));
+    text.is_some_and(|text| text.as_str() == wanted)
+}
+
+pub fn says<R: Wait + Copy + Clone + Drop>(rt: &impl Abort, bar: &Bar<R>, wanted: &str) {
+    assert!(rt; is_on_bar(bar, wanted));
 }
 
 pub fn shows<R: Wait + Copy + Clone + Drop>(rt: &impl Abort, board: &Shared<R>, wanted: &str) {
-    assert!(rt; shown(board).is_some_and(|text| text.as_str() == wanted));
-}
-
-/// Whether a board with its history has these bars, in this order.
-#[derive(Drop)]
-struct HasOrder<'a> {
-    wanted: &'a [u64],
-}
-
-impl<'a> RecordReader<InMemoryTerm> for HasOrder<'a> {
-    type Found = bool;
-
-    fn read(self, record: Option<&Recorded<NoTracker, InMemoryTerm>>) -> bool {
-        match record {
-            Some(record) => record.board().order() == self.wanted,
-            None => false,
-        }
-    }
-}
-
-pub fn order<R: Wait + Copy + Clone + Drop>(rt: &impl Abort, board: &Shared<R>, wanted: &[u64]) {
-    assert!(rt; board.with_record(HasOrder { wanted }));
-}
-
-/// A board without a history tells none.
-pub fn order_is_unknown<R: Wait + Copy + Clone + Drop>(rt: &impl Abort, board: &Shared<R>) {
-    assert!(rt; !board.with_record(HasOrder { wanted: &[] }));
+    assert!(rt; is_on_board(board, wanted));
 }

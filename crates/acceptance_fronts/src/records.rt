@@ -1,31 +1,28 @@
 //! Boards that keep their history: a fresh board that makes the calls that were kept gives the same answers and the same picture.
+use crate::replays::{Kept, answers_so, rows_of, same_rows};
 use indicatif_bar::state::{BarCommand, BarState, ProgressFinish};
 use indicatif_bar::style::{NoTracker, ProgressStyle};
-use indicatif_board::multi::{Answer, BarId, Board, Call, Candidate, InsertLocation, Recorded};
+use indicatif_board::multi::{
+    Answer, BarId, Board, Call, Candidate, Entry, InsertLocation, Recorded, Size,
+};
 use indicatif_term::draw_target::ProgressDrawTarget;
 use indicatif_term::in_memory::InMemoryTerm;
 use indicatif_text::columns::{Drawn, Refusal};
 use std::alloc::Global;
-use std::process::Abort;
 use std::sync::{Mutex, Wait};
 use std::test::Fail;
 use std::thread::join;
 
-type Kept = Recorded<NoTracker, InMemoryTerm>;
-
-/// A target on a terminal in memory of these rows and columns.
-fn target(
-    alloc: Global,
-    rows: u16,
-    cols: u16,
-) -> Result<ProgressDrawTarget<InMemoryTerm>, Refusal> {
-    let term = InMemoryTerm::new(alloc, rows, cols)?;
+/// A target on a terminal in memory of so many rows and 10 columns.
+fn target(alloc: Global, rows: u16) -> Result<ProgressDrawTarget<InMemoryTerm>, Refusal> {
+    let term = InMemoryTerm::new(alloc, rows, 10)?;
     Ok(ProgressDrawTarget::term_like(term))
 }
 
 /// A board of the mark 1 that keeps its history.
-fn kept_on(alloc: Global, rows: u16, cols: u16) -> Result<Kept, Refusal> {
-    Ok(Recorded::new(alloc, target(alloc, rows, cols)?, 1))
+fn kept_on(alloc: Global, rows: u16) -> Result<Box<Kept>, Refusal> {
+    let kept = Recorded::new(alloc, target(alloc, rows)?, 1);
+    Ok(Box::new(alloc, kept)?)
 }
 
 /// A bar whose one line is this text.
@@ -36,162 +33,208 @@ fn bar_saying(alloc: Global, text: &str) -> Result<BarState<NoTracker>, Refusal>
     Ok(bar)
 }
 
-/// The call that takes such a bar in behind all others.
-fn add(alloc: Global, text: &str) -> Result<Call<NoTracker>, Refusal> {
-    let bar = bar_saying(alloc, text)?;
-    Ok(Call::Insert {
-        at: InsertLocation::End,
-        candidate: Candidate::New(bar),
-    })
-}
-
 /// The bar of this number.
 fn id(number: u64) -> BarId {
     BarId { mark: 1, number }
 }
 
-/// A command of the bar of this number.
-fn tell(number: u64, command: BarCommand<NoTracker>) -> Call<NoTracker> {
-    Call::Bar(id(number), command)
+/// A call, by its name.
+#[derive(Clone, Copy, Drop)]
+enum Asked {
+    /// A new bar with this message, taken in there.
+    New(InsertLocation, &'static str),
+    Tick(u64),
+    Finish(u64),
+    Remove(u64),
+    Gone(u64),
+    Log(&'static str),
 }
 
-/// The call that logs this text.
-fn log(alloc: Global, text: &str) -> Result<Call<NoTracker>, Refusal> {
-    Ok(Call::Log(String::from_str(alloc, text)?))
+/// The same call as a value.
+fn call_of(alloc: Global, asked: Asked) -> Result<Call<NoTracker>, Refusal> {
+    Ok(match asked {
+        Asked::New(at, text) => Call::Insert {
+            at,
+            candidate: Candidate::New(bar_saying(alloc, text)?),
+        },
+        Asked::Tick(number) => Call::Bar(id(number), BarCommand::Tick),
+        Asked::Finish(number) => {
+            Call::Bar(id(number), BarCommand::Finish(ProgressFinish::AndLeave))
+        }
+        Asked::Remove(number) => Call::Remove(id(number)),
+        Asked::Gone(number) => Call::Drop(id(number)),
+        Asked::Log(text) => Call::Log(String::from_str(alloc, text)?),
+    })
 }
 
-/// Makes a call at the moment 0.
-fn made(board: &mut Kept, call: Call<NoTracker>) -> Answer {
-    board.apply(call, 0).0
+/// Whether a bar has this message; where there is none, the message is empty.
+fn is_named(bar: Option<BarState<NoTracker>>, wanted: &str) -> bool {
+    match &bar {
+        Some(bar) => bar.message() == wanted,
+        None => wanted.is_empty(),
+    }
 }
 
-/// The rows of a terminal, those that have scrolled away first, without empty ones at the end.
-fn rows(alloc: Global, term: Option<&InMemoryTerm>) -> Result<String, Refusal> {
-    let mut text = String::new(alloc);
-    let mut empty: u64 = 0;
-    if let Some(term) = term {
-        for row in term.picture()? {
-            if row.is_empty() {
-                empty = empty.saturating_add(1);
-                continue;
-            }
-            for _ in 0..empty {
-                text.push('\n')?;
-            }
-            empty = 0;
-            text.push_str(row.as_str())?;
-            text.push('\n')?;
+/// Makes a call at the moment 0; whether it answers so, and hands a bar with this message back.
+fn answers(
+    alloc: Global,
+    board: &mut Kept,
+    asked: Asked,
+    wanted: &(Answer, &str),
+) -> Result<bool, Refusal> {
+    let call = call_of(alloc, asked)?;
+    let (answer, bar) = board.apply(call, 0);
+    Ok(is_named(bar, wanted.1) && answer == wanted.0)
+}
+
+/// Whether a board answers so, one call after another.
+fn all_answer(
+    alloc: Global,
+    board: &mut Kept,
+    rows: &[(Asked, (Answer, &str))],
+) -> Result<bool, Refusal> {
+    for row in rows {
+        if !answers(alloc, board, row.0, &row.1)? {
+            return Ok(false);
         }
     }
-    Ok(text)
+    Ok(true)
 }
 
-/// A fresh board on a target of this size makes the calls that were kept: the same answers, and the same rows.
-fn replayed(rt: &impl Abort, alloc: Global, kept: &Kept, size: (u16, u16)) -> Result<(), Fail> {
-    let mut fresh = Board::new(alloc, target(alloc, size.0, size.1)?, kept.opening().mark);
-    for entry in kept.entries() {
-        let answer = fresh.call(entry.call.try_clone(alloc)?, entry.now);
-        assert!(rt; answer == entry.answer);
-        assert!(rt;
-            entry
-                .size
-                .is_some_and(|s| s.rows == size.0 && s.columns == size.1)
-        );
+/// Whether these rows stand on a terminal, those that have scrolled away first, and nothing below.
+fn has_rows(term: Option<&InMemoryTerm>, wanted: &[&str]) -> Result<bool, Refusal> {
+    let Some(term) = term else {
+        return Ok(false);
+    };
+    let rows = term.picture()?;
+    for (place, row) in rows.iter().enumerate() {
+        if row.as_str() != wanted.get(place).copied().unwrap_or("") {
+            return Ok(false);
+        }
     }
-    let shown = rows(alloc, fresh.term())?;
-    assert_eq!(rt; shown.as_str(), rows(alloc, kept.board().term())?.as_str());
-    Ok(())
+    Ok(rows.len() >= wanted.len())
 }
+
+/// Whether each call was made on a terminal of this size.
+fn were_on(entries: &[Entry<NoTracker>], size: Size) -> bool {
+    for entry in entries {
+        if entry.size != Some(size) {
+            return false;
+        }
+    }
+    true
+}
+
+/// Whether a fresh board on a target of so many rows makes the calls that were kept with the same answers, and shows the same.
+fn is_replayed(alloc: Global, kept: &Kept, rows: u16) -> Result<bool, Refusal> {
+    let board = Board::new(alloc, target(alloc, rows)?, kept.opening().mark);
+    let mut fresh = Box::new(alloc, board)?;
+    let same = answers_so(&mut fresh, alloc, kept.entries())?;
+    let size = Size { columns: 10, rows };
+    let shown = same_rows(rows_of(fresh.term()), rows_of(kept.board().term()))?;
+    Ok(same && shown && were_on(kept.entries(), size))
+}
+
+const YES: Answer = Answer::Drawn(Drawn::Yes);
 
 /// Two bars, of which the first is finished and dropped, another one, and a text: `k` stays above the text.
-fn play(alloc: Global, board: &mut Kept) -> Result<(), Refusal> {
-    made(board, add(alloc, "k")?);
-    made(board, add(alloc, "x")?);
-    made(board, tell(0, BarCommand::Tick));
-    made(board, tell(1, BarCommand::Tick));
-    made(board, tell(0, BarCommand::Finish(ProgressFinish::AndLeave)));
-    made(board, Call::Drop(id(0)));
-    made(board, add(alloc, "y")?);
-    made(board, tell(2, BarCommand::Tick));
-    made(board, log(alloc, "l")?);
-    Ok(())
-}
+const RUN: [(Asked, (Answer, &str)); 9] = [
+    (
+        Asked::New(InsertLocation::End, "k"),
+        (Answer::Id(BarId { mark: 1, number: 0 }), ""),
+    ),
+    (
+        Asked::New(InsertLocation::End, "x"),
+        (Answer::Id(BarId { mark: 1, number: 1 }), ""),
+    ),
+    (Asked::Tick(0), (YES, "")),
+    (Asked::Tick(1), (YES, "")),
+    (Asked::Finish(0), (YES, "")),
+    (Asked::Gone(0), (Answer::Drawn(Drawn::Limited), "")),
+    (
+        Asked::New(InsertLocation::End, "y"),
+        (Answer::Id(BarId { mark: 1, number: 2 }), ""),
+    ),
+    (Asked::Tick(2), (YES, "")),
+    (Asked::Log("l"), (YES, "")),
+];
 
 #[test]
 fn what_was_kept_is_one_run(rt: HostRuntime) -> Result<(), Fail> {
-    let mut board = kept_on(rt.alloc(), 2, 10)?;
-    play(rt.alloc(), &mut board)?;
+    let mut board = kept_on(rt.alloc(), 2)?;
+    assert!(rt; all_answer(rt.alloc(), &mut board, &RUN) == Ok(true));
     assert_eq!(rt; board.entries().len(), 9);
-    assert_eq!(rt;
-        rows(rt.alloc(), board.board().term())?.as_str(),
-        "k\nl\nx\ny\n"
-    );
-    replayed(&rt, rt.alloc(), &board, (2, 10))
+    assert!(rt; has_rows(board.board().term(), &["k", "l", "x", "y"]) == Ok(true));
+    assert!(rt; is_replayed(rt.alloc(), &board, 2) == Ok(true));
+    Ok(())
 }
 
-/// What a call answers, and the message of the bar that it hands back.
-fn handed(
-    alloc: Global,
-    board: &mut Kept,
-    call: Call<NoTracker>,
-) -> Result<(Answer, String), Refusal> {
-    let (answer, bar) = board.apply(call, 0);
-    let message = match &bar {
-        Some(bar) => String::from_str(alloc, bar.message())?,
-        None => String::new(alloc),
-    };
-    Ok((answer, message))
-}
+const FOREIGN: InsertLocation = InsertLocation::Before(BarId { mark: 2, number: 0 });
 
 /// A bar that was removed is handed back, and a new one that was turned away; nothing else is.
+const BACK: [(Asked, (Answer, &str)); 4] = [
+    (
+        Asked::New(InsertLocation::End, "a"),
+        (Answer::Id(BarId { mark: 1, number: 0 }), ""),
+    ),
+    (
+        Asked::New(FOREIGN, "b"),
+        (Answer::Refused(Refusal::ForeignBar), "b"),
+    ),
+    (Asked::Remove(0), (Answer::Done, "a")),
+    (Asked::Remove(0), (Answer::Done, "")),
+];
+
 #[test]
 fn bars_that_come_back(rt: HostRuntime) -> Result<(), Fail> {
-    let mut board = kept_on(rt.alloc(), 4, 10)?;
-    let (answer, message) = handed(rt.alloc(), &mut board, add(rt.alloc(), "a")?)?;
-    assert!(rt; answer == Answer::Id(id(0)) && message.is_empty());
-    let foreign = BarId { mark: 2, number: 0 };
-    let bar = Candidate::New(bar_saying(rt.alloc(), "b")?);
-    let call = Call::Insert {
-        at: InsertLocation::Before(foreign),
-        candidate: bar,
-    };
-    let (answer, message) = handed(rt.alloc(), &mut board, call)?;
-    assert!(rt; answer == Answer::Refused(Refusal::ForeignBar) && message.as_str() == "b");
-    let (answer, message) = handed(rt.alloc(), &mut board, Call::Remove(id(0)))?;
-    assert!(rt; answer == Answer::Done && message.as_str() == "a");
-    let (answer, message) = handed(rt.alloc(), &mut board, Call::Remove(id(0)))?;
-    assert!(rt; answer == Answer::Done && message.is_empty());
+    let mut board = kept_on(rt.alloc(), 4)?;
+    assert!(rt; all_answer(rt.alloc(), &mut board, &BACK) == Ok(true));
     assert_eq!(rt; board.entries().len(), 4);
-    replayed(&rt, rt.alloc(), &board, (4, 10))
+    assert!(rt; is_replayed(rt.alloc(), &board, 4) == Ok(true));
+    Ok(())
 }
 
-/// Logs a text fifty times, each under the lock; how often it was drawn.
-fn log_fifty<R: Wait>(rt: &R, alloc: Global, board: &Mutex<Kept>, text: &str) -> u64 {
+/// Logs a text under the lock; whether it was drawn.
+fn log_once<R: Wait>(rt: &R, alloc: Global, board: &Mutex<Box<Kept>>, text: &'static str) -> bool {
+    match call_of(alloc, Asked::Log(text)) {
+        Ok(call) => board.lock(rt).apply(call, 0).0 == YES,
+        Err(_) => false,
+    }
+}
+
+/// The same fifty times; how often it was drawn.
+fn log_fifty<R: Wait>(rt: &R, alloc: Global, board: &Mutex<Box<Kept>>, text: &'static str) -> u64 {
     let mut drawn: u64 = 0;
     for _ in 0..50u32 {
-        let Ok(call) = log(alloc, text) else {
-            return drawn;
-        };
-        if board.lock(rt).apply(call, 0).0 == Answer::Drawn(Drawn::Yes) {
+        if log_once(rt, alloc, board, text) {
             drawn = drawn.saturating_add(1);
         }
     }
     drawn
 }
 
+/// Whether each call that was kept logged a text.
+fn are_logs(entries: &[Entry<NoTracker>]) -> bool {
+    for entry in entries {
+        if !matches!(&entry.call, Call::Log(_)) {
+            return false;
+        }
+    }
+    true
+}
+
 #[test]
 fn two_threads_log_on_one_board(rt: HostRuntime) -> Result<(), Fail> {
-    let board = Mutex::new(kept_on(rt.alloc(), 5, 10)?);
-    let (mine, theirs) = join(
+    let board = Mutex::new(kept_on(rt.alloc(), 5)?);
+    let drawn = join(
         &rt,
         || log_fifty(&rt, rt.alloc(), &board, "mine"),
         || log_fifty(&rt, rt.alloc(), &board, "theirs"),
     );
-    assert_eq!(rt; (mine, theirs), (50, 50));
+    assert_eq!(rt; drawn, (50, 50));
     let kept = board.lock(&rt);
     assert_eq!(rt; kept.entries().len(), 100);
-    for entry in kept.entries() {
-        assert!(rt; matches!(&entry.call, Call::Log(_)));
-    }
-    replayed(&rt, rt.alloc(), &kept, (5, 10))
+    assert!(rt; are_logs(kept.entries()));
+    assert!(rt; is_replayed(rt.alloc(), &kept, 5) == Ok(true));
+    Ok(())
 }

@@ -1,9 +1,10 @@
 //! Steady tickers: on and off, replaced, and at the end of their bar. Each waits so many turns and no longer.
 use indicatif::{
-    Change, Drawn, InMemoryTerm, ProgressBar, ProgressDrawTarget, ProgressStyle, Refusal, Setup,
-    StepClock,
+    Change, Clock, Drawn, InMemoryTerm, ProgressBar, ProgressDrawTarget, ProgressStyle, Refusal,
+    Setup, StepClock, TermLike,
 };
 use std::alloc::Global;
+use std::process::Abort;
 use std::sync::Wait;
 use std::test::Fail;
 use std::time::Duration;
@@ -13,6 +14,9 @@ type Bar<R> = ProgressBar<InMemoryTerm, StepClock, R>;
 
 /// An hour: such a ticker ticks once in a test.
 const HOUR: u64 = 3_600_000_000_000;
+
+/// A millisecond.
+const OFTEN: u64 = 1_000_000;
 
 /// A bar that shows its position.
 fn bar_on<R: Wait + Clone + Drop>(rt: R, alloc: Global) -> Result<Bar<R>, Refusal> {
@@ -24,8 +28,19 @@ fn bar_on<R: Wait + Clone + Drop>(rt: R, alloc: Global) -> Result<Bar<R>, Refusa
     ProgressBar::new(rt, alloc, 10, setup)?.with_style(style)
 }
 
+/// Tells a bar's ticker off.
+pub fn tick_off<T: TermLike + Drop, C: Clock + Drop, R: Wait + Clone + Drop>(
+    bar: &ProgressBar<T, C, R>,
+) -> Result<(), Refusal> {
+    bar.disable_steady_tick()
+}
+
 /// Whether the bar has ticked more often than so, by the last of 10,000 readings a millisecond apart.
-fn ticks_on<R: Wait + time::Clock + Clone + Drop>(rt: &R, bar: &Bar<R>, before: u64) -> bool {
+pub fn ticks_on<T: TermLike + Drop, C: Clock + Drop, R: Wait + time::Clock + Clone + Drop>(
+    rt: &R,
+    bar: &ProgressBar<T, C, R>,
+    before: u64,
+) -> bool {
     for _ in 0..10_000u32 {
         if bar.ticks() > before {
             return true;
@@ -35,16 +50,63 @@ fn ticks_on<R: Wait + time::Clock + Clone + Drop>(rt: &R, bar: &Bar<R>, before: 
     false
 }
 
+/// Fifty turns of a millisecond: a ticker of a millisecond that goes on ticks meanwhile.
+pub fn waits<R: Wait + time::Clock>(rt: &R) {
+    for _ in 0..50u32 {
+        thread::sleep(rt, Duration::from_millis(1));
+    }
+}
+
+/// Whether two readings of the ticks with that time between them are equal.
+fn rests<R: Wait + time::Clock + Clone + Drop>(rt: &R, bar: &Bar<R>) -> bool {
+    let before = bar.ticks();
+    waits(rt);
+    bar.ticks() == before
+}
+
+/// Whether the bar ticks no more, by at most 500 such readings.
+fn comes_to_rest<R: Wait + time::Clock + Clone + Drop>(rt: &R, bar: &Bar<R>) -> bool {
+    for _ in 0..500u32 {
+        if rests(rt, bar) {
+            return true;
+        }
+    }
+    false
+}
+
+fn is<R: Abort>(rt: &R, found: Result<Drawn, Refusal>, wanted: Drawn) {
+    assert!(rt; found == Ok(wanted));
+}
+
+/// Once a ticker was told off, only the bar's own ticks count.
 #[test]
 fn on_and_off(rt: HostRuntime) -> Result<(), Fail> {
     let bar = bar_on(rt, rt.alloc())?;
-    bar.enable_steady_tick(1_000_000)?;
+    bar.enable_steady_tick(OFTEN)?;
     assert!(rt; ticks_on(&rt, &bar, 0));
-    bar.disable_steady_tick()?;
-    let (first, second) = (bar.ticks(), bar.ticks());
-    assert_eq!(rt; first, second);
-    assert_eq!(rt; bar.tick(), Ok(Drawn::Yes));
-    assert_eq!(rt; bar.ticks(), first.wrapping_add(1));
+    tick_off(&bar)?;
+    assert!(rt; rests(&rt, &bar));
+    let before = bar.ticks();
+    is(&rt, bar.tick(), Drawn::Yes);
+    assert_eq!(rt; bar.ticks(), before.wrapping_add(1));
+    assert!(rt; rests(&rt, &bar));
+    Ok(())
+}
+
+/// Told off twice, and told off where there was none, it is off; it can be told on again.
+#[test]
+fn off_and_on_again(rt: HostRuntime) -> Result<(), Fail> {
+    let bar = bar_on(rt, rt.alloc())?;
+    tick_off(&bar)?;
+    is(&rt, bar.tick(), Drawn::Yes);
+    bar.enable_steady_tick(HOUR)?;
+    tick_off(&bar)?;
+    tick_off(&bar)?;
+    let before = bar.ticks();
+    bar.enable_steady_tick(OFTEN)?;
+    assert!(rt; ticks_on(&rt, &bar, before));
+    tick_off(&bar)?;
+    assert!(rt; rests(&rt, &bar));
     Ok(())
 }
 
@@ -52,33 +114,46 @@ fn on_and_off(rt: HostRuntime) -> Result<(), Fail> {
 fn an_interval_of_0_changes_nothing(rt: HostRuntime) -> Result<(), Fail> {
     let bar = bar_on(rt, rt.alloc())?;
     bar.enable_steady_tick(0)?;
-    assert_eq!(rt; bar.tick(), Ok(Drawn::Yes));
+    is(&rt, bar.tick(), Drawn::Yes);
     assert_eq!(rt; bar.ticks(), 1);
+    assert!(rt; rests(&rt, &bar));
     Ok(())
-}
-
-/// Whether the bar ticks no more, by two readings 20 milliseconds apart, of at most 500.
-fn rests<R: Wait + time::Clock + Clone + Drop>(rt: &R, bar: &Bar<R>) -> bool {
-    for _ in 0..500u32 {
-        let before = bar.ticks();
-        thread::sleep(rt, Duration::from_millis(20));
-        if bar.ticks() == before {
-            return true;
-        }
-    }
-    false
 }
 
 /// A ticker that is replaced by one of an hour ends: nothing ticks any more, and disabling doesn't wait.
 #[test]
 fn replaced(rt: HostRuntime) -> Result<(), Fail> {
     let bar = bar_on(rt, rt.alloc())?;
-    bar.enable_steady_tick(1_000_000)?;
+    bar.enable_steady_tick(OFTEN)?;
     assert!(rt; ticks_on(&rt, &bar, 3));
     bar.enable_steady_tick(HOUR)?;
+    assert!(rt; comes_to_rest(&rt, &bar));
+    is(&rt, bar.tick(), Drawn::Limited);
+    tick_off(&bar)?;
     assert!(rt; rests(&rt, &bar));
-    bar.disable_steady_tick()?;
+    is(&rt, bar.tick(), Drawn::Yes);
     Ok(())
+}
+
+/// One of an hour that is replaced by one of a millisecond ticks on.
+#[test]
+fn replaced_by_a_faster_one(rt: HostRuntime) -> Result<(), Fail> {
+    let bar = bar_on(rt, rt.alloc())?;
+    bar.enable_steady_tick(HOUR)?;
+    assert!(rt; ticks_on(&rt, &bar, 0));
+    bar.enable_steady_tick(OFTEN)?;
+    assert!(rt; ticks_on(&rt, &bar, 10));
+    tick_off(&bar)?;
+    assert!(rt; rests(&rt, &bar));
+    Ok(())
+}
+
+/// An update that sets the position five further.
+fn five_further<R: Wait + Clone + Drop>(bar: &Bar<R>) -> Result<Drawn, Refusal> {
+    bar.update(|state| Change {
+        pos: Some(state.pos().wrapping_add(5)),
+        len: None,
+    })
 }
 
 /// Where a ticker is installed other ticks do nothing, and an update sets the position all the same.
@@ -86,16 +161,13 @@ fn replaced(rt: HostRuntime) -> Result<(), Fail> {
 fn an_update_beside_it(rt: HostRuntime) -> Result<(), Fail> {
     let bar = bar_on(rt, rt.alloc())?;
     bar.enable_steady_tick(HOUR)?;
-    let drawn = bar.update(|state| Change {
-        pos: Some(state.pos().wrapping_add(5)),
-        len: None,
-    });
-    assert_eq!(rt; drawn, Ok(Drawn::Limited));
+    is(&rt, five_further(&bar), Drawn::Limited);
     assert_eq!(rt; bar.position(), 5);
-    assert_eq!(rt; bar.tick(), Ok(Drawn::Limited));
+    is(&rt, bar.tick(), Drawn::Limited);
     let (told, drawn) = bar.suspend(|| 7u8);
-    assert_eq!(rt; (told, drawn), (7, Ok(Drawn::Yes)));
-    bar.disable_steady_tick()?;
+    assert_eq!(rt; told, 7);
+    is(&rt, drawn, Drawn::Yes);
+    tick_off(&bar)?;
     Ok(())
 }
 
@@ -103,15 +175,27 @@ fn an_update_beside_it(rt: HostRuntime) -> Result<(), Fail> {
 #[test]
 fn it_ends_with_its_bar(rt: HostRuntime) -> Result<(), Fail> {
     let bar = bar_on(rt, rt.alloc())?;
-    bar.enable_steady_tick(1_000_000)?;
+    bar.enable_steady_tick(OFTEN)?;
     assert!(rt; ticks_on(&rt, &bar, 0));
-    assert_eq!(rt; bar.finish(), Ok(Drawn::Yes));
-    let before = bar.ticks();
-    thread::sleep(&rt, Duration::from_millis(50));
-    assert_eq!(rt; bar.ticks(), before);
-    assert_eq!(rt; bar.tick(), Ok(Drawn::Limited));
-    bar.disable_steady_tick()?;
-    assert_eq!(rt; bar.tick(), Ok(Drawn::Yes));
+    is(&rt, bar.finish(), Drawn::Yes);
+    assert!(rt; rests(&rt, &bar));
+    is(&rt, bar.tick(), Drawn::Limited);
+    tick_off(&bar)?;
+    is(&rt, bar.tick(), Drawn::Yes);
+    Ok(())
+}
+
+/// A ticker of a bar that was finished before never ticks, and is installed all the same.
+#[test]
+fn after_its_bar(rt: HostRuntime) -> Result<(), Fail> {
+    let bar = bar_on(rt, rt.alloc())?;
+    is(&rt, bar.finish(), Drawn::Yes);
+    bar.enable_steady_tick(OFTEN)?;
+    assert!(rt; rests(&rt, &bar));
+    assert_eq!(rt; bar.ticks(), 0);
+    is(&rt, bar.tick(), Drawn::Limited);
+    tick_off(&bar)?;
+    is(&rt, bar.tick(), Drawn::Yes);
     Ok(())
 }
 
@@ -119,7 +203,7 @@ fn it_ends_with_its_bar(rt: HostRuntime) -> Result<(), Fail> {
 #[test]
 fn it_owns_nothing(rt: HostRuntime) -> Result<(), Fail> {
     let bar = bar_on(rt, rt.alloc())?;
-    bar.enable_steady_tick(1_000_000)?;
+    bar.enable_steady_tick(OFTEN)?;
     assert!(rt; ticks_on(&rt, &bar, 0));
     let weak = bar.downgrade()?;
     bar.release();

@@ -3,7 +3,8 @@ use crate::on_boards::{Bar, alone};
 use futures::stream::Stream;
 use futures::task::{Context, Poll};
 use futures::test::MockTask;
-use indicatif::ProgressBarIter;
+use indicatif::{ProgressBarIter, Refusal};
+use std::alloc::Global;
 use std::sync::Wait;
 use std::test::Fail;
 use tokio::io::{AsyncRead, AsyncWrite};
@@ -56,43 +57,79 @@ fn write<T: AsyncWrite, R: Wait + Copy + Clone + Drop>(
     }
 }
 
+/// A stream, wrapped by the bar.
+fn stream<R: Wait + Copy + Clone + Drop>(
+    alloc: Global,
+    bar: &Bar<R>,
+) -> Result<Box<ProgressBarIter<Below, Bar<R>>>, Refusal> {
+    Ok(Box::new(alloc, bar.wrap_stream(Below(2))?)?)
+}
+
 #[test]
 fn a_stream(rt: HostRuntime) -> Result<(), Fail> {
-    let task = MockTask::new(&rt)?;
+    let task = Box::new(rt.alloc(), MockTask::new(&rt)?)?;
     let bar = alone(rt, rt.alloc(), "a")?;
-    let mut wrapped = bar.wrap_stream(Below(2))?;
+    let mut wrapped = stream(rt.alloc(), &bar)?;
     assert!(rt; next(&task, &mut wrapped) == Poll::Ready(Some(1)));
-    assert_eq!(rt; bar.position(), 1);
+    assert!(rt; stands(&bar) == (1, false));
     assert!(rt; next(&task, &mut wrapped) == Poll::Ready(Some(0)));
-    assert_eq!(rt; (bar.position(), bar.is_finished()), (2, false));
+    assert!(rt; stands(&bar) == (2, false));
     assert!(rt; next(&task, &mut wrapped) == Poll::Ready(None));
-    assert_eq!(rt; (bar.position(), bar.is_finished()), (2, true));
+    assert!(rt; stands(&bar) == (2, true));
     Ok(())
+}
+
+/// Where the bar stands, and whether it is finished.
+fn stands<R: Wait + Copy + Clone + Drop>(bar: &Bar<R>) -> (u64, bool) {
+    (bar.position(), bar.is_finished())
+}
+
+/// A reader, wrapped by the bar.
+fn reader<R: Wait + Copy + Clone + Drop>(
+    alloc: Global,
+    bar: &Bar<R>,
+) -> Result<Box<ProgressBarIter<&'static [u8], Bar<R>>>, Refusal> {
+    Ok(Box::new(alloc, bar.wrap_async_read("abcdef".as_bytes())?)?)
 }
 
 #[test]
 fn a_polled_reader(rt: HostRuntime) -> Result<(), Fail> {
-    let task = MockTask::new(&rt)?;
+    let task = Box::new(rt.alloc(), MockTask::new(&rt)?)?;
     let bar = alone(rt, rt.alloc(), "a")?;
-    let mut wrapped = bar.wrap_async_read("abcdef".as_bytes())?;
+    let mut wrapped = reader(rt.alloc(), &bar)?;
     let mut room = [0u8; 4];
-    assert_eq!(rt; read(&task, &mut wrapped, &mut room), Some(4));
+    assert!(rt; read(&task, &mut *wrapped, &mut room) == Some(4));
     assert!(rt; room.as_slice() == "abcd".as_bytes());
-    assert_eq!(rt; bar.position(), 4);
-    assert_eq!(rt; read(&task, &mut wrapped, &mut room), Some(2));
-    assert_eq!(rt; (bar.position(), bar.is_finished()), (6, false));
+    assert!(rt; stands(&bar) == (4, false));
+    assert!(rt; read(&task, &mut *wrapped, &mut room) == Some(2));
+    assert!(rt; stands(&bar) == (6, false));
     Ok(())
+}
+
+/// A writer, wrapped by the bar.
+fn writer<R: Wait + Copy + Clone + Drop>(
+    alloc: Global,
+    bar: &Bar<R>,
+) -> Result<Box<ProgressBarIter<Vec<u8>, Bar<R>>>, Refusal> {
+    Ok(Box::new(alloc, bar.wrap_async_write(Vec::new(alloc))?)?)
+}
+
+/// What was written.
+fn written<R: Wait + Copy + Clone + Drop>(
+    wrapped: Box<ProgressBarIter<Vec<u8>, Bar<R>>>,
+) -> Vec<u8> {
+    Box::into_inner(wrapped).into_inner().0
 }
 
 #[test]
 fn a_polled_writer(rt: HostRuntime) -> Result<(), Fail> {
-    let task = MockTask::new(&rt)?;
+    let task = Box::new(rt.alloc(), MockTask::new(&rt)?)?;
     let bar = alone(rt, rt.alloc(), "a")?;
-    let mut wrapped = bar.wrap_async_write(Vec::new(rt.alloc()))?;
-    assert_eq!(rt; write(&task, &mut wrapped, b"abc"), Some(3));
-    assert_eq!(rt; write(&task, &mut wrapped, b"de"), Some(2));
-    assert_eq!(rt; (bar.position(), bar.is_finished()), (5, false));
-    let (written, _) = wrapped.into_inner();
-    assert!(rt; written.as_slice() == "abcde".as_bytes());
+    let mut wrapped = writer(rt.alloc(), &bar)?;
+    assert!(rt; write(&task, &mut *wrapped, b"abc") == Some(3));
+    assert!(rt; write(&task, &mut *wrapped, b"de") == Some(2));
+    assert!(rt; stands(&bar) == (5, false));
+    let bytes = written(wrapped);
+    assert!(rt; bytes.as_slice() == "abcde".as_bytes());
     Ok(())
 }
