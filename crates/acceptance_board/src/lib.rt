@@ -7,7 +7,11 @@
 //! - `orders`: the order of bars, and their slots.
 //! - `bad_input`: commands, arguments and sizes that are refused.
 //! - `streams`: readers and writers that fail.
-//! - `examples`: the examples of the documentation.
+//! - `examples`, `documented`: the examples of the documentation.
+//! - `screens`: a terminal that can be read at any time and that fails where it is told to. `played`: a board on one.
+//! - `rated`: boards with a rate. `refused`: their draws that are refused. `turned_away`: candidates that come back.
+//! - `suspended`: when a suspended board runs its closure.
+//! - `program`: the program without a word, and over a writer that is full.
 #![tactic(auto)]
 
 #[cfg(test)]
@@ -19,12 +23,28 @@ mod call_values;
 #[cfg(test)]
 mod calls;
 #[cfg(test)]
+mod documented;
+#[cfg(test)]
 mod examples;
 #[cfg(test)]
 mod orders;
 #[cfg(test)]
+mod played;
+#[cfg(test)]
+mod program;
+#[cfg(test)]
+mod rated;
+#[cfg(test)]
+mod refused;
+#[cfg(test)]
 mod runs;
+#[cfg(test)]
+mod screens;
 #[cfg(test)]
 mod shown;
 #[cfg(test)]
 mod streams;
+#[cfg(test)]
+mod suspended;
+#[cfg(test)]
+mod turned_away;
