@@ -7,7 +7,7 @@
 //! - `orders`: the order of bars, and their slots.
 //! - `bad_input`: commands, arguments and sizes that are refused.
 //! - `streams`: readers and writers that fail.
-//! - `examples`: the examples of the documentation.
+//! - `examples`: the examples of the documentation. `documented`: those of a board with its history.
 #![tactic(auto)]
 
 #[cfg(test)]
@@ -18,6 +18,8 @@ mod boards;
 mod call_values;
 #[cfg(test)]
 mod calls;
+#[cfg(test)]
+mod documented;
 #[cfg(test)]
 mod examples;
 #[cfg(test)]
