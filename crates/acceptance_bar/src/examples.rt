@@ -1,4 +1,4 @@
-//! An example of each public type, as its documentation gives it.
+//! An example of each public type.
 use indicatif_bar::state::Ask;
 use indicatif_bar::style::NoTracker;
 use indicatif_term::draw_target::{

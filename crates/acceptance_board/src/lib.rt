@@ -7,7 +7,7 @@
 //! - `orders`: the order of bars, and their slots.
 //! - `bad_input`: commands, arguments and sizes that are refused.
 //! - `streams`: readers and writers that fail.
-//! - `examples`, `documented`: the examples of the documentation.
+//! - `examples`, `documented`, `documented_history`: the examples of the documentation.
 //! - `screens`: a terminal that can be read at any time and that fails where it is told to. `played`: a board on one.
 //! - `rated`: boards with a rate. `refused`: their draws that are refused. `turned_away`: candidates that come back.
 //! - `suspended`: when a suspended board runs its closure.
@@ -24,6 +24,8 @@ mod call_values;
 mod calls;
 #[cfg(test)]
 mod documented;
+#[cfg(test)]
+mod documented_history;
 #[cfg(test)]
 mod examples;
 #[cfg(test)]

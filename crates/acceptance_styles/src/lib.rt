@@ -6,6 +6,8 @@ mod bar_lines;
 #[cfg(test)]
 mod builders;
 #[cfg(test)]
+mod documented;
+#[cfg(test)]
 mod laid_out;
 #[cfg(test)]
 mod line_layout;

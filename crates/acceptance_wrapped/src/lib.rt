@@ -7,11 +7,13 @@
 //! - `readers`, `buffered`, `seeks`, `writers`: bytes that are read and written.
 //! - `setups`: what a bar on a terminal behind a writer is made with.
 //! - `streams`, `polled`: streams, and readers and writers that are polled.
-//! - `machines`: what is asked of the machine, with a made-up environment.
+//! - `machines`: what is asked of the machine, with a made-up environment. `clocks`: its clock.
 #![tactic(auto)]
 
 #[cfg(test)]
 mod buffered;
+#[cfg(test)]
+mod clocks;
 #[cfg(test)]
 mod counted;
 #[cfg(test)]

@@ -22,6 +22,7 @@ pub fn words<R: Env + Alloc<A = Global>>(rt: &R) -> Result<Vec<String>, Refusal>
 mod tests {
     use super::words;
     use std::env::{Env, FillError};
+    use std::process::Abort;
     use std::test::Fail;
 
     /// A program that was started by these words.
@@ -51,6 +52,14 @@ mod tests {
         }
     }
 
+    /// The words are these.
+    fn are_words(rt: &impl Abort, words: &[String], wanted: &[&str]) {
+        assert_eq!(rt; words.len(), wanted.len());
+        for (word, wanted) in words.iter().zip(wanted) {
+            assert_eq!(rt; word.as_str(), *wanted);
+        }
+    }
+
     #[test]
     fn words_behind_the_name(rt: HostRuntime) -> Result<(), Fail> {
         let table: [(&'static [&'static [u8]], &[&str]); 6] = [
@@ -63,10 +72,7 @@ mod tests {
         ];
         for (started, wanted) in table {
             let words = words(&(Started(started), rt.alloc()))?;
-            assert_eq!(rt; words.len(), wanted.len());
-            for (word, wanted) in words.iter().zip(wanted) {
-                assert_eq!(rt; word.as_str(), *wanted);
-            }
+            are_words(&rt, &words, wanted);
         }
         Ok(())
     }
