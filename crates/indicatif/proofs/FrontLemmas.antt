@@ -51,13 +51,6 @@ pub place_untold : {T C : Type 0} (place : Place T C) (e : Refusal) → IsUntold
 place_untold (Alone bar) e untold = inl untold
 place_untold (On seat) e untold = untold
 
--- a bar that a board doesn't find is another board's, or none
-pub not_found : {X A B : Type 0} (P : X → Type 0) (Q : Type 0) (mark ours : ℕ) (found : Result X Refusal) → (A × (mark ≡ ours)) ⊎ (B × (mark ≢ ours)) →
-    (mark ≢ ours → found ≡ Err ForeignBar) → (mark ≡ ours → MatchResult found P (λ e. (e ≡ NotMember) × Q)) → IfErr found NoText
-not_found P Q mark ours found (inr other) foreign here = subst (λ r. IfErr r NoText) (sym (foreign other.1)) (inr (inl refl))
-not_found P Q mark ours (Ok bar) (inl same) foreign here = tt
-not_found P Q mark ours (Err e) (inl same) foreign here = inr (inr (here same.1).0)
-
 pub no_memory : {T : Type 0} (view : T → TermView) (call : SharedCall) → SharedDraws view call (Err Memory)
 no_memory view call = (Refused Memory, refl, inr refl)
 
