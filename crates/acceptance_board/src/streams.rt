@@ -6,14 +6,14 @@ use std::io;
 use std::io::{Error, ErrorKind, Read, Write};
 use std::test::Fail;
 
-/// Gives its bytes one a call, then fails.
+/// Gives its bytes one a call, then fails so.
 #[derive(Drop)]
-struct BreaksOff(&'static [u8]);
+struct BreaksOff(&'static [u8], ErrorKind);
 
 impl Read for BreaksOff {
     fn read(&mut self, buf: &mut [u8]) -> io::Result<usize> {
         let Some((first, rest)) = self.0.split_first() else {
-            return Err(Error::from(ErrorKind::BrokenPipe));
+            return Err(Error::from(self.1));
         };
         let Some(place) = buf.first_mut() else {
             return Ok(0);
@@ -36,10 +36,22 @@ fn input_that_fails(rt: HostRuntime) -> Result<(), Fail> {
     ];
     for (input, err, status) in table {
         let mut out: Vec<u8> = Vec::new(rt.alloc());
-        let said = ran(rt.alloc(), "run 4 10", BreaksOff(input), &mut out)?;
+        let input_breaks = BreaksOff(input, ErrorKind::BrokenPipe);
+        let said = ran(rt.alloc(), "run 4 10", input_breaks, &mut out)?;
         assert!(rt; said.is(err, status), "of {input:?}");
         assert!(rt; out.is_empty());
     }
+    Ok(())
+}
+
+/// A reader that finds no memory is one that fails: it isn't the program that found none.
+#[test]
+fn input_without_memory(rt: HostRuntime) -> Result<(), Fail> {
+    let mut out: Vec<u8> = Vec::new(rt.alloc());
+    let input = BreaksOff(b"add a\ntick 1\n", ErrorKind::OutOfMemory);
+    let said = ran(rt.alloc(), "run 4 10", input, &mut out)?;
+    assert!(rt; said.is("bars: input failed\n", 2));
+    assert!(rt; out.is_empty());
     Ok(())
 }
 
