@@ -1,6 +1,8 @@
 //! A board that keeps its history: the examples of the documentation.
+use crate::shown::bar_saying;
+use indicatif_bar::state::BarCommand;
 use indicatif_bar::style::NoTracker;
-use indicatif_board::multi::{Answer, Call, Recorded, Size};
+use indicatif_board::multi::{Answer, BarId, Call, Candidate, InsertLocation, Recorded, Size};
 use indicatif_term::draw_target::{ProgressDrawTarget, RateLimiter};
 use indicatif_term::in_memory::InMemoryTerm;
 use indicatif_text::columns::{Drawn, Moment, Refusal};
@@ -75,12 +77,21 @@ fn allowed(limiter: &RateLimiter) -> u32 {
     count
 }
 
-/// The limiter stays as the target came: 20 draws are in hand.
+/// Takes a bar in and draws it, without force.
+fn ticks(record: &mut Kept, candidate: Candidate<NoTracker>) -> Answer {
+    let at = InsertLocation::End;
+    record.apply(Call::Insert { at, candidate }, 0);
+    let first = BarId { mark: 7, number: 0 };
+    record.apply(Call::Bar(first, BarCommand::Tick), 0).0
+}
+
+/// The limiter stays as the target came: 20 draws are in hand, though one was made.
 #[test]
 fn an_opening(rt: HostRuntime) -> Result<(), Fail> {
     let target = Target::term_like_with_hz(terminal(rt.alloc())?, 20, 0)?;
     let mut record = kept_on(rt.alloc(), target)?;
-    cleared(&mut record, 0);
+    let answer = ticks(&mut record, bar_saying(rt.alloc(), "a")?);
+    assert!(rt; answer == Answer::Drawn(Drawn::Yes));
     let opening = record.opening();
     assert_eq!(rt; opening.mark, 7);
     assert_eq!(rt; opening.limiter.as_ref().map(allowed), Some(20));

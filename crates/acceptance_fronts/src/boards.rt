@@ -13,7 +13,7 @@ use std::test::Fail;
 
 /// The last release of a bar that isn't finished finishes it, and its row stays until a text is logged; an owner that isn't the
 /// last leaves the bar as it is.
-const RELEASED: [Row; 15] = [
+const RELEASED: [Row; 17] = [
     Row::Does(Step::New(Put::End, "b"), LIMITED),
     Row::Does(Step::New(Put::Before(0), "a"), LIMITED),
     Row::Does(Step::Tell(1, Told::WithFinish(End::Leave)), LIMITED),
@@ -27,6 +27,8 @@ const RELEASED: [Row; 15] = [
     Row::Does(Step::Release, LIMITED),
     Row::Shows("a\nb"),
     Row::Order(&[0]),
+    Row::Does(Step::Tell(0, Told::Tick), YES),
+    Row::Shows("a\nb"),
     Row::Does(Step::Log("l"), YES),
     Row::Shows("l\nb"),
 ];
@@ -50,12 +52,23 @@ fn drawn_and_dropped<R: Wait + Copy + Clone + Drop>(
     bar.tick()
 }
 
+/// What a bar that was dropped leaves: it stands above the next one that is drawn, until a text is logged.
+const DROPPED: [Row; 7] = [
+    Row::Shows("a"),
+    Row::Order(&[]),
+    Row::Does(Step::New(Put::End, "b"), LIMITED),
+    Row::Does(Step::Tell(0, Told::Tick), YES),
+    Row::Shows("a\nb"),
+    Row::Does(Step::Log("l"), YES),
+    Row::Shows("l\nb"),
+];
+
 /// So does a plain drop.
 #[test]
 fn a_plain_drop_leaves_its_rows(rt: HostRuntime) -> Result<(), Fail> {
     let mut on = Stage::recorded(rt, rt.alloc())?;
     assert!(rt; drawn_and_dropped(&on, rt, rt.alloc(), End::Leave) == YES);
-    play(&rt, &mut on, &[Row::Shows("a"), Row::Order(&[])]);
+    play(&rt, &mut on, &DROPPED);
     Ok(())
 }
 
@@ -103,6 +116,18 @@ fn is_last_owner<R: Wait + Copy + Clone + Drop>(on: &mut Stage<R>) -> Result<boo
     let weak = on.bar(1)?.downgrade()?;
     on.release()?;
     Ok(weak.upgrade().is_none())
+}
+
+/// The only owner of a bar is handed to another board, which turns it away: the bar is dropped from its own.
+#[test]
+fn the_only_owner_is_given_up(rt: HostRuntime) -> Result<(), Fail> {
+    let mut on = Stage::recorded(rt, rt.alloc())?;
+    let bar = [Row::Does(Step::New(Put::End, "a"), LIMITED)];
+    play(&rt, &mut on, &bar);
+    let other = Stage::plain(rt, rt.alloc())?;
+    assert!(rt; on.is_turned_away(other.board(), Refusal::ForeignBar));
+    play(&rt, &mut on, &[Row::Order(&[])]);
+    Ok(())
 }
 
 /// Two bars that stand alone.

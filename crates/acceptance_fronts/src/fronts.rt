@@ -118,6 +118,26 @@ fn weak_bars(rt: HostRuntime) -> Result<(), Fail> {
     Ok(())
 }
 
+/// Whether another owner moves the bar, and keeps it once this one is given up.
+fn is_owned_by<R: Wait + Copy + Clone + Drop>(bar: Bar<R>, other: &Bar<R>) -> bool {
+    let moved = other.set_position(3).is_ok() && bar.position() == 3;
+    bar.release();
+    moved && !other.is_finished()
+}
+
+/// What a weak bar gives is an owner of the same bar, and at last the only one.
+#[test]
+fn a_weak_bar_gives_an_owner(rt: HostRuntime) -> Result<(), Fail> {
+    let bytes = no_bytes(rt.alloc())?;
+    let bar = bar_on(rt, rt.alloc(), &bytes, "{pos}")?;
+    let weak = weaks_of(rt.alloc(), &bar)?;
+    let other = weak.one.upgrade().ok_or(Refusal::Memory)?;
+    assert!(rt; is_owned_by(bar, &other));
+    other.release();
+    assert!(rt; !is_there(&weak.one));
+    Ok(())
+}
+
 /// One that never had a bar has none.
 #[test]
 fn a_weak_bar_without_a_bar(rt: HostRuntime) -> Result<(), Fail> {

@@ -284,3 +284,17 @@ fn a_pause_beside_a_ticker(rt: HostRuntime) -> Result<(), Fail> {
     is_one_run(&rt, rt.alloc(), on.board());
     Ok(())
 }
+
+/// The ticker of a bar whose last owner is gone ticks no more.
+#[test]
+fn a_ticker_without_an_owner(rt: HostRuntime) -> Result<(), Fail> {
+    let mut on = Stage::recorded(rt, rt.alloc())?;
+    on.take_in(Put::End, "a")?;
+    on.bar(0)?.enable_steady_tick(1_000_000)?;
+    assert!(rt; ticks_on(&rt, on.bar(0)?, 0));
+    on.release()?;
+    let kept = kept_calls(on.board());
+    waits(&rt);
+    assert_eq!(rt; kept_calls(on.board()), kept);
+    Ok(())
+}

@@ -167,6 +167,14 @@ impl<R: Wait + Copy + Clone + Drop> Stage<R> {
         }
     }
 
+    /// Hands the last owner to another board; whether that refuses it so.
+    pub fn is_turned_away(&mut self, other: &Shared<R>, wanted: Refusal) -> bool {
+        match self.bars.pop() {
+            Some(bar) => other.add(bar).is_err_and(|refusal| refusal == wanted),
+            None => false,
+        }
+    }
+
     fn remove(&self, place: usize) -> Result<Drawn, Refusal> {
         self.board.remove(self.bar(place)?)?;
         Ok(Drawn::Limited)

@@ -1,7 +1,7 @@
 //! Shows three bars at once, each moved by a thread of its own. What is printed doesn't hang on which of them goes first.
 use anyhow::{Result, anyhow};
 use indicatif::{
-    Drawn, InMemoryTerm, MultiProgress, ProgressBar, ProgressDrawTarget, Refusal, StepClock,
+    Drawn, InMemoryTerm, MultiProgress, ProgressBar, ProgressDrawTarget, Refusal, Setup, StepClock,
 };
 use std::sync::Wait;
 use std::thread::{Threads, join};
@@ -17,7 +17,7 @@ fn copy<R: Wait + Copy + Drop>(bar: &Bar<R>, parts: u32) -> Result<Drawn, Refusa
 pub fn main<R: AllocGlobal + Print + Threads + Wait + Sync + Copy + Drop>(rt: R) -> Result<()> {
     let clock = StepClock { next: 0, step: 1 };
     let target = ProgressDrawTarget::term_like(InMemoryTerm::new(rt.alloc(), 4, 20)?);
-    let board = MultiProgress::with_draw_target(rt, rt.alloc(), target, clock, 1)?;
+    let board = MultiProgress::new(rt, rt.alloc(), Setup { target, clock }, 1)?;
     let a = board.add(ProgressBar::hidden(rt, rt.alloc(), clock)?)?;
     let b = board.add(ProgressBar::hidden(rt, rt.alloc(), clock)?)?;
     let c = board.add(ProgressBar::hidden(rt, rt.alloc(), clock)?)?;

@@ -62,8 +62,11 @@ use tokio::io::{AsyncRead, AsyncWrite};
 ///
 /// Once the last owner is gone, by `release` or by being dropped, a bar that isn't finished is finished by its stored finish.
 ///
-/// Its clauses say which answers come: for some bar and some moment it is the bar's. That the bar under the lock was changed so
-/// is what tests show, since no clause can name what a lock keeps.
+/// A bar that stands on a board answers as the board does when it is told that call of that bar; so each command may be refused
+/// `Memory` there (its history, or the copy of a text, finds none), and `NotMember` where the board hasn't the bar.
+///
+/// Its clauses say which answers come: for some bar, or some board, and some moment they are that one's. That the bar under the lock
+/// was changed so is what tests show, since no clause can name what a lock keeps.
 ///
 /// ```
 /// let bar = ProgressBar::new(rt, rt.alloc(), 100, setup)?;
@@ -602,7 +605,7 @@ impl<T: TermLike + Drop, C: Clock + Drop, R: Wait + Clone + Drop> ProgressBar<T,
         }
     }
 
-    /// At this position, which the rate doesn't count.
+    /// At this position, which the rate doesn't count. On a board whose history finds no memory nothing is set.
     pub fn with_position(self, position: u64) -> Self {
         let _ = self.tell(BarCommand::WithPosition(position));
         self
@@ -620,7 +623,7 @@ impl<T: TermLike + Drop, C: Clock + Drop, R: Wait + Clone + Drop> ProgressBar<T,
         }
     }
 
-    /// With this stored finish.
+    /// With this stored finish. On a board whose history finds no memory nothing is set.
     pub fn with_finish(self, finish: ProgressFinish) -> Self {
         let _ = self.tell(BarCommand::WithFinish(finish));
         self

@@ -49,7 +49,7 @@ use std::mem::replace;
 /// dropped bars at the head of the order out of it. After `Terminal` no bar leaves the order, and the next draw begins on a new row.
 ///
 /// ```
-/// let mut board = Board::new(alloc, ProgressDrawTarget::term_like(term), 1);
+/// let mut board: Board<NoTracker, _> = Board::new(alloc, ProgressDrawTarget::term_like(term), 1);
 /// board.println("a.txt", now)?; // stands above the bars from now on
 /// ```
 #[derive(Drop)]
@@ -450,10 +450,11 @@ impl<K: ProgressTracker, T: TermLike + Drop> Board<K, T> {
     }
 
     /// Makes the calls one after another, each at its moment, and answers what each answered. No calls change nothing, and are never
-    /// refused. A call that names another board's bar is answered so, and changes nothing. A bar that none of the calls removes,
-    /// drops or tells something keeps its record.
+    /// refused. A call that names another board's bar (of an insertion beside an anchor, that anchor) is answered `ForeignBar`, and
+    /// changes nothing. A bar that none of the calls removes, drops or tells something keeps its record. Bars that are removed or
+    /// turned away are given up.
     ///
-    /// Refused: `Memory` for the answers alone, and nothing is run.
+    /// Refused: `Memory` for the answers alone, and nothing is run; the calls are given up.
     pub fn run(&mut self, calls: Vec<(Call<K>, Moment)>) -> Result<Vec<Answer>, Refusal>
         ensures run { (mark : ℕ) (s : BoardState (BarRecord K)) → IsIn mark self.old s →
             let old = known T.view self.old in let new = known T.view self.new in

@@ -59,7 +59,8 @@ pub struct Entry<K> {
 /// What a board began with, its terminal apart.
 ///
 /// ```
-/// let record = Recorded::new(alloc, ProgressDrawTarget::term_like_with_hz(term, 20, 0)?, 7);
+/// let target = ProgressDrawTarget::term_like_with_hz(term, 20, 0)?;
+/// let record: Recorded<NoTracker, _> = Recorded::new(alloc, target, 7);
 /// let opening = record.opening(); // its mark is 7, and its limiter has 20 draws in hand, whatever the board has drawn since
 /// ```
 #[derive(Drop)]

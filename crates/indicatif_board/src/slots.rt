@@ -17,7 +17,7 @@ use std::marker::Model;
 /// let mut state = MultiState::new(alloc);
 /// let first = state.insert(0)?;
 /// let second = state.insert(0)?; // stands before the first
-/// assert_eq!(state.order(), [second, first]);
+/// assert_eq!(state.order(), [second, first].as_slice());
 /// assert_eq!(state.slot(second), Some(1));
 /// ```
 #[derive(Drop)]
