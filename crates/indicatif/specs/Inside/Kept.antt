@@ -6,11 +6,12 @@ use Rattle.indicatif_text.specs.declared.refusal.Drawn.{Drawn}
 use Rattle.indicatif_term.specs.Calls.{TermView}
 use Rattle.indicatif_bar.specs.Trackers.{writes_nothing}
 use Rattle.indicatif_bar.specs.declared.tracker.NoTracker.{NoTracker}
-use Rattle.indicatif_board.specs.Boards.{Id, Answer, Given, Done, Drew, Refused, Clear, Redraw, Remove, drawn_of}
+use Rattle.indicatif_bar.specs.Commands.{BarRecord}
+use Rattle.indicatif_board.specs.Boards.{Id, Location, Entrant, Answer, Given, Done, Drew, Refused, Clear, Redraw, Insert, Remove, drawn_of}
 use Rattle.indicatif_board.specs.Multi.{LeadsBy}
 use Rattle.indicatif_board.specs.Recorded.{Record, AddsCall}
 use Rattle.indicatif_board.specs.declared.multi.Board.{Board}
-use Rattle.indicatif.specs.SharedBoards.{SharedCall}
+use Rattle.indicatif.specs.SharedBoards.{SharedCall, given_by}
 use Rattle.indicatif.specs.declared.progress_bar.kept.Kept.{Kept}
 use Rattle.indicatif.specs.declared.progress_bar.kept.Kept.TheVariants.{Open, Recorded}
 
@@ -35,6 +36,10 @@ module _ {T : Type 0} (view : T → TermView) where
   -- the same of a removal, by whether it was refused
   abbrev pub KeptRemoves : Kept T → Id → ℕ → Option Refusal → Kept T → Type 0
   KeptRemoves old id now refused new = (told : Answer) × (refused ≡ refusal_of told) × KeptMakes view old (Remove id) now told new
+
+  -- the same of an insertion, by what it gives
+  abbrev pub KeptTakes : Kept T → Location → Entrant (BarRecord NoTracker) → ℕ → Result Id Refusal → Kept T → Type 0
+  KeptTakes old at entrant now taken new = (told : Answer) × (taken ≡ given_by told) × KeptMakes view old (Insert at entrant) now told new
 
   -- one that was suspended was cleared and drawn again at the same moment; or the clear was refused, and nothing drawn
   abbrev pub KeptSuspends : Kept T → ℕ → Result Drawn Refusal → Kept T → Type 0

@@ -4,10 +4,10 @@ ghost use Rattle.indicatif_term.specs.Targets.{term_of};
 ghost use Rattle.indicatif_bar.specs.Trackers.{writes_nothing};
 ghost use Rattle.indicatif_board.specs.Boards.{Remove, Refused, drawn_of};
 ghost use Rattle.indicatif_board.specs.BoardValues.{id_of};
-ghost use Rattle.indicatif_board.specs.Calls.{call_of, answer_of, place_at, removal};
+ghost use Rattle.indicatif_board.specs.Calls.{call_of, answer_of, entrant_of, place_at, removal};
 ghost use Rattle.indicatif_board.specs.Multi.{LeadsBy, terminal_of};
 ghost use Rattle.indicatif.specs.SharedBoards.{BoardCan, SharedAnswers, SharedDraws, SharedSuspends, SharedTakes, given_by};
-ghost use Rattle.indicatif.specs.Inside.Kept.{KeptMakes, KeptDraws, KeptRemoves, KeptSuspends, refusal_of};
+ghost use Rattle.indicatif.specs.Inside.Kept.{KeptMakes, KeptDraws, KeptTakes, KeptRemoves, KeptSuspends, refusal_of};
 
 use indicatif_bar::state::BarState;
 use indicatif_bar::style::NoTracker;
@@ -238,7 +238,8 @@ impl<T: Drop, C> SharedBoard<T, C> {
 impl<T: TermLike + Drop, C: Clock + Drop> SharedBoard<T, C> {
     /// A call that draws.
     pub fn draw(&mut self, call: Call<NoTracker>) -> Result<Drawn, Refusal>
-        ensures { SharedDraws T.view (call_of call) result }
+        ensures made { (now : ℕ) × KeptDraws T.view self.old.kept (call_of call) now result self.new.kept }
+        ensures can { SharedDraws T.view (call_of call) result }
     {
         let now = self.clock.now();
         self.kept.draw(call, now)
@@ -250,7 +251,10 @@ impl<T: TermLike + Drop, C: Clock + Drop> SharedBoard<T, C> {
         at: InsertLocation,
         candidate: Candidate<NoTracker>,
     ) -> Result<BarId, Refusal>
-        ensures { MatchResult result (λ id. SharedTakes T.view (place_at at) (Ok (id_of id))) (λ e. SharedTakes T.view (place_at at) (Err e)) }
+        ensures made { MatchResult result
+            (λ id. (now : ℕ) × KeptTakes T.view self.old.kept (place_at at) (entrant_of candidate) now (Ok (id_of id)) self.new.kept)
+            (λ e. (now : ℕ) × KeptTakes T.view self.old.kept (place_at at) (entrant_of candidate) now (Err e) self.new.kept) }
+        ensures can { MatchResult result (λ id. SharedTakes T.view (place_at at) (Ok (id_of id))) (λ e. SharedTakes T.view (place_at at) (Err e)) }
     {
         let now = self.clock.now();
         given(self.kept.call(Call::Insert { at, candidate }, now))
@@ -258,7 +262,9 @@ impl<T: TermLike + Drop, C: Clock + Drop> SharedBoard<T, C> {
 
     /// Takes a bar out of the order and hands it back; `None` where it isn't there.
     pub fn remove(&mut self, id: BarId) -> Result<Option<BarState<NoTracker>>, Refusal>
-        ensures { IfErr result (λ e. SharedAnswers T.view (Remove (id_of id)) (Refused e)) }
+        ensures made { MatchResult result (λ _. (now : ℕ) × KeptRemoves T.view self.old.kept (id_of id) now None self.new.kept)
+            (λ e. (now : ℕ) × KeptRemoves T.view self.old.kept (id_of id) now (Some e) self.new.kept) }
+        ensures can { IfErr result (λ e. SharedAnswers T.view (Remove (id_of id)) (Refused e)) }
     {
         let now = self.clock.now();
         self.kept.remove(id, now)
@@ -268,6 +274,7 @@ impl<T: TermLike + Drop, C: Clock + Drop> SharedBoard<T, C> {
     pub fn suspend<F: FnOnce() -> A, A>(&mut self, f: F) -> (A, Result<Drawn, Refusal>)
         requires { F.pre f }
         ensures value { F.post f result.0 }
+        ensures made { (now : ℕ) × KeptSuspends T.view self.old.kept now result.1 self.new.kept }
         ensures drawn { SharedSuspends T.view result.1 }
     {
         let now = self.clock.now();
