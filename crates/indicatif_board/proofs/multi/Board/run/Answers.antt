@@ -111,7 +111,7 @@ returns-clause-foreign g c =
     (omega (arith, c.into_iter-call-iterator.ensures.into_iter_gives.1, c.args.calls.ok))) c.loop-call.yielded c.loop-call.call-iterator c.loop-call.yielded_by c.next.result c.next.new.self
     c.in-None.is c.next.ensures.steps in
     subst (λ xs. AreTurnedAway {K = g.row.K.Denot} (mark_of c.args.self.now) (map timed xs) (map answer_of c.loop-call.answers.items))
-      (sym (map-id c.loop-call.yielded) ∙ t.0) c.loop-call.invariant.foreign
+    (sym (map-id c.loop-call.yielded) ∙ t.0) c.loop-call.invariant.foreign
 
 pub returns-clause-records : goal.returns-clause-records
 returns-clause-records g c =

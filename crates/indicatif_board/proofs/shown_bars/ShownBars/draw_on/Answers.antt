@@ -51,13 +51,13 @@ returns-then-not-allows-clause-drew g c = λ mark takes s number asked holds pla
     let laid = c.in_ok-lay_out.ensures.laid target s number (ap (λ t. (view t).columns) (sym c.term.ensures) ∙ sym c.width-width.ensures) placed holds in
     let after = named_laid_out tracks target c.args.now number s in
     let withheld = sym (c.allows.ensures.answer ∙ allowed_same tracks view mark takes c.args.ask c.args.now writing s after (named_layout_takes tracks number s) engine
-        b.frame.items b.members.items b.table.made
+    b.frame.items b.members.items b.table.made
     (is_bottom b.alignment) b.limiter laid) ∙ c.if-not-allows.true in
     rw c.allows.ensures.next
     (drew_limited (board (board_bars tracks) mark) _ view engine (draw_of target takes c.args.ask c.args.now writing s after (named_layout_takes tracks number s)) s.lists asked some withheld fits
     (laid_lists tracks target c.args.now number s)
     (ready_holds tracks view mark takes c.args.ask c.args.now writing s after (named_layout_takes tracks number s) engine
-        b.frame.items b.members.items b.table.made (is_bottom b.alignment) b.limiter laid))
+    b.frame.items b.members.items b.table.made (is_bottom b.alignment) b.limiter laid))
 
 pub returns-clause-drew : goal.returns-clause-drew
 returns-clause-drew g c = λ mark takes s number asked holds placed fits.
