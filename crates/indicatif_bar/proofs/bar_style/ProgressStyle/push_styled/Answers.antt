@@ -14,7 +14,8 @@ returns-then-some-clause-text g c =
     let old = string_bytes c.args.out.now in
     let numbers = numbers_of c.text_style-style.result in
     let colours = c.self.inside.colours in
-    let text = option_map_or (λ width. padded (source_text g.K.ProgressTracker.means c.args.self.now c.args.state.now c.args.now (placeholder_layout placeholder) placeholder.source) width placeholder.align
+    let text = option_map_or (λ width. padded
+    (source_text g.K.ProgressTracker.means c.args.self.now c.args.state.now c.args.now (placeholder_layout placeholder) placeholder.source) width placeholder.align
     placeholder.truncate) placeholder.width
     (source_text g.K.ProgressTracker.means c.args.self.now c.args.state.now c.args.now (placeholder_layout placeholder) placeholder.source) in
     grown_three _ _ _ _ (opening_of colours numbers) text (sequence_of 0) c.in_ok-some.ensures.bytes c.in_ok-push_sized.ensures.text
