@@ -1,8 +1,4 @@
 //! A bar that stands alone beside a `LoneBar`, call by call: the same answers, the same rows on the terminal, and the same readings.
-use crate::numbers::next;
-use crate::on_boards::Bar;
-use crate::replays::{rows_of, same_rows};
-use crate::told::{End, Lone, Told, tell, tell_alone};
 use indicatif::{
     BarState, Clock, Drawn, InMemoryTerm, LoneBar, NoTracker, ProgressBar, ProgressDrawTarget,
     ProgressStyle, Refusal, Setup, StepClock,
@@ -11,6 +7,10 @@ use std::alloc::Global;
 use std::process::Abort;
 use std::sync::Wait;
 use std::test::Fail;
+use test_fronts::numbers::next;
+use test_fronts::on_boards::Bar;
+use test_fronts::replays::{rows_of, same_rows};
+use test_fronts::told::{End, Lone, Told, tell, tell_alone};
 
 /// On which terminals the two bars are drawn.
 #[derive(Clone, Copy, Drop)]

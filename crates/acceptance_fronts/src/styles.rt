@@ -1,11 +1,13 @@
 //! A bar's style, which anybody is handed who asks for it: another bar in it looks the same, and what is made of it leaves the bar
 //! as it is.
-use crate::on_boards::{Bar, alone, bar_on, board_on, says, shows, spinner};
 use indicatif::{BarState, Drawn, NoTracker, ProgressStyle, Refusal};
 use std::alloc::Global;
 use std::process::Abort;
 use std::sync::Wait;
 use std::test::Fail;
+use test_fronts::on_boards::{
+    Bar, Shared, alone, bar_on, board_on, is_on_bar, is_on_board, spinner,
+};
 
 type Look = ProgressStyle<NoTracker>;
 
@@ -41,6 +43,14 @@ fn spinning<R: Wait + Copy + Clone + Drop>(alloc: Global, bar: Bar<R>) -> Result
 fn as_other<R: Wait + Copy + Clone + Drop>(bar: Bar<R>, other: &Bar<R>) -> Result<Bar<R>, Refusal> {
     let style = other.style()?;
     bar.with_style(style)
+}
+
+fn says<R: Wait + Copy + Clone + Drop>(rt: &impl Abort, bar: &Bar<R>, wanted: &str) {
+    assert!(rt; is_on_bar(bar, wanted));
+}
+
+fn shows<R: Wait + Copy + Clone + Drop>(rt: &impl Abort, board: &Shared<R>, wanted: &str) {
+    assert!(rt; is_on_board(board, wanted));
 }
 
 /// A tick draws this.

@@ -1,14 +1,14 @@
 //! Steady tickers: on and off, replaced, and at the end of their bar. Each waits so many turns and no longer.
 use indicatif::{
-    Change, Clock, Drawn, InMemoryTerm, ProgressBar, ProgressDrawTarget, ProgressStyle, Refusal,
-    Setup, StepClock, TermLike,
+    Change, Drawn, InMemoryTerm, ProgressBar, ProgressDrawTarget, ProgressStyle, Refusal, Setup,
+    StepClock,
 };
 use std::alloc::Global;
 use std::process::Abort;
 use std::sync::Wait;
 use std::test::Fail;
-use std::time::Duration;
-use std::{thread, time};
+use std::time;
+use test_fronts::ticking::{tick_off, ticks_on, waits};
 
 type Bar<R> = ProgressBar<InMemoryTerm, StepClock, R>;
 
@@ -26,35 +26,6 @@ fn bar_on<R: Wait + Clone + Drop>(rt: R, alloc: Global) -> Result<Bar<R>, Refusa
     };
     let style = ProgressStyle::with_template(alloc, "{pos}")?;
     ProgressBar::new(rt, alloc, 10, setup)?.with_style(style)
-}
-
-/// Tells a bar's ticker off.
-pub fn tick_off<T: TermLike + Drop, C: Clock + Drop, R: Wait + Clone + Drop>(
-    bar: &ProgressBar<T, C, R>,
-) -> Result<(), Refusal> {
-    bar.disable_steady_tick()
-}
-
-/// Whether the bar has ticked more often than so, by the last of 10,000 readings a millisecond apart.
-pub fn ticks_on<T: TermLike + Drop, C: Clock + Drop, R: Wait + time::Clock + Clone + Drop>(
-    rt: &R,
-    bar: &ProgressBar<T, C, R>,
-    before: u64,
-) -> bool {
-    for _ in 0..10_000u32 {
-        if bar.ticks() > before {
-            return true;
-        }
-        thread::sleep(rt, Duration::from_millis(1));
-    }
-    false
-}
-
-/// Fifty turns of a millisecond: a ticker of a millisecond that goes on ticks meanwhile.
-pub fn waits<R: Wait + time::Clock>(rt: &R) {
-    for _ in 0..50u32 {
-        thread::sleep(rt, Duration::from_millis(1));
-    }
 }
 
 /// Whether two readings of the ticks with that time between them are equal.

@@ -1,5 +1,4 @@
 //! Streams, readers and writers that are polled, wrapped by a bar that is shared: the bar moves as they are polled.
-use crate::on_boards::{Bar, alone};
 use futures::stream::Stream;
 use futures::task::{Context, Poll};
 use futures::test::MockTask;
@@ -7,6 +6,7 @@ use indicatif::{ProgressBarIter, Refusal};
 use std::alloc::Global;
 use std::sync::Wait;
 use std::test::Fail;
+use test_fronts::on_boards::{Bar, alone};
 use tokio::io::{AsyncRead, AsyncWrite};
 
 /// The numbers below the one that it is made with, from the greatest on.

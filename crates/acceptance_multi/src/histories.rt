@@ -1,17 +1,22 @@
 //! Boards that are shared among threads and keep their history: a fresh board that makes the calls that were kept gives the same
 //! answers and the same picture.
-use crate::numbers::next;
-use crate::on_boards::{Bar, Shared, bar_on, recorded_on, target};
-use crate::replays::{counted, is_one_run, kept_calls, removals};
-use crate::said::{Said, Word};
-use crate::stage::{Put, Stage, YES};
-use crate::tickers::{tick_off, ticks_on, waits};
 use indicatif::{Drawn, MultiProgressAlignment, Refusal};
 use std::alloc::Global;
 use std::process::Abort;
 use std::sync::Wait;
 use std::test::Fail;
 use std::thread::{self, Threads, join};
+use test_fronts::numbers::next;
+use test_fronts::on_boards::{Bar, Shared, bar_on, recorded_on, target};
+use test_fronts::replays::{counted, kept_calls, removals, replays};
+use test_fronts::said::{Said, Word};
+use test_fronts::stage::{Put, Stage, YES};
+use test_fronts::ticking::{tick_off, ticks_on, waits};
+
+/// A fresh board that makes the calls that were kept gives the same answers, and shows the same.
+fn is_one_run<R: Wait + Copy + Clone + Drop>(rt: &impl Abort, alloc: Global, board: &Shared<R>) {
+    assert!(rt; replays(board, alloc));
+}
 
 // ---- texts from two threads
 

@@ -1,13 +1,14 @@
 //! What each call adds to the history of a board: one entry, which is that call; two where a pause clears and draws again; none
 //! where something is only read. After each a fresh board that makes the calls that were kept shows the same.
-use crate::on_boards::Bar;
-use crate::said::{Said, Word};
-use crate::stage::{HIDDEN, LIMITED, Put, Row, Stage, Step, YES, play};
-use crate::told::{End, Told};
+use crate::played::play;
 use indicatif::{BarId, InsertLocation, MultiProgressAlignment, Refusal};
 use std::process::Abort;
 use std::sync::Wait;
 use std::test::Fail;
+use test_fronts::on_boards::Bar;
+use test_fronts::said::{Said, Word};
+use test_fronts::stage::{HIDDEN, LIMITED, Put, Row, Stage, Step, YES};
+use test_fronts::told::{End, Told};
 
 // ---- a bar's calls
 

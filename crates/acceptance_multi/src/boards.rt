@@ -1,13 +1,14 @@
 //! Bars on boards that are shared: what the last owner leaves, bars that move, and the board's own calls.
-use crate::on_boards::{Bar, bar_on};
-use crate::replays::has_order;
-use crate::stage::{HIDDEN, LIMITED, Put, Row, Stage, Step, YES, play};
-use crate::told::{End, Told, tell};
+use crate::played::play;
 use indicatif::{Drawn, MultiProgressAlignment, ProgressBar, Refusal, StepClock};
 use std::alloc::Global;
 use std::process::Abort;
 use std::sync::Wait;
 use std::test::Fail;
+use test_fronts::on_boards::{Bar, bar_on};
+use test_fronts::replays::has_order;
+use test_fronts::stage::{HIDDEN, LIMITED, Put, Row, Stage, Step, YES};
+use test_fronts::told::{End, Told, tell};
 
 // ---- owners
 

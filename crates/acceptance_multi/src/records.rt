@@ -1,5 +1,4 @@
 //! Boards that keep their history: a fresh board that makes the calls that were kept gives the same answers and the same picture.
-use crate::replays::{Kept, answers_so, rows_of, same_rows};
 use indicatif_bar::state::{BarCommand, BarState, ProgressFinish};
 use indicatif_bar::style::{NoTracker, ProgressStyle};
 use indicatif_board::multi::{
@@ -12,6 +11,7 @@ use std::alloc::Global;
 use std::sync::{Mutex, Wait};
 use std::test::Fail;
 use std::thread::join;
+use test_fronts::replays::{Kept, answers_so, rows_of, same_rows};
 
 /// A target on a terminal in memory of so many rows and 10 columns.
 fn target(alloc: Global, rows: u16) -> Result<ProgressDrawTarget<InMemoryTerm>, Refusal> {

@@ -5,9 +5,9 @@ use indicatif::{
     Answer, Board, Call, Drawn, Entry, InMemoryTerm, NoTracker, RecordReader, Recorded, Refusal,
 };
 use std::alloc::Global;
-use std::process::Abort;
 use std::sync::Wait;
 
+/// A board that keeps its history.
 pub type Kept = Recorded<NoTracker, InMemoryTerm>;
 
 /// The rows of a terminal, those that have scrolled away first.
@@ -69,16 +69,9 @@ impl RecordReader<InMemoryTerm> for RunsAgain {
     }
 }
 
+/// Whether a fresh board that makes the calls that were kept gives the same answers, and shows the same.
 pub fn replays<R: Wait + Copy + Clone + Drop>(board: &Shared<R>, alloc: Global) -> bool {
     board.with_record(RunsAgain { alloc })
-}
-
-pub fn is_one_run<R: Wait + Copy + Clone + Drop>(
-    rt: &impl Abort,
-    alloc: Global,
-    board: &Shared<R>,
-) {
-    assert!(rt; replays(board, alloc));
 }
 
 /// How many calls a board has kept; 0 where it keeps no history.
@@ -96,6 +89,7 @@ impl RecordReader<InMemoryTerm> for Length {
     }
 }
 
+/// How many calls a board has kept; 0 where it keeps no history.
 pub fn kept_calls<R: Wait + Copy + Clone + Drop>(board: &Shared<R>) -> usize {
     board.with_record(Length)
 }

@@ -4,11 +4,12 @@ use indicatif::{
     Refusal, StepClock,
 };
 use std::alloc::Global;
-use std::process::Abort;
 use std::sync::Wait;
 
+/// A bar on a terminal in memory, whose clock goes up by 1 with each reading.
 pub type Bar<R> = ProgressBar<InMemoryTerm, StepClock, R>;
 
+/// A board on such a terminal.
 pub type Shared<R> = MultiProgress<InMemoryTerm, StepClock, R>;
 
 /// A terminal in memory of 4 rows and 10 columns.
@@ -83,12 +84,4 @@ pub fn is_on_bar<R: Wait + Copy + Clone + Drop>(bar: &Bar<R>, wanted: &str) -> b
 pub fn is_on_board<R: Wait + Copy + Clone + Drop>(board: &Shared<R>, wanted: &str) -> bool {
     let text = board.with_term(|term| text_of(term));
     text.is_some_and(|text| text.as_str() == wanted)
-}
-
-pub fn says<R: Wait + Copy + Clone + Drop>(rt: &impl Abort, bar: &Bar<R>, wanted: &str) {
-    assert!(rt; is_on_bar(bar, wanted));
-}
-
-pub fn shows<R: Wait + Copy + Clone + Drop>(rt: &impl Abort, board: &Shared<R>, wanted: &str) {
-    assert!(rt; is_on_board(board, wanted));
 }

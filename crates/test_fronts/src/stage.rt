@@ -5,7 +5,6 @@ use crate::said::Said;
 use crate::told::{Told, tell};
 use indicatif::{Drawn, MultiProgressAlignment, Refusal};
 use std::alloc::Global;
-use std::process::Abort;
 use std::sync::Wait;
 
 /// Where a bar is taken in; the anchors are the places of their owners.
@@ -96,10 +95,12 @@ impl<R: Wait + Copy + Clone + Drop> Stage<R> {
         Stage::new(rt, alloc, board_on(rt, alloc, 2)?)
     }
 
+    /// The board.
     pub fn board(&self) -> &Shared<R> {
         &self.board
     }
 
+    /// The owner at this place.
     pub fn bar(&self, place: usize) -> Result<&Bar<R>, Refusal> {
         self.bars.get(place).ok_or(Refusal::NotMember)
     }
@@ -277,16 +278,24 @@ impl<R: Wait + Copy + Clone + Drop> Stage<R> {
     }
 }
 
-/// Goes through a table.
-pub fn play<R: Wait + Copy + Clone + Drop>(rt: &impl Abort, on: &mut Stage<R>, rows: &[Row]) {
+/// The place of the first row of a table that isn't met, if there is one.
+pub fn first_unmet<R: Wait + Copy + Clone + Drop>(
+    on: &mut Stage<R>,
+    rows: &[Row],
+) -> Option<usize> {
     for (place, row) in rows.iter().enumerate() {
-        let met = on.is_met(*row);
-        assert_eq!(rt; (place, met), (place, true));
+        if !on.is_met(*row) {
+            return Some(place);
+        }
     }
+    None
 }
 
+/// Drawn.
 pub const YES: Result<Drawn, Refusal> = Ok(Drawn::Yes);
 
+/// Nothing was drawn, as the limiter said no, or none was asked.
 pub const LIMITED: Result<Drawn, Refusal> = Ok(Drawn::Limited);
 
+/// Nothing is ever drawn.
 pub const HIDDEN: Result<Drawn, Refusal> = Ok(Drawn::Hidden);
