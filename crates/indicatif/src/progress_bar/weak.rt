@@ -12,7 +12,7 @@ use std::sync::{Arc, Wait};
 /// ```
 /// let weak = bar.downgrade()?;
 /// if let Some(bar) = weak.upgrade() {
-///     bar.inc(1)?;
+///     bar.set_position(3)?;
 /// }
 /// ```
 #[derive(Drop)]
