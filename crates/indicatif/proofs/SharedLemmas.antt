@@ -14,7 +14,7 @@ use Rattle.indicatif_board.specs.declared.calls.Answer.TheVariants as answer
 use Rattle.indicatif_board.specs.Multi.{LeadsBy}
 use Rattle.indicatif_board.specs.Recorded.{Record, IsOneRun, AddsCall}
 use Rattle.indicatif_board.specs.declared.multi.Board.{Board}
-use Rattle.indicatif.specs.Inside.Kept.{KeptDraws, KeptRemoves, KeptSuspends, refusal_of}
+use Rattle.indicatif.specs.Inside.Kept.{KeptDraws, KeptRemoves, KeptSuspends, refused_with}
 use Rattle.indicatif.specs.declared.progress_bar.kept.Kept.{Kept}
 use Rattle.indicatif.specs.declared.progress_bar.kept.Kept.TheVariants as kept
 use Rattle.indicatif.specs.SharedBoards.{SharedCall, IsSomewhere, BoardCan, SharedAnswers}
@@ -47,7 +47,7 @@ module _ {T : Type 0} (view : T → TermView) where
 
   -- the same of what a history answered
   pub refused_as : (id : Id) (r : Result (Option (BarRecord NoTracker)) Refusal) (told : AnswerValue) →
-      MatchResult r (λ bar. refusal_of (answer_of told) ≡ None) (λ e. told ≡ answer.Refused e) → SharedAnswers view (Remove id) (answer_of told) →
+      MatchResult r (λ bar. refused_with (answer_of told) ≡ None) (λ e. told ≡ answer.Refused e) → SharedAnswers view (Remove id) (answer_of told) →
       IfErr r (λ e. SharedAnswers view (Remove id) (Refused e))
   refused_as id (Ok bar) told is can = tt
   refused_as id (Err e) told is can = subst (λ t. SharedAnswers view (Remove id) (answer_of t)) is can
@@ -60,11 +60,11 @@ module _ {T : Type 0} (view : T → TermView) where
   removed_open old new id now (Err e) led = (Refused e, refl, (new, refl, led))
 
   pub removed_recorded : (old new : Record NoTracker T) (id : Id) (now : ℕ) (r : Result (Option (BarRecord NoTracker)) Refusal) (told : AnswerValue) →
-      MatchResult r (λ bar. refusal_of (answer_of told) ≡ None) (λ e. told ≡ answer.Refused e) →
+      MatchResult r (λ bar. refused_with (answer_of told) ≡ None) (λ e. told ≡ answer.Refused e) →
       AddsCall writes_nothing view old (Remove id) now (answer_of told) new ⊎ ((new ≡ old) × (answer_of told ≡ Refused Memory)) →
       MatchResult r (λ bar. KeptRemoves view (kept.Recorded old) id now None (kept.Recorded new)) (λ e. KeptRemoves view (kept.Recorded old) id now (Some e) (kept.Recorded new))
   removed_recorded old new id now (Ok bar) told is grows = (answer_of told, sym is, (new, refl, grows))
-  removed_recorded old new id now (Err e) told is grows = (answer_of told, sym (ap (λ t. refusal_of (answer_of t)) is), (new, refl, grows))
+  removed_recorded old new id now (Err e) told is grows = (answer_of told, sym (ap (λ t. refused_with (answer_of t)) is), (new, refl, grows))
 
   -- what a suspension made of what was kept whose clear was not refused
   pub cleared_and_drawn : (old between new : Kept T) (now : ℕ) (cleared : Drawn) (drawn : Result Drawn Refusal) →

@@ -14,8 +14,10 @@ use std::time;
 /// The machine's clock, in nanoseconds since it was made; contracts see the moment that it told last. Where the machine refuses
 /// to tell the time, the clock stands.
 ///
-///     let mut clock = MachineClock::new(rt);
-///     let opened = clock.now(); // some hundred nanoseconds
+/// ```
+/// let mut clock = MachineClock::new(rt);
+/// let opened = clock.now(); // some hundred nanoseconds
+/// ```
 #[derive(Drop)]
 pub struct MachineClock<R> {
     machine: R,
@@ -87,8 +89,10 @@ const COLUMNS: u16 = 80;
 /// `COLUMNS`, where they say a number from 1 to 65,535; else 24 rows and 80 columns are taken. A program that knows better
 /// changes what it got.
 ///
-///     let mut facts = facts_of(&rt, &rt.stderr())?;
-///     facts.cols = 20;
+/// ```
+/// let mut facts = facts_of(&rt, &rt.stderr())?;
+/// facts.cols = 20;
+/// ```
 ///
 /// Refused: `Memory`.
 pub fn facts_of<R: Env + AllocGlobal>(rt: &R, stream: &impl IsTerminal) -> Result<Facts, Refusal>
@@ -132,14 +136,18 @@ fn text_said<R: Env + AllocGlobal>(rt: &R, name: &str) -> Result<Option<String>,
 
 /// What a bar is made with on a terminal behind a writer, by the machine's clock.
 ///
-///     let setup: TerminalSetup<Stderr> = on_stderr(&rt)?;
-///     let bar = LoneBar::new(bar, setup.target);
+/// ```
+/// let setup: TerminalSetup<Stderr> = on_stderr(&rt)?;
+/// let bar = LoneBar::new(bar, setup.target);
+/// ```
 pub type TerminalSetup<W> = Setup<Term<BufWriter<W>>, MachineClock<HostRuntime>>;
 
 /// A bar's setup on standard error, where bars stand by custom, so that standard output is the program's own: 20 draws a second
 /// by the machine's clock, hidden where standard error is no terminal or one without moves (`facts_of`).
 ///
-///     let mut wrapped = list.into_iter().progress(rt.alloc(), on_stderr(&rt)?)?;
+/// ```
+/// let mut wrapped = list.into_iter().progress(rt.alloc(), on_stderr(&rt)?)?;
+/// ```
 ///
 /// Refused: `Memory`.
 pub fn on_stderr(rt: &HostRuntime) -> Result<TerminalSetup<Stderr>, Refusal>
@@ -163,9 +171,11 @@ pub fn on_stdout(rt: &HostRuntime) -> Result<TerminalSetup<Stdout>, Refusal>
 
 /// The same behind any writer, on a terminal of which this is told.
 ///
-///     let mut facts = facts_of(&rt, &rt.stderr())?;
-///     facts.cols = 20;
-///     let setup = told_setup(&rt, rt.stderr(), facts)?;
+/// ```
+/// let mut facts = facts_of(&rt, &rt.stderr())?;
+/// facts.cols = 20;
+/// let setup = told_setup(&rt, rt.stderr(), facts)?;
+/// ```
 ///
 /// Refused: `Memory`.
 pub fn told_setup<W: Write + Drop>(

@@ -26,7 +26,7 @@ const BLOCK: usize = 4096;
 ///
 /// ```
 /// let list = numbers.as_slice().progress_with(bar);
-/// let (squares, bar) = list.map_collect(&rt, alloc, |n: &u32| n.wrapping_mul(*n));
+/// let (made, bar) = list.map_collect(&rt, alloc, |x: &u32| x.wrapping_mul(2));
 /// ```
 pub trait ParallelProgressIterator: Sized {
     /// How many items there are.

@@ -33,7 +33,7 @@ mod ticker;
 mod weak;
 mod worded;
 
-use self::held::{Cell, Held};
+use self::held::{Held, Locked};
 use self::kept::{Shared, SharedBoard};
 pub use self::multi::{MultiProgress, RecordReader};
 use self::single::Single;
@@ -74,7 +74,7 @@ use tokio::io::{AsyncRead, AsyncWrite};
 /// bar.inc(1)?;
 /// ```
 pub struct ProgressBar<T: TermLike + Drop, C: Clock + Drop, R: Wait + Clone + Drop> {
-    pub(crate) state: Arc<Cell<T, C>, Global>,
+    pub(crate) state: Arc<Locked<T, C>, Global>,
     pub(crate) alloc: Global,
     pub(crate) rt: R,
 }
@@ -150,7 +150,7 @@ impl<T: TermLike + Drop, C: Clock + Drop, R: Wait + Clone + Drop> ProgressBar<T,
         let now = clock.now();
         let bar = BarState::styled(alloc, style, len, now)?;
         let held = Held::owned(Single::new(bar, target), clock);
-        let cell = Cell {
+        let cell = Locked {
             lock: Mutex::new(held),
             changed: Condvar::new(),
         };

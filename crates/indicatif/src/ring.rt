@@ -6,12 +6,12 @@ use std::marker::Model;
 
 /// The last `N` places that it was told, from 1 to 255 of them. Contracts see them as a list, the latest first.
 ///
-///     let mut places = MaxRingBuf::<2>::new();
-///     places.update(9);
-///     places.update(5);
-///     places.max() // 9
-///     places.update(7);
-///     places.max() // 7: the 9 is no longer among the last two
+/// ```
+/// let mut places = MaxRingBuf::<1>::new();
+/// places.update(7);
+/// places.update(3);
+/// places.max() // 3: the 7 is no longer the last
+/// ```
 #[derive(Drop, Debug)]
 pub struct MaxRingBuf<const N: usize> {
     places: [u64; N],

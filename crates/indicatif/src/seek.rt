@@ -11,10 +11,12 @@ use std::marker::Model;
 /// What a reader remembers of its seeks: the last `HISTORY` places since a seek, from 1 to 255 of them, until `RESET` moves
 /// came in a row.
 ///
-///     let mut seeks = SeekMax::<5, 10>::new();
-///     seeks.update_seek(100)      // 100
-///     seeks.update_seq(100, 10)   // 110
-///     seeks.update_seek(0)        // 110: the greatest of the last places
+/// ```
+/// let mut seeks = SeekMax::<5, 10>::new();
+/// seeks.update_seek(100)      // 100
+/// seeks.update_seq(100, 10)   // 110
+/// seeks.update_seek(0)        // 110: the greatest of the last places
+/// ```
 #[derive(Drop, Debug)]
 pub struct SeekMax<const RESET: u8, const HISTORY: usize> {
     history: Option<(MaxRingBuf<HISTORY>, u8)>,

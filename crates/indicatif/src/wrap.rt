@@ -17,9 +17,11 @@ use indicatif_text::columns::{Drawn, Refusal};
 ///
 /// What a draw answered is kept for `last_draw`, since an iterator has no place for it.
 ///
-///     let mut wrapped = ProgressBarIter::new(items.into_iter(), bar);
-///     while let Some(item) = wrapped.next() { .. }
-///     let (_, bar) = wrapped.into_inner();
+/// ```
+/// let mut wrapped = ProgressBarIter::new(items.into_iter(), bar);
+/// while let Some(item) = wrapped.next() { .. }
+/// let (_, bar) = wrapped.into_inner();
+/// ```
 #[derive(Drop)]
 pub struct ProgressBarIter<T, P> {
     pub(crate) it: T,

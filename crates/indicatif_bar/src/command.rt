@@ -5,7 +5,8 @@ use crate::finish::ProgressFinish;
 /// What is to be set of a bar's position and length; what is `None` stays.
 ///
 /// ```
-/// let halfway = Change { pos: Some(50), len: Some(100) };
+/// let change = Change { pos: Some(3), len: Some(4) };
+/// bar.apply(BarCommand::Update(change), 0)?; // three of four steps are done then
 /// ```
 #[derive(Clone, Copy, Debug, Default, Drop, PartialEq, Eq)]
 pub struct Change {

@@ -23,8 +23,9 @@ use std::mem::replace;
 /// A call as a value.
 ///
 /// ```
-/// let calls = vec![in alloc; (LoneCall::Bar(BarCommand::Inc(1)), 0), (LoneCall::Clear, 5)]?;
-/// let answers = bar.run(calls)?; // what each call answered, in their order
+/// let log = LoneCall::Log(String::from_str(alloc, "a.txt")?);
+/// let calls = vec![in alloc; (LoneCall::Bar(BarCommand::Tick), 0), (log, 0), (LoneCall::Clear, 5)]?;
+/// let answers = bar.run(calls)?; // what each call answered, in their order: three times Ok(Drawn::Yes)
 /// ```
 #[derive(Drop)]
 pub enum LoneCall<K> {

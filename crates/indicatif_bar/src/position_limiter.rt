@@ -17,6 +17,13 @@ pub(crate) struct PositionLimiter {
     next: Moment,
 }
 
+/// How many looks are in hand, and the time from the making on from which they count.
+#[derive(Clone, Copy, Drop)]
+struct InHand {
+    capacity: u64,
+    prev: u64,
+}
+
 /// Contracts see the making, what is in hand, and the time from which it counts.
 impl Model for PositionLimiter {
     ghost use Rattle.std.specs.Prelude.{◌≡◌, ◌≤◌, ◌+◌, ◌⊎◌};
@@ -43,17 +50,22 @@ impl PositionLimiter {
     pub(crate) fn new(now: Moment) -> PositionLimiter
         ensures { result ≡ position_limiter now }
     {
-        PositionLimiter::counting(now, PositionLimiter::MOST, 0)
+        let all = InHand {
+            capacity: PositionLimiter::MOST,
+            prev: 0,
+        };
+        PositionLimiter::counting(now, all)
     }
 
-    /// A limiter made at `making`, with so many looks in hand, that counts from so long after it.
-    fn counting(making: Moment, capacity: u64, prev: u64) -> PositionLimiter
-        requires { capacity ≤ 10 }
+    /// A limiter made at `making`, with so many looks in hand.
+    fn counting(making: Moment, looks: InHand) -> PositionLimiter
+        requires { looks.capacity ≤ 10 }
         ensures { result ≡ record {
           making = making;
-          limiter = record { interval = 1000000; most = 10; capacity = capacity; prev = prev };
+          limiter = record { interval = 1000000; most = 10; capacity = looks.capacity; prev = looks.prev };
         } }
     {
+        let InHand { capacity, prev } = looks;
         let next = if capacity == 0 {
             making
                 .saturating_add(prev)
@@ -93,7 +105,7 @@ impl PositionLimiter {
         let new = elapsed / PositionLimiter::INTERVAL;
         let capacity = PositionLimiter::MOST.min(self.capacity + new - 1);
         let prev = at - elapsed % PositionLimiter::INTERVAL;
-        *self = PositionLimiter::counting(self.making, capacity, prev);
+        *self = PositionLimiter::counting(self.making, InHand { capacity, prev });
         true
     }
 
@@ -101,14 +113,21 @@ impl PositionLimiter {
     pub(crate) fn reset(&mut self, now: Moment)
         ensures { self.new ≡ position_reset self.old now }
     {
-        let prev = now.saturating_sub(self.making);
-        *self = PositionLimiter::counting(self.making, self.capacity, prev);
+        let looks = InHand {
+            capacity: self.capacity,
+            prev: now.saturating_sub(self.making),
+        };
+        *self = PositionLimiter::counting(self.making, looks);
     }
 
     /// Another one, equal to this one.
     pub(crate) fn same(&self) -> PositionLimiter
         ensures { result ≡ self.now }
     {
-        PositionLimiter::counting(self.making, self.capacity, self.prev)
+        let looks = InHand {
+            capacity: self.capacity,
+            prev: self.prev,
+        };
+        PositionLimiter::counting(self.making, looks)
     }
 }

@@ -33,8 +33,9 @@ pub(crate) enum Status {
 /// made in 128 bits, and times stop at 2^64 - 1.
 ///
 /// ```
-/// bar.set_position(3, 2_000_000_000);
-/// let rate = bar.state().per_sec(2_000_000_000); // 3 steps in 2,000,000,000 nanoseconds
+/// bar.reset_eta(1_000_000_000);
+/// bar.set_position(3, 2_000_000_000); // it stood at 2
+/// let rate = bar.state().per_sec(2_000_000_000); // 1 step in 1,000,000,000 nanoseconds
 /// ```
 #[derive(Debug, Drop)]
 pub struct ProgressState {

@@ -91,7 +91,7 @@ impl<K: ProgressTracker> ShownBar<K> {
             return Err(Refusal::NoColumns);
         }
         self.lay_out(writing, width, now)?;
-        if !self.allows(ask, now) {
+        if !ask.allows(&mut self.limiter, now) {
             return Ok(Drawn::Limited);
         }
         put(engine, slice::from_ref(&self.frame), writing)?;
@@ -126,17 +126,6 @@ impl<K: ProgressTracker> ShownBar<K> {
         let before = replace(&mut self.frame.lines, lines);
         self.spare.keep(before);
         Ok(())
-    }
-
-    /// Whether a draw that is asked so may be made at this moment.
-    fn allows(&mut self, ask: Ask, now: Moment) -> bool
-        ensures answer { result ≡ (asked_of ask now self.old.limiter).0 }
-        ensures next { self.new ≡ record self.old { limiter = (asked_of ask now self.old.limiter).1 } }
-    {
-        match (ask, &mut self.limiter) {
-            (Ask::Unforced, Some(limiter)) => limiter.allow(now),
-            _ => true,
-        }
     }
 }
 

@@ -81,10 +81,16 @@ impl ProgressTracker for NoTracker {
 /// beside the fact of what it answers.
 ///
 /// ```
-/// impl TellsText for Ticks {
-///     ghost told_text = { .. };
+/// struct Always {
+///     text: String,
+/// }
 ///
-///     fn tell(&self, state: &ProgressState, _now: Moment) -> Result<String, Refusal> { .. }
+/// impl TellsText for Always {
+///     ghost told_text = { λ always p now. string_bytes always.text };
+///
+///     fn tell(&self, _state: &ProgressState, _now: Moment) -> Result<String, Refusal> {
+///         Ok(self.text.clone()?)
+///     }
 /// }
 /// ```
 pub trait TellsText: Sized + Send + Sync + Drop {
@@ -102,7 +108,8 @@ pub trait TellsText: Sized + Send + Sync + Drop {
 /// A tracker whose text a value of the caller's tells, which its clones share. Ticks and resets leave it as it is.
 ///
 /// ```
-/// let style = ProgressStyle::with_template(alloc, "{ticks}")?.with_key("ticks", FnTracker::new(alloc, Ticks)?)?;
+/// let tracker = FnTracker::new(alloc, Always { text: String::from_str(alloc, "ready")? })?;
+/// let style = ProgressStyle::with_template(alloc, "{word}!")?.with_key("word", tracker)?; // such a bar says `ready!`
 /// ```
 #[derive(Drop)]
 pub struct FnTracker<F> {

@@ -167,7 +167,7 @@ impl<K: ProgressTracker> ShownBars<K> {
             return Err(Refusal::NoColumns);
         }
         self.lay_out(bar, width, now)?;
-        if !self.allows(ask, now) {
+        if !ask.allows(&mut self.limiter, now) {
             return Ok(Drawn::Limited);
         }
         self.write(engine, writing)
@@ -190,17 +190,6 @@ impl<K: ProgressTracker> ShownBars<K> {
                 relay(&self.members[at].bar, stored, &mut self.spare, width, now)
             }
             None => Ok(()),
-        }
-    }
-
-    /// Whether a draw that is asked so may be made at this moment.
-    fn allows(&mut self, ask: Ask, now: Moment) -> bool
-        ensures answer { result ≡ (asked_of ask now self.old.limiter).0 }
-        ensures next { self.new ≡ record self.old { limiter = (asked_of ask now self.old.limiter).1 } }
-    {
-        match (ask, &mut self.limiter) {
-            (Ask::Unforced, Some(limiter)) => limiter.allow(now),
-            _ => true,
         }
     }
 

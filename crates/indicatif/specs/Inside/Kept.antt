@@ -22,11 +22,11 @@ KeptMakes {T} view (Recorded old) call now answer new =
     (r : Record NoTracker T) × (new ≡ Recorded r) × (AddsCall writes_nothing view old call now answer r ⊎ ((r ≡ old) × (answer ≡ Refused Memory)))
 
 -- why a call was refused, if it was
-abbrev pub refusal_of : Answer → Option Refusal
-refusal_of (Refused e) = Some e
-refusal_of Done = None
-refusal_of (Given id) = None
-refusal_of (Drew drawn) = None
+abbrev pub refused_with : Answer → Option Refusal
+refused_with (Refused e) = Some e
+refused_with Done = None
+refused_with (Given id) = None
+refused_with (Drew drawn) = None
 
 module _ {T : Type 0} (view : T → TermView) where
   -- the same of a call that draws, by what its answer tells of that
@@ -35,7 +35,7 @@ module _ {T : Type 0} (view : T → TermView) where
 
   -- the same of a removal, by whether it was refused
   abbrev pub KeptRemoves : Kept T → Id → ℕ → Option Refusal → Kept T → Type 0
-  KeptRemoves old id now refused new = (told : Answer) × (refused ≡ refusal_of told) × KeptMakes view old (Remove id) now told new
+  KeptRemoves old id now refused new = (told : Answer) × (refused ≡ refused_with told) × KeptMakes view old (Remove id) now told new
 
   -- the same of an insertion, by what it gives
   abbrev pub KeptTakes : Kept T → Location → Entrant (BarRecord NoTracker) → ℕ → Result Id Refusal → Kept T → Type 0

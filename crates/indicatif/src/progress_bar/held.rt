@@ -30,7 +30,7 @@ use std::sync::{Condvar, Mutex, Wait};
 
 /// The lock of a bar, and what waits for the bar to change.
 #[derive(Drop)]
-pub struct Cell<T: Drop, C> {
+pub struct Locked<T: Drop, C> {
     pub lock: Mutex<Held<T, C>>,
     pub changed: Condvar,
 }

@@ -7,7 +7,7 @@ ghost use Rattle.indicatif_board.specs.BoardValues.{id_of};
 ghost use Rattle.indicatif_board.specs.Calls.{call_of, answer_of, entrant_of, place_at, removal};
 ghost use Rattle.indicatif_board.specs.Multi.{LeadsBy, terminal_of};
 ghost use Rattle.indicatif.specs.SharedBoards.{BoardCan, SharedAnswers, SharedDraws, SharedSuspends, SharedTakes, given_by};
-ghost use Rattle.indicatif.specs.Inside.Kept.{KeptMakes, KeptDraws, KeptTakes, KeptRemoves, KeptSuspends, refusal_of};
+ghost use Rattle.indicatif.specs.Inside.Kept.{KeptMakes, KeptDraws, KeptTakes, KeptRemoves, KeptSuspends, refused_with};
 
 use indicatif_bar::state::BarState;
 use indicatif_bar::style::NoTracker;
@@ -186,7 +186,7 @@ fn answer_of(answered: Answered) -> Answer
 
 /// The bar that was handed back, unless the call was refused.
 fn removed(answered: Answered) -> Result<Option<BarState<NoTracker>>, Refusal>
-    ensures { MatchResult result (λ _. refusal_of (answer_of answered.0) ≡ None) (λ e. answered.0 ≡ Answer.Refused e) }
+    ensures { MatchResult result (λ _. refused_with (answer_of answered.0) ≡ None) (λ e. answered.0 ≡ Answer.Refused e) }
 {
     let (answer, bar) = answered;
     match answer {

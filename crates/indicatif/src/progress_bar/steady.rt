@@ -5,7 +5,7 @@ ghost use Rattle.indicatif_bar.specs.Lone as Lone;
 ghost use Rattle.indicatif.specs.Fronts.{CanAnswer};
 
 use crate::progress_bar::ProgressBar;
-use crate::progress_bar::held::Cell;
+use crate::progress_bar::held::Locked;
 use indicatif_bar::state::BarCommand;
 use indicatif_term::term_like::TermLike;
 use indicatif_text::columns::{Clock, Refusal};
@@ -17,7 +17,7 @@ use std::{thread, time};
 /// Ticks until this ticker is no longer the installed one, or the bar is finished or has no owner.
 fn run_ticker<T: TermLike + Drop, C: Clock + Drop, R: Wait + time::Clock>(
     rt: &R,
-    cell: &Cell<T, C>,
+    cell: &Locked<T, C>,
     number: u64,
     interval: Duration,
 ) {

@@ -1,6 +1,6 @@
 //! A shared bar without an owner.
 use crate::progress_bar::ProgressBar;
-use crate::progress_bar::held::Cell;
+use crate::progress_bar::held::Locked;
 use indicatif_term::term_like::TermLike;
 use indicatif_text::columns::Clock;
 use std::alloc::{AllocError, Global};
@@ -12,7 +12,7 @@ use std::sync::{Arc, Wait};
 /// ```
 /// let weak = bar.downgrade()?;
 /// if let Some(bar) = weak.upgrade() {
-///     bar.inc(1)?;
+///     bar.set_position(3)?;
 /// }
 /// ```
 #[derive(Drop)]
@@ -23,7 +23,7 @@ pub struct WeakProgressBar<T: TermLike + Drop, C: Clock + Drop, R: Wait + Clone 
 /// A bar that was known.
 #[derive(Drop)]
 struct Known<T: TermLike + Drop, C: Clock + Drop, R: Wait + Clone + Drop> {
-    state: Arc<Cell<T, C>, Global>,
+    state: Arc<Locked<T, C>, Global>,
     alloc: Global,
     rt: R,
 }
@@ -35,7 +35,7 @@ impl<T: TermLike + Drop, C: Clock + Drop, R: Wait + Clone + Drop> WeakProgressBa
     }
 
     /// Of this bar.
-    pub(crate) fn of(state: Arc<Cell<T, C>, Global>, alloc: Global, rt: R) -> Self {
+    pub(crate) fn of(state: Arc<Locked<T, C>, Global>, alloc: Global, rt: R) -> Self {
         WeakProgressBar {
             of: Some(Known { state, alloc, rt }),
         }

@@ -59,7 +59,7 @@ returns-in_err-put-clause-drew g c = λ takes s asked holds fits.
     let allowed = sym (c.allows.ensures.answer ∙ asked_same g.K.ProgressTracker.means view takes c.args.ask c.args.now writing s engine c.lay_out.new.self laid) ∙ c.if-not-allows.false in
     let ready = holds_ready g.K.ProgressTracker.means view takes c.args.ask c.args.now writing s engine c.lay_out.new.self laid in
     let x = err_from_is_err_and c.from_residual-in_err-put.result c.from_residual-in_err-put.ensures.1 in
-    let frame = ap (map bar_lines) c.from_ref.ensures.value ∙ ap (λ f. bar_lines f.frame ∷ []) c.allows.ensures.next ∙ ap (λ b. b ∷ []) ready.lines_are in
+    let frame = ap (map bar_lines) c.from_ref.ensures.value ∙ ap (λ b. b ∷ []) ready.lines_are in
     rw (x.1 ∙ ap Err x.2, c.allows.ensures.next)
     (drew_so g.K.ProgressTracker.means view takes c.args.ask c.args.now writing s engine c.lay_out.new.self c.put.new.engine (Err c.in_err-put.field-0.0)
     (map bar_lines c.from_ref.result.now) asked some allowed fits laid frame c.in_err-put.ensures)
@@ -73,7 +73,7 @@ returns-clause-drew g c = λ takes s asked holds fits.
     let laid = c.in_ok-lay_out.ensures.laid s (target_of (Some (view (engine_term engine)))) (ap (λ t. (view t).columns) (sym c.term.ensures) ∙ sym c.width-width.ensures) holds in
     let allowed = sym (c.allows.ensures.answer ∙ asked_same g.K.ProgressTracker.means view takes c.args.ask c.args.now writing s engine c.lay_out.new.self laid) ∙ c.if-not-allows.false in
     let ready = holds_ready g.K.ProgressTracker.means view takes c.args.ask c.args.now writing s engine c.lay_out.new.self laid in
-    let frame = ap (map bar_lines) c.from_ref.ensures.value ∙ ap (λ f. bar_lines f.frame ∷ []) c.allows.ensures.next ∙ ap (λ b. b ∷ []) ready.lines_are in
+    let frame = ap (map bar_lines) c.from_ref.ensures.value ∙ ap (λ b. b ∷ []) ready.lines_are in
     rw c.allows.ensures.next
     (drew_so g.K.ProgressTracker.means view takes c.args.ask c.args.now writing s engine c.lay_out.new.self c.put.new.engine (Ok tt)
     (map bar_lines c.from_ref.result.now) asked some allowed fits laid frame c.in_ok-put.ensures)

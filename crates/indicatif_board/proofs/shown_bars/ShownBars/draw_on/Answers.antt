@@ -72,6 +72,5 @@ returns-clause-drew g c = λ mark takes s number asked holds placed fits.
     let yes : (asked_of c.args.ask c.args.now b.limiter).0 ≡ true = sym c.allows.ensures.answer ∙ c.if-not-allows.false in
     let held = asked_holds b.frame.items b.members.items b.table.made (is_bottom b.alignment) b.limiter c.args.ask c.args.now after yes laid in
     let next = c.allows.ensures.next in
-    let limiter_is : c.allows.new.self.limiter ≡ (asked_of c.args.ask c.args.now b.limiter).1 = ap (λ x. x.limiter) next in
-    c.write.ensures.drew mark c.args.now takes (named_layout_takes tracks number s) c.args.ask s after asked some (held.0 ∙ ap (λ l. (true, l)) (sym limiter_is))
-    (subst (λ x. AreShownAs x (record after { limiter = x.limiter })) (sym next) held.1) (laid_lists tracks target c.args.now number s) fits
+    c.write.ensures.drew mark c.args.now takes (named_layout_takes tracks number s) c.args.ask s after asked some (held.0 ∙ ap (λ l. (true, l)) (sym next))
+    (subst (λ l. AreShownAs (record b { limiter = l }) (record after { limiter = l })) (sym next) held.1) (laid_lists tracks target c.args.now number s) fits
