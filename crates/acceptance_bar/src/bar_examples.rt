@@ -56,6 +56,7 @@ fn bar_command_and_ask(rt: HostRuntime) -> Result<(), Fail> {
     asks(&rt, &mut bar, BarCommand::ResetEta, Ask::No);
     asks(&rt, &mut bar, BarCommand::ForceDraw, Ask::Forced);
     assert!(rt; Ask::No.is_no() && !Ask::Forced.is_no());
+    assert!(rt; Ask::Unforced.allows(&mut None, 0));
     Ok(())
 }
 

@@ -91,7 +91,7 @@ fn an_interval_of_0_changes_nothing(rt: HostRuntime) -> Result<(), Fail> {
     Ok(())
 }
 
-/// A ticker that is replaced by one of an hour ends: nothing ticks any more, and disabling doesn't wait.
+/// A ticker that is replaced by one of an hour ends: nothing ticks any more, an interval of 0 leaves it, and disabling doesn't wait.
 #[test]
 fn replaced(rt: HostRuntime) -> Result<(), Fail> {
     let bar = bar_on(rt, rt.alloc())?;
@@ -99,6 +99,7 @@ fn replaced(rt: HostRuntime) -> Result<(), Fail> {
     assert!(rt; ticks_on(&rt, &bar, 3));
     bar.enable_steady_tick(HOUR)?;
     assert!(rt; comes_to_rest(&rt, &bar));
+    bar.enable_steady_tick(0)?;
     is(&rt, bar.tick(), Drawn::Limited);
     tick_off(&bar)?;
     assert!(rt; rests(&rt, &bar));

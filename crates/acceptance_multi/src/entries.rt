@@ -1,11 +1,12 @@
 //! What each call adds to the history of a board: one entry, which is that call; two where a pause clears and draws again; none
 //! where something is only read. After each a fresh board that makes the calls that were kept shows the same.
 use crate::played::play;
-use indicatif::{BarId, InsertLocation, MultiProgressAlignment, Refusal};
+use indicatif::{BarId, Drawn, InsertLocation, MultiProgressAlignment, Refusal};
 use std::process::Abort;
 use std::sync::Wait;
 use std::test::Fail;
 use test_fronts::on_boards::Bar;
+use test_fronts::replays::{counted, kept_calls};
 use test_fronts::said::{Said, Word};
 use test_fronts::stage::{HIDDEN, LIMITED, Put, Row, Stage, Step, YES};
 use test_fronts::told::{End, Told};
@@ -112,6 +113,28 @@ fn of_commands_that_finish(rt: HostRuntime) -> Result<(), Fail> {
     let mut on = Stage::recorded(rt, rt.alloc())?;
     play(&rt, &mut on, &FIRST_BAR);
     each_adds_one(&rt, &mut on, &ENDS);
+    Ok(())
+}
+
+/// A worker of a sum adds so much, and the bar takes the sum in.
+fn absorbs<R: Wait + Copy + Clone + Drop>(bar: &Bar<R>, n: u64) -> Result<Drawn, Refusal> {
+    let (done, mut worker) = bar.worker()?;
+    worker.add(&done, n);
+    bar.absorb(done, worker)
+}
+
+/// A sum that is taken in is one move.
+#[test]
+fn of_a_sum(rt: HostRuntime) -> Result<(), Fail> {
+    let mut on = Stage::recorded(rt, rt.alloc())?;
+    play(&rt, &mut on, &FIRST_BAR);
+    let before = kept_calls(on.board());
+    assert!(rt; absorbs(on.bar(0)?, 3) == YES);
+    assert_eq!(rt; kept_calls(on.board()).checked_sub(before), Some(1));
+    assert_eq!(rt;
+        counted(on.board(), Said::Bar(0, Word::Number("inc", 3))),
+        1
+    );
     Ok(())
 }
 
