@@ -51,7 +51,7 @@ SOURCES = {
         "Range": (CRATE, {OWN: "Appends"}),
         "Refusal": (OWN, {}),
         "StyleWords": (CRATE, {SEQUENCES: "sequence_of",
-                               f"{CRATE}, its numbers {SEQUENCES}": "attribute_words foreground_of background_of",
+                               f"{CRATE}, its numbers {SEQUENCES}": "attribute_words colour_number",
                                OWN: "colour_place foreground_number background_number numbers_of"}),
         "Template": (CRATE + "; that a brace before white space keeps its order is this project's own rule",
                      {OWN: "is_too_wide part_of refusal_of"}),

@@ -1,7 +1,9 @@
 //! The examples of the documentation.
+use crate::shown::Shown;
 use bars_run::fault::Fault;
 use bars_run::run_bars;
-use indicatif_text::columns::Refusal;
+use indicatif_board::multi::{BarId, InsertLocation};
+use indicatif_text::columns::{Drawn, Refusal};
 use std::alloc::{AllocError, Global};
 use std::test::Fail;
 
@@ -24,6 +26,21 @@ fn a_run(rt: HostRuntime) -> Result<(), Fail> {
     assert_eq!(rt; status, 0);
     assert!(rt; out.as_slice() == b"a.txt\nx\n".as_slice());
     assert!(rt; err.is_empty());
+    Ok(())
+}
+
+/// Whether a line that is printed stands above the bar, which stays below it.
+fn stands_above(board: &mut Shown, id: BarId) -> Result<bool, Refusal> {
+    let printed = board.println("a.txt") == Ok(Drawn::Yes) && board.tick(id) == Ok(Drawn::Yes);
+    let shown = board.contents()?;
+    Ok(printed && shown.as_str() == "a.txt\nx")
+}
+
+#[test]
+fn a_line_above_the_bars(rt: HostRuntime) -> Result<(), Fail> {
+    let mut board = Shown::new(rt.alloc(), (4, 10))?;
+    let id = board.insert(InsertLocation::End, "x")?;
+    assert!(rt; stands_above(&mut board, id)?);
     Ok(())
 }
 

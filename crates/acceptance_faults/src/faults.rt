@@ -97,82 +97,108 @@ fn each_call_of_the_terminal_fails_once(rt: HostRuntime) -> Result<(), Fail> {
     Ok(())
 }
 
+/// Makes each call of the script, whatever it answers.
+fn play(bar: &mut Shown<FailsOnce>) {
+    for (step, _) in &SCRIPT {
+        let _ = made(bar, *step);
+    }
+}
+
 /// Runs the script, and tells what stands on the screen then.
 fn shown_failing_at(alloc: Global, failing: u64) -> Result<String, Refusal> {
     let mut bar = bar_failing_at(alloc, "ab", failing)?;
-    for (step, _) in SCRIPT {
-        let _ = made(&mut bar, step);
-    }
+    play(&mut bar);
     contents(alloc, &bar)
 }
 
-/// The calls are, in turn: the text `ab`, fill, flush; clear, `l1`, end of line, `ab`, fill, flush; clear, `c`, end of line,
-/// `d`, fill, flush; up, clear, end of line, clear, up, `l2`, end of line, `c`, ..
+/// The call of the terminal that fails, and what the script leaves on the screen. The calls are, in turn: the text `ab`, fill,
+/// flush; clear, `l1`, end of line, `ab`, fill, flush; clear, `c`, end of line, `d`, fill, flush; up, clear, end of line, clear, up,
+/// `l2`, end of line, `c`, ..
+const SCREENS: [(u64, &str); 13] = [
+    (0, "l1\nl2\ne"),
+    (1, "\nl1\nl2\ne"),
+    (3, "ab\nl1\nl2\ne"),
+    (5, "\nl2\ne"),
+    (7, "l1\n\nl2\ne"),
+    (12, "l1\nc\nl2\ne"),
+    (16, "l1\nc\nd\ne"),
+    (17, "l1\nc\ne"),
+    (18, "l1\n\ne"),
+    (19, "l1\n\nd\ne"),
+    (20, "l1\n\n\ne"),
+    (21, "l1\n\ne"),
+    (23, "l1\nl2\n\ne"),
+];
+
+/// Whether the script leaves this where that call fails.
+fn leaves_screen(alloc: Global, failing: u64, wanted: &str) -> Result<bool, Refusal> {
+    Ok(shown_failing_at(alloc, failing)?.as_str() == wanted)
+}
+
 #[test]
 fn screens_after_a_failure(rt: HostRuntime) -> Result<(), Fail> {
-    for (failing, wanted) in [
-        (0, "l1\nl2\ne"),
-        (1, "\nl1\nl2\ne"),
-        (3, "ab\nl1\nl2\ne"),
-        (5, "\nl2\ne"),
-        (7, "l1\n\nl2\ne"),
-        (12, "l1\nc\nl2\ne"),
-        (16, "l1\nc\nd\ne"),
-        (17, "l1\nc\ne"),
-        (18, "l1\n\ne"),
-        (19, "l1\n\nd\ne"),
-        (20, "l1\n\n\ne"),
-        (21, "l1\n\ne"),
-        (23, "l1\nl2\n\ne"),
-    ] {
-        let shown = shown_failing_at(rt.alloc(), failing)?;
-        assert_eq!(rt; shown.as_str(), wanted, "where call {failing} fails");
+    for (failing, wanted) in &SCREENS {
+        assert!(rt;
+            leaves_screen(rt.alloc(), *failing, wanted)?,
+            "where call {failing} fails"
+        );
     }
     Ok(())
 }
 
-/// Draws three rows, breaks off where they are taken back, and tells what stands on the screen after one drawing more.
-fn left_of_three(alloc: Global, failing: u64) -> Result<String, Refusal> {
-    let mut bar = bar_failing_at(alloc, "aa\nbb\ncc", failing)?;
-    for step in [Step::Tick, Step::Message("e"), Step::Tick] {
-        let _ = made(&mut bar, step);
+/// Draws three rows, breaks off where they are taken back, and draws once more.
+fn draw_three(bar: &mut Shown<FailsOnce>) {
+    for step in &[Step::Tick, Step::Message("e"), Step::Tick] {
+        let _ = made(bar, *step);
     }
-    contents(alloc, &bar)
 }
 
-/// A drawing after a failure empties the row that it begins on, and none below it. The calls are, in turn: `aa`, end of line,
-/// `bb`, end of line, `cc`, fill, flush; up, clear, end of line, clear, end of line, clear, up, `e`, fill, flush.
+/// Whether this stands on the screen then.
+fn leaves_rows(alloc: Global, failing: u64, wanted: &str) -> Result<bool, Refusal> {
+    let mut bar = bar_failing_at(alloc, "aa\nbb\ncc", failing)?;
+    draw_three(&mut bar);
+    Ok(contents(alloc, &bar)?.as_str() == wanted)
+}
+
+/// The call of the terminal that fails, and what stands on the screen then. The calls are, in turn: `aa`, end of line, `bb`, end of
+/// line, `cc`, fill, flush; up, clear, end of line, clear, end of line, clear, up, `e`, fill, flush.
+const ROWS: [(u64, &str); 7] = [
+    (0, "e"),
+    (8, "aa\nbb\ncc\ne"),
+    (9, "aa\ne\ncc"),
+    (10, "\ne\ncc"),
+    (12, "\n\ne"),
+    (14, "\n\n\ne"),
+    (15, "\ne"),
+];
+
+/// A drawing after a failure empties the row that it begins on, and none below it.
 #[test]
 fn rows_below_a_failure_stay(rt: HostRuntime) -> Result<(), Fail> {
-    for (failing, wanted) in [
-        (0, "e"),
-        (8, "aa\nbb\ncc\ne"),
-        (9, "aa\ne\ncc"),
-        (10, "\ne\ncc"),
-        (12, "\n\ne"),
-        (14, "\n\n\ne"),
-        (15, "\ne"),
-    ] {
-        let shown = left_of_three(rt.alloc(), failing)?;
-        assert_eq!(rt; shown.as_str(), wanted, "where call {failing} fails");
+    for (failing, wanted) in &ROWS {
+        assert!(rt;
+            leaves_rows(rt.alloc(), *failing, wanted)?,
+            "where call {failing} fails"
+        );
     }
     Ok(())
 }
 
 // ---- a boxed terminal
 
-/// A bar that draws the script, and refuses a wide character.
-fn draws_the_script<T: TermLike + Drop>(rt: &impl Abort, bar: &mut Shown<T>) {
-    for (step, _) in SCRIPT {
-        assert_eq!(rt; made(bar, step), Ok(Drawn::Yes));
+/// Whether a bar draws the script, and refuses a wide character.
+fn draws_the_script<T: TermLike + Drop>(bar: &mut Shown<T>) -> bool {
+    for (step, _) in &SCRIPT {
+        if made(bar, *step) != Ok(Drawn::Yes) {
+            return false;
+        }
     }
-    assert_eq!(rt; made(bar, Step::Log("国")), Err(Refusal::TooWide));
+    made(bar, Step::Log("国")) == Err(Refusal::TooWide)
 }
 
-fn plain_draws(rt: &impl Abort, alloc: Global) -> Result<(), Fail> {
+fn plain_draws(alloc: Global) -> Result<bool, Fail> {
     let mut plain = bar_on(alloc, "ab", InMemoryTerm::new(alloc, 5, 1)?)?;
-    draws_the_script(rt, &mut plain);
-    Ok(())
+    Ok(draws_the_script(&mut plain))
 }
 
 fn boxed_bar(alloc: Global) -> Result<Shown<Box<dyn TermLike + Drop>>, Fail> {
@@ -181,16 +207,30 @@ fn boxed_bar(alloc: Global) -> Result<Shown<Box<dyn TermLike + Drop>>, Fail> {
     Ok(bar_on(alloc, "ab", term)?)
 }
 
-fn boxed_draws(rt: &impl Abort, alloc: Global) -> Result<(), Fail> {
+fn boxed_draws(alloc: Global) -> Result<bool, Fail> {
     let mut boxed = boxed_bar(alloc)?;
-    draws_the_script(rt, &mut boxed);
-    Ok(())
+    Ok(draws_the_script(&mut boxed))
 }
 
 #[test]
 fn a_boxed_terminal_answers_as_the_plain_one(rt: HostRuntime) -> Result<(), Fail> {
-    plain_draws(&rt, rt.alloc())?;
-    boxed_draws(&rt, rt.alloc())
+    assert!(rt; plain_draws(rt.alloc())?);
+    assert!(rt; boxed_draws(rt.alloc())?);
+    Ok(())
+}
+
+/// How often the bar's terminal has failed.
+fn faults(bar: &Shown<Box<dyn TermLike + Drop>>) -> u64 {
+    bar.term().map_or(0, |term| term.faults())
+}
+
+/// Whether a tick is drawn, a line fails and is counted, and the same line is drawn then.
+fn fails_once(bar: &mut Shown<Box<dyn TermLike + Drop>>) -> bool {
+    bar.tick(0) == Ok(Drawn::Yes)
+        && bar.println("l", 0) == Err(Refusal::Terminal(ErrorKind::BrokenPipe))
+        && faults(bar) == 1
+        && bar.println("l", 0) == Ok(Drawn::Yes)
+        && faults(bar) == 1
 }
 
 #[test]
@@ -198,14 +238,7 @@ fn a_boxed_terminal_that_fails(rt: HostRuntime) -> Result<(), Fail> {
     let failing = FailsOnce::new(InMemoryTerm::new(rt.alloc(), 5, 10)?, 4);
     let term: Box<dyn TermLike + Drop> = Box::new(rt.alloc(), failing)?;
     let mut bar = bar_on(rt.alloc(), "ab", term)?;
-    assert_eq!(rt; bar.tick(0), Ok(Drawn::Yes));
-    assert_eq!(rt;
-        bar.println("l", 0),
-        Err(Refusal::Terminal(ErrorKind::BrokenPipe))
-    );
-    assert_eq!(rt; bar.term().map_or(0, |term| term.faults()), 1);
-    assert_eq!(rt; bar.println("l", 0), Ok(Drawn::Yes));
-    assert_eq!(rt; bar.term().map_or(0, |term| term.faults()), 1);
+    assert!(rt; fails_once(&mut bar));
     Ok(())
 }
 
@@ -232,30 +265,40 @@ fn bar_with_room(alloc: Global) -> Result<Shown<Term<Vec<u8>>>, Refusal> {
     bar_on(alloc, "ab", Term::new(writer, 6, 10))
 }
 
+/// Whether a call is drawn: at once, or when it is made again, where memory was refused and not a byte was written.
+fn is_drawn_at_last(bar: &mut Shown<Term<Vec<u8>>>, step: Step) -> bool {
+    let before = bytes_written(bar);
+    let first = made(bar, step);
+    let refused = first == Err(Refusal::Memory) && bytes_written(bar) == before;
+    let drawn = first == Ok(Drawn::Yes) || refused && made(bar, step) == Ok(Drawn::Yes);
+    drawn && bytes_written(bar) > before
+}
+
+/// Each call of the script is drawn at last.
+fn draws_at_last(rt: &impl Abort, bar: &mut Shown<Term<Vec<u8>>>) {
+    for (step, _) in &SCRIPT {
+        assert!(rt; is_drawn_at_last(bar, *step));
+    }
+}
+
+/// Whether a bar shows what the script leaves; where memory for that is refused nothing is known.
+fn shows_the_script(alloc: Global, bar: &Shown<Term<Vec<u8>>>) -> bool {
+    match shown_by_bytes(alloc, bar) {
+        Ok(shown) => shown.as_str() == "l1\nl2\ne",
+        Err(refusal) => refusal == Refusal::Memory,
+    }
+}
+
 /// Not a byte is written, and the same call can be made again.
 #[test]
-fn want_of_memory_behind_a_writer(rt: HostRuntime) -> Result<(), Fail> {
-    let mut bar = match bar_with_room(rt.alloc()) {
-        Ok(bar) => bar,
-        Err(refusal) => {
-            assert_eq!(rt; refusal, Refusal::Memory);
-            return Ok(());
+fn want_of_memory_behind_a_writer(rt: HostRuntime) {
+    match bar_with_room(rt.alloc()) {
+        Ok(mut bar) => {
+            draws_at_last(&rt, &mut bar);
+            assert!(rt; shows_the_script(rt.alloc(), &bar));
         }
-    };
-    for (step, _) in SCRIPT {
-        let before = bytes_written(&bar);
-        if let Err(refusal) = made(&mut bar, step) {
-            assert_eq!(rt; refusal, Refusal::Memory);
-            assert_eq!(rt; bytes_written(&bar), before);
-            assert_eq!(rt; made(&mut bar, step), Ok(Drawn::Yes));
-        }
-        assert!(rt; bytes_written(&bar) > before);
-    }
-    match shown_by_bytes(rt.alloc(), &bar) {
-        Ok(shown) => assert_eq!(rt; shown.as_str(), "l1\nl2\ne"),
         Err(refusal) => assert_eq!(rt; refusal, Refusal::Memory),
     }
-    Ok(())
 }
 
 /// What stands on the terminal, and the cursor; nothing where memory for the text is refused.
@@ -264,28 +307,34 @@ fn seen(bar: &Shown<InMemoryTerm>) -> Option<(String, (u16, u16))> {
     Some((term.contents().ok()?, term.cursor()))
 }
 
-/// What was on the screen stays, and the same call can be made again; or the terminal's own memory was refused.
-#[test]
-fn want_of_memory_on_a_terminal_in_memory(rt: HostRuntime) -> Result<(), Fail> {
-    let Ok(term) = InMemoryTerm::new(rt.alloc(), 6, 10) else {
-        return Ok(());
-    };
-    let Ok(mut bar) = bar_on(rt.alloc(), "ab", term) else {
-        return Ok(());
-    };
-    for (step, _) in SCRIPT {
-        let before = seen(&bar);
-        match made(&mut bar, step) {
-            Ok(drawn) => assert_eq!(rt; drawn, Drawn::Yes),
-            Err(Refusal::Memory) => {
-                assert_eq!(rt; seen(&bar), before);
-                assert_eq!(rt; made(&mut bar, step), Ok(Drawn::Yes));
-            }
-            Err(refusal) => {
-                assert_eq!(rt; refusal, Refusal::Terminal(ErrorKind::OutOfMemory));
-                assert_eq!(rt; bar.term().map_or(0, |term| term.faults()), 1);
-            }
+/// Whether a call is drawn; or finds no memory, leaves what was seen, and is drawn when it is made again; or its terminal found none,
+/// which it counts.
+fn is_drawn_or_refused(bar: &mut Shown<InMemoryTerm>, step: Step) -> bool {
+    let before = seen(bar);
+    match made(bar, step) {
+        Ok(drawn) => drawn == Drawn::Yes,
+        Err(Refusal::Memory) => seen(bar) == before && made(bar, step) == Ok(Drawn::Yes),
+        Err(refusal) => {
+            refusal == Refusal::Terminal(ErrorKind::OutOfMemory)
+                && bar.term().map_or(0, |term| term.faults()) == 1
         }
     }
-    Ok(())
+}
+
+/// Each call of the script.
+fn draws_or_refuses(rt: &impl Abort, bar: &mut Shown<InMemoryTerm>) {
+    for (step, _) in &SCRIPT {
+        assert!(rt; is_drawn_or_refused(bar, *step));
+    }
+}
+
+/// What was on the screen stays, and the same call can be made again; or the terminal's own memory was refused.
+#[test]
+fn want_of_memory_on_a_terminal_in_memory(rt: HostRuntime) {
+    let Ok(term) = InMemoryTerm::new(rt.alloc(), 6, 10) else {
+        return;
+    };
+    if let Ok(mut bar) = bar_on(rt.alloc(), "ab", term) {
+        draws_or_refuses(&rt, &mut bar);
+    }
 }

@@ -51,13 +51,33 @@ fn flushes(bar: &Shown<Term<CallCount>>) -> Option<u64> {
 #[test]
 fn a_drawing_is_flushed_once(rt: HostRuntime) -> Result<(), Fail> {
     let mut bar = bar_on(rt.alloc(), "", Term::new(CallCount::default(), 4, 1))?;
-    assert_eq!(rt; bar.set_message("a", 0), Ok(Drawn::Yes));
-    assert_eq!(rt; flushes(&bar), Some(1));
-    assert_eq!(rt; bar.println("b", 0), Ok(Drawn::Yes));
-    assert_eq!(rt; flushes(&bar), Some(2));
-    assert_eq!(rt; bar.set_message("国", 0), Err(Refusal::TooWide));
-    assert_eq!(rt; flushes(&bar), Some(2));
+    let answer = (bar.set_message("a", 0), flushes(&bar));
+    assert_eq!(rt; answer, (Ok(Drawn::Yes), Some(1)));
+    let answer = (bar.println("b", 0), flushes(&bar));
+    assert_eq!(rt; answer, (Ok(Drawn::Yes), Some(2)));
+    let answer = (bar.set_message("国", 0), flushes(&bar));
+    assert_eq!(rt; answer, (Err(Refusal::TooWide), Some(2)));
     Ok(())
+}
+
+/// A bar behind a buffer.
+type Buffered = Shown<Term<BufWriter<CallCount>>>;
+
+/// How often the writer behind the buffer was written to, and flushed.
+fn writes_and_flushes(bar: &Buffered) -> Option<(u64, u64)> {
+    let term = bar.term()?;
+    let count = term.writer().get_ref();
+    Some((count.writes, count.flushes))
+}
+
+/// Each call of the script is drawn by one more write and one more flush.
+fn each_is_one_write(rt: &impl Abort, bar: &mut Buffered) {
+    let mut drawings: u64 = 0;
+    for (step, _) in &SCRIPT {
+        drawings = drawings.saturating_add(1);
+        let answer = (made(bar, *step), writes_and_flushes(bar));
+        assert_eq!(rt; answer, (Ok(Drawn::Yes), Some((drawings, drawings))));
+    }
 }
 
 /// Behind a `BufWriter` each drawing is one write; a call that is refused makes none.
@@ -65,14 +85,7 @@ fn a_drawing_is_flushed_once(rt: HostRuntime) -> Result<(), Fail> {
 fn a_drawing_is_one_write(rt: HostRuntime) -> Result<(), Fail> {
     let writer = BufWriter::new(rt.alloc(), CallCount::default())?;
     let mut bar = bar_on(rt.alloc(), "ab", Term::new(writer, 6, 10))?;
-    let mut drawings: u64 = 0;
-    for (step, _) in SCRIPT {
-        assert_eq!(rt; made(&mut bar, step), Ok(Drawn::Yes));
-        drawings = drawings.saturating_add(1);
-        let term = bar.term().ok_or("no terminal")?;
-        assert_eq!(rt; term.writer().get_ref().writes, drawings);
-        assert_eq!(rt; term.writer().get_ref().flushes, drawings);
-    }
+    each_is_one_write(&rt, &mut bar);
     Ok(())
 }
 
@@ -93,21 +106,40 @@ impl Write for SharedCount {
     }
 }
 
+/// A terminal of a kind that only its maker knows.
+type Boxed = Box<dyn TermLike + Drop>;
+
+/// A terminal in a box that counts its flushes there.
+fn boxed(alloc: Global, count: &Rc<Cell<u64>>) -> Result<Boxed, Fail> {
+    let term = Term::new(SharedCount(count.clone()?), 6, 10);
+    Ok(Box::new(alloc, term)?)
+}
+
+/// A line isn't flushed, and a flush is counted once.
+#[test]
+fn a_boxed_terminal_is_flushed_once(rt: HostRuntime) -> Result<(), Fail> {
+    let count = Rc::new(rt.alloc(), Cell::new(0))?;
+    let mut boxed = boxed(rt.alloc(), &count)?;
+    assert_eq!(rt; (boxed.write_line("ab").is_ok(), count.get()), (true, 0));
+    assert_eq!(rt; (boxed.flush().is_ok(), count.get()), (true, 1));
+    Ok(())
+}
+
+/// Each call of the script is drawn, and flushed once.
+fn each_is_flushed_once(rt: &impl Abort, bar: &mut Shown<Boxed>, count: &Cell<u64>) {
+    let mut flushes: u64 = 0;
+    for (step, _) in &SCRIPT {
+        flushes = flushes.saturating_add(1);
+        let answer = (made(bar, *step), count.get());
+        assert_eq!(rt; answer, (Ok(Drawn::Yes), flushes));
+    }
+}
+
 #[test]
 fn a_boxed_terminal_is_flushed_once_a_drawing(rt: HostRuntime) -> Result<(), Fail> {
     let count = Rc::new(rt.alloc(), Cell::new(0))?;
-    let term = Term::new(SharedCount(count.clone()?), 6, 10);
-    let mut boxed: Box<dyn TermLike + Drop> = Box::new(rt.alloc(), term)?;
-    assert!(rt; boxed.write_line("ab").is_ok());
-    assert_eq!(rt; count.get(), 0);
-    assert!(rt; boxed.flush().is_ok());
-    assert_eq!(rt; count.get(), 1);
-    let mut bar = bar_on(rt.alloc(), "ab", boxed)?;
-    for (step, _) in SCRIPT {
-        let before: u64 = count.get();
-        assert_eq!(rt; made(&mut bar, step), Ok(Drawn::Yes));
-        assert_eq!(rt; count.get(), before.saturating_add(1));
-    }
+    let mut bar = bar_on(rt.alloc(), "ab", boxed(rt.alloc(), &count)?)?;
+    each_is_flushed_once(&rt, &mut bar, &count);
     Ok(())
 }
 
@@ -204,52 +236,88 @@ fn called<T: TermLike>(term: &mut T, call: Call) -> io::Result<()> {
     }
 }
 
-/// The terminal has written these bytes, in so many calls of its writer, and counts so many faults.
-fn has_written(rt: &impl Abort, term: &Term<ByteWise>, bytes: &[u8], calls: u64, faults: u64) {
-    assert!(rt; term.writer().taken.as_slice() == bytes);
-    assert_eq!(rt; term.writer().calls, calls);
-    assert_eq!(rt; term.faults(), faults);
+/// Whether the terminal has written these bytes, in so many calls of its writer, and counts so many faults.
+fn has_written(term: &Term<ByteWise>, bytes: &[u8], (calls, faults): (u64, u64)) -> bool {
+    term.writer().taken.as_slice() == bytes
+        && term.writer().calls == calls
+        && term.faults() == faults
+}
+
+/// A call, and its bytes.
+type Written = (Call, &'static [u8]);
+
+/// Whether a writer that never halts is given each byte by a call.
+fn is_given_each_byte(alloc: Global, row: &Written) -> bool {
+    let mut term = Term::new(ByteWise::steady(alloc), 24, 80);
+    let made = called(&mut term, row.0).is_ok();
+    made && has_written(&term, row.1, (row.1.len() as u64, 0))
 }
 
 #[test]
 fn a_writer_of_one_byte_a_call(rt: HostRuntime) {
-    for (call, bytes) in CALLS {
-        let mut term = Term::new(ByteWise::steady(rt.alloc()), 24, 80);
-        assert!(rt; called(&mut term, call).is_ok(), "{call:?}");
-        has_written(&rt, &term, bytes, bytes.len() as u64, 0);
+    for row in &CALLS {
+        assert!(rt; is_given_each_byte(rt.alloc(), row), "{:?}", row.0);
+    }
+}
+
+/// Whether a call whose writer is interrupted three times after so many bytes writes all.
+fn goes_on_after(alloc: Global, row: &Written, at: usize) -> bool {
+    let halt = Halt::Failure(ErrorKind::Interrupted);
+    let mut term = Term::new(ByteWise::halting(alloc, at, halt, 3), 24, 80);
+    let made = called(&mut term, row.0).is_ok();
+    let calls = (row.1.len() as u64).saturating_add(3);
+    made && has_written(&term, row.1, (calls, 0))
+}
+
+/// At each byte.
+fn is_interrupted(rt: &impl Abort, alloc: Global, row: &Written) {
+    for at in 0..row.1.len() {
+        assert!(rt; goes_on_after(alloc, row, at), "{:?} at {at}", row.0);
     }
 }
 
 /// A call of the writer that is interrupted is made again, as often as that happens.
 #[test]
 fn a_writer_that_is_interrupted(rt: HostRuntime) {
-    for (call, bytes) in CALLS {
-        for at in 0..bytes.len() {
-            let halt = Halt::Failure(ErrorKind::Interrupted);
-            let mut term = Term::new(ByteWise::halting(rt.alloc(), at, halt, 3), 24, 80);
-            assert!(rt; called(&mut term, call).is_ok(), "{call:?} at {at}");
-            has_written(&rt, &term, bytes, (bytes.len() as u64).saturating_add(3), 0);
-        }
+    for row in &CALLS {
+        is_interrupted(&rt, rt.alloc(), row);
+    }
+}
+
+/// How a writer halts, and the kind of failure that its terminal tells.
+type Failing = (Halt, ErrorKind);
+
+/// Whether a call whose writer halts so after so many bytes fails, and writes none behind them.
+fn ends_at(alloc: Global, row: &Written, at: usize, (halt, kind): Failing) -> bool {
+    let mut term = Term::new(ByteWise::halting(alloc, at, halt, 1), 24, 80);
+    let failure = called(&mut term, row.0).err().map(|e| e.kind());
+    let calls = (at as u64).saturating_add(1);
+    match row.1.get(..at) {
+        Some(front) => failure == Some(kind) && has_written(&term, front, (calls, 1)),
+        None => false,
+    }
+}
+
+/// At each byte.
+fn is_broken_off(rt: &impl Abort, alloc: Global, row: &Written, failing: Failing) {
+    for at in 0..row.1.len() {
+        assert!(rt; ends_at(alloc, row, at, failing), "{:?} at {at}", row.0);
+    }
+}
+
+/// Each call.
+fn breaks_off(rt: &impl Abort, alloc: Global, failing: Failing) {
+    for row in &CALLS {
+        is_broken_off(rt, alloc, row, failing);
     }
 }
 
 /// Any other failure, and a call that takes no byte, ends the call at once, though the writer would go on.
 #[test]
 fn a_writer_that_fails(rt: HostRuntime) {
-    let halts = [
-        (Halt::Failure(ErrorKind::BrokenPipe), ErrorKind::BrokenPipe),
-        (Halt::Nothing, ErrorKind::WriteZero),
-    ];
-    for (halt, kind) in halts {
-        for (call, bytes) in CALLS {
-            for at in 0..bytes.len() {
-                let mut term = Term::new(ByteWise::halting(rt.alloc(), at, halt, 1), 24, 80);
-                let failure = called(&mut term, call).err().map(|e| e.kind());
-                assert_eq!(rt; failure, Some(kind), "{call:?} at {at}");
-                has_written(&rt, &term, &bytes[..at], (at as u64).saturating_add(1), 1);
-            }
-        }
-    }
+    let broken = Halt::Failure(ErrorKind::BrokenPipe);
+    breaks_off(&rt, rt.alloc(), (broken, ErrorKind::BrokenPipe));
+    breaks_off(&rt, rt.alloc(), (Halt::Nothing, ErrorKind::WriteZero));
 }
 
 // ---- a bar behind such writers
@@ -259,25 +327,36 @@ fn bar_behind(alloc: Global, writer: ByteWise) -> Result<Shown<Term<ByteWise>>, 
     bar_on(alloc, "ab", Term::new(writer, 20, 10))
 }
 
+/// Makes each call of the script.
+fn play<T: TermLike + Drop>(bar: &mut Shown<T>) -> Result<(), Refusal> {
+    for (step, _) in &SCRIPT {
+        made(bar, *step)?;
+    }
+    Ok(())
+}
+
 /// The bytes that the script writes where nothing fails.
 fn bytes_of_the_script(alloc: Global) -> Result<Vec<u8>, Fail> {
     let mut bar = bar_on(alloc, "ab", Term::new(Vec::new(alloc), 20, 10))?;
-    for (step, _) in SCRIPT {
-        made(&mut bar, step)?;
-    }
+    play(&mut bar)?;
     let term = bar.term().ok_or("no terminal")?;
     Ok(Vec::from_slice(alloc, term.writer().as_slice())?)
+}
+
+/// Each call of the script is drawn.
+fn draws_all(rt: &impl Abort, bar: &mut Shown<Term<ByteWise>>) {
+    for (step, _) in &SCRIPT {
+        assert_eq!(rt; made(bar, *step), Ok(Drawn::Yes));
+    }
 }
 
 #[test]
 fn a_bar_behind_a_writer_of_one_byte_a_call(rt: HostRuntime) -> Result<(), Fail> {
     let bytes = bytes_of_the_script(rt.alloc())?;
     let mut bar = bar_behind(rt.alloc(), ByteWise::steady(rt.alloc()))?;
-    for (step, _) in SCRIPT {
-        assert_eq!(rt; made(&mut bar, step), Ok(Drawn::Yes));
-    }
+    draws_all(&rt, &mut bar);
     let term = bar.term().ok_or("no terminal")?;
-    has_written(&rt, term, &bytes, bytes.len() as u64, 0);
+    assert!(rt; has_written(term, &bytes, (bytes.len() as u64, 0)));
     Ok(())
 }
 
@@ -300,20 +379,11 @@ fn shown(alloc: Global, bytes: &[u8]) -> Result<String, Fail> {
     Ok(text)
 }
 
-/// These rows stand at the bottom of what the terminal's bytes show.
-fn shows_below(
-    rt: &impl Abort,
-    alloc: Global,
-    term: &Term<ByteWise>,
-    rows: &str,
-) -> Result<(), Fail> {
+/// Whether these rows stand at the bottom of what the terminal's bytes show.
+fn shows_below(alloc: Global, term: &Term<ByteWise>, rows: &str) -> Result<bool, Fail> {
     let below = format!(in alloc; "\n{rows}")?;
     let shown = shown(alloc, &term.writer().taken)?;
-    assert!(rt;
-        shown.as_str().ends_with(below.as_str()),
-        "{shown:?}, not {rows:?}"
-    );
-    Ok(())
+    Ok(shown.as_str().ends_with(below.as_str()))
 }
 
 /// Makes the call, and answers how often it failed: never, and its rows stand at the bottom; or once, after this many bytes.
@@ -327,21 +397,23 @@ fn broken_calls(
     let answer = made(bar, call.0);
     let term = bar.term().ok_or("no terminal")?;
     if answer == Ok(Drawn::Yes) {
-        shows_below(rt, alloc, term, call.1)?;
+        assert!(rt; shows_below(alloc, term, call.1)?, "not {:?}", call.1);
         return Ok(0);
     }
-    assert_eq!(rt; answer, Err(Refusal::Terminal(ErrorKind::BrokenPipe)));
-    assert_eq!(rt; term.writer().taken.len(), at);
+    let broken = Err(Refusal::Terminal(ErrorKind::BrokenPipe));
+    assert_eq!(rt; (answer, term.writer().taken.len()), (broken, at));
     Ok(1)
 }
 
-/// The terminal has counted so many faults, and its writer one call a byte and one a fault.
-fn has_counted(rt: &impl Abort, bar: &Shown<Term<ByteWise>>, failures: u64) -> Result<(), Fail> {
-    let term = bar.term().ok_or("no terminal")?;
-    assert_eq!(rt; term.faults(), failures);
-    let taken = term.writer().taken.len() as u64;
-    assert_eq!(rt; term.writer().calls, taken.saturating_add(failures));
-    Ok(())
+/// Whether the terminal has counted so many faults, and its writer one call a byte and one a fault.
+fn has_counted(bar: &Shown<Term<ByteWise>>, failures: u64) -> bool {
+    match bar.term() {
+        Some(term) => {
+            let taken = term.writer().taken.len() as u64;
+            term.faults() == failures && term.writer().calls == taken.saturating_add(failures)
+        }
+        None => false,
+    }
 }
 
 /// Runs the script and one more draw of this bar, and answers how many calls failed.
@@ -352,8 +424,8 @@ fn play_broken_at(
     at: usize,
 ) -> Result<u64, Fail> {
     let mut failures: u64 = 0;
-    for call in SCRIPT {
-        let failed = broken_calls(rt, alloc, bar, call, at)?;
+    for call in &SCRIPT {
+        let failed = broken_calls(rt, alloc, bar, *call, at)?;
         failures = failures.saturating_add(failed);
     }
     let failed = broken_calls(rt, alloc, bar, (Step::Tick, "e"), at)?;
@@ -365,7 +437,7 @@ fn play_broken_at(
 fn run_broken_at(rt: &impl Abort, alloc: Global, at: usize, halt: Halt) -> Result<u64, Fail> {
     let mut bar = bar_behind(alloc, ByteWise::halting(alloc, at, halt, 1))?;
     let failures = play_broken_at(rt, alloc, &mut bar, at)?;
-    has_counted(rt, &bar, failures)?;
+    assert!(rt; has_counted(&bar, failures));
     Ok(failures)
 }
 

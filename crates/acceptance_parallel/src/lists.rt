@@ -86,20 +86,34 @@ fn a_million_items(rt: HostRuntime) -> Result<(), Fail> {
     Ok(())
 }
 
+/// So many counts of 0.
+fn counts(alloc: Global, count: u32) -> Result<Vec<AtomicU64>, AllocError> {
+    let mut counts = Vec::new(alloc);
+    for _ in 0..count {
+        counts.push(AtomicU64::new(0))?;
+    }
+    Ok(counts)
+}
+
+/// Whether each of these counts is 1.
+fn are_met_once(counts: &[AtomicU64]) -> bool {
+    for times in counts {
+        if times.load(Ordering::SeqCst) != 1 {
+            return false;
+        }
+    }
+    true
+}
+
 #[test]
 fn each_item_is_met_once(rt: HostRuntime) -> Result<(), Fail> {
-    let mut met = Vec::new(rt.alloc());
-    for _ in 0..10_000u32 {
-        met.push(AtomicU64::new(0))?;
-    }
+    let met = counts(rt.alloc(), 10_000)?;
     let list = met.as_slice().progress_with(bar_at(rt.alloc(), 0));
     let (answer, bar) = list.for_each(&rt, |times: &AtomicU64| {
         times.fetch_add(1, Ordering::SeqCst);
     });
     assert_eq!(rt; answer, Ok(()));
     assert!(rt; bar.steps.as_slice() == [4096, 4096, 1808].as_slice());
-    for times in met.iter() {
-        assert_eq!(rt; times.load(Ordering::SeqCst), 1);
-    }
+    assert!(rt; are_met_once(met.as_slice()));
     Ok(())
 }

@@ -10,15 +10,30 @@ fn style(alloc: Global, template: &str) -> Result<Look<NoTracker>, Refusal> {
     Look::with_template(alloc, template)
 }
 
-/// What a builder answered is this refusal.
-fn refuses(rt: &impl Abort, made: Result<Look<NoTracker>, Refusal>, wanted: Refusal, at: &str) {
+/// How a builder refused, if it did.
+fn refusal(made: Result<Look<NoTracker>, Refusal>) -> Option<Refusal> {
     match made {
-        Ok(_) => assert!(rt; false, "made at {at}"),
-        Err(refusal) => assert_eq!(rt; refusal, wanted, "at {at}"),
+        Ok(_) => None,
+        Err(refusal) => Some(refusal),
     }
 }
 
-/// The spinner's texts of a style: after so many ticks, and at last.
+/// What a builder answered is this refusal.
+fn refuses(rt: &impl Abort, made: Result<Look<NoTracker>, Refusal>, wanted: Refusal, at: &str) {
+    assert_eq!(rt; refusal(made), Some(wanted), "at {at}");
+}
+
+/// Whether these are the spinner's texts of a style: after so many ticks, and at last.
+fn has_ticks(style: &Look<NoTracker>, table: &[(u64, &str)], last: &str) -> bool {
+    for (ticks, wanted) in table {
+        if style.get_tick_str(*ticks) != *wanted {
+            return false;
+        }
+    }
+    style.get_final_tick_str() == last
+}
+
+/// The spinner's texts of a style are these.
 fn ticks(
     rt: &impl Abort,
     made: Result<Look<NoTracker>, Refusal>,
@@ -26,10 +41,7 @@ fn ticks(
     last: &str,
 ) -> Result<(), Fail> {
     let style = made?;
-    for (ticks, wanted) in table {
-        assert_eq!(rt; style.get_tick_str(*ticks), *wanted, "after {ticks}");
-    }
-    assert_eq!(rt; style.get_final_tick_str(), last);
+    assert!(rt; has_ticks(&style, table, last), "{table:?}");
     Ok(())
 }
 

@@ -4,6 +4,8 @@
 #[cfg(test)]
 mod documented;
 #[cfg(test)]
+mod examples;
+#[cfg(test)]
 mod format;
 #[cfg(test)]
 mod refusal;

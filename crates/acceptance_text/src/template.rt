@@ -85,31 +85,40 @@ fn templates(rt: HostRuntime) -> Result<(), Fail> {
     Ok(())
 }
 
+/// How a template is refused, if it is.
+fn refused(alloc: Global, text: &str) -> Option<TemplateError> {
+    Template::parse(alloc, text).err()
+}
+
+/// A template, the character that can't stand where it stands, and what was being read there.
+const UNEXPECTED: [(&str, char, TemplateState); 8] = [
+    ("}x", 'x', TemplateState::DoubleClose),
+    ("{}", '}', TemplateState::MaybeOpen),
+    ("{k:<>}", '>', TemplateState::Width),
+    ("{k:x}", 'x', TemplateState::Align),
+    ("{k:/red}", '/', TemplateState::Align),
+    ("{k:5/red}", '/', TemplateState::Width),
+    ("{:5}", ':', TemplateState::MaybeOpen),
+    ("}x{k:70000}", 'x', TemplateState::DoubleClose),
+];
+
 #[test]
-fn refusals(rt: HostRuntime) -> Result<(), Fail> {
-    let table = [
-        ("}x", 'x', TemplateState::DoubleClose),
-        ("{}", '}', TemplateState::MaybeOpen),
-        ("{k:<>}", '>', TemplateState::Width),
-        ("{k:x}", 'x', TemplateState::Align),
-        ("{k:/red}", '/', TemplateState::Align),
-        ("{k:5/red}", '/', TemplateState::Width),
-        ("{:5}", ':', TemplateState::MaybeOpen),
-        ("}x{k:70000}", 'x', TemplateState::DoubleClose),
-    ];
-    for (text, next, state) in table {
-        let error = Template::parse(rt.alloc(), text).err().ok_or("parsed")?;
-        assert_eq!(rt;
-            error,
-            TemplateError::Unexpected { next, state },
-            "at {text}"
-        );
+fn refusals(rt: HostRuntime) {
+    for (text, next, state) in &UNEXPECTED {
+        let wanted = TemplateError::Unexpected {
+            next: *next,
+            state: *state,
+        };
+        assert_eq!(rt; refused(rt.alloc(), text), Some(wanted), "at {text}");
     }
-    for text in ["{bar:70000}", "{k:65536}", "{k:99999.red", "{k:70000}}x"] {
-        let error = Template::parse(rt.alloc(), text).err().ok_or("parsed")?;
-        assert_eq!(rt; error, TemplateError::WidthTooLarge, "at {text}");
+}
+
+#[test]
+fn widths_that_are_too_large(rt: HostRuntime) {
+    for text in &["{bar:70000}", "{k:65536}", "{k:99999.red", "{k:70000}}x"] {
+        let wanted = TemplateError::WidthTooLarge;
+        assert_eq!(rt; refused(rt.alloc(), text), Some(wanted), "at {text}");
     }
-    Ok(())
 }
 
 #[test]

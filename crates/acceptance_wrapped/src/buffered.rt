@@ -1,30 +1,42 @@
 //! Buffered readers: the bar is placed by what is consumed.
-use crate::counted::{consume, fill_buf, read_line, stands, wrapped_at};
+use crate::counted::{Wrapped, consume, fill_buf, read_line, stands, wrapped_at};
 use std::io::{self, BufRead, ErrorKind, Read};
 use std::test::Fail;
 
+/// Whether these bytes are in hand.
+fn fills(wrapped: &mut Wrapped<&[u8]>, wanted: &[u8]) -> bool {
+    match fill_buf(wrapped) {
+        Ok(found) => found == wanted,
+        Err(_) => false,
+    }
+}
+
 #[test]
 fn what_is_consumed_places(rt: HostRuntime) -> Result<(), Fail> {
-    let mut wrapped = wrapped_at("abcdef".as_bytes(), 0);
-    assert_eq!(rt; fill_buf(&mut wrapped)?.len(), 6);
-    assert_eq!(rt; stands(&wrapped), (0, 0));
+    let mut wrapped = wrapped_at(rt.alloc(), "abcdef".as_bytes(), 0)?;
+    let filled = fills(&mut wrapped, b"abcdef");
+    assert!(rt; filled && stands(&wrapped) == (0, 0));
     consume(&mut wrapped, 4);
     assert_eq!(rt; stands(&wrapped), (4, 1));
-    assert!(rt; fill_buf(&mut wrapped)? == "ef".as_bytes());
+    assert!(rt; fills(&mut wrapped, b"ef"));
     Ok(())
+}
+
+/// Whether the next line is this one of four bytes, and the bar stands there then.
+fn reads_line(wrapped: &mut Wrapped<&[u8]>, line: &mut String, (wanted, at): (&str, u64)) -> bool {
+    line.clear();
+    match read_line(wrapped, line) {
+        Ok(n) => n == 4 && line.as_str() == wanted && wrapped.progress.position == at,
+        Err(_) => false,
+    }
 }
 
 #[test]
 fn line_by_line(rt: HostRuntime) -> Result<(), Fail> {
-    let mut wrapped = wrapped_at("one\ntwo\n".as_bytes(), 0);
+    let mut wrapped = wrapped_at(rt.alloc(), "one\ntwo\n".as_bytes(), 0)?;
     let mut line = String::new(rt.alloc());
-    assert_eq!(rt; read_line(&mut wrapped, &mut line)?, 4);
-    assert!(rt; line.as_str() == "one\n");
-    assert_eq!(rt; wrapped.progress.position, 4);
-    line.clear();
-    assert_eq!(rt; read_line(&mut wrapped, &mut line)?, 4);
-    assert!(rt; line.as_str() == "two\n");
-    assert_eq!(rt; wrapped.progress.position, 8);
+    let first = reads_line(&mut wrapped, &mut line, ("one\n", 4));
+    assert!(rt; first && reads_line(&mut wrapped, &mut line, ("two\n", 8)));
     Ok(())
 }
 
@@ -46,9 +58,18 @@ impl BufRead for Failing {
     fn consume(&mut self, _amount: usize) {}
 }
 
+/// Whether no bytes are in hand, for this reason.
+fn fails_to_fill<T: BufRead>(wrapped: &mut Wrapped<T>, kind: ErrorKind) -> bool {
+    match fill_buf(wrapped) {
+        Ok(_) => false,
+        Err(e) => e.kind() == kind,
+    }
+}
+
 #[test]
-fn a_buffer_that_fails_moves_nothing(rt: HostRuntime) {
-    let mut wrapped = wrapped_at(Failing, 3);
-    assert!(rt; fill_buf(&mut wrapped).is_err_and(|e| e.kind() == ErrorKind::TimedOut));
-    assert_eq!(rt; stands(&wrapped), (3, 0));
+fn a_buffer_that_fails_moves_nothing(rt: HostRuntime) -> Result<(), Fail> {
+    let mut wrapped = wrapped_at(rt.alloc(), Failing, 3)?;
+    let failed = fails_to_fill(&mut wrapped, ErrorKind::TimedOut);
+    assert!(rt; failed && stands(&wrapped) == (3, 0));
+    Ok(())
 }

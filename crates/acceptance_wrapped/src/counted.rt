@@ -1,7 +1,8 @@
 //! A bar of the tests', which tells where it stands and counts its moves; and the calls of wrappers over it. They promise nothing
 //! here, so that a test of many calls is proved call by call.
 use indicatif::{Drawn, Moves, ProgressBarIter, Refusal};
-use std::io::{self, BufRead, Read, Seek, SeekFrom, Write};
+use std::alloc::{AllocError, Global};
+use std::io::{self, BufRead, ErrorKind, Read, Seek, SeekFrom, Write};
 use std::vec::IntoIter;
 
 /// A bar without a length, so that finishing leaves its position.
@@ -44,14 +45,18 @@ impl Moves for Counted {
     }
 }
 
-/// What is wrapped, with a bar at this position that counts its moves.
-pub fn wrapped_at<T>(it: T, position: u64) -> ProgressBarIter<T, Counted> {
+/// What is wrapped, with a bar at this position that counts its moves; in a box, so that each way out of a test drops one thing.
+pub fn wrapped_at<T: Drop>(
+    alloc: Global,
+    it: T,
+    position: u64,
+) -> Result<Box<ProgressBarIter<T, Counted>>, AllocError> {
     let bar = Counted {
         position,
         finished: false,
         moves: 0,
     };
-    ProgressBarIter::new(it, bar)
+    Ok(Box::new(alloc, ProgressBarIter::new(it, bar))?)
 }
 
 /// Where a wrapper's bar stands, and how many moves it made.
@@ -108,4 +113,32 @@ pub fn write_all<T: Write>(wrapped: &mut Wrapped<T>, bytes: &[u8]) -> io::Result
 
 pub fn flush<T: Write>(wrapped: &mut Wrapped<T>) -> io::Result<()> {
     wrapped.flush()
+}
+
+/// Whether a read into this room gives so many bytes, and the bar stands there then.
+pub fn reads<T: Read>(
+    wrapped: &mut Wrapped<T>,
+    room: &mut [u8],
+    (bytes, at): (usize, u64),
+) -> bool {
+    match read(wrapped, room) {
+        Ok(n) => n == bytes && wrapped.progress.position == at,
+        Err(_) => false,
+    }
+}
+
+/// Whether a call fails so.
+pub fn fails<A: Drop>(answer: io::Result<A>, kind: ErrorKind) -> bool {
+    match answer {
+        Ok(_) => false,
+        Err(e) => e.kind() == kind,
+    }
+}
+
+/// Whether a seek leads to this place, and the bar stands there then.
+pub fn seeks<T: Seek>(wrapped: &mut Wrapped<T>, to: SeekFrom, (place, at): (u64, u64)) -> bool {
+    match seek(wrapped, to) {
+        Ok(n) => n == place && wrapped.progress.position == at,
+        Err(_) => false,
+    }
 }

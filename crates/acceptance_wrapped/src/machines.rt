@@ -1,8 +1,9 @@
 //! What is asked of the machine: a made-up environment, and the terminals behind the program's own streams.
 use indicatif::machine::{facts_of, on_stderr, on_stdout, told_setup};
-use indicatif::{Clock, Facts, Refusal, TermLike};
+use indicatif::{Clock, Facts, ProgressDrawTarget, Setup, Term, TermLike};
+use std::alloc::Global;
 use std::env::{Env, FillError};
-use std::io::IsTerminal;
+use std::io::{BufWriter, IsTerminal};
 use std::test::Fail;
 
 /// A program's environment: variables and what they say.
@@ -66,42 +67,50 @@ struct Row {
 }
 
 /// 24 rows and 80 columns where no number from 1 to 65,535 is said, and no kind where none is said or it is no text.
-fn table() -> [Row; 7] {
-    [
-        wanted(&[], 24, 80, None),
-        wanted(
-            &[("LINES", b"50"), ("COLUMNS", b"132"), ("TERM", b"xterm")],
-            50,
-            132,
-            Some("xterm"),
-        ),
-        wanted(&[("LINES", b"1"), ("COLUMNS", b"65535")], 1, 65_535, None),
-        wanted(&[("LINES", b"0"), ("COLUMNS", b"65536")], 24, 80, None),
-        wanted(
-            &[("LINES", b"-3"), ("COLUMNS", b"wide"), ("TERM", b"")],
-            24,
-            80,
-            Some(""),
-        ),
-        wanted(&[("COLUMNS", b""), ("TERM", b"dumb")], 24, 80, Some("dumb")),
-        wanted(&[("COLUMNS", b"1\xff"), ("TERM", b"\xff")], 24, 80, None),
-    ]
-}
-
-/// A row of the table.
-fn wanted(
-    told: &'static [(&'static str, &'static [u8])],
-    rows: u16,
-    cols: u16,
-    term: Option<&'static str>,
-) -> Row {
+const SAID: [Row; 7] = [
     Row {
-        told,
-        rows,
-        cols,
-        term,
-    }
-}
+        told: &[],
+        rows: 24,
+        cols: 80,
+        term: None,
+    },
+    Row {
+        told: &[("LINES", b"50"), ("COLUMNS", b"132"), ("TERM", b"xterm")],
+        rows: 50,
+        cols: 132,
+        term: Some("xterm"),
+    },
+    Row {
+        told: &[("LINES", b"1"), ("COLUMNS", b"65535")],
+        rows: 1,
+        cols: 65_535,
+        term: None,
+    },
+    Row {
+        told: &[("LINES", b"0"), ("COLUMNS", b"65536")],
+        rows: 24,
+        cols: 80,
+        term: None,
+    },
+    Row {
+        told: &[("LINES", b"-3"), ("COLUMNS", b"wide"), ("TERM", b"")],
+        rows: 24,
+        cols: 80,
+        term: Some(""),
+    },
+    Row {
+        told: &[("COLUMNS", b""), ("TERM", b"dumb")],
+        rows: 24,
+        cols: 80,
+        term: Some("dumb"),
+    },
+    Row {
+        told: &[("COLUMNS", b"1\xff"), ("TERM", b"\xff")],
+        rows: 24,
+        cols: 80,
+        term: None,
+    },
+];
 
 /// Facts of a terminal of 7 rows and 40 columns.
 fn facts(attended: bool, term: Option<String>) -> Facts {
@@ -121,32 +130,63 @@ fn is_hidden_by(facts: &Facts) -> bool {
     }
 }
 
+/// Whether these facts are those of a row, of a stream that is a terminal.
+fn are_facts(found: &Facts, row: &Row) -> bool {
+    found.rows == row.rows
+        && found.cols == row.cols
+        && found.term.as_ref().map(|term| term.as_str()) == row.term
+        && found.attended
+}
+
+/// Whether an environment says what a row wants.
+fn says(alloc: Global, row: &Row) -> Result<bool, Fail> {
+    let found = facts_of(&(Told(row.told), alloc), &Stream { attended: true })?;
+    Ok(are_facts(&found, row))
+}
+
 #[test]
 fn what_an_environment_says(rt: HostRuntime) -> Result<(), Fail> {
-    for row in table() {
-        let told = (Told(row.told), rt.alloc());
-        let found = facts_of(&told, &Stream { attended: true })?;
-        assert_eq!(rt; found.rows, row.rows);
-        assert_eq!(rt; found.cols, row.cols);
-        assert_eq!(rt; found.term.as_ref().map(|term| term.as_str()), row.term);
-        assert!(rt; found.attended);
+    for row in &SAID {
+        assert!(rt;
+            says(rt.alloc(), row)?,
+            "of {} rows and {} columns",
+            row.rows,
+            row.cols
+        );
     }
+    Ok(())
+}
+
+/// A stream that is no terminal.
+#[test]
+fn a_stream_that_nobody_reads(rt: HostRuntime) -> Result<(), Fail> {
     let nobody = facts_of(&(Told(&[]), rt.alloc()), &Stream { attended: false })?;
     assert!(rt; !nobody.attended);
     Ok(())
+}
+
+/// A terminal behind a writer.
+type Behind = Term<BufWriter<Vec<u8>>>;
+
+/// Rows and columns of a target's terminal, if it has one.
+fn size_of(target: ProgressDrawTarget<Behind>) -> Option<(u16, u16)> {
+    let term = target.into_term()?;
+    Some((term.height(), term.width()))
+}
+
+/// Whether a clock doesn't go back.
+fn goes_on(clock: &mut impl Clock) -> bool {
+    let first = clock.now();
+    first <= clock.now()
 }
 
 #[test]
 fn a_terminal_of_which_is_told(rt: HostRuntime) -> Result<(), Fail> {
     let xterm = String::from_str(rt.alloc(), "xterm")?;
     let setup = told_setup(&rt, Vec::<u8>::new(rt.alloc()), facts(true, Some(xterm)))?;
-    let mut clock = setup.clock;
-    let first = clock.now();
-    assert!(rt; first <= clock.now());
-    match setup.target.into_term() {
-        Some(term) => assert_eq!(rt; (term.height(), term.width()), (7, 40)),
-        None => return Err(Fail::new("hidden")),
-    }
+    let Setup { target, mut clock } = setup;
+    let size = size_of(target);
+    assert!(rt; size == Some((7, 40)) && goes_on(&mut clock));
     Ok(())
 }
 

@@ -1,6 +1,6 @@
 //! Iterators that get a bar when they are wrapped. The rows are the crate's: of a terminal of 20 columns 16 are cells of the wide
 //! bar, filled in the proportion of position and length, rounded down.
-use crate::counted::{Counted, stands};
+use crate::counted::{Counted, Wrapped, last_draw, next as next_kept, stands};
 use indicatif::{
     InMemoryTerm, NoTracker, OwnedBar, ProgressBarIter, ProgressDrawTarget, ProgressIterator,
     ProgressStyle, Refusal, Setup, StepClock,
@@ -87,24 +87,33 @@ fn length_kept(wrapped: &Kept) -> Option<u64> {
     wrapped.progress.bar().bar().state().len()
 }
 
-#[test]
-fn a_length_by_the_upper_bound(rt: HostRuntime) -> Result<(), Fail> {
-    let even = vec![in rt.alloc(); 1u32, 2, 3, 4]?
+/// The length of the bar of the even numbers among four.
+fn length_of_even(alloc: Global) -> Result<Option<u64>, Refusal> {
+    let even = vec![in alloc; 1u32, 2, 3, 4]?
         .into_iter()
         .filter(|x| *x % 2 == 0);
-    // As far as anybody knows, up to 4 items come: `size_hint` is (0, Some(4)).
-    let found = even.try_progress(rt.alloc(), setup(rt.alloc())?)?;
-    let Some(wrapped) = found else {
-        return Err(Fail::new("no bar"));
-    };
-    assert_eq!(rt; length(&wrapped), Some(4));
+    match even.try_progress(alloc, setup(alloc)?)? {
+        Some(wrapped) => Ok(length(&wrapped)),
+        None => Ok(None),
+    }
+}
+
+/// As far as anybody knows, up to 4 items come: `size_hint` is (0, Some(4)).
+#[test]
+fn a_length_by_the_upper_bound(rt: HostRuntime) -> Result<(), Fail> {
+    assert_eq!(rt; length_of_even(rt.alloc()), Ok(Some(4)));
     Ok(())
+}
+
+/// Whether an endless iterator gets a bar of which no length was told.
+fn has_bar(alloc: Global) -> Result<bool, Refusal> {
+    let found = Sevens.try_progress(alloc, setup(alloc)?)?;
+    Ok(found.is_some())
 }
 
 #[test]
 fn no_length_no_bar(rt: HostRuntime) -> Result<(), Fail> {
-    let found = Sevens.try_progress(rt.alloc(), setup(rt.alloc())?)?;
-    assert!(rt; found.is_none());
+    assert_eq!(rt; has_bar(rt.alloc()), Ok(false));
     Ok(())
 }
 
@@ -130,6 +139,12 @@ fn a_style_of_ones_own(rt: HostRuntime) -> Result<(), Fail> {
     Ok(())
 }
 
+/// One item, by this bar.
+fn handed(alloc: Global, bar: Counted) -> Result<Box<Wrapped<IntoIter<u32>>>, Refusal> {
+    let list = vec![in alloc; 7u32]?.into_iter();
+    Ok(Box::new(alloc, list.progress_with(bar))?)
+}
+
 #[test]
 fn a_bar_that_is_handed_in(rt: HostRuntime) -> Result<(), Fail> {
     let bar = Counted {
@@ -137,12 +152,13 @@ fn a_bar_that_is_handed_in(rt: HostRuntime) -> Result<(), Fail> {
         finished: false,
         moves: 0,
     };
-    let mut wrapped = vec![in rt.alloc(); 7u32]?.into_iter().progress_with(bar);
-    assert_eq!(rt; stands(&wrapped), (5, 0));
-    assert_eq!(rt; wrapped.last_draw(), None);
-    assert_eq!(rt; wrapped.next(), Some(7));
-    assert_eq!(rt; stands(&wrapped), (6, 1));
-    assert_eq!(rt; wrapped.next(), None);
-    assert!(rt; wrapped.progress.finished);
+    let mut wrapped = handed(rt.alloc(), bar)?;
+    assert_eq!(rt; (stands(&wrapped), last_draw(&wrapped)), ((5, 0), None));
+    assert_eq!(rt;
+        (next_kept(&mut wrapped), stands(&wrapped)),
+        (Some(7), (6, 1))
+    );
+    let end = next_kept(&mut wrapped);
+    assert!(rt; end.is_none() && wrapped.progress.finished);
     Ok(())
 }

@@ -1,8 +1,8 @@
 //! A loop with a bar of its own on a terminal in memory, every name by the paths of crate `indicatif`. The rows are the crate's:
 //! 16 cells of a wide bar for 1 of 3, 2 of 3 and 3 of 3, rounded down.
 use indicatif::{
-    Drawn, InMemoryTerm, NoTracker, OwnedBar, ProgressBarIter, ProgressDrawTarget, ProgressFinish,
-    ProgressIterator, Refusal, Setup, StepClock,
+    BarState, Drawn, InMemoryTerm, LoneBar, NoTracker, OwnedBar, ProgressBarIter,
+    ProgressDrawTarget, ProgressFinish, ProgressIterator, Refusal, Setup, StepClock,
 };
 use std::alloc::Global;
 use std::test::Fail;
@@ -70,23 +70,46 @@ impl Looped {
     }
 }
 
+/// A loop over one item, by a bar that was made before, with its clock.
+fn with_its_clock(alloc: Global) -> Result<Looped, Refusal> {
+    let state = BarState::new(alloc, Some(1), 0)?;
+    let Setup { target, clock } = setup(alloc)?;
+    let bar = OwnedBar::new(LoneBar::new(state, target), clock);
+    let items = vec![in alloc; 7u32]?.into_iter();
+    let wrapped = Box::new(alloc, ProgressBarIter::new(items, bar))?;
+    Ok(Looped { wrapped })
+}
+
+#[test]
+fn a_bar_that_was_made_before(rt: HostRuntime) -> Result<(), Fail> {
+    let mut looped = with_its_clock(rt.alloc())?;
+    assert!(rt; gives(&mut looped, Some(7), "████████████████ 1/1"));
+    Ok(())
+}
+
+/// Whether the loop gives this next, and shows this then.
+fn gives(looped: &mut Looped, item: Option<u32>, rows: &str) -> bool {
+    looped.next() == item && looped.shows(rows) == Ok(true)
+}
+
+/// Whether a loop over three items shows each of them, before the end.
+fn shows_three(looped: &mut Looped) -> bool {
+    looped.shows("") == Ok(true)
+        && looped.last_draw().is_none()
+        && gives(looped, Some(7), "█████░░░░░░░░░░░ 1/3")
+        && gives(looped, Some(8), "██████████░░░░░░ 2/3")
+        && looped.next() == Some(9)
+        && looped.position() == 3
+        && !looped.is_finished()
+}
+
 #[test]
 fn a_loop_with_a_bar_of_its_own(rt: HostRuntime) -> Result<(), Fail> {
     let items = vec![in rt.alloc(); 7u32, 8, 9]?;
     let mut looped = Looped::over(rt.alloc(), items, Some(ProgressFinish::AndLeave))?;
-    assert!(rt; looped.shows("")?);
-    assert_eq!(rt; looped.last_draw(), None);
-    assert_eq!(rt; looped.next(), Some(7));
-    assert!(rt; looped.shows("█████░░░░░░░░░░░ 1/3")?);
-    assert_eq!(rt; looped.next(), Some(8));
-    assert!(rt; looped.shows("██████████░░░░░░ 2/3")?);
-    assert_eq!(rt; looped.next(), Some(9));
-    assert_eq!(rt; looped.position(), 3);
-    assert!(rt; !looped.is_finished());
-    assert_eq!(rt; looped.next(), None);
-    assert!(rt; looped.is_finished());
-    assert_eq!(rt; looped.last_draw(), Some(Ok(Drawn::Yes)));
-    assert!(rt; looped.shows("████████████████ 3/3")?);
+    assert!(rt; shows_three(&mut looped));
+    let ended = gives(&mut looped, None, "████████████████ 3/3");
+    assert!(rt; ended && looped.is_finished() && looped.last_draw() == Some(Ok(Drawn::Yes)));
     Ok(())
 }
 
@@ -94,27 +117,28 @@ fn a_loop_with_a_bar_of_its_own(rt: HostRuntime) -> Result<(), Fail> {
 fn a_loop_whose_bar_goes_away(rt: HostRuntime) -> Result<(), Fail> {
     let items = vec![in rt.alloc(); 7u32]?;
     let mut looped = Looped::over(rt.alloc(), items, Some(ProgressFinish::AndClear))?;
-    assert_eq!(rt; looped.next(), Some(7));
-    assert!(rt; looped.shows("████████████████ 1/1")?);
-    assert_eq!(rt; looped.next(), None);
-    assert!(rt; looped.shows("")?);
+    assert!(rt; gives(&mut looped, Some(7), "████████████████ 1/1"));
+    assert!(rt; gives(&mut looped, None, ""));
     // Once more at the end: the bar is finished already.
-    assert_eq!(rt; looped.next(), None);
-    assert_eq!(rt; looped.position(), 1);
+    let again = looped.next();
+    assert!(rt; again.is_none() && looped.position() == 1);
     Ok(())
+}
+
+/// Whether three items come, and the bar goes on.
+fn gives_three(looped: &mut Looped) -> bool {
+    looped.next() == Some(1)
+        && looped.next() == Some(2)
+        && gives(looped, Some(3), "████████████████ 3/3")
+        && !looped.is_finished()
 }
 
 #[test]
 fn a_bar_that_was_told_no_finish_goes_away(rt: HostRuntime) -> Result<(), Fail> {
     let items = vec![in rt.alloc(); 1u32, 2, 3]?;
     let mut looped = Looped::over(rt.alloc(), items, None)?;
-    assert_eq!(rt; looped.next(), Some(1));
-    assert_eq!(rt; looped.next(), Some(2));
-    assert_eq!(rt; looped.next(), Some(3));
-    assert!(rt; !looped.is_finished());
-    assert!(rt; looped.shows("████████████████ 3/3")?);
-    assert_eq!(rt; looped.next(), None);
-    assert!(rt; looped.is_finished());
-    assert!(rt; looped.shows("")?);
+    assert!(rt; gives_three(&mut looped));
+    let ended = gives(&mut looped, None, "");
+    assert!(rt; ended && looped.is_finished());
     Ok(())
 }

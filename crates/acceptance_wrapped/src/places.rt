@@ -21,16 +21,21 @@ fn the_last_place_alone(rt: HostRuntime) {
     assert_eq!(rt; places.max(), 3);
 }
 
+/// Whether a seek back shows the greatest place, and four moves behind it go on from there.
+fn moves_on(seeks: &mut SeekMax<5, 10>) -> bool {
+    seeks.update_seek(100) == 100
+        && seeks.update_seq(100, 10) == 110
+        && seeks.update_seek(0) == 110
+        && seeks.update_seq(110, 5) == 115
+        && seeks.update_seq(115, 5) == 120
+        && seeks.update_seq(120, 5) == 125
+        && seeks.update_seq(125, 5) == 130
+}
+
 #[test]
 fn a_seek_back_shows_the_greatest_place(rt: HostRuntime) {
     let mut seeks = SeekMax::<5, 10>::new();
-    assert_eq!(rt; seeks.update_seek(100), 100);
-    assert_eq!(rt; seeks.update_seq(100, 10), 110);
-    assert_eq!(rt; seeks.update_seek(0), 110);
-    assert_eq!(rt; seeks.update_seq(110, 5), 115);
-    assert_eq!(rt; seeks.update_seq(115, 5), 120);
-    assert_eq!(rt; seeks.update_seq(120, 5), 125);
-    assert_eq!(rt; seeks.update_seq(125, 5), 130);
+    assert!(rt; moves_on(&mut seeks));
     // The fifth move in a row: the history is dropped.
     assert_eq!(rt; seeks.update_seq(130, 5), 135);
     // So that a seek back is shown as it is.

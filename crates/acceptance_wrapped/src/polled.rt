@@ -4,11 +4,12 @@ ghost use Rattle.futures.specs.Poll.{OnPending};
 ghost use Rattle.futures.specs.Task.{Covers, Keeps};
 ghost use Rattle.tokio.specs.Io.Moved.{count_moved};
 
-use crate::counted::{Counted, last_draw, stands, wrapped_at};
+use crate::counted::{Wrapped, last_draw, stands, wrapped_at};
 use futures::task::{Context, Poll};
 use futures::test::MockTask;
-use indicatif::ProgressBarIter;
+use std::alloc::{AllocError, Global};
 use std::io::{self, ErrorKind};
+use std::process::Abort;
 use std::test::Fail;
 use tokio::io::{AsyncRead, AsyncWrite};
 
@@ -87,12 +88,12 @@ impl AsyncWrite for Scripted {
 }
 
 /// A reader or writer of these answers, wrapped.
-fn answering(answers: [Answer; 4]) -> ProgressBarIter<Scripted, Counted> {
-    wrapped_at(Scripted { answers, polls: 0 }, 0)
+fn answering(alloc: Global, answers: [Answer; 4]) -> Result<Box<Wrapped<Scripted>>, AllocError> {
+    wrapped_at(alloc, Scripted { answers, polls: 0 }, 0)
 }
 
 /// What a poll came to.
-#[derive(Debug, Drop, PartialEq, Eq)]
+#[derive(Clone, Copy, Debug, Drop, PartialEq, Eq)]
 enum Came {
     Pending,
     Bytes(usize),
@@ -109,83 +110,115 @@ fn outcome(polled: Poll<io::Result<usize>>) -> Came {
 }
 
 /// What one poll of the task reads into this room.
-fn read<T: AsyncRead>(
-    task: &MockTask,
-    wrapped: &mut ProgressBarIter<T, Counted>,
-    room: &mut [u8],
-) -> Came {
+fn read<T: AsyncRead>(task: &MockTask, wrapped: &mut Wrapped<T>, room: &mut [u8]) -> Came {
     outcome(task.enter(|cx| wrapped.poll_read(cx, room)))
 }
 
 /// What one poll of the task writes of `abcdef`.
-fn write(task: &MockTask, wrapped: &mut ProgressBarIter<Scripted, Counted>) -> Came {
+fn write(task: &MockTask, wrapped: &mut Wrapped<Scripted>) -> Came {
     outcome(task.enter(|cx| wrapped.poll_write(cx, b"abcdef")))
+}
+
+/// Whether a read fills the room so, and the bar stands there then, after so many moves.
+fn fills(
+    task: &MockTask,
+    wrapped: &mut Wrapped<&[u8]>,
+    (room, text): (&mut [u8; 4], &[u8; 4]),
+    (bytes, at): (usize, (u64, u64)),
+) -> bool {
+    read(task, wrapped, room) == Came::Bytes(bytes) && *room == *text && stands(wrapped) == at
 }
 
 #[test]
 fn bytes_are_read(rt: HostRuntime) -> Result<(), Fail> {
     let task = MockTask::new(&rt)?;
-    let mut wrapped = wrapped_at("abcdef".as_bytes(), 0);
+    let mut wrapped = wrapped_at(rt.alloc(), "abcdef".as_bytes(), 0)?;
     let mut room = [0u8; 4];
-    assert_eq!(rt; read(&task, &mut wrapped, &mut room), Came::Bytes(4));
-    assert!(rt; room.as_slice() == "abcd".as_bytes());
-    assert_eq!(rt; stands(&wrapped), (4, 1));
-    assert_eq!(rt; read(&task, &mut wrapped, &mut room), Came::Bytes(2));
-    assert!(rt; room.as_slice() == "efcd".as_bytes());
-    assert_eq!(rt; stands(&wrapped), (6, 2));
-    assert_eq!(rt; read(&task, &mut wrapped, &mut room), Came::Bytes(0));
-    assert_eq!(rt; wrapped.progress.position, 6);
+    assert!(rt; fills(&task, &mut wrapped, (&mut room, b"abcd"), (4, (4, 1))));
+    assert!(rt; fills(&task, &mut wrapped, (&mut room, b"efcd"), (2, (6, 2))));
+    let end = read(&task, &mut wrapped, &mut room);
+    assert!(rt; end == Came::Bytes(0) && wrapped.progress.position == 6);
     Ok(())
+}
+
+/// Reads, one after another, come to this, and the bar stands there then.
+fn reads_so(
+    rt: &impl Abort,
+    task: &MockTask,
+    wrapped: &mut Wrapped<Scripted>,
+    wanted: &[(Came, u64)],
+) {
+    let mut room = [0u8; 8];
+    for row in wanted {
+        let came = read(task, wrapped, &mut room);
+        assert_eq!(rt; (came, wrapped.progress.position), *row);
+    }
 }
 
 #[test]
 fn a_pending_read_changes_nothing(rt: HostRuntime) -> Result<(), Fail> {
     let task = MockTask::new(&rt)?;
     let fails = Answer::Fails(ErrorKind::ConnectionReset);
-    let mut wrapped = answering([Answer::Pending, Answer::Bytes(3), Answer::Pending, fails]);
-    let mut room = [0u8; 8];
-    assert_eq!(rt; read(&task, &mut wrapped, &mut room), Came::Pending);
-    assert_eq!(rt; stands(&wrapped), (0, 0));
-    assert_eq!(rt; last_draw(&wrapped), None);
-    assert_eq!(rt; read(&task, &mut wrapped, &mut room), Came::Bytes(3));
-    assert_eq!(rt; stands(&wrapped), (3, 1));
-    assert_eq!(rt; read(&task, &mut wrapped, &mut room), Came::Pending);
+    let answers = [Answer::Pending, Answer::Bytes(3), Answer::Pending, fails];
+    let mut wrapped = answering(rt.alloc(), answers)?;
+    reads_so(&rt, &task, &mut wrapped, &[(Came::Pending, 0)]);
+    assert_eq!(rt; (stands(&wrapped), last_draw(&wrapped)), ((0, 0), None));
+    reads_so(
+        &rt,
+        &task,
+        &mut wrapped,
+        &[(Came::Bytes(3), 3), (Came::Pending, 3)],
+    );
     assert_eq!(rt; stands(&wrapped), (3, 1));
     // An error leaves the position.
-    assert_eq!(rt;
-        read(&task, &mut wrapped, &mut room),
-        Came::Failed(ErrorKind::ConnectionReset)
+    let failed = Came::Failed(ErrorKind::ConnectionReset);
+    reads_so(
+        &rt,
+        &task,
+        &mut wrapped,
+        &[(failed, 3), (Came::Bytes(0), 3)],
     );
-    assert_eq!(rt; wrapped.progress.position, 3);
-    assert_eq!(rt; read(&task, &mut wrapped, &mut room), Came::Bytes(0));
-    assert_eq!(rt; wrapped.progress.position, 3);
     Ok(())
 }
 
+/// Writes, one after another, come to this, and the bar stands there then, after so many moves.
+fn writes_so(
+    rt: &impl Abort,
+    task: &MockTask,
+    wrapped: &mut Wrapped<Scripted>,
+    wanted: &[(Came, (u64, u64))],
+) {
+    for row in wanted {
+        let came = write(task, wrapped);
+        assert_eq!(rt; (came, stands(wrapped)), *row);
+    }
+}
+
+/// A write that is pending and one that fails move nothing.
 #[test]
 fn a_pending_write_changes_nothing(rt: HostRuntime) -> Result<(), Fail> {
     let task = MockTask::new(&rt)?;
     let fails = Answer::Fails(ErrorKind::StorageFull);
-    let mut wrapped = answering([Answer::Pending, Answer::Bytes(2), fails, Answer::Bytes(9)]);
-    assert_eq!(rt; write(&task, &mut wrapped), Came::Pending);
-    assert_eq!(rt; stands(&wrapped), (0, 0));
-    assert_eq!(rt; write(&task, &mut wrapped), Came::Bytes(2));
-    assert_eq!(rt; stands(&wrapped), (2, 1));
-    // An error moves nothing.
-    assert_eq!(rt;
-        write(&task, &mut wrapped),
-        Came::Failed(ErrorKind::StorageFull)
+    let answers = [Answer::Pending, Answer::Bytes(2), fails, Answer::Bytes(9)];
+    let mut wrapped = answering(rt.alloc(), answers)?;
+    writes_so(
+        &rt,
+        &task,
+        &mut wrapped,
+        &[
+            (Came::Pending, (0, 0)),
+            (Came::Bytes(2), (2, 1)),
+            (Came::Failed(ErrorKind::StorageFull), (2, 1)),
+            (Came::Bytes(6), (8, 2)),
+        ],
     );
-    assert_eq!(rt; stands(&wrapped), (2, 1));
-    assert_eq!(rt; write(&task, &mut wrapped), Came::Bytes(6));
-    assert_eq!(rt; stands(&wrapped), (8, 2));
     Ok(())
 }
 
 #[test]
 fn a_flush_and_a_shutdown_change_nothing(rt: HostRuntime) -> Result<(), Fail> {
     let task = MockTask::new(&rt)?;
-    let mut wrapped = answering([Answer::Pending; 4]);
+    let mut wrapped = answering(rt.alloc(), [Answer::Pending; 4])?;
     assert!(rt; task.enter(|cx| wrapped.poll_flush(cx)).is_pending());
     assert!(rt; task.enter(|cx| wrapped.poll_shutdown(cx)).is_ready());
     assert_eq!(rt; stands(&wrapped), (0, 0));

@@ -1,7 +1,8 @@
 //! What a bar is made with on a terminal behind a writer: the example of the documentation.
 use indicatif::machine::{TerminalSetup, told_setup};
-use indicatif::{BarState, Clock, Drawn, Facts, LoneBar, Moment, NoTracker, Refusal, TermLike};
+use indicatif::{BarState, Clock, Drawn, Facts, LoneBar, Moment, NoTracker, Refusal, Setup, Term};
 use std::alloc::Global;
+use std::io::BufWriter;
 use std::test::Fail;
 
 /// A terminal of 4 rows and 10 columns.
@@ -14,21 +15,32 @@ fn facts(alloc: Global) -> Result<Facts, Refusal> {
     })
 }
 
-/// A tick, whose call promises nothing here.
-fn tick<T: TermLike + Drop>(
-    bar: &mut LoneBar<NoTracker, T>,
+/// A bar on a terminal behind a writer, by a clock of the machine.
+#[derive(Drop)]
+struct Timed {
+    bar: Box<LoneBar<NoTracker, Term<BufWriter<Vec<u8>>>>>,
     now: Moment,
-) -> Result<Drawn, Refusal> {
-    bar.tick(now)
+}
+
+/// A bar of a setup, made at the moment of its clock.
+fn bar_of(alloc: Global, setup: TerminalSetup<Vec<u8>>) -> Result<Timed, Refusal> {
+    let Setup { target, mut clock } = setup;
+    let now = clock.now();
+    let state = BarState::new(alloc, None, now)?;
+    let bar = Box::new(alloc, LoneBar::new(state, target))?;
+    Ok(Timed { bar, now })
+}
+
+/// A tick, whose call promises nothing here.
+fn tick(timed: &mut Timed) -> Result<Drawn, Refusal> {
+    timed.bar.tick(timed.now)
 }
 
 #[test]
 fn behind_a_writer(rt: HostRuntime) -> Result<(), Fail> {
     let writer = Vec::new(rt.alloc());
     let setup: TerminalSetup<Vec<u8>> = told_setup(&rt, writer, facts(rt.alloc())?)?;
-    let mut clock = setup.clock;
-    let now = clock.now();
-    let mut bar = LoneBar::new(BarState::new(rt.alloc(), None, now)?, setup.target);
-    assert_eq!(rt; tick(&mut bar, now), Ok(Drawn::Yes));
+    let mut timed = bar_of(rt.alloc(), setup)?;
+    assert_eq!(rt; tick(&mut timed), Ok(Drawn::Yes));
     Ok(())
 }

@@ -1,9 +1,10 @@
 //! Streams, polled by hand.
-use crate::counted::{Counted, last_draw, stands, wrapped_at};
+use crate::counted::{Wrapped, last_draw, stands, wrapped_at};
 use futures::stream::Stream;
 use futures::task::{Context, Poll};
 use futures::test::MockTask;
-use indicatif::ProgressBarIter;
+use std::alloc::{AllocError, Global};
+use std::process::Abort;
 use std::test::Fail;
 
 /// The letters from `a` to `z`, and then the end, as often as it is asked; where `pends`, every other poll is pending, the first
@@ -33,52 +34,74 @@ impl Stream for Letters {
 }
 
 /// The letters, wrapped.
-fn all_letters(pends: bool) -> ProgressBarIter<Letters, Counted> {
+fn all_letters(alloc: Global, pends: bool) -> Result<Box<Wrapped<Letters>>, AllocError> {
     let letters = Letters {
         next: b'a',
         pends,
         polls: 0,
     };
-    wrapped_at(letters, 0)
+    wrapped_at(alloc, letters, 0)
 }
 
 /// What one poll of the task answers.
-fn poll(task: &MockTask, wrapped: &mut ProgressBarIter<Letters, Counted>) -> Poll<Option<u8>> {
+fn poll(task: &MockTask, wrapped: &mut Wrapped<Letters>) -> Poll<Option<u8>> {
     task.enter(|cx| wrapped.poll_next(cx))
 }
 
+/// Polls, one after another, answer these, and the bar stands there then, after so many moves.
+fn polls_so(
+    rt: &impl Abort,
+    task: &MockTask,
+    wrapped: &mut Wrapped<Letters>,
+    wanted: &[(Poll<Option<u8>>, (u64, u64))],
+) {
+    for (answer, at) in wanted {
+        assert!(rt; poll(task, wrapped) == *answer);
+        assert_eq!(rt; stands(wrapped), *at);
+    }
+}
+
+/// Each letter, one after another.
+fn polls_letters(rt: &impl Abort, task: &MockTask, wrapped: &mut Wrapped<Letters>) {
+    for letter in b'a'..=b'z' {
+        assert!(rt; poll(task, wrapped) == Poll::Ready(Some(letter)));
+    }
+}
+
+/// The end finishes the bar, and each later end finishes it again.
 #[test]
 fn the_letters_and_their_end(rt: HostRuntime) -> Result<(), Fail> {
     let task = MockTask::new(&rt)?;
-    let mut wrapped = all_letters(false);
-    for letter in b'a'..=b'z' {
-        assert!(rt; poll(&task, &mut wrapped) == Poll::Ready(Some(letter)));
-    }
+    let mut wrapped = all_letters(rt.alloc(), false)?;
+    polls_letters(&rt, &task, &mut wrapped);
     assert_eq!(rt; stands(&wrapped), (26, 26));
     assert!(rt; !wrapped.progress.finished);
-    assert!(rt; poll(&task, &mut wrapped) == Poll::Ready(None));
+    let ends = [(Poll::Ready(None), (26, 27)), (Poll::Ready(None), (26, 28))];
+    polls_so(&rt, &task, &mut wrapped, &ends);
     assert!(rt; wrapped.progress.finished);
-    assert_eq!(rt; stands(&wrapped), (26, 27));
-    // Each later end finishes it again.
-    assert!(rt; poll(&task, &mut wrapped) == Poll::Ready(None));
-    assert_eq!(rt; stands(&wrapped), (26, 28));
     Ok(())
 }
 
 #[test]
 fn a_poll_that_is_pending_changes_nothing(rt: HostRuntime) -> Result<(), Fail> {
     let task = MockTask::new(&rt)?;
-    let mut wrapped = all_letters(true);
-    assert!(rt; poll(&task, &mut wrapped) == Poll::Pending);
-    assert_eq!(rt; stands(&wrapped), (0, 0));
+    let mut wrapped = all_letters(rt.alloc(), true)?;
+    polls_so(&rt, &task, &mut wrapped, &[(Poll::Pending, (0, 0))]);
     assert_eq!(rt; last_draw(&wrapped), None);
-    assert!(rt; poll(&task, &mut wrapped) == Poll::Ready(Some(b'a')));
-    assert_eq!(rt; stands(&wrapped), (1, 1));
+    polls_so(
+        &rt,
+        &task,
+        &mut wrapped,
+        &[(Poll::Ready(Some(b'a')), (1, 1))],
+    );
     let last = last_draw(&wrapped);
-    assert!(rt; poll(&task, &mut wrapped) == Poll::Pending);
-    assert_eq!(rt; stands(&wrapped), (1, 1));
+    polls_so(&rt, &task, &mut wrapped, &[(Poll::Pending, (1, 1))]);
     assert_eq!(rt; last_draw(&wrapped), last);
-    assert!(rt; poll(&task, &mut wrapped) == Poll::Ready(Some(b'b')));
-    assert_eq!(rt; stands(&wrapped), (2, 2));
+    polls_so(
+        &rt,
+        &task,
+        &mut wrapped,
+        &[(Poll::Ready(Some(b'b')), (2, 2))],
+    );
     Ok(())
 }

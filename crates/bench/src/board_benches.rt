@@ -1,14 +1,14 @@
 //! Drawings of bars on a board, on a terminal of 24 rows and 80 columns.
-use crate::measured::{Made, Measured};
-use crate::shown::{Sink, drawn, terminal};
-use anyhow::{Result, anyhow};
+use crate::measured::{Made, Measured, Work, measure};
+use crate::shown::{Sink, drawn_on, terminal};
+use anyhow::Result;
 use indicatif_bar::state::{BarCommand, BarState};
 use indicatif_bar::style::NoTracker;
-use indicatif_board::multi::{BarId, Board, Candidate};
+use indicatif_board::multi::{BarId, Board, Candidate, Turned};
 use indicatif_term::draw_target::ProgressDrawTarget;
 use indicatif_term::term_like::Term;
+use indicatif_text::columns::Refusal;
 use std::alloc::Global;
-use std::time::Instant;
 
 pub const NAMES: [&str; 1] = ["board_draw"];
 
@@ -26,6 +26,18 @@ struct ShownBoard {
     board: Board<NoTracker, Term<Sink>>,
 }
 
+/// A bar of 1,000 steps that stands at this one.
+fn bar_at(alloc: Global, position: u64) -> Result<Candidate<NoTracker>, Refusal> {
+    let mut bar = BarState::new(alloc, Some(1000), 0)?;
+    bar.with_position(position, 0);
+    Ok(Candidate::New(bar))
+}
+
+/// Why a bar was turned away.
+fn refusal(turned: Turned<NoTracker>) -> Refusal {
+    turned.refusal
+}
+
 impl ShownBoard {
     /// A board without bars.
     fn new(alloc: Global) -> ShownBoard {
@@ -34,47 +46,55 @@ impl ShownBoard {
         }
     }
 
-    /// Takes a bar of 1,000 steps in, which stands at this one.
-    fn add(&mut self, alloc: Global, position: u64) -> Result<()> {
-        let mut bar = BarState::new(alloc, Some(1000), 0)?;
-        bar.with_position(position, 0);
-        match self.board.add(Candidate::New(bar)) {
+    /// Takes a bar in.
+    fn add(&mut self, bar: Candidate<NoTracker>) -> Result<(), Refusal> {
+        match self.board.add(bar) {
             Ok(_) => Ok(()),
-            Err(turned) => Err(anyhow!("{}", turned.refusal)),
+            Err(turned) => Err(refusal(turned)),
         }
     }
 
     /// A tick of a bar: a drawing.
-    fn tick(&mut self, number: u64) -> Result<()> {
+    #[inline(always)]
+    fn tick(&mut self, number: u64) -> Result<(), Refusal> {
         self.board
             .command(BarId { mark: 1, number }, BarCommand::Tick, 0)?;
         Ok(())
     }
-
-    /// What was written.
-    fn drawn(&self) -> Result<Made> {
-        Ok(drawn(self.board.term().ok_or(anyhow!("no terminal"))?))
-    }
-}
-
-/// A board of ten bars in the default style, each drawn once.
-fn ten_bars(alloc: Global) -> Result<ShownBoard> {
-    let mut board = ShownBoard::new(alloc);
-    for number in 0..10u64 {
-        board.add(alloc, number.saturating_mul(100))?;
-    }
-    for number in 0..10u64 {
-        board.tick(number)?;
-    }
-    Ok(board)
 }
 
 /// A tick of one of ten bars, each in its turn: a drawing of all.
-fn board_draw(rt: &HostRuntime, count: u64) -> Result<Measured> {
-    let mut board = ten_bars(rt.alloc())?;
-    let start = Instant::now(rt)?;
-    for i in 0..count {
-        board.tick(i % 10)?;
+impl Work for ShownBoard {
+    #[inline(always)]
+    fn once(&mut self, turn: u64) -> Result<(), Refusal> {
+        self.tick(turn % 10)
     }
-    Ok(Measured::since(rt, start, count, board.drawn()?)?)
+
+    fn made(&self) -> Made {
+        drawn_on(self.board.term())
+    }
+}
+
+/// Takes ten bars in.
+fn take_in_ten(alloc: Global, board: &mut ShownBoard) -> Result<(), Refusal> {
+    for number in 0..10u64 {
+        board.add(bar_at(alloc, number.saturating_mul(100))?)?;
+    }
+    Ok(())
+}
+
+/// Draws each of ten bars.
+fn draw_ten(board: &mut ShownBoard) -> Result<(), Refusal> {
+    for number in 0..10u64 {
+        board.tick(number)?;
+    }
+    Ok(())
+}
+
+/// The drawings of a board of ten bars in the default style, each of which was drawn once.
+fn board_draw(rt: &HostRuntime, count: u64) -> Result<Measured> {
+    let mut board = Box::new(rt.alloc(), ShownBoard::new(rt.alloc()))?;
+    take_in_ten(rt.alloc(), &mut board)?;
+    draw_ten(&mut board)?;
+    measure(rt, &mut *board, count)
 }

@@ -1,8 +1,9 @@
 //! Steps of a bar of which few are looked at.
-use crate::measured::Measured;
+use crate::measured::{Made, Measured, Work, measure};
 use crate::shown::Shown;
 use anyhow::Result;
-use indicatif_text::columns::Moment;
+use indicatif_text::columns::{Moment, Refusal};
+use std::alloc::Global;
 use std::io;
 use std::time::Instant;
 
@@ -17,14 +18,30 @@ pub fn run(rt: &HostRuntime, name: &str, count: u64) -> Result<Option<Measured>>
     }
 }
 
+/// A bar of so many steps.
+fn bar_of(alloc: Global, count: u64) -> Result<Box<Shown>, Refusal> {
+    Ok(Box::new(alloc, Shown::of_length(alloc, count)?)?)
+}
+
+/// Steps, each 20 nanoseconds after the one before.
+#[derive(Drop)]
+struct Steps<'a>(&'a mut Shown);
+
+impl<'a> Work for Steps<'a> {
+    #[inline(always)]
+    fn once(&mut self, turn: u64) -> Result<(), Refusal> {
+        self.0.inc(turn.wrapping_mul(20))
+    }
+
+    fn made(&self) -> Made {
+        self.0.drawn()
+    }
+}
+
 /// Steps of a bar of so many, each 20 nanoseconds after the one before.
 fn inc_limited(rt: &HostRuntime, count: u64) -> Result<Measured> {
-    let mut bar = Shown::of_length(rt.alloc(), count)?;
-    let start = Instant::now(rt)?;
-    for i in 0..count {
-        bar.inc(i.wrapping_mul(20))?;
-    }
-    Ok(Measured::since(rt, start, count, bar.drawn()?)?)
+    let mut bar = bar_of(rt.alloc(), count)?;
+    measure(rt, &mut Steps(&mut bar), count)
 }
 
 /// The moment that the machine's clock tells.
@@ -33,12 +50,20 @@ fn moment(rt: &HostRuntime, start: Instant) -> io::Result<Moment> {
     Ok(u64::try_from(nanos).unwrap_or(u64::MAX))
 }
 
-/// Steps of a bar of so many, each at the moment that the machine's clock tells.
-fn inc_clock(rt: &HostRuntime, count: u64) -> Result<Measured> {
-    let mut bar = Shown::of_length(rt.alloc(), count)?;
-    let start = Instant::now(rt)?;
+/// So many steps since a start, each at the moment that the machine's clock tells.
+fn steps_by_clock(
+    rt: &HostRuntime,
+    bar: &mut Shown,
+    (start, count): (Instant, u64),
+) -> Result<Measured> {
     for _ in 0..count {
         bar.inc(moment(rt, start)?)?;
     }
-    Ok(Measured::since(rt, start, count, bar.drawn()?)?)
+    Ok(Measured::since(rt, start, count, bar.drawn())?)
+}
+
+/// Steps of a bar of so many, each at the moment that the machine's clock tells.
+fn inc_clock(rt: &HostRuntime, count: u64) -> Result<Measured> {
+    let mut bar = bar_of(rt.alloc(), count)?;
+    steps_by_clock(rt, &mut bar, (Instant::now(rt)?, count))
 }

@@ -79,34 +79,23 @@ fn measured_by(rt: &HostRuntime, name: &str, count: u64) -> Result<Option<Measur
     wrap_benches::run(rt, name, count)
 }
 
-/// Prints the names of the measurements.
-fn names(rt: &HostRuntime) -> Result<()> {
-    for name in format_benches::NAMES {
-        println!(rt; "{name}")?;
-    }
-    for name in template_benches::NAMES {
-        println!(rt; "{name}")?;
-    }
-    for name in text_benches::NAMES {
-        println!(rt; "{name}")?;
-    }
-    for name in terminal_benches::NAMES {
-        println!(rt; "{name}")?;
-    }
-    for name in draw_benches::NAMES {
-        println!(rt; "{name}")?;
-    }
-    for name in board_benches::NAMES {
-        println!(rt; "{name}")?;
-    }
-    for name in command_benches::NAMES {
-        println!(rt; "{name}")?;
-    }
-    for name in wrap_benches::NAMES {
-        println!(rt; "{name}")?;
-    }
-    for name in thread_benches::NAMES {
+/// Prints names, one a line.
+fn names_of(rt: &HostRuntime, names: &[&str]) -> Result<()> {
+    for name in names {
         println!(rt; "{name}")?;
     }
     Ok(())
+}
+
+/// Prints the names of the measurements.
+fn names(rt: &HostRuntime) -> Result<()> {
+    names_of(rt, &format_benches::NAMES)?;
+    names_of(rt, &template_benches::NAMES)?;
+    names_of(rt, &text_benches::NAMES)?;
+    names_of(rt, &terminal_benches::NAMES)?;
+    names_of(rt, &draw_benches::NAMES)?;
+    names_of(rt, &board_benches::NAMES)?;
+    names_of(rt, &command_benches::NAMES)?;
+    names_of(rt, &wrap_benches::NAMES)?;
+    names_of(rt, &thread_benches::NAMES)
 }

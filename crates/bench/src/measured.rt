@@ -1,4 +1,6 @@
 //! What a measurement tells, and the values that it works on.
+use anyhow::Result;
+use indicatif_text::columns::Refusal;
 use std::time::{Clock, Instant};
 use std::{fmt, io};
 
@@ -38,6 +40,25 @@ impl Measured {
             made,
         })
     }
+}
+
+/// A piece of work that is done again and again.
+pub trait Work {
+    /// Does it once. Turns count from 0.
+    fn once(&mut self, turn: u64) -> Result<(), Refusal>;
+
+    /// What it made in all.
+    fn made(&self) -> Made;
+}
+
+/// Does a piece of work so many times. Each call stands in the loop, whose only way out is a refusal.
+#[inline(always)]
+pub fn measure<R: Clock, W: Work>(rt: &R, work: &mut W, count: u64) -> Result<Measured> {
+    let start = Instant::now(rt)?;
+    for turn in 0..count {
+        work.once(turn)?;
+    }
+    Ok(Measured::since(rt, start, count, work.made())?)
 }
 
 impl fmt::Display for Made {

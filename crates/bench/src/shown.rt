@@ -1,7 +1,6 @@
 //! A bar on a terminal whose calls promise nothing here, so that a measurement of many calls is proved call by call. They stand
 //! in the loops that call them (`inline(always)`) and answer the bar's own refusal, so that they add nothing to what is measured.
 use crate::measured::Made;
-use anyhow::{Result, anyhow};
 use indicatif_bar::lone::LoneBar;
 use indicatif_bar::state::BarState;
 use indicatif_bar::style::{NoTracker, ProgressStyle};
@@ -55,6 +54,14 @@ pub fn drawn(term: &Term<Sink>) -> Made {
     }
 }
 
+/// What was written to a terminal, if there is one.
+pub fn drawn_on(term: Option<&Term<Sink>>) -> Made {
+    match term {
+        Some(term) => drawn(term),
+        None => Made::Drawn { bytes: 0, draws: 0 },
+    }
+}
+
 /// A bar on the terminal.
 #[derive(Drop)]
 pub struct Shown {
@@ -62,29 +69,29 @@ pub struct Shown {
 }
 
 /// The record of a bar of this template.
-fn state_of(alloc: Global, template: &str) -> Result<BarState<NoTracker>> {
+fn state_of(alloc: Global, template: &str) -> Result<BarState<NoTracker>, Refusal> {
     let style = ProgressStyle::with_template(alloc, template)?;
-    Ok(BarState::styled(alloc, style, None, 0)?)
+    BarState::styled(alloc, style, None, 0)
 }
 
 /// A bar of this record.
-fn on_terminal(alloc: Global, state: BarState<NoTracker>) -> Shown {
+fn on_terminal(state: BarState<NoTracker>, term: Term<Sink>) -> Shown {
     Shown {
-        bar: LoneBar::new(state, ProgressDrawTarget::term_like(terminal(alloc))),
+        bar: LoneBar::new(state, ProgressDrawTarget::term_like(term)),
     }
 }
 
 impl Shown {
     /// A bar of this template without a length.
-    pub fn templated(alloc: Global, template: &str) -> Result<Shown> {
+    pub fn templated(alloc: Global, template: &str) -> Result<Shown, Refusal> {
         let state = state_of(alloc, template)?;
-        Ok(on_terminal(alloc, state))
+        Ok(on_terminal(state, terminal(alloc)))
     }
 
     /// A bar of this length in the default style.
-    pub fn of_length(alloc: Global, len: u64) -> Result<Shown> {
+    pub fn of_length(alloc: Global, len: u64) -> Result<Shown, Refusal> {
         let state = BarState::new(alloc, Some(len), 0)?;
-        Ok(on_terminal(alloc, state))
+        Ok(on_terminal(state, terminal(alloc)))
     }
 
     #[inline(always)]
@@ -112,7 +119,7 @@ impl Shown {
     }
 
     /// What was written.
-    pub fn drawn(&self) -> Result<Made> {
-        Ok(drawn(self.bar.term().ok_or(anyhow!("no terminal"))?))
+    pub fn drawn(&self) -> Made {
+        drawn_on(self.bar.term())
     }
 }

@@ -1,9 +1,9 @@
 //! The cell terminal, fed with what boards write: the text of `typical.txt`, which lies where the program runs.
-use crate::measured::{Made, Measured};
-use anyhow::{Result, anyhow};
+use crate::measured::{Made, Measured, Work, measure};
+use anyhow::Result;
 use indicatif_term::in_memory::Cells;
+use indicatif_text::columns::Refusal;
 use std::fs;
-use std::time::Instant;
 
 pub const NAMES: [&str; 1] = ["term_feed"];
 
@@ -21,23 +21,44 @@ pub fn run(rt: &HostRuntime, name: &str, count: u64) -> Result<Option<Measured>>
     }
 }
 
-/// Feeds so many KiB, in blocks of the file's length.
+/// A terminal that is fed a block again and again, until so many bytes are left.
+#[derive(Drop)]
+struct Feeding<'a> {
+    cells: &'a mut Cells,
+    block: &'a [u8],
+    left: usize,
+    fed: u64,
+}
+
+impl<'a> Work for Feeding<'a> {
+    #[inline(always)]
+    fn once(&mut self, _turn: u64) -> Result<(), Refusal> {
+        let length = self.left.min(self.block.len());
+        if let Err((_, refusal)) = self.cells.feed(&self.block[..length]) {
+            return Err(refusal);
+        }
+        self.left -= length;
+        self.fed = self.fed.wrapping_add(length as u64);
+        Ok(())
+    }
+
+    fn made(&self) -> Made {
+        Made::Bytes(self.fed)
+    }
+}
+
+/// Feeds so many KiB, in blocks of the file's length; a KiB is what is counted.
 fn term_feed(rt: &HostRuntime, count: u64) -> Result<Measured> {
     let block = fs::read(rt, "typical.txt")?;
-    let mut cells = Cells::new(rt.alloc(), SIZE.0, SIZE.1).map_err(|e| anyhow!("{e}"))?;
-    let mut left = usize::try_from(count)?.saturating_mul(KIB);
-    let mut bytes: u64 = 0;
-    let start = Instant::now(rt)?;
-    for _ in 0..count {
-        let length = left.min(block.len());
-        if cells.feed(&block[..length]).is_err() {
-            return Err(anyhow!("out of memory"));
-        }
-        left -= length;
-        bytes = bytes.wrapping_add(length as u64);
-        if left == 0 {
-            break;
-        }
-    }
-    Ok(Measured::since(rt, start, count, Made::Bytes(bytes))?)
+    let mut cells = Cells::new(rt.alloc(), SIZE.0, SIZE.1)?;
+    let left = usize::try_from(count)?.saturating_mul(KIB);
+    let blocks = left.div_ceil(block.len().max(1)) as u64;
+    let mut work = Feeding {
+        cells: &mut cells,
+        block: &block,
+        left,
+        fed: 0,
+    };
+    let measured = measure(rt, &mut work, blocks)?;
+    Ok(Measured { count, ..measured })
 }

@@ -179,6 +179,18 @@ fn sum_of(numbers: &[u64]) -> u64 {
     sum
 }
 
+/// A number made of each of these, with a bar.
+fn mapped<R: Threads + Wait + Clock + Sync + Copy + Clone + Drop>(
+    rt: &R,
+    alloc: Global,
+    items: &[u64],
+    bar: Bar<R>,
+) -> Result<Vec<u64>> {
+    let list = items.progress_with(bar);
+    let (made, _bar) = list.map_collect(rt, alloc, |x: &u64| x.wrapping_mul(2_654_435_761) >> 3);
+    Ok(made?)
+}
+
 /// A number made of each of so many, with a hidden bar.
 fn parallel_map<R: Threads + Wait + Clock + Sync + Copy + Clone + Drop>(
     rt: &R,
@@ -188,9 +200,8 @@ fn parallel_map<R: Threads + Wait + Clock + Sync + Copy + Clone + Drop>(
     let items = numbers(alloc, count)?;
     let bar = hidden_bar(rt, alloc, count)?;
     let start = Instant::now(rt)?;
-    let list = items.as_slice().progress_with(bar);
-    let (made, _bar) = list.map_collect(rt, alloc, |x: &u64| x.wrapping_mul(2_654_435_761) >> 3);
+    let made = mapped(rt, alloc, items.as_slice(), bar)?;
     let mut measured = Measured::since(rt, start, count, Made::Sum(0))?;
-    measured.made = Made::Sum(sum_of(made?.as_slice()));
+    measured.made = Made::Sum(sum_of(made.as_slice()));
     Ok(measured)
 }

@@ -28,15 +28,17 @@ struct Looped {
 }
 
 impl Looped {
-    fn over(rt: &HostRuntime, count: u64) -> Result<Looped> {
+    /// The loop, in a box, so that each way out of a measurement drops it by one call.
+    fn over(rt: &HostRuntime, count: u64) -> Result<Box<Looped>> {
         let setup = Setup {
             target: ProgressDrawTarget::hidden(),
             clock: MachineClock::new(*rt),
         };
         let bar = OwnedBar::plain(rt.alloc(), Some(count), setup)?;
-        Ok(Looped {
+        let looped = Looped {
             wrapped: ProgressBarIter::new(0..count, bar),
-        })
+        };
+        Ok(Box::new(rt.alloc(), looped)?)
     }
 
     /// The numbers, added.

@@ -1,13 +1,13 @@
 -- What a whole loop makes of a bar that tells where it stands.
 use Rattle.std.proofs.Common.{◌≡◌, ℕ, suc, List, [], ◌∷◌, length, ◌+◌, ◌%◌, ◌<◌, ◌⊎◌, Option, Some, None, IfSome, Result, Err, true, false, true≢false, inl, inr, ⊎_elim, sym, ap, subst, ◌∙◌, arith}
 use Rattle.std.proofs.Math.Nat.{mod-add-mod}
-use Rattle.std.specs.Iterator.{Yields}
+use Rattle.std.specs.Iterator.{Yields, YieldsThen}
 use Rattle.indicatif_text.specs.declared.refusal.Drawn.{Drawn}
 use Rattle.indicatif_text.specs.declared.refusal.Refusal.{Refusal}
 use Rattle.indicatif_text.specs.declared.refusal.Refusal.TheVariants.{Memory}
 use Rattle.indicatif.specs.declared.wrap.ProgressBarIter.{ProgressBarIter}
 use Rattle.indicatif.specs.Moves.{Standing, Move, Advance, FinishAsStored, Goes, after_bar_move}
-use Rattle.indicatif.specs.Wrap.{inner_of, last_draw_of, CountsItem, NextGives, Loops}
+use Rattle.indicatif.specs.Wrap.{inner_of, last_draw_of, CountsItem, NextGives}
 
 -- the bar at another position
 abbrev pub at_position : Standing → ℕ → Standing
@@ -48,7 +48,7 @@ module _ {T P : Type 0} (told : P → Option Standing) (leads : P → Move → R
         mod-add-mod (bar.position + 1) 18446744073709551616 (length items) ∙ ap (λ p. p % 18446744073709551616) one_more in
         subst (EndsAt bar t) sum rest
 
-    pub loop-goes : (items : List A) (s t : ProgressBarIter T P) (o : Option Standing) → told s.progress ≡ o → Loops told leads gives items s t
+    pub loop-goes : (items : List A) (s t : ProgressBarIter T P) (o : Option Standing) → told s.progress ≡ o → YieldsThen (NextGives told leads gives) s items None t
         → IfSome o (λ bar. bar.position < 18446744073709551616 → bar.finished ≡ false → EndsAt bar t ((bar.position + length items) % 18446744073709551616))
     loop-goes items s t None is loops = tt
     loop-goes items s t (Some bar) is loops = loop-told items bar s loops.0 t is loops.1 loops.2.1

@@ -9,7 +9,7 @@ use Rattle.indicatif_bar.specs.Trackers.{writes_nothing}
 use Rattle.indicatif_bar.specs.Commands.{BarRecord, Command}
 use Rattle.indicatif_bar.specs.Runs.{CallMade}
 use Rattle.indicatif_bar.specs.Lone.{LoneState, LoneCall, Change, Log, Clear}
-use Rattle.indicatif_bar.specs.LoneBars.{LoneIsIn, LoneLeadsBy, LoneSuspends, CallDone, lone_bar, lone_known, record_of}
+use Rattle.indicatif_bar.specs.LoneBars.{LoneIsIn, LoneSuspends, CallDone, lone_bar, lone_known, record_of}
 use Rattle.indicatif_bar.specs.declared.lone.LoneBar.{LoneBar}
 use Rattle.indicatif_bar.specs.declared.tracker.NoTracker.{NoTracker}
 use Rattle.indicatif_board.specs.Boards.{Id, Tell, BarLog, Redraw, Clear as ClearBoard, Call as BoardCall}
@@ -22,16 +22,6 @@ abbrev pub LoneIsSomewhere : {T : Type 0} → LoneBar NoTracker T → Type 0
 LoneIsSomewhere b = (s : LoneState (BarRecord NoTracker)) × LoneIsIn b s
 
 module _ {T : Type 0} (view : T → TermView) where
-  -- a bar that was in a state made a call at this moment, with this answer: what became of its record, and its step
-  pub record MadeBy (old new : LoneBar NoTracker T) (call : LoneCall (Command NoTracker)) (now : ℕ) (answer : Result Drawn Refusal) : Type 0 where
-    pub was : LoneIsSomewhere old
-    pub done : CallDone writes_nothing old new call now answer
-    pub leads : LoneLeadsBy writes_nothing view old new call now answer
-
-  -- the same at some moment of its clock
-  abbrev pub Makes : LoneBar NoTracker T → LoneBar NoTracker T → LoneCall (Command NoTracker) → Result Drawn Refusal → Type 0
-  Makes old new call answer = (now : ℕ) × MadeBy old new call now answer
-
   -- a bar that was in a state was suspended at this moment, with this answer: its record is as before, and its step
   pub record SuspendedBy (old new : LoneBar NoTracker T) (now : ℕ) (answer : Result Drawn Refusal) : Type 0 where
     pub was : LoneIsSomewhere old

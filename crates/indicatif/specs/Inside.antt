@@ -3,4 +3,5 @@ pub mod Kept
 pub mod Owners
 pub mod Pieces
 pub mod Places
+pub mod Single
 pub mod Worded

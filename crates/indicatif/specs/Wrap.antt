@@ -1,6 +1,5 @@
 -- What a wrapper makes of its bar.
-use Rattle.std.specs.Prelude.{◌≡◌, ◌≢◌, ℕ, Bool, true, false, List, Option, Some, None, IfSome, is_some, Result, Ok, Err, ◌⊎◌, pos}
-use Rattle.std.specs.Iterator.{YieldsThen}
+use Rattle.std.specs.Prelude.{◌≡◌, ◌≢◌, ℕ, Bool, true, false, Option, Some, None, IfSome, is_some, Result, Ok, Err, ◌⊎◌, pos}
 use Rattle.std.specs.declared.io.traits.SeekFrom.{SeekFrom}
 use Rattle.std.specs.declared.io.traits.SeekFrom.TheVariants.{Start, End, Current}
 use Rattle.futures.specs.declared.task.Poll.{Poll}
@@ -68,10 +67,6 @@ module _ {T P : Type 0} (stands : P → Option Standing) (leads : P → Move →
   -- a call of `next`: what the inner one gave, by what its calls may give, was handed on, and counted
   abbrev pub NextGives : {Item : Type 0} → (T → Option Item → T → Type 0) → ProgressBarIter T P → Option Item → ProgressBarIter T P → Type 0
   NextGives gives s r t = gives (inner_of s) r (inner_of t) × CountsItem (is_some r) s t
-
-  -- calls of `next` from the first to the second: they gave these items, one after another, and then the end
-  abbrev pub Loops : {Item : Type 0} → (T → Option Item → T → Type 0) → List Item → ProgressBarIter T P → ProgressBarIter T P → Type 0
-  Loops gives items s t = YieldsThen (NextGives gives) s items None t
 
   -- an item of a stream advances the bar by 1; each end finishes it
   abbrev pub Polled : Bool → ProgressBarIter T P → ProgressBarIter T P → Type 0

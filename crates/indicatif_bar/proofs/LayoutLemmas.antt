@@ -12,7 +12,11 @@ use Rattle.std.specs.Prelude.{codes, Some, None, option_to_list, nat_lt, ◌&&�
 use Rattle.indicatif_text.specs.StyleWords.{opening_of, styled, sequence_of}
 use Rattle.indicatif_bar.specs.declared.measures.Fraction.{Fraction}
 use Rattle.indicatif_bar.specs.Layout.{times, spaces, text_columns, cluster, bar_text}
-use Rattle.indicatif_bar.specs.Inside.Cells.{begun_text, cells_left, rest_text}
+use Rattle.indicatif_bar.specs.Inside.Cells.{begun_text, cells_left}
+
+-- the cells that are not begun
+abbrev pub rest_text : List (List ℕ) → Fraction → ℕ → List ℕ
+rest_text clusters f cells = times (cells_left f cells (length clusters)) (cluster clusters (length clusters - 1))
 
 -- what ends a style is the sequence of 0
 pub last_sequence : (0x1B ∷ codes "[0m") ≡ sequence_of 0

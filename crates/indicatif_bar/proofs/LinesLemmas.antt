@@ -18,8 +18,28 @@ use Rattle.indicatif_bar.specs.Trackers.{Tracking, entries, changed_trackers}
 use Rattle.indicatif_bar.specs.Keys.{named, key_named}
 use Rattle.indicatif_bar.specs.declared.style.keys.Key.{Key}
 use Rattle.indicatif_bar.specs.BarStyles.{BarStyle, Wide, wide_of, key_text, named_text, in_layout, part_text, wide_part, latest_wide, lines_with, lines_of_groups, lines, is_line_break}
-use Rattle.indicatif_bar.specs.Inside.Steps.{Effect, PutsSource, source_at, source_of, names_of, effect_of_part, wide_source, wide_after, source_text, effect_text, lines_from}
+use Rattle.indicatif_bar.specs.Inside.Steps.{Effect, WritesText, Breaks, PutsSource, source_at, source_of, names_of, effect_of_part, wide_source, source_text, effect_text}
 use Rattle.indicatif_bar.specs.declared.style.steps.Source.TheVariants.{Known, Nothing}
+
+-- ---- the lines of deeds, one after another
+
+-- the wide placeholder that a deed is
+abbrev pub wide_effect : Effect → Option Wide
+wide_effect (PutsSource source layout) = wide_source layout source
+wide_effect _ = None
+
+-- the latest wide placeholder behind a further deed
+abbrev pub wide_after : Option Wide → Effect → Option Wide
+wide_after before deed = elim (wide_effect deed) [ Some wide ↦ Some wide | None ↦ before ]
+
+module _ {K : Type 0} (m : Tracking K) (style : BarStyle K) (p : Progress) (now : ℕ) where
+  -- the lines of deeds, where a wide key has stood so far and the line at hand has this text
+  abbrev pub lines_from : ℕ → Option Wide → List ℕ → List Effect → List (List ℕ)
+  lines_from columns wide text [] = if length text == 0 then [] else lines_with style p columns wide text
+  lines_from columns wide text (Breaks ∷ deeds) = lines_with style p columns wide text ++ lines_from columns wide [] deeds
+  lines_from columns wide text (WritesText more ∷ deeds) = lines_from columns wide (text ++ more) deeds
+  lines_from columns wide text (PutsSource source layout ∷ deeds) =
+      lines_from columns (wide_after wide (PutsSource source layout)) (text ++ effect_text m style p now (PutsSource source layout)) deeds
 
 -- ---- names
 

@@ -14,6 +14,18 @@ use Rattle.indicatif_bar.specs.Machines.{Target, target_of, Machine, Draw, Deed,
 use Rattle.indicatif_bar.specs.Runs.{Runs, broke, ReadsAfter}
 use Rattle.indicatif_bar.proofs.RunLemmas.{read_after}
 
+module _ {S : Type 0} (P : S → Type 0) where
+  -- what holds wherever a draw may end holds where it does
+  pub drawn_keeps : (target : Target) (d : Draw S) → P d.after_command → P d.ready → P d.written → P (drawn_by target d).1
+  unfolding drawn_by
+  drawn_keeps target d numbers ready written =
+      let Q = λ (o : Result Drawn Refusal × S). P o.1 in
+      cond_both (is_no d.ask) (Ok Limited, d.after_command) _ Q (λ a. numbers)
+      (λ a. cond_both target.hidden (Ok Hidden, d.after_command) _ Q (λ b. numbers)
+      (λ b. cond_both (target.columns == 0) (Err NoColumns, d.after_command) _ Q (λ c. numbers)
+      (λ c. cond_both (not d.allowed) (Ok Limited, d.ready) _ Q (λ e. ready)
+      (λ e. cond_both (some_wide target.columns d.lines) (Err TooWide, d.ready) (Ok Yes, d.written) Q (λ f. ready) (λ f. written)))))
+
 module _ {S C A : Type 0} (m : Machine S C A) where
   -- the rows aren't forgotten
   abbrev pub Sound : S → Type 0
@@ -30,22 +42,12 @@ module _ {S C A : Type 0} (m : Machine S C A) where
   GoesSoundly s (AtOnce takes answer next) = Sound s → Sound next
   GoesSoundly s (Draws d ends breaks) = DrawsSoundly s d × ((x : S) → Sound x → Sound (ends x)) × ((x : S) → Sound x → Sound (breaks x))
 
-  drawn_soundly : (target : Target) (d : Draw S) → Sound d.after_command → Sound d.ready → Sound d.written → Sound (drawn_by target d).1
-  unfolding drawn_by
-  drawn_soundly target d numbers ready written =
-      let P = λ (o : Result Drawn Refusal × S). Sound o.1 in
-      cond_both (is_no d.ask) (Ok Limited, d.after_command) _ P (λ a. numbers)
-      (λ a. cond_both target.hidden (Ok Hidden, d.after_command) _ P (λ b. numbers)
-      (λ b. cond_both (target.columns == 0) (Err NoColumns, d.after_command) _ P (λ c. numbers)
-      (λ c. cond_both (not d.allowed) (Ok Limited, d.ready) _ P (λ e. ready)
-      (λ e. cond_both (some_wide target.columns d.lines) (Err TooWide, d.ready) (Ok Yes, d.written) P (λ f. ready) (λ f. written)))))
-
   leads_soundly : (target : Target) (s next : S) (deed : Deed S A) (answer : A) → GoesSoundly s deed → Leads m target s deed answer next → is_failure (m.tells answer) ≡ false → Sound s → Sound next
   leads_soundly target s next (AtOnce takes said after) answer goes (inl made) fine sound = ap (λ o. (m.lists o.1).failed) made ∙ goes sound
   leads_soundly target s next (AtOnce takes said after) answer goes (inr (inl short)) fine sound = ap (λ x. (m.lists x).failed) short.1.1 ∙ sound
   leads_soundly target s next (AtOnce takes said after) answer goes (inr (inr broken)) fine sound = absurd broken.2
   leads_soundly target s next (Draws d ends breaks) answer goes (inl made) fine sound =
-      ap (λ o. (m.lists o.1).failed) made ∙ goes.1 (drawn_by target d).1 (drawn_soundly target d (goes.0.numbers sound) (goes.0.ready sound) (goes.0.written sound))
+      ap (λ o. (m.lists o.1).failed) made ∙ goes.1 (drawn_by target d).1 (drawn_keeps Sound target d (goes.0.numbers sound) (goes.0.ready sound) (goes.0.written sound))
   leads_soundly target s next (Draws d ends breaks) answer goes (inr (inl short)) fine sound = elim short.1 [
     | inl text ↦ ap (λ x. (m.lists x).failed) text.1 ∙ goes.2 s sound
     | inr shown ↦ elim shown.1 [

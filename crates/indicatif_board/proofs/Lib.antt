@@ -9,9 +9,9 @@ pub mod BoardCallLemmas
 pub mod DropLemmas
 pub mod BoundLemmas
 pub mod BoardRunLemmas
-pub mod KeptLemmas
+pub mod RunInvariantLemmas
 pub mod OrderLemmas
 pub mod SeatLemmas
 pub mod RecordLemmas
-pub mod StandingLemmas
+pub mod BarRecordLemmas
 pub mod RunRecordLemmas

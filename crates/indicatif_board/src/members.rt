@@ -28,7 +28,7 @@ pub fn leading<K: ProgressTracker>(members: &[Member<K>]) -> usize
 }
 
 /// The place of a bar in the frame; past its end where it isn't there.
-pub fn place(frame: &[Segment], bar: u64) -> usize
+pub fn place_of_bar(frame: &[Segment], bar: u64) -> usize
     ensures { result ≡ position_or_len (λ s. s.bar == bar) frame.now }
 {
     for (count, segment) in frame.iter().enumerate() {

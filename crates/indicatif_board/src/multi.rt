@@ -21,7 +21,7 @@ ghost use Rattle.indicatif_board.specs.Inside.Writings.{writing_by};
 pub use crate::bar_id::BarId;
 pub use crate::calls::{Answer, Call, Candidate, InsertLocation, Turned};
 use crate::calls::{draw_answer, insertion_answer, is_undisturbed, removal_answer};
-use crate::members::place;
+use crate::members::place_of_bar;
 pub use crate::recorded::{Entry, Opening, Recorded, Size};
 use crate::shown_bars::{BoardWriting, ShownBars};
 pub use crate::slots::MultiState;
@@ -597,7 +597,7 @@ impl<K: ProgressTracker, T: TermLike + Drop> Board<K, T> {
         if id.mark != self.mark {
             return Err(Refusal::ForeignBar);
         }
-        let at = place(&self.shown.frame, id.number);
+        let at = place_of_bar(&self.shown.frame, id.number);
         if at == self.shown.frame.len() {
             return Err(Refusal::NotMember);
         }

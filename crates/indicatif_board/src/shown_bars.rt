@@ -14,7 +14,7 @@ ghost use Rattle.indicatif_board.specs.Members.{place_of, without, is_head, said
 ghost use Rattle.indicatif_board.specs.Inside.Named.{HasPlace, named_laid_out, named_layout_takes};
 ghost use Rattle.indicatif_board.specs.Inside.Writings.{writing_by};
 
-use crate::members::{Member, drop_front, leading, place, put_at};
+use crate::members::{Member, drop_front, leading, place_of_bar, put_at};
 use crate::slots::MultiState;
 use indicatif_bar::state::{Ask, BarState, SpareLines};
 use indicatif_bar::style::ProgressTracker;
@@ -134,7 +134,7 @@ impl<K: ProgressTracker> ShownBars<K> {
         ensures record { record_on number self.new ≡ None }
         ensures others { AllOthersStay number self.old self.new }
     {
-        let at = place(&self.frame, number);
+        let at = place_of_bar(&self.frame, number);
         if at < self.members.len() {
             self.members[at].dropped = true;
         }

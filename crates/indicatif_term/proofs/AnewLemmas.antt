@@ -7,7 +7,7 @@ use Rattle.std.proofs.lemmas.Bool.{cond_both}
 use Rattle.std.proofs.lemmas.List.{take-set-le, take_all, length-set, length-take-le, length-replicate}
 use Rattle.indicatif_text.specs.Columns.{blank_row}
 use Rattle.indicatif_term.specs.Screen.{Screen, Return, LineFeed, EmptyRow, performed_all, line_feed}
-use Rattle.indicatif_term.specs.Terminal.{Terminal, Place, OutsideSequence, Escaped, Sequence, first_char, after}
+use Rattle.indicatif_term.specs.Terminal.{Terminal, SequencePlace, OutsideSequence, Escaped, Sequence, first_char, after}
 use Rattle.indicatif_term.specs.Calls.{anew_bytes}
 use Rattle.indicatif_term.specs.Lists.{Lists}
 use Rattle.indicatif_term.specs.Shows.{Shows, RowsStay, resting, resting_row, resting_column}
@@ -38,7 +38,7 @@ return_char : first_char (0x0D ∷ []) ≡ 0x0D
 unfolding encode
 return_char = first_char_encode 0x0D refl
 
-returned_at : (s : Screen) (place : Place) (spelling : List ℕ) → Returned (record { screen = s; reader = record { place = place; spelling = spelling } })
+returned_at : (s : Screen) (place : SequencePlace) (spelling : List ℕ) → Returned (record { screen = s; reader = record { place = place; spelling = spelling } })
 unfolding after
 returned_at s OutsideSequence spelling = record { screen = record s { column = 0 }; is = rw (return_whole, return_char) refl; rows = refl }
 returned_at s Escaped spelling = record { screen = record s { column = 0 }; is = rw (return_whole, return_char) refl; rows = refl }

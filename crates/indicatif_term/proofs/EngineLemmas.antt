@@ -33,7 +33,7 @@ use Rattle.indicatif_term.proofs.FeedLemmas.{after-append}
 use Rattle.indicatif_term.proofs.ShownRowLemmas.{lines_rows, frame_chars, frame_rows, log_rows}
 use Rattle.indicatif_term.proofs.CallTurnLemmas.{led_on-nil}
 use Rattle.indicatif_term.proofs.CountLemmas.{length-live, live_of, same_blanks_log}
-use Rattle.indicatif_term.specs.Inside.Fills.{fill_bytes}
+use Rattle.indicatif_term.proofs.LastLineLemmas.{fill_bytes}
 use Rattle.indicatif_term.proofs.FilledLineLemmas.{refilled, refills, filled_paint}
 use Rattle.indicatif_term.proofs.DrawingLemmas.{lines_none, goes_filled, drawn_goes, cleared_goes, logged_goes, log_live, onward_shows, onward_keeps}
 

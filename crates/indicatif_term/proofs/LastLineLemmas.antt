@@ -1,7 +1,21 @@
--- Which line is the last of lists put together.
-use Rattle.std.proofs.Common.{◌≡◌, ℕ, ◌<◌, List, [], ◌∷◌, ◌++◌, length, refl, subst, arith, Some, None}
+-- Which line is the last of lists put together, and the spaces that fill its last row.
+use Rattle.std.proofs.Common.{◌≡◌, ℕ, ◌-◌, ◌<◌, Bool, true, false, List, [], ◌∷◌, ◌++◌, length, replicate, refl, subst, arith, Option, Some, None}
 use Rattle.std.specs.List.{AllByRecursion}
-use Rattle.indicatif_term.specs.Inside.Fills.{last_of}
+use Rattle.indicatif_term.specs.Inside.Fills.{last_of, line_end}
+
+-- the columns that are free behind a line in its last row
+abbrev pub fill_width : ℕ → List ℕ → ℕ
+fill_width w line = w - line_end w line
+
+-- spaces up to the end of the row of this line, if there is one
+abbrev pub spaces_behind : ℕ → Option (List ℕ) → List ℕ
+spaces_behind w None = []
+spaces_behind w (Some line) = replicate (fill_width w line) 0x20
+
+-- the spaces behind lines: none where the cursor goes below them
+abbrev pub fill_bytes : Bool → ℕ → List (List ℕ) → List ℕ
+fill_bytes true w lines = []
+fill_bytes false w lines = spaces_behind w (last_of lines)
 
 pub last_push : {A : Type 0} (xs : List A) (y : A) → last_of (xs ++ y ∷ []) ≡ Some y
 last_push [] y = refl

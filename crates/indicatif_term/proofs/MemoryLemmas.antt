@@ -6,7 +6,8 @@ use Rattle.unicode_width.specs.Width.{char_width}
 use Rattle.indicatif_term.specs.Screen.{Screen, Op, Put, Return, LineFeed, Up, Down, Right, Left, EmptyRow, performed, performed_all, put_sized, put_wide, put_mark, put_here, line_feed}
 use Rattle.indicatif_term.specs.Terminal.{Terminal, after, ops_of}
 use Rattle.indicatif_term.specs.Calls.{LeadsOn, BreaksOff, State, move_bytes}
-use Rattle.indicatif_term.specs.Memory.{MemoryTerm, view_of, ReadsBeginning}
+use Rattle.indicatif_term.specs.Memory.{MemoryTerm, view_of}
+use Rattle.indicatif_term.specs.Inside.Feeding.{ReadsBeginning}
 use Rattle.indicatif_term.proofs.FeedLemmas.{after-append, after-nil}
 
 -- ---- the size stays

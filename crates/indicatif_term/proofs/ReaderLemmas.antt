@@ -7,7 +7,7 @@ use Rattle.std.proofs.Math.Utf8.{scalar, scalars, encode, encodes, next}
 use Rattle.std.proofs.lemmas.Bool.{and_parts, cond_both, le-ltb, lt-ltb, le-leb, lt-leb, false_from_ne_true}
 use Rattle.std.proofs.lemmas.Str.{encode_same, length-encode, len_utf8_bounds, chars-encodes, IsUtf8-from_is_utf8, is_utf8-from_IsUtf8}
 use Rattle.indicatif_term.specs.Screen.{Op}
-use Rattle.indicatif_term.specs.Terminal.{Place, Reader, is_leading, spelling_with, first_char, char_ops, char_place, ops_of, reader_after}
+use Rattle.indicatif_term.specs.Terminal.{SequencePlace, Reader, is_leading, spelling_with, first_char, char_ops, char_place, ops_of, reader_after}
 use Rattle.indicatif_term.proofs.FeedLemmas.{ops_of-append, reader_after-append}
 
 -- ---- one character
@@ -79,19 +79,19 @@ pub record Spells (r : Reader) (bytes : List ℕ) (c : ℕ) : Type 0 where
   pub ops : ops_of r bytes ≡ char_ops r.place c
   pub reader : reader_after r bytes ≡ record { place = char_place r.place c; spelling = [] }
 
-last_byte : (place : Place) (c : ℕ) (p : List ℕ) (b : ℕ) → scalar c ≡ true → spelling_with p b ≡ encode c → Spells (record { place = place; spelling = p }) (b ∷ []) c
+last_byte : (place : SequencePlace) (c : ℕ) (p : List ℕ) (b : ℕ) → scalar c ≡ true → spelling_with p b ≡ encode c → Spells (record { place = place; spelling = p }) (b ∷ []) c
 last_byte place c p b s e =
     let is : is_utf8 (spelling_with p b) ≡ true = ap is_utf8 e ∙ whole c s in
     let char : first_char (spelling_with p b) ≡ c = ap first_char e ∙ first_char_encode c s in
     record { ops = rw (is, char) (append-nil (char_ops place c)); reader = rw (is, char) refl }
 
-other_byte : (place : Place) (p : List ℕ) (b : ℕ) (bytes : List ℕ) (c : ℕ) → is_utf8 (spelling_with p b) ≡ false → length (spelling_with p b) < 4 →
+other_byte : (place : SequencePlace) (p : List ℕ) (b : ℕ) (bytes : List ℕ) (c : ℕ) → is_utf8 (spelling_with p b) ≡ false → length (spelling_with p b) < 4 →
     Spells (record { place = place; spelling = spelling_with p b }) bytes c → Spells (record { place = place; spelling = p }) (b ∷ bytes) c
 other_byte place p b bytes c not_whole short rest =
     let few : ltb (length (spelling_with p b)) 4 ≡ true = lt-ltb (length (spelling_with p b)) 4 short in
     record { ops = rw (not_whole, few) rest.ops; reader = rw (not_whole, few) rest.reader }
 
-bytes_read : (place : Place) (c : ℕ) (p : List ℕ) (b : ℕ) (q : List ℕ) → scalar c ≡ true → spelling_with p b ++ q ≡ encode c → AllByRecursion (λ b. is_leading b ≡ false) q →
+bytes_read : (place : SequencePlace) (c : ℕ) (p : List ℕ) (b : ℕ) (q : List ℕ) → scalar c ≡ true → spelling_with p b ++ q ≡ encode c → AllByRecursion (λ b. is_leading b ≡ false) q →
     Spells (record { place = place; spelling = p }) (b ∷ q) c
 bytes_read place c p b [] s e others = last_byte place c p b s (sym (append-nil (spelling_with p b)) ∙ e)
 bytes_read place c p b (d ∷ q) s e others =
@@ -109,15 +109,15 @@ char_read r c s =
 
 -- ---- characters in a row
 
-abbrev pub char_list_ops : Place → List ℕ → List Op
+abbrev pub char_list_ops : SequencePlace → List ℕ → List Op
 char_list_ops place [] = []
 char_list_ops place (c ∷ cs) = char_ops place c ++ char_list_ops (char_place place c) cs
 
-abbrev pub place_after : Place → List ℕ → Place
+abbrev pub place_after : SequencePlace → List ℕ → SequencePlace
 place_after place [] = place
 place_after place (c ∷ cs) = place_after (char_place place c) cs
 
-pub chars_read : (place : Place) (cs : List ℕ) → scalars cs ≡ true →
+pub chars_read : (place : SequencePlace) (cs : List ℕ) → scalars cs ≡ true →
     (ops_of (record { place = place; spelling = [] }) (encodes cs) ≡ char_list_ops place cs)
     × (reader_after (record { place = place; spelling = [] }) (encodes cs) ≡ record { place = place_after place cs; spelling = [] })
 chars_read place [] s = (refl, refl)

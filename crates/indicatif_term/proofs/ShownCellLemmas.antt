@@ -7,7 +7,7 @@ use Rattle.std.proofs.Math.ListN.{get_or-map}
 use Rattle.indicatif_text.specs.Columns.{Cell, Blank, Written, Continued, blank_row}
 use Rattle.indicatif_term.specs.Screen.{is_continued, emptied_front, emptied_glyph, cut_before, written_at, joined_at}
 use Rattle.indicatif_term.specs.Pictures.{is_written, trimmed}
-use Rattle.indicatif_term.specs.declared.in_memory.marks.Mark.{Mark}
+use Rattle.indicatif_term.specs.declared.in_memory.marks.CombiningMark.{CombiningMark}
 use Rattle.indicatif_term.specs.Inside.Rows.{cell_shown, whole_row, character_cells, KeepsMarks, JoinsMark, with_mark_at}
 use Rattle.indicatif_term.proofs.RowEditLemmas.{join_last}
 use Rattle.indicatif_term.proofs.KeptRowLemmas.{none_kept, length-whole_row, whole_joined, nothing_joined, written_kept, text_kept}
@@ -18,7 +18,7 @@ map_reverse f (x ∷ xs) =
     ap (map f) (reverse-append (x ∷ []) xs) ∙ map-append f (reverse xs) (x ∷ []) ∙ ap (λ ys. ys ++ f x ∷ []) (map_reverse f xs)
     ∙ sym (reverse-append (f x ∷ []) (map f xs))
 
-module _ (marks : List Mark) where
+module _ (marks : List CombiningMark) where
   abbrev shown : List Cell → List Cell
   shown cells = map (cell_shown marks) cells
 
@@ -84,42 +84,42 @@ module _ (marks : List Mark) where
   any_shown (Written g ∷ cells) = refl
   any_shown (Continued ∷ cells) = refl
 
-pub blank_shown : (w : ℕ) (marks : List Mark) (cells : List Cell) → cells ≡ [] → map (cell_shown marks) (whole_row w cells) ≡ blank_row w
+pub blank_shown : (w : ℕ) (marks : List CombiningMark) (cells : List Cell) → cells ≡ [] → map (cell_shown marks) (whole_row w cells) ≡ blank_row w
 blank_shown w marks cells e = ap (map (cell_shown marks)) (none_kept w cells e) ∙ blanks_shown marks w
 
-pub length_shown : (w : ℕ) (marks : List Mark) (cells : List Cell) → length cells ≤ w → length (map (cell_shown marks) (whole_row w cells)) ≡ w
+pub length_shown : (w : ℕ) (marks : List CombiningMark) (cells : List Cell) → length cells ≤ w → length (map (cell_shown marks) (whole_row w cells)) ≡ w
 length_shown w marks cells h = length-map (whole_row w cells) (cell_shown marks) ∙ length-whole_row w cells h
 
-pub row_written_shown : (w n c columns : ℕ) (marks : List Mark) (old new row : List Cell) → map (cell_shown marks) (whole_row w old) ≡ row →
+pub row_written_shown : (w n c columns : ℕ) (marks : List CombiningMark) (old new row : List Cell) → map (cell_shown marks) (whole_row w old) ≡ row →
     whole_row w new ≡ written_at n (character_cells c columns) (whole_row w old) → map (cell_shown marks) (whole_row w new) ≡ written_at n (character_cells c columns) row
 row_written_shown w n c columns marks old new row is e =
     ap (map (cell_shown marks)) e ∙ written_shown marks n (character_cells c columns) (whole_row w old)
     ∙ ap (λ xs. written_at n xs (map (cell_shown marks) (whole_row w old))) (character_shown marks c columns) ∙ ap (written_at n (character_cells c columns)) is
 
-pub row_joined_shown : (w n c : ℕ) (marks marks' : List Mark) (old new row : List Cell) → n ≤ length old → map (cell_shown marks) (whole_row w old) ≡ row →
+pub row_joined_shown : (w n c : ℕ) (marks marks' : List CombiningMark) (old new row : List Cell) → n ≤ length old → map (cell_shown marks) (whole_row w old) ≡ row →
     map (cell_shown marks') new ≡ joined_at n c (map (cell_shown marks) old) → map (cell_shown marks') (whole_row w new) ≡ joined_at n c row
 row_joined_shown w n c marks marks' old new row h is e =
     whole_shown marks' w new ∙ ap (whole_row w) e ∙ whole_joined w n c (map (cell_shown marks) old) (omega (arith, length-map old (cell_shown marks)))
     ∙ ap (joined_at n c) (sym (whole_shown marks w old) ∙ is)
 
-pub row_same_shown : (w : ℕ) (marks marks' : List Mark) (old new row : List Cell) → map (cell_shown marks) (whole_row w old) ≡ row →
+pub row_same_shown : (w : ℕ) (marks marks' : List CombiningMark) (old new row : List Cell) → map (cell_shown marks) (whole_row w old) ≡ row →
     map (cell_shown marks') new ≡ map (cell_shown marks) old → map (cell_shown marks') (whole_row w new) ≡ row
 row_same_shown w marks marks' old new row is e = whole_shown marks' w new ∙ ap (whole_row w) e ∙ sym (whole_shown marks w old) ∙ is
 
-pub nothing_joined_shown : (w n c : ℕ) (marks : List Mark) (cells row : List Cell) → length cells < n → n ≤ w → map (cell_shown marks) (whole_row w cells) ≡ row → row ≡ joined_at n c row
+pub nothing_joined_shown : (w n c : ℕ) (marks : List CombiningMark) (cells row : List Cell) → length cells < n → n ≤ w → map (cell_shown marks) (whole_row w cells) ≡ row → row ≡ joined_at n c row
 nothing_joined_shown w n c marks cells row far within is =
     let e : row ≡ whole_row w (map (cell_shown marks) cells) = sym is ∙ whole_shown marks w cells in
     e ∙ sym (nothing_joined w n c (map (cell_shown marks) cells) (omega (arith, length-map cells (cell_shown marks))) within) ∙ ap (joined_at n c) (sym e)
 
-pub has_written_shown : (w : ℕ) (marks : List Mark) (cells : List Cell) → list_any is_written cells ≡ list_any is_written (map (cell_shown marks) (whole_row w cells))
+pub has_written_shown : (w : ℕ) (marks : List CombiningMark) (cells : List Cell) → list_any is_written cells ≡ list_any is_written (map (cell_shown marks) (whole_row w cells))
 has_written_shown w marks cells = sym (any_shown marks (whole_row w cells) ∙ written_kept w cells)
 
-pub trimmed_shown : (w : ℕ) (marks : List Mark) (cells : List Cell) → trimmed (map (cell_shown marks) cells) ≡ trimmed (map (cell_shown marks) (whole_row w cells))
+pub trimmed_shown : (w : ℕ) (marks : List CombiningMark) (cells : List Cell) → trimmed (map (cell_shown marks) cells) ≡ trimmed (map (cell_shown marks) (whole_row w cells))
 trimmed_shown w marks cells = sym (ap trimmed (whole_shown marks w cells) ∙ text_kept w (map (cell_shown marks) cells))
 
 -- ---- marks stay those of their cells
 
-cells_of_whole : (w : ℕ) (m m' : List Mark) (cells : List Cell) → map (cell_shown m) (whole_row w cells) ≡ map (cell_shown m') (whole_row w cells) →
+cells_of_whole : (w : ℕ) (m m' : List CombiningMark) (cells : List Cell) → map (cell_shown m) (whole_row w cells) ≡ map (cell_shown m') (whole_row w cells) →
     map (cell_shown m) cells ≡ map (cell_shown m') cells
 cells_of_whole w m m' cells e =
     let blanks = replicate (w - length cells) Blank in
@@ -127,32 +127,32 @@ cells_of_whole w m m' cells e =
     ∙ ap (take (length cells)) (sym (map-append (cell_shown m) cells blanks) ∙ e ∙ map-append (cell_shown m') cells blanks)
     ∙ take_at (map (cell_shown m') cells) (map (cell_shown m') blanks) (length cells) (length-map cells (cell_shown m'))
 
-keeps_whole : (w : ℕ) (marks : List Mark) (cells : List Cell) → KeepsMarks marks cells → KeepsMarks marks (whole_row w cells)
+keeps_whole : (w : ℕ) (marks : List CombiningMark) (cells : List Cell) → KeepsMarks marks cells → KeepsMarks marks (whole_row w cells)
 keeps_whole w marks cells keeps = λ more. whole_shown (marks ++ more) w cells ∙ ap (whole_row w) (keeps more) ∙ sym (whole_shown marks w cells)
 
-pub keeps_again : (marks marks' : List Mark) (cells cells' : List Cell) → KeepsMarks marks cells → marks' ≡ marks → cells' ≡ cells → KeepsMarks marks' cells'
+pub keeps_again : (marks marks' : List CombiningMark) (cells cells' : List Cell) → KeepsMarks marks cells → marks' ≡ marks → cells' ≡ cells → KeepsMarks marks' cells'
 keeps_again marks marks' cells cells' keeps e e' = λ more.
     ap (λ ms. map (cell_shown (ms ++ more)) cells') e ∙ ap (map (cell_shown (marks ++ more))) e' ∙ keeps more
     ∙ sym (ap (λ ms. map (cell_shown ms) cells') e ∙ ap (map (cell_shown marks)) e')
 
-pub keeps_same : (w : ℕ) (marks : List Mark) (old new : List Cell) → KeepsMarks marks old → whole_row w new ≡ whole_row w old → KeepsMarks marks new
+pub keeps_same : (w : ℕ) (marks : List CombiningMark) (old new : List Cell) → KeepsMarks marks old → whole_row w new ≡ whole_row w old → KeepsMarks marks new
 keeps_same w marks old new keeps e = λ more.
     cells_of_whole w (marks ++ more) marks new (ap (map (cell_shown (marks ++ more))) e ∙ keeps_whole w marks old keeps more ∙ sym (ap (map (cell_shown marks)) e))
 
-pub keeps_written : (w n c columns : ℕ) (marks : List Mark) (old new : List Cell) → KeepsMarks marks old →
+pub keeps_written : (w n c columns : ℕ) (marks : List CombiningMark) (old new : List Cell) → KeepsMarks marks old →
     whole_row w new ≡ written_at n (character_cells c columns) (whole_row w old) → KeepsMarks marks new
 keeps_written w n c columns marks old new keeps e = λ more.
     let cells = character_cells c columns in
     let row = whole_row w old in
-    let by = λ (m : List Mark). ap (map (cell_shown m)) e ∙ written_shown m n cells row ∙ ap (λ xs. written_at n xs (map (cell_shown m) row)) (character_shown m c columns) in
+    let by = λ (m : List CombiningMark). ap (map (cell_shown m)) e ∙ written_shown m n cells row ∙ ap (λ xs. written_at n xs (map (cell_shown m) row)) (character_shown m c columns) in
     cells_of_whole w (marks ++ more) marks new (by (marks ++ more) ∙ ap (written_at n cells) (keeps_whole w marks old keeps more) ∙ sym (by marks))
 
 -- ---- joining a mark
 
-module _ (row : List Cell) (marks marks' : List Mark) (n mark : ℕ) (x y z : Cell) (h : n < length row) (at : x ≡ get_or row n x) (not : is_continued x ≡ false)
+module _ (row : List Cell) (marks marks' : List CombiningMark) (n mark : ℕ) (x y z : Cell) (h : n < length row) (at : x ≡ get_or row n x) (not : is_continued x ≡ false)
     (keeps : KeepsMarks marks row) (joins : JoinsMark mark marks marks' (get_or row n y) z) where
   -- marks put behind change only the cell that a mark is joined to
-  others : (later : List Mark) → map (cell_shown (marks' ++ later)) (set row n z) ≡ set (map (cell_shown marks) row) n (with_mark_at mark (cell_shown marks (get_or row n y)))
+  others : (later : List CombiningMark) → map (cell_shown (marks' ++ later)) (set row n z) ≡ set (map (cell_shown marks) row) n (with_mark_at mark (cell_shown marks (get_or row n y)))
   others later =
       let all : map (cell_shown (marks' ++ later)) row ≡ map (cell_shown marks) row =
       ap (λ ms. map (cell_shown (ms ++ later)) row) joins.behind ∙ ap (λ ms. map (cell_shown ms) row) (append_assoc marks joins.more later) ∙ keeps (joins.more ++ later) in

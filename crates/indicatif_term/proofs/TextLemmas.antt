@@ -6,7 +6,7 @@ use Rattle.std.proofs.lemmas.Bool.{cases_Bool, eqb-true, and_parts, false≢true
 use Rattle.unicode_width.specs.Width.{char_width}
 use Rattle.indicatif_text.specs.Columns.{is_parameter, parameters_length, colour_length, visible_from}
 use Rattle.indicatif_term.specs.Screen.{Put}
-use Rattle.indicatif_term.specs.Terminal.{Place, OutsideSequence, Sequence, plain_ops, plain_place, sequence_ops, number_with}
+use Rattle.indicatif_term.specs.Terminal.{SequencePlace, OutsideSequence, Sequence, plain_ops, plain_place, sequence_ops, number_with}
 use Rattle.indicatif_term.proofs.ReaderLemmas.{char_list_ops, place_after}
 
 -- a character that a terminal shows
@@ -29,7 +29,7 @@ is_put c shown_rows = record {
 }
 
 -- what characters ask for, if they end outside a sequence: these are put
-pub record AsksToPut (place : Place) (text shown_rows : List ℕ) : Type 0 where
+pub record AsksToPut (place : SequencePlace) (text shown_rows : List ℕ) : Type 0 where
   pub ops : char_list_ops place text ≡ map (λ c. Put c) shown_rows
   pub after : place_after place text ≡ OutsideSequence
 

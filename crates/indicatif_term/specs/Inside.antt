@@ -7,6 +7,7 @@ pub mod Marks
 pub mod Rows
 pub mod Grids
 pub mod Scanners
+pub mod Feeding
 pub mod Fills
 pub mod Pens
 pub mod Windows

@@ -1,6 +1,6 @@
 -- A terminal in memory: its cells, its faults, and the calls that it was given, as text.
 use Rattle.std.specs.Prelude.{◌≡◌, ◌⊎◌, ℕ, ◌+◌, ◌/◌, ◌%◌, ◌==◌, ◌||◌, nat_lt, List, [], ◌∷◌, ◌++◌, flat_map, decimal, codes, chars, encode_utf8_all, if◌then◌else◌, Result, MatchResult}
-use Rattle.indicatif_term.specs.Terminal.{Terminal, after}
+use Rattle.indicatif_term.specs.Terminal.{Terminal}
 use Rattle.indicatif_term.specs.Calls.{TermView, State}
 
 -- what contracts see of a terminal in memory
@@ -14,13 +14,6 @@ pub record MemoryTerm : Type 0 where
 -- what contracts see of it as of any terminal
 abbrev pub view_of : MemoryTerm → TermView
 view_of m = record { told = State m.terminal; columns = m.terminal.screen.columns; rows = m.terminal.screen.height; faults = m.faults }
-
--- the terminal has read a beginning of these bytes
-pub record ReadsBeginning (bytes : List ℕ) (old new : Terminal) : Type 0 where
-  pub front : List ℕ
-  pub rest : List ℕ
-  pub whole : front ++ rest ≡ bytes
-  pub is : new ≡ after old front
 
 -- what becomes of the calls' text: this one's is put at its end; where the call fails, that is so too, or all stays as it was
 abbrev pub Records : {E : Type 0} → List ℕ → MemoryTerm → MemoryTerm → Result Unit E → Type 0

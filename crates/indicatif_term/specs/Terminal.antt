@@ -7,12 +7,12 @@ use Rattle.indicatif_term.specs.Screen.{Screen, Op, Put, Return, LineFeed, Up, D
 -- ---- characters
 
 -- where in an escape sequence the next character stands
-pub data Place : Type 0 where
-  OutsideSequence : Place
+pub data SequencePlace : Type 0 where
+  OutsideSequence : SequencePlace
   -- after ESC
-  Escaped : Place
+  Escaped : SequencePlace
   -- after ESC [ and the digits of this number, which is 0 before the first; None after a semicolon
-  Sequence : (number : Option ℕ) → Place
+  Sequence : (number : Option ℕ) → SequencePlace
 
 -- a digit from 0 to 9
 abbrev pub is_digit : ℕ → Bool
@@ -47,17 +47,17 @@ abbrev pub plain_ops : ℕ → List Op
 plain_ops c = if c == 0x1B then [] else if c == 0x0D then Return ∷ [] else if c == 0x0A then LineFeed ∷ [] else Put c ∷ []
 
 -- where the character after one outside a sequence stands
-abbrev pub plain_place : ℕ → Place
+abbrev pub plain_place : ℕ → SequencePlace
 plain_place c = if c == 0x1B then Escaped else OutsideSequence
 
 -- the same at any place
-abbrev pub char_ops : Place → ℕ → List Op
+abbrev pub char_ops : SequencePlace → ℕ → List Op
 char_ops OutsideSequence c = plain_ops c
 char_ops Escaped c = if c == 0x5B then [] else plain_ops c
 char_ops (Sequence number) c = if is_parameter c then [] else sequence_ops number c
 
 -- where the character after one at any place stands
-abbrev pub char_place : Place → ℕ → Place
+abbrev pub char_place : SequencePlace → ℕ → SequencePlace
 char_place OutsideSequence c = plain_place c
 char_place Escaped c = if c == 0x5B then Sequence (Some 0) else plain_place c
 char_place (Sequence number) c = if is_parameter c then Sequence (number_with number c) else OutsideSequence
@@ -66,7 +66,7 @@ char_place (Sequence number) c = if is_parameter c then Sequence (number_with nu
 
 -- where a terminal is in the bytes that it reads
 pub record Reader : Type 0 where
-  pub place : Place
+  pub place : SequencePlace
   -- the bytes of a character that isn't whole: those since the last one that can begin a character
   pub spelling : List ℕ
 

@@ -18,7 +18,8 @@ ghost use Rattle.indicatif_term.specs.Screen.{top};
 ghost use Rattle.indicatif_term.specs.Terminal.{after, blank_terminal};
 ghost use Rattle.indicatif_term.specs.Pictures.{contents_text, picture_text};
 ghost use Rattle.indicatif_term.specs.Calls.{Writes, move_bytes, line_bytes, clear_bytes, UP, DOWN, RIGHT, LEFT};
-ghost use Rattle.indicatif_term.specs.Memory.{view_of, ReadsBeginning, Records, move_text, written_text};
+ghost use Rattle.indicatif_term.specs.Memory.{view_of, Records, move_text, written_text};
+ghost use Rattle.indicatif_term.specs.Inside.Feeding.{ReadsBeginning};
 
 mod call_log;
 mod cell;

@@ -95,7 +95,7 @@ impl<'t, T: TermLike> Pen<'t, T> {
         if rows == 0 {
             return Ok(());
         }
-        empty_rows(self.term, !self.at_end, rows)?;
+        write_empty_rows(self.term, !self.at_end, rows)?;
         self.at_end = false;
         Ok(())
     }
@@ -197,7 +197,7 @@ impl<'t, T: TermLike> Pen<'t, T> {
 }
 
 /// Empties so many rows from the first to the last, which is the cursor's or the one above, and goes back to the first.
-fn empty_rows<T: TermLike>(term: &mut T, below: bool, rows: usize) -> io::Result<()>
+fn write_empty_rows<T: TermLike>(term: &mut T, below: bool, rows: usize) -> io::Result<()>
     requires { 0 < rows }
     ensures { Writes (back_bytes below rows) (T.view term.old) (T.view term.new) result }
 {

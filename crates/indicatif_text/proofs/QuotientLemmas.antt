@@ -10,9 +10,13 @@ use Rattle.std.proofs.lemmas.Bool.{ne_eqb, eq-eqb}
 use Rattle.std.proofs.lemmas.Str.{IsAscii-append}
 use Rattle.std.proofs.lemmas.Str.Ascii.{IsAscii-cons, IsAscii-nil}
 use Rattle.indicatif_text.specs.Format.{round, rounds_up, last_digits, without_trailing_zeros, after_point, human_count, human_float_count}
-use Rattle.indicatif_text.specs.Inside.Quotients.{below, division_rest, raised}
+use Rattle.indicatif_text.specs.Inside.Quotients.{below, raised}
 
 -- ---- one digit more
+
+-- what is left of a division at so many decimals
+unfoldable pub division_rest : ℕ → ℕ → ℕ → ℕ
+division_rest num den places = num * 10 ^ places % den
 
 times_none : (n : ℕ) → n * 10 ^ 0 ≡ n
 times_none n = omega (arith, ap (λ x. n * x) (pow-zero 10))

@@ -11,11 +11,11 @@ use Rattle.std.proofs.lemmas.Bool.Decides.{same_from_decides}
 use Rattle.std.proofs.lemmas.Slice.Eq.{bytes_eq-Decides}
 use Rattle.std.proofs.lemmas.Str.{chars-append, IsUtf8-from_ascii, encodes-chars, encodes-IsAscii, chars-IsAscii}
 use Rattle.indicatif_text.specs.declared.style_words.Style.{Style}
-use Rattle.indicatif_text.specs.StyleWords.{opening_of, colour_words, background_words, style_of, style_words, is_word_char, has_word, number_if, numbers_of, sequence_of, styled, foreground_number, background_number, foreground_of, background_of}
+use Rattle.indicatif_text.specs.StyleWords.{opening_of, colour_words, background_words, style_of, style_words, has_word, number_if, numbers_of, sequence_of, styled, foreground_number, background_number, colour_number}
 use Rattle.indicatif_text.specs.declared.spans.Words.{Words}
 use Rattle.indicatif_text.specs.declared.spans.Words.TheVariants as words
 use Rattle.indicatif_text.specs.Inside.Spans.{in_words}
-use Rattle.indicatif_text.specs.Inside.StyleWords.{closing_of}
+use Rattle.indicatif_text.specs.Inside.StyleWords.{closing_of, is_word_char}
 use Rattle.indicatif_text.specs.Template.{after_run}
 use Rattle.indicatif_text.proofs.PrefixLemmas.{run_more, run_ends, left_more, left_ends, left_fails, both, word_within, left_within, left_past}
 
@@ -78,8 +78,8 @@ no_background bs u lacks =
 
 -- a style with a further word
 pub record Adds (s : Style) (word : List ℕ) (t : Style) : Type 0 where
-  pub foreground : foreground_number t ≡ last_or (foreground_number s) (option_to_list (foreground_of word))
-  pub background : background_number t ≡ last_or (background_number s) (option_to_list (background_of word))
+  pub foreground : foreground_number t ≡ last_or (foreground_number s) (option_to_list (colour_number 30 colour_words word))
+  pub background : background_number t ≡ last_or (background_number s) (option_to_list (colour_number 40 background_words word))
   pub bold : t.bold ≡ (s.bold || bytes_eq word (codes "bold"))
   pub dim : t.dim ≡ (s.dim || bytes_eq word (codes "dim"))
   pub underlined : t.underlined ≡ (s.underlined || bytes_eq word (codes "underlined"))
@@ -89,8 +89,8 @@ pub record Adds (s : Style) (word : List ℕ) (t : Style) : Type 0 where
 
 -- a style of some words, where the others are left
 pub record Gathers (all : List (List ℕ)) (s : Style) (left : List (List ℕ)) : Type 0 where
-  pub foreground : last_or None (filter_map foreground_of all) ≡ last_or (foreground_number s) (filter_map foreground_of left)
-  pub background : last_or None (filter_map background_of all) ≡ last_or (background_number s) (filter_map background_of left)
+  pub foreground : last_or None (filter_map (colour_number 30 colour_words) all) ≡ last_or (foreground_number s) (filter_map (colour_number 30 colour_words) left)
+  pub background : last_or None (filter_map (colour_number 40 background_words) all) ≡ last_or (background_number s) (filter_map (colour_number 40 background_words) left)
   pub bold : has_word all (codes "bold") ≡ (s.bold || has_word left (codes "bold"))
   pub dim : has_word all (codes "dim") ≡ (s.dim || has_word left (codes "dim"))
   pub underlined : has_word all (codes "underlined") ≡ (s.underlined || has_word left (codes "underlined"))
@@ -108,8 +108,10 @@ or_more false t b h e = ap (λ x. x || h) (sym e)
 
 gathers_more : (all : List (List ℕ)) (s t : Style) (word : List ℕ) (left : List (List ℕ)) → Gathers all s (word ∷ left) → Adds s word t → Gathers all t left
 gathers_more all s t word left g a = record {
-  foreground = g.foreground ∙ last_by_words (foreground_number s) (foreground_of word) (filter_map foreground_of left) ∙ ap (λ o. last_or o (filter_map foreground_of left)) (sym a.foreground);
-  background = g.background ∙ last_by_words (background_number s) (background_of word) (filter_map background_of left) ∙ ap (λ o. last_or o (filter_map background_of left)) (sym a.background);
+  foreground = g.foreground ∙ last_by_words (foreground_number s) (colour_number 30 colour_words word) (filter_map (colour_number 30 colour_words) left)
+      ∙ ap (λ o. last_or o (filter_map (colour_number 30 colour_words) left)) (sym a.foreground);
+  background = g.background ∙ last_by_words (background_number s) (colour_number 40 background_words word) (filter_map (colour_number 40 background_words) left)
+      ∙ ap (λ o. last_or o (filter_map (colour_number 40 background_words) left)) (sym a.background);
   bold = g.bold ∙ or_more s.bold t.bold _ (has_word left (codes "bold")) a.bold;
   dim = g.dim ∙ or_more s.dim t.dim _ (has_word left (codes "dim")) a.dim;
   underlined = g.underlined ∙ or_more s.underlined t.underlined _ (has_word left (codes "underlined")) a.underlined;
@@ -148,8 +150,8 @@ gathers_all text s rest e h =
     let blink : has_word (style_words text) (codes "blink") ≡ s.blink = g.blink ∙ or-false s.blink in
     let reverse : has_word (style_words text) (codes "reverse") ≡ s.reverse = g.reverse ∙ or-false s.reverse in
     let hidden : has_word (style_words text) (codes "hidden") ≡ s.hidden = g.hidden ∙ or-false s.hidden in
-    let foreground : last_or None (filter_map foreground_of (style_words text)) ≡ foreground_number s = g.foreground in
-    let background : last_or None (filter_map background_of (style_words text)) ≡ background_number s = g.background in
+    let foreground : last_or None (filter_map (colour_number 30 colour_words) (style_words text)) ≡ foreground_number s = g.foreground in
+    let background : last_or None (filter_map (colour_number 40 background_words) (style_words text)) ≡ background_number s = g.background in
     rw (foreground, background, bold, dim, underlined, blink, reverse, hidden) refl
 
 -- the style of no words

@@ -1,5 +1,5 @@
 -- Styles of text: the colours and attributes that a dotted text names, and what they write. Texts are lists of characters.
-use Rattle.std.specs.Prelude.{ℕ, ◌+◌, Bool, true, false, not, ◌==◌, List, [], ◌∷◌, ◌++◌, map, Option, None, if◌then◌else◌, codes, decimal, flat_map, filter_map, option_map, option_to_list, position, bytes_eq}
+use Rattle.std.specs.Prelude.{ℕ, ◌+◌, Bool, true, false, ◌==◌, List, [], ◌∷◌, ◌++◌, map, Option, None, if◌then◌else◌, codes, decimal, flat_map, filter_map, option_map, option_to_list, position, bytes_eq}
 use Rattle.std.specs.List.{slice_split, last_or, list_any}
 use Rattle.indicatif_text.specs.declared.style_words.BasicColour.{BasicColour}
 use Rattle.indicatif_text.specs.declared.style_words.BasicColour.TheVariants.{Black, Red, Green, Yellow, Blue, Magenta, Cyan, White}
@@ -17,17 +17,9 @@ attribute_words = (codes "bold", 1) ∷ (codes "dim", 2) ∷ (codes "underlined"
 abbrev pub background_words : List (List ℕ)
 background_words = map (λ word. codes "on_" ++ word) colour_words
 
--- the number of a foreground word
-abbrev pub foreground_of : List ℕ → Option ℕ
-foreground_of word = option_map (λ k. 30 + k) (position (bytes_eq word) colour_words)
-
--- the number of a background word
-abbrev pub background_of : List ℕ → Option ℕ
-background_of word = option_map (λ k. 40 + k) (position (bytes_eq word) background_words)
-
--- a character of a word
-abbrev pub is_word_char : ℕ → Bool
-is_word_char c = not (c == 0x2E)
+-- the number of a colour's word: its place among the words, from a first number on
+abbrev pub colour_number : ℕ → List (List ℕ) → List ℕ → Option ℕ
+colour_number first words word = option_map (λ k. first + k) (position (bytes_eq word) words)
 
 -- the words of a style, which dots separate
 abbrev pub style_words : List ℕ → List (List ℕ)
@@ -45,11 +37,11 @@ number_if test number = if test then number ∷ [] else []
 abbrev pub attributes_of : List (List ℕ) → List ℕ
 attributes_of words = flat_map (λ (word, number). number_if (has_word words word) number) attribute_words
 
--- a style as the numbers that it writes: the last foreground, the last background, the attributes
+-- a style as the numbers that it writes: the last foreground (from 30 on), the last background (from 40 on), the attributes
 unfoldable pub style_of : List ℕ → List ℕ
 style_of text =
     let words = style_words text in
-    option_to_list (last_or None (filter_map foreground_of words)) ++ option_to_list (last_or None (filter_map background_of words)) ++ attributes_of words
+    option_to_list (last_or None (filter_map (colour_number 30 colour_words) words)) ++ option_to_list (last_or None (filter_map (colour_number 40 background_words) words)) ++ attributes_of words
 
 -- the colour sequence of a number
 abbrev pub sequence_of : ℕ → List ℕ

@@ -234,7 +234,7 @@ impl HumanFloatCount {
             num: self.num,
             den: self.den,
         };
-        quotients::push_text(quotient, decimals, out)?;
+        quotients::push_quotient(quotient, decimals, out)?;
         Ok(())
     }
 }

@@ -48,7 +48,7 @@ fn push_range(text: &str, start: usize, end: usize, out: &mut String) -> Result<
     let mut rest = columns::pieces(text);
     'pieces: while let Some(piece) = rest.next() {
         if piece.colour {
-            push_text(piece.text, out)?;
+            push_piece(piece.text, out)?;
         } else {
             column = push_run(piece.text, (start, end), column, out)?;
         }
@@ -86,7 +86,7 @@ fn push_run(
 
 /// Appends a text.
 #[inline(always)]
-fn push_text(text: &str, out: &mut String) -> Result<(), AllocError>
+fn push_piece(text: &str, out: &mut String) -> Result<(), AllocError>
     ensures text { OnOk result (Appends (string_bytes out.old) (string_bytes out.new) (chars text.now)) }
     ensures grown { Grows (string_bytes out.old) (string_bytes out.new) }
 {

@@ -1,7 +1,7 @@
 //! Styles of text: the colours and attributes that a dotted text names, and what they write.
 ghost use Rattle.std.specs.Prelude.{◌≡◌, ℕ, ◌+◌, ◌≤◌, ◌<◌, ◌||◌, ◌++◌, [], chars, bytes_eq, position, option_map, flat_map, take_while, IsUtf8, string_bytes, string_len, string_capacity, length, codes, nat_lt, OnOk, OnErr, IfErr, IfOk, IsTrue};
 ghost use Rattle.std.specs.List.{list_all};
-ghost use Rattle.indicatif_text.specs.StyleWords.{style_of, styled, opening_of, sequence_of, numbers_of, number_if, foreground_number, background_number, foreground_of, background_of, colour_place, colour_words, background_words};
+ghost use Rattle.indicatif_text.specs.StyleWords.{style_of, styled, opening_of, sequence_of, numbers_of, number_if, foreground_number, background_number, colour_place, colour_words, background_words};
 ghost use Rattle.indicatif_text.specs.Inside.StyleWords.{closing_of, sequence_if, foreground_after, background_after};
 ghost use Rattle.indicatif_text.specs.Inside.Spans.{in_words};
 ghost use Rattle.indicatif_text.specs.Template.{after_run};

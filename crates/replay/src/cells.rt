@@ -3,7 +3,7 @@
 use crate::kinds::Verdict;
 use crate::rows::{BadRow, Row};
 use indicatif_term::in_memory::Cells;
-use std::alloc::Global;
+use std::alloc::{AllocError, Global};
 
 /// A terminal of this size.
 #[derive(Clone, Copy, Debug)]
@@ -89,6 +89,14 @@ fn reading_of(alloc: Global, cells: &Cells) -> Result<String, BadRow> {
     Ok(format!(in alloc; "{picture}\t{contents}\t{row} {column}")?)
 }
 
+/// Appends so many line feeds.
+fn push_line_feeds(out: &mut String, count: usize) -> Result<(), AllocError> {
+    for _ in 0..count {
+        out.push('\n')?;
+    }
+    Ok(())
+}
+
 /// The rows of a picture up to the last one that isn't empty, each ended by a line feed.
 pub fn picture_of(alloc: Global, rows: &[String]) -> Result<String, BadRow> {
     let mut picture = String::new(alloc);
@@ -98,9 +106,7 @@ pub fn picture_of(alloc: Global, rows: &[String]) -> Result<String, BadRow> {
             empty = empty.saturating_add(1);
             continue;
         }
-        for _ in 0..empty {
-            picture.push('\n')?;
-        }
+        push_line_feeds(&mut picture, empty)?;
         empty = 0;
         picture.push_str(row.as_str())?;
         picture.push('\n')?;

@@ -15,7 +15,8 @@ use Rattle.indicatif_bar.specs.declared.lone.LoneBar.{LoneBar}
 use Rattle.indicatif_bar.specs.declared.tracker.NoTracker.{NoTracker}
 use Rattle.indicatif_board.specs.Boards.{Drop, Redraw}
 use Rattle.indicatif_board.specs.BoardValues.{id_of}
-use Rattle.indicatif.specs.Fronts.{Makes, SuspendedBy, NoText, on_board}
+use Rattle.indicatif.specs.Fronts.{SuspendedBy, NoText, on_board}
+use Rattle.indicatif.specs.Inside.Single.{Makes}
 use Rattle.indicatif.specs.SharedBoards.{SharedDraws, SharedSuspends, SharedKeeps}
 use Rattle.indicatif.specs.declared.progress_bar.place.Place.{Place}
 use Rattle.indicatif.specs.declared.progress_bar.place.Place.TheVariants.{Alone, On}

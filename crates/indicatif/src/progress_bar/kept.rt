@@ -98,7 +98,7 @@ impl<T: TermLike + Drop> Kept<T> {
             Kept::Open(board) => board.call(call, now),
             Kept::Recorded(record) => {
                 record.replays();
-                answer_of(record.apply(call, now))
+                answer_alone(record.apply(call, now))
             }
         }
     }
@@ -178,7 +178,7 @@ impl<T: TermLike + Drop> Kept<T> {
 type Answered = (Answer, Option<BarState<NoTracker>>);
 
 /// The answer; a bar that was handed back is given up.
-fn answer_of(answered: Answered) -> Answer
+fn answer_alone(answered: Answered) -> Answer
     ensures { result ≡ answered.0 }
 {
     answered.0
@@ -207,7 +207,7 @@ fn drawn_of(answer: Answer) -> Result<Drawn, Refusal>
 }
 
 /// What an answer gives of a bar that was to be taken in; an insertion gives a bar or refuses it.
-fn given(answer: Answer) -> Result<BarId, Refusal>
+fn id_given(answer: Answer) -> Result<BarId, Refusal>
     ensures ok { IfOk result (λ id. given_by (answer_of answer) ≡ Ok (id_of id)) }
     ensures err { IfErr result (λ e. given_by (answer_of answer) ≡ Err e) }
 {
@@ -257,7 +257,7 @@ impl<T: TermLike + Drop, C: Clock + Drop> SharedBoard<T, C> {
         ensures can { MatchResult result (λ id. SharedTakes T.view (place_at at) (Ok (id_of id))) (λ e. SharedTakes T.view (place_at at) (Err e)) }
     {
         let now = self.clock.now();
-        given(self.kept.call(Call::Insert { at, candidate }, now))
+        id_given(self.kept.call(Call::Insert { at, candidate }, now))
     }
 
     /// Takes a bar out of the order and hands it back; `None` where it isn't there.

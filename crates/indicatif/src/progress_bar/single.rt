@@ -8,7 +8,8 @@ ghost use Rattle.indicatif_bar.specs.LoneBars.{record_of, lone_terminal, lone_ca
 ghost use Rattle.indicatif_bar.specs.Progress.{is_finished};
 ghost use Rattle.indicatif_bar.specs.Trackers.{writes_nothing};
 ghost use Rattle.indicatif_bar.specs.declared.command.Change.{Change as Changed};
-ghost use Rattle.indicatif.specs.Fronts.{MadeBy, SuspendedBy};
+ghost use Rattle.indicatif.specs.Fronts.{SuspendedBy};
+ghost use Rattle.indicatif.specs.Inside.Single.{MadeBy};
 ghost use Rattle.indicatif.specs.Inside.Worded.{worded};
 
 use crate::progress_bar::worded::Worded;

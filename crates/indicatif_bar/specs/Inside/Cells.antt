@@ -21,10 +21,6 @@ begun_text clusters f cells = times (f.num * cells / f.den) (cluster clusters 0)
 abbrev pub cells_left : Fraction → ℕ → ℕ → ℕ
 cells_left f cells clusters = cells - f.num * cells / f.den - length (option_to_list (shade_of f cells clusters))
 
--- the cells that are not begun
-abbrev pub rest_text : List (List ℕ) → Fraction → ℕ → List ℕ
-rest_text clusters f cells = times (cells_left f cells (length clusters)) (cluster clusters (length clusters - 1))
-
 -- the bytes of texts
-abbrev pub texts_of : List (String Global) → List (List ℕ)
-texts_of texts = map string_bytes texts
+abbrev pub bytes_of_strings : List (String Global) → List (List ℕ)
+bytes_of_strings texts = map string_bytes texts

@@ -1,7 +1,7 @@
 -- What the parts of a style do, found out once. Texts are lists of bytes in UTF-8.
 use Rattle.std.specs.declared.string.String.{String}
 use Rattle.std.specs.declared.alloc.Global.{Global}
-use Rattle.std.specs.Prelude.{map, ℕ, ◌==◌, List, [], ◌∷◌, ◌++◌, length, Option, Some, None, if◌then◌else◌, encode_utf8_all, bytes_eq, position, option_map, string_bytes}
+use Rattle.std.specs.Prelude.{map, ℕ, List, [], Option, Some, None, encode_utf8_all, bytes_eq, position, option_map, string_bytes}
 use Rattle.std.specs.Option.{option_map_or}
 use Rattle.std.specs.List.{slice_get}
 use Rattle.indicatif_text.specs.Template.{Layout, TemplatePart, LiteralText, LineBreak, KeyText}
@@ -10,7 +10,7 @@ use Rattle.indicatif_bar.specs.Tabs.{expanded}
 use Rattle.indicatif_bar.specs.Progress.{Progress}
 use Rattle.indicatif_bar.specs.Trackers.{Tracking}
 use Rattle.indicatif_bar.specs.Keys.{key_named}
-use Rattle.indicatif_bar.specs.BarStyles.{BarStyle, Wide, WideBarOf, WideMessageOf, wide_of, key_text, in_layout, lines_with}
+use Rattle.indicatif_bar.specs.BarStyles.{BarStyle, Wide, WideBarOf, WideMessageOf, wide_of, key_text, in_layout}
 use Rattle.indicatif_bar.specs.declared.style.steps.Source.{Source}
 use Rattle.indicatif_bar.specs.declared.style.steps.Source.TheVariants.{Tracker, Known, Nothing}
 use Rattle.indicatif_bar.specs.declared.style.steps.Placeholder.{Placeholder}
@@ -65,18 +65,10 @@ abbrev pub wide_source : Layout → Source → Option Wide
 wide_source layout (Known key) = wide_of layout key
 wide_source layout _ = None
 
-abbrev pub wide_effect : Effect → Option Wide
-wide_effect (PutsSource source layout) = wide_source layout source
-wide_effect _ = None
-
 -- the wide placeholder that a found one is
 abbrev pub wide_found : WideKey → Wide
 wide_found (wide_key.Bar placeholder) = WideBarOf (placeholder_layout placeholder)
 wide_found (wide_key.Message placeholder) = WideMessageOf (placeholder_layout placeholder)
-
--- the latest wide placeholder behind a further deed
-abbrev pub wide_after : Option Wide → Effect → Option Wide
-wide_after before deed = elim (wide_effect deed) [ Some wide ↦ Some wide | None ↦ before ]
 
 module _ {K : Type 0} (m : Tracking K) (style : BarStyle K) (p : Progress) (now : ℕ) where
   -- the text from a source
@@ -90,11 +82,3 @@ module _ {K : Type 0} (m : Tracking K) (style : BarStyle K) (p : Progress) (now 
   effect_text (WritesText text) = text
   effect_text Breaks = []
   effect_text (PutsSource source layout) = in_layout m style p now layout (source_text layout source)
-
-  -- the lines of deeds, where a wide key has stood so far and the line at hand has this text
-  abbrev pub lines_from : ℕ → Option Wide → List ℕ → List Effect → List (List ℕ)
-  lines_from columns wide text [] = if length text == 0 then [] else lines_with style p columns wide text
-  lines_from columns wide text (Breaks ∷ deeds) = lines_with style p columns wide text ++ lines_from columns wide [] deeds
-  lines_from columns wide text (WritesText more ∷ deeds) = lines_from columns wide (text ++ more) deeds
-  lines_from columns wide text (PutsSource source layout ∷ deeds) =
-      lines_from columns (wide_after wide (PutsSource source layout)) (text ++ effect_text (PutsSource source layout)) deeds

@@ -8,7 +8,7 @@ ghost use Rattle.indicatif_text.specs.Template.{refusal_of};
 ghost use Rattle.indicatif_term.specs.Frames.{line_text};
 ghost use Rattle.indicatif_bar.specs.Trackers.{entries};
 ghost use Rattle.indicatif_bar.specs.BarStyles.{lines};
-ghost use Rattle.indicatif_bar.specs.Inside.Cells.{texts_of};
+ghost use Rattle.indicatif_bar.specs.Inside.Cells.{bytes_of_strings};
 ghost use Rattle.indicatif_bar.specs.Builders.{characters_of, clusters_of, tick_fault, progress_fault, with_key, first_style};
 
 use crate::bar_style::ProgressStyle;
@@ -140,9 +140,9 @@ impl<K: ProgressTracker> ProgressStyle<K> {
 
     /// The same of texts that stand in memory of their own, which takes no more.
     fn with_ticks(mut self, strings: Vec<String>) -> Result<ProgressStyle<K>, Refusal>
-        ensures style { IfOk result (λ style. style ≡ record self { tick_strings = texts_of strings.items }) }
-        ensures taken { IfOk result (λ _. tick_fault (texts_of strings.items) ≡ None) }
-        ensures refused { IfErr result (λ e. tick_fault (texts_of strings.items) ≡ Some e) }
+        ensures style { IfOk result (λ style. style ≡ record self { tick_strings = bytes_of_strings strings.items }) }
+        ensures taken { IfOk result (λ _. tick_fault (bytes_of_strings strings.items) ≡ None) }
+        ensures refused { IfErr result (λ e. tick_fault (bytes_of_strings strings.items) ≡ Some e) }
     {
         if let Some(refusal) = clusters::tick_fault(strings.as_slice()) {
             return Err(refusal);

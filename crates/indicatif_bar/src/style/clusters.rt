@@ -4,7 +4,7 @@ ghost use Rattle.indicatif_bar.specs.Builders.{characters_of, clusters_of, tick_
 ghost use Rattle.std.specs.Prelude.{◌==◌};
 ghost use Rattle.std.specs.List.{list_all};
 ghost use Rattle.indicatif_bar.specs.Layout.{text_columns};
-ghost use Rattle.indicatif_bar.specs.Inside.Cells.{texts_of};
+ghost use Rattle.indicatif_bar.specs.Inside.Cells.{bytes_of_strings};
 
 use indicatif_text::columns::{Refusal, columns};
 use std::alloc::Global;
@@ -12,7 +12,7 @@ use unicode_segmentation::UnicodeSegmentation;
 
 /// Each character of a text by itself.
 pub(crate) fn characters_of(alloc: Global, text: &str) -> Result<Vec<String>, Refusal>
-    ensures texts { IfOk result (λ v. texts_of v.items ≡ characters_of text.now) }
+    ensures texts { IfOk result (λ v. bytes_of_strings v.items ≡ characters_of text.now) }
     ensures memory { IfErr result (λ e. e ≡ Refusal.Memory) }
 {
     let mut all = Vec::new(alloc);
@@ -26,7 +26,7 @@ pub(crate) fn characters_of(alloc: Global, text: &str) -> Result<Vec<String>, Re
 
 /// The grapheme clusters of a text (Unicode, UAX #29).
 pub(crate) fn clusters_of(alloc: Global, text: &str) -> Result<Vec<String>, Refusal>
-    ensures texts { IfOk result (λ v. texts_of v.items ≡ clusters_of text.now) }
+    ensures texts { IfOk result (λ v. bytes_of_strings v.items ≡ clusters_of text.now) }
     ensures memory { IfErr result (λ e. e ≡ Refusal.Memory) }
 {
     let mut all = Vec::new(alloc);
@@ -38,7 +38,7 @@ pub(crate) fn clusters_of(alloc: Global, text: &str) -> Result<Vec<String>, Refu
 
 /// Texts of the caller's.
 pub(crate) fn copied(alloc: Global, texts: &[&str]) -> Result<Vec<String>, Refusal>
-    ensures texts { IfOk result (λ v. texts_of v.items ≡ map (λ text. text.now) texts.now) }
+    ensures texts { IfOk result (λ v. bytes_of_strings v.items ≡ map (λ text. text.now) texts.now) }
     ensures memory { IfErr result (λ e. e ≡ Refusal.Memory) }
 {
     let mut all = Vec::with_capacity(alloc, texts.len())?;
@@ -50,7 +50,7 @@ pub(crate) fn copied(alloc: Global, texts: &[&str]) -> Result<Vec<String>, Refus
 
 /// The same texts.
 pub(crate) fn cloned(alloc: Global, texts: &[String]) -> Result<Vec<String>, Refusal>
-    ensures texts { IfOk result (λ v. texts_of v.items ≡ texts_of texts.now) }
+    ensures texts { IfOk result (λ v. bytes_of_strings v.items ≡ bytes_of_strings texts.now) }
     ensures memory { IfErr result (λ e. e ≡ Refusal.Memory) }
 {
     let mut all = Vec::with_capacity(alloc, texts.len())?;
@@ -62,7 +62,7 @@ pub(crate) fn cloned(alloc: Global, texts: &[String]) -> Result<Vec<String>, Ref
 
 /// Why these tick strings are refused, if they are.
 pub(crate) fn tick_fault(strings: &[String]) -> Option<Refusal>
-    ensures { result ≡ tick_fault (texts_of strings.now) }
+    ensures { result ≡ tick_fault (bytes_of_strings strings.now) }
 {
     if strings.len() < 2 {
         return Some(Refusal::FewTicks);
@@ -72,7 +72,7 @@ pub(crate) fn tick_fault(strings: &[String]) -> Option<Refusal>
 
 /// Why these clusters are refused, if they are.
 pub(crate) fn progress_fault(clusters: &[String]) -> Option<Refusal>
-    ensures { result ≡ progress_fault (texts_of clusters.now) }
+    ensures { result ≡ progress_fault (bytes_of_strings clusters.now) }
 {
     if clusters.len() < 2 {
         return Some(Refusal::FewProgressChars);
@@ -89,7 +89,7 @@ pub(crate) fn progress_fault(clusters: &[String]) -> Option<Refusal>
 
 /// Whether each text takes so many columns.
 fn all_take(texts: &[String], width: usize) -> bool
-    ensures { result ≡ list_all (λ text. text_columns text == width) (texts_of texts.now) }
+    ensures { result ≡ list_all (λ text. text_columns text == width) (bytes_of_strings texts.now) }
 {
     'texts: for text in texts {
         if columns(text.as_str()) != width {

@@ -95,13 +95,13 @@ pub(crate) fn steps_of<K>(
 {
     let mut steps = Vec::with_capacity(alloc, parts.len())?;
     'parts: for (place, part) in parts.iter().enumerate() {
-        steps.push(step_of(alloc, part, place, keys, tab)?)?;
+        steps.push(step_of_part(alloc, part, place, keys, tab)?)?;
     }
     Ok(steps)
 }
 
 /// What the part at a place does.
-fn step_of<K>(
+fn step_of_part<K>(
     alloc: Global,
     part: &Part,
     place: usize,

@@ -1,5 +1,5 @@
 -- The spaces that fill the last row of a drawing.
-use Rattle.std.specs.Prelude.{◌≡◌, ℕ, ◌-◌, ◌≤◌, length, take, map, flat_map, Bool, true, false, List, [], ◌∷◌, replicate, chars, Option, Some, None}
+use Rattle.std.specs.Prelude.{◌≡◌, ℕ, ◌-◌, ◌≤◌, length, take, map, flat_map, Bool, true, false, List, [], ◌∷◌, chars, Option, Some, None}
 use Rattle.indicatif_text.specs.Columns.{last_columns}
 use Rattle.indicatif_term.specs.Frames.{line_text}
 use Rattle.indicatif_term.specs.declared.lines.Segment.{Segment}
@@ -23,20 +23,6 @@ last_or_none lines = line_or_none (last_of lines)
 -- the columns that a line takes of its last row
 abbrev pub line_end : ℕ → List ℕ → ℕ
 line_end w line = last_columns w (chars line)
-
--- the columns that are free behind a line in its last row
-abbrev pub fill_width : ℕ → List ℕ → ℕ
-fill_width w line = w - line_end w line
-
--- spaces up to the end of the row of this line, if there is one
-abbrev pub spaces_behind : ℕ → Option (List ℕ) → List ℕ
-spaces_behind w None = []
-spaces_behind w (Some line) = replicate (fill_width w line) 0x20
-
--- the spaces behind lines: none where the cursor goes below them
-abbrev pub fill_bytes : Bool → ℕ → List (List ℕ) → List ℕ
-fill_bytes true w lines = []
-fill_bytes false w lines = spaces_behind w (last_of lines)
 
 -- how many spaces fill a row of w columns of which so many are taken: none where there is no row, or the cursor goes below
 abbrev pub fill_columns : Bool → ℕ → Option ℕ → ℕ

@@ -2,26 +2,26 @@
 use Rattle.std.specs.Prelude.{◌≡◌, ℕ, ◌+◌, ◌-◌, ◌≤◌, List, [], ◌∷◌, ◌++◌, take, drop, map, reverse, replicate, length}
 use Rattle.indicatif_text.specs.Columns.{Cell, Blank, Written, Continued}
 use Rattle.indicatif_term.specs.Screen.{with_mark, emptied_glyph, emptied_front}
-use Rattle.indicatif_term.specs.declared.in_memory.cell.Kind as kept
-use Rattle.indicatif_term.specs.declared.in_memory.cell.Kind.TheVariants as variants
-use Rattle.indicatif_term.specs.declared.in_memory.marks.Mark.{Mark}
+use Rattle.indicatif_term.specs.declared.in_memory.cell.CellKind as kept
+use Rattle.indicatif_term.specs.declared.in_memory.cell.CellKind.TheVariants as variants
+use Rattle.indicatif_term.specs.declared.in_memory.marks.CombiningMark.{CombiningMark}
 use Rattle.indicatif_term.specs.Inside.Marks.{chain}
 use Rattle.indicatif_term.specs.declared.in_memory.row.Row.TheInside.{Inside}
 
 -- the cell that is kept in this way, with the place of its last mark in the place of its marks
-abbrev pub cell_of : kept.Kind → Cell
+abbrev pub cell_of : kept.CellKind → Cell
 cell_of variants.Empty = Blank
 cell_of (variants.Single c) = Written (record { base = c; marks = [] })
 cell_of (variants.Joined c last) = Written (record { base = c; marks = last ∷ [] })
 cell_of variants.Continued = Continued
 
 -- the marks that lead to the last one, if there is one
-abbrev pub marks_shown : List Mark → List ℕ → List ℕ
+abbrev pub marks_shown : List CombiningMark → List ℕ → List ℕ
 marks_shown marks [] = []
 marks_shown marks (last ∷ ks) = chain (reverse marks) last
 
 -- the cell with its marks, of those of its row
-abbrev pub cell_shown : List Mark → Cell → Cell
+abbrev pub cell_shown : List CombiningMark → Cell → Cell
 cell_shown marks Blank = Blank
 cell_shown marks (Written g) = Written (record { base = g.base; marks = marks_shown marks g.marks })
 cell_shown marks Continued = Continued
@@ -35,8 +35,8 @@ abbrev pub row_kept : Inside → List Cell
 row_kept r = map (cell_shown r.marks.items) (whole_row r.columns r.cells.items)
 
 -- what is put behind the marks changes no cell
-abbrev pub KeepsMarks : List Mark → List Cell → Type 0
-KeepsMarks marks cells = (more : List Mark) → map (cell_shown (marks ++ more)) cells ≡ map (cell_shown marks) cells
+abbrev pub KeepsMarks : List CombiningMark → List Cell → Type 0
+KeepsMarks marks cells = (more : List CombiningMark) → map (cell_shown (marks ++ more)) cells ≡ map (cell_shown marks) cells
 
 -- no more cells are kept than the row has, and their marks stay theirs
 pub record IsKept (r : Inside) : Type 0 where
@@ -50,10 +50,10 @@ with_mark_at c (Written g) = Written (with_mark c g)
 with_mark_at c Continued = Continued
 
 -- a cell that a mark is joined to, if it has a character: the mark is put behind those of the row, and what is put behind it later changes nothing
-pub record JoinsMark (mark : ℕ) (marks marks' : List Mark) (cell cell' : Cell) : Type 0 where
-  pub more : List Mark
+pub record JoinsMark (mark : ℕ) (marks marks' : List CombiningMark) (cell cell' : Cell) : Type 0 where
+  pub more : List CombiningMark
   pub behind : marks' ≡ marks ++ more
-  pub joined : (later : List Mark) → cell_shown (marks' ++ later) cell' ≡ with_mark_at mark (cell_shown marks cell)
+  pub joined : (later : List CombiningMark) → cell_shown (marks' ++ later) cell' ≡ with_mark_at mark (cell_shown marks cell)
 
 -- each row of n columns at least that begins with the one cells is that which begins with the other
 abbrev pub BeginTheSame : ℕ → List Cell → List Cell → Type 0

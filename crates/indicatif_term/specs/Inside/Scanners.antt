@@ -1,12 +1,12 @@
 -- The reader of bytes as it is kept.
 use Rattle.std.specs.Prelude.{◌≡◌, ℕ, ◌<◌, ◌≤◌, true, List, [], ◌∷◌, length, take, encode_utf8}
 use Rattle.std.specs.Str.{all_scalars}
-use Rattle.indicatif_term.specs.Terminal.{Place, OutsideSequence, Escaped, Sequence}
+use Rattle.indicatif_term.specs.Terminal.{SequencePlace, OutsideSequence, Escaped, Sequence}
 use Rattle.indicatif_term.specs.declared.in_memory.scanner.Stage.{Stage}
 use Rattle.indicatif_term.specs.declared.in_memory.scanner.Stage.TheVariants.{Outside, AfterEscape, InSequence}
 
 -- the place
-abbrev pub stage_place : Stage → Place
+abbrev pub stage_place : Stage → SequencePlace
 stage_place Outside = OutsideSequence
 stage_place AfterEscape = Escaped
 stage_place (InSequence number) = Sequence number

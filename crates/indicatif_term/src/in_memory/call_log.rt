@@ -63,11 +63,11 @@ fn quote_character(c: char, out: &mut String) -> Result<(), Refusal>
     ensures refused { IfErr result (λ e. e ≡ Refusal.Memory) }
 {
     match c {
-        '"' | '\\' => escape(c, out),
-        '\n' => escape('n', out),
-        '\r' => escape('r', out),
-        '\t' => escape('t', out),
-        '\0' => escape('0', out),
+        '"' | '\\' => push_escaped(c, out),
+        '\n' => push_escaped('n', out),
+        '\r' => push_escaped('r', out),
+        '\t' => push_escaped('t', out),
+        '\0' => push_escaped('0', out),
         '\u{1}'..='\u{1F}' | '\u{7F}' => escape_code(c as u32, out),
         _ => {
             out.push(c)?;
@@ -77,7 +77,7 @@ fn quote_character(c: char, out: &mut String) -> Result<(), Refusal>
 }
 
 /// Appends a backslash and a character to `out`. Refused: `Memory`.
-fn escape(c: char, out: &mut String) -> Result<(), Refusal>
+fn push_escaped(c: char, out: &mut String) -> Result<(), Refusal>
     ensures escaped { OnOk result (string_bytes out.new ≡ string_bytes out.old ++ encode_utf8_all (0x5C ∷ c ∷ [])) }
     ensures refused { IfErr result (λ e. e ≡ Refusal.Memory) }
 {
@@ -92,7 +92,7 @@ fn escape_code(code: u32, out: &mut String) -> Result<(), Refusal>
     ensures escaped { OnOk result (string_bytes out.new ≡ string_bytes out.old ++ encode_utf8_all (code_text code)) }
     ensures refused { IfErr result (λ e. e ≡ Refusal.Memory) }
 {
-    escape('u', out)?;
+    push_escaped('u', out)?;
     out.push('{')?;
     if code >= 16 {
         out.push(hex_digit(code / 16))?;

@@ -5,14 +5,14 @@ ghost use Rattle.indicatif_term.specs.Screen.{is_continued};
 ghost use Rattle.indicatif_term.specs.Pictures.{cell_text, is_blank, is_written};
 ghost use Rattle.indicatif_term.specs.Inside.Rows.{cell_shown, JoinsMark};
 
-use crate::in_memory::marks::{Mark, keep_mark, leads_to_none, show_marks};
+use crate::in_memory::marks::{CombiningMark, keep_mark, leads_to_none, show_marks};
 use indicatif_text::columns::Refusal;
 use std::alloc::Global;
 use std::marker::Model;
 
 /// What stands in a cell.
 #[derive(Clone, Copy, Debug, Drop)]
-enum Kind {
+enum CellKind {
     /// Nothing.
     Empty,
     /// A character without marks.
@@ -26,7 +26,7 @@ enum Kind {
 /// A cell of a row. Contracts see the place of its last mark in the place of its marks.
 #[derive(Debug, Drop)]
 pub(crate) struct Cell {
-    kind: Kind,
+    kind: CellKind,
 }
 
 impl Model for Cell {
@@ -45,7 +45,9 @@ impl Cell {
     pub(crate) fn empty() -> Cell
         ensures { result ≡ Blank }
     {
-        Cell { kind: Kind::Empty }
+        Cell {
+            kind: CellKind::Empty,
+        }
     }
 
     /// A continued cell of the wide character at its left.
@@ -54,7 +56,7 @@ impl Cell {
         ensures { result ≡ Continued }
     {
         Cell {
-            kind: Kind::Continued,
+            kind: CellKind::Continued,
         }
     }
 
@@ -64,7 +66,7 @@ impl Cell {
         ensures { result ≡ Written (record { base = c; marks = [] }) }
     {
         Cell {
-            kind: Kind::Single(c),
+            kind: CellKind::Single(c),
         }
     }
 
@@ -74,7 +76,7 @@ impl Cell {
         ensures { result ≡ is_continued self.now }
     {
         match self.kind {
-            Kind::Continued => true,
+            CellKind::Continued => true,
             _ => false,
         }
     }
@@ -84,34 +86,37 @@ impl Cell {
         ensures { result ≡ is_written self.now }
     {
         match self.kind {
-            Kind::Empty => false,
+            CellKind::Empty => false,
             _ => true,
         }
     }
 
     /// Whether it is empty, or a space without a mark.
-    pub(crate) fn is_blank(&self, marks: &[Mark]) -> bool
+    pub(crate) fn is_blank(&self, marks: &[CombiningMark]) -> bool
         ensures { result ≡ is_blank (cell_shown marks.now self.now) }
     {
         match self.kind {
-            Kind::Empty => true,
-            Kind::Single(c) => c == ' ',
-            Kind::Joined(c, last) => c == ' ' && leads_to_none(marks, last),
-            Kind::Continued => false,
+            CellKind::Empty => true,
+            CellKind::Single(c) => c == ' ',
+            CellKind::Joined(c, last) => c == ' ' && leads_to_none(marks, last),
+            CellKind::Continued => false,
         }
     }
 
     /// Joins a mark to its character, if it has one. Refused: `Memory`; all is unchanged then.
-    pub(crate) fn join(&mut self, marks: &mut Vec<Mark>, mark: char) -> Result<(), Refusal>
+    pub(crate) fn join(&mut self, marks: &mut Vec<CombiningMark>, mark: char) -> Result<(), Refusal>
         ensures joined { OnOk result (JoinsMark mark marks.old.items marks.new.items self.old self.new) }
         ensures err { OnErr result (self.new ≡ self.old) }
         ensures marks { OnErr result (marks.new.items ≡ marks.old.items) }
         ensures refused { IfErr result (λ e. e ≡ Refusal.Memory) }
     {
         match self.kind {
-            Kind::Single(c) => self.kind = Kind::Joined(c, keep_mark(marks, 0, mark)?),
-            Kind::Joined(c, last) => self.kind = Kind::Joined(c, keep_mark(marks, last, mark)?),
-            Kind::Empty | Kind::Continued => {}
+            CellKind::Single(c) => self.kind = CellKind::Joined(c, keep_mark(marks, 0, mark)?),
+            CellKind::Joined(c, last) => self.kind = CellKind::Joined(
+                c,
+                keep_mark(marks, last, mark)?,
+            ),
+            CellKind::Empty | CellKind::Continued => {}
         }
         Ok(())
     }
@@ -120,7 +125,7 @@ impl Cell {
     pub(crate) fn show(
         &self,
         alloc: Global,
-        marks: &[Mark],
+        marks: &[CombiningMark],
         out: &mut String,
     ) -> Result<(), Refusal>
         ensures shown { OnOk result (string_bytes out.new
@@ -128,13 +133,13 @@ impl Cell {
         ensures refused { IfErr result (λ e. e ≡ Refusal.Memory) }
     {
         match self.kind {
-            Kind::Empty => out.push(' ')?,
-            Kind::Single(c) => out.push(c)?,
-            Kind::Joined(c, last) => {
+            CellKind::Empty => out.push(' ')?,
+            CellKind::Single(c) => out.push(c)?,
+            CellKind::Joined(c, last) => {
                 out.push(c)?;
                 show_marks(alloc, marks, last, out)?;
             }
-            Kind::Continued => {}
+            CellKind::Continued => {}
         }
         Ok(())
     }

@@ -130,7 +130,7 @@ impl Grid {
         ensures { self.new ≡ blank_screen self.old.height self.old.columns }
     {
         self.rows.truncate(usize::from(self.height));
-        empty_rows(&mut self.rows, self.columns);
+        clear_rows(&mut self.rows, self.columns);
         self.row = 0;
         self.column = 0;
     }
@@ -378,7 +378,7 @@ fn show_joined(alloc: Global, rows: &[Row], out: &mut String) -> Result<(), Refu
 }
 
 /// Empties each cell of rows that have this many.
-fn empty_rows(rows: &mut [Row], columns: u16)
+fn clear_rows(rows: &mut [Row], columns: u16)
     requires { (k : ℕ) → k < length rows.old → length (slice_index_or rows.old k []) ≡ columns }
     ensures { rows.new ≡ replicate (length rows.old) (blank_row columns) }
 {

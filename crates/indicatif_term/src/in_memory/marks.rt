@@ -9,13 +9,17 @@ use std::alloc::Global;
 /// A mark, and the place of the one that was joined to the same character before it: counted from 1, and 0 where there
 /// is none.
 #[derive(Clone, Copy, Debug, Drop)]
-pub(crate) struct Mark {
+pub(crate) struct CombiningMark {
     character: char,
     before: u32,
 }
 
 /// Puts a mark behind those of the row, and gives its place. Refused: `Memory`, also where it has no place below 2^32.
-pub(crate) fn keep_mark(marks: &mut Vec<Mark>, before: u32, character: char) -> Result<u32, Refusal>
+pub(crate) fn keep_mark(
+    marks: &mut Vec<CombiningMark>,
+    before: u32,
+    character: char,
+) -> Result<u32, Refusal>
     ensures place { IfOk result (λ n. n ≡ length marks.old.items + 1) }
     ensures put { OnOk result (marks.new.items ≡ marks.old.items ++ record { character = character; before = before } ∷ []) }
     ensures err { OnErr result (marks.new.items ≡ marks.old.items) }
@@ -25,12 +29,12 @@ pub(crate) fn keep_mark(marks: &mut Vec<Mark>, before: u32, character: char) -> 
         return Err(Refusal::Memory);
     }
     let place = marks.len() as u32 + 1;
-    marks.push(Mark { character, before })?;
+    marks.push(CombiningMark { character, before })?;
     Ok(place)
 }
 
 /// Whether no mark has this place.
-pub(crate) fn leads_to_none(marks: &[Mark], last: u32) -> bool
+pub(crate) fn leads_to_none(marks: &[CombiningMark], last: u32) -> bool
     ensures { result ≡ is_empty (chain (reverse marks.now) last) }
 {
     last == 0 || last as usize > marks.len()
@@ -39,7 +43,7 @@ pub(crate) fn leads_to_none(marks: &[Mark], last: u32) -> bool
 /// Appends the marks of the character whose last one has this place. Refused: `Memory`.
 pub(crate) fn show_marks(
     alloc: Global,
-    marks: &[Mark],
+    marks: &[CombiningMark],
     last: u32,
     out: &mut String,
 ) -> Result<(), Refusal>
@@ -51,7 +55,7 @@ pub(crate) fn show_marks(
 }
 
 /// The same marks, the last one first. Refused: `Memory`.
-fn marks_up_to(alloc: Global, marks: &[Mark], last: u32) -> Result<Vec<char>, Refusal>
+fn marks_up_to(alloc: Global, marks: &[CombiningMark], last: u32) -> Result<Vec<char>, Refusal>
     ensures found { IfOk result (λ v. reverse v.items ≡ chain (reverse marks.now) last) }
     ensures refused { IfErr result (λ e. e ≡ Refusal.Memory) }
 {

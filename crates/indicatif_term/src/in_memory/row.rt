@@ -6,7 +6,7 @@ ghost use Rattle.indicatif_term.specs.Pictures.{cell_text, is_blank, is_written,
 ghost use Rattle.indicatif_term.specs.Inside.Rows.{cell_shown, KeepsMarks, BeginTheSame, emptied_back, emptied_on, overwritten, character_cells};
 
 use crate::in_memory::cell::Cell;
-use crate::in_memory::marks::Mark;
+use crate::in_memory::marks::CombiningMark;
 use indicatif_text::columns::Refusal;
 use std::alloc::Global;
 use std::marker::Model;
@@ -17,7 +17,7 @@ use std::marker::Model;
 pub(crate) struct Row {
     columns: u16,
     cells: Vec<Cell>,
-    marks: Vec<Mark>,
+    marks: Vec<CombiningMark>,
 }
 
 impl Model for Row {
@@ -116,7 +116,7 @@ impl Row {
 fn show_cells(
     alloc: Global,
     cells: &[Cell],
-    marks: &[Mark],
+    marks: &[CombiningMark],
     out: &mut String,
 ) -> Result<(), Refusal>
     ensures shown { OnOk result (string_bytes out.new
@@ -130,7 +130,7 @@ fn show_cells(
 }
 
 /// How many cells there are up to the last one that is no blank.
-fn shown_length(cells: &[Cell], marks: &[Mark]) -> usize
+fn shown_length(cells: &[Cell], marks: &[CombiningMark]) -> usize
     ensures within { result ≤ length cells.now }
     ensures shown { take result (map (cell_shown marks.now) cells.now) ≡ trimmed (map (cell_shown marks.now) cells.now) }
 {
@@ -148,7 +148,7 @@ fn shown_length(cells: &[Cell], marks: &[Mark]) -> usize
 /// then.
 fn join_before(
     cells: &mut [Cell],
-    marks: &mut Vec<Mark>,
+    marks: &mut Vec<CombiningMark>,
     at: usize,
     mark: char,
 ) -> Result<(), Refusal>

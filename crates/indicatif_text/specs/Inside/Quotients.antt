@@ -5,10 +5,6 @@ use Rattle.std.specs.Prelude.{◌≡◌, ℕ, ◌+◌, ◌*◌, ◌/◌, ◌%◌
 unfoldable pub below : ℕ → ℕ → ℕ → ℕ
 below num den places = num * 10 ^ places / den
 
--- and what is left of it
-unfoldable pub division_rest : ℕ → ℕ → ℕ → ℕ
-division_rest num den places = num * 10 ^ places % den
-
 -- the number, or the next one
 abbrev pub raised : Bool → ℕ → ℕ
 raised up n = if up then n + 1 else n

@@ -4,7 +4,7 @@ use Rattle.indicatif_text.specs.declared.spans.Span.{Span}
 use Rattle.indicatif_text.specs.declared.spans.Span.TheVariants.{Literal, Key, Word}
 use Rattle.indicatif_text.specs.declared.spans.Words.{Words}
 use Rattle.indicatif_text.specs.declared.spans.Words.TheVariants.{All, Style, Alternative}
-use Rattle.indicatif_text.specs.StyleWords.{is_word_char}
+use Rattle.indicatif_text.specs.Inside.StyleWords.{is_word_char}
 use Rattle.indicatif_text.specs.Template.{is_key_char, is_style_char, is_alternative_char}
 
 -- a character that stands for itself

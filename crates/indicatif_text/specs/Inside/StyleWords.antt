@@ -1,15 +1,19 @@
 -- Styles, a word and a sequence at a time.
-use Rattle.std.specs.Prelude.{ℕ, List, [], ◌∷◌, Option, flat_map, option_to_list}
+use Rattle.std.specs.Prelude.{ℕ, Bool, not, ◌==◌, List, [], ◌∷◌, Option, flat_map, option_to_list}
 use Rattle.std.specs.List.{last_or}
-use Rattle.indicatif_text.specs.StyleWords.{foreground_of, background_of, sequence_of}
+use Rattle.indicatif_text.specs.StyleWords.{colour_number, colour_words, background_words, sequence_of}
 
 -- the foreground's number behind a further word
 abbrev pub foreground_after : Option ℕ → List ℕ → Option ℕ
-foreground_after before word = last_or before (option_to_list (foreground_of word))
+foreground_after before word = last_or before (option_to_list (colour_number 30 colour_words word))
 
 -- the background's number behind a further word
 abbrev pub background_after : Option ℕ → List ℕ → Option ℕ
-background_after before word = last_or before (option_to_list (background_of word))
+background_after before word = last_or before (option_to_list (colour_number 40 background_words word))
+
+-- a character of a word
+abbrev pub is_word_char : ℕ → Bool
+is_word_char c = not (c == 0x2E)
 
 -- the colour sequence of a number, if there is one
 abbrev pub sequence_if : Option ℕ → List ℕ

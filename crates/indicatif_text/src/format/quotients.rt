@@ -165,7 +165,7 @@ fn joined(whole: u128, decimals: &[u8]) -> ShortText
 }
 
 /// Appends the text of a quotient at so many decimals. All memory comes first, so that a refusal leaves `out` as before.
-pub(crate) fn push_text(
+pub(crate) fn push_quotient(
     quotient: Quotient,
     decimals: u16,
     out: &mut String,

@@ -21,7 +21,7 @@ pub(super) struct Options {
 }
 
 impl Options {
-    pub(super) const PLAIN: Options = Options {
+    pub(super) const NONE: Options = Options {
         align: Alignment::Left,
         width: None,
         truncate: false,
@@ -207,13 +207,13 @@ pub(super) fn with_options(text: &str) -> Result<(Options, &str), TemplateError>
     ensures utf8 { IfOk result (λ r. IsUtf8 r.1.now) }
 {
     match split_first(text) {
-        None => Ok((Options::PLAIN, text)),
+        None => Ok((Options::NONE, text)),
         Some((first, rest)) => match alignment_of(first) {
-            None => with_width(Options::PLAIN, TemplateState::Align, text),
+            None => with_width(Options::NONE, TemplateState::Align, text),
             Some(align) => {
                 let aligned = Options {
                     align,
-                    ..Options::PLAIN
+                    ..Options::NONE
                 };
                 with_width(aligned, TemplateState::Width, rest)
             }
@@ -265,7 +265,7 @@ fn key_ends<'a>(key: &'a str, after: &'a str) -> Result<(Token<'a>, &'a str), Te
         let state = TemplateState::MaybeOpen;
         Err(TemplateError::Unexpected { next: end, state })
     } else if end == '}' {
-        Ok((Token::Placeholder(key, Options::PLAIN), rest))
+        Ok((Token::Placeholder(key, Options::NONE), rest))
     } else {
         let (options, left) = with_options(rest)?;
         Ok((Token::Placeholder(key, options), left))

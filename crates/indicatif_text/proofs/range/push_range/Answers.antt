@@ -23,7 +23,7 @@ pieces-preserved-in-Continue-1 c =
     let at = shown_colour c.in-Some.piece c.pieces.rest c.next.new.self c.in-Some.ensures.steps c.if-piece.true in
     record {
       sum_is = ap (λ ps. c.pieces.column + sum_by width_of (flat_map run_text ps)) (sym at) ∙ c.pieces.invariant.sum_is;
-      out_is = leaves_less _ _ _ _ _ _ _ c.pieces.invariant.out_is (ap (pieces_within c.args.start c.args.end c.pieces.column) at) c.in_ok-push_text.ensures.text;
+      out_is = leaves_less _ _ _ _ _ _ _ c.pieces.invariant.out_is (ap (pieces_within c.args.start c.args.end c.pieces.column) at) c.in_ok-push_piece.ensures.text;
     }
 
 pub push_run-requires : goal.push_run-requires
@@ -48,8 +48,8 @@ pieces-preserved c =
 pub returns-clause-range : goal.returns-clause-range
 returns-clause-range c = leaves_none _ _ _ _ c.pieces.invariant.out_is (ap (pieces_within c.args.start c.args.end c.pieces.column) c.in_default.ensures.steps.0)
 
-pub returns-in_err-push_text-clause-grown : goal.returns-in_err-push_text-clause-grown
-returns-in_err-push_text-clause-grown c = leaves_grown _ _ _ _ _ c.pieces.invariant.out_is c.push_text.ensures.grown
+pub returns-in_err-push_piece-clause-grown : goal.returns-in_err-push_piece-clause-grown
+returns-in_err-push_piece-clause-grown c = leaves_grown _ _ _ _ _ c.pieces.invariant.out_is c.push_piece.ensures.grown
 
 pub returns-in_err-column-clause-grown : goal.returns-in_err-column-clause-grown
 returns-in_err-column-clause-grown c = leaves_grown _ _ _ _ _ c.pieces.invariant.out_is c.push_run.ensures.grown

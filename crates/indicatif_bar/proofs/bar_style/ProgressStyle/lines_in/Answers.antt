@@ -4,7 +4,8 @@ use Rattle.std.proofs.Math.ListN.{drop_of_length-le}
 use Rattle.indicatif_text.specs.Template.{part_of}
 use Rattle.indicatif_term.specs.Frames.{line_text}
 use Rattle.indicatif_bar.specs.BarStyles.{lines_with}
-use Rattle.indicatif_bar.specs.Inside.Steps.{effect_of, lines_from, wide_found}
+use Rattle.indicatif_bar.specs.Inside.Steps.{effect_of, wide_found}
+use Rattle.indicatif_bar.proofs.LinesLemmas.{lines_from}
 use Rattle.indicatif_bar.proofs.LinesLemmas.{lines_by_steps, deeds_are, ended}
 use Rattle.indicatif_bar.proofs.bar_style.ProgressStyle.lines_in.Goals as goal
 

@@ -4,7 +4,8 @@ use Rattle.std.specs.List.{list_all}
 use Rattle.indicatif_bar.specs.Bars.{is_bar_line}
 use Rattle.indicatif_text.specs.Template.{part_of}
 use Rattle.indicatif_term.specs.Frames.{line_text}
-use Rattle.indicatif_bar.specs.Inside.Steps.{effect_of, lines_from, wide_found}
+use Rattle.indicatif_bar.specs.Inside.Steps.{effect_of, wide_found}
+use Rattle.indicatif_bar.proofs.LinesLemmas.{lines_from}
 use Rattle.indicatif_bar.proofs.bar_style.ProgressStyle.lines_in.Given as goal
 
 abbrev pub invariant-loop-step : goal.invariant-loop-step

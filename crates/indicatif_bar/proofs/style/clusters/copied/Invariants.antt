@@ -1,6 +1,6 @@
 use Rattle.std.proofs.Common.{◌≡◌, map, take}
-use Rattle.indicatif_bar.specs.Inside.Cells.{texts_of}
+use Rattle.indicatif_bar.specs.Inside.Cells.{bytes_of_strings}
 use Rattle.indicatif_bar.proofs.style.clusters.copied.Given as goal
 
 abbrev pub invariant-texts : goal.invariant-texts
-invariant-texts l = texts_of l.all.items ≡ map (λ text. text.now) (take l.text-index l.texts)
+invariant-texts l = bytes_of_strings l.all.items ≡ map (λ text. text.now) (take l.text-index l.texts)

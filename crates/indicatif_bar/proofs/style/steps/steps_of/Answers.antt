@@ -8,5 +8,5 @@ pub parts-preserved : goal.parts-preserved
 parts-preserved g c =
     let parts = c.args.parts.now in
     step_more (effect_of (map part_of parts)) (effect_of_part (names_of c.args.keys.now) c.args.tab) parts c.parts.steps.items c.push.new.self.items c.parts.place
-    c.index-parts-place.result c.in_ok-step_of.field-0 c.parts.invariant c.in_ok-push.ensures.items c.parts-test.true c.index-parts-place.is
-    (c.in_ok-step_of.ensures.step (map part_of parts))
+    c.index-parts-place.result c.in_ok-step_of_part.field-0 c.parts.invariant c.in_ok-push.ensures.items c.parts-test.true c.index-parts-place.is
+    (c.in_ok-step_of_part.ensures.step (map part_of parts))

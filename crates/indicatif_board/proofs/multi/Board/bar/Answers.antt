@@ -3,7 +3,7 @@ use Rattle.indicatif_term.specs.Engines.{is_bottom}
 use Rattle.indicatif_board.specs.BoardValues.{id_of}
 use Rattle.indicatif_board.specs.Multi.{IsIn}
 use Rattle.indicatif_board.proofs.MemberLemmas.{said_of_place, members_length}
-use Rattle.indicatif_board.proofs.StandingLemmas.{record_stands}
+use Rattle.indicatif_board.proofs.BarRecordLemmas.{record_stands}
 use Rattle.indicatif_board.proofs.multi.Board.bar.Goals as goal
 
 pub returns : goal.returns

@@ -7,7 +7,7 @@ use Rattle.indicatif_board.specs.Boards.{BarLog, log_of, laid_out, layout_takes,
 use Rattle.indicatif_board.specs.Multi.{known}
 use Rattle.indicatif_board.proofs.BoardCallLemmas.{made_by_draw, made_turned_away, turned_quietly}
 use Rattle.indicatif_text.specs.declared.refusal.Refusal.TheVariants.{NotMember}
-use Rattle.indicatif_board.proofs.StandingLemmas.{not_of_draw, has_record}
+use Rattle.indicatif_board.proofs.BarRecordLemmas.{not_of_draw, has_record}
 use Rattle.indicatif_board.proofs.multi.Board.bar_println.Goals as goal
 
 pub returns-in_err-at-clause-leads : goal.returns-in_err-at-clause-leads

@@ -14,7 +14,7 @@ use Rattle.indicatif_board.specs.Members.{place_of, said_of}
 use Rattle.indicatif_board.specs.Multi.{IsIn, known, record_at}
 use Rattle.indicatif_board.proofs.MemberLemmas.{told_at, told_placed, same_at, said_of_place, members_length}
 use Rattle.indicatif_board.proofs.BoardCallLemmas.{made_by_draw, made_at_once, made_short, made_turned_away, turned_quietly, command_deed, late_deed, in_time_of}
-use Rattle.indicatif_board.proofs.StandingLemmas.{is_there, same_error, not_of_draw, record_stands, has_record, told_on, told_apart}
+use Rattle.indicatif_board.proofs.BarRecordLemmas.{is_there, same_error, not_of_draw, record_stands, has_record, told_on, told_apart}
 use Rattle.indicatif_board.proofs.multi.Board.command.Goals as goal
 
 pub returns-in_err-at-clause-leads : goal.returns-in_err-at-clause-leads

@@ -17,7 +17,7 @@ use Rattle.indicatif_board.proofs.MemberLemmas.{told_at, told_placed, same_at, s
 use Rattle.indicatif_board.proofs.BoardCallLemmas.{made_turned_away, turned_quietly}
 use Rattle.indicatif_board.proofs.DropLemmas.{made_by_drop, drop_short}
 use Rattle.indicatif_text.specs.declared.refusal.Refusal.TheVariants.{NotMember}
-use Rattle.indicatif_board.proofs.StandingLemmas.{not_of_draw, has_record, told_apart}
+use Rattle.indicatif_board.proofs.BarRecordLemmas.{not_of_draw, has_record, told_apart}
 use Rattle.indicatif_board.proofs.multi.Board.drop_bar.Goals as goal
 
 pub returns-in_err-at-clause-leads : goal.returns-in_err-at-clause-leads

@@ -7,7 +7,7 @@ use Rattle.indicatif_board.specs.Boards.{Before, Insert, or_refused, inserted, b
 use Rattle.indicatif_board.specs.Calls.{entrant_of, given}
 use Rattle.indicatif_board.specs.Multi.{IsIn, known}
 use Rattle.indicatif_board.proofs.BoardCallLemmas.{made_by_insertion, made_turned_away, turned_quietly}
-use Rattle.indicatif_board.proofs.StandingLemmas.{none_taken}
+use Rattle.indicatif_board.proofs.BarRecordLemmas.{none_taken}
 use Rattle.indicatif_board.proofs.multi.Board.insert_before.Goals as goal
 
 pub returns-clause-leads : goal.returns-clause-leads

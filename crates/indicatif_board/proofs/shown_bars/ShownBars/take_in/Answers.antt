@@ -6,7 +6,7 @@ use Rattle.indicatif_board.specs.ShownBars.{Holds}
 use Rattle.indicatif_board.specs.Slots.{SlotTable, occurrences}
 use Rattle.indicatif_board.specs.declared.members.Member.{Member as MemberValue}
 use Rattle.indicatif_board.proofs.MemberLemmas.{taken_holds, inserted_bars}
-use Rattle.indicatif_board.proofs.StandingLemmas.{evenly, record_none, taken_record, taken_others}
+use Rattle.indicatif_board.proofs.BarRecordLemmas.{evenly, record_none, taken_record, taken_others}
 use Rattle.indicatif_board.proofs.shown_bars.ShownBars.take_in.Goals as goal
 
 pub invariant_of-self-2-clause-seated : goal.invariant_of-self-2-clause-seated

@@ -4,7 +4,7 @@ use Rattle.indicatif_term.specs.declared.lines.Segment.{Segment}
 use Rattle.indicatif_board.specs.ShownBars.{Holds}
 use Rattle.indicatif_board.specs.Slots.{SlotTable}
 use Rattle.indicatif_board.proofs.MemberLemmas.{removed_with, removed_bars, said_of_place}
-use Rattle.indicatif_board.proofs.StandingLemmas.{evenly, owned, there_record, out_record, out_others}
+use Rattle.indicatif_board.proofs.BarRecordLemmas.{evenly, owned, there_record, out_record, out_others}
 use Rattle.indicatif_board.proofs.shown_bars.ShownBars.take_out.Goals as goal
 
 pub invariant_of-self-clause-seated : goal.invariant_of-self-clause-seated

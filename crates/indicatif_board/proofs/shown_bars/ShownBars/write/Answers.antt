@@ -16,7 +16,7 @@ use Rattle.indicatif_board.specs.ShownBars.{Holds}
 use Rattle.indicatif_board.specs.Inside.Writings.{writing_by}
 use Rattle.indicatif_board.proofs.MemberLemmas.{leaders_of, dropped_bars}
 use Rattle.indicatif_board.proofs.BoardDrawLemmas.{frame_drew, written_holds, kept_ready}
-use Rattle.indicatif_board.proofs.StandingLemmas.{evenly, left_record}
+use Rattle.indicatif_board.proofs.BarRecordLemmas.{evenly, left_record}
 use Rattle.indicatif_board.proofs.shown_bars.ShownBars.write.Goals as goal
 
 pub put-requires : goal.put-requires

@@ -1,7 +1,7 @@
 use Rattle.std.proofs.Common.{map, arith, false, [], ◌++◌, replicate, take}
 use Rattle.indicatif_term.specs.Lists.{drawn}
 use Rattle.indicatif_term.specs.Inside.Bytes.{paint_bytes}
-use Rattle.indicatif_term.specs.Inside.Fills.{fill_bytes}
+use Rattle.indicatif_term.proofs.LastLineLemmas.{fill_bytes}
 use Rattle.indicatif_term.specs.Inside.Plans.{frame_lines}
 use Rattle.indicatif_term.specs.Frames.{bar_lines}
 use Rattle.indicatif_term.specs.Engines.{engine_term, is_bottom}

@@ -1,7 +1,8 @@
 use Rattle.std.proofs.Common.{◌∙◌, ◌+◌, ◌%◌, ◌^◌, ap, sym, subst, ◌++◌}
 use Rattle.std.specs.Prelude.{string_bytes}
 use Rattle.indicatif_term.specs.Terminal.{Terminal}
-use Rattle.indicatif_term.specs.Memory.{MemoryTerm, ReadsBeginning}
+use Rattle.indicatif_term.specs.Memory.{MemoryTerm}
+use Rattle.indicatif_term.specs.Inside.Feeding.{ReadsBeginning}
 use Rattle.indicatif_term.proofs.MemoryLemmas.{leads_on, breaks_off}
 use Rattle.indicatif_term.proofs.in_memory.InMemoryTerm.play.Goals as goal
 

@@ -1,6 +1,6 @@
 use Rattle.std.proofs.Common.{◌∙◌, ◌++◌, ap, subst}
 use Rattle.indicatif_term.specs.Terminal.{Terminal, after}
-use Rattle.indicatif_term.specs.Memory.{ReadsBeginning}
+use Rattle.indicatif_term.specs.Inside.Feeding.{ReadsBeginning}
 use Rattle.indicatif_term.proofs.MemoryLemmas.{begins_none, begins_first, begins_second, read_both, at_err, under_err, under_ok}
 use Rattle.indicatif_term.proofs.in_memory.InMemoryTerm.try_play.Goals as goal
 

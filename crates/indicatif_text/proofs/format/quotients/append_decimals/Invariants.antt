@@ -1,7 +1,8 @@
 use Rattle.std.proofs.Common.{string_len, string_capacity, ◌≡◌, ◌+◌, ◌≤◌, ◌++◌}
 use Rattle.std.specs.String.{string_bytes}
 use Rattle.indicatif_text.specs.Format.{last_digits}
-use Rattle.indicatif_text.specs.Inside.Quotients.{below, division_rest}
+use Rattle.indicatif_text.specs.Inside.Quotients.{below}
+use Rattle.indicatif_text.proofs.QuotientLemmas.{division_rest}
 use Rattle.indicatif_text.proofs.format.quotients.append_decimals.Given as goal
 
 abbrev pub invariant-loop-place : goal.invariant-loop-place

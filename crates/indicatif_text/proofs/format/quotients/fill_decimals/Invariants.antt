@@ -1,6 +1,7 @@
 use Rattle.std.proofs.Common.{◌≡◌, take}
 use Rattle.indicatif_text.specs.Format.{last_digits}
-use Rattle.indicatif_text.specs.Inside.Quotients.{below, division_rest}
+use Rattle.indicatif_text.specs.Inside.Quotients.{below}
+use Rattle.indicatif_text.proofs.QuotientLemmas.{division_rest}
 use Rattle.indicatif_text.proofs.format.quotients.fill_decimals.Given as goal
 
 abbrev pub invariant-loop-digit : goal.invariant-loop-digit

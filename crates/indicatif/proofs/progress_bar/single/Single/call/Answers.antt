@@ -1,6 +1,6 @@
 use Rattle.std.proofs.Common.{subst}
 use Rattle.indicatif_bar.specs.LoneBars.{lone_call_of}
-use Rattle.indicatif.specs.Fronts.{MadeBy}
+use Rattle.indicatif.specs.Inside.Single.{MadeBy}
 use Rattle.indicatif.proofs.progress_bar.single.Single.call.Goals as goal
 
 pub returns : goal.returns

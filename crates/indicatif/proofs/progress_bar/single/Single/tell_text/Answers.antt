@@ -1,5 +1,5 @@
 use Rattle.std.proofs.Common.{subst}
-use Rattle.indicatif.specs.Fronts.{MadeBy}
+use Rattle.indicatif.specs.Inside.Single.{MadeBy}
 use Rattle.indicatif.specs.Inside.Worded.{worded}
 use Rattle.indicatif.proofs.progress_bar.single.Single.tell_text.Goals as goal
 

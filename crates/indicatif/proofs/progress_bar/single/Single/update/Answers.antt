@@ -4,7 +4,7 @@ use Rattle.indicatif_bar.specs.Commands.{Update}
 use Rattle.indicatif_bar.specs.Lone.{Change}
 use Rattle.indicatif_bar.specs.LoneBars.{record_of}
 use Rattle.indicatif_bar.specs.declared.command.Change.{Change as Changed}
-use Rattle.indicatif.specs.Fronts.{MadeBy}
+use Rattle.indicatif.specs.Inside.Single.{MadeBy}
 use Rattle.indicatif.proofs.progress_bar.single.Single.update.Goals as goal
 
 pub returns : goal.returns

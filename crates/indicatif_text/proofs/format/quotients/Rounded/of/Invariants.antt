@@ -1,6 +1,7 @@
 use Rattle.std.proofs.Common.{◌≡◌, ◌%◌}
 use Rattle.std.specs.Prelude.{◌==◌}
-use Rattle.indicatif_text.specs.Inside.Quotients.{below, division_rest}
+use Rattle.indicatif_text.specs.Inside.Quotients.{below}
+use Rattle.indicatif_text.proofs.QuotientLemmas.{division_rest}
 use Rattle.indicatif_text.proofs.QuotientLemmas.{EndsAt}
 use Rattle.indicatif_text.proofs.format.quotients.Rounded.of.Given as goal
 

@@ -4,7 +4,7 @@ use Rattle.indicatif_text.specs.Inside.Quotients.{raised, below}
 use Rattle.indicatif_text.proofs.CountLemmas.{length-count}
 use Rattle.indicatif_text.proofs.QuotientLemmas.{length-last_digits, length-with_point}
 use Rattle.indicatif_text.proofs.StyleLemmas.{at_err}
-use Rattle.indicatif_text.proofs.format.quotients.push_text.Goals as goal
+use Rattle.indicatif_text.proofs.format.quotients.push_quotient.Goals as goal
 
 pub prepend_wide_count-requires : goal.prepend_wide_count-requires
 prepend_wide_count-requires c =

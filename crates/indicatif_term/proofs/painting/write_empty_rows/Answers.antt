@@ -2,7 +2,7 @@ use Rattle.std.proofs.Common.{arith, ◌++◌, ◌-◌}
 use Rattle.indicatif_term.specs.Calls.{move_bytes, clear_bytes}
 use Rattle.indicatif_term.specs.Inside.Bytes.{rows_down}
 use Rattle.indicatif_term.proofs.CallTurnLemmas.{writes_then, writes_fail, reaches_then, breaks_then, breaks_early, back_some}
-use Rattle.indicatif_term.proofs.painting.empty_rows.Goals as goal
+use Rattle.indicatif_term.proofs.painting.write_empty_rows.Goals as goal
 
 pub returns-in_err-go_up : goal.returns-in_err-go_up
 returns-in_err-go_up g c =

@@ -5,7 +5,7 @@ use Rattle.indicatif_text.specs.Template.{part_of}
 use Rattle.indicatif_bar.specs.Tabs.{expanded, has_tab}
 use Rattle.indicatif_bar.specs.Inside.Steps.{WritesText, PutsSource, literal_text, placeholder_layout, source_of, names_of, effect_of_part}
 use Rattle.indicatif_bar.proofs.TabLemmas.{others_stay}
-use Rattle.indicatif_bar.proofs.style.steps.step_of.Goals as goal
+use Rattle.indicatif_bar.proofs.style.steps.step_of_part.Goals as goal
 
 pub returns-in_ok-push_expanded-in-Literal-clause-step : goal.returns-in_ok-push_expanded-in-Literal-clause-step
 unfolding part_of

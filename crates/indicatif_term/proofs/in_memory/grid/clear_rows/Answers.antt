@@ -1,6 +1,6 @@
 use Rattle.std.proofs.Common.{◌<◌, length, arith}
 use Rattle.indicatif_term.proofs.WholeScreenLemmas.{emptied_more}
-use Rattle.indicatif_term.proofs.in_memory.grid.empty_rows.Goals as goal
+use Rattle.indicatif_term.proofs.in_memory.grid.clear_rows.Goals as goal
 
 pub loop-row-preserved : goal.loop-row-preserved
 loop-row-preserved c =

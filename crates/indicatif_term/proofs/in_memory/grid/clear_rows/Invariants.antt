@@ -1,6 +1,6 @@
 use Rattle.std.proofs.Common.{◌≡◌, ℕ, ◌<◌, [], length, take, replicate, get_or}
 use Rattle.indicatif_text.specs.Columns.{blank_row}
-use Rattle.indicatif_term.proofs.in_memory.grid.empty_rows.Given as goal
+use Rattle.indicatif_term.proofs.in_memory.grid.clear_rows.Given as goal
 
 abbrev pub invariant-loop-row : goal.invariant-loop-row
 invariant-loop-row l = record {
