@@ -12,8 +12,15 @@ use Rattle.indicatif_board.proofs.multi.Board.find.Goals as goal
 
 pub index-requires : goal.index-requires
 index-requires g c =
-    omega (arith, prefix_len-le-length (λ s. not (s.bar == c.args.id.number)) c.deref.result.now, c.place_of_bar-at.ensures, c.deref.ensures.len,
-      c.len.ensures, c.if-at-len.false, c.args.self.now.shown.even)
+    omega (
+      arith,
+      prefix_len-le-length (λ s. not (s.bar == c.args.id.number)) c.deref.result.now,
+      c.place_of_bar-at.ensures,
+      c.deref.ensures.len,
+      c.len.ensures,
+      c.if-at-len.false,
+      c.args.self.now.shown.even,
+    )
 
 pub returns-then-id-self-clause-found : goal.returns-then-id-self-clause-found
 unfolding IsIn
@@ -73,16 +80,31 @@ returns-clause-found g c = λ mark s inside.
 
 pub returns-clause-within : goal.returns-clause-within
 returns-clause-within g c =
-    omega (arith, prefix_len-le-length (λ s. not (s.bar == c.args.id.number)) c.deref.result.now, c.place_of_bar-at.ensures, c.deref.ensures.len,
-      c.len.ensures, c.if-at-len.false, c.args.self.now.shown.even)
+    omega (
+      arith,
+      prefix_len-le-length (λ s. not (s.bar == c.args.id.number)) c.deref.result.now,
+      c.place_of_bar-at.ensures,
+      c.deref.ensures.len,
+      c.len.ensures,
+      c.if-at-len.false,
+      c.args.self.now.shown.even,
+    )
 
 pub returns-clause-own : goal.returns-clause-own
 returns-clause-own g c =
     let b = c.args.self.now.shown in
     let here = c.place_of_bar-at.ensures ∙ ap (position_or_len (λ x. x.bar == c.args.id.number)) c.deref.ensures.value ∙ seat_is b.frame.items b.table.order c.args.id.number b.seated in
     let within : c.place_of_bar-at.result < length b.members.items =
-    omega (arith, prefix_len-le-length (λ s. not (s.bar == c.args.id.number)) c.deref.result.now, c.place_of_bar-at.ensures, c.deref.ensures.len,
-      c.len.ensures, c.if-at-len.false, b.even, b.members.ok) in
+    omega (
+      arith,
+      prefix_len-le-length (λ s. not (s.bar == c.args.id.number)) c.deref.result.now,
+      c.place_of_bar-at.ensures,
+      c.deref.ensures.len,
+      c.len.ensures,
+      c.if-at-len.false,
+      b.even,
+      b.members.ok,
+    ) in
     stands b c.args.id.number c.place_of_bar-at.result c.index.result.now here within c.index.ensures c.if-index.false
 
 pub returns-then-index-clause-absent : goal.returns-then-index-clause-absent
@@ -90,8 +112,16 @@ returns-then-index-clause-absent g c = λ own.
     let b = c.args.self.now.shown in
     let here = c.place_of_bar-at.ensures ∙ ap (position_or_len (λ x. x.bar == c.args.id.number)) c.deref.ensures.value ∙ seat_is b.frame.items b.table.order c.args.id.number b.seated in
     let within : c.place_of_bar-at.result < length b.members.items =
-    omega (arith, prefix_len-le-length (λ s. not (s.bar == c.args.id.number)) c.deref.result.now, c.place_of_bar-at.ensures, c.deref.ensures.len,
-      c.len.ensures, c.if-at-len.false, b.even, b.members.ok) in
+    omega (
+      arith,
+      prefix_len-le-length (λ s. not (s.bar == c.args.id.number)) c.deref.result.now,
+      c.place_of_bar-at.ensures,
+      c.deref.ensures.len,
+      c.len.ensures,
+      c.if-at-len.false,
+      b.even,
+      b.members.ok,
+    ) in
     (refl, dropped_on b c.args.id.number c.place_of_bar-at.result c.index.result.now here within c.index.ensures c.if-index.true)
 
 pub returns-then-at-len-clause-absent : goal.returns-then-at-len-clause-absent

@@ -16,7 +16,7 @@ returns-then-at-len-clause-marked g c = λ s holds.
     let size = frame_length b.frame.items s.members holds.frame_is in
     let within : c.place_of_bar-at.result < length s.members = omega (arith, size, c.len.ensures, c.if-at-len.true, b.even, b.members.ok, b.frame.ok) in
     marked_there b.frame.items b.members.items b.table.made (is_bottom b.alignment) b.limiter s c.args.number
-      c.place_of_bar-at.result holds here c.index_mut.result.now within c.index_mut.ensures.value
+    c.place_of_bar-at.result holds here c.index_mut.result.now within c.index_mut.ensures.value
 
 pub returns-else-at-len-clause-marked : goal.returns-else-at-len-clause-marked
 returns-else-at-len-clause-marked g c = λ s holds.
