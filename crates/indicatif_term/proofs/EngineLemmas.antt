@@ -13,7 +13,7 @@ use Rattle.indicatif_term.proofs.AnewLemmas.{anew_stays}
 use Rattle.indicatif_term.specs.Terminal.{Terminal, GREATEST, after}
 use Rattle.indicatif_term.specs.Calls.{TermView, Writes, anew_bytes}
 use Rattle.indicatif_term.specs.Shows.{Shows, Rests, RowsStay}
-use Rattle.indicatif_term.specs.Lists.{Lists, forgotten_lists, Live, live_of_frame, live_height, live_rows, lines_of, fitting, shown_rows, drawn, cleared, logged, blanks_for, segments_height}
+use Rattle.indicatif_term.specs.Lists.{Lists, forgotten_lists, lists_height, Live, live_of_frame, live_height, live_rows, lines_of, fitting, shown_rows, drawn, cleared, logged, blanks_for, segments_height}
 use Rattle.indicatif_term.specs.Inside.Bytes.{paint_bytes}
 use Rattle.indicatif_term.specs.Frames.{is_fault, bar_lines, all_lines, are_plain, some_wide, text_lines, line_text}
 use Rattle.indicatif_term.specs.Inside.Plans.{frame_lines, IsPlan, text_height}
@@ -35,7 +35,7 @@ use Rattle.indicatif_term.proofs.CallTurnLemmas.{led_on-nil}
 use Rattle.indicatif_term.proofs.CountLemmas.{length-live, live_of, same_blanks_log}
 use Rattle.indicatif_term.proofs.LastLineLemmas.{fill_bytes}
 use Rattle.indicatif_term.proofs.FilledLineLemmas.{refilled, refills, filled_paint}
-use Rattle.indicatif_term.proofs.DrawingLemmas.{lines_none, goes_filled, drawn_goes, cleared_goes, logged_goes, log_live, onward_shows, onward_keeps}
+use Rattle.indicatif_term.proofs.DrawingLemmas.{Replaces, lines_none, goes_filled, drawn_goes, cleared_goes, logged_goes, log_live, onward_shows, onward_keeps}
 
 -- nothing was written
 rests_same : (w h : ℕ) (opening : Screen) (l : Lists) (t : Terminal) → Rests w h opening l t → Rests w h opening l (after t [])
@@ -212,6 +212,20 @@ frame_drawable w blanks count frame p n =
     all_append (IsDrawable w) (replicate blanks []) (take count (frame_lines frame)) (blanks_drawable w blanks)
     (all_take (IsDrawable w) count (frame_lines frame) (lines_drawable w (frame_lines frame) (frame_utf8 frame) (rw (frame_chars frame) p) (rw (frame_chars frame) n)))
 
+-- lines written in the place of rows lead each terminal that shows the lists l to one that shows l', if l' is l with these lines there
+redraws_by : (w h : ℕ) (l l' : Lists) (c : Counts) (more gone : List (List Cell)) (lines : List (List ℕ)) → 0 < w → CountsOf c l → length gone ≤ c.kept + c.live → AreDrawable w lines →
+    (lists_height l ≤ l.reach → l.reach ≤ length l.above + h → Replaces w h l l' more gone lines) →
+    Redraws w h l l' (paint_bytes false l.below (length gone) lines l'.below ++ fill_bytes l'.below w lines)
+redraws_by w h l l' c more gone lines p o less d goes =
+    let r = refills l'.below w lines p d in
+    let filled = refilled l'.below w lines in
+    let few : length gone ≤ GREATEST = let f : c.kept + c.live ≤ c.reached = c.fits in let k : c.reached ≤ 65535 = c.small in omega (arith, less) in
+    let replaces = λ (opening : Screen) (t : Terminal) (x : Shows w h opening l t). goes_filled w h l l' more gone lines filled r.looks r.count (goes x.reached x.movable) in
+    rw (filled_paint w l.below l'.below (length gone) lines) (record {
+      shows = λ opening t x. onward_shows w h opening l l' more gone filled t x (replaces opening t x) p r.drawable r.full few;
+      keeps = λ opening t x. onward_keeps w h opening l l' more gone filled t x (replaces opening t x) p r.drawable r.full few;
+    })
+
 -- a draw
 pub draw_paints : (w h : ℕ) (l : Lists) (c next : Counts) (pass blanks : ℕ) (bottom : Bool) (frame : List Segment) (plan : Plan) →
     let l' = drawn w h bottom pass (map bar_lines frame) l in
@@ -228,15 +242,9 @@ draw_paints w h l c next pass blanks bottom frame plan p1 p2 p3 o q o' b =
     let rows : lines_rows w lines ≡ live_rows w (live_of_frame w h bottom (live_height l.live) 0 (map bar_lines frame)) = frame_rows w h frame blanks
     ∙ ap (λ n. live_rows w (record { blanks = n; segments = shown_rows w h (map bar_lines frame) })) (b ∙ same) in
     let count : c.live ≡ length gone = live_of c l o ∙ sym (length-live w l.live) in
-    let few : length gone ≤ GREATEST = let f : c.kept + c.live ≤ c.reached = c.fits in let k : c.reached ≤ 65535 = c.small in omega (arith, count) in
-    let goes = λ (opening : Screen) (t : Terminal) (x : Shows w h opening l t). drawn_goes w h pass bottom (map bar_lines frame) l lines x.reached x.movable rows in
     let d = frame_drawable w blanks (length (fitting h (lines_of w (map bar_lines frame)))) frame p2 p3 in
-    let r = refills l'.below w lines p1 d in
-    let filled = refilled l'.below w lines in
-    rw (o.below_is, count, q.lines_are, o'.below_is, filled_paint w l.below l'.below (length gone) lines) (record {
-      shows = λ opening t x. onward_shows w h opening l l' l.kept gone filled t x (goes_filled w h l l' l.kept gone lines filled r.looks r.count (goes opening t x)) p1 r.drawable r.full few;
-      keeps = λ opening t x. onward_keeps w h opening l l' l.kept gone filled t x (goes_filled w h l l' l.kept gone lines filled r.looks r.count (goes opening t x)) p1 r.drawable r.full few;
-    })
+    rw (o.below_is, count, q.lines_are, o'.below_is) (redraws_by w h l l' c l.kept gone lines p1 o (omega (arith, count)) d
+    (λ a b. drawn_goes w h pass bottom (map bar_lines frame) l lines a b rows))
 
 sum_same : (c : Counts) (l : Lists) → CountsOf c l → length l.kept + live_height l.live ≡ c.kept + c.live
 sum_same c l o = let v : c.live ≡ live_height l.live = live_of c l o in let k : c.kept ≡ length l.kept = o.kept_is in omega arith
@@ -302,13 +310,6 @@ log_paints w h l c next rows blanks bottom text frame plan p1 u p2 p3 p4 o q o' 
     log_rows w h frame blanks text ∙ ap (λ n. flat_map (rows_of w) (text_lines text) ++ live_rows w (record { blanks = n; segments = shown_rows w h (map bar_lines frame) })) same in
     let z = λ (k : length lines ≡ 0). ap (λ n. n + segments_height (shown_rows w h (map bar_lines frame))) (sym same) ∙ log_none w h blanks text frame k in
     let count : c.kept + c.live ≡ length gone = sym (length-append l.kept (live_rows w l.live) ∙ ap (λ n. length l.kept + n) (length-live w l.live) ∙ sum_same c l o) in
-    let few : length gone ≤ GREATEST = let f : c.kept + c.live ≤ c.reached = c.fits in let k : c.reached ≤ 65535 = c.small in omega (arith, count) in
     let d = log_drawable w blanks (length (fitting h (lines_of w (map bar_lines frame)))) text frame u p2 p3 p4 in
-    let r = refills l'.below w lines p1 d in
-    let filled = refilled l'.below w lines in
-    rw (o.below_is, count, q.lines_are, o'.below_is, filled_paint w l.below l'.below (length gone) lines) (record {
-      shows = λ opening t x. onward_shows w h opening l l' [] gone filled t x
-          (goes_filled w h l l' [] gone lines filled r.looks r.count (logged_goes w h bottom (text_lines text) (map bar_lines frame) l lines x.reached x.movable e z)) p1 r.drawable r.full few;
-      keeps = λ opening t x. onward_keeps w h opening l l' [] gone filled t x
-          (goes_filled w h l l' [] gone lines filled r.looks r.count (logged_goes w h bottom (text_lines text) (map bar_lines frame) l lines x.reached x.movable e z)) p1 r.drawable r.full few;
-    })
+    rw (o.below_is, count, q.lines_are, o'.below_is) (redraws_by w h l l' c [] gone lines p1 o (omega (arith, count)) d
+    (λ a b. logged_goes w h bottom (text_lines text) (map bar_lines frame) l lines a b e z))
