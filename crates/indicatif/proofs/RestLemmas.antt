@@ -1,5 +1,4 @@
--- Where a borrow ends with what is known of the lender, it ends with less that is known of it; so a method whose third clause says
--- more of its lender than its trait's meets the trait's.
+-- A borrow that ends with what is known of its lender ends with less that is known of it, so that a method may say more than its trait.
 use Rattle.std.specs.Prelude.{⊤}
 use base.Logic.{SProp, ent, sep, emp, all, wand, ex_i, ex_e, all_i, wand_i, via, mono_r, emp∗, snd∗}
 use base.Fml.{GName}

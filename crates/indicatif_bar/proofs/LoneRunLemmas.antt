@@ -1,5 +1,4 @@
--- A lone bar's rows are forgotten only where the terminal failed, so that after a run that it didn't break off they are read; and
--- what becomes of its record in a run.
+-- Runs of a lone bar: its rows are forgotten only where the terminal failed, so else they are read; and what becomes of its record.
 use Rattle.std.proofs.Common.{◌≡◌, ℕ, Bool, true, false, List, [], ◌∷◌, ◌++◌, refl, sym, ◌∙◌, ap, subst, Result, Err, Option, Some, None, inl, inr}
 use Rattle.std.specs.Prelude.{◌≢◌, ◌||◌, IsFalse}
 use Rattle.std.specs.List.{AllByRecursion, list_any}
