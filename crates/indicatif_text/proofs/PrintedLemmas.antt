@@ -4,8 +4,7 @@ use Rattle.std.specs.Prelude.{◌==◌, ◌&&◌, nat_le, nat_lt, max, is_some, 
 use Rattle.std.specs.Int.{IsInRange, is_in_range}
 use Rattle.std.specs.List.{list_all, AllByRecursion}
 use Rattle.std.specs.Str.{chars}
-use Rattle.std.proofs.lemmas.Bool.{cond_both}
-use Rattle.std.proofs.lemmas.Bool.Decides.{nat_tests}
+use Rattle.std.proofs.lemmas.Bool.{cond_both, and_parts, leb-true}
 use Rattle.std.proofs.lemmas.List.Elements.{All-from_recursion, recursion_from_All, All-take, All-drop}
 use Rattle.std.proofs.lemmas.Str.{IsUtf8-from_ascii, chars-IsAscii}
 use Rattle.std.proofs.lemmas.Str.Ascii.{IsAscii-from_all}
@@ -25,20 +24,13 @@ both : (xs ys : List ℕ) → Printed xs → Printed ys → Printed (xs ++ ys)
 both [] ys x y = y
 both (c ∷ xs) ys x y = (x.0, both xs ys x.1 y)
 
-both_true : (a b : Bool) → (a && b) ≡ true → (a ≡ true) × (b ≡ true)
-both_true true b e = (refl, e)
-both_true false b e = absurd (cc e)
-
-is_le : (n m : ℕ) → nat_le n m ≡ true → n ≤ m
-is_le n m h = grind (arith, nat_tests)
-
 -- a text that is known
 written : (text : List ℕ) → list_all (is_in_range 0x20 0x7E) text ≡ true → Printed text
 written [] e = tt
 written (c ∷ cs) e =
-    let parts = both_true (is_in_range 0x20 0x7E c) (list_all (is_in_range 0x20 0x7E) cs) e in
-    let range = both_true (nat_le 0x20 c) (nat_le c 0x7E) parts.0 in
-    ((is_le 0x20 c range.0, is_le c 0x7E range.1), written cs parts.1)
+    let parts = and_parts (is_in_range 0x20 0x7E c) (list_all (is_in_range 0x20 0x7E) cs) e in
+    let range = and_parts (nat_le 0x20 c) (nat_le c 0x7E) parts.0 in
+    ((leb-true 0x20 c range.0, leb-true c 0x7E range.1), written cs parts.1)
 
 taken : (n : ℕ) (xs : List ℕ) → Printed xs → Printed (take n xs)
 taken n xs p = recursion_from_All (IsInRange 0x20 0x7E) (take n xs) (All-take (IsInRange 0x20 0x7E) n xs (All-from_recursion (IsInRange 0x20 0x7E) xs p))

@@ -3,7 +3,7 @@ use Rattle.std.proofs.Common.{◌≡◌, ℕ, zero, suc, ◌+◌, ◌-◌, ◌�
 use Rattle.std.specs.Prelude.{◌==◌, ◌&&◌, nat_le, nat_lt, flat_map, is_some, sum_by}
 use Rattle.std.specs.List.{list_all, AllByRecursion}
 use Rattle.std.proofs.Math.Seq.{drop-append_seam, take-append_seam}
-use Rattle.std.proofs.lemmas.Bool.{cases_Bool, cond_both, eqb-true}
+use Rattle.std.proofs.lemmas.Bool.{cases_Bool, cond_both, eqb-true, leb-true, and_parts}
 use Rattle.std.proofs.lemmas.Bool.Decides.{nat_tests}
 use Rattle.std.proofs.lemmas.List.Sums.{sum_by-cons, sum_by-append}
 use Rattle.std.proofs.lemmas.List.Folds.{list_all-append}
@@ -16,7 +16,7 @@ use Rattle.indicatif_text.specs.RangeLaws.{sequence_in, sequences_of, RangesFit,
 use Rattle.indicatif_text.proofs.ColourSequenceLemmas.{hidden, visible_none}
 use Rattle.indicatif_text.proofs.PieceLemmas.{first_colour, first_joined, none_left}
 use Rattle.indicatif_text.proofs.PieceLawLemmas.{Sequence, Opened, sequence_is, sequence_from, sequence_before, sequence_length, none_before, none_of_empty, visible_past, all_exact, pieces_join, runs_are_longest, runs_are_visible}
-use Rattle.indicatif_text.proofs.SeamLemmas.{is_apart, sequence_joins, visible_apart, sequences_apart}
+use Rattle.indicatif_text.proofs.SeamLemmas.{all_pass, is_apart, sequence_joins, visible_apart, sequences_apart}
 
 -- ---- what stands within of a run is a part of it without a gap, so that no colour sequence arises
 
@@ -47,13 +47,6 @@ begun_at start column h = grind (arith, nat_tests)
 
 ends_past : (column end : ℕ) → nat_le column end ≡ false → end < column
 ends_past column end h = grind (arith, nat_tests)
-
-is_le : (n m : ℕ) → nat_le n m ≡ true → n ≤ m
-is_le n m h = grind (arith, nat_tests)
-
-first_true : (a b : Bool) → (a && b) ≡ true → a ≡ true
-first_true true b e = refl
-first_true false b e = absurd (cc e)
 
 -- nothing stands behind the end
 none_behind : (start end column : ℕ) (cs : List ℕ) → end < column → standing_within start end column cs ≡ []
@@ -91,7 +84,7 @@ standing_unmarked start end column (c ∷ cs) u =
       | inl begun ↦ elim (cases_Bool (nat_le (column + width_of c) end)) [
         | inr over ↦ subst Unmarked (sym (skipped_by (nat_le start column) (nat_le (column + width_of c) end) c rest over)) own
         | inl fits ↦
-            let b = standing_begins start end (column + width_of c) cs (let h = is_le start column begun in omega (arith, h)) in
+            let b = standing_begins start end (column + width_of c) cs (let h = leb-true start column begun in omega (arith, h)) in
             subst Unmarked (sym (one_by (nat_le start column) (nat_le (column + width_of c) end) c rest begun fits)) (front_unmarked c rest cs b u own)
       ]
     ]
@@ -132,7 +125,7 @@ escape_apart : (c : ℕ) (cs : List ℕ) → c ≡ 0x1B → is_apart (c ∷ cs) 
 escape_apart c cs e = ap (λ d. is_apart (d ∷ cs)) e
 
 opened_apart : {cs : List ℕ} {n : ℕ} (rest : List ℕ) → Sequence cs n → is_apart (cs ++ rest) ≡ true
-opened_apart rest (Opened c d n cs opened parameters) = escape_apart c (d ∷ cs ++ rest) (eqb-true c 0x1B (first_true (c == 0x1B) (d == 0x5B) opened))
+opened_apart rest (Opened c d n cs opened parameters) = escape_apart c (d ∷ cs ++ rest) (eqb-true c 0x1B (and_parts (c == 0x1B) (d == 0x5B) opened).0)
 
 -- what is left of pieces that no run begins
 rest_apart : (start end column : ℕ) (text : List ℕ) (ps : List TextPiece) → AllByRecursion IsExact ps → NoRunsAdjoin (Run text ∷ ps) → is_apart (pieces_within start end column ps) ≡ true
@@ -205,8 +198,8 @@ standing_fits start end column n (c ∷ cs) f =
         | inr over ↦ subst (λ x. Fits start end column (sum_by width_of x + n)) (sym (skipped_by (nat_le start column) (nat_le (column + w) end) c rest over))
             (less_columns start end column w (sum_by width_of rest + n) own)
         | inl fits ↦
-            let from : start ≤ column = is_le start column begun in
-            let to : column + w ≤ end = is_le (column + w) end fits in
+            let from : start ≤ column = leb-true start column begun in
+            let to : column + w ≤ end = leb-true (column + w) end fits in
             let all : w + (sum_by width_of rest + n) ≡ sum_by width_of (c ∷ rest) + n = omega (arith, sum_by-cons width_of c rest) in
             subst (λ x. Fits start end column (sum_by width_of x + n)) (sym (one_by (nat_le start column) (nat_le (column + w) end) c rest begun fits))
             (subst (Fits start end column) all (more_columns start end column w (sum_by width_of rest + n) from to own))
@@ -234,18 +227,11 @@ ranges_fit text start end =
 
 -- ---- characters
 
-both_true : (a b : Bool) → (a && b) ≡ true → (a ≡ true) × (b ≡ true)
-both_true true b e = (refl, e)
-both_true false b e = absurd (cc e)
-
-all_both : (p : ℕ → Bool) (xs ys : List ℕ) → list_all p xs ≡ true → list_all p ys ≡ true → list_all p (xs ++ ys) ≡ true
-all_both p xs ys e f = list_all-append p xs ys ∙ rw (e, f) refl
-
 standing_all_such : (p : ℕ → Bool) (start end column : ℕ) (cs : List ℕ) → list_all p cs ≡ true → list_all p (standing_within start end column cs) ≡ true
 standing_all_such p start end column [] e = refl
 standing_all_such p start end column (c ∷ cs) e =
-    let parts = both_true (p c) (list_all p cs) e in
-    all_both p (if nat_le start column && nat_le (column + width_of c) end then c ∷ [] else []) (standing_within start end (column + width_of c) cs)
+    let parts = and_parts (p c) (list_all p cs) e in
+    all_pass p (if nat_le start column && nat_le (column + width_of c) end then c ∷ [] else []) (standing_within start end (column + width_of c) cs)
     (cond_both (nat_le start column && nat_le (column + width_of c) end) (c ∷ []) [] (λ x. list_all p x ≡ true) (λ _. rw parts.0 refl) (λ _. refl))
     (standing_all_such p start end (column + width_of c) cs parts.1)
 
@@ -256,12 +242,12 @@ run_all_such p start end column cs e =
 pieces_all_such : (p : ℕ → Bool) (start end column : ℕ) (ps : List TextPiece) → list_all p (flat_map piece_text ps) ≡ true → list_all p (pieces_within start end column ps) ≡ true
 pieces_all_such p start end column [] e = refl
 pieces_all_such p start end column (Colour sequence ∷ ps) e =
-    let parts = both_true (list_all p sequence) (list_all p (flat_map piece_text ps)) (sym (list_all-append p sequence (flat_map piece_text ps)) ∙ e) in
-    all_both p sequence (pieces_within start end column ps) parts.0 (pieces_all_such p start end column ps parts.1)
+    let parts = and_parts (list_all p sequence) (list_all p (flat_map piece_text ps)) (sym (list_all-append p sequence (flat_map piece_text ps)) ∙ e) in
+    all_pass p sequence (pieces_within start end column ps) parts.0 (pieces_all_such p start end column ps parts.1)
 pieces_all_such p start end column (Run text ∷ ps) e =
     let after = column + sum_by width_of text in
-    let parts = both_true (list_all p text) (list_all p (flat_map piece_text ps)) (sym (list_all-append p text (flat_map piece_text ps)) ∙ e) in
-    all_both p (run_within start end column text) (pieces_within start end after ps) (run_all_such p start end column text parts.0) (pieces_all_such p start end after ps parts.1)
+    let parts = and_parts (list_all p text) (list_all p (flat_map piece_text ps)) (sym (list_all-append p text (flat_map piece_text ps)) ∙ e) in
+    all_pass p (run_within start end column text) (pieces_within start end after ps) (run_all_such p start end column text parts.0) (pieces_all_such p start end after ps parts.1)
 
 pub no_character_is_added : NoCharacterIsAdded
 unfolding ansi_range
@@ -272,8 +258,8 @@ kept_all_such p start end column [] e = refl
 kept_all_such p start end column (Colour sequence ∷ ps) e = kept_all_such p start end column ps e
 kept_all_such p start end column (Run text ∷ ps) e =
     let after = column + sum_by width_of text in
-    let parts = both_true (list_all p text) (list_all p (flat_map run_text ps)) (sym (list_all-append p text (flat_map run_text ps)) ∙ e) in
-    all_both p (run_within start end column text) (kept_within start end after ps) (run_all_such p start end column text parts.0) (kept_all_such p start end after ps parts.1)
+    let parts = and_parts (list_all p text) (list_all p (flat_map run_text ps)) (sym (list_all-append p text (flat_map run_text ps)) ∙ e) in
+    all_pass p (run_within start end column text) (kept_within start end after ps) (run_all_such p start end column text parts.0) (kept_all_such p start end after ps parts.1)
 
 pub ranges_stay_plain : RangesStayPlain
 unfolding ansi_range is_plain

@@ -10,7 +10,7 @@ use Rattle.std.proofs.lemmas.Str.{IsUtf8-from_ascii, IsUtf8-append, chars-append
 use Rattle.std.proofs.lemmas.Str.Ascii.{IsAscii-from_all}
 use Rattle.std.proofs.lemmas.List.Folds.{list_all-append}
 use Rattle.std.proofs.Math.Seq.{drop-append_seam}
-use Rattle.std.proofs.lemmas.Bool.{cases_Bool, cond_both, ne_eqb, le-leb, lt-ltb, eqb-true}
+use Rattle.std.proofs.lemmas.Bool.{cases_Bool, cond_both, ne_eqb, le-leb, lt-ltb, eqb-true, and_parts, and_from}
 use Rattle.std.proofs.lemmas.Bool.Decides.{nat_tests}
 use Rattle.std.proofs.lemmas.List.{take-append-le, drop-append-le, length-map}
 use Rattle.std.proofs.lemmas.List.Sums.{sum_by-cons}
@@ -140,14 +140,14 @@ no_sequence : (c : ℕ) (cs : List ℕ) → (c == 0x1B) ≡ false → colour_len
 no_sequence c [] e = refl
 no_sequence c (d ∷ cs) e = rw e refl
 
-both_true : (a b : Bool) → (a && b) ≡ true → (a ≡ true) × (b ≡ true)
-both_true true b e = (refl, e)
-both_true false b e = absurd (cc e)
+-- what holds of the characters of two texts holds of those of both
+pub all_pass : (p : ℕ → Bool) (xs ys : List ℕ) → list_all p xs ≡ true → list_all p ys ≡ true → list_all p (xs ++ ys) ≡ true
+all_pass p xs ys a b = list_all-append p xs ys ∙ and_from (list_all p xs) (list_all p ys) a b
 
 plain_joins : (after : List ℕ) (c : ℕ) (cs : List ℕ) (ps : List TextPiece) → (list_all has_width (flat_map run_text ps) ≡ true → JoinsPieces run_text after cs ps)
     → list_all has_width (flat_map run_text (joined_to c ps)) ≡ true → JoinsPieces run_text after (c ∷ cs) (joined_to c ps)
 plain_joins after c cs ps rest e =
-    let all = both_true (has_width c) (list_all has_width (flat_map run_text ps)) (ap (list_all has_width) (sym (run_joins c ps)) ∙ e) in
+    let all = and_parts (has_width c) (list_all has_width (flat_map run_text ps)) (ap (list_all has_width) (sym (run_joins c ps)) ∙ e) in
     joins_character run_text (λ c. c ∷ []) run_joins after c cs ps (no_sequence c (cs ++ after) (no_escape c all.0)) (rest all.1)
 
 joins_plain : (text after : List ℕ) → list_all has_width (flat_map run_text (pieces_of_text text)) ≡ true → JoinsPieces run_text after text (pieces_of_text text)
@@ -224,22 +224,19 @@ digits_low : (ds : List ℕ) → AllByRecursion (IsInRange 48 57) ds → list_al
 digits_low [] all = refl
 digits_low (d ∷ ds) all = rw (lt-ltb d 128 (omega (arith, all.0))) (digits_low ds all.1)
 
-low_both : (xs ys : List ℕ) → list_all (λ b. nat_lt b 128) xs ≡ true → list_all (λ b. nat_lt b 128) ys ≡ true → list_all (λ b. nat_lt b 128) (xs ++ ys) ≡ true
-low_both xs ys e f = list_all-append (λ b. nat_lt b 128) xs ys ∙ rw (e, f) refl
-
 number_low : (n : ℕ) → list_all (λ b. nat_lt b 128) (sequence_of n) ≡ true
-number_low n = low_both (decimal n) (codes "m") (digits_low (decimal n) (decimal_digits n)) refl
+number_low n = all_pass (λ b. nat_lt b 128) (decimal n) (codes "m") (digits_low (decimal n) (decimal_digits n)) refl
 
 numbers_low : (ns : List ℕ) → list_all (λ b. nat_lt b 128) (flat_map sequence_of ns) ≡ true
 numbers_low [] = refl
-numbers_low (n ∷ ns) = low_both (sequence_of n) (flat_map sequence_of ns) (number_low n) (numbers_low ns)
+numbers_low (n ∷ ns) = all_pass (λ b. nat_lt b 128) (sequence_of n) (flat_map sequence_of ns) (number_low n) (numbers_low ns)
 
 below : (b : ℕ) → nat_lt b 128 ≡ true → b < 128
 below b e = grind (arith, nat_tests)
 
 all_below : (xs : List ℕ) → list_all (λ b. nat_lt b 128) xs ≡ true → AllByRecursion (λ b. b < 128) xs
 all_below [] e = tt
-all_below (b ∷ xs) e = let parts = both_true (nat_lt b 128) (list_all (λ b. nat_lt b 128) xs) e in (below b parts.0, all_below xs parts.1)
+all_below (b ∷ xs) e = let parts = and_parts (nat_lt b 128) (list_all (λ b. nat_lt b 128) xs) e in (below b parts.0, all_below xs parts.1)
 
 ascii : (xs : List ℕ) → list_all (λ b. nat_lt b 128) xs ≡ true → IsAscii xs
 ascii xs e = IsAscii-from_all xs (All-from_recursion (λ b. b < 128) xs (all_below xs e))
@@ -274,9 +271,6 @@ known_by : (a b : Bool) → b ≡ true → (a || b) ≡ true
 known_by true b e = refl
 known_by false b e = e
 
-known_both : (xs ys : List ℕ) → list_all is_known xs ≡ true → list_all is_known ys ≡ true → list_all is_known (xs ++ ys) ≡ true
-known_both xs ys e f = list_all-append is_known xs ys ∙ rw (e, f) refl
-
 parameter_range : (c : ℕ) → is_parameter c ≡ true → IsInRange 0x30 0x3B c
 parameter_range c e = grind (arith, nat_tests)
 
@@ -292,14 +286,14 @@ parameters_known (Further c n cs other is rest) =
 
 sequence_known : {cs : List ℕ} {n : ℕ} → Sequence cs n → list_all is_known (take n cs) ≡ true
 sequence_known (Opened c d n cs opened rest) =
-    let e = both_true (c == 0x1B) (d == 0x5B) opened in
+    let e = and_parts (c == 0x1B) (d == 0x5B) opened in
     let bracket : is_known d ≡ true = ap is_known (eqb-true d 0x5B e.1) ∙ known_by (0x5B == 0x1B) (has_width 0x5B) (low_width 0x5B (omega arith, omega arith)) in
     rw (e.0, bracket) (parameters_known rest)
 
 plain_known : (c : ℕ) (cs : List ℕ) (ps : List TextPiece) → (list_all has_width (flat_map run_text ps) ≡ true → list_all is_known cs ≡ true)
     → list_all has_width (flat_map run_text (joined_to c ps)) ≡ true → list_all is_known (c ∷ cs) ≡ true
 plain_known c cs ps rest e =
-    let all = both_true (has_width c) (list_all has_width (flat_map run_text ps)) (ap (list_all has_width) (sym (run_joins c ps)) ∙ e) in
+    let all = and_parts (has_width c) (list_all has_width (flat_map run_text ps)) (ap (list_all has_width) (sym (run_joins c ps)) ∙ e) in
     rw (known_by (c == 0x1B) (has_width c) all.0) (rest all.1)
 
 pub plain_texts_have_widths : PlainTextsHaveWidths
@@ -307,7 +301,7 @@ unfolding is_plain
 plain_texts_have_widths text e =
     by_pieces (λ cs ps. list_all has_width (flat_map run_text ps) ≡ true → list_all is_known cs ≡ true) (λ _. refl)
     (λ c cs ps none rest e. plain_known c cs ps rest e)
-    (λ n cs ps s rest e. ap (list_all is_known) (sym (take-append-drop n cs)) ∙ known_both (take n cs) (drop n cs) (sequence_known s) (rest e))
+    (λ n cs ps s rest e. ap (list_all is_known) (sym (take-append-drop n cs)) ∙ all_pass is_known (take n cs) (drop n cs) (sequence_known s) (rest e))
     text (ap (list_all has_width) (runs_are_visible text) ∙ e)
 
 -- ---- one row
@@ -338,21 +332,17 @@ record EndsApart (text kept : List ℕ) : Type 0 where
   parts : text ≡ kept ++ left
   apart : is_apart left ≡ true
 
-first_true : (a b : Bool) → (a && b) ≡ true → a ≡ true
-first_true true b e = refl
-first_true false b e = absurd (cc e)
-
 ends_white : (text : List ℕ) → EndsApart text (drop_trailing_whitespace text)
 ends_white [] = record { left = []; parts = refl; apart = refl }
 ends_white (c ∷ cs) =
     let rest = ends_white cs in
     let kept = drop_trailing_whitespace cs in
     cond_both (is_whitespace c && (length kept == 0)) [] (c ∷ kept) (λ front. EndsApart (c ∷ cs) front)
-    (λ e. record { left = c ∷ cs; parts = refl; apart = white_apart c cs (first_true (is_whitespace c) (length kept == 0) e) })
+    (λ e. record { left = c ∷ cs; parts = refl; apart = white_apart c cs (and_parts (is_whitespace c) (length kept == 0) e).0 })
     (λ e. record { left = rest.left; parts = ap (λ x. c ∷ x) rest.parts; apart = rest.apart })
 
 first_plain : (xs ys : List ℕ) → list_all has_width (xs ++ ys) ≡ true → list_all has_width xs ≡ true
-first_plain xs ys e = first_true (list_all has_width xs) (list_all has_width ys) (sym (list_all-append has_width xs ys) ∙ e)
+first_plain xs ys e = (and_parts (list_all has_width xs) (list_all has_width ys) (sym (list_all-append has_width xs ys) ∙ e)).0
 
 pub plain_texts_trim : PlainTextsTrim
 unfolding is_plain

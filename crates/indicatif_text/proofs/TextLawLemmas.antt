@@ -20,12 +20,10 @@ use Rattle.indicatif_text.proofs.ByteTextLemmas.{power_low}
 use Rattle.indicatif_text.proofs.CountLemmas.{stands_before}
 use Rattle.indicatif_text.proofs.QuotientLemmas.{length-last_digits}
 use Rattle.indicatif_text.proofs.RoundingLemmas.{rounded_by}
+use Rattle.indicatif_text.proofs.SeamLemmas.{all_pass}
 use Rattle.indicatif_text.proofs.FormatLawLemmas.{aside, digits_spell, only_zeros, no_zero_left, greatest}
 
 -- ---- the parts of a text
-
-all_pass : (p : ℕ → Bool) (xs ys : List ℕ) → list_all p xs ≡ true → list_all p ys ≡ true → list_all p (xs ++ ys) ≡ true
-all_pass p xs ys a b = list_all-append p xs ys ∙ and_from (list_all p xs) (list_all p ys) a b
 
 -- characters that pass a test which k doesn't
 other : (p : ℕ → Bool) (k : ℕ) → p k ≡ false → (c : ℕ) → p c ≡ true → not (c == k) ≡ true
