@@ -13,9 +13,9 @@ use Rattle.indicatif_bar.specs.declared.lone.LoneBar.{LoneBar}
 use Rattle.indicatif_bar.specs.declared.tracker.NoTracker.{NoTracker}
 use Rattle.indicatif_board.specs.Boards.{Location, Old, Refused}
 use Rattle.indicatif_board.specs.BoardValues.{id_of}
-use Rattle.indicatif.specs.Fronts.{LoneIsSomewhere, SuspendedBy, CanAnswerAlone, CanAnswer, CanSuspend, CanTurn, NoText}
+use Rattle.indicatif.specs.Fronts.{LoneIsSomewhere, SuspendedBy, CanAnswerAlone, CanAnswer, CanSuspend, CanTurn, NoText, unchanged}
 use Rattle.indicatif.specs.Inside.Single.{MadeBy}
-use Rattle.indicatif.specs.Inside.Places.{PlaceMakes, PlaceSuspends, PlaceTurns, IsUntold, IsOf, unchanged}
+use Rattle.indicatif.specs.Inside.Places.{PlaceMakes, PlaceSuspends, PlaceTurns, IsUntold, IsOf}
 use Rattle.indicatif.specs.SharedBoards.{SharedCall, SharedDraws, SharedTakes}
 use Rattle.indicatif.specs.declared.progress_bar.place.Place.{Place}
 use Rattle.indicatif.specs.declared.progress_bar.place.Place.TheVariants.{Alone, On}

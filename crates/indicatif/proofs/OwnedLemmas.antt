@@ -10,7 +10,7 @@ use Rattle.indicatif_bar.specs.declared.state.Ask.TheVariants.{No}
 use Rattle.indicatif_bar.specs.PositionLimiters.{allow_position}
 use Rattle.indicatif_bar.specs.Commands.{BarRecord, Command, tick, ticker_tick, moved_to}
 use Rattle.indicatif_bar.specs.Runs.{Runs}
-use Rattle.indicatif_bar.specs.Lone.{LoneState, LoneCall, Change}
+use Rattle.indicatif_bar.specs.Lone.{LoneState, LoneCall, Obey}
 use Rattle.indicatif_bar.specs.LoneBars.{lone_known, lone_bar, LoneIsIn, LoneLeadsBy}
 use Rattle.indicatif_bar.proofs.RunLemmas.{headline}
 use Rattle.indicatif.specs.declared.owned.OwnedBar.{OwnedBar}
@@ -43,7 +43,7 @@ loop-made told leads gives (x ∷ items) s m t along end =
 module _ {K T C : Type 0} (m : Tracking K) (view : T → TermView) where
   -- a move leads as its command does, at some moment
   command-leads : (old : OwnedBar K T C) (move : Move) (answer : Result Drawn Refusal) (new : OwnedBar K T C) → Commanded m view old move answer new
-      → (now : ℕ) × LoneLeadsBy m view (lone_of old) (lone_of new) (Change (command_of_move move)) now answer
+      → (now : ℕ) × LoneLeadsBy m view (lone_of old) (lone_of new) (Obey (command_of_move move)) now answer
   command-leads old (Advance n) answer new made = (made.0, made.1.leads)
   command-leads old (PlaceAt place) answer new made = (made.0, made.1.leads)
   command-leads old FinishAsStored answer new made = (made.0, made.1.leads)
@@ -51,7 +51,7 @@ module _ {K T C : Type 0} (m : Tracking K) (view : T → TermView) where
   -- the run without its headline
   abbrev pub RunFrom : List (Move × Result Drawn Refusal) → OwnedBar K T C → OwnedBar K T C → LoneState (BarRecord K) → Type 0
   RunFrom made old new s =
-      (calls : List (LoneCall (Command K) × ℕ)) × (map (λ call. call.0) calls ≡ map (λ x. Change (command_of_move x.0)) made)
+      (calls : List (LoneCall (Command K) × ℕ)) × (map (λ call. call.0) calls ≡ map (λ x. Obey (command_of_move x.0)) made)
       × (next : LoneState (BarRecord K)) × LoneIsIn (lone_of new) next
       × Runs (lone_bar m) calls (map (λ x. x.1) made) (lone_known view (lone_of old)) s (lone_known view (lone_of new)) next
 
@@ -63,8 +63,8 @@ module _ {K T C : Type 0} (m : Tracking K) (view : T → TermView) where
       let step = command-leads old move answer along.0 along.1 in
       let led = step.1 s inside in
       let others = run-from made along.0 new along.2 led.0 led.1 in (
-        (Change (command_of_move move), step.0) ∷ others.0,
-        ap (λ xs. Change (command_of_move move) ∷ xs) others.1,
+        (Obey (command_of_move move), step.0) ∷ others.0,
+        ap (λ xs. Obey (command_of_move move) ∷ xs) others.1,
         others.2,
         others.3,
         (lone_known view (lone_of along.0), led.0, led.2, others.4),

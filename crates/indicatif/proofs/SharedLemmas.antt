@@ -17,7 +17,8 @@ use Rattle.indicatif_board.specs.declared.multi.Board.{Board}
 use Rattle.indicatif.specs.Inside.Kept.{KeptDraws, KeptRemoves, KeptSuspends, refused_with}
 use Rattle.indicatif.specs.declared.progress_bar.kept.Kept.{Kept}
 use Rattle.indicatif.specs.declared.progress_bar.kept.Kept.TheVariants as kept
-use Rattle.indicatif.specs.SharedBoards.{SharedCall, IsSomewhere, BoardCan, SharedAnswers}
+use Rattle.indicatif.specs.SharedBoards.{SharedCall, BoardCan, SharedAnswers}
+use Rattle.indicatif.specs.Inside.Kept.{IsSomewhere}
 
 module _ {T : Type 0} (view : T → TermView) where
   module _ (old new : Board NoTracker T) (call : SharedCall) (now : ℕ) (answer : Answer) where

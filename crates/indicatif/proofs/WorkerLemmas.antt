@@ -8,17 +8,12 @@ use Rattle.std.proofs.Math.Nat.{div-le_self}
 use Rattle.std.proofs.lemmas.List.Sums.{sum_by-cons}
 use Rattle.std.proofs.lemmas.List.Elements.{All-cons, All-nil}
 use Rattle.rayon.proofs.ListFacts.{AllZip-append}
-use Rattle.indicatif_board.specs.Done.{SumId, Worker, shares_of, added_by}
+use Rattle.indicatif_board.proofs.DividedLemmas.{shares_of-cons, added_by-cons}
+use Rattle.indicatif_board.specs.Done.{SumId, shares_of, added_by}
 use Rattle.indicatif.specs.Workers.{items_in}
 use Rattle.indicatif.specs.Inside.Pieces.{JobAt, IsEnded}
 use Rattle.indicatif.specs.declared.workers.Job.{Job}
 use Rattle.indicatif.specs.declared.workers.Ended.{Ended}
-
-pub shares_of-cons : (w : Worker) (ws : List Worker) → shares_of (w ∷ ws) ≡ w.account.parts + shares_of ws
-shares_of-cons = sum_by-cons (λ v. v.account.parts)
-
-pub added_by-cons : (w : Worker) (ws : List Worker) → added_by (w ∷ ws) ≡ w.account.added + added_by ws
-added_by-cons = sum_by-cons (λ v. v.account.added)
 
 module _ {X Y : Type 0} (R : X → Y → Type 0) where
   -- one item more, with its answer

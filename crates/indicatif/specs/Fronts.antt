@@ -1,5 +1,5 @@
 -- Bars that are shared: what a call under their lock does, and which answers one can give.
-use Rattle.std.specs.Prelude.{◌≡◌, ◌⊎◌, ℕ, ◌-◌, Result, Ok, Err}
+use Rattle.std.specs.Prelude.{◌≡◌, ◌⊎◌, ℕ, ◌-◌, None, Result, Ok, Err}
 use Rattle.indicatif_text.specs.declared.refusal.Refusal.{Refusal}
 use Rattle.indicatif_text.specs.declared.refusal.Refusal.TheVariants.{Memory, ForeignBar, NotMember}
 use Rattle.indicatif_text.specs.declared.refusal.Drawn.{Drawn}
@@ -8,8 +8,9 @@ use Rattle.indicatif_term.specs.Calls.{TermView}
 use Rattle.indicatif_bar.specs.Trackers.{writes_nothing}
 use Rattle.indicatif_bar.specs.Commands.{BarRecord, Command}
 use Rattle.indicatif_bar.specs.Runs.{CallMade}
-use Rattle.indicatif_bar.specs.Lone.{LoneState, LoneCall, Change, Log, Clear}
+use Rattle.indicatif_bar.specs.Lone.{LoneState, LoneCall, Obey, Log, Clear}
 use Rattle.indicatif_bar.specs.LoneBars.{LoneIsIn, LoneSuspends, CallDone, lone_bar, lone_known, record_of}
+use Rattle.indicatif_bar.specs.declared.command.Change.{Change}
 use Rattle.indicatif_bar.specs.declared.lone.LoneBar.{LoneBar}
 use Rattle.indicatif_bar.specs.declared.tracker.NoTracker.{NoTracker}
 use Rattle.indicatif_board.specs.Boards.{Id, Tell, BarLog, Redraw, Clear as ClearBoard, Call as BoardCall}
@@ -41,9 +42,13 @@ module _ {T : Type 0} (view : T → TermView) where
 
 -- ---- calls
 
+-- a change that sets nothing
+abbrev pub unchanged : Change
+unchanged = record { pos = None; len = None }
+
 -- what a bar's call is on its board
 abbrev pub on_board : {B C : Type 0} → Id → LoneCall C → BoardCall B C
-on_board id (Change command) = Tell id command
+on_board id (Obey command) = Tell id command
 on_board id (Log text) = BarLog id text
 on_board id Clear = ClearBoard
 

@@ -12,7 +12,7 @@ use Rattle.indicatif_bar.specs.Trackers.{Tracking}
 use Rattle.indicatif_bar.specs.Builders.{first_style}
 use Rattle.indicatif_bar.specs.Commands.{BarRecord, Command, Inc, SetPosition, FinishUsingStyle, new_bar, is_beyond_clock}
 use Rattle.indicatif_bar.specs.Runs.{Runs, Headline}
-use Rattle.indicatif_bar.specs.Lone.{LoneState, LoneCall, Change, opening_state}
+use Rattle.indicatif_bar.specs.Lone.{LoneState, LoneCall, Obey, opening_state}
 use Rattle.indicatif_bar.specs.LoneBars.{record_of, lone_terminal, lone_known, lone_bar, LoneIsIn, Obeys, ObeysOrNot, RefusesCommand}
 use Rattle.indicatif_bar.specs.declared.lone.LoneBar.{LoneBar}
 use Rattle.indicatif.specs.Moves.{Standing, Move, Advance, PlaceAt, FinishAsStored}
@@ -58,7 +58,7 @@ abbrev pub IsRun : {K T C : Type 0} → Tracking K → (T → TermView) → List
 IsRun {K} m view made old new =
     (s : LoneState (BarRecord K)) → LoneIsIn (lone_of old) s →
     let answers = map (λ x. x.1) made in let before = lone_known view (lone_of old) in let now = lone_known view (lone_of new) in
-    (calls : List (LoneCall (Command K) × ℕ)) × (map (λ call. call.0) calls ≡ map (λ x. Change (command_of_move x.0)) made)
+    (calls : List (LoneCall (Command K) × ℕ)) × (map (λ call. call.0) calls ≡ map (λ x. Obey (command_of_move x.0)) made)
     × (next : LoneState (BarRecord K)) × LoneIsIn (lone_of new) next
     × (run : Runs (lone_bar m) calls answers before s now next) × Headline (lone_bar m) calls answers before s now next run
 

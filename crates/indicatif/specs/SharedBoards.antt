@@ -20,10 +20,6 @@ SharedCall = Call (BarRecord NoTracker) (Command NoTracker)
 abbrev pub SharedState : Type 0
 SharedState = BoardState (BarRecord NoTracker)
 
--- there is a state that the board is in
-abbrev pub IsSomewhere : {T : Type 0} → Board NoTracker T → Type 0
-IsSomewhere b = (mark : ℕ) × (s : SharedState) × IsIn mark b s
-
 -- what an answer gives of a bar that was to be taken in. An insertion answers nothing but the first two
 abbrev pub given_by : Answer → Result Id Refusal
 given_by (Given id) = Ok id

@@ -38,7 +38,7 @@ impl<T: TermLike + Drop, C: Clock + Drop, R: Wait + Clone + Drop> ProgressBar<T,
     pub fn absorb(&self, done: Done, worker: BarWorker) -> Result<Drawn, Refusal>
         requires of { worker.adds_to ≡ done }
         requires whole { worker.account.parts ≡ whole_share }
-        ensures { CanAnswer T.view (Lone.Change (Command.Inc (worker.account.added % 2 ^ 64))) result }
+        ensures { CanAnswer T.view (Lone.Obey (Command.Inc (worker.account.added % 2 ^ 64))) result }
     {
         self.inc(done.close(worker))
     }

@@ -16,9 +16,8 @@ ghost use Rattle.indicatif_bar.specs.Progress.{Progress};
 ghost use Rattle.indicatif_bar.specs.declared.command.Change.{Change as Changed};
 ghost use Rattle.indicatif_board.specs.Boards.{Id, Remove, Refused};
 ghost use Rattle.indicatif_board.specs.Calls.{place_at};
-ghost use Rattle.indicatif.specs.Fronts.{CanAnswer, CanSuspend, CanTurn, NoText};
+ghost use Rattle.indicatif.specs.Fronts.{CanAnswer, CanSuspend, CanTurn, NoText, unchanged};
 ghost use Rattle.indicatif.specs.Inside.Owners.{OwnerJoins};
-ghost use Rattle.indicatif.specs.Inside.Places.{unchanged};
 ghost use Rattle.indicatif.specs.SharedBoards.{SharedAnswers, SharedTakes};
 ghost use Rattle.indicatif.specs.Inside.Worded.{worded};
 ghost use Rattle.indicatif.specs.Wrap.{Wraps};
@@ -163,7 +162,7 @@ impl<T: TermLike + Drop, C: Clock + Drop, R: Wait + Clone + Drop> ProgressBar<T,
     /// A command of the bar.
     #[tactic(auto, using(crate::proofs::FrontLemmas::place_answers))]
     fn tell(&self, command: BarCommand<NoTracker>) -> Result<Drawn, Refusal>
-        ensures { CanAnswer T.view (Lone.Change (command_of command)) result }
+        ensures { CanAnswer T.view (Lone.Obey (command_of command)) result }
     {
         self.state.lock.lock(&self.rt).tell(&self.rt, command)
     }
@@ -186,70 +185,70 @@ impl<T: TermLike + Drop, C: Clock + Drop, R: Wait + Clone + Drop> ProgressBar<T,
 
     /// One more tick, up to 2^64 - 1, and a draw.
     pub fn tick(&self) -> Result<Drawn, Refusal>
-        ensures { CanAnswer T.view (Lone.Change Command.Tick) result }
+        ensures { CanAnswer T.view (Lone.Obey Command.Tick) result }
     {
         self.tell(BarCommand::Tick)
     }
 
     /// The position goes up by `delta`, modulo 2^64; and a tick, as often as the position's limiter allows.
     pub fn inc(&self, delta: u64) -> Result<Drawn, Refusal>
-        ensures { CanAnswer T.view (Lone.Change (Command.Inc delta)) result }
+        ensures { CanAnswer T.view (Lone.Obey (Command.Inc delta)) result }
     {
         self.tell(BarCommand::Inc(delta))
     }
 
     /// The position goes down by `delta`, modulo 2^64; else as `inc`.
     pub fn dec(&self, delta: u64) -> Result<Drawn, Refusal>
-        ensures { CanAnswer T.view (Lone.Change (Command.Dec delta)) result }
+        ensures { CanAnswer T.view (Lone.Obey (Command.Dec delta)) result }
     {
         self.tell(BarCommand::Dec(delta))
     }
 
     /// Another position; else as `inc`.
     pub fn set_position(&self, position: u64) -> Result<Drawn, Refusal>
-        ensures { CanAnswer T.view (Lone.Change (Command.SetPosition position)) result }
+        ensures { CanAnswer T.view (Lone.Obey (Command.SetPosition position)) result }
     {
         self.tell(BarCommand::SetPosition(position))
     }
 
     /// Another length, and a draw.
     pub fn set_length(&self, len: u64) -> Result<Drawn, Refusal>
-        ensures { CanAnswer T.view (Lone.Change (Command.SetLength len)) result }
+        ensures { CanAnswer T.view (Lone.Obey (Command.SetLength len)) result }
     {
         self.tell(BarCommand::SetLength(len))
     }
 
     /// No length, and a draw.
     pub fn unset_length(&self) -> Result<Drawn, Refusal>
-        ensures { CanAnswer T.view (Lone.Change Command.UnsetLength) result }
+        ensures { CanAnswer T.view (Lone.Obey Command.UnsetLength) result }
     {
         self.tell(BarCommand::UnsetLength)
     }
 
     /// A length that is longer by `delta`, up to 2^64 - 1, where there is one; and a draw.
     pub fn inc_length(&self, delta: u64) -> Result<Drawn, Refusal>
-        ensures { CanAnswer T.view (Lone.Change (Command.IncLength delta)) result }
+        ensures { CanAnswer T.view (Lone.Obey (Command.IncLength delta)) result }
     {
         self.tell(BarCommand::IncLength(delta))
     }
 
     /// A length that is shorter by `delta`, down to 0, where there is one; and a draw.
     pub fn dec_length(&self, delta: u64) -> Result<Drawn, Refusal>
-        ensures { CanAnswer T.view (Lone.Change (Command.DecLength delta)) result }
+        ensures { CanAnswer T.view (Lone.Obey (Command.DecLength delta)) result }
     {
         self.tell(BarCommand::DecLength(delta))
     }
 
     /// Another message, and a draw.
     pub fn set_message(&self, text: &str) -> Result<Drawn, Refusal>
-        ensures { CanAnswer T.view (Lone.Change (Command.SetMessage text.now)) result }
+        ensures { CanAnswer T.view (Lone.Obey (Command.SetMessage text.now)) result }
     {
         self.tell_text(Worded::Message, text)
     }
 
     /// Another prefix, and a draw.
     pub fn set_prefix(&self, text: &str) -> Result<Drawn, Refusal>
-        ensures { CanAnswer T.view (Lone.Change (Command.SetPrefix text.now)) result }
+        ensures { CanAnswer T.view (Lone.Obey (Command.SetPrefix text.now)) result }
     {
         self.tell_text(Worded::Prefix, text)
     }
@@ -258,14 +257,14 @@ impl<T: TermLike + Drop, C: Clock + Drop, R: Wait + Clone + Drop> ProgressBar<T,
     ///
     /// Refused: `Memory`; the style is given up.
     pub fn set_style(&self, style: ProgressStyle<NoTracker>) -> Result<Drawn, Refusal>
-        ensures { CanAnswer T.view (Lone.Change (Command.SetStyle style)) result }
+        ensures { CanAnswer T.view (Lone.Obey (Command.SetStyle style)) result }
     {
         self.tell(BarCommand::SetStyle(style))
     }
 
     /// As many spaces for a tab, in the message, the prefix and the style; and a draw by force.
     pub fn set_tab_width(&self, tab: usize) -> Result<Drawn, Refusal>
-        ensures { CanAnswer T.view (Lone.Change (Command.SetTabWidth tab)) result }
+        ensures { CanAnswer T.view (Lone.Obey (Command.SetTabWidth tab)) result }
     {
         self.tell(BarCommand::SetTabWidth(tab))
     }
@@ -274,77 +273,77 @@ impl<T: TermLike + Drop, C: Clock + Drop, R: Wait + Clone + Drop> ProgressBar<T,
     ///
     /// Refused: `ElapsedBeyondClock`, where they are more than the moment.
     pub fn set_elapsed(&self, nanos: u64) -> Result<Drawn, Refusal>
-        ensures { CanAnswer T.view (Lone.Change (Command.SetElapsed nanos)) result }
+        ensures { CanAnswer T.view (Lone.Obey (Command.SetElapsed nanos)) result }
     {
         self.tell(BarCommand::SetElapsed(nanos))
     }
 
     /// The rate is counted from now on. No draw is asked.
     pub fn reset_eta(&self) -> Result<Drawn, Refusal>
-        ensures { CanAnswer T.view (Lone.Change Command.ResetEta) result }
+        ensures { CanAnswer T.view (Lone.Obey Command.ResetEta) result }
     {
         self.tell(BarCommand::ResetEta)
     }
 
     /// The rate and the time are counted from now on. No draw is asked.
     pub fn reset_elapsed(&self) -> Result<Drawn, Refusal>
-        ensures { CanAnswer T.view (Lone.Change Command.ResetElapsed) result }
+        ensures { CanAnswer T.view (Lone.Obey Command.ResetElapsed) result }
     {
         self.tell(BarCommand::ResetElapsed)
     }
 
     /// The bar goes on from position 0, its rate and its time from now on; and a draw.
     pub fn reset(&self) -> Result<Drawn, Refusal>
-        ensures { CanAnswer T.view (Lone.Change Command.Reset) result }
+        ensures { CanAnswer T.view (Lone.Obey Command.Reset) result }
     {
         self.tell(BarCommand::Reset)
     }
 
     /// The bar is finished at its length and stays. A draw by force.
     pub fn finish(&self) -> Result<Drawn, Refusal>
-        ensures { CanAnswer T.view (Lone.Change (Command.FinishBy Finish.AndLeave)) result }
+        ensures { CanAnswer T.view (Lone.Obey (Command.FinishBy Finish.AndLeave)) result }
     {
         self.tell(BarCommand::Finish(ProgressFinish::AndLeave))
     }
 
     /// As `finish`, with this message.
     pub fn finish_with_message(&self, text: &str) -> Result<Drawn, Refusal>
-        ensures { CanAnswer T.view (Lone.Change (Command.FinishBy (Finish.WithMessage text.now))) result }
+        ensures { CanAnswer T.view (Lone.Obey (Command.FinishBy (Finish.WithMessage text.now))) result }
     {
         self.tell_text(Worded::Finish, text)
     }
 
     /// The bar is finished at its length and has no lines any more. A draw by force.
     pub fn finish_and_clear(&self) -> Result<Drawn, Refusal>
-        ensures { CanAnswer T.view (Lone.Change (Command.FinishBy Finish.AndClear)) result }
+        ensures { CanAnswer T.view (Lone.Obey (Command.FinishBy Finish.AndClear)) result }
     {
         self.tell(BarCommand::Finish(ProgressFinish::AndClear))
     }
 
     /// The bar is finished where it stands, and stays. A draw by force.
     pub fn abandon(&self) -> Result<Drawn, Refusal>
-        ensures { CanAnswer T.view (Lone.Change (Command.FinishBy Finish.Abandon)) result }
+        ensures { CanAnswer T.view (Lone.Obey (Command.FinishBy Finish.Abandon)) result }
     {
         self.tell(BarCommand::Finish(ProgressFinish::Abandon))
     }
 
     /// As `abandon`, with this message.
     pub fn abandon_with_message(&self, text: &str) -> Result<Drawn, Refusal>
-        ensures { CanAnswer T.view (Lone.Change (Command.FinishBy (Finish.AbandonWithMessage text.now))) result }
+        ensures { CanAnswer T.view (Lone.Obey (Command.FinishBy (Finish.AbandonWithMessage text.now))) result }
     {
         self.tell_text(Worded::Abandon, text)
     }
 
     /// The bar is finished by its stored finish. A draw by force.
     pub fn finish_using_style(&self) -> Result<Drawn, Refusal>
-        ensures { CanAnswer T.view (Lone.Change Command.FinishUsingStyle) result }
+        ensures { CanAnswer T.view (Lone.Obey Command.FinishUsingStyle) result }
     {
         self.tell(BarCommand::FinishUsingStyle)
     }
 
     /// A draw by force. Nothing of the bar changes.
     pub fn force_draw(&self) -> Result<Drawn, Refusal>
-        ensures { CanAnswer T.view (Lone.Change Command.ForceDraw) result }
+        ensures { CanAnswer T.view (Lone.Obey Command.ForceDraw) result }
     {
         self.tell(BarCommand::ForceDraw)
     }
@@ -352,7 +351,7 @@ impl<T: TermLike + Drop, C: Clock + Drop, R: Wait + Clone + Drop> ProgressBar<T,
     /// Sets what the closure answers of the state that it is shown, under the lock; then as `tick`.
     pub fn update<F: FnOnce(&ProgressState) -> Change>(&self, f: F) -> Result<Drawn, Refusal>
         requires { F.IsAlwaysCallable f }
-        ensures { (change : Changed) × CanAnswer T.view (Lone.Change (Command.Update change.pos change.len)) result
+        ensures { (change : Changed) × CanAnswer T.view (Lone.Obey (Command.Update change.pos change.len)) result
             × (((shown : Progress) × FnOnceReturnsAt F.FnOnce f shown change) ⊎ (change ≡ unchanged)) }
     {
         self.state.lock.lock(&self.rt).update(&self.rt, f)
@@ -498,7 +497,7 @@ impl<T: TermLike + Drop, C: Clock + Drop, R: Wait + Clone + Drop> ProgressBar<T,
     /// Refused: `Memory`, where the history of the bar's board finds none: the ticker that was installed goes on then.
     #[tactic(auto, using(crate::proofs::FrontLemmas::place_answers))]
     pub fn disable_steady_tick(&self) -> Result<(), Refusal>
-        ensures { IfErr result (λ e. CanAnswer T.view (Lone.Change (Command.SetTicker false)) (Err e)) }
+        ensures { IfErr result (λ e. CanAnswer T.view (Lone.Obey (Command.SetTicker false)) (Err e)) }
     {
         let mut held = self.state.lock.lock(&self.rt);
         if let Err(refusal) = held.disable_ticker(&self.rt) {
@@ -561,7 +560,7 @@ impl<T: TermLike + Drop, C: Clock + Drop, R: Wait + Clone + Drop> ProgressBar<T,
     ///
     /// Refused: `Memory`; this owner is given up.
     pub fn with_style(self, style: ProgressStyle<NoTracker>) -> Result<Self, Refusal>
-        ensures { IfErr result (λ e. CanAnswer T.view (Lone.Change (Command.SetStyle style)) (Err e)) }
+        ensures { IfErr result (λ e. CanAnswer T.view (Lone.Obey (Command.SetStyle style)) (Err e)) }
     {
         match self.set_style(style) {
             Ok(_) => Ok(self),
@@ -573,7 +572,7 @@ impl<T: TermLike + Drop, C: Clock + Drop, R: Wait + Clone + Drop> ProgressBar<T,
     ///
     /// Refused: `Memory`; this owner is given up.
     pub fn with_tab_width(self, tab: usize) -> Result<Self, Refusal>
-        ensures { IfErr result (λ e. CanAnswer T.view (Lone.Change (Command.PutTabWidth tab)) (Err e)) }
+        ensures { IfErr result (λ e. CanAnswer T.view (Lone.Obey (Command.PutTabWidth tab)) (Err e)) }
     {
         match self.tell(BarCommand::WithTabWidth(tab)) {
             Ok(_) => Ok(self),
@@ -585,7 +584,7 @@ impl<T: TermLike + Drop, C: Clock + Drop, R: Wait + Clone + Drop> ProgressBar<T,
     ///
     /// Refused: `Memory`; this owner is given up.
     pub fn with_prefix(self, text: &str) -> Result<Self, Refusal>
-        ensures { IfErr result (λ e. CanAnswer T.view (Lone.Change (Command.PutPrefix text.now)) (Err e)) }
+        ensures { IfErr result (λ e. CanAnswer T.view (Lone.Obey (Command.PutPrefix text.now)) (Err e)) }
     {
         match self.tell_text(Worded::PutPrefix, text) {
             Ok(_) => Ok(self),
@@ -597,7 +596,7 @@ impl<T: TermLike + Drop, C: Clock + Drop, R: Wait + Clone + Drop> ProgressBar<T,
     ///
     /// Refused: `Memory`; this owner is given up.
     pub fn with_message(self, text: &str) -> Result<Self, Refusal>
-        ensures { IfErr result (λ e. CanAnswer T.view (Lone.Change (Command.PutMessage text.now)) (Err e)) }
+        ensures { IfErr result (λ e. CanAnswer T.view (Lone.Obey (Command.PutMessage text.now)) (Err e)) }
     {
         match self.tell_text(Worded::PutMessage, text) {
             Ok(_) => Ok(self),
@@ -615,7 +614,7 @@ impl<T: TermLike + Drop, C: Clock + Drop, R: Wait + Clone + Drop> ProgressBar<T,
     ///
     /// Refused: `ElapsedBeyondClock`, where they are more than the moment; this owner is given up.
     pub fn with_elapsed(self, nanos: u64) -> Result<Self, Refusal>
-        ensures { IfErr result (λ e. CanAnswer T.view (Lone.Change (Command.SetElapsed nanos)) (Err e)) }
+        ensures { IfErr result (λ e. CanAnswer T.view (Lone.Obey (Command.SetElapsed nanos)) (Err e)) }
     {
         match self.set_elapsed(nanos) {
             Ok(_) => Ok(self),

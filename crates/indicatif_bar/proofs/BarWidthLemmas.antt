@@ -2,7 +2,7 @@
 use Rattle.std.proofs.Common.{◌≡◌, ℕ, zero, suc, ◌+◌, ◌-◌, ◌*◌, ◌/◌, ◌%◌, ◌<◌, ◌≤◌, Bool, true, false, List, [], ◌∷◌, ◌++◌, append-nil, length, refl, sym, ◌∙◌, ap, subst, arith, if◌then◌else◌, Option, Some, None, map}
 use Rattle.std.specs.Prelude.{All, not, ◌==◌, ◌&&◌, nat_lt, option_to_list, IfSome}
 use Rattle.std.specs.List.{list_all, concat}
-use Rattle.std.proofs.lemmas.Bool.{eqb-true}
+use Rattle.std.proofs.lemmas.Bool.{eqb-true, ltb-true, and_parts}
 use Rattle.std.proofs.lemmas.Bool.Decides.{nat_tests}
 use Rattle.std.proofs.lemmas.List.Elements.{All-get_or}
 use Rattle.std.proofs.Math.Nat.{div-le_of_le-mul, mul-le-mul_right, div-lt_iff_lt-mul, mod-lt, mul_comm, add-mul, mul-lt-mul_of_pos_right}
@@ -45,14 +45,10 @@ lawful clusters e =
     let parts = lawful_by (nat_lt (length clusters) 2) (list_all (λ c. text_columns c == width) clusters) (width == 0) e in
     record { many = not_few (length clusters) parts.0; same = parts.1.0; some = not_none width parts.1.1 }
 
-both_true : (a b : Bool) → (a && b) ≡ true → (a ≡ true) × (b ≡ true)
-both_true true b e = (refl, e)
-both_true false b e = absurd (cc e)
-
 same_at : (width : ℕ) (clusters : List (List ℕ)) (k : ℕ) → k < length clusters → list_all (λ c. text_columns c == width) clusters ≡ true → text_columns (cluster clusters k) ≡ width
 same_at width [] k h e = absurd (omega (arith, h))
-same_at width (c ∷ cs) zero h e = eqb-true (text_columns c) width (both_true (text_columns c == width) (list_all (λ c. text_columns c == width) cs) e).0
-same_at width (c ∷ cs) (suc k) h e = same_at width cs k (omega (arith, h)) (both_true (text_columns c == width) (list_all (λ c. text_columns c == width) cs) e).1
+same_at width (c ∷ cs) zero h e = eqb-true (text_columns c) width (and_parts (text_columns c == width) (list_all (λ c. text_columns c == width) cs) e).0
+same_at width (c ∷ cs) (suc k) h e = same_at width cs k (omega (arith, h)) (and_parts (text_columns c == width) (list_all (λ c. text_columns c == width) cs) e).1
 
 -- clusters that a style takes, each a plain text
 abbrev ArePlainClusters : List (List ℕ) → Type 0
@@ -86,18 +82,15 @@ record Shaded (f : Fraction) (cells clusters : ℕ) (shade : Option ℕ) : Type 
   between : IfSome shade (λ k. (0 < k) × (k < clusters - 1))
   room : filled_cells f cells + length (option_to_list shade) ≤ cells
 
-lt_of : (n m : ℕ) → nat_lt n m ≡ true → n < m
-lt_of n m e = grind (arith, nat_tests)
-
 shaded_by : (a b d : Bool) (f : Fraction) (cells clusters : ℕ) → IsProper f → filled_cells f cells ≤ cells → nat_lt (filled_cells f cells) cells ≡ b → nat_lt 0 (clusters - 2) ≡ d
     → Shaded f cells clusters (if a && b && d then Some (clusters - 2 - f.num * cells % f.den * (clusters - 2) / f.den) else None)
 shaded_by true true true f cells clusters is fits left some =
     let shades = clusters - 2 in
-    let more : 0 < shades = lt_of 0 shades some in
+    let more : 0 < shades = ltb-true 0 shades some in
     let rest : f.num * cells % f.den < f.den = mod-lt (f.num * cells) is.some in
     let passed : f.num * cells % f.den * shades / f.den < shades = (div-lt_iff_lt-mul is.some).1
     (subst (λ k. f.num * cells % f.den * shades < k) (mul_comm f.den shades) (mul-lt-mul_of_pos_right rest more)) in
-    record { between = (omega (arith, passed, more), omega (arith, more)); room = omega (arith, lt_of (filled_cells f cells) cells left) }
+    record { between = (omega (arith, passed, more), omega (arith, more)); room = omega (arith, ltb-true (filled_cells f cells) cells left) }
 shaded_by true true false f cells clusters is fits left some = record { between = tt; room = omega (arith, fits) }
 shaded_by true false d f cells clusters is fits left some = record { between = tt; room = omega (arith, fits) }
 shaded_by false b d f cells clusters is fits left some = record { between = tt; room = omega (arith, fits) }

@@ -1,5 +1,5 @@
 -- What a style is made of at first, and what its builders refuse.
-use Rattle.std.proofs.Common.{map, ◌∷◌, [], Result, Ok, Err, IfErr, ◌≡◌, ◌≢◌, ◌⊎◌, inl, inr, ℕ, ◌≤◌, ◌<◌, List, refl, sym, ◌∙◌, ap, subst, length, arith}
+use Rattle.std.proofs.Common.{map, ◌∷◌, [], Result, Ok, Err, IfErr, ◌≡◌, ◌≢◌, ◌⊎◌, inl, inr, ℕ, ◌≤◌, ◌<◌, List, refl, ◌∙◌, ap, length, arith}
 use Rattle.std.specs.Str.{chars}
 use Rattle.indicatif_text.specs.Columns.{visible}
 use Rattle.unicode_width.proofs.Computing.{unicode_width}
@@ -10,7 +10,8 @@ use Rattle.indicatif_text.specs.declared.template.TemplateError.TheVariants as e
 use Rattle.indicatif_text.specs.Template.{refusal_of}
 use Rattle.std.specs.Prelude.{codes}
 use Rattle.indicatif_text.specs.Template.{TemplatePart, LiteralText, KeyText}
-use Rattle.indicatif_text.specs.Template.{IsRefused, TemplatePiece, Front, Takes, Stops, front, Reads, end, piece, Refuses, here, later, Parses, parts_of, plain_layout}
+use Rattle.indicatif_text.specs.Template.{IsRefused, front, end, piece, Parses, parts_of, plain_layout}
+use Rattle.indicatif_text.proofs.TemplateLemmas.{parses_by, never}
 use Rattle.indicatif_bar.specs.Layout.{text_columns, cluster}
 use Rattle.indicatif_bar.specs.Builders.{characters_of, first_clusters}
 use Rattle.indicatif_bar.specs.declared.bar_style.builders.TheConstants.{CLUSTERS, TICKS, TICK_STRINGS}
@@ -51,9 +52,6 @@ wide_cluster = omega (arith, ap (λ ts. text_columns (cluster ts 0)) clusters_ar
 
 -- ---- default templates
 
-parses_by : {text : List ℕ} {parts : List TemplatePart} {pieces : List TemplatePiece} → Reads text pieces → parts_of pieces ≡ parts → Parses text parts
-parses_by {pieces} reads makes = record { pieces = pieces; reads = reads; makes = makes }
-
 -- a key alone
 abbrev plain : List ℕ → TemplatePart
 plain key = KeyText key plain_layout
@@ -66,22 +64,9 @@ pub spinner_parses : Parses (codes "{spinner} {msg}") (plain (codes "spinner") �
 unfolding front parts_of
 spinner_parses = parses_by (piece refl (piece refl (piece refl end))) refl
 
--- what takes a piece doesn't stop, and takes in one way
-takes_or_stops : {f : Front TemplatePiece} {rest place : List ℕ} {p : TemplatePiece} {error : TemplateError} → f ≡ Takes rest p → f ≡ Stops place error → ⊥
-takes_or_stops {rest} {place} {p} {error} e d = let both : Takes rest p ≡ Stops place error = sym e ∙ d in cc both
-
-same_rest : {f : Front TemplatePiece} {rest other : List ℕ} {p q : TemplatePiece} → f ≡ Takes rest p → f ≡ Takes other q → rest ≡ other
-same_rest e d = cc (e, d)
-
--- a text that reads is refused nowhere
-reads_on : {text place : List ℕ} {ps : List TemplatePiece} {error : TemplateError} → Reads text ps → Refuses text place error → ⊥
-reads_on end t = elim t [ ]
-reads_on (piece e r) (here d) = takes_or_stops e d
-reads_on (piece e r) (later {place} {error} d t) = reads_on r (subst (λ rest. Refuses rest place error) (sym (same_rest e d)) t)
-
 -- a text that is a template is refused for memory alone
 pub never_refused : {A : Type 0} (r : Result A Refusal) (text : List ℕ) (parts : List TemplatePart) → Parses text parts
     → IfErr r (λ e. (e ≡ refusal.Memory) ⊎ ((x : TemplateError) × IsRefused text x × (e ≡ refusal_of x))) → IfErr r (λ e. e ≡ refusal.Memory)
 never_refused (Ok a) text parts p h = tt
 never_refused (Err e) text parts p (inl is) = is
-never_refused (Err e) text parts p (inr (error, (place, refused), is)) = absurd (reads_on p.reads refused)
+never_refused (Err e) text parts p (inr (error, (place, refused), is)) = absurd (never p.reads refused)

@@ -6,8 +6,7 @@ use Rattle.std.specs.List.{position_or_len, slice_get, slice_split, onto_first}
 use Rattle.std.proofs.lemmas.List.{length-map}
 use Rattle.std.proofs.lemmas.List.Splits.{length-slice_split}
 use Rattle.std.proofs.lemmas.Option.{slice_get_within}
-use Rattle.std.proofs.lemmas.Bool.{lt-ltb, false≢true}
-use Rattle.std.proofs.lemmas.Bool.Decides.{nat_tests}
+use Rattle.std.proofs.lemmas.Bool.{lt-ltb, ltb-true, false≢true}
 use Rattle.indicatif_text.specs.Template.{Layout, TemplatePart, LiteralText, LineBreak, KeyText}
 use Rattle.indicatif_bar.specs.Tabs.{expanded}
 use Rattle.indicatif_bar.specs.Progress.{Progress}
@@ -52,9 +51,6 @@ not_not : (b : Bool) (n : ℕ) → (if b then 0 else 1 + n) ≡ (if not b then 1
 not_not true n = refl
 not_not false n = refl
 
-lt_of : (n m : ℕ) → nat_lt n m ≡ true → n < m
-lt_of n m e = grind (arith, nat_tests)
-
 module _ {K : Type 0} where
   -- the names of entries
   abbrev pub names : List (List ℕ × K) → List (List ℕ)
@@ -89,7 +85,7 @@ module _ {K : Type 0} (m : Tracking K) (style : BarStyle K) (p : Progress) (now 
   text_by layout name n (Some e) true at within = ap (λ o. option_map_or (λ entry. expanded style.tab (m.text entry.1 p now)) o []) (sym at)
   text_by layout name n (Some e) false at within = absurd (false≢true (sym within
       ∙ lt-ltb n (length (names style.keys)) (omega (arith, slice_get_within style.keys n e at, length-map style.keys (λ x. x.0)))))
-  text_by layout name n None true at within = absurd (past style.keys n at (omega (arith, lt_of n (length (names style.keys)) within, length-map style.keys (λ x. x.0))))
+  text_by layout name n None true at within = absurd (past style.keys n at (omega (arith, ltb-true n (length (names style.keys)) within, length-map style.keys (λ x. x.0))))
   text_by layout name n None false at within = known_text layout (key_named name)
 
   wide_by : (layout : Layout) (name : List ℕ) (n : ℕ) (o : Option (List ℕ × K)) (b : Bool) → slice_get style.keys n ≡ o → nat_lt n (length (names style.keys)) ≡ b
@@ -98,7 +94,7 @@ module _ {K : Type 0} (m : Tracking K) (style : BarStyle K) (p : Progress) (now 
   wide_by layout name n (Some e) true at within = refl
   wide_by layout name n (Some e) false at within = absurd (false≢true (sym within
       ∙ lt-ltb n (length (names style.keys)) (omega (arith, slice_get_within style.keys n e at, length-map style.keys (λ x. x.0)))))
-  wide_by layout name n None true at within = absurd (past style.keys n at (omega (arith, lt_of n (length (names style.keys)) within, length-map style.keys (λ x. x.0))))
+  wide_by layout name n None true at within = absurd (past style.keys n at (omega (arith, ltb-true n (length (names style.keys)) within, length-map style.keys (λ x. x.0))))
   wide_by layout name n None false at within = known_wide layout (key_named name)
 
   pub text_of_name : (layout : Layout) (name : List ℕ) → named_text m style p now name layout ≡ source_text m style p now layout (source_of (names style.keys) name)

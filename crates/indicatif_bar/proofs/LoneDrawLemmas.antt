@@ -17,7 +17,7 @@ use Rattle.indicatif_bar.specs.Bars.{bar_kind}
 use Rattle.indicatif_bar.specs.Kinds.{Kind, Writing, Frame, TextAndFrame, NoFrame, asked_of}
 use Rattle.indicatif_bar.specs.Machines.{target_of, Draw, is_no, Leads}
 use Rattle.indicatif_bar.specs.Runs.{CallMade, wrote, lines_by, deed_on}
-use Rattle.indicatif_bar.specs.Lone.{LoneState, LoneCall, Change, Log, Clear, stored_lines, lone_frame, draw_asked, draw_of_call, refused_at_once, deed_unless, takes_text, lone}
+use Rattle.indicatif_bar.specs.Lone.{LoneState, LoneCall, Obey, Log, Clear, stored_lines, lone_frame, draw_asked, draw_of_call, refused_at_once, deed_unless, takes_text, lone}
 use Rattle.indicatif_bar.specs.LoneBars.{LoneIsIn, LoneIsNowhere, lone_bar, LoneLeadsBy, Obeys, ObeysOrNot, RefusesCommand, lone_known, record_of, lone_terminal}
 use Rattle.indicatif_bar.specs.Shown.{PutsFrame, DrewBy, DrewOn, WritesLinesOn}
 use Rattle.indicatif_bar.specs.Inside.Obeying.{IsTold, IsToldOrNot}
@@ -149,7 +149,7 @@ module _ {K T : Type 0} (m : Tracking K) (view : T → TermView) (old mid new : 
   unfolding LoneIsIn
   bar_in s inside = inside.0.bar_is
 
-  command_leads : (command : Command K) (ask : Ask) → IsTold m old mid command now ask → Draws ask Frame → LoneLeadsBy m view old new (Change command) now answer
+  command_leads : (command : Command K) (ask : Ask) → IsTold m old mid command now ask → Draws ask Frame → LoneLeadsBy m view old new (Obey command) now answer
   command_leads command ask told draws = λ s inside.
       let bar = bar_in s inside in
       let next : LoneState (BarRecord K) = record s { bar = (obeyed m command s.bar now).0 } in
@@ -160,7 +160,7 @@ module _ {K T : Type 0} (m : Tracking K) (view : T → TermView) (old mid new : 
       let in_time : is_beyond_clock command now ≡ false = told.in_time in (
         d.0,
         d.1,
-        call_of (bar_kind m) (lone_known view old) (Change command) now s (lone_known view new) answer d.0 (rw in_time refl)
+        call_of (bar_kind m) (lone_known view old) (Obey command) now s (lone_known view new) answer d.0 (rw in_time refl)
             (subst (Drew (lone_known view old)) asked (subst (λ b. Drew (lone_known view b) ask) told.rest d.2)),
       )
 
@@ -186,15 +186,15 @@ module _ {K T : Type 0} (m : Tracking K) (view : T → TermView) (old mid new : 
 
 -- a command that was refused
 module _ {K T : Type 0} (m : Tracking K) (view : T → TermView) (old : LoneBar K T) (command : Command K) (now : ℕ) where
-  refused_leads : (e : Refusal) → RefusesCommand command old.shown.bar now e → LoneLeadsBy m view old old (Change command) now (Err e)
+  refused_leads : (e : Refusal) → RefusesCommand command old.shown.bar now e → LoneLeadsBy m view old old (Obey command) now (Err e)
   refused_leads e (inl short) = λ s inside.
       let bar : old.shown.bar ≡ s.bar = bar_in m view old old old now (Err e) s inside in
       let takes : takes_memory command s.bar ≡ true = ap (takes_memory command) (sym bar) ∙ short.1 in
       let in_time : is_beyond_clock command now ≡ false = memory_in_time command s.bar now takes in
-      (s, inside, rw short.0 (call_short (bar_kind m) (lone_known view old) (Change command) now s (rw in_time refl) takes))
+      (s, inside, rw short.0 (call_short (bar_kind m) (lone_known view old) (Obey command) now s (rw in_time refl) takes))
   refused_leads e (inr late) = λ s inside.
       let beyond : is_beyond_clock command now ≡ true = late.1 in
-      (s, inside, rw late.0 (call_refused (bar_kind m) (lone_known view old) (Change command) now s ElapsedBeyondClock refl (rw beyond refl)))
+      (s, inside, rw late.0 (call_refused (bar_kind m) (lone_known view old) (Obey command) now s ElapsedBeyondClock refl (rw beyond refl)))
 
   refused_quietly : (e : Refusal) → RefusesCommand command old.shown.bar now e → wrote (Err e) ≡ false
   refused_quietly e (inl short) = ap (λ x. wrote (Err x)) short.0
@@ -207,7 +207,7 @@ module _ {K T : Type 0} (m : Tracking K) (view : T → TermView) (old : LoneBar 
         bar = inr (e, refl, told.as_told.0, same);
         silent = λ quiet. ap lone_terminal same;
         nowhere = λ none. refused_quietly e told.as_told.0;
-        leads = subst (λ b. LoneLeadsBy m view old b (Change command) now (Err e)) (sym same) (refused_leads e told.as_told.0);
+        leads = subst (λ b. LoneLeadsBy m view old b (Obey command) now (Err e)) (sym same) (refused_leads e told.as_told.0);
       }
 
 -- a bar whose engine was replaced by one that has drawn nothing, and its limiter

@@ -17,7 +17,7 @@ use Rattle.indicatif_bar.specs.Bars.{bar_kind}
 use Rattle.indicatif_bar.specs.Commands.{BarRecord, Command, SetElapsed, obeyed, is_beyond_clock}
 use Rattle.indicatif_bar.specs.LoneBars.{CallDone, RecordGoes, RecordsGo, record_of}
 use Rattle.indicatif_bar.specs.declared.lone.LoneBar.{LoneBar}
-use Rattle.indicatif_bar.specs.Lone.{LoneState, LoneCall, Change, Log, Clear, bar_after, bar_after_all, draw_of_call, refused_at_once, deed_unless, lone}
+use Rattle.indicatif_bar.specs.Lone.{LoneState, LoneCall, Obey, Log, Clear, bar_after, bar_after_all, draw_of_call, refused_at_once, deed_unless, lone}
 use Rattle.indicatif_bar.proofs.SoundRunLemmas.{GoesSoundly, sound_read_after}
 
 pub written_soundly : (writing : Writing) (target : Target) (bottom : Bool) (leave : ℕ) (frame : List BarLines) (l : Lists) → (written_lists writing target bottom leave frame l).failed ≡ false
@@ -42,8 +42,8 @@ module _ {B C : Type 0} (kind : Kind B C) where
 -- a call of a lone bar makes this of its record
 pub goes_by : {K T : Type 0} (m : Tracking K) (old new : LoneBar K T) (call : LoneCall (Command K)) (now : ℕ) (answer : Result Drawn Refusal) → CallDone m old new call now answer →
     RecordGoes m call now answer (record_of old) (record_of new)
-goes_by m old new (Change command) now answer (inl done) = inl done
-goes_by m old new (Change command) now answer (inr refused) = inr (refused.0, refused.1, refused.2, ap record_of refused.3)
+goes_by m old new (Obey command) now answer (inl done) = inl done
+goes_by m old new (Obey command) now answer (inr refused) = inr (refused.0, refused.1, refused.2, ap record_of refused.3)
 goes_by m old new (Log text) now answer done = done
 goes_by m old new Clear now answer done = done
 
@@ -63,9 +63,9 @@ module _ {K : Type 0} (m : Tracking K) where
 
   goes_as_told : (call : LoneCall (Command K)) (now : ℕ) (answer : Result Drawn Refusal) (bar bar' : BarRecord K) → answer ≢ Err Memory → RecordGoes m call now answer bar bar' →
       bar' ≡ bar_after (bar_kind m) call now bar
-  goes_as_told (Change command) now answer bar bar' ample (inl done) = done
-  goes_as_told (Change command) now answer bar bar' ample (inr (e, said, inl short, stays)) = absurd (ample (said ∙ ap Err short.0))
-  goes_as_told (Change command) now answer bar bar' ample (inr (e, said, inr late, stays)) = stays ∙ sym (late_stays command bar now late.1)
+  goes_as_told (Obey command) now answer bar bar' ample (inl done) = done
+  goes_as_told (Obey command) now answer bar bar' ample (inr (e, said, inl short, stays)) = absurd (ample (said ∙ ap Err short.0))
+  goes_as_told (Obey command) now answer bar bar' ample (inr (e, said, inr late, stays)) = stays ∙ sym (late_stays command bar now late.1)
   goes_as_told (Log text) now answer bar bar' ample stays = stays
   goes_as_told Clear now answer bar bar' ample stays = stays
 

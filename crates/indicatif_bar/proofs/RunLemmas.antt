@@ -1,23 +1,24 @@
 -- What a run of calls leaves on the terminal, of whatever draws.
-use Rattle.std.proofs.Common.{◌≡◌, ℕ, zero, suc, map, replicate, ◌+◌, ◌-◌, ◌≤◌, Bool, true, false, List, [], ◌∷◌, ◌++◌, length, take, refl, sym, ◌∙◌, ap, subst, arith, length-append, append_assoc, Result, Err, Option, Some, None, inl, inr, take-take}
+use Rattle.std.proofs.Common.{◌≡◌, ℕ, zero, suc, map, replicate, ◌+◌, ◌-◌, Bool, true, false, List, [], ◌∷◌, ◌++◌, length, take, refl, sym, ◌∙◌, ap, subst, arith, length-append, append_assoc, Result, Err, Option, Some, None, inl, inr}
 use Rattle.std.specs.Prelude.{IsTrue, IsFalse, ◌||◌}
 use Rattle.std.specs.List.{AllByRecursion, list_any}
-use Rattle.std.proofs.lemmas.Bool.{cases_lt, false≢true, or_parts}
-use Rattle.std.proofs.lemmas.List.{take-append-le}
+use Rattle.std.proofs.lemmas.Bool.{false≢true, or_parts}
 use Rattle.std.proofs.lemmas.List.Elements.{recursion_from_All}
 use Rattle.std.proofs.Math.Bool.{or-false}
-use Rattle.std.proofs.Math.Seq.{take-append-add, take-length}
 use Rattle.indicatif_text.specs.declared.refusal.Refusal.{Refusal}
 use Rattle.indicatif_text.specs.declared.refusal.Refusal.TheVariants.{Memory, Terminal as Failure}
 use Rattle.indicatif_text.specs.declared.refusal.Drawn.{Drawn}
 use Rattle.indicatif_term.specs.Screen.{Screen}
 use Rattle.indicatif_term.specs.Terminal.{Terminal, after}
-use Rattle.indicatif_term.specs.Shows.{Rests, RowsStay}
-use Rattle.indicatif_term.specs.Calls.{Told, State as Holding, Bytes, Nothing, TermView, is_told, led_on}
+use Rattle.indicatif_term.specs.Shows.{Rests}
+use Rattle.indicatif_term.specs.Calls.{TermView, is_told, led_on}
 use Rattle.indicatif_term.specs.Lists.{Lists, all_rows}
 use Rattle.indicatif_term.specs.Pictures.{row_text}
 use Rattle.indicatif_term.specs.Engines.{Paints}
 use Rattle.indicatif_term.proofs.FeedLemmas.{after-append}
+use Rattle.indicatif_term.proofs.CallTurnLemmas.{led_on-append, still_tells}
+use Rattle.indicatif_term.proofs.RowsAboveLemmas.{both_keep}
+use Rattle.indicatif_term.proofs.DrawingLemmas.{keeps_fewer}
 use Rattle.indicatif_term.proofs.EngineLemmas.{paints_nothing}
 use Rattle.indicatif_term.proofs.RowReadingLemmas.{shown_is_read}
 use Rattle.indicatif_bar.specs.Machines.{Target, target_of, Machine, Deed, Leads, done_by, outcomes}
@@ -41,34 +42,6 @@ runs-push m (c ∷ calls) [] old s v x new next call answer r made = absurd r
 
 -- ---- one painting after another
 
--- a terminal that tells something still does
-still_tells : (told : Told) (bytes : List ℕ) → IsTrue (is_told told) → IsTrue (is_told (led_on told bytes))
-still_tells (Holding t) bytes h = refl
-still_tells (Bytes old) bytes h = refl
-still_tells Nothing bytes h = h
-
-led_on-append : (told : Told) (xs ys : List ℕ) → led_on (led_on told xs) ys ≡ led_on told (xs ++ ys)
-led_on-append (Holding t) xs ys = ap Holding (sym (after-append t xs ys))
-led_on-append (Bytes old) xs ys = ap Bytes (append_assoc old xs ys)
-led_on-append Nothing xs ys = refl
-
-keeps_fewer : (m n : ℕ) (t : Terminal) (bytes : List ℕ) → m ≤ n → RowsStay n t bytes → RowsStay m t bytes
-keeps_fewer m n t bytes h k i = sym (take-take m n (after t (take i bytes)).screen.rows h) ∙ ap (take m) (k i) ∙ take-take m n t.screen.rows h
-
-keeps-append : (n : ℕ) (t : Terminal) (xs ys : List ℕ) → RowsStay n t xs → RowsStay n (after t xs) ys → RowsStay n t (xs ++ ys)
-keeps-append n t xs ys a b k = elim (cases_lt k (length xs)) [
-  | inl h ↦ ap (λ z. take n (after t z).screen.rows) (take-append-le k xs ys (omega (arith, h))) ∙ a k
-  | inr h ↦
-      let j = k - length xs in
-      let e : k ≡ length xs + j = omega (arith, h) in
-      ap (λ z. take n (after t (take z (xs ++ ys))).screen.rows) e
-      ∙ ap (λ z. take n (after t z).screen.rows) (take-append-add xs ys j)
-      ∙ ap (λ u. take n u.screen.rows) (after-append t xs (take j ys))
-      ∙ b j
-      ∙ ap (λ z. take n (after t z).screen.rows) (sym (take-length xs))
-      ∙ a (length xs)
-]
-
 pub composed : (v v1 v2 : TermView) (broke : Bool) (l x n : Lists) → Paints v v1 false l x → Paints v1 v2 broke x n → Paints v v2 broke l n
 composed v v1 v2 broke l x n p q =
     let between = λ (opening : Screen) (t : Terminal) (r : Rests v.columns v.rows opening l t).
@@ -81,7 +54,7 @@ composed v v1 v2 broke l x n p q =
       keeps = λ opening t r.
           let u = after t p.bytes in
           let a = p.added refl in
-          keeps-append (opening.row + length l.above) t p.bytes q.bytes (p.keeps opening t r)
+          both_keep (opening.row + length l.above) t p.bytes q.bytes (p.keeps opening t r)
           (keeps_fewer (opening.row + length l.above) (opening.row + length x.above) u q.bytes
           (omega (arith, ap length a.1, length-append l.above a.0)) (q.keeps opening u (between opening t r)));
       rests = λ fine opening t r.

@@ -1,11 +1,11 @@
 -- A line with one wide bar of clusters of one column fills its row exactly.
 use Rattle.std.proofs.Common.{◌≡◌, ◌≢◌, ℕ, suc, ◌+◌, ◌-◌, ◌*◌, ◌/◌, ◌%◌, ◌<◌, ◌≤◌, Bool, true, false, ◌||◌, List, [], ◌∷◌, ◌++◌, append-nil, append_assoc, length, length-append, refl, sym, ◌∙◌, ap, subst, arith, if◌then◌else◌, Option, Some, None}
-use Rattle.std.specs.Prelude.{◌==◌, ◌&&◌, nat_lt, sum_by, flat_map, find, is_some, unwrap_or, codes, All, encode_utf8_all}
+use Rattle.std.specs.Prelude.{◌==◌, nat_lt, sum_by, flat_map, find, is_some, unwrap_or, codes, All, encode_utf8_all}
 use Rattle.std.specs.Option.{option_map_or}
 use Rattle.std.specs.List.{list_all, list_any, slice_split, last_or, AllByRecursion}
 use Rattle.std.specs.Str.{chars}
 use Rattle.std.proofs.Math.Utf8.{encode, encodes, next}
-use Rattle.std.proofs.lemmas.Bool.{cond_both, ne_eqb}
+use Rattle.std.proofs.lemmas.Bool.{cond_both, ne_eqb, and_parts}
 use Rattle.std.proofs.lemmas.List.Concat.{flat_map-append}
 use Rattle.std.proofs.lemmas.List.Elements.{All-from_recursion, All-append, All-cons}
 use Rattle.std.proofs.lemmas.List.Folds.{list_any-append, list_any_none}
@@ -75,17 +75,13 @@ without_character k c low other =
     (λ _. cond_both (nat_lt c 2048) ((192 + c / 64) ∷ next c ∷ []) long (Without k) (λ _. two)
     (λ _. cond_both (nat_lt c 65536) ((224 + c / 4096) ∷ next (c / 64) ∷ next c ∷ []) ((240 + c / 262144) ∷ next (c / 4096) ∷ next (c / 64) ∷ next c ∷ []) (Without k) (λ _. three) (λ _. four)))
 
-both_true : (a b : Bool) → (a && b) ≡ true → (a ≡ true) × (b ≡ true)
-both_true true b e = (refl, e)
-both_true false b e = absurd (cc e)
-
 abbrev is_known : ℕ → Bool
 is_known c = (c == 0x1B) || is_some (char_width false c)
 
 without_characters : (k : ℕ) (cs : List ℕ) → IsStrange k → list_all is_known cs ≡ true → Without k (encodes cs)
 without_characters k [] s e = tt
 without_characters k (c ∷ cs) s e =
-    let parts = both_true (is_known c) (list_all is_known cs) e in
+    let parts = and_parts (is_known c) (list_all is_known cs) e in
     let other : c ≢ k = λ same. let no : is_known c ≡ false = ap is_known same ∙ s.unknown in cc (parts.0, no) in
     without_both k (encode c) (encodes cs) (without_character k c s.low other) (without_characters k cs s parts.1)
 

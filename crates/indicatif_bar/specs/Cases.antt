@@ -14,7 +14,7 @@ use Rattle.indicatif_bar.specs.Commands.{BarRecord, Command, new_bar, obeyed, Ti
 use Rattle.indicatif_bar.specs.LoneBars.{lone_bar}
 use Rattle.indicatif_term.specs.Limiters.{draw_limiter}
 use Rattle.indicatif_bar.specs.Machines.{Target, outcomes}
-use Rattle.indicatif_bar.specs.Lone.{LoneState, LoneCall, Change, Log, Clear, opening_state}
+use Rattle.indicatif_bar.specs.Lone.{LoneState, LoneCall, Obey, Log, Clear, opening_state}
 
 -- ---- messages
 
@@ -61,8 +61,8 @@ rows_of_lines columns lines = flat_map (rows_of columns) lines
 -- 4 rows, 10 columns: a message of 13 columns takes two rows; a shorter one takes their place
 abbrev pub ShorterMessage : Type 0
 ShorterMessage =
-    let first = ran (terminal_of_size 4 10) (codes "progress bars") (Change Tick ∷ []) in
-    let both = ran (terminal_of_size 4 10) (codes "progress bars") (Change Tick ∷ Change (SetMessage (codes "x")) ∷ []) in
+    let first = ran (terminal_of_size 4 10) (codes "progress bars") (Obey Tick ∷ []) in
+    let both = ran (terminal_of_size 4 10) (codes "progress bars") (Obey Tick ∷ Obey (SetMessage (codes "x")) ∷ []) in
     (first.0 ≡ Ok Yes ∷ [])
     × (all_rows 10 first.1.lists ≡ rows_of_lines 10 (codes "progress b" ∷ codes "ars" ∷ []))
     × (both.0 ≡ Ok Yes ∷ Ok Yes ∷ [])
@@ -71,15 +71,15 @@ ShorterMessage =
 -- an empty message has no row
 abbrev pub EmptyMessage : Type 0
 EmptyMessage =
-    let first = ran (terminal_of_size 4 10) [] (Change Tick ∷ []) in
-    let both = ran (terminal_of_size 4 10) [] (Change Tick ∷ Change (SetMessage (codes "a")) ∷ []) in
+    let first = ran (terminal_of_size 4 10) [] (Obey Tick ∷ []) in
+    let both = ran (terminal_of_size 4 10) [] (Obey Tick ∷ Obey (SetMessage (codes "a")) ∷ []) in
     (first.0 ≡ Ok Yes ∷ []) × (all_rows 10 first.1.lists ≡ []) × (both.0 ≡ Ok Yes ∷ Ok Yes ∷ []) × (all_rows 10 both.1.lists ≡ rows_of_lines 10 (codes "a" ∷ []))
 
 -- 3 rows, 1 column: a character of two columns is too wide, and is stored; a message of one column is then drawn
 abbrev pub WideCharacter : Type 0
 WideCharacter =
-    let first = ran (terminal_of_size 3 1) (0xE5 ∷ 0x9B ∷ 0xBD ∷ []) (Change Tick ∷ []) in
-    let both = ran (terminal_of_size 3 1) (0xE5 ∷ 0x9B ∷ 0xBD ∷ []) (Change Tick ∷ Change (SetMessage (codes "a")) ∷ []) in
+    let first = ran (terminal_of_size 3 1) (0xE5 ∷ 0x9B ∷ 0xBD ∷ []) (Obey Tick ∷ []) in
+    let both = ran (terminal_of_size 3 1) (0xE5 ∷ 0x9B ∷ 0xBD ∷ []) (Obey Tick ∷ Obey (SetMessage (codes "a")) ∷ []) in
     (first.0 ≡ Err TooWide ∷ [])
     × (first.1.lists ≡ opening_lists)
     × (first.1.stored ≡ (0x56FD ∷ []) ∷ [])
@@ -89,7 +89,7 @@ WideCharacter =
 -- no columns: the tick counts, no line is stored
 abbrev pub NoColumn : Type 0
 NoColumn =
-    let ticked = ran (terminal_of_size 3 0) (codes "a") (Change Tick ∷ []) in
+    let ticked = ran (terminal_of_size 3 0) (codes "a") (Obey Tick ∷ []) in
     let logged = ran (terminal_of_size 3 0) (codes "a") (Log (codes "l") ∷ []) in
     (ticked.0 ≡ Err NoColumns ∷ [])
     × (ticked.1.bar.progress.ticks ≡ 1)
@@ -100,13 +100,13 @@ NoColumn =
 -- a hidden target: the numbers change, and nothing else
 abbrev pub Nowhere : Type 0
 Nowhere =
-    let both = ran nowhere (codes "a") (Change ForceDraw ∷ Log (codes "l") ∷ Change Tick ∷ []) in
+    let both = ran nowhere (codes "a") (Obey ForceDraw ∷ Log (codes "l") ∷ Obey Tick ∷ []) in
     (both.0 ≡ Ok Hidden ∷ Ok Hidden ∷ Ok Hidden ∷ []) × (both.1.bar.progress.ticks ≡ 1) × (both.1.stored ≡ []) × (both.1.lists ≡ opening_lists)
 
 -- 4 rows, 5 columns: two logged lines stand above the bar, and stay there
 abbrev pub LogsAbove : Type 0
 LogsAbove =
-    let both = ran (terminal_of_size 4 5) (codes "x") (Change Tick ∷ Log (codes "a\r\nb") ∷ Change (SetMessage (codes "y")) ∷ []) in
+    let both = ran (terminal_of_size 4 5) (codes "x") (Obey Tick ∷ Log (codes "a\r\nb") ∷ Obey (SetMessage (codes "y")) ∷ []) in
     (both.0 ≡ Ok Yes ∷ Ok Yes ∷ Ok Yes ∷ [])
     × (both.1.lists.above ≡ rows_of_lines 5 (codes "a" ∷ codes "b" ∷ []))
     × (all_rows 5 both.1.lists ≡ rows_of_lines 5 (codes "a" ∷ codes "b" ∷ codes "y" ∷ []))
@@ -121,7 +121,7 @@ WideLog =
 abbrev pub Cleared : Type 0
 Cleared =
     let cleared = ran (terminal_of_size 4 5) (codes "x") (Log (codes "a") ∷ Clear ∷ []) in
-    let drawn = ran (terminal_of_size 4 5) (codes "x") (Log (codes "a") ∷ Clear ∷ Change Tick ∷ []) in
+    let drawn = ran (terminal_of_size 4 5) (codes "x") (Log (codes "a") ∷ Clear ∷ Obey Tick ∷ []) in
     (cleared.0 ≡ Ok Yes ∷ Ok Yes ∷ [])
     × (all_rows 5 cleared.1.lists ≡ rows_of_lines 5 (codes "a" ∷ []))
     × (cleared.1.lists.below ≡ true)
@@ -131,7 +131,7 @@ Cleared =
 -- an elapsed time beyond the moment is refused, and changes nothing
 abbrev pub LateElapsed : Type 0
 LateElapsed =
-    let both = ran (terminal_of_size 4 5) (codes "x") (Change (SetElapsed 1) ∷ Change Tick ∷ []) in
+    let both = ran (terminal_of_size 4 5) (codes "x") (Obey (SetElapsed 1) ∷ Obey Tick ∷ []) in
     (both.0 ≡ Err ElapsedBeyondClock ∷ Ok Yes ∷ []) × (both.1.bar.progress.start ≡ 0) × (both.1.bar.progress.ticks ≡ 1)
 
 -- ---- limiters
@@ -139,6 +139,6 @@ LateElapsed =
 -- 4 rows, 10 columns, 20 draws a second: the 21st draw at once is limited, and the message after it; a forced draw shows it
 abbrev pub LimitedDraws : Type 0
 LimitedDraws =
-    let both = outcomes (lone_bar untracked) (terminal_of_size 4 10) (map (λ call. (call, 0)) (replicate 21 (Change Tick) ++ Change (SetMessage (codes "x")) ∷ Change ForceDraw ∷ []))
+    let both = outcomes (lone_bar untracked) (terminal_of_size 4 10) (map (λ call. (call, 0)) (replicate 21 (Obey Tick) ++ Obey (SetMessage (codes "x")) ∷ Obey ForceDraw ∷ []))
     (opening_state (bar_saying []) (Some (draw_limiter 20 0))) in
     (both.0 ≡ replicate 20 (Ok Yes) ++ Ok Limited ∷ Ok Limited ∷ Ok Yes ∷ []) × (all_rows 10 both.1.lists ≡ rows_of_lines 10 (codes "x" ∷ []))

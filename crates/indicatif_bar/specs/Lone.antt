@@ -35,7 +35,7 @@ lone_frame s = record { bar = 0; lines = s.stored } ∷ []
 -- what a lone bar can be asked
 pub data LoneCall (C : Type 0) : Type 0 where
   -- a command of the bar
-  Change : (command : C) → LoneCall C
+  Obey : (command : C) → LoneCall C
   -- lines of text above the bar
   Log : (text : List ℕ) → LoneCall C
   -- the bar's rows taken back
@@ -43,19 +43,19 @@ pub data LoneCall (C : Type 0) : Type 0 where
 
 -- what it writes
 abbrev pub writing_of : {C : Type 0} → LoneCall C → Writing
-writing_of (Change command) = Frame
+writing_of (Obey command) = Frame
 writing_of (Log text) = TextAndFrame (text_lines (logged_lines text))
 writing_of Clear = NoFrame
 
 module _ {B C : Type 0} (kind : Kind B C) where
   -- whether it takes memory for a text of the bar
   abbrev pub takes_text : LoneCall C → ℕ → B → Bool
-  takes_text (Change command) now bar = kind.takes command bar now
+  takes_text (Obey command) now bar = kind.takes command bar now
   takes_text _ now bar = false
 
   -- the bar then
   abbrev pub bar_after : LoneCall C → ℕ → B → B
-  bar_after (Change command) now bar = (kind.after command bar now).0
+  bar_after (Obey command) now bar = (kind.after command bar now).0
   bar_after _ now bar = bar
 
   -- the bar after calls at their moments, one after another
@@ -65,7 +65,7 @@ module _ {B C : Type 0} (kind : Kind B C) where
 
   -- whether it asks for a draw
   abbrev pub asks : LoneCall C → ℕ → B → Ask
-  asks (Change command) now bar = (kind.after command bar now).1
+  asks (Obey command) now bar = (kind.after command bar now).1
   asks _ now bar = Forced
 
   -- the lines that are stored then: the bar's, laid out anew where they are to be written
@@ -103,7 +103,7 @@ module _ {B C : Type 0} (kind : Kind B C) where
 
   -- why a call is refused at once, if it is
   abbrev pub refused_at_once : LoneCall C → ℕ → B → Option Refusal
-  refused_at_once (Change command) now bar = kind.refused command bar now
+  refused_at_once (Obey command) now bar = kind.refused command bar now
   refused_at_once _ now bar = None
 
   -- refused, with nothing changed; or drawn

@@ -10,7 +10,7 @@ use Rattle.indicatif_bar.specs.Commands.{BarRecord, Command, ForceDraw, obeyed, 
 use Rattle.indicatif_bar.specs.Bars.{bar_kind}
 use Rattle.indicatif_bar.specs.Machines.{Machine, target_of}
 use Rattle.indicatif_bar.specs.Runs.{CallMade, Runs, wrote}
-use Rattle.indicatif_bar.specs.Lone.{LoneState, LoneCall, Change, Log, Clear, lone}
+use Rattle.indicatif_bar.specs.Lone.{LoneState, LoneCall, Obey, Log, Clear, lone}
 use Rattle.indicatif_bar.specs.Shown.{ShownAs}
 use Rattle.indicatif_bar.specs.declared.lone.LoneBar.{LoneBar}
 use Rattle.indicatif_bar.specs.declared.lone.LoneCall.{LoneCall as LoneCallValue}
@@ -61,7 +61,7 @@ module _ {K T : Type 0} (m : Tracking K) (view : T → TermView) (old new : Lone
   abbrev pub LoneSuspends : ℕ → Result Drawn Refusal → Type 0
   LoneSuspends now answer =
       (s : LoneState (BarRecord K)) → LoneIsIn old s → (next : LoneState (BarRecord K)) × LoneIsIn new next
-      × (((cleared : Drawn) × Runs (lone_bar m) ((Clear, now) ∷ (Change ForceDraw, now) ∷ []) (Ok cleared ∷ answer ∷ []) (lone_known view old) s (lone_known view new) next)
+      × (((cleared : Drawn) × Runs (lone_bar m) ((Clear, now) ∷ (Obey ForceDraw, now) ∷ []) (Ok cleared ∷ answer ∷ []) (lone_known view old) s (lone_known view new) next)
       ⊎ ((e : Refusal) × (answer ≡ Err e) × Runs (lone_bar m) ((Clear, now) ∷ []) (Err e ∷ []) (lone_known view old) s (lone_known view new) next))
 
   -- a bar that obeyed a command with this answer
@@ -72,23 +72,23 @@ module _ {K T : Type 0} (m : Tracking K) (view : T → TermView) (old new : Lone
     pub silent : IsFalse (wrote answer) → lone_terminal new ≡ lone_terminal old
     pub nowhere : LoneIsNowhere view old → IsFalse (wrote answer)
     -- its step
-    pub leads : LoneLeadsBy (Change command) now answer
+    pub leads : LoneLeadsBy (Obey command) now answer
 
   -- a bar that obeyed a command, or refused it
   pub record ObeysOrNot (command : Command K) (now : ℕ) (answer : Result Drawn Refusal) : Type 0 where
     pub bar : (record_of new ≡ (obeyed m command (record_of old) now).0) ⊎ Disobeys old new command now answer
     pub silent : IsFalse (wrote answer) → lone_terminal new ≡ lone_terminal old
     pub nowhere : LoneIsNowhere view old → IsFalse (wrote answer)
-    pub leads : LoneLeadsBy (Change command) now answer
+    pub leads : LoneLeadsBy (Obey command) now answer
 
 -- what became of the bar in a call with this answer: a command made of it what it says, or was refused; else it stays
 abbrev pub CallDone : {K T : Type 0} → Tracking K → LoneBar K T → LoneBar K T → LoneCall (Command K) → ℕ → Result Drawn Refusal → Type 0
-CallDone m old new (Change command) now answer = (record_of new ≡ (obeyed m command (record_of old) now).0) ⊎ Disobeys old new command now answer
+CallDone m old new (Obey command) now answer = (record_of new ≡ (obeyed m command (record_of old) now).0) ⊎ Disobeys old new command now answer
 CallDone m old new _ now answer = record_of new ≡ record_of old
 
 -- what became of a record in a call with this answer: a command made of it what it says, or was refused; else it stays
 abbrev pub RecordGoes : {K : Type 0} → Tracking K → LoneCall (Command K) → ℕ → Result Drawn Refusal → BarRecord K → BarRecord K → Type 0
-RecordGoes m (Change command) now answer bar bar' =
+RecordGoes m (Obey command) now answer bar bar' =
     (bar' ≡ (obeyed m command bar now).0) ⊎ ((e : Refusal) × (answer ≡ Err e) × RefusesCommand command bar now e × (bar' ≡ bar))
 RecordGoes m _ now answer bar bar' = bar' ≡ bar
 
@@ -100,7 +100,7 @@ RecordsGo m _ _ bar bar' = ⊥
 
 -- a call that is a value, as its definition
 abbrev pub lone_call_of : {K : Type 0} → LoneCallValue K → LoneCall (Command K)
-lone_call_of (BarCall command) = Change (command_of command)
+lone_call_of (BarCall command) = Obey (command_of command)
 lone_call_of (LogCall text) = Log (string_bytes text)
 lone_call_of ClearCall = Clear
 

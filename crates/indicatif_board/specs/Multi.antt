@@ -8,7 +8,7 @@ use Rattle.indicatif_term.specs.Engines.{engine_term, Fits}
 use Rattle.indicatif_term.specs.Lists.{opening_lists}
 use Rattle.indicatif_bar.specs.Trackers.{Tracking}
 use Rattle.indicatif_bar.specs.Commands.{BarRecord, Command}
-use Rattle.indicatif_bar.specs.Lone.{Change}
+use Rattle.indicatif_bar.specs.Lone.{Obey}
 use Rattle.indicatif_bar.specs.LoneBars.{RecordGoes}
 use Rattle.indicatif_bar.specs.Machines.{target_of}
 use Rattle.indicatif_bar.specs.Runs.{CallMade, Runs}
@@ -62,7 +62,7 @@ module _ {K T : Type 0} where
   abbrev pub RecordObeys : Tracking K → ℕ → Command K → ℕ → Result Drawn Refusal → Board K T → Board K T → Type 0
   RecordObeys m number command now answer old new =
       (bar : BarRecord K) → record_at number old ≡ Some bar →
-      (bar' : BarRecord K) × (record_at number new ≡ Some bar') × RecordGoes m (Change command) now answer bar bar'
+      (bar' : BarRecord K) × (record_at number new ≡ Some bar') × RecordGoes m (Obey command) now answer bar bar'
 
   -- one was to be taken in: a new bar's number had no record, and has the bar's now; where it was turned away, or was there
   -- already, all stay

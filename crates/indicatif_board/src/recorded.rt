@@ -129,10 +129,10 @@ impl<K: ProgressTracker, T: TermLike + Drop> Recorded<K, T> {
             result.1 ≡ handed_back (call_of call) (answer_of result.0) other s.members }
     {
         let Ok(copy) = call.try_clone(self.alloc) else {
-            return (Answer::Refused(Refusal::Memory), turned_away(call));
+            return (Answer::Refused(Refusal::Memory), returned_bar(call));
         };
         if self.entries.reserve(1).is_err() {
-            return (Answer::Refused(Refusal::Memory), turned_away(call));
+            return (Answer::Refused(Refusal::Memory), returned_bar(call));
         }
         let size = size_of(&self.board);
         let (answer, bar) = made_on(&mut self.board, call, now);
@@ -204,7 +204,7 @@ fn size_of<K: ProgressTracker, T: TermLike + Drop>(board: &Board<K, T>) -> Optio
 }
 
 /// The new bar of a call that isn't made.
-fn turned_away<K: ProgressTracker>(call: Call<K>) -> Option<BarState<K>>
+fn returned_bar<K: ProgressTracker>(call: Call<K>) -> Option<BarState<K>>
     ensures { (s : BoardState (BarRecord K)) (other : BarRecord K) → result ≡ handed_back (call_of call) (Refused Refusal.Memory) other s.members }
 {
     match call {

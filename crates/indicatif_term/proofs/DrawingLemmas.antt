@@ -3,8 +3,9 @@ use Rattle.std.proofs.Common.{inl, inr, ◌≡◌, ℕ, zero, suc, ◌+◌, ◌-
 use Rattle.std.specs.Prelude.{IsTrue, flat_map, nat_lt, ◌==◌}
 use Rattle.std.proofs.lemmas.Bool.Decides.{nat_tests}
 use Rattle.std.proofs.lemmas.Bool.{cases_Bool}
-use Rattle.std.proofs.lemmas.List.{take-append-drop, take-append-le, take-map, map-append, length-map, length-drop, length-take-le, take_all}
+use Rattle.std.proofs.lemmas.List.{take-append-drop, take-append-le, take-map, length-map, length-drop, length-take-le, take_all}
 use Rattle.std.proofs.lemmas.List.Sums.{sum_by-take-drop}
+use Rattle.indicatif_term.proofs.FilledLineLemmas.{looks-append}
 use Rattle.indicatif_term.proofs.CallTurnLemmas.{or_lt_after}
 use Rattle.indicatif_text.specs.Columns.{Cell, blank_row, rows_of}
 use Rattle.indicatif_term.specs.Screen.{Screen}
@@ -26,7 +27,7 @@ all-height w l = length-append (l.above ++ l.kept) (live_rows w l.live) ∙ ap (
     ∙ ap (λ n. length l.above + length l.kept + n) (length-live w l.live)
 
 -- what keeps more rows keeps fewer
-keeps_fewer : (m n : ℕ) (t : Terminal) (bytes : List ℕ) → m ≤ n → RowsStay n t bytes → RowsStay m t bytes
+pub keeps_fewer : (m n : ℕ) (t : Terminal) (bytes : List ℕ) → m ≤ n → RowsStay n t bytes → RowsStay m t bytes
 keeps_fewer m n t bytes h k i = sym (take-take m n (after t (take i bytes)).screen.rows h) ∙ ap (take m) (k i) ∙ take-take m n t.screen.rows h
 
 -- lists that go on from l to l', where these rows are taken back and these lines written
@@ -39,9 +40,6 @@ pub record Replaces (w h : ℕ) (l l' : Lists) (more gone : List (List Cell)) (l
   pub none : length lines ≡ 0 → live_height l'.live ≡ 0
 
 -- ---- looks
-
-looks-append : (a b : List (List Cell)) → looks_of (a ++ b) ≡ looks_of a ++ looks_of b
-looks-append a b = map-append (map look) a b
 
 -- rows that look like two lists of rows
 looks_split : (shown base gone : List (List Cell)) → looks_of shown ≡ looks_of (base ++ gone) →

@@ -13,9 +13,10 @@ use Rattle.indicatif_term.specs.Inside.Bytes.{lines_bytes, next_row}
 use Rattle.indicatif_term.proofs.LastLineLemmas.{fill_bytes}
 use Rattle.indicatif_term.specs.Shows.{look, looks_of}
 use Rattle.indicatif_term.proofs.CursorRowLemmas.{IsSized, IsShowable}
-use Rattle.indicatif_term.proofs.TextLemmas.{IsShown, not_control, mapped, none_some}
+use Rattle.indicatif_term.proofs.TextLemmas.{IsShown, not_control, mapped, none_some, some_same}
 use Rattle.indicatif_term.proofs.WrittenLineLemmas.{marks_before, marks_before-cons, has_no_width, glyphs_sized}
-use Rattle.indicatif_term.proofs.GlyphLemmas.{pieces_some, last_more, columns_push}
+use Rattle.indicatif_text.proofs.WrappingLemmas.{pieces_some, last_more}
+use Rattle.indicatif_term.proofs.GlyphLemmas.{columns_push}
 
 -- spaces
 abbrev pub spaces : ℕ → List ℕ
@@ -65,13 +66,10 @@ parameters_more (c ∷ cs) ds k e = elim (cases_Bool (eqb c 0x6D)) [
   ]
 ]
 
-some_is : {m n : ℕ} → Some m ≡ Some n → m ≡ n
-some_is e = cc
-
 parameters_within : (cs : List ℕ) (k : ℕ) → parameters_length cs ≡ Some k → k ≤ length cs
 parameters_within [] k e = absurd (none_some e)
 parameters_within (c ∷ cs) k e = elim (cases_Bool (eqb c 0x6D)) [
-  | inl ends ↦ let one : 1 ≡ k = some_is (rw ends at e) in omega arith
+  | inl ends ↦ let one : 1 ≡ k = some_same (rw ends at e) in omega arith
   | inr more ↦ elim (cases_Bool (is_parameter c)) [
     | inl is ↦
         let m = mapped 1 (parameters_length cs) k (rw (more, is) at e) in

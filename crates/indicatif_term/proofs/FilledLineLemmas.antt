@@ -62,7 +62,7 @@ no_fill [] = refl
 no_fill (line ∷ []) = ap (λ x. x ∷ []) (append-nil line)
 no_fill (line ∷ next ∷ lines) = ap (λ xs. line ∷ xs) (no_fill (next ∷ lines))
 
-looks-append : (a b : List (List Cell)) → looks_of (a ++ b) ≡ looks_of a ++ looks_of b
+pub looks-append : (a b : List (List Cell)) → looks_of (a ++ b) ≡ looks_of a ++ looks_of b
 looks-append a b = map-append (map look) a b
 
 filled_drawable : (w : ℕ) (lines : List (List ℕ)) → 0 < w → AreDrawable w lines → AreDrawable w (refilled false w lines)

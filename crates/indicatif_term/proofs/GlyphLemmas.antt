@@ -10,6 +10,7 @@ use Rattle.std.specs.List.{AllByRecursion}
 use Rattle.unicode_width.specs.Width.{char_width}
 use Rattle.indicatif_text.specs.Columns.{Cell, width_of, Blank, Continued, Glyph, glyph_cells, glyph_width, columns_in, row_of, pieces_after, blank_row, columns_of_last}
 use Rattle.indicatif_term.specs.Screen.{Screen, Put, joined_at, with_mark, put_here, put_sized, line_feed, performed, performed_all}
+use Rattle.indicatif_text.proofs.WrappingLemmas.{pieces_some, last_more}
 use Rattle.indicatif_term.proofs.CursorRowLemmas.{screen_at, screen_after, glyph_ops, IsSized}
 use Rattle.indicatif_term.proofs.FeedLemmas.{performed_all-append}
 use Rattle.indicatif_term.proofs.ScreenRowLemmas.{written_behind, joined, cursor_row_at, with_row_at, line_feed_at}
@@ -132,12 +133,6 @@ glyph_put_next w h above piece n g sized is full =
 
 -- ---- many glyphs
 
-pub pieces_some : (w : ℕ) (piece : List Glyph) (gs : List Glyph) → 0 < length (pieces_after w piece gs)
-pieces_some w piece [] = omega arith
-pieces_some w piece (g ∷ gs) =
-    cond_both (nat_le (columns_in piece + glyph_width g) w) (pieces_after w (piece ++ g ∷ []) gs) (piece ∷ pieces_after w (g ∷ []) gs) (λ ps. 0 < length ps)
-    (λ e. pieces_some w (piece ++ g ∷ []) gs) (λ e. omega arith)
-
 -- the screen after these pieces
 abbrev pub screen_with : ℕ → ℕ → List (List Cell) → List (List Glyph) → ℕ → Screen
 screen_with w h above ps n = screen_after w h (above ++ map (row_of w) ps) ((n + 1) - length ps) (columns_of_last ps)
@@ -147,10 +142,6 @@ with_one w h above piece n =
     let blanks : (n + 1) - 1 ≡ n = omega arith in
     let row : length (above ++ row_of w piece ∷ []) - 1 ≡ length above = omega (arith, length-append above (row_of w piece ∷ [])) in
     cc (append_assoc above (row_of w piece ∷ []) (replicate n (blank_row w)))
-
-pub last_more : (p : List Glyph) (ps : List (List Glyph)) → 0 < length ps → columns_of_last (p ∷ ps) ≡ columns_of_last ps
-last_more p [] some = absurd (omega arith)
-last_more p (q ∷ ps) some = refl
 
 with_more : (w h : ℕ) (above : List (List Cell)) (piece : List Glyph) (ps : List (List Glyph)) (n : ℕ) → 0 < length ps →
     screen_with w h (above ++ row_of w piece ∷ []) ps (n - 1) ≡ screen_with w h above (piece ∷ ps) n

@@ -18,7 +18,7 @@ use Rattle.indicatif_term.specs.Shows.{RowsStay, IsOpening, resting}
 use Rattle.indicatif_term.proofs.CursorRowLemmas.{Stands}
 use Rattle.indicatif_term.proofs.CursorRowLemmas.{screen_at, resting_below, IsText, IsShowable}
 use Rattle.indicatif_term.proofs.ScreenRowLemmas.{made, same_screen}
-use Rattle.indicatif_term.proofs.GlyphLemmas.{pieces_some}
+use Rattle.indicatif_text.proofs.WrappingLemmas.{pieces_some}
 use Rattle.indicatif_term.proofs.WrittenLineLemmas.{line_feed_after}
 use Rattle.indicatif_term.proofs.CallLemmas.{after_asks, end_asks, text_written, row_cleared, moved_up}
 use Rattle.indicatif_term.proofs.RowsAboveLemmas.{clear_keeps, end_keeps, text_keeps, up_keeps}

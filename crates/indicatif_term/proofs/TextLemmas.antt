@@ -38,7 +38,7 @@ colour_end : (n : Option ℕ) → sequence_ops n 0x6D ≡ []
 colour_end None = refl
 colour_end (Some n) = refl
 
-some_same : {m n : ℕ} → Some m ≡ Some n → m ≡ n
+pub some_same : {m n : ℕ} → Some m ≡ Some n → m ≡ n
 some_same e = cc
 
 pub none_some : {n : ℕ} → None ≡ Some n → ⊥

@@ -13,6 +13,10 @@ use Rattle.indicatif_text.specs.declared.template.TemplateError.TheVariants.{Une
 use Rattle.indicatif_text.specs.Template.{Layout, TemplatePart, TemplatePiece, Char, Break, SpacedBrace, Keyed, plain_layout, Front, Takes, Stops, after_run, alternative_ends, with_alternative, is_alternative_char, is_style_char, is_width_char, number_of, state_after, style_named, style_ends, with_style, width_ends, with_width, with_options, is_too_wide, alignment_of, aligned, keyed, key_ends, opened, closed, front, Reads, end, piece, Refuses, here, later, Parses, parts_of, is_key_char}
 use Rattle.indicatif_text.specs.TemplateLaws.{OneOfBoth, NeverBoth, OneList, OnePlace}
 
+-- what reads makes the parts of its pieces
+pub parses_by : {text : List ℕ} {parts : List TemplatePart} {pieces : List TemplatePiece} → Reads text pieces → parts_of pieces ≡ parts → Parses text parts
+parses_by {pieces} reads makes = record { pieces = pieces; reads = reads; makes = makes }
+
 -- a piece and an error are two
 takes_or_stops : {f : Front TemplatePiece} {rest place : List ℕ} {p : TemplatePiece} {error : TemplateError} → f ≡ Takes rest p → f ≡ Stops place error → ⊥
 takes_or_stops {rest} {place} {p} {error} e d = let w : Takes rest p ≡ Stops place error = sym e ∙ d in cc w

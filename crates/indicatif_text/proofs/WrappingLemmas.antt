@@ -35,13 +35,13 @@ lasts w n (c ∷ cs) =
 abbrev pub some_wider : ℕ → List ℕ → Bool
 some_wider w cs = list_any (λ c. nat_lt w (width_of c)) cs
 
-pieces_some : (w : ℕ) (piece : List Glyph) (gs : List Glyph) → 0 < length (pieces_after w piece gs)
+pub pieces_some : (w : ℕ) (piece : List Glyph) (gs : List Glyph) → 0 < length (pieces_after w piece gs)
 pieces_some w piece [] = omega arith
 pieces_some w piece (g ∷ gs) =
     cond_both (nat_le (columns_in piece + glyph_width g) w) (pieces_after w (piece ++ g ∷ []) gs) (piece ∷ pieces_after w (g ∷ []) gs) (λ ps. 0 < length ps)
     (λ e. pieces_some w (piece ++ g ∷ []) gs) (λ e. omega arith)
 
-last_more : (p : List Glyph) (ps : List (List Glyph)) → 0 < length ps → columns_of_last (p ∷ ps) ≡ columns_of_last ps
+pub last_more : (p : List Glyph) (ps : List (List Glyph)) → 0 < length ps → columns_of_last (p ∷ ps) ≡ columns_of_last ps
 last_more p [] some = absurd (omega arith)
 last_more p (q ∷ ps) some = refl
 

@@ -118,7 +118,7 @@ fn measured(line: &str, width: usize) -> Option<Metrics>
     let mut rest = Visible::of(line);
     'rest: loop {
         let narrow = rest.pass_narrow(last.narrow());
-        let (rows, place) = Row { width, column }.after_narrow(narrow);
+        let (rows, place) = RowSoFar { width, column }.after_narrow(narrow);
         height += rows;
         column = place;
         let Some(c) = rest.next() else {
@@ -142,12 +142,12 @@ fn measured(line: &str, width: usize) -> Option<Metrics>
 
 /// A row of so many columns, and how many of them are taken.
 #[derive(Clone, Copy, Drop)]
-struct Row {
+struct RowSoFar {
     width: usize,
     column: usize,
 }
 
-impl Row {
+impl RowSoFar {
     /// How many rows further, and at which column, so many characters of one column end.
     #[inline(always)]
     fn after_narrow(self, count: usize) -> (usize, usize)

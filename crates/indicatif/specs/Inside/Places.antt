@@ -1,5 +1,5 @@
 -- Where a shared bar stands, and what a call of the bar makes of its place.
-use Rattle.std.specs.Prelude.{◌≡◌, ◌⊎◌, ℕ, IsTrue, IsFalse, false, Option, Some, None, IfSome, Result, Ok, Err}
+use Rattle.std.specs.Prelude.{◌≡◌, ◌⊎◌, ℕ, IsTrue, IsFalse, false, Option, Some, IfSome, Result, Ok, Err}
 use Rattle.indicatif_text.specs.declared.refusal.Refusal.{Refusal}
 use Rattle.indicatif_text.specs.declared.refusal.Refusal.TheVariants.{Memory}
 use Rattle.indicatif_text.specs.declared.refusal.Drawn.{Drawn}
@@ -8,22 +8,18 @@ use Rattle.indicatif_term.specs.Calls.{TermView}
 use Rattle.indicatif_bar.specs.BarStyles.{BarStyle}
 use Rattle.indicatif_bar.specs.Commands.{Command, FinishUsingStyle}
 use Rattle.indicatif_bar.specs.Progress.{Progress, is_finished}
-use Rattle.indicatif_bar.specs.Lone.{LoneCall, Change}
+use Rattle.indicatif_bar.specs.Lone.{LoneCall, Obey}
 use Rattle.indicatif_bar.specs.LoneBars.{record_of, lone_terminal}
 use Rattle.indicatif_bar.specs.declared.command.Change.{Change as Changed}
 use Rattle.indicatif_bar.specs.declared.lone.LoneBar.{LoneBar}
 use Rattle.indicatif_bar.specs.declared.tracker.NoTracker.{NoTracker}
 use Rattle.indicatif_board.specs.Boards.{Drop, Redraw}
 use Rattle.indicatif_board.specs.BoardValues.{id_of}
-use Rattle.indicatif.specs.Fronts.{SuspendedBy, NoText, on_board}
+use Rattle.indicatif.specs.Fronts.{SuspendedBy, NoText, on_board, unchanged}
 use Rattle.indicatif.specs.Inside.Single.{Makes}
 use Rattle.indicatif.specs.SharedBoards.{SharedDraws, SharedSuspends, SharedKeeps}
 use Rattle.indicatif.specs.declared.progress_bar.place.Place.{Place}
 use Rattle.indicatif.specs.declared.progress_bar.place.Place.TheVariants.{Alone, On}
-
--- nothing is set
-abbrev pub unchanged : Changed
-unchanged = record { pos = None; len = None }
 
 module _ {T C : Type 0} where
   -- a call made of the place of a bar its place, with this answer: alone, the bar there made it; on a board, the bar stays there, and the
@@ -36,7 +32,7 @@ module _ {T C : Type 0} where
   abbrev pub PlaceEnds : (T → TermView) → Place T C → Result Drawn Refusal → Place T C → Type 0
   PlaceEnds view (Alone old) answer new =
       (IsTrue (is_finished (record_of old).progress) → new ≡ Alone old)
-      × (IsFalse (is_finished (record_of old).progress) → (bar : LoneBar NoTracker T) × (new ≡ Alone bar) × Makes view old bar (Change FinishUsingStyle) answer)
+      × (IsFalse (is_finished (record_of old).progress) → (bar : LoneBar NoTracker T) × (new ≡ Alone bar) × Makes view old bar (Obey FinishUsingStyle) answer)
   PlaceEnds view (On seat) answer new = (new ≡ On seat) × SharedDraws view (Drop (id_of seat.id)) answer
 
   -- the same of a bar that is suspended

@@ -86,7 +86,7 @@ impl<T: TermLike + Drop, C: Clock + Drop> Held<T, C> {
         rt: &R,
         command: BarCommand<NoTracker>,
     ) -> Result<Drawn, Refusal>
-        ensures place { PlaceMakes T.view self.old.place (Lone.Change (command_of command)) result self.new.place }
+        ensures place { PlaceMakes T.view self.old.place (Lone.Obey (command_of command)) result self.new.place }
         ensures ticker { self.new.ticker ≡ self.old.ticker }
     {
         let now = self.clock.now();
@@ -115,7 +115,7 @@ impl<T: TermLike + Drop, C: Clock + Drop> Held<T, C> {
         f: F,
     ) -> Result<Drawn, Refusal>
         requires { F.IsAlwaysCallable f }
-        ensures { (change : Changed) × PlaceMakes T.view self.old.place (Lone.Change (Update change.pos change.len)) result self.new.place
+        ensures { (change : Changed) × PlaceMakes T.view self.old.place (Lone.Obey (Update change.pos change.len)) result self.new.place
             × IsOf (FnOnceReturnsAt F.FnOnce f) self.old.place change }
     {
         let now = self.clock.now();
@@ -171,9 +171,9 @@ impl<T: TermLike + Drop, C: Clock + Drop> Held<T, C> {
     pub fn install_ticker<R: Wait>(&mut self, rt: &R, number: u64) -> Result<(), Refusal>
         requires { number < self.old.ticker.next }
         ensures installed { IfOk result (λ _. (self.new.ticker.installed ≡ Some number)
-            × ((drawn : _) × PlaceMakes T.view self.old.place (Lone.Change (SetTicker true)) (Ok drawn) self.new.place)) }
+            × ((drawn : _) × PlaceMakes T.view self.old.place (Lone.Obey (SetTicker true)) (Ok drawn) self.new.place)) }
         ensures refused { IfErr result (λ e. (self.new.ticker ≡ self.old.ticker)
-            × PlaceMakes T.view self.old.place (Lone.Change (SetTicker true)) (Err e) self.new.place) }
+            × PlaceMakes T.view self.old.place (Lone.Obey (SetTicker true)) (Err e) self.new.place) }
     {
         self.tell(rt, BarCommand::SetTicker(true))?;
         self.ticker.install(number);
@@ -183,9 +183,9 @@ impl<T: TermLike + Drop, C: Clock + Drop> Held<T, C> {
     /// No ticker from now on. Where the bar can't be told so, the ticker stays as it is.
     pub fn disable_ticker<R: Wait>(&mut self, rt: &R) -> Result<(), Refusal>
         ensures disabled { IfOk result (λ _. (self.new.ticker.installed ≡ None)
-            × ((drawn : _) × PlaceMakes T.view self.old.place (Lone.Change (SetTicker false)) (Ok drawn) self.new.place)) }
+            × ((drawn : _) × PlaceMakes T.view self.old.place (Lone.Obey (SetTicker false)) (Ok drawn) self.new.place)) }
         ensures refused { IfErr result (λ e. (self.new.ticker ≡ self.old.ticker)
-            × PlaceMakes T.view self.old.place (Lone.Change (SetTicker false)) (Err e) self.new.place) }
+            × PlaceMakes T.view self.old.place (Lone.Obey (SetTicker false)) (Err e) self.new.place) }
     {
         self.tell(rt, BarCommand::SetTicker(false))?;
         self.ticker.disable();

@@ -27,7 +27,7 @@ pub struct Unrecorded<T: Drop> {
 
 /// Contracts see the board.
 impl<T: Drop> Model for Unrecorded<T> {
-    ghost use Rattle.indicatif.specs.SharedBoards.{IsSomewhere};
+    ghost use Rattle.indicatif.specs.Inside.Kept.{IsSomewhere};
     ghost use Rattle.indicatif_bar.specs.declared.tracker.NoTracker.{NoTracker};
     ghost use Rattle.indicatif_board.specs.declared.multi.Board.{Board};
 
@@ -120,7 +120,7 @@ impl<T: TermLike + Drop> Kept<T> {
             Kept::Open(board) => board.remove(id),
             Kept::Recorded(record) => {
                 record.replays();
-                removed(record.apply(Call::Remove(id), now))
+                bar_unless_refused(record.apply(Call::Remove(id), now))
             }
         }
     }
@@ -185,7 +185,7 @@ fn answer_alone(answered: Answered) -> Answer
 }
 
 /// The bar that was handed back, unless the call was refused.
-fn removed(answered: Answered) -> Result<Option<BarState<NoTracker>>, Refusal>
+fn bar_unless_refused(answered: Answered) -> Result<Option<BarState<NoTracker>>, Refusal>
     ensures { MatchResult result (λ _. refused_with (answer_of answered.0) ≡ None) (λ e. answered.0 ≡ Answer.Refused e) }
 {
     let (answer, bar) = answered;

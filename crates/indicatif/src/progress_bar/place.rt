@@ -6,9 +6,9 @@ ghost use Rattle.indicatif_bar.specs.Progress.{Progress};
 ghost use Rattle.indicatif_bar.specs.declared.command.Change.{Change as Changed};
 ghost use Rattle.indicatif_board.specs.Boards.{Tell, Redraw, Drop as Dropped};
 ghost use Rattle.indicatif_board.specs.BoardValues.{id_of};
-ghost use Rattle.indicatif.specs.Fronts.{on_board};
+ghost use Rattle.indicatif.specs.Fronts.{on_board, unchanged};
 ghost use Rattle.indicatif.specs.Inside.Worded.{worded};
-ghost use Rattle.indicatif.specs.Inside.Places.{ReadsBy, LooksSo, IsUnfinished, IsUntold, unchanged};
+ghost use Rattle.indicatif.specs.Inside.Places.{ReadsBy, LooksSo, IsUnfinished, IsUntold};
 ghost use Rattle.indicatif.specs.SharedBoards.{SharedDraws, SharedSuspends, SharedKeeps};
 
 use crate::progress_bar::kept::Shared;

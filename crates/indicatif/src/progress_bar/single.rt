@@ -73,7 +73,7 @@ impl<T: TermLike + Drop> Single<T> {
     ) -> Result<Drawn, Refusal>
         requires { F.IsAlwaysCallable f }
         ensures { (change : Changed) × FnOnceReturnsAt F.FnOnce f (record_of self.old).progress change
-            × MadeBy T.view self.old self.new (Lone.Change (Update change.pos change.len)) now result }
+            × MadeBy T.view self.old self.new (Lone.Obey (Update change.pos change.len)) now result }
     {
         self.bar.update(f, now)
     }
@@ -90,7 +90,7 @@ impl<T: TermLike + Drop> Single<T> {
     /// A bar that isn't finished is finished by its stored finish.
     pub fn end(&mut self, now: Moment) -> Result<Drawn, Refusal>
         ensures finished { IsTrue (is_finished (record_of self.old).progress) → self.new ≡ self.old }
-        ensures unfinished { IsFalse (is_finished (record_of self.old).progress) → MadeBy T.view self.old self.new (Lone.Change FinishUsingStyle) now result }
+        ensures unfinished { IsFalse (is_finished (record_of self.old).progress) → MadeBy T.view self.old self.new (Lone.Obey FinishUsingStyle) now result }
     {
         if self.bar.bar().state().is_finished() {
             return Ok(Drawn::Limited);

@@ -57,7 +57,7 @@ impl<
     #[tactic(auto, using(crate::proofs::FrontLemmas::place_answers))]
     pub fn enable_steady_tick(&self, nanos: u64) -> Result<(), Refusal>
         ensures idle { nanos ≡ 0 → IsTrue (is_ok result) }
-        ensures refused { IfErr result (λ e. (e ≡ Refusal.Memory) ⊎ CanAnswer T.view (Lone.Change (SetTicker true)) (Err e)) }
+        ensures refused { IfErr result (λ e. (e ≡ Refusal.Memory) ⊎ CanAnswer T.view (Lone.Obey (SetTicker true)) (Err e)) }
     {
         if nanos == 0 {
             return Ok(());

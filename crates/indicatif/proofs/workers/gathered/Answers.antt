@@ -2,7 +2,8 @@ use Rattle.std.proofs.Common.{rules, ◌≡◌, ◌∷◌, length, map, ap, ◌�
 use Rattle.std.proofs.lemmas.List.Elements.{All-rest}
 use Rattle.std.specs.Vec.Iter.{into_iter_items}
 use Rattle.indicatif_board.specs.Done.{shares_of, added_by}
-use Rattle.indicatif.proofs.WorkerLemmas.{shares_of-cons, added_by-cons, kept_more, all_kept, nothing_left}
+use Rattle.indicatif_board.proofs.DividedLemmas.{shares_of-cons, added_by-cons}
+use Rattle.indicatif.proofs.WorkerLemmas.{kept_more, all_kept, nothing_left}
 use Rattle.indicatif.proofs.workers.gathered.Goals as goal
 
 pub loop-e-preserved : goal.loop-e-preserved
