@@ -18,7 +18,7 @@ use Rattle.indicatif.specs.Inside.Kept.{KeptDraws, KeptRemoves, KeptSuspends, re
 use Rattle.indicatif.specs.declared.progress_bar.kept.Kept.{Kept}
 use Rattle.indicatif.specs.declared.progress_bar.kept.Kept.TheVariants as kept
 use Rattle.indicatif.specs.SharedBoards.{SharedCall, BoardCan, SharedAnswers}
-use Rattle.indicatif.specs.Inside.Kept.{IsSomewhere}
+use Rattle.indicatif.specs.Inside.Unrecorded.{IsSomewhere}
 
 module _ {T : Type 0} (view : T → TermView) where
   module _ (old new : Board NoTracker T) (call : SharedCall) (now : ℕ) (answer : Answer) where

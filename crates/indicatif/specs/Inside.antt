@@ -4,4 +4,5 @@ pub mod Owners
 pub mod Pieces
 pub mod Places
 pub mod Single
+pub mod Unrecorded
 pub mod Worded

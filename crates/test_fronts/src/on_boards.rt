@@ -39,16 +39,24 @@ pub fn recorded_on<R: Wait + Copy + Clone + Drop>(
     MultiProgress::recorded(rt, alloc, target(alloc)?, clock(), mark)
 }
 
+/// A bar that stands alone.
+fn plain<R: Wait + Copy + Clone + Drop>(rt: R, alloc: Global) -> Result<Bar<R>, Refusal> {
+    ProgressBar::with_draw_target(rt, alloc, None, target(alloc)?, clock())
+}
+
+/// The bar in a style of its message alone.
+fn in_words<R: Wait + Copy + Clone + Drop>(bar: Bar<R>, alloc: Global) -> Result<Bar<R>, Refusal> {
+    let style = ProgressStyle::with_template(alloc, "{msg}")?;
+    bar.with_style(style)
+}
+
 /// A bar that stands alone and whose one line is this text.
 pub fn alone<R: Wait + Copy + Clone + Drop>(
     rt: R,
     alloc: Global,
     text: &str,
 ) -> Result<Bar<R>, Refusal> {
-    let style = ProgressStyle::with_template(alloc, "{msg}")?;
-    ProgressBar::with_draw_target(rt, alloc, None, target(alloc)?, clock())?
-        .with_style(style)?
-        .with_message(text)
+    in_words(plain(rt, alloc)?, alloc)?.with_message(text)
 }
 
 /// Such a bar behind all others of a board.

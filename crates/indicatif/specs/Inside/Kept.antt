@@ -8,16 +8,12 @@ use Rattle.indicatif_bar.specs.Trackers.{writes_nothing}
 use Rattle.indicatif_bar.specs.declared.tracker.NoTracker.{NoTracker}
 use Rattle.indicatif_bar.specs.Commands.{BarRecord}
 use Rattle.indicatif_board.specs.Boards.{Id, Location, Entrant, Answer, Given, Done, Drew, Refused, Clear, Redraw, Insert, Remove, drawn_of}
-use Rattle.indicatif_board.specs.Multi.{LeadsBy, IsIn}
+use Rattle.indicatif_board.specs.Multi.{LeadsBy}
 use Rattle.indicatif_board.specs.Recorded.{Record, AddsCall}
 use Rattle.indicatif_board.specs.declared.multi.Board.{Board}
-use Rattle.indicatif.specs.SharedBoards.{SharedCall, SharedState, given_by}
+use Rattle.indicatif.specs.SharedBoards.{SharedCall, given_by}
 use Rattle.indicatif.specs.declared.progress_bar.kept.Kept.{Kept}
 use Rattle.indicatif.specs.declared.progress_bar.kept.Kept.TheVariants.{Open, Recorded}
-
--- there is a state that the board is in
-abbrev pub IsSomewhere : {T : Type 0} → Board NoTracker T → Type 0
-IsSomewhere b = (mark : ℕ) × (s : SharedState) × IsIn mark b s
 
 -- a call made of what was kept what is kept: the board's step; and a history grows by exactly the call, or found no room for it, and nothing changed
 abbrev pub KeptMakes : {T : Type 0} → (T → TermView) → Kept T → SharedCall → ℕ → Answer → Kept T → Type 0

@@ -27,7 +27,7 @@ pub struct Unrecorded<T: Drop> {
 
 /// Contracts see the board.
 impl<T: Drop> Model for Unrecorded<T> {
-    ghost use Rattle.indicatif.specs.Inside.Kept.{IsSomewhere};
+    ghost use Rattle.indicatif.specs.Inside.Unrecorded.{IsSomewhere};
     ghost use Rattle.indicatif_bar.specs.declared.tracker.NoTracker.{NoTracker};
     ghost use Rattle.indicatif_board.specs.declared.multi.Board.{Board};
 
