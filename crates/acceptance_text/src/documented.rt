@@ -2,6 +2,7 @@
 use indicatif_text::columns::{
     Clock, Metrics, Piece, Refusal, StepClock, Style, columns, is_parameter, pieces, width, wrapped,
 };
+use indicatif_text::format::nearest;
 use indicatif_text::template::{Alignment, Part, Template, TemplateError};
 use std::alloc::Global;
 use std::process::Abort;
@@ -12,6 +13,11 @@ fn widths_of_characters(rt: HostRuntime) {
     for (c, columns) in [('国', 2), ('\n', 0)] {
         assert_eq!(rt; width(c), columns, "at {c:?}");
     }
+}
+
+#[test]
+fn nearest_whole_numbers(rt: HostRuntime) {
+    assert!(rt; nearest(7, 2) == 4 && nearest(5, 2) == 2);
 }
 
 #[test]

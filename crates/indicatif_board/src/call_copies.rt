@@ -26,8 +26,8 @@ impl<K: ProgressTracker> Call<K> {
             },
             Call::Remove(id) => Call::Remove(*id),
             Call::Drop(id) => Call::Drop(*id),
-            Call::Log(text) => Call::Log(same_text(alloc, text)?),
-            Call::BarLog(id, text) => Call::BarLog(*id, same_text(alloc, text)?),
+            Call::Log(text) => Call::Log(String::from_str(alloc, text.as_str())?),
+            Call::BarLog(id, text) => Call::BarLog(*id, String::from_str(alloc, text.as_str())?),
             Call::Clear => Call::Clear,
             Call::Redraw => Call::Redraw,
             Call::Align(alignment) => Call::Align(*alignment),
@@ -71,12 +71,4 @@ impl Answer {
             Answer::Refused(refusal) => Answer::Refused(*refusal),
         }
     }
-}
-
-/// The same text.
-fn same_text(alloc: Global, text: &String) -> Result<String, Refusal>
-    ensures same { IfOk result (λ other. string_bytes other ≡ string_bytes text.now) }
-    ensures memory { IfErr result (λ e. e ≡ Refusal.Memory) }
-{
-    Ok(String::from_str(alloc, text.as_str())?)
 }

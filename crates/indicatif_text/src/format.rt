@@ -14,6 +14,7 @@ pub(crate) mod short_text;
 
 use crate::refusal::Refusal;
 use quotients::Quotient;
+pub use rounding::nearest;
 use short_text::ShortText;
 use std::fmt;
 use std::marker::Model;

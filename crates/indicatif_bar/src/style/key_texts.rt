@@ -1,6 +1,5 @@
 //! The texts of counts, times and rates, appended.
 ghost use Rattle.std.specs.Prelude.{◌≡◌, ◌<◌, ◌≤◌, ◌*◌, ◌++◌, ◌+◌, ◌%◌, string_bytes, decimal, OnOk, IfErr};
-ghost use Rattle.indicatif_text.specs.Format.{round, rounds_up};
 ghost use Rattle.indicatif_bar.specs.Keys.{count_text, time_text, percent_text, rate_text, whole_rate_text};
 
 use crate::measures::{Fraction, Rate};
@@ -8,6 +7,7 @@ use crate::style::keys::{CountForm, TimeForm};
 use indicatif_text::columns::Refusal;
 use indicatif_text::format::{
     BinaryBytes, DecimalBytes, FormattedDuration, HumanCount, HumanDuration, HumanFloatCount,
+    nearest,
 };
 use itoa::Buffer;
 
@@ -45,30 +45,6 @@ pub(crate) fn push_time(form: TimeForm, nanos: u64, out: &mut String) -> Result<
         TimeForm::Short => HumanDuration(nanos).write_short(out)?,
     }
     Ok(())
-}
-
-/// Whether a quotient is rounded up from the whole number below it, by whether that is odd and by the rest.
-fn rounds_up(odd: bool, rest: u64, den: u64) -> bool
-    requires { rest < den }
-    ensures { result ≡ rounds_up odd rest den }
-{
-    let missing = den - rest;
-    rest > missing || (rest == missing && odd)
-}
-
-/// The nearest whole number to a quotient, the even one of two.
-fn nearest(num: u128, den: u64) -> u64
-    requires some { 0 < den }
-    requires small { num ≤ 100000 * den }
-    ensures { result ≡ round num den }
-{
-    let wide = u128::from(den);
-    let below = (num / wide) as u64;
-    if rounds_up(below % 2 == 1, (num % wide) as u64, den) {
-        below + 1
-    } else {
-        below
-    }
 }
 
 /// Appends a fraction in whole hundredths.

@@ -2,7 +2,7 @@
 ghost use Rattle.std.specs.Prelude.{◌≡◌, ◌^◌, ◌≤◌, length, IsAscii};
 ghost use Rattle.indicatif_text.specs.Format.{prefix_exponent, bytes_text, binary_bytes, decimal_bytes};
 
-use crate::format::rounding::hundredths;
+use crate::format::rounding::nearest;
 use crate::format::short_text::ShortText;
 
 /// A number of bytes by powers of 1024.
@@ -36,7 +36,7 @@ fn prefixed_text(n: u64, base: u64, letters: &[u8; 6], tail: &str) -> ShortText
         return text;
     }
     let power = prefix_power(base, n);
-    let hundredths = hundredths(n, power.size);
+    let hundredths = nearest(u128::from(n) * 100, power.size);
     text.prepend_str(tail);
     text.prepend(letters[power.exponent - 1]);
     text.prepend(b' ');

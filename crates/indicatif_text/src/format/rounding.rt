@@ -1,5 +1,5 @@
 //! Rounded quotients, exact at every value.
-ghost use Rattle.std.specs.Prelude.{◌≡◌, ◌*◌, ◌<◌, ◌≤◌};
+ghost use Rattle.std.specs.Prelude.{◌≡◌, ◌*◌, ◌-◌, ◌^◌, ◌<◌, ◌≤◌};
 ghost use Rattle.indicatif_text.specs.Format.{rounds_up, round, rounded_half_up};
 
 /// Whether a quotient is rounded up from the whole number below it, by whether that is odd and by the rest.
@@ -12,17 +12,21 @@ pub(crate) fn rounds_up(odd: bool, rest: u64, den: u64) -> bool
     rest > missing || (rest == missing && odd)
 }
 
-/// The hundredths of `size` in `n`: the nearest whole number, the even one of two.
+/// The nearest whole number to a quotient, the even one of two. It takes no memory.
+///
+/// ```
+/// nearest(7, 2) // 4
+/// nearest(5, 2) // 2
+/// ```
 #[inline(always)]
-pub(crate) fn hundredths(n: u64, size: u64) -> u64
-    requires { 1000 ≤ size }
-    ensures { result ≡ round (n * 100) size }
+pub fn nearest(num: u128, den: u64) -> u64
+    requires some { 0 < den }
+    requires small { num < (2 ^ 64 - 1) * den }
+    ensures { result ≡ round num den }
 {
-    let num = u128::from(n) * 100;
-    let den = u128::from(size);
-    let below = (num / den) as u64;
-    let rest = (num % den) as u64;
-    if rounds_up(below % 2 == 1, rest, size) {
+    let wide = u128::from(den);
+    let below = (num / wide) as u64;
+    if rounds_up(below % 2 == 1, (num % wide) as u64, den) {
         below + 1
     } else {
         below
