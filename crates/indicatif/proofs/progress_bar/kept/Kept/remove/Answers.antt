@@ -13,10 +13,10 @@ returns-in-Open-clause-can g c = refused_so g.T.TermLike.view (id_of c.args.id) 
 
 pub returns-in-Recorded-clause-made : goal.returns-in-Recorded-clause-made
 returns-in-Recorded-clause-made g c = rw c.in-Recorded.is
-    (removed_recorded g.T.TermLike.view c.in-Recorded.record c.apply.new.self (id_of c.args.id) c.args.now c.removed.result c.apply.result.0 c.removed.ensures
+    (removed_recorded g.T.TermLike.view c.in-Recorded.record c.apply.new.self (id_of c.args.id) c.args.now c.bar_unless_refused.result c.apply.result.0 c.bar_unless_refused.ensures
     (grows_so g.T.TermLike.view c.in-Recorded.record c.apply.new.self (Remove (id_of c.args.id)) c.args.now c.apply.result.0 c.apply.ensures.grows))
 
 pub returns-in-Recorded-clause-can : goal.returns-in-Recorded-clause-can
-returns-in-Recorded-clause-can g c = refused_as g.T.TermLike.view (id_of c.args.id) c.removed.result c.apply.result.0 c.removed.ensures
+returns-in-Recorded-clause-can g c = refused_as g.T.TermLike.view (id_of c.args.id) c.bar_unless_refused.result c.apply.result.0 c.bar_unless_refused.ensures
     (record_answers g.T.TermLike.view c.in-Recorded.record c.apply.new.self (Remove (id_of c.args.id)) c.args.now (answer_of c.apply.result.0) c.replays.ensures
     (grows_so g.T.TermLike.view c.in-Recorded.record c.apply.new.self (Remove (id_of c.args.id)) c.args.now c.apply.result.0 c.apply.ensures.grows))
