@@ -57,6 +57,13 @@ impl<T: Drop, C> Held<T, C> {
         }
     }
 
+    /// The bar stands there from now on; where it stood before is given up.
+    fn stand(&mut self, place: Place<T, C>)
+        ensures { self.new.place ≡ place }
+    {
+        self.place = place;
+    }
+
     /// One owner more; not where there is none left, or the count is at its end.
     pub fn join(&mut self) -> bool
         ensures { OwnerJoins result self.old.owners self.new.owners }
@@ -269,7 +276,7 @@ impl<T: TermLike + Drop, C: Clock + Drop> Held<T, C> {
             Place::On(seat) => {
                 let now = self.clock.now();
                 let (bar, drawn) = seat.leave(rt, now)?;
-                self.place = Place::Alone(Single::new(bar, target));
+                self.stand(Place::Alone(Single::new(bar, target)));
                 drawn
             }
         }
@@ -292,7 +299,7 @@ impl<T: TermLike + Drop, C: Clock + Drop> Held<T, C> {
         let taken = board.lock(rt).insert(at, candidate);
         let id = taken?;
         if self.place.id().is_none() {
-            self.place = Place::On(Seat { board, id, alloc });
+            self.stand(Place::On(Seat { board, id, alloc }));
         }
         Ok(())
     }
@@ -310,7 +317,7 @@ impl<T: TermLike + Drop, C: Clock + Drop> Held<T, C> {
         };
         let removed = board.lock(rt).remove(id);
         if let Some(bar) = removed? {
-            self.place = Place::Alone(Single::new(bar, ProgressDrawTarget::hidden()));
+            self.stand(Place::Alone(Single::new(bar, ProgressDrawTarget::hidden())));
         }
         Ok(())
     }

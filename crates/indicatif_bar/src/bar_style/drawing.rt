@@ -17,7 +17,8 @@ use crate::spare::SpareLines;
 use crate::style::bar::{RestLook, push_bar};
 use crate::style::filling::{Gap, has_mark, push_filled, push_lines};
 use crate::style::key_texts::{
-    push_count, push_percent, push_percent_precise, push_rate, push_time, push_whole_rate,
+    push_count, push_percent, push_percent_precise, push_rate, push_text, push_time,
+    push_whole_rate,
 };
 use crate::style::keys::Key;
 use crate::style::padding::{AtWidth, push_padded};
@@ -68,22 +69,21 @@ impl<K: ProgressTracker> ProgressStyle<K> {
                 state,
                 u64::from(placeholder.width.unwrap_or(20)),
                 out,
-            )?,
-            Key::WideBar | Key::WideMessage => out.push_str("\0")?,
-            Key::Spinner => out.push_str(self.spinner_text(state))?,
-            Key::Prefix => out.push_str(state.prefix())?,
-            Key::Message => out.push_str(state.message())?,
-            Key::Position(form) => push_count(form, state.pos(), out)?,
-            Key::Length(form) => push_count(form, state.len().unwrap_or(state.pos()), out)?,
-            Key::Percent => push_percent(state.fraction(), out)?,
-            Key::PercentPrecise => push_percent_precise(state.fraction(), out)?,
-            Key::Elapsed(form) => push_time(form, state.elapsed(now), out)?,
-            Key::Eta(form) => push_time(form, state.eta(now), out)?,
-            Key::Duration(form) => push_time(form, state.duration(now), out)?,
-            Key::PerSecond => push_rate(state.per_sec(now), placeholder.width.unwrap_or(4), out)?,
-            Key::BytesPerSecond(form) => push_whole_rate(form, state.per_sec(now), out)?,
+            ),
+            Key::WideBar | Key::WideMessage => push_text("\0", out),
+            Key::Spinner => push_text(self.spinner_text(state), out),
+            Key::Prefix => push_text(state.prefix(), out),
+            Key::Message => push_text(state.message(), out),
+            Key::Position(form) => push_count(form, state.pos(), out),
+            Key::Length(form) => push_count(form, state.len().unwrap_or(state.pos()), out),
+            Key::Percent => push_percent(state.fraction(), out),
+            Key::PercentPrecise => push_percent_precise(state.fraction(), out),
+            Key::Elapsed(form) => push_time(form, state.elapsed(now), out),
+            Key::Eta(form) => push_time(form, state.eta(now), out),
+            Key::Duration(form) => push_time(form, state.duration(now), out),
+            Key::PerSecond => push_rate(state.per_sec(now), placeholder.width.unwrap_or(4), out),
+            Key::BytesPerSecond(form) => push_whole_rate(form, state.per_sec(now), out),
         }
-        Ok(())
     }
 
     /// The spinner's text.

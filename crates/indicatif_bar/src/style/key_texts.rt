@@ -11,6 +11,15 @@ use indicatif_text::format::{
 };
 use itoa::Buffer;
 
+/// Appends a text.
+pub(crate) fn push_text(text: &str, out: &mut String) -> Result<(), Refusal>
+    ensures text { OnOk result (string_bytes out.new ≡ string_bytes out.old ++ text.now) }
+    ensures memory { IfErr result (λ e. e ≡ Refusal.Memory) }
+{
+    out.push_str(text)?;
+    Ok(())
+}
+
 /// Appends the decimal digits of a number.
 fn push_number(n: u64, out: &mut String) -> Result<(), Refusal>
     ensures text { OnOk result (string_bytes out.new ≡ string_bytes out.old ++ decimal n) }
