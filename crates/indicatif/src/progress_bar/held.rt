@@ -57,13 +57,6 @@ impl<T: Drop, C> Held<T, C> {
         }
     }
 
-    /// The bar stands there from now on; where it stood before is given up.
-    fn stand(&mut self, place: Place<T, C>)
-        ensures { self.new.place ≡ place }
-    {
-        self.place = place;
-    }
-
     /// One owner more; not where there is none left, or the count is at its end.
     pub fn join(&mut self) -> bool
         ensures { OwnerJoins result self.old.owners self.new.owners }
@@ -257,6 +250,13 @@ impl<T: TermLike + Drop, C: Clock + Drop> Held<T, C> {
         let now = self.clock.now();
         let told = self.place.read(rt, |state| state.elapsed(now));
         told.unwrap_or(0)
+    }
+
+    /// The bar stands there from now on; where it stood before is given up.
+    fn stand(&mut self, place: Place<T, C>)
+        ensures { self.new.place ≡ place }
+    {
+        self.place = place;
     }
 
     /// Another target; the old one is given up. A board's bar leaves its board first, which is drawn anew by force, and stands alone

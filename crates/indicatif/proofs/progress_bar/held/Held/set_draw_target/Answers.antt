@@ -5,4 +5,4 @@ pub returns-in-Alone : goal.returns-in-Alone
 returns-in-Alone g c = rw c.in-Alone.is (c.set_draw_target.new.self, refl, c.set_draw_target.ensures.bar, c.set_draw_target.ensures.terminal, refl)
 
 pub returns-in_ok-bar-in-On : goal.returns-in_ok-bar-in-On
-returns-in_ok-bar-in-On g c = rw c.in-On.is (inl (c.new.result, refl, c.new.ensures.terminal, c.in_ok-bar-in-On.ensures))
+returns-in_ok-bar-in-On g c = rw (c.in-On.is, c.stand.ensures) (inl (c.new.result, refl, c.new.ensures.terminal, c.in_ok-bar-in-On.ensures))
