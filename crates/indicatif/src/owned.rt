@@ -54,7 +54,7 @@ impl<K: ProgressTracker, T: TermLike + Drop, C: Clock + Drop> OwnedBar<K, T, C> 
     /// A bar of this length or of none, in this style, on the setup's target, made at the moment that its clock tells. Nothing
     /// is drawn.
     ///
-    /// Refused: `Memory`.
+    /// Refused: `Memory`; nothing is made, and what was handed in is given up.
     pub fn styled(
         alloc: Global,
         style: ProgressStyle<K>,
@@ -74,7 +74,7 @@ impl<K: ProgressTracker, T: TermLike + Drop, C: Clock + Drop> OwnedBar<K, T, C> 
 impl<T: TermLike + Drop, C: Clock + Drop> OwnedBar<NoTracker, T, C> {
     /// The same with the template `{wide_bar} {pos}/{len}`.
     ///
-    /// Refused: `Memory`.
+    /// Refused: `Memory`; nothing is made, and what was handed in is given up.
     pub fn plain(alloc: Global, len: Option<u64>, setup: Setup<T, C>) -> Result<Self, Refusal>
         ensures bar { IfOk result (λ owned. BeginsPlain owned TICKS.now len setup.target) }
         ensures memory { IfErr result (λ e. e ≡ Refusal.Memory) }

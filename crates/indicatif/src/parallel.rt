@@ -39,7 +39,7 @@ pub trait ParallelProgressIterator: Sized {
 
     /// A bar of this length.
     ///
-    /// Refused: `Memory`.
+    /// Refused: `Memory`; nothing is made, and what was handed in is given up.
     fn progress_count<W: TermLike + Drop, C: Clock + Drop>(
         self,
         alloc: Global,
@@ -52,7 +52,7 @@ pub trait ParallelProgressIterator: Sized {
 
     /// A bar of as many as there are items.
     ///
-    /// Refused: `Memory`.
+    /// Refused: `Memory`; nothing is made, and what was handed in is given up.
     fn progress<W: TermLike + Drop, C: Clock + Drop>(
         self,
         alloc: Global,
@@ -64,7 +64,7 @@ pub trait ParallelProgressIterator: Sized {
 
     /// A bar of as many as there are items, in this style.
     ///
-    /// Refused: `Memory`.
+    /// Refused: `Memory`; nothing is made, and what was handed in is given up.
     fn progress_with_style<W: TermLike + Drop, C: Clock + Drop>(
         self,
         alloc: Global,

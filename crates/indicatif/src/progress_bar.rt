@@ -62,7 +62,7 @@ use tokio::io::{AsyncRead, AsyncWrite};
 /// Once the last owner is gone, by `release` or by being dropped, a bar that isn't finished is finished by its stored finish.
 ///
 /// A bar that stands on a board answers as the board does when it is told that call of that bar; so each command may be refused
-/// `Memory` there (its history, or the copy of a text, finds none), and `NotMember` where the board hasn't the bar.
+/// `Memory` there (its history, or the copy of a text, finds none), and `NotMember` or `ForeignBar` where the board hasn't the bar.
 ///
 /// Its clauses say which answers come: for some bar, or some board, and some moment they are that one's. That the bar under the lock
 /// was changed so is what tests show, since no clause can name what a lock keeps.
@@ -81,7 +81,7 @@ pub struct ProgressBar<T: TermLike + Drop, C: Clock + Drop, R: Wait + Clone + Dr
 impl<T: TermLike + Drop, C: Clock + Drop, R: Wait + Clone + Drop> ProgressBar<T, C, R> {
     /// A bar of this length, which draws nothing yet.
     ///
-    /// Refused: `Memory`.
+    /// Refused: `Memory`; nothing is made, and what was handed in is given up.
     pub fn new(rt: R, alloc: Global, len: u64, setup: Setup<T, C>) -> Result<Self, Refusal>
         ensures { IfErr result (λ e. e ≡ Refusal.Memory) }
     {
@@ -91,7 +91,7 @@ impl<T: TermLike + Drop, C: Clock + Drop, R: Wait + Clone + Drop> ProgressBar<T,
 
     /// A bar without a length, which draws nothing yet.
     ///
-    /// Refused: `Memory`.
+    /// Refused: `Memory`; nothing is made, and what was handed in is given up.
     pub fn no_length(rt: R, alloc: Global, setup: Setup<T, C>) -> Result<Self, Refusal>
         ensures { IfErr result (λ e. e ≡ Refusal.Memory) }
     {
@@ -99,9 +99,10 @@ impl<T: TermLike + Drop, C: Clock + Drop, R: Wait + Clone + Drop> ProgressBar<T,
         ProgressBar::with_draw_target(rt, alloc, None, target, clock)
     }
 
-    /// A bar that is never drawn.
+    /// A bar without a length on no terminal, in the style `{wide_bar} {pos}/{len}`. It is drawn once a board takes it in or it
+    /// has another target.
     ///
-    /// Refused: `Memory`.
+    /// Refused: `Memory`; nothing is made, and what was handed in is given up.
     pub fn hidden(rt: R, alloc: Global, clock: C) -> Result<Self, Refusal>
         ensures { IfErr result (λ e. e ≡ Refusal.Memory) }
     {
@@ -110,7 +111,7 @@ impl<T: TermLike + Drop, C: Clock + Drop, R: Wait + Clone + Drop> ProgressBar<T,
 
     /// A bar without a length, in the style of a spinner, which draws nothing yet.
     ///
-    /// Refused: `Memory`.
+    /// Refused: `Memory`; nothing is made, and what was handed in is given up.
     pub fn new_spinner(rt: R, alloc: Global, setup: Setup<T, C>) -> Result<Self, Refusal>
         ensures { IfErr result (λ e. e ≡ Refusal.Memory) }
     {
@@ -121,7 +122,7 @@ impl<T: TermLike + Drop, C: Clock + Drop, R: Wait + Clone + Drop> ProgressBar<T,
 
     /// A bar of this length or of none, on this target, by this clock. It draws nothing yet.
     ///
-    /// Refused: `Memory`.
+    /// Refused: `Memory`; nothing is made, and what was handed in is given up.
     pub fn with_draw_target(
         rt: R,
         alloc: Global,
@@ -299,7 +300,7 @@ impl<T: TermLike + Drop, C: Clock + Drop, R: Wait + Clone + Drop> ProgressBar<T,
         self.tell(BarCommand::Reset)
     }
 
-    /// The bar is finished at its length and stays. A draw by force.
+    /// The bar is finished at its length, where it has one, and stays. A draw by force.
     pub fn finish(&self) -> Result<Drawn, Refusal>
         ensures { CanAnswer T.view (Lone.Obey (Command.FinishBy Finish.AndLeave)) result }
     {
@@ -313,7 +314,7 @@ impl<T: TermLike + Drop, C: Clock + Drop, R: Wait + Clone + Drop> ProgressBar<T,
         self.tell_text(Worded::Finish, text)
     }
 
-    /// The bar is finished at its length and has no lines any more. A draw by force.
+    /// The bar is finished at its length, where it has one, and has no lines any more. A draw by force.
     pub fn finish_and_clear(&self) -> Result<Drawn, Refusal>
         ensures { CanAnswer T.view (Lone.Obey (Command.FinishBy Finish.AndClear)) result }
     {
@@ -348,7 +349,8 @@ impl<T: TermLike + Drop, C: Clock + Drop, R: Wait + Clone + Drop> ProgressBar<T,
         self.tell(BarCommand::ForceDraw)
     }
 
-    /// Sets what the closure answers of the state that it is shown, under the lock; then as `tick`.
+    /// Sets what the closure answers of the state that it is shown, under the lock; then as `tick`. Where its board hasn't the bar,
+    /// the closure isn't called.
     pub fn update<F: FnOnce(&ProgressState) -> Change>(&self, f: F) -> Result<Drawn, Refusal>
         requires { F.IsAlwaysCallable f }
         ensures { (change : Changed) × CanAnswer T.view (Lone.Obey (Command.Update change.pos change.len)) result
@@ -364,8 +366,9 @@ impl<T: TermLike + Drop, C: Clock + Drop, R: Wait + Clone + Drop> ProgressBar<T,
         self.tell_text(Worded::Log, text)
     }
 
-    /// Takes the bar's rows back, calls `f` once, and draws the bar again by force; the lock is held meanwhile. Answers what `f`
-    /// gave, and what the draw answered; where the clear was refused, no draw is made, and the answer is that refusal.
+    /// Takes the bar's rows back, of a bar on a board those of all its bars, calls `f` once, and draws them again by force; the lock
+    /// is held meanwhile. Answers what `f` gave, and what the draw answered; where the clear was refused, `f` is called all the
+    /// same, no draw is made, and the answer is that refusal.
     #[tactic(auto, using(crate::proofs::FrontLemmas::place_suspends))]
     pub fn suspend<F: FnOnce() -> A, A>(&self, f: F) -> (A, Result<Drawn, Refusal>)
         requires { F.pre f }
@@ -379,7 +382,8 @@ impl<T: TermLike + Drop, C: Clock + Drop, R: Wait + Clone + Drop> ProgressBar<T,
     /// written to either, and the answer is `Limited`. A board's bar leaves its board, whose others are drawn by force, and stands alone
     /// from now on; the answer is that draw's.
     ///
-    /// Refused: what a removal is, and `NotMember` where the board hasn't the bar: it stays there then.
+    /// Refused: what a removal is, and `NotMember` where the board hasn't the bar: it stays there then, and the new
+    /// target is given up.
     #[tactic(auto, using(crate::proofs::FrontLemmas::place_turns))]
     pub fn set_draw_target(&self, target: ProgressDrawTarget<T>) -> Result<Drawn, Refusal>
         ensures { CanTurn T.view result }
@@ -397,32 +401,32 @@ impl<T: TermLike + Drop, C: Clock + Drop, R: Wait + Clone + Drop> ProgressBar<T,
         held.place().with_term(&self.rt, f)
     }
 
-    /// The position.
+    /// The position; 0 where its board hasn't the bar.
     pub fn position(&self) -> u64 {
         self.read(|state| state.pos()).unwrap_or(0)
     }
 
-    /// The length, if there is one.
+    /// The length, if there is one; none either where its board hasn't the bar.
     pub fn length(&self) -> Option<u64> {
         self.read(|state| state.len()).flatten()
     }
 
-    /// How often the bar has ticked; it stays at 2^64 - 1.
+    /// How often the bar has ticked; it stays at 2^64 - 1. 0 where its board hasn't the bar.
     pub fn ticks(&self) -> u64 {
         self.read(|state| state.ticks()).unwrap_or(0)
     }
 
-    /// Whether the bar is finished.
+    /// Whether the bar is finished, or its board hasn't it.
     pub fn is_finished(&self) -> bool {
         self.read(|state| state.is_finished()).unwrap_or(true)
     }
 
-    /// Whether nothing is ever drawn.
+    /// Whether the target is hidden, that of its board where it stands on one: nothing is drawn until another is set.
     pub fn is_hidden(&self) -> bool {
         self.state.lock.lock(&self.rt).place().is_hidden(&self.rt)
     }
 
-    /// How many spaces stand for a tab.
+    /// How many spaces stand for a tab; 8 where its board hasn't the bar.
     pub fn tab_width(&self) -> usize {
         self.state.lock.lock(&self.rt).place().tab_width(&self.rt)
     }
@@ -449,7 +453,8 @@ impl<T: TermLike + Drop, C: Clock + Drop, R: Wait + Clone + Drop> ProgressBar<T,
         held.place().prefix(&self.rt, self.alloc)
     }
 
-    /// A style equal to the bar's: what is made of it leaves the bar as it is.
+    /// A style equal to the bar's, or to that of `default_bar` where its board hasn't the bar: what is made of it leaves the bar as
+    /// it is.
     ///
     /// ```
     /// let style = bar.style()?.template("{pos}")?; // another template for the same characters
@@ -464,28 +469,30 @@ impl<T: TermLike + Drop, C: Clock + Drop, R: Wait + Clone + Drop> ProgressBar<T,
         held.place().style(&self.rt, self.alloc)
     }
 
-    /// The nanoseconds that are left, by the rate so far, at most 2^64 - 1; 0 where the bar is finished, has no length or no rate.
+    /// The nanoseconds that are left, by the rate so far, at most 2^64 - 1; 0 where the bar is finished, has no length or no rate, or
+    /// its board hasn't it.
     pub fn eta(&self) -> u64
         ensures { (p : Progress) × (now : ℕ) × (result ≡ Figures.eta p now) }
     {
         self.state.lock.lock(&self.rt).eta(&self.rt)
     }
 
-    /// The rate so far.
+    /// The rate so far; no steps where its board hasn't the bar.
     pub fn per_sec(&self) -> Rate
         ensures { (p : Progress) × (now : ℕ) × (result ≡ Figures.per_sec p now) }
     {
         self.state.lock.lock(&self.rt).per_sec(&self.rt)
     }
 
-    /// The nanoseconds that all of it takes, by the rate so far; of a finished bar those that it took.
+    /// The nanoseconds that all of it takes, by the rate so far, at most 2^64 - 1, and 0 without a length; of a finished bar those
+    /// that it took. 0 where its board hasn't the bar.
     pub fn duration(&self) -> u64
         ensures { (p : Progress) × (now : ℕ) × (result ≡ Figures.duration p now) }
     {
         self.state.lock.lock(&self.rt).duration(&self.rt)
     }
 
-    /// The nanoseconds since the start.
+    /// The nanoseconds since the start; 0 where its board hasn't the bar.
     pub fn elapsed(&self) -> u64
         ensures { (p : Progress) × (now : ℕ) × (result ≡ Figures.elapsed p now) }
     {
@@ -512,9 +519,9 @@ impl<T: TermLike + Drop, C: Clock + Drop, R: Wait + Clone + Drop> ProgressBar<T,
         Ok(())
     }
 
-    /// Another bar of which this is a weak one: it owns nothing.
+    /// A weak one of this bar: it owns nothing.
     ///
-    /// Refused: want of memory.
+    /// Refused: want of memory; the bar stays as it is.
     pub fn downgrade(&self) -> Result<WeakProgressBar<T, C, R>, AllocError> {
         let state = Arc::try_clone(&self.state)?;
         let rt = self.rt.clone()?;
@@ -604,7 +611,8 @@ impl<T: TermLike + Drop, C: Clock + Drop, R: Wait + Clone + Drop> ProgressBar<T,
         }
     }
 
-    /// At this position, which the rate doesn't count. On a board whose history finds no memory nothing is set.
+    /// At this position, which the rate doesn't count. A refusal is dropped: on a board whose history finds no memory, or that hasn't
+    /// the bar, nothing is set.
     pub fn with_position(self, position: u64) -> Self {
         let _ = self.tell(BarCommand::WithPosition(position));
         self
@@ -622,7 +630,8 @@ impl<T: TermLike + Drop, C: Clock + Drop, R: Wait + Clone + Drop> ProgressBar<T,
         }
     }
 
-    /// With this stored finish. On a board whose history finds no memory nothing is set.
+    /// With this stored finish. A refusal is dropped: on a board whose history finds no memory, or that hasn't the bar, nothing is
+    /// set.
     pub fn with_finish(self, finish: ProgressFinish) -> Self {
         let _ = self.tell(BarCommand::WithFinish(finish));
         self
@@ -650,7 +659,7 @@ impl<T: TermLike + Drop, C: Clock + Drop, R: Wait + Clone + Drop> ProgressBar<T,
     /// A reader that places the bar behind what was read.
     ///
     /// ```
-    /// let mut wrapped = bar.wrap_read(file)?; // wrapped.read(&mut room) places the bar
+    /// let mut wrapped = bar.wrap_read("abcdef".as_bytes())?; // a read into 4 bytes: the position is 4
     /// ```
     ///
     /// Refused: want of memory, or of owners; the reader is given up.
@@ -663,7 +672,7 @@ impl<T: TermLike + Drop, C: Clock + Drop, R: Wait + Clone + Drop> ProgressBar<T,
     /// A writer that places the bar behind what was written.
     ///
     /// ```
-    /// let mut wrapped = bar.wrap_write(file)?; // wrapped.write(text.as_bytes()) places the bar
+    /// let mut wrapped = bar.wrap_write(Vec::new(alloc))?; // a write of "abc": the position is 3
     /// ```
     ///
     /// Refused: want of memory, or of owners; the writer is given up.

@@ -30,7 +30,7 @@ pub trait ProgressIterator: Iterator + Sized {
 
     /// A bar of this length.
     ///
-    /// Refused: `Memory`.
+    /// Refused: `Memory`; the iterator and the setup are given up.
     fn progress_count<W: TermLike + Drop, C: Clock + Drop>(
         self,
         alloc: Global,
@@ -43,7 +43,7 @@ pub trait ProgressIterator: Iterator + Sized {
 
     /// A bar of as many as are left.
     ///
-    /// Refused: `Memory`.
+    /// Refused: `Memory`; the iterator and the setup are given up.
     fn progress<W: TermLike + Drop, C: Clock + Drop>(
         self,
         alloc: Global,
@@ -57,7 +57,7 @@ pub trait ProgressIterator: Iterator + Sized {
 
     /// A bar of as many as are left, in this style.
     ///
-    /// Refused: `Memory`.
+    /// Refused: `Memory`; the iterator and the setup are given up.
     fn progress_with_style<W: TermLike + Drop, C: Clock + Drop>(
         self,
         alloc: Global,
@@ -70,14 +70,15 @@ pub trait ProgressIterator: Iterator + Sized {
         ensures bar { IfOk result (λ w. (now : ℕ) × Begins w.progress (new_bar style (Some (size (Self.remaining self))) now) setup.target) }
         ensures memory { IfErr result (λ e. e ≡ Refusal.Memory) };
 
-    /// A bar of the most that may be left, by the upper bound of the iterator's `size_hint`; `None`, and nothing is made, where
-    /// that says no such number. So the bar's length is never below the number of items that come.
+    /// A bar of the most that may be left, by the upper bound of the iterator's `size_hint`; where
+    /// that says no such number, `None`: nothing is made, and the iterator is given up. So the bar's length is never below the
+    /// number of items that come.
     ///
     /// ```
     /// let Some(mut wrapped) = list.into_iter().try_progress(alloc, setup)? else { .. }; // of 3 items: `0/3` at first
     /// ```
     ///
-    /// Refused: `Memory`.
+    /// Refused: `Memory`; the iterator and the setup are given up.
     fn try_progress<W: TermLike + Drop, C: Clock + Drop>(
         self,
         alloc: Global,

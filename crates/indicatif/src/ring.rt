@@ -4,7 +4,8 @@ ghost use Rattle.indicatif.specs.Ring.{greatest_of};
 
 use std::marker::Model;
 
-/// The last `N` places that it was told, from 1 to 255 of them. Contracts see them as a list, the latest first.
+/// The last `N` places that it was told, from 1 to 255 of them. Contracts see them as a list, the latest first. As the Rust crate
+/// `indicatif` 0.18.6 keeps them.
 ///
 /// ```
 /// let mut places = MaxRingBuf::<1>::new();

@@ -9,7 +9,8 @@ use indicatif_text::columns::{Drawn, Refusal};
 
 /// An iterator, reader, writer or stream that moves a bar. It gives what the inner one gives, and beside it:
 ///
-/// - an item, from either end, advances the bar by 1, and the end finishes a bar that isn't finished, by its stored finish;
+/// - an item, from either end, advances the bar by 1; the end of an iterator finishes a bar that isn't finished, and each end of a
+///   stream finishes it, by its stored finish;
 /// - bytes that were read, consumed or written place the bar behind them, and a seek places it at its target, as
 ///   `SeekMax<5, 10>` says, which keeps a bar from jumping with a reader that seeks back and forth;
 /// - an error, and a poll that is pending, leave the bar as it is, but for a polled read that failed: it places the bar behind no

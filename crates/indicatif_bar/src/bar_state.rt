@@ -24,8 +24,8 @@ use std::marker::Model;
 /// A bar's record: what it has reached, how it looks, how it ends. It draws nothing by itself: each command answers whether
 /// a draw is asked.
 ///
-/// Each command has a moment, in nanoseconds, which may also go back. Commands that take no memory are never refused; one
-/// that is refused changes nothing.
+/// Each command has a moment, in nanoseconds, which may also go back. One is refused `Memory` only where it takes some, and
+/// `ElapsedBeyondClock` only where it sets an elapsed time that is more than the moment; one that is refused changes nothing.
 ///
 /// ```
 /// let mut bar = BarState::styled(alloc, style, Some(10), 0)?;
@@ -71,9 +71,10 @@ impl<K: ProgressTracker> BarState<K> {
         Ok(bar)
     }
 
-    /// A bar in this style, of this length or of none, made at this moment. Takes no memory.
+    /// A bar in this style, of this length or of none, made at this moment. Takes memory only where the style has another width of
+    /// tabs than 8.
     ///
-    /// Refused: `Memory`, where the style has another width of tabs than 8.
+    /// Refused: `Memory`, only there; the style is given up.
     pub fn styled(
         alloc: Global,
         style: ProgressStyle<K>,
@@ -170,7 +171,7 @@ impl<K: ProgressTracker> BarState<K> {
         Ask::Unforced
     }
 
-    /// Says whether a steady ticker is installed.
+    /// From now on a steady ticker is installed, or none is; while one is, `tick` changes nothing. No draw is asked.
     pub fn set_ticker(&mut self, installed: bool, now: Moment) -> Ask
         ensures { (self.new, result) ≡ obeyed K.means (SetTicker installed) self.old now }
     {
@@ -179,7 +180,7 @@ impl<K: ProgressTracker> BarState<K> {
     }
 
     /// The position goes up by `delta`, modulo 2^64. It is looked at, as by a tick, as often as the position's limiter
-    /// allows: 10 times at once, and once more each millisecond.
+    /// allows: 10 times at once, and once more each millisecond, where moments don't go back.
     #[inline(always)]
     pub fn inc(&mut self, delta: u64, now: Moment) -> Ask
         ensures { (self.new, result) ≡ obeyed K.means (Inc delta) self.old now }
@@ -251,21 +252,21 @@ impl<K: ProgressTracker> BarState<K> {
         self.tick(now)
     }
 
-    /// Another length, and a draw.
+    /// Another length, and a draw: the position is recorded with the rate, and the trackers tick.
     pub fn set_length(&mut self, len: u64, now: Moment) -> Ask
         ensures { (self.new, result) ≡ obeyed K.means (SetLength len) self.old now }
     {
         self.put_length(Some(len), now)
     }
 
-    /// No length, and a draw.
+    /// No length; else as `set_length`.
     pub fn unset_length(&mut self, now: Moment) -> Ask
         ensures { (self.new, result) ≡ obeyed K.means UnsetLength self.old now }
     {
         self.put_length(None, now)
     }
 
-    /// A length that is longer by `delta`, up to 2^64 - 1, and a draw. Where there is none, there stays none.
+    /// A length that is longer by `delta`, up to 2^64 - 1; else as `set_length`. Where there is none, there stays none.
     pub fn inc_length(&mut self, delta: u64, now: Moment) -> Ask
         ensures { (self.new, result) ≡ obeyed K.means (IncLength delta) self.old now }
     {
@@ -273,7 +274,7 @@ impl<K: ProgressTracker> BarState<K> {
         self.put_length(len, now)
     }
 
-    /// A length that is shorter by `delta`, down to 0, and a draw. Where there is none, there stays none.
+    /// A length that is shorter by `delta`, down to 0; else as `set_length`. Where there is none, there stays none.
     pub fn dec_length(&mut self, delta: u64, now: Moment) -> Ask
         ensures { (self.new, result) ≡ obeyed K.means (DecLength delta) self.old now }
     {
@@ -289,9 +290,9 @@ impl<K: ProgressTracker> BarState<K> {
         self.update_draw(now)
     }
 
-    /// Another message, and a draw.
+    /// Another message; else as `set_length`.
     ///
-    /// Refused: `Memory`, where it takes some; nothing has changed then.
+    /// Refused: `Memory`, only where the text isn't empty; nothing has changed then.
     pub fn set_message(&mut self, text: &str, now: Moment) -> Result<Ask, Refusal>
         ensures done { IfOk result (λ ask. (self.new, ask) ≡ obeyed K.means (SetMessage text.now) self.old now) }
         ensures unchanged { OnErr result (self.new ≡ self.old) }
@@ -302,9 +303,9 @@ impl<K: ProgressTracker> BarState<K> {
         Ok(self.update_draw(now))
     }
 
-    /// Another prefix, and a draw.
+    /// Another prefix; else as `set_length`.
     ///
-    /// Refused: `Memory`, where it takes some; nothing has changed then.
+    /// Refused: `Memory`, only where the text isn't empty; nothing has changed then.
     pub fn set_prefix(&mut self, text: &str, now: Moment) -> Result<Ask, Refusal>
         ensures done { IfOk result (λ ask. (self.new, ask) ≡ obeyed K.means (SetPrefix text.now) self.old now) }
         ensures unchanged { OnErr result (self.new ≡ self.old) }
@@ -350,7 +351,7 @@ impl<K: ProgressTracker> BarState<K> {
 
     /// Another message. No draw is asked.
     ///
-    /// Refused: `Memory`, where it takes some; nothing has changed then.
+    /// Refused: `Memory`, only where the text isn't empty; nothing has changed then.
     pub fn with_message(&mut self, text: &str, now: Moment) -> Result<Ask, Refusal>
         ensures done { IfOk result (λ ask. (self.new, ask) ≡ obeyed K.means (PutMessage text.now) self.old now) }
         ensures unchanged { OnErr result (self.new ≡ self.old) }
@@ -363,7 +364,7 @@ impl<K: ProgressTracker> BarState<K> {
 
     /// Another prefix. No draw is asked.
     ///
-    /// Refused: `Memory`, where it takes some; nothing has changed then.
+    /// Refused: `Memory`, only where the text isn't empty; nothing has changed then.
     pub fn with_prefix(&mut self, text: &str, now: Moment) -> Result<Ask, Refusal>
         ensures done { IfOk result (λ ask. (self.new, ask) ≡ obeyed K.means (PutPrefix text.now) self.old now) }
         ensures unchanged { OnErr result (self.new ≡ self.old) }
@@ -384,7 +385,8 @@ impl<K: ProgressTracker> BarState<K> {
 
     /// As many spaces for a tab, in the message, the prefix and the style. No draw is asked.
     ///
-    /// Refused: `Memory`, where it takes some; nothing has changed then.
+    /// Refused: `Memory`, only where the message or the prefix has a tab, or the style another width of tabs; nothing has changed
+    /// then.
     pub fn with_tab_width(&mut self, tab: usize, now: Moment) -> Result<Ask, Refusal>
         ensures done { IfOk result (λ ask. (self.new, ask) ≡ obeyed K.means (PutTabWidth tab) self.old now) }
         ensures unchanged { OnErr result (self.new ≡ self.old) }
@@ -399,7 +401,7 @@ impl<K: ProgressTracker> BarState<K> {
 
     /// The same, and a draw by force.
     ///
-    /// Refused: `Memory`, where it takes some; nothing has changed then.
+    /// Refused: as `with_tab_width`; nothing has changed then.
     pub fn set_tab_width(&mut self, tab: usize, now: Moment) -> Result<Ask, Refusal>
         ensures done { IfOk result (λ ask. (self.new, ask) ≡ obeyed K.means (SetTabWidth tab) self.old now) }
         ensures unchanged { OnErr result (self.new ≡ self.old) }
@@ -474,7 +476,7 @@ impl<K: ProgressTracker> BarState<K> {
 
     /// The same, with this message.
     ///
-    /// Refused: `Memory`, where it takes some; nothing has changed then.
+    /// Refused: `Memory`, only where the message isn't empty; nothing has changed then.
     pub fn finish_with_message(&mut self, text: &str, now: Moment) -> Result<Ask, Refusal>
         ensures done { IfOk result (λ ask. (self.new, ask) ≡ obeyed K.means (FinishBy (WithMessage text.now)) self.old now) }
         ensures unchanged { OnErr result (self.new ≡ self.old) }
@@ -503,7 +505,7 @@ impl<K: ProgressTracker> BarState<K> {
 
     /// The same, with this message.
     ///
-    /// Refused: `Memory`, where it takes some; nothing has changed then.
+    /// Refused: `Memory`, only where the message isn't empty; nothing has changed then.
     pub fn abandon_with_message(&mut self, text: &str, now: Moment) -> Result<Ask, Refusal>
         ensures done { IfOk result (λ ask. (self.new, ask) ≡ obeyed K.means (FinishBy (AbandonWithMessage text.now)) self.old now) }
         ensures unchanged { OnErr result (self.new ≡ self.old) }
@@ -516,7 +518,7 @@ impl<K: ProgressTracker> BarState<K> {
 
     /// The bar is finished so. A draw is forced.
     ///
-    /// Refused: `Memory`, where the finish has a message; nothing has changed then.
+    /// Refused: `Memory`, only where the finish has a message that isn't empty; nothing has changed then.
     pub fn finish_by(&mut self, finish: &ProgressFinish, now: Moment) -> Result<Ask, Refusal>
         ensures done { IfOk result (λ ask. (self.new, ask) ≡ obeyed K.means (FinishBy (finish_of finish.now)) self.old now) }
         ensures unchanged { OnErr result (self.new ≡ self.old) }
@@ -529,7 +531,7 @@ impl<K: ProgressTracker> BarState<K> {
 
     /// The bar is finished by the finish that `with_finish` stored, at first `AndClear`. A draw is forced.
     ///
-    /// Refused: `Memory`, where that finish has a message; nothing has changed then.
+    /// Refused: `Memory`, only where that finish has a message that isn't empty; nothing has changed then.
     pub fn finish_using_style(&mut self, now: Moment) -> Result<Ask, Refusal>
         ensures done { IfOk result (λ ask. (self.new, ask) ≡ obeyed K.means FinishUsingStyle self.old now) }
         ensures unchanged { OnErr result (self.new ≡ self.old) }
@@ -543,7 +545,7 @@ impl<K: ProgressTracker> BarState<K> {
     /// The bar's owner is gone: one that isn't finished is finished by its stored finish, and a draw is forced; else nothing
     /// changes and no draw is asked.
     ///
-    /// Refused: `Memory`, where it is to be finished with a message; nothing has changed then.
+    /// Refused: `Memory`, only where it is to be finished with a message that isn't empty; nothing has changed then.
     pub fn dropped(&mut self, now: Moment) -> Result<Ask, Refusal>
         ensures done { IfOk result (λ ask. (self.new, ask) ≡ after_drop self.old now) }
         ensures unchanged { OnErr result (self.new ≡ self.old) }
@@ -563,7 +565,7 @@ impl<K: ProgressTracker> BarState<K> {
         Ask::Forced
     }
 
-    /// Does what the command says. Each command is the call of its name.
+    /// Does what the command says: the call that `BarCommand` names.
     ///
     /// Refused: `ElapsedBeyondClock`, exactly where an elapsed time is more than the moment; `Memory`, where the command takes
     /// some. Nothing has changed then.

@@ -20,7 +20,8 @@ use std::sync::Arc;
 /// How a bar looks: a template, the characters of a bar, the texts of a spinner, and trackers under keys of their own.
 ///
 /// What never changes from draw to draw is made once, when the style is made: the names of the template's keys are looked
-/// up, and the tabs of its literals expanded. A literal without tabs is read from the template itself.
+/// up, and the tabs of its literals expanded. A literal without tabs is read from the template itself. The keys, and what stands
+/// under each, are those of the documentation of the Rust crate `indicatif` 0.18.6.
 ///
 /// ```
 /// let style: ProgressStyle<NoTracker> = ProgressStyle::with_template(alloc, "{bar:10} {pos}/{len}")?.progress_chars("=> ")?;

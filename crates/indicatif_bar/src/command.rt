@@ -16,8 +16,8 @@ pub struct Change {
     pub len: Option<u64>,
 }
 
-/// A command of a bar as a value. Each is the call of `BarState` with its name; `with_style` and `with_elapsed` are `SetStyle`
-/// and `SetElapsed`.
+/// A command of a bar as a value. Each is the call of `BarState` with its name, but `Update` is `set_change` and `FinishBy` is
+/// `finish_by`; `with_style` and `with_elapsed` are `SetStyle` and `SetElapsed`.
 ///
 /// ```
 /// let ask = bar.apply(BarCommand::Inc(2), now)?; // as `bar.inc(2, now)`
@@ -60,9 +60,9 @@ pub enum BarCommand<K> {
     WithPrefix(String),
     /// What finishes the bar when it is dropped, or by `FinishUsingStyle`.
     WithFinish(ProgressFinish),
-    /// Another width of tabs, and no draw.
+    /// So many spaces for a tab, and no draw.
     WithTabWidth(usize),
-    /// Another width of tabs, and a draw by force.
+    /// So many spaces for a tab, and a draw by force.
     SetTabWidth(usize),
     /// So many nanoseconds have passed since the start.
     SetElapsed(u64),

@@ -5,7 +5,7 @@ ghost use Rattle.indicatif_bar.specs.Finishes.{finish_of};
 use indicatif_text::columns::Refusal;
 use std::alloc::Global;
 
-/// How a bar is finished.
+/// How a bar is finished. By the documentation of the Rust crate `indicatif` 0.18.6.
 ///
 /// ```
 /// bar.with_finish(ProgressFinish::AndLeave, now);

@@ -125,7 +125,7 @@ impl<K: ProgressTracker, T: TermLike + Drop> LoneBar<K, T> {
         }
     }
 
-    /// Whether nothing is ever drawn.
+    /// Whether the target is hidden: nothing is drawn until another is set.
     pub fn is_hidden(&self) -> bool
         ensures { IsTrue result ↔ (lone_terminal self.now ≡ None) }
     {
@@ -148,7 +148,7 @@ impl<K: ProgressTracker, T: TermLike + Drop> LoneBar<K, T> {
         self.obey(ask, now)
     }
 
-    /// Whether a steady ticker is installed. No draw is asked.
+    /// From now on a steady ticker is installed, or none is; while one is, `tick` changes nothing. No draw is asked.
     pub fn set_ticker(&mut self, installed: bool, now: Moment) -> Result<Drawn, Refusal>
         ensures obeys { Obeys K.means T.view self.old self.new (SetTicker installed) now result }
         ensures limited { result ≡ Ok Drawn.Limited }
@@ -259,7 +259,7 @@ impl<K: ProgressTracker, T: TermLike + Drop> LoneBar<K, T> {
         self.obey(ask, now)
     }
 
-    /// The bar is finished at its length and stays. A draw by force.
+    /// The bar is finished at its length, where it has one, and stays. A draw by force.
     pub fn finish(&mut self, now: Moment) -> Result<Drawn, Refusal>
         ensures { Obeys K.means T.view self.old self.new (FinishBy AndLeave) now result }
     {
@@ -267,7 +267,7 @@ impl<K: ProgressTracker, T: TermLike + Drop> LoneBar<K, T> {
         self.obey(ask, now)
     }
 
-    /// The bar is finished at its length and has no lines any more. A draw by force.
+    /// The bar is finished at its length, where it has one, and has no lines any more. A draw by force.
     pub fn finish_and_clear(&mut self, now: Moment) -> Result<Drawn, Refusal>
         ensures { Obeys K.means T.view self.old self.new (FinishBy AndClear) now result }
     {
@@ -414,7 +414,7 @@ impl<K: ProgressTracker, T: TermLike + Drop> LoneBar<K, T> {
     /// As `set_elapsed`.
     ///
     /// ```
-    /// let drawn = bar.with_elapsed(2_000_000_000, now)?; // two seconds have passed at `now`; Drawn::Limited
+    /// let drawn = bar.with_elapsed(3_000_000_000, 4_000_000_000)?; // three seconds have passed at the fourth; Drawn::Limited
     /// ```
     pub fn with_elapsed(&mut self, nanos: u64, now: Moment) -> Result<Drawn, Refusal>
         ensures obeys { ObeysOrNot K.means T.view self.old self.new (SetElapsed nanos) now result }
@@ -508,8 +508,8 @@ impl<K: ProgressTracker, T: TermLike + Drop> LoneBar<K, T> {
     }
 
     /// Another target, and the old one, with its limiter as the bar's draws left it. Nothing is written to either: what stands
-    /// on the old one stays, and on the new one the bar begins anew: at the front of an empty row, so a line end is written
-    /// first where something of another bar stands on it.
+    /// on the old one stays, and on the new one the bar begins anew with its next draw. The cursor has to stand at the front of
+    /// an empty row there: where something stands in that row, the caller writes a line end first.
     pub fn set_draw_target(&mut self, target: ProgressDrawTarget<T>) -> ProgressDrawTarget<T>
         ensures old { term_of result ≡ lone_terminal self.old }
         ensures old_limiter { (s : LoneState _) → LoneIsIn self.old s → IfSome result (λ t. t.1 ≡ s.limiter) }
@@ -526,7 +526,7 @@ impl<K: ProgressTracker, T: TermLike + Drop> LoneBar<K, T> {
         }
     }
 
-    /// A call as a value: what the method of the same name does and refuses.
+    /// A call as a value, `Bar` a command, `Log` `println`, `Clear` `clear`: what that method does and refuses.
     pub fn call(&mut self, call: LoneCall<K>, now: Moment) -> Result<Drawn, Refusal>
         ensures bar { CallDone K.means self.old self.new (lone_call_of call) now result }
         ensures silent { IsFalse (wrote result) → lone_terminal self.new ≡ lone_terminal self.old }
@@ -547,7 +547,7 @@ impl<K: ProgressTracker, T: TermLike + Drop> LoneBar<K, T> {
     /// command makes of it what it says, or is refused. Where no call was refused memory, it is what the commands make of it in their
     /// order. No calls change nothing, and are never refused.
     ///
-    /// Refused: `Memory` for the answers alone, and nothing is run.
+    /// Refused: `Memory` for the answers alone, and nothing is run; the calls are given up.
     pub fn run(
         &mut self,
         calls: Vec<(LoneCall<K>, Moment)>,

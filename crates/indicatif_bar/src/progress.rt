@@ -153,8 +153,8 @@ impl ProgressState {
         self.per_sec(now).time_for(left)
     }
 
-    /// The nanoseconds from the start to the end: those that the bar took where it is finished, else those so far and those
-    /// to come, at most 2^64 - 1. 0 without a length.
+    /// The nanoseconds from the start to the end: those that the bar took where it is finished; else those so far and those
+    /// to come, at most 2^64 - 1, and 0 without a length.
     pub fn duration(&self, now: Moment) -> u64
         ensures { result ≡ duration self.now now }
     {

@@ -12,8 +12,8 @@ use std::sync::Arc;
 /// What stands under a key of the caller's own in a template.
 ///
 /// What it means is one record: its text at a state and a moment, and what a tick and a reset leave of it. A text follows
-/// from the tracker, the state and the moment alone. Each tick of a bar ticks its trackers, and a reset of the bar resets
-/// them.
+/// from the tracker, the state and the moment alone. Each tick of a bar ticks its trackers, and so does another length, message
+/// or prefix; a reset of the bar resets them.
 ///
 /// ```
 /// // `Left { of: 10 }` writes how many of 10 steps are left: "files 7" at the position 3
@@ -23,7 +23,7 @@ pub trait ProgressTracker: Sized + Send + Sync + Drop {
     /// The text, and what a tick and a reset leave.
     ghost means: { Tracking Self };
 
-    /// The bar has ticked, and is in this state at this moment.
+    /// The bar has ticked, or was given another length, message or prefix, and is in this state at this moment.
     fn tick(&mut self, state: &ProgressState, now: Moment)
         ensures { self.new ≡ means.ticked self.old state.now now };
 

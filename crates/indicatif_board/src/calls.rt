@@ -59,7 +59,8 @@ pub enum InsertLocation {
     After(BarId),
 }
 
-/// A call of a board as a value. Each is the call of `Board` with its name.
+/// A call of a board as a value. `Insert` is `add` and the insertions, `Drop` is `drop_bar`, `Log` is `println`, `BarLog` is
+/// `bar_println`, `Align` is `set_alignment`, `Bar` is `command`; the others are the calls of their names.
 ///
 /// ```
 /// board.call(Call::Log(text), now) // as board.println(text.as_str(), now)
@@ -68,7 +69,9 @@ pub enum InsertLocation {
 pub enum Call<K> {
     /// A bar taken in.
     Insert {
+        /// Where it is to stand in the order.
         at: InsertLocation,
+        /// What is taken in.
         candidate: Candidate<K>,
     },
     /// A bar taken out of the order.

@@ -64,7 +64,8 @@ impl Model for Done {
     ghost invariant = { λ d. (d.table.shared.table_id.words ≡ 1) × (d.table.shared.table_id.slots ≡ 0) };
 }
 
-/// The right to add to a sum, and a share of it. Contracts see the sum that it adds to, and what its holder knows of it.
+/// The right to add to a sum, and a share of it. Contracts see the sum that it adds to, and what its holder knows of it. The sum
+/// that each call is handed is that one.
 ///
 /// ```
 /// let (mut first, mut second) = worker.split(&done)?;
@@ -170,7 +171,7 @@ impl BarWorker {
         BarWorker { splits, seat }
     }
 
-    /// `count` workers in place of this one, by splitting halves of halves: however many are asked for, shares don't run out.
+    /// `count` workers, at least 1, in place of this one, by splitting halves of halves: however many are asked for, shares don't run out.
     ///
     /// Refused: `Memory`, where the list's memory was refused (or after some 2^64 splits in a row). The worker is given up
     /// then, and the sum can't be closed any more.

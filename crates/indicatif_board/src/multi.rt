@@ -43,7 +43,8 @@ use std::mem::replace;
 /// sequences alone.
 ///
 /// A call that names a bar is refused with `ForeignBar` where the bar has another board's mark, and with `NotMember` where it was
-/// removed, dropped or never given; nothing has changed then. Else a call that draws goes the steps that `LoneBar` lists, with the
+/// removed, dropped or never given; nothing has changed then. (`remove` answers `None` in place of `NotMember`, and `slot` in place
+/// of both.) Else a call that draws goes the steps that `LoneBar` lists, with the
 /// stored lines of all bars in their order in the place of its own; of the bars only the one that is named is laid out anew. As
 /// many lines from the front are shown as have at most the terminal's rows together. A draw that was answered with `Yes` takes the
 /// dropped bars at the head of the order out of it. After `Terminal` no bar leaves the order, and the next draw begins on a new row.
@@ -88,7 +89,7 @@ impl<K: ProgressTracker, T: TermLike + Drop> Board<K, T> {
         }
     }
 
-    /// Whether nothing is ever drawn.
+    /// Whether the target is hidden: nothing is drawn until another is set.
     pub fn is_hidden(&self) -> bool
         ensures { IsTrue result ↔ (terminal_of self.now ≡ None) }
     {
@@ -424,7 +425,7 @@ impl<K: ProgressTracker, T: TermLike + Drop> Board<K, T> {
         }
     }
 
-    /// A call as a value: what the method of the same name does and refuses. A bar that is removed or turned away is given up.
+    /// A call as a value: what the method that `Call` names does and refuses. A bar that is removed or turned away is given up.
     pub fn call(&mut self, call: Call<K>, now: Moment) -> Answer
         ensures silent { IsFalse (wrote (drawn_of (answer_of result))) → terminal_of self.new ≡ terminal_of self.old }
         ensures nowhere { IsNowhere T.view self.old → terminal_of self.new ≡ terminal_of self.old }

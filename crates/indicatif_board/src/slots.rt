@@ -11,7 +11,7 @@ use std::marker::Model;
 ///
 /// Numbers are counted from 0 as bars are taken in, and never used again. Slots are: the one that was freed last is used first,
 /// and a new one only where none is free, so that there are never more than there were bars at a time. Each slot that was ever
-/// used has one bar or is free.
+/// used has one bar or is free. By the documentation of the Rust crate `indicatif` 0.18.6.
 ///
 /// ```
 /// let mut state = MultiState::new(alloc);

@@ -2,8 +2,8 @@
 //!
 //! The rows that an engine has written are of three kinds, from the top: those *above*, which never change again; those
 //! *kept*, of bars that are gone; and the *live* ones, of the last frame. An engine remembers their counts and no text, so
-//! what it needs does not grow with what is logged. It takes kept and live rows back from the last one up, and writes the
-//! new ones in their place, so that the rows above stand at every moment.
+//! what it needs does not grow with what is logged. It goes up to the first of the kept and live rows, empties them from there
+//! down, goes up again, and writes the new ones in their place, so that the rows above stand at every moment.
 ghost use Rattle.std.specs.Prelude.{◌≡◌, ◌≢◌, map, length, replicate, ◌<◌, ◌≤◌, IfErr, IfSome, option_map, IsTrue, IsFalse, ◌++◌, [], ℕ};
 ghost use Rattle.indicatif_term.specs.Lists.{opening_lists};
 

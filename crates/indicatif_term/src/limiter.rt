@@ -6,7 +6,7 @@ use indicatif_text::columns::{Moment, Refusal};
 use std::marker::Model;
 
 /// How often a target may be drawn: 20 draws may come at once, and one more with each interval after that, of which no
-/// more than 20 are ever in hand.
+/// more than 20 are ever in hand. By the documentation of the Rust crate `indicatif` 0.18.6.
 ///
 /// Of any moments, in any order, those that it allows are at most 20, and one for each interval from its making to the last
 /// one allowed.

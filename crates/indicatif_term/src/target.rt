@@ -9,7 +9,7 @@ use indicatif_text::columns::{Moment, Refusal};
 use std::io::Write;
 use std::marker::Model;
 
-/// What a program knows of a stream that may be a terminal. The library looks none of it up.
+/// What a program knows of a stream that may be a terminal. This crate looks none of it up; `indicatif::machine` does.
 ///
 /// ```
 /// let facts = Facts { rows: 24, cols: 80, attended: true, term: None };
@@ -40,6 +40,7 @@ impl Facts {
 ///
 /// A target with a rate allows 20 draws at once, and one more with each interval of `1000 / rate` whole milliseconds from its
 /// making on (`RateLimiter`); draws by force aren't counted. Moments are nanoseconds.
+/// By the documentation of the Rust crate `indicatif` 0.18.6.
 ///
 /// ```
 /// let facts = Facts { rows: 24, cols: 80, attended: true, term };
@@ -73,7 +74,7 @@ impl<T: Drop> ProgressDrawTarget<T> {
 
     /// Draws on this terminal, `hz` times a second.
     ///
-    /// Refused: `ZeroRate`, exactly where `hz` is 0.
+    /// Refused: `ZeroRate`, exactly where `hz` is 0; the terminal is given up.
     pub fn term_like_with_hz(term: T, hz: u8, now: Moment) -> Result<Self, Refusal>
         ensures target { IfOk result (λ t. t ≡ Some (term, Some (draw_limiter hz now))) }
         ensures zero { (result ≡ Err Refusal.ZeroRate) ↔ (hz ≡ 0) }
@@ -87,7 +88,7 @@ impl<T: Drop> ProgressDrawTarget<T> {
 
     /// Draws on this terminal, `hz` times a second; nowhere where the facts say so. The terminal's size is its own.
     ///
-    /// Refused: `ZeroRate`, exactly where `hz` is 0, also where the target would be hidden.
+    /// Refused: `ZeroRate`, exactly where `hz` is 0, also where the target would be hidden; the terminal is given up.
     pub fn term(term: T, facts: Facts, hz: u8, now: Moment) -> Result<Self, Refusal>
         ensures target { IfOk result (λ t. t ≡ (if hides facts then None else Some (term, Some (draw_limiter hz now)))) }
         ensures zero { (result ≡ Err Refusal.ZeroRate) ↔ (hz ≡ 0) }
@@ -160,7 +161,7 @@ impl<W: Write + Drop> ProgressDrawTarget<Term<W>> {
 
     /// As `stdout`, `hz` times a second.
     ///
-    /// Refused: `ZeroRate`, exactly where `hz` is 0, also where the target would be hidden.
+    /// Refused: `ZeroRate`, exactly where `hz` is 0, also where the target would be hidden; the writer is given up.
     pub fn stdout_with_hz(w: W, facts: Facts, hz: u8, now: Moment) -> Result<Self, Refusal>
         ensures target { IfOk result (λ t. t ≡ (if hides facts then None else Some (term_behind w facts, Some (draw_limiter hz now)))) }
         ensures zero { (result ≡ Err Refusal.ZeroRate) ↔ (hz ≡ 0) }
@@ -172,7 +173,7 @@ impl<W: Write + Drop> ProgressDrawTarget<Term<W>> {
 
     /// As `stderr`, `hz` times a second.
     ///
-    /// Refused: `ZeroRate`, exactly where `hz` is 0, also where the target would be hidden.
+    /// Refused: `ZeroRate`, exactly where `hz` is 0, also where the target would be hidden; the writer is given up.
     pub fn stderr_with_hz(w: W, facts: Facts, hz: u8, now: Moment) -> Result<Self, Refusal>
         ensures target { IfOk result (λ t. t ≡ (if hides facts then None else Some (term_behind w facts, Some (draw_limiter hz now)))) }
         ensures zero { (result ≡ Err Refusal.ZeroRate) ↔ (hz ≡ 0) }

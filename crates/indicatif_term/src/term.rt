@@ -155,7 +155,7 @@ impl<W: Write> TermLike for Term<W> {
 /// write_whole(&mut writer, b"ab")?; // both bytes, where `writer.write(b"ab")` may take one
 /// ```
 ///
-/// Failed: as the writer is, and with `WriteZero` where it takes no more.
+/// Failed: as the writer is, with `WriteZero` where it takes no more, and with `TimedOut` after 2^64 - 1 calls of it.
 pub fn write_whole<W: Write>(writer: &mut W, bytes: &[u8]) -> io::Result<()>
     ensures { AppendsAllOrFront (W.contents writer.old) (W.contents writer.new) bytes.now result }
 {

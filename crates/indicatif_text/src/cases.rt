@@ -4,7 +4,7 @@ ghost use Rattle.indicatif_text.specs.FormatCases.{DurationCases, ShortDurationC
 ghost use Rattle.indicatif_text.specs.StyleCases.{StyleNumbers, StyledText};
 ghost use Rattle.indicatif_text.specs.TemplateCases.{Templates};
 
-/// Cases of the definitions, worked out.
+/// Lines with their rows and columns, and a text's pieces, worked out.
 pub fn lines()
     ensures wide { WideOneGoesDown }
     ensures empty { EmptyIsOneRow }

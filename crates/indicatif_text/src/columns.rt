@@ -69,7 +69,7 @@ pub fn columns(text: &str) -> usize
 /// ```
 #[derive(Clone, Copy, Debug, Drop, PartialEq, Eq)]
 pub struct Metrics {
-    /// Rows; at least 1.
+    /// Rows; at least 1 where `wrapped` gives it.
     pub height: usize,
     /// Columns of the last row.
     pub last_line_width: usize,

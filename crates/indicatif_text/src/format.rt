@@ -20,7 +20,7 @@ use std::fmt;
 use std::marker::Model;
 
 /// A duration in nanoseconds, as hours, minutes and seconds of two digits, `HH:MM:SS`, after `Dd ` where there are D
-/// whole days. What is less than a second is left out.
+/// whole days. What is less than a second is left out. By the documentation of the Rust crate `indicatif` 0.18.6.
 ///
 /// ```
 /// let text = FormattedDuration(90_061 * 1_000_000_000).to_string(alloc)?;
@@ -44,6 +44,7 @@ impl fmt::Display for FormattedDuration {
 ///
 /// The unit is the first of which the duration, with half of the next smaller unit, is at least one and a half; or else
 /// seconds. The count is rounded to nearest, a half up, and is at least 2 but for seconds: `89 seconds`, `2 minutes`.
+/// By the documentation of the Rust crate `indicatif` 0.18.6.
 ///
 /// ```
 /// assert_eq!(HumanDuration(89_499_000_000).to_string(alloc)?.as_str(), "89 seconds");
@@ -145,6 +146,7 @@ impl fmt::Display for BinaryBytes {
 }
 
 /// A count as its decimal numeral, with a comma before every third digit from the right except at the front.
+/// By the documentation of the Rust crate `indicatif` 0.18.6.
 ///
 /// ```
 /// assert_eq!(HumanCount(7_654_321).to_string(alloc)?.as_str(), "7,654,321");

@@ -1,14 +1,14 @@
 //! Moments and clocks.
 ghost use Rattle.std.specs.Prelude.{◌≡◌, ◌+◌, ◌-◌, ◌^◌, min};
 
-/// Nanoseconds since an opening that the caller fixes.
+/// Nanoseconds since a start that the caller fixes.
 ///
 /// ```
 /// let second: Moment = 1_000_000_000;
 /// ```
 pub type Moment = u64;
 
-/// Tells the moment. The library never asks the machine for the time: its callers hand a clock in.
+/// Tells the moment. This crate never asks the machine for the time: its callers hand a clock in.
 ///
 /// ```
 /// let opened = clock.now();

@@ -41,8 +41,8 @@ impl TemplateState {
     }
 }
 
-/// Why a call was refused. Nothing else makes a call fail, and after each refusal the documents of the call say what
-/// has changed.
+/// Why a call was refused. A call that answers a `Refusal` fails by nothing else, and after each the documents of the call say
+/// what has changed.
 ///
 /// Its text says what was wrong; the options of a hole, as a width in `{:>12}`, are ignored.
 ///
@@ -52,22 +52,22 @@ impl TemplateState {
 /// ```
 #[derive(Clone, Copy, Debug, Drop, PartialEq, Eq, Error)]
 pub enum Refusal {
-    /// A refresh rate of 0 draws a second. All is unchanged.
+    /// A refresh rate of 0 draws a second. Nothing is made; the terminal or the writer is given up.
     #[error("a refresh rate of 0")]
     ZeroRate,
-    /// Fewer than two tick strings. All is unchanged.
+    /// Fewer than two tick strings. The style is given up.
     #[error("fewer than two tick strings")]
     FewTicks,
-    /// Fewer than two progress clusters. All is unchanged.
+    /// Fewer than two progress clusters. The style is given up.
     #[error("fewer than two progress characters")]
     FewProgressChars,
-    /// Progress clusters of unequal columns. All is unchanged.
+    /// Progress clusters of unequal columns. The style is given up.
     #[error("progress characters of unequal widths")]
     UnequalWidths,
-    /// Progress clusters of no columns. All is unchanged.
+    /// Progress clusters of no columns. The style is given up.
     #[error("progress characters of no columns")]
     ZeroWidthChars,
-    /// A character that the grammar of templates refuses. All is unchanged.
+    /// A character that the grammar of templates refuses. Nothing is made; a style that was to have the template is given up.
     #[error("unexpected character {next:?} in state {state:?} of a template")]
     Template {
         /// The character.
@@ -75,16 +75,17 @@ pub enum Refusal {
         /// Where it stood.
         state: TemplateState,
     },
-    /// A template width past 65,535. All is unchanged.
+    /// A template width past 65,535. Nothing is made; a style that was to have the template is given up.
     #[error("a template width past 65,535")]
     WidthTooLarge,
-    /// A bar or an anchor of another board. All is unchanged.
+    /// A bar or an anchor of another board. The board is unchanged; an owner of a shared bar that was handed in is given up.
     #[error("a bar of another board")]
     ForeignBar,
-    /// A bar or an anchor that was removed, dropped or never given. All is unchanged.
+    /// A bar or an anchor that was removed, dropped or never given. The board is unchanged; an owner of a shared bar that was handed
+    /// in is given up.
     #[error("no such bar on this board")]
     NotMember,
-    /// An elapsed time greater than the moment. All is unchanged.
+    /// An elapsed time greater than the moment. The bar is unchanged; an owner of a shared bar that was to be given back is given up.
     #[error("an elapsed time beyond the clock")]
     ElapsedBeyondClock,
     /// A terminal of no columns. The bar's numbers have changed; its lines are as before.
@@ -96,7 +97,7 @@ pub enum Refusal {
     /// The terminal failed in this call. The rows are forgotten, and the next draw begins on a new row.
     #[error("the terminal failed: {0}")]
     Terminal(ErrorKind),
-    /// Memory, or a thread, was refused before anything was written.
+    /// Memory, a thread or a number was refused. A draw has written nothing then; a call that does more says what it had done before.
     #[error("out of memory")]
     Memory,
     /// A terminal in memory of no rows or no columns. Nothing is made.
@@ -105,7 +106,7 @@ pub enum Refusal {
     /// Work without a piece. Nothing is run.
     #[error("no piece of work")]
     ZeroPieces,
-    /// A recorded board keeps its target and its way of moving. All is unchanged.
+    /// A recorded board keeps its target. The board is unchanged; the new target is given up.
     #[error("a recorded board keeps its target")]
     RecordedTarget,
 }

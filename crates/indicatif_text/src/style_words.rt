@@ -43,7 +43,8 @@ impl BasicColour {
     }
 }
 
-/// How a text is coloured: at most one foreground, at most one background, and any attributes.
+/// How a text is coloured: at most one foreground, at most one background, and any attributes. Its words are those of the
+/// documentation of the Rust crate `indicatif` 0.18.6, its sequences those of ECMA-48 (SGR).
 ///
 /// ```
 /// let style = Style::from_dotted_str("red.on_blue");

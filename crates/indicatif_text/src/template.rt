@@ -65,6 +65,7 @@ pub enum Part {
 }
 
 /// A text with placeholders, read into its parts. Neighbouring literal texts are one part.
+/// By the documentation of the Rust crate `indicatif` 0.18.6.
 ///
 /// ```
 /// let template = Template::parse(alloc, "{foo:5!3}")?;
@@ -205,7 +206,7 @@ impl<T: Drop> From<AllocFailed<T>> for TemplateError {
     }
 }
 
-/// A template's error is the refusal of the same name.
+/// A template's error as a refusal: `Unexpected` is `Template`, the others are those of their names.
 impl From<TemplateError> for Refusal {
     ghost use Rattle.indicatif_text.specs.Template.{refusal_of};
 

@@ -42,7 +42,7 @@ pub struct MultiProgress<T: TermLike + Drop, C: Clock + Drop, R: Wait + Clone + 
 impl<T: TermLike + Drop, C: Clock + Drop, R: Wait + Clone + Drop> MultiProgress<T, C, R> {
     /// A board without bars, of this mark. It writes nothing yet.
     ///
-    /// Refused: `Memory`.
+    /// Refused: `Memory`; nothing is made, and what was handed in is given up.
     pub fn new(rt: R, alloc: Global, setup: Setup<T, C>, mark: u64) -> Result<Self, Refusal>
         ensures { IfErr result (λ e. e ≡ Refusal.Memory) }
     {
@@ -52,7 +52,7 @@ impl<T: TermLike + Drop, C: Clock + Drop, R: Wait + Clone + Drop> MultiProgress<
 
     /// A board without bars on this target, by this clock, of this mark.
     ///
-    /// Refused: `Memory`.
+    /// Refused: `Memory`; nothing is made, and what was handed in is given up.
     pub fn with_draw_target(
         rt: R,
         alloc: Global,
@@ -68,7 +68,7 @@ impl<T: TermLike + Drop, C: Clock + Drop, R: Wait + Clone + Drop> MultiProgress<
 
     /// The same, and the board keeps its history; `with_record` lends it. It grows with each call.
     ///
-    /// Refused: `Memory`.
+    /// Refused: `Memory`; nothing is made, and what was handed in is given up.
     pub fn recorded(
         rt: R,
         alloc: Global,
@@ -223,14 +223,14 @@ impl<T: TermLike + Drop, C: Clock + Drop, R: Wait + Clone + Drop> MultiProgress<
 
     /// Another target, on which the bars begin anew with their next draw; the old one is given up. Nothing is written to either.
     ///
-    /// Refused: `RecordedTarget` for a board that keeps its history; nothing has changed then.
+    /// Refused: `RecordedTarget` for a board that keeps its history; nothing has changed then, and the new target is given up.
     pub fn set_draw_target(&self, target: ProgressDrawTarget<T>) -> Result<(), Refusal>
         ensures { IfErr result (λ e. e ≡ Refusal.RecordedTarget) }
     {
         self.board.lock(&self.rt).kept.set_draw_target(target)
     }
 
-    /// Whether nothing is ever drawn.
+    /// Whether the target is hidden: nothing is drawn until another is set.
     pub fn is_hidden(&self) -> bool {
         self.board.lock(&self.rt).kept.board().is_hidden()
     }

@@ -245,7 +245,7 @@ impl<T: TermLike + Drop, C: Clock + Drop> Place<T, C> {
         }
     }
 
-    /// Whether nothing is ever drawn.
+    /// Whether the target is hidden, that of its board where it stands on one.
     pub fn is_hidden<R: Wait>(&self, rt: &R) -> bool {
         match self {
             Place::Alone(bar) => bar.lone().is_hidden(),

@@ -7,7 +7,8 @@ use std::alloc::{AllocError, Global};
 use std::fmt::{self, Debug, Formatter};
 use std::sync::{Arc, Wait};
 
-/// A bar that others own: it keeps none of it alive, and is a bar again while owners are left.
+/// A bar that others own: this is no owner, so that the bar ends with its last one, and it is a bar again while owners are left.
+/// The bar's memory, its terminal among it, stays until this one is gone too.
 ///
 /// ```
 /// let weak = bar.downgrade()?;

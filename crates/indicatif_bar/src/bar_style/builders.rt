@@ -188,7 +188,7 @@ impl<K: ProgressTracker> ProgressStyle<K> {
         Ok(self)
     }
 
-    /// Whether colours are written. They are off at first.
+    /// Whether colours are written. They are off at first. Never refused.
     pub fn with_colors(mut self, colours: bool) -> Result<ProgressStyle<K>, Refusal>
         ensures { result ≡ Ok (record self { colours = colours }) }
     {

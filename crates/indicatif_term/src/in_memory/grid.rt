@@ -59,8 +59,7 @@ impl Model for Grid {
 }
 
 impl Grid {
-    /// Blank rows, the cursor at the front of the first. Refused: `ZeroSize` where there would be no row or no column,
-    /// and `Memory`.
+    /// Blank rows, the cursor at the front of the first. Refused: `Memory`.
     pub(crate) fn new(alloc: Global, height: u16, columns: u16) -> Result<Grid, Refusal>
         requires rows { 0 < height }
         requires columns { 0 < columns }

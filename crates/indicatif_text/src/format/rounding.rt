@@ -12,7 +12,8 @@ pub(crate) fn rounds_up(odd: bool, rest: u64, den: u64) -> bool
     rest > missing || (rest == missing && odd)
 }
 
-/// The nearest whole number to a quotient, the even one of two. It takes no memory.
+/// The nearest whole number to the quotient `num / den`, the even one of two; `den` is above 0, and the quotient below 2^64 - 1. It
+/// takes no memory.
 ///
 /// ```
 /// nearest(7, 2) // 4
