@@ -1,9 +1,10 @@
-//! Streams, readers and writers that are polled, wrapped by a bar that is shared: the bar moves as they are polled.
+//! Streams, readers and writers, polled or not, wrapped by a bar that is shared: the bar moves as they are asked.
 use futures::stream::Stream;
 use futures::task::{Context, Poll};
 use futures::test::MockTask;
 use indicatif::{ProgressBarIter, Refusal};
 use std::alloc::Global;
+use std::io::{Read, Write};
 use std::sync::Wait;
 use std::test::Fail;
 use test_fronts::on_boards::{Bar, alone};
@@ -131,5 +132,59 @@ fn a_polled_writer(rt: HostRuntime) -> Result<(), Fail> {
     assert!(rt; stands(&bar) == (5, false));
     let bytes = written(wrapped);
     assert!(rt; bytes.as_slice() == "abcde".as_bytes());
+    Ok(())
+}
+
+/// A reader that is asked, wrapped by the bar.
+fn asked_reader<R: Wait + Copy + Clone + Drop>(
+    alloc: Global,
+    bar: &Bar<R>,
+) -> Result<Box<ProgressBarIter<&'static [u8], Bar<R>>>, Refusal> {
+    Ok(Box::new(alloc, bar.wrap_read("abcdef".as_bytes())?)?)
+}
+
+/// How many bytes one read gives; `None` where it fails.
+fn taken<T: Read, R: Wait + Copy + Clone + Drop>(
+    wrapped: &mut ProgressBarIter<T, Bar<R>>,
+    room: &mut [u8],
+) -> Option<usize> {
+    wrapped.read(room).ok()
+}
+
+#[test]
+fn a_reader(rt: HostRuntime) -> Result<(), Fail> {
+    let bar = alone(rt, rt.alloc(), "a")?;
+    let mut wrapped = asked_reader(rt.alloc(), &bar)?;
+    let mut room = [0u8; 4];
+    assert!(rt; taken(&mut *wrapped, &mut room) == Some(4));
+    assert!(rt; room.as_slice() == "abcd".as_bytes());
+    assert!(rt; stands(&bar) == (4, false));
+    Ok(())
+}
+
+/// A writer that is asked, wrapped by the bar.
+fn asked_writer<R: Wait + Copy + Clone + Drop>(
+    alloc: Global,
+    bar: &Bar<R>,
+) -> Result<Box<ProgressBarIter<Vec<u8>, Bar<R>>>, Refusal> {
+    Ok(Box::new(alloc, bar.wrap_write(Vec::new(alloc))?)?)
+}
+
+/// How many bytes one write takes; `None` where it fails.
+fn given<T: Write, R: Wait + Copy + Clone + Drop>(
+    wrapped: &mut ProgressBarIter<T, Bar<R>>,
+    bytes: &[u8],
+) -> Option<usize> {
+    wrapped.write(bytes).ok()
+}
+
+#[test]
+fn a_writer(rt: HostRuntime) -> Result<(), Fail> {
+    let bar = alone(rt, rt.alloc(), "a")?;
+    let mut wrapped = asked_writer(rt.alloc(), &bar)?;
+    assert!(rt; given(&mut *wrapped, b"abc") == Some(3));
+    assert!(rt; stands(&bar) == (3, false));
+    let bytes = written(wrapped);
+    assert!(rt; bytes.as_slice() == "abc".as_bytes());
     Ok(())
 }

@@ -52,6 +52,7 @@ fn range_of(alloc: Global, text: &str, (start, end): (usize, usize)) -> Result<S
 #[test]
 fn ranges_of_a_text(rt: HostRuntime) -> Result<(), Fail> {
     let table = [
+        ("abcdef", (1, 4), "bcd"),
         ("abc\u{1b}[31md", (1, 2), "b\u{1b}[31m"),
         ("abc\u{1b}[31md", (0, 4), "abc\u{1b}[31md"),
         ("a国b", (0, 2), "a"),

@@ -3,6 +3,7 @@ use crate::calls::{Call, Terminal, are_rows, has_moves, stands};
 use indicatif_term::in_memory::{Cells, InMemoryTerm};
 use indicatif_term::term_like::TermLike;
 use indicatif_text::columns::Refusal;
+use std::alloc::Global;
 use std::io::ErrorKind;
 use std::process::Abort;
 use std::test::Fail;
@@ -69,6 +70,79 @@ fn made_anew(rt: HostRuntime) -> Result<(), Fail> {
     stands(&rt, &term, "", (0, 0))?;
     assert_eq!(rt; term.picture()?.len(), 2);
     has_moves(&rt, &mut term, "");
+    Ok(())
+}
+
+/// A text on a terminal of so many rows and columns, and its contents and its cursor then.
+type Shown = ((u16, u16), &'static str, &'static str, (u16, u16));
+
+/// The examples of the documentation.
+const SHOWN: [Shown; 5] = [
+    ((24, 80), "", "", (0, 0)),
+    ((24, 80), "a  \r\n\r\n ", "a\n\n", (2, 1)),
+    ((2, 2), "ab", "ab", (0, 2)),
+    ((2, 2), "abc", "ab\nc", (1, 1)),
+    ((2, 3), "a\r\nb\r\nc", "b\nc", (1, 1)),
+];
+
+/// Whether a terminal in memory shows this.
+fn is_shown(alloc: Global, row: &Shown) -> Result<bool, Fail> {
+    let ((rows, cols), text, wanted, cursor) = *row;
+    let mut term = Terminal::in_memory(alloc, rows, cols)?;
+    term.make(&[Call::Text(text)])?;
+    Ok(term.contents()?.as_str() == wanted && term.cursor() == cursor)
+}
+
+#[test]
+fn texts_of_the_documentation(rt: HostRuntime) -> Result<(), Fail> {
+    for row in &SHOWN {
+        assert!(rt; is_shown(rt.alloc(), row)?);
+    }
+    Ok(())
+}
+
+#[test]
+fn calls_of_the_documentation(rt: HostRuntime) -> Result<(), Fail> {
+    let mut term = Terminal::in_memory(rt.alloc(), 24, 80)?;
+    term.make(&[Call::Text("abc")])?;
+    term.reset();
+    stands(&rt, &term, "", (0, 0))?;
+    has_moves(&rt, &mut term, "");
+    term.make(&[Call::Up(2), Call::Line("a\tb")])?;
+    has_moves(&rt, &mut term, "Up(2)\nStr(\"a\\tb\")\nNewLine\n");
+    has_moves(&rt, &mut term, "");
+    Ok(())
+}
+
+/// Whether a terminal of so many rows and columns that is fed with these parts has these contents, and its cursor there.
+fn is_fed(
+    alloc: Global,
+    (rows, cols): (u16, u16),
+    parts: &[&[u8]],
+    (wanted, cursor): (&str, (u16, u16)),
+) -> Result<bool, Fail> {
+    let mut cells = Box::new(alloc, Cells::new(alloc, rows, cols)?)?;
+    for part in parts {
+        cells.feed(part)?;
+    }
+    Ok(cells.contents()?.as_str() == wanted && cells.cursor() == cursor)
+}
+
+/// The examples of the documentation.
+#[test]
+fn bytes_of_the_documentation(rt: HostRuntime) -> Result<(), Fail> {
+    let alloc = rt.alloc();
+    assert!(rt; is_fed(alloc, (65535, 65535), &[], ("", (0, 0)))?);
+    assert!(rt;
+        is_fed(
+            alloc,
+            (2, 4),
+            &[b"\xE5\x9B".as_slice(), b"\xBD"],
+            ("\u{56FD}", (0, 2))
+        )?
+    );
+    assert!(rt; is_fed(alloc, (2, 2), &[b"ab".as_slice()], ("ab", (0, 2)))?);
+    assert!(rt; is_fed(alloc, (3, 3), &[b"a \r\n ".as_slice()], ("a\n", (1, 1)))?);
     Ok(())
 }
 
