@@ -1,29 +1,31 @@
 //! Calls of a board as values, and its answers: the examples of the documentation.
-use crate::shown::{MARK, bar_saying, target};
+use crate::shown::{FIRST, SECOND, Shown, bar_saying};
 use indicatif_bar::style::NoTracker;
-use indicatif_board::multi::{Answer, BarId, Board, Call, InsertLocation};
+use indicatif_board::multi::{Answer, BarId, Call, InsertLocation};
 use indicatif_term::in_memory::InMemoryTerm;
 use indicatif_text::columns::{Drawn, Refusal};
 use std::alloc::Global;
 use std::process::Abort;
 use std::test::Fail;
 
-type OnTerm = Board<NoTracker, InMemoryTerm>;
+/// A bar of a board that has the mark 0.
+const ELSEWHERE: BarId = BarId { mark: 0, number: 1 };
 
 /// A bar that says this, taken in at a place.
 fn taken_in(alloc: Global, at: InsertLocation, text: &str) -> Result<Call<NoTracker>, Refusal> {
-    let candidate = bar_saying(alloc, text)?;
-    Ok(Call::Insert { at, candidate })
+    match bar_saying(alloc, text) {
+        Ok(candidate) => Ok(Call::Insert { at, candidate }),
+        Err(refusal) => Err(refusal),
+    }
 }
 
-/// A board on a terminal of 4 rows and 10 columns, in a box: each way out of a test drops it by one call.
-fn board(alloc: Global) -> Result<Box<OnTerm>, Refusal> {
-    let target = target(alloc, (4, 10))?;
-    Ok(Box::new(alloc, Board::new(alloc, target, MARK))?)
+/// A text that is logged.
+fn logged(alloc: Global, text: &str) -> Result<Call<NoTracker>, Refusal> {
+    Ok(Call::Log(String::from_str(alloc, text)?))
 }
 
 /// A call of a board, for rows of a table.
-#[derive(Clone, Copy, Drop)]
+#[derive(Drop)]
 enum Told {
     /// A bar that says this, taken in at a place.
     TakesIn(InsertLocation, &'static str),
@@ -32,68 +34,80 @@ enum Told {
     Clears,
 }
 
-impl Told {
-    /// The same call as a value.
-    fn call(self, alloc: Global) -> Result<Call<NoTracker>, Refusal> {
-        match self {
-            Told::TakesIn(at, text) => taken_in(alloc, at, text),
-            Told::Logs(text) => Ok(Call::Log(String::from_str(alloc, text)?)),
-            Told::Removes(id) => Ok(Call::Remove(id)),
-            Told::Clears => Ok(Call::Clear),
-        }
+/// The same call as a value.
+fn call(alloc: Global, told: &Told) -> Result<Call<NoTracker>, Refusal> {
+    match told {
+        Told::TakesIn(at, text) => taken_in(alloc, *at, text),
+        Told::Logs(text) => logged(alloc, text),
+        Told::Removes(id) => Ok(Call::Remove(*id)),
+        Told::Clears => Ok(Call::Clear),
     }
 }
 
+/// A board on a terminal in memory.
+type Board = Shown<InMemoryTerm>;
+
 /// Whether this is what the board answers.
-fn answers(board: &mut OnTerm, call: Call<NoTracker>, wanted: &Answer) -> bool {
-    board.call(call, 0) == *wanted
+fn answers(board: &mut Board, call: Call<NoTracker>, wanted: &Answer) -> bool {
+    board.board.call(call, 0) == *wanted
 }
 
-/// The board answers this.
+/// Whether the board answers this to a call of a table.
 fn is_told(
+    alloc: Global,
+    board: &mut Board,
+    told: &Told,
+    wanted: &Answer,
+) -> Result<bool, Refusal> {
+    match call(alloc, told) {
+        Ok(call) => Ok(answers(board, call, wanted)),
+        Err(refusal) => Err(refusal),
+    }
+}
+
+/// The board answers all calls as it is to.
+fn is_told_all(
     rt: &impl Abort,
     alloc: Global,
-    board: &mut OnTerm,
-    told: Told,
-    wanted: Answer,
+    board: &mut Board,
+    table: &[(Told, Answer)],
 ) -> Result<(), Fail> {
-    let call = told.call(alloc)?;
-    assert!(rt; answers(board, call, &wanted));
+    for (told, wanted) in table {
+        assert!(rt; is_told(alloc, board, told, wanted)?, "to be {wanted:?}");
+    }
     Ok(())
 }
 
-/// Whether this is what stands on its terminal.
-fn shows(board: &OnTerm, wanted: &str) -> Result<bool, Refusal> {
-    match board.term() {
-        Some(term) => Ok(term.contents()?.as_str() == wanted),
-        None => Ok(false),
-    }
-}
-
-/// The bar of this number.
-fn bar(number: u64) -> BarId {
-    BarId { mark: MARK, number }
-}
-
 /// Makes each call of a board, and one that is refused.
-fn is_told_all(rt: &impl Abort, alloc: Global, board: &mut OnTerm) -> Result<(), Fail> {
-    let first = Told::TakesIn(InsertLocation::End, "first");
-    is_told(rt, alloc, board, first, Answer::Id(bar(0)))?;
-    let other = Told::TakesIn(InsertLocation::Before(bar(0)), "other");
-    is_told(rt, alloc, board, other, Answer::Id(bar(1)))?;
-    let drawn = Answer::Drawn(Drawn::Yes);
-    is_told(rt, alloc, board, Told::Logs("logged"), drawn)?;
-    is_told(rt, alloc, board, Told::Removes(bar(1)), Answer::Done)?;
-    let foreign = BarId { mark: 0, number: 1 };
-    let refused = Answer::Refused(Refusal::ForeignBar);
-    is_told(rt, alloc, board, Told::Removes(foreign), refused)?;
-    is_told(rt, alloc, board, Told::Clears, Answer::Drawn(Drawn::Yes))
+fn makes_each(rt: &impl Abort, alloc: Global, board: &mut Board) -> Result<(), Fail> {
+    is_told_all(
+        rt,
+        alloc,
+        board,
+        &[
+            (
+                Told::TakesIn(InsertLocation::End, "first"),
+                Answer::Id(FIRST),
+            ),
+            (
+                Told::TakesIn(InsertLocation::Before(FIRST), "other"),
+                Answer::Id(SECOND),
+            ),
+            (Told::Logs("logged"), Answer::Drawn(Drawn::Yes)),
+            (Told::Removes(SECOND), Answer::Done),
+            (
+                Told::Removes(ELSEWHERE),
+                Answer::Refused(Refusal::ForeignBar),
+            ),
+            (Told::Clears, Answer::Drawn(Drawn::Yes)),
+        ],
+    )
 }
 
 #[test]
 fn calls_and_answers(rt: HostRuntime) -> Result<(), Fail> {
-    let mut board = board(rt.alloc())?;
-    is_told_all(&rt, rt.alloc(), &mut board)?;
-    assert!(rt; shows(&board, "logged")?);
+    let mut board = Shown::new(rt.alloc(), (4, 10))?;
+    makes_each(&rt, rt.alloc(), &mut board)?;
+    assert!(rt; board.shows("logged")?);
     Ok(())
 }

@@ -1,13 +1,12 @@
 //! A board that keeps its history: the examples of the documentation.
-use crate::shown::bar_saying;
+use crate::shown::{FIRST, MARK, bar_saying};
 use indicatif_bar::state::BarCommand;
 use indicatif_bar::style::NoTracker;
-use indicatif_board::multi::{Answer, BarId, Call, Candidate, InsertLocation, Recorded, Size};
+use indicatif_board::multi::{Answer, Call, Candidate, Entry, InsertLocation, Recorded, Size};
 use indicatif_term::draw_target::{ProgressDrawTarget, RateLimiter};
 use indicatif_term::in_memory::InMemoryTerm;
 use indicatif_text::columns::{Drawn, Moment, Refusal};
 use std::alloc::Global;
-use std::process::Abort;
 use std::test::Fail;
 
 type Target = ProgressDrawTarget<InMemoryTerm>;
@@ -21,37 +20,62 @@ fn terminal(alloc: Global) -> Result<InMemoryTerm, Refusal> {
 
 /// A board of the mark 7 that keeps its history, in a box.
 fn kept_on(alloc: Global, target: Target) -> Result<Box<Kept>, Refusal> {
-    Ok(Box::new(alloc, Recorded::new(alloc, target, 7))?)
+    Ok(Box::new(alloc, Recorded::new(alloc, target, MARK))?)
 }
 
-/// Clears the board.
-fn cleared(record: &mut Kept, now: Moment) -> Answer {
-    record.apply(Call::Clear, now).0
+/// The same on a terminal that is drawn whenever it is asked.
+fn kept(alloc: Global) -> Result<Box<Kept>, Refusal> {
+    match terminal(alloc) {
+        Ok(term) => kept_on(alloc, Target::term_like(term)),
+        Err(refusal) => Err(refusal),
+    }
 }
 
-/// What is kept is that the board was cleared at the moment 5, with this answer, at this size.
-fn has_cleared(rt: &impl Abort, record: &Kept, answer: &Answer, size: Option<Size>) {
-    let [entry] = record.entries() else {
-        assert!(rt; false, "one entry");
-        return;
-    };
-    assert!(rt; matches!(entry.call, Call::Clear));
-    assert_eq!(rt; entry.now, 5);
-    assert!(rt; entry.answer == *answer);
-    assert_eq!(rt; entry.size, size);
+/// The same on a terminal that is drawn 20 times a second.
+fn kept_rated(alloc: Global) -> Result<Box<Kept>, Refusal> {
+    let target = Target::term_like_with_hz(terminal(alloc)?, 20, 0)?;
+    kept_on(alloc, target)
+}
+
+/// What the board answers to a call; a bar that comes back is given up.
+fn answer_of(record: &mut Kept, call: Call<NoTracker>, now: Moment) -> Answer {
+    let (answer, bar) = record.apply(call, now);
+    drop(bar);
+    answer
+}
+
+/// Whether the board that is cleared at the moment 5 answers this.
+fn is_cleared(record: &mut Kept, wanted: &Answer) -> bool {
+    answer_of(record, Call::Clear, 5) == *wanted
+}
+
+/// Whether this is that the board was cleared at the moment 5, with this answer, at this size.
+fn is_clear(entry: &Entry<NoTracker>, answer: &Answer, size: Option<Size>) -> bool {
+    matches!(entry.call, Call::Clear)
+        && entry.now == 5
+        && entry.answer == *answer
+        && entry.size == size
+}
+
+/// Whether a clear is answered so, and this is all that is kept.
+fn keeps_a_clear(record: &mut Kept, answer: &Answer, size: Option<Size>) -> bool {
+    if !is_cleared(record, answer) {
+        return false;
+    }
+    match record.entries() {
+        [entry] => is_clear(entry, answer, size),
+        _ => false,
+    }
 }
 
 #[test]
 fn an_entry_and_its_size(rt: HostRuntime) -> Result<(), Fail> {
-    let target = Target::term_like(terminal(rt.alloc())?);
-    let mut record = kept_on(rt.alloc(), target)?;
-    let drawn = Answer::Drawn(Drawn::Yes);
-    assert!(rt; cleared(&mut record, 5) == drawn);
+    let mut record = kept(rt.alloc())?;
     let size = Size {
         columns: 10,
         rows: 4,
     };
-    has_cleared(&rt, &record, &drawn, Some(size));
+    assert!(rt; keeps_a_clear(&mut record, &Answer::Drawn(Drawn::Yes), Some(size)));
     Ok(())
 }
 
@@ -59,9 +83,7 @@ fn an_entry_and_its_size(rt: HostRuntime) -> Result<(), Fail> {
 #[test]
 fn an_entry_where_nothing_is_shown(rt: HostRuntime) -> Result<(), Fail> {
     let mut record = kept_on(rt.alloc(), Target::hidden())?;
-    let hidden = Answer::Drawn(Drawn::Hidden);
-    assert!(rt; cleared(&mut record, 5) == hidden);
-    has_cleared(&rt, &record, &hidden, None);
+    assert!(rt; keeps_a_clear(&mut record, &Answer::Drawn(Drawn::Hidden), None));
     Ok(())
 }
 
@@ -77,31 +99,46 @@ fn allowed(limiter: &RateLimiter) -> u32 {
     count
 }
 
-/// Takes a bar in and draws it, without force.
-fn ticks(record: &mut Kept, candidate: Candidate<NoTracker>) -> Answer {
+/// Takes a bar in.
+fn takes_in(record: &mut Kept, candidate: Candidate<NoTracker>) -> Answer {
     let at = InsertLocation::End;
-    record.apply(Call::Insert { at, candidate }, 0);
-    let first = BarId { mark: 7, number: 0 };
-    record.apply(Call::Bar(first, BarCommand::Tick), 0).0
+    answer_of(record, Call::Insert { at, candidate }, 0)
+}
+
+/// Draws the first bar, without force.
+fn ticks(record: &mut Kept) -> Answer {
+    answer_of(record, Call::Bar(FIRST, BarCommand::Tick), 0)
+}
+
+/// Takes a bar in, and tells whether it is drawn then.
+fn is_drawn(alloc: Global, record: &mut Kept) -> Result<bool, Refusal> {
+    match bar_saying(alloc, "a") {
+        Ok(candidate) => drop(takes_in(record, candidate)),
+        Err(refusal) => return Err(refusal),
+    }
+    Ok(ticks(record) == Answer::Drawn(Drawn::Yes))
+}
+
+/// Whether a board has this mark, and allows so many draws at the moment 0.
+fn opens_with(record: &Kept, mark: u64, draws: u32) -> bool {
+    let opening = record.opening();
+    match &opening.limiter {
+        Some(limiter) => opening.mark == mark && allowed(limiter) == draws,
+        None => false,
+    }
 }
 
 /// The limiter stays as the target came: 20 draws are in hand, though one was made.
 #[test]
 fn an_opening(rt: HostRuntime) -> Result<(), Fail> {
-    let target = Target::term_like_with_hz(terminal(rt.alloc())?, 20, 0)?;
-    let mut record = kept_on(rt.alloc(), target)?;
-    let answer = ticks(&mut record, bar_saying(rt.alloc(), "a")?);
-    assert!(rt; answer == Answer::Drawn(Drawn::Yes));
-    let opening = record.opening();
-    assert_eq!(rt; opening.mark, 7);
-    assert_eq!(rt; opening.limiter.as_ref().map(allowed), Some(20));
+    let mut record = kept_rated(rt.alloc())?;
+    assert!(rt; is_drawn(rt.alloc(), &mut record)? && opens_with(&record, 7, 20));
     Ok(())
 }
 
 #[test]
 fn an_opening_without_a_limit(rt: HostRuntime) -> Result<(), Fail> {
-    let target = Target::term_like(terminal(rt.alloc())?);
-    let record = kept_on(rt.alloc(), target)?;
+    let record = kept(rt.alloc())?;
     assert!(rt; record.opening().limiter.is_none());
     Ok(())
 }

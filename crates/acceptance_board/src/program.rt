@@ -1,24 +1,23 @@
 //! The program's function without a word, and over a writer that is full after so many bytes.
-use crate::runs::ran;
-use bars_run::run_bars;
-use std::alloc::Global;
+use crate::runs::{says, words_of};
+use std::alloc::{AllocError, Global};
 use std::io;
 use std::io::{Error, ErrorKind, Write};
-use std::process::Abort;
 use std::test::Fail;
+
+/// Whether the program without a word prints nothing, and says how it is used.
+fn is_told_its_usage(alloc: Global) -> bool {
+    let words: Vec<String> = Vec::new(alloc);
+    let mut out: Vec<u8> = Vec::new(alloc);
+    let usage = "usage: bars demo | bars run ROWS COLS [bottom]\n";
+    let is_said = says(alloc, &words, b"add x\n".as_slice(), &mut out, (usage, 2));
+    is_said && out.is_empty()
+}
 
 /// No word at all, which isn't the same as one empty word.
 #[test]
 fn no_arguments(rt: HostRuntime) -> Result<(), Fail> {
-    let args: Vec<String> = Vec::new(rt.alloc());
-    let mut out: Vec<u8> = Vec::new(rt.alloc());
-    let mut err: Vec<u8> = Vec::new(rt.alloc());
-    let input = b"add x\n".as_slice();
-    let status = run_bars(rt.alloc(), &args, input, &mut out, &mut err);
-    let usage = b"usage: bars demo | bars run ROWS COLS [bottom]\n".as_slice();
-    assert_eq!(rt; status, 2);
-    assert!(rt; err.as_slice() == usage);
-    assert!(rt; out.is_empty());
+    assert!(rt; is_told_its_usage(rt.alloc()));
     Ok(())
 }
 
@@ -48,30 +47,30 @@ impl Write for Bounded {
 /// What the run prints: the text line and the bar, each ended by a newline.
 const WHOLE: &[u8] = b"ab\nx y\n";
 
-/// A run with room for so many bytes keeps the first ones, and says that its output failed where that aren't all.
-fn keeps_the_first(rt: &impl Abort, alloc: Global, room: usize) -> Result<(), Fail> {
+/// What is said by a run with room for so many bytes: that its output failed, where that aren't all.
+fn said_of(room: usize) -> (&'static str, u8) {
+    match room < WHOLE.len() {
+        true => ("bars: output failed\n", 2),
+        false => ("", 0),
+    }
+}
+
+/// Whether a run with room for so many bytes keeps the first ones, and says what it is to.
+fn keeps_the_first(alloc: Global, room: usize) -> Result<bool, AllocError> {
+    let words = words_of(alloc, "run 4 10")?;
     let mut out = Bounded {
         kept: Vec::new(alloc),
         room,
     };
     let input = b"add x y\ntick 1\nlog ab\n".as_slice();
-    let said = ran(alloc, "run 4 10", input, &mut out)?;
-    let (err, status) = match room < WHOLE.len() {
-        true => ("bars: output failed\n", 2),
-        false => ("", 0),
-    };
-    assert!(rt; said.is(err, status), "room for {room}");
-    assert!(rt;
-        out.kept.as_slice() == WHOLE.get(..room).unwrap_or(WHOLE),
-        "room for {room}"
-    );
-    Ok(())
+    let is_said = says(alloc, &words, input, &mut out, said_of(room));
+    Ok(is_said && out.kept.as_slice() == WHOLE.get(..room).unwrap_or(WHOLE))
 }
 
 #[test]
 fn what_a_full_writer_keeps(rt: HostRuntime) -> Result<(), Fail> {
     for room in 0..=WHOLE.len() {
-        keeps_the_first(&rt, rt.alloc(), room)?;
+        assert!(rt; keeps_the_first(rt.alloc(), room)?, "room for {room}");
     }
     Ok(())
 }

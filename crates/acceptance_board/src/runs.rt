@@ -5,97 +5,67 @@ use std::io::{Read, Write};
 use std::process::Abort;
 use std::test::Fail;
 
-/// A run, and what it is to print.
-#[derive(Clone, Copy, Debug, Drop)]
-pub struct Run {
-    /// The words behind the program's name, parted by spaces.
-    pub words: &'static str,
-    /// What it reads.
-    pub input: &'static [u8],
-    /// What it prints.
-    pub out: &'static str,
-    /// What it says was wrong.
-    pub err: &'static str,
-    /// Its status.
-    pub status: u8,
+/// A run by the words behind the program's name, parted by spaces, and by what it reads; and what comes of it.
+#[derive(Clone, Copy, Drop)]
+pub enum Run {
+    /// It prints this, and finds nothing wrong.
+    Prints(&'static str, &'static str, &'static str),
+    /// It prints nothing, says this was wrong, and has this status.
+    Fails(&'static str, &'static str, &'static str, u8),
 }
 
-impl Run {
-    /// A run that prints this, and finds nothing wrong.
-    pub fn printing(words: &'static str, input: &'static [u8], out: &'static str) -> Run {
-        Run {
-            words,
-            input,
-            out,
-            err: "",
-            status: 0,
-        }
+/// The words of a text that are parted by spaces.
+pub fn words_of(alloc: Global, text: &str) -> Result<Vec<String>, AllocError> {
+    let mut words = Vec::new(alloc);
+    for word in text.split(' ') {
+        words.push(String::from_str(alloc, word)?)?;
     }
-
-    /// A run that prints nothing, says this, and has this status.
-    pub fn failing(
-        words: &'static str,
-        input: &'static [u8],
-        err: &'static str,
-        status: u8,
-    ) -> Run {
-        Run {
-            words,
-            input,
-            out: "",
-            err,
-            status,
-        }
-    }
+    Ok(words)
 }
 
-/// What a run said was wrong, and its status.
-#[derive(Debug, Drop)]
-pub struct Said {
-    pub err: Vec<u8>,
-    pub status: u8,
-}
-
-impl Said {
-    /// Whether this was said, with this status.
-    pub fn is(&self, err: &str, status: u8) -> bool {
-        self.status == status && self.err.as_slice() == err.as_bytes()
-    }
-}
-
-/// Runs the program with these words on this input, to this output.
-pub fn ran<R: Read + Drop, O: Write>(
+/// Whether the program with these words on this input, to this output, says this was wrong, and has this status.
+pub fn says<R: Read + Drop, O: Write>(
     alloc: Global,
-    words: &str,
+    words: &[String],
     input: R,
     out: &mut O,
-) -> Result<Said, AllocError> {
-    let mut args = Vec::new(alloc);
-    for word in words.split(' ') {
-        args.push(String::from_str(alloc, word)?)?;
-    }
-    let mut err = Vec::new(alloc);
-    let status = run_bars(alloc, &args, input, out, &mut err);
-    Ok(Said { err, status })
+    said: (&str, u8),
+) -> bool {
+    let mut err: Vec<u8> = Vec::new(alloc);
+    let status = run_bars(alloc, words, input, out, &mut err);
+    status == said.1 && err.as_slice() == said.0.as_bytes()
+}
+
+/// Whether the program with these words on this input prints this, says this was wrong, and has this status.
+pub fn prints(
+    alloc: Global,
+    words: &str,
+    input: &[u8],
+    printed: &[u8],
+    said: (&str, u8),
+) -> Result<bool, AllocError> {
+    let words = words_of(alloc, words)?;
+    let mut out: Vec<u8> = Vec::new(alloc);
+    let is_said = says(alloc, &words, input, &mut out, said);
+    Ok(is_said && out.as_slice() == printed)
 }
 
 /// Whether a run prints and says what it is to.
-fn is_as_wanted(alloc: Global, run: &Run) -> Result<bool, AllocError> {
-    let mut out: Vec<u8> = Vec::new(alloc);
-    let said = ran(alloc, run.words, run.input, &mut out)?;
-    Ok(said.is(run.err, run.status) && out.as_slice() == run.out.as_bytes())
-}
-
-/// The run prints and says what it is to.
-pub fn as_wanted(rt: &impl Abort, alloc: Global, run: &Run) -> Result<(), Fail> {
-    assert!(rt; is_as_wanted(alloc, run)?, "of {run:?}");
-    Ok(())
+fn is_as_wanted(alloc: Global, run: Run) -> Result<bool, AllocError> {
+    match run {
+        Run::Prints(words, input, out) => {
+            prints(alloc, words, input.as_bytes(), out.as_bytes(), ("", 0))
+        }
+        Run::Fails(words, input, err, status) => {
+            prints(alloc, words, input.as_bytes(), &[], (err, status))
+        }
+    }
 }
 
 /// All runs print and say what they are to.
 pub fn all_as_wanted(rt: &impl Abort, alloc: Global, runs: &[Run]) -> Result<(), Fail> {
-    for run in runs {
-        as_wanted(rt, alloc, run)?;
+    for (place, run) in runs.iter().enumerate() {
+        assert!(rt; is_as_wanted(alloc, *run)?, "run {place}");
     }
     Ok(())
 }
