@@ -1,8 +1,10 @@
 //! A bar of the tests', which tells where it stands and counts its moves; and the calls of wrappers over it. They promise nothing
 //! here, so that a test of many calls is proved call by call.
+use futures::test::MockTask;
 use indicatif::{Drawn, Moves, ProgressBarIter, Refusal};
 use std::alloc::{AllocError, Global};
 use std::io::{self, BufRead, ErrorKind, Read, Seek, SeekFrom, Write};
+use std::test::Fail;
 use std::vec::IntoIter;
 
 /// A bar without a length, so that finishing leaves its position.
@@ -57,6 +59,11 @@ pub fn wrapped_at<T: Drop>(
         moves: 0,
     };
     Ok(Box::new(alloc, ProgressBarIter::new(it, bar))?)
+}
+
+/// A task for polls by hand, in a box for the same reason.
+pub fn task_of(rt: &HostRuntime) -> Result<Box<MockTask>, Fail> {
+    Ok(Box::new(rt.alloc(), MockTask::new(rt)?)?)
 }
 
 /// Where a wrapper's bar stands, and how many moves it made.

@@ -30,14 +30,19 @@ fn ends(wrapped: &mut List) -> bool {
         && next(wrapped).is_none()
 }
 
+/// Where the bar stands that is given back, and how many moves it made.
+fn given_back(wrapped: Box<List>) -> (u64, u64) {
+    let (list, bar) = Box::into_inner(wrapped).into_inner();
+    drop(list);
+    (bar.position, bar.moves)
+}
+
 #[test]
 fn a_list_from_both_ends(rt: HostRuntime) -> Result<(), Fail> {
     let list = vec![in rt.alloc(); 1u32, 2, 3]?.into_iter();
     let mut wrapped = wrapped_at(rt.alloc(), list, 0)?;
-    assert!(rt; has_left(&wrapped, 3) && gives_three(&mut wrapped));
-    assert!(rt; ends(&mut wrapped));
-    let (_, bar) = Box::into_inner(wrapped).into_inner();
-    assert!(rt; bar.position == 3 && bar.moves == 4);
+    assert!(rt; has_left(&wrapped, 3) && gives_three(&mut wrapped) && ends(&mut wrapped));
+    assert!(rt; given_back(wrapped) == (3, 4));
     Ok(())
 }
 

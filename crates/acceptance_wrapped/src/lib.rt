@@ -2,7 +2,7 @@
 //!
 //! - `counted`: a bar of the tests', and wrappers over it.
 //! - `places`: the greatest of the last places, and the place that moves and seeks show.
-//! - `items`: lists from both ends. `owned`: loops with a bar of their own on a terminal in memory.
+//! - `items`: lists from both ends. `shown`: lists with a bar of their own on a terminal. `owned`: their loops.
 //! - `made`: how an iterator gets its bar. `told`: what is said of that bar before it moves.
 //! - `readers`, `buffered`, `seeks`, `writers`: bytes that are read and written.
 //! - `setups`: what a bar on a terminal behind a writer is made with.
@@ -34,6 +34,8 @@ mod readers;
 mod seeks;
 #[cfg(test)]
 mod setups;
+#[cfg(test)]
+mod shown;
 #[cfg(test)]
 mod streams;
 #[cfg(test)]

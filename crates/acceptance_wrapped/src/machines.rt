@@ -1,9 +1,9 @@
 //! What is asked of the machine: a made-up environment, and the terminals behind the program's own streams.
-use indicatif::machine::{facts_of, on_stderr, on_stdout, told_setup};
-use indicatif::{Clock, Facts, ProgressDrawTarget, Setup, Term, TermLike};
+use indicatif::machine::{TerminalSetup, facts_of, on_stderr, on_stdout, told_setup};
+use indicatif::{Clock, Facts, ProgressDrawTarget, Refusal, Setup, Term, TermLike};
 use std::alloc::Global;
 use std::env::{Env, FillError};
-use std::io::{BufWriter, IsTerminal};
+use std::io::{BufWriter, IsTerminal, Write};
 use std::test::Fail;
 
 /// A program's environment: variables and what they say.
@@ -122,14 +122,6 @@ fn facts(attended: bool, term: Option<String>) -> Facts {
     }
 }
 
-/// Whether a bar is hidden by these facts: its stream is no terminal, or one without moves.
-fn is_hidden_by(facts: &Facts) -> bool {
-    match &facts.term {
-        Some(term) => !facts.attended || term.as_str() == "dumb",
-        None => true,
-    }
-}
-
 /// Whether these facts are those of a row, of a stream that is a terminal.
 fn are_facts(found: &Facts, row: &Row) -> bool {
     found.rows == row.rows
@@ -144,32 +136,49 @@ fn says(alloc: Global, row: &Row) -> Result<bool, Fail> {
     Ok(are_facts(&found, row))
 }
 
+/// Whether each environment says what its row wants.
+fn say_so(alloc: Global, rows: &[Row]) -> Result<bool, Fail> {
+    for row in rows {
+        if !says(alloc, row)? {
+            return Ok(false);
+        }
+    }
+    Ok(true)
+}
+
 #[test]
 fn what_an_environment_says(rt: HostRuntime) -> Result<(), Fail> {
-    for row in &SAID {
-        assert!(rt;
-            says(rt.alloc(), row)?,
-            "of {} rows and {} columns",
-            row.rows,
-            row.cols
-        );
-    }
+    assert!(rt; say_so(rt.alloc(), &SAID)?);
     Ok(())
 }
 
-/// A stream that is no terminal.
+/// Whether a stream that is no terminal is found to be one.
+fn is_attended(alloc: Global) -> Result<bool, Fail> {
+    let nobody = facts_of(&(Told(&[]), alloc), &Stream { attended: false })?;
+    Ok(nobody.attended)
+}
+
 #[test]
 fn a_stream_that_nobody_reads(rt: HostRuntime) -> Result<(), Fail> {
-    let nobody = facts_of(&(Told(&[]), rt.alloc()), &Stream { attended: false })?;
-    assert!(rt; !nobody.attended);
+    assert!(rt; !is_attended(rt.alloc())?);
     Ok(())
 }
 
-/// A terminal behind a writer.
-type Behind = Term<BufWriter<Vec<u8>>>;
+/// What a bar is made with behind a writer, on a terminal of 7 rows and 40 columns of which this is told.
+fn setup_of(
+    rt: &HostRuntime,
+    attended: bool,
+    term: Option<&str>,
+) -> Result<TerminalSetup<Vec<u8>>, Refusal> {
+    let term = match term {
+        Some(kind) => Some(String::from_str(rt.alloc(), kind)?),
+        None => None,
+    };
+    told_setup(rt, Vec::new(rt.alloc()), facts(attended, term))
+}
 
 /// Rows and columns of a target's terminal, if it has one.
-fn size_of(target: ProgressDrawTarget<Behind>) -> Option<(u16, u16)> {
+fn size_of(target: ProgressDrawTarget<Term<BufWriter<Vec<u8>>>>) -> Option<(u16, u16)> {
     let term = target.into_term()?;
     Some((term.height(), term.width()))
 }
@@ -182,34 +191,40 @@ fn goes_on(clock: &mut impl Clock) -> bool {
 
 #[test]
 fn a_terminal_of_which_is_told(rt: HostRuntime) -> Result<(), Fail> {
-    let xterm = String::from_str(rt.alloc(), "xterm")?;
-    let setup = told_setup(&rt, Vec::<u8>::new(rt.alloc()), facts(true, Some(xterm)))?;
-    let Setup { target, mut clock } = setup;
+    let Setup { target, mut clock } = setup_of(&rt, true, Some("xterm"))?;
     let size = size_of(target);
     assert!(rt; size == Some((7, 40)) && goes_on(&mut clock));
     Ok(())
 }
 
+/// Whether nothing is drawn on what was made.
+fn is_hidden<W: Write + Drop>(made: Result<TerminalSetup<W>, Refusal>) -> Result<bool, Refusal> {
+    let setup = made?;
+    Ok(setup.target.is_hidden())
+}
+
 #[test]
 fn a_terminal_that_is_hidden(rt: HostRuntime) -> Result<(), Fail> {
-    let xterm = String::from_str(rt.alloc(), "xterm")?;
-    let dumb = String::from_str(rt.alloc(), "dumb")?;
-    for told in [
-        facts(false, Some(xterm)),
-        facts(true, Some(dumb)),
-        facts(true, None),
-    ] {
-        let setup = told_setup(&rt, Vec::<u8>::new(rt.alloc()), told)?;
-        assert!(rt; setup.target.is_hidden());
-    }
+    assert!(rt; is_hidden(setup_of(&rt, false, Some("xterm")))?);
+    assert!(rt; is_hidden(setup_of(&rt, true, Some("dumb")))?);
+    assert!(rt; is_hidden(setup_of(&rt, true, None))?);
     Ok(())
+}
+
+/// Whether a bar is hidden by these facts: its stream is no terminal, or one without moves.
+fn is_hidden_by(found: Result<Facts, Refusal>) -> Result<bool, Refusal> {
+    let facts = found?;
+    match &facts.term {
+        Some(term) => Ok(!facts.attended || term.as_str() == "dumb"),
+        None => Ok(true),
+    }
 }
 
 #[test]
 fn the_programs_own_streams(rt: HostRuntime) -> Result<(), Fail> {
-    let out = facts_of(&rt, &rt.stdout())?;
-    assert_eq!(rt; on_stdout(&rt)?.target.is_hidden(), is_hidden_by(&out));
-    let err = facts_of(&rt, &rt.stderr())?;
-    assert_eq!(rt; on_stderr(&rt)?.target.is_hidden(), is_hidden_by(&err));
+    let out = is_hidden_by(facts_of(&rt, &rt.stdout()))?;
+    assert!(rt; is_hidden(on_stdout(&rt))? == out);
+    let err = is_hidden_by(facts_of(&rt, &rt.stderr()))?;
+    assert!(rt; is_hidden(on_stderr(&rt))? == err);
     Ok(())
 }

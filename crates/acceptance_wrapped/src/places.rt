@@ -1,71 +1,112 @@
 //! The greatest of the last places, and the place that moves and seeks show.
 use indicatif::{MaxRingBuf, SeekMax};
 
+/// The greatest place, once these came behind what came before.
+fn greatest<const N: usize>(places: &mut MaxRingBuf<N>, new: &[u64]) -> u64 {
+    for place in new {
+        places.update(*place);
+    }
+    places.max()
+}
+
+/// Whether ten places drive out the greatest that came before.
+fn remembers_ten(places: &mut MaxRingBuf<10>) -> bool {
+    greatest(places, &[]) == 0
+        && greatest(places, &[100]) == 100
+        && greatest(places, &[99, 98, 97, 96, 95, 94, 93, 92, 91, 90]) == 99
+}
+
 #[test]
 fn the_greatest_of_the_last_ten(rt: HostRuntime) {
-    let mut places = MaxRingBuf::<10>::new();
-    assert_eq!(rt; places.max(), 0);
-    places.update(100);
-    assert_eq!(rt; places.max(), 100);
-    for k in 0..10u64 {
-        places.update(99 - k);
-    }
-    assert_eq!(rt; places.max(), 99);
+    assert!(rt; remembers_ten(&mut MaxRingBuf::new()));
 }
 
 #[test]
 fn the_last_place_alone(rt: HostRuntime) {
-    let mut places = MaxRingBuf::<1>::new();
-    places.update(7);
-    places.update(3);
-    assert_eq!(rt; places.max(), 3);
+    assert!(rt; greatest(&mut MaxRingBuf::<1>::new(), &[7, 3]) == 3);
+}
+
+/// The places of moves and seeks.
+type Seeks = SeekMax<5, 10>;
+
+/// A seek, which promises nothing here.
+fn seek(seeks: &mut Seeks, place: u64) -> u64 {
+    seeks.update_seek(place)
+}
+
+/// A move, which promises nothing here.
+fn advance(seeks: &mut Seeks, place: u64, bytes: u64) -> u64 {
+    seeks.update_seq(place, bytes)
 }
 
 /// Whether a seek back shows the greatest place, and four moves behind it go on from there.
-fn moves_on(seeks: &mut SeekMax<5, 10>) -> bool {
-    seeks.update_seek(100) == 100
-        && seeks.update_seq(100, 10) == 110
-        && seeks.update_seek(0) == 110
-        && seeks.update_seq(110, 5) == 115
-        && seeks.update_seq(115, 5) == 120
-        && seeks.update_seq(120, 5) == 125
-        && seeks.update_seq(125, 5) == 130
+fn moves_on(seeks: &mut Seeks) -> bool {
+    seek(seeks, 100) == 100
+        && advance(seeks, 100, 10) == 110
+        && seek(seeks, 0) == 110
+        && advance(seeks, 110, 5) == 115
+        && advance(seeks, 115, 5) == 120
+        && advance(seeks, 120, 5) == 125
+        && advance(seeks, 125, 5) == 130
+}
+
+/// Whether the fifth move in a row drops the history, so that a seek back is shown as it is.
+fn forgets(seeks: &mut Seeks) -> bool {
+    advance(seeks, 130, 5) == 135 && seek(seeks, 1) == 1
+}
+
+/// Whether both are so, one after the other.
+fn moves_on_and_forgets(seeks: &mut Seeks) -> bool {
+    moves_on(seeks) && forgets(seeks)
 }
 
 #[test]
 fn a_seek_back_shows_the_greatest_place(rt: HostRuntime) {
-    let mut seeks = SeekMax::<5, 10>::new();
-    assert!(rt; moves_on(&mut seeks));
-    // The fifth move in a row: the history is dropped.
-    assert_eq!(rt; seeks.update_seq(130, 5), 135);
-    // So that a seek back is shown as it is.
-    assert_eq!(rt; seeks.update_seek(1), 1);
+    assert!(rt; moves_on_and_forgets(&mut SeekMax::new()));
+}
+
+/// Where twenty moves of three lead.
+fn moved_twenty_times(seeks: &mut Seeks) -> u64 {
+    let mut place = 0;
+    for _ in 0..20u32 {
+        place = advance(seeks, place, 3);
+    }
+    place
 }
 
 #[test]
 fn moves_without_a_seek_add_up(rt: HostRuntime) {
-    let mut seeks = SeekMax::<5, 10>::new();
-    let mut place = 0;
-    for _ in 0..20u32 {
-        place = seeks.update_seq(place, 3);
-    }
-    assert_eq!(rt; place, 60);
+    assert!(rt; moved_twenty_times(&mut SeekMax::new()) == 60);
+}
+
+/// Whether moves and seeks lead no further than the greatest number.
+fn stays_at_greatest(seeks: &mut Seeks) -> bool {
+    advance(seeks, u64::MAX - 2, 5) == u64::MAX
+        && seek(seeks, u64::MAX - 2) == u64::MAX - 2
+        && advance(seeks, u64::MAX - 2, 5) == u64::MAX
 }
 
 #[test]
 fn places_stay_at_the_greatest_number(rt: HostRuntime) {
-    let mut seeks = SeekMax::<5, 10>::new();
-    assert_eq!(rt; seeks.update_seq(u64::MAX - 2, 5), u64::MAX);
-    assert_eq!(rt; seeks.update_seek(u64::MAX - 2), u64::MAX - 2);
-    assert_eq!(rt; seeks.update_seq(u64::MAX - 2, 5), u64::MAX);
+    assert!(rt; stays_at_greatest(&mut SeekMax::new()));
+}
+
+/// Whether a seek to each place below this one shows the place 50.
+fn shows_fifty(seeks: &mut Seeks, end: u64) -> bool {
+    for place in 0..end {
+        if seek(seeks, place) != 50 {
+            return false;
+        }
+    }
+    true
+}
+
+/// Whether a seek to 50 is remembered for ten places.
+fn remembers_fifty(seeks: &mut Seeks) -> bool {
+    seek(seeks, 50) == 50 && shows_fifty(seeks, 9) && seek(seeks, 9) == 9
 }
 
 #[test]
 fn ten_places_behind_a_seek_are_remembered(rt: HostRuntime) {
-    let mut seeks = SeekMax::<5, 10>::new();
-    assert_eq!(rt; seeks.update_seek(50), 50);
-    for k in 0..9u64 {
-        assert_eq!(rt; seeks.update_seek(k), 50);
-    }
-    assert_eq!(rt; seeks.update_seek(9), 9);
+    assert!(rt; remembers_fifty(&mut SeekMax::new()));
 }

@@ -4,12 +4,11 @@ ghost use Rattle.futures.specs.Poll.{OnPending};
 ghost use Rattle.futures.specs.Task.{Covers, Keeps};
 ghost use Rattle.tokio.specs.Io.Moved.{count_moved};
 
-use crate::counted::{Wrapped, last_draw, stands, wrapped_at};
+use crate::counted::{Wrapped, last_draw, stands, task_of, wrapped_at};
 use futures::task::{Context, Poll};
 use futures::test::MockTask;
 use std::alloc::{AllocError, Global};
 use std::io::{self, ErrorKind};
-use std::process::Abort;
 use std::test::Fail;
 use tokio::io::{AsyncRead, AsyncWrite};
 
@@ -93,7 +92,7 @@ fn answering(alloc: Global, answers: [Answer; 4]) -> Result<Box<Wrapped<Scripted
 }
 
 /// What a poll came to.
-#[derive(Clone, Copy, Debug, Drop, PartialEq, Eq)]
+#[derive(Clone, Copy, Drop, PartialEq, Eq)]
 enum Came {
     Pending,
     Bytes(usize),
@@ -129,99 +128,115 @@ fn fills(
     read(task, wrapped, room) == Came::Bytes(bytes) && *room == *text && stands(wrapped) == at
 }
 
+/// Whether six bytes are read, by room for four, and then the end.
+fn reads_six(task: &MockTask, wrapped: &mut Wrapped<&[u8]>) -> bool {
+    let mut room = [0u8; 4];
+    fills(task, wrapped, (&mut room, b"abcd"), (4, (4, 1)))
+        && fills(task, wrapped, (&mut room, b"efcd"), (2, (6, 2)))
+        && read(task, wrapped, &mut room) == Came::Bytes(0)
+        && wrapped.progress.position == 6
+}
+
 #[test]
 fn bytes_are_read(rt: HostRuntime) -> Result<(), Fail> {
-    let task = MockTask::new(&rt)?;
+    let task = task_of(&rt)?;
     let mut wrapped = wrapped_at(rt.alloc(), "abcdef".as_bytes(), 0)?;
-    let mut room = [0u8; 4];
-    assert!(rt; fills(&task, &mut wrapped, (&mut room, b"abcd"), (4, (4, 1))));
-    assert!(rt; fills(&task, &mut wrapped, (&mut room, b"efcd"), (2, (6, 2))));
-    let end = read(&task, &mut wrapped, &mut room);
-    assert!(rt; end == Came::Bytes(0) && wrapped.progress.position == 6);
+    assert!(rt; reads_six(&task, &mut wrapped));
     Ok(())
 }
 
-/// Reads, one after another, come to this, and the bar stands there then.
-fn reads_so(
-    rt: &impl Abort,
-    task: &MockTask,
-    wrapped: &mut Wrapped<Scripted>,
-    wanted: &[(Came, u64)],
-) {
+/// Whether reads, one after another, come to this, and the bar stands there then.
+fn reads_so(task: &MockTask, wrapped: &mut Wrapped<Scripted>, wanted: &[(Came, u64)]) -> bool {
     let mut room = [0u8; 8];
-    for row in wanted {
-        let came = read(task, wrapped, &mut room);
-        assert_eq!(rt; (came, wrapped.progress.position), *row);
+    for (came, at) in wanted {
+        if read(task, wrapped, &mut room) != *came || wrapped.progress.position != *at {
+            return false;
+        }
     }
+    true
+}
+
+/// Whether a read that is pending moves nothing, and an error leaves the position.
+fn pends_and_fails(task: &MockTask, wrapped: &mut Wrapped<Scripted>) -> bool {
+    let failed = Came::Failed(ErrorKind::ConnectionReset);
+    reads_so(task, wrapped, &[(Came::Pending, 0)])
+        && stands(wrapped) == (0, 0)
+        && last_draw(wrapped).is_none()
+        && reads_so(task, wrapped, &[(Came::Bytes(3), 3), (Came::Pending, 3)])
+        && stands(wrapped) == (3, 1)
+        && reads_so(task, wrapped, &[(failed, 3), (Came::Bytes(0), 3)])
 }
 
 #[test]
 fn a_pending_read_changes_nothing(rt: HostRuntime) -> Result<(), Fail> {
-    let task = MockTask::new(&rt)?;
+    let task = task_of(&rt)?;
     let fails = Answer::Fails(ErrorKind::ConnectionReset);
     let answers = [Answer::Pending, Answer::Bytes(3), Answer::Pending, fails];
     let mut wrapped = answering(rt.alloc(), answers)?;
-    reads_so(&rt, &task, &mut wrapped, &[(Came::Pending, 0)]);
-    assert_eq!(rt; (stands(&wrapped), last_draw(&wrapped)), ((0, 0), None));
-    reads_so(
-        &rt,
-        &task,
-        &mut wrapped,
-        &[(Came::Bytes(3), 3), (Came::Pending, 3)],
-    );
-    assert_eq!(rt; stands(&wrapped), (3, 1));
-    // An error leaves the position.
-    let failed = Came::Failed(ErrorKind::ConnectionReset);
-    reads_so(
-        &rt,
-        &task,
-        &mut wrapped,
-        &[(failed, 3), (Came::Bytes(0), 3)],
-    );
+    assert!(rt; pends_and_fails(&task, &mut wrapped));
     Ok(())
 }
 
-/// Writes, one after another, come to this, and the bar stands there then, after so many moves.
+/// Whether writes, one after another, come to this, and the bar stands there then, after so many moves.
 fn writes_so(
-    rt: &impl Abort,
     task: &MockTask,
     wrapped: &mut Wrapped<Scripted>,
     wanted: &[(Came, (u64, u64))],
-) {
-    for row in wanted {
-        let came = write(task, wrapped);
-        assert_eq!(rt; (came, stands(wrapped)), *row);
+) -> bool {
+    for (came, at) in wanted {
+        if write(task, wrapped) != *came || stands(wrapped) != *at {
+            return false;
+        }
     }
+    true
 }
 
-/// A write that is pending and one that fails move nothing.
-#[test]
-fn a_pending_write_changes_nothing(rt: HostRuntime) -> Result<(), Fail> {
-    let task = MockTask::new(&rt)?;
-    let fails = Answer::Fails(ErrorKind::StorageFull);
-    let answers = [Answer::Pending, Answer::Bytes(2), fails, Answer::Bytes(9)];
-    let mut wrapped = answering(rt.alloc(), answers)?;
+/// Whether a write that is pending and one that fails move nothing.
+fn writes_eight(task: &MockTask, wrapped: &mut Wrapped<Scripted>) -> bool {
     writes_so(
-        &rt,
-        &task,
-        &mut wrapped,
+        task,
+        wrapped,
         &[
             (Came::Pending, (0, 0)),
             (Came::Bytes(2), (2, 1)),
             (Came::Failed(ErrorKind::StorageFull), (2, 1)),
             (Came::Bytes(6), (8, 2)),
         ],
-    );
+    )
+}
+
+#[test]
+fn a_pending_write_changes_nothing(rt: HostRuntime) -> Result<(), Fail> {
+    let task = task_of(&rt)?;
+    let fails = Answer::Fails(ErrorKind::StorageFull);
+    let answers = [Answer::Pending, Answer::Bytes(2), fails, Answer::Bytes(9)];
+    let mut wrapped = answering(rt.alloc(), answers)?;
+    assert!(rt; writes_eight(&task, &mut wrapped));
     Ok(())
+}
+
+/// Whether a poll of a flush is pending.
+fn pends_to_flush(task: &MockTask, wrapped: &mut Wrapped<Scripted>) -> bool {
+    task.enter(|cx| wrapped.poll_flush(cx)).is_pending()
+}
+
+/// Whether a poll of a shutdown is ready.
+fn shuts_down(task: &MockTask, wrapped: &mut Wrapped<Scripted>) -> bool {
+    task.enter(|cx| wrapped.poll_shutdown(cx)).is_ready()
+}
+
+/// Whether a flush and a shutdown move nothing.
+fn stays(task: &MockTask, wrapped: &mut Wrapped<Scripted>) -> bool {
+    pends_to_flush(task, wrapped)
+        && shuts_down(task, wrapped)
+        && stands(wrapped) == (0, 0)
+        && !wrapped.progress.finished
 }
 
 #[test]
 fn a_flush_and_a_shutdown_change_nothing(rt: HostRuntime) -> Result<(), Fail> {
-    let task = MockTask::new(&rt)?;
+    let task = task_of(&rt)?;
     let mut wrapped = answering(rt.alloc(), [Answer::Pending; 4])?;
-    assert!(rt; task.enter(|cx| wrapped.poll_flush(cx)).is_pending());
-    assert!(rt; task.enter(|cx| wrapped.poll_shutdown(cx)).is_ready());
-    assert_eq!(rt; stands(&wrapped), (0, 0));
-    assert!(rt; !wrapped.progress.finished);
+    assert!(rt; stays(&task, &mut wrapped));
     Ok(())
 }

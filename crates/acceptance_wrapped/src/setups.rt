@@ -31,6 +31,13 @@ fn bar_of(alloc: Global, setup: TerminalSetup<Vec<u8>>) -> Result<Timed, Refusal
     Ok(Timed { bar, now })
 }
 
+/// The bar of the example.
+fn bar_behind(rt: &HostRuntime) -> Result<Timed, Refusal> {
+    let facts = facts(rt.alloc())?;
+    let setup: TerminalSetup<Vec<u8>> = told_setup(rt, Vec::new(rt.alloc()), facts)?;
+    bar_of(rt.alloc(), setup)
+}
+
 /// A tick, whose call promises nothing here.
 fn tick(timed: &mut Timed) -> Result<Drawn, Refusal> {
     timed.bar.tick(timed.now)
@@ -38,9 +45,7 @@ fn tick(timed: &mut Timed) -> Result<Drawn, Refusal> {
 
 #[test]
 fn behind_a_writer(rt: HostRuntime) -> Result<(), Fail> {
-    let writer = Vec::new(rt.alloc());
-    let setup: TerminalSetup<Vec<u8>> = told_setup(&rt, writer, facts(rt.alloc())?)?;
-    let mut timed = bar_of(rt.alloc(), setup)?;
-    assert_eq!(rt; tick(&mut timed), Ok(Drawn::Yes));
+    let mut timed = bar_behind(&rt)?;
+    assert!(rt; tick(&mut timed) == Ok(Drawn::Yes));
     Ok(())
 }

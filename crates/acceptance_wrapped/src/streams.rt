@@ -1,10 +1,9 @@
 //! Streams, polled by hand.
-use crate::counted::{Wrapped, last_draw, stands, wrapped_at};
+use crate::counted::{Wrapped, last_draw, stands, task_of, wrapped_at};
 use futures::stream::Stream;
 use futures::task::{Context, Poll};
 use futures::test::MockTask;
 use std::alloc::{AllocError, Global};
-use std::process::Abort;
 use std::test::Fail;
 
 /// The letters from `a` to `z`, and then the end, as often as it is asked; where `pends`, every other poll is pending, the first
@@ -48,60 +47,70 @@ fn poll(task: &MockTask, wrapped: &mut Wrapped<Letters>) -> Poll<Option<u8>> {
     task.enter(|cx| wrapped.poll_next(cx))
 }
 
-/// Polls, one after another, answer these, and the bar stands there then, after so many moves.
+/// Whether polls, one after another, answer these, and the bar stands there then, after so many moves.
 fn polls_so(
-    rt: &impl Abort,
     task: &MockTask,
     wrapped: &mut Wrapped<Letters>,
     wanted: &[(Poll<Option<u8>>, (u64, u64))],
-) {
+) -> bool {
     for (answer, at) in wanted {
-        assert!(rt; poll(task, wrapped) == *answer);
-        assert_eq!(rt; stands(wrapped), *at);
+        if poll(task, wrapped) != *answer || stands(wrapped) != *at {
+            return false;
+        }
     }
+    true
 }
 
-/// Each letter, one after another.
-fn polls_letters(rt: &impl Abort, task: &MockTask, wrapped: &mut Wrapped<Letters>) {
+/// Whether each letter comes, one after another.
+fn polls_letters(task: &MockTask, wrapped: &mut Wrapped<Letters>) -> bool {
     for letter in b'a'..=b'z' {
-        assert!(rt; poll(task, wrapped) == Poll::Ready(Some(letter)));
+        if poll(task, wrapped) != Poll::Ready(Some(letter)) {
+            return false;
+        }
     }
+    true
 }
 
-/// The end finishes the bar, and each later end finishes it again.
+/// Whether the end finishes the bar, and each later end finishes it again.
+fn ends_behind_letters(task: &MockTask, wrapped: &mut Wrapped<Letters>) -> bool {
+    polls_letters(task, wrapped)
+        && stands(wrapped) == (26, 26)
+        && !wrapped.progress.finished
+        && polls_so(
+            task,
+            wrapped,
+            &[(Poll::Ready(None), (26, 27)), (Poll::Ready(None), (26, 28))],
+        )
+        && wrapped.progress.finished
+}
+
 #[test]
 fn the_letters_and_their_end(rt: HostRuntime) -> Result<(), Fail> {
-    let task = MockTask::new(&rt)?;
+    let task = task_of(&rt)?;
     let mut wrapped = all_letters(rt.alloc(), false)?;
-    polls_letters(&rt, &task, &mut wrapped);
-    assert_eq!(rt; stands(&wrapped), (26, 26));
-    assert!(rt; !wrapped.progress.finished);
-    let ends = [(Poll::Ready(None), (26, 27)), (Poll::Ready(None), (26, 28))];
-    polls_so(&rt, &task, &mut wrapped, &ends);
-    assert!(rt; wrapped.progress.finished);
+    assert!(rt; ends_behind_letters(&task, &mut wrapped));
     Ok(())
+}
+
+/// Whether a poll is pending, and leaves the last draw.
+fn pends(task: &MockTask, wrapped: &mut Wrapped<Letters>, at: (u64, u64)) -> bool {
+    let last = last_draw(wrapped);
+    poll(task, wrapped) == Poll::Pending && stands(wrapped) == at && last_draw(wrapped) == last
+}
+
+/// Whether a letter comes behind each poll that is pending.
+fn pends_and_gives(task: &MockTask, wrapped: &mut Wrapped<Letters>) -> bool {
+    pends(task, wrapped, (0, 0))
+        && last_draw(wrapped).is_none()
+        && polls_so(task, wrapped, &[(Poll::Ready(Some(b'a')), (1, 1))])
+        && pends(task, wrapped, (1, 1))
+        && polls_so(task, wrapped, &[(Poll::Ready(Some(b'b')), (2, 2))])
 }
 
 #[test]
 fn a_poll_that_is_pending_changes_nothing(rt: HostRuntime) -> Result<(), Fail> {
-    let task = MockTask::new(&rt)?;
+    let task = task_of(&rt)?;
     let mut wrapped = all_letters(rt.alloc(), true)?;
-    polls_so(&rt, &task, &mut wrapped, &[(Poll::Pending, (0, 0))]);
-    assert_eq!(rt; last_draw(&wrapped), None);
-    polls_so(
-        &rt,
-        &task,
-        &mut wrapped,
-        &[(Poll::Ready(Some(b'a')), (1, 1))],
-    );
-    let last = last_draw(&wrapped);
-    polls_so(&rt, &task, &mut wrapped, &[(Poll::Pending, (1, 1))]);
-    assert_eq!(rt; last_draw(&wrapped), last);
-    polls_so(
-        &rt,
-        &task,
-        &mut wrapped,
-        &[(Poll::Ready(Some(b'b')), (2, 2))],
-    );
+    assert!(rt; pends_and_gives(&task, &mut wrapped));
     Ok(())
 }

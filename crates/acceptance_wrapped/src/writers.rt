@@ -23,6 +23,11 @@ impl Write for Narrow {
     }
 }
 
+/// Whether a call succeeds.
+fn succeeds(answer: io::Result<()>) -> bool {
+    answer.is_ok()
+}
+
 /// Whether a write takes two bytes.
 fn takes_two(wrapped: &mut Wrapped<Narrow>, bytes: &[u8]) -> bool {
     match write(wrapped, bytes) {
@@ -31,26 +36,40 @@ fn takes_two(wrapped: &mut Wrapped<Narrow>, bytes: &[u8]) -> bool {
     }
 }
 
+/// Whether two bytes are taken, and two more before the writer fails; a flush moves nothing.
+fn takes_four(wrapped: &mut Wrapped<Narrow>) -> bool {
+    takes_two(wrapped, b"abcdef")
+        && wrapped.progress.position == 2
+        && fails(write_all(wrapped, b"cdef"), ErrorKind::StorageFull)
+        && stands(wrapped) == (4, 2)
+        && succeeds(flush(wrapped))
+        && stands(wrapped) == (4, 2)
+}
+
 #[test]
 fn what_was_taken_places(rt: HostRuntime) -> Result<(), Fail> {
     let mut wrapped = wrapped_at(rt.alloc(), Narrow { calls: 0 }, 0)?;
-    let taken = takes_two(&mut wrapped, b"abcdef");
-    assert!(rt; taken && wrapped.progress.position == 2);
-    // Two more are taken, then the writer fails.
-    let failed = fails(write_all(&mut wrapped, b"cdef"), ErrorKind::StorageFull);
-    assert!(rt; failed && stands(&wrapped) == (4, 2));
-    let flushed = flush(&mut wrapped).is_ok();
-    assert!(rt; flushed && stands(&wrapped) == (4, 2));
+    assert!(rt; takes_four(&mut wrapped));
     Ok(())
+}
+
+/// Whether all bytes are taken.
+fn takes_five(wrapped: &mut Wrapped<Vec<u8>>) -> bool {
+    succeeds(write_all(wrapped, b"abc"))
+        && succeeds(write_all(wrapped, b"de"))
+        && stands(wrapped) == (10, 2)
+}
+
+/// What the writer got.
+fn written(wrapped: Box<Wrapped<Vec<u8>>>) -> Vec<u8> {
+    Box::into_inner(wrapped).into_inner().0
 }
 
 #[test]
 fn written_bytes_are_the_writers(rt: HostRuntime) -> Result<(), Fail> {
     let mut wrapped = wrapped_at(rt.alloc(), Vec::new(rt.alloc()), 5)?;
-    write_all(&mut wrapped, "abc".as_bytes())?;
-    write_all(&mut wrapped, "de".as_bytes())?;
-    assert_eq!(rt; stands(&wrapped), (10, 2));
-    let (written, _) = Box::into_inner(wrapped).into_inner();
-    assert!(rt; written.as_slice() == "abcde".as_bytes());
+    assert!(rt; takes_five(&mut wrapped));
+    let bytes = written(wrapped);
+    assert!(rt; bytes.as_slice() == "abcde".as_bytes());
     Ok(())
 }
