@@ -1,37 +1,44 @@
 //! Rows of boards: what the row needs, rows, columns, `bottom` or `-`, the commands of `bars run`, one a line; then what it prints,
 //! what it says was wrong, and its status; and whether the Rust crate shows the same.
 use crate::kinds::Verdict;
-use crate::rows::{BadRow, Row, push_spelt};
+use crate::rows::{BadRow, Row};
 use bars_run::run_bars;
-use std::alloc::Global;
 use std::str;
 
 /// Commands that are still to come: another size, and a record of a log.
 const LATER: [&str; 2] = ["size", "warn"];
 
+/// How many columns tell of the run.
+const TOLD: usize = 3;
+
 /// Asks the product. A row with a command that is still to come is skipped.
-pub fn boards_agree(alloc: Global, mut row: Row<'_>) -> Result<Verdict, BadRow> {
-    row.column()?;
-    let args = args_of(alloc, &mut row)?;
-    let commands = row.text(alloc)?;
-    if is_later(commands.as_str()) {
-        return Ok(Verdict::Skipped);
-    }
-    let got = printed(alloc, &args, commands.as_str())?;
-    Ok(Verdict::of(told(alloc, &mut row)?.as_str(), got))
+pub fn boards_agree(row: &mut Row<'_>) -> Result<Verdict, BadRow> {
+    let _needs = row.column();
+    let mut args = Vec::new(row.alloc());
+    push_args(&mut args, row)?;
+    let commands = row.text();
+    played(row, &args, commands.as_str())
 }
 
-/// The arguments: a size, and `bottom` or nothing.
-fn args_of(alloc: Global, row: &mut Row<'_>) -> Result<Vec<String>, BadRow> {
-    let mut args = Vec::new(alloc);
-    args.push(String::from_str(alloc, "run")?)?;
-    args.push(row.text(alloc)?)?;
-    args.push(row.text(alloc)?)?;
-    match row.column()? {
+/// Appends the arguments: a size, and `bottom` or nothing.
+fn push_args(args: &mut Vec<String>, row: &mut Row<'_>) -> Result<(), BadRow> {
+    args.push(String::from_str(row.alloc(), "run")?)?;
+    args.push(row.text())?;
+    args.push(row.text())?;
+    match row.column() {
         "-" => (),
-        bottom => args.push(String::from_str(alloc, bottom)?)?,
+        bottom => args.push(String::from_str(row.alloc(), bottom)?)?,
     }
-    Ok(args)
+    Ok(())
+}
+
+/// Plays the commands, unless one of them is still to come.
+fn played(row: &mut Row<'_>, args: &[String], commands: &str) -> Result<Verdict, BadRow> {
+    if is_later(commands) {
+        return Ok(Verdict::Skipped);
+    }
+    push_run(row, args, commands);
+    Ok(Verdict::of(row.agrees(TOLD)))
 }
 
 /// Whether a command among these is still to come.
@@ -42,29 +49,21 @@ fn is_later(commands: &str) -> bool {
     })
 }
 
-/// What a run prints and says, as rows spell it, and its status.
-fn printed(alloc: Global, args: &[String], commands: &str) -> Result<String, BadRow> {
-    let mut out: Vec<u8> = Vec::new(alloc);
-    let mut err: Vec<u8> = Vec::new(alloc);
-    let status = run_bars(alloc, args, commands.as_bytes(), &mut out, &mut err);
-    let mut got = String::new(alloc);
-    push_printed(&mut got, &out)?;
-    push_printed(&mut got, &err)?;
-    write!(got, "{status}")?;
-    Ok(got)
+/// Appends what a run prints and says, as rows spell it, and its status.
+fn push_run(row: &mut Row<'_>, args: &[String], commands: &str) {
+    let mut out: Vec<u8> = Vec::new(row.alloc());
+    let mut err: Vec<u8> = Vec::new(row.alloc());
+    let status = run_bars(row.alloc(), args, commands.as_bytes(), &mut out, &mut err);
+    push_printed(row, &out);
+    push_printed(row, &err);
+    row.show(status);
 }
 
 /// Appends what was printed as rows spell it, and a tab.
-fn push_printed(out: &mut String, bytes: &[u8]) -> Result<(), BadRow> {
-    push_spelt(out, str::from_utf8(bytes).map_err(|_| BadRow::Text)?)?;
-    out.push('\t')?;
-    Ok(())
-}
-
-/// What the row says of the run, as it stands.
-fn told(alloc: Global, row: &mut Row<'_>) -> Result<String, BadRow> {
-    let out = row.column()?;
-    let err = row.column()?;
-    let status = row.column()?;
-    Ok(format!(in alloc; "{out}\t{err}\t{status}")?)
+fn push_printed(row: &mut Row<'_>, bytes: &[u8]) {
+    match str::from_utf8(bytes) {
+        Ok(text) => row.push_spelt(text),
+        Err(_) => row.note(BadRow::Text),
+    }
+    row.push("\t");
 }

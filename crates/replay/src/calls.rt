@@ -2,11 +2,11 @@
 //! length or `-`, the calls, parted by `; `; then their answers, parted by spaces, and what is read at the last moment: the
 //! position, the length, the ticks, whether the bar is in progress, finished or finished and hidden, the rate, the time left,
 //! the whole time, the time so far, and the picture; and what the Rust crate shows.
-use crate::cells::picture_of;
+use crate::cells::push_spelt_picture;
 use crate::commands::{Timed, call_of};
 use crate::kinds::Verdict;
-use crate::lines::{length_of, style_of};
-use crate::rows::{BadRow, Row, parsed, push_spelt};
+use crate::lines::{length_of, new_bar, style_of};
+use crate::rows::{BadRow, Row};
 use indicatif_bar::lone::LoneBar;
 use indicatif_bar::state::{BarState, ProgressState, Rate};
 use indicatif_bar::style::NoTracker;
@@ -28,39 +28,21 @@ const TOLD: usize = 10;
 // stands in a box, so that each way out of a function drops it by one call.
 
 /// Asks the product.
-pub fn calls_agree(alloc: Global, mut row: Row<'_>) -> Result<Verdict, BadRow> {
-    let rate = parsed(row.column()?)?;
-    let making = parsed(row.column()?)?;
-    let mut bar = bar_of(alloc, &mut row, rate, making)?;
-    played(alloc, &mut row, &mut bar, making)
+pub fn calls_agree(row: &mut Row<'_>) -> Result<Verdict, BadRow> {
+    let rate = row.number();
+    let making = row.number();
+    let mut bar = bar_of(row, rate, making)?;
+    played(row, &mut bar, making)
 }
 
 /// Makes the row's calls of the bar, and compares what was answered and is read then.
-fn played(
-    alloc: Global,
-    row: &mut Row<'_>,
-    bar: &mut Shown,
-    making: Moment,
-) -> Result<Verdict, BadRow> {
-    let calls = calls_of(alloc, row.column()?)?;
+fn played(row: &mut Row<'_>, bar: &mut Shown, making: Moment) -> Result<Verdict, BadRow> {
+    let calls = calls_of(row.alloc(), row.column())?;
     let last = last_moment(&calls, making);
-    let answers = answers_of(bar, calls)?;
-    let got = reading_of(alloc, bar, &answers, last)?;
-    Ok(Verdict::of(told(alloc, row)?.as_str(), got))
-}
-
-/// The answers, and what is read of the bar at this moment.
-fn reading_of(
-    alloc: Global,
-    bar: &Shown,
-    answers: &[Result<Drawn, Refusal>],
-    last: Moment,
-) -> Result<String, BadRow> {
-    let mut got = String::new(alloc);
-    push_answers(&mut got, answers)?;
-    push_readings(&mut got, record_of(bar), last)?;
-    push_picture(alloc, &mut got, bar)?;
-    Ok(got)
+    push_answers(row, &answers_of(bar, calls)?);
+    push_readings(row, record_of(bar), last)?;
+    push_picture(row, bar)?;
+    Ok(Verdict::of(row.agrees(TOLD)))
 }
 
 /// The moment of the last call, or this one where there is none.
@@ -72,16 +54,11 @@ fn last_moment(calls: &[Timed], making: Moment) -> Moment {
 }
 
 /// The row's bar, on a target of this rate.
-fn bar_of(
-    alloc: Global,
-    row: &mut Row<'_>,
-    rate: u8,
-    making: Moment,
-) -> Result<Box<Shown>, BadRow> {
-    let target = target_of(alloc, row, rate, making)?;
-    let state = state_of(alloc, row, making)?;
+fn bar_of(row: &mut Row<'_>, rate: u8, making: Moment) -> Result<Box<Shown>, BadRow> {
+    let target = target_of(row, rate, making)?;
+    let state = state_of(row, making)?;
     let bar = LoneBar::new(Box::into_inner(state), Box::into_inner(target));
-    Ok(Box::new(alloc, bar)?)
+    Ok(Box::new(row.alloc(), bar)?)
 }
 
 fn answers_of(bar: &mut Shown, calls: Vec<Timed>) -> Result<Vec<Result<Drawn, Refusal>>, BadRow> {
@@ -93,128 +70,121 @@ fn record_of(bar: &Shown) -> &BarState<NoTracker> {
 }
 
 /// A target of this rate, or without one, of the row's size.
-fn target_of(
-    alloc: Global,
-    row: &mut Row<'_>,
-    rate: u8,
-    making: Moment,
-) -> Result<Box<Target>, BadRow> {
-    let rows = parsed(row.column()?)?;
-    let cols = parsed(row.column()?)?;
-    let term = InMemoryTerm::new(alloc, rows, cols)?;
+fn target_of(row: &mut Row<'_>, rate: u8, making: Moment) -> Result<Box<Target>, BadRow> {
+    let term = InMemoryTerm::new(row.alloc(), row.number(), row.number())?;
     let target = match rate {
         0 => ProgressDrawTarget::term_like(term),
         rate => ProgressDrawTarget::term_like_with_hz(term, rate, making)?,
     };
-    Ok(Box::new(alloc, target)?)
+    Ok(Box::new(row.alloc(), target)?)
 }
 
 /// A bar of the row's template and length.
-fn state_of(
-    alloc: Global,
-    row: &mut Row<'_>,
-    making: Moment,
-) -> Result<Box<BarState<NoTracker>>, BadRow> {
-    let style = style_of(alloc, row)?;
-    let len = length_of(row)?;
-    let state = BarState::styled(alloc, Box::into_inner(style), len, making)?;
-    Ok(Box::new(alloc, state)?)
+fn state_of(row: &mut Row<'_>, making: Moment) -> Result<Box<BarState<NoTracker>>, BadRow> {
+    let style = style_of(row)?;
+    let len = length_of(row);
+    new_bar(row.alloc(), style, len, making)
 }
 
 /// The calls of a column.
 fn calls_of(alloc: Global, column: &str) -> Result<Vec<Timed>, BadRow> {
     let mut calls = Vec::new(alloc);
-    for text in column.split("; ") {
-        calls.push(call_of(alloc, text)?)?;
-    }
+    push_calls(&mut calls, alloc, column)?;
     Ok(calls)
 }
 
-/// What the row says of the calls, as it stands.
-fn told(alloc: Global, row: &mut Row<'_>) -> Result<String, BadRow> {
-    let mut told = String::new(alloc);
-    for _ in 0..TOLD {
-        told.push_str(row.column()?)?;
-        told.push('\t')?;
+/// Appends the calls of a column.
+fn push_calls(calls: &mut Vec<Timed>, alloc: Global, column: &str) -> Result<(), BadRow> {
+    for text in column.split("; ") {
+        calls.push(call_of(alloc, text)?)?;
     }
-    Ok(told)
+    Ok(())
 }
 
-/// Appends the answers, parted by spaces.
-fn push_answers(out: &mut String, answers: &[Result<Drawn, Refusal>]) -> Result<(), BadRow> {
+/// Appends the answers, parted by spaces, and a tab.
+fn push_answers(row: &mut Row<'_>, answers: &[Result<Drawn, Refusal>]) {
+    let mut parting = "";
     for answer in answers {
-        if !out.is_empty() {
-            out.push(' ')?;
-        }
-        out.push_str(match answer {
-            Ok(Drawn::Yes) => "Y",
-            Ok(Drawn::Limited) => "L",
-            Ok(Drawn::Hidden) => "H",
-            Err(Refusal::ElapsedBeyondClock) => "E10",
-            Err(e) => return Err(BadRow::Refused(*e)),
-        })?;
+        row.push(parting);
+        push_answer(row, answer);
+        parting = " ";
     }
-    out.push('\t')?;
-    Ok(())
+    row.push("\t");
+}
+
+/// Appends an answer.
+fn push_answer(row: &mut Row<'_>, answer: &Result<Drawn, Refusal>) {
+    match answer {
+        Ok(Drawn::Yes) => row.push("Y"),
+        Ok(Drawn::Limited) => row.push("L"),
+        Ok(Drawn::Hidden) => row.push("H"),
+        Err(Refusal::ElapsedBeyondClock) => row.push("E10"),
+        Err(e) => row.note(BadRow::Refused(*e)),
+    }
 }
 
 /// Appends what is read of a bar at a moment, each with a tab behind it.
-fn push_readings(out: &mut String, bar: &BarState<NoTracker>, now: Moment) -> Result<(), BadRow> {
-    push_counts(out, bar.state())?;
-    push_status(out, bar, now)?;
-    push_rate(out, bar.state().per_sec(now))?;
-    push_times(out, bar.state(), now)
+fn push_readings(row: &mut Row<'_>, bar: &BarState<NoTracker>, now: Moment) -> Result<(), BadRow> {
+    push_counts(row, bar.state());
+    row.push(status_of(bar, now)?);
+    push_rate(row, bar.state().per_sec(now));
+    push_times(row, bar.state(), now);
+    Ok(())
+}
+
+/// Appends a number and a tab.
+fn push_number(row: &mut Row<'_>, number: u64) {
+    row.show(number);
+    row.push("\t");
 }
 
 /// Appends the position, the length and the ticks.
-fn push_counts(out: &mut String, state: &ProgressState) -> Result<(), BadRow> {
-    let pos = state.pos();
-    let ticks = state.ticks();
+fn push_counts(row: &mut Row<'_>, state: &ProgressState) {
+    push_number(row, state.pos());
     match state.len() {
-        Some(len) => write!(out, "{pos}\t{len}\t{ticks}\t")?,
-        None => write!(out, "{pos}\t-\t{ticks}\t")?,
+        Some(len) => push_number(row, len),
+        None => row.push("-\t"),
     }
-    Ok(())
+    push_number(row, state.ticks());
 }
 
-/// Appends whether the bar is in progress, finished, or finished and hidden.
-fn push_status(out: &mut String, bar: &BarState<NoTracker>, now: Moment) -> Result<(), BadRow> {
-    let status = if !bar.state().is_finished() {
-        "progress\t"
-    } else if bar.lines(now, 1)?.is_empty() {
-        "hidden\t"
-    } else {
-        "visible\t"
-    };
-    out.push_str(status)?;
-    Ok(())
+/// Whether the bar is in progress, finished, or finished and hidden, and a tab.
+fn status_of(bar: &BarState<NoTracker>, now: Moment) -> Result<&'static str, BadRow> {
+    if !bar.state().is_finished() {
+        return Ok("progress\t");
+    }
+    match bar.lines(now, 1) {
+        Ok(lines) => Ok(if lines.is_empty() {
+            "hidden\t"
+        } else {
+            "visible\t"
+        }),
+        Err(refusal) => Err(BadRow::from(refusal)),
+    }
 }
 
 /// Appends the time left, the whole time and the time so far.
-fn push_times(out: &mut String, state: &ProgressState, now: Moment) -> Result<(), BadRow> {
-    let eta = state.eta(now);
-    let duration = state.duration(now);
-    let elapsed = state.elapsed(now);
-    write!(out, "{eta}\t{duration}\t{elapsed}\t")?;
-    Ok(())
+fn push_times(row: &mut Row<'_>, state: &ProgressState, now: Moment) {
+    push_number(row, state.eta(now));
+    push_number(row, state.duration(now));
+    push_number(row, state.elapsed(now));
 }
 
 /// Appends a rate and a tab.
-fn push_rate(out: &mut String, rate: Rate) -> Result<(), BadRow> {
-    let Rate { steps, nanos } = rate;
-    match steps {
-        0 => out.push_str("0\t")?,
-        _ => write!(out, "{steps}/{nanos}\t")?,
+fn push_rate(row: &mut Row<'_>, rate: Rate) {
+    row.show(rate.steps);
+    if rate.steps != 0 {
+        row.push("/");
+        row.show(rate.nanos);
     }
-    Ok(())
+    row.push("\t");
 }
 
 /// Appends the terminal's picture as rows spell it, and a tab.
-fn push_picture(alloc: Global, out: &mut String, bar: &Shown) -> Result<(), BadRow> {
+fn push_picture(row: &mut Row<'_>, bar: &Shown) -> Result<(), BadRow> {
     if let Some(term) = bar.term() {
-        let picture = picture_of(alloc, &term.picture()?)?;
-        push_spelt(out, picture.as_str())?;
+        push_spelt_picture(row, &term.picture()?);
     }
-    out.push('\t')?;
+    row.push("\t");
     Ok(())
 }

@@ -3,74 +3,75 @@
 use crate::kinds::Verdict;
 use crate::rows::{BadRow, Row};
 use indicatif_term::in_memory::Cells;
-use std::alloc::{AllocError, Global};
+use std::alloc::Global;
 
-/// A terminal of this size.
-#[derive(Clone, Copy, Debug)]
-struct Size {
-    rows: u16,
-    cols: u16,
-}
+/// Rows and columns.
+type Size = (u16, u16);
 
 /// Asks the product with the bytes whole, byte by byte, and cut in two at each byte. A row with a resize is skipped.
-pub fn cells_agree(alloc: Global, mut row: Row<'_>) -> Result<Verdict, BadRow> {
-    let size = Size {
-        rows: size_of(row.number()?)?,
-        cols: size_of(row.number()?)?,
-    };
-    let bytes = row.bytes(alloc)?;
-    if row.column()? != "-" {
-        return Ok(Verdict::Skipped);
-    }
-    row.column()?;
-    compared(alloc, size, &bytes, told(alloc, &mut row)?)
+pub fn cells_agree(row: &mut Row<'_>) -> Result<Verdict, BadRow> {
+    let size = (row.number(), row.number());
+    let bytes = row.bytes();
+    cut(row, size, &bytes)
 }
 
-fn size_of(number: usize) -> Result<u16, BadRow> {
-    u16::try_from(number).map_err(|_| BadRow::Number)
+/// Asks with these bytes.
+fn cut(row: &mut Row<'_>, size: Size, bytes: &[u8]) -> Result<Verdict, BadRow> {
+    if row.column() != "-" {
+        return Ok(Verdict::Skipped);
+    }
+    let _later = row.column();
+    let wanted = told(row)?;
+    compared(row, size, bytes, wanted.as_str())
 }
 
 /// The picture, the contents and the cursor that the row has.
-fn told(alloc: Global, row: &mut Row<'_>) -> Result<String, BadRow> {
-    let picture = row.text(alloc)?;
-    let contents = row.text(alloc)?;
-    let cursor = row.column()?;
-    Ok(format!(in alloc; "{picture}\t{contents}\t{cursor}")?)
+fn told(row: &mut Row<'_>) -> Result<String, BadRow> {
+    let picture = row.text();
+    let contents = row.text();
+    let cursor = row.column();
+    Ok(format!(in row.alloc(); "{picture}\t{contents}\t{cursor}")?)
 }
 
 /// What becomes of a row of these bytes, after which this is wanted.
-fn compared(alloc: Global, size: Size, bytes: &[u8], wanted: String) -> Result<Verdict, BadRow> {
+fn compared(row: &mut Row<'_>, size: Size, bytes: &[u8], wanted: &str) -> Result<Verdict, BadRow> {
     for part in 0..=bytes.len() {
-        let got = shown(alloc, size, bytes, part)?;
-        if got.as_str() != wanted.as_str() {
-            return Ok(Verdict::Differs(got));
+        push_shown(row, size, bytes, part)?;
+        if row.got() != wanted {
+            return Ok(Verdict::Differs);
         }
     }
     Ok(Verdict::Agrees)
 }
 
-/// The picture, the contents and the cursor after these bytes, fed in two parts of which the first has `part` bytes;
-/// where that is none, byte by byte.
-fn shown(alloc: Global, size: Size, bytes: &[u8], part: usize) -> Result<String, BadRow> {
-    let mut cells = terminal(alloc, size)?;
-    if part == 0 {
-        feed_single(&mut cells, bytes)?;
-    } else {
-        let part = part.min(bytes.len());
-        feed(&mut cells, &bytes[..part])?;
-        feed(&mut cells, &bytes[part..])?;
-    }
-    reading_of(alloc, &cells)
+/// Puts down the picture, the contents and the cursor after these bytes, fed in two parts of which the first has `part`
+/// bytes; where that is none, byte by byte.
+fn push_shown(row: &mut Row<'_>, size: Size, bytes: &[u8], part: usize) -> Result<(), BadRow> {
+    let mut cells = terminal(row.alloc(), size)?;
+    feed_parts(&mut cells, bytes, part)?;
+    push_reading(row, &cells)
 }
 
 /// A terminal in a box: each way out of a function drops it by one call.
 fn terminal(alloc: Global, size: Size) -> Result<Box<Cells>, BadRow> {
-    Ok(Box::new(alloc, Cells::new(alloc, size.rows, size.cols)?)?)
+    Ok(Box::new(alloc, Cells::new(alloc, size.0, size.1)?)?)
+}
+
+/// Feeds these bytes in two parts, or byte by byte.
+fn feed_parts(cells: &mut Cells, bytes: &[u8], part: usize) -> Result<(), BadRow> {
+    if part == 0 {
+        return feed_single(cells, bytes);
+    }
+    let part = part.min(bytes.len());
+    feed(cells, &bytes[..part])?;
+    feed(cells, &bytes[part..])
 }
 
 fn feed(cells: &mut Cells, bytes: &[u8]) -> Result<(), BadRow> {
-    cells.feed(bytes).map_err(|e| e.1)?;
-    Ok(())
+    match cells.feed(bytes) {
+        Ok(_) => Ok(()),
+        Err((_, refusal)) => Err(BadRow::from(refusal)),
+    }
 }
 
 /// Feeds these bytes one by one.
@@ -81,35 +82,49 @@ fn feed_single(cells: &mut Cells, bytes: &[u8]) -> Result<(), BadRow> {
     Ok(())
 }
 
-/// The picture, the contents and the cursor.
-fn reading_of(alloc: Global, cells: &Cells) -> Result<String, BadRow> {
-    let picture = picture_of(alloc, &cells.picture()?)?;
-    let contents = cells.contents()?;
-    let (row, column) = cells.cursor();
-    Ok(format!(in alloc; "{picture}\t{contents}\t{row} {column}")?)
-}
-
-/// Appends so many line feeds.
-fn push_line_feeds(out: &mut String, count: usize) -> Result<(), AllocError> {
-    for _ in 0..count {
-        out.push('\n')?;
-    }
+/// Puts down the picture, the contents and the cursor in the place of what was got before.
+fn push_reading(row: &mut Row<'_>, cells: &Cells) -> Result<(), BadRow> {
+    row.clear();
+    push_picture(row, &cells.picture()?);
+    row.push("\t");
+    row.push(cells.contents()?.as_str());
+    push_cursor(row, cells.cursor());
     Ok(())
 }
 
-/// The rows of a picture up to the last one that isn't empty, each ended by a line feed.
-pub fn picture_of(alloc: Global, rows: &[String]) -> Result<String, BadRow> {
-    let mut picture = String::new(alloc);
-    let mut empty: usize = 0;
-    for row in rows {
-        if row.is_empty() {
-            empty = empty.saturating_add(1);
-            continue;
-        }
-        push_line_feeds(&mut picture, empty)?;
-        empty = 0;
-        picture.push_str(row.as_str())?;
-        picture.push('\n')?;
+/// Appends a tab and where the cursor is.
+fn push_cursor(row: &mut Row<'_>, cursor: (u16, u16)) {
+    row.push("\t");
+    row.show(cursor.0);
+    row.push(" ");
+    row.show(cursor.1);
+}
+
+/// Appends the rows of a picture up to the last one that isn't empty, each ended by a line feed.
+fn push_picture(row: &mut Row<'_>, picture: &[String]) {
+    for line in picture.iter().take(height_of(picture)) {
+        row.push(line.as_str());
+        row.push("\n");
     }
-    Ok(picture)
+}
+
+/// Appends the same as rows spell it.
+pub fn push_spelt_picture(row: &mut Row<'_>, picture: &[String]) {
+    for line in picture.iter().take(height_of(picture)) {
+        row.push_spelt(line.as_str());
+        row.push("\\n");
+    }
+}
+
+/// How many rows of a picture there are up to the last one that isn't empty.
+fn height_of(picture: &[String]) -> usize {
+    let mut height: usize = 0;
+    let mut count: usize = 0;
+    for line in picture {
+        count = count.saturating_add(1);
+        if !line.is_empty() {
+            height = count;
+        }
+    }
+    height
 }

@@ -11,13 +11,22 @@ pub type Timed = (LoneCall<NoTracker>, Moment);
 
 /// The call that a text spells.
 pub fn call_of(alloc: Global, text: &str) -> Result<Timed, BadRow> {
-    let (call, moment) = text.split_once(" @").ok_or(BadRow::Text)?;
-    let now = parsed(moment)?;
-    let call = match call.split_once(' ') {
-        None => bare(call)?,
-        Some((name, rest)) => with_argument(alloc, name, rest)?,
+    let Some((call, moment)) = text.split_once(" @") else {
+        return Err(BadRow::Text);
     };
-    Ok((call, now))
+    let now = parsed(moment)?;
+    match named(alloc, call) {
+        Ok(call) => Ok((call, now)),
+        Err(fault) => Err(fault),
+    }
+}
+
+/// The call that a name spells, and what belongs to it.
+fn named(alloc: Global, call: &str) -> Result<LoneCall<NoTracker>, BadRow> {
+    match call.split_once(' ') {
+        None => bare(call),
+        Some((name, rest)) => with_argument(alloc, name, rest),
+    }
 }
 
 /// A call without an argument.
@@ -43,48 +52,51 @@ fn bare(name: &str) -> Result<LoneCall<NoTracker>, BadRow> {
 /// A call with an argument: a text or numbers.
 fn with_argument(alloc: Global, name: &str, rest: &str) -> Result<LoneCall<NoTracker>, BadRow> {
     match name {
-        "log" => Ok(LoneCall::Log(rest.to_string(alloc)?)),
-        "set_message" | "set_prefix" | "finish_with_message" | "abandon_with_message" => {
-            Ok(LoneCall::Bar(saying(name, rest.to_string(alloc)?)?))
+        "log" | "set_message" | "set_prefix" | "finish_with_message" | "abandon_with_message" => {
+            saying(name, rest.to_string(alloc)?)
         }
-        "update" => Ok(LoneCall::Bar(BarCommand::Update(change_of(rest)?))),
-        _ => Ok(LoneCall::Bar(by_number(name, parsed(rest)?)?)),
+        "update" => updating(rest),
+        _ => by_number(name, parsed(rest)?),
     }
 }
 
-/// A command with a text.
-fn saying(name: &str, text: String) -> Result<BarCommand<NoTracker>, BadRow> {
-    match name {
-        "set_message" => Ok(BarCommand::SetMessage(text)),
-        "set_prefix" => Ok(BarCommand::SetPrefix(text)),
-        "finish_with_message" => Ok(BarCommand::Finish(ProgressFinish::WithMessage(text))),
-        "abandon_with_message" => {
-            Ok(BarCommand::Finish(ProgressFinish::AbandonWithMessage(text)))
-        }
-        _ => Err(BadRow::Unknown),
-    }
+/// A call with a text.
+fn saying(name: &str, text: String) -> Result<LoneCall<NoTracker>, BadRow> {
+    let command = match name {
+        "log" => return Ok(LoneCall::Log(text)),
+        "set_message" => BarCommand::SetMessage(text),
+        "set_prefix" => BarCommand::SetPrefix(text),
+        "finish_with_message" => BarCommand::Finish(ProgressFinish::WithMessage(text)),
+        "abandon_with_message" => BarCommand::Finish(ProgressFinish::AbandonWithMessage(text)),
+        _ => return Err(BadRow::Unknown),
+    };
+    Ok(LoneCall::Bar(command))
 }
 
-/// A command with a number.
-fn by_number(name: &str, number: u64) -> Result<BarCommand<NoTracker>, BadRow> {
-    match name {
-        "set_ticker" => Ok(BarCommand::SetTicker(number == 1)),
-        "inc" => Ok(BarCommand::Inc(number)),
-        "dec" => Ok(BarCommand::Dec(number)),
-        "set_position" => Ok(BarCommand::SetPosition(number)),
-        "set_length" => Ok(BarCommand::SetLength(number)),
-        "inc_length" => Ok(BarCommand::IncLength(number)),
-        "dec_length" => Ok(BarCommand::DecLength(number)),
-        "set_elapsed" => Ok(BarCommand::SetElapsed(number)),
-        _ => Err(BadRow::Unknown),
-    }
+/// A call with a number.
+fn by_number(name: &str, number: u64) -> Result<LoneCall<NoTracker>, BadRow> {
+    let command = match name {
+        "set_ticker" => BarCommand::SetTicker(number == 1),
+        "inc" => BarCommand::Inc(number),
+        "dec" => BarCommand::Dec(number),
+        "set_position" => BarCommand::SetPosition(number),
+        "set_length" => BarCommand::SetLength(number),
+        "inc_length" => BarCommand::IncLength(number),
+        "dec_length" => BarCommand::DecLength(number),
+        "set_elapsed" => BarCommand::SetElapsed(number),
+        _ => return Err(BadRow::Unknown),
+    };
+    Ok(LoneCall::Bar(command))
 }
 
-/// A position and a length, parted by a space.
-fn change_of(text: &str) -> Result<Change, BadRow> {
-    let (pos, len) = text.split_once(' ').ok_or(BadRow::Text)?;
-    Ok(Change {
+/// An update to a position and a length, parted by a space.
+fn updating(text: &str) -> Result<LoneCall<NoTracker>, BadRow> {
+    let Some((pos, len)) = text.split_once(' ') else {
+        return Err(BadRow::Text);
+    };
+    let change = Change {
         pos: Some(parsed(pos)?),
         len: Some(parsed(len)?),
-    })
+    };
+    Ok(LoneCall::Bar(BarCommand::Update(change)))
 }

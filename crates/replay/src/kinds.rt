@@ -8,10 +8,9 @@ use crate::lines::lines_agree;
 use crate::rows::{BadRow, Row};
 use crate::templates::template_agrees;
 use crate::texts::text_agrees;
-use std::alloc::Global;
 
 /// What rows of a file record.
-#[derive(Clone, Copy, Debug, PartialEq, Eq)]
+#[derive(Clone, Copy)]
 pub enum Kind {
     /// The columns and the rows of a text.
     Text,
@@ -32,12 +31,12 @@ pub enum Kind {
 }
 
 /// What became of a row.
-#[derive(Debug, Drop)]
+#[derive(Clone, Copy)]
 pub enum Verdict {
     /// The product gives what was recorded.
     Agrees,
-    /// It gives this, spelt as in a row.
-    Differs(String),
+    /// It gives something else, which stands in the row.
+    Differs,
     /// It isn't asked yet.
     Skipped,
 }
@@ -59,27 +58,36 @@ impl Kind {
     }
 
     /// Asks the product for what the row records.
-    pub fn agrees(self, alloc: Global, row: Row<'_>) -> Result<Verdict, BadRow> {
+    pub fn verdict(self, row: &mut Row<'_>) -> Result<Verdict, BadRow> {
+        let asked = self.asked(row);
+        match row.fault() {
+            Some(fault) => Err(fault),
+            None => asked,
+        }
+    }
+
+    /// Asks as the kind does. The row may have a fault then.
+    fn asked(self, row: &mut Row<'_>) -> Result<Verdict, BadRow> {
         match self {
-            Kind::Text => text_agrees(alloc, row),
-            Kind::Format => format_agrees(alloc, row),
-            Kind::Template => template_agrees(alloc, row),
-            Kind::Cells => cells_agree(alloc, row),
-            Kind::Lines => lines_agree(alloc, row),
-            Kind::Limiter => limiter_agrees(alloc, row),
-            Kind::Calls => calls_agree(alloc, row),
-            Kind::Boards => boards_agree(alloc, row),
+            Kind::Text => text_agrees(row),
+            Kind::Format => format_agrees(row),
+            Kind::Template => template_agrees(row),
+            Kind::Cells => cells_agree(row),
+            Kind::Lines => lines_agree(row),
+            Kind::Limiter => limiter_agrees(row),
+            Kind::Calls => calls_agree(row),
+            Kind::Boards => boards_agree(row),
         }
     }
 }
 
 impl Verdict {
-    /// What becomes of a row where the product gave this.
-    pub fn of(wanted: &str, got: String) -> Verdict {
-        if got.as_str() == wanted {
+    /// What becomes of a row whose answer is the recorded one, or isn't.
+    pub fn of(agrees: bool) -> Verdict {
+        if agrees {
             Verdict::Agrees
         } else {
-            Verdict::Differs(got)
+            Verdict::Differs
         }
     }
 }

@@ -2,10 +2,10 @@
 //! a length, a message, a prefix, a moment, whether the bar is finished, and the lines, each ended by a line feed. The bar
 //! is made at 0 and ticks at the moment, where it is finished too; `-` is for the first characters and for no length.
 use crate::kinds::Verdict;
-use crate::rows::{BadRow, Row, parsed, push_spelt};
+use crate::rows::{BadRow, Row};
 use indicatif_bar::state::BarState;
 use indicatif_bar::style::{NoTracker, ProgressStyle};
-use indicatif_text::columns::Moment;
+use indicatif_text::columns::{Moment, Refusal};
 use std::alloc::Global;
 use std::convert::AsStr;
 
@@ -15,102 +15,124 @@ type Look = Box<ProgressStyle<NoTracker>>;
 type Bar = Box<BarState<NoTracker>>;
 
 /// Asks for the lines.
-pub fn lines_agree(alloc: Global, mut row: Row<'_>) -> Result<Verdict, BadRow> {
-    let width = parsed(row.column()?)?;
-    let style = painted(alloc, &mut row)?;
-    let (mut bar, now) = bar_of(alloc, style, &mut row)?;
+pub fn lines_agree(row: &mut Row<'_>) -> Result<Verdict, BadRow> {
+    let width = row.number();
+    let style = painted(row)?;
+    let mut bar = bar_of(row, style)?;
+    shown(row, &mut bar, width)
+}
+
+/// Has the bar tick, and compares its lines on this width.
+fn shown(row: &mut Row<'_>, bar: &mut BarState<NoTracker>, width: u16) -> Result<Verdict, BadRow> {
+    let now = row.number();
+    end(bar, now, is_set(row));
+    let wanted = row.column();
+    push_lines(row, bar, now, width)?;
+    Ok(Verdict::of(row.got() == wanted))
+}
+
+/// Ticks, and finishes if the bar is finished.
+fn end(bar: &mut BarState<NoTracker>, now: Moment, finished: bool) {
     bar.tick(now);
-    if is_set(&mut row)? {
+    if finished {
         bar.finish(now);
     }
-    Ok(Verdict::of(row.column()?, shown(alloc, &bar, now, width)?))
 }
 
 /// The style of the row's template.
-pub fn style_of(alloc: Global, row: &mut Row<'_>) -> Result<Look, BadRow> {
-    let template = row.text(alloc)?;
-    let style = ProgressStyle::with_template(alloc, template.as_str())?;
-    Ok(Box::new(alloc, style)?)
+pub fn style_of(row: &mut Row<'_>) -> Result<Look, BadRow> {
+    let template = row.text();
+    boxed(
+        row.alloc(),
+        ProgressStyle::with_template(row.alloc(), template.as_str()),
+    )
+}
+
+/// A style in a box.
+fn boxed(alloc: Global, made: Result<ProgressStyle<NoTracker>, Refusal>) -> Result<Look, BadRow> {
+    Ok(Box::new(alloc, made?)?)
 }
 
 /// The row's length, if it has one.
-pub fn length_of(row: &mut Row<'_>) -> Result<Option<u64>, BadRow> {
-    match row.column()? {
-        "-" => Ok(None),
-        len => Ok(Some(parsed(len)?)),
+pub fn length_of(row: &mut Row<'_>) -> Option<u64> {
+    match row.column() {
+        "-" => None,
+        len => Some(row.parsed(len)),
     }
 }
 
 /// The style of a template, characters and colours.
-fn painted(alloc: Global, row: &mut Row<'_>) -> Result<Look, BadRow> {
-    let style = style_of(alloc, row)?;
-    let chars = row.text(alloc)?;
-    let style = with_chars(alloc, style, chars.as_str())?;
-    with_colours(alloc, style, is_set(row)?)
+fn painted(row: &mut Row<'_>) -> Result<Look, BadRow> {
+    let style = style_of(row)?;
+    let style = with_chars(row, style)?;
+    let colours = is_set(row);
+    boxed(row.alloc(), Box::into_inner(style).with_colors(colours))
 }
 
-/// The same style with these characters; `-`: with those of a new one.
-fn with_chars(alloc: Global, style: Look, chars: &str) -> Result<Look, BadRow> {
-    if chars == "-" {
-        return Ok(style);
+/// The same style with the row's characters; `-`: with those of a new one.
+fn with_chars(row: &mut Row<'_>, style: Look) -> Result<Look, BadRow> {
+    let chars = row.text();
+    match chars.as_str() {
+        "-" => Ok(style),
+        chars => boxed(row.alloc(), Box::into_inner(style).progress_chars(chars)),
     }
-    let style = Box::into_inner(style).progress_chars(chars)?;
-    Ok(Box::new(alloc, style)?)
 }
 
-/// The same style with colours or without.
-fn with_colours(alloc: Global, style: Look, colours: bool) -> Result<Look, BadRow> {
-    let style = Box::into_inner(style).with_colors(colours)?;
-    Ok(Box::new(alloc, style)?)
+/// The bar of a width of tabs, a position, a length, a message and a prefix.
+fn bar_of(row: &mut Row<'_>, style: Look) -> Result<Bar, BadRow> {
+    let tab = row.number();
+    let position = row.number();
+    let len = length_of(row);
+    let mut bar = new_bar(row.alloc(), style, len, 0)?;
+    place(&mut bar, tab, position)?;
+    say(row, &mut bar)?;
+    Ok(bar)
 }
 
-/// The bar of a width of tabs, a position, a length, a message and a prefix, and its moment.
-fn bar_of(alloc: Global, style: Look, row: &mut Row<'_>) -> Result<(Bar, Moment), BadRow> {
-    let tab = row.number()?;
-    let position = parsed(row.column()?)?;
-    let len = length_of(row)?;
-    let mut bar = new_bar(alloc, style, len)?;
-    bar.with_tab_width(tab, 0)?;
-    bar.with_position(position, 0);
-    say(alloc, &mut bar, row)?;
-    let now = parsed(row.column()?)?;
-    Ok((bar, now))
-}
-
-fn new_bar(alloc: Global, style: Look, len: Option<u64>) -> Result<Bar, BadRow> {
-    let bar = BarState::styled(alloc, Box::into_inner(style), len, 0)?;
+/// A bar of this style and length.
+pub fn new_bar(alloc: Global, style: Look, len: Option<u64>, now: Moment) -> Result<Bar, BadRow> {
+    let bar = BarState::styled(alloc, Box::into_inner(style), len, now)?;
     Ok(Box::new(alloc, bar)?)
 }
 
+/// Gives the bar a width of tabs and a position.
+fn place(bar: &mut BarState<NoTracker>, tab: usize, position: u64) -> Result<(), BadRow> {
+    bar.with_tab_width(tab, 0)?;
+    bar.with_position(position, 0);
+    Ok(())
+}
+
 /// Gives the bar the row's message and prefix.
-fn say(alloc: Global, bar: &mut BarState<NoTracker>, row: &mut Row<'_>) -> Result<(), BadRow> {
-    let message = row.text(alloc)?;
-    let prefix = row.text(alloc)?;
+fn say(row: &mut Row<'_>, bar: &mut BarState<NoTracker>) -> Result<(), BadRow> {
+    let message = row.text();
+    let prefix = row.text();
     bar.with_message(message.as_str(), 0)?;
     bar.with_prefix(prefix.as_str(), 0)?;
     Ok(())
 }
 
 /// Whether the next column is 1, where it is 0 or 1.
-fn is_set(row: &mut Row<'_>) -> Result<bool, BadRow> {
-    match row.column()? {
-        "0" => Ok(false),
-        "1" => Ok(true),
-        _ => Err(BadRow::Number),
+fn is_set(row: &mut Row<'_>) -> bool {
+    match row.column() {
+        "0" => false,
+        "1" => true,
+        _ => {
+            row.note(BadRow::Number);
+            false
+        }
     }
 }
 
-/// The bar's lines as rows spell them, each ended by a line feed.
-fn shown(
-    alloc: Global,
+/// Appends the bar's lines as rows spell them, each ended by a line feed.
+fn push_lines(
+    row: &mut Row<'_>,
     bar: &BarState<NoTracker>,
     now: Moment,
     width: u16,
-) -> Result<String, BadRow> {
-    let mut out = String::new(alloc);
+) -> Result<(), BadRow> {
     for line in &bar.lines(now, width)? {
-        push_spelt(&mut out, line.as_str())?;
-        push_spelt(&mut out, "\n")?;
+        row.push_spelt(line.as_str());
+        row.push("\\n");
     }
-    Ok(out)
+    Ok(())
 }

@@ -21,7 +21,7 @@ mod rows;
 mod templates;
 mod texts;
 
-use anyhow::{Context, Result, anyhow, bail};
+use anyhow::{Context, Result, bail};
 use kinds::{Kind, Verdict};
 use rows::Row;
 use std::fs::File;
@@ -30,7 +30,7 @@ use std::process::ExitCode;
 use std::{env, io};
 
 /// How many rows agreed, disagreed and weren't asked.
-#[derive(Clone, Copy, Debug, Default)]
+#[derive(Clone, Copy, Default)]
 struct Tally {
     passed: u64,
     failed: u64,
@@ -39,10 +39,10 @@ struct Tally {
 
 impl Tally {
     /// Counts a row of which this became.
-    fn count(&mut self, verdict: &Verdict) {
+    fn count(&mut self, verdict: Verdict) {
         let counted = match verdict {
             Verdict::Agrees => &mut self.passed,
-            Verdict::Differs(_) => &mut self.failed,
+            Verdict::Differs => &mut self.failed,
             Verdict::Skipped => &mut self.skipped,
         };
         *counted = counted.saturating_add(1);
@@ -70,9 +70,7 @@ fn replay(rt: HostRuntime) -> Result<Option<Tally>> {
     let mut is_named = false;
     let mut words = env::args(&rt)?.skip(1);
     while let Some(word) = words.next() {
-        let kind = Kind::named(word.as_str()).ok_or(anyhow!("{} is no kind of rows", word))?;
-        let path = words.next().ok_or(anyhow!("no file for {}", word))?;
-        replay_file(rt, kind, path.as_str(), &mut tally)?;
+        replay_words(rt, word.as_str(), words.next(), &mut tally)?;
         is_named = true;
     }
     if !is_named {
@@ -80,6 +78,22 @@ fn replay(rt: HostRuntime) -> Result<Option<Tally>> {
     }
     print_counts(rt, tally).context("output failed")?;
     Ok(Some(tally))
+}
+
+/// Asks every row of the file behind the word that names its kind.
+fn replay_words(
+    rt: HostRuntime,
+    word: &str,
+    path: Option<String>,
+    tally: &mut Tally,
+) -> Result<()> {
+    let Some(kind) = Kind::named(word) else {
+        bail!("{word} is no kind of rows");
+    };
+    match path {
+        Some(path) => replay_file(rt, kind, path.as_str(), tally),
+        None => bail!("no file for {word}"),
+    }
 }
 
 fn print_counts(rt: HostRuntime, tally: Tally) -> io::Result<()> {
@@ -118,18 +132,35 @@ fn replay_rows<R: BufRead + Drop>(
             continue;
         }
         is_empty = false;
-        let verdict = kind
-            .agrees(rt.alloc(), Row::of(line.as_str()))
-            .context(format_args!("{path}, line {number}"))?;
-        if let Verdict::Differs(got) = &verdict {
-            println!(rt; "{path}, line {number}: {line}\n  got {got}").context("output failed")?;
-        }
-        tally.count(&verdict);
+        replay_row(rt, kind, (path, number), line.as_str(), tally)?;
     }
     if is_empty {
         bail!("{path} has no rows");
     }
     Ok(())
+}
+
+/// Asks a row, which stands in this line of this file, and prints it if it disagrees.
+fn replay_row(
+    rt: HostRuntime,
+    kind: Kind,
+    (path, number): (&str, u64),
+    line: &str,
+    tally: &mut Tally,
+) -> Result<()> {
+    let mut row = Row::of(rt.alloc(), line);
+    let verdict = kind
+        .verdict(&mut row)
+        .context(format_args!("{path}, line {number}"))?;
+    tally.count(verdict);
+    match verdict {
+        Verdict::Differs => {
+            println!(rt; "{path}, line {number}: {line}\n  got {}", row.got()).context(
+                "output failed",
+            )
+        }
+        _ => Ok(()),
+    }
 }
 
 #[cfg(test)]

@@ -1,54 +1,52 @@
 //! Rows of templates: a template, and its parts or its refusal.
 use crate::kinds::Verdict;
-use crate::rows::{BadRow, Row, push_escaped, push_spelt};
+use crate::rows::{BadRow, Row};
 use indicatif_text::columns::Style;
 use indicatif_text::template::{Alignment, Part, Template, TemplateError};
-use std::alloc::{AllocError, Global};
 
 /// Asks for the parts or the refusal.
-pub fn template_agrees(alloc: Global, mut row: Row<'_>) -> Result<Verdict, BadRow> {
-    let template = row.text(alloc)?;
-    let wanted = row.column()?;
-    Ok(Verdict::of(wanted, answer(alloc, template.as_str())?))
+pub fn template_agrees(row: &mut Row<'_>) -> Result<Verdict, BadRow> {
+    let template = row.text();
+    let wanted = row.column();
+    push_answer(row, template.as_str());
+    Ok(Verdict::of(row.got() == wanted))
 }
 
-/// The parts of a template with ` | ` between them, or `E6 character state`, or `E7`.
+/// Appends the parts of a template with ` | ` between them, or `E6 character state`, or `E7`.
 ///
 /// A part is `L text`, `N`, or `P key align width ! style alternative`, with `-` for what isn't there and styles as the
 /// numbers that they write.
-fn answer(alloc: Global, template: &str) -> Result<String, AllocError> {
-    match Template::parse(alloc, template) {
-        Ok(template) => spelt_parts(alloc, template.parts()),
+fn push_answer(row: &mut Row<'_>, template: &str) {
+    match Template::parse(row.alloc(), template) {
+        Ok(template) => push_parts(row, template.parts()),
         Err(TemplateError::Unexpected { next, state }) => {
-            let mut out = String::from_str(alloc, "E6 ")?;
-            push_escaped(&mut out, next)?;
-            let state = format!(in alloc; " {state:?}")?;
-            out.push_str(state.as_str())?;
-            Ok(out)
+            row.push("E6 ");
+            row.push_escaped(next);
+            row.show(format_args!(" {state:?}"));
         }
-        Err(TemplateError::WidthTooLarge) => String::from_str(alloc, "E7"),
-        Err(TemplateError::Memory) => Err(AllocError),
+        Err(TemplateError::WidthTooLarge) => row.push("E7"),
+        Err(TemplateError::Memory) => row.note(BadRow::Memory),
     }
 }
 
-fn spelt_parts(alloc: Global, parts: &[Part]) -> Result<String, AllocError> {
-    let mut out = String::new(alloc);
+/// Appends parts.
+fn push_parts(row: &mut Row<'_>, parts: &[Part]) {
+    let mut parting = "";
     for part in parts {
-        if !out.is_empty() {
-            out.push_str(" | ")?;
-        }
-        push_part(alloc, &mut out, part)?;
+        row.push(parting);
+        push_part(row, part);
+        parting = " | ";
     }
-    Ok(out)
 }
 
-fn push_part(alloc: Global, out: &mut String, part: &Part) -> Result<(), AllocError> {
+/// Appends a part.
+fn push_part(row: &mut Row<'_>, part: &Part) {
     match part {
         Part::Literal(text) => {
-            out.push_str("L ")?;
-            push_spelt(out, text.as_str())
+            row.push("L ");
+            row.push_spelt(text.as_str());
         }
-        Part::NewLine => out.push_str("N"),
+        Part::NewLine => row.push("N"),
         Part::Placeholder {
             key,
             align,
@@ -57,57 +55,54 @@ fn push_part(alloc: Global, out: &mut String, part: &Part) -> Result<(), AllocEr
             style,
             alternative,
         } => {
-            out.push_str("P ")?;
-            push_spelt(out, key.as_str())?;
-            push_layout(alloc, out, *align, *width)?;
-            out.push_str(if *truncate { " !" } else { " -" })?;
-            push_style(alloc, out, *style)?;
-            push_style(alloc, out, *alternative)
+            row.push("P ");
+            row.push_spelt(key.as_str());
+            push_layout(row, *align, *width);
+            row.push(if *truncate { " !" } else { " -" });
+            push_style(row, *style);
+            push_style(row, *alternative);
         }
     }
 }
 
-fn push_layout(
-    alloc: Global,
-    out: &mut String,
-    align: Alignment,
-    width: Option<u16>,
-) -> Result<(), AllocError> {
-    out.push_str(match align {
+/// Appends an alignment and a width.
+fn push_layout(row: &mut Row<'_>, align: Alignment, width: Option<u16>) {
+    row.push(match align {
         Alignment::Left => " < ",
         Alignment::Center => " ^ ",
         Alignment::Right => " > ",
-    })?;
+    });
     match width {
-        None => out.push_str("-"),
-        Some(width) => {
-            let width = format!(in alloc; "{width}")?;
-            out.push_str(width.as_str())
-        }
+        None => row.push("-"),
+        Some(width) => row.show(width),
     }
 }
 
-/// The numbers of a style, parted by commas: those that it writes round an empty text, but for the last.
-fn push_style(alloc: Global, out: &mut String, style: Option<Style>) -> Result<(), AllocError> {
-    let mut written = String::new(alloc);
+/// Appends the numbers of a style, parted by commas: those that it writes round an empty text, but for the last.
+fn push_style(row: &mut Row<'_>, style: Option<Style>) {
+    let mut written = String::new(row.alloc());
     if let Some(style) = style {
-        style
-            .apply_to(true, "", &mut written)
-            .map_err(|_| AllocError)?;
-    }
-    out.push_str(" ")?;
-    let mut some = false;
-    for sequence in written.as_str().split('m') {
-        if let Some(number) = sequence.strip_prefix("\x1b[") {
-            if number == "0" {
-                continue;
-            }
-            if some {
-                out.push_str(",")?;
-            }
-            out.push_str(number)?;
-            some = true;
+        if style.apply_to(true, "", &mut written).is_err() {
+            row.note(BadRow::Memory);
         }
     }
-    if some { Ok(()) } else { out.push_str("-") }
+    push_numbers(row, written.as_str());
+}
+
+/// Appends the numbers of these sequences but for 0; `-` where there are none.
+fn push_numbers(row: &mut Row<'_>, written: &str) {
+    let mut some = false;
+    for sequence in written.split('m') {
+        match sequence.strip_prefix("\x1b[") {
+            None | Some("0") => (),
+            Some(number) => {
+                row.push(if some { "," } else { " " });
+                row.push(number);
+                some = true;
+            }
+        }
+    }
+    if !some {
+        row.push(" -");
+    }
 }
