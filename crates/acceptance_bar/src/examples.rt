@@ -195,14 +195,18 @@ fn draw_target(rt: HostRuntime) -> Result<(), Fail> {
 #[test]
 fn bar_state(rt: HostRuntime) -> Result<(), Fail> {
     let mut bar: Told<NoTracker> = Told::new(rt.alloc(), "{msg}", None, 0)?;
-    let message = Call::SetMessage("a\tb\nc");
-    assert_eq!(rt; bar.obey(message, 0), Ok(Ask::Unforced));
-    assert_eq!(rt; bar.obey(Call::Tick, 0), Ok(Ask::Unforced));
-    assert_eq!(rt; bar.obey(Call::ForceDraw, 0), Ok(Ask::Forced));
-    assert_eq!(rt; bar.reached().ticks, 1);
-    assert_eq!(rt; bar.message(), "a        b\nc");
+    assert!(rt; obeys_three(&mut bar));
     assert!(rt; bar.shows(&["a        b", "c"])?);
     Ok(())
+}
+
+/// Whether a message, a tick and a draw by force ask what they should, and leave what they should.
+fn obeys_three(bar: &mut Told<NoTracker>) -> bool {
+    bar.obey(Call::SetMessage("a\tb\nc"), 0) == Ok(Ask::Unforced)
+        && bar.obey(Call::Tick, 0) == Ok(Ask::Unforced)
+        && bar.obey(Call::ForceDraw, 0) == Ok(Ask::Forced)
+        && bar.reached().ticks == 1
+        && bar.message() == "a        b\nc"
 }
 
 #[test]

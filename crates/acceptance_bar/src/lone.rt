@@ -122,21 +122,30 @@ fn a_character_wider_than_the_terminal(rt: HostRuntime) -> Result<(), Fail> {
 }
 
 /// A tick and a log are refused so, and no byte is written.
-fn refuses(rt: &impl Abort, bar: &mut Shown<Term<Vec<u8>>>, refusal: Refusal) -> Result<(), Fail> {
-    assert_eq!(rt; bar.tick(0), Err(refusal));
-    assert_eq!(rt; bar.println("l", 0), Err(refusal));
-    assert_eq!(rt; bar.bytes()?.len(), 0);
-    Ok(())
+fn refuses(bar: &mut Shown<Term<Vec<u8>>>, refusal: Refusal) -> Result<bool, Fail> {
+    let refused = bar.tick(0) == Err(refusal) && bar.println("l", 0) == Err(refusal);
+    Ok(refused && bar.bytes()?.is_empty())
+}
+
+/// Whether a draw that is refused for a wide character writes no byte, and one without it does.
+fn refuses_a_wide_one(alloc: Global) -> Result<bool, Fail> {
+    let mut bar = bar_behind(alloc, (3, 1), "国")?;
+    let refused = refuses(&mut bar, Refusal::TooWide)?;
+    let drawn = bar.set_message("a", 0) == Ok(Drawn::Yes);
+    Ok(refused && drawn && !bar.bytes()?.is_empty())
+}
+
+/// Whether a terminal without columns refuses each draw.
+fn refuses_each(alloc: Global) -> Result<bool, Fail> {
+    let mut bar = bar_behind(alloc, (3, 0), "a")?;
+    refuses(&mut bar, Refusal::NoColumns)
 }
 
 #[test]
 fn a_refused_draw_writes_no_byte(rt: HostRuntime) -> Result<(), Fail> {
-    let mut wide = bar_behind(rt.alloc(), (3, 1), "国")?;
-    refuses(&rt, &mut wide, Refusal::TooWide)?;
-    assert_eq!(rt; wide.set_message("a", 0), Ok(Drawn::Yes));
-    assert!(rt; !wide.bytes()?.is_empty());
-    let mut narrow = bar_behind(rt.alloc(), (3, 0), "a")?;
-    refuses(&rt, &mut narrow, Refusal::NoColumns)
+    assert!(rt; refuses_a_wide_one(rt.alloc())?);
+    assert!(rt; refuses_each(rt.alloc())?);
+    Ok(())
 }
 
 #[test]
@@ -233,15 +242,22 @@ fn byte_by_byte(alloc: Global, bytes: &[u8]) -> Result<String, Refusal> {
     joined(alloc, &cells.picture()?)
 }
 
+/// Whether these bytes show this, at once and byte by byte.
+fn show(alloc: Global, bytes: &[u8], wanted: &str) -> Result<bool, Refusal> {
+    let whole = at_once(alloc, bytes)?.as_str() == wanted;
+    Ok(whole && byte_by_byte(alloc, bytes)?.as_str() == wanted)
+}
+
+/// Whether a tick and a log are drawn.
+fn ticks_and_logs(bar: &mut Shown<Term<Vec<u8>>>) -> bool {
+    bar.tick(0) == Ok(Drawn::Yes) && bar.println("l", 0) == Ok(Drawn::Yes)
+}
+
 #[test]
 fn the_bytes_of_a_bar_and_a_log(rt: HostRuntime) -> Result<(), Fail> {
     let mut bar = bar_behind(rt.alloc(), (3, 5), "ab")?;
-    assert_eq!(rt; bar.tick(0), Ok(Drawn::Yes));
-    assert_eq!(rt; bar.println("l", 0), Ok(Drawn::Yes));
-    let whole = at_once(rt.alloc(), bar.bytes()?)?;
-    assert_eq!(rt; whole.as_str(), "l\nab\n\n");
-    let single = byte_by_byte(rt.alloc(), bar.bytes()?)?;
-    assert_eq!(rt; single.as_str(), "l\nab\n\n");
+    assert!(rt; ticks_and_logs(&mut bar));
+    assert!(rt; show(rt.alloc(), bar.bytes()?, "l\nab\n\n")?);
     Ok(())
 }
 
@@ -314,14 +330,23 @@ fn a_clear_takes_the_rows_back(rt: HostRuntime) -> Result<(), Fail> {
     makes_all(&rt, &mut bar, &steps)
 }
 
+/// Whether the bar is drawn, and again behind a pause, and says `x` then.
+fn is_drawn_again(alloc: Global) -> Result<bool, Fail> {
+    let mut bar = bar_below(alloc, (4, 5), &[], "x")?;
+    let drawn = bar.tick(0) == Ok(Drawn::Yes) && bar.suspend(7, 0) == (7, Ok(Drawn::Yes));
+    Ok(drawn && bar.contents()?.as_str() == "x")
+}
+
+/// Whether the draw behind a pause is refused where the message is too wide.
+fn is_too_wide(alloc: Global) -> Result<bool, Fail> {
+    let mut narrow = bar_below(alloc, (4, 1), &[], "国")?;
+    Ok(narrow.suspend(8, 0) == (8, Err(Refusal::TooWide)))
+}
+
 #[test]
 fn suspended_bars_are_drawn_again(rt: HostRuntime) -> Result<(), Fail> {
-    let mut bar = bar_below(rt.alloc(), (4, 5), &[], "x")?;
-    assert_eq!(rt; bar.tick(0), Ok(Drawn::Yes));
-    assert_eq!(rt; bar.suspend(7, 0), (7, Ok(Drawn::Yes)));
-    shows(&rt, &bar, "x")?;
-    let mut narrow = bar_below(rt.alloc(), (4, 1), &[], "国")?;
-    assert_eq!(rt; narrow.suspend(8, 0), (8, Err(Refusal::TooWide)));
+    assert!(rt; is_drawn_again(rt.alloc())?);
+    assert!(rt; is_too_wide(rt.alloc())?);
     Ok(())
 }
 
@@ -342,14 +367,18 @@ fn contents_of(term: Option<InMemoryTerm>) -> Result<String, Fail> {
     Ok(term.contents()?)
 }
 
+/// Whether what was drawn stays on the old terminal, and the bar is drawn on an empty one then.
+fn is_drawn_elsewhere(alloc: Global, bar: &mut Shown<InMemoryTerm>) -> Result<bool, Fail> {
+    let drawn = bar.tick(0) == Ok(Drawn::Yes);
+    let stays = moved(alloc, bar)?.as_str() == "x";
+    let empty = bar.contents()?.is_empty();
+    Ok(drawn && stays && empty && bar.tick(0) == Ok(Drawn::Yes))
+}
+
 #[test]
 fn another_target(rt: HostRuntime) -> Result<(), Fail> {
     let mut bar = bar_below(rt.alloc(), (4, 5), &[], "x")?;
-    assert_eq!(rt; bar.tick(0), Ok(Drawn::Yes));
-    let old = moved(rt.alloc(), &mut bar)?;
-    assert_eq!(rt; old.as_str(), "x");
-    shows(&rt, &bar, "")?;
-    assert_eq!(rt; bar.tick(0), Ok(Drawn::Yes));
+    assert!(rt; is_drawn_elsewhere(rt.alloc(), &mut bar)?);
     let left = left_by(bar)?;
     assert_eq!(rt; left.as_str(), "x");
     Ok(())
