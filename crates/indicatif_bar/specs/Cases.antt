@@ -1,20 +1,20 @@
--- Worked cases of a lone bar: what calls at the moment 0 answer, and the rows that stand then. The terminal never fails.
+-- Worked cases of a lone bar: what calls at the moment 0 answer, and the rows that stand then. The terminal never fails but where a case says so.
 use Rattle.indicatif_text.specs.Template.{KeyText, plain_layout}
 use Rattle.indicatif_bar.specs.BarStyles.{BarStyle}
-use Rattle.std.specs.Prelude.{◌≡◌, ℕ, true, false, List, [], ◌∷◌, ◌++◌, map, replicate, Some, None, flat_map, codes, Result, Ok, Err}
+use Rattle.std.specs.Prelude.{◌≡◌, ℕ, ◌+◌, ◌-◌, true, false, List, [], ◌∷◌, ◌++◌, length, map, replicate, Some, None, flat_map, codes, Result, Ok, Err}
 use Rattle.indicatif_text.specs.declared.refusal.Refusal.{Refusal}
 use Rattle.indicatif_text.specs.declared.refusal.Refusal.TheVariants.{NoColumns, TooWide, ElapsedBeyondClock}
 use Rattle.indicatif_text.specs.declared.refusal.Drawn.{Drawn}
 use Rattle.indicatif_text.specs.declared.refusal.Drawn.TheVariants.{Yes, Limited, Hidden}
 use Rattle.indicatif_text.specs.Columns.{Cell, rows_of}
-use Rattle.indicatif_term.specs.Lists.{opening_lists, all_rows}
-use Rattle.indicatif_bar.specs.Bars.{lines_of_bar}
+use Rattle.indicatif_term.specs.Lists.{opening_lists, forgotten_lists, all_rows}
+use Rattle.indicatif_bar.specs.Bars.{bar_kind, lines_of_bar}
 use Rattle.indicatif_bar.specs.Trackers.{Tracking, writes_nothing}
 use Rattle.indicatif_bar.specs.Commands.{BarRecord, Command, new_bar, obeyed, Tick, SetMessage, PutMessage, SetElapsed, ForceDraw}
 use Rattle.indicatif_bar.specs.LoneBars.{lone_bar}
 use Rattle.indicatif_term.specs.Limiters.{draw_limiter}
 use Rattle.indicatif_bar.specs.Machines.{Target, outcomes}
-use Rattle.indicatif_bar.specs.Lone.{LoneState, LoneCall, Obey, Log, Clear, opening_state}
+use Rattle.indicatif_bar.specs.Lone.{LoneState, LoneCall, Obey, Log, Clear, opening_state, draw_of_call}
 
 -- ---- messages
 
@@ -133,6 +133,24 @@ abbrev pub LateElapsed : Type 0
 LateElapsed =
     let both = ran (terminal_of_size 4 5) (codes "x") (Obey (SetElapsed 1) ∷ Obey Tick ∷ []) in
     (both.0 ≡ Err ElapsedBeyondClock ∷ Ok Yes ∷ []) × (both.1.bar.progress.start ≡ 0) × (both.1.bar.progress.ticks ≡ 1)
+
+-- ---- a terminal that fails
+
+-- 4 rows, 5 columns: `a` is logged above the bar `x`; the draw of the message `y` is broken off, with its line laid out, and the
+-- rows are forgotten; then `b` is logged. `a` and `b` are the rows that were added above, and both are safe
+abbrev pub BrokenOff : Type 0
+BrokenOff =
+    let target = terminal_of_size 4 5 in
+    let logged = ran target (codes "x") (Log (codes "a") ∷ []) in
+    let broken = (draw_of_call (bar_kind untracked) target (Obey (SetMessage (codes "y"))) 0 logged.1).broken in
+    let again = outcomes (lone_bar untracked) target ((Log (codes "b"), 0) ∷ []) broken in
+    (all_rows 5 logged.1.lists ≡ rows_of_lines 5 (codes "a" ∷ codes "x" ∷ []))
+    × (broken.stored ≡ codes "y" ∷ [])
+    × (broken.lists ≡ forgotten_lists)
+    × (again.0 ≡ Ok Yes ∷ [])
+    × (again.1.lists.above ≡ rows_of_lines 5 (codes "b" ∷ []))
+    × (all_rows 5 again.1.lists ≡ rows_of_lines 5 (codes "b" ∷ codes "y" ∷ []))
+    × (length logged.1.lists.above + (length broken.lists.above - length logged.1.lists.above) + (length again.1.lists.above - length broken.lists.above) ≡ 2)
 
 -- ---- limiters
 
