@@ -75,25 +75,23 @@ EmptyMessage =
     let both = ran (terminal_of_size 4 10) [] (Obey Tick ∷ Obey (SetMessage (codes "a")) ∷ []) in
     (first.0 ≡ Ok Yes ∷ []) × (all_rows 10 first.1.lists ≡ []) × (both.0 ≡ Ok Yes ∷ Ok Yes ∷ []) × (all_rows 10 both.1.lists ≡ rows_of_lines 10 (codes "a" ∷ []))
 
--- 3 rows, 1 column: a character of two columns is too wide, and is stored; a message of one column is then drawn
+-- 3 rows, 1 column: a character of two columns is too wide; a message of one column is then drawn
 abbrev pub WideCharacter : Type 0
 WideCharacter =
     let first = ran (terminal_of_size 3 1) (0xE5 ∷ 0x9B ∷ 0xBD ∷ []) (Obey Tick ∷ []) in
     let both = ran (terminal_of_size 3 1) (0xE5 ∷ 0x9B ∷ 0xBD ∷ []) (Obey Tick ∷ Obey (SetMessage (codes "a")) ∷ []) in
     (first.0 ≡ Err TooWide ∷ [])
     × (first.1.lists ≡ opening_lists)
-    × (first.1.stored ≡ (0x56FD ∷ []) ∷ [])
     × (both.0 ≡ Err TooWide ∷ Ok Yes ∷ [])
     × (all_rows 1 both.1.lists ≡ rows_of_lines 1 (codes "a" ∷ []))
 
--- no columns: the tick counts, no line is stored
+-- no columns: the tick counts
 abbrev pub NoColumn : Type 0
 NoColumn =
     let ticked = ran (terminal_of_size 3 0) (codes "a") (Obey Tick ∷ []) in
     let logged = ran (terminal_of_size 3 0) (codes "a") (Log (codes "l") ∷ []) in
     (ticked.0 ≡ Err NoColumns ∷ [])
     × (ticked.1.bar.progress.ticks ≡ 1)
-    × (ticked.1.stored ≡ [])
     × (ticked.1.lists ≡ opening_lists)
     × (logged.0 ≡ Err NoColumns ∷ [])
 
@@ -101,7 +99,7 @@ NoColumn =
 abbrev pub Nowhere : Type 0
 Nowhere =
     let both = ran nowhere (codes "a") (Obey ForceDraw ∷ Log (codes "l") ∷ Obey Tick ∷ []) in
-    (both.0 ≡ Ok Hidden ∷ Ok Hidden ∷ Ok Hidden ∷ []) × (both.1.bar.progress.ticks ≡ 1) × (both.1.stored ≡ []) × (both.1.lists ≡ opening_lists)
+    (both.0 ≡ Ok Hidden ∷ Ok Hidden ∷ Ok Hidden ∷ []) × (both.1.bar.progress.ticks ≡ 1) × (both.1.lists ≡ opening_lists)
 
 -- 4 rows, 5 columns: two logged lines stand above the bar, and stay there
 abbrev pub LogsAbove : Type 0
@@ -111,11 +109,11 @@ LogsAbove =
     × (both.1.lists.above ≡ rows_of_lines 5 (codes "a" ∷ codes "b" ∷ []))
     × (all_rows 5 both.1.lists ≡ rows_of_lines 5 (codes "a" ∷ codes "b" ∷ codes "y" ∷ []))
 
--- a text that is too wide is refused whole: no row above, the bar's lines are stored
+-- a text that is too wide is refused whole: no row above
 abbrev pub WideLog : Type 0
 WideLog =
     let both = ran (terminal_of_size 3 1) (codes "a") (Log (0xE5 ∷ 0x9B ∷ 0xBD ∷ []) ∷ []) in
-    (both.0 ≡ Err TooWide ∷ []) × (both.1.lists ≡ opening_lists) × (both.1.stored ≡ codes "a" ∷ [])
+    (both.0 ≡ Err TooWide ∷ []) × (both.1.lists ≡ opening_lists)
 
 -- 4 rows, 5 columns: a clear takes the bar's row back, and what was logged stays; the next draw shows the bar again
 abbrev pub Cleared : Type 0
