@@ -15,7 +15,7 @@ use Rattle.indicatif_term.specs.Frames.{are_plain, all_lines, text_lines, logged
 use Rattle.indicatif_bar.specs.Machines.{Target, target_of, Machine}
 use Rattle.indicatif_bar.specs.Runs.{Runs, AllPlain, lines_by}
 use Rattle.indicatif_bar.specs.Kinds.{Kind, Writing, Frame, TextAndFrame, NoFrame, lines_to_write}
-use Rattle.indicatif_bar.specs.Lone.{LoneState, LoneCall, Obey, Log, Clear, lone, lone_frame, stored_lines, writing_of, bar_after, refused_at_once, deed_unless, draw_of_call}
+use Rattle.indicatif_bar.specs.Lone.{LoneState, LoneCall, Obey, Log, Clear, lone, lone_frame, writing_of, bar_after, refused_at_once, deed_unless, draw_of_call}
 use Rattle.indicatif_bar.specs.declared.state.Ask.{Ask}
 use Rattle.indicatif_bar.specs.declared.state.Ask.TheVariants.{No}
 use Rattle.indicatif_bar.specs.Progress.{Progress, is_hidden}
@@ -28,7 +28,7 @@ use Rattle.indicatif_bar.specs.Finishes.{BarFinish, AndLeave, WithMessage, AndCl
 use Rattle.indicatif_bar.specs.Commands.{BarRecord, Command, Tick, TickerTick, SetTicker, Inc, Dec, SetPosition, Update, SetLength, UnsetLength, IncLength, DecLength, SetMessage, SetPrefix, SetStyle, PutPosition, PutMessage, PutPrefix, PutFinish, PutTabWidth, SetTabWidth, SetElapsed, ResetEta, ResetElapsed, Reset, FinishBy, FinishUsingStyle, ForceDraw, obeyed, update, tick, ticker_tick, moved_to, finish, with_progress, some_or}
 use Rattle.indicatif_bar.specs.StyleLaws.{IsPlainText}
 use Rattle.indicatif_bar.specs.LineLaws.{IsPlainLiteral, HasPlainTexts}
-use Rattle.indicatif_bar.specs.PlainLaws.{IsPlainWithTabs, ArePlainTrackers, HasPlainLiteral, IsPlainStyle, IsPlainFinish, IsPlainBar, IsPlainCommand, IsPlainLoneCall, IsPlainLone, LoneRunsArePlain}
+use Rattle.indicatif_bar.specs.PlainLaws.{IsPlainWithTabs, ArePlainTrackers, HasPlainLiteral, IsPlainStyle, IsPlainFinish, IsPlainBar, IsPlainCommand, IsPlainLoneCall, LoneRunsArePlain}
 use Rattle.indicatif_bar.proofs.KeptStateLemmas.{IsKept, leads_keep}
 use Rattle.indicatif_bar.proofs.PlainTextLemmas.{plain_texts_give_plain_lines, plain_lines_are_asked}
 
@@ -89,7 +89,7 @@ pub record KeepsPlain {B C : Type 0} (kind : Kind B C) (IsBar : B → Type 0) (I
 
 module _ {B C : Type 0} (kind : Kind B C) (IsBar : B → Type 0) (IsCommand : C → Type 0) (k : KeepsPlain kind IsBar IsCommand) where
   abbrev IsState : LoneState B → Type 0
-  IsState s = IsBar s.bar × IsTrue (are_plain s.stored)
+  IsState s = IsBar s.bar
 
   abbrev IsCall : LoneCall C → Type 0
   IsCall (Obey command) = IsCommand command
@@ -101,11 +101,6 @@ module _ {B C : Type 0} (kind : Kind B C) (IsBar : B → Type 0) (IsCommand : C 
   told_plain (Log text) now bar c b = b
   told_plain Clear now bar c b = b
 
-  stored_plain : (writing : Writing) (target : Target) (now : ℕ) (s : LoneState B) → IsState s → IsTrue (are_plain (stored_lines kind writing target now s))
-  stored_plain Frame target now s p = k.lines s.bar p.0 now target.columns
-  stored_plain (TextAndFrame text) target now s p = k.lines s.bar p.0 now target.columns
-  stored_plain NoFrame target now s p = p.1
-
   call_writing : (call : LoneCall C) → IsCall call → IsPlainWriting (writing_of call)
   call_writing (Obey command) c = tt
   call_writing (Log text) c = c
@@ -115,17 +110,15 @@ module _ {B C : Type 0} (kind : Kind B C) (IsBar : B → Type 0) (IsCommand : C 
       IsKept (lone kind) IsState (deed_unless kind refused (draw_of_call kind target call now s) s)
   deed_keeps (Some e) target call now s c p = p
   deed_keeps None target call now s c p =
-      let bar = told_plain call now s.bar c p.0 in
-      let stored = stored_plain (writing_of call) target now (record s { bar = bar_after kind call now s.bar }) (bar, p.1) in
-      ((bar, p.1), (bar, stored), (bar, stored), (bar, stored), (λ x q. q), λ x q. q)
+      let bar = told_plain call now s.bar c p in
+      (bar, bar, bar, bar, (λ x q. q), λ x q. q)
 
   deed_plain : (refused : Option Refusal) (target : Target) (call : LoneCall C) (now : ℕ) (s : LoneState B) → IsCall call → IsState s →
       IsTrue (are_plain (lines_by (deed_unless kind refused (draw_of_call kind target call now s) s)))
   deed_plain (Some e) target call now s c p = refl
   deed_plain None target call now s c p =
-      let told = record s { bar = bar_after kind call now s.bar } in
-      let lines = stored_lines kind (writing_of call) target now told in
-      written_plain (writing_of call) 0 (record { bar = 0; lines = lines } ∷ []) (call_writing call c) (stored_plain (writing_of call) target now told (told_plain call now s.bar c p.0, p.1), tt)
+      let bar = bar_after kind call now s.bar in
+      written_plain (writing_of call) 0 (lone_frame kind target now bar) (call_writing call c) (k.lines bar (told_plain call now s.bar c p) now target.columns, tt)
 
   pub lone_plain : (calls : List (LoneCall C × ℕ)) (answers : List (Result Drawn Refusal)) (old : Option TermView) (s : LoneState B) (new : Option TermView) (next : LoneState B)
       (run : Runs (lone kind) calls answers old s new next) → IsState s → AllByRecursion (λ call. IsCall call.0) calls → AllPlain (lone kind) calls answers old s new next run
@@ -247,5 +240,5 @@ module _ {K : Type 0} (m : Tracking K) (trackers : ArePlainTrackers m) where
 
 pub lone_runs_are_plain : {K : Type 0} (m : Tracking K) → LoneRunsArePlain m
 lone_runs_are_plain m trackers calls answers old s new next run h all =
-    lone_plain (bar_kind m) IsPlainBar IsPlainCommand (bars_keep_plain m trackers) calls answers old s new next run (h.bar, h.stored)
+    lone_plain (bar_kind m) IsPlainBar IsPlainCommand (bars_keep_plain m trackers) calls answers old s new next run h
     (calls_asked m trackers calls (recursion_from_All (λ call. IsPlainLoneCall call.0) calls all))

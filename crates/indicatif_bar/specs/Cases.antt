@@ -134,7 +134,7 @@ LateElapsed =
 
 -- ---- a terminal that fails
 
--- 4 rows, 5 columns: `a` is logged above the bar `x`; the draw of the message `y` is broken off, with its line laid out, and the
+-- 4 rows, 5 columns: `a` is logged above the bar `x`; the draw of the message `y` is broken off, and the
 -- rows are forgotten; then `b` is logged. `a` and `b` are the rows that were added above, and both are safe
 abbrev pub BrokenOff : Type 0
 BrokenOff =
@@ -143,7 +143,6 @@ BrokenOff =
     let broken = (draw_of_call (bar_kind untracked) target (Obey (SetMessage (codes "y"))) 0 logged.1).broken in
     let again = outcomes (lone_bar untracked) target ((Log (codes "b"), 0) ∷ []) broken in
     (all_rows 5 logged.1.lists ≡ rows_of_lines 5 (codes "a" ∷ codes "x" ∷ []))
-    × (broken.stored ≡ codes "y" ∷ [])
     × (broken.lists ≡ forgotten_lists)
     × (again.0 ≡ Ok Yes ∷ [])
     × (again.1.lists.above ≡ rows_of_lines 5 (codes "b" ∷ []))

@@ -4,7 +4,7 @@ use Rattle.indicatif_text.specs.declared.refusal.Refusal.{Refusal}
 use Rattle.indicatif_text.specs.declared.refusal.Drawn.{Drawn}
 use Rattle.indicatif_text.specs.Template.{TemplatePart, LiteralText}
 use Rattle.indicatif_term.specs.Calls.{TermView}
-use Rattle.indicatif_term.specs.Frames.{are_plain, logged_lines}
+use Rattle.indicatif_term.specs.Frames.{logged_lines}
 use Rattle.indicatif_bar.specs.Tabs.{expanded}
 use Rattle.indicatif_bar.specs.Progress.{Progress}
 use Rattle.indicatif_bar.specs.Trackers.{Tracking}
@@ -66,14 +66,9 @@ module _ {K : Type 0} where
   IsPlainLoneCall (Log text) = All IsPlainText (logged_lines text)
   IsPlainLoneCall Clear = Unit {0}
 
-  -- those of a lone bar between two calls
-  pub record IsPlainLone (s : LoneState (BarRecord K)) : Type 0 where
-    pub bar : IsPlainBar s.bar
-    pub stored : IsTrue (are_plain s.stored)
-
 -- where all these texts are plain, so is every run, and the headline holds of it
 abbrev pub LoneRunsArePlain : {K : Type 0} → Tracking K → Type 0
 LoneRunsArePlain {K} m = ArePlainTrackers m →
     (calls : List (LoneCall (Command K) × ℕ)) (answers : List (Result Drawn Refusal)) (old : Option TermView) (s : LoneState (BarRecord K)) (new : Option TermView) (next : LoneState (BarRecord K))
     (run : Runs (lone_bar m) calls answers old s new next) →
-    IsPlainLone s → All (λ call. IsPlainLoneCall call.0) calls → AllPlain (lone_bar m) calls answers old s new next run
+    IsPlainBar s.bar → All (λ call. IsPlainLoneCall call.0) calls → AllPlain (lone_bar m) calls answers old s new next run
