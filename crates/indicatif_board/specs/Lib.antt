@@ -13,3 +13,4 @@ pub mod OrderLaws
 pub mod LimitLaws
 pub mod Recorded
 pub mod Inside
+pub mod PlainBoardLaws
