@@ -1,6 +1,6 @@
 -- Lines that are remembered, and new ones beside them.
-use Rattle.std.proofs.Common.{◌≡◌, ℕ, zero, suc, ◌+◌, ◌-◌, ◌<◌, ◌≤◌, ◌^◌, min, Bool, true, false, List, [], ◌∷◌, ◌++◌, length, take, drop, map, get_or, refl, sym, ◌∙◌, ap, subst, arith, length-append, append_assoc, append-nil, chars, if◌then◌else◌}
-use Rattle.std.specs.Prelude.{IsTrue, IsFalse, flat_map, string_bytes}
+use Rattle.std.proofs.Common.{◌≡◌, ℕ, zero, suc, ◌+◌, ◌-◌, ◌<◌, ◌≤◌, ◌^◌, min, true, false, List, [], ◌∷◌, ◌++◌, length, take, drop, map, get_or, refl, sym, ◌∙◌, ap, subst, arith, length-append, append_assoc, append-nil, chars, if◌then◌else◌}
+use Rattle.std.specs.Prelude.{IsTrue, IsFalse, string_bytes}
 use Rattle.std.proofs.lemmas.Bool.{or_parts}
 use Rattle.std.proofs.lemmas.List.Folds.{list_any-append}
 use Rattle.indicatif_text.specs.Columns.{has_wide}
@@ -9,16 +9,15 @@ use Rattle.indicatif_term.specs.Inside.Plans.{frame_lines}
 use Rattle.indicatif_term.specs.declared.lines.Segment.{Segment}
 use Rattle.indicatif_term.proofs.MeasureLemmas.{empty_narrow}
 use Rattle.indicatif_term.proofs.MemberLineLemmas.{member_lines, frame_step, frame_split}
-use Rattle.std.specs.List.{AllByRecursion}
-use Rattle.std.proofs.lemmas.List.{take_more, map-append, take_at, drop_at, drop-drop, take-map, drop-map, length-map, take-append-drop, take_all}
-use Rattle.indicatif_text.specs.Columns.{Cell, rows_of, last_columns}
+use Rattle.std.proofs.lemmas.List.{take_more, map-append, take_at, drop_at, drop-drop, take-map, drop-map, take-append-drop, take_all}
+use Rattle.indicatif_text.specs.Columns.{rows_of, last_columns}
 use Rattle.indicatif_term.specs.Shows.{look, looks_of}
-use Rattle.indicatif_term.specs.Inside.Skips.{PlacedLine, placed_height, placed_lines, Sits, AreSitting, rewrite_bytes}
+use Rattle.indicatif_term.specs.Inside.Skips.{PlacedLine, placed_height, Sits, AreSitting, rewrite_bytes}
 use Rattle.indicatif_term.specs.Remembered.{placed_of, placed, texts, standing_rows, IsLine, AreLines, AreRemembered}
 use Rattle.indicatif_term.specs.Lists.{Lists, all_rows, passed, kept_of, is_first}
 use Rattle.indicatif_term.specs.declared.remembered.Remembered.{Remembered}
 use Rattle.indicatif_term.proofs.CountLemmas.{passed-rows}
-use Rattle.indicatif_term.specs.Inside.Fillings.{IsAt, IsExtent, BeginsAt, IsFilling, Fills}
+use Rattle.indicatif_term.specs.Inside.Fillings.{IsAt, BeginsAt, IsFilling, Fills}
 use Rattle.indicatif_term.specs.declared.remembered.StandingLine.{StandingLine}
 use Rattle.indicatif_term.specs.declared.remembered.Place.{Place}
 use Rattle.indicatif_term.specs.declared.remembered.Extent.{Extent}

@@ -1,10 +1,9 @@
 -- Lines written among those that stay lead a terminal that shows the lists to one that shows the next ones.
-use Rattle.std.proofs.Common.{inl, inr, ◌≡◌, ℕ, zero, suc, ◌+◌, ◌-◌, ◌<◌, ◌≤◌, max, Bool, true, false, ◌&&◌, List, [], ◌∷◌, ◌++◌, length, take, drop, map, refl, sym, ◌∙◌, ap, subst, arith, length-append, append_assoc, append-nil, take-append-drop, if◌then◌else◌, chars}
+use Rattle.std.proofs.Common.{inl, inr, ◌≡◌, ℕ, ◌+◌, ◌-◌, ◌<◌, ◌≤◌, max, true, false, List, [], ◌∷◌, ◌++◌, length, take, drop, map, refl, sym, ◌∙◌, ap, subst, arith, length-append, take-append-drop, chars}
 use Rattle.std.specs.Prelude.{IsTrue, nat_lt}
-use Rattle.std.specs.List.{list_all}
 use Rattle.std.proofs.lemmas.Bool.{cases_Bool, and_parts, ltb-true}
-use Rattle.std.proofs.lemmas.List.{length-map, length-take-le, length-drop, drop-map, map-append, drop_at, drop-drop, take_all}
-use Rattle.indicatif_text.specs.Columns.{Cell, rows_of, last_columns}
+use Rattle.std.proofs.lemmas.List.{length-map, length-drop, drop-map, map-append, drop_at}
+use Rattle.indicatif_text.specs.Columns.{Cell, rows_of}
 use Rattle.indicatif_term.specs.Screen.{Screen}
 use Rattle.indicatif_term.specs.Terminal.{Terminal, GREATEST, after}
 use Rattle.indicatif_term.specs.Shows.{Shows, look, looks_of, resting_row}
@@ -14,9 +13,9 @@ use Rattle.indicatif_term.proofs.CursorRowLemmas.{Stands}
 use Rattle.indicatif_term.proofs.RowsAboveLemmas.{Keeps}
 use Rattle.indicatif_term.proofs.FilledLineLemmas.{looks-append}
 use Rattle.indicatif_term.proofs.ShownRowLemmas.{lines_rows}
-use Rattle.indicatif_term.proofs.TerminalStepLemmas.{StandsAfter, rows_some}
+use Rattle.indicatif_term.proofs.TerminalStepLemmas.{StandsAfter}
 use Rattle.indicatif_term.proofs.PaintingLemmas.{IsDrawable, AreDrawable, restand, nothing_leads}
-use Rattle.indicatif_term.proofs.SkipLemmas.{Skipped, skip_leads, sitting_parts, height-append}
+use Rattle.indicatif_term.proofs.SkipLemmas.{skip_leads, sitting_parts, height-append}
 use Rattle.indicatif_term.proofs.DrawingLemmas.{Replaces, all-height, keeps_fewer, looks_split, stands_from, shows_from, end_column}
 use Rattle.indicatif_term.proofs.EngineLemmas.{Redraws}
 

@@ -1,14 +1,14 @@
 -- A drawing among rows that stay, from its first byte to its last.
 use Rattle.std.proofs.Common.{inl, inr, ◌≡◌, ℕ, zero, suc, ◌+◌, ◌-◌, ◌<◌, ◌≤◌, Bool, true, false, List, [], ◌∷◌, ◌++◌, length, take, drop, replicate, map, refl, sym, ◌∙◌, ap, subst, arith, length-append, append_assoc, append-nil, chars, if◌then◌else◌}
-use Rattle.std.specs.Prelude.{IsTrue, flat_map}
+use Rattle.std.specs.Prelude.{IsTrue}
 use Rattle.std.proofs.lemmas.Bool.{cases_Bool}
 use Rattle.std.proofs.lemmas.Grind.{flat_map-append}
-use Rattle.std.proofs.lemmas.List.{length-replicate, length-map, take_at, drop_at, take-append-drop, length-take-le, length-drop, take-map, drop-map, drop-drop, map-append, take_all}
-use Rattle.indicatif_text.specs.Columns.{Cell, Blank, blank_row, rows_of, last_columns}
+use Rattle.std.proofs.lemmas.List.{length-replicate, length-map, drop_at, take-append-drop, length-take-le, length-drop, take-map, drop-map, drop-drop, map-append, take_all}
+use Rattle.indicatif_text.specs.Columns.{Cell, Blank, rows_of}
 use Rattle.indicatif_term.specs.Screen.{Screen}
 use Rattle.indicatif_term.specs.Terminal.{Terminal, GREATEST, after}
 use Rattle.indicatif_term.specs.Calls.{move_bytes}
-use Rattle.indicatif_term.specs.Shows.{resting, look, looks_of}
+use Rattle.indicatif_term.specs.Shows.{look, looks_of}
 use Rattle.indicatif_term.specs.Inside.Skips.{PlacedLine, placed_height, placed_lines, changed_bytes, walk_bytes, walk_down, edge_bytes, last_bytes, skip_bytes, Sits, AreSitting}
 use Rattle.indicatif_term.proofs.CursorRowLemmas.{Stands}
 use Rattle.indicatif_term.proofs.FeedLemmas.{after-append}
@@ -18,7 +18,7 @@ use Rattle.indicatif_term.proofs.FilledLineLemmas.{filled_line, looks-append}
 use Rattle.indicatif_term.proofs.ShownRowLemmas.{lines_rows}
 use Rattle.indicatif_term.proofs.TerminalStepLemmas.{StandsAfter, rows_some}
 use Rattle.indicatif_term.proofs.PaintingLemmas.{IsDrawable, AreDrawable, restand, relead, nothing_leads, leads_then, rises}
-use Rattle.indicatif_term.proofs.SkipStepLemmas.{unfronted, falls, changed_leads, changed_column, edge_leads, edge_column, ended_row, ended_look, EndsFree, ends_free}
+use Rattle.indicatif_term.proofs.SkipStepLemmas.{unfronted, falls, changed_leads, changed_column, edge_leads, edge_column, ended_row, ended_look, ends_free}
 use Rattle.indicatif_term.proofs.DrawingLemmas.{looks_split}
 
 -- the parts of lines one below another

@@ -1,11 +1,10 @@
 -- Steps of a drawing among rows that stay: down, rows emptied, a line, and the end of a row.
 use Rattle.std.proofs.Common.{◌≡◌, ℕ, zero, suc, ◌+◌, ◌-◌, ◌<◌, ◌≤◌, min, Bool, true, false, List, [], ◌∷◌, ◌++◌, length, take, drop, replicate, map, get_or, refl, sym, ◌∙◌, ap, subst, arith, length-append, append_assoc, append-nil, chars, Some, eqb}
-use Rattle.std.specs.Prelude.{IsTrue, IsFalse, flat_map, slice_set, nat_le}
-use Rattle.std.specs.Str.{IsUtf8}
+use Rattle.std.specs.Prelude.{flat_map, slice_set, nat_le}
 use Rattle.std.specs.List.{AllByRecursion}
-use Rattle.std.proofs.lemmas.List.{length-replicate, length-map, set_at, get_or_at, take_at, drop_at, map-append, drop-map, take-append-drop, length-take-le, length-drop}
+use Rattle.std.proofs.lemmas.List.{length-replicate, length-map, set_at, get_or_at, take_at, drop_at, map-append, take-append-drop, length-take-le, length-drop}
 use Rattle.std.proofs.lemmas.List.Elements.{recursion_from_All}
-use Rattle.std.proofs.lemmas.Bool.{cond_both, le-ltb, le-leb, ne_eqb, cases_Bool, leb-true}
+use Rattle.std.proofs.lemmas.Bool.{cond_both, le-ltb, le-leb, ne_eqb}
 use Rattle.std.proofs.lemmas.Str.{encodes-chars}
 use Rattle.std.proofs.Math.Utf8.{encodes}
 use Rattle.unicode_width.specs.Width.{char_width}
@@ -23,7 +22,7 @@ use Rattle.indicatif_term.proofs.GlyphLemmas.{IsPiece, cells_push, columns_push}
 use Rattle.indicatif_term.proofs.FeedLemmas.{after-append}
 use Rattle.indicatif_term.proofs.WrittenLineLemmas.{text_put, glyphs_sized}
 use Rattle.indicatif_term.proofs.CallLemmas.{after_asks, text_asks}
-use Rattle.indicatif_term.proofs.MoveLemmas.{asks_append, down_asks, right_asks, return_asks, spaces_ask}
+use Rattle.indicatif_term.proofs.MoveLemmas.{down_asks, right_asks, return_asks, spaces_ask}
 use Rattle.indicatif_term.proofs.RowsAboveLemmas.{Keeps, keeps, kept_level, IsLevel, text_keeps, both_keep, nothing_keeps}
 use Rattle.indicatif_term.proofs.BelowLemmas.{with_tail, puts_tail}
 use Rattle.indicatif_term.proofs.TerminalStepLemmas.{StandsAfter, over, screen_of, over_length, leads_from, total, window, clear_leads, down_leads, is_text, rows_some, printable}

@@ -1,19 +1,18 @@
 -- A draw that leaves lines that stay, by what an engine remembers.
-use Rattle.std.proofs.Common.{inl, inr, ◌≡◌, ℕ, zero, suc, ◌+◌, ◌-◌, ◌<◌, ◌≤◌, ◌^◌, min, Bool, true, false, List, [], ◌∷◌, ◌++◌, length, take, drop, map, replicate, refl, sym, ◌∙◌, ap, subst, arith, length-append, append_assoc, append-nil, chars, if◌then◌else◌}
-use Rattle.std.specs.Prelude.{IsTrue, IsFalse, flat_map, string_bytes, ◌==◌}
-use Rattle.std.specs.List.{AllByRecursion}
+use Rattle.std.proofs.Common.{inl, inr, ◌≡◌, ℕ, zero, suc, ◌+◌, ◌-◌, ◌<◌, ◌≤◌, ◌^◌, min, Bool, true, false, List, [], ◌∷◌, ◌++◌, length, take, drop, map, replicate, refl, sym, ◌∙◌, ap, subst, arith, length-append, chars, if◌then◌else◌}
+use Rattle.std.specs.Prelude.{IsTrue, IsFalse, string_bytes, ◌==◌}
 use Rattle.std.proofs.lemmas.Bool.{cases_Bool}
 use Rattle.std.proofs.lemmas.Bool.Decides.{nat_tests}
 use Rattle.std.proofs.lemmas.List.{drop_at, drop-drop, length-map, nil_from_length}
-use Rattle.indicatif_text.specs.Columns.{Cell, rows_of, last_columns}
+use Rattle.indicatif_text.specs.Columns.{Cell, rows_of}
 use Rattle.indicatif_term.specs.Terminal.{GREATEST}
-use Rattle.indicatif_term.specs.Shows.{look, looks_of}
-use Rattle.indicatif_term.specs.Lists.{Lists, all_rows, live_rows, lists_height, live_height, drawn, passed, settled, kept_of, is_first, live_of_frame, shown_rows, BarLines, segments_height, blanks_for, fitting, lines_of}
-use Rattle.indicatif_term.specs.Frames.{bar_lines, all_lines, are_plain, some_wide, text_lines}
+use Rattle.indicatif_term.specs.Shows.{looks_of}
+use Rattle.indicatif_term.specs.Lists.{Lists, all_rows, live_rows, live_height, drawn, passed, live_of_frame, shown_rows, BarLines, segments_height, blanks_for, fitting, lines_of}
+use Rattle.indicatif_term.specs.Frames.{bar_lines, all_lines, are_plain, some_wide}
 use Rattle.indicatif_term.specs.Counts.{CountsOf}
 use Rattle.indicatif_term.specs.Inside.Plans.{frame_lines, IsPlan}
-use Rattle.indicatif_term.specs.Inside.Skips.{PlacedLine, placed_height, placed_lines, Sits, AreSitting, rewrite_bytes}
-use Rattle.indicatif_term.specs.Remembered.{placed_of, placed, texts, standing_rows, IsLine, AreLines, AreRemembered, Suits}
+use Rattle.indicatif_term.specs.Inside.Skips.{PlacedLine, placed_height, placed_lines, AreSitting, rewrite_bytes}
+use Rattle.indicatif_term.specs.Remembered.{placed, texts, standing_rows, AreLines, AreRemembered, Suits}
 use Rattle.indicatif_term.specs.declared.remembered.StandingLine.{StandingLine}
 use Rattle.indicatif_term.specs.declared.remembered.Remembered.{Remembered}
 use Rattle.indicatif_term.specs.declared.counts.Counts.{Counts}

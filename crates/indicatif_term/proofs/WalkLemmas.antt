@@ -1,5 +1,5 @@
 -- The bytes of a walk through lines, line by line.
-use Rattle.std.proofs.Common.{inl, inr, ◌≡◌, ℕ, zero, suc, ◌+◌, ◌-◌, ◌<◌, ◌≤◌, Bool, true, false, List, [], ◌∷◌, ◌++◌, length, take, drop, map, get_or, Result, Ok, Err, refl, sym, ◌∙◌, ap, subst, arith, append_assoc, append-nil, if◌then◌else◌}
+use Rattle.std.proofs.Common.{inl, inr, ◌≡◌, ℕ, ◌+◌, ◌<◌, ◌≤◌, Bool, true, false, List, [], ◌∷◌, ◌++◌, length, take, drop, get_or, Result, Ok, Err, refl, sym, ◌∙◌, ap, subst, arith, append_assoc}
 use Rattle.std.specs.Prelude.{◌&&◌, IsErr, MatchResult}
 use Rattle.std.proofs.lemmas.Bool.{cases_Bool}
 use Rattle.std.proofs.lemmas.List.{take_more, map-append, take-append-drop}
@@ -7,7 +7,7 @@ use Rattle.indicatif_term.specs.Calls.{TermView, LeadsOn, BreaksOff, DOWN, move_
 use Rattle.indicatif_term.specs.Inside.Skips.{PlacedLine, placed_height, emptied_bytes, changed_bytes, walk_bytes, walk_down, all_stay}
 use Rattle.indicatif_term.specs.Remembered.{placed_of, placed}
 use Rattle.indicatif_term.specs.declared.remembered.StandingLine.{StandingLine}
-use Rattle.indicatif_term.proofs.CallTurnLemmas.{reaches_then, breaks_then, breaks_early}
+use Rattle.indicatif_term.proofs.CallTurnLemmas.{breaks_then, breaks_early}
 use Rattle.indicatif_term.proofs.RememberedLemmas.{height_push}
 use Rattle.indicatif_term.proofs.SkipLemmas.{height-append}
 

@@ -1,12 +1,11 @@
 -- The lines that an engine remembers.
-use Rattle.std.specs.Prelude.{◌≡◌, ℕ, ◌+◌, ◌-◌, ◌<◌, ◌≤◌, Bool, IsTrue, List, ◌++◌, map, length, take, drop, flat_map, chars, string_bytes}
+use Rattle.std.specs.Prelude.{◌≡◌, ℕ, ◌<◌, Bool, IsTrue, List, ◌++◌, map, length, flat_map, chars, string_bytes}
 use Rattle.std.specs.List.{AllByRecursion}
 use Rattle.indicatif_text.specs.Columns.{Cell, rows_of, last_columns}
 use Rattle.indicatif_term.specs.Lists.{Lists, all_rows, forgotten_lists}
 use Rattle.indicatif_term.specs.Counts.{CountsOf}
 use Rattle.indicatif_term.specs.declared.counts.Counts.{Counts}
-use Rattle.indicatif_term.specs.Shows.{looks_of}
-use Rattle.indicatif_term.specs.Inside.Skips.{PlacedLine, placed_height, AreSitting}
+use Rattle.indicatif_term.specs.Inside.Skips.{PlacedLine}
 use Rattle.indicatif_term.specs.declared.remembered.StandingLine.{StandingLine}
 use Rattle.indicatif_term.specs.declared.remembered.Remembered.{Remembered}
 

@@ -1,5 +1,5 @@
 -- Drawing lines among others that stay.
-use Rattle.std.specs.Prelude.{◌≡◌, true, false, ◌&&◌, nat_lt, ℕ, zero, suc, ◌+◌, ◌-◌, ◌<◌, Bool, IsTrue, List, [], ◌∷◌, ◌++◌, map, length, take, drop, replicate, chars, if◌then◌else◌}
+use Rattle.std.specs.Prelude.{◌≡◌, true, ◌&&◌, nat_lt, ℕ, ◌+◌, ◌-◌, Bool, IsTrue, List, [], ◌∷◌, ◌++◌, map, length, take, drop, replicate, chars, if◌then◌else◌}
 use Rattle.indicatif_text.specs.Columns.{Cell, rows_of, last_columns}
 use Rattle.indicatif_term.specs.Calls.{UP, DOWN, RIGHT, move_bytes, clear_bytes}
 use Rattle.indicatif_term.specs.Shows.{looks_of}
