@@ -8,6 +8,7 @@
 //! - `loops`: what a loop makes of the bar that shows its progress.
 //! - `lent`: what is known of a bar or a board that was lent.
 //! - `sums`: what threads add up to.
+//! - `warnings`: that a warning on a board is one log of its line.
 #![tactic(auto)]
 
 pub mod boards;
@@ -18,3 +19,4 @@ pub mod loops;
 pub mod runs;
 pub mod sums;
 pub mod texts;
+pub mod warnings;

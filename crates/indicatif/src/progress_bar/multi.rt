@@ -82,6 +82,11 @@ impl<T: TermLike + Drop, C: Clock + Drop, R: Wait + Clone + Drop> MultiProgress<
         MultiProgress::shared(rt, alloc, SharedBoard::new(kept, clock))
     }
 
+    /// What its texts are made by.
+    pub(crate) fn alloc(&self) -> Global {
+        self.alloc
+    }
+
     /// A board under its lock.
     fn shared(rt: R, alloc: Global, board: SharedBoard<T, C>) -> Result<Self, Refusal>
         ensures { IfErr result (λ e. e ≡ Refusal.Memory) }
