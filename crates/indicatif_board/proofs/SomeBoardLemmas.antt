@@ -36,7 +36,7 @@ module _ {K : Type 0} where
 -- lists that fit an engine, or none where there is no engine
 board_lists : {T : Type 0} (e : Option (Engine T)) → (l : Lists) × MatchOption e (l ≡ opening_lists) (λ x. Fits x l)
 board_lists None = (opening_lists, refl)
-board_lists (Some x) = let f = some_fit x x.forgets in (f.0, f.1)
+board_lists (Some x) = let f = some_fit x x.some in (f.0, f.1)
 
 pub some_board : {K T : Type 0} (b : Board K T) → (s : BoardState (BarRecord K)) × IsIn b.mark b s
 unfolding IsIn
