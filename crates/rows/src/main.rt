@@ -4,13 +4,17 @@
 //! The exit status is 1 if a row differed or there was none, and 2 where a file can't be read or standard output fails.
 //!
 //! - `world`: what is played on, and which module plays a step.
-//! - `lone`, `boards`: a lone bar and a board on a screen.
-//! - `program`: runs of `bars run`.
+//! - `lone`, `boards`: a lone bar and a board on a screen. `records`: a bar's record. `terminals`: a terminal before a screen.
+//! - `slots`: the order of bars and their slots. `streams`: targets on streams. `program`: runs of `bars run`.
 #![tactic(auto)]
 
 mod boards;
 mod lone;
 mod program;
+mod records;
+mod slots;
+mod streams;
+mod terminals;
 mod world;
 
 use anyhow::{Context, Result};

@@ -1,24 +1,30 @@
 //! What steps are played on, and which module plays a step. A new kind of world is a module, a variant of `On`, and a line each in
 //! `begun` and `step`; a question that needs no world is a module and a line in `asked`.
-use crate::{boards, lone, program};
+use crate::terminals::Terminal;
+use crate::{boards, lone, program, records, slots, streams};
 use indicatif_text::columns::Moment;
 use scripts::got::{Bad, Got};
 use scripts::play::World;
-use scripts::row::{At, timed};
+use scripts::row::{At, headed, timed};
 use std::alloc::Global;
+use std::mem::replace;
 
 /// What is played on.
 #[derive(Drop)]
 enum On {
     Nothing,
     Lone(lone::OnScreen),
+    Record(records::Record),
     Board(boards::OnScreen),
+    Term(Terminal),
+    Slots(slots::Table),
 }
 
 /// Answers what needs no world; whether the step of this name asks for that.
 fn asked(name: &str, rest: &str, at: At, got: &mut Got) -> Result<bool, Bad> {
     match name {
         "bars" => program::played(rest, at, got)?,
+        "stream" => streams::asked(rest, at, got)?,
         _ => return Ok(false),
     }
     Ok(true)
@@ -28,7 +34,10 @@ fn asked(name: &str, rest: &str, at: At, got: &mut Got) -> Result<bool, Bad> {
 fn begun(name: &str, rest: &str, at: At) -> Result<Option<On>, Bad> {
     match name {
         "lone" => Ok(Some(On::Lone(lone::OnScreen::begin(rest, at)?))),
+        "record" => Ok(Some(On::Record(records::Record::begin(rest, at)?))),
         "board" => Ok(Some(On::Board(boards::OnScreen::begin(rest, at)?))),
+        "term" => Ok(Some(On::Term(Terminal::begin(rest, at)?))),
+        "slots" if rest.is_empty() => Ok(Some(On::Slots(slots::Table::begin(at)?))),
         _ => Ok(None),
     }
 }
@@ -39,7 +48,21 @@ impl On {
         match self {
             On::Nothing => Err(Bad::Step),
             On::Lone(world) => world.step(step, at, got),
+            On::Record(world) => world.step(step, at, got),
             On::Board(world) => world.step(step, at, got),
+            On::Term(world) => world.step(step, at, got),
+            On::Slots(world) => world.step(step, got),
+        }
+    }
+
+    /// `ended`: the bar is gone, and its terminal goes on.
+    fn ended(self) -> Result<On, Bad> {
+        match self {
+            On::Lone(world) => {
+                let (term, screen) = world.ended()?;
+                Ok(On::Term(Terminal { term, screen }))
+            }
+            _ => Err(Bad::Step),
         }
     }
 }
@@ -54,30 +77,49 @@ pub struct Stage {
 impl Stage {
     /// Nothing to play on, at the moment 0.
     pub fn new(alloc: Global) -> Stage {
-        let now: Moment = 0;
         Stage {
-            at: At { alloc, now },
+            at: At { alloc, now: 0 },
             on: On::Nothing,
         }
+    }
+
+    /// Begins another world, where the step does; whether it does. It begins at this moment, or at 0.
+    fn begin(&mut self, step: &str, moment: Option<Moment>) -> Result<bool, Bad> {
+        let (name, rest) = headed(step);
+        let at = At {
+            now: moment.unwrap_or(0),
+            ..self.at
+        };
+        match begun(name, rest, at)? {
+            Some(on) => {
+                self.on = on;
+                self.at = at;
+                Ok(true)
+            }
+            None => Ok(false),
+        }
+    }
+
+    /// Goes on with what is there, at this moment or that of the last step.
+    fn go_on(&mut self, step: &str, moment: Option<Moment>, got: &mut Got) -> Result<(), Bad> {
+        if let Some(now) = moment {
+            self.at.now = now;
+        }
+        if step == "ended" {
+            self.on = replace(&mut self.on, On::Nothing).ended()?;
+            return Ok(());
+        }
+        self.on.step(step, self.at, got)
     }
 }
 
 impl World for Stage {
     fn play(&mut self, step: &str, got: &mut Got) -> Result<(), Bad> {
         let (step, moment) = timed(step);
-        if let Some(now) = moment {
-            self.at.now = now;
-        }
-        let (name, rest) = step.split_once(' ').unwrap_or((step, ""));
-        if asked(name, rest, self.at, got)? {
+        let (name, rest) = headed(step);
+        if asked(name, rest, self.at, got)? || self.begin(step, moment)? {
             return Ok(());
         }
-        match begun(name, rest, self.at)? {
-            Some(on) => {
-                self.on = on;
-                Ok(())
-            }
-            None => self.on.step(step, self.at, got),
-        }
+        self.go_on(step, moment, got)
     }
 }

@@ -40,7 +40,7 @@ fn plain_finish(name: &str) -> Result<ProgressFinish, Bad> {
 }
 
 /// The way to finish that a text spells, with its message.
-fn finish(alloc: Global, text: &str) -> Result<ProgressFinish, Bad> {
+pub fn finish(alloc: Global, text: &str) -> Result<ProgressFinish, Bad> {
     match text.split_once(' ') {
         None => plain_finish(text),
         Some((name, message)) => finish_saying(name, unescaped(alloc, message)?),
