@@ -32,6 +32,14 @@ impl OnScreen {
         Ok(OnScreen { bar, screen })
     }
 
+    /// `shown ROWS COLS RATE`: this bar on a new screen.
+    pub fn showing(bar: Box<Bar>, rest: &str, at: At) -> Result<OnScreen, Bad> {
+        let mut words = rest;
+        let (screen, target) = screen::begin(&mut words, at)?;
+        let bar = lone_on(at, bar, target)?;
+        Ok(OnScreen { bar, screen })
+    }
+
     /// Makes a step, or looks at the screen or the bar.
     pub fn step(&mut self, step: &str, at: At, got: &mut Got) -> Result<(), Bad> {
         if screen::look_at(&self.screen, step, at, got)? {

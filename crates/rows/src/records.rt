@@ -10,7 +10,7 @@ use scripts::spelling::{number, optional};
 
 /// A record.
 #[derive(Drop)]
-pub struct Record(Box<Bar>);
+pub struct Record(pub Box<Bar>);
 
 impl Record {
     /// `record LEN BAR`.

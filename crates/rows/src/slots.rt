@@ -10,7 +10,7 @@ use scripts::spelling::number;
 pub struct Table(Box<MultiState>);
 
 impl Table {
-    /// `slots`: an empty table.
+    /// `table`: one without bars.
     pub fn begin(at: At) -> Result<Table, Bad> {
         Ok(Table(at.boxed(MultiState::new(at.alloc))?))
     }

@@ -13,7 +13,7 @@ use scripts::spelling::{flag, number, optional, unescaped};
 /// A target on a stream of bytes.
 type Target = ProgressDrawTarget<Term<Vec<u8>>>;
 
-/// `stream NAME ATTENDED TERM`, where the name is `stdout`, `stderr` or `bar`, and `-` is for no `TERM`: whether a target there is
+/// `stream NAME ATTENDED TERM`, where the name is `stdout`, `stderr` or `bar`, `-` is for no `TERM` and `''` for an empty one: whether a target there is
 /// hidden; of `bar` what a tick answers. Behind these a rate: one of so many draws a second.
 pub fn asked(rest: &str, at: At, got: &mut Got) -> Result<(), Bad> {
     let mut words = rest;
@@ -31,6 +31,7 @@ fn facts(words: &mut &str, at: At) -> Result<Facts, Bad> {
     let attended = flag(next(words))?;
     let term = match next(words) {
         "-" => None,
+        "''" => Some(String::new(at.alloc)),
         text => Some(unescaped(at.alloc, text)?),
     };
     Ok(Facts {

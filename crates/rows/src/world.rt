@@ -37,7 +37,7 @@ fn begun(name: &str, rest: &str, at: At) -> Result<Option<On>, Bad> {
         "record" => Ok(Some(On::Record(records::Record::begin(rest, at)?))),
         "board" => Ok(Some(On::Board(boards::OnScreen::begin(rest, at)?))),
         "term" => Ok(Some(On::Term(Terminal::begin(rest, at)?))),
-        "slots" if rest.is_empty() => Ok(Some(On::Slots(slots::Table::begin(at)?))),
+        "table" => Ok(Some(On::Slots(slots::Table::begin(at)?))),
         _ => Ok(None),
     }
 }
@@ -55,10 +55,14 @@ impl On {
         }
     }
 
-    /// `ended`: the bar is gone, and its terminal goes on.
-    fn ended(self) -> Result<On, Bad> {
-        match self {
-            On::Lone(world) => {
+    /// Another world of what is there: `ended`, the bar is gone, and its terminal goes on; `shown ROWS COLS RATE`, a record is the bar
+    /// of a screen.
+    fn turned(self, step: &str, at: At) -> Result<On, Bad> {
+        match (self, headed(step)) {
+            (On::Record(record), ("shown", rest)) => {
+                Ok(On::Lone(lone::OnScreen::showing(record.0, rest, at)?))
+            }
+            (On::Lone(world), ("ended", "")) => {
                 let (term, screen) = world.ended()?;
                 Ok(On::Term(Terminal { term, screen }))
             }
@@ -105,11 +109,14 @@ impl Stage {
         if let Some(now) = moment {
             self.at.now = now;
         }
-        if step == "ended" {
-            self.on = replace(&mut self.on, On::Nothing).ended()?;
-            return Ok(());
+        match headed(step).0 {
+            "ended" | "shown" => {
+                let on = replace(&mut self.on, On::Nothing);
+                self.on = on.turned(step, self.at)?;
+                Ok(())
+            }
+            _ => self.on.step(step, self.at, got),
         }
-        self.on.step(step, self.at, got)
     }
 }
 

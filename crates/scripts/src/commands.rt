@@ -1,6 +1,6 @@
 //! Commands of a bar as rows spell them: a name and what belongs to it.
 use crate::got::Bad;
-use crate::spelling::{number, optional, unescaped};
+use crate::spelling::{flag, number, optional, unescaped};
 use indicatif_bar::state::{BarCommand, Change, ProgressFinish};
 use indicatif_bar::style::{NoTracker, ProgressStyle};
 use std::alloc::Global;
@@ -59,6 +59,7 @@ fn with_argument(alloc: Global, name: &str, rest: &str) -> Result<Command, Bad> 
     match name {
         "with_finish" => Ok(BarCommand::WithFinish(finish(alloc, rest)?)),
         "update" => updating(rest),
+        "set_ticker" => Ok(BarCommand::SetTicker(flag(rest)?)),
         "set_style" => styled(alloc, rest),
         "set_message"
         | "set_prefix"
@@ -88,7 +89,6 @@ fn saying(name: &str, text: String) -> Result<Command, Bad> {
 
 fn by_number(name: &str, number: u64) -> Result<Command, Bad> {
     match name {
-        "set_ticker" => Ok(BarCommand::SetTicker(number == 1)),
         "inc" => Ok(BarCommand::Inc(number)),
         "dec" => Ok(BarCommand::Dec(number)),
         "set_position" => Ok(BarCommand::SetPosition(number)),

@@ -125,6 +125,7 @@ fn read_measures(state: &ProgressState, text: &str, now: Moment, got: &mut Got) 
             got.number(fraction.den);
         }
         "rate" => push_rate(state.per_sec(now), got),
+        "per_sec" => push_speed(state.per_sec(now), got),
         "eta" => got.number(state.eta(now)),
         "duration" => got.number(state.duration(now)),
         "elapsed" => got.number(state.elapsed(now)),
@@ -138,6 +139,15 @@ pub fn push_rate(rate: Rate, got: &mut Got) {
     got.number(rate.steps);
     got.text("/");
     got.number(rate.nanos);
+}
+
+/// The same; `0` where there are no steps.
+fn push_speed(rate: Rate, got: &mut Got) {
+    if rate.steps == 0 {
+        got.text("0");
+    } else {
+        push_rate(rate, got);
+    }
 }
 
 /// Appends what a command asks: `no`, `unforced` or `forced`.

@@ -242,6 +242,7 @@ pub fn look_at(screen: &Screen, step: &str, at: At, got: &mut Got) -> Result<boo
     match step {
         "shows" => got.text(screen.contents()?.as_str()),
         "picture" => got.rows(&screen.picture()?),
+        "rows" => got.rows(filled(&screen.picture()?)),
         "cursor" => screen.push_cursor(got),
         "written" => screen.push_written(got),
         "bytes" => got.number(screen.counts.get().bytes),
@@ -250,6 +251,13 @@ pub fn look_at(screen: &Screen, step: &str, at: At, got: &mut Got) -> Result<boo
         _ => return set(screen, step, at),
     }
     Ok(true)
+}
+
+/// The rows up to the last one that isn't empty.
+fn filled(rows: &[String]) -> &[String] {
+    let last = rows.iter().rposition(|row| !row.is_empty());
+    let count = last.map_or(0, |at| at.saturating_add(1));
+    rows.get(..count).unwrap_or(rows)
 }
 
 /// `feed TEXT`: bytes from elsewhere. `takes N`: a call of the writer takes so many bytes at most. `fails_call N`: of its calls, flushes
