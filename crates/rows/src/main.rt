@@ -6,14 +6,29 @@
 //! - `world`: what is played on, and which module plays a step.
 //! - `lone`, `boards`: a lone bar and a board on a screen. `records`: a bar's record. `terminals`: a terminal before a screen.
 //! - `slots`: the order of bars and their slots. `streams`: targets on streams. `program`: runs of `bars run`.
+//! - `formats`: texts of formatters. `columns`: columns, rows and pieces of texts. `templates`: templates, and words of styles.
+//!   `refusals`: numbers and texts of refusals.
+//! - `cells`: the cell terminal. `memory`: the terminal in memory. `engines`: the engine. `limiters`: limiters.
+//! - `styles`: styles and their builders. `lines`: lines of bars. `runs`: long texts, told by their runs.
 #![tactic(auto)]
 
 mod boards;
+mod cells;
+mod columns;
+mod engines;
+mod formats;
+mod limiters;
+mod lines;
 mod lone;
+mod memory;
 mod program;
 mod records;
+mod refusals;
+mod runs;
 mod slots;
 mod streams;
+mod styles;
+mod templates;
 mod terminals;
 mod world;
 

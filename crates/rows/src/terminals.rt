@@ -1,4 +1,5 @@
 //! A terminal before a screen.
+use crate::cells::push_cursor;
 use indicatif_term::term_like::TermLike;
 use scripts::got::{Bad, Got};
 use scripts::row::{At, headed};
@@ -29,6 +30,7 @@ impl Terminal {
         }
         match headed(step) {
             ("faults", "") => got.number(self.term.faults()),
+            ("size", "") => push_cursor((self.term.height(), self.term.width()), got),
             (name, rest) => push_done(called(&mut self.term, name, (rest, at))?, got),
         }
         Ok(())
@@ -36,7 +38,11 @@ impl Terminal {
 }
 
 /// `up N`, `down N`, `right N`, `left N`, `text TEXT`, `line TEXT`, `clear_line`, `flush`.
-fn called(term: &mut Behind, name: &str, (rest, at): (&str, At)) -> Result<io::Result<()>, Bad> {
+pub fn called<T: TermLike>(
+    term: &mut T,
+    name: &str,
+    (rest, at): (&str, At),
+) -> Result<io::Result<()>, Bad> {
     match name {
         "text" | "line" => {
             let text = unescaped(at.alloc, rest)?;
@@ -48,7 +54,7 @@ fn called(term: &mut Behind, name: &str, (rest, at): (&str, At)) -> Result<io::R
     }
 }
 
-fn wrote(term: &mut Behind, is_line: bool, text: &str) -> io::Result<()> {
+fn wrote<T: TermLike>(term: &mut T, is_line: bool, text: &str) -> io::Result<()> {
     if is_line {
         term.write_line(text)
     } else {
@@ -56,7 +62,7 @@ fn wrote(term: &mut Behind, is_line: bool, text: &str) -> io::Result<()> {
     }
 }
 
-fn moved(term: &mut Behind, way: &str, count: usize) -> Result<io::Result<()>, Bad> {
+fn moved<T: TermLike>(term: &mut T, way: &str, count: usize) -> Result<io::Result<()>, Bad> {
     match way {
         "up" => Ok(term.move_cursor_up(count)),
         "down" => Ok(term.move_cursor_down(count)),
@@ -66,7 +72,8 @@ fn moved(term: &mut Behind, way: &str, count: usize) -> Result<io::Result<()>, B
     }
 }
 
-fn push_done(done: io::Result<()>, got: &mut Got) {
+/// Appends `done`, or how a call failed.
+pub fn push_done(done: io::Result<()>, got: &mut Got) {
     match done {
         Ok(()) => got.text("done"),
         Err(e) => got.kind(e.kind()),

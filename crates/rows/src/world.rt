@@ -1,7 +1,10 @@
 //! What steps are played on, and which module plays a step. A new kind of world is a module, a variant of `On`, and a line each in
 //! `begun` and `step`; a question that needs no world is a module and a line in `asked`.
 use crate::terminals::Terminal;
-use crate::{boards, lone, program, records, slots, streams};
+use crate::{
+    boards, cells, columns, engines, formats, limiters, lines, lone, memory, program, records,
+    refusals, runs, slots, streams, styles, templates,
+};
 use indicatif_text::columns::Moment;
 use scripts::got::{Bad, Got};
 use scripts::play::World;
@@ -18,6 +21,10 @@ enum On {
     Board(boards::OnScreen),
     Term(Terminal),
     Slots(slots::Table),
+    Cells(cells::Fed),
+    Memory(memory::Memory),
+    Engine(engines::Drawing),
+    Style(styles::Styled),
 }
 
 /// Answers what needs no world; whether the step of this name asks for that.
@@ -25,6 +32,30 @@ fn asked(name: &str, rest: &str, at: At, got: &mut Got) -> Result<bool, Bad> {
     match name {
         "bars" => program::played(rest, at, got)?,
         "stream" => streams::asked(rest, at, got)?,
+        _ => return asked_of_texts(name, rest, at, got),
+    }
+    Ok(true)
+}
+
+/// Answers what is asked of texts, numbers and lines; whether the step of this name does.
+fn asked_of_texts(name: &str, rest: &str, at: At, got: &mut Got) -> Result<bool, Bad> {
+    match name {
+        "format" => formats::shown(rest, got)?,
+        "columns" | "width" | "parameter" | "wrapped" | "range" | "pieces" | "plain" | "clock" => {
+            columns::measured(name, rest, at, got)?
+        }
+        "parse" => templates::parsed(rest, at, got)?,
+        "painted" | "unpainted" | "opened" | "same_style" | "no_style" => {
+            templates::styled(name, rest, at, got)?
+        }
+        "refusal" => refusals::told(rest, at, got)?,
+        "template_error" => refusals::of_template(rest, at, got)?,
+        "limiter" => limiters::answers(rest, got)?,
+        "fed" => cells::shown(rest, at, got)?,
+        "is_text" => engines::is_text(rest, at, got)?,
+        "hides" => memory::hides(rest, at, got)?,
+        "said" | "placed" | "coloured" | "laid" => lines::shown(name, rest, at, got)?,
+        "runs" => runs::counted(rest, at, got)?,
         _ => return Ok(false),
     }
     Ok(true)
@@ -38,6 +69,12 @@ fn begun(name: &str, rest: &str, at: At) -> Result<Option<On>, Bad> {
         "board" => Ok(Some(On::Board(boards::OnScreen::begin(rest, at)?))),
         "term" => Ok(Some(On::Term(Terminal::begin(rest, at)?))),
         "table" => Ok(Some(On::Slots(slots::Table::begin(at)?))),
+        "cells" => Ok(Some(On::Cells(cells::Fed::begin(rest, at)?))),
+        "memory" => Ok(Some(On::Memory(memory::Memory::begin(rest, at)?))),
+        "engine" => Ok(Some(On::Engine(engines::Drawing::begin(rest, at)?))),
+        "style" | "default_bar" | "default_spinner" => {
+            Ok(Some(On::Style(styles::Styled::begin(name, rest, at)?)))
+        }
         _ => Ok(None),
     }
 }
@@ -52,6 +89,10 @@ impl On {
             On::Board(world) => world.step(step, at, got),
             On::Term(world) => world.step(step, at, got),
             On::Slots(world) => world.step(step, got),
+            On::Cells(world) => world.step(step, at, got),
+            On::Memory(world) => world.step(step, at, got),
+            On::Engine(world) => world.step(step, at, got),
+            On::Style(world) => world.step(step, at, got),
         }
     }
 

@@ -95,6 +95,12 @@ impl Got {
         }
     }
 
+    /// Where a call that appends a text puts it.
+    pub fn room(&mut self) -> &mut String {
+        self.part();
+        &mut self.text
+    }
+
     /// Appends a number, or what else has a text.
     pub fn number<D: Display + Drop>(&mut self, value: D) {
         self.part();
@@ -125,10 +131,13 @@ impl Got {
         }
     }
 
-    /// Appends a refusal's number.
+    /// Appends a refusal's number, and behind that of a template the character and where it stood.
     pub fn refusal(&mut self, refusal: Refusal) {
         self.text("E");
         self.number(refusal.number());
+        if let Refusal::Template { next, state } = refusal {
+            self.number(format_args!(" {next} {state:?}"));
+        }
     }
 
     /// Appends how a call of a terminal failed: `BrokenPipe`, `WriteZero`, or `failed`.

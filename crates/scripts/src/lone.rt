@@ -70,14 +70,20 @@ pub fn read_bar(bar: &Bar, text: &str, now: Moment, got: &mut Got) -> Result<boo
 fn read_lines(bar: &Bar, text: &str, now: Moment, got: &mut Got) -> Result<bool, Bad> {
     match text.strip_prefix("lines ") {
         Some(columns) => {
-            for line in &bar.lines(now, number(columns)?)? {
-                got.text(line.as_str());
-                got.text("\n");
-            }
+            push_lines(bar, number(columns)?, now, got)?;
             Ok(true)
         }
         None => Ok(read_state(bar.state(), text, now, got)),
     }
+}
+
+/// Appends the lines on so many columns, each with a newline behind it.
+pub fn push_lines(bar: &Bar, columns: u16, now: Moment, got: &mut Got) -> Result<(), Bad> {
+    for line in &bar.lines(now, columns)? {
+        got.text(line.as_str());
+        got.text("\n");
+    }
+    Ok(())
 }
 
 /// `progress`, or of a finished bar whether it has lines: `visible`, `hidden`.

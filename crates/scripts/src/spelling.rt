@@ -1,8 +1,6 @@
 //! Numbers and escapes.
-ghost use Rattle.std.specs.Prelude.{◌<◌, IfOk};
-
 use crate::got::Bad;
-use std::alloc::{AllocError, Global};
+use std::alloc::Global;
 use std::fmt;
 use std::str::FromStr;
 
@@ -34,7 +32,8 @@ pub fn flag(text: &str) -> Result<bool, Bad> {
     }
 }
 
-/// The text that escapes stand for: `\n`, `\t`, `\r`, `\0`, `\e`, `\s` for a space, `\\`, and `\xHH` for a byte.
+/// The text that escapes stand for: `\n`, `\t`, `\r`, `\0`, `\e`, `\s` for a space, `\u{HEX}` for a character, `\xHH` for a byte, and
+/// `\\`.
 pub fn unescaped(alloc: Global, text: &str) -> Result<String, Bad> {
     match String::from_utf8(unescaped_bytes(alloc, text)?) {
         Ok(text) => Ok(text),
@@ -45,59 +44,84 @@ pub fn unescaped(alloc: Global, text: &str) -> Result<String, Bad> {
 /// The bytes that they stand for, which may be no text.
 pub fn unescaped_bytes(alloc: Global, text: &str) -> Result<Vec<u8>, Bad> {
     let mut bytes = Vec::new(alloc);
-    push_unescaped(&mut bytes, text)?;
-    Ok(bytes)
-}
-
-fn push_unescaped(bytes: &mut Vec<u8>, text: &str) -> Result<(), Bad> {
-    let mut rest = text.chars();
-    while let Some(c) = rest.next() {
-        if c != '\\' {
-            push_char(bytes, c)?;
-            continue;
-        }
-        match rest.next() {
-            Some('x') => {
-                let high = hex_digit(rest.next())?;
-                let low = hex_digit(rest.next())?;
-                bytes.push(16 * high + low)?;
-            }
-            Some(letter) => push_char(bytes, lettered(letter)?)?,
-            None => return Err(Bad::Step),
-        }
+    match push_unescaped(text, &mut bytes) {
+        Some(()) => Ok(bytes),
+        None => Err(Bad::Step),
     }
-    Ok(())
 }
 
-fn push_char(bytes: &mut Vec<u8>, c: char) -> Result<(), AllocError> {
+fn push_unescaped(text: &str, bytes: &mut Vec<u8>) -> Option<()> {
+    let mut parts = text.split('\\');
+    push(parts.next()?, bytes)?;
+    let mut is_doubled = false;
+    for part in parts {
+        is_doubled = push_part(part, is_doubled, bytes)?;
+    }
+    if is_doubled { None } else { Some(()) }
+}
+
+/// Appends what a backslash and the part behind it stand for; whether that is the first of two backslashes.
+fn push_part(part: &str, is_doubled: bool, bytes: &mut Vec<u8>) -> Option<bool> {
+    if is_doubled {
+        push(part, bytes)?;
+        return Some(false);
+    }
+    if part.is_empty() {
+        push("\\", bytes)?;
+        return Some(true);
+    }
+    push_escape(part, bytes)?;
+    Some(false)
+}
+
+fn push_escape(part: &str, bytes: &mut Vec<u8>) -> Option<()> {
+    if let Some(rest) = part.strip_prefix("u{") {
+        let (digits, rest) = rest.split_once('}')?;
+        push_char(char::from_u32(hexadecimal(digits)?)?, bytes)?;
+        return push(rest, bytes);
+    }
+    let mut rest = part.chars();
+    match rest.next()? {
+        'x' => bytes.push(byte(rest.next()?, rest.next()?)?).ok()?,
+        letter => push_char(lettered(letter)?, bytes)?,
+    }
+    push(rest.as_str(), bytes)
+}
+
+fn push(text: &str, bytes: &mut Vec<u8>) -> Option<()> {
+    bytes.extend_from_slice(text.as_bytes()).ok()
+}
+
+fn push_char(c: char, bytes: &mut Vec<u8>) -> Option<()> {
     let mut buffer = [0; 4];
-    bytes.extend_from_slice(c.encode_utf8(&mut buffer).as_bytes())
+    push(c.encode_utf8(&mut buffer), bytes)
+}
+
+fn hexadecimal(digits: &str) -> Option<u32> {
+    let mut number: u32 = 0;
+    for digit in digits.chars() {
+        let digit = digit.to_digit(16)?;
+        number = number.saturating_mul(16).saturating_add(digit);
+    }
+    Some(number)
+}
+
+/// The byte of two hexadecimal digits.
+fn byte(high: char, low: char) -> Option<u8> {
+    let high = high.to_digit(16)?.saturating_mul(16);
+    u8::try_from(high.saturating_add(low.to_digit(16)?)).ok()
 }
 
 /// The character that a letter behind a backslash stands for.
-fn lettered(letter: char) -> Result<char, Bad> {
+fn lettered(letter: char) -> Option<char> {
     match letter {
-        'n' => Ok('\n'),
-        't' => Ok('\t'),
-        'r' => Ok('\r'),
-        '0' => Ok('\0'),
-        'e' => Ok('\u{1B}'),
-        's' => Ok(' '),
-        '\\' => Ok('\\'),
-        _ => Err(Bad::Step),
-    }
-}
-
-/// The value of a hexadecimal digit.
-fn hex_digit(c: Option<char>) -> Result<u8, Bad>
-    ensures { IfOk result (λ digit. digit < 16) }
-{
-    match c {
-        Some(c) => match c.to_digit(16) {
-            Some(digit) => u8::try_from(digit).map_err(|_| Bad::Step),
-            None => Err(Bad::Step),
-        },
-        None => Err(Bad::Step),
+        'n' => Some('\n'),
+        't' => Some('\t'),
+        'r' => Some('\r'),
+        '0' => Some('\0'),
+        'e' => Some('\u{1B}'),
+        's' => Some(' '),
+        _ => None,
     }
 }
 
