@@ -123,16 +123,26 @@ pub fn play_file<R: Files + Print + Alloc<A = Global>, W: World>(
     world: &mut W,
 ) -> io::Result<Tally> {
     let lines = BufReader::new(rt.alloc(), fs::open(rt, path)?)?;
+    let tally = play_rows(rt, path, lines, world)?;
+    let Tally { passed, failed } = tally;
+    println!(rt; "{path}: {passed} passed, {failed} failed")?;
+    Ok(tally)
+}
+
+/// Plays the rows of what a reader gives, and prints each that differs under this name.
+pub fn play_rows<R: Print + Alloc<A = Global>, L: BufRead + Drop, W: World>(
+    rt: &R,
+    path: &str,
+    lines: L,
+    world: &mut W,
+) -> io::Result<Tally> {
     let player = Player {
         alloc: rt.alloc(),
         world,
         got: Got::new(rt.alloc()),
         given: Given::new(rt.alloc()),
     };
-    let tally = play_lines(rt, path, lines, player)?;
-    let Tally { passed, failed } = tally;
-    println!(rt; "{path}: {passed} passed, {failed} failed")?;
-    Ok(tally)
+    play_lines(rt, path, lines, player)
 }
 
 fn play_lines<R: Print + Alloc<A = Global>, L: BufRead + Drop, W: World>(
