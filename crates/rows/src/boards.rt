@@ -1,4 +1,5 @@
 //! A board on a screen.
+use crate::outside;
 use indicatif_bar::state::BarCommand;
 use indicatif_bar::style::NoTracker;
 use indicatif_board::multi::{Answer, BarId, Board, Call, Candidate, InsertLocation, Turned};
@@ -13,7 +14,8 @@ use scripts::screen::{self, Behind, Look, Screen, Target};
 use scripts::spelling::unescaped;
 use std::rc::Rc;
 
-type Shown = Board<NoTracker, Behind>;
+/// The board.
+pub type Shown = Board<NoTracker, Behind>;
 
 /// What a call that draws answers.
 type Answered = Result<Drawn, Refusal>;
@@ -45,6 +47,7 @@ impl OnScreen {
         match headed(step) {
             ("target", rest) => self.go_on(rest, at, got)?,
             ("suspend", "") => suspend(&mut self.board, &self.screen, at.now, got)?,
+            ("suspend", text) => outside::suspend(&mut self.board, &self.screen, (text, at), got)?,
             ("run", calls) => run(&mut self.board, calls, at, got)?,
             ("call", text) => push_answer(called(&mut self.board, text, at)?, got),
             _ => made(&mut self.board, step, at, got)?,

@@ -5,6 +5,7 @@
 //!
 //! - `world`: what is played on, and which module plays a step.
 //! - `lone`, `boards`: a lone bar and a board on a screen. `records`: a bar's record. `terminals`: a terminal before a screen.
+//! - `outside`: what others write to a board's screen while it is suspended.
 //! - `slots`: the order of bars and their slots. `streams`: targets on streams. `program`: runs of `bars run`.
 //! - `formats`: texts of formatters. `columns`: columns, rows and pieces of texts. `templates`: templates, and words of styles.
 //!   `refusals`: numbers and texts of refusals.
@@ -21,6 +22,7 @@ mod limiters;
 mod lines;
 mod lone;
 mod memory;
+mod outside;
 mod program;
 mod records;
 mod refusals;

@@ -97,12 +97,21 @@ fn insertion(at: At, name: &str, rest: &str) -> Result<Call<NoTracker>, Bad> {
     })
 }
 
-/// What is to be taken in: behind `=` a bar that may be there, or a new one.
+/// What is to be taken in: behind `=` a bar that may be there, or a new one, behind `len=LEN ` of that length.
 pub fn candidate(at: At, text: &str) -> Result<Candidate<NoTracker>, Bad> {
+    if let Some(rest) = text.strip_prefix("len=") {
+        let mut words = rest;
+        let len = number(next(&mut words))?;
+        return new_bar(at, words, Some(len));
+    }
     match text.strip_prefix('=') {
         Some(rest) => Ok(Candidate::Member(bar_id(rest)?)),
-        None => Ok(Candidate::New(Box::into_inner(bar_of(at, text, None)?))),
+        None => new_bar(at, text, None),
     }
+}
+
+fn new_bar(at: At, bar: &str, len: Option<u64>) -> Result<Candidate<NoTracker>, Bad> {
+    Ok(Candidate::New(Box::into_inner(bar_of(at, bar, len)?)))
 }
 
 /// Appends what a call answered: a bar's number, `done`, or as the call of a lone bar.

@@ -1,5 +1,6 @@
 //! Commands of a bar as rows spell them: a name and what belongs to it.
 use crate::got::Bad;
+use crate::row::headed;
 use crate::spelling::{flag, number, optional, unescaped};
 use indicatif_bar::state::{BarCommand, Change, ProgressFinish};
 use indicatif_bar::style::{NoTracker, ProgressStyle};
@@ -71,10 +72,23 @@ fn with_argument(alloc: Global, name: &str, rest: &str) -> Result<Command, Bad> 
     }
 }
 
-fn styled(alloc: Global, template: &str) -> Result<Command, Bad> {
-    let template = unescaped(alloc, template)?;
-    let style = ProgressStyle::with_template(alloc, template.as_str())?;
+/// The style of a template; behind `chars=CHARS ` with these progress characters.
+fn styled(alloc: Global, text: &str) -> Result<Command, Bad> {
+    let style = match text.strip_prefix("chars=") {
+        Some(rest) => with_chars(alloc, rest)?,
+        None => templated(alloc, text)?,
+    };
     Ok(BarCommand::SetStyle(style))
+}
+
+fn with_chars(alloc: Global, text: &str) -> Result<ProgressStyle<NoTracker>, Bad> {
+    let (chars, template) = headed(text);
+    Ok(templated(alloc, template)?.progress_chars(chars)?)
+}
+
+fn templated(alloc: Global, template: &str) -> Result<ProgressStyle<NoTracker>, Bad> {
+    let template = unescaped(alloc, template)?;
+    Ok(ProgressStyle::with_template(alloc, template.as_str())?)
 }
 
 fn saying(name: &str, text: String) -> Result<Command, Bad> {

@@ -153,7 +153,7 @@ impl Screen {
     }
 
     /// Puts bytes on the screen.
-    fn feed(&self, bytes: &[u8]) -> io::Result<()> {
+    pub fn feed(&self, bytes: &[u8]) -> io::Result<()> {
         let Ok(mut cells) = self.cells.try_borrow_mut() else {
             return Err(Error::from(ErrorKind::OutOfMemory));
         };
@@ -248,8 +248,20 @@ pub fn look_at(screen: &Screen, step: &str, at: At, got: &mut Got) -> Result<boo
         "bytes" => got.number(screen.counts.get().bytes),
         "writes" => got.number(screen.counts.get().writes),
         "flushes" => got.number(screen.counts.get().flushes),
-        _ => return set(screen, step, at),
+        "row_count" => got.number(screen.contents()?.as_str().split('\n').count()),
+        _ => return Ok(row(screen, step, got)? || set(screen, step, at)?),
     }
+    Ok(true)
+}
+
+/// `row N`: a row of what stands in the window, counted from 1; nothing past its end.
+fn row(screen: &Screen, step: &str, got: &mut Got) -> Result<bool, Bad> {
+    let ("row", at) = headed(step) else {
+        return Ok(false);
+    };
+    let before = number::<usize>(at)?.saturating_sub(1);
+    let contents = screen.contents()?;
+    got.text(contents.as_str().split('\n').nth(before).unwrap_or(""));
     Ok(true)
 }
 
