@@ -142,11 +142,13 @@ fn advance(bar: &mut Bar, steps: u64) -> Ask {
 /// Whether two bars have one room, and the lines that each has without it.
 fn share_a_room(alloc: Global, first: &mut Bar, second: &Bar) -> Result<bool, Refusal> {
     let mut spare = SpareLines::new(alloc);
-    Ok(shows_in(first, &mut spare, "0")?
-        && advance(first, 10) == Ask::Unforced
-        && shows_in(first, &mut spare, "10")?
-        && shows_in(second, &mut spare, "0")?
-        && shows(&first.lines(0, 80)?, "10"))
+    Ok(
+        shows_in(first, &mut spare, "0")?
+            && advance(first, 10) == Ask::Unforced
+            && shows_in(first, &mut spare, "10")?
+            && shows_in(second, &mut spare, "0")?
+            && shows(&first.lines(0, 80)?, "10"),
+    )
 }
 
 #[test]

@@ -31,11 +31,12 @@ pub struct OnScreen {
 }
 
 impl OnScreen {
-    /// `board ROWS COLS RATE`: a board on a new screen. A rate of 0 is none. `board hidden`: on none.
+    /// `board ROWS COLS RATE`: a board on a new screen. A rate of 0 is none. `board hidden`: on none. Behind it `top` or `bottom`.
     pub fn begin(rest: &str, at: At) -> Result<OnScreen, Bad> {
         let mut words = rest;
         let (screen, target) = screen::begin(&mut words, at)?;
-        let board = board_on(at, target)?;
+        let mut board = board_on(at, target)?;
+        align(&mut board, words)?;
         Ok(OnScreen { board, screen })
     }
 
@@ -68,6 +69,17 @@ impl OnScreen {
 
 fn board_on(at: At, target: Box<Target>) -> Result<Box<Shown>, Bad> {
     at.boxed(Board::new(at.alloc, Box::into_inner(target), MARK))
+}
+
+/// Sets where bars stand in what is taken back; nothing is as it was.
+fn align(board: &mut Shown, word: &str) -> Result<(), Bad> {
+    match word {
+        "" => (),
+        "top" => board.set_alignment(MultiProgressAlignment::Top),
+        "bottom" => board.set_alignment(MultiProgressAlignment::Bottom),
+        _ => return Err(Bad::Step),
+    }
+    Ok(())
 }
 
 /// Reads something of the board; whether the step asks for that.
@@ -153,8 +165,7 @@ fn of_all(board: &mut Shown, step: &str, at: At, got: &mut Got) -> Result<(), Ba
             let text = unescaped(at.alloc, text)?;
             got.answer(board.println(text.as_str(), at.now));
         }
-        ("top", "") => board.set_alignment(MultiProgressAlignment::Top),
-        ("bottom", "") => board.set_alignment(MultiProgressAlignment::Bottom),
+        ("top" | "bottom", "") => align(board, step)?,
         (name, rest) => {
             let (place, bar) = placed(name, rest)?;
             push_taken(taken_in(board, place, candidate(at, bar)?), got);
