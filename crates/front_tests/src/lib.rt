@@ -6,7 +6,8 @@
 //! - `boards`: boards that threads share. `records`: a board with its history that nobody shares.
 //! - `machines`: what is asked of the machine. `made`: iterators that get a bar when they are wrapped.
 //! - `bridges`: lines of a log above a board's bars.
-//! - `counted`: threads that count for a bar. `sums`: workers that add to one sum.
+//! - `carried`: tests of the crate `indicatif` that need code. `carried_tickers`: those of tickers. `carried_trackers`: those of trackers.
+//! - `counted`: threads that count for a bar.
 //! - `lists`, `own_bars`, `pieces`: lists, block by block, lists with a bar of their own, and pieces in threads of their own; with the
 //!   bar `stepped` and the `gates`.
 #![tactic(auto)]
@@ -17,6 +18,12 @@ mod bars;
 mod boards;
 #[cfg(test)]
 mod bridges;
+#[cfg(test)]
+mod carried;
+#[cfg(test)]
+mod carried_tickers;
+#[cfg(test)]
+mod carried_trackers;
 #[cfg(test)]
 mod counted;
 #[cfg(test)]
@@ -41,5 +48,3 @@ mod pieces;
 mod records;
 #[cfg(test)]
 mod stepped;
-#[cfg(test)]
-mod sums;

@@ -4,13 +4,34 @@
 //! The exit status is 1 if a row differed or there was none, and 2 where a file can't be read or standard output fails.
 //!
 //! - `world`: what is played on, and which module plays a step.
-//! - `lone`, `boards`: a lone bar and a board on a screen.
-//! - `program`: runs of `bars run`.
+//! - `lone`, `boards`: a lone bar and a board on a screen. `records`: a bar's record. `terminals`: a terminal before a screen.
+//! - `outside`: what others write to a board's screen while it is suspended.
+//! - `slots`: the order of bars and their slots. `streams`: targets on streams. `program`: runs of `bars run`.
+//! - `formats`: texts of formatters. `columns`: columns, rows and pieces of texts. `templates`: templates, and words of styles.
+//!   `refusals`: numbers and texts of refusals.
+//! - `cells`: the cell terminal. `memory`: the terminal in memory. `engines`: the engine. `limiters`: limiters.
+//! - `styles`: styles and their builders. `lines`: lines of bars. `runs`: long texts, told by their runs.
 #![tactic(auto)]
 
 mod boards;
+mod cells;
+mod columns;
+mod engines;
+mod formats;
+mod limiters;
+mod lines;
 mod lone;
+mod memory;
+mod outside;
 mod program;
+mod records;
+mod refusals;
+mod runs;
+mod slots;
+mod streams;
+mod styles;
+mod templates;
+mod terminals;
 mod world;
 
 use anyhow::{Context, Result};

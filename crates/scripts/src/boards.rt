@@ -1,10 +1,10 @@
 //! Calls of a board, what they answer, and what is read of a board.
 use crate::commands::command;
 use crate::got::{Bad, Got};
+use crate::lone::bar_of;
 use crate::row::{At, next};
 use crate::spelling::{number, unescaped};
-use indicatif_bar::state::BarState;
-use indicatif_bar::style::{NoTracker, ProgressStyle};
+use indicatif_bar::style::NoTracker;
 use indicatif_board::multi::{Answer, BarId, Call, Candidate, InsertLocation};
 use indicatif_term::draw_target::MultiProgressAlignment;
 use std::alloc::Global;
@@ -58,7 +58,7 @@ pub fn bar_call(alloc: Global, id: BarId, text: &str) -> Result<Call<NoTracker>,
 fn call(at: At, text: &str) -> Result<Call<NoTracker>, Bad> {
     match text.split_once(' ') {
         Some(("log", rest)) => Ok(Call::Log(unescaped(at.alloc, rest)?)),
-        Some((name, rest)) => placed(at, name, rest),
+        Some((name, rest)) => insertion(at, name, rest),
         None => bare(text),
     }
 }
@@ -73,10 +73,10 @@ fn bare(text: &str) -> Result<Call<NoTracker>, Bad> {
     }
 }
 
-/// `add BAR`, `insert N BAR`, `back N BAR`, `before N BAR`, `after N BAR`.
-fn placed(at: At, name: &str, rest: &str) -> Result<Call<NoTracker>, Bad> {
+/// The place that a step names, as in `add BAR`, `insert N BAR`, `back N BAR`, `before N BAR` and `after N BAR`; and the bar.
+pub fn placed<'a>(name: &str, rest: &'a str) -> Result<(InsertLocation, &'a str), Bad> {
     let mut words = rest;
-    let location = match name {
+    let place = match name {
         "add" => InsertLocation::End,
         "insert" => InsertLocation::Index(number(next(&mut words))?),
         "back" => InsertLocation::FromBack(number(next(&mut words))?),
@@ -84,36 +84,34 @@ fn placed(at: At, name: &str, rest: &str) -> Result<Call<NoTracker>, Bad> {
         "after" => InsertLocation::After(bar_id(next(&mut words))?),
         _ => return Err(Bad::Step),
     };
-    insertion(at, location, words)
+    Ok((place, words))
 }
 
-/// A new bar of this template, or behind `=` a bar that may be there.
-fn insertion(at: At, location: InsertLocation, bar: &str) -> Result<Call<NoTracker>, Bad> {
-    let candidate = match bar.strip_prefix('=') {
-        Some(rest) => Candidate::Member(bar_id(rest)?),
-        None => new_bar(at, bar)?,
-    };
+/// The call that takes in a bar.
+fn insertion(at: At, name: &str, rest: &str) -> Result<Call<NoTracker>, Bad> {
+    let (place, bar) = placed(name, rest)?;
+    let candidate = candidate(at, bar)?;
     Ok(Call::Insert {
-        at: location,
+        at: place,
         candidate,
     })
 }
 
-fn new_bar(at: At, template: &str) -> Result<Candidate<NoTracker>, Bad> {
-    let bar = bar_of(at, template, None)?;
-    Ok(Candidate::New(Box::into_inner(bar)))
+/// What is to be taken in: behind `=` a bar that may be there, or a new one, behind `len=LEN ` of that length.
+pub fn candidate(at: At, text: &str) -> Result<Candidate<NoTracker>, Bad> {
+    if let Some(rest) = text.strip_prefix("len=") {
+        let mut words = rest;
+        let len = number(next(&mut words))?;
+        return new_bar(at, words, Some(len));
+    }
+    match text.strip_prefix('=') {
+        Some(rest) => Ok(Candidate::Member(bar_id(rest)?)),
+        None => new_bar(at, text, None),
+    }
 }
 
-/// A bar of this template, whose escapes stand for characters.
-pub fn bar_of(at: At, template: &str, len: Option<u64>) -> Result<Box<BarState<NoTracker>>, Bad> {
-    let template = unescaped(at.alloc, template)?;
-    let style = ProgressStyle::with_template(at.alloc, template.as_str())?;
-    boxed(at.alloc, BarState::styled(at.alloc, style, len, at.now)?)
-}
-
-/// A value in a box: each way out of a function drops it by one call.
-pub fn boxed<V: Drop>(alloc: Global, value: V) -> Result<Box<V>, Bad> {
-    Ok(Box::new(alloc, value)?)
+fn new_bar(at: At, bar: &str, len: Option<u64>) -> Result<Candidate<NoTracker>, Bad> {
+    Ok(Candidate::New(Box::into_inner(bar_of(at, bar, len)?)))
 }
 
 /// Appends what a call answered: a bar's number, `done`, or as the call of a lone bar.

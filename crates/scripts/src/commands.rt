@@ -1,6 +1,7 @@
 //! Commands of a bar as rows spell them: a name and what belongs to it.
 use crate::got::Bad;
-use crate::spelling::{number, optional, unescaped};
+use crate::row::headed;
+use crate::spelling::{flag, number, optional, unescaped};
 use indicatif_bar::state::{BarCommand, Change, ProgressFinish};
 use indicatif_bar::style::{NoTracker, ProgressStyle};
 use std::alloc::Global;
@@ -40,7 +41,7 @@ fn plain_finish(name: &str) -> Result<ProgressFinish, Bad> {
 }
 
 /// The way to finish that a text spells, with its message.
-fn finish(alloc: Global, text: &str) -> Result<ProgressFinish, Bad> {
+pub fn finish(alloc: Global, text: &str) -> Result<ProgressFinish, Bad> {
     match text.split_once(' ') {
         None => plain_finish(text),
         Some((name, message)) => finish_saying(name, unescaped(alloc, message)?),
@@ -59,6 +60,7 @@ fn with_argument(alloc: Global, name: &str, rest: &str) -> Result<Command, Bad> 
     match name {
         "with_finish" => Ok(BarCommand::WithFinish(finish(alloc, rest)?)),
         "update" => updating(rest),
+        "set_ticker" => Ok(BarCommand::SetTicker(flag(rest)?)),
         "set_style" => styled(alloc, rest),
         "set_message"
         | "set_prefix"
@@ -70,10 +72,23 @@ fn with_argument(alloc: Global, name: &str, rest: &str) -> Result<Command, Bad> 
     }
 }
 
-fn styled(alloc: Global, template: &str) -> Result<Command, Bad> {
-    let template = unescaped(alloc, template)?;
-    let style = ProgressStyle::with_template(alloc, template.as_str())?;
+/// The style of a template; behind `chars=CHARS ` with these progress characters.
+fn styled(alloc: Global, text: &str) -> Result<Command, Bad> {
+    let style = match text.strip_prefix("chars=") {
+        Some(rest) => with_chars(alloc, rest)?,
+        None => templated(alloc, text)?,
+    };
     Ok(BarCommand::SetStyle(style))
+}
+
+fn with_chars(alloc: Global, text: &str) -> Result<ProgressStyle<NoTracker>, Bad> {
+    let (chars, template) = headed(text);
+    Ok(templated(alloc, template)?.progress_chars(chars)?)
+}
+
+fn templated(alloc: Global, template: &str) -> Result<ProgressStyle<NoTracker>, Bad> {
+    let template = unescaped(alloc, template)?;
+    Ok(ProgressStyle::with_template(alloc, template.as_str())?)
 }
 
 fn saying(name: &str, text: String) -> Result<Command, Bad> {
@@ -88,7 +103,6 @@ fn saying(name: &str, text: String) -> Result<Command, Bad> {
 
 fn by_number(name: &str, number: u64) -> Result<Command, Bad> {
     match name {
-        "set_ticker" => Ok(BarCommand::SetTicker(number == 1)),
         "inc" => Ok(BarCommand::Inc(number)),
         "dec" => Ok(BarCommand::Dec(number)),
         "set_position" => Ok(BarCommand::SetPosition(number)),

@@ -1,7 +1,9 @@
-//! What a step gave, and why one gives nothing.
+//! What steps gave, and why one gives nothing.
 use indicatif_text::columns::{Drawn, Refusal};
 use std::alloc::{AllocError, AllocFailed, Global};
 use std::fmt::Display;
+use std::io::ErrorKind;
+use std::str;
 
 /// Why a step gives nothing.
 #[derive(Clone, Copy, Debug, Drop)]
@@ -30,11 +32,13 @@ impl<V: Drop> From<AllocFailed<V>> for Bad {
     }
 }
 
-/// What a step gave, as one text. Its methods append; want of memory is kept, and makes the row differ.
+/// What steps gave, as one text: what each gave that gave something, parted by `; `. Want of memory is kept, and makes the row
+/// differ.
 #[derive(Drop)]
 pub struct Got {
     text: String,
-    lost: bool,
+    is_new: bool,
+    is_lost: bool,
 }
 
 impl Got {
@@ -42,38 +46,64 @@ impl Got {
     pub fn new(alloc: Global) -> Got {
         Got {
             text: String::new(alloc),
-            lost: false,
+            is_new: true,
+            is_lost: false,
         }
     }
 
     /// Nothing again.
     pub fn clear(&mut self) {
         self.text.clear();
-        self.lost = false;
+        self.is_new = true;
+        self.is_lost = false;
     }
 
-    /// What the step gave, without escapes.
+    /// What comes now is what the next step gives.
+    pub fn begin(&mut self) {
+        self.is_new = true;
+    }
+
+    /// What the steps gave, without escapes.
     pub fn as_str(&self) -> &str {
         self.text.as_str()
     }
 
     /// Whether a part of it found no room.
     pub fn is_lost(&self) -> bool {
-        self.lost
+        self.is_lost
     }
 
     fn note(&mut self, done: Result<(), AllocError>) {
-        self.lost |= done.is_err();
+        self.is_lost |= done.is_err();
+    }
+
+    /// Parts what comes now from what the steps before gave.
+    fn part(&mut self) {
+        if self.is_new && !self.text.is_empty() {
+            let done = self.text.push_str("; ");
+            self.note(done);
+        }
+        self.is_new = false;
     }
 
     /// Appends a text.
     pub fn text(&mut self, text: &str) {
-        let done = self.text.push_str(text);
-        self.note(done);
+        if !text.is_empty() {
+            self.part();
+            let done = self.text.push_str(text);
+            self.note(done);
+        }
+    }
+
+    /// Where a call that appends a text puts it.
+    pub fn room(&mut self) -> &mut String {
+        self.part();
+        &mut self.text
     }
 
     /// Appends a number, or what else has a text.
     pub fn number<D: Display + Drop>(&mut self, value: D) {
+        self.part();
         let done = self.text.write_fmt(value);
         self.note(done);
     }
@@ -101,10 +131,22 @@ impl Got {
         }
     }
 
-    /// Appends a refusal's number.
+    /// Appends a refusal's number, and behind that of a template the character and where it stood.
     pub fn refusal(&mut self, refusal: Refusal) {
         self.text("E");
         self.number(refusal.number());
+        if let Refusal::Template { next, state } = refusal {
+            self.number(format_args!(" {next} {state:?}"));
+        }
+    }
+
+    /// Appends how a call of a terminal failed: `BrokenPipe`, `WriteZero`, or `failed`.
+    pub fn kind(&mut self, kind: ErrorKind) {
+        self.text(match kind {
+            ErrorKind::BrokenPipe => "BrokenPipe",
+            ErrorKind::WriteZero => "WriteZero",
+            _ => "failed",
+        });
     }
 
     /// Appends why a step gives nothing.
@@ -130,6 +172,26 @@ impl Got {
             self.text(parting);
             self.number(*number);
             parting = " ";
+        }
+    }
+
+    /// Appends bytes: as text where they are one, else each that isn't ASCII as its number between `<` and `>`.
+    pub fn bytes(&mut self, bytes: &[u8]) {
+        match str::from_utf8(bytes) {
+            Ok(text) => self.text(text),
+            Err(_) => self.each_byte(bytes),
+        }
+    }
+
+    fn each_byte(&mut self, bytes: &[u8]) {
+        for byte in bytes {
+            if byte.is_ascii() {
+                self.number(char::from(*byte));
+            } else {
+                self.text("<");
+                self.number(*byte);
+                self.text(">");
+            }
         }
     }
 }

@@ -1,11 +1,13 @@
-//! A line of a file, and the words of a step.
+//! A line of a file, its steps, and the words of a step.
+use crate::got::Bad;
 use indicatif_text::columns::Moment;
 use std::alloc::Global;
 
-/// A line's step, and what it is to give.
+/// What a line asks for, and what that is to give.
 #[derive(Clone, Copy, Drop)]
 pub struct Row<'a> {
-    pub step: &'a str,
+    /// One step, or several, parted by `; `.
+    pub steps: &'a str,
     pub wanted: &'a str,
 }
 
@@ -16,9 +18,9 @@ impl<'a> Row<'a> {
             return None;
         }
         Some(match line.split_once(" -> ") {
-            Some((step, wanted)) => Row { step, wanted },
+            Some((steps, wanted)) => Row { steps, wanted },
             None => Row {
-                step: line.strip_suffix(" ->").unwrap_or(line),
+                steps: line.strip_suffix(" ->").unwrap_or(line),
                 wanted: "",
             },
         })
@@ -32,6 +34,13 @@ pub struct At {
     pub now: Moment,
 }
 
+impl At {
+    /// A value in a box: each way out of a function drops it by one call.
+    pub fn boxed<V: Drop>(self, value: V) -> Result<Box<V>, Bad> {
+        Ok(Box::new(self.alloc, value)?)
+    }
+}
+
 /// A step without the moment behind it, ` @` and nanoseconds, and that moment.
 pub fn timed(step: &str) -> (&str, Option<Moment>) {
     match step.rsplit_once(" @") {
@@ -43,17 +52,14 @@ pub fn timed(step: &str) -> (&str, Option<Moment>) {
     }
 }
 
+/// The first word of a text, and what stands behind the space.
+pub fn headed(text: &str) -> (&str, &str) {
+    text.split_once(' ').unwrap_or((text, ""))
+}
+
 /// The next word; the others are left.
 pub fn next<'a>(words: &mut &'a str) -> &'a str {
-    match words.split_once(' ') {
-        Some((word, rest)) => {
-            *words = rest;
-            word
-        }
-        None => {
-            let word = *words;
-            *words = "";
-            word
-        }
-    }
+    let (word, rest) = headed(words);
+    *words = rest;
+    word
 }
