@@ -11,4 +11,4 @@ use Rattle.indicatif_bar.proofs.cases.failures.Goals as goal
 
 pub returns : goal.returns
 unfolding char_width unicode_width rows_of visible has_wide drawn logged cleared shown_rows lines_of fitting grouped chars lines encode drawn_by
-returns c = record { broken_off = (refl, refl, refl, refl, refl, refl, refl) }
+returns c = record { broken_off = (refl, refl, refl, refl, refl, refl) }
