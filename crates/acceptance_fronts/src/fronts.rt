@@ -103,7 +103,7 @@ fn weaks_of<R: Wait + Copy + Clone + Drop>(
 }
 
 fn is_there<R: Wait + Copy + Clone + Drop>(weak: &Weak<R>) -> bool {
-    weak.upgrade().is_some()
+    weak.upgrade().is_ok_and(|bar| bar.is_some())
 }
 
 /// A weak bar is a bar again while owners are left.
@@ -131,7 +131,7 @@ fn a_weak_bar_gives_an_owner(rt: HostRuntime) -> Result<(), Fail> {
     let bytes = no_bytes(rt.alloc())?;
     let bar = bar_on(rt, rt.alloc(), &bytes, "{pos}")?;
     let weak = weaks_of(rt.alloc(), &bar)?;
-    let other = weak.one.upgrade().ok_or(Refusal::Memory)?;
+    let other = weak.one.upgrade()?.ok_or(Refusal::Memory)?;
     assert!(rt; is_owned_by(bar, &other));
     other.release();
     assert!(rt; !is_there(&weak.one));
@@ -153,7 +153,7 @@ fn ending<R: Wait + Copy + Clone + Drop>(
     bytes: &Bytes,
     finish: ProgressFinish,
 ) -> Result<Bar<R>, Refusal> {
-    Ok(bar_on(rt, alloc, bytes, "{pos}/{len}")?.with_finish(finish))
+    bar_on(rt, alloc, bytes, "{pos}/{len}")?.with_finish(finish)
 }
 
 /// An owner that isn't the last leaves the bar as it is, and the last one finishes it by its stored finish.

@@ -2,6 +2,7 @@
 //!
 //! - `beside`: a shared bar and a `LoneBar` that are told the same calls.
 //! - `fronts`: owners, weak bars, the last release and the last drop, threads, wrapped lists, other terminals.
+//! - `shared`: clocks of different openings, and threads at one bar.
 //! - `styles`: a bar's style, read and changed. `tickers`: steady tickers. `wraps`: what is polled.
 #![tactic(auto)]
 
@@ -9,6 +10,8 @@
 mod beside;
 #[cfg(test)]
 mod fronts;
+#[cfg(test)]
+mod shared;
 #[cfg(test)]
 mod styles;
 #[cfg(test)]

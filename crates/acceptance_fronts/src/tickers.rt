@@ -179,6 +179,6 @@ fn it_owns_nothing(rt: HostRuntime) -> Result<(), Fail> {
     assert!(rt; ticks_on(&rt, &bar, 0));
     let weak = bar.downgrade()?;
     bar.release();
-    assert!(rt; weak.upgrade().is_none());
+    assert!(rt; weak.upgrade()?.is_none());
     Ok(())
 }

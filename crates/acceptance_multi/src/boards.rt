@@ -116,7 +116,7 @@ fn after_a_lone_one<R: Wait + Copy + Clone + Drop>(on: &Stage<R>) -> Result<bool
 fn is_last_owner<R: Wait + Copy + Clone + Drop>(on: &mut Stage<R>) -> Result<bool, Refusal> {
     let weak = on.bar(1)?.downgrade()?;
     on.release()?;
-    Ok(weak.upgrade().is_none())
+    Ok(weak.upgrade()?.is_none())
 }
 
 /// The only owner of a bar is handed to another board, which turns it away: the bar is dropped from its own.

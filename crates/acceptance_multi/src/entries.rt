@@ -155,7 +155,7 @@ fn all_readings<R: Wait + Copy + Clone + Drop>(on: &Stage<R>) -> Result<(), Refu
     readings(on.bar(0)?)?;
     let _ = on.board().is_hidden();
     on.board().with_term(|_| ());
-    let _ = on.bar(0)?.downgrade()?.upgrade();
+    let _ = on.bar(0)?.downgrade()?.upgrade()?;
     let _ = on.board().clone()?;
     Ok(())
 }

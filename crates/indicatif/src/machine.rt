@@ -11,17 +11,18 @@ use std::io::{BufWriter, IsTerminal, Stderr, Stdout, Write};
 use std::marker::Model;
 use std::time;
 
-/// The machine's clock, in nanoseconds since it was made; contracts see the moment that it told last. Where the machine refuses
-/// to tell the time, the clock stands.
+/// The machine's clock: the nanoseconds of its monotonic time, from a start that all clocks of the machine share, mostly when it was
+/// booted. So a bar that is made after its board counts from no later start, and may begin with as much elapsed time as the machine
+/// runs. Contracts see the moment that it told last, 0 before the first. Where the machine refuses to tell the time, the clock
+/// stands.
 ///
 /// ```
 /// let mut clock = MachineClock::new(rt);
-/// let opened = clock.now(); // some hundred nanoseconds
+/// let opened = clock.now(); // of a machine that was booted an hour ago, some 3,600,000,000,000
 /// ```
 #[derive(Drop)]
 pub struct MachineClock<R> {
     machine: R,
-    opened: Option<u64>,
     told: Moment,
 }
 
@@ -34,26 +35,15 @@ impl<R> Model for MachineClock<R> {
 }
 
 impl<R: time::Clock> MachineClock<R> {
-    /// A clock that begins now.
+    /// The clock of this machine. It isn't asked yet.
     pub fn new(machine: R) -> MachineClock<R>
         ensures { result ≡ 0 }
     {
-        let opened = nanos_told(&machine);
-        MachineClock {
-            machine,
-            opened,
-            told: 0,
-        }
-    }
-
-    /// The nanoseconds since it began, where the machine tells the time.
-    #[inline(always)]
-    fn since_opened(&self) -> Option<Moment> {
-        Some(nanos_told(&self.machine)?.saturating_sub(self.opened?))
+        MachineClock { machine, told: 0 }
     }
 }
 
-/// The nanoseconds that the machine's clock tells, from a start of its own on; 2^64 - 1 after 584 years.
+/// The nanoseconds of the machine's monotonic time, where it tells that; 2^64 - 1 after 584 years.
 #[inline(always)]
 fn nanos_told<R: time::Clock>(machine: &R) -> Option<u64> {
     let told = machine.monotonic().ok()?;
@@ -72,7 +62,7 @@ impl<R: time::Clock> Clock for MachineClock<R> {
         ensures told { self.new ≡ result }
         ensures forward { self.old ≤ result }
     {
-        if let Some(now) = self.since_opened() {
+        if let Some(now) = nanos_told(&self.machine) {
             self.told = self.told.max(now);
         }
         self.told

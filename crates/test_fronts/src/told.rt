@@ -155,7 +155,7 @@ fn tell_owned<R: Wait + Copy + Clone + Drop>(
         Told::WithTabWidth(tab) => is_given(bar.with_tab_width(tab)),
         Told::WithPrefix(text) => is_given(bar.with_prefix(text)),
         Told::WithMessage(text) => is_given(bar.with_message(text)),
-        Told::WithPosition(position) => is_given(Ok(bar.with_position(position))),
+        Told::WithPosition(position) => is_given(bar.with_position(position)),
         Told::WithElapsed(nanos) => is_given(bar.with_elapsed(nanos)),
         Told::WithFinish(end) => is_given(with_finish(bar, alloc, end)),
         _ => moved(bar, call),
@@ -177,7 +177,7 @@ fn with_finish<R: Wait + Copy + Clone + Drop>(
     end: End,
 ) -> Result<Bar<R>, Refusal> {
     let finish = end.finish(alloc)?;
-    Ok(bar.with_finish(finish))
+    bar.with_finish(finish)
 }
 
 fn is_given<R: Wait + Copy + Clone + Drop>(bar: Result<Bar<R>, Refusal>) -> Result<Drawn, Refusal> {
