@@ -2,9 +2,9 @@
 use indicatif::machine::MachineClock;
 use indicatif::{
     Clock, Drawn, InMemoryTerm, MultiProgress, ProgressBar, ProgressBarIter, ProgressDrawTarget,
-    ProgressStyle, Refusal, Setup, StepClock,
+    ProgressFinish, ProgressStyle, Refusal, Setup, StepClock,
 };
-use std::alloc::Global;
+use std::alloc::{AllocError, Global};
 use std::cell::Cell;
 use std::io::{self, Read};
 use std::sync::Wait;
@@ -21,6 +21,15 @@ const SECOND: u64 = 1_000_000_000;
 struct Telling {
     nanos: &'static [u64],
     readings: Cell<usize>,
+}
+
+impl Clone for Telling {
+    fn clone(&self) -> Result<Telling, AllocError> {
+        Ok(Telling {
+            nanos: self.nanos,
+            readings: Cell::new(self.readings.get()),
+        })
+    }
 }
 
 impl time::Clock for Telling {
@@ -100,6 +109,49 @@ fn a_bar_begins_with_elapsed_time(rt: HostRuntime) -> Result<(), Fail> {
     assert_eq!(rt; bar.elapsed(), 3600 * SECOND);
     assert!(rt; bar.set_elapsed(3601 * SECOND) == Err(Refusal::ElapsedBeyondClock));
     Ok(())
+}
+
+/// A board makes its bars itself: they stand one below the other, by its clock.
+#[test]
+fn a_board_makes_its_bars(rt: HostRuntime) -> Result<(), Fail> {
+    let board = board_at_100(rt, rt.alloc())?;
+    let bar = board.new_bar(3)?;
+    let spinner = board.new_spinner()?;
+    bar.set_style(ProgressStyle::with_template(rt.alloc(), "{pos}/{len}")?)?;
+    spinner.set_style(ProgressStyle::with_template(rt.alloc(), "{msg}")?)?;
+    spinner.set_message("waits")?;
+    assert!(rt; bar.inc(1) == Ok(Drawn::Yes));
+    assert!(rt; contents(&board).is_some_and(|text| text.as_str() == "1/3\nwaits"));
+    assert_eq!(rt; spinner.length(), None);
+    Ok(())
+}
+
+/// A wrapper's bar is told before it moves, and what is told is seen by its other owners.
+#[test]
+fn a_wrappers_bar_is_told(rt: HostRuntime) -> Result<(), Fail> {
+    let bar = bar_on(rt, rt.alloc())?;
+    let style = ProgressStyle::with_template(rt.alloc(), "{prefix} {msg} {pos}")?;
+    let mut wrapped = bar
+        .wrap_iter(0..3u32)?
+        .with_style(style)?
+        .with_prefix("a")?
+        .with_message("b")?
+        .with_position(7)?
+        .with_finish(ProgressFinish::Abandon)?;
+    assert_eq!(rt; bar.position(), 7);
+    for _ in &mut wrapped {}
+    assert_eq!(rt; bar.position(), 10);
+    assert!(rt; bar.is_finished());
+    assert!(rt; shown_by(&bar).is_some_and(|text| text.as_str() == "a b 10"));
+    Ok(())
+}
+
+/// What stands on the bar's terminal.
+fn shown_by<R: Wait + Clone + Drop>(bar: &Bar<R>) -> Option<String> {
+    bar.with_term(|term| match term {
+        Some(term) => term.contents().ok(),
+        None => None,
+    })
 }
 
 /// An hour: such a ticker ticks once in a test.

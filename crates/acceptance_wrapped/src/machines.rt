@@ -1,5 +1,7 @@
 //! What is asked of the machine: a made-up environment, and the terminals behind the program's own streams.
-use indicatif::machine::{TerminalSetup, facts_of, on_stderr, on_stdout, told_setup};
+use indicatif::machine::{
+    TerminalSetup, facts_of, on_stderr, on_stdout, told_setup, wants_colors,
+};
 use indicatif::{Clock, Facts, ProgressDrawTarget, Refusal, Setup, Term, TermLike};
 use std::alloc::Global;
 use std::env::{Env, FillError};
@@ -149,6 +151,81 @@ fn say_so(alloc: Global, rows: &[Row]) -> Result<bool, Fail> {
 #[test]
 fn what_an_environment_says(rt: HostRuntime) -> Result<(), Fail> {
     assert!(rt; say_so(rt.alloc(), &SAID)?);
+    Ok(())
+}
+
+/// Whether an environment wants colours, on a terminal and on a stream that is none.
+#[derive(Drop)]
+struct Colours {
+    told: &'static [(&'static str, &'static [u8])],
+    shown: bool,
+    unseen: bool,
+}
+
+/// By the custom of `NO_COLOR`, `CLICOLOR` and `CLICOLOR_FORCE`.
+const COLOURS: [Colours; 9] = [
+    Colours {
+        told: &[],
+        shown: false,
+        unseen: false,
+    },
+    Colours {
+        told: &[("TERM", b"xterm")],
+        shown: true,
+        unseen: false,
+    },
+    Colours {
+        told: &[("TERM", b"dumb")],
+        shown: false,
+        unseen: false,
+    },
+    Colours {
+        told: &[("TERM", b"xterm"), ("NO_COLOR", b"1")],
+        shown: false,
+        unseen: false,
+    },
+    Colours {
+        told: &[("TERM", b"xterm"), ("CLICOLOR", b"0")],
+        shown: false,
+        unseen: false,
+    },
+    Colours {
+        told: &[("TERM", b"xterm"), ("CLICOLOR", b"1")],
+        shown: true,
+        unseen: false,
+    },
+    Colours {
+        told: &[("CLICOLOR_FORCE", b"1"), ("NO_COLOR", b"1")],
+        shown: true,
+        unseen: true,
+    },
+    Colours {
+        told: &[("CLICOLOR_FORCE", b"1"), ("CLICOLOR", b"0")],
+        shown: true,
+        unseen: true,
+    },
+    Colours {
+        told: &[("TERM", b"xterm"), ("CLICOLOR_FORCE", b"0")],
+        shown: true,
+        unseen: false,
+    },
+];
+
+/// Whether each environment wants colours where its row says so.
+fn want_so(alloc: Global, rows: &[Colours]) -> Result<bool, Fail> {
+    for row in rows {
+        let shown = wants_colors(&(Told(row.told), alloc), &Stream { attended: true })?;
+        let unseen = wants_colors(&(Told(row.told), alloc), &Stream { attended: false })?;
+        if shown != row.shown || unseen != row.unseen {
+            return Ok(false);
+        }
+    }
+    Ok(true)
+}
+
+#[test]
+fn colours_that_are_wanted(rt: HostRuntime) -> Result<(), Fail> {
+    assert!(rt; want_so(rt.alloc(), &COLOURS)?);
     Ok(())
 }
 

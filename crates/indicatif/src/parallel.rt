@@ -249,14 +249,12 @@ fn run_blocks<R: Threads + Sync, T: Sync, F: Fn(&T) + Sync, P: Moves>(
     while start < items.len() {
         let n = most.min(items.len() - start);
         let part = &items[start..start + n];
-        part.par_iter()
-            .with_min_len(least_piece(rt, n))
-            .for_each(
-                rt,
-                |x: &T|
-                    requires { F.IsAlwaysCallable f.now }
-                { f(x) },
-            );
+        part.par_iter().with_min_len(least_piece(rt, n)).for_each(
+            rt,
+            |x: &T|
+                requires { F.IsAlwaysCallable f.now }
+            { f(x) },
+        );
         let _ = bar.advance(n as u64);
         start += n;
     }

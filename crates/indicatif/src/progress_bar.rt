@@ -3,7 +3,7 @@
 //! - `held`: what its lock keeps; `place`: where the bar stands, `single` alone, or on a board, which `kept` is (private).
 //! - `worded`: what a bar is told with a text (private).
 //! - `ticker`: which steady ticker it has; `steady`: the thread that ticks (private).
-//! - `weak`: a bar without an owner (private).
+//! - `weak`: a bar without an owner (private). `wrapped`: what is said of a wrapper's bar (private).
 ghost use Rattle.std.specs.Prelude.{◌≡◌, ◌⊎◌, ℕ, false, IfOk, IfErr, Err};
 ghost use Rattle.std.specs.Fn.{FnOnceReturnsAt};
 ghost use Rattle.indicatif_bar.specs.Commands as Command;
@@ -31,6 +31,7 @@ mod steady;
 mod ticker;
 mod weak;
 mod worded;
+mod wrapped;
 
 use self::held::{Held, Locked};
 use self::kept::{Shared, SharedBoard};
@@ -786,7 +787,10 @@ impl<T: TermLike + Drop, C: Clock + Drop, R: Wait + Clone + Drop> Moves for Prog
     }
 
     fn place_after(&mut self, seeks: &mut SeekMax<5, 10>, n: u64) -> Result<Drawn, Refusal> {
-        self.state.lock.lock(&self.rt).place_after(&self.rt, seeks, n)
+        self.state
+            .lock
+            .lock(&self.rt)
+            .place_after(&self.rt, seeks, n)
     }
 
     fn finish(&mut self) -> Result<Drawn, Refusal> {
