@@ -2,19 +2,23 @@
 //! one without moves of the cursor (`TERM` unset or `dumb`), the bar is hidden. The size is what `LINES` and `COLUMNS` say.
 use anyhow::Result;
 use indicatif::machine::on_stderr;
-use indicatif::{BarState, LoneBar, NoTracker, ProgressStyle, TermLike};
+use indicatif::{BarState, Clock, LoneBar, NoTracker, ProgressStyle, Setup, TermLike};
 
 /// Says `copying`, and logs a line above it.
-fn copy<T: TermLike + Drop>(bar: &mut LoneBar<NoTracker, T>) -> Result<()> {
-    bar.set_message("copying", 0)?;
-    bar.println("a.txt", 0)?;
+fn copy<T: TermLike + Drop, C: Clock>(
+    bar: &mut LoneBar<NoTracker, T>,
+    clock: &mut C,
+) -> Result<()> {
+    bar.set_message("copying", clock.now())?;
+    bar.println("a.txt", clock.now())?;
     Ok(())
 }
 
 pub fn main(rt: &HostRuntime) -> Result<()> {
     let style = ProgressStyle::with_template(rt.alloc(), "{msg}")?;
-    let bar = BarState::styled(rt.alloc(), style, None, 0)?;
-    copy(&mut LoneBar::new(bar, on_stderr(rt)?.target))?;
+    let Setup { target, mut clock } = on_stderr(rt)?;
+    let bar = BarState::styled(rt.alloc(), style, None, clock.now())?;
+    copy(&mut LoneBar::new(bar, target), &mut clock)?;
     println!(rt; "done")?;
     Ok(())
 }

@@ -1,7 +1,8 @@
 //! What an environment says of a terminal: `environment VARIABLE=TEXT ..` gives rows, columns, whether the stream is a terminal, and the
-//! kind, in quotes, or `none`. In a text `~` stands for a byte that is no text. A stream that is no terminal is `environment not ..`.
+//! kind, in quotes, or `none`; `colours VARIABLE=TEXT ..` whether colours are wanted. In a text `~` stands for a byte that is no text. A
+//! stream that is no terminal has `not` in front.
 use indicatif::Facts;
-use indicatif::machine::facts_of;
+use indicatif::machine::{facts_of, wants_colors};
 use scripts::got::{Bad, Got};
 use std::alloc::Global;
 use std::env::{Env, FillError};
@@ -72,6 +73,13 @@ pub fn said(alloc: Global, rest: &str, got: &mut Got) -> Result<(), Bad> {
     let attended = !rest.starts_with("not");
     let facts = facts_of(&(Told(rest), alloc), &Stream { attended })?;
     push_facts(&facts, got);
+    Ok(())
+}
+
+/// Appends whether an environment wants colours.
+pub fn wants(alloc: Global, rest: &str, got: &mut Got) -> Result<(), Bad> {
+    let attended = !rest.starts_with("not");
+    got.flag(wants_colors(&(Told(rest), alloc), &Stream { attended })?);
     Ok(())
 }
 

@@ -135,7 +135,7 @@ impl<R: Wait + Copy + Clone + Drop> Fronts<R> {
             Some(("own", place)) => self.owner(place)?,
             _ => match step {
                 "hidden_bar" => self.maker.hidden()?,
-                "upgrade" => self.weak.upgrade().ok_or(Bad::Step)?,
+                "upgrade" => self.weak.upgrade()?.ok_or(Bad::Step)?,
                 _ => return Ok(None),
             },
         }))
@@ -169,7 +169,7 @@ impl<R: Wait + Copy + Clone + Drop> Fronts<R> {
             Some(("weak", place)) => self.weak = self.bar(place)?.downgrade()?.clone()?,
             _ => match step {
                 "never" => self.weak = WeakProgressBar::new(),
-                "upgrades" => got.flag(self.weak.upgrade().is_some()),
+                "upgrades" => got.flag(self.weak.upgrade()?.is_some()),
                 _ => return Ok(false),
             },
         }

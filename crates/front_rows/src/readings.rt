@@ -61,6 +61,6 @@ fn read_all<R: Wait + Copy + Clone + Drop>(bar: &Bar<R>) -> Result<(), Refusal> 
     let _ = bar.prefix()?;
     let _ = bar.style()?;
     bar.with_term(|_| ());
-    let _ = bar.downgrade()?.upgrade();
+    let _ = bar.downgrade()?.upgrade()?;
     Ok(())
 }

@@ -83,8 +83,10 @@ impl<
 > World for Stage<R> {
     fn play(&mut self, step: &str, got: &mut Got) -> Result<(), Bad> {
         let (name, rest) = step.split_once(' ').unwrap_or((step, ""));
-        if name == "environment" {
-            return environment::said(self.alloc, rest, got);
+        match name {
+            "environment" => return environment::said(self.alloc, rest, got),
+            "colours" => return environment::wants(self.alloc, rest, got),
+            _ => (),
         }
         match self.begun(name, rest)? {
             Some(on) => {

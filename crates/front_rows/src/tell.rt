@@ -117,7 +117,7 @@ fn moved<R: Wait + Copy + Clone + Drop>(mut bar: Bar<R>, name: &str, n: u64) -> 
     Ok(match name {
         "advance" => Moves::advance(&mut bar, n),
         "place" => Moves::place(&mut bar, n),
-        "with_position" => is_given(Ok(bar.with_position(n))),
+        "with_position" => is_given(bar.with_position(n)),
         "with_elapsed" => is_given(bar.with_elapsed(n)),
         "with_tab_width" => is_given(bar.with_tab_width(n as usize)),
         _ => return Err(Bad::Step),
@@ -171,7 +171,7 @@ fn with_style<R: Wait + Copy + Clone + Drop>(bar: Bar<R>, alloc: Global, last: &
 }
 
 fn with_finish<R: Wait + Copy + Clone + Drop>(bar: Bar<R>, finish: ProgressFinish) -> Told {
-    is_given(Ok(bar.with_finish(finish)))
+    is_given(bar.with_finish(finish))
 }
 
 fn is_given<R: Wait + Copy + Clone + Drop>(bar: Result<Bar<R>, Refusal>) -> Told {

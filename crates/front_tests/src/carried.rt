@@ -91,7 +91,7 @@ fn progress_bar_sync_send(rt: HostRuntime) -> Result<(), Fail> {
 fn is_there<R: Wait + Copy + Clone + Drop>(
     weak: &indicatif::WeakProgressBar<InMemoryTerm, StepClock, R>,
 ) -> bool {
-    weak.upgrade().is_some()
+    weak.upgrade().is_ok_and(|bar| bar.is_some())
 }
 
 #[test]

@@ -148,7 +148,7 @@ fn staying<R: Wait + Threads + time::Clock + Copy + Clone + Drop + Send + 'stati
     number: u32,
 ) -> Result<Spinner<R>, Refusal> {
     let text = format!(in alloc; "doing stuff {number}")?;
-    let spinner = saying(rt, alloc, text.as_str())?.with_finish(ProgressFinish::AndLeave);
+    let spinner = saying(rt, alloc, text.as_str())?.with_finish(ProgressFinish::AndLeave)?;
     let spinner = board.add(spinner)?;
     spinner.enable_steady_tick(100 * MILLISECOND)?;
     Ok(spinner)

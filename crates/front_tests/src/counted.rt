@@ -19,7 +19,7 @@ fn bar_at<R: Wait + Clone + Drop>(rt: R, alloc: Global, position: u64) -> Result
         target: ProgressDrawTarget::term_like(InMemoryTerm::new(alloc, 4, 20)?),
         clock: StepClock { next: 0, step: 1 },
     };
-    Ok(ProgressBar::no_length(rt, alloc, setup)?.with_position(position))
+    ProgressBar::no_length(rt, alloc, setup)?.with_position(position)
 }
 
 #[test]
@@ -97,9 +97,8 @@ fn pieces_over_a_shared_bar(rt: HostRuntime) -> Result<(), Fail> {
         Vec::new(alloc),
     ]?;
     let bar = bar_at(rt, alloc, 0)?;
-    let mut other = bar.clone()?;
     let double = |x: &u32| x.wrapping_mul(2);
-    let made = run_workers(&rt, alloc, pieces.as_slice(), double, &Open, &mut other)?;
+    let made = run_workers(&rt, alloc, pieces.as_slice(), double, &Open, &bar)?;
     assert!(rt; made[0].as_slice() == [2, 4].as_slice());
     assert!(rt; made[1].as_slice() == [6].as_slice());
     assert!(rt; made[2].is_empty());

@@ -22,6 +22,22 @@ impl Gate for Turnstile {
     }
 }
 
+/// Counts who passes, and who of the pieces behind the first 256 comes before all of these have passed.
+#[derive(Drop)]
+pub struct Waves {
+    pub passed: AtomicU64,
+    pub early: AtomicU64,
+}
+
+impl Gate for Waves {
+    fn pass(&self, piece: usize) {
+        let before = self.passed.fetch_add(1, Ordering::SeqCst);
+        if piece >= 256 && before < 256 {
+            self.early.fetch_add(1, Ordering::SeqCst);
+        }
+    }
+}
+
 /// How often piece 0 looks whether piece 1 has come.
 const TURNS: u32 = 10_000_000;
 

@@ -4,6 +4,7 @@ use indicatif::ParallelProgressIterator;
 use std::alloc::{AllocError, Global};
 use std::sync::atomic::{AtomicU64, Ordering};
 use std::test::Fail;
+use std::thread::{Threads, available_parallelism};
 
 /// The numbers below `count`.
 fn numbers(alloc: Global, count: u32) -> Result<Vec<u32>, AllocError> {
@@ -28,6 +29,54 @@ fn ten_thousand_items_are_three_blocks(rt: HostRuntime) -> Result<(), Fail> {
     assert_eq!(rt; bar.position, 10_000);
     assert!(rt; !bar.finished);
     Ok(())
+}
+
+/// A list that is no longer than a block moves its bar by a tenth at a time: of 2,000 items by 200.
+#[test]
+fn a_shorter_list_moves_by_tenths(rt: HostRuntime) -> Result<(), Fail> {
+    let items = numbers(rt.alloc(), 2000)?;
+    let list = items.as_slice().progress_with(bar_at(rt.alloc(), 0));
+    let (made, bar) = list.map_collect(&rt, rt.alloc(), |x: &u32| *x);
+    assert!(rt; made? == items);
+    assert!(rt; bar.steps.as_slice() == [200; 10].as_slice());
+    Ok(())
+}
+
+/// How often an item looks whether the other one has begun.
+const TURNS: u32 = 10_000_000;
+
+/// Marks this one of two as begun; whether the other one begins within so many turns.
+fn meets(begun: &[AtomicU64; 2], item: usize) -> bool {
+    let (mine, other) = if item == 0 { (0, 1) } else { (1, 0) };
+    begun[mine].store(1, Ordering::SeqCst);
+    for _ in 0..TURNS {
+        if begun[other].load(Ordering::SeqCst) == 1 {
+            return true;
+        }
+    }
+    false
+}
+
+/// Two items are worked on at the same time: each sees that the other has begun. (Where there is one processor alone, or nobody tells
+/// how many, they are worked on one after another.)
+#[test]
+fn pieces_of_a_list_run_at_the_same_time(rt: HostRuntime) -> Result<(), Fail> {
+    let begun = [AtomicU64::new(0), AtomicU64::new(0)];
+    let items = [0usize, 1];
+    let list = items.as_slice().progress_with(bar_at(rt.alloc(), 0));
+    let (made, bar) = list.map_collect(&rt, rt.alloc(), |item: &usize| meets(&begun, *item));
+    let both = made?.as_slice() == [true, true].as_slice();
+    assert!(rt; both || !has_processors(&rt));
+    assert!(rt; bar.steps.as_slice() == [2].as_slice() || !has_processors(&rt));
+    Ok(())
+}
+
+/// Whether the machine tells that it has more than one processor.
+fn has_processors<R: Threads>(rt: &R) -> bool {
+    match available_parallelism(rt) {
+        Ok(count) => count.get() > 1,
+        Err(_) => false,
+    }
 }
 
 #[test]

@@ -156,14 +156,15 @@ fn tells(clock: &mut MachineClock<Telling>, moments: &[u64]) -> bool {
     true
 }
 
-/// It counts from its making, doesn't go back, and stands where the machine refuses.
+/// It tells what the machine tells, doesn't go back, and stands where the machine refuses.
 #[test]
 fn a_clock_of_a_machine(rt: HostRuntime) {
     let mut clock = MachineClock::new(Telling {
         nanos: &[5_000_000_000, 5_000_000_007, 4_000_000_000, 6_000_000_000],
         readings: Cell::new(0),
     });
-    assert!(rt; tells(&mut clock, &[7, 7, 1_000_000_000, 1_000_000_000]));
+    let moments = [5_000_000_000, 5_000_000_007, 5_000_000_007, 6_000_000_000, 6_000_000_000];
+    assert!(rt; tells(&mut clock, moments.as_slice()));
 }
 
 /// Whether the clock goes on within so many readings.

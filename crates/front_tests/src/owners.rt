@@ -89,7 +89,7 @@ fn ending<R: Wait + Copy + Clone + Drop>(
     bytes: &Bytes,
     finish: ProgressFinish,
 ) -> Result<Bar<R>, Refusal> {
-    Ok(bar_on(rt, alloc, bytes, "{pos}/{len}")?.with_finish(finish))
+    bar_on(rt, alloc, bytes, "{pos}/{len}")?.with_finish(finish)
 }
 
 /// An owner that isn't the last leaves the bar as it is, and the last one finishes it by its stored finish.

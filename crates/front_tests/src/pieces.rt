@@ -1,7 +1,7 @@
 //! Pieces in threads of their own.
-use crate::gates::{Open, Together, Turnstile};
+use crate::gates::{Open, Together, Turnstile, Waves};
 use crate::stepped::{Stepped, bar_at};
-use indicatif::{Refusal, run_workers};
+use indicatif::{Refusal, run_workers_with};
 use std::alloc::{AllocError, Global};
 use std::sync::atomic::{AtomicU64, Ordering};
 use std::test::Fail;
@@ -37,7 +37,7 @@ fn answers_stand_in_the_order_of_the_pieces(rt: HostRuntime) -> Result<(), Fail>
     let gate = Turnstile {
         passed: AtomicU64::new(0),
     };
-    let made = run_workers(
+    let made = run_workers_with(
         &rt,
         alloc,
         pieces.as_slice(),
@@ -60,7 +60,7 @@ fn answers_stand_in_the_order_of_the_pieces(rt: HostRuntime) -> Result<(), Fail>
 fn no_piece_is_refused(rt: HostRuntime) -> Result<(), Fail> {
     let none = pieces_of_ones(rt.alloc(), 0, 0)?;
     let mut bar = bar_at(rt.alloc(), 7);
-    let answer = run_workers(
+    let answer = run_workers_with(
         &rt,
         rt.alloc(),
         none.as_slice(),
@@ -82,7 +82,7 @@ fn pieces_run_at_the_same_time(rt: HostRuntime) -> Result<(), Fail> {
         second_came: AtomicU64::new(0),
         first_saw_it: AtomicU64::new(0),
     };
-    let made = run_workers(
+    let made = run_workers_with(
         &rt,
         rt.alloc(),
         pieces.as_slice(),
@@ -103,7 +103,7 @@ fn answers_of<R: Threads + Sync>(
     pieces: &[Vec<u32>],
     bar: &mut Stepped,
 ) -> Result<usize, Refusal> {
-    let made = run_workers(rt, alloc, pieces, |x: &u32| *x, &Open, bar)?;
+    let made = run_workers_with(rt, alloc, pieces, |x: &u32| *x, &Open, bar)?;
     let mut answers = 0usize;
     for piece in made.iter() {
         answers = answers.wrapping_add(piece.len());
@@ -120,6 +120,33 @@ fn seventy_pieces(rt: HostRuntime) -> Result<(), Fail> {
         210
     );
     assert!(rt; bar.steps.as_slice() == [210].as_slice());
+    Ok(())
+}
+
+/// Of six hundred pieces each runs once, and none of those behind the first 256 begins before these have begun.
+#[test]
+fn six_hundred_pieces(rt: HostRuntime) -> Result<(), Fail> {
+    let pieces = pieces_of_ones(rt.alloc(), 600, 2)?;
+    let mut bar = bar_at(rt.alloc(), 0);
+    let gate = Waves {
+        passed: AtomicU64::new(0),
+        early: AtomicU64::new(0),
+    };
+    let made = run_workers_with(
+        &rt,
+        rt.alloc(),
+        pieces.as_slice(),
+        |x: &u32| x.wrapping_add(1),
+        &gate,
+        &mut bar,
+    )?;
+    assert_eq!(rt; made.len(), 600);
+    for answers in made.iter() {
+        assert!(rt; answers.as_slice() == [2, 2].as_slice());
+    }
+    assert!(rt; bar.steps.as_slice() == [1200].as_slice());
+    assert_eq!(rt; gate.passed.load(Ordering::SeqCst), 600);
+    assert_eq!(rt; gate.early.load(Ordering::SeqCst), 0);
     Ok(())
 }
 

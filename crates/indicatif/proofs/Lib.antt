@@ -7,5 +7,6 @@ mod BuilderLemmas
 mod BlockLemmas
 mod SumLemmas
 mod WorkerLemmas
+mod WaveLemmas
 mod SharedLemmas
 mod FrontLemmas

@@ -23,7 +23,7 @@ use indicatif_text::columns::{Drawn, Refusal};
 /// while let Some(item) = wrapped.next() { .. }
 /// let (_, bar) = wrapped.into_inner();
 /// ```
-#[derive(Drop)]
+#[derive(Drop, Debug)]
 pub struct ProgressBarIter<T, P> {
     pub(crate) it: T,
     /// The bar.
@@ -70,7 +70,7 @@ impl<T, P: Moves> ProgressBarIter<T, P> {
         ensures it { inner_of self.new ≡ inner_of self.old }
         ensures placed { Placed P.stands P.leads self.old n self.new }
     {
-        let place = self.seeks.update_seq(self.progress.position(), n);
-        self.last = Some(self.progress.place(place));
+        let answer = self.progress.place_after(&mut self.seeks, n);
+        self.last = Some(answer);
     }
 }
