@@ -168,7 +168,7 @@ fn a_clock_of_a_machine(rt: HostRuntime) {
 }
 
 /// Whether the clock goes on within so many readings.
-fn goes_on<R: time::Clock>(clock: &mut MachineClock<R>, readings: u32) -> bool {
+fn goes_on_within<R: time::Clock>(clock: &mut MachineClock<R>, readings: u32) -> bool {
     let opened = clock.now();
     for _ in 0..readings {
         if clock.now() > opened {
@@ -180,5 +180,5 @@ fn goes_on<R: time::Clock>(clock: &mut MachineClock<R>, readings: u32) -> bool {
 
 #[test]
 fn a_clock_of_this_machine(rt: HostRuntime) {
-    assert!(rt; goes_on(&mut MachineClock::new(rt), 1_000_000));
+    assert!(rt; goes_on_within(&mut MachineClock::new(rt), 1_000_000));
 }
