@@ -222,10 +222,20 @@ fn suspend(bar: &mut Lone, answer: u64) -> (u64, Result<Drawn, Refusal>) {
     bar.suspend(0, || answer)
 }
 
-/// The closure's answer is handed on.
+/// A bar of a character that is too wide for its one column.
+fn narrow(alloc: Global) -> Result<Box<Lone>, Refusal> {
+    let style = ProgressStyle::with_template(alloc, "国")?;
+    let bar = Box::new(alloc, BarState::styled(alloc, style, None, 0)?)?;
+    let target = ProgressDrawTarget::term_like(InMemoryTerm::new(alloc, 4, 1)?);
+    Ok(Box::new(alloc, LoneBar::new(Box::into_inner(bar), target))?)
+}
+
+/// The closure's answer is handed on, also where the draw behind it is refused.
 #[test]
 fn an_answer_of_a_closure(rt: HostRuntime) -> Result<(), Fail> {
     let mut bar = shown_at(rt.alloc(), 23)?;
     assert_eq!(rt; suspend(&mut bar, 7), (7, Ok(Drawn::Yes)));
+    let mut bar = narrow(rt.alloc())?;
+    assert_eq!(rt; suspend(&mut bar, 8), (8, Err(Refusal::TooWide)));
     Ok(())
 }

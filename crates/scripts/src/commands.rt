@@ -83,7 +83,8 @@ fn styled(alloc: Global, text: &str) -> Result<Command, Bad> {
 
 fn with_chars(alloc: Global, text: &str) -> Result<ProgressStyle<NoTracker>, Bad> {
     let (chars, template) = headed(text);
-    Ok(templated(alloc, template)?.progress_chars(chars)?)
+    let chars = unescaped(alloc, chars)?;
+    Ok(templated(alloc, template)?.progress_chars(chars.as_str())?)
 }
 
 fn templated(alloc: Global, template: &str) -> Result<ProgressStyle<NoTracker>, Bad> {

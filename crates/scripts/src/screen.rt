@@ -163,16 +163,14 @@ impl Screen {
         }
     }
 
-    /// Takes as many of these bytes as a call may.
-    fn take(&self, buf: &[u8]) -> io::Result<usize> {
-        let taken = buf.len().min(self.limits.get().takes);
-        let front = &buf[..taken];
-        self.feed(front)?;
-        self.keep(front)?;
+    /// Takes these bytes.
+    fn take(&self, bytes: &[u8]) -> io::Result<()> {
+        self.feed(bytes)?;
+        self.keep(bytes)?;
         let mut counts = self.counts.get();
-        counts.bytes = counts.bytes.saturating_add(taken as u64);
+        counts.bytes = counts.bytes.saturating_add(bytes.len() as u64);
         self.counts.set(counts);
-        Ok(taken)
+        Ok(())
     }
 }
 
@@ -189,7 +187,11 @@ impl Write for Wire {
         match self.0.halted() {
             Some(Halt::Nothing) => Ok(0),
             Some(Halt::Failure(kind)) => Err(Error::from(kind)),
-            None => self.0.take(buf),
+            None => {
+                let taken = buf.len().min(self.0.limits.get().takes);
+                self.0.take(&buf[..taken])?;
+                Ok(taken)
+            }
         }
     }
 

@@ -132,16 +132,24 @@ pub struct Escaped<'a>(pub &'a str);
 impl fmt::Display for Escaped<'_> {
     fn fmt<W: fmt::Write>(&self, f: &mut fmt::Formatter<W>) -> fmt::Result {
         for c in self.0.chars() {
-            match c {
-                '\n' => f.write_str("\\n")?,
-                '\t' => f.write_str("\\t")?,
-                '\r' => f.write_str("\\r")?,
-                '\0' => f.write_str("\\0")?,
-                '\u{1B}' => f.write_str("\\e")?,
-                '\\' => f.write_str("\\\\")?,
-                c => f.write_char(c)?,
+            match escape_of(c) {
+                Some(escape) => f.write_str(escape)?,
+                None => f.write_char(c)?,
             }
         }
         Ok(())
+    }
+}
+
+/// The escape of a character that has one.
+fn escape_of(c: char) -> Option<&'static str> {
+    match c {
+        '\n' => Some("\\n"),
+        '\t' => Some("\\t"),
+        '\r' => Some("\\r"),
+        '\0' => Some("\\0"),
+        '\u{1B}' => Some("\\e"),
+        '\\' => Some("\\\\"),
+        _ => None,
     }
 }
