@@ -1,0 +1,2 @@
+mod PassingLemmas
+mod PlainLemmas
