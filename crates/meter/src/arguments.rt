@@ -1,6 +1,6 @@
 //! What the arguments ask for.
-use clap::{Arg, ArgAction, ArgMatches, Command, Error, value_parser};
 use clap::error::ErrorKind as WordsErrorKind;
+use clap::{Arg, ArgAction, ArgMatches, Command, Error, value_parser};
 use meter_parts::{Row, bytes_said, nanos_said, row_said};
 use std::alloc::{AllocError, AllocFailed, Global};
 use std::env::{self, Env};
@@ -133,7 +133,11 @@ pub fn asked_by<'a>(alloc: Global, words: &'a [String]) -> Result<Asked<'a>, Una
     }
     Ok(Asked {
         files,
-        size: read(matches.get_str("size"), bytes_said, "a size is a number as 700, 10M, 10MB or 1GiB")?,
+        size: read(
+            matches.get_str("size"),
+            bytes_said,
+            "a size is a number as 700, 10M, 10MB or 1GiB",
+        )?,
         look: look_in(&matches)?,
         pace: timing_in(&matches)?,
     })
@@ -158,11 +162,19 @@ fn read<T: Drop>(
 fn look_in<'a>(matches: &ArgMatches<'a>) -> Result<Look<'a>, Unasked> {
     Ok(Look {
         manner: manner_in(matches),
-        unit: if matches.get_flag("lines") { Unit::Lines } else { Unit::Bytes },
+        unit: if matches.get_flag("lines") {
+            Unit::Lines
+        } else {
+            Unit::Bytes
+        },
         name: matches.get_str("name"),
         format: matches.get_str("format"),
         columns: matches.get_one::<u16>("columns"),
-        row: read(matches.get_str("row"), row_said, "a row is one of several, as 2/3")?,
+        row: read(
+            matches.get_str("row"),
+            row_said,
+            "a row is one of several, as 2/3",
+        )?,
     })
 }
 
@@ -181,14 +193,26 @@ fn manner_in(matches: &ArgMatches<'_>) -> Manner {
 
 /// When it is to be shown.
 fn timing_in(matches: &ArgMatches<'_>) -> Result<Timing, Unasked> {
-    let interval = read(matches.get_str("interval"), nanos_said, "an interval is a number of seconds as 2 or 0.5")?;
-    let limit = read(matches.get_str("rate-limit"), bytes_said, "a rate is a number of bytes a second as 700, 10M, 10MB or 1GiB")?;
+    let interval = read(
+        matches.get_str("interval"),
+        nanos_said,
+        "an interval is a number of seconds as 2 or 0.5",
+    )?;
+    let limit = read(
+        matches.get_str("rate-limit"),
+        bytes_said,
+        "a rate is a number of bytes a second as 700, 10M, 10MB or 1GiB",
+    )?;
     if limit == Some(0) {
         return Err(Unasked::Value("a rate of 0 lets nothing go"));
     }
     Ok(Timing {
         interval: interval.unwrap_or(INTERVAL),
-        begins: if matches.get_flag("wait") { Begins::WithFirstByte } else { Begins::AtOnce },
+        begins: if matches.get_flag("wait") {
+            Begins::WithFirstByte
+        } else {
+            Begins::AtOnce
+        },
         limit,
     })
 }
@@ -206,12 +230,18 @@ fn found<'a>(alloc: Global, words: &'a [String]) -> Result<ArgMatches<'a>, Error
 
 /// An option with a value.
 fn valued<'a>(alloc: Global, name: &'a str, short: char, value: &'a str) -> Arg<'a> {
-    Arg::new(alloc, name).long(name).short(short).value_name(value)
+    Arg::new(alloc, name)
+        .long(name)
+        .short(short)
+        .value_name(value)
 }
 
 /// An option without one.
 fn flag<'a>(alloc: Global, name: &'a str, short: char) -> Arg<'a> {
-    Arg::new(alloc, name).long(name).short(short).action(ArgAction::SetTrue)
+    Arg::new(alloc, name)
+        .long(name)
+        .short(short)
+        .action(ArgAction::SetTrue)
 }
 
 /// With the options of the inputs.
@@ -220,8 +250,9 @@ fn with_inputs<'a>(alloc: Global, command: Command<'a>) -> Result<Command<'a>, E
         .value_name("FILE")
         .num_args(0..)
         .help("What is handed on, in turn; - is standard input, and so is none");
-    let size = valued(alloc, "size", 's', "N")
-        .help("How many bytes will come: 700, 10M or 10MiB (1024 x 1024 each), 10MB (a million each)");
+    let size = valued(alloc, "size", 's', "N").help(
+        "How many bytes will come: 700, 10M or 10MiB (1024 x 1024 each), 10MB (a million each)",
+    );
     let limit = valued(alloc, "rate-limit", 'L', "N").help("At most so many bytes a second");
     Ok(command.arg(files)?.arg(size)?.arg(limit)?)
 }
@@ -230,23 +261,42 @@ fn with_inputs<'a>(alloc: Global, command: Command<'a>) -> Result<Command<'a>, E
 fn with_looks<'a>(alloc: Global, command: Command<'a>) -> Result<Command<'a>, Error> {
     let name = valued(alloc, "name", 'N', "TEXT").help("What stands before the numbers");
     let format = valued(alloc, "format", 'F', "TEMPLATE").help("A template of indicatif's");
-    let interval = valued(alloc, "interval", 'i', "SEC").help("The seconds from one drawing to the next (0.1)");
+    let interval = valued(alloc, "interval", 'i', "SEC").help(
+        "The seconds from one drawing to the next (0.1)",
+    );
     let columns = valued(alloc, "columns", 'w', "N")
         .value_parser(value_parser!(u16).range(1..))
         .help("The terminal's columns, where COLUMNS doesn't tell them");
-    let row = Arg::new(alloc, "row")
-        .long("row")
-        .value_name("K/N")
-        .help("Draws on the Kth of N rows, of which other meters of the pipeline have the others");
-    Ok(command.arg(name)?.arg(format)?.arg(interval)?.arg(columns)?.arg(row)?)
+    let row = Arg::new(alloc, "row").long("row").value_name("K/N").help(
+        "Draws on the Kth of N rows, of which other meters of the pipeline have the others",
+    );
+    Ok(
+        command
+            .arg(name)?
+            .arg(format)?
+            .arg(interval)?
+            .arg(columns)?
+            .arg(row)?,
+    )
 }
 
 /// With the options that have no value.
 fn with_flags<'a>(alloc: Global, command: Command<'a>) -> Result<Command<'a>, Error> {
     let lines = flag(alloc, "lines", 'l').help("Counts lines, not bytes");
-    let numeric = flag(alloc, "numeric", 'n').help("A number a line: percent, or without a size how much");
+    let numeric = flag(alloc, "numeric", 'n').help(
+        "A number a line: percent, or without a size how much",
+    );
     let quiet = flag(alloc, "quiet", 'q').help("Shows nothing");
     let wait = flag(alloc, "wait", 'W').help("The time begins with the first byte");
-    let force = flag(alloc, "force", 'f').help("Shows the bar also where standard error is no terminal");
-    Ok(command.arg(lines)?.arg(numeric)?.arg(quiet)?.arg(wait)?.arg(force)?)
+    let force = flag(alloc, "force", 'f').help(
+        "Shows the bar also where standard error is no terminal",
+    );
+    Ok(
+        command
+            .arg(lines)?
+            .arg(numeric)?
+            .arg(quiet)?
+            .arg(wait)?
+            .arg(force)?,
+    )
 }

@@ -9,8 +9,8 @@ use std::fs::File;
 use std::io::{Error, Stdin, Stdout};
 use std::rt::Files;
 use std::sync::Wait;
-use std::time::Duration;
 use std::thread::Threads;
+use std::time::Duration;
 use std::{thread, time};
 
 /// The bytes of the buffer: as many as `cat` has.
@@ -60,7 +60,8 @@ struct Watch<'a, R: Wait + time::Clock + Copy + Drop> {
     has_begun: bool,
 }
 
-impl<R: Eprint + Wait + Threads + time::Clock + Copy + Drop + Send + 'static> Gauge for Watch<'_, R> {
+impl<R: Eprint + Wait + Threads + time::Clock + Copy + Drop + Send + 'static> Gauge
+    for Watch<'_, R> {
     fn piece(&mut self, wanted: usize) -> usize {
         let Some(pace) = self.pace else {
             return wanted;
@@ -109,7 +110,9 @@ impl<R: Eprint + Wait + Threads + time::Clock + Copy + Drop + Send + 'static> Wa
 /// Hands all inputs on to standard output. The bar, and numbers, are told of each piece.
 ///
 /// Refused: `Memory`.
-pub fn copy_all<R: Files + AllocGlobal + Eprint + Wait + Threads + time::Clock + Copy + Drop + Send + 'static>(
+pub fn copy_all<
+    R: Files + AllocGlobal + Eprint + Wait + Threads + time::Clock + Copy + Drop + Send + 'static,
+>(
     rt: &R,
     streams: Streams,
     asked: &Asked<'_>,
@@ -147,7 +150,7 @@ pub fn copy_all<R: Files + AllocGlobal + Eprint + Wait + Threads + time::Clock +
             break;
         }
     }
-    if let Some(numbers) = &watch.numbers {
+    if let Some(numbers) = &mut watch.numbers {
         numbers.end(rt);
     }
     Ok(copied)
@@ -178,7 +181,10 @@ fn copy_named<R: Files + Eprint + Wait + Threads + time::Clock + Copy + Drop + S
     watch: &mut Watch<'_, R>,
     buffer: &mut [u8],
 ) -> Result<(), Broken> {
-    let Streams { mut input, mut output } = streams;
+    let Streams {
+        mut input,
+        mut output,
+    } = streams;
     if name == "-" {
         return pass_on(&mut input, &mut output, watch, buffer);
     }

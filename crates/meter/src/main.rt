@@ -22,7 +22,7 @@ mod shown;
 mod sizes;
 mod telling;
 
-use arguments::{Asked, Begins, Unasked};
+use arguments::{Asked, Begins, Unasked, Unit};
 use copying::{Copied, Streams, copy_all};
 use indicatif::Refusal;
 use meter_parts::plain_text;
@@ -51,12 +51,21 @@ fn main(rt: HostRuntime) -> ExitCode {
 }
 
 /// Does what these words ask.
-fn ended<R: Print + AllocGlobal + Env + Files + Eprint + Wait + Threads + Clock + Sync + Copy + Drop + Send + 'static>(
-    rt: &R,
-    streams: Streams,
-    errors: Stderr,
-    words: &[String],
-) -> ExitCode {
+fn ended<
+    R: Print
+        + AllocGlobal
+        + Env
+        + Files
+        + Eprint
+        + Wait
+        + Threads
+        + Clock
+        + Sync
+        + Copy
+        + Drop
+        + Send
+        + 'static,
+>(rt: &R, streams: Streams, errors: Stderr, words: &[String]) -> ExitCode {
     match arguments::asked_by(rt.alloc(), words) {
         Ok(asked) => match metered(rt, streams, errors, &asked) {
             Ok(copied) => answered(rt, &asked, &copied),
@@ -67,15 +76,24 @@ fn ended<R: Print + AllocGlobal + Env + Files + Eprint + Wait + Threads + Clock 
 }
 
 /// Hands everything on, shown as it is asked for.
-fn metered<R: AllocGlobal + Env + Files + Eprint + Wait + Threads + Clock + Sync + Copy + Drop + Send + 'static>(
-    rt: &R,
-    streams: Streams,
-    errors: Stderr,
-    asked: &Asked<'_>,
-) -> Result<Copied, Refusal> {
-    let size = match asked.size {
-        Some(size) => Some(size),
-        None => size_of_all(rt, &asked.files),
+fn metered<
+    R: AllocGlobal
+        + Env
+        + Files
+        + Eprint
+        + Wait
+        + Threads
+        + Clock
+        + Sync
+        + Copy
+        + Drop
+        + Send
+        + 'static,
+>(rt: &R, streams: Streams, errors: Stderr, asked: &Asked<'_>) -> Result<Copied, Refusal> {
+    let size = match (asked.size, asked.look.unit) {
+        (Some(size), _) => Some(size),
+        (None, Unit::Bytes) => size_of_all(rt, &asked.files),
+        (None, Unit::Lines) => None,
     };
     let bar = bar_for(rt, errors, asked, size)?;
     if bar.is_hidden() {
@@ -98,7 +116,9 @@ fn metered<R: AllocGlobal + Env + Files + Eprint + Wait + Threads + Clock + Sync
 }
 
 /// Hands everything on, and finishes the bar where it stands.
-fn copied_and_finished<R: AllocGlobal + Files + Eprint + Wait + Threads + Clock + Copy + Drop + Send + 'static>(
+fn copied_and_finished<
+    R: AllocGlobal + Files + Eprint + Wait + Threads + Clock + Copy + Drop + Send + 'static,
+>(
     rt: &R,
     streams: Streams,
     asked: &Asked<'_>,
@@ -142,7 +162,10 @@ fn answered<R: AllocGlobal + Eprint>(rt: &R, asked: &Asked<'_>, copied: &Copied)
     for fault in &copied.faults {
         let name = asked.files.get(fault.input).copied().unwrap_or("-");
         let error = fault.error;
-        match plain_text(rt.alloc(), if name == "-" { "standard input" } else { name }) {
+        match plain_text(
+            rt.alloc(),
+            if name == "-" { "standard input" } else { name },
+        ) {
             Ok(name) => {
                 let _ = eprintln!(rt; "meter: {name}: {error}");
             }

@@ -8,6 +8,7 @@ pub struct Numbers {
     interval: u64,
     done: u64,
     next: u64,
+    said: Option<u64>,
 }
 
 impl Numbers {
@@ -18,6 +19,7 @@ impl Numbers {
             interval,
             done: 0,
             next: interval,
+            said: None,
         }
     }
 
@@ -31,17 +33,25 @@ impl Numbers {
     }
 
     /// All went.
-    pub fn end(&self, rt: &impl Eprint) {
-        self.say(rt);
+    pub fn end(&mut self, rt: &impl Eprint) {
+        if self.said != Some(self.number()) {
+            self.say(rt);
+        }
     }
 
     /// Writes the number.
-    fn say(&self, rt: &impl Eprint) {
-        let number = match self.size {
+    fn say(&mut self, rt: &impl Eprint) {
+        let number = self.number();
+        self.said = Some(number);
+        let _ = eprintln!(rt; "{number}");
+    }
+
+    /// The percent, or how much went.
+    fn number(&self) -> u64 {
+        match self.size {
             Some(size) => percent(self.done, size),
             None => self.done,
-        };
-        let _ = eprintln!(rt; "{number}");
+        }
     }
 }
 

@@ -71,7 +71,11 @@ fn style_for(
     if let Some(format) = look.format {
         return ProgressStyle::with_template(alloc, format);
     }
-    let end = if columns < WIDE && look.row.is_none() { "\n" } else { " " };
+    let end = if columns < WIDE && look.row.is_none() {
+        "\n"
+    } else {
+        " "
+    };
     let room = if columns < WIDE { columns } else { columns / 4 };
     let mut text = String::new(alloc);
     if let Some(name) = look.name {

@@ -139,7 +139,11 @@ fn day_seconds<R: Clock>(rt: &R, zone: u64) -> u64 {
 
 /// How many seconds the system's time zone is ahead of UTC now, modulo a day; 0 where it isn't known.
 fn zone_seconds<R: AllocGlobal + Env + Files + Clock>(rt: &R) -> u64 {
-    zone_now(rt).unwrap_or(0).rem_euclid(86_400).unsigned_abs().into()
+    zone_now(rt)
+        .unwrap_or(0)
+        .rem_euclid(86_400)
+        .unsigned_abs()
+        .into()
 }
 
 /// The same in the zone's own sign, where it is known.

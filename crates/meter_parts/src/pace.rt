@@ -50,6 +50,9 @@ impl Pace {
         ensures { (self.new.rate ≡ self.old.rate) × (self.new.due ≡ due_after self.old.rate self.old.due count now) }
     {
         let nanos = (count as u64).saturating_mul(1_000_000_000) / self.rate;
-        self.due = self.due.max(now.saturating_sub(CREDIT)).saturating_add(nanos);
+        self.due = self
+            .due
+            .max(now.saturating_sub(CREDIT))
+            .saturating_add(nanos);
     }
 }
