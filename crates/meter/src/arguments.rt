@@ -16,7 +16,7 @@ pub struct Asked<'a> {
     /// How it is shown.
     pub look: Look<'a>,
     /// When it is shown.
-    pub pace: Timing,
+    pub timing: Timing,
 }
 
 /// How it is shown.
@@ -133,28 +133,21 @@ pub fn asked_by<'a>(alloc: Global, words: &'a [String]) -> Result<Asked<'a>, Una
     }
     Ok(Asked {
         files,
-        size: read(
-            matches.get_str("size"),
-            bytes_said,
+        size: wanted(
+            matches.get_str("size").map(bytes_said),
             "a size is a number as 700, 10M, 10MB or 1GiB",
         )?,
         look: look_in(&matches)?,
-        pace: timing_in(&matches)?,
+        timing: timing_in(&matches)?,
     })
 }
 
-/// What a text says, where there is one.
-fn read<T: Drop>(
-    text: Option<&str>,
-    said: fn(&str) -> Option<T>,
-    wanted: &'static str,
-) -> Result<Option<T>, Unasked> {
-    let Some(text) = text else {
-        return Ok(None);
-    };
-    match said(text) {
-        Some(value) => Ok(Some(value)),
-        None => Err(Unasked::Value(wanted)),
+/// What an option says, where it is given.
+fn wanted<T>(said: Option<Option<T>>, wanted: &'static str) -> Result<Option<T>, Unasked> {
+    match said {
+        Some(None) => Err(Unasked::Value(wanted)),
+        Some(Some(value)) => Ok(Some(value)),
+        None => Ok(None),
     }
 }
 
@@ -170,9 +163,8 @@ fn look_in<'a>(matches: &ArgMatches<'a>) -> Result<Look<'a>, Unasked> {
         name: matches.get_str("name"),
         format: matches.get_str("format"),
         columns: matches.get_one::<u16>("columns"),
-        row: read(
-            matches.get_str("row"),
-            row_said,
+        row: wanted(
+            matches.get_str("row").map(row_said),
             "a row is one of several, as 2/3",
         )?,
     })
@@ -193,14 +185,12 @@ fn manner_in(matches: &ArgMatches<'_>) -> Manner {
 
 /// When it is to be shown.
 fn timing_in(matches: &ArgMatches<'_>) -> Result<Timing, Unasked> {
-    let interval = read(
-        matches.get_str("interval"),
-        nanos_said,
+    let interval = wanted(
+        matches.get_str("interval").map(nanos_said),
         "an interval is a number of seconds as 2 or 0.5",
     )?;
-    let limit = read(
-        matches.get_str("rate-limit"),
-        bytes_said,
+    let limit = wanted(
+        matches.get_str("rate-limit").map(bytes_said),
         "a rate is a number of bytes a second as 700, 10M, 10MB or 1GiB",
     )?;
     if limit == Some(0) {

@@ -107,6 +107,32 @@ impl<R: Eprint + Wait + Threads + time::Clock + Copy + Drop + Send + 'static> Wa
     }
 }
 
+impl<
+    'a,
+    R: AllocGlobal + Eprint + Wait + Threads + time::Clock + Copy + Drop + Send + 'static,
+> Watch<'a, R> {
+    /// What these are told to, as it is asked.
+    fn new(rt: &'a R, bar: &'a Bar<R>, asked: &Asked<'_>, size: Option<u64>) -> Watch<'a, R> {
+        let timing = asked.timing;
+        Watch {
+            rt,
+            bar,
+            clock: MachineClock::new(*rt),
+            unit: asked.look.unit,
+            timing,
+            pace: match timing.limit {
+                Some(0) | None => None,
+                Some(rate) => Some(Pace::new(rate)),
+            },
+            numbers: match asked.look.manner {
+                Manner::Numbers => Some(Numbers::new(size, timing.interval)),
+                _ => None,
+            },
+            has_begun: false,
+        }
+    }
+}
+
 /// Hands all inputs on to standard output. The bar, and numbers, are told of each piece.
 ///
 /// Refused: `Memory`.
@@ -119,39 +145,35 @@ pub fn copy_all<
     size: Option<u64>,
     bar: &Bar<R>,
 ) -> Result<Copied, Refusal> {
-    let mut watch = Watch {
-        rt,
-        bar,
-        clock: MachineClock::new(*rt),
-        unit: asked.look.unit,
-        timing: asked.pace,
-        pace: match asked.pace.limit {
-            Some(0) | None => None,
-            Some(rate) => Some(Pace::new(rate)),
-        },
-        numbers: match asked.look.manner {
-            Manner::Numbers => Some(Numbers::new(size, asked.pace.interval)),
-            _ => None,
-        },
-        has_begun: false,
-    };
+    let mut watch = Watch::new(rt, bar, asked, size);
     let mut block = vec![in rt.alloc(); 0u8; FRONT + BUFFER]?;
+    let copied = copy_files(rt, streams, &asked.files, &mut watch, &mut block[FRONT..])?;
+    if let Some(numbers) = &mut watch.numbers {
+        numbers.end(rt);
+    }
+    Ok(copied)
+}
+
+/// Hands these files on, or standard input where there is none, until the output fails.
+fn copy_files<
+    R: Files + AllocGlobal + Eprint + Wait + Threads + time::Clock + Copy + Drop + Send + 'static,
+>(
+    rt: &R,
+    streams: Streams,
+    files: &[&str],
+    watch: &mut Watch<'_, R>,
+    buffer: &mut [u8],
+) -> Result<Copied, Refusal> {
     let mut copied = Copied {
         faults: Vec::new(rt.alloc()),
         output: None,
     };
-    if asked.files.is_empty() {
-        let broken = copy_named(rt, streams, "-", &mut watch, &mut block[FRONT..]);
-        copied.note(0, broken)?;
-    }
-    for (input, name) in asked.files.iter().enumerate() {
-        let broken = copy_named(rt, streams, name, &mut watch, &mut block[FRONT..]);
-        if copied.note(input, broken)? {
+    let files = if files.is_empty() { &["-"] } else { files };
+    for (input, name) in files.iter().enumerate() {
+        let came = copy_named(rt, streams, name, watch, buffer);
+        if copied.note(input, came)? {
             break;
         }
-    }
-    if let Some(numbers) = &mut watch.numbers {
-        numbers.end(rt);
     }
     Ok(copied)
 }

@@ -100,14 +100,14 @@ fn metered<
         return copy_all(rt, streams, asked, size, &bar);
     }
     make_room(rt, asked);
-    if asked.pace.begins == Begins::AtOnce {
-        bar.enable_steady_tick(asked.pace.interval)?;
+    if asked.timing.begins == Begins::AtOnce {
+        bar.enable_steady_tick(asked.timing.interval)?;
     }
     let tale = Tale {
         unit: asked.look.unit,
         size,
-        interval: asked.pace.interval,
-        begins: asked.pace.begins,
+        interval: asked.timing.interval,
+        begins: asked.timing.begins,
     };
     let copy = || copied_and_finished(rt, streams, asked, size, &bar);
     let (copied, ()) = join(rt, copy, || tell_until_finished(rt, &bar, tale));

@@ -38,64 +38,80 @@ pub fn tell_until_finished<R: AllocGlobal + Env + Files + Wait + Clock + Copy + 
     bar: &Bar<R>,
     tale: Tale,
 ) {
+    let teller = Teller {
+        rt,
+        bar,
+        tale,
+        zone: zone_seconds(rt),
+    };
     let mut clock = MachineClock::new(*rt);
-    let zone = zone_seconds(rt);
-    let mut recent = Recent::new(done_now(bar, &mut clock));
+    let mut recent = Recent::new(teller.done(clock.now()));
     for _ in rt.forever() {
-        if is_over(rt, bar, tale.interval) {
+        if teller.is_over() {
             break;
         }
-        let now = done_now(bar, &mut clock);
+        let now = teller.done(clock.now());
         recent.went_on(now);
-        if tale.begins == Begins::AtOnce || now.count > 0 {
-            let _ = tell(rt, bar, &tale, &recent, now, zone);
-        }
+        let _ = teller.tell(&recent, now);
     }
 }
 
-/// What is done now.
-fn done_now<R: Wait + Clock + Copy + Drop>(bar: &Bar<R>, clock: &mut MachineClock<R>) -> Done {
-    Done {
-        count: bar.position(),
-        moment: clock.now(),
-    }
-}
-
-/// Waits for an interval, at most until the bar is finished; whether it is.
-fn is_over<R: Wait + Clock + Copy + Drop>(rt: &R, bar: &Bar<R>, interval: u64) -> bool {
-    let mut left = interval;
-    for _ in 0..u64::MAX {
-        if bar.is_finished() {
-            return true;
-        }
-        if left == 0 {
-            break;
-        }
-        let step = left.min(SLICE);
-        thread::sleep(rt, Duration::from_nanos(step));
-        left -= step;
-    }
-    false
-}
-
-/// Tells the bar: its prefix is the rate, its message the time that is left and the time of day of the end.
-fn tell<R: AllocGlobal + Wait + Clock + Copy + Drop>(
-    rt: &R,
-    bar: &Bar<R>,
-    tale: &Tale,
-    recent: &Recent,
-    now: Done,
+/// What tells a bar.
+#[derive(Drop)]
+struct Teller<'a, R: Wait + Clock + Copy + Drop> {
+    rt: &'a R,
+    bar: &'a Bar<R>,
+    tale: Tale,
     zone: u64,
-) -> Result<(), Refusal> {
-    bar.set_prefix(rate_text(rt.alloc(), tale.unit, recent.rate(now))?.as_str())?;
-    let Some(size) = tale.size else {
-        return Ok(());
-    };
-    match recent.time_for(size.saturating_sub(now.count), now) {
-        Some(left) => bar.set_message(end_text(rt, left, zone)?.as_str())?,
-        None => bar.set_message("stalled")?,
-    };
-    Ok(())
+}
+
+impl<R: AllocGlobal + Wait + Clock + Copy + Drop> Teller<'_, R> {
+    /// What is done by now.
+    fn done(&self, now: u64) -> Done {
+        Done {
+            count: self.bar.position(),
+            moment: now,
+        }
+    }
+
+    /// Waits for an interval, at most until the bar is finished; whether it is.
+    fn is_over(&self) -> bool {
+        let mut left = self.tale.interval;
+        for _ in 0..u64::MAX {
+            if self.bar.is_finished() {
+                return true;
+            }
+            if left == 0 {
+                break;
+            }
+            let step = left.min(SLICE);
+            thread::sleep(self.rt, Duration::from_nanos(step));
+            left -= step;
+        }
+        false
+    }
+
+    /// Tells the bar: its prefix is the rate, its message the time that is left and the time of day of the end.
+    fn tell(&self, recent: &Recent, now: Done) -> Result<(), Refusal> {
+        if self.tale.begins == Begins::WithFirstByte && now.count == 0 {
+            return Ok(());
+        }
+        let rate = rate_text(self.rt.alloc(), self.tale.unit, recent.rate(now))?;
+        self.bar.set_prefix(rate.as_str())?;
+        let Some(size) = self.tale.size else {
+            return Ok(());
+        };
+        match recent.time_for(size.saturating_sub(now.count), now) {
+            Some(left) => {
+                let end = end_text(self.rt, left, self.zone)?;
+                self.bar.set_message(end.as_str())?;
+            }
+            None => {
+                self.bar.set_message("stalled")?;
+            }
+        }
+        Ok(())
+    }
 }
 
 /// A rate as text.

@@ -61,6 +61,7 @@ pub plain_bytes : {Z E : Type 0} (bs : List ℕ) → IsUtf8 bs → (r : Result (
 plain_bytes bs u (Ok made) is = ap chars is ∙ chars-encodes (plain_text (chars bs)) (scalars_plain (chars bs) (scalars-chars bs u))
 plain_bytes bs u (Err e) is = tt
 
-pub plain_made : {Z E : Type 0} (cs : List ℕ) (r : Result (String Z) E) → IfOk r (λ made. chars (string_bytes made) ≡ plain_text cs) → IfOk r (λ made. IsTrue (is_plain (chars (string_bytes made))))
+pub plain_made : {Z E : Type 0} (cs : List ℕ) (r : Result (String Z) E) → IfOk r (λ made. chars (string_bytes made) ≡ plain_text cs)
+    → IfOk r (λ made. IsTrue (is_plain (chars (string_bytes made))))
 plain_made cs (Ok made) is = plain_when cs (chars (string_bytes made)) is
 plain_made cs (Err e) is = tt

@@ -28,19 +28,22 @@ pub trait Gauge {
     fn rest(&mut self);
 }
 
-/// Hands all bytes of the input on to the output, unchanged and in their order, through a buffer that isn't empty. A call that is
-/// interrupted is made again, and so is one that would block, after a rest.
+/// Hands all bytes of the input on to the output, unchanged and in their order, through a buffer. A call that is interrupted is made
+/// again, and so is one that would block, after a rest.
 ///
-/// Broken off: where the input fails, after all that came went to the output; or where the output fails or takes no more.
+/// Broken off: where the input fails, after all that came went to the output; or where the output fails or takes no more. Through an
+/// empty buffer nothing is read, and the answer is `Input` with `InvalidInput`.
 pub fn pass_on<R: Read, W: Write, G: Gauge>(
     input: &mut R,
     output: &mut W,
     gauge: &mut G,
     buffer: &mut [u8],
 ) -> Result<(), Broken>
-    requires { 0 < length buffer.old }
     ensures { PassedAll (R.remaining input.old) (R.remaining input.new) (W.contents output.old) (W.contents output.new) result }
 {
+    if buffer.is_empty() {
+        return Err(Broken::Input(Error::from(ErrorKind::InvalidInput)));
+    }
     for _ in 0..u64::MAX {
         match pass_some(input, output, gauge, buffer) {
             Ok(true) => return Ok(()),
