@@ -1,5 +1,5 @@
 -- A terminal that tells its size and its faults alone.
-use Rattle.std.specs.Prelude.{◌≡◌, ℕ, ◌+◌, ◌%◌, ◌^◌, if◌then◌else◌, Result}
+use Rattle.std.specs.Prelude.{◌≡◌, ◌+◌, ◌%◌, ◌^◌, if◌then◌else◌, Result}
 use Rattle.std.specs.Result.{is_err}
 use Rattle.indicatif_term.specs.Calls.{Nothing, TermView}
 
