@@ -60,5 +60,5 @@ fn percent(done: u64, size: u64) -> u64 {
     if done >= size {
         return 100;
     }
-    (u128::from(done) * 100 / u128::from(size)) as u64
+    u64::try_from(u128::from(done) * 100 / u128::from(size)).unwrap_or(100)
 }
