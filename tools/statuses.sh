@@ -84,6 +84,8 @@ mkfifo gone
 head -c 1 < gone > /dev/null &
 out=gone
 wants 141 '' meter < <(yes)
+head -c 1 < gone > /dev/null &
+wants 141 '' bars run 2 30 < <(seq -f 'log %019.0f' 10000)
 out=/dev/full
 wants 3 'meter: standard output: No space left on device (os error 28)' meter <<< abc
 wants 2 'bars: output failed' bars demo
