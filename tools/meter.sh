@@ -1,19 +1,23 @@
 #!/usr/bin/env bash
-# Shows what `meter` looks like in tmux at 80 and at 20 columns, and how fast it is beside `cat`.
+# Shows what `meter` looks like in tmux at 80 and at 20 columns beside `pv`, and how fast it is beside `cat` and `pv`.
 #
-# usage: tools/meter.sh [look | race | shown]
-#   look    the bytes of a slow producer, on their way and at their end: in a pane of 80 columns, and in one of 20 with
-#           `--columns 20`
-#   race    4 GiB of zeros through `meter` and through `cat`, in turn, seven times each: the times in milliseconds, and the middle
+# usage: tools/meter.sh [look | rows | wrong | race | shown]
+#   look    the bytes of a slow producer that stops for two seconds, on their way, in the pause and at their end: in a pane of 80
+#           columns, and in one of 20 with `--columns 20`; then the same with `pv`
+#   rows    three meters in one pipeline, each on its row
+#   wrong   a pane of 200 columns and one of 40 where 80 are told, with a row above that is to stay
+#   race    4 GiB of zeros through `meter`, `pv` and `cat`, in turn, seven times each: the times in milliseconds, and the middle
 #           one of each. The bar is hidden: standard error is no terminal
-#   shown   the same race in a pane of 80 columns, where the bar of `meter` is shown, and what stands there at last
-# Without a word all three, one after another.
+#   shown   the same race in a pane of 80 columns, where the bars are shown, and what stands there at last
+# Without a word all of them, one after another.
 #
-# It wants `meter` as `(cd crates/meter && rt run < /dev/null)` builds it, and Debian's package tmux.
+# It wants `meter` as `(cd crates/meter && rt run < /dev/null)` builds it, or the program that $METER names, and Debian's packages tmux
+# and pv.
 set -u
-meter=$(cd "$(dirname "$0")/../crates/meter" && pwd)/out/meter || exit 2
+meter=${METER:-$(cd "$(dirname "$0")/../crates/meter" && pwd)/out/meter}
 [ -x "$meter" ] || { echo "no meter: (cd crates/meter && rt run < /dev/null)" >&2; exit 2; }
 command -v tmux > /dev/null || { echo "no tmux" >&2; exit 2; }
+command -v pv > /dev/null || { echo "no pv" >&2; exit 2; }
 folder=$(mktemp -d) || exit 2
 socket=$folder/tmux
 export LC_ALL=C.UTF-8
@@ -22,23 +26,51 @@ mux() { tmux -u -f "$folder/conf" -S "$socket" "$@"; }
 clean_up() { mux kill-server 2> /dev/null; rm -rf "$folder"; }
 trap clean_up EXIT
 
-# 1 MiB every fifth of a second, ten times
+# 1 MiB every fifth of a second, ten times, with a pause in the middle
 cat > "$folder/slow" << 'SLOW'
-for turn in 1 2 3 4 5 6 7 8 9 10; do head -c 1M /dev/zero; sleep 0.2; done
+for turn in 1 2 3 4 5 6 7 8 9 10; do head -c 1M /dev/zero; sleep 0.2; [ $turn = 6 ] && sleep 3; done
 SLOW
 
-# the pane of this many columns while the bar goes on, and at its end, with a prompt
+# what stands in the pane
+pane() {
+  echo "-- $1"
+  mux capture-pane -p -t look | sed '/^$/d'
+}
+
+# the pane of this many columns while a bar goes on, in the pause and at its end, with a prompt
 look() {
   local cols=$1
   shift
-  mux new-session -d -s look -x "$cols" -y 8 "PS1='\$ ' exec bash --norc --noprofile" || exit 2
-  mux send-keys -t look "clear; bash $folder/slow | $folder/meter $* > /dev/null" Enter
+  mux new-session -d -s look -x "$cols" -y 12 "PS1='\$ ' exec bash --norc --noprofile" || exit 2
+  mux send-keys -t look "clear; bash $folder/slow | $* > /dev/null" Enter
+  sleep 1.2
+  pane "at $cols columns, on its way: ${*##*/}"
+  sleep 2.4
+  pane "in the pause"
+  sleep 3
+  pane "at its end"
+  mux kill-session -t look
+}
+
+# three meters in one pipeline
+rows() {
+  mux new-session -d -s look -x 80 -y 12 "PS1='\$ ' exec bash --norc --noprofile" || exit 2
+  mux send-keys -t look "clear; bash $folder/slow | meter --row 1/3 -N in -s 10M | meter --row 2/3 -N mid -s 10M | meter --row 3/3 -N out > /dev/null" Enter
+  sleep 1.2
+  pane "three in a pipeline, on their way"
+  sleep 5.4
+  pane "at their end"
+  mux kill-session -t look
+}
+
+# a pane of this many columns where 80 are told
+wrong() {
+  mux new-session -d -s look -x "$1" -y 12 "PS1='\$ ' exec bash --norc --noprofile" || exit 2
+  mux send-keys -t look "clear; echo a row above; echo another; bash $folder/slow | meter -s 10M -N $(printf 'a-long-name-%.0s' 1 2 3 4 5 6 7 8) > /dev/null" Enter
   sleep 1.5
-  echo "at $cols columns, on its way:"
-  mux capture-pane -p -t look | sed '/^$/d'
-  sleep 2.5
-  echo "at its end:"
-  mux capture-pane -p -t look | sed '/^$/d'
+  pane "80 columns told, $1 there, on its way"
+  sleep 5
+  pane "at its end"
   mux kill-session -t look
 }
 
@@ -60,27 +92,41 @@ shown() {
 middle() { sort -n | sed -n 4p; }
 
 ln -s "$meter" "$folder/meter"
+export PATH=$folder:$PATH
 wanted=${1:-all}
 if [ "$wanted" = look ] || [ "$wanted" = all ]; then
-  look 80 --size 10M --name copy
-  look 20 --columns 20 --size 10M --name copy
+  look 80 meter --size 10M --name copy
+  look 20 meter --columns 20 --size 10M --name copy
+  look 80 pv --size 10M --name copy
+  look 20 pv --size 10M --name copy
+fi
+if [ "$wanted" = rows ] || [ "$wanted" = all ]; then
+  rows
+fi
+if [ "$wanted" = wrong ] || [ "$wanted" = all ]; then
+  wrong 200
+  wrong 40
 fi
 if [ "$wanted" = race ] || [ "$wanted" = all ]; then
   for turn in 1 2 3 4 5 6 7; do
     race "$meter" >> "$folder/meters"
+    race pv >> "$folder/pvs"
     race cat >> "$folder/cats"
   done
   echo "meter, its bar hidden: $(paste -sd ' ' "$folder/meters"), the middle one $(middle < "$folder/meters") ms"
+  echo "pv: $(paste -sd ' ' "$folder/pvs"), the middle one $(middle < "$folder/pvs") ms"
   echo "cat: $(paste -sd ' ' "$folder/cats"), the middle one $(middle < "$folder/cats") ms"
 fi
 if [ "$wanted" = shown ] || [ "$wanted" = all ]; then
   for turn in 1 2 3 4 5 6 7; do
     shown "$folder/meter --size 4GiB" >> "$folder/shown_meters"
     cp "$folder/pane" "$folder/last"
+    shown "pv --size 4G" >> "$folder/shown_pvs"
     shown cat >> "$folder/shown_cats"
   done
   echo "meter in a pane: $(paste -sd ' ' "$folder/shown_meters"), the middle one $(middle < "$folder/shown_meters") ms"
   cat "$folder/last"
+  echo "pv there: $(paste -sd ' ' "$folder/shown_pvs"), the middle one $(middle < "$folder/shown_pvs") ms"
   echo "cat there: $(paste -sd ' ' "$folder/shown_cats"), the middle one $(middle < "$folder/shown_cats") ms"
 fi
 uptime

@@ -69,11 +69,11 @@ wants 0 '' meter < /dev/null
 wants 2 'meter: a size is a number as 700, 10M, 10MB or 1GiB' meter --size 10X
 wants 2 "error: unexpected argument '--bytes' found
 
-Usage: meter [OPTIONS]
+Usage: meter [OPTIONS] [FILE]...
 
 For more information, try '--help'." meter --bytes
 wants 2 "meter: the arguments can't be read" meter --name $'\xff'
-wants 1 'meter: standard input: is a directory' meter < .
+wants 1 'meter: standard input: Is a directory (os error 21)' meter < .
 out=handed
 head -c 1000000 /dev/urandom > bytes
 wants 0 '' meter --size 1M --name copy < bytes
@@ -83,8 +83,10 @@ mkfifo gone
 head -c 1 < gone > /dev/null &
 out=gone
 wants 141 '' meter < <(yes)
+head -c 1 < gone > /dev/null &
+wants 141 '' bars run 2 30 < <(seq -f 'log %019.0f' 10000)
 out=/dev/full
-wants 3 'meter: standard output: no storage space' meter <<< abc
+wants 3 'meter: standard output: No space left on device (os error 28)' meter <<< abc
 wants 2 'bars: output failed' bars demo
 wants 2 'bars: output failed' bars run 2 10 <<< $'add x\ntick 1'
 echo "$passed as wanted, $failed otherwise"

@@ -2,21 +2,28 @@
 //!
 //! The exit status is 0; 1 after a refusal, which is printed to standard error by its number, with the line of the command where
 //! there is one; and 2 after wrong arguments, for which the usage is printed there, after a line that is no command, and where standard
-//! input or output fails. `bars_run` says more.
+//! input or output fails; and 141, without a word, where the reader of standard output went away, which is what shells say of `cat`
+//! there. `bars_run` says more.
 //!
 //! - `arguments`: the words of the command line.
 //! - `demo`: what the demo shows.
+//! - `heard`: a writer that hears whether its reader went away.
 #![tactic(auto)]
 
 mod arguments;
 mod demo;
+mod heard;
 
 use arguments::words;
 use bars_run::fault::Fault;
 use bars_run::run_bars;
+use heard::Heard;
 use indicatif::Refusal;
-use std::io::BufWriter;
+use std::io::{BufWriter, ErrorKind, Write};
 use std::process::ExitCode;
+
+/// The status where nobody reads what is printed any more.
+const GONE: u8 = 141;
 
 fn main(rt: HostRuntime) -> ExitCode {
     let status = match words(&rt) {
@@ -40,6 +47,7 @@ fn print_demo(rt: HostRuntime, shown: Result<(String, u64), Refusal>) -> u8 {
     match shown {
         Ok((contents, ticks)) => match println!(rt; "{contents}\nticks {ticks}") {
             Ok(()) => 0,
+            Err(e) if e.kind() == ErrorKind::BrokenPipe => GONE,
             Err(_) => say(rt, Fault::Output),
         },
         Err(refusal) => say(rt, Fault::Refused(refusal)),
@@ -48,10 +56,17 @@ fn print_demo(rt: HostRuntime, shown: Result<(String, u64), Refusal>) -> u8 {
 
 /// Does what other words ask for, and answers the status.
 fn run(rt: HostRuntime, words: &[String]) -> u8 {
-    match BufWriter::new(rt.alloc(), rt.stdout()) {
-        Ok(mut out) => run_bars(rt.alloc(), words, rt.stdin(), &mut out, &mut rt.stderr()),
-        Err(_) => say(rt, Fault::Refused(Refusal::Memory)),
+    let Ok(buffered) = BufWriter::new(rt.alloc(), rt.stdout()) else {
+        return say(rt, Fault::Refused(Refusal::Memory));
+    };
+    let mut out = Heard::new(buffered);
+    let mut said = Vec::new(rt.alloc());
+    let status = run_bars(rt.alloc(), words, rt.stdin(), &mut out, &mut said);
+    if out.is_gone() {
+        return GONE;
     }
+    let _ = rt.stderr().write_all(said.as_slice());
+    status
 }
 
 /// Says what was wrong, and answers the status that it has.

@@ -1,104 +1,212 @@
-//! A pipe viewer: `producer | meter [--size N] [--name TEXT] | consumer` hands standard input on to standard output unchanged, and
-//! shows on standard error how many bytes went, for how long and how fast; with the size that is to come also how far they are
-//! and how long the rest will take. It draws as bytes come, 20 times a second at most, and not at all where standard error is no
-//! terminal.
+//! A pipe viewer: `producer | meter | consumer`, or `meter FILE .. > device`, hands its inputs on to standard output unchanged, and
+//! shows on standard error how much went, for how long, how fast in the last seconds and on the whole; with a size, which a file
+//! tells by itself, also how far it is, how long the rest will take and at what time of day it will be over. It draws ten times a
+//! second, also while nothing comes, and not at all where standard error is no terminal. docs/METER.md has its options beside those
+//! of `pv`.
 //!
-//! The exit status is 0 where all bytes went; 1 where the input failed, 3 where the output did, and 4 where memory was refused,
-//! each with a message; 2 after wrong arguments; and 141, without a word, where the consumer went away, which is what shells
-//! say of `cat` there.
+//! The exit status is 0 where all bytes went; 1 where an input failed, 3 where the output did, and 4 where memory was refused, each
+//! with a message; 2 after wrong arguments; and 141, without a word, where the consumer went away, which is what shells say of `cat`
+//! there.
 //!
-//! - `arguments`: what is asked for. `size`: sizes as texts.
-//! - `passing`: bytes handed on.
-//! - `shown`: how the bytes are shown.
+//! - `arguments`: what is asked for. `sizes`: how much will come.
+//! - `copying`: inputs handed on. `numbers`: numbers for other programs.
+//! - `shown`: the bar. `telling`: what it is told beside the count.
+//!
+//! What is proved apart stands in crate `meter_parts`.
 #![tactic(auto)]
 
-ghost use Rattle.std.specs.Prelude.{◌<◌, length};
-
 mod arguments;
-mod passing;
+mod copying;
+mod numbers;
 mod shown;
-mod size;
+mod sizes;
+mod telling;
 
-use arguments::{Asked, Unasked};
-use indicatif::{Moves, Refusal};
-use passing::{Broken, pass_on};
-use shown::{Metered, metered};
-use std::io::{ErrorKind, Write};
+use arguments::{Asked, Begins, Unasked, Unit};
+use copying::{Copied, Streams, copy_all};
+use indicatif::Refusal;
+use meter_parts::plain_text;
+use shown::{Bar, bar_for};
+use sizes::size_of_all;
+use std::env::Env;
+use std::io::{ErrorKind, Stderr};
 use std::process::ExitCode;
-
-/// The bytes of the buffer: as many as `cat` has.
-const BUFFER: usize = 131_072;
-
-/// The bytes in front of the buffer. The C library of Linux gives a block of this size from byte 16 of a page on, so that the
-/// buffer begins with a page, from and to which the system copies fastest.
-const FRONT: usize = 4_080;
+use std::rt::Files;
+use std::sync::Wait;
+use std::thread::{Threads, join};
+use std::time::Clock;
+use telling::{Tale, tell_end, tell_until_finished};
 
 fn main(rt: HostRuntime) -> ExitCode {
-    match arguments::what_is_asked(&rt) {
-        Ok(asked) => answered(&rt, meter(&rt, &asked)),
+    match arguments::words_of(&rt) {
+        Ok(words) => {
+            let streams = Streams {
+                input: rt.stdin(),
+                output: rt.stdout(),
+            };
+            ended(&rt, streams, rt.stderr(), &words)
+        }
         Err(unasked) => unanswered(&rt, &unasked),
     }
 }
 
-/// Hands everything on, shown as it is asked for.
-fn meter(rt: &HostRuntime, asked: &Asked) -> Result<Result<(), Broken>, Refusal> {
-    let mut input = metered(rt, asked)?;
-    let mut block = vec![in rt.alloc(); 0u8; FRONT + BUFFER]?;
-    Ok(shown_passing(&mut input, &mut rt.stdout(), &mut block[FRONT..]))
+/// Does what these words ask.
+fn ended<
+    R: Print
+        + AllocGlobal
+        + Env
+        + Files
+        + Eprint
+        + Wait
+        + Threads
+        + Clock
+        + Sync
+        + Copy
+        + Drop
+        + Send
+        + 'static,
+>(rt: &R, streams: Streams, errors: Stderr, words: &[String]) -> ExitCode {
+    match arguments::asked_by(rt.alloc(), words) {
+        Ok(asked) => match metered(rt, streams, errors, &asked) {
+            Ok(copied) => answered(rt, &asked, &copied),
+            Err(refusal) => refused(rt, &refusal),
+        },
+        Err(unasked) => unanswered(rt, &unasked),
+    }
 }
 
-/// Hands everything on, with the bar shown before the first byte and after the last. What a drawing answers holds nothing up.
-fn shown_passing<W: Write>(
-    input: &mut Metered,
-    output: &mut W,
-    buffer: &mut [u8],
-) -> Result<(), Broken>
-    requires { 0 < length buffer.old }
-{
-    let _ = input.progress.place(0);
-    let passed = pass_on(input, output, buffer);
-    let _ = input.progress.finish();
-    passed
+/// Hands everything on, shown as it is asked for.
+fn metered<
+    R: AllocGlobal
+        + Env
+        + Files
+        + Eprint
+        + Wait
+        + Threads
+        + Clock
+        + Sync
+        + Copy
+        + Drop
+        + Send
+        + 'static,
+>(rt: &R, streams: Streams, errors: Stderr, asked: &Asked<'_>) -> Result<Copied, Refusal> {
+    let size = match (asked.size, asked.look.unit) {
+        (Some(size), _) => Some(size),
+        (None, Unit::Bytes) => size_of_all(rt, &asked.files),
+        (None, Unit::Lines) => None,
+    };
+    let bar = bar_for(rt, errors, asked, size)?;
+    if bar.is_hidden() {
+        return copy_all(rt, streams, asked, size, &bar);
+    }
+    make_room(rt, asked);
+    if asked.timing.begins == Begins::AtOnce {
+        bar.enable_steady_tick(asked.timing.interval)?;
+    }
+    let tale = Tale {
+        unit: asked.look.unit,
+        size,
+        interval: asked.timing.interval,
+        begins: asked.timing.begins,
+    };
+    let copy = || copied_and_finished(rt, streams, asked, size, &bar);
+    let (copied, ()) = join(rt, copy, || tell_until_finished(rt, &bar, tale));
+    last_look(rt, asked, &bar);
+    copied
+}
+
+/// Hands everything on, and finishes the bar where it stands.
+fn copied_and_finished<
+    R: AllocGlobal + Files + Eprint + Wait + Threads + Clock + Copy + Drop + Send + 'static,
+>(
+    rt: &R,
+    streams: Streams,
+    asked: &Asked<'_>,
+    size: Option<u64>,
+    bar: &Bar<R>,
+) -> Result<Copied, Refusal> {
+    let copied = copy_all(rt, streams, asked, size, bar);
+    let _ = bar.abandon();
+    copied
+}
+
+/// Rows for all meters that draw beside one another, below the cursor.
+fn make_room(rt: &impl Eprint, asked: &Asked<'_>) {
+    let Some(row) = asked.look.row else {
+        return;
+    };
+    for _ in 0..row.count() {
+        let _ = eprint!(rt; "\r\n");
+    }
+    let _ = eprint!(rt; "\u{1b}[{}A", row.count());
+}
+
+/// The bar as it stands at the end, and the cursor on a row of its own below it.
+fn last_look<R: AllocGlobal + Env + Files + Eprint + Wait + Clock + Copy + Drop>(
+    rt: &R,
+    asked: &Asked<'_>,
+    bar: &Bar<R>,
+) {
+    let _ = bar.disable_steady_tick();
+    let _ = tell_end(rt, bar);
+    let _ = bar.force_draw();
+    let _ = match asked.look.row {
+        None => eprint!(rt; "\r\n"),
+        Some(row) if row.is_last() => eprint!(rt; "\u{1b}[{}B", row.count()),
+        Some(_) => Ok(()),
+    };
 }
 
 /// The status, and what is to be said of it.
-fn answered(rt: &HostRuntime, passed: Result<Result<(), Broken>, Refusal>) -> ExitCode {
-    match passed {
-        Ok(Ok(())) => ExitCode::SUCCESS,
-        Ok(Err(Broken::Output(ErrorKind::BrokenPipe))) => ExitCode::from(141),
-        Ok(Err(Broken::Output(kind))) => {
-            let _ = eprintln!(rt; "meter: standard output: {kind}");
+fn answered<R: AllocGlobal + Eprint>(rt: &R, asked: &Asked<'_>, copied: &Copied) -> ExitCode {
+    for fault in &copied.faults {
+        let name = asked.files.get(fault.input).copied().unwrap_or("-");
+        let error = fault.error;
+        match plain_text(
+            rt.alloc(),
+            if name == "-" { "standard input" } else { name },
+        ) {
+            Ok(name) => {
+                let _ = eprintln!(rt; "meter: {name}: {error}");
+            }
+            Err(_) => return refused(rt, &Refusal::Memory),
+        }
+    }
+    match copied.output {
+        Some(error) if error.kind() == ErrorKind::BrokenPipe => ExitCode::from(141),
+        Some(error) => {
+            let _ = eprintln!(rt; "meter: standard output: {error}");
             ExitCode::from(3)
         }
-        Ok(Err(Broken::Input(kind))) => {
-            let _ = eprintln!(rt; "meter: standard input: {kind}");
-            ExitCode::from(1)
-        }
-        Err(refusal) => {
-            let _ = eprintln!(rt; "meter: {refusal}");
-            ExitCode::from(4)
-        }
+        None if copied.faults.is_empty() => ExitCode::SUCCESS,
+        None => ExitCode::from(1),
+    }
+}
+
+/// The status where a bar was refused, and what is to be said of it: but for want of memory it was the template.
+fn refused(rt: &impl Eprint, refusal: &Refusal) -> ExitCode {
+    let _ = eprintln!(rt; "meter: {refusal}");
+    match refusal {
+        Refusal::Memory => ExitCode::from(4),
+        _ => ExitCode::from(2),
     }
 }
 
 /// The status where nothing was to be handed on, and what is to be said of it.
-fn unanswered(rt: &HostRuntime, unasked: &Unasked) -> ExitCode {
+fn unanswered<R: Print + Eprint>(rt: &R, unasked: &Unasked) -> ExitCode {
     match unasked {
         Unasked::Words(error) => {
             let _ = error.print(rt);
             ExitCode::from(if error.use_stderr() { 2 } else { 0 })
         }
-        Unasked::NoSize => {
-            let _ = eprintln!(rt; "meter: a size is a number as 700, 10M, 10MB or 1GiB");
+        Unasked::Value(wanted) => {
+            let _ = eprintln!(rt; "meter: {wanted}");
             ExitCode::from(2)
         }
         Unasked::NoText => {
             let _ = eprintln!(rt; "meter: the arguments can't be read");
             ExitCode::from(2)
         }
-        Unasked::Memory => {
-            let _ = eprintln!(rt; "meter: out of memory");
-            ExitCode::from(4)
-        }
+        Unasked::Memory => refused(rt, &Refusal::Memory),
     }
 }

@@ -1,6 +1,6 @@
 use Rattle.std.proofs.Common.{◌<◌, [], length}
-use Rattle.meter.specs.Passing.{Passes}
-use Rattle.meter.proofs.passing.pass_on.Given as goal
+use Rattle.meter_parts.specs.Passing.{Passes}
+use Rattle.meter_parts.proofs.passing.pass_on.Given as goal
 
 abbrev pub invariant-loop : goal.invariant-loop
 invariant-loop g l =

@@ -1,8 +1,8 @@
 -- Bytes handed on from a reader to a writer, where theirs are known.
 use Rattle.std.specs.Prelude.{ℕ, List, [], ◌++◌, Option, Result, Ok, Err}
 use Rattle.std.specs.Io.KnownBytes.{Consumes, Appends, IsAtEnd}
-use Rattle.meter.specs.declared.passing.Broken.{Broken}
-use Rattle.meter.specs.declared.passing.Broken.TheVariants.{Input, Output}
+use Rattle.meter_parts.specs.declared.passing.Broken.{Broken}
+use Rattle.meter_parts.specs.declared.passing.Broken.TheVariants.{Input, Output}
 
 -- what came from the reader went to the writer, each byte once and in order, but for the last of them, which wait
 pub record Passes (left left_now held held_now : Option (List ℕ)) (waiting : List ℕ) : Type 0 where
@@ -13,8 +13,8 @@ pub record Passes (left left_now held held_now : Option (List ℕ)) (waiting : L
 module _ (left left_now held held_now : Option (List ℕ)) where
   -- all that came went, unless the writer failed
   abbrev pub PassedOr : Broken → Type 0
-  PassedOr (Input kind) = Passes left left_now held held_now []
-  PassedOr (Output kind) = (waiting : List ℕ) × Passes left left_now held held_now waiting
+  PassedOr (Input error) = Passes left left_now held held_now []
+  PassedOr (Output error) = (waiting : List ℕ) × Passes left left_now held held_now waiting
 
   -- all that the reader had went
   abbrev pub PassedAll : Result Unit Broken → Type 0

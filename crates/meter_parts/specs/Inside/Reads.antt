@@ -1,8 +1,8 @@
 -- What one read gives, handed on.
 use Rattle.std.specs.Prelude.{ℕ, List, [], Option, Result, Ok, Err, Bool, true, false}
 use Rattle.std.specs.Io.KnownBytes.{IsAtEnd}
-use Rattle.meter.specs.declared.passing.Broken.{Broken}
-use Rattle.meter.specs.Passing.{Passes, PassedOr}
+use Rattle.meter_parts.specs.declared.passing.Broken.{Broken}
+use Rattle.meter_parts.specs.Passing.{Passes, PassedOr}
 
 module _ (left left_now held held_now : Option (List ℕ)) where
   -- what one read gave went, and whether it was the last

@@ -1,6 +1,6 @@
 use Rattle.std.proofs.Common.{◌≡◌, Ok, Err, true, false, arith}
-use Rattle.meter.proofs.PassingLemmas.{passed_last, passed_more, passed_or}
-use Rattle.meter.proofs.passing.pass_on.Goals as goal
+use Rattle.meter_parts.proofs.PassingLemmas.{passed_last, passed_more, passed_or}
+use Rattle.meter_parts.proofs.passing.pass_on.Goals as goal
 
 pub returns-in-Ok-true : goal.returns-in-Ok-true
 returns-in-Ok-true g c =

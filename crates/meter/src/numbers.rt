@@ -1,0 +1,64 @@
+//! Numbers for other programs, one a line.
+
+/// What is said on standard error: the percent that went where the size is known, else how much went, each interval while bytes go
+/// and once at the end.
+#[derive(Drop)]
+pub struct Numbers {
+    size: Option<u64>,
+    interval: u64,
+    done: u64,
+    next: u64,
+    said: Option<u64>,
+}
+
+impl Numbers {
+    /// Nothing went yet.
+    pub fn new(size: Option<u64>, interval: u64) -> Numbers {
+        Numbers {
+            size,
+            interval,
+            done: 0,
+            next: interval,
+            said: None,
+        }
+    }
+
+    /// So many more went by this moment.
+    pub fn went(&mut self, rt: &impl Eprint, now: u64, count: u64) {
+        self.done = self.done.saturating_add(count);
+        if now >= self.next {
+            self.next = now.saturating_add(self.interval);
+            self.say(rt);
+        }
+    }
+
+    /// All went.
+    pub fn end(&mut self, rt: &impl Eprint) {
+        if self.said != Some(self.number()) {
+            self.say(rt);
+        }
+    }
+
+    /// Writes the number.
+    fn say(&mut self, rt: &impl Eprint) {
+        let number = self.number();
+        self.said = Some(number);
+        let _ = eprintln!(rt; "{number}");
+    }
+
+    /// The percent, or how much went.
+    fn number(&self) -> u64 {
+        match self.size {
+            Some(size) => percent(self.done, size),
+            None => self.done,
+        }
+    }
+}
+
+/// How many hundredths of a size are done, at most 100; 100 of none.
+fn percent(done: u64, size: u64) -> u64 {
+    if done >= size {
+        return 100;
+    }
+    u64::try_from(u128::from(done) * 100 / u128::from(size)).unwrap_or(100)
+}

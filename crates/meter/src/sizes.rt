@@ -1,0 +1,31 @@
+//! How much will come.
+use std::fs::{self, File};
+use std::io::{Seek, SeekFrom};
+use std::os::unix::fs::FileTypeExt;
+use std::rt::Files;
+
+/// How many bytes these inputs have together, standard input where there is none; `None` where one doesn't tell. A file tells where it
+/// isn't empty, as those of /proc are, and a block device.
+pub fn size_of_all<R: Files>(rt: &R, files: &[&str]) -> Option<u64> {
+    if files.is_empty() {
+        return size_of(rt, "-");
+    }
+    let mut sum: u64 = 0;
+    for name in files {
+        sum = sum.checked_add(size_of(rt, name)?)?;
+    }
+    Some(sum)
+}
+
+/// How many bytes the file of this name has.
+fn size_of<R: Files>(rt: &R, name: &str) -> Option<u64> {
+    let path = if name == "-" { "/dev/stdin" } else { name };
+    let told = fs::metadata(rt, path).ok()?;
+    if told.file_type().is_block_device() {
+        return File::open(rt, path).ok()?.seek(SeekFrom::End(0)).ok();
+    }
+    if told.is_file() && told.len() > 0 {
+        return Some(told.len());
+    }
+    None
+}

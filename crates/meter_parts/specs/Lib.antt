@@ -1,0 +1,6 @@
+pub mod Inside
+pub mod Pace
+pub mod Passing
+pub mod Plain
+pub mod Recent
+pub mod Screen

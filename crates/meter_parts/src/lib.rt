@@ -1,0 +1,23 @@
+//! What the pipe viewer `meter` is made of, apart from its options and its bar.
+//!
+//! - `passing`: bytes handed on from a reader to a writer (`pass_on`, `Gauge`).
+//! - `plain`: a text that a terminal can't take for a command (`plain_text`).
+//! - `screen`: a terminal of which it isn't sure how wide it is (`Screen`).
+//! - `recent`: how fast it went lately (`Recent`).
+//! - `pace`: how fast bytes may go (`Pace`).
+//! - `said`: numbers that options say, and texts that are shown.
+#![tactic(auto)]
+
+mod pace;
+mod passing;
+mod plain;
+mod recent;
+mod said;
+mod screen;
+
+pub use pace::Pace;
+pub use passing::{Broken, Gauge, pass_on};
+pub use plain::{cut, plain_text};
+pub use recent::{Done, Recent};
+pub use said::{TimeOfDay, bytes_said, lines_in, nanos_said, row_said};
+pub use screen::{Row, Screen};

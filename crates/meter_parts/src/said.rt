@@ -1,0 +1,77 @@
+//! Numbers that options say, and texts that are shown.
+ghost use Rattle.std.specs.Prelude.{◌<◌, IfSome};
+
+use crate::screen::Row;
+use std::fmt::{self, Display, Formatter};
+use std::time::Duration;
+
+/// The number of bytes that a text says: digits, and behind them a letter of `KMGTPE` for a power of 1024, as `10M` and `10MiB`,
+/// or of 1000 with `B`, as `10MB`. So it is with `head -c` and `dd`. None where it is no such text, or 2^64 and more.
+pub fn bytes_said(text: &str) -> Option<u64> {
+    let unit = text.trim_start_matches(|c: char| c.is_ascii_digit());
+    let number: u64 = text.strip_suffix(unit)?.parse().ok()?;
+    number.checked_mul(bytes_of_unit(unit)?)
+}
+
+/// How many bytes a unit has.
+fn bytes_of_unit(unit: &str) -> Option<u64> {
+    let mut rest = unit.chars();
+    let Some(letter) = rest.next() else {
+        return Some(1);
+    };
+    let power = power_of(letter)?;
+    match rest.as_str() {
+        "" | "iB" => 1024u64.checked_pow(power),
+        "B" => 1000u64.checked_pow(power),
+        _ => None,
+    }
+}
+
+/// The power that a letter stands for.
+fn power_of(letter: char) -> Option<u32> {
+    match letter {
+        'K' | 'k' => Some(1),
+        'M' | 'm' => Some(2),
+        'G' | 'g' => Some(3),
+        'T' | 't' => Some(4),
+        'P' | 'p' => Some(5),
+        'E' | 'e' => Some(6),
+        _ => None,
+    }
+}
+
+/// The nanoseconds that a number of seconds says, as `2` or `0.5`: at least one, and below 2^64. None where it says no such number.
+pub fn nanos_said(text: &str) -> Option<u64>
+    ensures { IfSome result (λ nanos. 0 < nanos) }
+{
+    let seconds = text.parse::<f64>().ok()?;
+    let said = Duration::try_from_secs_f64(seconds).ok()?;
+    match u64::try_from(said.as_nanos()) {
+        Ok(0) | Err(_) => None,
+        Ok(nanos) => Some(nanos),
+    }
+}
+
+/// The row that a text says: `2/3` is the second of three.
+pub fn row_said(text: &str) -> Option<Row> {
+    let (number, of) = text.split_once('/')?;
+    Row::new(number.parse().ok()?, of.parse().ok()?)
+}
+
+/// How many lines end in these bytes.
+pub fn lines_in(bytes: &[u8]) -> u64 {
+    bytes.iter().filter(|byte| **byte == b'\n').count() as u64
+}
+
+/// A time of day, from its seconds: `14:05:09`. The options of a hole, as a width, are ignored.
+#[derive(Clone, Copy, Debug, Drop, PartialEq, Eq)]
+pub struct TimeOfDay(pub u64);
+
+impl Display for TimeOfDay {
+    fn fmt<W: fmt::Write>(&self, f: &mut Formatter<W>) -> fmt::Result {
+        let seconds = self.0 % 60;
+        let minutes = self.0 / 60 % 60;
+        let hours = self.0 / 3600 % 24;
+        write!(f, "{hours:02}:{minutes:02}:{seconds:02}")
+    }
+}
