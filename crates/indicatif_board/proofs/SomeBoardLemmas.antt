@@ -17,7 +17,7 @@ use Rattle.indicatif_board.specs.declared.multi.Board.{Board}
 
 module _ {K : Type 0} where
   -- members with the numbers and lines at their places
-  members_from : List (MemberValue K) → List Segment → List (Member (BarRecord K))
+  abbrev members_from : List (MemberValue K) → List Segment → List (Member (BarRecord K))
   members_from [] segments = []
   members_from (m ∷ ms) [] = []
   members_from (m ∷ ms) (s ∷ segments) = record { number = s.bar; bar = m.bar; stored = (bar_lines s).lines; dropped = m.dropped } ∷ members_from ms segments
@@ -42,6 +42,7 @@ pub some_board : {K T : Type 0} (b : Board K T) → (s : BoardState (BarRecord K
 unfolding IsIn
 some_board b =
     let shown = b.shown in
+    let even : length shown.members.items ≡ length shown.frame.items = omega (arith, shown.members.ok, shown.frame.ok, shown.even) in
     let lists = board_lists b.engine in (
       record {
         members = members_from shown.members.items shown.frame.items;
@@ -53,8 +54,8 @@ some_board b =
       (
         refl,
         record {
-          members_are = members_again shown.members.items shown.frame.items shown.even;
-          frame_is = frame_again shown.members.items shown.frame.items shown.even;
+          members_are = members_again shown.members.items shown.frame.items even;
+          frame_is = frame_again shown.members.items shown.frame.items even;
           made_is = refl;
           bottom_is = refl;
           limiter_is = refl;
