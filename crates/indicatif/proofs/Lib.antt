@@ -8,5 +8,6 @@ mod BlockLemmas
 mod SumLemmas
 mod WorkerLemmas
 mod WaveLemmas
+mod PlacedLemmas
 mod SharedLemmas
 mod FrontLemmas

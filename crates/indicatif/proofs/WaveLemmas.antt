@@ -1,4 +1,4 @@
--- What pieces came to that ran in waves: a wave more, and one that was lost.
+-- What pieces came to that ran in waves: a wave more.
 use Rattle.std.proofs.Common.{◌≡◌, ℕ, ◌+◌, ◌%◌, ◌^◌, ◌≤◌, List, [], ◌++◌, take, drop, length, Option, Some, None, IfSome, IsSomeAnd, Vec, refl, sym, ap, subst, ◌∙◌, arith}
 use Rattle.std.specs.List.{AllZip}
 use Rattle.std.specs.declared.alloc.Global.{Global}
@@ -55,18 +55,6 @@ module _ {T A : Type 0} (R : T → A → Type 0) where
         at_most = omega (arith, items, before.at_most, wave.at_most);
         is_sum = sums_more before.met wave.met sum count next before.is_sum wave.is_sum both;
         all = answers_more pieces part at n before.met wave.met all more new is before.all wave.all joined;
-      }
-
-  -- a wave that was refused: what was met stays, and there are no answers
-  pub wave_lost : (pieces part : List (Vec T Global)) (at n : ℕ) (all : Option (Vec (Vec A Global) Global)) (sum : ℕ) → part ≡ take n (drop at pieces)
-      → CountsPieces R (take at pieces) all sum → CountsPieces R (take (at + n) pieces) None sum
-  wave_lost pieces part at n all sum is before =
-      let items = items_more pieces part at n is in
-      record {
-        met = before.met;
-        at_most = omega (arith, items, before.at_most);
-        is_sum = before.is_sum;
-        all = tt;
       }
 
   -- before the first

@@ -194,10 +194,11 @@ impl<T: TermLike + Drop, C: Clock + Drop, R: Wait + Clone + Drop> ProgressBar<T,
     }
 
     /// The position goes up by `delta`, modulo 2^64; and a tick, as often as the position's limiter allows.
+    #[tactic(auto, using(crate::proofs::FrontLemmas::place_answers))]
     pub fn inc(&self, delta: u64) -> Result<Drawn, Refusal>
         ensures { CanAnswer T.view (Lone.Obey (Command.Inc delta)) result }
     {
-        self.tell(BarCommand::Inc(delta))
+        self.state.lock.lock(&self.rt).inc(&self.rt, delta)
     }
 
     /// The position goes down by `delta`, modulo 2^64; else as `inc`.
@@ -786,6 +787,7 @@ impl<T: TermLike + Drop, C: Clock + Drop, R: Wait + Clone + Drop> Moves for Prog
         self.set_position(place)
     }
 
+    #[tactic(auto, using(crate::proofs::PlacedLemmas::untold_placed))]
     fn place_after(&mut self, seeks: &mut SeekMax<5, 10>, n: u64) -> Result<Drawn, Refusal> {
         self.state
             .lock

@@ -150,20 +150,16 @@ fn in_waves<R: Threads + Sync, T: Sync, A: Send + Drop, F: Fn(&T) -> A + Sync, G
     ensures counts { IfOk result (λ r. CountsPieces (FnReturnsAt F.Fn f.now) pieces.now r.0 r.1) }
     ensures memory { IfErr result (λ e. e ≡ Refusal.Memory) }
 {
-    let mut all = Some(Vec::with_capacity(alloc, pieces.len())?);
+    let room = Vec::with_capacity(alloc, pieces.len())?;
+    let mut all = Some(room);
     let mut met: u64 = 0;
     let mut first = 0;
     while first < pieces.len() {
         let n = TOGETHER.min(pieces.len() - first);
         let behind = Behind { gate, first };
-        match counted(rt, alloc, &pieces[first..first + n], f, &behind) {
-            Ok((answers, more)) => {
-                all = appended(all, answers);
-                met = met.wrapping_add(more);
-            }
-            Err(refusal) if first == 0 => return Err(refusal),
-            Err(_) => all = None,
-        }
+        let (answers, more) = counted(rt, alloc, &pieces[first..first + n], f, &behind)?;
+        all = appended(all, answers);
+        met = met.wrapping_add(more);
         first += n;
     }
     Ok((all, met))

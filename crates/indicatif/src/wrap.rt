@@ -66,6 +66,7 @@ impl<T, P> ProgressBarIter<T, P> {
 
 impl<T, P: Moves> ProgressBarIter<T, P> {
     // Places the bar after `n` more bytes.
+    #[tactic(auto, using(crate::proofs::PlacedLemmas::wrapper_placed))]
     pub(crate) fn went_on(&mut self, n: u64)
         ensures it { inner_of self.new ≡ inner_of self.old }
         ensures placed { Placed P.stands P.leads self.old n self.new }

@@ -2,7 +2,7 @@
 ghost use Rattle.std.specs.Prelude.{◌≡◌, ◌<◌, ℕ, Some, None, Ok, Err, true, false, IfOk, IfErr};
 ghost use Rattle.std.specs.Fn.{FnOnceReturnsAt};
 ghost use Rattle.indicatif_term.specs.Targets.{term_of};
-ghost use Rattle.indicatif_bar.specs.Commands.{Update, SetTicker, SetPosition, command_of};
+ghost use Rattle.indicatif_bar.specs.Commands.{Inc, Update, SetTicker, SetPosition, command_of};
 ghost use Rattle.indicatif_bar.specs.Lone as Lone;
 ghost use Rattle.indicatif_bar.specs.Progress.{eta, per_sec, duration, elapsed};
 ghost use Rattle.indicatif_bar.specs.declared.command.Change.{Change as Changed};
@@ -95,6 +95,17 @@ impl<T: TermLike + Drop, C: Clock + Drop> Held<T, C> {
         match &mut self.place {
             Place::Alone(bar) => bar.call(LoneCall::Bar(command), now),
             Place::On(seat) => seat.tell(rt, command, now),
+        }
+    }
+
+    /// The position goes up.
+    pub fn inc<R: Wait>(&mut self, rt: &R, delta: u64) -> Result<Drawn, Refusal>
+        ensures { PlaceMakes T.view self.old.place (Lone.Obey (Inc delta)) result self.new.place }
+    {
+        let now = self.clock.now();
+        match &mut self.place {
+            Place::Alone(bar) => bar.inc(delta, now),
+            Place::On(seat) => seat.tell(rt, BarCommand::Inc(delta), now),
         }
     }
 
