@@ -1,7 +1,8 @@
 //! Workers that add to one sum: in two threads, on one, and divided among many.
 ghost use Rattle.std.specs.Prelude.{◌≡◌, ◌+◌, All, IfOk};
 
-use indicatif::{BarWorker, Done, Refusal};
+use indicatif_board::done::{BarWorker, Done};
+use indicatif_text::columns::Refusal;
 use std::test::Fail;
 use std::thread::join;
 

@@ -234,7 +234,10 @@ fn lines_stand_above_the_bar(rt: HostRuntime) -> Result<(), Fail> {
 fn a_hidden_board_drops_lines(rt: HostRuntime) -> Result<(), Fail> {
     let hidden: ProgressDrawTarget<InMemoryTerm> = ProgressDrawTarget::hidden();
     let mut board: Box<Own> = Box::new(rt.alloc(), Board::new(rt.alloc(), hidden, 1))?;
-    assert_eq!(rt; emit(rt.alloc(), &mut board, Level::Info, "i", 0), Ok(Drawn::Hidden));
+    assert_eq!(rt;
+        emit(rt.alloc(), &mut board, Level::Info, "i", 0),
+        Ok(Drawn::Hidden)
+    );
     board.set_draw_target(target(rt.alloc())?);
     board.redraw(0)?;
     assert!(rt; shows(&board, ""));

@@ -1,9 +1,8 @@
 //! Lines of a log above the bars of a board: a sink of the crate `log`.
 ghost use Rattle.std.specs.Prelude.{◌≡◌, ℕ, true, Some, []};
 
-pub use indicatif_board::bridge::{bridge_line, emit};
-
 use crate::progress_bar::MultiProgress;
+pub use indicatif_board::bridge::{bridge_line, emit};
 use indicatif_term::term_like::TermLike;
 use indicatif_text::columns::{Clock, Drawn, Refusal};
 use log::kv::Source;
@@ -83,9 +82,12 @@ impl<T: TermLike + Drop, C: Clock + Drop, R: Wait + Clone + Drop> LogBridge<T, C
     }
 }
 
-impl<T: TermLike + Drop, C: Clock + Drop, R: Wait + Clone + Drop, F: LineForm + Drop>
-    LogBridge<T, C, R, F>
-{
+impl<T: TermLike + Drop, C: Clock + Drop, R: Wait + Clone + Drop, F: LineForm + Drop> LogBridge<
+    T,
+    C,
+    R,
+    F,
+> {
     /// The same, with lines of this form.
     ///
     /// ```
@@ -123,14 +125,14 @@ impl<T: TermLike + Drop, C: Clock + Drop, R: Wait + Clone + Drop, F: LineForm + 
         let alloc = self.board.alloc();
         let text = String::format(alloc, record.args())?;
         let mut lines = String::new(alloc);
-        self.form.push_line(record.level(), text.as_str(), &mut lines)?;
+        self.form
+            .push_line(record.level(), text.as_str(), &mut lines)?;
         self.board.println(lines.as_str())
     }
 }
 
 impl<T: TermLike + Drop, C: Clock + Drop, R: Wait + Clone + Drop, F: LineForm + Drop> Log
-    for LogBridge<T, C, R, F>
-{
+    for LogBridge<T, C, R, F> {
     ghost use Rattle.std.specs.Prelude.{Some, []};
     ghost use Rattle.log.specs.Level.{allows};
 

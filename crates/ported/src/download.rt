@@ -6,7 +6,8 @@ use std::io::Stderr;
 use std::thread::sleep;
 use std::time::Duration;
 
-pub const TEMPLATE: &str = "{spinner:.green} [{elapsed_precise}] [{wide_bar:.cyan/blue}] {bytes}/{total_bytes} ({eta})";
+pub const TEMPLATE: &str =
+    "{spinner:.green} [{elapsed_precise}] [{wide_bar:.cyan/blue}] {bytes}/{total_bytes} ({eta})";
 
 const TOTAL: u64 = 23_123_123;
 

@@ -26,8 +26,14 @@ struct Run {
 
 /// What is played where no arguments say anything else.
 const RUNS: [Run; 4] = [
-    Run { seed: 1, steps: 100 },
-    Run { seed: 7, steps: 100 },
+    Run {
+        seed: 1,
+        steps: 100,
+    },
+    Run {
+        seed: 7,
+        steps: 100,
+    },
     Run {
         seed: 1234,
         steps: 100,
@@ -108,7 +114,10 @@ fn play<R: Plays + Print>(rt: R, run: Run) -> Result<()> {
     let logged = played(&rt, &board, bars.as_slice(), run)?;
     come_to_rest(bars.as_slice())?;
     let found = found_on(&board)?;
-    println!(rt; "seed {}, {} steps: {logged} lines logged, {found} found", run.seed, run.steps)?;
+    println!(rt;
+        "seed {}, {} steps: {logged} lines logged, {found} found",
+        run.seed, run.steps
+    )?;
     Ok(())
 }
 

@@ -8,14 +8,12 @@ use std::thread::Threads;
 use std::time::Clock;
 
 /// What the runtime is asked for.
-pub trait Plays:
-    AllocGlobal + Threads + Wait + Clock + Sync + Send + Copy + Drop + 'static
-{
-}
+pub trait Plays: AllocGlobal + Threads + Wait + Clock + Sync + Send + Copy + Drop + 'static {}
 
 impl<R: AllocGlobal + Threads + Wait + Clock + Sync + Send + Copy + Drop + 'static> Plays for R {}
 
 pub type Bar<R> = ProgressBar<InMemoryTerm, MachineClock<R>, R>;
+
 pub type Multi<R> = MultiProgress<InMemoryTerm, MachineClock<R>, R>;
 
 /// A millisecond.

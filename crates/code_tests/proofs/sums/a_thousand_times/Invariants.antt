@@ -1,9 +1,5 @@
 use Rattle.std.proofs.Common.{◌≡◌, ◌+◌}
-<<<<<<<< HEAD:crates/front_tests/proofs/sums/a_thousand_times/Invariants.antt
-use Rattle.front_tests.proofs.sums.a_thousand_times.Given as goal
-========
 use Rattle.code_tests.proofs.sums.a_thousand_times.Given as goal
->>>>>>>> rows:crates/code_tests/proofs/sums/a_thousand_times/Invariants.antt
 
 abbrev pub invariant-loop : goal.invariant-loop
 invariant-loop l =
