@@ -1,0 +1,132 @@
+//! Workers that add to one sum: in two threads, on one, and divided among many.
+ghost use Rattle.std.specs.Prelude.{◌≡◌, ◌+◌, All, IfOk};
+
+use indicatif::{BarWorker, Done, Refusal};
+use std::test::Fail;
+use std::thread::join;
+
+/// A worker that added 1 a thousand times, and the total that it read then.
+#[derive(Drop)]
+struct Worked {
+    worker: BarWorker,
+    total: u64,
+}
+
+/// Adds 1 a thousand times, and reads the total.
+fn a_thousand_times(done: &Done, mut worker: BarWorker) -> Worked
+    requires of { worker.adds_to ≡ done.now }
+    ensures of { result.worker.adds_to ≡ done.now }
+    ensures parts { result.worker.account.parts ≡ worker.account.parts }
+    ensures added { result.worker.account.added ≡ worker.account.added + 1000 }
+{
+    for _ in 0..1000u32 {
+        worker.add(done, 1);
+    }
+    let total = worker.total(done);
+    Worked { worker, total }
+}
+
+#[test]
+fn two_threads_add_a_thousand_times(rt: HostRuntime) -> Result<(), Fail> {
+    let (done, worker) = Done::new(rt.alloc())?;
+    let (mine, theirs) = worker.split(&done)?;
+    let (mine, theirs) = join(
+        &rt,
+        || a_thousand_times(&done, mine),
+        || a_thousand_times(&done, theirs),
+    );
+    assert!(rt; mine.total >= 1000 && theirs.total >= 1000);
+    assert!(rt; mine.total == 2000 || theirs.total == 2000);
+    let worker = mine.worker.join(theirs.worker, &done);
+    assert_eq!(rt; done.close(worker), 2000);
+    Ok(())
+}
+
+#[test]
+fn a_total_is_read_from_the_shared_word(rt: HostRuntime) -> Result<(), Fail> {
+    let (done, worker) = Done::new(rt.alloc())?;
+    let (mut first, mut second) = worker.split(&done)?;
+    first.add(&done, 5);
+    assert_eq!(rt; second.total(&done), 5);
+    second.add(&done, 2);
+    assert_eq!(rt; first.total(&done), 7);
+    let worker = second.join(first, &done);
+    assert_eq!(rt; done.close(worker), 7);
+    Ok(())
+}
+
+#[test]
+fn a_sum_of_nothing_is_closed_at_once(rt: HostRuntime) -> Result<(), Fail> {
+    let (done, mut worker) = Done::new(rt.alloc())?;
+    assert_eq!(rt; worker.total(&done), 0);
+    assert_eq!(rt; done.close(worker), 0);
+    Ok(())
+}
+
+#[test]
+fn a_sum_wraps_at_2_to_the_64(rt: HostRuntime) -> Result<(), Fail> {
+    let (done, mut worker) = Done::new(rt.alloc())?;
+    worker.add(&done, u64::MAX - 1);
+    let (mut first, mut second) = worker.split(&done)?;
+    first.add(&done, 1);
+    second.add(&done, 2);
+    let mut worker = first.join(second, &done);
+    assert_eq!(rt; worker.total(&done), 1);
+    assert_eq!(rt; done.close(worker), 1);
+    Ok(())
+}
+
+/// Splits a hundred times in a row; the worker of the k-th split that stays behind adds k. The one that was given last.
+fn last_of_a_hundred_splits(done: &Done, worker: BarWorker) -> Result<BarWorker, Refusal>
+    requires of { worker.adds_to ≡ done.now }
+    ensures of { IfOk result (λ last. last.adds_to ≡ done.now) }
+{
+    let mut last = worker;
+    for k in 0..100u64 {
+        let (mut kept, given) = last.split(done)?;
+        kept.add(done, k);
+        last = given;
+    }
+    Ok(last)
+}
+
+#[test]
+fn a_hundred_splits_in_a_row(rt: HostRuntime) -> Result<(), Fail> {
+    let (done, worker) = Done::new(rt.alloc())?;
+    let mut last = last_of_a_hundred_splits(&done, worker)?;
+    assert_eq!(rt; last.total(&done), 4950);
+    Ok(())
+}
+
+/// Each of these workers adds 2.
+fn each_adds_two(done: &Done, workers: Vec<BarWorker>)
+    requires of { All (λ w. w.adds_to ≡ done.now) workers.items }
+{
+    for mut worker in workers {
+        worker.add(done, 2);
+    }
+}
+
+#[test]
+fn a_worker_for_each_piece(rt: HostRuntime) -> Result<(), Fail> {
+    let (done, worker) = Done::new(rt.alloc())?;
+    let (mut mine, theirs) = worker.split(&done)?;
+    let workers = theirs.split_among(rt.alloc(), &done, 99)?;
+    assert_eq!(rt; workers.len(), 99);
+    each_adds_two(&done, workers);
+    assert_eq!(rt; mine.total(&done), 198);
+    Ok(())
+}
+
+#[test]
+fn pieces_are_joined_again(rt: HostRuntime) -> Result<(), Fail> {
+    let (done, mut worker) = Done::new(rt.alloc())?;
+    worker.add(&done, 3);
+    let workers = worker.split_among(rt.alloc(), &done, 5)?;
+    let Some(mut all) = BarWorker::join_all(workers, &done) else {
+        panic!(rt; "five workers are some")
+    };
+    all.add(&done, 4);
+    assert_eq!(rt; done.close(all), 7);
+    Ok(())
+}
