@@ -1,5 +1,5 @@
 //! A reader, a writer and a stream that do what a row says.
-ghost use Rattle.std.specs.Prelude.{◌≤◌, ⊤, ⊥, length, IfOk};
+ghost use Rattle.std.specs.Prelude.{◌≤◌, ⊤, length, IfOk};
 ghost use Rattle.futures.specs.Poll.{OnPending};
 ghost use Rattle.futures.specs.Task.{Covers, Keeps};
 ghost use Rattle.tokio.specs.Io.Moved.{count_moved};

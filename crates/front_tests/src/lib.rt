@@ -4,6 +4,7 @@
 //! - `fronts`: bars and boards for tests, whose calls have no clauses. `kept`: what a board has kept.
 //! - `owners`: what the last owner of a bar leaves, on a terminal that others see. `bars`: bars in threads, pauses and bounds.
 //! - `boards`: boards that threads share. `records`: a board with its history that nobody shares.
+//! - `shared`: clocks of different openings, boards that make their bars, and threads at one bar.
 //! - `machines`: what is asked of the machine. `made`: iterators that get a bar when they are wrapped.
 //! - `bridges`: lines of a log above a board's bars.
 //! - `carried`: tests of the crate `indicatif` that need code. `carried_tickers`: those of tickers. `carried_trackers`: those of trackers.

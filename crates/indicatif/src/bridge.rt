@@ -107,9 +107,19 @@ impl<T: TermLike + Drop, C: Clock + Drop, R: Wait + Clone + Drop, F: LineForm + 
     /// ```
     /// let bridge = LogBridge::new(board.clone()?).with_filter(LevelFilter::Warn); // warnings and errors
     /// ```
-    pub fn with_filter(mut self, most: LevelFilter) -> Self {
-        self.most = most;
-        self
+    pub fn with_filter(self, most: LevelFilter) -> Self {
+        let LogBridge {
+            board,
+            form,
+            missed,
+            ..
+        } = self;
+        LogBridge {
+            board,
+            most,
+            form,
+            missed,
+        }
     }
 
     /// How many records were refused by the board, or found no memory for their lines, modulo 2^64.
