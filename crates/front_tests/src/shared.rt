@@ -190,17 +190,6 @@ fn tells_off<R: Wait + Clone + Drop>(bar: &Bar<R>, times: u32) -> Result<(), Ref
     Ok(())
 }
 
-/// Whether the bar has ticked, by the last of 10,000 readings a millisecond apart.
-fn has_ticked<R: Wait + time::Clock + Clone + Drop>(rt: &R, bar: &Bar<R>) -> bool {
-    for _ in 0..10_000u32 {
-        if bar.ticks() > 0 {
-            return true;
-        }
-        thread::sleep(rt, Duration::from_millis(1));
-    }
-    false
-}
-
 /// Whether two readings of the ticks with fifty milliseconds between them are equal.
 fn rests<R: Wait + time::Clock + Clone + Drop>(rt: &R, bar: &Bar<R>) -> bool {
     let before = bar.ticks();
@@ -237,7 +226,7 @@ fn replaces<R: Wait + Threads + time::Clock + Clone + Drop + Send + 'static>(
 fn a_ticker_that_is_replaced_wakes_none(rt: HostRuntime) -> Result<(), Fail> {
     let bar = bar_on(rt, rt.alloc())?;
     replaces(&bar, 10)?;
-    assert!(rt; has_ticked(&rt, &bar));
+    assert!(rt; ticks_on(&rt, &bar, 0));
     waits(&rt);
     assert!(rt; bar.ticks() <= 10);
     tick_off(&bar)?;
