@@ -8,12 +8,12 @@
 use crate::bars::{Bar, Room, Target, spinner};
 use crate::fronts::room_of;
 use crate::history::{rows_of, same_rows};
-use crate::tell::{Told, finish, tell};
+use crate::tell::{Told, tell};
 use indicatif::{
     BarCommand, BarState, Change, Clock, InMemoryTerm, LoneBar, LoneCall, Moment, NoTracker,
     ProgressBar, ProgressDrawTarget, ProgressState, ProgressStyle, Refusal, Setup, StepClock,
 };
-use scripts::commands::command;
+use scripts::commands::{command, finish};
 use scripts::got::{Bad, Got};
 use scripts::row::next;
 use scripts::spelling::{number, unescaped};

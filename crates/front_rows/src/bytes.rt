@@ -22,7 +22,6 @@ use scripts::spelling::{number, unescaped};
 use std::alloc::Global;
 use std::io::{self, BufRead, Read, Seek, SeekFrom, Write};
 use std::random::RandomSource;
-use std::str;
 
 /// What is wrapped.
 pub type Wrapped<P> = ProgressBarIter<Scripted, P>;
@@ -106,10 +105,9 @@ pub fn asks<P: Moves>(over: &mut Over<P>, step: &str, got: &mut Got) -> Result<(
         return Err(Bad::Step);
     };
     match step.split_once(' ') {
-        Some(("room", count)) => push_bytes(
-            room.get(..number::<usize>(count)?).ok_or(Bad::Step)?,
-            got,
-        ),
+        Some(("room", count)) => {
+            got.bytes(room.get(..number::<usize>(count)?).ok_or(Bad::Step)?);
+        }
         Some(("read" | "read_exact" | "poll_read", count)) => {
             let room = room.get_mut(..number::<usize>(count)?).ok_or(Bad::Step)?;
             reads(wrapped, task, (step, room), got);
@@ -132,21 +130,16 @@ fn unwraps<P: Moves>(over: &mut Over<P>, got: &mut Got) -> Result<(), Bad> {
     };
     let (inner, bar) = wrapped.into_inner();
     drop(bar);
-    push_bytes(inner.written(), got);
+    got.bytes(inner.written());
     Ok(())
 }
 
 // ---- what came
 
-/// Appends bytes that are a text.
-pub fn push_bytes(bytes: &[u8], got: &mut Got) {
-    got.text(str::from_utf8(bytes).unwrap_or("no text"));
-}
-
 /// Appends the first bytes of a room, or a failure.
 pub fn push_read(read: io::Result<usize>, room: &[u8], got: &mut Got) {
     match read {
-        Ok(count) => push_bytes(room.get(..count).unwrap_or(&[]), got),
+        Ok(count) => got.bytes(room.get(..count).unwrap_or(&[])),
         Err(e) => got.text(kind_name(e.kind())),
     }
 }
@@ -179,7 +172,7 @@ fn reads<P: Moves>(
         polls::reads(wrapped, task, room, got);
     } else if step.starts_with("read_exact") {
         match wrapped.read_exact(room) {
-            Ok(()) => push_bytes(room, got),
+            Ok(()) => got.bytes(room),
             Err(e) => got.text(kind_name(e.kind())),
         }
     } else {
@@ -253,14 +246,14 @@ fn bare<P: Moves>(
 /// Appends an item, or `end`.
 pub fn push_item(item: Option<u8>, got: &mut Got) {
     match item {
-        Some(byte) => push_bytes(&[byte], got),
+        Some(byte) => got.bytes(&[byte]),
         None => got.text("end"),
     }
 }
 
 fn fill_buf<P: Moves>(wrapped: &mut Wrapped<P>, got: &mut Got) {
     match wrapped.fill_buf() {
-        Ok(bytes) => push_bytes(bytes, got),
+        Ok(bytes) => got.bytes(bytes),
         Err(e) => got.text(kind_name(e.kind())),
     }
 }
@@ -283,7 +276,7 @@ fn to_end<P: Moves>(
     push_number(count, got);
     got.text(" ");
     got.text(text.as_str());
-    push_bytes(&bytes, got);
+    got.bytes(&bytes);
     Ok(())
 }
 
@@ -298,7 +291,7 @@ fn copy<P: Moves>(
     }
     push_number(io::copy(wrapped, to), got);
     got.text(" ");
-    push_bytes(to, got);
+    got.bytes(to);
     Ok(())
 }
 

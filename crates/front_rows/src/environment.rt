@@ -1,21 +1,24 @@
 //! What an environment says of a terminal: `environment VARIABLE=TEXT ..` gives rows, columns, whether the stream is a terminal, and the
-//! kind, in quotes, or `none`; `colours VARIABLE=TEXT ..` whether colours are wanted. In a text `~` stands for a byte that is no text. A
-//! stream that is no terminal has `not` in front.
+//! kind, in quotes, or `none`; `colours VARIABLE=TEXT ..` whether colours are wanted. A stream that is no terminal has `not` in front.
 use indicatif::Facts;
 use indicatif::machine::{facts_of, wants_colors};
 use scripts::got::{Bad, Got};
+use scripts::spelling::unescaped_bytes;
 use std::alloc::Global;
 use std::env::{Env, FillError};
 use std::io::IsTerminal;
 
-/// A program's environment: variables and what they say, parted by spaces.
+/// A program's environment: variables and what they say with escapes, parted by spaces.
 #[derive(Clone, Copy, Drop)]
-struct Told<'a>(&'a str);
+struct Told<'a> {
+    words: &'a str,
+    alloc: Global,
+}
 
 impl<'a> Told<'a> {
     /// What the variable says.
     fn said(&self, name: &str) -> Option<&'a str> {
-        for word in self.0.split(' ') {
+        for word in self.words.split(' ') {
             if let Some((variable, text)) = word.split_once('=') {
                 if variable == name {
                     return Some(text);
@@ -35,10 +38,13 @@ impl Env for Told<'_> {
         let Some(text) = self.said(name) else {
             return Err(FillError::NotPresent);
         };
-        match buf.get_mut(..text.len()) {
+        let Ok(bytes) = unescaped_bytes(self.alloc, text) else {
+            return Err(FillError::NotPresent);
+        };
+        match buf.get_mut(..bytes.len()) {
             Some(front) => {
-                fill(front, text.as_bytes());
-                Ok(text.len())
+                front.copy_from_slice(&bytes);
+                Ok(bytes.len())
             }
             None => Err(FillError::TooLong),
         }
@@ -46,13 +52,6 @@ impl Env for Told<'_> {
 
     fn var_at(&self, _i: usize, _buf: &mut [u8]) -> Result<usize, FillError> {
         Err(FillError::NotPresent)
-    }
-}
-
-/// Copies a text's bytes, with a byte that is no text in place of each `~`.
-fn fill(front: &mut [u8], text: &[u8]) {
-    for (to, byte) in front.iter_mut().zip(text) {
-        *to = if *byte == b'~' { 0xFF } else { *byte };
     }
 }
 
@@ -71,7 +70,8 @@ impl IsTerminal for Stream {
 /// Appends what an environment says.
 pub fn said(alloc: Global, rest: &str, got: &mut Got) -> Result<(), Bad> {
     let attended = !rest.starts_with("not");
-    let facts = facts_of(&(Told(rest), alloc), &Stream { attended })?;
+    let told = Told { words: rest, alloc };
+    let facts = facts_of(&(told, alloc), &Stream { attended })?;
     push_facts(&facts, got);
     Ok(())
 }
@@ -79,7 +79,8 @@ pub fn said(alloc: Global, rest: &str, got: &mut Got) -> Result<(), Bad> {
 /// Appends whether an environment wants colours.
 pub fn wants(alloc: Global, rest: &str, got: &mut Got) -> Result<(), Bad> {
     let attended = !rest.starts_with("not");
-    got.flag(wants_colors(&(Told(rest), alloc), &Stream { attended })?);
+    let told = Told { words: rest, alloc };
+    got.flag(wants_colors(&(told, alloc), &Stream { attended })?);
     Ok(())
 }
 

@@ -7,11 +7,11 @@
 use crate::bars::{Room, Target};
 use crate::fronts::room_of;
 use crate::lists::{items_of, push_item};
-use crate::tell::finish;
 use indicatif::{
     BarState, InMemoryTerm, LoneBar, NoTracker, OwnedBar, ProgressBarIter, ProgressIterator,
     ProgressStyle, Refusal, Setup, StepClock,
 };
+use scripts::commands::finish;
 use scripts::got::{Bad, Got};
 use scripts::lone::read_bar;
 use scripts::spelling::number;
@@ -96,7 +96,7 @@ impl Looped {
                 None => got.text("none"),
             },
             _ => {
-                if !read_bar(wrapped.progress.bar().bar(), step, 0, got) {
+                if !read_bar(wrapped.progress.bar().bar(), step, 0, got)? {
                     return Err(Bad::Step);
                 }
             }

@@ -12,6 +12,7 @@
 //! What answers with the bar counts as `limited`, since it draws nothing.
 use crate::bars::{Bar, spinner};
 use indicatif::{Change, Drawn, Moves, ProgressFinish, ProgressState, Refusal};
+use scripts::commands::finish;
 use scripts::got::Bad;
 use scripts::spelling::{number, unescaped};
 use std::alloc::Global;
@@ -28,6 +29,7 @@ pub fn tell<R: Wait + Copy + Clone + Drop>(
 ) -> Result<Told, Bad> {
     match text.split_once(' ') {
         None => bare(bar, text),
+        Some(("with_finish", rest)) => Ok(with_finish(bar.clone()?, finish(alloc, rest)?)),
         Some((name, rest)) if is_worded(name) => {
             let text = unescaped(alloc, rest)?;
             worded(bar, alloc, name, text.as_str())
@@ -50,7 +52,6 @@ fn is_worded(name: &str) -> bool {
             | "set_style"
             | "with_style"
             | "template"
-            | "with_finish"
     )
 }
 
@@ -149,7 +150,6 @@ fn styled<R: Wait + Copy + Clone + Drop>(
     match name {
         "set_style" => Ok(set_style(bar, alloc, text)),
         "template" => Ok(set_template(bar, text)),
-        "with_finish" => Ok(with_finish(bar.clone()?, finish(alloc, text)?)),
         "with_message" => Ok(is_given(bar.clone()?.with_message(text))),
         "with_prefix" => Ok(is_given(bar.clone()?.with_prefix(text))),
         _ => Ok(with_style(bar.clone()?, alloc, text)),
@@ -178,30 +178,5 @@ fn is_given<R: Wait + Copy + Clone + Drop>(bar: Result<Bar<R>, Refusal>) -> Told
     match bar {
         Ok(_) => Ok(Drawn::Limited),
         Err(refusal) => Err(refusal),
-    }
-}
-
-/// How a call's text says that a bar is finished.
-pub fn finish(alloc: Global, text: &str) -> Result<ProgressFinish, Bad> {
-    match text.split_once(' ') {
-        None => plain_finish(text),
-        Some((name, message)) => worded_finish(name, String::from_str(alloc, message)?),
-    }
-}
-
-fn plain_finish(name: &str) -> Result<ProgressFinish, Bad> {
-    match name {
-        "finish" => Ok(ProgressFinish::AndLeave),
-        "finish_and_clear" => Ok(ProgressFinish::AndClear),
-        "abandon" => Ok(ProgressFinish::Abandon),
-        _ => Err(Bad::Step),
-    }
-}
-
-fn worded_finish(name: &str, message: String) -> Result<ProgressFinish, Bad> {
-    match name {
-        "finish_with_message" => Ok(ProgressFinish::WithMessage(message)),
-        "abandon_with_message" => Ok(ProgressFinish::AbandonWithMessage(message)),
-        _ => Err(Bad::Step),
     }
 }
