@@ -63,10 +63,10 @@ module _ {T A : Type 0} (R : T → A → Type 0) where
     met = 0;
     at_most = omega arith;
     is_sum = refl;
-    all = (refl, subst (AllZip (λ piece one. AllZip R piece.items one.items) []) (sym none) tt);
+    all = (refl, subst (AllZip (λ (piece : Vec T Global) (one : Vec A Global). AllZip R piece.items one.items) []) (sym none) tt);
   }
 
   -- after the last
   pub all_waves : (pieces : List (Vec T Global)) (at : ℕ) (all : Option (Vec (Vec A Global) Global)) (sum : ℕ) → length pieces ≤ at
       → CountsPieces R (take at pieces) all sum → CountsPieces R pieces all sum
-  all_waves pieces at all sum end counts = subst (λ l. CountsPieces R l all sum) (take_all pieces at end) counts
+  all_waves pieces at all sum end counts = subst (λ l. CountsPieces R l all sum) (take_all at pieces end) counts

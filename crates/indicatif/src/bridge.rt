@@ -45,11 +45,13 @@ pub struct LevelOnEachLine;
 
 impl LineForm for LevelOnEachLine {
     fn push_line(&self, level: Level, text: &str, out: &mut String) -> Result<(), Refusal> {
-        let mut end = "";
+        let mut is_first = true;
         for line in text.split('\n') {
-            out.push_str(end)?;
+            if !is_first {
+                out.push('\n')?;
+            }
             bridge_line(level, line, out)?;
-            end = "\n";
+            is_first = false;
         }
         Ok(())
     }

@@ -270,9 +270,13 @@ impl<T: TermLike + Drop, C: Clock + Clone + Drop, R: Wait + Clone + Drop> MultiP
     pub fn new_bar(&self, len: u64) -> Result<ProgressBar<T, C, R>, Refusal>
         ensures { IfErr result (λ e. SharedTakes T.view End (Err e)) }
     {
-        let (rt, setup) = self.setup()?;
-        let bar = ProgressBar::new(rt, self.alloc, len, setup)?;
-        self.add(bar)
+        let Ok((rt, setup)) = self.setup() else {
+            return Err(Refusal::Memory);
+        };
+        match ProgressBar::new(rt, self.alloc, len, setup) {
+            Ok(bar) => self.add(bar),
+            Err(_) => Err(Refusal::Memory),
+        }
     }
 
     /// A bar without a length behind all others, in the style of a spinner, which draws nothing yet.
@@ -282,9 +286,13 @@ impl<T: TermLike + Drop, C: Clock + Clone + Drop, R: Wait + Clone + Drop> MultiP
     pub fn new_spinner(&self) -> Result<ProgressBar<T, C, R>, Refusal>
         ensures { IfErr result (λ e. SharedTakes T.view End (Err e)) }
     {
-        let (rt, setup) = self.setup()?;
-        let bar = ProgressBar::new_spinner(rt, self.alloc, setup)?;
-        self.add(bar)
+        let Ok((rt, setup)) = self.setup() else {
+            return Err(Refusal::Memory);
+        };
+        match ProgressBar::new_spinner(rt, self.alloc, setup) {
+            Ok(bar) => self.add(bar),
+            Err(_) => Err(Refusal::Memory),
+        }
     }
 
     /// What a bar is made with that is on no board yet.

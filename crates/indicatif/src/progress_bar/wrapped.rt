@@ -27,8 +27,10 @@ impl<I: Drop, W: TermLike + Drop, C: Clock + Drop, R: Wait + Clone + Drop> Progr
         ensures itself { IfOk result (λ wrapped. wrapped ≡ self) }
         ensures refused { IfErr result (λ e. CanAnswer W.view (Lone.Obey (PutPosition position)) (Err e)) }
     {
-        let answer = self.progress.tell(BarCommand::WithPosition(position));
-        self.unless_refused(answer)
+        match self.progress.tell(BarCommand::WithPosition(position)) {
+            Ok(_) => Ok(self),
+            Err(refusal) => Err(refusal),
+        }
     }
 
     /// What finishes the bar at the end.
@@ -38,8 +40,10 @@ impl<I: Drop, W: TermLike + Drop, C: Clock + Drop, R: Wait + Clone + Drop> Progr
         ensures itself { IfOk result (λ wrapped. wrapped ≡ self) }
         ensures refused { IfErr result (λ e. CanAnswer W.view (Lone.Obey (PutFinish (finish_of finish))) (Err e)) }
     {
-        let answer = self.progress.tell(BarCommand::WithFinish(finish));
-        self.unless_refused(answer)
+        match self.progress.tell(BarCommand::WithFinish(finish)) {
+            Ok(_) => Ok(self),
+            Err(refusal) => Err(refusal),
+        }
     }
 
     /// Another style of the bar.
@@ -49,8 +53,10 @@ impl<I: Drop, W: TermLike + Drop, C: Clock + Drop, R: Wait + Clone + Drop> Progr
         ensures itself { IfOk result (λ wrapped. wrapped ≡ self) }
         ensures refused { IfErr result (λ e. CanAnswer W.view (Lone.Obey (SetStyle style)) (Err e)) }
     {
-        let answer = self.progress.set_style(style);
-        self.unless_refused(answer)
+        match self.progress.set_style(style) {
+            Ok(_) => Ok(self),
+            Err(refusal) => Err(refusal),
+        }
     }
 
     /// Another prefix of the bar.
@@ -60,8 +66,10 @@ impl<I: Drop, W: TermLike + Drop, C: Clock + Drop, R: Wait + Clone + Drop> Progr
         ensures itself { IfOk result (λ wrapped. wrapped ≡ self) }
         ensures refused { IfErr result (λ e. CanAnswer W.view (Lone.Obey (PutPrefix text.now)) (Err e)) }
     {
-        let answer = self.progress.tell_text(Worded::PutPrefix, text);
-        self.unless_refused(answer)
+        match self.progress.tell_text(Worded::PutPrefix, text) {
+            Ok(_) => Ok(self),
+            Err(refusal) => Err(refusal),
+        }
     }
 
     /// Another message of the bar.
@@ -71,8 +79,10 @@ impl<I: Drop, W: TermLike + Drop, C: Clock + Drop, R: Wait + Clone + Drop> Progr
         ensures itself { IfOk result (λ wrapped. wrapped ≡ self) }
         ensures refused { IfErr result (λ e. CanAnswer W.view (Lone.Obey (PutMessage text.now)) (Err e)) }
     {
-        let answer = self.progress.tell_text(Worded::PutMessage, text);
-        self.unless_refused(answer)
+        match self.progress.tell_text(Worded::PutMessage, text) {
+            Ok(_) => Ok(self),
+            Err(refusal) => Err(refusal),
+        }
     }
 
     /// So many nanoseconds have passed since the bar's start.
@@ -82,7 +92,9 @@ impl<I: Drop, W: TermLike + Drop, C: Clock + Drop, R: Wait + Clone + Drop> Progr
         ensures itself { IfOk result (λ wrapped. wrapped ≡ self) }
         ensures refused { IfErr result (λ e. CanAnswer W.view (Lone.Obey (SetElapsed nanos)) (Err e)) }
     {
-        let answer = self.progress.set_elapsed(nanos);
-        self.unless_refused(answer)
+        match self.progress.set_elapsed(nanos) {
+            Ok(_) => Ok(self),
+            Err(refusal) => Err(refusal),
+        }
     }
 }
