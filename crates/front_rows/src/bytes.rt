@@ -13,7 +13,7 @@
 //! A failure is spelled as in `scripted`.
 use crate::counted::Counted;
 use crate::polls;
-use crate::scripted::{Scripted, kind_name, scripted};
+use crate::scripted::{Scripted, kind_name, script_of};
 use futures::test::MockTask;
 use indicatif::{Moves, ProgressBarIter};
 use scripts::got::{Bad, Got};
@@ -39,7 +39,7 @@ pub struct Over<P> {
 pub type OverCounted = Over<Counted>;
 
 /// What is wrapped already, to be asked.
-pub fn over<R: AllocGlobal + RandomSource, P: Drop>(
+pub fn kept_over<R: AllocGlobal + RandomSource, P: Drop>(
     rt: &R,
     alloc: Global,
     wrapped: Wrapped<P>,
@@ -64,8 +64,8 @@ pub fn begin<R: AllocGlobal + RandomSource>(
 ) -> Result<Box<OverCounted>, Bad> {
     let mut words = rest;
     let position = number(next(&mut words))?;
-    let wrapped = ProgressBarIter::new(scripted(alloc, words)?, Counted::at(position));
-    over(rt, alloc, wrapped)
+    let wrapped = ProgressBarIter::new(script_of(alloc, words)?, Counted::at(position));
+    kept_over(rt, alloc, wrapped)
 }
 
 /// Makes a step, or looks at the bar.

@@ -22,10 +22,10 @@
 //!   `adds OWNER: CALL`: a call, and what it adds. Behind them stands `!answer` where the last of them is kept with another answer than
 //!   was given, and `!run` where a fresh board that makes all that were kept gives another answer or shows something else.
 use crate::bars::{Bar, Maker, Room, Shared, push_board};
-use crate::bytes::{Over, Wrapped, asks, over};
+use crate::bytes::{Over, Wrapped, asks, kept_over};
 use crate::history::{Answered, Look, Question, shown};
 use crate::readings::read;
-use crate::scripted::{Scripted, scripted};
+use crate::scripted::{Scripted, script_of};
 use crate::tell::{Told, tell};
 use indicatif::{Drawn, InMemoryTerm, MultiProgressAlignment, Refusal, StepClock, WeakProgressBar};
 use scripts::got::{Bad, Got};
@@ -352,8 +352,8 @@ impl<R: AllocGlobal + RandomSource + Wait + Copy + Clone + Drop> Fronts<R> {
             return Ok(false);
         }
         let bar = self.bar(next(&mut words))?;
-        let wrapped = wrapped(bar, name, scripted(self.maker.alloc, words)?)?;
-        self.wrapped = Some(over(&self.maker.rt, self.maker.alloc, wrapped)?);
+        let wrapped = wrapped(bar, name, script_of(self.maker.alloc, words)?)?;
+        self.wrapped = Some(kept_over(&self.maker.rt, self.maker.alloc, wrapped)?);
         Ok(true)
     }
 }

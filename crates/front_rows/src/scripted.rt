@@ -33,7 +33,7 @@ pub struct Scripted {
 }
 
 /// `TEXT`, `#N` (N bytes that are 0, 1, 2 and so on, modulo 256) or `*N` (N times `x`); behind `, ` what the calls do.
-pub fn scripted(alloc: Global, rest: &str) -> Result<Scripted, Bad> {
+pub fn script_of(alloc: Global, rest: &str) -> Result<Scripted, Bad> {
     let (text, answers) = rest.split_once(", ").unwrap_or((rest, ""));
     let bytes = bytes_of(alloc, text)?;
     Ok(Scripted {
