@@ -58,6 +58,9 @@ impl Write for Output {
     }
 }
 
+/// How many changes of the streams there are; each comes once at most.
+const CHANGES: u32 = 4;
+
 /// The input's failure, and the outputs.
 #[derive(Drop)]
 struct Streams {
@@ -76,10 +79,12 @@ pub fn played(rest: &str, at: At, got: &mut Got) -> Result<(), Bad> {
     let commands = unescaped_bytes(at.alloc, commands.strip_prefix(' ').unwrap_or(commands))?;
     let mut words = words;
     let mut streams = plain_streams(at);
-    let mut args = Vec::new(at.alloc);
-    while change(&mut streams, words)? {
-        next(&mut words);
+    for _ in 0..CHANGES {
+        if change(&mut streams, words)? {
+            next(&mut words);
+        }
     }
+    let mut args = Vec::new(at.alloc);
     if words != "alone" {
         push_words(words, at, &mut args)?;
     }
