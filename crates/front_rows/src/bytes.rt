@@ -298,10 +298,12 @@ fn copy<P: Moves>(
 /// Reads of so many bytes until none come: how many reads gave any, and how many bytes, each the next of 0, 1, 2 and so on, modulo
 /// 256.
 fn drain<P: Moves>(wrapped: &mut Wrapped<P>, count: usize, got: &mut Got) {
-    let mut room = [0u8; 8];
+    let mut all = [0u8; 8];
+    let Some(room) = all.get_mut(..count) else {
+        return;
+    };
     let mut drained = Drained { reads: 0, bytes: 0 };
     for _ in 0..10_000u32 {
-        let room = room.get_mut(..count).unwrap_or(&mut []);
         match wrapped.read(room) {
             Ok(0) | Err(_) => break,
             Ok(n) => drained.takes(room.get(..n).unwrap_or(&[])),

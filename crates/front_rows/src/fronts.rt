@@ -407,8 +407,10 @@ impl<
             return self.history_rests(step, got);
         };
         match rest.split_once(' ') {
-            Some(("ticker", "off")) => self.bar(place)?.disable_steady_tick()?,
-            Some(("ticker", nanos)) => self.bar(place)?.enable_steady_tick(number(nanos)?)?,
+            Some(("ticker", nanos)) => {
+                set_ticker(self.bar(place)?, nanos)?;
+                self.answer = Answered::Untold;
+            }
             Some(("ticks_past", ticks)) => {
                 let before: u64 = number(ticks)?;
                 let before = before.saturating_add(self.mark);
@@ -449,6 +451,17 @@ impl<R: Wait + Clock + Copy + Clone + Drop> Fronts<R> {
 fn pause<R: Clock>(rt: &R) {
     for _ in 0..50u32 {
         thread::sleep(rt, Duration::from_millis(1));
+    }
+}
+
+/// Tells a bar's ticker off, or on with this interval.
+fn set_ticker<R: Wait + Threads + Clock + Copy + Clone + Drop + Send + 'static>(
+    bar: &Bar<R>,
+    nanos: &str,
+) -> Result<(), Bad> {
+    match nanos {
+        "off" => Ok(bar.disable_steady_tick()?),
+        nanos => Ok(bar.enable_steady_tick(number(nanos)?)?),
     }
 }
 
