@@ -16,7 +16,7 @@ use std::thread::{Threads, join};
 type Bridge<R> = LogBridge<InMemoryTerm, StepClock, R>;
 
 fn bridge_over<R: Wait + Copy + Clone + Drop>(board: &Shared<R>) -> Result<Bridge<R>, Refusal> {
-    Ok(LogBridge::new(board.clone()?))
+    Ok(LogBridge::new((*board).clone()?))
 }
 
 fn warn_twice<L: Log>(rt: &L) {
@@ -104,7 +104,7 @@ fn a_filter_drops_records(rt: HostRuntime) -> Result<(), Fail> {
 #[test]
 fn a_level_stands_on_each_line(rt: HostRuntime) -> Result<(), Fail> {
     let board = recorded(rt, rt.alloc())?;
-    let bridge = LogBridge::with_form(board.clone()?, LevelOnEachLine);
+    let bridge = LogBridge::with_form((*board).clone()?, LevelOnEachLine);
     log_each_level(&Logged::new(rt, Level::Trace, bridge));
     assert_eq!(rt; counted(&board, Kind::Log("ERROR e\nERROR f")), 1);
     Ok(())
@@ -123,7 +123,7 @@ impl LineForm for TextAlone {
 #[test]
 fn a_line_has_a_form_of_the_callers(rt: HostRuntime) -> Result<(), Fail> {
     let board = recorded(rt, rt.alloc())?;
-    let bridge = LogBridge::with_form(board.clone()?, TextAlone);
+    let bridge = LogBridge::with_form((*board).clone()?, TextAlone);
     log_each_level(&Logged::new(rt, Level::Trace, bridge));
     assert_eq!(rt; counted(&board, Kind::Log("e\nf")), 1);
     Ok(())
@@ -178,7 +178,7 @@ fn contents(term: Option<&Term<Wire>>) -> Option<String> {
 #[test]
 fn a_record_that_failed_is_missed(rt: HostRuntime) -> Result<(), Fail> {
     let board = breaking_after(rt, rt.alloc(), 0)?;
-    let log = Logged::new(rt, Level::Trace, LogBridge::new(board.clone()?));
+    let log = Logged::new(rt, Level::Trace, LogBridge::new((*board).clone()?));
     warn!(log; "one");
     assert_eq!(rt; log.sink().missed(), 1);
     warn!(log; "two");
