@@ -1,9 +1,10 @@
 //! What is known of shared bars and boards, and of lists and pieces that threads work on.
-ghost use Rattle.std.specs.Prelude.{◌≡◌, ◌*◌, ◌+◌, ◌%◌, ◌^◌, IfOk, IfErr, Err, ◌⊎◌};
+ghost use Rattle.std.specs.Prelude.{◌≡◌, ◌⊎◌, ◌+◌, ◌*◌, ◌%◌, ◌^◌, IfOk, IfErr, Err};
 ghost use Rattle.std.specs.List.{AllZip};
 ghost use Rattle.indicatif_bar.specs.Commands.{Inc};
 ghost use Rattle.indicatif_bar.specs.Lone.{Obey};
 ghost use Rattle.indicatif.specs.Fronts.{CanAnswer};
+ghost use Rattle.indicatif.specs.Wrap.{inner_of};
 
 use indicatif::{
     Clock, Gate, Moves, MultiProgress, ParallelProgressIterator, ProgressBar, ProgressBarIter,
@@ -13,7 +14,7 @@ use std::alloc::Global;
 use std::sync::Wait;
 use std::thread::Threads;
 
-/// A number more than this, found while the rows of a bar are taken back; a step that is refused is one that a bar can refuse.
+/// The number after this one, found while the rows of a bar are taken back; where the bar's step is refused, a bar can refuse it so.
 pub fn next_beside<T: TermLike + Drop, C: Clock + Drop, R: Wait + Clone + Drop>(
     bar: &ProgressBar<T, C, R>,
     number: u32,
@@ -21,16 +22,20 @@ pub fn next_beside<T: TermLike + Drop, C: Clock + Drop, R: Wait + Clone + Drop>(
     ensures next { IfOk result (λ next. next ≡ (number + 1) % 2 ^ 32) }
     ensures refused { IfErr result (λ e. CanAnswer T.view (Obey (Inc 1)) (Err e)) }
 {
-    bar.inc(1)?;
-    let (next, _) = bar.suspend(
-        || -> u32
-            ensures { result ≡ (number + 1) % 2 ^ 32 }
-        { number.wrapping_add(1) },
-    );
-    Ok(next)
+    match bar.inc(1) {
+        Ok(_) => {
+            let (next, _) = bar.suspend(
+                || -> u32
+                    ensures { result ≡ (number + 1) % 2 ^ 32 }
+                { number.wrapping_add(1) },
+            );
+            Ok(next)
+        }
+        Err(refusal) => Err(refusal),
+    }
 }
 
-/// The same while the rows of all bars of a board are.
+/// The same, found while the rows of all bars of a board are taken back.
 pub fn next_above<T: TermLike + Drop, C: Clock + Drop, R: Wait + Clone + Drop>(
     board: &MultiProgress<T, C, R>,
     number: u32,
@@ -51,7 +56,7 @@ pub fn doubled<R: Threads + Sync, P: Moves>(
     alloc: Global,
     list: ProgressBarIter<&[u32], P>,
 ) -> (Result<Vec<u32>, Refusal>, P)
-    ensures { IfOk result.0 (λ made. AllZip (λ x y. y ≡ x * 2 % 2 ^ 32) list.it.now made.items) }
+    ensures { IfOk result.0 (λ made. AllZip (λ x y. y ≡ x * 2 % 2 ^ 32) (inner_of list.entry).now made.items) }
 {
     list.map_collect(
         rt,
@@ -60,4 +65,27 @@ pub fn doubled<R: Threads + Sync, P: Moves>(
             ensures { result ≡ x.now * 2 % 2 ^ 32 }
         { x.wrapping_mul(2) },
     )
+}
+
+/// Each number of each piece doubled, in order, by threads that count for a shared bar; `ZeroPieces` and `Memory` alone are refused.
+pub fn doubled_pieces<
+    R: Threads + Sync,
+    G: Gate,
+    T: TermLike + Drop,
+    C: Clock + Drop,
+    B: Wait + Clone + Drop,
+>(
+    rt: &R,
+    alloc: Global,
+    pieces: &[Vec<u32>],
+    gate: &G,
+    bar: &ProgressBar<T, C, B>,
+) -> Result<Vec<Vec<u32>>, Refusal>
+    ensures made { IfOk result (λ made. AllZip (λ piece answers. AllZip (λ x y. y ≡ x * 2 % 2 ^ 32) piece.items answers.items) pieces.now made.items) }
+    ensures refused { IfErr result (λ e. (e ≡ Refusal.ZeroPieces) ⊎ (e ≡ Refusal.Memory)) }
+{
+    let double = |x: &u32| -> u32
+        ensures { result ≡ x.now * 2 % 2 ^ 32 }
+    { x.wrapping_mul(2) };
+    run_workers(rt, alloc, pieces, double, gate, bar)
 }
