@@ -21,11 +21,11 @@ pub fn suspend(
     Ok(())
 }
 
-fn suspended(
+fn suspended<'a>(
     board: &mut Shown,
-    screen: &Screen,
-    text: &str,
+    screen: &'a Screen,
+    text: &'a str,
     now: Moment,
 ) -> (io::Result<()>, Result<Drawn, Refusal>) {
-    board.suspend(now, || screen.feed(text.as_bytes()))
+    board.suspend(now, move || screen.feed(text.as_bytes()))
 }
