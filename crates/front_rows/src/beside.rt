@@ -71,7 +71,7 @@ fn shared<R: Wait + Copy + Clone + Drop>(
 }
 
 /// A `LoneBar` that is made at the moment of the first, and is then told the same style.
-fn lone(alloc: Global, target: Target, clock: &mut StepClock) -> Result<Box<Lone>, Refusal> {
+fn lone_bar(alloc: Global, target: Target, clock: &mut StepClock) -> Result<Box<Lone>, Refusal> {
     let bar = BarState::new(alloc, Some(10), clock.now())?;
     let mut bar = Box::new(alloc, LoneBar::new(bar, target))?;
     bar.with_style(style(alloc)?, clock.now())?;
@@ -86,7 +86,7 @@ impl<R: Wait + Copy + Clone + Drop> Both<R> {
         let shared = shared(rt, alloc, target(alloc, room, words)?, room.clock)?;
         let both = Both {
             shared,
-            lone: lone(alloc, target(alloc, room, words)?, &mut clock)?,
+            lone: lone_bar(alloc, target(alloc, room, words)?, &mut clock)?,
             clock,
             alloc,
             room,

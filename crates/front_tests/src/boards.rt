@@ -182,7 +182,7 @@ struct Stage<R: Wait + Copy + Clone + Drop> {
     common: Bar<R>,
 }
 
-fn stage<R: Wait + Copy + Clone + Drop>(rt: R, alloc: Global) -> Result<Box<Stage<R>>, Refusal> {
+fn stage_on<R: Wait + Copy + Clone + Drop>(rt: R, alloc: Global) -> Result<Box<Stage<R>>, Refusal> {
     let board = Box::into_inner(recorded(rt, alloc)?);
     let common = bar_on(&board, rt, alloc, "all")?;
     Ok(Box::new(alloc, Stage { board, common })?)
@@ -247,7 +247,7 @@ fn sum_of(one: (u64, u64), other: (u64, u64)) -> Option<u64> {
 /// A thousand calls from four threads, with bars that are taken out and come back: the bar that all have is taken out too.
 #[test]
 fn a_thousand_calls(rt: HostRuntime) -> Result<(), Fail> {
-    let on = stage(rt, rt.alloc())?;
+    let on = stage_on(rt, rt.alloc())?;
     let (one, other) = join(
         &rt,
         || play_two(&on, rt, rt.alloc(), (1, 2)),
@@ -293,7 +293,7 @@ fn of_tickers<R: Wait + Copy + Clone + Drop>(board: &Shared<R>) -> (u64, u64, u6
 /// A board that is suspended beside a ticker draws again; the history has the ticker's ticks, and no more once it is told off.
 #[test]
 fn a_pause_beside_a_ticker(rt: HostRuntime) -> Result<(), Fail> {
-    let on = stage(rt, rt.alloc())?;
+    let on = stage_on(rt, rt.alloc())?;
     on.common.enable_steady_tick(1_000_000)?;
     assert!(rt; ticks(&rt, &on.common));
     assert!(rt; on.board.suspend(|| 7u8) == (7, Ok(Drawn::Yes)));

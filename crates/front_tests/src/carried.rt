@@ -253,11 +253,11 @@ fn it_can_wrap_a_reader(rt: HostRuntime) -> Result<(), Fail> {
 }
 
 /// A text of 26 bytes.
-const WRITTEN: &str = "implementation of io::Read";
+const TEXT_READ: &str = "implementation of io::Read";
 
 /// What a writer that a bar wraps has taken of that text.
 fn written<R: Wait + Copy + Clone + Drop>(alloc: Global, bar: &Bar<R>) -> Result<Vec<u8>, Fail> {
-    let mut reader = WRITTEN.as_bytes();
+    let mut reader = TEXT_READ.as_bytes();
     let mut writer = Box::new(alloc, bar.wrap_write(Vec::new(alloc))?)?;
     io::copy(&mut reader, &mut *writer)?;
     Ok(Box::into_inner(writer).into_inner().0)
@@ -266,6 +266,6 @@ fn written<R: Wait + Copy + Clone + Drop>(alloc: Global, bar: &Bar<R>) -> Result
 #[test]
 fn it_can_wrap_a_writer(rt: HostRuntime) -> Result<(), Fail> {
     let bar = bar_of(rt, rt.alloc(), 26)?;
-    assert!(rt; written(rt.alloc(), &bar)?.as_slice() == WRITTEN.as_bytes());
+    assert!(rt; written(rt.alloc(), &bar)?.as_slice() == TEXT_READ.as_bytes());
     Ok(())
 }
