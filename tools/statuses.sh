@@ -17,13 +17,13 @@ built() {
   fi
 }
 built bars demo
-built replay format data/format.tsv
+built rows data/limiters.txt
 built meter --help
 folder=$(mktemp -d) || exit 2
 trap 'rm -rf "$folder"' EXIT
 : > "$folder/empty"
 echo '# a heading' > "$folder/heading"
-printf 'HumanCount\t1000\t1000\n' > "$folder/other"
+echo 'format HumanCount 1000 -> 1000' > "$folder/other"
 cd "$folder" || exit 2
 
 passed=0 failed=0
@@ -58,12 +58,11 @@ wants 1 'bars: E15' bars run 0 10
 wants 1 'bars: line 1: E9' bars run 2 10 <<< 'tick 1'
 wants 2 'bars: line 2: bad command' bars run 2 10 bottom <<< $'add x\n'
 wants 2 'bars: input failed' bars run 2 10 < .
-wants 2 'usage: replay KIND FILE [KIND FILE ..]' replay
-wants 2 'replay: empty has no rows' replay format empty
-wants 2 'replay: heading has no rows' replay format heading
-wants 2 'replay: other is no kind of rows' replay other other
-wants 2 'replay: no file for format' replay format
-wants 1 '' replay format other
+wants 1 '' rows
+wants 1 '' rows empty
+wants 1 '' rows heading
+wants 1 '' rows other
+wants 2 'rows: missing: No such file or directory (os error 2)' rows missing
 
 # the pipe viewer: its standard error is no terminal here, so that its bar is hidden
 wants 0 '' meter < /dev/null

@@ -9,6 +9,8 @@ pub enum Command<'a> {
     Add(&'a str),
     /// This text above the bars.
     Log(&'a str),
+    /// This text above the bars, as a warning.
+    Warn(&'a str),
     /// The bars' rows taken back.
     Clear,
     /// Something done to the bar of a number; `None` where that is past 2^64 - 1, which is no bar's.
@@ -50,6 +52,7 @@ fn alone(word: &str) -> Option<Command<'static>> {
     match word {
         "add" => Some(Command::Add("")),
         "log" => Some(Command::Log("")),
+        "warn" => Some(Command::Warn("")),
         "clear" => Some(Command::Clear),
         _ => None,
     }
@@ -60,6 +63,7 @@ fn with_rest<'a>(word: &str, rest: &'a str) -> Option<Command<'a>> {
     match word {
         "add" => Some(Command::Add(rest)),
         "log" => Some(Command::Log(rest)),
+        "warn" => Some(Command::Warn(rest)),
         "msg" => {
             let (number, text) = rest.split_once(' ').unwrap_or((rest, ""));
             numbered(number, BarAction::Message(text))

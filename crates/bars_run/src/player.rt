@@ -3,10 +3,12 @@ use crate::arguments::Asked;
 use crate::commands::{BarAction, Command};
 use indicatif_bar::state::{BarCommand, BarState, ProgressFinish};
 use indicatif_bar::style::{NoTracker, ProgressStyle};
+use indicatif_board::bridge::bridge_line;
 use indicatif_board::multi::{Answer, BarId, Board, Call, Candidate, InsertLocation};
 use indicatif_term::draw_target::ProgressDrawTarget;
 use indicatif_term::in_memory::InMemoryTerm;
 use indicatif_text::columns::{Moment, Refusal};
+use log::Level;
 use std::alloc::Global;
 
 /// A board on a terminal in memory, without a limiter, and how many bars it was given. All happens at the moment 0.
@@ -79,6 +81,7 @@ impl Player {
                 })
             }
             Command::Log(text) => Ok(Call::Log(String::from_str(self.alloc, text)?)),
+            Command::Warn(text) => Ok(Call::Log(warning(self.alloc, text)?)),
             Command::Clear => Ok(Call::Clear),
             Command::Bar(number, action) => bar_call(self.alloc, self.id_of(number)?, action),
         }
@@ -94,6 +97,13 @@ impl Player {
             _ => Err(Refusal::NotMember),
         }
     }
+}
+
+/// The line of a log that warns.
+fn warning(alloc: Global, text: &str) -> Result<String, Refusal> {
+    let mut line = String::new(alloc);
+    bridge_line(Level::Warn, text, &mut line)?;
+    Ok(line)
 }
 
 /// The board's call for what is done to a bar.

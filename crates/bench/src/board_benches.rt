@@ -10,16 +10,6 @@ use indicatif_term::term_like::Term;
 use indicatif_text::columns::Refusal;
 use std::alloc::Global;
 
-pub const NAMES: [&str; 1] = ["board_draw"];
-
-/// The measurement of a name, if it is one of this module.
-pub fn run(rt: &HostRuntime, name: &str, count: u64) -> Result<Option<Measured>> {
-    match name {
-        "board_draw" => Ok(Some(board_draw(rt, count)?)),
-        _ => Ok(None),
-    }
-}
-
 /// Bars on a board on the terminal, whose calls promise nothing here.
 #[derive(Drop)]
 struct ShownBoard {
@@ -92,7 +82,7 @@ fn draw_ten(board: &mut ShownBoard) -> Result<(), Refusal> {
 }
 
 /// The drawings of a board of ten bars in the default style, each of which was drawn once.
-fn board_draw(rt: &HostRuntime, count: u64) -> Result<Measured> {
+pub fn board_draw(rt: &HostRuntime, count: u64) -> Result<Measured> {
     let mut board = Box::new(rt.alloc(), ShownBoard::new(rt.alloc()))?;
     take_in_ten(rt.alloc(), &mut board)?;
     draw_ten(&mut board)?;

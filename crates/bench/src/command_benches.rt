@@ -7,17 +7,6 @@ use std::alloc::Global;
 use std::io;
 use std::time::Instant;
 
-pub const NAMES: [&str; 2] = ["inc_limited", "inc_clock"];
-
-/// The measurement of a name, if it is one of this module.
-pub fn run(rt: &HostRuntime, name: &str, count: u64) -> Result<Option<Measured>> {
-    match name {
-        "inc_limited" => Ok(Some(inc_limited(rt, count)?)),
-        "inc_clock" => Ok(Some(inc_clock(rt, count)?)),
-        _ => Ok(None),
-    }
-}
-
 /// A bar of so many steps.
 fn bar_of(alloc: Global, count: u64) -> Result<Box<Shown>, Refusal> {
     Ok(Box::new(alloc, Shown::of_length(alloc, count)?)?)
@@ -39,7 +28,7 @@ impl<'a> Work for Steps<'a> {
 }
 
 /// Steps of a bar of so many, each 20 nanoseconds after the one before.
-fn inc_limited(rt: &HostRuntime, count: u64) -> Result<Measured> {
+pub fn inc_limited(rt: &HostRuntime, count: u64) -> Result<Measured> {
     let mut bar = bar_of(rt.alloc(), count)?;
     measure(rt, &mut Steps(&mut bar), count)
 }
@@ -63,7 +52,7 @@ fn steps_by_clock(
 }
 
 /// Steps of a bar of so many, each at the moment that the machine's clock tells.
-fn inc_clock(rt: &HostRuntime, count: u64) -> Result<Measured> {
+pub fn inc_clock(rt: &HostRuntime, count: u64) -> Result<Measured> {
     let mut bar = bar_of(rt.alloc(), count)?;
     steps_by_clock(rt, &mut bar, (Instant::now(rt)?, count))
 }

@@ -7,29 +7,9 @@ use indicatif_term::term_like::Term;
 use indicatif_text::columns::Refusal;
 use std::alloc::Global;
 
-pub const NAMES: [&str; 5] = [
-    "message_draw",
-    "message_draw_10",
-    "log_draw",
-    "board_frame",
-    "tick_draw",
-];
-
 /// The alphabet three times.
 const LETTERS: &str =
     "abcdefghijklmnopqrstuvwxyzabcdefghijklmnopqrstuvwxyzabcdefghijklmnopqrstuvwxyz";
-
-/// The measurement of a name, if it is one of this module.
-pub fn run(rt: &HostRuntime, name: &str, count: u64) -> Result<Option<Measured>> {
-    match name {
-        "message_draw" => Ok(Some(message_draw(rt, count, 1)?)),
-        "message_draw_10" => Ok(Some(message_draw(rt, count, 10)?)),
-        "log_draw" => Ok(Some(log_draw(rt, count)?)),
-        "board_frame" => Ok(Some(board_frame(rt, count)?)),
-        "tick_draw" => Ok(Some(tick_draw(rt, count)?)),
-        _ => Ok(None),
-    }
-}
 
 /// 60 letters, the first of them at this place of the alphabet.
 fn line(first: usize) -> &'static str {
@@ -98,7 +78,7 @@ impl<'a> Work for Messages<'a> {
 }
 
 /// A new message of so many lines and a tick.
-fn message_draw(rt: &HostRuntime, count: u64, lines: usize) -> Result<Measured> {
+pub fn message_draw(rt: &HostRuntime, count: u64, lines: usize) -> Result<Measured> {
     let texts = Texts::new(rt.alloc(), lines)?;
     let mut bar = bar_saying(rt.alloc(), &texts)?;
     let mut work = Messages {
@@ -127,7 +107,7 @@ impl<'a> Work for Lines<'a> {
 }
 
 /// Lines above a bar.
-fn log_draw(rt: &HostRuntime, count: u64) -> Result<Measured> {
+pub fn log_draw(rt: &HostRuntime, count: u64) -> Result<Measured> {
     let texts = Texts::new(rt.alloc(), 1)?;
     let mut bar = bar_saying(rt.alloc(), &texts)?;
     let mut work = Lines {
@@ -154,7 +134,7 @@ impl<'a> Work for Ticks<'a> {
 }
 
 /// Steps of a bar of so many in the default style, each drawn.
-fn tick_draw(rt: &HostRuntime, count: u64) -> Result<Measured> {
+pub fn tick_draw(rt: &HostRuntime, count: u64) -> Result<Measured> {
     let mut bar = Box::new(rt.alloc(), Shown::of_length(rt.alloc(), count)?)?;
     measure(rt, &mut Ticks(&mut bar), count)
 }
@@ -194,7 +174,7 @@ impl<'a> Work for Frames<'a> {
 }
 
 /// Drawings of a frame that was drawn once.
-fn board_frame(rt: &HostRuntime, count: u64) -> Result<Measured> {
+pub fn board_frame(rt: &HostRuntime, count: u64) -> Result<Measured> {
     let frame = frame_of_ten(rt.alloc())?;
     let mut engine = Box::new(rt.alloc(), Engine::new(rt.alloc(), terminal(rt.alloc())))?;
     let mut work = Frames {

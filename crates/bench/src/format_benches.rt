@@ -5,20 +5,8 @@ use indicatif_text::format::{HumanBytes, HumanCount, HumanDuration};
 use std::fmt::Display;
 use std::time::Instant;
 
-pub const NAMES: [&str; 3] = ["human_bytes", "human_count", "human_duration"];
-
-/// The measurement of a name, if it is one of this module.
-pub fn run(rt: &HostRuntime, name: &str, count: u64) -> Result<Option<Measured>> {
-    match name {
-        "human_bytes" => Ok(Some(written(rt, count, HumanBytes)?)),
-        "human_count" => Ok(Some(written(rt, count, HumanCount)?)),
-        "human_duration" => Ok(Some(written(rt, count, HumanDuration)?)),
-        _ => Ok(None),
-    }
-}
-
 /// Writes each value into one `String`, which is emptied before.
-fn written<D: Display + Drop, F: Fn(u64) -> D + Drop>(
+pub fn written<D: Display + Drop, F: Fn(u64) -> D + Drop>(
     rt: &HostRuntime,
     count: u64,
     shown: F,

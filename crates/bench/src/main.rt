@@ -1,6 +1,6 @@
 //! Measurements: `bench NAME N` does a piece of work N times and prints `NAME N seconds ns_per_op` and what was made in all:
 //! `bytes=..` that were written or read, `draws=..` behind them where they were drawn, `parts=..` of templates, `rows=..` of
-//! lines, or the `sum=..` of the numbers of a loop. `bench` alone prints the names, one a line.
+//! lines, or the `sum=..` of the numbers of a loop. `bench` alone says so much.
 //!
 //! - `measured`: what a measurement tells, and the values that it works on.
 //! - `format_benches`: the formatters, each written into one `String`.
@@ -29,73 +29,55 @@ mod wrap_benches;
 
 use crate::measured::Measured;
 use anyhow::{Result, bail};
+use indicatif_text::format::{HumanBytes, HumanCount, HumanDuration};
 use std::env;
 
 fn main(rt: HostRuntime) -> Result<()> {
     let mut words = env::args(&rt)?;
     words.next();
-    let Some(name) = words.next() else {
-        return names(&rt);
+    let (Some(name), Some(count)) = (words.next(), words.next()) else {
+        println!(rt; "usage: bench NAME N")?;
+        return Ok(());
     };
-    let count: u64 = match words.next() {
-        Some(word) => word.as_str().parse()?,
-        None => bail!("usage: bench NAME N"),
-    };
+    let count: u64 = count.as_str().parse()?;
     let name = name.as_str();
-    let found = match measured_by(&rt, name, count)? {
-        None => thread_benches::run(&rt, rt.alloc(), name, count)?,
-        found => found,
-    };
-    let Some(measured) = found else {
-        bail!("no measurement of this name");
+    let measured = match thread_benches::run(&rt, rt.alloc(), name, count)? {
+        Some(measured) => measured,
+        None => measured_by(&rt, name, count)?,
     };
     println!(rt; "{name} {count} {measured}")?;
     Ok(())
 }
 
-/// The measurement of a name in one thread, if there is one.
-fn measured_by(rt: &HostRuntime, name: &str, count: u64) -> Result<Option<Measured>> {
-    if let Some(measured) = format_benches::run(rt, name, count)? {
-        return Ok(Some(measured));
+/// The measurement of a name in one thread.
+fn measured_by(rt: &HostRuntime, name: &str, count: u64) -> Result<Measured> {
+    match name {
+        "human_bytes" => format_benches::written(rt, count, HumanBytes),
+        "human_count" => format_benches::written(rt, count, HumanCount),
+        "human_duration" => format_benches::written(rt, count, HumanDuration),
+        "template_parse" => template_benches::template_parse(rt, count),
+        "format_template" => template_benches::format_template(rt, count),
+        "wrapped_ascii" => text_benches::measured(rt, count, &["a"; 60]),
+        "wrapped_bar" => text_benches::measured(rt, count, &text_benches::bar()),
+        "wrapped_wide" => text_benches::measured(rt, count, &["国"; 60]),
+        "wrapped_colours" => text_benches::measured(rt, count, &["\x1b[32ma"; 60]),
+        "term_feed" => terminal_benches::term_feed(rt, count),
+        _ => drawn_by(rt, name, count),
     }
-    if let Some(measured) = template_benches::run(rt, name, count)? {
-        return Ok(Some(measured));
-    }
-    if let Some(measured) = text_benches::run(rt, name, count)? {
-        return Ok(Some(measured));
-    }
-    if let Some(measured) = terminal_benches::run(rt, name, count)? {
-        return Ok(Some(measured));
-    }
-    if let Some(measured) = draw_benches::run(rt, name, count)? {
-        return Ok(Some(measured));
-    }
-    if let Some(measured) = board_benches::run(rt, name, count)? {
-        return Ok(Some(measured));
-    }
-    if let Some(measured) = command_benches::run(rt, name, count)? {
-        return Ok(Some(measured));
-    }
-    wrap_benches::run(rt, name, count)
 }
 
-/// Prints names, one a line.
-fn names_of(rt: &HostRuntime, names: &[&str]) -> Result<()> {
-    for name in names {
-        println!(rt; "{name}")?;
+/// That of a bar's or a board's calls.
+fn drawn_by(rt: &HostRuntime, name: &str, count: u64) -> Result<Measured> {
+    match name {
+        "message_draw" => draw_benches::message_draw(rt, count, 1),
+        "message_draw_10" => draw_benches::message_draw(rt, count, 10),
+        "log_draw" => draw_benches::log_draw(rt, count),
+        "board_frame" => draw_benches::board_frame(rt, count),
+        "tick_draw" => draw_benches::tick_draw(rt, count),
+        "board_draw" => board_benches::board_draw(rt, count),
+        "inc_limited" => command_benches::inc_limited(rt, count),
+        "inc_clock" => command_benches::inc_clock(rt, count),
+        "wrap_iter" => wrap_benches::wrap_iter(rt, count),
+        _ => bail!("no measurement of this name"),
     }
-    Ok(())
-}
-
-/// Prints the names of the measurements.
-fn names(rt: &HostRuntime) -> Result<()> {
-    names_of(rt, &format_benches::NAMES)?;
-    names_of(rt, &template_benches::NAMES)?;
-    names_of(rt, &text_benches::NAMES)?;
-    names_of(rt, &terminal_benches::NAMES)?;
-    names_of(rt, &draw_benches::NAMES)?;
-    names_of(rt, &board_benches::NAMES)?;
-    names_of(rt, &command_benches::NAMES)?;
-    names_of(rt, &wrap_benches::NAMES)?;
-    names_of(rt, &thread_benches::NAMES)
 }

@@ -6,22 +6,11 @@ use indicatif_text::template::Template;
 use std::alloc::Global;
 use std::time::Instant;
 
-pub const NAMES: [&str; 2] = ["template_parse", "format_template"];
-
 const TEMPLATE: &str =
     "{spinner:.green} [{elapsed_precise}] [{wide_bar:.cyan/blue}] {bytes}/{total_bytes} ({eta})";
 
-/// The measurement of a name, if it is one of this module.
-pub fn run(rt: &HostRuntime, name: &str, count: u64) -> Result<Option<Measured>> {
-    match name {
-        "template_parse" => Ok(Some(template_parse(rt, count)?)),
-        "format_template" => Ok(Some(format_template(rt, count)?)),
-        _ => Ok(None),
-    }
-}
-
 /// Parses one template so many times; it counts the parts.
-fn template_parse(rt: &HostRuntime, count: u64) -> Result<Measured> {
+pub fn template_parse(rt: &HostRuntime, count: u64) -> Result<Measured> {
     let mut parts: u64 = 0;
     let start = Instant::now(rt)?;
     for _ in 0..count {
@@ -38,7 +27,7 @@ fn first_tick(alloc: Global) -> Result<u64> {
 }
 
 /// Makes a style of one template so many times; it counts the bytes of the spinners' first texts.
-fn format_template(rt: &HostRuntime, count: u64) -> Result<Measured> {
+pub fn format_template(rt: &HostRuntime, count: u64) -> Result<Measured> {
     let mut bytes: u64 = 0;
     let start = Instant::now(rt)?;
     for _ in 0..count {

@@ -5,21 +5,11 @@ use indicatif_term::in_memory::Cells;
 use indicatif_text::columns::Refusal;
 use std::fs;
 
-pub const NAMES: [&str; 1] = ["term_feed"];
-
 /// Rows and columns of the terminal.
 const SIZE: (u16, u16) = (24, 80);
 
 /// Bytes in a KiB.
 const KIB: usize = 1024;
-
-/// The measurement of a name, if it is one of this module.
-pub fn run(rt: &HostRuntime, name: &str, count: u64) -> Result<Option<Measured>> {
-    match name {
-        "term_feed" => Ok(Some(term_feed(rt, count)?)),
-        _ => Ok(None),
-    }
-}
 
 /// A terminal that is fed a block again and again, until so many bytes are left.
 #[derive(Drop)]
@@ -48,7 +38,7 @@ impl<'a> Work for Feeding<'a> {
 }
 
 /// Feeds so many KiB, in blocks of the file's length; a KiB is what is counted.
-fn term_feed(rt: &HostRuntime, count: u64) -> Result<Measured> {
+pub fn term_feed(rt: &HostRuntime, count: u64) -> Result<Measured> {
     let block = fs::read(rt, "typical.txt")?;
     let mut cells = Cells::new(rt.alloc(), SIZE.0, SIZE.1)?;
     let left = usize::try_from(count)?.saturating_mul(KIB);

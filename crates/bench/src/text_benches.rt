@@ -5,26 +5,8 @@ use indicatif_text::columns::{Refusal, wrapped};
 use std::alloc::Global;
 use std::time::Instant;
 
-pub const NAMES: [&str; 4] = [
-    "wrapped_ascii",
-    "wrapped_bar",
-    "wrapped_wide",
-    "wrapped_colours",
-];
-
-/// The measurement of a name, if it is one of this module.
-pub fn run(rt: &HostRuntime, name: &str, count: u64) -> Result<Option<Measured>> {
-    match name {
-        "wrapped_ascii" => Ok(Some(measured(rt, count, &["a"; 60])?)),
-        "wrapped_bar" => Ok(Some(measured(rt, count, &bar())?)),
-        "wrapped_wide" => Ok(Some(measured(rt, count, &["国"; 60])?)),
-        "wrapped_colours" => Ok(Some(measured(rt, count, &["\x1b[32ma"; 60])?)),
-        _ => Ok(None),
-    }
-}
-
 /// A bar of 40 full cells and 20 empty ones.
-fn bar() -> [&'static str; 60] {
+pub fn bar() -> [&'static str; 60] {
     let mut cells = ["░"; 60];
     for cell in cells[..40].iter_mut() {
         *cell = "█";
@@ -53,7 +35,7 @@ fn rows_of(rt: &HostRuntime, line: &str, count: u64) -> Result<Measured> {
 }
 
 /// Measures the line of these pieces so many times.
-fn measured(rt: &HostRuntime, count: u64, pieces: &[&str]) -> Result<Measured> {
+pub fn measured(rt: &HostRuntime, count: u64, pieces: &[&str]) -> Result<Measured> {
     let line = joined(rt.alloc(), pieces)?;
     rows_of(rt, line.as_str(), count)
 }

@@ -14,8 +14,6 @@ use std::sync::Wait;
 use std::thread::{Threads, join};
 use std::time::{Clock, Instant};
 
-pub const NAMES: [&str; 4] = ["inc_front", "inc_threads", "worker_add", "parallel_map"];
-
 /// The measurement of a name, if it is one of this module.
 pub fn run<R: Threads + Wait + Clock + Sync + Send + Copy + Clone + Drop>(
     rt: &R,

@@ -7,16 +7,6 @@ use std::io::Stderr;
 use std::ops::Range;
 use std::time::Instant;
 
-pub const NAMES: [&str; 1] = ["wrap_iter"];
-
-/// The measurement of a name, if it is one of this module.
-pub fn run(rt: &HostRuntime, name: &str, count: u64) -> Result<Option<Measured>> {
-    match name {
-        "wrap_iter" => Ok(Some(wrap_iter(rt, count)?)),
-        _ => Ok(None),
-    }
-}
-
 /// Numbers from 0 on with a bar of their count, which is hidden and reads the machine's clock at each of them. Its loop promises
 /// nothing here.
 #[derive(Drop)]
@@ -52,7 +42,7 @@ impl Looped {
 }
 
 /// A loop over so many numbers.
-fn wrap_iter(rt: &HostRuntime, count: u64) -> Result<Measured> {
+pub fn wrap_iter(rt: &HostRuntime, count: u64) -> Result<Measured> {
     let mut looped = Looped::over(rt, count)?;
     let start = Instant::now(rt)?;
     let sum = looped.sum();

@@ -1,26 +1,69 @@
-//! Small programs, each a module with a `main` of its own. They run in turn, each under its name.
+//! Small programs, each a module with a `main` of its own. They run in turn, each under its name; `examples NAME` runs one of them.
 //!
-//! - `first`: a first program. `download`: bytes, rate and time left. `fine`: a bar of fine characters.
-//! - `log`: lines above a bar. `refusal`: a call that is refused.
+//! - `first`: a first program. `wrapped`: a loop with a bar of its own. `download`: bytes, rate and time left.
+//! - `fine`: a bar of fine characters. `log`: lines above a bar. `refusal`: a call that is refused.
+//! - `formatters`: numbers as texts. `template`: the parts of a template. `terminal`: a bar on standard error.
 #![tactic(auto)]
 
 mod download;
 mod fine;
 mod first;
+mod formatters;
 mod log;
 mod refusal;
+mod template;
+mod terminal;
+mod wrapped;
 
 use anyhow::Result;
+use std::env;
 
 fn main(rt: HostRuntime) -> Result<()> {
-    println!(rt; "== first")?;
-    first::main(rt)?;
-    println!(rt; "== download")?;
-    download::main(&rt)?;
-    println!(rt; "== fine")?;
-    fine::main(&rt)?;
-    println!(rt; "== log")?;
-    log::main(&rt)?;
-    println!(rt; "== refusal")?;
-    refusal::main(&rt)
+    let Some(name) = env::args(&rt)?.nth(1) else {
+        print_name(&rt, "first")?;
+        first::main(rt)?;
+        return run_others(&rt);
+    };
+    match name.as_str() {
+        "first" => first::main(rt),
+        name => run(&rt, name),
+    }
+}
+
+fn print_name(rt: &HostRuntime, name: &str) -> Result<()> {
+    println!(rt; "== {name}")?;
+    Ok(())
+}
+
+/// Runs all but the first.
+fn run_others(rt: &HostRuntime) -> Result<()> {
+    for name in [
+        "wrapped",
+        "download",
+        "fine",
+        "log",
+        "refusal",
+        "formatters",
+        "template",
+        "terminal",
+    ] {
+        print_name(rt, name)?;
+        run(rt, name)?;
+    }
+    Ok(())
+}
+
+/// Runs the program of this name; nothing where there is none.
+fn run(rt: &HostRuntime, name: &str) -> Result<()> {
+    match name {
+        "wrapped" => wrapped::main(rt),
+        "download" => download::main(rt),
+        "fine" => fine::main(rt),
+        "log" => log::main(rt),
+        "refusal" => refusal::main(rt),
+        "formatters" => formatters::main(rt),
+        "template" => template::main(rt),
+        "terminal" => terminal::main(rt),
+        _ => Ok(()),
+    }
 }

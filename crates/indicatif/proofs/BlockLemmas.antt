@@ -43,7 +43,7 @@ module _ {X : Type 0} where
   take_none zero = refl
   take_none (suc n) = refl
 
-  take_split : (m n k : ℕ) (xs : List X) → k ≡ m + n → take k xs ≡ take m xs ++ take n (drop m xs)
+  pub take_split : (m n k : ℕ) (xs : List X) → k ≡ m + n → take k xs ≡ take m xs ++ take n (drop m xs)
   take_split zero n k xs e =
       let f : k ≡ n = omega arith in
       ap (λ j. take j xs) f

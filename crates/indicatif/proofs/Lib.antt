@@ -7,5 +7,7 @@ mod BuilderLemmas
 mod BlockLemmas
 mod SumLemmas
 mod WorkerLemmas
+mod WaveLemmas
+mod PlacedLemmas
 mod SharedLemmas
 mod FrontLemmas

@@ -3,6 +3,7 @@ use Rattle.std.specs.Prelude.{◌≡◌, ℕ, ◌+◌, ◌%◌, ◌^◌, Bool, t
 use Rattle.indicatif_text.specs.declared.refusal.Drawn.{Drawn}
 use Rattle.indicatif_text.specs.declared.refusal.Refusal.{Refusal}
 use Rattle.indicatif_text.specs.declared.refusal.Refusal.TheVariants.{Memory}
+use Rattle.indicatif.specs.Seek.{Seeks, after_move}
 
 -- where a bar stands, as far as moves go
 pub record Standing : Type 0 where
@@ -31,6 +32,17 @@ abbrev pub Goes : Option Standing → Move → Result Drawn Refusal → Option S
 Goes before (Advance n) answer now = IfSome before (λ bar. now ≡ Some (after_bar_move bar (Advance n)))
 Goes before (PlaceAt place) answer now = IfSome before (λ bar. now ≡ Some (after_bar_move bar (PlaceAt place)))
 Goes before FinishAsStored answer now = IfSome before (λ bar. (now ≡ Some (after_bar_move bar FinishAsStored)) ⊎ ((answer ≡ Err Memory) × (now ≡ Some bar)))
+
+-- by what the bar tells, and where a move leads it with an answer
+module _ {P : Type 0} (stands : P → Option Standing) (leads : P → Move → Result Drawn Refusal → P → Type 0) where
+  -- the bar was placed after n more from its position, as what is remembered of seeks says, which is then the second
+  pub record PlacedAfter (old : P) (seeks : Seeks) (n : ℕ) (answer : Result Drawn Refusal) (new : P) (kept : Seeks) : Type 0 where
+    pub position : ℕ
+    pub place : ℕ
+    pub here : IfSome (stands old) (λ bar. position ≡ bar.position)
+    pub by_seeks : (place, kept) ≡ after_move 5 10 seeks position n
+    pub led : leads old (PlaceAt place) answer new
+    pub goes : Goes (stands old) (PlaceAt place) answer (stands new)
 
 -- moves one after another, each with its answer
 abbrev pub MovedAlong : {P : Type 0} → (P → Move → Result Drawn Refusal → P → Type 0) → List (Move × Result Drawn Refusal) → P → P → Type 0

@@ -93,7 +93,7 @@ impl<I: Drop, K: ProgressTracker, W: TermLike + Drop, C: Clock + Drop> ProgressB
 
 impl<I: Drop, P: Drop> ProgressBarIter<I, P> {
     // Itself, unless this was refused.
-    fn unless_refused(self, answer: Result<Drawn, Refusal>) -> Result<Self, Refusal>
+    pub(crate) fn unless_refused(self, answer: Result<Drawn, Refusal>) -> Result<Self, Refusal>
         ensures itself { IfOk answer (λ _. result ≡ Ok self) }
         ensures refused { IfErr answer (λ e. result ≡ Err e) }
     {

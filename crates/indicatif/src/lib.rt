@@ -12,11 +12,13 @@
 //! - `seek`: the place that moves and seeks show (`SeekMax`).
 //! - `style`: how a bar looks, with the names that the crate `indicatif` has there.
 //! - `progress_bar`: a bar that its owners share (`ProgressBar`, `WeakProgressBar`). `counting`: threads that count for one.
+//! - `bridge`: lines of a log above a board's bars (`bridge::LogBridge`).
 //! - `machine`: the machine's clock, and bars on its terminals; all that this library asks of the machine.
-//! - `workers`: pieces of work, each in a thread of its own (`run_workers`, `Gate`).
+//! - `workers`: pieces of work, each in a thread of its own (`run_workers`, `run_workers_with`, `Gate`).
 //! - `laws`: laws of the definitions.
 #![tactic(auto)]
 
+pub mod bridge;
 mod builders;
 mod bytes;
 mod counting;
@@ -44,7 +46,7 @@ pub use crate::progress_bar::{MultiProgress, ProgressBar, RecordReader, WeakProg
 pub use crate::progress_iterator::ProgressIterator;
 pub use crate::ring::MaxRingBuf;
 pub use crate::seek::SeekMax;
-pub use crate::workers::{Gate, run_workers};
+pub use crate::workers::{Gate, run_workers, run_workers_with};
 pub use crate::wrap::ProgressBarIter;
 pub use indicatif_bar::lone::{LoneBar, LoneCall};
 pub use indicatif_bar::state::{

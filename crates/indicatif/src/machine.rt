@@ -1,27 +1,35 @@
 //! What bars ask of the machine: the time, and whether and how wide a terminal stands behind a stream. Nothing else in this
 //! library asks it anything, so a program that finds these itself needs nothing of this module.
-ghost use Rattle.std.specs.Prelude.{◌≡◌, ◌≤◌, ◌<◌, IfOk, IfErr};
+ghost use Rattle.std.specs.Prelude.{◌≡◌, ◌⊎◌, ◌≤◌, ◌<◌, Bool, chars, IfOk, IfErr};
+ghost use Rattle.indicatif_text.specs.declared.template.TemplateError.{TemplateError};
+ghost use Rattle.indicatif_text.specs.Template.{Parses, IsRefused, refusal_of};
+ghost use Rattle.indicatif_bar.specs.Builders.{first_style};
 ghost use Rattle.indicatif.specs.Machine.{IsBehind};
 
+use crate::progress_bar::{MultiProgress, ProgressBar};
+use indicatif_bar::style::{NoTracker, ProgressStyle, TICKS};
 use indicatif_term::draw_target::{Facts, ProgressDrawTarget, Setup};
 use indicatif_term::term_like::Term;
 use indicatif_text::columns::{Clock, Moment, Refusal};
 use std::env::{self, Env, VarError};
 use std::io::{BufWriter, IsTerminal, Stderr, Stdout, Write};
 use std::marker::Model;
+use std::sync::Wait;
+use std::thread::Threads;
 use std::time;
 
-/// The machine's clock, in nanoseconds since it was made; contracts see the moment that it told last. Where the machine refuses
-/// to tell the time, the clock stands.
+/// The machine's clock: the nanoseconds of its monotonic time, from a start that all clocks of the machine share, mostly when it was
+/// booted. So a bar that is made after its board counts from no later start, and may begin with as much elapsed time as the machine
+/// runs. Contracts see the moment that it told last, 0 before the first. Where the machine refuses to tell the time, the clock
+/// stands.
 ///
 /// ```
 /// let mut clock = MachineClock::new(rt);
-/// let opened = clock.now(); // some hundred nanoseconds
+/// let opened = clock.now(); // of a machine that was booted an hour ago, some 3,600,000,000,000
 /// ```
-#[derive(Drop)]
+#[derive(Clone, Drop)]
 pub struct MachineClock<R> {
     machine: R,
-    opened: Option<u64>,
     told: Moment,
 }
 
@@ -34,26 +42,15 @@ impl<R> Model for MachineClock<R> {
 }
 
 impl<R: time::Clock> MachineClock<R> {
-    /// A clock that begins now.
+    /// The clock of this machine. It isn't asked yet.
     pub fn new(machine: R) -> MachineClock<R>
         ensures { result ≡ 0 }
     {
-        let opened = nanos_told(&machine);
-        MachineClock {
-            machine,
-            opened,
-            told: 0,
-        }
-    }
-
-    /// The nanoseconds since it began, where the machine tells the time.
-    #[inline(always)]
-    fn since_opened(&self) -> Option<Moment> {
-        Some(nanos_told(&self.machine)?.saturating_sub(self.opened?))
+        MachineClock { machine, told: 0 }
     }
 }
 
-/// The nanoseconds that the machine's clock tells, from a start of its own on; 2^64 - 1 after 584 years.
+/// The nanoseconds of the machine's monotonic time, where it tells that; 2^64 - 1 after 584 years.
 #[inline(always)]
 fn nanos_told<R: time::Clock>(machine: &R) -> Option<u64> {
     let told = machine.monotonic().ok()?;
@@ -72,7 +69,7 @@ impl<R: time::Clock> Clock for MachineClock<R> {
         ensures told { self.new ≡ result }
         ensures forward { self.old ≤ result }
     {
-        if let Some(now) = self.since_opened() {
+        if let Some(now) = nanos_told(&self.machine) {
             self.told = self.told.max(now);
         }
         self.told
@@ -134,6 +131,49 @@ fn text_said<R: Env + AllocGlobal>(rt: &R, name: &str) -> Result<Option<String>,
     }
 }
 
+/// Whether colours are wanted on a stream, by the custom that the Rust crate's `console` follows: where `CLICOLOR_FORCE` is set and
+/// not `0`; else on a terminal with moves (`TERM` set and not `dumb`), where `NO_COLOR` isn't set and `CLICOLOR` isn't `0`.
+///
+/// ```
+/// let style = style.with_colors(wants_colors(&rt, &rt.stderr())?)?;
+/// ```
+///
+/// Refused: `Memory`.
+pub fn wants_colors<R: Env + AllocGlobal>(rt: &R, stream: &impl IsTerminal) -> Result<bool, Refusal>
+    ensures { IfErr result (λ e. e ≡ Refusal.Memory) }
+{
+    let forced = text_said(rt, "CLICOLOR_FORCE")?;
+    let kind = text_said(rt, "TERM")?;
+    let asked = text_said(rt, "CLICOLOR")?;
+    let forbidden = text_said(rt, "NO_COLOR")?;
+    if forced.is_some_and(|text| text.as_str() != "0") {
+        return Ok(true);
+    }
+    let shows = stream.is_terminal() && kind.is_some_and(|text| text.as_str() != "dumb");
+    let switched_off = asked.is_some_and(|text| text.as_str() == "0");
+    Ok(shows && forbidden.is_none() && !switched_off)
+}
+
+/// A style of this template for standard error, with colours where they are wanted there.
+///
+/// ```
+/// let style = style_on_stderr(&rt, "[{bar:40.cyan/blue}] {pos}/{len} {msg}")?;
+/// ```
+///
+/// Refused: as `ProgressStyle::with_template`.
+pub fn style_on_stderr(
+    rt: &HostRuntime,
+    template: &str,
+) -> Result<ProgressStyle<NoTracker>, Refusal>
+    ensures parts { IfOk result (λ style. Parses (chars template.now) style.parts) }
+    ensures style { IfOk result (λ style. (colours : Bool) × (style ≡ record (first_style TICKS.now style.parts) { colours = colours })) }
+    ensures refused { IfErr result (λ e. (e ≡ Refusal.Memory)
+        ⊎ ((error : TemplateError) × IsRefused (chars template.now) error × (e ≡ refusal_of error))) }
+{
+    let style = ProgressStyle::with_template(rt.alloc(), template)?;
+    style.with_colors(wants_colors(rt, &rt.stderr())?)
+}
+
 /// What a bar is made with on a terminal behind a writer, by the machine's clock.
 ///
 /// ```
@@ -141,6 +181,33 @@ fn text_said<R: Env + AllocGlobal>(rt: &R, name: &str) -> Result<Option<String>,
 /// let bar = LoneBar::new(bar, setup.target);
 /// ```
 pub type TerminalSetup<W> = Setup<Term<BufWriter<W>>, MachineClock<HostRuntime>>;
+
+/// A shared bar on standard error, as `on_stderr` sets it up; `R` is the runtime of the function that has it.
+///
+/// ```
+/// fn copy<R: Shares>(bar: &StderrBar<R>) -> Result<Drawn, Refusal> {
+///     bar.inc(1)
+/// }
+/// ```
+pub type StderrBar<R> = ProgressBar<Term<BufWriter<Stderr>>, MachineClock<HostRuntime>, R>;
+
+/// A shared board there.
+pub type StderrBoard<R> = MultiProgress<Term<BufWriter<Stderr>>, MachineClock<HostRuntime>, R>;
+
+/// What functions over shared bars ask of the runtime, in one word: memory, locks, threads and the time. The one that `main` is
+/// given has it.
+pub trait Shares: AllocGlobal
+    + Wait
+    + Threads
+    + time::Clock
+    + Sync
+    + Send
+    + Copy
+    + Drop
+    + 'static {}
+
+impl<R: AllocGlobal + Wait + Threads + time::Clock + Sync + Send + Copy + Drop + 'static> Shares
+    for R {}
 
 /// A bar's setup on standard error, where bars stand by custom, so that standard output is the program's own: 20 draws a second
 /// by the machine's clock, hidden where standard error is no terminal or one without moves (`facts_of`).

@@ -1,9 +1,10 @@
 //! What may stand for the progress of something else.
 ghost use Rattle.std.specs.Prelude.{◌≡◌, Option, None, IfSome, Result, ⊤};
-ghost use Rattle.indicatif.specs.Moves.{Standing, Move, Advance, PlaceAt, FinishAsStored, Goes};
+ghost use Rattle.indicatif.specs.Moves.{Standing, Move, Advance, PlaceAt, FinishAsStored, Goes, PlacedAfter};
 ghost use Rattle.indicatif_text.specs.declared.refusal.Drawn.{Drawn};
 ghost use Rattle.indicatif_text.specs.declared.refusal.Refusal.{Refusal};
 
+use crate::seek::SeekMax;
 use indicatif_text::columns::{Drawn, Refusal};
 
 /// A bar that something else moves: an iterator by its items, a reader by its bytes.
@@ -31,6 +32,15 @@ pub trait Moves: Drop {
     fn place(&mut self, place: u64) -> Result<Drawn, Refusal>
         ensures led { leads self.old (PlaceAt place) result self.new }
         ensures goes { Goes (stands self.old) (PlaceAt place) result (stands self.new) };
+
+    /// The position becomes the place after `n` more from it, as `seeks` says, in one step: of a bar that others move meanwhile
+    /// nothing is lost. A bar that is one's own needs no other than this.
+    fn place_after(&mut self, seeks: &mut SeekMax<5, 10>, n: u64) -> Result<Drawn, Refusal>
+        ensures { PlacedAfter stands leads self.old seeks.old n result self.new seeks.new }
+    {
+        let place = seeks.update_seq(self.position(), n);
+        self.place(place)
+    }
 
     /// The bar is finished by its stored finish.
     ///

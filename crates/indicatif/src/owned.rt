@@ -11,6 +11,7 @@ use indicatif_term::draw_target::Setup;
 use indicatif_term::term_like::TermLike;
 use indicatif_text::columns::{Clock, Drawn, Refusal};
 use std::alloc::Global;
+use std::fmt::{self, Debug, Formatter};
 
 /// A bar that stands alone on its target, with the clock that tells it each moment. It is what a wrapper moves where the bar
 /// isn't shared: an item is its `inc(1)`, a place its `set_position`, the end its `finish_using_style`, each at the moment
@@ -47,6 +48,12 @@ impl<K, T: Drop, C> OwnedBar<K, T, C> {
     {
         let OwnedBar { bar, clock } = self;
         (bar, clock)
+    }
+}
+
+impl<K, T: Drop, C> Debug for OwnedBar<K, T, C> {
+    fn fmt<W: fmt::Write>(&self, f: &mut Formatter<W>) -> fmt::Result {
+        f.write_str("OwnedBar")
     }
 }
 

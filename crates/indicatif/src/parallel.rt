@@ -1,11 +1,11 @@
 //! Lists that threads work on, with a bar.
-ghost use Rattle.std.specs.Prelude.{◌≡◌, ◌≤◌, ℕ, Some, Ok, IfOk, IfErr, OnOk, length};
+ghost use Rattle.std.specs.Prelude.{◌≡◌, ◌≤◌, ◌<◌, ℕ, Some, Ok, IfOk, IfErr, OnOk, length};
 ghost use Rattle.std.specs.List.{All, AllZip};
 ghost use Rattle.std.specs.Fn.{FnReturnsAt};
 ghost use Rattle.indicatif_bar.specs.Commands.{new_bar};
 ghost use Rattle.indicatif.specs.Wrap.{inner_of, Wraps};
 ghost use Rattle.indicatif.specs.Owned.{Begins, BeginsPlain};
-ghost use Rattle.indicatif.specs.Parallel.{Blocks};
+ghost use Rattle.indicatif.specs.Parallel.{Blocks, block_length};
 
 use crate::moves::Moves;
 use crate::owned::OwnedBar;
@@ -14,12 +14,35 @@ use indicatif_bar::style::{NoTracker, ProgressStyle, TICKS};
 use indicatif_term::draw_target::Setup;
 use indicatif_term::term_like::TermLike;
 use indicatif_text::columns::{Clock, Refusal};
+use rayon::current_num_threads;
 use rayon::prelude::*;
 use std::alloc::{AllocError, Global};
 use std::thread::Threads;
 
 /// The most items of a block.
 const BLOCK: usize = 4096;
+
+/// How many blocks a list is cut into that is no longer than one.
+const PARTS: usize = 10;
+
+/// How many items each block has but the last of a list of so many: as many as a block may have; of a list that is no longer a tenth,
+/// and at least one for each processor.
+fn block_of<R: Threads>(rt: &R, items: usize) -> usize
+    ensures { (0 < result) × (result ≤ block_length) }
+{
+    if items > BLOCK {
+        return BLOCK;
+    }
+    items
+        .div_ceil(PARTS)
+        .max(current_num_threads(rt))
+        .min(BLOCK)
+}
+
+/// How few items of a block of so many are worth a thread: a block's share of each processor.
+fn least_piece<R: Threads>(rt: &R, items: usize) -> usize {
+    items / current_num_threads(rt)
+}
 
 /// A slice is wrapped into one on which threads work with a bar (`map_collect`, `for_each`): a bar that is handed in, or one
 /// that is made on a target with a clock (`Setup`), in the style `{wide_bar} {pos}/{len}` or another. Nothing is drawn by this.
@@ -116,9 +139,9 @@ impl<'a, T> ParallelProgressIterator for &'a [T] {
     }
 }
 
-/// Each of these works on the list in blocks of at most 4,096 items, on as many threads as the machine has processors, and
-/// advances the bar behind each block by its items, from the thread that calls. The bar comes back as it is then; it isn't
-/// finished. What a draw answered isn't told: an advance whose draw was refused is an advance all the same.
+/// Each of these works on the list in blocks, on as many threads as the machine has processors, and advances the bar behind each
+/// block by its items, from the thread that calls. A block has 4,096 items; of a list that has no more, a tenth, and at least one for
+/// each processor, so that the bar of a few heavy items moves as well. The bar comes back as it is then; it isn't finished. What a draw answered isn't told: an advance whose draw was refused is an advance all the same.
 impl<'a, T: Sync, P: Moves> ProgressBarIter<&'a [T], P> {
     /// What `f` answers at each item, in the list's order.
     ///
@@ -175,6 +198,7 @@ fn mapped<R: Threads + Sync, T: Sync, A: Send + Drop, F: Fn(&T) -> A + Sync>(
 {
     items
         .par_iter()
+        .with_min_len(least_piece(rt, items.len()))
         .map(
             |x: &T| -> A
                 requires { F.IsAlwaysCallable f.now }
@@ -198,9 +222,10 @@ fn map_blocks<R: Threads + Sync, T: Sync, A: Send + Drop, F: Fn(&T) -> A + Sync,
     ensures memory { IfErr result (λ e. (e ≡ Refusal.Memory) × ((n : ℕ) × (n ≤ length items.now) × Blocks P.stands P.leads bar.old n bar.new)) }
 {
     let mut made = Vec::with_capacity(alloc, items.len())?;
+    let most = block_of(rt, items.len());
     let mut start = 0;
     while start < items.len() {
-        let n = BLOCK.min(items.len() - start);
+        let n = most.min(items.len() - start);
         let mut block = mapped(rt, alloc, &items[start..start + n], f)?;
         made.append(&mut block)?;
         let _ = bar.advance(n as u64);
@@ -219,11 +244,12 @@ fn run_blocks<R: Threads + Sync, T: Sync, F: Fn(&T) + Sync, P: Moves>(
     requires { F.IsAlwaysCallable f.now }
     ensures { Blocks P.stands P.leads bar.old (length items.now) bar.new }
 {
+    let most = block_of(rt, items.len());
     let mut start = 0;
     while start < items.len() {
-        let n = BLOCK.min(items.len() - start);
+        let n = most.min(items.len() - start);
         let part = &items[start..start + n];
-        part.par_iter().for_each(
+        part.par_iter().with_min_len(least_piece(rt, n)).for_each(
             rt,
             |x: &T|
                 requires { F.IsAlwaysCallable f.now }

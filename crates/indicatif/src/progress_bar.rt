@@ -3,7 +3,7 @@
 //! - `held`: what its lock keeps; `place`: where the bar stands, `single` alone, or on a board, which `kept` is (private).
 //! - `worded`: what a bar is told with a text (private).
 //! - `ticker`: which steady ticker it has; `steady`: the thread that ticks (private).
-//! - `weak`: a bar without an owner (private).
+//! - `weak`: a bar without an owner (private). `wrapped`: what is said of a wrapper's bar (private).
 ghost use Rattle.std.specs.Prelude.{◌≡◌, ◌⊎◌, ℕ, false, IfOk, IfErr, Err};
 ghost use Rattle.std.specs.Fn.{FnOnceReturnsAt};
 ghost use Rattle.indicatif_bar.specs.Commands as Command;
@@ -31,6 +31,7 @@ mod steady;
 mod ticker;
 mod weak;
 mod worded;
+mod wrapped;
 
 use self::held::{Held, Locked};
 use self::kept::{Shared, SharedBoard};
@@ -39,6 +40,7 @@ use self::single::Single;
 pub use self::weak::WeakProgressBar;
 use self::worded::Worded;
 use crate::moves::Moves;
+use crate::seek::SeekMax;
 use crate::wrap::ProgressBarIter;
 use futures::stream::Stream;
 use indicatif_bar::state::{BarCommand, BarState, Change, ProgressFinish, ProgressState, Rate};
@@ -192,10 +194,11 @@ impl<T: TermLike + Drop, C: Clock + Drop, R: Wait + Clone + Drop> ProgressBar<T,
     }
 
     /// The position goes up by `delta`, modulo 2^64; and a tick, as often as the position's limiter allows.
+    #[tactic(auto, using(crate::proofs::FrontLemmas::place_answers))]
     pub fn inc(&self, delta: u64) -> Result<Drawn, Refusal>
         ensures { CanAnswer T.view (Lone.Obey (Command.Inc delta)) result }
     {
-        self.tell(BarCommand::Inc(delta))
+        self.state.lock.lock(&self.rt).inc(&self.rt, delta)
     }
 
     /// The position goes down by `delta`, modulo 2^64; else as `inc`.
@@ -499,7 +502,7 @@ impl<T: TermLike + Drop, C: Clock + Drop, R: Wait + Clone + Drop> ProgressBar<T,
         self.state.lock.lock(&self.rt).elapsed(&self.rt)
     }
 
-    /// No thread ticks the bar from now on. It waits until any that did has ended.
+    /// No thread ticks the bar from now on, but one that is enabled later. A thread that did ends by itself; this doesn't wait for it.
     ///
     /// Refused: `Memory`, where the history of the bar's board finds none: the ticker that was installed goes on then.
     #[tactic(auto, using(crate::proofs::FrontLemmas::place_answers))]
@@ -510,12 +513,8 @@ impl<T: TermLike + Drop, C: Clock + Drop, R: Wait + Clone + Drop> ProgressBar<T,
         if let Err(refusal) = held.disable_ticker(&self.rt) {
             return Err(refusal);
         }
-        self.state.changed.notify_all();
-        let held = self
-            .state
-            .changed
-            .wait_while(&self.rt, held, |held| held.ticker.runs());
         drop(held);
+        self.state.changed.notify_all();
         Ok(())
     }
 
@@ -611,11 +610,16 @@ impl<T: TermLike + Drop, C: Clock + Drop, R: Wait + Clone + Drop> ProgressBar<T,
         }
     }
 
-    /// At this position, which the rate doesn't count. A refusal is dropped: on a board whose history finds no memory, or that hasn't
-    /// the bar, nothing is set.
-    pub fn with_position(self, position: u64) -> Self {
-        let _ = self.tell(BarCommand::WithPosition(position));
-        self
+    /// At this position, which the rate doesn't count.
+    ///
+    /// Refused: on a board alone, as each command there; this owner is given up.
+    pub fn with_position(self, position: u64) -> Result<Self, Refusal>
+        ensures { IfErr result (λ e. CanAnswer T.view (Lone.Obey (Command.PutPosition position)) (Err e)) }
+    {
+        match self.tell(BarCommand::WithPosition(position)) {
+            Ok(_) => Ok(self),
+            Err(refusal) => Err(refusal),
+        }
     }
 
     /// So many nanoseconds after its start.
@@ -630,11 +634,16 @@ impl<T: TermLike + Drop, C: Clock + Drop, R: Wait + Clone + Drop> ProgressBar<T,
         }
     }
 
-    /// With this stored finish. A refusal is dropped: on a board whose history finds no memory, or that hasn't the bar, nothing is
-    /// set.
-    pub fn with_finish(self, finish: ProgressFinish) -> Self {
-        let _ = self.tell(BarCommand::WithFinish(finish));
-        self
+    /// With this stored finish.
+    ///
+    /// Refused: on a board alone, as each command there; this owner is given up.
+    pub fn with_finish(self, finish: ProgressFinish) -> Result<Self, Refusal>
+        ensures { IfErr result (λ e. CanAnswer T.view (Lone.Obey (Command.PutFinish (finish_of finish))) (Err e)) }
+    {
+        match self.tell(BarCommand::WithFinish(finish)) {
+            Ok(_) => Ok(self),
+            Err(refusal) => Err(refusal),
+        }
     }
 }
 
@@ -776,6 +785,14 @@ impl<T: TermLike + Drop, C: Clock + Drop, R: Wait + Clone + Drop> Moves for Prog
 
     fn place(&mut self, place: u64) -> Result<Drawn, Refusal> {
         self.set_position(place)
+    }
+
+    #[tactic(auto, using(crate::proofs::PlacedLemmas::untold_placed))]
+    fn place_after(&mut self, seeks: &mut SeekMax<5, 10>, n: u64) -> Result<Drawn, Refusal> {
+        self.state
+            .lock
+            .lock(&self.rt)
+            .place_after(&self.rt, seeks, n)
     }
 
     fn finish(&mut self) -> Result<Drawn, Refusal> {

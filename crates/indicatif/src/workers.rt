@@ -1,4 +1,4 @@
-//! Pieces of work, each in a thread of its own.
+//! Pieces of work, each in a thread of its own, so many at a time.
 ghost use Rattle.std.specs.Prelude.{◌≡◌, ◌<◌, ◌≤◌, ◌+◌, ℕ, IfOk, IfErr, OnOk, IfSome, Some, length, map, slice_index_or, ◌⊎◌, ◌↔◌, Err, IsSomeAnd, ◌++◌, ◌∷◌, [], All};
 ghost use Rattle.std.specs.List.{AllZip};
 ghost use Rattle.std.specs.Fn.{FnReturnsAt};
@@ -7,9 +7,12 @@ ghost use Rattle.indicatif.specs.Workers.{items_in, Absorbed};
 ghost use Rattle.indicatif.specs.Inside.Pieces.{JobAt, IsEnded, CountsPieces};
 
 use crate::moves::Moves;
+use crate::progress_bar::ProgressBar;
 use indicatif_board::done::{BarWorker, Done};
-use indicatif_text::columns::Refusal;
+use indicatif_term::term_like::TermLike;
+use indicatif_text::columns::{Clock, Refusal};
 use std::alloc::Global;
+use std::sync::Wait;
 use std::thread;
 use std::thread::Threads;
 
@@ -39,17 +42,72 @@ struct Ended<A> {
     worker: BarWorker,
 }
 
+// How many pieces run at a time.
+const TOGETHER: usize = 256;
+
+// The gate of pieces before which so many others ran.
+#[derive(Drop)]
+struct Behind<'a, G: Gate> {
+    gate: &'a G,
+    first: usize,
+}
+
+impl<'a, G: Gate> Behind<'a, G> {
+    // The piece of this number among them passes.
+    fn pass(&self, piece: usize) {
+        self.gate.pass(self.first.saturating_add(piece));
+    }
+}
+
 /// What `f` answers at each item of each piece, the pieces in their order, and each one's answers in its items' order. Each
-/// piece runs in a thread of its own; where no thread can be made, it runs in the one that calls, so that pieces which wait for
-/// one another may wait in vain. Each counts its items without a lock, and at the end the bar is advanced once by all of them.
+/// piece runs in a thread of its own, 256 at a time: the next 256 begin once all of these have ended. Where no thread can be made,
+/// a piece runs in the one that calls. So pieces which wait for one another may wait in vain, unless their gate has a limit. Each
+/// counts its items without a lock, and at the end the bar is advanced once by all of them.
 ///
 /// ```
-/// let made = run_workers(&rt, alloc, pieces.as_slice(), |x: &u32| x.wrapping_mul(2), &Open, &mut bar)?;
+/// let made = run_workers(&rt, alloc, pieces.as_slice(), |x: &u32| x.wrapping_mul(2), &Open, &bar)?;
 /// ```
 ///
 /// Refused: `ZeroPieces` where there is no piece, and nothing is done. `Memory`; where the pieces ran, the bar is advanced by
 /// the items that were met all the same.
 pub fn run_workers<
+    R: Threads + Sync,
+    T: Sync,
+    A: Send + Drop,
+    F: Fn(&T) -> A + Sync + Drop,
+    G: Gate,
+    W: TermLike + Drop,
+    C: Clock + Drop,
+    B: Wait + Clone + Drop,
+>(
+    rt: &R,
+    alloc: Global,
+    pieces: &[Vec<T>],
+    f: F,
+    gate: &G,
+    bar: &ProgressBar<W, C, B>,
+) -> Result<Vec<Vec<A>>, Refusal>
+    requires { F.IsAlwaysCallable f }
+    ensures answers { IfOk result (λ made. AllZip (λ piece answers. AllZip (FnReturnsAt F.Fn f) piece.items answers.items) pieces.now made.items) }
+    ensures none { (result ≡ Err Refusal.ZeroPieces) ↔ (length pieces.now ≡ 0) }
+    ensures refused { IfErr result (λ e. (e ≡ Refusal.ZeroPieces) ⊎ (e ≡ Refusal.Memory)) }
+{
+    if pieces.is_empty() {
+        return Err(Refusal::ZeroPieces);
+    }
+    let (answers, met) = in_waves(rt, alloc, pieces, &f, gate)?;
+    let _ = bar.inc(met);
+    answers.ok_or(Refusal::Memory)
+}
+
+/// The same with a bar of one's own, or one that isn't shared.
+///
+/// ```
+/// let made = run_workers_with(&rt, alloc, pieces.as_slice(), |x: &u32| x.wrapping_mul(2), &Open, &mut bar)?;
+/// ```
+///
+/// Refused: as `run_workers`.
+pub fn run_workers_with<
     R: Threads + Sync,
     T: Sync,
     A: Send + Drop,
@@ -75,9 +133,45 @@ pub fn run_workers<
     if pieces.is_empty() {
         return Err(Refusal::ZeroPieces);
     }
-    let (answers, met) = counted(rt, alloc, pieces, &f, gate)?;
+    let (answers, met) = in_waves(rt, alloc, pieces, &f, gate)?;
     let _ = bar.advance(met);
     answers.ok_or(Refusal::Memory)
+}
+
+// The answers of all pieces, so many of them at a time, unless memory was refused to one; and how many items were met.
+fn in_waves<R: Threads + Sync, T: Sync, A: Send + Drop, F: Fn(&T) -> A + Sync, G: Gate>(
+    rt: &R,
+    alloc: Global,
+    pieces: &[Vec<T>],
+    f: &F,
+    gate: &G,
+) -> Result<(Option<Vec<Vec<A>>>, u64), Refusal>
+    requires callable { F.IsAlwaysCallable f.now }
+    ensures counts { IfOk result (λ r. CountsPieces (FnReturnsAt F.Fn f.now) pieces.now r.0 r.1) }
+    ensures memory { IfErr result (λ e. e ≡ Refusal.Memory) }
+{
+    let room = Vec::with_capacity(alloc, pieces.len())?;
+    let mut all = Some(room);
+    let mut met: u64 = 0;
+    let mut first = 0;
+    while first < pieces.len() {
+        let n = TOGETHER.min(pieces.len() - first);
+        let behind = Behind { gate, first };
+        let (answers, more) = counted(rt, alloc, &pieces[first..first + n], f, &behind)?;
+        all = appended(all, answers);
+        met = met.wrapping_add(more);
+        first += n;
+    }
+    Ok((all, met))
+}
+
+// The answers of some pieces more.
+fn appended<A: Drop>(all: Option<Vec<Vec<A>>>, more: Option<Vec<Vec<A>>>) -> Option<Vec<Vec<A>>>
+    ensures { IfSome result (λ made. IsSomeAnd all (λ before. IsSomeAnd more (λ others. made.items ≡ before.items ++ others.items))) }
+{
+    let mut all = all?;
+    all.append(&mut more?).ok()?;
+    Some(all)
 }
 
 // The answers, unless memory was refused to a piece, and how many items were met.
@@ -86,7 +180,7 @@ fn counted<R: Threads + Sync, T: Sync, A: Send + Drop, F: Fn(&T) -> A + Sync, G:
     alloc: Global,
     pieces: &[Vec<T>],
     f: &F,
-    gate: &G,
+    behind: &Behind<'_, G>,
 ) -> Result<(Option<Vec<Vec<A>>>, u64), Refusal>
     requires callable { F.IsAlwaysCallable f.now }
     requires some { 0 < length pieces.now }
@@ -103,7 +197,7 @@ fn counted<R: Threads + Sync, T: Sync, A: Send + Drop, F: Fn(&T) -> A + Sync, G:
         ensures { (piece : _) → piece ≡ slice_index_or pieces.entry.now job.piece piece → IsEnded (FnReturnsAt F.Fn f.entry.now) piece.items job.worker result }
     {
         let Job { piece, worker } = job;
-        gate.pass(piece);
+        behind.pass(piece);
         run_piece(alloc, shared, pieces[piece].as_slice(), worker, f)
     };
     let ended = thread::map_vec(rt, jobs, &work)?;

@@ -23,7 +23,7 @@ use indicatif_text::columns::{Drawn, Refusal};
 /// while let Some(item) = wrapped.next() { .. }
 /// let (_, bar) = wrapped.into_inner();
 /// ```
-#[derive(Drop)]
+#[derive(Drop, Debug)]
 pub struct ProgressBarIter<T, P> {
     pub(crate) it: T,
     /// The bar.
@@ -66,11 +66,12 @@ impl<T, P> ProgressBarIter<T, P> {
 
 impl<T, P: Moves> ProgressBarIter<T, P> {
     // Places the bar after `n` more bytes.
+    #[tactic(auto, using(crate::proofs::PlacedLemmas::wrapper_placed))]
     pub(crate) fn went_on(&mut self, n: u64)
         ensures it { inner_of self.new ≡ inner_of self.old }
         ensures placed { Placed P.stands P.leads self.old n self.new }
     {
-        let place = self.seeks.update_seq(self.progress.position(), n);
-        self.last = Some(self.progress.place(place));
+        let answer = self.progress.place_after(&mut self.seeks, n);
+        self.last = Some(answer);
     }
 }

@@ -17,7 +17,7 @@ use Rattle.indicatif_bar.specs.Machines.{Target, target_of, Machine, Draw, Deed,
 use Rattle.indicatif_bar.specs.Kinds.{Kind, asked_of}
 use Rattle.indicatif_bar.specs.Runs.{Runs, deed_on}
 use Rattle.indicatif_bar.specs.Lone.{LoneState, lone, refused_at_once, draw_of_call, deed_unless}
-use Rattle.indicatif_bar.specs.Bounds.{AsksLimiter, DeedAsks, IsLimited, is_unforced, is_yes, drew_unforced, unforced_draws, RunsAreBounded}
+use Rattle.indicatif_bar.specs.Bounds.{AsksLimiter, DeedAsks, IsLimited, is_unforced, is_yes, drew_unforced, unforced_draws, RunsAreBounded, RunsAreBoundedFrom}
 
 and-false : (a b : Bool) → b ≡ false → (a && b) ≡ false
 and-false true b e = e
@@ -127,6 +127,9 @@ module _ {S C A : Type 0} (m : Machine S C A) (limiter : S → Option Limiter) (
       let moments = unforced_draws m calls answers old s new next run in
       let r = run_claims calls answers old s new next run (draw_limiter rate making) positive is last e in
       counted (length moments) (1000 / rate * 1000000) (last - making) positive r.1
+
+  pub runs_bounded_from : RunsAreBoundedFrom m limiter
+  runs_bounded_from l positive calls answers old s new next run is = run_claims calls answers old s new next run l positive is
 
 -- ---- a lone bar asks its limiter
 

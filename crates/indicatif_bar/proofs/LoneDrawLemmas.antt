@@ -1,5 +1,5 @@
 -- What the answer of a lone bar's engine makes of a draw, and what a draw makes of a call.
-use Rattle.std.proofs.Common.{◌≡◌, ℕ, ◌<◌, Bool, true, false, List, refl, sym, ◌∙◌, ap, subst, Result, Ok, Err, Option, Some, None, inl, inr}
+use Rattle.std.proofs.Common.{◌≡◌, ℕ, ◌<◌, Bool, true, false, List, [], ◌∷◌, map, chars, refl, sym, ◌∙◌, ap, subst, Result, Ok, Err, Option, Some, None, inl, inr}
 use Rattle.std.specs.Prelude.{MatchResult, MatchOption, IsFalse}
 use Rattle.std.proofs.lemmas.Bool.{false≢true}
 use Rattle.indicatif_text.specs.declared.refusal.Refusal.{Refusal}
@@ -8,7 +8,7 @@ use Rattle.indicatif_text.specs.declared.refusal.Drawn.{Drawn}
 use Rattle.indicatif_term.specs.Calls.{TermView}
 use Rattle.indicatif_term.specs.Lists.{BarLines, opening_lists}
 use Rattle.indicatif_term.specs.Limiters.{Limiter}
-use Rattle.indicatif_term.specs.Frames.{text_lines, logged_lines}
+use Rattle.indicatif_term.specs.Frames.{text_lines, logged_lines, bar_lines}
 use Rattle.indicatif_term.specs.Engines.{engine_term, Fits}
 use Rattle.indicatif_term.specs.declared.draw_target.Engine.{Engine}
 use Rattle.indicatif_bar.specs.Trackers.{Tracking}
@@ -17,9 +17,11 @@ use Rattle.indicatif_bar.specs.Bars.{bar_kind}
 use Rattle.indicatif_bar.specs.Kinds.{Kind, Writing, Frame, TextAndFrame, NoFrame, asked_of}
 use Rattle.indicatif_bar.specs.Machines.{target_of, Draw, is_no, Leads}
 use Rattle.indicatif_bar.specs.Runs.{CallMade, wrote, lines_by, deed_on}
-use Rattle.indicatif_bar.specs.Lone.{LoneState, LoneCall, Obey, Log, Clear, stored_lines, lone_frame, draw_asked, draw_of_call, refused_at_once, deed_unless, takes_text, lone}
+use Rattle.indicatif_bar.specs.Lone.{LoneState, LoneCall, Obey, Log, Clear, lone_frame, draw_asked, draw_of_call, refused_at_once, deed_unless, takes_text, lone}
 use Rattle.indicatif_bar.specs.LoneBars.{LoneIsIn, LoneIsNowhere, lone_bar, LoneLeadsBy, Obeys, ObeysOrNot, RefusesCommand, lone_known, record_of, lone_terminal}
 use Rattle.indicatif_bar.specs.Shown.{PutsFrame, DrewBy, DrewOn, WritesLinesOn}
+use Rattle.indicatif_term.specs.declared.lines.Segment.{Segment}
+use Rattle.indicatif_bar.specs.Inside.Writings.{IsLaidOut}
 use Rattle.indicatif_bar.specs.Inside.Obeying.{IsTold, IsToldOrNot}
 use Rattle.indicatif_bar.specs.Shown.{ShownAs}
 use Rattle.indicatif_bar.specs.declared.shown.ShownBar.{ShownBar}
@@ -28,36 +30,38 @@ use Rattle.indicatif_bar.specs.declared.state.Ask.TheVariants.{Forced}
 use Rattle.indicatif_bar.specs.declared.lone.LoneBar.{LoneBar}
 use Rattle.indicatif_bar.proofs.OutcomeLemmas.{drew, drawn_answer, writes_nothing}
 
+-- what an engine made of a frame in which the bar's lines stand is what it makes of the bar's frame: where nothing is written, it
+-- doesn't look at the frame
+pub puts_laid : {T : Type 0} (view : T → TermView) (writing : Writing) (lines : List (List ℕ)) (segment : Segment) (old new : Engine T) (r : Result Unit Refusal) → IsLaidOut writing lines segment →
+    PutsFrame view writing false 0 (bar_lines segment ∷ []) old new r → PutsFrame view writing false 0 (record { bar = 0; lines = map chars lines } ∷ []) old new r
+puts_laid view Frame lines segment old new r laid p = subst (λ b. PutsFrame view Frame false 0 (b ∷ []) old new r) laid p
+puts_laid view (TextAndFrame text) lines segment old new r laid p = subst (λ b. PutsFrame view (TextAndFrame text) false 0 (b ∷ []) old new r) laid p
+puts_laid view NoFrame lines segment old new r laid p = record { answers = p.answers; memory = p.memory; counted = p.counted; unchanged = p.unchanged; lists = p.lists; paints = p.paints }
+
 either_way : (r : Result Unit Refusal) (A B : Type 0) → A → B → MatchResult r (λ _. A) (λ _. B)
 either_way (Ok u) A B a b = a
 either_way (Err e) A B a b = b
 
-module _ {K T : Type 0} (m : Tracking K) (view : T → TermView) (takes : Bool) (ask : Ask) (now : ℕ) (writing : Writing) (s : LoneState (BarRecord K)) (old : Engine T) (laid : ShownBar K) where
+module _ {K T : Type 0} (m : Tracking K) (view : T → TermView) (takes : Bool) (ask : Ask) (now : ℕ) (writing : Writing) (s : LoneState (BarRecord K)) (old : Engine T) (shown after : ShownBar K) where
   abbrev d : Draw (LoneState (BarRecord K))
   d = draw_asked (bar_kind m) (target_of (Some (view (engine_term old)))) takes ask now writing s
 
-  -- the bar with its lines laid out, and with its limiter asked
-  abbrev pub stored : LoneState (BarRecord K)
-  stored = record s { stored = stored_lines (bar_kind m) writing (target_of (Some (view (engine_term old)))) now s }
-
-  abbrev pub allowing : ShownBar K
-  allowing = record laid { limiter = (asked_of ask now laid.limiter).1 }
-
-  pub asked_same : ShownAs laid stored → (asked_of ask now laid.limiter).0 ≡ d.allowed
+  -- the limiter says what the draw's says
+  pub asked_same : ShownAs shown s → (asked_of ask now shown.limiter).0 ≡ d.allowed
   asked_same holds = ap (λ limiter. (asked_of ask now limiter).0) holds.limiter_is
 
-  pub holds_ready : ShownAs laid stored → ShownAs allowing d.ready
-  holds_ready holds = record { bar_is = holds.bar_is; lines_are = holds.lines_are; limiter_is = ap (λ limiter. (asked_of ask now limiter).1) holds.limiter_is }
+  -- the bar with its limiter asked
+  pub holds_ready : ShownAs shown s → after.bar ≡ shown.bar → after.limiter ≡ (asked_of ask now shown.limiter).1 → ShownAs after d.ready
+  holds_ready holds bar limiter = record { bar_is = bar ∙ holds.bar_is; limiter_is = limiter ∙ ap (λ limiter. (asked_of ask now limiter).1) holds.limiter_is }
 
-  pub drew_so : (new : Engine T) (r : Result Unit Refusal) (frame : List BarLines) → is_no ask ≡ false → 0 < (view (engine_term old)).columns → d.allowed ≡ true → Fits old s.lists →
-      ShownAs laid stored → frame ≡ lone_frame d.ready → PutsFrame view writing false 0 frame old new r → DrewBy (lone_bar m) (ShownAs allowing) view old new d s.lists (drawn_answer r)
-  drew_so new r frame asked some allowed fits holds same puts =
-      let ready = holds_ready holds in
-      let q = subst (λ f. PutsFrame view writing false 0 f old new r) same puts in
-      drew (lone_bar m) (ShownAs allowing) view old new d s.lists (record { asked = asked; some = some; allowed = allowed; fits = fits; lists_stay = refl; lists_go = refl }) r
-      (either_way r (ShownAs allowing d.written) (ShownAs allowing d.ready × ShownAs allowing d.broken)
-      (record { bar_is = ready.bar_is; lines_are = ready.lines_are; limiter_is = ready.limiter_is })
-      (ready, record { bar_is = ready.bar_is; lines_are = ready.lines_are; limiter_is = ready.limiter_is }))
+  pub drew_so : (new : Engine T) (r : Result Unit Refusal) → is_no ask ≡ false → 0 < (view (engine_term old)).columns → d.allowed ≡ true → Fits old s.lists →
+      ShownAs after d.ready → PutsFrame view writing false 0 (lone_frame (bar_kind m) (target_of (Some (view (engine_term old)))) now s.bar) old new r →
+      DrewBy (lone_bar m) (ShownAs after) view old new d s.lists (drawn_answer r)
+  drew_so new r asked some allowed fits ready q =
+      drew (lone_bar m) (ShownAs after) view old new d s.lists (record { asked = asked; some = some; allowed = allowed; fits = fits; lists_stay = refl; lists_go = refl }) r
+      (either_way r (ShownAs after d.written) (ShownAs after d.ready × ShownAs after d.broken)
+      (record { bar_is = ready.bar_is; limiter_is = ready.limiter_is })
+      (ready, record { bar_is = ready.bar_is; limiter_is = ready.limiter_is }))
       (record { answers = q.answers; memory = q.memory; counted = q.counted; unchanged = q.unchanged; lists = q.lists s.lists fits; paints = q.paints s.lists fits })
 
 -- ---- calls, of any kind of bars
@@ -140,7 +144,7 @@ module _ {K T : Type 0} (m : Tracking K) (view : T → TermView) (old mid new : 
   told_in command s told rest inside =
       let next : LoneState (BarRecord K) = record s { bar = (obeyed m command s.bar now).0 } in
       subst (λ b. LoneIsIn b next) (sym rest) (
-        record { bar_is = told ∙ ap (λ bar. (obeyed m command bar now).0) inside.0.bar_is; lines_are = inside.0.lines_are; limiter_is = inside.0.limiter_is },
+        record { bar_is = told ∙ ap (λ bar. (obeyed m command bar now).0) inside.0.bar_is; limiter_is = inside.0.limiter_is },
         inside.1,
       )
 
@@ -218,7 +222,7 @@ pub in_anew : {K T : Type 0} (old : LoneBar K T) (shown : ShownBar K) (engine op
 unfolding LoneIsIn
 in_anew {K} {T} old shown engine opened limiter given same given_is engine_is fits s inside =
     let next : LoneState (BarRecord K) = record s { limiter = limiter; lists = opening_lists } in (
-      subst (λ x. ShownAs x next) (sym same) (record { bar_is = inside.0.bar_is; lines_are = inside.0.lines_are; limiter_is = given_is }),
+      subst (λ x. ShownAs x next) (sym same) (record { bar_is = inside.0.bar_is; limiter_is = given_is }),
       subst (λ (o : Option (Engine T)). MatchOption o (Unit {0}) (λ e. Fits e opening_lists)) (sym engine_is) fits,
     )
 

@@ -1,5 +1,5 @@
 -- How often a run draws that asks a limiter.
-use Rattle.std.specs.Prelude.{◌≡◌, ℕ, ◌+◌, ◌-◌, ◌/◌, ◌<◌, ◌≤◌, Bool, true, false, ◌&&◌, List, [], ◌∷◌, length, Option, Some, None, Result, Ok, if◌then◌else◌}
+use Rattle.std.specs.Prelude.{◌≡◌, ℕ, ◌+◌, ◌-◌, ◌*◌, ◌/◌, ◌<◌, ◌≤◌, Bool, true, false, ◌&&◌, List, [], ◌∷◌, length, Option, Some, None, Result, Ok, if◌then◌else◌}
 use Rattle.std.specs.List.{last_or}
 use Rattle.indicatif_text.specs.declared.refusal.Refusal.{Refusal}
 use Rattle.indicatif_text.specs.declared.refusal.Drawn.{Drawn}
@@ -66,3 +66,12 @@ module _ {State Call Answer : Type 0} (m : Machine State Call Answer) where
       (run : Runs m calls answers old s new next) → limiter s ≡ Some (draw_limiter rate making) →
       let moments = unforced_draws calls answers old s new next run in
       (last : ℕ) → last_or None moments ≡ Some last → length moments ≤ 20 + (last - making) / (draw_limiter rate making).interval
+
+  -- the same from any state of a limiter, so that the bounds of two runs join: each unforced draw takes one from its hand, or one
+  -- of the intervals from its last moment to the last draw
+  abbrev pub RunsAreBoundedFrom : (State → Option Limiter) → Type 0
+  RunsAreBoundedFrom limiter =
+      (l : Limiter) → 0 < l.interval → (calls : List (Call × ℕ)) (answers : List Answer) (old : Option TermView) (s : State) (new : Option TermView) (next : State)
+      (run : Runs m calls answers old s new next) → limiter s ≡ Some l →
+      let moments = unforced_draws calls answers old s new next run in
+      (last : ℕ) → last_or None moments ≡ Some last → (l.prev ≤ last) × (length moments * l.interval ≤ l.capacity * l.interval + (last - l.prev))

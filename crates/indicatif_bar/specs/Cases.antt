@@ -1,20 +1,20 @@
--- Worked cases of a lone bar: what calls at the moment 0 answer, and the rows that stand then. The terminal never fails.
+-- Worked cases of a lone bar: what calls at the moment 0 answer, and the rows that stand then. The terminal never fails but where a case says so.
 use Rattle.indicatif_text.specs.Template.{KeyText, plain_layout}
 use Rattle.indicatif_bar.specs.BarStyles.{BarStyle}
-use Rattle.std.specs.Prelude.{◌≡◌, ℕ, true, false, List, [], ◌∷◌, ◌++◌, map, replicate, Some, None, flat_map, codes, Result, Ok, Err}
+use Rattle.std.specs.Prelude.{◌≡◌, ℕ, ◌+◌, ◌-◌, true, false, List, [], ◌∷◌, ◌++◌, length, map, replicate, Some, None, flat_map, codes, Result, Ok, Err}
 use Rattle.indicatif_text.specs.declared.refusal.Refusal.{Refusal}
 use Rattle.indicatif_text.specs.declared.refusal.Refusal.TheVariants.{NoColumns, TooWide, ElapsedBeyondClock}
 use Rattle.indicatif_text.specs.declared.refusal.Drawn.{Drawn}
 use Rattle.indicatif_text.specs.declared.refusal.Drawn.TheVariants.{Yes, Limited, Hidden}
 use Rattle.indicatif_text.specs.Columns.{Cell, rows_of}
-use Rattle.indicatif_term.specs.Lists.{opening_lists, all_rows}
-use Rattle.indicatif_bar.specs.Bars.{lines_of_bar}
+use Rattle.indicatif_term.specs.Lists.{opening_lists, forgotten_lists, all_rows}
+use Rattle.indicatif_bar.specs.Bars.{bar_kind, lines_of_bar}
 use Rattle.indicatif_bar.specs.Trackers.{Tracking, writes_nothing}
 use Rattle.indicatif_bar.specs.Commands.{BarRecord, Command, new_bar, obeyed, Tick, SetMessage, PutMessage, SetElapsed, ForceDraw}
 use Rattle.indicatif_bar.specs.LoneBars.{lone_bar}
 use Rattle.indicatif_term.specs.Limiters.{draw_limiter}
 use Rattle.indicatif_bar.specs.Machines.{Target, outcomes}
-use Rattle.indicatif_bar.specs.Lone.{LoneState, LoneCall, Obey, Log, Clear, opening_state}
+use Rattle.indicatif_bar.specs.Lone.{LoneState, LoneCall, Obey, Log, Clear, opening_state, draw_of_call}
 
 -- ---- messages
 
@@ -75,25 +75,23 @@ EmptyMessage =
     let both = ran (terminal_of_size 4 10) [] (Obey Tick ∷ Obey (SetMessage (codes "a")) ∷ []) in
     (first.0 ≡ Ok Yes ∷ []) × (all_rows 10 first.1.lists ≡ []) × (both.0 ≡ Ok Yes ∷ Ok Yes ∷ []) × (all_rows 10 both.1.lists ≡ rows_of_lines 10 (codes "a" ∷ []))
 
--- 3 rows, 1 column: a character of two columns is too wide, and is stored; a message of one column is then drawn
+-- 3 rows, 1 column: a character of two columns is too wide; a message of one column is then drawn
 abbrev pub WideCharacter : Type 0
 WideCharacter =
     let first = ran (terminal_of_size 3 1) (0xE5 ∷ 0x9B ∷ 0xBD ∷ []) (Obey Tick ∷ []) in
     let both = ran (terminal_of_size 3 1) (0xE5 ∷ 0x9B ∷ 0xBD ∷ []) (Obey Tick ∷ Obey (SetMessage (codes "a")) ∷ []) in
     (first.0 ≡ Err TooWide ∷ [])
     × (first.1.lists ≡ opening_lists)
-    × (first.1.stored ≡ (0x56FD ∷ []) ∷ [])
     × (both.0 ≡ Err TooWide ∷ Ok Yes ∷ [])
     × (all_rows 1 both.1.lists ≡ rows_of_lines 1 (codes "a" ∷ []))
 
--- no columns: the tick counts, no line is stored
+-- no columns: the tick counts
 abbrev pub NoColumn : Type 0
 NoColumn =
     let ticked = ran (terminal_of_size 3 0) (codes "a") (Obey Tick ∷ []) in
     let logged = ran (terminal_of_size 3 0) (codes "a") (Log (codes "l") ∷ []) in
     (ticked.0 ≡ Err NoColumns ∷ [])
     × (ticked.1.bar.progress.ticks ≡ 1)
-    × (ticked.1.stored ≡ [])
     × (ticked.1.lists ≡ opening_lists)
     × (logged.0 ≡ Err NoColumns ∷ [])
 
@@ -101,7 +99,7 @@ NoColumn =
 abbrev pub Nowhere : Type 0
 Nowhere =
     let both = ran nowhere (codes "a") (Obey ForceDraw ∷ Log (codes "l") ∷ Obey Tick ∷ []) in
-    (both.0 ≡ Ok Hidden ∷ Ok Hidden ∷ Ok Hidden ∷ []) × (both.1.bar.progress.ticks ≡ 1) × (both.1.stored ≡ []) × (both.1.lists ≡ opening_lists)
+    (both.0 ≡ Ok Hidden ∷ Ok Hidden ∷ Ok Hidden ∷ []) × (both.1.bar.progress.ticks ≡ 1) × (both.1.lists ≡ opening_lists)
 
 -- 4 rows, 5 columns: two logged lines stand above the bar, and stay there
 abbrev pub LogsAbove : Type 0
@@ -111,11 +109,11 @@ LogsAbove =
     × (both.1.lists.above ≡ rows_of_lines 5 (codes "a" ∷ codes "b" ∷ []))
     × (all_rows 5 both.1.lists ≡ rows_of_lines 5 (codes "a" ∷ codes "b" ∷ codes "y" ∷ []))
 
--- a text that is too wide is refused whole: no row above, the bar's lines are stored
+-- a text that is too wide is refused whole: no row above
 abbrev pub WideLog : Type 0
 WideLog =
     let both = ran (terminal_of_size 3 1) (codes "a") (Log (0xE5 ∷ 0x9B ∷ 0xBD ∷ []) ∷ []) in
-    (both.0 ≡ Err TooWide ∷ []) × (both.1.lists ≡ opening_lists) × (both.1.stored ≡ codes "a" ∷ [])
+    (both.0 ≡ Err TooWide ∷ []) × (both.1.lists ≡ opening_lists)
 
 -- 4 rows, 5 columns: a clear takes the bar's row back, and what was logged stays; the next draw shows the bar again
 abbrev pub Cleared : Type 0
@@ -133,6 +131,23 @@ abbrev pub LateElapsed : Type 0
 LateElapsed =
     let both = ran (terminal_of_size 4 5) (codes "x") (Obey (SetElapsed 1) ∷ Obey Tick ∷ []) in
     (both.0 ≡ Err ElapsedBeyondClock ∷ Ok Yes ∷ []) × (both.1.bar.progress.start ≡ 0) × (both.1.bar.progress.ticks ≡ 1)
+
+-- ---- a terminal that fails
+
+-- 4 rows, 5 columns: `a` is logged above the bar `x`; the draw of the message `y` is broken off, and the
+-- rows are forgotten; then `b` is logged. `a` and `b` are the rows that were added above, and both are safe
+abbrev pub BrokenOff : Type 0
+BrokenOff =
+    let target = terminal_of_size 4 5 in
+    let logged = ran target (codes "x") (Log (codes "a") ∷ []) in
+    let broken = (draw_of_call (bar_kind untracked) target (Obey (SetMessage (codes "y"))) 0 logged.1).broken in
+    let again = outcomes (lone_bar untracked) target ((Log (codes "b"), 0) ∷ []) broken in
+    (all_rows 5 logged.1.lists ≡ rows_of_lines 5 (codes "a" ∷ codes "x" ∷ []))
+    × (broken.lists ≡ forgotten_lists)
+    × (again.0 ≡ Ok Yes ∷ [])
+    × (again.1.lists.above ≡ rows_of_lines 5 (codes "b" ∷ []))
+    × (all_rows 5 again.1.lists ≡ rows_of_lines 5 (codes "b" ∷ codes "y" ∷ []))
+    × (length logged.1.lists.above + (length broken.lists.above - length logged.1.lists.above) + (length again.1.lists.above - length broken.lists.above) ≡ 2)
 
 -- ---- limiters
 

@@ -15,8 +15,6 @@ use Rattle.indicatif_bar.specs.declared.state.Ask.TheVariants.{Forced}
 -- a lone bar between two calls
 pub record LoneState (B : Type 0) : Type 0 where
   pub bar : B
-  -- the lines that were laid out last, as characters
-  pub stored : List (List ℕ)
   -- how often it may be drawn; none where that has no limit
   pub limiter : Option Limiter
   -- the rows that it drew
@@ -24,11 +22,7 @@ pub record LoneState (B : Type 0) : Type 0 where
 
 -- before its first call
 abbrev pub opening_state : {B : Type 0} → B → Option Limiter → LoneState B
-opening_state bar limiter = record { bar = bar; stored = []; limiter = limiter; lists = opening_lists }
-
--- the bar as the one member of a frame
-abbrev pub lone_frame : {B : Type 0} → LoneState B → List BarLines
-lone_frame s = record { bar = 0; lines = s.stored } ∷ []
+opening_state bar limiter = record { bar = bar; limiter = limiter; lists = opening_lists }
 
 -- ---- calls
 
@@ -68,10 +62,9 @@ module _ {B C : Type 0} (kind : Kind B C) where
   asks (Obey command) now bar = (kind.after command bar now).1
   asks _ now bar = Forced
 
-  -- the lines that are stored then: the bar's, laid out anew where they are to be written
-  abbrev pub stored_lines : Writing → Target → ℕ → LoneState B → List (List ℕ)
-  stored_lines NoFrame target now s = s.stored
-  stored_lines _ target now s = map chars (kind.lines s.bar now target.columns)
+  -- the bar as the one member of a frame: it is laid out anew for each draw that writes its lines
+  abbrev pub lone_frame : Target → ℕ → B → List BarLines
+  lone_frame target now bar = record { bar = 0; lines = map chars (kind.lines bar now target.columns) } ∷ []
 
   -- whether that takes memory
   abbrev pub lines_take : Writing → B → Bool
@@ -82,17 +75,18 @@ module _ {B C : Type 0} (kind : Kind B C) where
   abbrev pub draw_asked : Target → Bool → Ask → ℕ → Writing → LoneState B → Draw (LoneState B)
   draw_asked target takes ask now writing s =
       let asked = asked_of ask now s.limiter in
-      let ready = record s { stored = stored_lines writing target now s; limiter = asked.1 } in
+      let ready = record s { limiter = asked.1 } in
+      let frame = lone_frame target now s.bar in
       record {
         text_takes = takes;
         lines_take = lines_take writing s.bar;
-        rows_take = rows_take writing 0 (lone_frame ready);
+        rows_take = rows_take writing 0 frame;
         ask = ask;
         after_command = s;
         ready = ready;
         allowed = asked.0;
-        lines = lines_to_write writing 0 (lone_frame ready);
-        written = record ready { lists = written_lists writing target false 0 (lone_frame ready) s.lists };
+        lines = lines_to_write writing 0 frame;
+        written = record ready { lists = written_lists writing target false 0 frame s.lists };
         broken = record ready { lists = forgotten_lists };
       }
 

@@ -3,7 +3,7 @@ ghost use Rattle.std.specs.Prelude.{ℕ};
 ghost use Rattle.indicatif_bar.specs.BarStyles.{BarStyle};
 ghost use Rattle.indicatif_bar.specs.CommandCases.{Fractions, Greatest, Rates, TwelveSteps, RateAndEta, Asks, ResetRates, Ends, ElapsedTimes, TabWidths, Finishes, Resets};
 ghost use Rattle.indicatif_bar.specs.StyleCases.{TrackersCases, WideBarCases, PercentCases, MessageCases, BarCases, TickCases, RateCases, LineCases, FaultCases};
-ghost use Rattle.indicatif_bar.specs.Cases.{Lines, ShorterMessage, EmptyMessage, WideCharacter, NoColumn, Nowhere, LogsAbove, WideLog, Cleared, LateElapsed, LimitedDraws};
+ghost use Rattle.indicatif_bar.specs.Cases.{Lines, ShorterMessage, EmptyMessage, WideCharacter, NoColumn, Nowhere, LogsAbove, WideLog, Cleared, LateElapsed, BrokenOff, LimitedDraws};
 
 /// The lines of messages.
 pub fn messages()
@@ -21,6 +21,11 @@ pub fn runs()
     ensures wide_log { WideLog }
     ensures cleared { Cleared }
     ensures late_elapsed { LateElapsed }
+{}
+
+/// What a call that the terminal broke off leaves, and the next one.
+pub fn failures()
+    ensures broken_off { BrokenOff }
 {}
 
 /// How often a limited bar is drawn.

@@ -15,3 +15,5 @@ pub mod SeatLemmas
 pub mod RecordLemmas
 pub mod BarRecordLemmas
 pub mod RunRecordLemmas
+pub mod SomeBoardLemmas
+pub mod PlainBoardLemmas

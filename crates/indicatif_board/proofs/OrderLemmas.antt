@@ -20,7 +20,8 @@ use Rattle.indicatif_board.specs.Slots.{occurrences}
 use Rattle.indicatif_board.specs.OrderLaws.{RunsKeep, StandsOnce, IsGone, with_new, new_bars, new_numbers, NumbersCount, NumbersAreNew}
 use Rattle.indicatif_board.proofs.MemberLemmas.{place-changed, map-inserted, map-removed, drop-map}
 use Rattle.indicatif_board.proofs.SlotLemmas.{ones_other, ones_most, occurrences-front, occurrences-inserted, occurrences-removed, occurrences-cut}
-use Rattle.indicatif_board.proofs.RunInvariantLemmas.{IsKept, leads_keep, runs_keep}
+use Rattle.indicatif_bar.proofs.KeptStateLemmas.{IsKept, leads_keep}
+use Rattle.indicatif_board.proofs.RunInvariantLemmas.{runs_keep}
 
 -- ---- what bars that come and go keep
 

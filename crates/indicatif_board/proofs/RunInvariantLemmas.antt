@@ -1,34 +1,14 @@
 -- What each call of a machine keeps, a run of them keeps.
-use Rattle.std.proofs.Common.{ℕ, [], ◌∷◌, sym, ap, subst, inl, inr}
-use Rattle.indicatif_bar.specs.Machines.{Target, target_of, Machine, Draw, Deed, AtOnce, Draws, Leads, drawn_by}
-use Rattle.indicatif_bar.proofs.SoundRunLemmas.{drawn_keeps}
+use Rattle.std.proofs.Common.{ℕ, [], ◌∷◌, sym, subst}
+use Rattle.indicatif_bar.specs.Machines.{Target, target_of, Machine}
+use Rattle.indicatif_bar.proofs.KeptStateLemmas.{IsKept, leads_keep}
 use Rattle.indicatif_board.specs.OrderLaws.{RunsKeep}
 
 module _ {S C A : Type 0} (m : Machine S C A) (P : S → Type 0) where
-  -- it is so in each state that a call may lead to
-  abbrev pub IsKept : Deed S A → Type 0
-  IsKept (AtOnce takes answer next) = P next
-  IsKept (Draws d ends breaks) = P d.after_command × P d.ready × P d.written × P d.broken × ((x : S) → P x → P (ends x)) × ((x : S) → P x → P (breaks x))
-
-  pub leads_keep : (target : Target) (s next : S) (deed : Deed S A) (answer : A) → IsKept deed → Leads m target s deed answer next → P s → P next
-  leads_keep target s next (AtOnce takes said after) answer keeps (inl made) is = subst P (sym (ap (λ o. o.1) made)) keeps
-  leads_keep target s next (AtOnce takes said after) answer keeps (inr (inl short)) is = subst P (sym short.1.1) is
-  leads_keep target s next (AtOnce takes said after) answer keeps (inr (inr broken)) is = absurd broken.2
-  leads_keep target s next (Draws d ends breaks) answer keeps (inl made) is =
-      subst P (sym (ap (λ o. o.1) made)) (keeps.4 (drawn_by target d).1 (drawn_keeps P target d keeps.0 keeps.1 keeps.2))
-  leads_keep target s next (Draws d ends breaks) answer keeps (inr (inl short)) is = elim short.1 [
-    | inl text ↦ subst P (sym text.1) (keeps.5 s is)
-    | inr shown ↦ elim shown.1 [
-      | inl lines ↦ subst P (sym lines.1) (keeps.5 d.after_command keeps.0)
-      | inr rows ↦ subst P (sym rows.2) (keeps.5 d.ready keeps.1)
-    ]
-  ]
-  leads_keep target s next (Draws d ends breaks) answer keeps (inr (inr broken)) is = subst P (sym broken.2.1) (keeps.5 d.broken keeps.3)
-
-  pub runs_keep : ((target : Target) (call : C) (now : ℕ) (s : S) → P s → IsKept (m.deed target call now s)) → RunsKeep m P
+  pub runs_keep : ((target : Target) (call : C) (now : ℕ) (s : S) → P s → IsKept m P (m.deed target call now s)) → RunsKeep m P
   runs_keep keeps [] [] old s new next run is = subst P (sym run.1) is
   runs_keep keeps (call ∷ calls) (answer ∷ answers) old s new next run is =
       runs_keep keeps calls answers run.0 run.1 new next run.3
-      (leads_keep (target_of old) s run.1 (m.deed (target_of old) call.0 call.1 s) answer (keeps (target_of old) call.0 call.1 s is) run.2.leads is)
+      (leads_keep m P (target_of old) s run.1 (m.deed (target_of old) call.0 call.1 s) answer (keeps (target_of old) call.0 call.1 s is) run.2.leads is)
   runs_keep keeps [] (answer ∷ answers) old s new next run is = absurd run
   runs_keep keeps (call ∷ calls) [] old s new next run is = absurd run

@@ -12,4 +12,6 @@ pub mod Multi
 pub mod OrderLaws
 pub mod LimitLaws
 pub mod Recorded
+pub mod Bridge
 pub mod Inside
+pub mod PlainBoardLaws

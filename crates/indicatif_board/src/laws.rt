@@ -3,15 +3,16 @@ ghost use Rattle.std.specs.Prelude.{◌≡◌, ◌≤◌, ◌↔◌, ℕ, List, 
 ghost use Rattle.indicatif_term.specs.Calls.{TermView};
 ghost use Rattle.indicatif_bar.specs.Commands.{BarRecord, Command};
 ghost use Rattle.indicatif_bar.specs.Machines.{Target};
-ghost use Rattle.indicatif_bar.specs.Runs.{RunsPaint, RunsAreRead, ReadsAfter, OneOutcome};
+ghost use Rattle.indicatif_bar.specs.Runs.{RunsPaint, RowsAboveLast, RunsAreRead, RunsReadFromBytes, ReadsAfter, OneOutcome};
 ghost use Rattle.indicatif_bar.specs.Says.{EachSays};
-ghost use Rattle.indicatif_bar.specs.Bounds.{IsLimited, RunsAreBounded};
+ghost use Rattle.indicatif_bar.specs.Bounds.{IsLimited, RunsAreBounded, RunsAreBoundedFrom};
 ghost use Rattle.indicatif_term.specs.Limiters.{Limiter};
 ghost use Rattle.indicatif_board.specs.Boards.{BoardKind, BoardState, Call, Answer, opening_board, board};
 ghost use Rattle.indicatif_board.specs.BoardBars.{board_bars};
 ghost use Rattle.indicatif_board.specs.Done.{account_of_both, kept_half, given_half};
 ghost use Rattle.indicatif_board.specs.declared.done.Account.{Account};
 ghost use Rattle.indicatif_board.specs.LimitLaws.{IsAllowed};
+ghost use Rattle.indicatif_board.specs.PlainBoardLaws.{BoardRunsArePlain};
 ghost use Rattle.indicatif_board.specs.OrderLaws.{RunsKeep, StandsOnce, IsGone, NumbersCount, NumbersAreNew};
 ghost use Rattle.indicatif_board.specs.Slots.{SlotTable, IsSeated, slot_of, occurrences};
 
@@ -22,12 +23,26 @@ pub fn halves_join_again()
     ensures { (a : Account) → a.added ≤ a.seen → account_of_both (kept_half a) (given_half a) ≡ a }
 {}
 
-/// What a run of a board leaves, whatever its bars and its calls are, up to the first that the terminal breaks off, where each
-/// line that was laid out for a draw that was written consists of characters with a width and colour sequences: from a terminal at rest with the lists of
-/// its start, its bytes lead to one at rest with the lists of its end, whose rows are the untouched ones, the rows above, the
-/// kept rows and the live frame, all else blank; rows above are only added, and none changed between two bytes.
+/// What a run of a board leaves, whatever its bars and its calls are, whichever of them the terminal breaks off, where each line
+/// that was laid out for a draw that was written consists of characters with a width and colour sequences: after each byte the
+/// untouched rows and the rows above are as they were. Where it broke none off, its bytes lead from a terminal at rest with the
+/// lists of its start to one at rest with the lists of its end, whose rows are the untouched ones, the rows above, the kept rows
+/// and the live frame, all else blank, and rows above are only added.
 pub fn what_a_run_leaves<B, C>()
     ensures { (kind : BoardKind B C) (mark : ℕ) → RunsPaint (board kind mark) }
+{}
+
+/// Rows that were logged, or drawn above the bars, by any call of a board's run stand from its exit to the run's end, after each
+/// byte, whichever of the run's calls the terminal breaks off.
+pub fn what_lasts_throughout<B, C>()
+    ensures { (kind : BoardKind B C) (mark : ℕ) → RowsAboveLast (board kind mark) }
+{}
+
+/// Of any terminal that shows the lists of a board's run at its start and is given the run's bytes: after each byte, whatever fails
+/// in the run, the picture begins with the untouched rows' texts and those of the rows above at its start; and where nothing
+/// failed the terminal shows the lists at its end, so that the rest of a run starts there.
+pub fn what_is_read_throughout<B, C>()
+    ensures { (kind : BoardKind B C) (mark : ℕ) → RunsReadFromBytes (board kind mark) }
 {}
 
 /// The same as it is read: after a run that the terminal did not break off, on a terminal that tells its state and shows the
@@ -42,6 +57,12 @@ pub fn what_a_board_run_reads<K: ProgressTracker>()
     ensures { (mark : ℕ) (calls : List (Call (BarRecord K) (Command K) × ℕ)) (answers : List Answer) (v : TermView)
         (s : BoardState (BarRecord K)) (new : Option TermView) (next : BoardState (BarRecord K)) →
         IsFalse s.lists.failed → ReadsAfter (board (board_bars K.means) mark) calls answers v s new next }
+{}
+
+/// Where the texts of bars, commands and logs consist of characters with a width and colour sequences, every run of a board is
+/// plain, so that what is said of plain runs holds of it.
+pub fn plain_texts_give_plain_runs<K: ProgressTracker>()
+    ensures { BoardRunsArePlain K.means }
 {}
 
 /// Where the terminal never failed and memory was never refused, a board's run has one outcome: its answers and its last
@@ -61,6 +82,7 @@ pub fn what_an_answer_says<B, C>()
 pub fn a_board_is_limited<B, C>()
     ensures asks { (kind : BoardKind B C) (mark : ℕ) → IsLimited (board kind mark) (λ s. s.limiter) }
     ensures bounded { (kind : BoardKind B C) (mark : ℕ) → RunsAreBounded (board kind mark) (λ s. s.limiter) }
+    ensures joins { (kind : BoardKind B C) (mark : ℕ) → RunsAreBoundedFrom (board kind mark) (λ s. s.limiter) }
     ensures free { (kind : BoardKind B C) (mark : ℕ) (target : Target) (call : Call B C) (now : ℕ) (s : BoardState B) → s.limiter ≡ None →
         IsAllowed ((board kind mark).deed target call now s) }
 {}

@@ -8,12 +8,14 @@
 //! - `slots`: a board's bars by their numbers, and a slot for each; `multi` has its public name (private).
 //! - `shown_bars`: those bars with the lines that they show, and how they are written (private).
 //! - `done`: a sum, its workers, and their shares of it.
+//! - `bridge`: lines of a log above the bars of a board.
 //! - `cases`: worked cases of the definitions.
 //! - `laws`: laws of the definitions.
 //! - `sums`: the rule of the word that the workers share, and what each step on it tells (private).
 #![tactic(auto)]
 
 mod bar_id;
+pub mod bridge;
 mod call_copies;
 mod calls;
 pub mod cases;

@@ -110,8 +110,10 @@ impl<K: ProgressTracker, T: TermLike + Drop> Board<K, T> {
         Ok(&self.shown.members[at].bar)
     }
 
-    /// The bars' numbers in their order, from the top. A bar that was dropped stands there until it leaves.
+    /// The bars' numbers in their order, from the top. A bar that was dropped stands there until it leaves. The board is in some
+    /// state: of that, and of each other that it may be in, hold the claims of its calls.
     pub fn order(&self) -> &[u64]
+        ensures some { (s : BoardState (BarRecord K)) × IsIn (mark_of self.now) self.now s }
         ensures order { (mark : ℕ) (s : BoardState (BarRecord K)) → IsIn mark self.now s → result.now ≡ order_of s.members }
         ensures slots { result.now ≡ (slots_of self.now).order }
         ensures seated { IsSeated (slots_of self.now) }

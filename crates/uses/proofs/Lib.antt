@@ -2,3 +2,4 @@ mod LentLemmas
 mod LogLemmas
 mod MoveLemmas
 mod PictureLemmas
+mod PlainLemmas

@@ -1,5 +1,5 @@
 //! What is known of a bar or a board that was lent, by one who doesn't know how it was used before.
-ghost use Rattle.std.specs.Prelude.{◌≡◌, ◌≢◌, ◌⊎◌, ◌+◌, ◌%◌, ◌^◌, ℕ, Some, None, Err, IfOk, IsTrue, IsFalse, is_some, string_bytes, vec_len};
+ghost use Rattle.std.specs.Prelude.{◌≡◌, ◌≢◌, ◌⊎◌, ◌+◌, ◌%◌, ◌^◌, ℕ, Some, None, Ok, Err, IfOk, IsTrue, IsFalse, is_some, string_bytes, vec_len};
 ghost use Rattle.std.specs.List.{list_any};
 ghost use Rattle.indicatif_bar.specs.Commands.{BarRecord};
 ghost use Rattle.indicatif_bar.specs.LoneBars.{record_of, lone_terminal};
@@ -32,6 +32,18 @@ pub fn say<K: ProgressTracker, T: TermLike + Drop>(
     ensures { ((record_of bar.new).progress.message ≡ text.now) ⊎ (bar.new ≡ bar.old) }
 {
     bar.set_message(text, now)
+}
+
+/// Draws a bar that was lent by force. Whatever was done with it before, where there is nothing to draw on the answer says why.
+pub fn draw_lent<K: ProgressTracker, T: TermLike + Drop>(
+    bar: &mut LoneBar<K, T>,
+    now: Moment,
+) -> Result<Drawn, Refusal>
+    ensures hidden { lone_terminal bar.old ≡ None → result ≡ Ok Drawn.Hidden }
+    ensures no_columns { (term : T) → lone_terminal bar.old ≡ Some term → (T.view term).columns ≡ 0 → result ≡ Err Refusal.NoColumns }
+{
+    let _in_some_state = bar.bar();
+    bar.force_draw(now)
 }
 
 /// Whether something of a text may have been written above the bar; if not, the terminal is as it was.

@@ -7,7 +7,9 @@
 //! - `logs`: that a logged line stands, whatever is drawn after it.
 //! - `loops`: what a loop makes of the bar that shows its progress.
 //! - `lent`: what is known of a bar or a board that was lent.
+//! - `plain`: what stands where the texts are plain, with no premise on states.
 //! - `sums`: what threads add up to.
+//! - `warnings`: that a warning on a board is one log of its line.
 #![tactic(auto)]
 
 pub mod boards;
@@ -15,6 +17,8 @@ pub mod drawings;
 pub mod lent;
 pub mod logs;
 pub mod loops;
+pub mod plain;
 pub mod runs;
 pub mod sums;
 pub mod texts;
+pub mod warnings;

@@ -1,8 +1,8 @@
 //! What the lock of a shared bar keeps.
-ghost use Rattle.std.specs.Prelude.{◌≡◌, ◌<◌, Some, None, Ok, Err, true, false, IfOk, IfErr};
+ghost use Rattle.std.specs.Prelude.{◌≡◌, ◌<◌, ℕ, Some, None, Ok, Err, true, false, IfOk, IfErr};
 ghost use Rattle.std.specs.Fn.{FnOnceReturnsAt};
 ghost use Rattle.indicatif_term.specs.Targets.{term_of};
-ghost use Rattle.indicatif_bar.specs.Commands.{Update, SetTicker, command_of};
+ghost use Rattle.indicatif_bar.specs.Commands.{Inc, Update, SetTicker, SetPosition, command_of};
 ghost use Rattle.indicatif_bar.specs.Lone as Lone;
 ghost use Rattle.indicatif_bar.specs.Progress.{eta, per_sec, duration, elapsed};
 ghost use Rattle.indicatif_bar.specs.declared.command.Change.{Change as Changed};
@@ -12,12 +12,14 @@ ghost use Rattle.indicatif.specs.Inside.Owners.{OwnerJoins, OwnerLeaves};
 ghost use Rattle.indicatif.specs.Inside.Places.{PlaceMakes, PlaceSuspends, PlaceEnds, IsOf, IsUnfinished, Measures, PlaceTurns};
 ghost use Rattle.indicatif.specs.SharedBoards.{SharedTakes, SharedAnswers};
 ghost use Rattle.indicatif.specs.Inside.Worded.{worded};
+ghost use Rattle.indicatif.specs.Seek.{after_move};
 
 use crate::progress_bar::kept::{Shared, SharedBoard};
 use crate::progress_bar::place::{Place, Seat};
 use crate::progress_bar::single::Single;
 use crate::progress_bar::ticker::Ticker;
 use crate::progress_bar::worded::Worded;
+use crate::seek::SeekMax;
 use indicatif_bar::lone::LoneCall;
 use indicatif_bar::state::{BarCommand, Change, ProgressState, Rate};
 use indicatif_bar::style::NoTracker;
@@ -94,6 +96,32 @@ impl<T: TermLike + Drop, C: Clock + Drop> Held<T, C> {
             Place::Alone(bar) => bar.call(LoneCall::Bar(command), now),
             Place::On(seat) => seat.tell(rt, command, now),
         }
+    }
+
+    /// The position goes up.
+    pub fn inc<R: Wait>(&mut self, rt: &R, delta: u64) -> Result<Drawn, Refusal>
+        ensures { PlaceMakes T.view self.old.place (Lone.Obey (Inc delta)) result self.new.place }
+    {
+        let now = self.clock.now();
+        match &mut self.place {
+            Place::Alone(bar) => bar.inc(delta, now),
+            Place::On(seat) => seat.tell(rt, BarCommand::Inc(delta), now),
+        }
+    }
+
+    /// The position becomes the place after `n` more from it, as `seeks` says; it counts from 0 where its board hasn't the bar.
+    pub fn place_after<R: Wait>(
+        &mut self,
+        rt: &R,
+        seeks: &mut SeekMax<5, 10>,
+        n: u64,
+    ) -> Result<Drawn, Refusal>
+        ensures seeks { (position : ℕ) × (place : ℕ) × ((place, seeks.new) ≡ after_move 5 10 seeks.old position n)
+            × PlaceMakes T.view self.old.place (Lone.Obey (SetPosition place)) result self.new.place }
+    {
+        let position = self.place.read(rt, |state| state.pos());
+        let place = seeks.update_seq(position.unwrap_or(0), n);
+        self.tell(rt, BarCommand::SetPosition(place))
     }
 
     /// A call with a text.
@@ -198,7 +226,15 @@ impl<T: TermLike + Drop, C: Clock + Drop> Held<T, C> {
         ensures owned { (result ≡ true) → 0 < self.now.owners }
         ensures unfinished { (result ≡ true) → IsUnfinished self.now.place }
     {
-        self.ticker.is_installed(number) && self.owners > 0 && !self.place.is_finished(rt)
+        self.awaits(number) && !self.place.is_finished(rt)
+    }
+
+    /// Whether the ticker of this number waits for its next tick: it is the installed one, and the bar has an owner.
+    pub fn awaits(&self, number: u64) -> bool
+        ensures installed { (result ≡ true) → self.now.ticker.installed ≡ Some number }
+        ensures owned { (result ≡ true) → 0 < self.now.owners }
+    {
+        self.ticker.is_installed(number) && self.owners > 0
     }
 
     /// Where the bar stands.

@@ -235,6 +235,17 @@ impl<T: Drop, C> SharedBoard<T, C> {
     }
 }
 
+impl<T: Drop, C: Clone> SharedBoard<T, C> {
+    /// A copy of its clock.
+    ///
+    /// Refused: `Memory`.
+    pub fn clock(&self) -> Result<C, Refusal>
+        ensures { IfErr result (λ e. e ≡ Refusal.Memory) }
+    {
+        Ok(self.clock.clone()?)
+    }
+}
+
 impl<T: TermLike + Drop, C: Clock + Drop> SharedBoard<T, C> {
     /// A call that draws.
     pub fn draw(&mut self, call: Call<NoTracker>) -> Result<Drawn, Refusal>

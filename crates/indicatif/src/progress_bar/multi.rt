@@ -82,6 +82,11 @@ impl<T: TermLike + Drop, C: Clock + Drop, R: Wait + Clone + Drop> MultiProgress<
         MultiProgress::shared(rt, alloc, SharedBoard::new(kept, clock))
     }
 
+    /// What its texts are made by.
+    pub(crate) fn alloc(&self) -> Global {
+        self.alloc
+    }
+
     /// A board under its lock.
     fn shared(rt: R, alloc: Global, board: SharedBoard<T, C>) -> Result<Self, Refusal>
         ensures { IfErr result (λ e. e ≡ Refusal.Memory) }
@@ -249,6 +254,47 @@ impl<T: TermLike + Drop, C: Clock + Drop, R: Wait + Clone + Drop> MultiProgress<
     pub fn with_record<F: RecordReader<T>>(&self, reader: F) -> F::Found {
         let on = self.board.lock(&self.rt);
         reader.read(on.kept.record())
+    }
+}
+
+/// Bars that are made for the board, each by a copy of the board's clock.
+impl<T: TermLike + Drop, C: Clock + Clone + Drop, R: Wait + Clone + Drop> MultiProgress<T, C, R> {
+    /// A bar of this length behind all others, in the style `{wide_bar} {pos}/{len}`, which draws nothing yet.
+    ///
+    /// ```
+    /// let bar = board.new_bar(100)?;
+    /// ```
+    ///
+    /// Refused: `Memory`; nothing has changed then.
+    #[tactic(auto, using(crate::proofs::FrontLemmas::not_taken))]
+    pub fn new_bar(&self, len: u64) -> Result<ProgressBar<T, C, R>, Refusal>
+        ensures { IfErr result (λ e. SharedTakes T.view End (Err e)) }
+    {
+        let (rt, setup) = self.setup()?;
+        let bar = ProgressBar::new(rt, self.alloc, len, setup)?;
+        self.add(bar)
+    }
+
+    /// A bar without a length behind all others, in the style of a spinner, which draws nothing yet.
+    ///
+    /// Refused: `Memory`; nothing has changed then.
+    #[tactic(auto, using(crate::proofs::FrontLemmas::not_taken))]
+    pub fn new_spinner(&self) -> Result<ProgressBar<T, C, R>, Refusal>
+        ensures { IfErr result (λ e. SharedTakes T.view End (Err e)) }
+    {
+        let (rt, setup) = self.setup()?;
+        let bar = ProgressBar::new_spinner(rt, self.alloc, setup)?;
+        self.add(bar)
+    }
+
+    /// What a bar is made with that is on no board yet.
+    fn setup(&self) -> Result<(R, Setup<T, C>), Refusal>
+        ensures { IfErr result (λ e. e ≡ Refusal.Memory) }
+    {
+        let clock = self.board.lock(&self.rt).clock()?;
+        let rt = self.rt.clone()?;
+        let target = ProgressDrawTarget::hidden();
+        Ok((rt, Setup { target, clock }))
     }
 }
 

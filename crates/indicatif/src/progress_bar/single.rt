@@ -2,7 +2,7 @@
 ghost use Rattle.std.specs.Prelude.{◌≡◌, IsTrue, IsFalse};
 ghost use Rattle.std.specs.Fn.{FnOnceReturnsAt};
 ghost use Rattle.indicatif_term.specs.Targets.{term_of};
-ghost use Rattle.indicatif_bar.specs.Commands.{Update, FinishUsingStyle};
+ghost use Rattle.indicatif_bar.specs.Commands.{Inc, Update, FinishUsingStyle};
 ghost use Rattle.indicatif_bar.specs.Lone as Lone;
 ghost use Rattle.indicatif_bar.specs.LoneBars.{record_of, lone_terminal, lone_call_of, CallDone, LoneLeadsBy};
 ghost use Rattle.indicatif_bar.specs.Progress.{is_finished};
@@ -56,6 +56,13 @@ impl<T: TermLike + Drop> Single<T> {
         ensures { MadeBy T.view self.old self.new (lone_call_of call) now result }
     {
         self.bar.call(call, now)
+    }
+
+    /// The position goes up: as that call, but not as a value, since a step is made most often.
+    pub fn inc(&mut self, delta: u64, now: Moment) -> Result<Drawn, Refusal>
+        ensures { MadeBy T.view self.old self.new (Lone.Obey (Inc delta)) now result }
+    {
+        self.bar.inc(delta, now)
     }
 
     /// A call with a text.

@@ -14,7 +14,8 @@ use std::thread::Threads;
 use std::time::Duration;
 use std::{thread, time};
 
-/// Ticks until this ticker is no longer the installed one, or the bar is finished or has no owner.
+/// Ticks until this ticker is no longer the installed one, or the bar is finished or has no owner. Between two ticks it waits the
+/// whole interval: what wakes it earlier without ending it, as the end of another ticker, makes it wait on.
 fn run_ticker<T: TermLike + Drop, C: Clock + Drop, R: Wait + time::Clock>(
     rt: &R,
     cell: &Locked<T, C>,
@@ -27,13 +28,11 @@ fn run_ticker<T: TermLike + Drop, C: Clock + Drop, R: Wait + time::Clock>(
             break;
         }
         let _ = held.tell(rt, BarCommand::TickerTick);
-        let (held, _) = cell.changed.wait_timeout(rt, held, interval);
+        let (held, _) = cell
+            .changed
+            .wait_timeout_while(rt, held, interval, |held| held.awaits(number));
         drop(held);
     }
-    let mut held = cell.lock.lock(rt);
-    held.ticker.ended();
-    drop(held);
-    cell.changed.notify_all();
 }
 
 impl<
@@ -84,10 +83,7 @@ impl<
                 self.state.changed.notify_all();
                 Ok(())
             }
-            Err(_) => {
-                held.ticker.ended();
-                Err(Refusal::Memory)
-            }
+            Err(_) => Err(Refusal::Memory),
         }
     }
 }

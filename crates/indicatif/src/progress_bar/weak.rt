@@ -12,7 +12,7 @@ use std::sync::{Arc, Wait};
 ///
 /// ```
 /// let weak = bar.downgrade()?;
-/// if let Some(bar) = weak.upgrade() {
+/// if let Some(bar) = weak.upgrade()? {
 ///     bar.set_position(3)?;
 /// }
 /// ```
@@ -42,19 +42,23 @@ impl<T: TermLike + Drop, C: Clock + Drop, R: Wait + Clone + Drop> WeakProgressBa
         }
     }
 
-    /// One owner more, exactly where the count of owners is above 0 and below 2^64 - 1; `None` too where memory is refused.
-    pub fn upgrade(&self) -> Option<ProgressBar<T, C, R>> {
-        let known = self.of.as_ref()?;
-        let state = Arc::try_clone(&known.state).ok()?;
-        let rt = known.rt.clone().ok()?;
+    /// One owner more, exactly where the count of owners is above 0 and below 2^64 - 1.
+    ///
+    /// Refused: want of memory; nothing has changed then.
+    pub fn upgrade(&self) -> Result<Option<ProgressBar<T, C, R>>, AllocError> {
+        let Some(known) = &self.of else {
+            return Ok(None);
+        };
+        let state = Arc::try_clone(&known.state)?;
+        let rt = known.rt.clone()?;
         if known.state.lock.lock(&rt).join() {
-            Some(ProgressBar {
+            Ok(Some(ProgressBar {
                 state,
                 alloc: known.alloc,
                 rt,
-            })
+            }))
         } else {
-            None
+            Ok(None)
         }
     }
 }

@@ -6,6 +6,8 @@ use Rattle.indicatif.proofs.parallel.map_blocks.Goals as goal
 pub loop-start-preserved : goal.loop-start-preserved
 loop-start-preserved g c =
     let n = c.min-n.ensures in
+    let one = c.block_of-most.ensures.0 in
+    let few : c.block_of-most.result ≤ 4096 = c.block_of-most.ensures.1 in
     let small : c.min-n.result ≤ 4096 = omega arith in
     let some : 0 < c.min-n.result = omega arith in
     let again : c.loop-start.start + c.min-n.result - c.loop-start.start ≡ c.min-n.result = omega arith in

@@ -19,15 +19,15 @@ returns-clause-empty_message c = (refl, refl, refl, refl)
 
 pub returns-clause-wide_character : goal.returns-clause-wide_character
 unfolding char_width unicode_width rows_of visible has_wide drawn logged shown_rows lines_of fitting grouped chars lines encode drawn_by
-returns-clause-wide_character c = (refl, refl, refl, refl, refl)
+returns-clause-wide_character c = (refl, refl, refl, refl)
 
 pub returns-clause-no_column : goal.returns-clause-no_column
 unfolding char_width unicode_width rows_of visible has_wide drawn logged shown_rows lines_of fitting grouped chars lines encode drawn_by
-returns-clause-no_column c = (refl, refl, refl, refl, refl)
+returns-clause-no_column c = (refl, refl, refl, refl)
 
 pub returns-clause-nowhere : goal.returns-clause-nowhere
 unfolding char_width unicode_width rows_of visible has_wide drawn logged shown_rows lines_of fitting grouped chars lines encode drawn_by
-returns-clause-nowhere c = (refl, refl, refl, refl)
+returns-clause-nowhere c = (refl, refl, refl)
 
 pub returns-clause-logs_above : goal.returns-clause-logs_above
 unfolding char_width unicode_width rows_of visible has_wide drawn logged shown_rows lines_of fitting grouped chars lines encode drawn_by
@@ -35,7 +35,7 @@ returns-clause-logs_above c = (refl, refl, refl)
 
 pub returns-clause-wide_log : goal.returns-clause-wide_log
 unfolding char_width unicode_width rows_of visible has_wide drawn logged shown_rows lines_of fitting grouped chars lines encode drawn_by
-returns-clause-wide_log c = (refl, refl, refl)
+returns-clause-wide_log c = (refl, refl)
 
 pub returns-clause-cleared : goal.returns-clause-cleared
 unfolding char_width unicode_width rows_of visible has_wide drawn logged cleared shown_rows lines_of fitting grouped chars lines encode drawn_by

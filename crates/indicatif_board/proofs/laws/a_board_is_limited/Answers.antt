@@ -1,4 +1,4 @@
-use Rattle.indicatif_bar.proofs.BoundLemmas.{runs_bounded}
+use Rattle.indicatif_bar.proofs.BoundLemmas.{runs_bounded, runs_bounded_from}
 use Rattle.indicatif_board.specs.Boards.{board}
 use Rattle.indicatif_board.proofs.BoundLemmas.{board_limited, board_free}
 use Rattle.indicatif_board.proofs.laws.a_board_is_limited.Goals as goal
@@ -8,6 +8,9 @@ returns-clause-asks g c = board_limited
 
 pub returns-clause-bounded : goal.returns-clause-bounded
 returns-clause-bounded g c = λ kind mark. runs_bounded (board kind mark) (λ s. s.limiter) (board_limited kind mark)
+
+pub returns-clause-joins : goal.returns-clause-joins
+returns-clause-joins g c = λ kind mark. runs_bounded_from (board kind mark) (λ s. s.limiter) (board_limited kind mark)
 
 pub returns-clause-free : goal.returns-clause-free
 returns-clause-free g c = board_free

@@ -42,7 +42,7 @@ returns-in-Some g c = λ opening starts.
     let draw = draw_of_call (bar_kind g.K.ProgressTracker.means) (target_of old) (Log c.args.line.now) 0 start in
     let written : log.0 ≡ draw.written = log_written g.K.ProgressTracker.means (target_of old) c.args.line.now 0 start log.0 drawn refl refl made.leads in
     let first = subst (λ (s : LoneState (BarRecord g.row.K.Denot)). Front (flat_map (rows_of v.columns) text) s.lists.above) (sym written)
-    (logged_front v.columns v.rows false text (lone_frame draw.ready) opening_lists) in (
+    (logged_front v.columns v.rows false text (lone_frame (bar_kind g.K.ProgressTracker.means) (target_of old) 0 c.args.bar) opening_lists) in (
       Ok drawn ∷ answers,
       after,
       later.0,

@@ -5,6 +5,6 @@ use Rattle.indicatif_bar.proofs.lone.LoneBar.new.Goals as goal
 pub returns-clause-state : goal.returns-clause-state
 unfolding LoneIsIn
 returns-clause-state g c = (
-  record { bar_is = c.new.ensures.bar; lines_are = c.new.ensures.lines; limiter_is = c.new.ensures.limiter ∙ c.opened_on-engine.ensures.limiter },
+  record { bar_is = c.new.ensures.bar; limiter_is = c.new.ensures.limiter ∙ c.opened_on-engine.ensures.limiter },
   c.opened_on-engine.ensures.opened,
 )

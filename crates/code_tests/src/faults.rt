@@ -1,0 +1,252 @@
+//! What a lone bar answers where each call of its terminal fails in turn, or where memory is refused; and boxed terminals.
+use crate::failing_term::FailsOnce;
+use crate::shown::{SCRIPT, Shown, Step, made};
+use indicatif_term::in_memory::{Cells, InMemoryTerm};
+use indicatif_term::term_like::{Term, TermLike};
+use indicatif_text::columns::{Drawn, Refusal};
+use std::alloc::Global;
+use std::io::ErrorKind;
+use std::process::Abort;
+use std::test::Fail;
+
+// ---- a call of the terminal fails
+
+/// A bar that says this on a terminal of which the call of this number fails; none where it is 0.
+fn bar_failing_at(alloc: Global, message: &str, failing: u64) -> Result<Shown<FailsOnce>, Refusal> {
+    let term = InMemoryTerm::new(alloc, 20, 10)?;
+    Shown::on(alloc, message, FailsOnce::new(term, failing))
+}
+
+/// What stands on the screen.
+fn contents(alloc: Global, bar: &Shown<FailsOnce>) -> Result<String, Refusal> {
+    match bar.term() {
+        Some(term) => term.inner().contents(),
+        None => Ok(String::new(alloc)),
+    }
+}
+
+/// The rows down to the cursor's, each ended by a newline.
+fn rows_to_the_cursor(alloc: Global, bar: &Shown<FailsOnce>) -> Result<String, Refusal> {
+    let mut text = String::new(alloc);
+    let Some(term) = bar.term() else {
+        return Ok(text);
+    };
+    let (row, _) = term.inner().cursor();
+    let rows = term.inner().picture()?;
+    for line in rows.iter().take(row as usize + 1) {
+        text.push_str(line.as_str())?;
+        text.push('\n')?;
+    }
+    Ok(text)
+}
+
+/// Makes the call, and answers what a failure left on the screen. After one, the call's rows stand below what it left.
+fn stepped(
+    rt: &impl Abort,
+    alloc: Global,
+    bar: &mut Shown<FailsOnce>,
+    call: (Step, &str),
+    left: Option<String>,
+) -> Result<Option<String>, Fail> {
+    match made(bar, call.0) {
+        Ok(drawn) => {
+            assert_eq!(rt; drawn, Drawn::Yes);
+            if let Some(mut wanted) = left {
+                wanted.push_str(call.1)?;
+                assert_eq!(rt; contents(alloc, bar)?.as_str(), wanted.as_str());
+            }
+            Ok(None)
+        }
+        Err(refusal) => {
+            assert_eq!(rt; refusal, Refusal::Terminal(ErrorKind::BrokenPipe));
+            assert!(rt; left.is_none());
+            Ok(Some(rows_to_the_cursor(alloc, bar)?))
+        }
+    }
+}
+
+/// Runs the script and one more draw, and answers how many calls of the terminal the script made and how many of the
+/// script's own calls failed.
+fn run_failing_at(rt: &impl Abort, alloc: Global, failing: u64) -> Result<(u64, u64), Fail> {
+    let mut bar = bar_failing_at(alloc, "ab", failing)?;
+    let mut left: Option<String> = None;
+    let mut failures: u64 = 0;
+    for call in SCRIPT {
+        left = stepped(rt, alloc, &mut bar, call, left)?;
+        if left.is_some() {
+            failures = failures.saturating_add(1);
+        }
+    }
+    let calls = bar.term().map_or(0, |term| term.calls());
+    left = stepped(rt, alloc, &mut bar, (Step::Tick, "e"), left)?;
+    assert!(rt; left.is_none());
+    assert_eq!(rt; bar.term().map_or(0, |term| term.faults()), failures);
+    Ok((calls, failures))
+}
+
+#[test]
+fn each_call_of_the_terminal_fails_once(rt: HostRuntime) -> Result<(), Fail> {
+    let (calls, failures) = run_failing_at(&rt, rt.alloc(), 0)?;
+    assert_eq!(rt; failures, 0);
+    assert!(rt; calls > 0);
+    for failing in 1..=calls {
+        let (_, failures) = run_failing_at(&rt, rt.alloc(), failing)?;
+        assert_eq!(rt; failures, 1, "where call {failing} fails");
+    }
+    Ok(())
+}
+
+// ---- a boxed terminal
+
+/// Whether a bar draws the script, and refuses a wide character.
+fn draws_the_script<T: TermLike + Drop>(bar: &mut Shown<T>) -> bool {
+    for (step, _) in &SCRIPT {
+        if made(bar, *step) != Ok(Drawn::Yes) {
+            return false;
+        }
+    }
+    made(bar, Step::Log("国")) == Err(Refusal::TooWide)
+}
+
+fn plain_draws(alloc: Global) -> Result<bool, Fail> {
+    let mut plain = Shown::on(alloc, "ab", InMemoryTerm::new(alloc, 5, 1)?)?;
+    Ok(draws_the_script(&mut plain))
+}
+
+fn boxed_bar(alloc: Global) -> Result<Shown<Box<dyn TermLike + Drop>>, Fail> {
+    let inner = InMemoryTerm::new(alloc, 5, 1)?;
+    let term: Box<dyn TermLike + Drop> = Box::new(alloc, inner)?;
+    Ok(Shown::on(alloc, "ab", term)?)
+}
+
+fn boxed_draws(alloc: Global) -> Result<bool, Fail> {
+    let mut boxed = boxed_bar(alloc)?;
+    Ok(draws_the_script(&mut boxed))
+}
+
+#[test]
+fn a_boxed_terminal_answers_as_the_plain_one(rt: HostRuntime) -> Result<(), Fail> {
+    assert!(rt; plain_draws(rt.alloc())?);
+    assert!(rt; boxed_draws(rt.alloc())?);
+    Ok(())
+}
+
+/// How often the bar's terminal has failed.
+fn faults(bar: &Shown<Box<dyn TermLike + Drop>>) -> u64 {
+    bar.term().map_or(0, |term| term.faults())
+}
+
+/// Whether a tick is drawn, a line fails and is counted, and the same line is drawn then.
+fn fails_once(bar: &mut Shown<Box<dyn TermLike + Drop>>) -> bool {
+    bar.tick(0) == Ok(Drawn::Yes)
+        && bar.println("l", 0) == Err(Refusal::Terminal(ErrorKind::BrokenPipe))
+        && faults(bar) == 1
+        && bar.println("l", 0) == Ok(Drawn::Yes)
+        && faults(bar) == 1
+}
+
+#[test]
+fn a_boxed_terminal_that_fails(rt: HostRuntime) -> Result<(), Fail> {
+    let failing = FailsOnce::new(InMemoryTerm::new(rt.alloc(), 5, 10)?, 4);
+    let term: Box<dyn TermLike + Drop> = Box::new(rt.alloc(), failing)?;
+    let mut bar = Shown::on(rt.alloc(), "ab", term)?;
+    assert!(rt; fails_once(&mut bar));
+    Ok(())
+}
+
+// ---- memory is refused; tried with each allocation failing in turn
+
+fn bytes_written(bar: &Shown<Term<Vec<u8>>>) -> usize {
+    bar.term().map_or(0, |term| term.writer().len())
+}
+
+/// What the bytes written so far show.
+fn shown_by_bytes(alloc: Global, bar: &Shown<Term<Vec<u8>>>) -> Result<String, Refusal> {
+    let mut cells = Cells::new(alloc, 6, 10)?;
+    if let Some(term) = bar.term() {
+        if let Err((_, refusal)) = cells.feed(term.writer()) {
+            return Err(refusal);
+        }
+    }
+    cells.contents()
+}
+
+/// A bar whose terminal takes no memory: its writer has room for the whole script.
+fn bar_with_room(alloc: Global) -> Result<Shown<Term<Vec<u8>>>, Refusal> {
+    let writer: Vec<u8> = Vec::with_capacity(alloc, 1024)?;
+    Shown::on(alloc, "ab", Term::new(writer, 6, 10))
+}
+
+/// Whether a call is drawn: at once, or when it is made again, where memory was refused and not a byte was written.
+fn is_drawn_at_last(bar: &mut Shown<Term<Vec<u8>>>, step: Step) -> bool {
+    let before = bytes_written(bar);
+    let first = made(bar, step);
+    let refused = first == Err(Refusal::Memory) && bytes_written(bar) == before;
+    let drawn = first == Ok(Drawn::Yes) || refused && made(bar, step) == Ok(Drawn::Yes);
+    drawn && bytes_written(bar) > before
+}
+
+/// Each call of the script is drawn at last.
+fn draws_at_last(rt: &impl Abort, bar: &mut Shown<Term<Vec<u8>>>) {
+    for (step, _) in &SCRIPT {
+        assert!(rt; is_drawn_at_last(bar, *step));
+    }
+}
+
+/// Whether a bar shows what the script leaves; where memory for that is refused nothing is known.
+fn shows_the_script(alloc: Global, bar: &Shown<Term<Vec<u8>>>) -> bool {
+    match shown_by_bytes(alloc, bar) {
+        Ok(shown) => shown.as_str() == "l1\nl2\ne",
+        Err(refusal) => refusal == Refusal::Memory,
+    }
+}
+
+/// Not a byte is written, and the same call can be made again.
+#[test]
+fn want_of_memory_behind_a_writer(rt: HostRuntime) {
+    match bar_with_room(rt.alloc()) {
+        Ok(mut bar) => {
+            draws_at_last(&rt, &mut bar);
+            assert!(rt; shows_the_script(rt.alloc(), &bar));
+        }
+        Err(refusal) => assert_eq!(rt; refusal, Refusal::Memory),
+    }
+}
+
+/// What stands on the terminal, and the cursor; nothing where memory for the text is refused.
+fn seen(bar: &Shown<InMemoryTerm>) -> Option<(String, (u16, u16))> {
+    let term = bar.term()?;
+    Some((term.contents().ok()?, term.cursor()))
+}
+
+/// Whether a call is drawn; or finds no memory, leaves what was seen, and is drawn when it is made again; or its terminal found none,
+/// which it counts.
+fn is_drawn_or_refused(bar: &mut Shown<InMemoryTerm>, step: Step) -> bool {
+    let before = seen(bar);
+    match made(bar, step) {
+        Ok(drawn) => drawn == Drawn::Yes,
+        Err(Refusal::Memory) => seen(bar) == before && made(bar, step) == Ok(Drawn::Yes),
+        Err(refusal) => {
+            refusal == Refusal::Terminal(ErrorKind::OutOfMemory)
+                && bar.term().map_or(0, |term| term.faults()) == 1
+        }
+    }
+}
+
+/// Each call of the script.
+fn draws_or_refuses(rt: &impl Abort, bar: &mut Shown<InMemoryTerm>) {
+    for (step, _) in &SCRIPT {
+        assert!(rt; is_drawn_or_refused(bar, *step));
+    }
+}
+
+/// What was on the screen stays, and the same call can be made again; or the terminal's own memory was refused.
+#[test]
+fn want_of_memory_on_a_terminal_in_memory(rt: HostRuntime) {
+    let Ok(term) = InMemoryTerm::new(rt.alloc(), 6, 10) else {
+        return;
+    };
+    if let Ok(mut bar) = Shown::on(rt.alloc(), "ab", term) {
+        draws_or_refuses(&rt, &mut bar);
+    }
+}

@@ -1,0 +1,36 @@
+//! Tests that need code: trackers, closures and terminals of their own, options of holes, what a call hands out, sums of workers,
+//! histories, and memory that is refused. All others are rows of data (crate `rows`). Expected values come from outside.
+//!
+//! - `named`: each command of a bar by its name, beside the same as a value.
+//! - `values`: what bars and targets hand out, and closures that are handed to them.
+//! - `faults`, `writers`: a terminal of which each call fails once, and a writer that fails at each byte; boxed terminals, buffers, want
+//!   of memory. `failing_term`: that terminal. `shown`: a bar on a terminal.
+//! - `histories`: boards that keep their history. `sums`: workers that add to one sum.
+//! - `played`: which lines of a file are rows, and which of them agree.
+//! - `styles`, `term`, `text`: keys of a template, what targets hand out, numbers and formatters.
+#![tactic(auto)]
+
+#[cfg(test)]
+mod failing_term;
+#[cfg(test)]
+mod faults;
+#[cfg(test)]
+mod histories;
+#[cfg(test)]
+mod named;
+#[cfg(test)]
+mod played;
+#[cfg(test)]
+mod shown;
+#[cfg(test)]
+mod styles;
+#[cfg(test)]
+mod sums;
+#[cfg(test)]
+mod term;
+#[cfg(test)]
+mod text;
+#[cfg(test)]
+mod values;
+#[cfg(test)]
+mod writers;

@@ -1,0 +1,53 @@
+//! A bar that tells where it stands and counts its moves.
+use indicatif::{Drawn, Moves, Refusal};
+
+/// A bar without a length, so that finishing leaves its position.
+#[derive(Drop)]
+pub struct Counted {
+    pub position: u64,
+    pub finished: bool,
+    pub moves: u64,
+}
+
+impl Counted {
+    /// A bar at this position, which hasn't moved.
+    pub fn at(position: u64) -> Counted {
+        Counted {
+            position,
+            finished: false,
+            moves: 0,
+        }
+    }
+}
+
+impl Moves for Counted {
+    ghost use Rattle.std.specs.Prelude.{Some, None};
+
+    ghost stands = { λ bar. Some (record { position = bar.position; finished = bar.finished; ends_at = None }) };
+
+    fn advance(&mut self, n: u64) -> Result<Drawn, Refusal> {
+        self.position = self.position.wrapping_add(n);
+        self.moves = self.moves.wrapping_add(1);
+        Ok(Drawn::Limited)
+    }
+
+    fn place(&mut self, place: u64) -> Result<Drawn, Refusal> {
+        self.position = place;
+        self.moves = self.moves.wrapping_add(1);
+        Ok(Drawn::Limited)
+    }
+
+    fn finish(&mut self) -> Result<Drawn, Refusal> {
+        self.finished = true;
+        self.moves = self.moves.wrapping_add(1);
+        Ok(Drawn::Yes)
+    }
+
+    fn position(&self) -> u64 {
+        self.position
+    }
+
+    fn finished(&self) -> bool {
+        self.finished
+    }
+}

@@ -1,0 +1,481 @@
+//! Bars that stand alone or on boards, and the boards.
+//!
+//! `fronts ROWS COLS FROM STEP` begins with nothing, on terminals of this size, by clocks that stand at `FROM` and go on by `STEP`
+//! nanoseconds with each reading. Then
+//!
+//! - `board`, `recorded`: a board without and with a history, of the next mark, from 1 on; `on MARK`: steps speak of this board.
+//! - `alone TEXT`, `bar LEN TEMPLATE`, `hidden_bar`: a bar that stands alone, whose owner comes behind the others: owners are numbered
+//!   from 0.
+//! - `add BAR`, `insert N BAR`, `back N BAR`, `before OWNER BAR`, `after OWNER BAR`: a new bar with this message, behind `=` another owner
+//!   of a bar, or with `<` the last owner itself; the owner that comes back stands behind the others.
+//! - `own OWNER`, `release`, `drop`: another owner; the last owner is given up, or dropped.
+//! - `remove OWNER`, `log TEXT`, `clear`, `suspend`, `top`, `bottom`, `turn` (to another target): calls of the board.
+//! - `OWNER: CALL`: a call of a bar (`tell`), a reading (`readings`), `target` (to a target of its own), `as OWNER` (in the style of another
+//!   bar), `ticker NANOS`, `ticker off`, `ticks_past N` (whether it ticks more often than so, for ten seconds; from the
+//!   last `mark` on), `ticks_since` (how often it has ticked since then), `rests` (whether it
+//!   doesn't tick for 50 milliseconds) and `comes_to_rest` (whether it rests after a while).
+//! - `wrap_iter OWNER TEXT`, `wrap_read ..`, `wrap_write ..`, `wrap_stream ..`, `wrap_async_read ..`, `wrap_async_write ..`: something
+//!   (`scripted`) that the bar wraps; `| STEP` asks it (`bytes`).
+//! - `weak OWNER`, `never`, `upgrades`, `upgrade`: a weak bar; whether it is a bar again; and an owner by it.
+//! - `history_rests`: whether the history stays for 50 milliseconds.
+//! - `shows`, `hidden`, `order`, `adds`: what is seen of the board; the calls that its history has gained since it was last asked.
+//!   `adds OWNER: CALL`: a call, and what it adds. Behind them stands `!answer` where the last of them is kept with another answer than
+//!   was given, and `!run` where a fresh board that makes all that were kept gives another answer or shows something else.
+use crate::bars::{Bar, Maker, Room, Shared, push_board};
+use crate::bytes::{Over, Wrapped, asks, over};
+use crate::history::{Answered, Look, Question, shown};
+use crate::readings::read;
+use crate::scripted::{Scripted, scripted};
+use crate::tell::{Told, tell};
+use indicatif::{Drawn, InMemoryTerm, MultiProgressAlignment, Refusal, StepClock, WeakProgressBar};
+use scripts::got::{Bad, Got};
+use scripts::row::next;
+use scripts::spelling::{number, optional, unescaped};
+use std::alloc::Global;
+use std::random::RandomSource;
+use std::sync::Wait;
+use std::thread::{self, Threads};
+use std::time::{Clock, Duration};
+
+type Weak<R> = WeakProgressBar<InMemoryTerm, StepClock, R>;
+
+/// Boards and owners of bars.
+#[derive(Drop)]
+pub struct Fronts<R: Wait + Copy + Clone + Drop> {
+    maker: Maker<R>,
+    boards: Vec<Shared<R>>,
+    on: usize,
+    bars: Vec<Bar<R>>,
+    weak: Weak<R>,
+    wrapped: Option<Box<Over<Bar<R>>>>,
+    looked_at: usize,
+    answer: Answered,
+    mark: u64,
+}
+
+/// The next two words as a size.
+pub fn size_of(words: &mut &str) -> Result<(u16, u16), Bad> {
+    let rows = number(next(words))?;
+    let cols = number(next(words))?;
+    Ok((rows, cols))
+}
+
+/// The next four words, `ROWS COLS FROM STEP`.
+pub fn room_of(words: &mut &str) -> Result<Room, Bad> {
+    let (rows, cols) = size_of(words)?;
+    let from = number(next(words))?;
+    let step = number(next(words))?;
+    let clock = StepClock { next: from, step };
+    Ok(Room { rows, cols, clock })
+}
+
+impl<R: Wait + Copy + Clone + Drop> Fronts<R> {
+    /// Nothing as yet.
+    pub fn begin(rt: R, alloc: Global, rest: &str) -> Result<Box<Fronts<R>>, Bad> {
+        let mut words = rest;
+        let room = room_of(&mut words)?;
+        let fronts = Fronts {
+            maker: Maker { rt, alloc, room },
+            boards: Vec::new(alloc),
+            on: 0,
+            bars: Vec::new(alloc),
+            weak: WeakProgressBar::new(),
+            wrapped: None,
+            looked_at: 0,
+            answer: Answered::Untold,
+            mark: 0,
+        };
+        Ok(Box::new(alloc, fronts)?)
+    }
+
+    fn board(&self) -> Result<&Shared<R>, Bad> {
+        self.boards.get(self.on).ok_or(Bad::Step)
+    }
+
+    fn bar(&self, place: &str) -> Result<&Bar<R>, Bad> {
+        self.bars.get(number::<usize>(place)?).ok_or(Bad::Step)
+    }
+
+    fn owner(&self, place: &str) -> Result<Bar<R>, Bad> {
+        Ok(self.bar(place)?.clone()?)
+    }
+
+    fn keep(&mut self, bar: Bar<R>) -> Result<(), Bad> {
+        Ok(self.bars.push(bar)?)
+    }
+
+    // ---- boards and owners
+
+    /// Another board; whether the step asks for that.
+    fn begins(&mut self, step: &str) -> Result<bool, Bad> {
+        let mark = (self.boards.len() as u64).wrapping_add(1);
+        let board = match step {
+            "board" => self.maker.board(mark)?,
+            "recorded" => self.maker.recorded(mark)?,
+            _ => return Ok(false),
+        };
+        self.on = self.boards.len();
+        self.boards.push(board)?;
+        Ok(true)
+    }
+
+    /// A bar that stands alone, or another owner; whether the step asks for that.
+    fn comes(&mut self, step: &str) -> Result<bool, Bad> {
+        let Some(bar) = self.coming(step)? else {
+            return Ok(false);
+        };
+        self.keep(bar)?;
+        Ok(true)
+    }
+
+    fn coming(&self, step: &str) -> Result<Option<Bar<R>>, Bad> {
+        Ok(Some(match step.split_once(' ') {
+            Some(("alone", text)) => self.maker.saying(text)?,
+            Some(("bar", rest)) => self.styled(rest)?,
+            Some(("own", place)) => self.owner(place)?,
+            _ => match step {
+                "hidden_bar" => self.maker.hidden()?,
+                "upgrade" => self.weak.upgrade()?.ok_or(Bad::Step)?,
+                _ => return Ok(None),
+            },
+        }))
+    }
+
+    fn styled(&self, rest: &str) -> Result<Bar<R>, Bad> {
+        let mut words = rest;
+        let len = optional(next(&mut words))?;
+        let template = unescaped(self.maker.alloc, words)?;
+        Ok(self.maker.bar(len, template.as_str())?)
+    }
+
+    /// An owner that goes; whether the step asks for that.
+    fn goes(&mut self, step: &str) -> Result<bool, Bad> {
+        match step {
+            "release" => self.last()?.release(),
+            "drop" => drop(self.last()?),
+            _ => return Ok(false),
+        }
+        self.answer = Answered::Untold;
+        Ok(true)
+    }
+
+    fn last(&mut self) -> Result<Bar<R>, Bad> {
+        self.bars.pop().ok_or(Bad::Step)
+    }
+
+    /// A weak bar; whether the step asks for that.
+    fn weakens(&mut self, step: &str, got: &mut Got) -> Result<bool, Bad> {
+        match step.split_once(' ') {
+            Some(("weak", place)) => self.weak = self.bar(place)?.downgrade()?.clone()?,
+            _ => match step {
+                "never" => self.weak = WeakProgressBar::new(),
+                "upgrades" => got.flag(self.weak.upgrade()?.is_some()),
+                _ => return Ok(false),
+            },
+        }
+        Ok(true)
+    }
+
+    // ---- insertions
+
+    /// A bar taken in; whether the step asks for that.
+    fn takes_in(&mut self, step: &str) -> Result<bool, Bad> {
+        let (name, rest) = step.split_once(' ').unwrap_or((step, ""));
+        let mut words = rest;
+        let place = match name {
+            "add" => "",
+            "insert" | "back" | "before" | "after" => next(&mut words),
+            _ => return Ok(false),
+        };
+        let bar = self.entrant(words)?;
+        let taken = self.taken(name, place, bar)?;
+        self.answer = Answered::Answer(Ok(Drawn::Limited));
+        self.keep(taken)?;
+        Ok(true)
+    }
+
+    /// The bar that a word says.
+    fn entrant(&mut self, word: &str) -> Result<Bar<R>, Bad> {
+        if word == "<" {
+            return self.last();
+        }
+        match word.strip_prefix('=') {
+            Some(place) => self.owner(place),
+            None => Ok(self.maker.saying(word)?),
+        }
+    }
+
+    fn taken(&self, name: &str, place: &str, bar: Bar<R>) -> Result<Bar<R>, Bad> {
+        let board = self.board()?;
+        Ok(match name {
+            "insert" => board.insert(number(place)?, bar)?,
+            "back" => board.insert_from_back(number(place)?, bar)?,
+            "before" => board.insert_before(self.bar(place)?, bar)?,
+            "after" => board.insert_after(self.bar(place)?, bar)?,
+            _ => board.add(bar)?,
+        })
+    }
+
+    // ---- calls of a board
+
+    /// A call of the board that neither draws nor lends; whether the step asks for that.
+    fn settles(&mut self, step: &str, got: &mut Got) -> Result<bool, Bad> {
+        let answer = match step.split_once(' ') {
+            Some(("remove", place)) => self.board()?.remove(self.bar(place)?),
+            Some(("on", mark)) => {
+                let mark: usize = number(mark)?;
+                self.on = mark.wrapping_sub(1);
+                return Ok(true);
+            }
+            _ => match step {
+                "top" => self.board()?.set_alignment(MultiProgressAlignment::Top),
+                "bottom" => self.board()?.set_alignment(MultiProgressAlignment::Bottom),
+                "turn" => self.turn()?,
+                _ => return Ok(false),
+            },
+        };
+        self.answer = Answered::Answer(match answer {
+            Ok(()) => Ok(Drawn::Limited),
+            Err(refusal) => Err(refusal),
+        });
+        match answer {
+            Ok(()) => got.text("done"),
+            Err(refusal) => got.refusal(refusal),
+        }
+        Ok(true)
+    }
+
+    /// Another target for the board, by another owner of it.
+    fn turn(&self) -> Result<Result<(), Refusal>, Bad> {
+        let board = self.board()?.clone()?;
+        Ok(board.set_draw_target(self.maker.room.target(self.maker.alloc)?))
+    }
+
+    /// What a call of the board that draws answers, or of a bar behind its owner's number.
+    fn told(&mut self, step: &str) -> Result<Told, Bad> {
+        match step.split_once(": ") {
+            Some((place, rest)) => self.bar_told(place, rest),
+            None => self.board_told(step),
+        }
+    }
+
+    fn board_told(&self, step: &str) -> Result<Told, Bad> {
+        match step.split_once(' ') {
+            Some(("log", text)) => {
+                let text = unescaped(self.maker.alloc, text)?;
+                Ok(self.board()?.println(text.as_str()))
+            }
+            _ => match step {
+                "clear" => Ok(self.board()?.clear()),
+                "suspend" => Ok(self.board()?.suspend(|| ()).1),
+                _ => Err(Bad::Step),
+            },
+        }
+    }
+
+    fn bar_told(&self, place: &str, rest: &str) -> Result<Told, Bad> {
+        match rest.split_once(' ') {
+            Some(("as", other)) => Ok(dressed(self.bar(place)?, self.bar(other)?)),
+            _ if rest == "target" => {
+                let target = self.maker.room.target(self.maker.alloc)?;
+                Ok(self.bar(place)?.set_draw_target(target))
+            }
+            _ => tell(self.bar(place)?, self.maker.alloc, rest),
+        }
+    }
+
+    // ---- what is seen
+
+    /// Reads something of the board or of a bar; whether the step asks for that.
+    fn reads(&mut self, step: &str, got: &mut Got) -> Result<bool, Bad> {
+        match step.split_once(": ") {
+            Some(("adds", _)) | None => self.looks(step, got),
+            Some((place, rest)) => read(self.bar(place)?, rest, got),
+        }
+    }
+
+    fn looks(&mut self, step: &str, got: &mut Got) -> Result<bool, Bad> {
+        match step {
+            "shows" => push_board(self.board()?, got)?,
+            "hidden" => got.flag(self.board()?.is_hidden()),
+            "order" => {
+                shown(self.board()?, self.look(Question::Order), got);
+            }
+            "adds" => self.push_added(got)?,
+            _ => return Ok(false),
+        }
+        Ok(true)
+    }
+
+    fn look(&self, question: Question) -> Look {
+        Look {
+            alloc: self.maker.alloc,
+            room: self.maker.room,
+            question,
+        }
+    }
+
+    /// The calls that the history has gained since it was last looked at.
+    fn push_added(&mut self, got: &mut Got) -> Result<(), Bad> {
+        let question = Question::Added {
+            from: self.looked_at,
+            answer: self.answer,
+        };
+        self.looked_at = shown(self.board()?, self.look(question), got);
+        Ok(())
+    }
+
+    /// A call of a bar, whose answer is that of the entry that it adds.
+    fn adds_by(&mut self, step: &str, got: &mut Got) -> Result<(), Bad> {
+        self.answer = Answered::Answer(self.told(step)?);
+        self.push_added(got)
+    }
+}
+
+/// The bar, in the style of another one.
+fn dressed<R: Wait + Copy + Clone + Drop>(bar: &Bar<R>, other: &Bar<R>) -> Told {
+    let style = other.style()?;
+    bar.set_style(style)
+}
+
+impl<R: AllocGlobal + RandomSource + Wait + Copy + Clone + Drop> Fronts<R> {
+    /// Wraps something, or asks what is wrapped; whether the step asks for that.
+    fn wraps(&mut self, step: &str, got: &mut Got) -> Result<bool, Bad> {
+        let mut words = step;
+        let name = next(&mut words);
+        if name == "|" {
+            let wrapped = self.wrapped.as_mut().ok_or(Bad::Step)?;
+            asks(wrapped, words, got)?;
+            return Ok(true);
+        }
+        if !name.starts_with("wrap_") {
+            return Ok(false);
+        }
+        let bar = self.bar(next(&mut words))?;
+        let wrapped = wrapped(bar, name, scripted(self.maker.alloc, words)?)?;
+        self.wrapped = Some(over(&self.maker.rt, self.maker.alloc, wrapped)?);
+        Ok(true)
+    }
+}
+
+/// What a bar wraps.
+fn wrapped<R: Wait + Copy + Clone + Drop>(
+    bar: &Bar<R>,
+    name: &str,
+    inner: Scripted,
+) -> Result<Wrapped<Bar<R>>, Bad> {
+    Ok(match name {
+        "wrap_iter" => bar.wrap_iter(inner)?,
+        "wrap_read" => bar.wrap_read(inner)?,
+        "wrap_write" => bar.wrap_write(inner)?,
+        "wrap_stream" => bar.wrap_stream(inner)?,
+        "wrap_async_read" => bar.wrap_async_read(inner)?,
+        "wrap_async_write" => bar.wrap_async_write(inner)?,
+        _ => return Err(Bad::Step),
+    })
+}
+
+impl<
+    R: AllocGlobal + RandomSource + Wait + Threads + Clock + Copy + Clone + Drop + Send + 'static,
+> Fronts<R> {
+    /// Makes a step, or reads something.
+    pub fn step(&mut self, step: &str, got: &mut Got) -> Result<(), Bad> {
+        if let Some(rest) = step.strip_prefix("adds ") {
+            return self.adds_by(rest, got);
+        }
+        if self.wraps(step, got)? {
+            return Ok(());
+        }
+        if self.reads(step, got)? || self.begins(step)? || self.comes(step)? {
+            return Ok(());
+        }
+        if self.goes(step)? || self.takes_in(step)? || self.weakens(step, got)? {
+            return Ok(());
+        }
+        if self.settles(step, got)? || self.times(step, got)? {
+            return Ok(());
+        }
+        let told = self.told(step)?;
+        self.answer = Answered::Answer(told);
+        got.answer(told);
+        Ok(())
+    }
+
+    /// Has to do with a bar's ticker; whether the step asks for that.
+    fn times(&mut self, step: &str, got: &mut Got) -> Result<bool, Bad> {
+        let Some((place, rest)) = step.split_once(": ") else {
+            return self.history_rests(step, got);
+        };
+        match rest.split_once(' ') {
+            Some(("ticker", "off")) => self.bar(place)?.disable_steady_tick()?,
+            Some(("ticker", nanos)) => self.bar(place)?.enable_steady_tick(number(nanos)?)?,
+            Some(("ticks_past", ticks)) => {
+                let before: u64 = number(ticks)?;
+                let before = before.saturating_add(self.mark);
+                got.flag(ticks_past(&self.maker.rt, self.bar(place)?, before));
+            }
+            _ => match rest {
+                "mark" => self.mark = self.bar(place)?.ticks(),
+                "ticks_since" => got.number(self.bar(place)?.ticks().wrapping_sub(self.mark)),
+                "rests" => got.flag(rests(&self.maker.rt, self.bar(place)?)),
+                "comes_to_rest" => got.flag(comes_to_rest(&self.maker.rt, self.bar(place)?)),
+                _ => return Ok(false),
+            },
+        }
+        Ok(true)
+    }
+}
+
+impl<R: Wait + Clock + Copy + Clone + Drop> Fronts<R> {
+    /// Whether nothing is added to the board's history for 50 milliseconds; whether the step asks for that.
+    fn history_rests(&self, step: &str, got: &mut Got) -> Result<bool, Bad> {
+        if step != "history_rests" {
+            return Ok(false);
+        }
+        let before = self.kept()?;
+        pause(&self.maker.rt);
+        got.flag(self.kept()? == before);
+        Ok(true)
+    }
+
+    /// How many calls the board has kept.
+    fn kept(&self) -> Result<usize, Bad> {
+        let look = self.look(Question::Order);
+        Ok(shown(self.board()?, look, &mut Got::new(self.maker.alloc)))
+    }
+}
+
+/// Fifty turns of a millisecond: a ticker of a millisecond that goes on ticks meanwhile.
+fn pause<R: Clock>(rt: &R) {
+    for _ in 0..50u32 {
+        thread::sleep(rt, Duration::from_millis(1));
+    }
+}
+
+/// Whether the bar has ticked more often than so, by the last of 10,000 readings a millisecond apart.
+fn ticks_past<R: Wait + Clock + Copy + Clone + Drop>(rt: &R, bar: &Bar<R>, before: u64) -> bool {
+    for _ in 0..10_000u32 {
+        if bar.ticks() > before {
+            return true;
+        }
+        thread::sleep(rt, Duration::from_millis(1));
+    }
+    false
+}
+
+/// Whether two readings of the ticks with 50 turns of a millisecond between them are equal.
+fn rests<R: Wait + Clock + Copy + Clone + Drop>(rt: &R, bar: &Bar<R>) -> bool {
+    let before = bar.ticks();
+    pause(rt);
+    bar.ticks() == before
+}
+
+/// Whether the bar ticks no more, by at most 500 such readings.
+fn comes_to_rest<R: Wait + Clock + Copy + Clone + Drop>(rt: &R, bar: &Bar<R>) -> bool {
+    for _ in 0..500u32 {
+        if rests(rt, bar) {
+            return true;
+        }
+    }
+    false
+}

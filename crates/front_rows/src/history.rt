@@ -1,0 +1,145 @@
+//! What a board has kept: its order, its calls, and whether a fresh board that makes them gives the same answers and the same picture.
+use crate::bars::{Room, Shared};
+use crate::entries::push_call;
+use crate::tell::Told;
+use indicatif::{
+    Answer, Board, Drawn, Entry, InMemoryTerm, NoTracker, RecordReader, Recorded, Refusal,
+};
+use scripts::got::Got;
+use std::alloc::Global;
+use std::sync::Wait;
+
+/// What the last call answered, if that was told.
+#[derive(Clone, Copy, Drop)]
+pub enum Answered {
+    Untold,
+    Answer(Told),
+}
+
+/// What is asked of a board with its history.
+#[derive(Clone, Copy, Drop)]
+pub enum Question {
+    /// Its bars, in their order.
+    Order,
+    /// The calls from this one on, of which the last was answered so.
+    Added { from: usize, answer: Answered },
+}
+
+/// A question, and what a fresh board is made with.
+#[derive(Clone, Copy, Drop)]
+pub struct Look {
+    pub alloc: Global,
+    pub room: Room,
+    pub question: Question,
+}
+
+/// What is said, and how many calls were kept.
+#[derive(Drop)]
+pub struct Seen {
+    said: Got,
+    kept: usize,
+}
+
+/// Appends what a board answers to a question; how many calls it has kept.
+pub fn shown<R: Wait + Copy + Clone + Drop>(board: &Shared<R>, look: Look, got: &mut Got) -> usize {
+    let seen = board.with_record(look);
+    got.text(seen.said.as_str());
+    seen.kept
+}
+
+impl RecordReader<InMemoryTerm> for Look {
+    type Found = Seen;
+
+    fn read(self, record: Option<&Recorded<NoTracker, InMemoryTerm>>) -> Seen {
+        let mut said = Got::new(self.alloc);
+        let kept = match record {
+            Some(record) => answer(self, record, &mut said),
+            None => {
+                said.text("no history");
+                0
+            }
+        };
+        Seen { said, kept }
+    }
+}
+
+fn answer(look: Look, record: &Recorded<NoTracker, InMemoryTerm>, said: &mut Got) -> usize {
+    match look.question {
+        Question::Order => said.numbers(record.board().order()),
+        Question::Added { from, answer } => {
+            let added = record.entries().get(from..).unwrap_or(&[]);
+            push_calls(added, said);
+            if !is_answered(added.last(), answer) {
+                said.text(" !answer");
+            }
+            if is_replayed(look, record) != Ok(true) {
+                said.text(" !run");
+            }
+        }
+    }
+    record.entries().len()
+}
+
+fn push_calls(entries: &[Entry<NoTracker>], said: &mut Got) {
+    let mut parting = "";
+    for entry in entries {
+        said.text(parting);
+        push_call(&entry.call, said);
+        parting = ", ";
+    }
+}
+
+/// Whether a call was answered so; one that neither draws nor is refused counts as `Limited`.
+fn is_answered(entry: Option<&Entry<NoTracker>>, wanted: Answered) -> bool {
+    let (Some(entry), Answered::Answer(wanted)) = (entry, wanted) else {
+        return true;
+    };
+    match &entry.answer {
+        Answer::Id(_) | Answer::Done => wanted == Ok(Drawn::Limited),
+        Answer::Drawn(drawn) => wanted == Ok(*drawn),
+        Answer::Refused(refusal) => wanted == Err(*refusal),
+    }
+}
+
+/// Whether a fresh board makes the calls that were kept with the same answers, and then shows the same rows.
+fn is_replayed(look: Look, kept: &Recorded<NoTracker, InMemoryTerm>) -> Result<bool, Refusal> {
+    let target = look.room.target(look.alloc)?;
+    let board = Board::new(look.alloc, target, kept.opening().mark);
+    let mut fresh = Box::new(look.alloc, board)?;
+    if !answers_so(&mut fresh, look.alloc, kept.entries())? {
+        return Ok(false);
+    }
+    same_rows(rows_of(fresh.term()), rows_of(kept.board().term()))
+}
+
+/// Whether a board makes these calls with the same answers.
+fn answers_so(
+    board: &mut Board<NoTracker, InMemoryTerm>,
+    alloc: Global,
+    entries: &[Entry<NoTracker>],
+) -> Result<bool, Refusal> {
+    for entry in entries {
+        let call = entry.call.try_clone(alloc)?;
+        if board.call(call, entry.now) != entry.answer {
+            return Ok(false);
+        }
+    }
+    Ok(true)
+}
+
+/// The rows of a terminal, those that have scrolled away first; of none nothing.
+pub type Rows = Result<Option<Vec<String>>, Refusal>;
+
+/// The rows of a terminal, if there is one.
+pub fn rows_of(term: Option<&InMemoryTerm>) -> Rows {
+    match term {
+        Some(term) => Ok(Some(term.picture()?)),
+        None => Ok(None),
+    }
+}
+
+/// Whether two terminals show the same rows; two that aren't there do.
+pub fn same_rows(one: Rows, other: Rows) -> Result<bool, Refusal> {
+    let (one, other) = (one?, other?);
+    Ok(one == other)
+}

@@ -1,0 +1,98 @@
+//! Lists that are wrapped with a bar that counts its moves.
+//!
+//! `list POSITION ITEMS`, the items parted by spaces, begins; `next`, `next_back`, `size` (the two bounds and the length), `last`,
+//! `stands`, `finished`, and `unwrap`, which gives where the bar stands that comes back.
+use crate::counted::Counted;
+use indicatif::{ProgressBarIter, ProgressIterator};
+use scripts::got::{Bad, Got};
+use scripts::row::next;
+use scripts::spelling::number;
+use std::alloc::Global;
+use std::vec::IntoIter;
+
+type Wrapped = ProgressBarIter<IntoIter<u32>, Counted>;
+
+/// A list that is wrapped.
+#[derive(Drop)]
+pub struct List {
+    wrapped: Option<Wrapped>,
+}
+
+/// The list of these items.
+pub fn items_of(alloc: Global, words: &str) -> Result<IntoIter<u32>, Bad> {
+    let mut items = Vec::new(alloc);
+    for word in words.split(' ') {
+        items.push(number(word)?)?;
+    }
+    Ok(items.into_iter())
+}
+
+/// A list, wrapped.
+pub fn begin(alloc: Global, rest: &str) -> Result<Box<List>, Bad> {
+    let mut words = rest;
+    let position = number(next(&mut words))?;
+    let wrapped = items_of(alloc, words)?.progress_with(Counted::at(position));
+    let list = List {
+        wrapped: Some(wrapped),
+    };
+    Ok(Box::new(alloc, list)?)
+}
+
+/// Makes a step, or looks at the bar.
+pub fn step(list: &mut List, step: &str, got: &mut Got) -> Result<(), Bad> {
+    if step == "unwrap" {
+        return unwraps(list, got);
+    }
+    let Some(wrapped) = &mut list.wrapped else {
+        return Err(Bad::Step);
+    };
+    match step {
+        "next" => push_item(wrapped.next(), got),
+        "next_back" => push_item(wrapped.next_back(), got),
+        "size" => push_size(wrapped, got),
+        "last" => match wrapped.last_draw() {
+            Some(drawn) => got.answer(drawn),
+            None => got.text("none"),
+        },
+        "finished" => got.flag(wrapped.progress.finished),
+        "stands" => push_bar(&wrapped.progress, got),
+        _ => return Err(Bad::Step),
+    }
+    Ok(())
+}
+
+fn unwraps(list: &mut List, got: &mut Got) -> Result<(), Bad> {
+    let Some(wrapped) = list.wrapped.take() else {
+        return Err(Bad::Step);
+    };
+    let (items, bar) = wrapped.into_inner();
+    drop(items);
+    push_bar(&bar, got);
+    Ok(())
+}
+
+/// Appends an item, or `end`.
+pub fn push_item(item: Option<u32>, got: &mut Got) {
+    match item {
+        Some(item) => got.number(item),
+        None => got.text("end"),
+    }
+}
+
+fn push_size(wrapped: &Wrapped, got: &mut Got) {
+    let (least, most) = wrapped.size_hint();
+    got.number(least);
+    got.text(" ");
+    match most {
+        Some(most) => got.number(most),
+        None => got.text("-"),
+    }
+    got.text(" ");
+    got.number(wrapped.len());
+}
+
+fn push_bar(bar: &Counted, got: &mut Got) {
+    got.number(bar.position);
+    got.text(" ");
+    got.number(bar.moves);
+}

@@ -1,0 +1,66 @@
+//! What a bar tells of itself: `shows`, `message`, `prefix`, `pos`, `len`, `ticks`, `finished`, `hidden`, `tab_width`, `eta`, `duration`,
+//! `elapsed`; `changed_style`, the last text of a style that was made of the bar's; and `readings`, all that is only read.
+use crate::bars::{Bar, push_bar};
+use indicatif::Refusal;
+use scripts::got::{Bad, Got};
+use std::sync::Wait;
+
+/// Reads something of a bar; whether the text asks for that.
+pub fn read<R: Wait + Copy + Clone + Drop>(
+    bar: &Bar<R>,
+    text: &str,
+    got: &mut Got,
+) -> Result<bool, Bad> {
+    match text {
+        "shows" => push_bar(bar, got)?,
+        "message" => got.text(bar.message()?.as_str()),
+        "prefix" => got.text(bar.prefix()?.as_str()),
+        "changed_style" => push_changed(bar, got)?,
+        "readings" => read_all(bar)?,
+        _ => return Ok(read_number(bar, text, got)),
+    }
+    Ok(true)
+}
+
+/// A style with two other texts, made of the bar's.
+fn push_changed<R: Wait + Copy + Clone + Drop>(bar: &Bar<R>, got: &mut Got) -> Result<(), Refusal> {
+    let style = bar.style()?.try_clone()?.tick_strings(&["1", "2"])?;
+    got.text(style.get_final_tick_str());
+    Ok(())
+}
+
+fn read_number<R: Wait + Copy + Clone + Drop>(bar: &Bar<R>, text: &str, got: &mut Got) -> bool {
+    match text {
+        "pos" => got.number(bar.position()),
+        "len" => got.optional(bar.length()),
+        "ticks" => got.number(bar.ticks()),
+        "finished" => got.flag(bar.is_finished()),
+        "hidden" => got.flag(bar.is_hidden()),
+        "tab_width" => got.number(bar.tab_width()),
+        _ => return read_time(bar, text, got),
+    }
+    true
+}
+
+fn read_time<R: Wait + Copy + Clone + Drop>(bar: &Bar<R>, text: &str, got: &mut Got) -> bool {
+    match text {
+        "eta" => got.number(bar.eta()),
+        "duration" => got.number(bar.duration()),
+        "elapsed" => got.number(bar.elapsed()),
+        _ => return false,
+    }
+    true
+}
+
+/// Reads all that can be read.
+fn read_all<R: Wait + Copy + Clone + Drop>(bar: &Bar<R>) -> Result<(), Refusal> {
+    let _ = (bar.position(), bar.length(), bar.ticks());
+    let _ = (bar.is_finished(), bar.is_hidden(), bar.tab_width());
+    let _ = (bar.eta(), bar.duration(), bar.elapsed(), bar.per_sec());
+    let _ = bar.message()?;
+    let _ = bar.prefix()?;
+    let _ = bar.style()?;
+    bar.with_term(|_| ());
+    let _ = bar.downgrade()?.upgrade()?;
+    Ok(())
+}

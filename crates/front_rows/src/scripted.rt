@@ -1,0 +1,256 @@
+//! A reader, a writer and a stream that do what a row says.
+ghost use Rattle.std.specs.Prelude.{◌≤◌, ⊤, length, IfOk};
+ghost use Rattle.futures.specs.Poll.{OnPending};
+ghost use Rattle.futures.specs.Task.{Covers, Keeps};
+ghost use Rattle.tokio.specs.Io.Moved.{count_moved};
+
+use futures::stream::Stream;
+use futures::task::{Context, Poll};
+use scripts::got::Bad;
+use scripts::spelling::{number, unescaped};
+use std::alloc::Global;
+use std::io::{self, BufRead, Cursor, ErrorKind, Read, Seek, SeekFrom, Write};
+use tokio::io::{AsyncRead, AsyncWrite};
+
+/// What a call does.
+#[derive(Clone, Copy, Drop)]
+pub enum Answer {
+    /// A poll that isn't ready.
+    Pending,
+    /// At most so many bytes.
+    Bytes(usize),
+    /// This failure.
+    Fails(ErrorKind),
+}
+
+/// Bytes to be read, bytes that were written, and what the calls of both do, one after another; behind them all calls do the last.
+#[derive(Drop)]
+pub struct Scripted {
+    bytes: Cursor<Vec<u8>>,
+    written: Vec<u8>,
+    answers: Vec<Answer>,
+    calls: usize,
+}
+
+/// `TEXT`, `#N` (N bytes that are 0, 1, 2 and so on, modulo 256) or `*N` (N times `x`); behind `, ` what the calls do.
+pub fn scripted(alloc: Global, rest: &str) -> Result<Scripted, Bad> {
+    let (text, answers) = rest.split_once(", ").unwrap_or((rest, ""));
+    let bytes = bytes_of(alloc, text)?;
+    Ok(Scripted {
+        bytes: Cursor::new(bytes),
+        written: Vec::new(alloc),
+        answers: answers_of(alloc, answers)?,
+        calls: 0,
+    })
+}
+
+fn bytes_of(alloc: Global, text: &str) -> Result<Vec<u8>, Bad> {
+    if let Some(count) = text.strip_prefix('#') {
+        return counting(alloc, number(count)?);
+    }
+    match text.strip_prefix('*') {
+        Some(count) => Ok(vec![in alloc; b'x'; number(count)?]?),
+        None => Ok(unescaped(alloc, text)?.into_bytes()),
+    }
+}
+
+fn counting(alloc: Global, count: u32) -> Result<Vec<u8>, Bad> {
+    let mut bytes = Vec::new(alloc);
+    for k in 0..count {
+        bytes.push((k % 256) as u8)?;
+    }
+    Ok(bytes)
+}
+
+fn answers_of(alloc: Global, words: &str) -> Result<Vec<Answer>, Bad> {
+    let mut answers = Vec::new(alloc);
+    for word in words.split(' ') {
+        if !word.is_empty() {
+            answers.push(answer_of(word)?)?;
+        }
+    }
+    Ok(answers)
+}
+
+fn answer_of(word: &str) -> Result<Answer, Bad> {
+    match word {
+        "pending" => Ok(Answer::Pending),
+        "all" => Ok(Answer::Bytes(usize::MAX)),
+        "interrupted" => Ok(Answer::Fails(ErrorKind::Interrupted)),
+        "reset" => Ok(Answer::Fails(ErrorKind::ConnectionReset)),
+        "broken" => Ok(Answer::Fails(ErrorKind::BrokenPipe)),
+        "full" => Ok(Answer::Fails(ErrorKind::StorageFull)),
+        "timed_out" => Ok(Answer::Fails(ErrorKind::TimedOut)),
+        word => Ok(Answer::Bytes(number(word)?)),
+    }
+}
+
+/// A failure as rows spell it.
+pub fn kind_name(kind: ErrorKind) -> &'static str {
+    match kind {
+        ErrorKind::Interrupted => "interrupted",
+        ErrorKind::ConnectionReset => "reset",
+        ErrorKind::BrokenPipe => "broken",
+        ErrorKind::StorageFull => "full",
+        ErrorKind::TimedOut => "timed_out",
+        ErrorKind::UnexpectedEof => "at its end",
+        ErrorKind::InvalidInput => "invalid",
+        _ => "another failure",
+    }
+}
+
+impl Scripted {
+    /// What the next call does.
+    fn answer(&mut self) -> Answer {
+        let at = self.calls;
+        self.calls = self.calls.saturating_add(1);
+        match self.answers.get(at).or(self.answers.last()) {
+            Some(answer) => *answer,
+            None => Answer::Bytes(usize::MAX),
+        }
+    }
+
+    /// Keeps bytes that are written.
+    fn keep(&mut self, bytes: &[u8]) -> io::Result<usize>
+        ensures { IfOk result (λ n. n ≤ length bytes.now) }
+    {
+        match self.written.extend_from_slice(bytes) {
+            Ok(()) => Ok(bytes.len()),
+            Err(_) => Err(io::Error::from(ErrorKind::OutOfMemory)),
+        }
+    }
+
+    /// What was written.
+    pub fn written(&self) -> &[u8] {
+        self.written.as_slice()
+    }
+}
+
+/// How many of so many bytes an answer takes.
+fn count_of(answer: Answer, room: usize) -> io::Result<usize>
+    ensures { IfOk result (λ n. n ≤ room) }
+{
+    match answer {
+        Answer::Pending => Err(io::Error::from(ErrorKind::WouldBlock)),
+        Answer::Bytes(count) => Ok(room.min(count)),
+        Answer::Fails(kind) => Err(io::Error::from(kind)),
+    }
+}
+
+impl Read for Scripted {
+    fn read(&mut self, buf: &mut [u8]) -> io::Result<usize> {
+        let count = count_of(self.answer(), buf.len())?;
+        self.bytes.read(&mut buf[..count])
+    }
+}
+
+impl BufRead for Scripted {
+    fn fill_buf(&mut self) -> io::Result<&[u8]> {
+        count_of(self.answer(), 0)?;
+        self.bytes.fill_buf()
+    }
+
+    fn consume(&mut self, amount: usize) {
+        self.bytes.consume(amount)
+    }
+}
+
+impl Seek for Scripted {
+    fn seek(&mut self, to: SeekFrom) -> io::Result<u64> {
+        self.bytes.seek(to)
+    }
+}
+
+impl Write for Scripted {
+    fn write(&mut self, buf: &[u8]) -> io::Result<usize> {
+        let count = count_of(self.answer(), buf.len())?;
+        self.keep(&buf[..count])
+    }
+
+    fn flush(&mut self) -> io::Result<()> {
+        Ok(())
+    }
+}
+
+impl Iterator for Scripted {
+    type Item = u8;
+
+    fn next(&mut self) -> Option<u8> {
+        let mut byte = [0u8; 1];
+        match self.bytes.read(&mut byte) {
+            Ok(1) => Some(byte[0]),
+            _ => None,
+        }
+    }
+}
+
+impl Stream for Scripted {
+    type Item = u8;
+
+    fn poll_next(&mut self, cx: &mut Context<'_>) -> Poll<Option<u8>> {
+        match self.answer() {
+            Answer::Pending => cx.yield_now(),
+            _ => Poll::Ready(Iterator::next(self)),
+        }
+    }
+}
+
+impl Scripted {
+    /// How many of so many bytes a poll takes.
+    fn polled(&mut self, cx: &mut Context<'_>, room: usize) -> Poll<io::Result<usize>>
+        ensures bound { count_moved result ≤ room }
+        ensures registered { OnPending result (Covers cx.new (λ _. ⊥)) }
+        ensures kept { Keeps cx.old cx.new }
+    {
+        match self.answer() {
+            Answer::Pending => cx.yield_now(),
+            Answer::Bytes(count) => Poll::Ready(Ok(room.min(count))),
+            Answer::Fails(kind) => Poll::Ready(Err(io::Error::from(kind))),
+        }
+    }
+}
+
+impl AsyncRead for Scripted {
+    ghost reads = { λ _ _ _. ⊤ };
+
+    ghost is_at_end = { λ _. ⊤ };
+
+    ghost reads_nothing = { λ _. tt };
+
+    ghost reads_in_order = { λ _ _ _ _ _ _ _. tt };
+
+    fn poll_read(&mut self, cx: &mut Context<'_>, buf: &mut [u8]) -> Poll<io::Result<usize>> {
+        let polled = self.polled(cx, buf.len());
+        match polled {
+            Poll::Ready(Ok(count)) => Poll::Ready(self.bytes.read(&mut buf[..count])),
+            polled => polled,
+        }
+    }
+}
+
+impl AsyncWrite for Scripted {
+    ghost writes = { λ _ _ _. ⊤ };
+
+    ghost writes_nothing = { λ _. tt };
+
+    ghost writes_in_order = { λ _ _ _ _ _ _ _. tt };
+
+    fn poll_write(&mut self, cx: &mut Context<'_>, buf: &[u8]) -> Poll<io::Result<usize>> {
+        let polled = self.polled(cx, buf.len());
+        match polled {
+            Poll::Ready(Ok(count)) => Poll::Ready(self.keep(&buf[..count])),
+            polled => polled,
+        }
+    }
+
+    fn poll_flush(&mut self, cx: &mut Context<'_>) -> Poll<io::Result<()>> {
+        match self.answer() {
+            Answer::Pending => cx.yield_now(),
+            _ => Poll::Ready(Ok(())),
+        }
+    }
+
+    fn poll_shutdown(&mut self, _cx: &mut Context<'_>) -> Poll<io::Result<()>> {
+        Poll::Ready(Ok(()))
+    }
+}

@@ -1,0 +1,99 @@
+//! What steps are played on, and which module plays a step. A new kind of world is a module, a variant of `On`, and a line each in
+//! `begun` and `step`; a question that needs no world is a module and a line in `asked`.
+use crate::beside::Pair;
+use crate::bytes::{self, OverCounted};
+use crate::environment;
+use crate::fronts::Fronts;
+use crate::lists::{self, List};
+use crate::loops::Looped;
+use crate::places::Places;
+use scripts::got::{Bad, Got};
+use scripts::play::World;
+use std::alloc::Global;
+use std::random::RandomSource;
+use std::sync::Wait;
+use std::thread::Threads;
+use std::time::Clock;
+
+/// What is played on.
+#[derive(Drop)]
+enum On<R: Wait + Copy + Clone + Drop> {
+    Nothing,
+    Fronts(Box<Fronts<R>>),
+    Beside(Box<Pair<R>>),
+    Bytes(Box<OverCounted>),
+    List(Box<List>),
+    Loop(Box<Looped>),
+    Places(Box<Places>),
+}
+
+/// What is played on, and the machine.
+#[derive(Drop)]
+pub struct Stage<R: Wait + Copy + Clone + Drop> {
+    rt: R,
+    alloc: Global,
+    on: On<R>,
+}
+
+impl<R: Wait + Copy + Clone + Drop> Stage<R> {
+    /// Nothing to play on.
+    pub fn new(rt: R, alloc: Global) -> Stage<R> {
+        Stage {
+            rt,
+            alloc,
+            on: On::Nothing,
+        }
+    }
+}
+
+impl<R: AllocGlobal + RandomSource + Wait + Copy + Clone + Drop> Stage<R> {
+    /// The world that the step of this name begins.
+    fn begun(&self, name: &str, rest: &str) -> Result<Option<On<R>>, Bad> {
+        Ok(Some(match name {
+            "fronts" => On::Fronts(Fronts::begin(self.rt, self.alloc, rest)?),
+            "beside" => On::Beside(Pair::begin(self.rt, self.alloc)?),
+            "bytes" => On::Bytes(bytes::begin(&self.rt, self.alloc, rest)?),
+            "list" => On::List(lists::begin(self.alloc, rest)?),
+            "loop" => On::Loop(Looped::begin(self.alloc, rest)?),
+            "places" => On::Places(Places::begin(self.alloc, rest)?),
+            _ => return Ok(None),
+        }))
+    }
+}
+
+impl<
+    R: AllocGlobal + RandomSource + Wait + Threads + Clock + Copy + Clone + Drop + Send + 'static,
+> On<R> {
+    /// Makes a step, or reads something.
+    fn step(&mut self, step: &str, got: &mut Got) -> Result<(), Bad> {
+        match self {
+            On::Nothing => Err(Bad::Step),
+            On::Fronts(world) => world.step(step, got),
+            On::Beside(world) => world.step(step, got),
+            On::Bytes(world) => bytes::step(world, step, got),
+            On::List(world) => lists::step(world, step, got),
+            On::Loop(world) => world.step(step, got),
+            On::Places(world) => world.step(step, got),
+        }
+    }
+}
+
+impl<
+    R: AllocGlobal + RandomSource + Wait + Threads + Clock + Copy + Clone + Drop + Send + 'static,
+> World for Stage<R> {
+    fn play(&mut self, step: &str, got: &mut Got) -> Result<(), Bad> {
+        let (name, rest) = step.split_once(' ').unwrap_or((step, ""));
+        match name {
+            "environment" => return environment::said(self.alloc, rest, got),
+            "colours" => return environment::wants(self.alloc, rest, got),
+            _ => (),
+        }
+        match self.begun(name, rest)? {
+            Some(on) => {
+                self.on = on;
+                Ok(())
+            }
+            None => self.on.step(step, got),
+        }
+    }
+}

@@ -1,0 +1,182 @@
+//! A bar's calls as rows spell them: a name and what belongs to it.
+//!
+//! - Without an argument: `tick`, `unset_length`, `reset_eta`, `reset_elapsed`, `reset`, `force_draw`, `finish`, `finish_and_clear`,
+//!   `abandon`, `finish_using_style`, `suspend`; `at_end`: by what wraps something, at its end.
+//! - With a number: `inc`, `dec`, `set_position`, `set_length`, `inc_length`, `dec_length`, `set_elapsed`, `set_tab_width`; `further`: an
+//!   update of the position; `with_position`, `with_elapsed`, `with_tab_width`; `advance` and `place`: by what wraps something;
+//!   `absorb`: a sum of one worker that has added so much.
+//! - With a text: `set_message`, `set_prefix`, `finish_with_message`, `abandon_with_message`, `log`, `with_message`, `with_prefix`;
+//!   `set_style` and `with_style`: a spinner whose last text is this one; `template`: the bar's own style with another template;
+//!   `with_finish`: a call that finishes a bar.
+//!
+//! What answers with the bar counts as `limited`, since it draws nothing.
+use crate::bars::{Bar, spinner};
+use indicatif::{Change, Drawn, Moves, ProgressFinish, ProgressState, Refusal};
+use scripts::commands::finish;
+use scripts::got::Bad;
+use scripts::spelling::{number, unescaped};
+use std::alloc::Global;
+use std::sync::Wait;
+
+/// What a call of a bar answers.
+pub type Told = Result<Drawn, Refusal>;
+
+/// Makes the call that a text spells.
+pub fn tell<R: Wait + Copy + Clone + Drop>(
+    bar: &Bar<R>,
+    alloc: Global,
+    text: &str,
+) -> Result<Told, Bad> {
+    match text.split_once(' ') {
+        None => bare(bar, text),
+        Some(("with_finish", rest)) => Ok(with_finish(bar.clone()?, finish(alloc, rest)?)),
+        Some((name, rest)) if is_worded(name) => {
+            let text = unescaped(alloc, rest)?;
+            worded(bar, alloc, name, text.as_str())
+        }
+        Some((name, rest)) => numbered(bar, name, number(rest)?),
+    }
+}
+
+/// Whether the call of this name takes a text.
+fn is_worded(name: &str) -> bool {
+    matches!(
+        name,
+        "set_message"
+            | "set_prefix"
+            | "finish_with_message"
+            | "abandon_with_message"
+            | "log"
+            | "with_message"
+            | "with_prefix"
+            | "set_style"
+            | "with_style"
+            | "template"
+    )
+}
+
+fn bare<R: Wait + Copy + Clone + Drop>(bar: &Bar<R>, name: &str) -> Result<Told, Bad> {
+    Ok(match name {
+        "tick" => bar.tick(),
+        "unset_length" => bar.unset_length(),
+        "reset_eta" => bar.reset_eta(),
+        "reset_elapsed" => bar.reset_elapsed(),
+        "reset" => bar.reset(),
+        "force_draw" => bar.force_draw(),
+        _ => return ending(bar, name),
+    })
+}
+
+fn ending<R: Wait + Copy + Clone + Drop>(bar: &Bar<R>, name: &str) -> Result<Told, Bad> {
+    Ok(match name {
+        "finish" => bar.finish(),
+        "finish_and_clear" => bar.finish_and_clear(),
+        "abandon" => bar.abandon(),
+        "finish_using_style" => bar.finish_using_style(),
+        "suspend" => bar.suspend(|| ()).1,
+        "at_end" => at_end(bar.clone()?),
+        _ => return Err(Bad::Step),
+    })
+}
+
+fn at_end<R: Wait + Copy + Clone + Drop>(mut bar: Bar<R>) -> Told {
+    Moves::finish(&mut bar)
+}
+
+fn numbered<R: Wait + Copy + Clone + Drop>(bar: &Bar<R>, name: &str, n: u64) -> Result<Told, Bad> {
+    Ok(match name {
+        "inc" => bar.inc(n),
+        "dec" => bar.dec(n),
+        "set_position" => bar.set_position(n),
+        "set_length" => bar.set_length(n),
+        "inc_length" => bar.inc_length(n),
+        "dec_length" => bar.dec_length(n),
+        "set_elapsed" => bar.set_elapsed(n),
+        "set_tab_width" => bar.set_tab_width(n as usize),
+        "further" => bar.update(|state| further(state, n)),
+        "absorb" => absorb(bar, n),
+        _ => return moved(bar.clone()?, name, n),
+    })
+}
+
+/// So much further than this state.
+fn further(state: &ProgressState, delta: u64) -> Change {
+    Change {
+        pos: Some(state.pos().wrapping_add(delta)),
+        len: None,
+    }
+}
+
+fn absorb<R: Wait + Copy + Clone + Drop>(bar: &Bar<R>, n: u64) -> Told {
+    let (done, mut worker) = bar.worker()?;
+    worker.add(&done, n);
+    bar.absorb(done, worker)
+}
+
+/// A call with a number that takes an owner.
+fn moved<R: Wait + Copy + Clone + Drop>(mut bar: Bar<R>, name: &str, n: u64) -> Result<Told, Bad> {
+    Ok(match name {
+        "advance" => Moves::advance(&mut bar, n),
+        "place" => Moves::place(&mut bar, n),
+        "with_position" => is_given(bar.with_position(n)),
+        "with_elapsed" => is_given(bar.with_elapsed(n)),
+        "with_tab_width" => is_given(bar.with_tab_width(n as usize)),
+        _ => return Err(Bad::Step),
+    })
+}
+
+fn worded<R: Wait + Copy + Clone + Drop>(
+    bar: &Bar<R>,
+    alloc: Global,
+    name: &str,
+    text: &str,
+) -> Result<Told, Bad> {
+    Ok(match name {
+        "set_message" => bar.set_message(text),
+        "set_prefix" => bar.set_prefix(text),
+        "finish_with_message" => bar.finish_with_message(text),
+        "abandon_with_message" => bar.abandon_with_message(text),
+        "log" => bar.println(text),
+        _ => return styled(bar, alloc, name, text),
+    })
+}
+
+fn styled<R: Wait + Copy + Clone + Drop>(
+    bar: &Bar<R>,
+    alloc: Global,
+    name: &str,
+    text: &str,
+) -> Result<Told, Bad> {
+    match name {
+        "set_style" => Ok(set_style(bar, alloc, text)),
+        "template" => Ok(set_template(bar, text)),
+        "with_message" => Ok(is_given(bar.clone()?.with_message(text))),
+        "with_prefix" => Ok(is_given(bar.clone()?.with_prefix(text))),
+        _ => Ok(with_style(bar.clone()?, alloc, text)),
+    }
+}
+
+fn set_style<R: Wait + Copy + Clone + Drop>(bar: &Bar<R>, alloc: Global, last: &str) -> Told {
+    bar.set_style(spinner(alloc, last)?)
+}
+
+fn set_template<R: Wait + Copy + Clone + Drop>(bar: &Bar<R>, template: &str) -> Told {
+    let style = bar.style()?.template(template)?;
+    bar.set_style(style)
+}
+
+fn with_style<R: Wait + Copy + Clone + Drop>(bar: Bar<R>, alloc: Global, last: &str) -> Told {
+    let style = spinner(alloc, last)?;
+    is_given(bar.with_style(style))
+}
+
+fn with_finish<R: Wait + Copy + Clone + Drop>(bar: Bar<R>, finish: ProgressFinish) -> Told {
+    is_given(bar.with_finish(finish))
+}
+
+fn is_given<R: Wait + Copy + Clone + Drop>(bar: Result<Bar<R>, Refusal>) -> Told {
+    match bar {
+        Ok(_) => Ok(Drawn::Limited),
+        Err(refusal) => Err(refusal),
+    }
+}

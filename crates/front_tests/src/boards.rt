@@ -1,0 +1,306 @@
+//! Boards that threads share and that keep their history: a fresh board that makes the calls that were kept gives the same answers and
+//! the same picture.
+use crate::fronts::{Bar, Shared, bar_on, recorded};
+use crate::kept::{Kind, counted, is_one_run};
+use indicatif::{Drawn, MultiProgressAlignment, Refusal};
+use std::alloc::Global;
+use std::sync::Wait;
+use std::test::Fail;
+use std::thread::{self, Threads, join};
+use std::time::{Clock, Duration};
+
+// ---- texts from two threads
+
+/// Logs a text fifty times; how often it was drawn.
+fn log_fifty<R: Wait + Copy + Clone + Drop>(board: &Shared<R>, text: &str) -> u64 {
+    let mut drawn: u64 = 0;
+    for _ in 0..50u32 {
+        if board.println(text) == Ok(Drawn::Yes) {
+            drawn = drawn.saturating_add(1);
+        }
+    }
+    drawn
+}
+
+/// How often a board has logged each of the two texts.
+fn logged<R: Wait + Copy + Clone + Drop>(board: &Shared<R>) -> (u64, u64) {
+    let of = |text| counted(board, Kind::Log(text));
+    (of("mine"), of("theirs"))
+}
+
+#[test]
+fn two_threads_log(rt: HostRuntime) -> Result<(), Fail> {
+    let board = recorded(rt, rt.alloc())?;
+    let drawn = join(
+        &rt,
+        || log_fifty(&board, "mine"),
+        || log_fifty(&board, "theirs"),
+    );
+    assert_eq!(rt; drawn, (50, 50));
+    assert_eq!(rt; counted(&board, Kind::Any), 100);
+    assert_eq!(rt; logged(&board), (50, 50));
+    assert!(rt; is_one_run(&board, rt.alloc()));
+    Ok(())
+}
+
+// ---- a board in two threads
+
+fn crosses<X: Send + Sync>(_board: &X) {}
+
+/// A bar on the board that is drawn, fifty texts, and the bar's end; how many texts were drawn.
+fn adds_and_logs<R: Wait + Copy + Clone + Drop>(
+    board: &Shared<R>,
+    rt: R,
+    alloc: Global,
+    text: &str,
+) -> Result<u64, Refusal> {
+    let bar = bar_on(board, rt, alloc, text)?;
+    bar.tick()?;
+    let drawn = log_fifty(board, text);
+    bar.finish()?;
+    Ok(drawn)
+}
+
+/// One owner of a board goes into another thread, and both add bars and log: each adds a bar, draws it, logs fifty texts, finishes the
+/// bar and drops it.
+#[test]
+fn a_board_crosses_threads(rt: HostRuntime) -> Result<(), Fail> {
+    let board = recorded(rt, rt.alloc())?;
+    crosses(&*board);
+    let other = board.clone()?;
+    let child = thread::spawn(&rt, move || {
+        adds_and_logs(&other, rt, rt.alloc(), "theirs").unwrap_or(0)
+    })?;
+    let mine = adds_and_logs(&board, rt, rt.alloc(), "mine").unwrap_or(0);
+    assert_eq!(rt; (mine, child.join(&rt)), (50, 50));
+    assert_eq!(rt; logged(&board), (50, 50));
+    let came_and_went = (counted(&board, Kind::Any), counted(&board, Kind::Gone));
+    assert_eq!(rt; came_and_went, (108, 2));
+    assert!(rt; is_one_run(&board, rt.alloc()));
+    Ok(())
+}
+
+// ---- a thousand calls
+
+/// One of a board's calls by a number.
+fn board_call<R: Wait + Copy + Clone + Drop>(board: &Shared<R>, number: u64) {
+    let _ = match number {
+        0 => board.println("log"),
+        1 => board.clear(),
+        2 => board.suspend(|| ()).1,
+        3 => align(board, MultiProgressAlignment::Bottom),
+        _ => align(board, MultiProgressAlignment::Top),
+    };
+}
+
+fn align<R: Wait + Copy + Clone + Drop>(
+    board: &Shared<R>,
+    alignment: MultiProgressAlignment,
+) -> Result<Drawn, Refusal> {
+    board.set_alignment(alignment)?;
+    Ok(Drawn::Limited)
+}
+
+/// One of a bar's calls by a number.
+fn bar_call<R: Wait + Copy + Clone + Drop>(bar: &Bar<R>, number: u64) {
+    let _ = match number {
+        0 => bar.tick(),
+        1 => bar.inc(1),
+        2 => bar.set_message("a\nb"),
+        3 => bar.set_message("c"),
+        4 => bar.println("above"),
+        5 => bar.finish(),
+        6 => bar.reset(),
+        7 => bar.finish_and_clear(),
+        8 => bar.force_draw(),
+        _ => bar.set_length(number),
+    };
+}
+
+/// What a thread plays with: a bar of its own, and how often it took a bar out of the order.
+#[derive(Drop)]
+struct Player<R: Wait + Copy + Clone + Drop> {
+    bar: Bar<R>,
+    removals: u64,
+}
+
+fn player_on<R: Wait + Copy + Clone + Drop>(
+    board: &Shared<R>,
+    rt: R,
+    alloc: Global,
+) -> Result<Box<Player<R>>, Refusal> {
+    let bar = bar_on(board, rt, alloc, "bar")?;
+    Ok(Box::new(alloc, Player { bar, removals: 0 })?)
+}
+
+impl<R: Wait + Copy + Clone + Drop> Player<R> {
+    /// A bar in the place of the other, which leaves its board by its last owner's drop.
+    fn renew(&mut self, board: &Shared<R>, rt: R, alloc: Global) -> Result<(), Refusal> {
+        self.bar = bar_on(board, rt, alloc, "new")?;
+        Ok(())
+    }
+
+    /// Takes the bar out of the order, tells it something while it stands alone, and takes it in before all others.
+    fn leave(&mut self, board: &Shared<R>) -> Result<(), Refusal> {
+        board.remove(&self.bar)?;
+        self.removals = self.removals.saturating_add(1);
+        let _ = self.bar.set_message("moved");
+        self.bar = board.insert(0, self.bar.clone()?)?;
+        Ok(())
+    }
+
+    /// A call by a number.
+    fn call(
+        &mut self,
+        board: &Shared<R>,
+        rt: R,
+        alloc: Global,
+        number: u64,
+    ) -> Result<(), Refusal> {
+        match number {
+            0..5 => board_call(board, number),
+            5 => self.renew(board, rt, alloc)?,
+            6 => self.leave(board)?,
+            _ => bar_call(&self.bar, number.wrapping_sub(7)),
+        }
+        Ok(())
+    }
+}
+
+/// Takes a bar that several threads have out of the order, and in again.
+fn toss<R: Wait + Copy + Clone + Drop>(board: &Shared<R>, bar: &Bar<R>) -> Result<(), Refusal> {
+    board.remove(bar)?;
+    let _ = bar.inc(1);
+    let _ = board.add(bar.clone()?)?;
+    Ok(())
+}
+
+/// A board, and a bar of it that all threads have.
+#[derive(Drop)]
+struct Stage<R: Wait + Copy + Clone + Drop> {
+    board: Shared<R>,
+    common: Bar<R>,
+}
+
+fn stage<R: Wait + Copy + Clone + Drop>(rt: R, alloc: Global) -> Result<Box<Stage<R>>, Refusal> {
+    let board = Box::into_inner(recorded(rt, alloc)?);
+    let common = bar_on(&board, rt, alloc, "all")?;
+    Ok(Box::new(alloc, Stage { board, common })?)
+}
+
+/// A fixed generator of numbers: Marsaglia's xorshift of 64 bits, with the shifts 13, 7 and 17.
+fn next(seed: &mut u64) -> u64 {
+    let mut x = *seed;
+    x ^= x.wrapping_shl(13);
+    x ^= x >> 7;
+    x ^= x.wrapping_shl(17);
+    *seed = x;
+    x
+}
+
+/// Two hundred and fifty calls on a board and a bar of it, by the numbers of a generator, and some on a bar that other threads have
+/// too; how often the bar was taken out of the order.
+fn play<R: Wait + Copy + Clone + Drop>(
+    on: &Stage<R>,
+    rt: R,
+    alloc: Global,
+    mut seed: u64,
+) -> Result<u64, Refusal> {
+    let mut player = player_on(&on.board, rt, alloc)?;
+    for _ in 0..250u32 {
+        let number = next(&mut seed) % 21;
+        player.call(&on.board, rt, alloc, number)?;
+        if number == 9 {
+            toss(&on.board, &on.common)?;
+        }
+    }
+    Ok(player.removals)
+}
+
+/// The same in two threads; how often both took their bars out, 0 where one of them was refused something.
+fn play_two<R: Wait + Threads + Copy + Clone + Drop + Send + Sync>(
+    on: &Stage<R>,
+    rt: R,
+    alloc: Global,
+    seeds: (u64, u64),
+) -> (u64, u64) {
+    join(
+        &rt,
+        || play(on, rt, alloc, seeds.0).unwrap_or(0),
+        || play(on, rt, alloc, seeds.1).unwrap_or(0),
+    )
+}
+
+/// How often four threads took bars of their own out; `None` where one of them was refused something.
+fn sum_of(one: (u64, u64), other: (u64, u64)) -> Option<u64> {
+    let all = [one.0, one.1, other.0, other.1];
+    let mut sum: u64 = 0;
+    for removals in all {
+        if removals == 0 {
+            return None;
+        }
+        sum = sum.saturating_add(removals);
+    }
+    Some(sum)
+}
+
+/// A thousand calls from four threads, with bars that are taken out and come back: the bar that all have is taken out too.
+#[test]
+fn a_thousand_calls(rt: HostRuntime) -> Result<(), Fail> {
+    let on = stage(rt, rt.alloc())?;
+    let (one, other) = join(
+        &rt,
+        || play_two(&on, rt, rt.alloc(), (1, 2)),
+        || play_two(&on, rt, rt.alloc(), (3, 4)),
+    );
+    let own = sum_of(one, other).unwrap_or(0);
+    assert!(rt; own >= 20 && counted(&on.board, Kind::Remove) > own);
+    assert!(rt; counted(&on.board, Kind::Any) >= 1000);
+    assert!(rt; is_one_run(&on.board, rt.alloc()));
+    Ok(())
+}
+
+// ---- a ticker
+
+/// Whether the bar ticks, by the last of 10,000 readings a millisecond apart.
+fn ticks<R: Wait + Clock + Copy + Clone + Drop>(rt: &R, bar: &Bar<R>) -> bool {
+    for _ in 0..10_000u32 {
+        if bar.ticks() > 0 {
+            return true;
+        }
+        thread::sleep(rt, Duration::from_millis(1));
+    }
+    false
+}
+
+/// Fifty turns of a millisecond: a ticker of a millisecond that goes on ticks meanwhile.
+fn waits<R: Clock>(rt: &R) {
+    for _ in 0..50u32 {
+        thread::sleep(rt, Duration::from_millis(1));
+    }
+}
+
+/// How often the bars' tickers ticked, and how often one was set and told off.
+fn of_tickers<R: Wait + Copy + Clone + Drop>(board: &Shared<R>) -> (u64, u64, u64) {
+    let of = |kind| counted(board, kind);
+    (
+        of(Kind::TickerTick),
+        of(Kind::Ticker(true)),
+        of(Kind::Ticker(false)),
+    )
+}
+
+/// A board that is suspended beside a ticker draws again; the history has the ticker's ticks, and no more once it is told off.
+#[test]
+fn a_pause_beside_a_ticker(rt: HostRuntime) -> Result<(), Fail> {
+    let on = stage(rt, rt.alloc())?;
+    on.common.enable_steady_tick(1_000_000)?;
+    assert!(rt; ticks(&rt, &on.common));
+    assert!(rt; on.board.suspend(|| 7u8) == (7, Ok(Drawn::Yes)));
+    on.common.disable_steady_tick()?;
+    let ticked = on.common.ticks();
+    waits(&rt);
+    assert_eq!(rt; of_tickers(&on.board), (ticked, 1, 1));
+    assert!(rt; is_one_run(&on.board, rt.alloc()));
+    Ok(())
+}

@@ -1,0 +1,120 @@
+//! Bars that are shared, and the threads that count for them.
+ghost use Rattle.std.specs.Prelude.{◌≡◌};
+
+use crate::gates::Open;
+use indicatif::{
+    BarWorker, Done, InMemoryTerm, ParallelProgressIterator, ProgressBar, ProgressDrawTarget,
+    ProgressStyle, Refusal, Setup, StepClock, run_workers,
+};
+use std::alloc::Global;
+use std::sync::Wait;
+use std::test::Fail;
+use std::thread::join;
+
+type Bar<R> = ProgressBar<InMemoryTerm, StepClock, R>;
+
+/// A bar without a length at this position, on a terminal of 4 rows and 20 columns.
+fn bar_at<R: Wait + Clone + Drop>(rt: R, alloc: Global, position: u64) -> Result<Bar<R>, Refusal> {
+    let setup = Setup {
+        target: ProgressDrawTarget::term_like(InMemoryTerm::new(alloc, 4, 20)?),
+        clock: StepClock { next: 0, step: 1 },
+    };
+    ProgressBar::no_length(rt, alloc, setup)?.with_position(position)
+}
+
+#[test]
+fn a_bar_absorbs_past_2_to_the_64(rt: HostRuntime) -> Result<(), Fail> {
+    let bar = bar_at(rt, rt.alloc(), u64::MAX - 1)?;
+    let (done, worker) = bar.worker()?;
+    let (mut first, mut second) = worker.split(&done)?;
+    first.add(&done, 1);
+    second.add(&done, 2);
+    assert_eq!(rt; bar.position(), u64::MAX - 1);
+    let whole = first.join(second, &done);
+    assert!(rt; bar.absorb(done, whole).is_ok());
+    assert_eq!(rt; bar.position(), 1);
+    assert!(rt; !bar.is_finished());
+    Ok(())
+}
+
+/// What stands on its terminal.
+fn contents<R: Wait + Clone + Drop>(bar: &Bar<R>) -> Option<String> {
+    bar.with_term(|term| match term {
+        Some(term) => term.contents().ok(),
+        None => None,
+    })
+}
+
+/// A total is no sum that ends: its worker goes on. The bar shows what was added once it has absorbed it.
+#[test]
+fn what_was_added_is_drawn(rt: HostRuntime) -> Result<(), Fail> {
+    let style = ProgressStyle::with_template(rt.alloc(), "{pos} done")?;
+    let bar = bar_at(rt, rt.alloc(), 0)?.with_style(style)?;
+    let (done, mut worker) = bar.worker()?;
+    worker.add(&done, 40);
+    assert_eq!(rt; worker.total(&done), 40);
+    worker.add(&done, 2);
+    assert!(rt; bar.absorb(done, worker).is_ok());
+    assert!(rt; bar.force_draw().is_ok());
+    assert!(rt; contents(&bar).is_some_and(|text| text.as_str() == "42 done"));
+    Ok(())
+}
+
+/// Adds 1 a thousand times.
+fn a_thousand_times(done: &Done, mut worker: BarWorker) -> BarWorker
+    requires of { worker.adds_to ≡ done.now }
+    ensures of { result.adds_to ≡ done.now }
+    ensures parts { result.account.parts ≡ worker.account.parts }
+{
+    for _ in 0..1000u32 {
+        worker.add(done, 1);
+    }
+    worker
+}
+
+#[test]
+fn two_threads_count_for_a_bar(rt: HostRuntime) -> Result<(), Fail> {
+    let bar = bar_at(rt, rt.alloc(), 5)?;
+    let (done, worker) = bar.worker()?;
+    let (mine, theirs) = worker.split(&done)?;
+    let (mine, theirs) = join(
+        &rt,
+        || a_thousand_times(&done, mine),
+        || a_thousand_times(&done, theirs),
+    );
+    let whole = mine.join(theirs, &done);
+    assert!(rt; bar.absorb(done, whole).is_ok());
+    assert_eq!(rt; bar.position(), 2005);
+    Ok(())
+}
+
+#[test]
+fn pieces_over_a_shared_bar(rt: HostRuntime) -> Result<(), Fail> {
+    let alloc = rt.alloc();
+    let pieces = vec![in alloc;
+        vec![in alloc; 1u32, 2]?,
+        vec![in alloc; 3u32]?,
+        Vec::new(alloc),
+    ]?;
+    let bar = bar_at(rt, alloc, 0)?;
+    let double = |x: &u32| x.wrapping_mul(2);
+    let made = run_workers(&rt, alloc, pieces.as_slice(), double, &Open, &bar)?;
+    assert!(rt; made[0].as_slice() == [2, 4].as_slice());
+    assert!(rt; made[1].as_slice() == [6].as_slice());
+    assert!(rt; made[2].is_empty());
+    assert_eq!(rt; bar.position(), 3);
+    Ok(())
+}
+
+#[test]
+fn a_list_over_a_shared_bar(rt: HostRuntime) -> Result<(), Fail> {
+    let bar = bar_at(rt, rt.alloc(), 0)?;
+    let items = [1u32, 2, 3];
+    let list = items.as_slice().progress_with(bar.clone()?);
+    let (made, other) = list.map_collect(&rt, rt.alloc(), |x: &u32| x.wrapping_mul(2));
+    assert!(rt; made?.as_slice() == [2, 4, 6].as_slice());
+    other.release();
+    assert_eq!(rt; bar.position(), 3);
+    assert!(rt; !bar.is_finished());
+    Ok(())
+}

@@ -1,0 +1,71 @@
+//! Gates.
+use indicatif::Gate;
+use std::sync::atomic::{AtomicU64, Ordering};
+
+/// Holds nobody.
+#[derive(Drop)]
+pub struct Open;
+
+impl Gate for Open {
+    fn pass(&self, _piece: usize) {}
+}
+
+/// Counts who passes.
+#[derive(Drop)]
+pub struct Turnstile {
+    pub passed: AtomicU64,
+}
+
+impl Gate for Turnstile {
+    fn pass(&self, _piece: usize) {
+        self.passed.fetch_add(1, Ordering::SeqCst);
+    }
+}
+
+/// Counts who passes, and who of the pieces behind the first 256 comes before all of these have passed.
+#[derive(Drop)]
+pub struct Waves {
+    pub passed: AtomicU64,
+    pub early: AtomicU64,
+}
+
+impl Gate for Waves {
+    fn pass(&self, piece: usize) {
+        let before = self.passed.fetch_add(1, Ordering::SeqCst);
+        if piece >= 256 && before < 256 {
+            self.early.fetch_add(1, Ordering::SeqCst);
+        }
+    }
+}
+
+/// How often piece 0 looks whether piece 1 has come.
+const TURNS: u32 = 10_000_000;
+
+/// Holds piece 0 until piece 1 has come, or for so many turns.
+#[derive(Drop)]
+pub struct Together {
+    pub second_came: AtomicU64,
+    pub first_saw_it: AtomicU64,
+}
+
+impl Gate for Together {
+    fn pass(&self, piece: usize) {
+        if piece == 1 {
+            self.second_came.store(1, Ordering::SeqCst);
+        }
+        if piece == 0 {
+            self.wait();
+        }
+    }
+}
+
+impl Together {
+    fn wait(&self) {
+        for _ in 0..TURNS {
+            if self.second_came.load(Ordering::SeqCst) == 1 {
+                self.first_saw_it.store(1, Ordering::SeqCst);
+                return;
+            }
+        }
+    }
+}

@@ -1,0 +1,56 @@
+//! Tests over crate `indicatif` that are code, with values from outside: threads, closures, and types of the tests' own. What is a mere
+//! list of calls stands as rows in `front_rows`.
+//!
+//! - `fronts`: bars and boards for tests, whose calls have no clauses. `kept`: what a board has kept.
+//! - `owners`: what the last owner of a bar leaves, on a terminal that others see. `bars`: bars in threads, pauses and bounds.
+//! - `boards`: boards that threads share. `records`: a board with its history that nobody shares.
+//! - `shared`: clocks of different openings, boards that make their bars, and threads at one bar.
+//! - `machines`: what is asked of the machine. `made`: iterators that get a bar when they are wrapped.
+//! - `bridges`: lines of a log above a board's bars.
+//! - `carried`: tests of the crate `indicatif` that need code. `carried_tickers`: those of tickers. `carried_trackers`: those of trackers.
+//! - `counted`: threads that count for a bar.
+//! - `ticking`: a bar's ticker, looked at from outside.
+//! - `lists`, `own_bars`, `pieces`: lists, block by block, lists with a bar of their own, and pieces in threads of their own; with the
+//!   bar `stepped` and the `gates`.
+#![tactic(auto)]
+
+#[cfg(test)]
+mod bars;
+#[cfg(test)]
+mod boards;
+#[cfg(test)]
+mod bridges;
+#[cfg(test)]
+mod carried;
+#[cfg(test)]
+mod carried_tickers;
+#[cfg(test)]
+mod carried_trackers;
+#[cfg(test)]
+mod counted;
+#[cfg(test)]
+mod fronts;
+#[cfg(test)]
+mod gates;
+#[cfg(test)]
+mod kept;
+#[cfg(test)]
+mod lists;
+#[cfg(test)]
+mod machines;
+#[cfg(test)]
+mod made;
+#[cfg(test)]
+mod own_bars;
+#[cfg(test)]
+mod owners;
+#[cfg(test)]
+mod pieces;
+#[cfg(test)]
+mod records;
+#[cfg(test)]
+mod shared;
+#[cfg(test)]
+mod stepped;
+#[cfg(test)]
+mod ticking;

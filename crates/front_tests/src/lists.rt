@@ -1,0 +1,168 @@
+//! Lists, block by block.
+use crate::stepped::bar_at;
+use indicatif::ParallelProgressIterator;
+use std::alloc::{AllocError, Global};
+use std::sync::atomic::{AtomicU64, Ordering};
+use std::test::Fail;
+use std::thread::{Threads, available_parallelism};
+
+/// The numbers below `count`.
+fn numbers(alloc: Global, count: u32) -> Result<Vec<u32>, AllocError> {
+    let mut items = Vec::new(alloc);
+    for k in 0..count {
+        items.push(k)?;
+    }
+    Ok(items)
+}
+
+#[test]
+fn ten_thousand_items_are_three_blocks(rt: HostRuntime) -> Result<(), Fail> {
+    let items = numbers(rt.alloc(), 10_000)?;
+    let list = items.as_slice().progress_with(bar_at(rt.alloc(), 0));
+    let (made, bar) = list.map_collect(&rt, rt.alloc(), |x: &u32| x.wrapping_mul(2));
+    let made = made?;
+    assert_eq!(rt; made.len(), 10_000);
+    for (k, x) in made.iter().enumerate() {
+        assert_eq!(rt; *x as usize, k.wrapping_mul(2));
+    }
+    assert!(rt; bar.steps.as_slice() == [4096, 4096, 1808].as_slice());
+    assert_eq!(rt; bar.position, 10_000);
+    assert!(rt; !bar.finished);
+    Ok(())
+}
+
+/// A list that is no longer than a block moves its bar by a tenth at a time: of 2,000 items by 200.
+#[test]
+fn a_shorter_list_moves_by_tenths(rt: HostRuntime) -> Result<(), Fail> {
+    let items = numbers(rt.alloc(), 2000)?;
+    let list = items.as_slice().progress_with(bar_at(rt.alloc(), 0));
+    let (made, bar) = list.map_collect(&rt, rt.alloc(), |x: &u32| *x);
+    assert!(rt; made? == items);
+    assert!(rt; bar.steps.as_slice() == [200; 10].as_slice());
+    Ok(())
+}
+
+/// How often an item looks whether the other one has begun.
+const TURNS: u32 = 10_000_000;
+
+/// Marks this one of two as begun; whether the other one begins within so many turns.
+fn meets(begun: &[AtomicU64; 2], item: usize) -> bool {
+    let (mine, other) = if item == 0 { (0, 1) } else { (1, 0) };
+    begun[mine].store(1, Ordering::SeqCst);
+    for _ in 0..TURNS {
+        if begun[other].load(Ordering::SeqCst) == 1 {
+            return true;
+        }
+    }
+    false
+}
+
+/// Two items are worked on at the same time: each sees that the other has begun. (Where there is one processor alone, or nobody tells
+/// how many, they are worked on one after another.)
+#[test]
+fn pieces_of_a_list_run_at_the_same_time(rt: HostRuntime) -> Result<(), Fail> {
+    let begun = [AtomicU64::new(0), AtomicU64::new(0)];
+    let items = [0usize, 1];
+    let list = items.as_slice().progress_with(bar_at(rt.alloc(), 0));
+    let (made, bar) = list.map_collect(&rt, rt.alloc(), |item: &usize| meets(&begun, *item));
+    let both = made?.as_slice() == [true, true].as_slice();
+    assert!(rt; both || !has_processors(&rt));
+    assert!(rt; bar.steps.as_slice() == [2].as_slice() || !has_processors(&rt));
+    Ok(())
+}
+
+/// Whether the machine tells that it has more than one processor.
+fn has_processors<R: Threads>(rt: &R) -> bool {
+    match available_parallelism(rt) {
+        Ok(count) => count.get() > 1,
+        Err(_) => false,
+    }
+}
+
+#[test]
+fn no_item_advances_nothing(rt: HostRuntime) -> Result<(), Fail> {
+    let none = numbers(rt.alloc(), 0)?;
+    let list = none.as_slice().progress_with(bar_at(rt.alloc(), 7));
+    let (made, bar) = list.map_collect(&rt, rt.alloc(), |x: &u32| x.wrapping_mul(2));
+    assert!(rt; made?.is_empty());
+    assert!(rt; bar.steps.is_empty());
+    assert_eq!(rt; bar.position, 7);
+    let (answer, bar) = none
+        .as_slice()
+        .progress_with(bar)
+        .for_each(&rt, |_x: &u32| ());
+    assert_eq!(rt; answer, Ok(()));
+    assert!(rt; bar.steps.is_empty());
+    Ok(())
+}
+
+#[test]
+fn one_item_is_a_block(rt: HostRuntime) -> Result<(), Fail> {
+    let one = [21u32];
+    let list = one.as_slice().progress_with(bar_at(rt.alloc(), 0));
+    let (made, bar) = list.map_collect(&rt, rt.alloc(), |x: &u32| x.wrapping_mul(2));
+    assert!(rt; made?.as_slice() == [42].as_slice());
+    assert!(rt; bar.steps.as_slice() == [1].as_slice());
+    Ok(())
+}
+
+#[test]
+fn a_whole_block_and_one_item_more(rt: HostRuntime) -> Result<(), Fail> {
+    let items = numbers(rt.alloc(), 4097)?;
+    let list = items.as_slice().progress_with(bar_at(rt.alloc(), 0));
+    let (made, bar) = list.map_collect(&rt, rt.alloc(), |x: &u32| *x);
+    assert!(rt; made? == items);
+    assert!(rt; bar.steps.as_slice() == [4096, 1].as_slice());
+    Ok(())
+}
+
+/// A million items: 244 whole blocks, which are 999,424 items, and one of 576.
+#[test]
+fn a_million_items(rt: HostRuntime) -> Result<(), Fail> {
+    let items = numbers(rt.alloc(), 1_000_000)?;
+    let list = items.as_slice().progress_with(bar_at(rt.alloc(), 0));
+    let (made, bar) = list.map_collect(&rt, rt.alloc(), |x: &u32| x.wrapping_mul(2));
+    let made = made?;
+    assert_eq!(rt; made.len(), 1_000_000);
+    for (k, x) in made.iter().enumerate() {
+        assert_eq!(rt; *x as usize, k.wrapping_mul(2));
+    }
+    assert_eq!(rt; bar.steps.len(), 245);
+    assert_eq!(rt; bar.steps[0], 4096);
+    assert_eq!(rt; bar.steps[243], 4096);
+    assert_eq!(rt; bar.steps[244], 576);
+    assert_eq!(rt; bar.position, 1_000_000);
+    Ok(())
+}
+
+/// So many counts of 0.
+fn counts(alloc: Global, count: u32) -> Result<Vec<AtomicU64>, AllocError> {
+    let mut counts = Vec::new(alloc);
+    for _ in 0..count {
+        counts.push(AtomicU64::new(0))?;
+    }
+    Ok(counts)
+}
+
+/// Whether each of these counts is 1.
+fn are_met_once(counts: &[AtomicU64]) -> bool {
+    for times in counts {
+        if times.load(Ordering::SeqCst) != 1 {
+            return false;
+        }
+    }
+    true
+}
+
+#[test]
+fn each_item_is_met_once(rt: HostRuntime) -> Result<(), Fail> {
+    let met = counts(rt.alloc(), 10_000)?;
+    let list = met.as_slice().progress_with(bar_at(rt.alloc(), 0));
+    let (answer, bar) = list.for_each(&rt, |times: &AtomicU64| {
+        times.fetch_add(1, Ordering::SeqCst);
+    });
+    assert_eq!(rt; answer, Ok(()));
+    assert!(rt; bar.steps.as_slice() == [4096, 4096, 1808].as_slice());
+    assert!(rt; are_met_once(met.as_slice()));
+    Ok(())
+}

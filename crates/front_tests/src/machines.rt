@@ -1,0 +1,190 @@
+//! What is asked of the machine: its clock, and the terminals behind the program's own streams or behind a writer.
+use indicatif::machine::{MachineClock, TerminalSetup, facts_of, on_stderr, on_stdout, told_setup};
+use indicatif::{
+    BarState, Clock, Drawn, Facts, LoneBar, Moment, NoTracker, ProgressDrawTarget, Refusal, Setup,
+    Term, TermLike,
+};
+use std::alloc::Global;
+use std::cell::Cell;
+use std::io::{self, BufWriter, ErrorKind, Write};
+use std::test::Fail;
+use std::time::{self, Duration};
+
+// ---- terminals
+
+/// Facts of a terminal of 7 rows and 40 columns.
+fn facts(attended: bool, term: Option<String>) -> Facts {
+    Facts {
+        rows: 7,
+        cols: 40,
+        attended,
+        term,
+    }
+}
+
+/// What a bar is made with behind a writer, on a terminal of 7 rows and 40 columns of which this is told.
+fn setup_of(
+    rt: &HostRuntime,
+    attended: bool,
+    term: Option<&str>,
+) -> Result<TerminalSetup<Vec<u8>>, Refusal> {
+    let term = match term {
+        Some(kind) => Some(String::from_str(rt.alloc(), kind)?),
+        None => None,
+    };
+    told_setup(rt, Vec::new(rt.alloc()), facts(attended, term))
+}
+
+/// Rows and columns of a target's terminal, if it has one.
+fn size_of(target: ProgressDrawTarget<Term<BufWriter<Vec<u8>>>>) -> Option<(u16, u16)> {
+    let term = target.into_term()?;
+    Some((term.height(), term.width()))
+}
+
+/// Whether a clock doesn't go back.
+fn goes_on(clock: &mut impl Clock) -> bool {
+    let first = clock.now();
+    first <= clock.now()
+}
+
+#[test]
+fn a_terminal_of_which_is_told(rt: HostRuntime) -> Result<(), Fail> {
+    let Setup { target, mut clock } = setup_of(&rt, true, Some("xterm"))?;
+    let size = size_of(target);
+    assert!(rt; size == Some((7, 40)) && goes_on(&mut clock));
+    Ok(())
+}
+
+/// Whether nothing is drawn on what was made.
+fn is_hidden<W: Write + Drop>(made: Result<TerminalSetup<W>, Refusal>) -> Result<bool, Refusal> {
+    let setup = made?;
+    Ok(setup.target.is_hidden())
+}
+
+#[test]
+fn a_terminal_that_is_hidden(rt: HostRuntime) -> Result<(), Fail> {
+    assert!(rt; is_hidden(setup_of(&rt, false, Some("xterm")))?);
+    assert!(rt; is_hidden(setup_of(&rt, true, Some("dumb")))?);
+    assert!(rt; is_hidden(setup_of(&rt, true, None))?);
+    Ok(())
+}
+
+/// Whether a bar is hidden by these facts: its stream is no terminal, or one without moves.
+fn is_hidden_by(found: Result<Facts, Refusal>) -> Result<bool, Refusal> {
+    let facts = found?;
+    match &facts.term {
+        Some(term) => Ok(!facts.attended || term.as_str() == "dumb"),
+        None => Ok(true),
+    }
+}
+
+#[test]
+fn the_programs_own_streams(rt: HostRuntime) -> Result<(), Fail> {
+    let out = is_hidden_by(facts_of(&rt, &rt.stdout()))?;
+    assert!(rt; is_hidden(on_stdout(&rt))? == out);
+    let err = is_hidden_by(facts_of(&rt, &rt.stderr()))?;
+    assert!(rt; is_hidden(on_stderr(&rt))? == err);
+    Ok(())
+}
+
+// ---- a bar behind a writer
+
+/// A bar on a terminal behind a writer, by a clock of the machine.
+#[derive(Drop)]
+struct Timed {
+    bar: Box<LoneBar<NoTracker, Term<BufWriter<Vec<u8>>>>>,
+    now: Moment,
+}
+
+/// A bar of a setup, made at the moment of its clock.
+fn bar_of(alloc: Global, setup: TerminalSetup<Vec<u8>>) -> Result<Timed, Refusal> {
+    let Setup { target, mut clock } = setup;
+    let now = clock.now();
+    let state = BarState::new(alloc, None, now)?;
+    let bar = Box::new(alloc, LoneBar::new(state, target))?;
+    Ok(Timed { bar, now })
+}
+
+/// The bar of the documentation's example.
+fn bar_behind(rt: &HostRuntime) -> Result<Timed, Refusal> {
+    bar_of(rt.alloc(), setup_of(rt, true, Some("xterm"))?)
+}
+
+/// A tick, whose call promises nothing here.
+fn tick(timed: &mut Timed) -> Result<Drawn, Refusal> {
+    timed.bar.tick(timed.now)
+}
+
+#[test]
+fn behind_a_writer(rt: HostRuntime) -> Result<(), Fail> {
+    let mut timed = bar_behind(&rt)?;
+    assert!(rt; tick(&mut timed) == Ok(Drawn::Yes));
+    Ok(())
+}
+
+// ---- clocks
+
+/// A machine that tells these nanoseconds one after another, and then refuses.
+#[derive(Drop)]
+struct Telling {
+    nanos: &'static [u64],
+    readings: Cell<usize>,
+}
+
+impl time::Clock for Telling {
+    fn monotonic(&self) -> io::Result<Duration> {
+        let reading = self.readings.get();
+        self.readings.set(reading.saturating_add(1));
+        match self.nanos.get(reading) {
+            Some(nanos) => Ok(Duration::from_nanos(*nanos)),
+            None => Err(io::Error::from(ErrorKind::Unsupported)),
+        }
+    }
+
+    fn since_1970(&self) -> io::Result<Duration> {
+        self.monotonic()
+    }
+}
+
+/// Whether the clock tells these moments, one after another.
+fn tells(clock: &mut MachineClock<Telling>, moments: &[u64]) -> bool {
+    for moment in moments {
+        if clock.now() != *moment {
+            return false;
+        }
+    }
+    true
+}
+
+/// It tells what the machine tells, doesn't go back, and stands where the machine refuses.
+#[test]
+fn a_clock_of_a_machine(rt: HostRuntime) {
+    let mut clock = MachineClock::new(Telling {
+        nanos: &[5_000_000_000, 5_000_000_007, 4_000_000_000, 6_000_000_000],
+        readings: Cell::new(0),
+    });
+    let moments = [
+        5_000_000_000,
+        5_000_000_007,
+        5_000_000_007,
+        6_000_000_000,
+        6_000_000_000,
+    ];
+    assert!(rt; tells(&mut clock, moments.as_slice()));
+}
+
+/// Whether the clock goes on within so many readings.
+fn goes_on_within<R: time::Clock>(clock: &mut MachineClock<R>, readings: u32) -> bool {
+    let opened = clock.now();
+    for _ in 0..readings {
+        if clock.now() > opened {
+            return true;
+        }
+    }
+    false
+}
+
+#[test]
+fn a_clock_of_this_machine(rt: HostRuntime) {
+    assert!(rt; goes_on_within(&mut MachineClock::new(rt), 1_000_000));
+}

@@ -1,0 +1,187 @@
+//! Pieces in threads of their own.
+use crate::gates::{Open, Together, Turnstile, Waves};
+use crate::stepped::{Stepped, bar_at};
+use indicatif::{Refusal, run_workers_with};
+use std::alloc::{AllocError, Global};
+use std::sync::atomic::{AtomicU64, Ordering};
+use std::test::Fail;
+use std::thread::Threads;
+
+/// `count` pieces, in each of which the number 1 stands `items` times.
+fn pieces_of_ones(alloc: Global, count: u32, items: u32) -> Result<Vec<Vec<u32>>, AllocError> {
+    let mut pieces = Vec::new(alloc);
+    for _ in 0..count {
+        pieces.push(ones(alloc, items)?)?;
+    }
+    Ok(pieces)
+}
+
+/// The number 1, so many times.
+fn ones(alloc: Global, items: u32) -> Result<Vec<u32>, AllocError> {
+    let mut piece = Vec::new(alloc);
+    for _ in 0..items {
+        piece.push(1u32)?;
+    }
+    Ok(piece)
+}
+
+#[test]
+fn answers_stand_in_the_order_of_the_pieces(rt: HostRuntime) -> Result<(), Fail> {
+    let alloc = rt.alloc();
+    let pieces = vec![in alloc;
+        vec![in alloc; 1u32, 2]?,
+        vec![in alloc; 3u32]?,
+        Vec::new(alloc),
+    ]?;
+    let mut bar = bar_at(alloc, 0);
+    let gate = Turnstile {
+        passed: AtomicU64::new(0),
+    };
+    let made = run_workers_with(
+        &rt,
+        alloc,
+        pieces.as_slice(),
+        |x: &u32| x.wrapping_mul(2),
+        &gate,
+        &mut bar,
+    )?;
+    assert_eq!(rt; made.len(), 3);
+    assert!(rt; made[0].as_slice() == [2, 4].as_slice());
+    assert!(rt; made[1].as_slice() == [6].as_slice());
+    assert!(rt; made[2].is_empty());
+    assert_eq!(rt; bar.position, 3);
+    assert!(rt; bar.steps.as_slice() == [3].as_slice());
+    assert!(rt; !bar.finished);
+    assert_eq!(rt; gate.passed.load(Ordering::SeqCst), 3);
+    Ok(())
+}
+
+#[test]
+fn no_piece_is_refused(rt: HostRuntime) -> Result<(), Fail> {
+    let none = pieces_of_ones(rt.alloc(), 0, 0)?;
+    let mut bar = bar_at(rt.alloc(), 7);
+    let answer = run_workers_with(
+        &rt,
+        rt.alloc(),
+        none.as_slice(),
+        |x: &u32| *x,
+        &Open,
+        &mut bar,
+    );
+    assert!(rt; answer.err() == Some(Refusal::ZeroPieces));
+    assert_eq!(rt; bar.position, 7);
+    assert!(rt; bar.steps.is_empty());
+    Ok(())
+}
+
+#[test]
+fn pieces_run_at_the_same_time(rt: HostRuntime) -> Result<(), Fail> {
+    let pieces = pieces_of_ones(rt.alloc(), 2, 1)?;
+    let mut bar = bar_at(rt.alloc(), 0);
+    let gate = Together {
+        second_came: AtomicU64::new(0),
+        first_saw_it: AtomicU64::new(0),
+    };
+    let made = run_workers_with(
+        &rt,
+        rt.alloc(),
+        pieces.as_slice(),
+        |x: &u32| *x,
+        &gate,
+        &mut bar,
+    )?;
+    assert_eq!(rt; gate.first_saw_it.load(Ordering::SeqCst), 1);
+    assert_eq!(rt; made.len(), 2);
+    assert_eq!(rt; bar.position, 2);
+    Ok(())
+}
+
+/// So many pieces of so many items each, over a bar of the tests'; how many answers there are.
+fn answers_of<R: Threads + Sync>(
+    rt: &R,
+    alloc: Global,
+    pieces: &[Vec<u32>],
+    bar: &mut Stepped,
+) -> Result<usize, Refusal> {
+    let made = run_workers_with(rt, alloc, pieces, |x: &u32| *x, &Open, bar)?;
+    let mut answers = 0usize;
+    for piece in made.iter() {
+        answers = answers.wrapping_add(piece.len());
+    }
+    Ok(answers)
+}
+
+#[test]
+fn seventy_pieces(rt: HostRuntime) -> Result<(), Fail> {
+    let pieces = pieces_of_ones(rt.alloc(), 70, 3)?;
+    let mut bar = bar_at(rt.alloc(), 0);
+    assert_eq!(rt;
+        answers_of(&rt, rt.alloc(), pieces.as_slice(), &mut bar)?,
+        210
+    );
+    assert!(rt; bar.steps.as_slice() == [210].as_slice());
+    Ok(())
+}
+
+/// Of six hundred pieces each runs once, and none of those behind the first 256 begins before these have begun.
+#[test]
+fn six_hundred_pieces(rt: HostRuntime) -> Result<(), Fail> {
+    let pieces = pieces_of_ones(rt.alloc(), 600, 2)?;
+    let mut bar = bar_at(rt.alloc(), 0);
+    let gate = Waves {
+        passed: AtomicU64::new(0),
+        early: AtomicU64::new(0),
+    };
+    let made = run_workers_with(
+        &rt,
+        rt.alloc(),
+        pieces.as_slice(),
+        |x: &u32| x.wrapping_add(1),
+        &gate,
+        &mut bar,
+    )?;
+    assert_eq!(rt; made.len(), 600);
+    for answers in made.iter() {
+        assert!(rt; answers.as_slice() == [2, 2].as_slice());
+    }
+    assert!(rt; bar.steps.as_slice() == [1200].as_slice());
+    assert_eq!(rt; gate.passed.load(Ordering::SeqCst), 600);
+    assert_eq!(rt; gate.early.load(Ordering::SeqCst), 0);
+    Ok(())
+}
+
+#[test]
+fn two_pieces_of_a_thousand_items(rt: HostRuntime) -> Result<(), Fail> {
+    let pieces = pieces_of_ones(rt.alloc(), 2, 1000)?;
+    let mut bar = bar_at(rt.alloc(), 5);
+    assert_eq!(rt;
+        answers_of(&rt, rt.alloc(), pieces.as_slice(), &mut bar)?,
+        2000
+    );
+    assert_eq!(rt; bar.position, 2005);
+    Ok(())
+}
+
+#[test]
+fn four_pieces_of_a_million_items_in_all(rt: HostRuntime) -> Result<(), Fail> {
+    let pieces = pieces_of_ones(rt.alloc(), 4, 250_000)?;
+    let mut bar = bar_at(rt.alloc(), 0);
+    assert_eq!(rt;
+        answers_of(&rt, rt.alloc(), pieces.as_slice(), &mut bar)?,
+        1_000_000
+    );
+    assert!(rt; bar.steps.as_slice() == [1_000_000].as_slice());
+    Ok(())
+}
+
+#[test]
+fn one_piece_of_one_item(rt: HostRuntime) -> Result<(), Fail> {
+    let pieces = pieces_of_ones(rt.alloc(), 1, 1)?;
+    let mut bar = bar_at(rt.alloc(), 0);
+    assert_eq!(rt;
+        answers_of(&rt, rt.alloc(), pieces.as_slice(), &mut bar)?,
+        1
+    );
+    assert!(rt; bar.steps.as_slice() == [1].as_slice());
+    Ok(())
+}

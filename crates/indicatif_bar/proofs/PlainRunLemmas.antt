@@ -1,0 +1,244 @@
+-- Where the texts of bars and calls are plain, the lines of each draw are, so that every run is plain.
+use Rattle.std.proofs.Common.{◌≡◌, ℕ, zero, suc, ◌-◌, Bool, true, false, List, [], ◌∷◌, ◌++◌, map, drop, chars, refl, sym, ◌∙◌, ap, subst, Option, Some, None, Result, inl, inr}
+use Rattle.std.specs.Prelude.{IsTrue, ◌&&◌, nat_lt, unwrap_or}
+use Rattle.std.specs.List.{AllByRecursion, list_all}
+use Rattle.std.proofs.lemmas.Bool.{cond_both}
+use Rattle.std.proofs.lemmas.List.Folds.{list_all-append}
+use Rattle.std.proofs.lemmas.List.Elements.{All-from_recursion, recursion_from_All}
+use Rattle.indicatif_text.specs.declared.refusal.Refusal.{Refusal}
+use Rattle.indicatif_text.specs.declared.refusal.Drawn.{Drawn}
+use Rattle.indicatif_text.specs.Columns.{is_plain}
+use Rattle.indicatif_text.specs.Template.{TemplatePart, LiteralText, LineBreak, KeyText}
+use Rattle.indicatif_term.specs.Calls.{TermView}
+use Rattle.indicatif_term.specs.Lists.{BarLines}
+use Rattle.indicatif_term.specs.Frames.{are_plain, all_lines, text_lines, logged_lines}
+use Rattle.indicatif_bar.specs.Machines.{Target, target_of, Machine}
+use Rattle.indicatif_bar.specs.Runs.{Runs, AllPlain, lines_by}
+use Rattle.indicatif_bar.specs.Kinds.{Kind, Writing, Frame, TextAndFrame, NoFrame, lines_to_write}
+use Rattle.indicatif_bar.specs.Lone.{LoneState, LoneCall, Obey, Log, Clear, lone, lone_frame, writing_of, bar_after, refused_at_once, deed_unless, draw_of_call}
+use Rattle.indicatif_bar.specs.declared.state.Ask.{Ask}
+use Rattle.indicatif_bar.specs.declared.state.Ask.TheVariants.{No}
+use Rattle.indicatif_bar.specs.Progress.{Progress, is_hidden}
+use Rattle.indicatif_bar.specs.PositionLimiters.{allow_position}
+use Rattle.indicatif_bar.specs.Tabs.{expanded}
+use Rattle.indicatif_bar.specs.Trackers.{Tracking}
+use Rattle.indicatif_bar.specs.BarStyles.{BarStyle, lines}
+use Rattle.indicatif_bar.specs.Bars.{bar_kind, lines_of_bar}
+use Rattle.indicatif_bar.specs.Finishes.{BarFinish, AndLeave, WithMessage, AndClear, Abandon, AbandonWithMessage}
+use Rattle.indicatif_bar.specs.Commands.{BarRecord, Command, Tick, TickerTick, SetTicker, Inc, Dec, SetPosition, Update, SetLength, UnsetLength, IncLength, DecLength, SetMessage, SetPrefix, SetStyle, PutPosition, PutMessage, PutPrefix, PutFinish, PutTabWidth, SetTabWidth, SetElapsed, ResetEta, ResetElapsed, Reset, FinishBy, FinishUsingStyle, ForceDraw, obeyed, update, tick, ticker_tick, moved_to, finish, with_progress, some_or}
+use Rattle.indicatif_bar.specs.StyleLaws.{IsPlainText}
+use Rattle.indicatif_bar.specs.LineLaws.{IsPlainLiteral, HasPlainTexts}
+use Rattle.indicatif_bar.specs.PlainLaws.{IsPlainWithTabs, ArePlainTrackers, HasPlainLiteral, IsPlainStyle, IsPlainFinish, IsPlainBar, IsPlainCommand, IsPlainLoneCall, LoneRunsArePlain}
+use Rattle.indicatif_bar.proofs.KeptStateLemmas.{IsKept, leads_keep}
+use Rattle.indicatif_bar.proofs.PlainTextLemmas.{plain_texts_give_plain_lines, plain_lines_are_asked}
+
+-- ---- whatever draws by calls
+
+module _ {S C A : Type 0} (m : Machine S C A) (P : S → Type 0) (Q : C → Type 0) (keeps : (target : Target) (call : C) (now : ℕ) (s : S) → Q call → P s → IsKept m P (m.deed target call now s))
+    (plain : (target : Target) (call : C) (now : ℕ) (s : S) → Q call → P s → IsTrue (are_plain (lines_by (m.deed target call now s)))) where
+  -- a run of plain calls from a plain state
+  pub runs_plain : (calls : List (C × ℕ)) (answers : List A) (old : Option TermView) (s : S) (new : Option TermView) (next : S) (run : Runs m calls answers old s new next) →
+      P s → AllByRecursion (λ call. Q call.0) calls → AllPlain m calls answers old s new next run
+  runs_plain [] [] old s new next run is all = tt
+  runs_plain (call ∷ calls) (answer ∷ answers) old s new next run is all = (
+    λ _. plain (target_of old) call.0 call.1 s all.0 is,
+    runs_plain calls answers run.0 run.1 new next run.3
+        (leads_keep m P (target_of old) s run.1 (m.deed (target_of old) call.0 call.1 s) answer (keeps (target_of old) call.0 call.1 s all.0 is) run.2.leads is) all.1,
+  )
+  runs_plain [] (answer ∷ answers) old s new next run is all = absurd run
+  runs_plain (call ∷ calls) [] old s new next run is all = absurd run
+
+-- ---- lines
+
+both_true : (a b : Bool) → a ≡ true → b ≡ true → (a && b) ≡ true
+both_true a b e f = rw (e, f) refl
+
+pub plain_append : (xs ys : List (List ℕ)) → IsTrue (are_plain xs) → IsTrue (are_plain ys) → IsTrue (are_plain (xs ++ ys))
+plain_append xs ys a b = list_all-append is_plain xs ys ∙ both_true (are_plain xs) (are_plain ys) a b
+
+-- each bar's lines of a frame
+abbrev pub ArePlainFrames : List BarLines → Type 0
+ArePlainFrames frame = AllByRecursion (λ s. IsTrue (are_plain s.lines)) frame
+
+pub frame_plain : (frame : List BarLines) → ArePlainFrames frame → IsTrue (are_plain (all_lines frame))
+frame_plain [] all = refl
+frame_plain (s ∷ frame) all = plain_append s.lines (all_lines frame) all.0 (frame_plain frame all.1)
+
+pub dropped_all : {X : Type 0} (P : X → Type 0) (n : ℕ) (xs : List X) → AllByRecursion P xs → AllByRecursion P (drop n xs)
+dropped_all P zero xs all = all
+dropped_all P (suc n) [] all = tt
+dropped_all P (suc n) (x ∷ xs) all = dropped_all P n xs all.1
+
+-- the text of a draw
+abbrev pub IsPlainWriting : Writing → Type 0
+IsPlainWriting Frame = Unit {0}
+IsPlainWriting (TextAndFrame text) = IsTrue (are_plain text)
+IsPlainWriting NoFrame = Unit {0}
+
+pub written_plain : (writing : Writing) (gone : ℕ) (frame : List BarLines) → IsPlainWriting writing → ArePlainFrames frame → IsTrue (are_plain (lines_to_write writing gone frame))
+written_plain Frame gone frame text all = frame_plain frame all
+written_plain (TextAndFrame lines) gone frame text all = plain_append lines (all_lines (drop gone frame)) text (frame_plain (drop gone frame) (dropped_all (λ s. IsTrue (are_plain s.lines)) gone frame all))
+written_plain NoFrame gone frame text all = refl
+
+-- ---- bars of a kind
+
+-- bars for which it holds have plain lines, and it holds after commands for which that does
+pub record KeepsPlain {B C : Type 0} (kind : Kind B C) (IsBar : B → Type 0) (IsCommand : C → Type 0) : Type 0 where
+  pub lines : (bar : B) → IsBar bar → (now columns : ℕ) → IsTrue (are_plain (map chars (kind.lines bar now columns)))
+  pub after : (command : C) (bar : B) (now : ℕ) → IsCommand command → IsBar bar → IsBar (kind.after command bar now).0
+
+module _ {B C : Type 0} (kind : Kind B C) (IsBar : B → Type 0) (IsCommand : C → Type 0) (k : KeepsPlain kind IsBar IsCommand) where
+  abbrev IsState : LoneState B → Type 0
+  IsState s = IsBar s.bar
+
+  abbrev IsCall : LoneCall C → Type 0
+  IsCall (Obey command) = IsCommand command
+  IsCall (Log text) = IsTrue (are_plain (text_lines (logged_lines text)))
+  IsCall Clear = Unit {0}
+
+  told_plain : (call : LoneCall C) (now : ℕ) (bar : B) → IsCall call → IsBar bar → IsBar (bar_after kind call now bar)
+  told_plain (Obey command) now bar c b = k.after command bar now c b
+  told_plain (Log text) now bar c b = b
+  told_plain Clear now bar c b = b
+
+  call_writing : (call : LoneCall C) → IsCall call → IsPlainWriting (writing_of call)
+  call_writing (Obey command) c = tt
+  call_writing (Log text) c = c
+  call_writing Clear c = tt
+
+  deed_keeps : (refused : Option Refusal) (target : Target) (call : LoneCall C) (now : ℕ) (s : LoneState B) → IsCall call → IsState s →
+      IsKept (lone kind) IsState (deed_unless kind refused (draw_of_call kind target call now s) s)
+  deed_keeps (Some e) target call now s c p = p
+  deed_keeps None target call now s c p =
+      let bar = told_plain call now s.bar c p in
+      (bar, bar, bar, bar, (λ x q. q), λ x q. q)
+
+  deed_plain : (refused : Option Refusal) (target : Target) (call : LoneCall C) (now : ℕ) (s : LoneState B) → IsCall call → IsState s →
+      IsTrue (are_plain (lines_by (deed_unless kind refused (draw_of_call kind target call now s) s)))
+  deed_plain (Some e) target call now s c p = refl
+  deed_plain None target call now s c p =
+      let bar = bar_after kind call now s.bar in
+      written_plain (writing_of call) 0 (lone_frame kind target now bar) (call_writing call c) (k.lines bar (told_plain call now s.bar c p) now target.columns, tt)
+
+  pub lone_plain : (calls : List (LoneCall C × ℕ)) (answers : List (Result Drawn Refusal)) (old : Option TermView) (s : LoneState B) (new : Option TermView) (next : LoneState B)
+      (run : Runs (lone kind) calls answers old s new next) → IsState s → AllByRecursion (λ call. IsCall call.0) calls → AllPlain (lone kind) calls answers old s new next run
+  lone_plain = runs_plain (lone kind) IsState IsCall (λ target call now s c p. deed_keeps (refused_at_once kind call now s.bar) target call now s c p)
+      (λ target call now s c p. deed_plain (refused_at_once kind call now s.bar) target call now s c p)
+
+-- ---- bars with a style
+
+every : {X : Type 0} (P : X → Type 0) → ((x : X) → P x) → (xs : List X) → AllByRecursion P xs
+every P f [] = tt
+every P f (x ∷ xs) = (f x, every P f xs)
+
+module _ {K : Type 0} (m : Tracking K) (trackers : ArePlainTrackers m) where
+  literals_plain : (style : BarStyle K) (parts : List TemplatePart) → AllByRecursion HasPlainLiteral parts → AllByRecursion (IsPlainLiteral style) parts
+  literals_plain style [] all = tt
+  literals_plain style (LiteralText text ∷ parts) all = (all.0 style.tab, literals_plain style parts all.1)
+  literals_plain style (LineBreak ∷ parts) all = (tt, literals_plain style parts all.1)
+  literals_plain style (KeyText key layout ∷ parts) all = (tt, literals_plain style parts all.1)
+
+  has_plain_texts : (bar : BarRecord K) (now : ℕ) → IsPlainBar bar → HasPlainTexts m bar.style bar.progress now
+  has_plain_texts bar now h = record {
+    literals = All-from_recursion (IsPlainLiteral bar.style) bar.style.parts (literals_plain bar.style bar.style.parts (recursion_from_All HasPlainLiteral bar.style.parts h.style.literals));
+    ticks = h.style.ticks;
+    clusters = h.style.clusters;
+    trackers = All-from_recursion (λ entry. IsPlainText (expanded bar.style.tab (m.text entry.1 bar.progress now))) bar.style.keys
+        (every (λ entry. IsPlainText (expanded bar.style.tab (m.text entry.1 bar.progress now))) (λ entry. trackers entry.1 bar.progress now bar.style.tab) bar.style.keys);
+    message = h.message bar.progress.tab;
+    prefix = h.prefix bar.progress.tab;
+  }
+
+  bar_lines_plain : (bar : BarRecord K) → IsPlainBar bar → (now columns : ℕ) → IsTrue (are_plain (map chars (lines_of_bar m bar now columns)))
+  bar_lines_plain bar h now columns =
+      cond_both (is_hidden bar.progress) [] (lines m bar.style bar.progress now columns) (λ ls. IsTrue (are_plain (map chars ls))) (λ _. refl)
+      (λ _. plain_lines_are_asked (lines m bar.style bar.progress now columns)
+      (plain_texts_give_plain_lines m bar.style bar.progress now columns (has_plain_texts bar now h)))
+
+  -- a bar with the same texts
+  pub same_texts : {bar bar' : BarRecord K} → IsPlainBar bar → bar'.style.parts ≡ bar.style.parts → bar'.style.tick_strings ≡ bar.style.tick_strings → bar'.style.clusters ≡ bar.style.clusters →
+      bar'.progress.message ≡ bar.progress.message → bar'.progress.prefix ≡ bar.progress.prefix → bar'.on_finish ≡ bar.on_finish → IsPlainBar bar'
+  same_texts h parts ticks clusters message prefix by = record {
+    style = record { literals = rw parts h.style.literals; ticks = rw ticks h.style.ticks; clusters = rw clusters h.style.clusters };
+    message = rw message h.message;
+    prefix = rw prefix h.prefix;
+    on_finish = rw by h.on_finish;
+  }
+
+  told_message : (text : List ℕ) (bar : BarRecord K) → IsPlainWithTabs text → IsPlainBar bar → IsPlainBar (with_progress bar (record bar.progress { message = text }))
+  told_message text bar c h = record { style = h.style; message = c; prefix = h.prefix; on_finish = h.on_finish }
+
+  told_prefix : (text : List ℕ) (bar : BarRecord K) → IsPlainWithTabs text → IsPlainBar bar → IsPlainBar (with_progress bar (record bar.progress { prefix = text }))
+  told_prefix text bar c h = record { style = h.style; message = h.message; prefix = c; on_finish = h.on_finish }
+
+  ticked_plain : (bar : BarRecord K) (now : ℕ) → IsPlainBar bar → IsPlainBar (tick m bar now).0
+  ticked_plain bar now h =
+      let same : IsPlainBar (ticker_tick m bar now).0 = same_texts h refl refl refl refl refl refl in
+      cond_both {A = BarRecord K × Ask} bar.ticker (bar, No) (ticker_tick m bar now) (λ o. IsPlainBar o.0) (λ _. h) (λ _. same)
+
+  moved_plain : (position : ℕ) (bar : BarRecord K) (now : ℕ) → IsPlainBar bar → IsPlainBar (moved_to m position bar now).0
+  moved_plain position bar now h =
+      let asked = allow_position bar.limiter now in
+      let next = record bar { progress = record bar.progress { position = position }; limiter = asked.1 } in
+      let same : IsPlainBar next = same_texts h refl refl refl refl refl refl in
+      cond_both {A = BarRecord K × Ask} asked.0 (tick m next now) (next, No) (λ o. IsPlainBar o.0) (λ _. ticked_plain next now same) (λ _. same)
+
+  pub finished_plain : (by : BarFinish) (bar : BarRecord K) (now : ℕ) → IsPlainFinish by → IsPlainBar bar → IsPlainBar (finish by bar now).0
+  finished_plain AndLeave bar now f h = same_texts h refl refl refl refl refl refl
+  finished_plain (WithMessage text) bar now f h = record { style = h.style; message = f; prefix = h.prefix; on_finish = h.on_finish }
+  finished_plain AndClear bar now f h = same_texts h refl refl refl refl refl refl
+  finished_plain Abandon bar now f h = same_texts h refl refl refl refl refl refl
+  finished_plain (AbandonWithMessage text) bar now f h = record { style = h.style; message = f; prefix = h.prefix; on_finish = h.on_finish }
+
+  obeyed_plain : (command : Command K) (bar : BarRecord K) (now : ℕ) → IsPlainCommand command → IsPlainBar bar → IsPlainBar (obeyed m command bar now).0
+  obeyed_plain Tick bar now c h = ticked_plain bar now h
+  obeyed_plain TickerTick bar now c h = same_texts h refl refl refl refl refl refl
+  obeyed_plain (SetTicker installed) bar now c h = same_texts h refl refl refl refl refl refl
+  obeyed_plain (Inc n) bar now c h = moved_plain _ bar now h
+  obeyed_plain (Dec n) bar now c h = moved_plain _ bar now h
+  obeyed_plain (SetPosition position) bar now c h = moved_plain position bar now h
+  obeyed_plain (Update position len) bar now c h =
+      let next = with_progress bar (record bar.progress { position = unwrap_or position bar.progress.position; len = some_or len bar.progress.len }) in
+      let same : IsPlainBar next = same_texts h refl refl refl refl refl refl in
+      ticked_plain next now same
+  obeyed_plain (SetLength n) bar now c h = same_texts h refl refl refl refl refl refl
+  obeyed_plain UnsetLength bar now c h = same_texts h refl refl refl refl refl refl
+  obeyed_plain (IncLength n) bar now c h = same_texts h refl refl refl refl refl refl
+  obeyed_plain (DecLength n) bar now c h = same_texts h refl refl refl refl refl refl
+  obeyed_plain (SetMessage text) bar now c h = same_texts (told_message text bar c h) refl refl refl refl refl refl
+  obeyed_plain (SetPrefix text) bar now c h = same_texts (told_prefix text bar c h) refl refl refl refl refl refl
+  obeyed_plain (SetStyle style) bar now c h =
+      record { style = record { literals = c.literals; ticks = c.ticks; clusters = c.clusters }; message = h.message; prefix = h.prefix; on_finish = h.on_finish }
+  obeyed_plain (PutPosition position) bar now c h = same_texts h refl refl refl refl refl refl
+  obeyed_plain (PutMessage text) bar now c h = told_message text bar c h
+  obeyed_plain (PutPrefix text) bar now c h = told_prefix text bar c h
+  obeyed_plain (PutFinish by) bar now c h = record { style = h.style; message = h.message; prefix = h.prefix; on_finish = c }
+  obeyed_plain (PutTabWidth tab) bar now c h = same_texts h refl refl refl refl refl refl
+  obeyed_plain (SetTabWidth tab) bar now c h = same_texts h refl refl refl refl refl refl
+  obeyed_plain (SetElapsed nanos) bar now c h =
+      let next = with_progress bar (record bar.progress { start = now - nanos }) in
+      let same : IsPlainBar next = same_texts h refl refl refl refl refl refl in
+      cond_both (nat_lt now nanos) bar next IsPlainBar (λ _. h) (λ _. same)
+  obeyed_plain ResetEta bar now c h = same_texts h refl refl refl refl refl refl
+  obeyed_plain ResetElapsed bar now c h = same_texts h refl refl refl refl refl refl
+  obeyed_plain Reset bar now c h = same_texts h refl refl refl refl refl refl
+  obeyed_plain (FinishBy by) bar now c h = finished_plain by bar now c h
+  obeyed_plain FinishUsingStyle bar now c h = finished_plain bar.on_finish bar now h.on_finish h
+  obeyed_plain ForceDraw bar now c h = h
+
+  pub bars_keep_plain : KeepsPlain (bar_kind m) IsPlainBar IsPlainCommand
+  bars_keep_plain = record { lines = bar_lines_plain; after = obeyed_plain }
+
+  call_asked : (call : LoneCall (Command K)) → IsPlainLoneCall call → IsCall (bar_kind m) IsPlainBar IsPlainCommand bars_keep_plain call
+  call_asked (Obey command) c = c
+  call_asked (Log text) c = plain_lines_are_asked (logged_lines text) c
+  call_asked Clear c = tt
+
+  calls_asked : (calls : List (LoneCall (Command K) × ℕ)) → AllByRecursion (λ call. IsPlainLoneCall call.0) calls → AllByRecursion (λ call. IsCall (bar_kind m) IsPlainBar IsPlainCommand bars_keep_plain call.0) calls
+  calls_asked [] all = tt
+  calls_asked (call ∷ calls) all = (call_asked call.0 all.0, calls_asked calls all.1)
+
+pub lone_runs_are_plain : {K : Type 0} (m : Tracking K) → LoneRunsArePlain m
+lone_runs_are_plain m trackers calls answers old s new next run h all =
+    lone_plain (bar_kind m) IsPlainBar IsPlainCommand (bars_keep_plain m trackers) calls answers old s new next run h
+    (calls_asked m trackers calls (recursion_from_All (λ call. IsPlainLoneCall call.0) calls all))

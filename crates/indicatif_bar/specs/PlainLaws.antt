@@ -1,0 +1,74 @@
+-- Runs whose texts are plain: of characters with a width and colour sequences. Texts are lists of bytes in UTF-8.
+use Rattle.std.specs.Prelude.{ℕ, IsTrue, List, All, Option, Result, encode_utf8_all}
+use Rattle.indicatif_text.specs.declared.refusal.Refusal.{Refusal}
+use Rattle.indicatif_text.specs.declared.refusal.Drawn.{Drawn}
+use Rattle.indicatif_text.specs.Template.{TemplatePart, LiteralText}
+use Rattle.indicatif_term.specs.Calls.{TermView}
+use Rattle.indicatif_term.specs.Frames.{logged_lines}
+use Rattle.indicatif_bar.specs.Tabs.{expanded}
+use Rattle.indicatif_bar.specs.Progress.{Progress}
+use Rattle.indicatif_bar.specs.Trackers.{Tracking}
+use Rattle.indicatif_bar.specs.BarStyles.{BarStyle}
+use Rattle.indicatif_bar.specs.StyleLaws.{IsPlainText, AreTaken}
+use Rattle.indicatif_bar.specs.Finishes.{BarFinish, WithMessage, AbandonWithMessage}
+use Rattle.indicatif_bar.specs.Commands.{BarRecord, Command, SetMessage, SetPrefix, SetStyle, PutMessage, PutPrefix, PutFinish, FinishBy}
+use Rattle.indicatif_bar.specs.Runs.{Runs, AllPlain}
+use Rattle.indicatif_bar.specs.Lone.{LoneState, LoneCall, Obey, Log, Clear}
+use Rattle.indicatif_bar.specs.LoneBars.{lone_bar}
+
+-- a text is plain with its tabs as spaces, however many
+abbrev pub IsPlainWithTabs : List ℕ → Type 0
+IsPlainWithTabs text = (tab : ℕ) → IsPlainText (expanded tab text)
+
+-- so is each text that a tracker may write
+abbrev pub ArePlainTrackers : {K : Type 0} → Tracking K → Type 0
+ArePlainTrackers {K} m = (k : K) (p : Progress) (now : ℕ) → IsPlainWithTabs (m.text k p now)
+
+-- a literal of a template
+abbrev pub HasPlainLiteral : TemplatePart → Type 0
+HasPlainLiteral (LiteralText text) = IsPlainWithTabs (encode_utf8_all text)
+HasPlainLiteral _ = Unit {0}
+
+-- the texts of a style: literals and spinner; and its clusters are such as a style takes
+pub record IsPlainStyle {K : Type 0} (style : BarStyle K) : Type 0 where
+  pub literals : All HasPlainLiteral style.parts
+  pub ticks : All IsPlainText style.tick_strings
+  pub clusters : AreTaken style.clusters
+
+-- the message of a finish
+abbrev pub IsPlainFinish : BarFinish → Type 0
+IsPlainFinish (WithMessage text) = IsPlainWithTabs text
+IsPlainFinish (AbandonWithMessage text) = IsPlainWithTabs text
+IsPlainFinish _ = Unit {0}
+
+module _ {K : Type 0} where
+  -- the texts of a bar
+  pub record IsPlainBar (bar : BarRecord K) : Type 0 where
+    pub style : IsPlainStyle bar.style
+    pub message : IsPlainWithTabs bar.progress.message
+    pub prefix : IsPlainWithTabs bar.progress.prefix
+    pub on_finish : IsPlainFinish bar.on_finish
+
+  -- those that a command gives a bar
+  abbrev pub IsPlainCommand : Command K → Type 0
+  IsPlainCommand (SetMessage text) = IsPlainWithTabs text
+  IsPlainCommand (SetPrefix text) = IsPlainWithTabs text
+  IsPlainCommand (SetStyle style) = IsPlainStyle style
+  IsPlainCommand (PutMessage text) = IsPlainWithTabs text
+  IsPlainCommand (PutPrefix text) = IsPlainWithTabs text
+  IsPlainCommand (PutFinish by) = IsPlainFinish by
+  IsPlainCommand (FinishBy by) = IsPlainFinish by
+  IsPlainCommand _ = Unit {0}
+
+  -- those of a call of a lone bar
+  abbrev pub IsPlainLoneCall : LoneCall (Command K) → Type 0
+  IsPlainLoneCall (Obey command) = IsPlainCommand command
+  IsPlainLoneCall (Log text) = All IsPlainText (logged_lines text)
+  IsPlainLoneCall Clear = Unit {0}
+
+-- where all these texts are plain, so is every run, and the headline holds of it
+abbrev pub LoneRunsArePlain : {K : Type 0} → Tracking K → Type 0
+LoneRunsArePlain {K} m = ArePlainTrackers m →
+    (calls : List (LoneCall (Command K) × ℕ)) (answers : List (Result Drawn Refusal)) (old : Option TermView) (s : LoneState (BarRecord K)) (new : Option TermView) (next : LoneState (BarRecord K))
+    (run : Runs (lone_bar m) calls answers old s new next) →
+    IsPlainBar s.bar → All (λ call. IsPlainLoneCall call.0) calls → AllPlain (lone_bar m) calls answers old s new next run

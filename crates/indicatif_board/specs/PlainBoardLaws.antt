@@ -1,0 +1,42 @@
+-- Runs of a board whose texts are plain: of characters with a width and colour sequences. Texts are lists of bytes in UTF-8.
+use Rattle.std.specs.Prelude.{ℕ, IsTrue, List, All, Option}
+use Rattle.indicatif_term.specs.Calls.{TermView}
+use Rattle.indicatif_term.specs.Frames.{are_plain, logged_lines}
+use Rattle.indicatif_bar.specs.Trackers.{Tracking}
+use Rattle.indicatif_bar.specs.StyleLaws.{IsPlainText}
+use Rattle.indicatif_bar.specs.Commands.{BarRecord, Command}
+use Rattle.indicatif_bar.specs.Runs.{Runs, AllPlain}
+use Rattle.indicatif_bar.specs.PlainLaws.{ArePlainTrackers, IsPlainBar, IsPlainCommand}
+use Rattle.indicatif_board.specs.Members.{Member}
+use Rattle.indicatif_board.specs.Boards.{BoardState, Entrant, New, Old, Call, Insert, Log, BarLog, Tell, Answer, board}
+use Rattle.indicatif_board.specs.BoardBars.{board_bars}
+
+module _ {K : Type 0} where
+  -- the texts of a bar that is to be taken in
+  abbrev pub IsPlainEntrant : Entrant (BarRecord K) → Type 0
+  IsPlainEntrant (New bar) = IsPlainBar bar
+  IsPlainEntrant (Old id) = Unit {0}
+
+  -- those of a call of a board
+  abbrev pub IsPlainCall : Call (BarRecord K) (Command K) → Type 0
+  IsPlainCall (Insert at entrant) = IsPlainEntrant entrant
+  IsPlainCall (Log text) = All IsPlainText (logged_lines text)
+  IsPlainCall (BarLog id text) = All IsPlainText (logged_lines text)
+  IsPlainCall (Tell id command) = IsPlainCommand command
+  IsPlainCall _ = Unit {0}
+
+  -- those of a bar on a board
+  pub record IsPlainMember (m : Member (BarRecord K)) : Type 0 where
+    pub bar : IsPlainBar m.bar
+    pub stored : IsTrue (are_plain m.stored)
+
+  -- those of a board between two calls
+  abbrev pub IsPlainBoard : BoardState (BarRecord K) → Type 0
+  IsPlainBoard s = All IsPlainMember s.members
+
+-- where all these texts are plain, so is every run, and the headline holds of it
+abbrev pub BoardRunsArePlain : {K : Type 0} → Tracking K → Type 0
+BoardRunsArePlain {K} m = ArePlainTrackers m →
+    (mark : ℕ) (calls : List (Call (BarRecord K) (Command K) × ℕ)) (answers : List Answer) (old : Option TermView) (s : BoardState (BarRecord K)) (new : Option TermView) (next : BoardState (BarRecord K))
+    (run : Runs (board (board_bars m) mark) calls answers old s new next) →
+    IsPlainBoard s → All (λ call. IsPlainCall call.0) calls → AllPlain (board (board_bars m) mark) calls answers old s new next run

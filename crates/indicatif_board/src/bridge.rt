@@ -1,0 +1,83 @@
+//! Lines of a log above the bars of a board.
+ghost use Rattle.std.specs.Prelude.{◌≡◌, ◌⊎◌, ◌++◌, ◌+◌, ◌≤◌, ◌∷◌, [], IfErr, OnOk, OnErr, Err, IsFalse, length, string_bytes, string_len, string_capacity};
+ghost use Rattle.indicatif_bar.specs.Runs.{wrote};
+ghost use Rattle.indicatif_board.specs.Boards.{Log, says};
+ghost use Rattle.indicatif_board.specs.Bridge.{bridge_bytes, level_column};
+ghost use Rattle.indicatif_board.specs.Multi.{LeadsBy, RecordsStay, IsNowhere, mark_of, terminal_of};
+
+use crate::multi::Board;
+use indicatif_bar::style::ProgressTracker;
+use indicatif_term::term_like::TermLike;
+use indicatif_text::columns::{Drawn, Moment, Refusal};
+use log::Level;
+use std::alloc::Global;
+
+/// Appends a record's line: its level in capitals, filled with spaces to five columns, a space, and the text.
+///
+/// Refused: `Memory`; `out` is as before then.
+///
+/// ```
+/// bridge_line(Level::Warn, "low disk", &mut out)?;
+/// assert_eq!(out.as_str(), "WARN  low disk");
+/// ```
+pub fn bridge_line(level: Level, text: &str, out: &mut String) -> Result<(), Refusal>
+    ensures line { OnOk result (string_bytes out.new ≡ string_bytes out.old ++ bridge_bytes level text.now) }
+    ensures memory { IfErr result (λ e. e ≡ Refusal.Memory) }
+    ensures unchanged { OnErr result (string_bytes out.new ≡ string_bytes out.old) }
+{
+    let front = front_of(level);
+    out.reserve(text.len().saturating_add(front.len()))?;
+    append(out, front);
+    append(out, text);
+    Ok(())
+}
+
+/// Writes one line of a log above the bars of a board, by force: its level and its text. A text of several lines has its level
+/// before the first alone. On a hidden target the line is dropped.
+///
+/// Refused: `Memory` for the line, and nothing has changed then; else what `Board::println` is refused.
+///
+/// ```
+/// let drawn = emit(alloc, &mut board, Level::Error, "no such file", now)?; // `ERROR no such file` stands above the bars
+/// ```
+pub fn emit<K: ProgressTracker, T: TermLike + Drop>(
+    alloc: Global,
+    board: &mut Board<K, T>,
+    level: Level,
+    text: &str,
+    now: Moment,
+) -> Result<Drawn, Refusal>
+    ensures silent { IsFalse (wrote result) → terminal_of board.new ≡ terminal_of board.old }
+    ensures nowhere { IsNowhere T.view board.old → IsFalse (wrote result) }
+    ensures mark { mark_of board.new ≡ mark_of board.old }
+    ensures logged { LeadsBy K.means T.view board.old board.new (Log (bridge_bytes level text.now)) now (says result)
+        ⊎ ((result ≡ Err Refusal.Memory) × (board.new ≡ board.old)) }
+    ensures records { RecordsStay board.old board.new }
+{
+    let mut line = String::new(alloc);
+    bridge_line(level, text, &mut line)?;
+    board.println(line.as_str(), now)
+}
+
+/// A level as it stands before a text.
+fn front_of(level: Level) -> &'static str
+    ensures { result.now ≡ level_column level ++ 0x20 ∷ [] }
+{
+    match level {
+        Level::Error => "ERROR ",
+        Level::Warn => "WARN  ",
+        Level::Info => "INFO  ",
+        Level::Debug => "DEBUG ",
+        Level::Trace => "TRACE ",
+    }
+}
+
+/// Appends a text for which there is room.
+fn append(out: &mut String, text: &str)
+    requires { string_len out.old + length text.now ≤ string_capacity out.old }
+    ensures bytes { string_bytes out.new ≡ string_bytes out.old ++ text.now }
+    ensures len { string_len out.new ≡ string_len out.old + length text.now }
+    ensures capacity { string_capacity out.old ≤ string_capacity out.new }
+{
+    out.push_str(text).unwrap();
+}

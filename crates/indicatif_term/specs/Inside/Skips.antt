@@ -1,0 +1,82 @@
+-- Drawing lines among others that stay.
+use Rattle.std.specs.Prelude.{◌≡◌, true, ◌&&◌, nat_lt, ℕ, ◌+◌, ◌-◌, Bool, IsTrue, List, [], ◌∷◌, ◌++◌, map, length, take, drop, replicate, chars, if◌then◌else◌}
+use Rattle.indicatif_text.specs.Columns.{Cell, rows_of, last_columns}
+use Rattle.indicatif_term.specs.Calls.{UP, DOWN, RIGHT, move_bytes, clear_bytes}
+use Rattle.indicatif_term.specs.Shows.{looks_of}
+use Rattle.indicatif_term.specs.Inside.Bytes.{rows_down}
+
+-- a line of a drawing: the rows that it takes, the columns that it takes of the last of them, and whether it stands there already
+pub record PlacedLine : Type 0 where
+  pub line : List ℕ
+  pub rows : ℕ
+  pub last : ℕ
+  pub stays : Bool
+
+-- the rows of lines
+abbrev pub placed_height : List PlacedLine → ℕ
+placed_height [] = 0
+placed_height (p ∷ ps) = p.rows + placed_height ps
+
+-- so many rows emptied, from the cursor's down, and up again to the first of them
+abbrev pub emptied_bytes : ℕ → List ℕ
+emptied_bytes n = (clear_bytes ++ rows_down (n - 1)) ++ move_bytes UP (n - 1)
+
+-- so many rows down; the rows of a line emptied, and the line
+abbrev pub changed_bytes : ℕ → ℕ → List ℕ → List ℕ
+changed_bytes down rows line = move_bytes DOWN down ++ (emptied_bytes rows ++ line)
+
+-- from a row so far above the first of these lines, down through them: those that stay are passed over, the others are written
+abbrev pub walk_bytes : ℕ → List PlacedLine → List ℕ
+walk_bytes down [] = []
+walk_bytes down (p ∷ ps) = if p.stays then walk_bytes (down + p.rows) ps else changed_bytes down p.rows p.line ++ walk_bytes 1 ps
+
+-- how far the cursor is then above the row below them
+abbrev pub walk_down : ℕ → List PlacedLine → ℕ
+walk_down down [] = down
+walk_down down (p ∷ ps) = if p.stays then walk_down (down + p.rows) ps else walk_down 1 ps
+
+-- to column k of the cursor's row, and spaces over the m columns behind it
+abbrev pub edge_bytes : ℕ → ℕ → List ℕ
+edge_bytes k m = (0x0D ∷ []) ++ (move_bytes RIGHT k ++ replicate m 0x20)
+
+-- the last line, from a row so far above it: written and filled up to the end of its row, or that end gone to
+abbrev pub last_bytes : ℕ → ℕ → PlacedLine → List ℕ
+last_bytes w down p =
+    if p.stays then move_bytes DOWN (down + p.rows - 1) ++ edge_bytes p.last (w - p.last)
+    else changed_bytes down p.rows (p.line ++ replicate (w - p.last) 0x20)
+
+-- lines among which some stay, from the last of their rows: up to the first of them, and down through them
+abbrev pub skip_bytes : ℕ → List PlacedLine → PlacedLine → List ℕ
+skip_bytes w front last = move_bytes UP (placed_height front + last.rows - 1) ++ (walk_bytes 0 front ++ last_bytes w (walk_down 0 front) last)
+
+-- ---- what stands there
+
+-- the lines
+abbrev pub placed_lines : List PlacedLine → List (List ℕ)
+placed_lines ps = map (λ (p : PlacedLine). p.line) ps
+
+-- a line is as it is measured on a terminal of w columns; where it stays, rows that look like these begin with its own
+pub record Sits (w : ℕ) (looks : List (List Cell)) (p : PlacedLine) : Type 0 where
+  pub rows_are : p.rows ≡ length (rows_of w (chars p.line))
+  pub last_is : p.last ≡ last_columns w (chars p.line)
+  pub same : IsTrue p.stays → take p.rows looks ≡ looks_of (rows_of w (chars p.line))
+
+-- the same of lines one below another
+abbrev pub AreSitting : ℕ → List (List Cell) → List PlacedLine → Type 0
+AreSitting w looks [] = Unit {0}
+AreSitting w looks (p ∷ ps) = Sits w looks p × AreSitting w (drop p.rows looks) ps
+
+-- ---- all lines of a drawing, with as many rows as before
+
+-- whether all lines stay
+abbrev pub all_stay : List PlacedLine → Bool
+all_stay [] = true
+all_stay (p ∷ ps) = p.stays && all_stay ps
+
+-- a last line that fills its row can't be gone behind: it doesn't stay where anything is written
+abbrev pub filled_anew : ℕ → PlacedLine → PlacedLine
+filled_anew w p = record p { stays = p.stays && nat_lt p.last w }
+
+-- nothing where all lines stay
+abbrev pub rewrite_bytes : ℕ → List PlacedLine → PlacedLine → List ℕ
+rewrite_bytes w front last = if all_stay (front ++ last ∷ []) then [] else skip_bytes w front (filled_anew w last)

@@ -1,0 +1,159 @@
+//! Lines written among those that stay.
+ghost use Rattle.std.specs.Prelude.{◌≡◌, ◌+◌, ◌-◌, ◌≤◌, ◌++◌, ◌∷◌, [], ℕ, List, replicate, MatchResult};
+ghost use Rattle.indicatif_term.specs.Calls.{Writes, LeadsOn, BreaksOff, DOWN, RIGHT, move_bytes};
+ghost use Rattle.indicatif_term.specs.Inside.Skips.{PlacedLine, placed_height, changed_bytes, walk_bytes, walk_down, edge_bytes, last_bytes, skip_bytes, all_stay, filled_anew, rewrite_bytes};
+ghost use Rattle.indicatif_term.specs.Remembered.{placed_of, placed};
+
+use crate::painting::{empty_down, go_up, put_spaces};
+use crate::remembered::{StandingLine, height_of};
+use crate::term_like::TermLike;
+use std::io;
+
+/// Writes the lines that do not stay, where the cursor is on the last row of all these, and brings it to the end of that row;
+/// nothing where all stay.
+pub fn write_changes<T: TermLike>(
+    term: &mut T,
+    front: &[StandingLine],
+    last: &StandingLine,
+    width: usize,
+) -> io::Result<()>
+    requires small { placed_height (placed front.now) + last.now.rows ≤ 65535 }
+    ensures { Writes (rewrite_bytes width (placed front.now) (placed_of last.now)) (T.view term.old) (T.view term.new) result }
+{
+    if all_with_last(front, last) {
+        return term.flush();
+    }
+    write_among(term, front, last, width)?;
+    term.flush()
+}
+
+/// Whether these lines and the last one stay.
+fn all_with_last(front: &[StandingLine], last: &StandingLine) -> bool
+    ensures { result ≡ all_stay (placed front.now ++ placed_of last.now ∷ []) }
+{
+    all_standing(front) && last.stays
+}
+
+/// Whether all lines stay.
+fn all_standing(lines: &[StandingLine]) -> bool
+    ensures { result ≡ all_stay (placed lines.now) }
+{
+    for line in lines {
+        if !line.stays {
+            return false;
+        }
+    }
+    true
+}
+
+/// Up to the first of the lines, down through them, and the last.
+fn write_among<T: TermLike>(
+    term: &mut T,
+    front: &[StandingLine],
+    last: &StandingLine,
+    width: usize,
+) -> io::Result<()>
+    requires small { placed_height (placed front.now) + last.now.rows ≤ 65535 }
+    ensures { Writes (skip_bytes width (placed front.now) (filled_anew width (placed_of last.now))) (T.view term.old) (T.view term.new) result }
+{
+    let rows = height_of(front) + last.rows;
+    go_up(term, rows.saturating_sub(1))?;
+    let down = walk(term, front)?;
+    write_last(term, down, last, width)
+}
+
+/// Down through lines of which those that do not stay are written; how far the cursor is above the row below them then.
+fn walk<T: TermLike>(term: &mut T, lines: &[StandingLine]) -> io::Result<usize>
+    requires small { placed_height (placed lines.now) ≤ 65535 }
+    ensures { MatchResult result
+        (λ down. LeadsOn (walk_bytes 0 (placed lines.now)) (T.view term.old) (T.view term.new) × (down ≡ walk_down 0 (placed lines.now)))
+        (λ _. BreaksOff (walk_bytes 0 (placed lines.now)) (T.view term.old) (T.view term.new)) }
+{
+    let mut down = 0;
+    for line in lines {
+        down = pass(term, down, line)?;
+    }
+    Ok(down)
+}
+
+/// The same through one line, from so many rows above it.
+fn pass<T: TermLike>(term: &mut T, down: usize, line: &StandingLine) -> io::Result<usize>
+    requires small { down + line.now.rows ≤ 65536 }
+    ensures { MatchResult result
+        (λ more. LeadsOn (walk_bytes down (placed_of line.now ∷ [])) (T.view term.old) (T.view term.new) × (more ≡ walk_down down (placed_of line.now ∷ [])))
+        (λ _. BreaksOff (walk_bytes down (placed_of line.now ∷ [])) (T.view term.old) (T.view term.new)) }
+{
+    if line.stays {
+        return Ok(down + line.rows);
+    }
+    write_changed(term, down, line)?;
+    Ok(1)
+}
+
+/// So many rows down; the rows of a line emptied, and the line.
+fn write_changed<T: TermLike>(term: &mut T, down: usize, line: &StandingLine) -> io::Result<()>
+    ensures { Writes (changed_bytes down line.now.rows (placed_of line.now).line) (T.view term.old) (T.view term.new) result }
+{
+    go_down(term, down)?;
+    let more = line.rows.saturating_sub(1);
+    empty_down(term, more)?;
+    go_up(term, more)?;
+    term.write_str(&line.text)
+}
+
+/// The last line, from so many rows above it: written and filled up to the end of its row, or that end gone to.
+fn write_last<T: TermLike>(
+    term: &mut T,
+    down: usize,
+    line: &StandingLine,
+    width: usize,
+) -> io::Result<()>
+    requires small { down + line.now.rows ≤ 65536 }
+    ensures { Writes (last_bytes width down (filled_anew width (placed_of line.now))) (T.view term.old) (T.view term.new) result }
+{
+    let free = width.saturating_sub(line.last);
+    if is_open(line, width) {
+        let far = down + line.rows;
+        go_down(term, far.saturating_sub(1))?;
+        go_to_end(term, line.last, free)
+    } else {
+        write_changed(term, down, line)?;
+        put_spaces(term, free)
+    }
+}
+
+/// Whether a line stays and its last row isn't full: else it can't be gone behind.
+fn is_open(line: &StandingLine, width: usize) -> bool
+    ensures { result ≡ (filled_anew width (placed_of line.now)).stays }
+{
+    line.stays && line.last < width
+}
+
+/// To a column of the cursor's row, and spaces behind it.
+fn go_to_end<T: TermLike>(term: &mut T, column: usize, free: usize) -> io::Result<()>
+    ensures { Writes (edge_bytes column free) (T.view term.old) (T.view term.new) result }
+{
+    term.write_str("\r")?;
+    go_right(term, column)?;
+    put_spaces(term, free)
+}
+
+/// Down so many rows; none is no call.
+fn go_down<T: TermLike>(term: &mut T, rows: usize) -> io::Result<()>
+    ensures { Writes (move_bytes DOWN rows) (T.view term.old) (T.view term.new) result }
+{
+    if rows == 0 {
+        return Ok(());
+    }
+    term.move_cursor_down(rows)
+}
+
+/// Right so many columns; none is no call.
+fn go_right<T: TermLike>(term: &mut T, columns: usize) -> io::Result<()>
+    ensures { Writes (move_bytes RIGHT columns) (T.view term.old) (T.view term.new) result }
+{
+    if columns == 0 {
+        return Ok(());
+    }
+    term.move_cursor_right(columns)
+}

@@ -1,0 +1,148 @@
+//! `bars run` over readers and writers: what it prints, what it says was wrong, and its status.
+use bars_run::run_bars;
+use scripts::got::{Bad, Got};
+use scripts::row::{At, next};
+use scripts::spelling::{number, unescaped_bytes};
+use std::io;
+use std::io::{Error, ErrorKind, Read, Write};
+
+/// Gives its bytes, one a call where it fails then in this way.
+#[derive(Drop)]
+struct Input<'a> {
+    rest: &'a [u8],
+    failure: Option<ErrorKind>,
+}
+
+impl Read for Input<'_> {
+    fn read(&mut self, buf: &mut [u8]) -> io::Result<usize> {
+        if let (Some(kind), true) = (self.failure, self.rest.is_empty()) {
+            return Err(Error::from(kind));
+        }
+        let most = if self.failure.is_some() {
+            1
+        } else {
+            usize::MAX
+        };
+        let count = self.rest.len().min(buf.len()).min(most);
+        let (front, rest) = self.rest.split_at(count);
+        buf[..count].copy_from_slice(front);
+        self.rest = rest;
+        Ok(count)
+    }
+}
+
+/// Keeps so many bytes, and fails when it is full; its flush fails where that is said.
+#[derive(Drop)]
+struct Output {
+    kept: Vec<u8>,
+    room: usize,
+    is_flush_failing: bool,
+}
+
+impl Write for Output {
+    fn write(&mut self, buf: &[u8]) -> io::Result<usize> {
+        if self.room == 0 {
+            return Err(Error::from(ErrorKind::StorageFull));
+        }
+        let taken = buf.len().min(self.room);
+        self.kept.extend_from_slice(&buf[..taken])?;
+        self.room -= taken;
+        Ok(taken)
+    }
+
+    fn flush(&mut self) -> io::Result<()> {
+        match self.is_flush_failing {
+            true => Err(Error::from(ErrorKind::StorageFull)),
+            false => Ok(()),
+        }
+    }
+}
+
+/// The input's failure, and the outputs.
+#[derive(Drop)]
+struct Streams {
+    failure: Option<ErrorKind>,
+    out: Output,
+    err: Output,
+}
+
+/// `bars [CHANGE ..] WORDS: COMMANDS`, with `\n` behind each command: `bars` with these words, parted by spaces, on these commands.
+/// Gives the status; behind a space what is printed, if anything; and behind ` !` what is said was wrong.
+///
+/// A change is `input=KIND`, which fails so behind the commands (`BrokenPipe` or `OutOfMemory`); `room=N`, so many bytes are printed;
+/// `flush=no`, the last flush fails; `said=no`, what was wrong can't be said. The word `alone`: no words, not even an empty one.
+pub fn played(rest: &str, at: At, got: &mut Got) -> Result<(), Bad> {
+    let (words, commands) = rest.split_once(':').ok_or(Bad::Step)?;
+    let commands = unescaped_bytes(at.alloc, commands.strip_prefix(' ').unwrap_or(commands))?;
+    let mut words = words;
+    let mut streams = plain_streams(at);
+    let mut args = Vec::new(at.alloc);
+    while change(&mut streams, words)? {
+        next(&mut words);
+    }
+    if words != "alone" {
+        push_words(words, at, &mut args)?;
+    }
+    run(&args, &commands, (streams, at), got);
+    Ok(())
+}
+
+fn plain_streams(at: At) -> Streams {
+    Streams {
+        failure: None,
+        out: endless(at),
+        err: endless(at),
+    }
+}
+
+fn endless(at: At) -> Output {
+    Output {
+        kept: Vec::new(at.alloc),
+        room: usize::MAX,
+        is_flush_failing: false,
+    }
+}
+
+/// Makes the change that the next word asks for; whether it does.
+fn change(streams: &mut Streams, words: &str) -> Result<bool, Bad> {
+    let mut words = words;
+    match next(&mut words).split_once('=') {
+        Some(("input", "BrokenPipe")) => streams.failure = Some(ErrorKind::BrokenPipe),
+        Some(("input", "OutOfMemory")) => streams.failure = Some(ErrorKind::OutOfMemory),
+        Some(("room", room)) => streams.out.room = number(room)?,
+        Some(("flush", "no")) => streams.out.is_flush_failing = true,
+        Some(("said", "no")) => streams.err.room = 0,
+        _ => return Ok(false),
+    }
+    Ok(true)
+}
+
+fn push_words(words: &str, at: At, args: &mut Vec<String>) -> Result<(), Bad> {
+    for word in words.split(' ') {
+        args.push(String::from_str(at.alloc, word)?)?;
+    }
+    Ok(())
+}
+
+fn run(args: &[String], commands: &[u8], (streams, at): (Streams, At), got: &mut Got) {
+    let Streams {
+        failure,
+        mut out,
+        mut err,
+    } = streams;
+    let input = Input {
+        rest: commands,
+        failure,
+    };
+    got.number(run_bars(at.alloc, args, input, &mut out, &mut err));
+    push_printed(" ", &out, got);
+    push_printed(" !", &err, got);
+}
+
+/// Appends what was printed behind this text; nothing where nothing was.
+fn push_printed(parting: &str, output: &Output, got: &mut Got) {
+    if !output.kept.is_empty() {
+        got.text(parting);
+        got.bytes(&output.kept);
+    }
+}

@@ -1,0 +1,125 @@
+//! Styles and their builders.
+use indicatif_bar::state::BarState;
+use indicatif_bar::style::{NoTracker, ProgressStyle};
+use indicatif_text::columns::Refusal;
+use scripts::got::{Bad, Got};
+use scripts::lone::{Bar, push_lines, style_of};
+use scripts::row::{At, headed};
+use scripts::spelling::{flag, number, unescaped};
+
+/// A style in a box: each way out of a function drops it by one call.
+pub type Look = Box<ProgressStyle<NoTracker>>;
+
+/// A style, which a builder that refuses gives up.
+#[derive(Drop)]
+pub struct Styled {
+    look: Option<Look>,
+}
+
+impl Styled {
+    /// `style TEMPLATE`, `default_bar` or `default_spinner`: a new style.
+    pub fn begin(name: &str, rest: &str, at: At) -> Result<Styled, Bad> {
+        let look = match name {
+            "style" => style_of(at, rest)?,
+            "default_bar" => kept(at, ProgressStyle::default_bar(at.alloc))?,
+            _ => kept(at, ProgressStyle::default_spinner(at.alloc))?,
+        };
+        Ok(Styled { look: Some(look) })
+    }
+
+    /// A builder, or what is read.
+    pub fn step(&mut self, step: &str, at: At, got: &mut Got) -> Result<(), Bad> {
+        let (name, rest) = headed(step);
+        if let Some(look) = &self.look {
+            if read(look, (name, rest), at, got)? {
+                return Ok(());
+            }
+        }
+        let look = self.look.take().ok_or(Bad::Step)?;
+        self.look = Some(built(look, (name, rest), at)?);
+        Ok(())
+    }
+}
+
+/// What a builder made.
+fn kept(at: At, made: Result<ProgressStyle<NoTracker>, Refusal>) -> Result<Look, Bad> {
+    at.boxed(made?)
+}
+
+/// The builder that a step spells: `template TEMPLATE`, `tick_chars CHARS`, `progress_chars CHARS`, `tick_strings` and behind a tab each
+/// the texts, `colours yes` or `no`, or `clone`, which goes on with the clone.
+fn built(look: Look, (name, rest): (&str, &str), at: At) -> Result<Look, Bad> {
+    match name {
+        "tick_strings" => with_tick_strings(look, rest, at),
+        "colours" => with_colours(look, flag(rest)?, at),
+        "clone" => kept(at, look.try_clone()),
+        _ => with_text(look, (name, unescaped(at.alloc, rest)?.as_str()), at),
+    }
+}
+
+/// The same style with another template, other ticks or other characters of a bar.
+pub fn with_text(look: Look, (name, text): (&str, &str), at: At) -> Result<Look, Bad> {
+    match name {
+        "template" => kept(at, Box::into_inner(look).template(text)),
+        "tick_chars" => kept(at, Box::into_inner(look).tick_chars(text)),
+        "progress_chars" => kept(at, Box::into_inner(look).progress_chars(text)),
+        _ => Err(Bad::Step),
+    }
+}
+
+fn with_tick_strings(look: Look, rest: &str, at: At) -> Result<Look, Bad> {
+    let texts = texts(rest, at)?;
+    let mut strings = Vec::new(at.alloc);
+    for text in &texts {
+        strings.push(text.as_str())?;
+    }
+    kept(at, Box::into_inner(look).tick_strings(&strings))
+}
+
+/// The texts behind tabs.
+fn texts(rest: &str, at: At) -> Result<Vec<String>, Bad> {
+    let mut texts = Vec::new(at.alloc);
+    for text in rest.split('\t').skip(1) {
+        texts.push(unescaped(at.alloc, text)?)?;
+    }
+    Ok(texts)
+}
+
+/// Reads of a style `tick TICKS` or `last_tick`, texts of its spinner, or `lines COLS`, those of a new bar of 10; whether the step
+/// asks for that.
+fn read(
+    look: &ProgressStyle<NoTracker>,
+    (name, rest): (&str, &str),
+    at: At,
+    got: &mut Got,
+) -> Result<bool, Bad> {
+    match name {
+        "tick" => got.text(look.get_tick_str(number(rest)?)),
+        "last_tick" => got.text(look.get_final_tick_str()),
+        "lines" => push_new_lines(look, number(rest)?, at, got)?,
+        _ => return Ok(false),
+    }
+    Ok(true)
+}
+
+fn push_new_lines(
+    look: &ProgressStyle<NoTracker>,
+    columns: u16,
+    at: At,
+    got: &mut Got,
+) -> Result<(), Bad> {
+    let look = kept(at, look.try_clone())?;
+    let bar = in_style(look, Some(10), at)?;
+    push_lines(&bar, columns, at.now, got)
+}
+
+/// The same style with colours, or without.
+pub fn with_colours(look: Look, colours: bool, at: At) -> Result<Look, Bad> {
+    kept(at, Box::into_inner(look).with_colors(colours))
+}
+
+/// A new bar in this style.
+pub fn in_style(look: Look, len: Option<u64>, at: At) -> Result<Box<Bar>, Bad> {
+    let bar = BarState::styled(at.alloc, Box::into_inner(look), len, at.now)?;
+    at.boxed(bar)
+}

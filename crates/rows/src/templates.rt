@@ -1,0 +1,129 @@
+//! Templates, and the words of styles.
+use indicatif_text::columns::Style;
+use indicatif_text::template::{Alignment, Part, Template};
+use scripts::got::{Bad, Got};
+use scripts::row::{At, next};
+use scripts::spelling::unescaped;
+
+/// Appends the parts of `parse TEMPLATE`, ` | ` between two: `L TEXT`, `N` for a newline, or `P KEY ALIGNMENT WIDTH ! STYLE STYLE`, with
+/// `-` for what isn't there and styles as the numbers that they write.
+pub fn parsed(rest: &str, at: At, got: &mut Got) -> Result<(), Bad> {
+    let text = unescaped(at.alloc, rest)?;
+    match Template::parse(at.alloc, text.as_str()) {
+        Ok(template) => push_parts(template.parts(), at, got),
+        Err(error) => Err(Bad::Refused(error.into())),
+    }
+}
+
+fn push_parts(parts: &[Part], at: At, got: &mut Got) -> Result<(), Bad> {
+    let mut parting = "";
+    for part in parts {
+        got.text(parting);
+        push_part(part, at, got)?;
+        parting = " | ";
+    }
+    Ok(())
+}
+
+fn push_part(part: &Part, at: At, got: &mut Got) -> Result<(), Bad> {
+    match part {
+        Part::Literal(text) => {
+            got.text("L ");
+            got.text(text.as_str());
+            Ok(())
+        }
+        Part::NewLine => {
+            got.text("N");
+            Ok(())
+        }
+        Part::Placeholder {
+            key,
+            align,
+            width,
+            truncate,
+            style,
+            alternative,
+        } => {
+            got.text("P ");
+            got.text(key.as_str());
+            push_layout(*align, *width, got);
+            got.text(if *truncate { " !" } else { " -" });
+            push_numbers(*style, at, got)?;
+            push_numbers(*alternative, at, got)
+        }
+    }
+}
+
+fn push_layout(align: Alignment, width: Option<u16>, got: &mut Got) {
+    got.text(match align {
+        Alignment::Left => " < ",
+        Alignment::Center => " ^ ",
+        Alignment::Right => " > ",
+    });
+    match width {
+        None => got.text("-"),
+        Some(width) => got.number(width),
+    }
+}
+
+/// Appends the numbers of a style, parted by commas: those that it writes round an empty text, but for the last.
+fn push_numbers(style: Option<Style>, at: At, got: &mut Got) -> Result<(), Bad> {
+    let mut written = String::new(at.alloc);
+    if let Some(style) = style {
+        style.apply_to(true, "", &mut written)?;
+    }
+    push_sequences(written.as_str(), got);
+    Ok(())
+}
+
+fn push_sequences(written: &str, got: &mut Got) {
+    let mut parting = " ";
+    for sequence in written.split('m') {
+        match sequence.strip_prefix("\x1b[") {
+            None | Some("0") => (),
+            Some(number) => {
+                got.text(parting);
+                got.text(number);
+                parting = ",";
+            }
+        }
+    }
+    if parting == " " {
+        got.text(" -");
+    }
+}
+
+/// Appends what words of a style give.
+///
+/// - `painted WORDS TEXT`, `unpainted WORDS TEXT`: a text in this style, with colours and without.
+/// - `opened WORDS`: whether something is opened, and what is written.
+/// - `same_style WORDS WORDS`; `no_style WORDS`: whether the style is that of no words.
+pub fn styled(name: &str, rest: &str, at: At, got: &mut Got) -> Result<(), Bad> {
+    let mut rest = rest;
+    let style = Style::from_dotted_str(next(&mut rest));
+    match name {
+        "painted" => paint(style, true, unescaped(at.alloc, rest)?.as_str(), got),
+        "unpainted" => paint(style, false, unescaped(at.alloc, rest)?.as_str(), got),
+        "opened" => open(style, got),
+        "same_style" => {
+            got.flag(style == Style::from_dotted_str(rest));
+            Ok(())
+        }
+        "no_style" => {
+            got.flag(style == Style::new());
+            Ok(())
+        }
+        _ => Err(Bad::Step),
+    }
+}
+
+fn paint(style: Style, colours: bool, text: &str, got: &mut Got) -> Result<(), Bad> {
+    Ok(style.apply_to(colours, text, got.room())?)
+}
+
+fn open(style: Style, got: &mut Got) -> Result<(), Bad> {
+    let is_open = style.open(true, got.room())?;
+    got.text(" ");
+    got.flag(is_open);
+    Ok(())
+}

@@ -1,0 +1,166 @@
+//! Calls of a lone bar, bars as rows spell them, and what is read of a bar.
+use crate::commands::command;
+use crate::got::{Bad, Got};
+use crate::row::At;
+use crate::spelling::{number, unescaped};
+use indicatif_bar::lone::LoneCall;
+use indicatif_bar::state::{Ask, BarState, ProgressState, Rate};
+use indicatif_bar::style::{NoTracker, ProgressStyle};
+use indicatif_text::columns::Moment;
+use std::alloc::Global;
+use std::convert::AsStr;
+
+/// A bar's record.
+pub type Bar = BarState<NoTracker>;
+
+/// A bar of this length: of this template; behind `'` of the message alone, which is this; or `default_bar`. Escapes stand for
+/// characters.
+pub fn bar_of(at: At, text: &str, len: Option<u64>) -> Result<Box<Bar>, Bad> {
+    if text == "default_bar" {
+        return at.boxed(BarState::new(at.alloc, len, at.now)?);
+    }
+    match text.strip_prefix('\'') {
+        Some(message) => saying(at, message, len),
+        None => templated(at, text, len),
+    }
+}
+
+fn saying(at: At, message: &str, len: Option<u64>) -> Result<Box<Bar>, Bad> {
+    let message = unescaped(at.alloc, message)?;
+    let mut bar = templated(at, "{msg}", len)?;
+    bar.with_message(message.as_str(), at.now)?;
+    Ok(bar)
+}
+
+fn templated(at: At, template: &str, len: Option<u64>) -> Result<Box<Bar>, Bad> {
+    let style = style_of(at, template)?;
+    at.boxed(BarState::styled(at.alloc, Box::into_inner(style), len, at.now)?)
+}
+
+/// The style of a template with escapes.
+pub fn style_of(at: At, template: &str) -> Result<Box<ProgressStyle<NoTracker>>, Bad> {
+    let template = unescaped(at.alloc, template)?;
+    at.boxed(ProgressStyle::with_template(at.alloc, template.as_str())?)
+}
+
+/// The call that a step spells: `clear`, `log TEXT`, or a command of the bar.
+pub fn lone_call(alloc: Global, text: &str) -> Result<LoneCall<NoTracker>, Bad> {
+    if text == "clear" {
+        return Ok(LoneCall::Clear);
+    }
+    match text.split_once(' ') {
+        Some(("log", rest)) => Ok(LoneCall::Log(unescaped(alloc, rest)?)),
+        _ => Ok(LoneCall::Bar(command(alloc, text)?)),
+    }
+}
+
+/// Reads something of a bar's record; whether the text asks for that.
+pub fn read_bar(bar: &Bar, text: &str, now: Moment, got: &mut Got) -> Result<bool, Bad> {
+    match text {
+        "message" => got.text(bar.message()),
+        "prefix" => got.text(bar.prefix()),
+        "tab_width" => got.number(bar.tab_width()),
+        "state" => got.text(state_of(bar, now)?),
+        _ => return read_lines(bar, text, now, got),
+    }
+    Ok(true)
+}
+
+/// `lines COLS`: the lines, each with a newline behind it.
+fn read_lines(bar: &Bar, text: &str, now: Moment, got: &mut Got) -> Result<bool, Bad> {
+    match text.strip_prefix("lines ") {
+        Some(columns) => {
+            push_lines(bar, number(columns)?, now, got)?;
+            Ok(true)
+        }
+        None => Ok(read_state(bar.state(), text, now, got)),
+    }
+}
+
+/// Appends the lines on so many columns, each with a newline behind it.
+pub fn push_lines(bar: &Bar, columns: u16, now: Moment, got: &mut Got) -> Result<(), Bad> {
+    for line in &bar.lines(now, columns)? {
+        got.text(line.as_str());
+        got.text("\n");
+    }
+    Ok(())
+}
+
+/// `progress`, or of a finished bar whether it has lines: `visible`, `hidden`.
+fn state_of(bar: &Bar, now: Moment) -> Result<&'static str, Bad> {
+    if !bar.state().is_finished() {
+        return Ok("progress");
+    }
+    let lines = bar.lines(now, 1)?;
+    Ok(if lines.is_empty() {
+        "hidden"
+    } else {
+        "visible"
+    })
+}
+
+fn read_state(state: &ProgressState, text: &str, now: Moment, got: &mut Got) -> bool {
+    match text {
+        "pos" => got.number(state.pos()),
+        "len" => got.optional(state.len()),
+        "ticks" => got.number(state.ticks()),
+        "finished" => got.flag(state.is_finished()),
+        "reached" => push_reached(state, got),
+        _ => return read_measures(state, text, now, got),
+    }
+    true
+}
+
+/// Appends the position, the length, the ticks, and whether the bar is finished, parted by spaces.
+fn push_reached(state: &ProgressState, got: &mut Got) {
+    got.number(state.pos());
+    got.text(" ");
+    got.optional(state.len());
+    got.text(" ");
+    got.number(state.ticks());
+    got.text(" ");
+    got.flag(state.is_finished());
+}
+
+fn read_measures(state: &ProgressState, text: &str, now: Moment, got: &mut Got) -> bool {
+    match text {
+        "fraction" => {
+            let fraction = state.fraction();
+            got.number(fraction.num);
+            got.text("/");
+            got.number(fraction.den);
+        }
+        "rate" => push_rate(state.per_sec(now), got),
+        "per_sec" => push_speed(state.per_sec(now), got),
+        "eta" => got.number(state.eta(now)),
+        "duration" => got.number(state.duration(now)),
+        "elapsed" => got.number(state.elapsed(now)),
+        _ => return false,
+    }
+    true
+}
+
+/// Appends a rate: steps, `/`, nanoseconds.
+pub fn push_rate(rate: Rate, got: &mut Got) {
+    got.number(rate.steps);
+    got.text("/");
+    got.number(rate.nanos);
+}
+
+/// The same; `0` where there are no steps.
+fn push_speed(rate: Rate, got: &mut Got) {
+    if rate.steps == 0 {
+        got.text("0");
+    } else {
+        push_rate(rate, got);
+    }
+}
+
+/// Appends what a command asks: `no`, `unforced` or `forced`.
+pub fn push_ask(ask: Ask, got: &mut Got) {
+    got.text(match ask {
+        Ask::No => "no",
+        Ask::Unforced => "unforced",
+        Ask::Forced => "forced",
+    });
+}

@@ -1,0 +1,179 @@
+//! Files of rows, played line by line.
+use crate::got::{Bad, Got};
+use crate::row::Row;
+use crate::spelling::{Escaped, unescaped};
+use std::alloc::Global;
+use std::fs::Files;
+use std::io::{BufRead, BufReader};
+use std::{fs, io};
+
+/// What steps are played on.
+pub trait World {
+    /// Makes a step, and appends what it gives.
+    fn play(&mut self, step: &str, got: &mut Got) -> Result<(), Bad>;
+}
+
+/// How many rows agreed and differed.
+#[derive(Clone, Copy, Default, Drop)]
+pub struct Tally {
+    pub passed: u64,
+    pub failed: u64,
+}
+
+impl Tally {
+    /// The rows of both.
+    pub fn and(self, other: Tally) -> Tally {
+        Tally {
+            passed: self.passed.saturating_add(other.passed),
+            failed: self.failed.saturating_add(other.failed),
+        }
+    }
+
+    fn count(&mut self, agrees: bool) {
+        let counted = if agrees {
+            &mut self.passed
+        } else {
+            &mut self.failed
+        };
+        *counted = counted.saturating_add(1);
+    }
+}
+
+/// The steps that come first in each row that begins with `+ `, and what they are to give.
+#[derive(Drop)]
+struct Given {
+    steps: String,
+    wanted: String,
+}
+
+impl Given {
+    fn new(alloc: Global) -> Given {
+        Given {
+            steps: String::new(alloc),
+            wanted: String::new(alloc),
+        }
+    }
+
+    fn keep(&mut self, alloc: Global, row: Row<'_>) -> Result<(), Bad> {
+        self.steps = String::from_str(alloc, row.steps)?;
+        self.wanted = String::from_str(alloc, row.wanted)?;
+        Ok(())
+    }
+}
+
+/// A world that is played on, what its last row gave, and what comes first in rows.
+#[derive(Drop)]
+struct Player<'a, W> {
+    alloc: Global,
+    world: &'a mut W,
+    got: Got,
+    given: Given,
+}
+
+impl<W: World> Player<'_, W> {
+    /// Whether a row gives what it says; `got` has what it gave.
+    fn agrees(&mut self, row: Row<'_>) -> bool {
+        if let Some(steps) = row.steps.strip_prefix("given ") {
+            let given = Row { steps, ..row };
+            return self.given.keep(self.alloc, given).is_ok() && self.gives(given);
+        }
+        match row.steps.strip_prefix("+ ") {
+            Some(steps) => self.begins() && self.gives(Row { steps, ..row }),
+            None => self.gives(row),
+        }
+    }
+
+    /// Whether the steps that come first give what they are to.
+    fn begins(&mut self) -> bool {
+        let Given { steps, wanted } = &self.given;
+        play_steps(steps.as_str(), self.world, &mut self.got);
+        is_wanted(self.alloc, &self.got, wanted.as_str())
+    }
+
+    /// Whether the steps of a row give what it says.
+    fn gives(&mut self, row: Row<'_>) -> bool {
+        play_steps(row.steps, self.world, &mut self.got);
+        is_wanted(self.alloc, &self.got, row.wanted)
+    }
+}
+
+/// Makes steps one after another; `got` has what they gave.
+fn play_steps<W: World>(steps: &str, world: &mut W, got: &mut Got) {
+    got.clear();
+    for step in steps.split("; ") {
+        got.begin();
+        if let Err(bad) = world.play(step, got) {
+            got.bad(bad);
+        }
+    }
+}
+
+/// Whether this was got.
+fn is_wanted(alloc: Global, got: &Got, wanted: &str) -> bool {
+    match unescaped(alloc, wanted) {
+        Ok(wanted) => !got.is_lost() && got.as_str() == wanted.as_str(),
+        Err(_) => false,
+    }
+}
+
+/// Plays the rows of a file on a world, prints each that differs, and last how many agreed.
+pub fn play_file<R: Files + Print + Alloc<A = Global>, W: World>(
+    rt: &R,
+    path: &str,
+    world: &mut W,
+) -> io::Result<Tally> {
+    let lines = BufReader::new(rt.alloc(), fs::open(rt, path)?)?;
+    let tally = play_rows(rt, path, lines, world)?;
+    let Tally { passed, failed } = tally;
+    println!(rt; "{path}: {passed} passed, {failed} failed")?;
+    Ok(tally)
+}
+
+/// Plays the rows of what a reader gives, and prints each that differs under this name.
+pub fn play_rows<R: Print + Alloc<A = Global>, L: BufRead + Drop, W: World>(
+    rt: &R,
+    path: &str,
+    lines: L,
+    world: &mut W,
+) -> io::Result<Tally> {
+    let player = Player {
+        alloc: rt.alloc(),
+        world,
+        got: Got::new(rt.alloc()),
+        given: Given::new(rt.alloc()),
+    };
+    play_lines(rt, path, lines, player)
+}
+
+fn play_lines<R: Print + Alloc<A = Global>, L: BufRead + Drop, W: World>(
+    rt: &R,
+    path: &str,
+    lines: L,
+    mut player: Player<'_, W>,
+) -> io::Result<Tally> {
+    let mut tally = Tally::default();
+    let mut number: u64 = 0;
+    for line in lines.lines(rt.alloc()) {
+        number = number.saturating_add(1);
+        let line = line?;
+        if let Some(row) = Row::of(line.as_str()) {
+            let agrees = player.agrees(row);
+            tally.count(agrees);
+            if !agrees {
+                print_row(rt, (path, number), row, &player.got)?;
+            }
+        }
+    }
+    Ok(tally)
+}
+
+fn print_row<R: Print>(
+    rt: &R,
+    (path, number): (&str, u64),
+    row: Row<'_>,
+    got: &Got,
+) -> io::Result<()> {
+    let Row { steps, wanted } = row;
+    let got = Escaped(got.as_str());
+    println!(rt; "{path}, line {number}: {steps}\n  wanted {wanted}\n  got {got}")
+}

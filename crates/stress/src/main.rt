@@ -1,0 +1,144 @@
+//! Three threads make random calls on a board of four bars: they log lines, tell tickers on and off, suspend, finish, reset, and take
+//! bars in and out. Each line that was logged has to stand above the bars at the end.
+//!
+//! - `numbers`: numbers by a seed. `deed`: what a thread may do. `player`: what a thread does.
+//!
+//! Without arguments it plays a few seeds; with two it plays that seed for so many steps a thread: `stress 2050 1000`.
+#![tactic(auto)]
+
+mod deed;
+mod numbers;
+mod player;
+
+use crate::player::{Bar, Multi, Player, Plays};
+use anyhow::{Result, anyhow};
+use indicatif::machine::MachineClock;
+use indicatif::{InMemoryTerm, MultiProgress, ProgressBar, ProgressDrawTarget, Refusal, Setup};
+use std::env;
+use std::thread::join;
+
+/// A seed, and how many steps a thread makes by it.
+#[derive(Clone, Copy, Drop)]
+struct Run {
+    seed: u64,
+    steps: u64,
+}
+
+/// What is played where no arguments say anything else.
+const RUNS: [Run; 4] = [
+    Run {
+        seed: 1,
+        steps: 100,
+    },
+    Run {
+        seed: 7,
+        steps: 100,
+    },
+    Run {
+        seed: 1234,
+        steps: 100,
+    },
+    Run {
+        seed: 2050,
+        steps: 300,
+    },
+];
+
+/// How many bars stand on the board all the time.
+const BARS: u32 = 4;
+
+/// A board on a terminal of 6 rows and 30 columns.
+fn board_of<R: Plays>(rt: R) -> Result<Multi<R>, Refusal> {
+    let setup = Setup {
+        target: ProgressDrawTarget::term_like(InMemoryTerm::new(rt.alloc(), 6, 30)?),
+        clock: MachineClock::new(rt),
+    };
+    MultiProgress::new(rt, rt.alloc(), setup, 1)
+}
+
+/// Its bars.
+fn bars_of<R: Plays>(rt: R, board: &Multi<R>) -> Result<Vec<Bar<R>>, Refusal> {
+    let mut bars = Vec::new(rt.alloc());
+    for _ in 0..BARS {
+        let bar = ProgressBar::hidden(rt, rt.alloc(), MachineClock::new(rt))?;
+        bars.push(board.add(bar)?)?;
+    }
+    Ok(bars)
+}
+
+/// How many lines three threads logged.
+fn played<R: Plays>(rt: &R, board: &Multi<R>, bars: &[Bar<R>], run: Run) -> Result<u64> {
+    let one = Player::new(rt, board, bars, 1);
+    let two = Player::new(rt, board, bars, 2);
+    let three = Player::new(rt, board, bars, 3);
+    let others = || {
+        join(
+            rt,
+            || two.plays(run.seed, run.steps),
+            || three.plays(run.seed, run.steps),
+        )
+    };
+    let (first, (second, third)) = join(rt, || one.plays(run.seed, run.steps), others);
+    Ok(first?.wrapping_add(second?).wrapping_add(third?))
+}
+
+/// Tells each bar's ticker off.
+fn come_to_rest<R: Plays>(bars: &[Bar<R>]) -> Result<(), Refusal> {
+    for bar in bars {
+        bar.disable_steady_tick()?;
+    }
+    Ok(())
+}
+
+/// How many of the rows are logged lines.
+fn logged_in(rows: &[String]) -> u64 {
+    let mut found: u64 = 0;
+    for row in rows {
+        if row.as_str().starts_with("log ") {
+            found = found.wrapping_add(1);
+        }
+    }
+    found
+}
+
+/// How many logged lines stand on the board's terminal, those among them that left its window.
+fn found_on<R: Plays>(board: &Multi<R>) -> Result<u64> {
+    let rows = board.with_term(|term| term.map(|term| term.picture()));
+    Ok(logged_in(rows.ok_or(anyhow!("no terminal"))??.as_slice()))
+}
+
+/// Plays a run, and says what was logged and what was found.
+fn play<R: Plays + Print>(rt: R, run: Run) -> Result<()> {
+    let board = board_of(rt)?;
+    let bars = bars_of(rt, &board)?;
+    let logged = played(&rt, &board, bars.as_slice(), run)?;
+    come_to_rest(bars.as_slice())?;
+    let found = found_on(&board)?;
+    println!(rt;
+        "seed {}, {} steps: {logged} lines logged, {found} found",
+        run.seed, run.steps
+    )?;
+    Ok(())
+}
+
+/// The run that the arguments name, if they name one.
+fn asked(rt: &HostRuntime) -> Result<Option<Run>> {
+    let words: Vec<String> = env::args(rt)?.skip(1).collect(rt.alloc())?;
+    let (Some(seed), Some(steps)) = (words.first(), words.get(1)) else {
+        return Ok(None);
+    };
+    Ok(Some(Run {
+        seed: seed.as_str().parse()?,
+        steps: steps.as_str().parse()?,
+    }))
+}
+
+fn main(rt: HostRuntime) -> Result<()> {
+    if let Some(run) = asked(&rt)? {
+        return play(rt, run);
+    }
+    for run in RUNS {
+        play(rt, run)?;
+    }
+    Ok(())
+}

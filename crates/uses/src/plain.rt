@@ -1,0 +1,38 @@
+//! What stands where the texts are plain, with no premise on what the calls lead to.
+ghost use Rattle.std.specs.Prelude.{◌≡◌, ◌∷◌, [], ℕ, map, replicate, IfOk, string_bytes, codes};
+
+use indicatif_bar::style::NoTracker;
+use indicatif_board::laws::{plain_texts_give_plain_runs, what_a_board_run_reads};
+use indicatif_board::multi::Board;
+use indicatif_term::draw_target::ProgressDrawTarget;
+use indicatif_term::in_memory::InMemoryTerm;
+use indicatif_term::laws::a_new_terminal_is_an_opening;
+use indicatif_text::columns::Refusal;
+use std::alloc::Global;
+
+/// Two names logged on a new terminal of 4 rows and 10 columns, and the texts of the rows that stand then: they, and empty ones.
+///
+/// Refused: `Memory`.
+pub fn names_logged(alloc: Global) -> Result<Vec<String>, Refusal>
+    ensures { IfOk result (λ texts. (blank : ℕ) × (map (λ text. string_bytes text) texts.items
+        ≡ codes "a.txt" ∷ codes "b.txt" ∷ replicate blank [])) }
+{
+    let term = InMemoryTerm::new(alloc, 4, 10)?;
+    let mut board: Board<NoTracker, InMemoryTerm> = Board::new(
+        alloc,
+        ProgressDrawTarget::term_like(term),
+        0,
+    );
+    let _one = board.println("a.txt", 0)?;
+    let _other = board.println("b.txt", 0)?;
+    a_new_terminal_is_an_opening();
+    what_a_board_run_reads::<NoTracker>();
+    plain_texts_give_plain_runs::<NoTracker>();
+    match board.term() {
+        Some(term) => {
+            let texts = term.picture()?;
+            Ok(texts)
+        }
+        None => Err(Refusal::Memory),
+    }
+}
