@@ -1,6 +1,6 @@
 //! How the bytes are shown.
 use crate::arguments::{Asked, Look, Manner, Unit};
-use indicatif::machine::{MachineClock, facts_of};
+use indicatif::machine::{MachineClock, facts_of, wants_colors};
 use indicatif::{
     Clock, Facts, NoTracker, ProgressBar, ProgressDrawTarget, ProgressStyle, Refusal, Term,
 };
@@ -31,6 +31,7 @@ pub fn bar_for<R: AllocGlobal + Env + Wait + time::Clock + Copy + Drop>(
 ) -> Result<Bar<R>, Refusal> {
     let facts = facts_for(rt, errors, &asked.look)?;
     let style = style_for(rt.alloc(), &asked.look, size, facts.cols)?;
+    let style = style.with_colors(wants_colors(rt, &errors)?)?;
     let mut clock = MachineClock::new(*rt);
     let Ok(writer) = BufWriter::new(rt.alloc(), errors) else {
         return Err(Refusal::Memory);
