@@ -47,7 +47,7 @@ look() {
   pane "at $cols columns, on its way: ${*##*/}"
   sleep 2.4
   pane "in the pause"
-  sleep 3
+  sleep 4
   pane "at its end"
   mux kill-session -t look
 }
@@ -58,7 +58,7 @@ rows() {
   mux send-keys -t look "clear; bash $folder/slow | meter --row 1/3 -N in -s 10M | meter --row 2/3 -N mid -s 10M | meter --row 3/3 -N out > /dev/null" Enter
   sleep 1.2
   pane "three in a pipeline, on their way"
-  sleep 5.4
+  sleep 7
   pane "at their end"
   mux kill-session -t look
 }
@@ -69,7 +69,7 @@ wrong() {
   mux send-keys -t look "clear; echo a row above; echo another; bash $folder/slow | meter -s 10M -N $(printf 'a-long-name-%.0s' 1 2 3 4 5 6 7 8) > /dev/null" Enter
   sleep 1.5
   pane "80 columns told, $1 there, on its way"
-  sleep 5
+  sleep 7
   pane "at its end"
   mux kill-session -t look
 }

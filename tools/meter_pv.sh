@@ -52,7 +52,7 @@ row 'a full disk' 3 'meter: standard output: No space left on device (os error 2
 row 'a directory' 1 'meter: .: Is a directory (os error 21)' '$P . > handed 2> said; echo $? > status'
 row 'no such file, and the next' 1 'meter: none: No such file or directory (os error 2)' \
   'cp lines wanted; $P none lines > handed 2> said; echo $? > status'
-row 'EIO' 1 'meter: standard input: Input/output error (os error 5)' '$P < /proc/self/mem > handed 2> said; echo $? > status'
+row 'EIO' 1 'meter: /proc/self/mem: Input/output error (os error 5)' '$P /proc/self/mem > handed 2> said; echo $? > status'
 row 'EBADF' 1 'meter: standard input: Bad file descriptor (os error 9)' '$P <&- > handed 2> said; echo $? > status'
 row 'a closed output' 3 'meter: standard output: Bad file descriptor (os error 9)' '$P lines >&- 2> said; echo $? > status'
 row 'EAGAIN from the input' 0 '' 'cp lines wanted
@@ -65,14 +65,14 @@ if command -v strace > /dev/null; then
   row 'an interrupted read and write' 0 '' 'cp bytes wanted
     strace -f -o /dev/null -e inject=read,write:error=EINTR:when=40+3 $P < bytes > handed 2> said; echo $? > status'
 fi
-row 'early end against --size' 0 '14' '$P -n -s 100 < lines > handed 2> said; echo $? > status'
-row 'more than was said' 0 '100' '$P -n -s 10 < lines > handed 2> said; echo $? > status'
-row '--size 0 and nothing' 0 '100' '$P -n -s 0 < /dev/null > handed 2> said; echo $? > status'
-row '--size 0 and something' 0 '100' 'cp lines wanted; $P -n -s 0 < lines > handed 2> said; echo $? > status'
-row '--size of a file' 0 '100' '$P -n lines > handed 2> said; echo $? > status'
-row '--numeric without a size' 0 '14' 'cat lines | $P -n > handed 2> said; echo $? > status'
-row '--lines' 0 '3' 'cp lines wanted; $P -n -l lines > handed 2> said; echo $? > status'
-row '--lines --size' 0 '60' '$P -n -l -s 5 lines > handed 2> said; echo $? > status'
+row 'early end against --size' 0 '14' '$P -n -i 100 -s 100 < lines > handed 2> said; echo $? > status'
+row 'more than was said' 0 '100' '$P -n -i 100 -s 10 < lines > handed 2> said; echo $? > status'
+row '--size 0 and nothing' 0 '100' '$P -n -i 100 -s 0 < /dev/null > handed 2> said; echo $? > status'
+row '--size 0 and something' 0 '100' 'cp lines wanted; $P -n -i 100 -s 0 < lines > handed 2> said; echo $? > status'
+row '--size of a file' 0 '100' '$P -n -i 100 lines > handed 2> said; echo $? > status'
+row '--numeric without a size' 0 '14' 'cat lines | $P -n -i 100 > handed 2> said; echo $? > status'
+row '--lines' 0 '3' 'cp lines wanted; $P -n -i 100 -l lines > handed 2> said; echo $? > status'
+row '--lines --size' 0 '60' '$P -n -i 100 -l -s 5 lines > handed 2> said; echo $? > status'
 row '--quiet' 0 '' 'cp lines wanted; $P -q -f lines > handed 2> said; echo $? > status'
 row '--rate-limit' 0 'slow' 'cp bytes wanted; from=$(date +%s%N); $P -q -L 500K bytes > handed; echo $? > status
   took=$((($(date +%s%N) - from) / 1000000)); [ $took -ge 1700 ] && [ $took -lt 4000 ] && echo slow > said || echo "$took ms" > said'
@@ -85,7 +85,7 @@ row 'an escape sequence in --name' 0 '0' 'TERM=xterm $P -f -N "$(printf "a\033[2
 row 'the last draw shows the last byte' 0 '1' 'TERM=xterm $P -f -i 100 lines > handed 2> shown; echo $? > status
   tr "\r" "\n" < shown | tail -2 | grep -c "14 B.*100%" > said'
 for size in '10M 50' '10MiB 50' '10MB 52' '5k 100' '15E 0' '5242880 100'; do
-  row "--size ${size% *}" 0 "${size#* }" "\$P -n -s ${size% *} < half > handed 2> said; echo \$? > status"
+  row "--size ${size% *}" 0 "${size#* }" "\$P -n -i 100 -s ${size% *} < half > handed 2> said; echo \$? > status"
 done
 for size in 16E 18446744073709551616 '' M 10X '10 M' 10Mi; do
   row "--size '$size'" 2 'meter: a size is a number as 700, 10M, 10MB or 1GiB' "\$P -s '$size' lines > handed 2> said; echo \$? > status"

@@ -7,7 +7,7 @@ pub struct Numbers {
     size: Option<u64>,
     interval: u64,
     done: u64,
-    next: u64,
+    next: Option<u64>,
     said: Option<u64>,
 }
 
@@ -18,7 +18,7 @@ impl Numbers {
             size,
             interval,
             done: 0,
-            next: interval,
+            next: None,
             said: None,
         }
     }
@@ -26,8 +26,10 @@ impl Numbers {
     /// So many more went by this moment.
     pub fn went(&mut self, rt: &impl Eprint, now: u64, count: u64) {
         self.done = self.done.saturating_add(count);
-        if now >= self.next {
-            self.next = now.saturating_add(self.interval);
+        let next = self.next.unwrap_or(now.saturating_add(self.interval));
+        self.next = Some(next);
+        if now >= next {
+            self.next = Some(now.saturating_add(self.interval));
             self.say(rt);
         }
     }

@@ -1,6 +1,6 @@
 //! How the bytes are shown.
 use crate::arguments::{Asked, Look, Manner, Unit};
-use indicatif::machine::{MachineClock, facts_of};
+use indicatif::machine::{MachineClock, facts_of, wants_colors};
 use indicatif::{
     Clock, Facts, NoTracker, ProgressBar, ProgressDrawTarget, ProgressStyle, Refusal, Term,
 };
@@ -15,7 +15,7 @@ use std::time;
 pub type Bar<R> = ProgressBar<Screen<Term<BufWriter<Stderr>>>, MachineClock<R>, R>;
 
 /// Terminals of fewer columns have a row for each number.
-const WIDE: u16 = 60;
+const WIDE: u16 = 72;
 
 /// Drawings a second at most.
 const HZ: u8 = 20;
@@ -31,13 +31,24 @@ pub fn bar_for<R: AllocGlobal + Env + Wait + time::Clock + Copy + Drop>(
 ) -> Result<Bar<R>, Refusal> {
     let facts = facts_for(rt, errors, &asked.look)?;
     let style = style_for(rt.alloc(), &asked.look, size, facts.cols)?;
+    let style = style.with_colors(wants_colors(rt, &errors)?)?;
     let mut clock = MachineClock::new(*rt);
     let Ok(writer) = BufWriter::new(rt.alloc(), errors) else {
         return Err(Refusal::Memory);
     };
     let screen = Screen::new(Term::new(writer, facts.rows, facts.cols), asked.look.row);
     let target = ProgressDrawTarget::term(screen, facts, HZ, clock.now())?;
-    ProgressBar::with_draw_target(*rt, rt.alloc(), size, target, clock)?.with_style(style)
+    ProgressBar::with_draw_target(*rt, rt.alloc(), size, target, clock)?
+        .with_style(style)?
+        .with_prefix(no_rate(asked.look.unit))
+}
+
+/// What stands for the rate before there is one.
+fn no_rate(unit: Unit) -> &'static str {
+    match unit {
+        Unit::Bytes => "0 B/s",
+        Unit::Lines => "0/s",
+    }
 }
 
 /// What is told of standard error.
@@ -76,7 +87,7 @@ fn style_for(
     } else {
         " "
     };
-    let room = if columns < WIDE { columns } else { columns / 4 };
+    let room = if columns < WIDE { columns } else { columns / 8 };
     let mut text = String::new(alloc);
     if let Some(name) = look.name {
         push_name(alloc, &mut text, name, room)?;
@@ -103,9 +114,8 @@ fn push_numbers(text: &mut String, unit: Unit, end: &str) -> Result<(), Refusal>
     text.push_str(end)?;
     text.push_str("{prefix}")?;
     text.push_str(end)?;
-    text.push_str("(mean ")?;
+    text.push_str("mean ")?;
     text.push_str(rate)?;
-    text.push_str(")")?;
     Ok(())
 }
 

@@ -129,7 +129,7 @@ fn end_text<R: AllocGlobal + Clock>(rt: &R, left: u64, zone: u64) -> Result<Stri
     HumanDuration(left).write_short(&mut text)?;
     let end = day_seconds(rt, zone).saturating_add(left / SECOND);
     let time = TimeOfDay(end).to_string(rt.alloc())?;
-    text.push_str(", at ")?;
+    text.push(' ')?;
     text.push_str(time.as_str())?;
     Ok(text)
 }
@@ -140,8 +140,7 @@ pub fn tell_end<R: AllocGlobal + Env + Files + Wait + Clock + Copy + Drop>(
     bar: &Bar<R>,
 ) -> Result<(), Refusal> {
     let time = TimeOfDay(day_seconds(rt, zone_seconds(rt))).to_string(rt.alloc())?;
-    let text = format!(in rt.alloc(); "at {time}")?;
-    bar.set_message(text.as_str())?;
+    bar.set_message(time.as_str())?;
     Ok(())
 }
 

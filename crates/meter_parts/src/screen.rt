@@ -106,10 +106,13 @@ impl<T: TermLike> Screen<T> {
         }
     }
 
-    /// Goes back from the row, and turns the wrap on.
+    /// Goes back from the row, and turns the wrap on, where a drawing ends.
     fn end(&mut self) -> io::Result<()>
         ensures { Quietly (T.view self.old.term) (T.view self.new.term) result }
     {
+        if !self.is_drawing {
+            return Ok(());
+        }
         self.is_drawing = false;
         if let Some(row) = self.row {
             self.send("\r")?;
@@ -179,6 +182,9 @@ impl<T: TermLike> Screen<T> {
     {
         if piece.colour {
             return self.send(piece.text);
+        }
+        if piece.text.starts_with('\r') {
+            self.column = 0;
         }
         let wide = columns(piece.text);
         if wide > self.room() {
