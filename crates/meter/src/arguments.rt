@@ -186,7 +186,7 @@ fn manner_in(matches: &ArgMatches<'_>) -> Manner {
 /// When it is to be shown.
 fn timing_in(matches: &ArgMatches<'_>) -> Result<Timing, Unasked> {
     let interval = wanted(
-        matches.get_str("interval").map(nanos_said),
+        matches.get_str("interval").map(|text| nanos_said(text)),
         "an interval is a number of seconds as 2 or 0.5",
     )?;
     let limit = wanted(

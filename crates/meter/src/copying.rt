@@ -94,7 +94,7 @@ impl<R: Eprint + Wait + Threads + time::Clock + Copy + Drop + Send + 'static> Ga
 }
 
 impl<R: Eprint + Wait + Threads + time::Clock + Copy + Drop + Send + 'static> Watch<'_, R> {
-    /// Lets the time begin where the first byte does.
+    /// Lets the time begin where the first byte does; from then on the thread that tells the bar its rate draws it each interval.
     fn begin(&mut self) {
         if self.has_begun {
             return;
@@ -102,7 +102,6 @@ impl<R: Eprint + Wait + Threads + time::Clock + Copy + Drop + Send + 'static> Wa
         self.has_begun = true;
         if self.timing.begins == Begins::WithFirstByte {
             let _ = self.bar.reset_elapsed();
-            let _ = self.bar.enable_steady_tick(self.timing.interval);
         }
     }
 }
