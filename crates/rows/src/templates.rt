@@ -77,18 +77,18 @@ fn push_numbers(style: Option<Style>, at: At, got: &mut Got) -> Result<(), Bad> 
 }
 
 fn push_sequences(written: &str, got: &mut Got) {
-    let mut parting = " ";
+    let mut is_first = true;
     for sequence in written.split('m') {
         match sequence.strip_prefix("\x1b[") {
             None | Some("0") => (),
             Some(number) => {
-                got.text(parting);
+                got.text(if is_first { " " } else { "," });
                 got.text(number);
-                parting = ",";
+                is_first = false;
             }
         }
     }
-    if parting == " " {
+    if is_first {
         got.text(" -");
     }
 }
