@@ -96,12 +96,12 @@ pub fn asks<P: Moves>(over: &mut Over<P>, step: &str, got: &mut Got) -> Result<(
         return unwraps(over, got);
     }
     let Over {
-        wrapped: Some(wrapped),
+        wrapped,
         room,
         task,
         alloc,
-    } = over
-    else {
+    } = over;
+    let Some(wrapped) = wrapped else {
         return Err(Bad::Step);
     };
     match step.split_once(' ') {

@@ -60,8 +60,7 @@ struct Watch<'a, R: Wait + time::Clock + Copy + Drop> {
     has_begun: bool,
 }
 
-impl<R: Eprint + Wait + Threads + time::Clock + Copy + Drop + Send + 'static> Gauge
-    for Watch<'_, R> {
+impl<R: Eprint + Wait + time::Clock + Copy + Drop> Gauge for Watch<'_, R> {
     fn piece(&mut self, wanted: usize) -> usize {
         let Some(pace) = self.pace else {
             return wanted;
@@ -93,7 +92,7 @@ impl<R: Eprint + Wait + Threads + time::Clock + Copy + Drop + Send + 'static> Ga
     }
 }
 
-impl<R: Eprint + Wait + Threads + time::Clock + Copy + Drop + Send + 'static> Watch<'_, R> {
+impl<R: Wait + time::Clock + Copy + Drop> Watch<'_, R> {
     /// Lets the time begin where the first byte does; from then on the thread that tells the bar its rate draws it each interval.
     fn begin(&mut self) {
         if self.has_begun {

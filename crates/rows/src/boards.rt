@@ -241,10 +241,12 @@ fn run(board: &mut Shown, calls: &str, at: At, got: &mut Got) -> Result<(), Bad>
 }
 
 fn push_answers(answers: Vec<Answer>, got: &mut Got) {
-    let mut parting = "";
+    let mut is_first = true;
     for answer in answers {
-        got.text(parting);
+        if !is_first {
+            got.text(" ");
+        }
         push_answer(answer, got);
-        parting = " ";
+        is_first = false;
     }
 }

@@ -6,26 +6,27 @@ use scripts::row::At;
 use scripts::screen::Screen;
 use scripts::spelling::unescaped;
 use std::io;
+use std::rc::Rc;
 
 /// `suspend TEXT`: the board is suspended, and this text is written meanwhile.
 pub fn suspend(
     board: &mut Shown,
-    screen: &Screen,
+    screen: &Rc<Screen>,
     (text, at): (&str, At),
     got: &mut Got,
 ) -> Result<(), Bad> {
     let text = unescaped(at.alloc, text)?;
-    let (written, drawn) = suspended(board, screen, text.as_str(), at.now);
+    let (written, drawn) = suspended(board, screen.clone()?, text, at.now);
     written.map_err(|_| Bad::Step)?;
     got.answer(drawn);
     Ok(())
 }
 
-fn suspended<'a>(
+fn suspended(
     board: &mut Shown,
-    screen: &'a Screen,
-    text: &'a str,
+    screen: Rc<Screen>,
+    text: String,
     now: Moment,
 ) -> (io::Result<()>, Result<Drawn, Refusal>) {
-    board.suspend(now, move || screen.feed(text.as_bytes()))
+    board.suspend(now, move || screen.feed(text.as_str().as_bytes()))
 }

@@ -1,7 +1,7 @@
 //! `bars run` over readers and writers: what it prints, what it says was wrong, and its status.
 use bars_run::run_bars;
 use scripts::got::{Bad, Got};
-use scripts::row::{At, next};
+use scripts::row::{At, headed};
 use scripts::spelling::{number, unescaped_bytes};
 use std::io;
 use std::io::{Error, ErrorKind, Read, Write};
@@ -58,9 +58,6 @@ impl Write for Output {
     }
 }
 
-/// How many changes of the streams there are; each comes once at most.
-const CHANGES: u32 = 4;
-
 /// The input's failure, and the outputs.
 #[derive(Drop)]
 struct Streams {
@@ -72,18 +69,16 @@ struct Streams {
 /// `bars [CHANGE ..] WORDS: COMMANDS`, with `\n` behind each command: `bars` with these words, parted by spaces, on these commands.
 /// Gives the status; behind a space what is printed, if anything; and behind ` !` what is said was wrong.
 ///
-/// A change is `input=KIND`, which fails so behind the commands (`BrokenPipe` or `OutOfMemory`); `room=N`, so many bytes are printed;
+/// A change, of which each comes once at most, is `input=KIND`, which fails so behind the commands (`BrokenPipe` or `OutOfMemory`); `room=N`, so many bytes are printed;
 /// `flush=no`, the last flush fails; `said=no`, what was wrong can't be said. The word `alone`: no words, not even an empty one.
 pub fn played(rest: &str, at: At, got: &mut Got) -> Result<(), Bad> {
     let (words, commands) = rest.split_once(':').ok_or(Bad::Step)?;
     let commands = unescaped_bytes(at.alloc, commands.strip_prefix(' ').unwrap_or(commands))?;
-    let mut words = words;
     let mut streams = plain_streams(at);
-    for _ in 0..CHANGES {
-        if change(&mut streams, words)? {
-            next(&mut words);
-        }
-    }
+    let words = changed(&mut streams, words)?;
+    let words = changed(&mut streams, words)?;
+    let words = changed(&mut streams, words)?;
+    let words = changed(&mut streams, words)?;
     let mut args = Vec::new(at.alloc);
     if words != "alone" {
         push_words(words, at, &mut args)?;
@@ -108,18 +103,18 @@ fn endless(at: At) -> Output {
     }
 }
 
-/// Makes the change that the next word asks for; whether it does.
-fn change(streams: &mut Streams, words: &str) -> Result<bool, Bad> {
-    let mut words = words;
-    match next(&mut words).split_once('=') {
+/// Makes the change that the next word asks for, if it does; the words that are left.
+fn changed<'a>(streams: &mut Streams, words: &'a str) -> Result<&'a str, Bad> {
+    let (word, rest) = headed(words);
+    match word.split_once('=') {
         Some(("input", "BrokenPipe")) => streams.failure = Some(ErrorKind::BrokenPipe),
         Some(("input", "OutOfMemory")) => streams.failure = Some(ErrorKind::OutOfMemory),
         Some(("room", room)) => streams.out.room = number(room)?,
         Some(("flush", "no")) => streams.out.is_flush_failing = true,
         Some(("said", "no")) => streams.err.room = 0,
-        _ => return Ok(false),
+        _ => return Ok(words),
     }
-    Ok(true)
+    Ok(rest)
 }
 
 fn push_words(words: &str, at: At, args: &mut Vec<String>) -> Result<(), Bad> {
