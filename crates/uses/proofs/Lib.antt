@@ -3,4 +3,3 @@ mod LogLemmas
 mod MoveLemmas
 mod PictureLemmas
 mod PlainLemmas
-mod SharedLemmas
