@@ -67,7 +67,12 @@ fn bars_of<R: Plays>(rt: R, board: &Multi<R>) -> Result<Vec<Bar<R>>, Refusal> {
 }
 
 /// How many lines three threads logged.
-fn played<R: Plays>(rt: &R, board: &Multi<R>, bars: &[Bar<R>], run: Run) -> Result<u64> {
+fn played(
+    rt: &HostRuntime,
+    board: &Multi<HostRuntime>,
+    bars: &[Bar<HostRuntime>],
+    run: Run,
+) -> Result<u64> {
     let one = Player::new(rt, board, bars, 1);
     let two = Player::new(rt, board, bars, 2);
     let three = Player::new(rt, board, bars, 3);
@@ -108,7 +113,7 @@ fn found_on<R: Plays>(board: &Multi<R>) -> Result<u64> {
 }
 
 /// Plays a run, and says what was logged and what was found.
-fn play<R: Plays + Print>(rt: R, run: Run) -> Result<()> {
+fn play(rt: HostRuntime, run: Run) -> Result<()> {
     let board = board_of(rt)?;
     let bars = bars_of(rt, &board)?;
     let logged = played(&rt, &board, bars.as_slice(), run)?;
