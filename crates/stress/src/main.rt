@@ -14,7 +14,7 @@ use crate::player::{Bar, Multi, Player, Plays};
 use anyhow::{Result, anyhow};
 use indicatif::machine::MachineClock;
 use indicatif::{InMemoryTerm, MultiProgress, ProgressBar, ProgressDrawTarget, Refusal, Setup};
-use std::env;
+use std::env::{self, Env};
 use std::thread::join;
 
 /// A seed, and how many steps a thread makes by it.
@@ -66,27 +66,6 @@ fn bars_of<R: Plays>(rt: R, board: &Multi<R>) -> Result<Vec<Bar<R>>, Refusal> {
     Ok(bars)
 }
 
-/// How many lines three threads logged.
-fn played(
-    rt: &HostRuntime,
-    board: &Multi<HostRuntime>,
-    bars: &[Bar<HostRuntime>],
-    run: Run,
-) -> Result<u64> {
-    let one = Player::new(rt, board, bars, 1);
-    let two = Player::new(rt, board, bars, 2);
-    let three = Player::new(rt, board, bars, 3);
-    let others = || {
-        join(
-            rt,
-            || two.plays(run.seed, run.steps),
-            || three.plays(run.seed, run.steps),
-        )
-    };
-    let (first, (second, third)) = join(rt, || one.plays(run.seed, run.steps), others);
-    Ok(first?.wrapping_add(second?).wrapping_add(third?))
-}
-
 /// Tells each bar's ticker off.
 fn come_to_rest<R: Plays>(bars: &[Bar<R>]) -> Result<(), Refusal> {
     for bar in bars {
@@ -112,13 +91,9 @@ fn found_on<R: Plays>(board: &Multi<R>) -> Result<u64> {
     Ok(logged_in(rows.ok_or(anyhow!("no terminal"))??.as_slice()))
 }
 
-/// Plays a run, and says what was logged and what was found.
-fn play(rt: HostRuntime, run: Run) -> Result<()> {
-    let board = board_of(rt)?;
-    let bars = bars_of(rt, &board)?;
-    let logged = played(&rt, &board, bars.as_slice(), run)?;
-    come_to_rest(bars.as_slice())?;
-    let found = found_on(&board)?;
+/// Says what was logged in a run and what was found.
+fn say<R: Plays + Print>(rt: R, run: Run, logged: u64, board: &Multi<R>) -> Result<()> {
+    let found = found_on(board)?;
     println!(rt;
         "seed {}, {} steps: {logged} lines logged, {found} found",
         run.seed, run.steps
@@ -126,24 +101,37 @@ fn play(rt: HostRuntime, run: Run) -> Result<()> {
     Ok(())
 }
 
-/// The run that the arguments name, if they name one.
-fn asked(rt: &HostRuntime) -> Result<Option<Run>> {
+/// The run that the arguments name, or else those of `RUNS`.
+fn asked<R: AllocGlobal + Env>(rt: &R) -> Result<Vec<Run>> {
     let words: Vec<String> = env::args(rt)?.skip(1).collect(rt.alloc())?;
     let (Some(seed), Some(steps)) = (words.first(), words.get(1)) else {
-        return Ok(None);
+        return Ok(Vec::from_array(rt.alloc(), RUNS)?);
     };
-    Ok(Some(Run {
+    let run = Run {
         seed: seed.as_str().parse()?,
         steps: steps.as_str().parse()?,
-    }))
+    };
+    Ok(vec![in rt.alloc(); run]?)
 }
 
 fn main(rt: HostRuntime) -> Result<()> {
-    if let Some(run) = asked(&rt)? {
-        return play(rt, run);
-    }
-    for run in RUNS {
-        play(rt, run)?;
+    for run in asked(&rt)? {
+        let board = board_of(rt)?;
+        let bars = bars_of(rt, &board)?;
+        let one = Player::new(&rt, &board, bars.as_slice(), 1);
+        let two = Player::new(&rt, &board, bars.as_slice(), 2);
+        let three = Player::new(&rt, &board, bars.as_slice(), 3);
+        let others = || {
+            join(
+                &rt,
+                || two.plays(run.seed, run.steps),
+                || three.plays(run.seed, run.steps),
+            )
+        };
+        let (first, (second, third)) = join(&rt, || one.plays(run.seed, run.steps), others);
+        let logged = first?.wrapping_add(second?).wrapping_add(third?);
+        come_to_rest(bars.as_slice())?;
+        say(rt, run, logged, &board)?;
     }
     Ok(())
 }
