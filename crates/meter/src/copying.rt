@@ -9,7 +9,6 @@ use std::fs::File;
 use std::io::{Error, Stdin, Stdout};
 use std::rt::Files;
 use std::sync::Wait;
-use std::thread::Threads;
 use std::time::Duration;
 use std::{thread, time};
 
@@ -105,10 +104,7 @@ impl<R: Wait + time::Clock + Copy + Drop> Watch<'_, R> {
     }
 }
 
-impl<
-    'a,
-    R: AllocGlobal + Eprint + Wait + Threads + time::Clock + Copy + Drop + Send + 'static,
-> Watch<'a, R> {
+impl<'a, R: AllocGlobal + Wait + time::Clock + Copy + Drop> Watch<'a, R> {
     /// What these are told to, as it is asked.
     fn new(rt: &'a R, bar: &'a Bar<R>, asked: &Asked<'_>, size: Option<u64>) -> Watch<'a, R> {
         let timing = asked.timing;
@@ -134,9 +130,7 @@ impl<
 /// Hands all inputs on to standard output. The bar, and numbers, are told of each piece.
 ///
 /// Refused: `Memory`.
-pub fn copy_all<
-    R: Files + AllocGlobal + Eprint + Wait + Threads + time::Clock + Copy + Drop + Send + 'static,
->(
+pub fn copy_all<R: Files + AllocGlobal + Eprint + Wait + time::Clock + Copy + Drop>(
     rt: &R,
     streams: Streams,
     asked: &Asked<'_>,
@@ -153,9 +147,7 @@ pub fn copy_all<
 }
 
 /// Hands these files on, or standard input where there is none, until the output fails.
-fn copy_files<
-    R: Files + AllocGlobal + Eprint + Wait + Threads + time::Clock + Copy + Drop + Send + 'static,
->(
+fn copy_files<R: Files + AllocGlobal + Eprint + Wait + time::Clock + Copy + Drop>(
     rt: &R,
     streams: Streams,
     files: &[&str],
@@ -194,7 +186,7 @@ impl Copied {
 }
 
 /// Hands on the file of this name.
-fn copy_named<R: Files + Eprint + Wait + Threads + time::Clock + Copy + Drop + Send + 'static>(
+fn copy_named<R: Files + Eprint + Wait + time::Clock + Copy + Drop>(
     rt: &R,
     streams: Streams,
     name: &str,

@@ -103,22 +103,31 @@ fn metered<
     if asked.timing.begins == Begins::AtOnce {
         bar.enable_steady_tick(asked.timing.interval)?;
     }
+    watched(rt, streams, asked, size, &bar)
+}
+
+/// Hands everything on, while another thread tells the bar how fast it goes.
+fn watched<R: AllocGlobal + Env + Files + Eprint + Wait + Threads + Clock + Sync + Copy + Drop>(
+    rt: &R,
+    streams: Streams,
+    asked: &Asked<'_>,
+    size: Option<u64>,
+    bar: &Bar<R>,
+) -> Result<Copied, Refusal> {
     let tale = Tale {
         unit: asked.look.unit,
         size,
         interval: asked.timing.interval,
         begins: asked.timing.begins,
     };
-    let copy = || copied_and_finished(rt, streams, asked, size, &bar);
-    let (copied, ()) = join(rt, copy, || tell_until_finished(rt, &bar, tale));
-    last_look(rt, asked, &bar);
+    let copy = || copied_and_finished(rt, streams, asked, size, bar);
+    let (copied, ()) = join(rt, copy, || tell_until_finished(rt, bar, tale));
+    last_look(rt, asked, bar);
     copied
 }
 
 /// Hands everything on, and finishes the bar where it stands.
-fn copied_and_finished<
-    R: AllocGlobal + Files + Eprint + Wait + Threads + Clock + Copy + Drop + Send + 'static,
->(
+fn copied_and_finished<R: AllocGlobal + Files + Eprint + Wait + Clock + Copy + Drop>(
     rt: &R,
     streams: Streams,
     asked: &Asked<'_>,

@@ -1,4 +1,4 @@
-use Rattle.std.proofs.Common.{ap, subst, Some, option_map}
+use Rattle.std.proofs.Common.{ap, subst, false, Some, option_map}
 use Rattle.indicatif_bar.specs.Machines.{target_of}
 use Rattle.uses.proofs.LentLemmas.{Forces, forced_hidden, forced_narrow}
 use Rattle.uses.proofs.lent.draw_lent.Goals as goal
@@ -6,7 +6,7 @@ use Rattle.uses.proofs.lent.draw_lent.Goals as goal
 pub returns-clause-hidden : goal.returns-clause-hidden
 returns-clause-hidden g c = λ none.
     let m = g.K.ProgressTracker.means in
-    let s = c.bar.ensures.some in
+    let s = c.bar-in_some_state.ensures.some in
     let made = c.force_draw.ensures.leads s.0 s.1 in
     forced_hidden m c.args.now s.0 made.0 c.force_draw.result
     (subst (λ o. Forces m c.args.now s.0 made.0 c.force_draw.result (target_of o)) (ap (option_map g.T.TermLike.view) none) made.2.leads)
@@ -15,7 +15,7 @@ pub returns-clause-no_columns : goal.returns-clause-no_columns
 returns-clause-no_columns g c = λ term there narrow.
     let m = g.K.ProgressTracker.means in
     let view = g.T.TermLike.view in
-    let s = c.bar.ensures.some in
+    let s = c.bar-in_some_state.ensures.some in
     let made = c.force_draw.ensures.leads s.0 s.1 in
     let led = subst (λ o. Forces m c.args.now s.0 made.0 c.force_draw.result (target_of o)) (ap (option_map view) there) made.2.leads in
     forced_narrow m c.args.now s.0 made.0 c.force_draw.result (view term).rows
