@@ -38,92 +38,71 @@ use std::time::Clock;
 use telling::{Tale, tell_end, tell_until_finished};
 
 fn main(rt: HostRuntime) -> ExitCode {
-    match arguments::words_of(&rt) {
-        Ok(words) => {
-            let streams = Streams {
-                input: rt.stdin(),
-                output: rt.stdout(),
-            };
-            ended(&rt, streams, rt.stderr(), &words)
-        }
-        Err(unasked) => unanswered(&rt, &unasked),
+    let words = match arguments::words_of(&rt) {
+        Ok(words) => words,
+        Err(unasked) => return unanswered(&rt, &unasked),
+    };
+    let asked = match arguments::asked_by(rt.alloc(), &words) {
+        Ok(asked) => asked,
+        Err(unasked) => return unanswered(&rt, &unasked),
+    };
+    let Shown { bar, size } = match bar_shown(&rt, rt.stderr(), &asked) {
+        Ok(shown) => shown,
+        Err(refusal) => return refused(&rt, &refusal),
+    };
+    let streams = Streams {
+        input: rt.stdin(),
+        output: rt.stdout(),
+    };
+    let copied = if bar.is_hidden() {
+        copy_all(&rt, streams, &asked, size, &bar)
+    } else {
+        make_room(&rt, &asked);
+        let copy = || copied_and_finished(&rt, streams, &asked, size, &bar);
+        let tell = || tell_until_finished(&rt, &bar, tale_of(&asked, size));
+        let (copied, ()) = join(&rt, copy, tell);
+        last_look(&rt, &asked, &bar);
+        copied
+    };
+    match copied {
+        Ok(copied) => answered(&rt, &asked, &copied),
+        Err(refusal) => refused(&rt, &refusal),
     }
 }
 
-/// Does what these words ask.
-fn ended<
-    R: Print
-        + AllocGlobal
-        + Env
-        + Files
-        + Eprint
-        + Wait
-        + Threads
-        + Clock
-        + Sync
-        + Copy
-        + Drop
-        + Send
-        + 'static,
->(rt: &R, streams: Streams, errors: Stderr, words: &[String]) -> ExitCode {
-    match arguments::asked_by(rt.alloc(), words) {
-        Ok(asked) => match metered(rt, streams, errors, &asked) {
-            Ok(copied) => answered(rt, &asked, &copied),
-            Err(refusal) => refused(rt, &refusal),
-        },
-        Err(unasked) => unanswered(rt, &unasked),
-    }
+/// A bar, and how much will come, if it is known.
+#[derive(Drop)]
+struct Shown<R: Wait + Clock + Copy + Drop> {
+    bar: Bar<R>,
+    size: Option<u64>,
 }
 
-/// Hands everything on, shown as it is asked for.
-fn metered<
-    R: AllocGlobal
-        + Env
-        + Files
-        + Eprint
-        + Wait
-        + Threads
-        + Clock
-        + Sync
-        + Copy
-        + Drop
-        + Send
-        + 'static,
->(rt: &R, streams: Streams, errors: Stderr, asked: &Asked<'_>) -> Result<Copied, Refusal> {
+/// The bar that is asked for; it ticks where the time begins at once.
+///
+/// Refused: `Memory`, and what a template is refused with.
+fn bar_shown<
+    R: AllocGlobal + Env + Files + Wait + Threads + Clock + Sync + Copy + Drop + Send + 'static,
+>(rt: &R, errors: Stderr, asked: &Asked<'_>) -> Result<Shown<R>, Refusal> {
     let size = match (asked.size, asked.look.unit) {
         (Some(size), _) => Some(size),
         (None, Unit::Bytes) => size_of_all(rt, &asked.files),
         (None, Unit::Lines) => None,
     };
     let bar = bar_for(rt, errors, asked, size)?;
-    if bar.is_hidden() {
-        return copy_all(rt, streams, asked, size, &bar);
-    }
-    make_room(rt, asked);
-    if asked.timing.begins == Begins::AtOnce {
+    if asked.timing.begins == Begins::AtOnce && !bar.is_hidden() {
         bar.enable_steady_tick(asked.timing.interval)?;
     }
-    watched(rt, streams, asked, size, &bar)
+    Ok(Shown { bar, size })
 }
 
-/// Hands everything on, while another thread tells the bar how fast it goes.
-fn watched<R: AllocGlobal + Env + Files + Eprint + Wait + Threads + Clock + Sync + Copy + Drop>(
-    rt: &R,
-    streams: Streams,
-    asked: &Asked<'_>,
-    size: Option<u64>,
-    bar: &Bar<R>,
-) -> Result<Copied, Refusal> {
-    let tale = Tale {
+/// What the bar is told beside the count.
+fn tale_of(asked: &Asked<'_>, size: Option<u64>) -> Tale {
+    Tale {
         unit: asked.look.unit,
         size,
         interval: asked.timing.interval,
         begins: asked.timing.begins,
-    };
-    let copy = || copied_and_finished(rt, streams, asked, size, bar);
-    let (copied, ()) = join(rt, copy, || tell_until_finished(rt, bar, tale));
-    last_look(rt, asked, bar);
-    copied
+    }
 }
 
 /// Hands everything on, and finishes the bar where it stands.
