@@ -46,7 +46,7 @@ fn main(rt: HostRuntime) -> ExitCode {
         Ok(asked) => asked,
         Err(unasked) => return unanswered(&rt, &unasked),
     };
-    let Shown { bar, size } = match bar_shown(&rt, rt.stderr(), &asked) {
+    let Begun { bar, size } = match begun_by(&rt, rt.stderr(), &asked) {
         Ok(shown) => shown,
         Err(refusal) => return refused(&rt, &refusal),
     };
@@ -72,7 +72,7 @@ fn main(rt: HostRuntime) -> ExitCode {
 
 /// A bar, and how much will come, if it is known.
 #[derive(Drop)]
-struct Shown<R: Wait + Clock + Copy + Drop> {
+struct Begun<R: Wait + Clock + Copy + Drop> {
     bar: Bar<R>,
     size: Option<u64>,
 }
@@ -80,9 +80,9 @@ struct Shown<R: Wait + Clock + Copy + Drop> {
 /// The bar that is asked for; it ticks where the time begins at once.
 ///
 /// Refused: `Memory`, and what a template is refused with.
-fn bar_shown<
+fn begun_by<
     R: AllocGlobal + Env + Files + Wait + Threads + Clock + Sync + Copy + Drop + Send + 'static,
->(rt: &R, errors: Stderr, asked: &Asked<'_>) -> Result<Shown<R>, Refusal> {
+>(rt: &R, errors: Stderr, asked: &Asked<'_>) -> Result<Begun<R>, Refusal> {
     let size = match (asked.size, asked.look.unit) {
         (Some(size), _) => Some(size),
         (None, Unit::Bytes) => size_of_all(rt, &asked.files),
@@ -92,7 +92,7 @@ fn bar_shown<
     if asked.timing.begins == Begins::AtOnce && !bar.is_hidden() {
         bar.enable_steady_tick(asked.timing.interval)?;
     }
-    Ok(Shown { bar, size })
+    Ok(Begun { bar, size })
 }
 
 /// What the bar is told beside the count.
