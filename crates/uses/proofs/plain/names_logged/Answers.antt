@@ -28,15 +28,15 @@ returns-in-Some c =
     let begun = subst (λ target. IsIn 0 c.new-board.result (opening_board (limiter_of target))) c.term_like.ensures c.new-board.ensures.state in
     let one = c.in_ok-_one.ensures.leads 0 start begun in
     let other = c.in_ok-_other.ensures.leads 0 one.0 one.1 in
-    let first = subst (λ o. CallMade (machine writes_nothing) o (known view_of c.println-_one.new.self) (Log first_name, 0) start (Drew c.in_ok-_one._one) one.0) known_is one.2 in
-    let run = (known view_of c.println-_one.new.self, one.0, first, (known view_of c.println-_other.new.self, other.0, other.2, (refl, refl))) in
+    let first = subst (λ o. CallMade (machine writes_nothing) o (known view_of c.println.new.self) (Log first_name, 0) start (Drew c.in_ok-_one._one) one.0) known_is one.2 in
+    let run = (known view_of c.println.new.self, one.0, first, (known view_of c.println-2.new.self, other.0, other.2, (refl, refl))) in
     let answers = Drew c.in_ok-_one._one ∷ Drew c.in_ok-_other._other ∷ [] in
-    let plain = c.plain_texts_give_plain_runs.ensures nothing_plain 0 name_logs answers old start (known view_of c.println-_other.new.self) other.0 run (All-from_recursion IsPlainMember [] tt) logs_plain in
+    let plain = c.plain_texts_give_plain_runs.ensures nothing_plain 0 name_logs answers old start (known view_of c.println-2.new.self) other.0 run (All-from_recursion IsPlainMember [] tt) logs_plain in
     let shows = c.a_new_terminal_is_an_opening.ensures.shows 4 10 (omega arith) in
-    let read = c.what_a_board_run_reads.ensures 0 name_logs answers (view_of new_memory) start (known view_of c.println-_other.new.self) other.0 refl run refl plain (blank_screen 4 10)
+    let read = c.what_a_board_run_reads.ensures 0 name_logs answers (view_of new_memory) start (known view_of c.println-2.new.self) other.0 refl run refl plain (blank_screen 4 10)
     (blank_terminal 4 10, refl, shows) in
     let counted = first.writes.2.counted in
-    let target_is : target_of (known view_of c.println-_one.new.self) ≡ small = ap target_of first.writes.1 ∙ rw (counted.columns_stay, counted.rows_stay) refl in
+    let target_is : target_of (known view_of c.println.new.self) ≡ small = ap target_of first.writes.1 ∙ rw (counted.columns_stay, counted.rows_stay) refl in
     let names = names_read writes_nothing one.0 other.0 c.in_ok-_one._one c.in_ok-_other._other first.leads
     (subst (λ t. Leads (machine writes_nothing) t one.0 ((machine writes_nothing).deed t (Log second_name) 0 one.0) (Drew c.in_ok-_other._other) other.0) target_is other.2.leads) in
     let left = ap (option_map (λ t. t.now)) (sym c.in-Some.is) ∙ c.term.ensures in
