@@ -3,7 +3,7 @@
 //!
 //! The exit status is 1 if a row differed or there was none, and 2 where a file can't be read or standard output fails.
 //!
-//! - `stage`: what is played on, and which module plays a step.
+//! - `playing`: files, played line by line. `stage`: what is played on, and which module plays a step.
 //! - `bars`: bars and boards that are shared, and how they are made. `tell`: a bar's calls. `readings`: what a bar tells of itself.
 //! - `fronts`: bars that stand alone or on boards. `entries`: calls of a board as rows spell them. `history`: what a board has kept.
 //! - `beside`: a shared bar beside a lone one, call by call.
@@ -24,6 +24,7 @@ mod history;
 mod lists;
 mod loops;
 mod places;
+mod playing;
 mod polls;
 mod readings;
 mod scripted;
@@ -31,8 +32,8 @@ mod stage;
 mod tell;
 
 use anyhow::{Context, Result};
-use scripts::play::{Tally, play_file};
-use stage::Stage;
+use playing::play_file;
+use scripts::play::Tally;
 use std::env::{self, Env};
 use std::fs::Files;
 use std::process::ExitCode;
@@ -70,7 +71,7 @@ fn play_all<
 >(rt: R) -> Result<Tally> {
     let mut tally = Tally::default();
     for path in env::args(&rt)?.skip(1) {
-        let played = play_file(&rt, path.as_str(), &mut Stage::new(rt, rt.alloc()));
+        let played = play_file(&rt, path.as_str());
         tally = tally.and(played.context(format_args!("{path}"))?);
     }
     Ok(tally)

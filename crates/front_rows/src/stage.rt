@@ -8,7 +8,6 @@ use crate::lists::{self, List};
 use crate::loops::Looped;
 use crate::places::Places;
 use scripts::got::{Bad, Got};
-use scripts::play::World;
 use std::alloc::Global;
 use std::random::RandomSource;
 use std::sync::Wait;
@@ -80,8 +79,9 @@ impl<
 
 impl<
     R: AllocGlobal + RandomSource + Wait + Threads + Clock + Copy + Clone + Drop + Send + 'static,
-> World for Stage<R> {
-    fn play(&mut self, step: &str, got: &mut Got) -> Result<(), Bad> {
+> Stage<R> {
+    /// Makes a step, and appends what it gives.
+    pub fn play(&mut self, step: &str, got: &mut Got) -> Result<(), Bad> {
         let (name, rest) = step.split_once(' ').unwrap_or((step, ""));
         match name {
             "environment" => return environment::said(self.alloc, rest, got),

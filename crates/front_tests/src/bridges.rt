@@ -32,7 +32,7 @@ fn records_stand_above_the_bars(rt: HostRuntime) -> Result<(), Fail> {
     bar.tick()?;
     let before = counted(&board, Kind::Any);
     warn_twice(&Logged::new(rt, Level::Trace, bridge_over(&board)?));
-    assert_eq!(rt; counted(&board, Kind::Any) - before, 2);
+    assert_eq!(rt; counted(&board, Kind::Any).wrapping_sub(before), 2);
     assert_eq!(rt; counted(&board, Kind::Log("WARN  low disk")), 1);
     assert_eq!(rt; counted(&board, Kind::Log("ERROR a\nb")), 1);
     assert!(rt; is_one_run(&board, rt.alloc()));

@@ -29,7 +29,8 @@ impl Tally {
         }
     }
 
-    fn count(&mut self, agrees: bool) {
+    /// Counts a row.
+    pub fn count(&mut self, agrees: bool) {
         let counted = if agrees {
             &mut self.passed
         } else {
@@ -109,7 +110,7 @@ fn play_steps<W: World>(steps: &str, world: &mut W, got: &mut Got) {
 }
 
 /// Whether this was got.
-fn is_wanted(alloc: Global, got: &Got, wanted: &str) -> bool {
+pub fn is_wanted(alloc: Global, got: &Got, wanted: &str) -> bool {
     match unescaped(alloc, wanted) {
         Ok(wanted) => !got.is_lost() && got.as_str() == wanted.as_str(),
         Err(_) => false,
@@ -167,7 +168,8 @@ fn play_lines<R: Print + Alloc<A = Global>, L: BufRead + Drop, W: World>(
     Ok(tally)
 }
 
-fn print_row<R: Print>(
+/// Prints a row that differs, with its file and its line, and what came.
+pub fn print_row<R: Print>(
     rt: &R,
     (path, number): (&str, u64),
     row: Row<'_>,

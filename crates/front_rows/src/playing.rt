@@ -1,0 +1,81 @@
+//! Files of rows, played on the stage. A step may start a ticker's thread, which no method of a trait can: so the stage is no `World` of
+//! `scripts`.
+use crate::stage::Stage;
+use scripts::got::Got;
+use scripts::play::{Tally, is_wanted, print_row};
+use scripts::row::Row;
+use std::fs::Files;
+use std::io::{BufRead, BufReader};
+use std::random::RandomSource;
+use std::sync::Wait;
+use std::thread::Threads;
+use std::time::Clock;
+use std::{fs, io};
+
+/// Plays the rows of a file on a new stage, prints each that differs, and last how many agreed.
+pub fn play_file<
+    R: AllocGlobal
+        + Files
+        + Print
+        + RandomSource
+        + Wait
+        + Threads
+        + Clock
+        + Copy
+        + Clone
+        + Drop
+        + Send
+        + 'static,
+>(rt: &R, path: &str) -> io::Result<Tally> {
+    let lines = BufReader::new(rt.alloc(), fs::open(rt, path)?)?;
+    let mut stage = Stage::new(*rt, rt.alloc());
+    let tally = play_lines(rt, path, lines, &mut stage)?;
+    let Tally { passed, failed } = tally;
+    println!(rt; "{path}: {passed} passed, {failed} failed")?;
+    Ok(tally)
+}
+
+fn play_lines<
+    R: AllocGlobal
+        + Print
+        + RandomSource
+        + Wait
+        + Threads
+        + Clock
+        + Copy
+        + Clone
+        + Drop
+        + Send
+        + 'static,
+    L: BufRead + Drop,
+>(rt: &R, path: &str, lines: L, stage: &mut Stage<R>) -> io::Result<Tally> {
+    let mut got = Got::new(rt.alloc());
+    let mut tally = Tally::default();
+    let mut number: u64 = 0;
+    for line in lines.lines(rt.alloc()) {
+        number = number.saturating_add(1);
+        let line = line?;
+        if let Some(row) = Row::of(line.as_str()) {
+            play_steps(row.steps, stage, &mut got);
+            let agrees = is_wanted(rt.alloc(), &got, row.wanted);
+            tally.count(agrees);
+            if !agrees {
+                print_row(rt, (path, number), row, &got)?;
+            }
+        }
+    }
+    Ok(tally)
+}
+
+/// Makes steps one after another; `got` has what they gave.
+fn play_steps<
+    R: AllocGlobal + RandomSource + Wait + Threads + Clock + Copy + Clone + Drop + Send + 'static,
+>(steps: &str, stage: &mut Stage<R>, got: &mut Got) {
+    got.clear();
+    for step in steps.split("; ") {
+        got.begin();
+        if let Err(bad) = stage.play(step, got) {
+            got.bad(bad);
+        }
+    }
+}
