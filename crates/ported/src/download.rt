@@ -11,6 +11,11 @@ pub const TEMPLATE: &str =
 
 const TOTAL: u64 = 23_123_123;
 
+/// The bytes of a piece, but for the last one, and how many pieces there are.
+const PIECE: u64 = 223_211;
+
+const PIECES: u64 = 104;
+
 pub fn run<R: Shares>(
     rt: R,
     setup: TerminalSetup<Stderr>,
@@ -18,10 +23,8 @@ pub fn run<R: Shares>(
 ) -> Result<()> {
     let bar = ProgressBar::new(rt, rt.alloc(), TOTAL, setup)?;
     bar.set_style(style.progress_chars("#>-")?)?;
-    let mut done: u64 = 0;
-    while done < TOTAL {
-        done = done.saturating_add(223_211).min(TOTAL);
-        bar.set_position(done)?;
+    for piece in 1..=PIECES {
+        bar.set_position(piece.saturating_mul(PIECE).min(TOTAL))?;
         sleep(&rt, Duration::from_millis(12));
     }
     bar.finish_with_message("downloaded")?;
