@@ -65,6 +65,7 @@ SOURCES = {
         "Lists": (OWN, {}),
         "Memory": (OWN, {CRATE: "move_text hex_digit code_text quoted_char written_text"}),
         "Pictures": (OWN, {}),
+        "Remembered": (OWN, {}),
         "Screen": (OWN, {SEQUENCES: "line_feed performed", WIDTHS: "put_sized"}),
         "Shows": (OWN, {}),
         "Targets": (CRATE, {OWN: "term_of limiter_of term_behind"}),
@@ -98,6 +99,7 @@ SOURCES = {
     "indicatif_board": {
         "BoardBars": (OWN, {}),
         "BoardValues": (OWN, {}),
+        "Bridge": (OWN, {}),
         "Boards": (CRATE + ", and this project's own rule where its documents are silent", {}),
         "Calls": (OWN, {}),
         "Done": (OWN, {}),

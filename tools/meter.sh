@@ -6,8 +6,9 @@
 #           columns, and in one of 20 with `--columns 20`; then the same with `pv`
 #   rows    three meters in one pipeline, each on its row
 #   wrong   a pane of 200 columns and one of 40 where 80 are told, with a row above that is to stay
-#   race    4 GiB of zeros through `meter`, `pv` and `cat`, in turn, seven times each: the times in milliseconds, and the middle
-#           one of each. The bar is hidden: standard error is no terminal
+#   race    2 GiB of zeros through `meter`, `pv` and `cat`, in turn, nine times each (or $TURNS times): the times in milliseconds, the
+#           least of each, and the speed of `meter` by the least times, where that of `pv` is 1. Its bar is hidden: standard error is
+#           no terminal
 #   shown   the same race in a pane of 80 columns, where the bars are shown, and what stands there at last
 # Without a word all of them, one after another.
 #
@@ -74,12 +75,12 @@ wrong() {
   mux kill-session -t look
 }
 
-# the milliseconds that 4 GiB of zeros take through a program
-race() { local from=$EPOCHREALTIME; head -c 4G /dev/zero | "$@" 2> "$folder/errors" | cat > /dev/null; echo $(((${EPOCHREALTIME/./} - ${from/./}) / 1000)); }
+# the milliseconds that 2 GiB of zeros take through a program
+race() { local from=$EPOCHREALTIME; head -c 2G /dev/zero | "$@" 2> "$folder/errors" | cat > /dev/null; echo $(((${EPOCHREALTIME/./} - ${from/./}) / 1000)); }
 
 # the same in a pane of 80 columns, which is kept as it stands at the end
 shown() {
-  printf '%s\n' 'from=$EPOCHREALTIME' "head -c 4G /dev/zero | $1 | cat > /dev/null" \
+  printf '%s\n' 'from=$EPOCHREALTIME' "head -c 2G /dev/zero | $1 | cat > /dev/null" \
     "echo \$(((\${EPOCHREALTIME/./} - \${from/./}) / 1000)) > $folder/took" "tmux wait-for -S raced" 'exec sleep 1000' > "$folder/shown"
   mux new-session -d -s race -x 80 -y 8 "bash $folder/shown" || exit 2
   mux wait-for raced
@@ -88,8 +89,17 @@ shown() {
   cat "$folder/took"
 }
 
-# the middle one of seven numbers
-middle() { sort -n | sed -n 4p; }
+# told NAME FILE: the times in a file, and the least of them
+told() { echo "$1: $(paste -sd ' ' "$2"), the least $(least "$2") ms"; }
+
+# the least number in a file
+least() { sort -n "$1" | head -n 1; }
+
+# compared METERS PVS CATS: the speed of `meter` by the least times, where that of the others is 1
+compared() {
+  awk -v meter="$(least "$1")" -v pv="$(least "$2")" -v cat="$(least "$3")" \
+    'BEGIN { printf "speed of meter: %.2f of that of pv, %.2f of that of cat\n", pv / meter, cat / meter }'
+}
 
 ln -s "$meter" "$folder/meter"
 export PATH=$folder:$PATH
@@ -107,26 +117,29 @@ if [ "$wanted" = wrong ] || [ "$wanted" = all ]; then
   wrong 200
   wrong 40
 fi
+turns=$(seq "${TURNS:-9}")
 if [ "$wanted" = race ] || [ "$wanted" = all ]; then
-  for turn in 1 2 3 4 5 6 7; do
+  for turn in $turns; do
     race "$meter" >> "$folder/meters"
     race pv >> "$folder/pvs"
     race cat >> "$folder/cats"
   done
-  echo "meter, its bar hidden: $(paste -sd ' ' "$folder/meters"), the middle one $(middle < "$folder/meters") ms"
-  echo "pv: $(paste -sd ' ' "$folder/pvs"), the middle one $(middle < "$folder/pvs") ms"
-  echo "cat: $(paste -sd ' ' "$folder/cats"), the middle one $(middle < "$folder/cats") ms"
+  told "meter, its bar hidden" "$folder/meters"
+  told pv "$folder/pvs"
+  told cat "$folder/cats"
+  compared "$folder/meters" "$folder/pvs" "$folder/cats"
 fi
 if [ "$wanted" = shown ] || [ "$wanted" = all ]; then
-  for turn in 1 2 3 4 5 6 7; do
-    shown "$folder/meter --size 4GiB" >> "$folder/shown_meters"
+  for turn in $turns; do
+    shown "$folder/meter --size 2GiB" >> "$folder/shown_meters"
     cp "$folder/pane" "$folder/last"
-    shown "pv --size 4G" >> "$folder/shown_pvs"
+    shown "pv --size 2G" >> "$folder/shown_pvs"
     shown cat >> "$folder/shown_cats"
   done
-  echo "meter in a pane: $(paste -sd ' ' "$folder/shown_meters"), the middle one $(middle < "$folder/shown_meters") ms"
+  told "meter in a pane" "$folder/shown_meters"
   cat "$folder/last"
-  echo "pv there: $(paste -sd ' ' "$folder/shown_pvs"), the middle one $(middle < "$folder/shown_pvs") ms"
-  echo "cat there: $(paste -sd ' ' "$folder/shown_cats"), the middle one $(middle < "$folder/shown_cats") ms"
+  told "pv there" "$folder/shown_pvs"
+  told "cat there" "$folder/shown_cats"
+  compared "$folder/shown_meters" "$folder/shown_pvs" "$folder/shown_cats"
 fi
 uptime

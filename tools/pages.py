@@ -1,11 +1,18 @@
 #!/usr/bin/env python3
-"""Whether the rows that the gate plays for docs/TEMPLATES.md are those of its tables.
+"""Whether the pages say what the gate plays, proves and runs.
 
 usage: tools/pages.py [--write]   (at the root of the repository)
 
-Each row of a table with a template and what it shows is one row of crates/rows/data/templates_page.txt, which `crates/rows` plays.
-Without --write the file is compared with the page, and the exit status is 1 where they differ; with it the file is written anew.
-The README's program is compared with crates/example_readme too.
+- Each row of a table of docs/TEMPLATES.md is one row of crates/rows/data/templates_page.txt, which `crates/rows` plays.
+- The README's program is that of crates/example_readme.
+- Each call, clause, law and file that a table of docs/PROVED.md names is there.
+- The table of refusals in docs/USING.md has the numbers and texts of crates/rows/data/refusals.txt, and all of them.
+- Each fenced block of the pages below and of the heads of the libraries stands in the sources, line for line: code without comments
+  in crates/*/src, `antt` in crates/*/specs, `text` in what a program of the gate prints or plays. Blocks of `sh` and `rust` (the Rust
+  crate's code) aren't compared, those of `gallery` by tools/gallery.sh. A line `// ..` stands for lines that are left out. Definitions may have other line ends.
+- A block of `contract FILE CALL` is the head and the clauses of that call in crates/FILE.
+
+With --write those rows and contracts are written anew. The exit status is 1 where something differs.
 """
 import pathlib
 import re
@@ -17,6 +24,16 @@ HEAD = """# The tables of docs/TEMPLATES.md, written by tools/pages.py: one bar 
 """
 # columns, template, characters, colours, tab width, position, length, message, prefix, moment, whether finished
 BAR = ["40", None, "-", None, "8", "1500000", "6000000", "copying", "[1/3]", "10000000000", "0"]
+PROVED = pathlib.Path("docs/PROVED.md")
+LIBRARIES = ["indicatif_text", "indicatif_term", "indicatif_bar", "indicatif_board", "indicatif"]
+PROGRAMS = ["bars_run", "meter_parts"]
+
+
+def read(path):
+    return pathlib.Path(path).read_text(encoding="utf-8")
+
+
+# docs/TEMPLATES.md
 
 
 def tables(text):
@@ -51,6 +68,9 @@ def row(section, template, shown):
     return "laid " + "\t".join(fields) + " -> " + spelled(shown + "\\n")
 
 
+# README.md
+
+
 def program(text, head):
     """The program that begins at the line `head`, without indentation and comments, up to the end of its last function."""
     lines = text.splitlines()
@@ -61,17 +81,258 @@ def program(text, head):
     return [line for line in cut[: end + 1] if not line.strip().startswith("//")]
 
 
+# docs/PROVED.md
+
+
+def contracts(crate):
+    """The clauses of each function of a crate by its owner, a type or a trait, and its name."""
+    found = {}
+    for path in sorted(pathlib.Path(f"crates/{crate}/src").rglob("*.rt")):
+        owners, clauses = [""], set()
+        # the head of a block in one line
+        text = re.sub(r"^impl\b[^{]*", lambda head: " ".join(head[0].split()), read(path), flags=re.M)
+        for line in text.splitlines():
+            block = re.match(r"impl\b(.*)", line)
+            trait = re.match(r"(?:pub )?(trait|struct|enum) (\w+)", line)
+            function = re.match(r"(\s*)(?:pub(?:\(crate\))? )?fn (\w+)", line)
+            clause = re.match(r"\s*ensures ?(\w*) ?\{", line)
+            if block:
+                owners = re.findall(r"\b[A-Z]\w+", block[1])
+            elif trait:
+                owners = [trait[2]]
+                found.setdefault((trait[2], ""), set())
+            elif function:
+                clauses = set()
+                for owner in owners if function[1] else [""]:
+                    clauses = found.setdefault((owner, function[2]), clauses)
+                    found[owner, function[2]] = clauses
+            elif clause:
+                clauses.add(clause[1])
+    return found
+
+
+def calls_of(cell):
+    """The calls that a cell names, each as an owner, which may be empty, and a name, which may be."""
+    for word in re.findall(r"`([^`]*)`", cell):
+        owner, _, names = word.rpartition("::")
+        for name in names.strip("{}").split(","):
+            name = name.strip()
+            yield (name, "") if name[:1].isupper() else (owner, name)
+
+
+def clauses_of(found, owner, name, whole):
+    """The clauses of a call, of all calls of its owner where a row speaks of all; `None` where there is no such call."""
+    matching = [
+        clauses
+        for (of, function), clauses in found.items()
+        if (of == owner or not owner) and (function == name or whole or not name)
+    ]
+    named = [1 for (of, function) in found if (of == owner or not owner) and (function == name or not name)]
+    return set().union(*matching) if named else None
+
+
+def is_file(name):
+    return any(
+        pathlib.Path(folder, name).is_file()
+        for folder in (".", "crates", "crates/rows/data", "crates/front_rows/data")
+    )
+
+
+def faults_of_row(cells, found, laws):
+    """What is wrong in a row: its calls, then its clauses, then its files."""
+    call, proved, tested = cells[:3]
+    whole = " all " in call
+    clauses = set()
+    for owner, name in calls_of(call):
+        has = clauses_of(found, owner, name, whole)
+        if has is None:
+            yield f"no call {owner}::{name}"
+        clauses |= has or set()
+    for word in re.findall(r"`(\w+)`", proved):
+        if word[0].islower() and word not in clauses and word not in laws:
+            yield f"{call} has no clause `{word}`, and there is no such law"
+    for word in re.findall(r"`([^`]*\.(?:txt|rt|sh))`", tested):
+        if not is_file(word):
+            yield f"no file {word}"
+
+
+def faults_of_proved():
+    found, laws = {}, set()
+    for line in PROVED.read_text(encoding="utf-8").splitlines():
+        if line.startswith("## "):
+            crates = PROGRAMS if line == "## Programs" else re.findall(r"`(\w+)`", line)
+            found, laws = {}, set()
+            for crate in crates:
+                found.update(contracts(crate))
+                path = pathlib.Path(f"crates/{crate}/src/laws.rt")
+                laws |= set(re.findall(r"^pub fn (\w+)", read(path), re.M)) if path.exists() else set()
+        cells = [cell.strip() for cell in line.strip("|").split("|")]
+        if found and line.startswith("| ") and len(cells) >= 4 and cells[0] not in ("Call", "---"):
+            for fault in faults_of_row(cells, found, laws):
+                yield f"{PROVED}: {fault}"
+
+
+# docs/USING.md
+
+
+def faults_of_refusals():
+    rows = [line.partition(" -> ")[2] for line in read("crates/rows/data/refusals.txt").splitlines() if line.startswith("refusal ")]
+    named = {}
+    for number, name, text in re.findall(r"^\| (E\d+) \| `(\w+)` \| ([^|]*) \|", read("docs/USING.md"), re.M):
+        named[number] = name
+        if not any(row.startswith(number + " ") and row.endswith(" " + text) for row in rows):
+            yield f"docs/USING.md: no row of refusals.txt has {number} {text}"
+    for number in {row.split()[0] for row in rows} - set(named):
+        yield f"docs/USING.md: {number} is missing"
+    variants = re.findall(r"^    #\[error\(.*\)\]\n    (\w+)", read("crates/indicatif_text/src/refusal.rt"), re.M)
+    if list(named.values()) != variants:
+        yield "docs/USING.md: the refusals aren't those of Refusal, in its order"
+
+
+# Fenced blocks
+
+
+def pages():
+    """The pages whose blocks are compared, and their texts."""
+    for path in ["README.md", *sorted(pathlib.Path("docs").glob("*.md"))]:
+        yield str(path), read(path)
+    for path in sorted(pathlib.Path("crates").glob("*/*.md")):
+        yield str(path), read(path)
+    for crate in LIBRARIES:
+        path = f"crates/{crate}/src/lib.rt"
+        head = [line[4:] for line in read(path).splitlines() if line.startswith("//!")]
+        yield path, "\n".join(head)
+
+
+def blocks(text):
+    """The fenced blocks of a page: their language, and their lines."""
+    language = None
+    lines = []
+    for line in text.splitlines():
+        if not line.startswith("```"):
+            lines.append(line)
+        elif language is None:
+            language, lines = line[3:].strip(), []
+        else:
+            yield language, lines
+            language = None
+
+
+def contract(path, call):
+    """The head of a call and its clauses, as they stand in a file."""
+    owner, _, name = call.rpartition("::")
+    # the head of a block in one line
+    lines = re.sub(r"^impl\b[^{]*", lambda head: " ".join(head[0].split()) + " ", read(f"crates/{path}"), flags=re.M).splitlines()
+    of = ""
+    for start, line in enumerate(lines):
+        if re.match(r"(impl|(pub )?trait)\b", line):
+            of = line
+        if re.search(rf"\bfn {name}\b", line) and (not owner or re.search(rf"\b{owner}\b", of)):
+            end = next(i for i in range(start, len(lines)) if lines[i].endswith((";", ") {")) or lines[i].strip() == "{")
+            indent = len(line) - len(line.lstrip())
+            found = [it[indent:].rstrip() for it in lines[start : end + 1]]
+            found[-1] = found[-1].rstrip("{").rstrip()
+            return [it for it in found if it]
+    return [f"// {path} has no {call}"]
+
+
+def renewed(text):
+    """A page whose contracts are those of the sources."""
+    return re.sub(
+        r"^```contract (\S+) (\S+)\n(?:.*?\n)??```$",
+        lambda block: "\n".join([f"```contract {block[1]} {block[2]}", *contract(block[1], block[2]), "```"]),
+        text,
+        flags=re.M | re.S,
+    )
+
+
+def bare(lines, is_code):
+    """Lines without indentation, empty ones and, of code, comments."""
+    if is_code:
+        lines = [re.sub(r"(^|\s+)//( .*|/.*|!.*)?$", "", line) for line in lines]
+    return [line.strip() for line in lines if line.strip()]
+
+
+def parts(lines):
+    """The parts of a block between lines that are left out."""
+    part = []
+    for line in lines:
+        if line.strip() == "// ..":
+            yield part
+            part = []
+        else:
+            part.append(line)
+    yield part
+
+
+def place(part, lines, start):
+    """Where the part ends in these lines, from a place on; `None` where it doesn't stand there."""
+    for at in range(start, len(lines) - len(part) + 1):
+        if lines[at : at + len(part)] == part:
+            return at + len(part)
+    return None
+
+
+def stands_in(block, lines, is_code):
+    """Whether the block's parts stand in these lines, one after another."""
+    at = 0
+    for part in parts(block):
+        at = place(bare(part, is_code), lines, at)
+        if at is None:
+            return False
+    return True
+
+
+def sources(patterns, is_code):
+    return [
+        bare(path.read_text(encoding="utf-8").splitlines(), is_code)
+        for pattern in patterns
+        for path in sorted(pathlib.Path("crates").glob(pattern))
+    ]
+
+
+def in_one_line(lines):
+    """Definitions without comments and line ends."""
+    return " ".join(" ".join(line for line in lines if not line.strip().startswith("--")).split())
+
+
+def is_defined(block, specs):
+    return any(in_one_line(block) in in_one_line(source) for source in specs)
+
+
+def faults_of_blocks():
+    code = sources(["*/src/**/*.rt"], True)
+    specs = sources(["*/specs/**/*.antt"], False)
+    shown = sources(["*/stdout", "*rows/data/*.txt"], False)
+    for name, text in pages():
+        if name.endswith(".md") and renewed(text) != text:
+            yield f"{name} quotes another contract than the sources have: run tools/pages.py --write"
+        for language, lines in blocks(text):
+            if language.split(" ")[0] in ("sh", "rust", "contract", "gallery"):
+                continue
+            of = {"antt": specs, "text": shown}.get(language, code)
+            stands = is_defined(lines, of) if of is specs else any(stands_in(lines, source, of is code) for source in of)
+            if not stands:
+                yield f"{name}: this block stands in no source: {(bare(lines, False) or ['(empty)'])[0]}"
+
+
 def main():
     rows = HEAD + "".join(row(*it) + "\n" for it in tables(PAGE.read_text(encoding="utf-8")))
     if "--write" in sys.argv[1:]:
         ROWS.write_text(rows, encoding="utf-8")
+        for name, text in pages():
+            if name.endswith(".md"):
+                pathlib.Path(name).write_text(renewed(text), encoding="utf-8")
         return 0
     faults = []
     if not ROWS.exists() or ROWS.read_text(encoding="utf-8") != rows:
         faults.append(f"{ROWS} has other rows than {PAGE}: run tools/pages.py --write, and play them")
-    texts = [pathlib.Path(it).read_text(encoding="utf-8") for it in ("README.md", "crates/example_readme/src/main.rt")]
+    texts = [read(it) for it in ("README.md", "crates/example_readme/src/main.rt")]
     if len({tuple(program(it, "use anyhow::Result;")) for it in texts}) != 1:
         faults.append("README.md has another program than crates/example_readme")
+    faults += faults_of_proved()
+    faults += faults_of_refusals()
+    faults += faults_of_blocks()
     print("\n".join(faults) or "the pages have what the gate compares")
     return 1 if faults else 0
 

@@ -5,18 +5,16 @@
 //! input or output fails; and 141, without a word, where the reader of standard output went away, which is what shells say of `cat`
 //! there. `bars_run` says more.
 //!
-//! - `arguments`: the words of the command line.
 //! - `demo`: what the demo shows.
 //! - `heard`: a writer that hears whether its reader went away.
 #![tactic(auto)]
 
-mod arguments;
 mod demo;
 mod heard;
 
-use arguments::words;
 use bars_run::fault::Fault;
 use bars_run::run_bars;
+use bars_run::words::words;
 use heard::Heard;
 use indicatif::Refusal;
 use std::io::{BufWriter, ErrorKind, Write};

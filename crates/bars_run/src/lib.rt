@@ -4,6 +4,7 @@
 //! - `commands`: what a line spells.
 //! - `input`: what is read, so that its failures are told apart from want of memory.
 //! - `player`: the board, and what a command does on it.
+//! - `words`: the words of a command line.
 //! - `fault`: why a run ends before all of it is printed.
 #![tactic(auto)]
 
@@ -12,6 +13,7 @@ mod commands;
 pub mod fault;
 mod input;
 mod player;
+pub mod words;
 
 ghost use Rattle.std.specs.Prelude.{◌≡◌, ◌⊎◌, IfErr};
 ghost use Rattle.bars_run.specs.Fault.{status_of};

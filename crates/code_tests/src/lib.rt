@@ -7,7 +7,7 @@
 //!   of memory. `failing_term`: that terminal. `shown`: a bar on a terminal.
 //! - `histories`: boards that keep their history. `sums`: workers that add to one sum.
 //! - `played`: which lines of a file are rows, and which of them agree.
-//! - `styles`, `term`, `text`: keys of a template, what targets hand out, numbers and formatters.
+//! - `styles`, `term`, `text`: keys of a template, what targets hand out, numbers and formatters. `words`: those of a command line.
 #![tactic(auto)]
 
 #[cfg(test)]
@@ -32,5 +32,7 @@ mod term;
 mod text;
 #[cfg(test)]
 mod values;
+#[cfg(test)]
+mod words;
 #[cfg(test)]
 mod writers;

@@ -3,17 +3,17 @@
 #![tactic(auto)]
 
 use anyhow::Result;
+use indicatif::MultiProgress;
 use indicatif::bridge::LogBridge;
 use indicatif::machine::on_stderr;
-use indicatif::{MultiProgress, ProgressBar};
 use log::{Level, Logged, info, warn};
 use std::thread::sleep;
 use std::time::Duration;
 
 fn main(rt: HostRuntime) -> Result<()> {
     let board = MultiProgress::new(rt, rt.alloc(), on_stderr(&rt)?, 1)?;
-    let files = board.add(ProgressBar::new(rt, rt.alloc(), 3, on_stderr(&rt)?)?)?;
-    let work = board.add(ProgressBar::new_spinner(rt, rt.alloc(), on_stderr(&rt)?)?)?;
+    let files = board.new_bar(3)?;
+    let work = board.new_spinner()?;
     work.set_message("copying")?;
     work.enable_steady_tick(50_000_000)?;
     let log = Logged::new(rt, Level::Info, LogBridge::new(board.clone()?));

@@ -3,12 +3,14 @@
 //! - `first`: a first program. `wrapped`: a loop with a bar of its own. `download`: bytes, rate and time left.
 //! - `fine`: a bar of fine characters. `log`: lines above a bar. `refusal`: a call that is refused.
 //! - `formatters`: numbers as texts. `template`: the parts of a template. `terminal`: a bar on standard error.
+//! - `guide`: the programs of the guide at the head of crate `indicatif`.
 #![tactic(auto)]
 
 mod download;
 mod fine;
 mod first;
 mod formatters;
+mod guide;
 mod log;
 mod refusal;
 mod template;
@@ -22,10 +24,13 @@ fn main(rt: HostRuntime) -> Result<()> {
     let Some(name) = env::args(&rt)?.nth(1) else {
         print_name(&rt, "first")?;
         first::main(rt)?;
-        return run_others(&rt);
+        run_others(&rt)?;
+        print_name(&rt, "guide")?;
+        return guide::main(rt);
     };
     match name.as_str() {
         "first" => first::main(rt),
+        "guide" => guide::main(rt),
         name => run(&rt, name),
     }
 }
@@ -35,7 +40,7 @@ fn print_name(rt: &HostRuntime, name: &str) -> Result<()> {
     Ok(())
 }
 
-/// Runs all but the first.
+/// Runs all but the first and the guide's.
 fn run_others(rt: &HostRuntime) -> Result<()> {
     for name in [
         "wrapped",

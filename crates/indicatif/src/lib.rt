@@ -1,21 +1,191 @@
-//! Progress bars, all of them at one place: the names of the libraries below stand here too, and a program names this crate
-//! alone. Beside them, progress of iterators, readers and writers:
+//! Progress bars for the terminal: the Rust crate `indicatif` 0.18.6 in Rattle, with its names and its templates. What stands on the
+//! screen after any list of calls is a theorem: docs/THEOREM.md has it, and docs/PROVED.md says of each call what is proved.
 //!
-//! - `moves`: what a bar has to offer to be moved (`Moves`).
-//! - `owned`: a bar with its clock (`OwnedBar`).
-//! - `wrap`: the wrapper (`ProgressBarIter`).
-//! - `builders`: what is said of its bar before it moves. `progress_iterator`: iterators with a bar of their own (`ProgressIterator`).
-//! - `items`, `bytes`, `seeking`, `streams`, `polled`: what the wrapper does as an iterator, as a reader and writer, where it
-//!   seeks, as a stream, and as a reader and writer that is polled.
-//! - `parallel`: lists that threads work on, block by block, with a bar (`ParallelProgressIterator`).
-//! - `ring`: the greatest of the last places (`MaxRingBuf`).
-//! - `seek`: the place that moves and seeks show (`SeekMax`).
-//! - `style`: how a bar looks, with the names that the crate `indicatif` has there.
-//! - `progress_bar`: a bar that its owners share (`ProgressBar`, `WeakProgressBar`). `counting`: threads that count for one.
-//! - `bridge`: lines of a log above a board's bars (`bridge::LogBridge`).
-//! - `machine`: the machine's clock, and bars on its terminals; all that this library asks of the machine.
-//! - `workers`: pieces of work, each in a thread of its own (`run_workers`, `run_workers_with`, `Gate`).
-//! - `laws`: laws of the definitions.
+//! # What is here
+//!
+//! - Bars that threads share: `ProgressBar` for bars and spinners, `MultiProgress` for several on one terminal. A `WeakProgressBar`
+//!   owns nothing.
+//! - Bars without a lock, of which contracts say more: `LoneBar` and `Board`, over a bar's record `BarState`. `BarCommand`, `LoneCall`
+//!   and `Call` are their calls as values; a `Recorded` board keeps its history.
+//! - Looks: `ProgressStyle` from a template, `style::ProgressTracker` for keys of your own, `ProgressFinish` for a bar's end.
+//! - Wrappers: `ProgressBar::wrap_iter`, `wrap_read`, `wrap_write` and their polled kin move a bar. `ProgressIterator` makes the bar too,
+//!   `ParallelProgressIterator` for slices, and `run_workers` for pieces in threads. A bar of your own has to offer `Moves`.
+//! - Targets: `machine::on_stderr` and `machine::on_stdout`; `ProgressDrawTarget` over a `Term` behind any writer, over an `InMemoryTerm` in tests,
+//!   or over your own `TermLike`.
+//! - Numbers as texts: `HumanBytes`, `DecimalBytes`, `BinaryBytes`, `HumanDuration`, `FormattedDuration`, `HumanCount`, `HumanFloatCount`.
+//! - Logs: `bridge::LogBridge`, a sink of the crate `log` that writes above the bars.
+//! - `laws`: what follows from the definitions, each as a function whose contract is the law.
+//!
+//! # A first bar
+//!
+//! ```
+//! let bar = ProgressBar::new(rt, rt.alloc(), 3, setup)?;
+//! for _ in 0..3u32 {
+//!     bar.inc(1)?;
+//! }
+//! bar.finish()?;
+//! ```
+//!
+//! shows in the end, on 30 columns,
+//!
+//! ```text
+//! ██████████████████████████ 3/3
+//! ```
+//!
+//! `rt` is the runtime that `main` is given, `rt.alloc()` its allocator. The setup is a target and a clock: in a program
+//! `machine::on_stderr(&rt)?`, which is hidden where standard error is no terminal.
+//!
+//! - **When a bar draws.** `new` draws nothing. `inc`, `set_position`, `tick`, `set_length`, `set_message` and `set_prefix` ask a draw; a
+//!   target with a rate makes 20 of these at once, and then one each 50 ms. `finish`, `abandon`, `println`, `suspend` and
+//!   `force_draw` draw whatever the rate says. The builders `with_..` and `set_style` ask no draw.
+//! - **What a call answers.** `Ok(Drawn::Yes)` where it was drawn, `Limited` where no draw was asked or the rate allowed none, `Hidden`
+//!   where the target is. Else a `Refusal`, with a stated state after it (docs/USING.md has them in a table).
+//! - **How a bar ends.** `finish` leaves it at its length, `abandon` where it stands, `finish_and_clear` takes it away. A bar whose last
+//!   owner is gone is finished by its stored finish (`with_finish`), which is `AndClear` at first.
+//! - **Spinners.** `new_spinner` makes a bar without a length. `enable_steady_tick(100_000_000)` ticks it ten times a second: times are
+//!   nanoseconds.
+//!
+//! # Templates
+//!
+//! ```
+//! let style = ProgressStyle::with_template(rt.alloc(), "[{bar:10}] {pos:>3}/{len} {msg}")?;
+//! let bar = ProgressBar::new(rt, rt.alloc(), 200, setup)?
+//!     .with_style(style.progress_chars("=> ")?)?
+//!     .with_message("a.txt")?;
+//! bar.set_position(75)?;
+//! ```
+//!
+//! ```text
+//! [===>      ]  75/200 a.txt
+//! ```
+//!
+//! A key stands in braces. Behind a colon follow the alignment `<`, `^` or `>`, a width, `!` where a longer text is cut, and behind a
+//! dot the style: `{msg:>20!.green}`. docs/TEMPLATES.md has all keys, each with what it shows. Colours are off until
+//! `with_colors(true)`; `machine::style_on_stderr` turns them on where they are wanted.
+//!
+//! # Several bars
+//!
+//! ```
+//! let board = MultiProgress::new(rt, rt.alloc(), setup, 1)?;
+//! let files = board.new_bar(3)?;
+//! let bytes = board.new_bar(6000)?;
+//! files.inc(1)?;
+//! bytes.inc(1500)?;
+//! board.println("a.txt is done")?;
+//! ```
+//!
+//! ```text
+//! a.txt is done
+//! ████████░░░░░░░░░░░░░░░░░░ 1/3
+//! █████░░░░░░░░░░░░░░░ 1500/6000
+//! ```
+//!
+//! Each bar may be moved by a thread of its own: a clone is another owner of the same bar. The last argument of `new` is the board's
+//! mark, by which boards are told apart.
+//!
+//! # Wrappers
+//!
+//! ```
+//! let bar = ProgressBar::new(rt, rt.alloc(), 4, setup)?.with_finish(ProgressFinish::AndLeave)?;
+//! for size in bar.wrap_iter(1..5u64)? {
+//!     sum = sum.wrapping_add(size);
+//! }
+//! ```
+//!
+//! ```text
+//! ██████████████████████████ 4/4
+//! ```
+//!
+//! The items are the inner iterator's. Each moves the bar by 1, and the end finishes it by its stored finish.
+//!
+//! # Traps
+//!
+//! **A message without `{msg}`.** The template of `new` is `{wide_bar} {pos}/{len}`: a message or a prefix is kept, and shows
+//! nowhere. Bad:
+//!
+//! ```
+//! bar.set_message("a.txt")?; // draws, but `{wide_bar} {pos}/{len}` has no `{msg}`
+//! ```
+//!
+//! ```text
+//! ░░░░░░░░░░░░░░░░░░░░░░░░░░ 0/3
+//! ```
+//!
+//! Better:
+//!
+//! ```
+//! bar.set_style(ProgressStyle::with_template(rt.alloc(), "{wide_bar} {msg}")?)?;
+//! bar.set_message("a.txt")?;
+//! ```
+//!
+//! ```text
+//! ░░░░░░░░░░░░░░░░░░░░░░░░ a.txt
+//! ```
+//!
+//! **A draw that wasn't meant.** What is set before the bar is to be seen belongs into builders. Bad, where other work comes first:
+//!
+//! ```
+//! let spinner = ProgressBar::new_spinner(rt, rt.alloc(), setup)?;
+//! spinner.set_message("searching")?; // draws at once, as `set_prefix`, `set_length` and `tick`
+//! ```
+//!
+//! ```text
+//! ⠁ searching
+//! ```
+//!
+//! Better, since nothing is drawn until the bar moves:
+//!
+//! ```
+//! let spinner = ProgressBar::new_spinner(rt, rt.alloc(), setup)?.with_message("searching")?;
+//! ```
+//!
+//! **A bar dropped too early.** At the end of a block the last owner goes, and the stored finish clears the bar. Bad:
+//!
+//! ```
+//! for name in ["a.txt", "b.txt"] {
+//!     let bar = board.new_bar(3)?;
+//!     bar.set_position(3)?;
+//!     board.println(name)?;
+//! } // `bar` was the last owner: its bar is cleared
+//! ```
+//!
+//! ```text
+//! a.txt
+//! b.txt
+//! ```
+//!
+//! Better: finish it, or keep an owner as long as the bar is to be seen.
+//!
+//! ```
+//!     bar.finish()?; // stays, whoever drops it
+//! ```
+//!
+//! ```text
+//! a.txt
+//! b.txt
+//! ██████████████████████████ 3/3
+//! ```
+//!
+//! **Printing beside a bar.** `println!` writes where the last draw left the cursor, and the next draw erases rows that it takes for
+//! its own. Better:
+//!
+//! ```
+//! bar.println("a.txt")?; // above the bar, which goes on below it
+//! ```
+//!
+//! ```text
+//! a.txt
+//! ████████░░░░░░░░░░░░░░░░░░ 1/3
+//! ```
+//!
+//! On a hidden target `println` writes nothing: print the line yourself where `is_hidden` says so. For other output there is `suspend`,
+//! which takes the rows back, calls a closure and draws again.
+//!
+//! **A call inside a closure.** `suspend`, `update` and `with_term` hold the lock while the closure runs: a call of the same bar, or of
+//! its board, in there waits for ever.
+//!
+//! **A bar that was drawn before it joins a board.** What it drew on its own target stays there. Make it by `MultiProgress::new_bar`, or
+//! by `ProgressBar::hidden` and `MultiProgress::add`.
 #![tactic(auto)]
 
 pub mod bridge;

@@ -141,7 +141,8 @@ impl<'a, T> ParallelProgressIterator for &'a [T] {
 
 /// Each of these works on the list in blocks, on as many threads as the machine has processors, and advances the bar behind each
 /// block by its items, from the thread that calls. A block has 4,096 items; of a list that has no more, a tenth, and at least one for
-/// each processor, so that the bar of a few heavy items moves as well. The bar comes back as it is then; it isn't finished. What a draw answered isn't told: an advance whose draw was refused is an advance all the same.
+/// each processor, so that the bar of a few heavy items moves as well. The bar comes back as it is then; it isn't finished. What a
+/// draw answered isn't told: an advance whose draw was refused is an advance all the same.
 impl<'a, T: Sync, P: Moves> ProgressBarIter<&'a [T], P> {
     /// What `f` answers at each item, in the list's order.
     ///

@@ -81,7 +81,7 @@ pub struct ProgressBar<T: TermLike + Drop, C: Clock + Drop, R: Wait + Clone + Dr
 }
 
 impl<T: TermLike + Drop, C: Clock + Drop, R: Wait + Clone + Drop> ProgressBar<T, C, R> {
-    /// A bar of this length, which draws nothing yet.
+    /// A bar of this length in the style `{wide_bar} {pos}/{len}`, which draws nothing yet.
     ///
     /// Refused: `Memory`; nothing is made, and what was handed in is given up.
     pub fn new(rt: R, alloc: Global, len: u64, setup: Setup<T, C>) -> Result<Self, Refusal>
@@ -91,7 +91,7 @@ impl<T: TermLike + Drop, C: Clock + Drop, R: Wait + Clone + Drop> ProgressBar<T,
         ProgressBar::with_draw_target(rt, alloc, Some(len), target, clock)
     }
 
-    /// A bar without a length, which draws nothing yet.
+    /// A bar without a length in the same style, which draws nothing yet: it stays empty, and `{len}` shows the position.
     ///
     /// Refused: `Memory`; nothing is made, and what was handed in is given up.
     pub fn no_length(rt: R, alloc: Global, setup: Setup<T, C>) -> Result<Self, Refusal>
@@ -111,7 +111,7 @@ impl<T: TermLike + Drop, C: Clock + Drop, R: Wait + Clone + Drop> ProgressBar<T,
         ProgressBar::with_draw_target(rt, alloc, None, ProgressDrawTarget::hidden(), clock)
     }
 
-    /// A bar without a length, in the style of a spinner, which draws nothing yet.
+    /// A bar without a length in the style `{spinner} {msg}`, which draws nothing yet.
     ///
     /// Refused: `Memory`; nothing is made, and what was handed in is given up.
     pub fn new_spinner(rt: R, alloc: Global, setup: Setup<T, C>) -> Result<Self, Refusal>
@@ -122,7 +122,7 @@ impl<T: TermLike + Drop, C: Clock + Drop, R: Wait + Clone + Drop> ProgressBar<T,
         ProgressBar::made(rt, alloc, style, None, Setup { target, clock })
     }
 
-    /// A bar of this length or of none, on this target, by this clock. It draws nothing yet.
+    /// A bar of this length or of none on this target, by this clock, in the style `{wide_bar} {pos}/{len}`. It draws nothing yet.
     ///
     /// Refused: `Memory`; nothing is made, and what was handed in is given up.
     pub fn with_draw_target(
@@ -186,14 +186,15 @@ impl<T: TermLike + Drop, C: Clock + Drop, R: Wait + Clone + Drop> ProgressBar<T,
         self.state.lock.lock(&self.rt).place().read(&self.rt, f)
     }
 
-    /// One more tick, up to 2^64 - 1, and a draw.
+    /// One more tick, up to 2^64 - 1, and a draw: a spinner shows its next text. While a steady ticker is on, nothing changes.
     pub fn tick(&self) -> Result<Drawn, Refusal>
         ensures { CanAnswer T.view (Lone.Obey Command.Tick) result }
     {
         self.tell(BarCommand::Tick)
     }
 
-    /// The position goes up by `delta`, modulo 2^64; and a tick, as often as the position's limiter allows.
+    /// The position goes up by `delta`, modulo 2^64; and a tick, as often as the position's limiter allows: 10 times at once, and once
+    /// more each millisecond, so that a loop may call it at each of its steps.
     #[tactic(auto, using(crate::proofs::FrontLemmas::place_answers))]
     pub fn inc(&self, delta: u64) -> Result<Drawn, Refusal>
         ensures { CanAnswer T.view (Lone.Obey (Command.Inc delta)) result }
@@ -208,21 +209,21 @@ impl<T: TermLike + Drop, C: Clock + Drop, R: Wait + Clone + Drop> ProgressBar<T,
         self.tell(BarCommand::Dec(delta))
     }
 
-    /// Another position; else as `inc`.
+    /// Another position; else as `inc`. A lower one begins the rate anew.
     pub fn set_position(&self, position: u64) -> Result<Drawn, Refusal>
         ensures { CanAnswer T.view (Lone.Obey (Command.SetPosition position)) result }
     {
         self.tell(BarCommand::SetPosition(position))
     }
 
-    /// Another length, and a draw.
+    /// Another length, and a draw: `{bar}`, `{percent}` and `{eta}` follow it.
     pub fn set_length(&self, len: u64) -> Result<Drawn, Refusal>
         ensures { CanAnswer T.view (Lone.Obey (Command.SetLength len)) result }
     {
         self.tell(BarCommand::SetLength(len))
     }
 
-    /// No length, and a draw.
+    /// No length, and a draw: the bar is empty, `{len}` shows the position, and `{eta}` is 0.
     pub fn unset_length(&self) -> Result<Drawn, Refusal>
         ensures { CanAnswer T.view (Lone.Obey Command.UnsetLength) result }
     {
@@ -243,21 +244,21 @@ impl<T: TermLike + Drop, C: Clock + Drop, R: Wait + Clone + Drop> ProgressBar<T,
         self.tell(BarCommand::DecLength(delta))
     }
 
-    /// Another message, and a draw.
+    /// Another message, and a draw. It shows only where the template has `{msg}` or `{wide_msg}`: that of `new` hasn't.
     pub fn set_message(&self, text: &str) -> Result<Drawn, Refusal>
         ensures { CanAnswer T.view (Lone.Obey (Command.SetMessage text.now)) result }
     {
         self.tell_text(Worded::Message, text)
     }
 
-    /// Another prefix, and a draw.
+    /// Another prefix, and a draw. It shows only where the template has `{prefix}`.
     pub fn set_prefix(&self, text: &str) -> Result<Drawn, Refusal>
         ensures { CanAnswer T.view (Lone.Obey (Command.SetPrefix text.now)) result }
     {
         self.tell_text(Worded::Prefix, text)
     }
 
-    /// Another style, with the bar's width of tabs. No draw is asked.
+    /// Another style, with the bar's width of tabs. No draw is asked: the next one is in this style.
     ///
     /// Refused: `Memory`; the style is given up.
     pub fn set_style(&self, style: ProgressStyle<NoTracker>) -> Result<Drawn, Refusal>
@@ -273,7 +274,7 @@ impl<T: TermLike + Drop, C: Clock + Drop, R: Wait + Clone + Drop> ProgressBar<T,
         self.tell(BarCommand::SetTabWidth(tab))
     }
 
-    /// So many nanoseconds have passed since the start. No draw is asked.
+    /// So many nanoseconds have passed since the start, as `{elapsed}` shows: for work that began before the bar. No draw is asked.
     ///
     /// Refused: `ElapsedBeyondClock`, where they are more than the moment.
     pub fn set_elapsed(&self, nanos: u64) -> Result<Drawn, Refusal>
@@ -282,7 +283,7 @@ impl<T: TermLike + Drop, C: Clock + Drop, R: Wait + Clone + Drop> ProgressBar<T,
         self.tell(BarCommand::SetElapsed(nanos))
     }
 
-    /// The rate is counted from now on. No draw is asked.
+    /// The rate, and the time that is left by it, are counted from now on, as after a pause. No draw is asked.
     pub fn reset_eta(&self) -> Result<Drawn, Refusal>
         ensures { CanAnswer T.view (Lone.Obey Command.ResetEta) result }
     {
@@ -303,28 +304,28 @@ impl<T: TermLike + Drop, C: Clock + Drop, R: Wait + Clone + Drop> ProgressBar<T,
         self.tell(BarCommand::Reset)
     }
 
-    /// The bar is finished at its length, where it has one, and stays. A draw by force.
+    /// The bar is finished at its length, where it has one, and stays on the screen. A draw by force.
     pub fn finish(&self) -> Result<Drawn, Refusal>
         ensures { CanAnswer T.view (Lone.Obey (Command.FinishBy Finish.AndLeave)) result }
     {
         self.tell(BarCommand::Finish(ProgressFinish::AndLeave))
     }
 
-    /// As `finish`, with this message.
+    /// As `finish`, with this message, which shows only where the template has `{msg}` or `{wide_msg}`.
     pub fn finish_with_message(&self, text: &str) -> Result<Drawn, Refusal>
         ensures { CanAnswer T.view (Lone.Obey (Command.FinishBy (Finish.WithMessage text.now))) result }
     {
         self.tell_text(Worded::Finish, text)
     }
 
-    /// The bar is finished at its length, where it has one, and has no lines any more. A draw by force.
+    /// The bar is finished at its length, where it has one, and goes from the screen: it has no lines any more. A draw by force.
     pub fn finish_and_clear(&self) -> Result<Drawn, Refusal>
         ensures { CanAnswer T.view (Lone.Obey (Command.FinishBy Finish.AndClear)) result }
     {
         self.tell(BarCommand::Finish(ProgressFinish::AndClear))
     }
 
-    /// The bar is finished where it stands, and stays. A draw by force.
+    /// The bar is finished where it stands, as where work is given up, and stays on the screen. A draw by force.
     pub fn abandon(&self) -> Result<Drawn, Refusal>
         ensures { CanAnswer T.view (Lone.Obey (Command.FinishBy Finish.Abandon)) result }
     {
@@ -338,7 +339,7 @@ impl<T: TermLike + Drop, C: Clock + Drop, R: Wait + Clone + Drop> ProgressBar<T,
         self.tell_text(Worded::Abandon, text)
     }
 
-    /// The bar is finished by its stored finish. A draw by force.
+    /// The bar is finished by its stored finish: that of `with_finish`, at first `AndClear`. A draw by force.
     pub fn finish_using_style(&self) -> Result<Drawn, Refusal>
         ensures { CanAnswer T.view (Lone.Obey Command.FinishUsingStyle) result }
     {
@@ -362,7 +363,8 @@ impl<T: TermLike + Drop, C: Clock + Drop, R: Wait + Clone + Drop> ProgressBar<T,
         self.state.lock.lock(&self.rt).update(&self.rt, f)
     }
 
-    /// Writes the text's lines above the bar, by force. On a hidden target the text is dropped.
+    /// Writes the text's lines above the bar, by force; the bar goes on below them. On a hidden target the text is dropped: print it
+    /// yourself where `is_hidden` says so.
     pub fn println(&self, text: &str) -> Result<Drawn, Refusal>
         ensures { CanAnswer T.view (Lone.Log text.now) result }
     {
@@ -562,7 +564,7 @@ impl<T: TermLike + Drop, C: Clock + Drop, R: Wait + Clone + Drop> ProgressBar<T,
 
 /// What is said of a bar before it moves: each gives it back.
 impl<T: TermLike + Drop, C: Clock + Drop, R: Wait + Clone + Drop> ProgressBar<T, C, R> {
-    /// In another style.
+    /// In another style, with which it is drawn next. No draw is asked.
     ///
     /// Refused: `Memory`; this owner is given up.
     pub fn with_style(self, style: ProgressStyle<NoTracker>) -> Result<Self, Refusal>
@@ -586,7 +588,7 @@ impl<T: TermLike + Drop, C: Clock + Drop, R: Wait + Clone + Drop> ProgressBar<T,
         }
     }
 
-    /// With this prefix.
+    /// With this prefix, which shows only where the template has `{prefix}`. No draw is asked.
     ///
     /// Refused: `Memory`; this owner is given up.
     pub fn with_prefix(self, text: &str) -> Result<Self, Refusal>
@@ -598,7 +600,7 @@ impl<T: TermLike + Drop, C: Clock + Drop, R: Wait + Clone + Drop> ProgressBar<T,
         }
     }
 
-    /// With this message.
+    /// With this message, which shows only where the template has `{msg}` or `{wide_msg}`. No draw is asked.
     ///
     /// Refused: `Memory`; this owner is given up.
     pub fn with_message(self, text: &str) -> Result<Self, Refusal>
@@ -610,7 +612,7 @@ impl<T: TermLike + Drop, C: Clock + Drop, R: Wait + Clone + Drop> ProgressBar<T,
         }
     }
 
-    /// At this position, which the rate doesn't count.
+    /// At this position, which the rate doesn't count: where work goes on that was begun before. No draw is asked.
     ///
     /// Refused: on a board alone, as each command there; this owner is given up.
     pub fn with_position(self, position: u64) -> Result<Self, Refusal>
@@ -634,7 +636,8 @@ impl<T: TermLike + Drop, C: Clock + Drop, R: Wait + Clone + Drop> ProgressBar<T,
         }
     }
 
-    /// With this stored finish.
+    /// With this stored finish, by which the bar ends once its last owner is gone, a wrapped loop is over, or `finish_using_style` is
+    /// called. At first it is `AndClear`.
     ///
     /// Refused: on a board alone, as each command there; this owner is given up.
     pub fn with_finish(self, finish: ProgressFinish) -> Result<Self, Refusal>

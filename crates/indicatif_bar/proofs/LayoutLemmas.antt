@@ -2,6 +2,7 @@
 use Rattle.std.proofs.Common.{◌≡◌, ℕ, zero, suc, ◌-◌, ◌*◌, ◌/◌, ◌%◌, Bool, ◌++◌, ◌+◌, drop, List, [], ◌∷◌, append-nil, append_assoc, refl, sym, ◌∙◌, ap, true, false, if◌then◌else◌, length, length-append, take, arith, map, subst, ◌≤◌}
 use Rattle.std.specs.List.{concat, slice_range}
 use Rattle.std.specs.Str.{IsUtf8}
+use Rattle.std.specs.Str.{IsCharBoundary}
 use Rattle.std.specs.String.Boundary.{IsSplitPoint}
 use Rattle.std.proofs.Math.Nat.{suc-mul}
 use Rattle.std.proofs.lemmas.List.{drop_at, take_at}
@@ -86,6 +87,21 @@ module _ (old text out : List ℕ) (done more start : ℕ) (few : more ≤ done)
 
   pub ends_in : IsUtf8 text → IsSplitPoint out (start + more * length text)
   ends_in u = subst (λ o. IsSplitPoint o (start + more * length text)) (sym is) (subst (λ s. IsSplitPoint (old ++ times done text) (s + more * length text)) (sym at) (ends old text done more few u))
+
+-- of a ready run the first `more` texts
+module _ (text run : List ℕ) (done more : ℕ) (few : more ≤ done) (is : run ≡ times done text) where
+  from_start : 0 + more * length text ≡ more * length text
+  from_start = omega arith
+
+  pub front_is : slice_range run 0 (more * length text) ≡ times more text
+  front_is = ap (slice_range run 0) (sym from_start) ∙ again_in [] text run done more 0 few is refl
+
+  pub front_ends : IsUtf8 text → IsCharBoundary run (more * length text)
+  front_ends u =
+      let all : done ≡ more + (done - more) = omega (arith, few) in
+      let parted = is ∙ ap (λ k. times k text) all ∙ times_sum more (done - more) text in
+      let seam = IsCharBoundary-at_seam run (times more text) (times (done - more) text) parted (times_utf8 (done - more) text u) in
+      subst (IsCharBoundary run) (times_length more text) seam
 
 pub times_space : (n : ℕ) → times n (0x20 ∷ []) ≡ spaces n
 times_space zero = refl

@@ -77,7 +77,8 @@ IsPlainWriting NoFrame = Unit {0}
 
 pub written_plain : (writing : Writing) (gone : ℕ) (frame : List BarLines) → IsPlainWriting writing → ArePlainFrames frame → IsTrue (are_plain (lines_to_write writing gone frame))
 written_plain Frame gone frame text all = frame_plain frame all
-written_plain (TextAndFrame lines) gone frame text all = plain_append lines (all_lines (drop gone frame)) text (frame_plain (drop gone frame) (dropped_all (λ s. IsTrue (are_plain s.lines)) gone frame all))
+written_plain (TextAndFrame lines) gone frame text all =
+    plain_append lines (all_lines (drop gone frame)) text (frame_plain (drop gone frame) (dropped_all (λ s. IsTrue (are_plain s.lines)) gone frame all))
 written_plain NoFrame gone frame text all = refl
 
 -- ---- bars of a kind
@@ -234,7 +235,8 @@ module _ {K : Type 0} (m : Tracking K) (trackers : ArePlainTrackers m) where
   call_asked (Log text) c = plain_lines_are_asked (logged_lines text) c
   call_asked Clear c = tt
 
-  calls_asked : (calls : List (LoneCall (Command K) × ℕ)) → AllByRecursion (λ call. IsPlainLoneCall call.0) calls → AllByRecursion (λ call. IsCall (bar_kind m) IsPlainBar IsPlainCommand bars_keep_plain call.0) calls
+  calls_asked : (calls : List (LoneCall (Command K) × ℕ)) → AllByRecursion (λ call. IsPlainLoneCall call.0) calls →
+      AllByRecursion (λ call. IsCall (bar_kind m) IsPlainBar IsPlainCommand bars_keep_plain call.0) calls
   calls_asked [] all = tt
   calls_asked (call ∷ calls) all = (call_asked call.0 all.0, calls_asked calls all.1)
 

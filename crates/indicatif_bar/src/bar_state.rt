@@ -259,7 +259,7 @@ impl<K: ProgressTracker> BarState<K> {
         self.put_length(Some(len), now)
     }
 
-    /// No length; else as `set_length`.
+    /// No length: the bar is empty, and `{len}` shows the position; else as `set_length`.
     pub fn unset_length(&mut self, now: Moment) -> Ask
         ensures { (self.new, result) ≡ obeyed K.means UnsetLength self.old now }
     {
@@ -290,7 +290,7 @@ impl<K: ProgressTracker> BarState<K> {
         self.update_draw(now)
     }
 
-    /// Another message; else as `set_length`.
+    /// Another message, which shows only where the template has `{msg}` or `{wide_msg}`; else as `set_length`.
     ///
     /// Refused: `Memory`, only where the text isn't empty; nothing has changed then.
     pub fn set_message(&mut self, text: &str, now: Moment) -> Result<Ask, Refusal>
@@ -303,7 +303,7 @@ impl<K: ProgressTracker> BarState<K> {
         Ok(self.update_draw(now))
     }
 
-    /// Another prefix; else as `set_length`.
+    /// Another prefix, which shows only where the template has `{prefix}`; else as `set_length`.
     ///
     /// Refused: `Memory`, only where the text isn't empty; nothing has changed then.
     pub fn set_prefix(&mut self, text: &str, now: Moment) -> Result<Ask, Refusal>
@@ -349,7 +349,7 @@ impl<K: ProgressTracker> BarState<K> {
         Ask::No
     }
 
-    /// Another message. No draw is asked.
+    /// Another message, which shows only where the template has `{msg}` or `{wide_msg}`. No draw is asked.
     ///
     /// Refused: `Memory`, only where the text isn't empty; nothing has changed then.
     pub fn with_message(&mut self, text: &str, now: Moment) -> Result<Ask, Refusal>
@@ -362,7 +362,7 @@ impl<K: ProgressTracker> BarState<K> {
         Ok(Ask::No)
     }
 
-    /// Another prefix. No draw is asked.
+    /// Another prefix, which shows only where the template has `{prefix}`. No draw is asked.
     ///
     /// Refused: `Memory`, only where the text isn't empty; nothing has changed then.
     pub fn with_prefix(&mut self, text: &str, now: Moment) -> Result<Ask, Refusal>
@@ -466,7 +466,7 @@ impl<K: ProgressTracker> BarState<K> {
         self.asked()
     }
 
-    /// The bar is finished at its length, where it has one, and stays. A draw is forced.
+    /// The bar is finished at its length, where it has one, and stays on the screen. A draw is forced.
     pub fn finish(&mut self, now: Moment) -> Ask
         ensures { (self.new, result) ≡ obeyed K.means (FinishBy AndLeave) self.old now }
     {
@@ -487,7 +487,7 @@ impl<K: ProgressTracker> BarState<K> {
         Ok(self.finish(now))
     }
 
-    /// The bar is finished at its length, where it has one, and has no lines from then on. A draw is forced.
+    /// The bar is finished at its length, where it has one, and goes from the screen: it has no lines from then on. A draw is forced.
     pub fn finish_and_clear(&mut self, now: Moment) -> Ask
         ensures { (self.new, result) ≡ obeyed K.means (FinishBy AndClear) self.old now }
     {
@@ -495,7 +495,7 @@ impl<K: ProgressTracker> BarState<K> {
         Ask::Forced
     }
 
-    /// The bar is finished where it stands, and stays. A draw is forced.
+    /// The bar is finished where it stands, as where work is given up, and stays on the screen. A draw is forced.
     pub fn abandon(&mut self, now: Moment) -> Ask
         ensures { (self.new, result) ≡ obeyed K.means (FinishBy Abandon) self.old now }
     {

@@ -149,7 +149,8 @@ module _ {B C : Type 0} (kind : BoardKind B C) (mark : ℕ) (IsBar : B → Type 
   deed_goes target (Log text) now s c all = only_draws target false Forced now (TextAndFrame (text_lines (logged_lines text))) s s false c all all
   deed_goes target (BarLog id text) now s c all =
       unless_refused s (turned_away mark id s) _ all
-      (only_draws target false Forced now (TextAndFrame (text_lines (logged_lines text))) s (laid_out kind target now id.number s) (layout_takes kind id.number s) c all (laid_plain target now id.number s all))
+      (only_draws target false Forced now (TextAndFrame (text_lines (logged_lines text))) s (laid_out kind target now id.number s) (layout_takes kind id.number s) c all
+      (laid_plain target now id.number s all))
   deed_goes target Clear now s c all = only_draws target false Forced now NoFrame s s false tt all all
   deed_goes target Redraw now s c all = only_draws target false Forced now Frame s s false tt all all
   deed_goes target (Align bottom) now s c all = (all, refl)

@@ -1,17 +1,13 @@
-//! Bars that share something: a terminal, or a sum that many threads add to.
+//! Several bars on one terminal in an order, with text above them; and a sum that many threads add to.
 //!
-//! - `multi`: a board, several bars on one target in an order.
-//! - `bar_id`: bars by their board's mark and their number; `multi` has its public name (private).
-//! - `calls`: a board's calls and answers as values; `multi` has their public names (private). `call_copies`: their copies (private).
-//! - `recorded`: a board with its history; `multi` has its public names (private).
-//! - `members`: a board's bars in their order (private).
-//! - `slots`: a board's bars by their numbers, and a slot for each; `multi` has its public name (private).
-//! - `shown_bars`: those bars with the lines that they show, and how they are written (private).
-//! - `done`: a sum, its workers, and their shares of it.
-//! - `bridge`: lines of a log above the bars of a board.
-//! - `cases`: worked cases of the definitions.
-//! - `laws`: laws of the definitions.
-//! - `sums`: the rule of the word that the workers share, and what each step on it tells (private).
+//! - A board: `multi::Board`. `multi::BarId` names its bars, `multi::Candidate` is a bar that is to be taken in, `multi::InsertLocation` says
+//!   where; `multi::Call` is a call as a value and `multi::Answer` what is answered. `Board::run` makes a list of calls, of which the
+//!   headline theorem speaks.
+//! - A board with its history: `multi::Recorded`, whose entries a fresh board can make again.
+//! - The order alone: `multi::MultiState`.
+//! - Logs: `bridge::emit` writes a line with its level above the bars, `bridge::bridge_line` makes that line.
+//! - Sums without a lock: `done::Done` and `done::BarWorker`.
+//! - `laws`: what follows from the definitions, each as a function whose contract is the law. `cases`: worked cases.
 #![tactic(auto)]
 
 mod bar_id;

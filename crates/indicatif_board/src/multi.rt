@@ -348,7 +348,7 @@ impl<K: ProgressTracker, T: TermLike + Drop> Board<K, T> {
         self.draw(ask, Some(at), BoardWriting::Frame, now)
     }
 
-    /// Writes the text's lines above the bars, by force. A line is ended by `\n` or `\r\n`; an empty text is one empty line;
+    /// Writes the text's lines above the bars, by force; the bars go on below them. A line is ended by `\n` or `\r\n`; an empty text is one empty line;
     /// tabs stay as they are. On a hidden target the text is dropped.
     ///
     /// Refused: `NoColumns`, `TooWide`, `Terminal` or `Memory`, as `Board` says; nothing of the text is kept.
@@ -392,7 +392,7 @@ impl<K: ProgressTracker, T: TermLike + Drop> Board<K, T> {
         self.draw(Ask::Forced, None, BoardWriting::NoFrame, now)
     }
 
-    /// Draws the bars as they were laid out, by force.
+    /// Draws the bars as they were laid out, by force: what was set since without a draw, as a style, isn't shown by this.
     ///
     /// Refused: `NoColumns`, `TooWide`, `Terminal` or `Memory`, as `Board` says.
     pub fn redraw(&mut self, now: Moment) -> Result<Drawn, Refusal>

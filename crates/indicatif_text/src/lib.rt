@@ -1,16 +1,14 @@
-//! Text as a terminal sees it, and text as a bar shows it.
+//! Text as a terminal sees it, and numbers as people read them. It draws nothing and asks the machine for nothing: usable by itself.
 //!
-//! - `columns`: colour sequences, columns and rows of a line; and the names of the private modules.
-//! - `format`: numbers as texts for people: durations, bytes and counts.
-//! - `template`: the grammar of templates, and what a template is made of.
-//! - `laws`: what follows from the definitions. `cases`: the definitions' worked cases.
-//! - `moment` (private): moments in nanoseconds, and clocks that are handed in.
-//! - `refusal` (private): why a call was refused, and what became of a draw.
-//! - `pieces` (private): a text as colour sequences and what stands between them.
-//! - `range` (private): what of a text stands in given columns.
-//! - `style_words` (private): colours and attributes by their words, and what they write.
-//! - `appending` (private): what is put behind a text that has room for it.
-//! - `spans` (private): a text cut at the first character that doesn't belong in front.
+//! - How wide is a text? `columns::columns` and `columns::width` count columns by Unicode's East Asian Width; `columns::wrapped` says how
+//!   many rows a line takes, `columns::pieces` parts a text at its colour sequences, `columns::write_ansi_range` cuts one by columns.
+//! - Numbers: `format::HumanBytes`, `DecimalBytes`, `BinaryBytes`, `HumanDuration`, `FormattedDuration`, `HumanCount` and
+//!   `HumanFloatCount` are printed by `{}`.
+//! - Colours: `columns::Style` reads `red.on_blue.bold` and writes the sequences.
+//! - Templates: `template::Template::parse` reads `{bar:20.green} {msg}` into its parts.
+//! - What the crates above share: `columns::Refusal` (why a call was refused) and `columns::Drawn` (what became of a draw);
+//!   `columns::Moment`, `columns::Clock` and `columns::StepClock` (time, which is handed in).
+//! - `laws`: what follows from the definitions, each as a function whose contract is the law. `cases`: worked cases.
 #![tactic(auto)]
 
 mod appending;

@@ -40,7 +40,7 @@ pub struct MultiProgress<T: TermLike + Drop, C: Clock + Drop, R: Wait + Clone + 
 }
 
 impl<T: TermLike + Drop, C: Clock + Drop, R: Wait + Clone + Drop> MultiProgress<T, C, R> {
-    /// A board without bars, of this mark. It writes nothing yet.
+    /// A board without bars, of this mark. It writes nothing yet. Its bars come by `new_bar`, `new_spinner` and `add`.
     ///
     /// Refused: `Memory`; nothing is made, and what was handed in is given up.
     pub fn new(rt: R, alloc: Global, setup: Setup<T, C>, mark: u64) -> Result<Self, Refusal>
@@ -189,7 +189,8 @@ impl<T: TermLike + Drop, C: Clock + Drop, R: Wait + Clone + Drop> MultiProgress<
         bar.take_out(&self.board)
     }
 
-    /// Writes the text's lines above the bars, by force. On a hidden target the text is dropped.
+    /// Writes the text's lines above the bars, by force; the bars go on below them. On a hidden target the text is dropped: print it
+    /// yourself where `is_hidden` says so.
     pub fn println(&self, text: &str) -> Result<Drawn, Refusal>
         ensures { SharedDraws T.view (Log text.now) result }
     {
@@ -259,7 +260,8 @@ impl<T: TermLike + Drop, C: Clock + Drop, R: Wait + Clone + Drop> MultiProgress<
 
 /// Bars that are made for the board, each by a copy of the board's clock.
 impl<T: TermLike + Drop, C: Clock + Clone + Drop, R: Wait + Clone + Drop> MultiProgress<T, C, R> {
-    /// A bar of this length behind all others, in the style `{wide_bar} {pos}/{len}`, which draws nothing yet.
+    /// A bar of this length behind all others, in the style `{wide_bar} {pos}/{len}`, which draws nothing yet. Keep the owner as long as
+    /// the bar is to be seen: the last one that goes clears a bar that wasn't finished.
     ///
     /// ```
     /// let bar = board.new_bar(100)?;

@@ -97,7 +97,7 @@ impl<K: ProgressTracker> ProgressStyle<K> {
         })
     }
 
-    /// Another template, and the rest as it is.
+    /// Another template for the same characters, texts and trackers.
     ///
     /// Refused: `Template` and `WidthTooLarge` as `Template::parse` says; `Memory`. The style is given up then.
     pub fn template(mut self, text: &str) -> Result<ProgressStyle<K>, Refusal>
@@ -169,8 +169,8 @@ impl<K: ProgressTracker> ProgressStyle<K> {
         Ok(self)
     }
 
-    /// A tracker under a key of its own. It comes before an earlier one of that name, and before a key of that name that
-    /// needs no tracker.
+    /// A tracker under a key of its own: `{name}` in the template shows its text. It comes before an earlier one of that name, and before a
+    /// key of that name that needs no tracker.
     ///
     /// Refused: `Memory`. The style and the tracker are given up then.
     pub fn with_key(mut self, name: &str, tracker: K) -> Result<ProgressStyle<K>, Refusal>
@@ -188,7 +188,8 @@ impl<K: ProgressTracker> ProgressStyle<K> {
         Ok(self)
     }
 
-    /// Whether colours are written. They are off at first. Never refused.
+    /// Whether the colours that the template names are written. They are off at first: `machine::wants_colors` of crate `indicatif` says
+    /// whether a stream wants them. Never refused.
     pub fn with_colors(mut self, colours: bool) -> Result<ProgressStyle<K>, Refusal>
         ensures { result ≡ Ok (record self { colours = colours }) }
     {

@@ -1,5 +1,5 @@
 //! A text at a width.
-ghost use Rattle.std.specs.Prelude.{◌≡◌, ◌≤◌, ◌++◌, ◌-◌, List, ℕ, string_bytes, OnOk, IfErr};
+ghost use Rattle.std.specs.Prelude.{◌≡◌, ◌≤◌, ◌++◌, ◌-◌, List, ℕ, string_bytes, OnOk, IfErr, IfSome};
 ghost use Rattle.indicatif_bar.specs.Layout.{padded, spaces, times, truncated, surrounded};
 
 use indicatif_text::columns::{Refusal, columns, write_ansi_range};
@@ -85,8 +85,49 @@ fn blanks_before(align: Alignment, blanks: usize) -> usize
     }
 }
 
-/// Appends `text` so many times: what was appended is appended again, as far as it goes.
+/// Appends `text` so many times.
 pub(crate) fn push_times(text: &str, count: usize, out: &mut String) -> Result<(), Refusal>
+    ensures text { OnOk result (string_bytes out.new ≡ string_bytes out.old ++ times count text.now) }
+    ensures memory { IfErr result (λ e. e ≡ Refusal.Memory) }
+{
+    match ready_run(text) {
+        Some(run) => push_ready(text, run, count, out),
+        None => push_repeated(text, count, out),
+    }
+}
+
+/// How many times a ready run has its text.
+const READY: usize = 64;
+
+/// A text `READY` times, of the texts that most bars repeat: a blank, and the cells of a bar whose characters nobody chose.
+fn ready_run(text: &str) -> Option<&'static str>
+    ensures run { IfSome result (λ run. run.now ≡ times 64 text.now) }
+{
+    match text {
+        " " => Some("                                                                "),
+        "█" => Some("████████████████████████████████████████████████████████████████"),
+        "░" => Some("░░░░░░░░░░░░░░░░░░░░░░░░░░░░░░░░░░░░░░░░░░░░░░░░░░░░░░░░░░░░░░░░"),
+        _ => None,
+    }
+}
+
+/// Appends `text` so many times, by its ready run.
+fn push_ready(text: &str, run: &str, count: usize, out: &mut String) -> Result<(), Refusal>
+    requires run { run.now ≡ times 64 text.now }
+    ensures text { OnOk result (string_bytes out.new ≡ string_bytes out.old ++ times count text.now) }
+    ensures memory { IfErr result (λ e. e ≡ Refusal.Memory) }
+{
+    let mut left = count;
+    'runs: while READY < left {
+        out.push_str(run)?;
+        left -= READY;
+    }
+    out.push_str(&run[..left * text.len()])?;
+    Ok(())
+}
+
+/// Appends `text` so many times: what was appended is appended again, as far as it goes.
+fn push_repeated(text: &str, count: usize, out: &mut String) -> Result<(), Refusal>
     ensures text { OnOk result (string_bytes out.new ≡ string_bytes out.old ++ times count text.now) }
     ensures memory { IfErr result (λ e. e ≡ Refusal.Memory) }
 {

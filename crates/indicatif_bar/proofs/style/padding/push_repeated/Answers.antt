@@ -1,7 +1,7 @@
 use Rattle.std.proofs.Common.{◌≡◌, ◌≤◌, ◌<◌, ◌^◌, ◌++◌, ◌∙◌, sym, ap, arith, rules, length, string_bytes, string_len, append-nil, append_assoc}
 use Rattle.indicatif_bar.specs.Layout.{times}
 use Rattle.indicatif_bar.proofs.LayoutLemmas.{times_sum, again_in, fits_in, begins_in, ends_in}
-use Rattle.indicatif_bar.proofs.style.padding.push_times.Goals as goal
+use Rattle.indicatif_bar.proofs.style.padding.push_repeated.Goals as goal
 
 few : (c : goal.After-min-more) → c.min-more.result ≤ c.times.done
 few c = omega (arith, c.min-more.ensures)

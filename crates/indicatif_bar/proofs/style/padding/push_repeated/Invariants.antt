@@ -1,6 +1,6 @@
 use Rattle.std.proofs.Common.{◌≡◌, ◌≤◌, ◌<◌, ◌-◌, ◌++◌, string_bytes}
 use Rattle.indicatif_bar.specs.Layout.{times}
-use Rattle.indicatif_bar.proofs.style.padding.push_times.Given as goal
+use Rattle.indicatif_bar.proofs.style.padding.push_repeated.Given as goal
 
 abbrev pub invariant-times : goal.invariant-times
 invariant-times l = record {

@@ -1,0 +1,57 @@
+//! What the words of a command line are, by what started the program.
+use bars_run::words::words;
+use std::env::{Env, FillError};
+use std::process::Abort;
+use std::test::Fail;
+
+/// A program that was started by these words.
+#[derive(Drop)]
+struct Started(&'static [&'static [u8]]);
+
+impl Env for Started {
+    fn arg(&self, i: usize, buf: &mut [u8]) -> Result<usize, FillError> {
+        let Some(word) = self.0.get(i) else {
+            return Err(FillError::NotPresent);
+        };
+        match buf.get_mut(..word.len()) {
+            Some(front) => {
+                front.copy_from_slice(word);
+                Ok(word.len())
+            }
+            None => Err(FillError::TooLong),
+        }
+    }
+
+    fn var(&self, _name: &str, _buf: &mut [u8]) -> Result<usize, FillError> {
+        Err(FillError::NotPresent)
+    }
+
+    fn var_at(&self, _i: usize, _buf: &mut [u8]) -> Result<usize, FillError> {
+        Err(FillError::NotPresent)
+    }
+}
+
+/// The words are these.
+fn are_words(rt: &impl Abort, words: &[String], wanted: &[&str]) {
+    assert_eq!(rt; words.len(), wanted.len());
+    for (word, wanted) in words.iter().zip(wanted) {
+        assert_eq!(rt; word.as_str(), *wanted);
+    }
+}
+
+#[test]
+fn words_behind_the_name(rt: HostRuntime) -> Result<(), Fail> {
+    let table: [(&'static [&'static [u8]], &[&str]); 6] = [
+        (&[b"bars", b"demo"], &["demo"]),
+        (&[], &[]),
+        (&[b"bars"], &[]),
+        (&[b"bars", b"run", b"2", b"10"], &["run", "2", "10"]),
+        (&[b"bars", b"\xff"], &[]),
+        (&[b"bars", b"demo", b"\xff"], &[]),
+    ];
+    for (started, wanted) in table {
+        let words = words(&(Started(started), rt.alloc()))?;
+        are_words(&rt, &words, wanted);
+    }
+    Ok(())
+}

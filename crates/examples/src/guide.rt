@@ -1,0 +1,153 @@
+//! Shows the programs of the guide at the head of crate `indicatif`: a first bar, templates, a board, a wrapper, and what goes wrong
+//! beside what goes right. Each prints what stands on a terminal in memory in the end.
+use anyhow::{Result, anyhow};
+use indicatif::{
+    InMemoryTerm, MultiProgress, ProgressBar, ProgressDrawTarget, ProgressFinish, ProgressStyle,
+    Setup, StepClock,
+};
+use std::alloc::Global;
+use std::sync::Wait;
+
+type Bar<R> = ProgressBar<InMemoryTerm, StepClock, R>;
+
+type Several<R> = MultiProgress<InMemoryTerm, StepClock, R>;
+
+/// A terminal in memory of 5 rows and 30 columns, and a clock.
+fn setup(alloc: Global) -> Result<Setup<InMemoryTerm, StepClock>> {
+    let target = ProgressDrawTarget::term_like(InMemoryTerm::new(alloc, 5, 30)?);
+    let clock = StepClock { next: 0, step: 1 };
+    Ok(Setup { target, clock })
+}
+
+/// Prints what stands on a bar's terminal.
+fn show<R: Print + Wait + Copy + Drop>(rt: R, name: &str, bar: &Bar<R>) -> Result<()> {
+    let shown = bar.with_term(|term| term.map(|term| term.contents()));
+    println!(rt; "-- {name}\n{}", shown.ok_or(anyhow!("no terminal"))??)?;
+    Ok(())
+}
+
+/// Prints what stands on a board's terminal.
+fn show_all<R: Print + Wait + Copy + Drop>(rt: R, name: &str, board: &Several<R>) -> Result<()> {
+    let shown = board.with_term(|term| term.map(|term| term.contents()));
+    println!(rt; "-- {name}\n{}", shown.ok_or(anyhow!("no terminal"))??)?;
+    Ok(())
+}
+
+fn first_bar<R: AllocGlobal + Print + Wait + Copy + Drop>(rt: R) -> Result<()> {
+    let setup = setup(rt.alloc())?;
+    let bar = ProgressBar::new(rt, rt.alloc(), 3, setup)?;
+    for _ in 0..3u32 {
+        bar.inc(1)?;
+    }
+    bar.finish()?;
+    show(rt, "a first bar", &bar)
+}
+
+fn template<R: AllocGlobal + Print + Wait + Copy + Drop>(rt: R) -> Result<()> {
+    let setup = setup(rt.alloc())?;
+    let style = ProgressStyle::with_template(rt.alloc(), "[{bar:10}] {pos:>3}/{len} {msg}")?;
+    let bar = ProgressBar::new(rt, rt.alloc(), 200, setup)?
+        .with_style(style.progress_chars("=> ")?)?
+        .with_message("a.txt")?;
+    bar.set_position(75)?;
+    show(rt, "a template", &bar)
+}
+
+fn board<R: AllocGlobal + Print + Wait + Copy + Drop>(rt: R) -> Result<()> {
+    let setup = setup(rt.alloc())?;
+    let board = MultiProgress::new(rt, rt.alloc(), setup, 1)?;
+    let files = board.new_bar(3)?;
+    let bytes = board.new_bar(6000)?;
+    files.inc(1)?;
+    bytes.inc(1500)?;
+    board.println("a.txt is done")?;
+    show_all(rt, "a board", &board)
+}
+
+fn wrapper<R: AllocGlobal + Print + Wait + Copy + Drop>(rt: R) -> Result<()> {
+    let setup = setup(rt.alloc())?;
+    let mut sum = 0u64;
+    let bar = ProgressBar::new(rt, rt.alloc(), 4, setup)?.with_finish(ProgressFinish::AndLeave)?;
+    for size in bar.wrap_iter(1..5u64)? {
+        sum = sum.wrapping_add(size);
+    }
+    bar.println(format!(in rt.alloc(); "sum {sum}")?.as_str())?;
+    show(rt, "a wrapper", &bar)
+}
+
+fn message_unseen<R: AllocGlobal + Print + Wait + Copy + Drop>(rt: R) -> Result<()> {
+    let setup = setup(rt.alloc())?;
+    let bar = ProgressBar::new(rt, rt.alloc(), 3, setup)?;
+    bar.set_message("a.txt")?; // draws, but `{wide_bar} {pos}/{len}` has no `{msg}`
+    show(rt, "a message without its key", &bar)
+}
+
+fn message_seen<R: AllocGlobal + Print + Wait + Copy + Drop>(rt: R) -> Result<()> {
+    let setup = setup(rt.alloc())?;
+    let bar = ProgressBar::new(rt, rt.alloc(), 3, setup)?;
+    bar.set_style(ProgressStyle::with_template(rt.alloc(), "{wide_bar} {msg}")?)?;
+    bar.set_message("a.txt")?;
+    show(rt, "a message with it", &bar)
+}
+
+fn drawn_early<R: AllocGlobal + Print + Wait + Copy + Drop>(rt: R) -> Result<()> {
+    let setup = setup(rt.alloc())?;
+    let spinner = ProgressBar::new_spinner(rt, rt.alloc(), setup)?;
+    spinner.set_message("searching")?; // draws at once, as `set_prefix`, `set_length` and `tick`
+    show(rt, "a draw that wasn't meant", &spinner)
+}
+
+fn drawn_late<R: AllocGlobal + Print + Wait + Copy + Drop>(rt: R) -> Result<()> {
+    let setup = setup(rt.alloc())?;
+    let spinner = ProgressBar::new_spinner(rt, rt.alloc(), setup)?.with_message("searching")?;
+    show(rt, "no draw yet", &spinner)
+}
+
+fn dropped_early<R: AllocGlobal + Print + Wait + Copy + Drop>(rt: R) -> Result<()> {
+    let setup = setup(rt.alloc())?;
+    let board = MultiProgress::new(rt, rt.alloc(), setup, 1)?;
+    for name in ["a.txt", "b.txt"] {
+        let bar = board.new_bar(3)?;
+        bar.set_position(3)?;
+        board.println(name)?;
+    } // `bar` was the last owner: its bar is cleared
+    show_all(rt, "a bar dropped too early", &board)
+}
+
+fn finished<R: AllocGlobal + Print + Wait + Copy + Drop>(rt: R) -> Result<()> {
+    let setup = setup(rt.alloc())?;
+    let board = MultiProgress::new(rt, rt.alloc(), setup, 1)?;
+    for name in ["a.txt", "b.txt"] {
+        let bar = board.new_bar(3)?;
+        bar.set_position(3)?;
+        board.println(name)?;
+        bar.finish()?; // stays, whoever drops it
+    }
+    show_all(rt, "bars that were finished", &board)
+}
+
+fn logged<R: AllocGlobal + Print + Wait + Copy + Drop>(rt: R) -> Result<()> {
+    let setup = setup(rt.alloc())?;
+    let bar = ProgressBar::new(rt, rt.alloc(), 3, setup)?;
+    bar.inc(1)?;
+    bar.println("a.txt")?; // above the bar, which goes on below it
+    show(rt, "a line beside a bar", &bar)
+}
+
+fn run_traps<R: AllocGlobal + Print + Wait + Copy + Drop>(rt: R) -> Result<()> {
+    message_unseen(rt)?;
+    message_seen(rt)?;
+    drawn_early(rt)?;
+    drawn_late(rt)?;
+    dropped_early(rt)?;
+    finished(rt)?;
+    logged(rt)
+}
+
+pub fn main<R: AllocGlobal + Print + Wait + Copy + Drop>(rt: R) -> Result<()> {
+    first_bar(rt)?;
+    template(rt)?;
+    board(rt)?;
+    wrapper(rt)?;
+    run_traps(rt)
+}

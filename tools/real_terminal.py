@@ -1,0 +1,174 @@
+#!/usr/bin/env python3
+"""Compares a real terminal, tmux, with the rows that crate `rows` plays on the cell terminal.
+
+usage: tools/real_terminal.py [FILE ..]
+  FILE   files of crates/rows/data, by their names; `real_terminals.txt` and those of bars and boards if none is named
+
+A row that tells what stands on the screen at last (`shows`, or `contents` of `cells`) is a case: the bytes that led there are
+written to a pane of its size, and what the pane shows is compared with what the row says, up to the last written row, without
+the blanks at the ends of rows. The bytes of bars and boards are asked of the program `rows` (`written`), which it builds first.
+Rows are passed over whose terminal fails, is written to by others, or changes on the way.
+
+The exit status is 1 if a case differs. It wants Debian's package tmux.
+"""
+import os
+import re
+import subprocess
+import sys
+import tempfile
+import time
+
+TOP = os.path.dirname(os.path.dirname(os.path.abspath(__file__)))
+CRATE = os.path.join(TOP, "crates", "rows")
+FILES = ["real_terminals.txt", "lone.txt", "finishes.txt", "boards.txt", "worked.txt", "render_lone.txt"]
+LEFT_OUT = re.compile(r"^(feed|takes|halts|fails_call|fail_after|target|suspend|hidden|lone hidden|board hidden|size)\b")
+ESCAPES = {"n": "\n", "t": "\t", "r": "\r", "0": "\0", "e": "\x1b", "s": " ", "\\": "\\"}
+
+
+def unescaped(text):
+    """The bytes that a row's escapes stand for."""
+    out = bytearray()
+    at = 0
+    while at < len(text):
+        if text[at] != "\\":
+            out += text[at].encode()
+            at += 1
+        elif text[at + 1] == "u":
+            end = text.index("}", at)
+            out += chr(int(text[at + 3 : end], 16)).encode()
+            at = end + 1
+        elif text[at + 1] == "x":
+            out.append(int(text[at + 2 : at + 4], 16))
+            at += 4
+        else:
+            out += ESCAPES[text[at + 1]].encode()
+            at += 2
+    return bytes(out)
+
+
+def trimmed(rows):
+    """Rows without the blanks at their ends, and without the empty ones at the end."""
+    return "\n".join(row.rstrip(" ") for row in rows.split("\n")).rstrip("\n")
+
+
+class Case:
+    """A row: where it stands, its terminal's size, what is to be shown, and its bytes or the steps that write them."""
+
+    def __init__(self, place, size, wanted, bytes_=None, steps=None):
+        self.place, self.size, self.wanted, self.bytes, self.steps = place, size, trimmed(wanted), bytes_, steps
+
+
+def cases_of(name):
+    """The cases of a file."""
+    given, script, wanted_of_given = [], [], []
+    for number, line in enumerate(open(os.path.join(CRATE, "data", name), encoding="utf-8"), 1):
+        line = line.rstrip("\n")
+        if not line or line.startswith("#"):
+            continue
+        steps, _, wanted = line.partition(" -> ")
+        steps = steps.removesuffix(" ->")
+        place = f"{name}, line {number}"
+        if steps.startswith("fed "):
+            _, rows, columns, text = steps.split(" ", 3)
+            contents = unescaped(wanted).decode().split("\t")[1]
+            yield Case(place, (rows, columns), contents, bytes_=unescaped(text))
+            continue
+        if steps.startswith("given "):
+            given = steps.removeprefix("given ").split("; ")
+            script = list(given)
+            continue
+        steps = steps.removeprefix("+ ") if steps.startswith("+ ") else steps
+        here = steps.split("; ")
+        if line.startswith("+ "):
+            script = given + here
+        elif re.match(r"(lone|board|cells|term|memory|engine|record|table|style) ", here[0]):
+            script = here
+        else:
+            script = script + here
+        case = case_of(place, script, wanted)
+        if case:
+            yield case
+
+
+def case_of(place, script, wanted):
+    """The case of a script whose last step tells what is shown; None of another."""
+    begun = script[0].split(" ")
+    contents = unescaped(wanted.split("; ")[-1]).decode()
+    if begun[0] == "cells" and script[-1] == "contents" and all(s.startswith("feed ") or s == "contents" for s in script[1:]):
+        fed = b"".join(unescaped(step.removeprefix("feed ")) for step in script[1:] if step != "contents")
+        return Case(place, begun[1:3], contents, bytes_=fed)
+    if begun[0] not in ("lone", "board", "term") or script[-1] != "shows" or any(LEFT_OUT.match(step) for step in script):
+        return None
+    if int(begun[1]) == 0 or int(begun[2]) == 0 or re.match(r"E\d+$", contents):
+        return None
+    return Case(place, begun[1:3], contents, steps="; ".join(script))
+
+
+def with_bytes(cases):
+    """The cases, with the bytes that the program `rows` tells of those that are steps."""
+    built = subprocess.run(["rt", "run"], cwd=CRATE, capture_output=True, text=True)
+    program = os.path.join(CRATE, "out", "rows")
+    if not os.path.exists(program):
+        sys.exit("no program rows:\n" + built.stdout[-500:] + built.stderr[-500:])
+    asked = [case for case in cases if case.steps]
+    with tempfile.TemporaryDirectory() as folder:
+        with open(os.path.join(folder, "asked"), "w", encoding="utf-8") as file:
+            for case in asked:
+                file.write(case.steps + " -> ?\nwritten -> ?\n")
+        told = subprocess.run([program, "asked"], cwd=folder, capture_output=True, text=True).stdout
+    written = dict(re.findall(r"^asked, line (\d+): written\n  wanted \?\n  got (.*)$", told, re.M))
+    for index, case in enumerate(asked):
+        case.bytes = unescaped(written[str(2 * index + 2)])
+    return cases
+
+
+class Tmux:
+    """A server of its own."""
+
+    def __init__(self, folder):
+        conf = os.path.join(folder, "conf")
+        with open(conf, "w") as file:
+            file.write("set -g status off\nset -g exit-empty off\nset -g default-terminal screen-256color\n")
+        self.folder = folder
+        self.command = ["tmux", "-u", "-f", conf, "-S", os.path.join(folder, "tmux")]
+
+    def run(self, *words):
+        return subprocess.run(self.command + list(words), capture_output=True, text=True, env={**os.environ, "LC_ALL": "C.UTF-8"})
+
+    def shown(self, case):
+        """What a pane of the case's size shows after its bytes."""
+        path = os.path.join(self.folder, "bytes")
+        with open(path, "wb") as file:
+            file.write(case.bytes)
+        rows, columns = case.size
+        writes = f"stty raw -echo; cat '{path}'; {' '.join(self.command)} wait-for -S written; exec sleep 1000"
+        self.run("new-session", "-d", "-s", "case", "-x", columns, "-y", rows, writes)
+        self.run("wait-for", "written")
+        for _ in range(60):
+            got = trimmed(self.run("capture-pane", "-p", "-t", "case").stdout)
+            if got == case.wanted:
+                break
+            time.sleep(0.05)
+        self.run("kill-session", "-t", "case")
+        return got
+
+
+def main():
+    cases = with_bytes([case for name in sys.argv[1:] or FILES for case in cases_of(name)])
+    differ = 0
+    with tempfile.TemporaryDirectory() as folder:
+        tmux = Tmux(folder)
+        try:
+            for case in cases:
+                got = tmux.shown(case)
+                if got != case.wanted:
+                    differ += 1
+                    print(f"{case.place}: {case.size[0]} rows, {case.size[1]} columns\n-- the row\n{case.wanted}\n-- tmux\n{got}")
+        finally:
+            tmux.run("kill-server")
+    print(f"{len(cases) - differ} agree, {differ} differ")
+    sys.exit(1 if differ else 0)
+
+
+if __name__ == "__main__":
+    main()
