@@ -6,11 +6,18 @@ usage: tools/pages.py [--write]   (at the root of the repository)
 - Each row of a table of docs/TEMPLATES.md is one row of crates/rows/data/templates_page.txt, which `crates/rows` plays.
 - The README's program is that of crates/example_readme.
 - Each call, clause, law and file that a table of docs/PROVED.md names is there.
-- The table of refusals in docs/USING.md has the numbers and texts of crates/rows/data/refusals.txt, and all of them.
+- The table of refusals in docs/USING.md has the numbers and texts of crates/rows/data/refusals.txt, and all of them. Other pages that
+  name a refusal with its number name it so.
+- The options and statuses of docs/METER.md are those of crates/meter/src.
+- docs/MAP.md names each crate of crates.txt and each tool. Each link leads to a file, and each path that a page names is there.
 - Each fenced block of the pages below and of the heads of the libraries stands in the sources, line for line: code without comments
-  in crates/*/src, `antt` in crates/*/specs, `text` in what a program of the gate prints or plays. Blocks of `sh` and `rust` (the Rust
-  crate's code) aren't compared, those of `gallery` by tools/gallery.sh. A line `// ..` stands for lines that are left out. Definitions may have other line ends.
+  in crates/*/src, `antt` in crates/*/specs, `text` in what a program of the gate prints or plays, or as what a row gives. A line
+  `// ..` stands for lines that are left out. Definitions may have other line ends.
 - A block of `contract FILE CALL` is the head and the clauses of that call in crates/FILE.
+- An indented block is one of these, lines of crates.txt, or commands. A line `$ printf 'LINES' | .. run ROWS COLS` is a row of
+  crates/rows/data/program.txt, which gives the lines below it.
+- What isn't compared here: blocks of `rust` (the Rust crate's code) and of `diagram`, other commands, and those of `gallery`, which
+  have a picture that tools/gallery.sh compares.
 
 With --write those rows and contracts are written anew. The exit status is 1 where something differs.
 """
@@ -187,6 +194,61 @@ def faults_of_refusals():
     variants = re.findall(r"^    #\[error\(.*\)\]\n    (\w+)", read("crates/indicatif_text/src/refusal.rt"), re.M)
     if list(named.values()) != variants:
         yield "docs/USING.md: the refusals aren't those of Refusal, in its order"
+    for path, text in pages():
+        for name, number in re.findall(r"`(\w+)` \((E\d+)\)", text):
+            if named.get(number) != name:
+                yield f"{path}: {number} isn't `{name}`"
+
+
+# docs/METER.md
+
+
+def said_options(page):
+    """The options that the first column of a table names: a short letter, a name, and whether it has a value."""
+    for cell in re.findall(r"^\| (`-[^|]*) \|", page, re.M):
+        words = re.findall(r"`([^`]*)`", cell)
+        short = words[0][1] if re.match(r"-\w\b", words[0]) else ""
+        name, _, value = words[-1].removeprefix("--").partition(" ")
+        yield short, name, bool(value)
+
+
+def known_options(source):
+    """The options of the program, in the same way."""
+    for name, short in re.findall(r'valued\(alloc, "([\w-]+)", \'(\w)\'', source):
+        yield short, name, True
+    for name, short in re.findall(r'flag\(alloc, "([\w-]+)", \'(\w)\'', source):
+        yield short, name, False
+    for name in re.findall(r'\.long\("([\w-]+)"\)\.value_name', source):
+        yield "", name, True
+
+
+def faults_of_meter():
+    page, crate = read("docs/METER.md"), "crates/meter/src"
+    said, known = set(said_options(page)), set(known_options(read(f"{crate}/arguments.rt")))
+    for short, name, _ in sorted(said ^ known):
+        yield f"docs/METER.md and {crate}/arguments.rt: only one of them has -{short} --{name} so"
+    statuses = set(re.findall(r"^\| (\d+) \|", page, re.M))
+    if statuses != {"0", *re.findall(r"\b(?:ExitCode::from\(|if error\.use_stderr\(\) \{ )(\d+)", read(f"{crate}/main.rt"))}:
+        yield f"docs/METER.md and {crate}/main.rt have other statuses"
+
+
+# docs/MAP.md, links and paths
+
+
+def faults_of_names():
+    page = read("docs/MAP.md")
+    crates = re.findall(r"^(\w+)\b.*:", read("crates.txt"), re.M)
+    tools = [f"tools/{it.name}" for it in sorted(pathlib.Path("tools").iterdir()) if it.suffix != ".md"]
+    for name in [*crates, *tools]:
+        if not re.search(rf"`{name}[`/]", page):
+            yield f"docs/MAP.md doesn't name {name}"
+    for path, text in pages():
+        for link in re.findall(r"\]\(([^)#\s]+)\)", text):
+            if not pathlib.Path(path).parent.joinpath(link).exists():
+                yield f"{path}: no file {link}"
+        for word in re.findall(r"`((?:crates|docs|tools)/[\w./-]*\w)`", text):
+            if not pathlib.Path(word).exists():
+                yield f"{path}: no file {word}"
 
 
 # Fenced blocks
@@ -205,17 +267,23 @@ def pages():
 
 
 def blocks(text):
-    """The fenced blocks of a page: their language, and their lines."""
-    language = None
-    lines = []
-    for line in text.splitlines():
-        if not line.startswith("```"):
-            lines.append(line)
-        elif language is None:
+    """The blocks of a page: their language, which is `indented` where they have no fence, and their lines."""
+    language, lines = "prose", []
+    for line in [*text.splitlines(), ""]:
+        if line.startswith("```") and language in ("prose", "indented"):
             language, lines = line[3:].strip(), []
-        else:
+        elif line.startswith("```") and language is not None:
             yield language, lines
-            language = None
+            language, lines = "prose", []
+        elif language == "prose" and line.startswith("    "):
+            language, lines = "indented", [line[4:]]
+        elif language == "indented" and line and not line.startswith("    "):
+            yield language, lines
+            language, lines = "prose", []
+        elif language != "prose":
+            lines.append(line[4:] if language == "indented" else line)
+    if language == "indented":
+        yield language, lines
 
 
 def contract(path, call):
@@ -300,19 +368,73 @@ def is_defined(block, specs):
     return any(in_one_line(block) in in_one_line(source) for source in specs)
 
 
+def results():
+    """What rows give, each as lines."""
+    for pattern in ("rows/data/*.txt", "front_rows/data/*.txt"):
+        for path in sorted(pathlib.Path("crates").glob(pattern)):
+            for line in path.read_text(encoding="utf-8").splitlines():
+                if line.endswith("\\n") and " -> " in line:
+                    yield bare(line.rpartition(" -> ")[2].replace("\\s", " ").split("\\n"), False)
+
+
+# The first words of a line of commands. One that ends with `{`, `(`, `,` or `;` is code all the same.
+COMMANDS = "rt (cd cd git mkdir for cp done echo grep rm export shopt meter producer apt-get".split()
+
+
+def are_commands(lines):
+    return all(line.split()[0] in COMMANDS and not line.endswith(("{", "(", ",", ";")) for line in bare(lines, False))
+
+
+def played(lines):
+    """The row of `bars run` that a block shows, and how many rows there are that begin so; `None` where it shows none."""
+    command = re.match(r"\$ printf '(.*)' \|.*\brun (\d+ \d+)\b", lines[0])
+    if not command:
+        return None
+    shown = "".join(line.rstrip() + "\\n" for line in lines[1:] if line.strip() and line.strip() != "$")
+    return f"bars run {command[2]}: {command[1]} -> 0 {shown}"
+
+
+class Sources:
+    """What blocks are compared with."""
+
+    def __init__(self):
+        self.code = sources(["*/src/**/*.rt"], True)
+        self.specs = sources(["*/specs/**/*.antt"], False)
+        self.shown = sources(["*/stdout", "*rows/data/*.txt"], False)
+        self.results = list(results())
+        self.crates = [bare(read("crates.txt").splitlines(), False)]
+        self.program = read("crates/rows/data/program.txt").splitlines()
+
+    def has_code(self, lines):
+        return any(stands_in(lines, it, True) for it in self.code)
+
+    def has_shown(self, lines):
+        return bare(lines, False) in self.results or any(stands_in(lines, it, False) for it in self.shown)
+
+    def has(self, language, lines):
+        """Whether a block stands where its language says."""
+        row = played(lines) if language in ("indented", "text") or language.startswith("gallery") else None
+        if row is not None:
+            return row in self.program
+        if language == "antt":
+            return is_defined(lines, self.specs)
+        if language == "text":
+            return self.has_shown(lines)
+        if language == "indented":
+            is_known = self.has_code(lines) or self.has_shown(lines) or any(stands_in(lines, it, False) for it in self.crates)
+            return is_known or are_commands(lines)
+        if language.startswith("gallery"):
+            return len(bare(lines, False)) > 1
+        return language.split(" ")[0] in ("rust", "diagram", "contract") or self.has_code(lines)
+
+
 def faults_of_blocks():
-    code = sources(["*/src/**/*.rt"], True)
-    specs = sources(["*/specs/**/*.antt"], False)
-    shown = sources(["*/stdout", "*rows/data/*.txt"], False)
+    known = Sources()
     for name, text in pages():
         if name.endswith(".md") and renewed(text) != text:
             yield f"{name} quotes another contract than the sources have: run tools/pages.py --write"
         for language, lines in blocks(text):
-            if language.split(" ")[0] in ("sh", "rust", "contract", "gallery"):
-                continue
-            of = {"antt": specs, "text": shown}.get(language, code)
-            stands = is_defined(lines, of) if of is specs else any(stands_in(lines, source, of is code) for source in of)
-            if not stands:
+            if not known.has(language, lines):
                 yield f"{name}: this block stands in no source: {(bare(lines, False) or ['(empty)'])[0]}"
 
 
@@ -332,6 +454,8 @@ def main():
         faults.append("README.md has another program than crates/example_readme")
     faults += faults_of_proved()
     faults += faults_of_refusals()
+    faults += faults_of_meter()
+    faults += faults_of_names()
     faults += faults_of_blocks()
     print("\n".join(faults) or "the pages have what the gate compares")
     return 1 if faults else 0

@@ -8,8 +8,11 @@
 //! - `histories`: boards that keep their history. `sums`: workers that add to one sum.
 //! - `played`: which lines of a file are rows, and which of them agree.
 //! - `styles`, `term`, `text`: keys of a template, what targets hand out, numbers and formatters. `words`: those of a command line.
+//! - `documented`: the examples of the libraries' documentation that say what comes.
 #![tactic(auto)]
 
+#[cfg(test)]
+mod documented;
 #[cfg(test)]
 mod failing_term;
 #[cfg(test)]
