@@ -1,4 +1,4 @@
-//! The examples of the libraries' documentation that say what comes, word for word: `tools/pages.py` compares them.
+//! The examples of the libraries' documentation that say what comes.
 use bars_run::fault::Fault;
 use indicatif_bar::state::Ask;
 use indicatif_board::bridge::bridge_line;
