@@ -8,6 +8,7 @@ use judged::on_board::OnBoard;
 use judged::played::{Stage, played};
 use judged::record::{Mark, Record};
 use judged::script::{BOARD, LONE, Step};
+use std::alloc::Global;
 use std::sync::Wait;
 
 /// What plays a script.
@@ -63,36 +64,39 @@ pub struct Outcome {
 const ROOM: usize = 4096;
 
 /// Plays a script on a terminal that fails as planned, and the draw behind it on one that doesn't.
-pub fn run<R: AllocGlobal + Wait + Copy + Clone + Drop>(rt: R, case: Case) -> Result<Outcome, Finding> {
+pub fn run<R: AllocGlobal + Wait + Copy + Clone + Drop>(
+    rt: R,
+    case: Case,
+) -> Result<Outcome, Finding> {
     let record = Record::new(rt.alloc(), case.plan, ROOM)?;
     let term = case.size.terminal(&record)?;
     match case.kind {
         Kind::Board => {
             let stage = OnBoard::new(rt.alloc(), term)?;
-            judged(rt, stage, &record, case)
+            judged(rt.alloc(), stage, &record, case)
         }
         Kind::Lone => {
             let stage = OnBar::new(rt.alloc(), term)?;
-            judged(rt, stage, &record, case)
+            judged(rt.alloc(), stage, &record, case)
         }
         Kind::Shared => {
             let stage = OnShared::new(rt, term, record.clone()?)?;
-            judged(rt, stage, &record, case)
+            judged(rt.alloc(), stage, &record, case)
         }
         Kind::Loop => {
             let stage = InLoop::new(rt.alloc(), term)?;
-            judged(rt, stage, &record, case)
+            judged(rt.alloc(), stage, &record, case)
         }
     }
 }
 
-fn judged<R: AllocGlobal, S: Stage + Drop>(
-    rt: R,
+fn judged<S: Stage + Drop>(
+    alloc: Global,
     mut stage: S,
     record: &Record,
     case: Case,
 ) -> Result<Outcome, Finding> {
-    let mut judge = Judge::new(rt.alloc(), case.size, case.look)?;
+    let mut judge = Judge::new(alloc, case.size, case.look)?;
     let failed = played(&mut stage, record, case.kind.script(), &mut judge)?;
     let mark = record.mark();
     record.heal();

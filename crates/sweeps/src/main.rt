@@ -27,7 +27,12 @@ const SIZE: Size = Size { rows: 4, cols: 6 };
 
 /// Says what came of a sweep.
 fn say<R: Print>(rt: &R, kind: Kind, name: &str, tally: Tally) -> Result<()> {
-    println!(rt; "{}, {name}: {} runs, {} differ", kind.name(), tally.runs, tally.differ)?;
+    println!(rt;
+        "{}, {name}: {} runs, {} differ",
+        kind.name(),
+        tally.runs,
+        tally.differ
+    )?;
     if let Some(finding) = tally.first {
         println!(rt; "  {finding:?}")?;
     }
@@ -44,13 +49,23 @@ fn swept<R: AllocGlobal + Print + Wait + Copy + Clone + Drop>(rt: &R, kind: Kind
     };
     say(rt, kind, "each call fails", each_call(*rt, case))?;
     say(rt, kind, "each byte fails", each_byte(*rt, case))?;
-    say(rt, kind, "from each call on all fail", from_each_call(*rt, case))?;
+    say(
+        rt,
+        kind,
+        "from each call on all fail",
+        from_each_call(*rt, case),
+    )?;
     let case = Case {
         look: Look::EachCall,
         ..case
     };
     say(rt, kind, "each two calls fail", each_pair(*rt, case))?;
-    say(rt, kind, "each call fails at each size", all_sizes(*rt, case))
+    say(
+        rt,
+        kind,
+        "each call fails at each size",
+        all_sizes(*rt, case),
+    )
 }
 
 fn main(rt: HostRuntime) -> Result<()> {

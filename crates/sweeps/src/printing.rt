@@ -29,7 +29,8 @@ impl Write for Output {
 }
 
 /// What is played, and what it prints on four rows and ten columns.
-const COMMANDS: &[u8] = b"add a\nadd b\ntick 1\ntick 2\nlog one\nmsg 1 c\nlog two\ndrop 2\nremove 1\n";
+const COMMANDS: &[u8] =
+    b"add a\nadd b\ntick 1\ntick 2\nlog one\nmsg 1 c\nlog two\ndrop 2\nremove 1\n";
 
 const PRINTED: &[u8] = b"one\ntwo\nc\nb\n";
 
@@ -45,7 +46,12 @@ fn is_as_it_should(alloc: Global, args: &[String], room: usize) -> bool {
     let fine = room >= PRINTED.len();
     output.taken.as_slice() == wanted
         && status == if fine { 0 } else { 2 }
-        && said.as_slice() == if fine { b"".as_slice() } else { b"bars: output failed\n" }
+        && said.as_slice()
+            == if fine {
+                b"".as_slice()
+            } else {
+                b"bars: output failed\n"
+            }
 }
 
 fn words(alloc: Global) -> Result<Vec<String>> {
