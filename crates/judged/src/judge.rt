@@ -42,10 +42,12 @@ impl<V: Drop> From<AllocFailed<V>> for Finding {
 }
 
 /// How closely bytes are looked at.
-#[derive(Clone, Copy, Drop, PartialEq, Eq)]
+#[derive(Clone, Copy, Debug, Drop, PartialEq, Eq)]
 pub enum Look {
     /// Behind each of them.
     EachByte,
+    /// Behind each of a call that fails and of the first drawing after it, and behind the last one of any other call.
+    AtFailures,
     /// Behind the last byte of a call.
     EachCall,
 }
@@ -62,6 +64,7 @@ pub struct Judge {
     cells: Cells,
     above: Vec<String>,
     has_failed: bool,
+    is_littered: bool,
 }
 
 impl Judge {
@@ -74,6 +77,7 @@ impl Judge {
             cells: Cells::new(alloc, size.rows, size.cols)?,
             above: Vec::new(alloc),
             has_failed: false,
+            is_littered: false,
         };
         judge.feed(BEFORE.as_bytes())?;
         judge.keeps(2)?;
@@ -102,18 +106,17 @@ impl Judge {
 
     /// Reads what a call wrote, which failed or didn't.
     pub fn reads(&mut self, bytes: &[u8], has_failed: bool) -> Result<(), Finding> {
-        if self.has_failed && !has_failed && !bytes.is_empty() {
-            self.has_failed = false;
-            if !bytes.starts_with(b"\r\n") {
-                return Err(Finding::Beginning);
-            }
+        if self.has_failed && !begins_anew(bytes, has_failed) {
+            return Err(Finding::Beginning);
         }
         match self.look {
             Look::EachByte => self.reads_each(bytes)?,
-            Look::EachCall => self.reads_all(bytes)?,
+            Look::AtFailures if has_failed || self.has_failed => self.reads_each(bytes)?,
+            _ => self.reads_all(bytes)?,
         }
+        self.has_failed = has_failed || self.has_failed && bytes.is_empty();
         if has_failed {
-            self.has_failed = true;
+            self.is_littered = true;
             self.keeps(self.rows_to_the_cursor()?)?;
         }
         Ok(())
@@ -144,15 +147,21 @@ impl Judge {
         Ok(before.saturating_add(usize::from(row)).saturating_add(1))
     }
 
-    /// A text was logged: it stands somewhere below the rows above, and belongs to them from now on.
+    /// A text was logged: it stands somewhere below the rows above, and belongs to them from now on. Once a call has failed, what that call
+    /// left may stand behind a row of the text: a drawing empties the row that it begins on, and none below it.
     pub fn logged(&mut self, text: &str) -> Result<(), Finding> {
         let picture = self.cells.picture()?;
         let rows = rows_of(self.alloc, text, usize::from(self.size.cols))?;
-        match end_of(&picture, &rows, self.above.len()) {
+        match end_of(&picture, &rows, self.above.len(), self.is_littered) {
             Some(end) => self.keeps(end),
             None => Err(Finding::Lost),
         }
     }
+}
+
+/// Whether the first drawing after a failure begins on a new row; one that fails too, or writes nothing, needn't.
+fn begins_anew(bytes: &[u8], has_failed: bool) -> bool {
+    has_failed || bytes.is_empty() || bytes.starts_with(b"\r\n")
 }
 
 /// Whether these rows are the first ones.
@@ -160,14 +169,21 @@ fn begins_with(rows: &[String], front: &[String]) -> bool {
     front.len() <= rows.len() && front.iter().zip(rows).all(|(one, other)| one == other)
 }
 
-/// Where the first of these rows end that stand from this one on or later.
-fn end_of(picture: &[String], rows: &[String], from: usize) -> Option<usize> {
+/// Where the first of these rows end that stand from this one on or later, as they are or at the front of others.
+fn end_of(picture: &[String], rows: &[String], from: usize, is_littered: bool) -> Option<usize> {
     for at in from..picture.len() {
-        if begins_with(picture.get(at..)?, rows) {
+        let rest = picture.get(at..)?;
+        if begins_with(rest, rows) || is_littered && fronts_are(rest, rows) {
             return at.checked_add(rows.len());
         }
     }
     None
+}
+
+/// Whether these rows are fronts of the first ones.
+fn fronts_are(rows: &[String], fronts: &[String]) -> bool {
+    let mut pairs = fronts.iter().zip(rows);
+    fronts.len() <= rows.len() && pairs.all(|(front, row)| row.as_str().starts_with(front.as_str()))
 }
 
 /// The rows of a text of letters.

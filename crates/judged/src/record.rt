@@ -8,7 +8,7 @@ use std::io::{Error, ErrorKind, Write};
 use std::rc::Rc;
 
 /// When the writer fails, with `BrokenPipe`. Its calls are counted from 1, flushes among them.
-#[derive(Clone, Copy, Drop)]
+#[derive(Clone, Copy, Debug, Drop)]
 pub enum Plan {
     /// It doesn't.
     Never,
@@ -154,7 +154,7 @@ impl Write for Wire {
 pub type Behind = Term<Wire>;
 
 /// How large a terminal is.
-#[derive(Clone, Copy, Drop)]
+#[derive(Clone, Copy, Debug, Drop)]
 pub struct Size {
     /// Rows.
     pub rows: u16,

@@ -45,7 +45,7 @@ fn swept<R: AllocGlobal + Print + Wait + Copy + Clone + Drop>(rt: &R, kind: Kind
         kind,
         size: SIZE,
         plan: Plan::Never,
-        look: Look::EachByte,
+        look: Look::AtFailures,
     };
     say(rt, kind, "each call fails", each_call(*rt, case))?;
     say(rt, kind, "each byte fails", each_byte(*rt, case))?;
@@ -55,11 +55,6 @@ fn swept<R: AllocGlobal + Print + Wait + Copy + Clone + Drop>(rt: &R, kind: Kind
         "from each call on all fail",
         from_each_call(*rt, case),
     )?;
-    let case = Case {
-        look: Look::EachCall,
-        ..case
-    };
-    say(rt, kind, "each two calls fail", each_pair(*rt, case))?;
     say(
         rt,
         kind,

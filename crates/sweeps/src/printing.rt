@@ -28,11 +28,12 @@ impl Write for Output {
     }
 }
 
-/// What is played, and what it prints on four rows and ten columns.
+/// What is played, and what it prints on four rows and ten columns: `b` is finished and cleared when it is dropped, and the row of `c` stays
+/// until the next draw.
 const COMMANDS: &[u8] =
     b"add a\nadd b\ntick 1\ntick 2\nlog one\nmsg 1 c\nlog two\ndrop 2\nremove 1\n";
 
-const PRINTED: &[u8] = b"one\ntwo\nc\nb\n";
+const PRINTED: &[u8] = b"one\ntwo\nc\n";
 
 /// Whether it prints a beginning of that, as much as there is room for, and says so: status 0 where there is room for all, else 2.
 fn is_as_it_should(alloc: Global, args: &[String], room: usize) -> bool {

@@ -5,7 +5,7 @@ use judged::record::{Mark, Plan, Size};
 use std::sync::Wait;
 
 /// A run: what plays its script, on a terminal of this size that fails so, and how closely it is looked at.
-#[derive(Clone, Copy, Drop)]
+#[derive(Clone, Copy, Debug, Drop)]
 pub struct Case {
     pub kind: Kind,
     pub size: Size,
@@ -25,7 +25,7 @@ impl Case {
 pub struct Tally {
     pub runs: u64,
     pub differ: u64,
-    pub first: Option<Found>,
+    pub first: Option<(Case, Found)>,
 }
 
 /// What a run was found to be.
@@ -44,7 +44,7 @@ impl<R: AllocGlobal + Wait + Copy + Clone + Drop> Runs for R {}
 
 impl Tally {
     /// Counts a run of which at least one and at most so many calls may fail.
-    fn count(&mut self, outcome: Result<Outcome, Finding>, most: u64) {
+    fn count(&mut self, case: Case, outcome: Result<Outcome, Finding>, most: u64) {
         self.runs = self.runs.saturating_add(1);
         let found = match outcome {
             Ok(outcome) if outcome.failed > 0 && outcome.failed <= most => return,
@@ -52,7 +52,12 @@ impl Tally {
             Err(finding) => Found::Wrong(finding),
         };
         self.differ = self.differ.saturating_add(1);
-        self.first = Some(self.first.unwrap_or(found));
+        self.first = Some(self.first.unwrap_or((case, found)));
+    }
+
+    /// Plays this case, of which at least one and at most so many calls may fail.
+    fn plays<R: Runs>(&mut self, rt: R, case: Case, most: u64) {
+        self.count(case, run(rt, case), most);
     }
 
     fn and(self, other: Tally) -> Tally {
@@ -69,7 +74,12 @@ impl Tally {
 
 /// What the writer is given where nothing fails; nothing where that run isn't as it should be.
 fn whole<R: Runs>(rt: R, case: Case) -> Mark {
-    match run(rt, case.by(Plan::Never)) {
+    let case = Case {
+        plan: Plan::Never,
+        look: Look::EachByte,
+        ..case
+    };
+    match run(rt, case) {
         Ok(outcome) => outcome.mark,
         Err(_) => Mark {
             bytes: 0,
@@ -83,7 +93,7 @@ fn whole<R: Runs>(rt: R, case: Case) -> Mark {
 pub fn each_call<R: Runs>(rt: R, case: Case) -> Tally {
     let mut tally = Tally::default();
     for call in 1..=whole(rt, case).calls {
-        tally.count(run(rt, case.by(Plan::Call(call))), 1);
+        tally.plays(rt, case.by(Plan::Call(call)), 1);
     }
     tally
 }
@@ -92,7 +102,7 @@ pub fn each_call<R: Runs>(rt: R, case: Case) -> Tally {
 pub fn each_byte<R: Runs>(rt: R, case: Case) -> Tally {
     let mut tally = Tally::default();
     for byte in 0..whole(rt, case).bytes {
-        tally.count(run(rt, case.by(Plan::Byte(byte))), 1);
+        tally.plays(rt, case.by(Plan::Byte(byte)), 1);
     }
     tally
 }
@@ -101,7 +111,7 @@ pub fn each_byte<R: Runs>(rt: R, case: Case) -> Tally {
 pub fn from_each_call<R: Runs>(rt: R, case: Case) -> Tally {
     let mut tally = Tally::default();
     for call in 1..=whole(rt, case).calls {
-        tally.count(run(rt, case.by(Plan::From(call))), u64::MAX);
+        tally.plays(rt, case.by(Plan::From(call)), u64::MAX);
     }
     tally
 }
@@ -120,7 +130,7 @@ pub fn each_pair<R: Runs>(rt: R, case: Case) -> Tally {
 fn with_each_later<R: Runs>(rt: R, case: Case, first: u64, calls: u64) -> Tally {
     let mut tally = Tally::default();
     for second in first.saturating_add(1)..=calls {
-        tally.count(run(rt, case.by(Plan::Both(first, second))), 2);
+        tally.plays(rt, case.by(Plan::Both(first, second)), 2);
     }
     tally
 }
