@@ -102,20 +102,20 @@ impl Record {
         Error::from(ErrorKind::BrokenPipe)
     }
 
-    /// How many of these bytes may be taken now; none once where the next one isn't.
-    fn room(&self, bytes: usize) -> Option<usize> {
+    /// How many bytes may be taken now; none once where the next one isn't.
+    fn room(&self) -> Option<usize> {
         let Plan::Byte(at) = self.plan.get() else {
-            return Some(bytes);
+            return Some(usize::MAX);
         };
         let room = at.saturating_sub(self.mark.get().bytes);
         if room > 0 {
-            return Some(room.min(bytes));
+            return Some(room);
         }
         self.heal();
         None
     }
 
-    fn take(&self, bytes: &[u8]) -> io::Result<usize> {
+    fn take(&self, bytes: &[u8]) -> io::Result<()> {
         let Ok(mut taken) = self.taken.try_borrow_mut() else {
             return Err(Error::from(ErrorKind::OutOfMemory));
         };
@@ -123,7 +123,7 @@ impl Record {
         let mut mark = self.mark.get();
         mark.bytes = mark.bytes.saturating_add(bytes.len());
         self.mark.set(mark);
-        Ok(bytes.len())
+        Ok(())
     }
 }
 
@@ -136,10 +136,12 @@ impl Write for Wire {
         if !self.0.admits() {
             return Err(self.0.failure());
         }
-        match self.0.room(buf.len()) {
-            Some(room) => self.0.take(buf.get(..room).unwrap_or(buf)),
-            None => Err(self.0.failure()),
-        }
+        let Some(room) = self.0.room() else {
+            return Err(self.0.failure());
+        };
+        let taken = buf.len().min(room);
+        self.0.take(&buf[..taken])?;
+        Ok(taken)
     }
 
     fn flush(&mut self) -> io::Result<()> {

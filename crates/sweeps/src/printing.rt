@@ -18,9 +18,9 @@ impl Write for Output {
         if room == 0 {
             return Err(Error::from(ErrorKind::BrokenPipe));
         }
-        let part = buf.get(..room).unwrap_or(buf);
-        self.taken.extend_from_slice(part)?;
-        Ok(part.len())
+        let taken = buf.len().min(room);
+        self.taken.extend_from_slice(&buf[..taken])?;
+        Ok(taken)
     }
 
     fn flush(&mut self) -> io::Result<()> {
