@@ -1,6 +1,8 @@
 #!/bin/sh
-# Refuses each allocation of the scripts of crate `sweeps` in turn. A run that isn't as it should be is printed. By hand: it proves nothing.
+# Refuses memory to the scripts of crate `sweeps`, once in each run: `tools/refusals.sh board|lone FROM TO` refuses each allocation from
+# this number to that. Each run has to say `as it should be`. By hand: a run builds anew, which takes a minute, and it proves nothing.
 cd "$(dirname "$0")/../crates/sweeps" || exit 2
-for script in board lone; do
-    rt try --fail-alloc 1.. -- memory "$script" || exit 1
+for number in $(seq "$2" "$3"); do
+    echo "allocation $number:"
+    rt try --fail-alloc "$number" -- memory "$1"
 done
