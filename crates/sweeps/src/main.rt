@@ -1,8 +1,7 @@
 //! Plays scripts of calls on terminals that fail, at each place where they can, and has them judged.
 //!
-//! `sweeps` says of each sweep whether all of its runs are as they should be. `sweeps count` says how many runs there are, too, and lets
-//! each two calls of a script fail; it takes minutes. `sweeps memory NAME` plays the script of this name once, for `rt try --fail-alloc`, and
-//! says whether it is as it should be.
+//! `sweeps` says of each sweep whether all of its runs are as they should be, and `sweeps count` how many runs there are, too.
+//! `sweeps memory NAME` plays the script of this name once, for `rt try --fail-alloc`, and says whether it is as it should be.
 //!
 //! - `sweep`: the runs of a script. `kinds`: what plays a script. `on_shared`, `in_loop`: a shared board and a wrapped loop that do.
 //! - `printing`: `bars run` before an output that fails. `memory`: want of memory.
@@ -31,7 +30,7 @@ const SIZE: Size = Size { rows: 4, cols: 6 };
 enum Telling {
     /// Whether all runs are as they should be.
     Verdicts,
-    /// How many runs there are, too, and what comes where each two calls fail.
+    /// How many runs there are, too.
     Counts,
 }
 
@@ -52,7 +51,7 @@ fn say<R: Print>(rt: &R, telling: Telling, kind: Kind, name: &str, tally: Tally)
     Ok(())
 }
 
-/// All sweeps of a script.
+/// All sweeps of a script. Where two calls fail, bytes are looked at behind each call.
 fn swept<R: AllocGlobal + Print + Wait + Copy + Clone + Drop>(
     rt: &R,
     telling: Telling,
@@ -70,21 +69,9 @@ fn swept<R: AllocGlobal + Print + Wait + Copy + Clone + Drop>(
     say(rt, telling, kind, "from each call on all fail", tally)?;
     let tally = all_sizes(*rt, case);
     say(rt, telling, kind, "each call fails at each size", tally)?;
-    match telling {
-        Telling::Verdicts => Ok(()),
-        Telling::Counts => said_of_pairs(rt, kind, case),
-    }
-}
-
-/// The sweep in which each two calls fail; bytes are looked at behind each call.
-fn said_of_pairs<R: AllocGlobal + Print + Wait + Copy + Clone + Drop>(
-    rt: &R,
-    kind: Kind,
-    case: Case,
-) -> Result<()> {
     let look = Look::EachCall;
     let tally = each_pair(*rt, Case { look, ..case });
-    say(rt, Telling::Counts, kind, "each two calls fail", tally)
+    say(rt, telling, kind, "each two calls fail", tally)
 }
 
 /// The sweep of `bars run`.
