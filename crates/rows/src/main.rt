@@ -5,7 +5,7 @@
 //!
 //! - `world`: what is played on, and which module plays a step.
 //! - `lone`, `boards`: a lone bar and a board on a screen. `records`: a bar's record. `terminals`: a terminal before a screen.
-//! - `outside`: what others write to a board's screen while it is suspended.
+//! - `recorded`: a board that keeps its history. `outside`: what others write to a board's screen while it is suspended.
 //! - `slots`: the order of bars and their slots. `streams`: targets on streams. `program`: runs of `bars run`.
 //! - `formats`: texts of formatters. `columns`: columns, rows and pieces of texts. `templates`: templates, and words of styles.
 //!   `refusals`: numbers and texts of refusals.
@@ -24,6 +24,7 @@ mod lone;
 mod memory;
 mod outside;
 mod program;
+mod recorded;
 mod records;
 mod refusals;
 mod runs;

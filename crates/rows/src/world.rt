@@ -2,8 +2,8 @@
 //! `begun` and `step`; a question that needs no world is a module and a line in `asked`.
 use crate::terminals::Terminal;
 use crate::{
-    boards, cells, columns, engines, formats, limiters, lines, lone, memory, program, records,
-    refusals, runs, slots, streams, styles, templates,
+    boards, cells, columns, engines, formats, limiters, lines, lone, memory, program, recorded,
+    records, refusals, runs, slots, streams, styles, templates,
 };
 use indicatif_text::columns::Moment;
 use scripts::got::{Bad, Got};
@@ -19,6 +19,7 @@ enum On {
     Lone(lone::OnScreen),
     Record(records::Record),
     Board(boards::OnScreen),
+    Recorded(recorded::OnScreen),
     Term(Terminal),
     Slots(slots::Table),
     Cells(cells::Fed),
@@ -67,6 +68,7 @@ fn begun(name: &str, rest: &str, at: At) -> Result<Option<On>, Bad> {
         "lone" => Ok(Some(On::Lone(lone::OnScreen::begin(rest, at)?))),
         "record" => Ok(Some(On::Record(records::Record::begin(rest, at)?))),
         "board" => Ok(Some(On::Board(boards::OnScreen::begin(rest, at)?))),
+        "recorded" => Ok(Some(On::Recorded(recorded::OnScreen::begin(rest, at)?))),
         "term" => Ok(Some(On::Term(Terminal::begin(rest, at)?))),
         "table" => Ok(Some(On::Slots(slots::Table::begin(at)?))),
         "cells" => Ok(Some(On::Cells(cells::Fed::begin(rest, at)?))),
@@ -87,6 +89,7 @@ impl On {
             On::Lone(world) => world.step(step, at, got),
             On::Record(world) => world.step(step, at, got),
             On::Board(world) => world.step(step, at, got),
+            On::Recorded(world) => world.step(step, at, got),
             On::Term(world) => world.step(step, at, got),
             On::Slots(world) => world.step(step, got),
             On::Cells(world) => world.step(step, at, got),

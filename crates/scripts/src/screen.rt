@@ -209,11 +209,12 @@ pub type Behind = Term<Wire>;
 /// What is drawn on.
 pub type Target = ProgressDrawTarget<Behind>;
 
-/// A new screen of the next words, `ROWS COLS`, and the terminal before it.
+/// A new screen of the next words, `ROWS COLS`, and the terminal before it. One that says it has no rows, or no columns, stands before a
+/// screen of one.
 pub fn terminal(words: &mut &str, at: At) -> Result<(Rc<Screen>, Behind), Bad> {
     let rows: u16 = number(next(words))?;
     let cols: u16 = number(next(words))?;
-    let screen = Screen::new(at.alloc, rows, cols.max(1))?;
+    let screen = Screen::new(at.alloc, rows.max(1), cols.max(1))?;
     let wire = Wire(screen.clone()?);
     Ok((screen, Term::new(wire, rows, cols)))
 }

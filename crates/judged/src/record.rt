@@ -1,0 +1,173 @@
+//! A writer that keeps its bytes and fails as it is told to.
+use indicatif_term::term_like::Term;
+use indicatif_text::columns::Refusal;
+use std::alloc::Global;
+use std::cell::{Cell, RefCell};
+use std::io;
+use std::io::{Error, ErrorKind, Write};
+use std::rc::Rc;
+
+/// When the writer fails, with `BrokenPipe`. Its calls are counted from 1, flushes among them.
+#[derive(Clone, Copy, Debug, Drop)]
+pub enum Plan {
+    /// It doesn't.
+    Never,
+    /// The call of this number fails, and takes nothing.
+    Call(u64),
+    /// When so many bytes are taken the next one isn't, once.
+    Byte(usize),
+    /// Both calls fail, and take nothing.
+    Both(u64, u64),
+    /// This call fails, and so does each one behind it.
+    From(u64),
+}
+
+impl Plan {
+    /// Whether the call of this number takes nothing.
+    fn denies(self, call: u64) -> bool {
+        match self {
+            Plan::Never | Plan::Byte(_) => false,
+            Plan::Call(at) => call == at,
+            Plan::Both(one, other) => call == one || call == other,
+            Plan::From(at) => call >= at,
+        }
+    }
+}
+
+/// What a writer was given so far.
+#[derive(Clone, Copy, Drop)]
+pub struct Mark {
+    /// Bytes.
+    pub bytes: usize,
+    /// Calls.
+    pub calls: u64,
+    /// Calls that failed.
+    pub failures: u64,
+}
+
+/// What a writer was given, and how it fails.
+#[derive(Drop)]
+pub struct Record {
+    plan: Cell<Plan>,
+    mark: Cell<Mark>,
+    taken: RefCell<Vec<u8>>,
+}
+
+impl Record {
+    /// Nothing yet, with room for so many bytes.
+    pub fn new(alloc: Global, plan: Plan, room: usize) -> Result<Rc<Record>, Refusal> {
+        let record = Record {
+            plan: Cell::new(plan),
+            mark: Cell::new(Mark {
+                bytes: 0,
+                calls: 0,
+                failures: 0,
+            }),
+            taken: RefCell::new(Vec::with_capacity(alloc, room)?),
+        };
+        Ok(Rc::new(alloc, record)?)
+    }
+
+    /// From now on it doesn't fail.
+    pub fn heal(&self) {
+        self.plan.set(Plan::Never);
+    }
+
+    /// How much it was given.
+    pub fn mark(&self) -> Mark {
+        self.mark.get()
+    }
+
+    /// The bytes that it has taken behind this mark.
+    pub fn since(&self, alloc: Global, mark: Mark) -> Result<Vec<u8>, Refusal> {
+        match self.taken.try_borrow() {
+            Ok(taken) => Ok(Vec::from_slice(alloc, taken.get(mark.bytes..).unwrap_or(&[]))?),
+            Err(_) => Err(Refusal::Memory),
+        }
+    }
+
+    /// Counts a call; whether it may be made.
+    fn admits(&self) -> bool {
+        let mut mark = self.mark.get();
+        mark.calls = mark.calls.saturating_add(1);
+        self.mark.set(mark);
+        !self.plan.get().denies(mark.calls)
+    }
+
+    /// Counts a failure.
+    fn failure(&self) -> Error {
+        let mut mark = self.mark.get();
+        mark.failures = mark.failures.saturating_add(1);
+        self.mark.set(mark);
+        Error::from(ErrorKind::BrokenPipe)
+    }
+
+    /// How many bytes may be taken now; none once where the next one isn't.
+    fn room(&self) -> Option<usize> {
+        let Plan::Byte(at) = self.plan.get() else {
+            return Some(usize::MAX);
+        };
+        let room = at.saturating_sub(self.mark.get().bytes);
+        if room > 0 {
+            return Some(room);
+        }
+        self.heal();
+        None
+    }
+
+    fn take(&self, bytes: &[u8]) -> io::Result<()> {
+        let Ok(mut taken) = self.taken.try_borrow_mut() else {
+            return Err(Error::from(ErrorKind::OutOfMemory));
+        };
+        taken.extend_from_slice(bytes)?;
+        let mut mark = self.mark.get();
+        mark.bytes = mark.bytes.saturating_add(bytes.len());
+        self.mark.set(mark);
+        Ok(())
+    }
+}
+
+/// The writer of a record.
+#[derive(Drop)]
+pub struct Wire(pub Rc<Record>);
+
+impl Write for Wire {
+    fn write(&mut self, buf: &[u8]) -> io::Result<usize> {
+        if !self.0.admits() {
+            return Err(self.0.failure());
+        }
+        let Some(room) = self.0.room() else {
+            return Err(self.0.failure());
+        };
+        let taken = buf.len().min(room);
+        self.0.take(&buf[..taken])?;
+        Ok(taken)
+    }
+
+    fn flush(&mut self) -> io::Result<()> {
+        match self.0.admits() {
+            true => Ok(()),
+            false => Err(self.0.failure()),
+        }
+    }
+}
+
+/// A terminal behind such a writer.
+pub type Behind = Term<Wire>;
+
+/// How large a terminal is.
+#[derive(Clone, Copy, Debug, Drop)]
+pub struct Size {
+    /// Rows.
+    pub rows: u16,
+    /// Columns.
+    pub cols: u16,
+}
+
+impl Size {
+    /// A terminal of this size before a record.
+    pub fn terminal(self, record: &Rc<Record>) -> Result<Behind, Refusal> {
+        let wire = Wire(record.clone()?);
+        Ok(Term::new(wire, self.rows, self.cols))
+    }
+}

@@ -1,0 +1,105 @@
+//! What plays a script.
+use crate::in_loop::InLoop;
+use crate::on_shared::OnShared;
+use crate::sweep::Case;
+use judged::judge::{Finding, Judge};
+use judged::on_bar::OnBar;
+use judged::on_board::OnBoard;
+use judged::played::{Stage, played};
+use judged::record::{Mark, Record};
+use judged::script::{BOARD, LONE, Step};
+use std::alloc::Global;
+use std::sync::Wait;
+
+/// What plays a script.
+#[derive(Clone, Copy, Debug, Drop)]
+pub enum Kind {
+    Board,
+    Lone,
+    Shared,
+    Loop,
+}
+
+/// The calls of a loop over five items, the last of which finds its end.
+const LOOP: [Step; 6] = [Step::Tick(0); 6];
+
+impl Kind {
+    /// Its name.
+    pub fn name(self) -> &'static str {
+        match self {
+            Kind::Board => "board",
+            Kind::Lone => "lone bar",
+            Kind::Shared => "shared board",
+            Kind::Loop => "loop",
+        }
+    }
+
+    /// Its script.
+    fn script(self) -> &'static [Step] {
+        match self {
+            Kind::Board | Kind::Shared => &BOARD,
+            Kind::Lone => &LONE,
+            Kind::Loop => &LOOP,
+        }
+    }
+
+    /// The draw behind it.
+    fn last(self) -> &'static [Step] {
+        match self {
+            Kind::Board | Kind::Shared => &[Step::Tick(2)],
+            Kind::Lone => &[Step::Tick(0)],
+            Kind::Loop => &[],
+        }
+    }
+}
+
+/// What came of a run: how many of its calls failed, and what the writer was given.
+#[derive(Clone, Copy, Drop)]
+pub struct Outcome {
+    pub failed: u64,
+    pub mark: Mark,
+}
+
+/// How many bytes a record has room for at first.
+const ROOM: usize = 4096;
+
+/// Plays a script on a terminal that fails as planned, and the draw behind it on one that doesn't.
+pub fn run<R: AllocGlobal + Wait + Copy + Clone + Drop>(
+    rt: R,
+    case: Case,
+) -> Result<Outcome, Finding> {
+    let record = Record::new(rt.alloc(), case.plan, ROOM)?;
+    let term = case.size.terminal(&record)?;
+    match case.kind {
+        Kind::Board => {
+            let stage = OnBoard::new(rt.alloc(), term)?;
+            judged(rt.alloc(), stage, &record, case)
+        }
+        Kind::Lone => {
+            let stage = OnBar::new(rt.alloc(), term)?;
+            judged(rt.alloc(), stage, &record, case)
+        }
+        Kind::Shared => {
+            let stage = OnShared::new(rt, term, record.clone()?)?;
+            judged(rt.alloc(), stage, &record, case)
+        }
+        Kind::Loop => {
+            let stage = InLoop::new(rt.alloc(), term)?;
+            judged(rt.alloc(), stage, &record, case)
+        }
+    }
+}
+
+fn judged<S: Stage + Drop>(
+    alloc: Global,
+    mut stage: S,
+    record: &Record,
+    case: Case,
+) -> Result<Outcome, Finding> {
+    let mut judge = Judge::new(alloc, case.size, case.look)?;
+    let failed = played(&mut stage, record, case.kind.script(), &mut judge)?;
+    let mark = record.mark();
+    record.heal();
+    played(&mut stage, record, case.kind.last(), &mut judge)?;
+    Ok(Outcome { failed, mark })
+}

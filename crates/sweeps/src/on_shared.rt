@@ -1,0 +1,134 @@
+//! A shared board that makes the calls of a script.
+use indicatif::{
+    Drawn, MultiProgress, MultiProgressAlignment, ProgressBar, ProgressDrawTarget, ProgressFinish,
+    ProgressStyle, Refusal, Setup, StepClock,
+};
+use judged::played::Stage;
+use judged::record::{Behind, Record};
+use judged::script::{Said, Step};
+use std::alloc::Global;
+use std::io::ErrorKind;
+use std::rc::Rc;
+use std::sync::Wait;
+
+type Bar<R> = ProgressBar<Behind, StepClock, R>;
+
+/// A clock that stands.
+const CLOCK: StepClock = StepClock { next: 0, step: 0 };
+
+/// A shared board, its bars in the order in which they came, and what its terminal's writer was given.
+#[derive(Drop)]
+pub struct OnShared<R: Wait + Copy + Clone + Drop> {
+    rt: R,
+    alloc: Global,
+    board: MultiProgress<Behind, StepClock, R>,
+    bars: Vec<Option<Bar<R>>>,
+    record: Rc<Record>,
+}
+
+/// What a call answers that draws nothing.
+fn done(answer: Result<(), Refusal>) -> Said {
+    match answer {
+        Ok(()) => Ok(Drawn::Limited),
+        Err(refusal) => Err(refusal),
+    }
+}
+
+impl<R: AllocGlobal + Wait + Copy + Clone + Drop> OnShared<R> {
+    /// A board without bars on this terminal.
+    pub fn new(rt: R, term: Behind, record: Rc<Record>) -> Result<OnShared<R>, Refusal> {
+        let alloc = rt.alloc();
+        let setup = Setup {
+            target: ProgressDrawTarget::term_like(term),
+            clock: CLOCK,
+        };
+        Ok(OnShared {
+            rt,
+            alloc,
+            board: MultiProgress::new(rt, alloc, setup, 1)?,
+            bars: Vec::new(alloc),
+            record,
+        })
+    }
+}
+
+impl<R: Wait + Copy + Clone + Drop> OnShared<R> {
+    /// A bar that says this and stands on no board.
+    fn saying(&self, text: &str) -> Result<Bar<R>, Refusal> {
+        let style = ProgressStyle::with_template(self.alloc, "{msg}")?;
+        let bar = ProgressBar::hidden(self.rt, self.alloc, CLOCK)?;
+        bar.with_style(style)?.with_message(text)
+    }
+
+    fn bar(&self, number: u64) -> Result<&Bar<R>, Refusal> {
+        match self.bars.get(number as usize) {
+            Some(Some(bar)) => Ok(bar),
+            _ => Err(Refusal::NotMember),
+        }
+    }
+
+    fn add(&mut self, text: &str) -> Result<(), Refusal> {
+        let bar = self.board.add(self.saying(text)?)?;
+        Ok(self.bars.push(Some(bar))?)
+    }
+
+    fn before(&mut self, anchor: u64, text: &str) -> Result<(), Refusal> {
+        let new = self.saying(text)?;
+        let bar = self.board.insert_before(self.bar(anchor)?, new)?;
+        Ok(self.bars.push(Some(bar))?)
+    }
+
+    fn keep(&mut self, number: u64) -> Result<(), Refusal> {
+        let bar = self.bar(number)?.clone()?;
+        drop(bar.with_finish(ProgressFinish::AndLeave)?);
+        Ok(())
+    }
+
+    /// The last owner of a bar goes, which answers nothing: it counts as drawn where the writer didn't fail.
+    fn drop_bar(&mut self, number: u64) -> Said {
+        let before = self.record.mark().failures;
+        if let Some(bar) = self.bars.get_mut(number as usize) {
+            *bar = None;
+        }
+        match self.record.mark().failures == before {
+            true => Ok(Drawn::Yes),
+            false => Err(Refusal::Terminal(ErrorKind::BrokenPipe)),
+        }
+    }
+
+    fn remove(&self, number: u64) -> Result<(), Refusal> {
+        self.board.remove(self.bar(number)?)
+    }
+
+    fn settles(&mut self, step: Step) -> Result<(), Refusal> {
+        match step {
+            Step::Add(text) => self.add(text),
+            Step::Before(anchor, text) => self.before(anchor, text),
+            Step::Keep(bar) => self.keep(bar),
+            Step::Remove(bar) => self.remove(bar),
+            Step::Bottom => self.board.set_alignment(MultiProgressAlignment::Bottom),
+            Step::Top => self.board.set_alignment(MultiProgressAlignment::Top),
+            _ => Err(Refusal::NotMember),
+        }
+    }
+}
+
+impl<R: Wait + Copy + Clone + Drop> Stage for OnShared<R> {
+    fn make(&mut self, step: Step) -> Said {
+        match step {
+            Step::Tick(bar) => self.bar(bar)?.tick(),
+            Step::Message(bar, text) => self.bar(bar)?.set_message(text),
+            Step::Finish(bar) => self.bar(bar)?.finish(),
+            Step::Drop(bar) => self.drop_bar(bar),
+            Step::Log(text) => self.board.println(text),
+            Step::BarLog(bar, text) => self.bar(bar)?.println(text),
+            Step::Clear => self.board.clear(),
+            Step::Redraw | Step::Suspend => self.board.suspend(|| ()).1,
+            _ => done(self.settles(step)),
+        }
+    }
+
+    fn order(&self) -> &[u64] {
+        &[]
+    }
+}
