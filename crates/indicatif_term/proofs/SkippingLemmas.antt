@@ -12,7 +12,8 @@ use Rattle.indicatif_term.specs.Frames.{bar_lines, all_lines, are_plain, some_wi
 use Rattle.indicatif_term.specs.Counts.{CountsOf}
 use Rattle.indicatif_term.specs.Inside.Plans.{frame_lines, IsPlan}
 use Rattle.indicatif_term.specs.Inside.Skips.{PlacedLine, placed_height, placed_lines, AreSitting, rewrite_bytes}
-use Rattle.indicatif_term.specs.Remembered.{placed, texts, standing_rows, AreLines, AreRemembered, Suits}
+use Rattle.indicatif_term.specs.Standing.{placed, texts, standing_rows, AreLines}
+use Rattle.indicatif_term.specs.Remembered.{AreRemembered, Suits}
 use Rattle.indicatif_term.specs.declared.remembered.StandingLine.{StandingLine}
 use Rattle.indicatif_term.specs.declared.remembered.Remembered.{Remembered}
 use Rattle.indicatif_term.specs.declared.counts.Counts.{Counts}

@@ -2,10 +2,11 @@
 ghost use Rattle.std.specs.Prelude.{◌≡◌, ◌+◌, ◌-◌, ◌≤◌, ◌++◌, ◌∷◌, [], ℕ, List, replicate, MatchResult};
 ghost use Rattle.indicatif_term.specs.Calls.{Writes, LeadsOn, BreaksOff, DOWN, RIGHT, move_bytes};
 ghost use Rattle.indicatif_term.specs.Inside.Skips.{PlacedLine, placed_height, changed_bytes, walk_bytes, walk_down, edge_bytes, last_bytes, skip_bytes, all_stay, filled_anew, rewrite_bytes};
-ghost use Rattle.indicatif_term.specs.Remembered.{placed_of, placed};
+ghost use Rattle.indicatif_term.specs.Standing.{placed_of, placed};
 
+use crate::beside::height_of;
 use crate::painting::{empty_down, go_up, put_spaces};
-use crate::remembered::{StandingLine, height_of};
+use crate::remembered::StandingLine;
 use crate::term_like::TermLike;
 use std::io;
 
