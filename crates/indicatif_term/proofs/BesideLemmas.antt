@@ -3,7 +3,7 @@ use Rattle.std.proofs.Common.{◌≡◌, ℕ, zero, suc, ◌+◌, ◌-◌, ◌<�
 use Rattle.std.specs.Prelude.{IsTrue, IsFalse, string_bytes, slice_set, slice_index_or}
 use Rattle.std.specs.List.{AllByRecursion}
 use Rattle.std.proofs.lemmas.Bool.{or_parts}
-use Rattle.std.proofs.lemmas.List.{take_more, take-set, drop-set, take_more_set, map-append, take-append-drop, take-append-le, take_all, drop-map, drop-drop, take-map, length-map}
+use Rattle.std.proofs.lemmas.List.{take_more, take-set, drop-set, take_more_set, map-append, take-append-drop, take-append-le, take_all, drop-map, drop-drop, drop_at, take_at, take-map, length-map}
 use Rattle.std.proofs.Math.Seq.{map-set_same}
 use Rattle.indicatif_text.specs.Columns.{has_wide, rows_of, last_columns}
 use Rattle.indicatif_term.specs.Shows.{look, looks_of}
@@ -136,17 +136,23 @@ pub record AreBlanks (k : ℕ) (blanks : List StandingLine) : Type 0 where
 pub no_blanks_yet : AreBlanks 0 []
 no_blanks_yet = record { count = refl; empty = refl; lines = λ w. tt; alike = λ on. tt }
 
-replicate_push : (k : ℕ) → replicate k [] ++ [] {A = List ℕ} ∷ [] ≡ replicate (k + 1) []
-replicate_push zero = refl
-replicate_push (suc k) = ap (λ ys. [] ∷ ys) (replicate_push k)
+replicate_push : (k : ℕ) (x : List ℕ) → replicate k x ++ x ∷ [] ≡ replicate (k + 1) x
+replicate_push zero x = refl
+replicate_push (suc k) x = ap (λ ys. x ∷ ys) (replicate_push k x) ∙ ap (λ n. replicate n x) (let e : suc (k + 1) ≡ suc k + 1 = omega arith in e)
 
 pub one_blank_more : (k : ℕ) (blanks : List StandingLine) (x : StandingLine) → AreBlanks k blanks → string_bytes x.text ≡ [] → x.rows ≡ 1 → x.last ≡ 0 → x.like ≡ None → AreBlanks (k + 1) (blanks ++ x ∷ [])
 one_blank_more k blanks x b t r l n = record {
   count = omega (arith, length-append blanks (x ∷ []), b.count);
-  empty = map-append (λ (l : StandingLine). string_bytes l.text) blanks (x ∷ []) ∙ ap (λ ys. ys ++ string_bytes x.text ∷ []) b.empty ∙ ap (λ y. replicate k [] ++ y ∷ []) t ∙ replicate_push k;
+  empty = map-append (λ (l : StandingLine). string_bytes l.text) blanks (x ∷ []) ∙ ap (λ ys. ys ++ string_bytes x.text ∷ []) b.empty ∙ ap (λ y. replicate k [] ++ y ∷ []) t ∙ replicate_push k [];
   lines = λ w. all_append (IsLine w) blanks (x ∷ []) (b.lines w) (blank_is_line w x t r l, tt);
   alike = λ on. all_append (λ l. IsLike on (string_bytes l.text) l.like) blanks (x ∷ []) (b.alike on) (subst (IsLike on (string_bytes x.text)) (sym n) tt, tt);
 }
+
+-- the blanks turned to the front
+pub turned : (items xs blanks : List StandingLine) (n k : ℕ) → items ≡ xs ++ blanks → AreBlanks k blanks → n ≡ length items → drop (n - k) items ++ take (n - k) items ≡ blanks ++ xs
+turned items xs blanks n k e b len =
+    let size : n - k ≡ length xs = omega (arith, len, ap length e, length-append xs blanks, b.count) in
+    rw (size, e, drop_at xs blanks (length xs) refl, take_at xs blanks (length xs) refl) refl
 
 -- ---- lines that are marked
 
@@ -181,6 +187,19 @@ module _ (w : ℕ) (on : List StandingLine) (skipped : ℕ) (ys : List StandingL
         is_at = is;
         start_is = λ small. let exact : start ≡ skipped + placed_height ps = m.start_is (omega arith) in omega (arith, height);
       }
+
+-- the line at an index, however it was come by
+pub same_line : (ys : List StandingLine) (i : ℕ) (x y : StandingLine) → i < length ys → get_or ys i x ≡ x → get_or ys i y ≡ y → x ≡ y
+same_line [] i x y h e f = absurd (omega arith)
+same_line (z ∷ ys) zero x y h e f = sym e ∙ f
+same_line (z ∷ ys) (suc i) x y h e f = same_line ys i x y (omega arith) e f
+
+-- a line that isn't marked yet is one of those that were there
+pub still_like : (on ys xs : List StandingLine) (i : ℕ) (x : StandingLine) → i < length ys → get_or ys i x ≡ x → drop i ys ≡ drop i xs → AreLike on xs → IsLike on (string_bytes x.text) x.like
+still_like on ys xs i x h e d like =
+    let P = λ (l : StandingLine). IsLike on (string_bytes l.text) l.like in
+    let rest : AllByRecursion P (x ∷ drop (i + 1) ys) = subst (AllByRecursion P) (sym d ∙ drop_more ys i x h e) (all_drop P xs i like) in
+    rest.0
 
 -- before the first
 pub none_marked : (w : ℕ) (on : List StandingLine) (skipped : ℕ) → AreMarked w on skipped [] skipped (record { index = 0; row = 0 })

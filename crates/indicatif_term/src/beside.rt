@@ -178,8 +178,9 @@ fn mark(standing: &[StandingLine], skipped: usize, lines: &mut Vec<StandingLine>
     let mut start = skipped;
     for at in 0..lines.len() {
         place = passed_over(standing, place, start);
-        let stays = is_there(standing, place, start, &lines[at]);
-        start = start.saturating_add(lines[at].rows);
+        let line = &lines[at];
+        let stays = is_there(standing, place, start, line);
+        start = start.saturating_add(line.rows);
         lines[at].stays = stays;
     }
 }
