@@ -14,6 +14,7 @@ use Rattle.indicatif_term.specs.Inside.Layouts.{IsSized, IsLike, AreLike, HasLin
 use Rattle.indicatif_term.specs.declared.layout.Plan.{Plan}
 use Rattle.indicatif_term.specs.declared.remembered.StandingLine.{StandingLine}
 use Rattle.indicatif_term.specs.declared.beside.Place.{Place}
+use Rattle.indicatif_term.specs.declared.beside.SizedLine.{SizedLine}
 use Rattle.indicatif_term.proofs.MeasureLemmas.{empty_narrow}
 use Rattle.indicatif_term.proofs.LineEndLemmas.{one_row, nothing_ends_at}
 use Rattle.indicatif_term.proofs.RememberedLemmas.{drop_more, there_at}
@@ -66,6 +67,19 @@ pub there_by_index : (w : ℕ) (ls : List StandingLine) (at : Place) (start : �
 there_by_index w ls at start y h small r n like line is =
     let x = some_at ls at.index h in
     there_at w ls at start x.0 y h x.1 small r (like_same ls at.index x.0 (string_bytes y.text) h x.1 (subst (IsLike ls (string_bytes y.text)) n like)) line is
+
+-- its size is that of the line of that index
+pub sized_at : (w : ℕ) (on : List StandingLine) (i : ℕ) (x : StandingLine) (text : List ℕ) (l : SizedLine) → AreLines w on → i < length on → get_or on i x ≡ x → string_bytes x.text ≡ text →
+    l.rows ≡ x.rows → l.last ≡ x.last → l.like ≡ Some i → IsSized w (chars text) l × IsLike on text l.like
+sized_at w on i x text l all h e t r c n =
+    let line = all_at (IsLine w) on i x h e all in (
+      record {
+        rows_are = r ∙ line.rows_are ∙ ap (λ y. length (rows_of w (chars y))) t;
+        last_is = c ∙ line.last_is ∙ ap (λ y. last_columns w (chars y)) t;
+        narrow = ap (λ y. has_wide w (chars y)) (sym t) ∙ line.narrow;
+      },
+      subst (IsLike on text) (sym n) (like_at on i x text h e t),
+    )
 
 -- ---- the lines of a plan
 

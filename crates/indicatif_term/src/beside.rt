@@ -27,8 +27,8 @@ impl<'a> SizedLine<'a> {
     /// The line with a text of its own, in spare room.
     pub fn stored(self, spare: &mut Spare) -> Result<StandingLine, Refusal>
         ensures memory { IfErr result (λ e. e ≡ Refusal.Memory) }
-        ensures text { IfOk result (λ l. string_bytes l.text ≡ self.text.now) }
-        ensures same { IfOk result (λ l. (l.rows ≡ self.rows) × (l.last ≡ self.last) × (l.like ≡ self.like)) }
+        ensures text { IfOk result (λ l. string_bytes l.text ≡ self.entry.text.now) }
+        ensures same { IfOk result (λ l. (l.rows ≡ self.entry.rows) × (l.last ≡ self.entry.last) × (l.like ≡ self.entry.like)) }
     {
         let mut text = spare.take_text();
         text.push_str(self.text)?;
@@ -71,18 +71,21 @@ impl<'a> Beside<'a> {
         window: Window,
     ) -> Result<SizedLine<'b>, Refusal>
         requires standing { AreLines window.columns self.lines.now }
-        ensures sized { MatchResult result (λ l. (l.text.now ≡ text.now) × IsSized window.columns (chars text.now) l × IsLike self.lines.now text.now l.like)
-            (λ e. IsWithheld window.columns (chars text.now ∷ []) e) }
+        ensures sized { MatchResult result (λ l. (l.text.now ≡ text.entry.now) × IsSized window.columns (chars text.entry.now) l × IsLike self.entry.lines.now text.entry.now l.like)
+            (λ e. IsWithheld window.columns (chars text.entry.now ∷ []) e) }
         ensures no_memory { result ≢ Err Refusal.Memory }
     {
         let at = self.first.saturating_add(count);
-        if at < self.lines.len() && is_same(&self.lines[at].text, text) {
-            return Ok(SizedLine {
-                text,
-                rows: self.lines[at].rows,
-                last: self.lines[at].last,
-                like: Some(at),
-            });
+        if at < self.lines.len() {
+            let line = &self.lines[at];
+            if is_same(&line.text, text) {
+                return Ok(SizedLine {
+                    text,
+                    rows: line.rows,
+                    last: line.last,
+                    like: Some(at),
+                });
+            }
         }
         let metrics = metrics_of(text, window)?;
         Ok(SizedLine {
