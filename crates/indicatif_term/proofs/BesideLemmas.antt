@@ -11,6 +11,8 @@ use Rattle.indicatif_term.specs.Inside.Skips.{placed_height, Sits, AreSitting}
 use Rattle.indicatif_term.specs.Standing.{placed_of, placed, texts, standing_rows, IsLine, AreLines}
 use Rattle.indicatif_term.specs.Inside.Places.{IsAt, IsThere, AreMarked}
 use Rattle.indicatif_term.specs.Inside.Layouts.{IsSized, IsLike, AreLike, HasLines}
+use Rattle.indicatif_term.specs.Frames.{line_text}
+use Rattle.indicatif_term.specs.declared.lines.LineType.{LineType}
 use Rattle.indicatif_term.specs.declared.layout.Plan.{Plan}
 use Rattle.indicatif_term.specs.declared.remembered.StandingLine.{StandingLine}
 use Rattle.indicatif_term.specs.declared.beside.Place.{Place}
@@ -127,6 +129,11 @@ still_has w on before p p' ls e a c = record {
   measured = e.measured;
   alike = e.alike;
 }
+
+-- ---- line by line, member by member
+
+pub line_texts_step : (items : List LineType) (j : ℕ) (x : LineType) → j < length items → get_or items j x ≡ x → map line_text (take (j + 1) items) ≡ map line_text (take j items) ++ line_text x ∷ []
+line_texts_step items j x h e = ap (map line_text) (take_more items j x h ∙ ap (λ y. take j items ++ y ∷ []) e) ∙ map-append line_text (take j items) (x ∷ [])
 
 -- ---- blank lines
 
