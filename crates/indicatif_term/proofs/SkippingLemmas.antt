@@ -38,10 +38,6 @@ use Rattle.indicatif_term.proofs.EngineLemmas.{Redraws, frame_drawable, suits_ma
 
 -- ---- lines as they are measured
 
-pub lines_sit : (w : ℕ) (looks : List (List Cell)) (ls : List StandingLine) → AreSitting w looks (placed ls) → AreLines w ls
-lines_sit w looks [] s = tt
-lines_sit w looks (l ∷ ls) s = (record { rows_are = s.0.rows_are; last_is = s.0.last_is }, lines_sit w (drop l.rows looks) ls s.1)
-
 pub lines_height : (w : ℕ) (ls : List StandingLine) → AreLines w ls → placed_height (placed ls) ≡ length (standing_rows w ls)
 lines_height w [] all = refl
 lines_height w (l ∷ ls) all =
@@ -53,20 +49,6 @@ pub lines_placed : (ls : List StandingLine) → placed_lines (placed ls) ≡ tex
 lines_placed [] = refl
 lines_placed (l ∷ ls) = ap (λ x. string_bytes l.text ∷ x) (lines_placed ls)
 
-on_by : (b : Bool) (w v : ℕ) (ls : List StandingLine) → (b ≡ true → v ≡ w) → AreLines v ls → AreLines w (if b then ls else [])
-on_by true w v ls f all = subst (λ n. AreLines n ls) (f refl) all
-on_by false w v ls f all = tt
-
-same_number : (a b : ℕ) → (a == b) ≡ true → a ≡ b
-same_number a b e = grind (arith, nat_tests)
-
--- the lines that are remembered of a terminal of this width
-pub on_lines : (w : ℕ) (r : Remembered) (l : Lists) → 0 < w → AreRemembered r l → AreLines w (if r.width == w then r.lines.items else [])
-on_lines w r l p a = elim (cases_Bool (r.width == w)) [
-  | inl e ↦ let n : r.width ≡ w = same_number r.width w e in rw e (subst (λ n. AreLines n r.lines.items) n (a.lines (omega arith)))
-  | inr e ↦ rw e tt
-]
-
 -- ---- what is remembered of a draw
 
 pub drawn_rows : (w h pass : ℕ) (bottom : Bool) (frame : List BarLines) (l : Lists) →
@@ -77,30 +59,27 @@ drawn_rows w h pass bottom frame l =
     let n = length (shown_rows w h (take pass frame)) in
     settled-rows w h (passed w n made) ∙ passed-rows w n made
 
-pub drawn_shown : (v w h pass blanks : ℕ) (bottom : Bool) (frame : List Segment) (l : Lists) (c : Counts) (plan : Plan) (r : Remembered) (looks : List (List Cell)) → v ≡ w → r.width ≡ v → CountsOf c l →
+pub drawn_shown : (v w h pass blanks : ℕ) (bottom : Bool) (frame : List Segment) (l : Lists) (c : Counts) (plan : Plan) (r : Remembered) → v ≡ w → r.width ≡ v → CountsOf c l →
     IsPlan w h pass (map bar_lines frame) plan → blanks ≡ blanks_for bottom c.live 0 plan.rows → texts r.lines.items ≡ replicate blanks [] ++ take plan.lines (frame_lines frame) →
-    AreSitting v looks (placed r.lines.items) → AreRemembered r (drawn w h bottom pass (map bar_lines frame) l)
-drawn_shown v w h pass blanks bottom frame l c plan r looks same_width e o q b t sits =
+    AreRemembered r (drawn w h bottom pass (map bar_lines frame) l)
+drawn_shown v w h pass blanks bottom frame l c plan r same_width e o q b t =
     let same : blanks_for bottom c.live 0 plan.rows ≡ (live_of_frame w h bottom (live_height l.live) 0 (map bar_lines frame)).blanks = rw (live_of c l o, q.rows_are) refl in
     let rows : standing_rows w r.lines.items ≡ live_rows w (live_of_frame w h bottom (live_height l.live) 0 (map bar_lines frame)) =
     ap (lines_rows w) (t ∙ ap (λ n. replicate blanks [] ++ take n (frame_lines frame)) q.lines_are) ∙ frame_rows w h frame blanks
     ∙ ap (λ n. live_rows w (record { blanks = n; segments = shown_rows w h (map bar_lines frame) })) (b ∙ same) in
     let width : r.width ≡ w = e ∙ same_width in
-    record {
-      lines = λ p. subst (λ n. AreLines n r.lines.items) (sym e) (lines_sit v looks r.lines.items sits);
-      rows = λ p. (
-        l.above ++ l.kept,
-        ap (λ n. (l.above ++ l.kept) ++ standing_rows n r.lines.items) width ∙ ap (λ x. (l.above ++ l.kept) ++ x) rows ∙ sym (drawn_rows w h pass bottom (map bar_lines frame) l)
-            ∙ ap (λ n. all_rows n (drawn w h bottom pass (map bar_lines frame) l)) (sym width),
-      );
-    }
+    λ p. (
+      l.above ++ l.kept,
+      ap (λ n. (l.above ++ l.kept) ++ standing_rows n r.lines.items) width ∙ ap (λ x. (l.above ++ l.kept) ++ x) rows ∙ sym (drawn_rows w h pass bottom (map bar_lines frame) l)
+          ∙ ap (λ n. all_rows n (drawn w h bottom pass (map bar_lines frame) l)) (sym width),
+    )
 
-pub drawn_suits : (v w h pass blanks : ℕ) (bottom : Bool) (frame : List Segment) (l : Lists) (c next : Counts) (plan : Plan) (r : Remembered) (looks : List (List Cell)) → v ≡ w → r.width ≡ v → CountsOf c l →
+pub drawn_suits : (v w h pass blanks : ℕ) (bottom : Bool) (frame : List Segment) (l : Lists) (c next : Counts) (plan : Plan) (r : Remembered) → v ≡ w → r.width ≡ v → CountsOf c l →
     IsPlan w h pass (map bar_lines frame) plan → blanks ≡ blanks_for bottom c.live 0 plan.rows → texts r.lines.items ≡ replicate blanks [] ++ take plan.lines (frame_lines frame) →
-    AreSitting v looks (placed r.lines.items) → CountsOf next (drawn w h bottom pass (map bar_lines frame) l) → Suits next false r (drawn w h bottom pass (map bar_lines frame) l)
-drawn_suits v w h pass blanks bottom frame l c next plan r looks same_width e o q b t sits o' =
+    CountsOf next (drawn w h bottom pass (map bar_lines frame) l) → Suits next false r (drawn w h bottom pass (map bar_lines frame) l)
+drawn_suits v w h pass blanks bottom frame l c next plan r same_width e o q b t o' =
     suits_made next r (drawn w h bottom pass (map bar_lines frame) l) o' (drawn-sound w h bottom pass (map bar_lines frame) l)
-    (drawn_shown v w h pass blanks bottom frame l c plan r looks same_width e o q b t sits)
+    (drawn_shown v w h pass blanks bottom frame l c plan r same_width e o q b t)
 
 -- ---- which rows are those of the lines that are remembered
 
@@ -115,8 +94,8 @@ pub standing_live : (w taken : ℕ) (r : Remembered) (l : Lists) → 0 < w → r
     drop (min (placed_height (placed r.lines.items)) (2 ^ 64 - 1) - taken) (standing_rows w r.lines.items) ≡ live_rows w l.live
 standing_live w taken r l p e a k m low =
     let some : 0 < r.width = omega arith in
-    let height : placed_height (placed r.lines.items) ≡ length (standing_rows w r.lines.items) = subst (λ n. placed_height (placed r.lines.items) ≡ length (standing_rows n r.lines.items)) e (lines_height r.width r.lines.items (a.lines some)) in
-    let x = a.rows some in
+    let height : placed_height (placed r.lines.items) ≡ length (standing_rows w r.lines.items) = subst (λ n. placed_height (placed r.lines.items) ≡ length (standing_rows n r.lines.items)) e (lines_height r.width r.lines.items (r.right some)) in
+    let x = a some in
     let whole : x.0 ++ standing_rows w r.lines.items ≡ (l.above ++ l.kept) ++ live_rows w l.live = subst (λ n. x.0 ++ standing_rows n r.lines.items ≡ all_rows n l) e x.1 in
     ap (λ n. drop n (standing_rows w r.lines.items)) (omega (arith, height)) ∙ last_rows x.0 (standing_rows w r.lines.items) (l.above ++ l.kept) (live_rows w l.live) taken whole k (omega (arith, height))
 
@@ -141,9 +120,9 @@ pub draw_rewrites : (w h : ℕ) (l : Lists) (c next : Counts) (pass blanks : ℕ
     0 < w → w ≤ GREATEST → IsTrue (are_plain (all_lines (map bar_lines frame))) → IsFalse (some_wide w (all_lines (map bar_lines frame))) →
     CountsOf c l → IsPlan w h pass (map bar_lines frame) plan → CountsOf next l' → blanks ≡ blanks_for bottom c.live 0 plan.rows →
     c.below ≡ false → next.below ≡ false → texts ls ≡ replicate blanks [] ++ take plan.lines (frame_lines frame) → placed ls ≡ front ++ last ∷ [] →
-    AreSitting w (looks_of (live_rows w l.live)) (placed ls) → placed_height (placed ls) ≡ c.live →
+    AreLines w ls → AreSitting w (looks_of (live_rows w l.live)) (placed ls) → placed_height (placed ls) ≡ c.live →
     Redraws w h l l' (rewrite_bytes w front last)
-draw_rewrites w h l c next pass blanks bottom frame plan ls front last p1 low p2 p3 o q o' b on on' t s sits size =
+draw_rewrites w h l c next pass blanks bottom frame plan ls front last p1 low p2 p3 o q o' b on on' t s right sits size =
     let l' = drawn w h bottom pass (map bar_lines frame) l in
     let lines = replicate blanks [] ++ take (length (fitting h (lines_of w (map bar_lines frame)))) (frame_lines frame) in
     let gone = live_rows w l.live in
@@ -156,7 +135,7 @@ draw_rewrites w h l c next pass blanks bottom frame plan ls front last p1 low p2
     let d = drawable_parts w (placed_lines front) last.line (subst (AreDrawable w) (sym split) (frame_drawable w blanks (length (fitting h (lines_of w (map bar_lines frame)))) frame p2 p3)) in
     let height : placed_height front + last.rows ≡ length gone = omega (arith, height-append front (last ∷ []), ap placed_height s, size, count) in
     let as_many : length gone ≡ length (lines_rows w (placed_lines front ++ last.line ∷ [])) =
-    count ∙ sym size ∙ lines_height w ls (lines_sit w (looks_of gone) ls sits) ∙ ap (λ x. length (lines_rows w x)) (sym (lines_placed ls) ∙ ap placed_lines s ∙ lines_both front last) in
+    count ∙ sym size ∙ lines_height w ls right ∙ ap (λ x. length (lines_rows w x)) (sym (lines_placed ls) ∙ ap placed_lines s ∙ lines_both front last) in
     skip_redraws w h l l' l.kept gone front last p1 low (sym o.below_is ∙ on) (sym o'.below_is ∙ on') few (subst (AreSitting w (looks_of gone)) s sits) d.0 d.1 height as_many
     (λ a b. subst (Replaces w h l l' l.kept gone) (sym split) (drawn_goes w h pass bottom (map bar_lines frame) l lines a b rows))
 
