@@ -19,7 +19,7 @@ use Rattle.indicatif.specs.SharedBoards.{SharedDraws, SharedSuspends, SharedKeep
 
 -- there is a state that the bar is in
 abbrev pub LoneIsSomewhere : {K T : Type 0} → LoneBar K T → Type 0
-LoneIsSomewhere b = (s : LoneState (BarRecord K)) × LoneIsIn b s
+LoneIsSomewhere {K} b = (s : LoneState (BarRecord K)) × LoneIsIn b s
 
 module _ {K T : Type 0} (m : Tracking K) (view : T → TermView) where
   -- a bar that was in a state was suspended at this moment, with this answer: its record is as before, and its step

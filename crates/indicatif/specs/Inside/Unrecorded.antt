@@ -6,4 +6,4 @@ use Rattle.indicatif.specs.SharedBoards.{SharedState}
 
 -- there is a state that the board is in
 abbrev pub IsSomewhere : {K T : Type 0} → Board K T → Type 0
-IsSomewhere b = (mark : ℕ) × (s : SharedState K) × IsIn mark b s
+IsSomewhere {K} b = (mark : ℕ) × (s : SharedState K) × IsIn mark b s
