@@ -6,8 +6,8 @@ ghost use Rattle.indicatif_bar.specs.Trackers.{telling};
 use crate::fronts::target;
 use indicatif::style::ProgressTracker;
 use indicatif::{
-    InMemoryTerm, Moment, MultiProgress, ProgressBar, ProgressIterator,
-    ProgressState, ProgressStyle, Refusal, Setup, StepClock,
+    InMemoryTerm, Moment, MultiProgress, ProgressBar, ProgressIterator, ProgressState,
+    ProgressStyle, Refusal, Setup, StepClock,
 };
 use std::alloc::Global;
 use std::sync::Wait;
