@@ -37,7 +37,7 @@ sent_bytes WrapOff = 0x1B ∷ 0x5B ∷ 0x3F ∷ 0x37 ∷ 0x6C ∷ []
 sent_bytes WrapOn = 0x1B ∷ 0x5B ∷ 0x3F ∷ 0x37 ∷ 0x68 ∷ []
 
 -- the bytes of all of it
-unfoldable pub bytes_of_all : List Sent → List ℕ
+abbrev pub bytes_of_all : List Sent → List ℕ
 bytes_of_all sent = flat_map sent_bytes sent
 
 -- ---- a text
@@ -82,7 +82,6 @@ right_column w k n = if k == w then k else min (k + n) (w - 1)
 abbrev pub cut : ℕ → ℕ → Sent → List Sent
 cut w k (Asked (Put c)) = if width_of c == 0 then Asked (Put c) ∷ [] else cut_wide w k c (width_of c)
 cut w k (Asked (Right n)) = Asked (Right (right_column w k n - k)) ∷ []
-cut w k (Asked (Left n)) = if n == 0 then [] else Asked Return ∷ Asked (Right (k - n)) ∷ []
 cut w k sent = sent ∷ []
 
 -- the column after it
@@ -154,11 +153,15 @@ abbrev pub own_view : TermView → TermView
 own_view v = record { told = Nothing; columns = v.columns; rows = rows_told v.rows; faults = v.faults }
 
 module _ {T E : Type 0} (view : T → TermView) where
-  -- this was sent to the terminal behind it, and the column and the place are these; or a beginning of it, where it failed
+  -- these bytes were sent to the terminal behind it, and the column and the place are these; or a beginning of them, where it failed
+  abbrev pub SendsBytes : List ℕ → ℕ → Place → OwnRows T → OwnRows T → Result Unit E → Type 0
+  SendsBytes bytes column place old new result = MatchResult result
+      (λ _. LeadsOn bytes (view old.term) (view new.term) × (new.column ≡ column) × (new.place ≡ place))
+      (λ _. BreaksOff bytes (view old.term) (view new.term))
+
+  -- the same of what is sent
   abbrev pub Sends : List Sent → ℕ → Place → OwnRows T → OwnRows T → Result Unit E → Type 0
-  Sends sent column place old new result = MatchResult result
-      (λ _. LeadsOn (bytes_of_all sent) (view old.term) (view new.term) × (new.column ≡ column) × (new.place ≡ place))
-      (λ _. BreaksOff (bytes_of_all sent) (view old.term) (view new.term))
+  Sends sent column place old new result = SendsBytes (bytes_of_all sent) column place old new result
 
   -- the same of a call within a drawing that asks for this
   abbrev pub SendsHere : List Sent → OwnRows T → OwnRows T → Result Unit E → Type 0

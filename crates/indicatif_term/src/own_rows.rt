@@ -4,7 +4,7 @@ ghost use Rattle.indicatif_text.specs.Columns.{columns_of};
 ghost use Rattle.indicatif_text.specs.Pieces.{Run, shown};
 ghost use Rattle.indicatif_term.specs.Screen.{Put, Return, LineFeed, Up, Down, Right, Left, EmptyRow};
 ghost use Rattle.indicatif_term.specs.Calls.{Writes, move_bytes, line_bytes, clear_bytes, UP, DOWN, RIGHT, LEFT};
-ghost use Rattle.indicatif_term.specs.OwnRows.{Asked, WrapOn, Sends, SendsHere, SendsCut, Ends, own_view, is_return, text_asks, line_asks, piece_asks, right_column, beginning, first_column, row_end};
+ghost use Rattle.indicatif_term.specs.OwnRows.{Asked, WrapOff, WrapOn, SendsBytes, Sends, SendsHere, SendsCut, Ends, own_view, is_return, text_asks, line_asks, piece_asks, right_column, beginning, first_column};
 
 use crate::term_like::TermLike;
 use indicatif_text::columns::{Piece, columns, pieces, width};
@@ -77,40 +77,42 @@ impl<T: TermLike> OwnRows<T> {
         }
     }
 
+    /// Writes a text, behind which the cursor is at this column and this place.
+    fn send(&mut self, text: &str, column: usize, place: Place) -> io::Result<()>
+        ensures { SendsBytes T.view text.now column place self.old self.new result }
+    {
+        self.term.write_str(text)?;
+        self.column = column;
+        self.place = place;
+        Ok(())
+    }
+
     /// Turns the wrap off.
     fn turn_wrap_off(&mut self) -> io::Result<()>
-        ensures { Sends T.view (beginning Place.Resting) self.old.column Place.Drawing self.old self.new result }
+        ensures { Sends T.view (WrapOff ∷ []) self.old.column Place.Drawing self.old self.new result }
     {
-        self.term.write_str("\u{1b}[?7l")?;
-        self.place = Place::Drawing;
-        Ok(())
+        self.send("\u{1b}[?7l", self.column, Place::Drawing)
     }
 
     /// Turns the wrap off and goes up to the front of the row above.
     fn go_back(&mut self) -> io::Result<()>
-        ensures { Sends T.view (beginning Place.Below) 0 Place.Drawing self.old self.new result }
+        ensures { Sends T.view (WrapOff ∷ Asked (Up 1) ∷ []) 0 Place.Drawing self.old self.new result }
     {
-        self.turn_wrap_off()?;
-        self.column = 0;
-        self.term.move_cursor_up(1)
+        self.send("\u{1b}[?7l\u{1b}[1A", 0, Place::Drawing)
     }
 
     /// Goes to the front of the next row.
     fn end_row(&mut self) -> io::Result<()>
         ensures { Sends T.view (Asked Return ∷ Asked LineFeed ∷ []) 0 self.old.place self.old self.new result }
     {
-        self.term.write_str("\r\n")?;
-        self.column = 0;
-        Ok(())
+        self.send("\r\n", 0, self.place)
     }
 
     /// Goes to the front of the cursor's row.
     fn go_to_front(&mut self) -> io::Result<()>
         ensures { Sends T.view (Asked Return ∷ []) 0 self.old.place self.old self.new result }
     {
-        self.term.write_str("\r")?;
-        self.column = 0;
-        Ok(())
+        self.send("\r", 0, self.place)
     }
 
     /// How many columns are left of the row.
@@ -141,9 +143,7 @@ impl<T: TermLike> OwnRows<T> {
         requires text { IsFalse (is_return text.now) }
         ensures { SendsHere T.view (text_asks text.now) self.old self.new result }
     {
-        self.term.write_str(text)?;
-        self.column += wide;
-        Ok(())
+        self.send(text, self.column.saturating_add(wide), self.place)
     }
 
     /// Writes a text piece by piece, cut into rows.
@@ -152,14 +152,14 @@ impl<T: TermLike> OwnRows<T> {
         ensures { SendsHere T.view (text_asks text.now) self.old self.new result }
     {
         for piece in pieces(text) {
-            self.put_piece(piece)?;
+            self.put_piece(&piece)?;
         }
         Ok(())
     }
 
     /// Writes a colour sequence, or a run of visible characters, cut into rows.
-    fn put_piece(&mut self, piece: Piece<'_>) -> io::Result<()>
-        ensures { SendsHere T.view (piece_asks (shown piece)) self.old self.new result }
+    fn put_piece(&mut self, piece: &Piece<'_>) -> io::Result<()>
+        ensures { SendsHere T.view (piece_asks (shown piece.now)) self.old self.new result }
     {
         if piece.colour {
             return self.term.write_str(piece.text);
@@ -200,9 +200,8 @@ impl<T: TermLike> OwnRows<T> {
         ensures { Sends T.view (Asked (Put c) ∷ []) (self.old.column + wide) self.old.place self.old self.new result }
     {
         let mut bytes = [0u8; 4];
-        self.term.write_str(c.encode_utf8(&mut bytes))?;
-        self.column += wide;
-        Ok(())
+        let column = self.column + wide;
+        self.send(c.encode_utf8(&mut bytes), column, self.place)
     }
 
     /// Goes to the right by so many columns, at most to the last.
@@ -210,9 +209,9 @@ impl<T: TermLike> OwnRows<T> {
         ensures { SendsHere T.view (Asked (Right n) ∷ []) self.old self.new result }
     {
         let to = self.right_of(n);
-        self.term.move_cursor_right(to.saturating_sub(self.column))?;
+        let far = to.saturating_sub(self.column);
         self.column = to;
-        Ok(())
+        self.term.move_cursor_right(far)
     }
 
     /// The column of the cursor after a move to the right.
@@ -224,20 +223,6 @@ impl<T: TermLike> OwnRows<T> {
             return self.column;
         }
         self.column.saturating_add(n).min(columns.saturating_sub(1))
-    }
-
-    /// Goes to the left by so many columns, from the front of the row.
-    fn go_left(&mut self, n: usize) -> io::Result<()>
-        ensures { SendsHere T.view (Asked (Left n) ∷ []) self.old self.new result }
-    {
-        if n == 0 {
-            return Ok(());
-        }
-        let to = self.column.saturating_sub(n);
-        self.go_to_front()?;
-        self.term.move_cursor_right(to)?;
-        self.column = to;
-        Ok(())
     }
 
     /// Ends a drawing: the cursor on a row of its own, and the wrap on.
@@ -256,20 +241,16 @@ impl<T: TermLike> OwnRows<T> {
 
     /// Ends the last row, and turns the wrap on.
     fn leave_below(&mut self) -> io::Result<()>
-        ensures { Sends T.view (row_end Place.Below ++ WrapOn ∷ []) self.old.column Place.Below self.old self.new result }
+        ensures { Sends T.view (Asked Return ∷ Asked LineFeed ∷ WrapOn ∷ []) self.old.column Place.Below self.old self.new result }
     {
-        self.term.write_str("\r\n\u{1b}[?7h")?;
-        self.place = Place::Below;
-        Ok(())
+        self.send("\r\n\u{1b}[?7h", self.column, Place::Below)
     }
 
     /// Turns the wrap on.
     fn turn_wrap_on(&mut self) -> io::Result<()>
         ensures { Sends T.view (WrapOn ∷ []) self.old.column Place.Resting self.old self.new result }
     {
-        self.term.write_str("\u{1b}[?7h")?;
-        self.place = Place::Resting;
-        Ok(())
+        self.send("\u{1b}[?7h", self.column, Place::Resting)
     }
 
     /// Ends a drawing and hands on what is held back.
@@ -309,7 +290,9 @@ impl<T: TermLike> OwnRows<T> {
         ensures { SendsCut T.view (Asked (Left n) ∷ []) self.old self.new result }
     {
         self.begin()?;
-        self.go_left(n)
+        let to = self.column.saturating_sub(n);
+        self.column = to;
+        self.term.move_cursor_left(n)
     }
 
     /// Writes a text, within a drawing.
@@ -333,9 +316,8 @@ impl<T: TermLike> OwnRows<T> {
         ensures { SendsCut T.view (Asked Return ∷ Asked EmptyRow ∷ []) self.old self.new result }
     {
         self.begin()?;
-        self.term.clear_line()?;
         self.column = 0;
-        Ok(())
+        self.term.clear_line()
     }
 
     /// Hands on what became of a call; after a failure nobody knows where the cursor is, and the next drawing begins there.
