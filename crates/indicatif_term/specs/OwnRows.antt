@@ -6,7 +6,7 @@ use Rattle.indicatif_text.specs.Pieces.{TextPiece, Colour, Run, pieces_of_text}
 use Rattle.indicatif_term.specs.Screen.{Screen, Op, Put, Return, LineFeed, Up, Down, Right, Left, EmptyRow, performed, put_here, put_mark, top, IsWhole}
 use Rattle.indicatif_term.specs.Calls.{Nothing, TermView, LeadsOn, BreaksOff, UP, DOWN, RIGHT, LEFT, move_bytes}
 use Rattle.indicatif_term.specs.declared.own_rows.Place.{Place}
-use Rattle.indicatif_term.specs.declared.own_rows.Place.TheVariants.{Drawing, Resting, Below}
+use Rattle.indicatif_term.specs.declared.own_rows.Place.TheVariants.{Drawing, Resting, RowBelow}
 use Rattle.indicatif_term.specs.declared.own_rows.OwnRows.{OwnRows}
 
 -- ---- what is sent, and its bytes
@@ -108,13 +108,13 @@ column_after_all w k (x ∷ xs) = column_after_all w (column_after w k x) xs
 abbrev pub beginning : Place → List Sent
 beginning Drawing = []
 beginning Resting = WrapOff ∷ []
-beginning Below = WrapOff ∷ Asked (Up 1) ∷ []
+beginning RowBelow = WrapOff ∷ Asked (Up 1) ∷ []
 
 -- the column then
 abbrev pub first_column : Place → ℕ → ℕ
 first_column Drawing k = k
 first_column Resting k = k
-first_column Below k = 0
+first_column RowBelow k = 0
 
 -- whether a terminal of so many rows has one for the cursor below a drawing
 abbrev pub has_row_below : ℕ → Bool
@@ -126,11 +126,11 @@ rows_told rows = if has_row_below rows then rows - 1 else rows
 
 -- where the cursor is left by a drawing that ends at column k: on a row of its own, or at the front of an empty one
 abbrev pub left_at : ℕ → ℕ → Place
-left_at rows k = if has_row_below rows && nat_lt 0 k then Below else Resting
+left_at rows k = if has_row_below rows && nat_lt 0 k then RowBelow else Resting
 
 -- what is sent at its end: the end of its last row, and the wrap goes on
 abbrev pub row_end : Place → List Sent
-row_end Below = Asked Return ∷ Asked LineFeed ∷ []
+row_end RowBelow = Asked Return ∷ Asked LineFeed ∷ []
 row_end Resting = []
 row_end Drawing = []
 
@@ -138,13 +138,13 @@ row_end Drawing = []
 abbrev pub ending : ℕ → ℕ → Place → List Sent
 ending rows k Drawing = row_end (left_at rows k) ++ WrapOn ∷ []
 ending rows k Resting = []
-ending rows k Below = []
+ending rows k RowBelow = []
 
 -- where the cursor is left then
 abbrev pub place_after : ℕ → ℕ → Place → Place
 place_after rows k Drawing = left_at rows k
 place_after rows k Resting = Resting
-place_after rows k Below = Below
+place_after rows k RowBelow = RowBelow
 
 -- ---- what contracts see
 
@@ -275,13 +275,13 @@ roomy r h blank s = record {
 
 -- the cursor as a drawing left it: where it was, or at the front of the row below
 abbrev pub left_cursor : Place → Screen → Screen
-left_cursor Below s = record s { row = s.row + 1; column = 0 }
+left_cursor RowBelow s = record s { row = s.row + 1; column = 0 }
 left_cursor Resting s = s
 left_cursor Drawing s = s
 
 -- the row as a drawing left it
 abbrev pub left_row : Place → ℕ → ℕ
-left_row Below row = row + 1
+left_row RowBelow row = row + 1
 left_row Resting row = row
 left_row Drawing row = row
 

@@ -18,7 +18,7 @@ pub enum Place {
     /// Between two drawings, where the last one ended.
     Resting,
     /// Between two drawings, at the front of the row below the last row of the last one.
-    Below,
+    RowBelow,
 }
 
 /// A terminal that may be told a wrong size.
@@ -73,7 +73,7 @@ impl<T: TermLike> OwnRows<T> {
         match self.place {
             Place::Drawing => Ok(()),
             Place::Resting => self.turn_wrap_off(),
-            Place::Below => self.go_back(),
+            Place::RowBelow => self.go_back(),
         }
     }
 
@@ -241,9 +241,9 @@ impl<T: TermLike> OwnRows<T> {
 
     /// Ends the last row, and turns the wrap on.
     fn leave_below(&mut self) -> io::Result<()>
-        ensures { Sends T.view (Asked Return ∷ Asked LineFeed ∷ WrapOn ∷ []) self.old.column Place.Below self.old self.new result }
+        ensures { Sends T.view (Asked Return ∷ Asked LineFeed ∷ WrapOn ∷ []) self.old.column Place.RowBelow self.old self.new result }
     {
-        self.send("\r\n\u{1b}[?7h", self.column, Place::Below)
+        self.send("\r\n\u{1b}[?7h", self.column, Place::RowBelow)
     }
 
     /// Turns the wrap on.
