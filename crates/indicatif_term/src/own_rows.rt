@@ -229,9 +229,18 @@ impl<T: TermLike> OwnRows<T> {
     fn end(&mut self) -> io::Result<()>
         ensures { Ends T.view self.old self.new result }
     {
-        if self.place != Place::Drawing {
-            return Ok(());
+        match self.place {
+            Place::Drawing => self.end_drawing(),
+            Place::Resting => Ok(()),
+            Place::RowBelow => Ok(()),
         }
+    }
+
+    /// The same of a drawing that was begun.
+    fn end_drawing(&mut self) -> io::Result<()>
+        requires { self.old.place ≡ Place.Drawing }
+        ensures { Ends T.view self.old self.new result }
+    {
         if self.term.height() > 1 && self.column > 0 {
             self.leave_below()
         } else {
