@@ -1,9 +1,9 @@
 -- The lines of a plan, and which of them stand there already.
-use Rattle.std.proofs.Common.{◌≡◌, ℕ, zero, suc, ◌+◌, ◌-◌, ◌<◌, ◌≤◌, ◌^◌, min, Bool, true, false, List, [], ◌∷◌, ◌++◌, length, take, drop, map, replicate, get_or, refl, sym, ◌∙◌, ap, subst, arith, length-append, append-nil, append_assoc, chars, Option, Some, None, if◌then◌else◌}
-use Rattle.std.specs.Prelude.{IsTrue, IsFalse, string_bytes, slice_set, slice_index_or}
+use Rattle.std.proofs.Common.{◌≡◌, ℕ, zero, suc, ◌+◌, ◌-◌, ◌<◌, ◌≤◌, ◌^◌, min, Bool, true, false, List, [], ◌∷◌, ◌++◌, length, take, drop, map, replicate, get_or, refl, sym, ◌∙◌, ap, subst, arith, length-append, chars, Some, None}
+use Rattle.std.specs.Prelude.{IsTrue, IsFalse, string_bytes, slice_set}
 use Rattle.std.specs.List.{AllByRecursion}
 use Rattle.std.proofs.lemmas.Bool.{or_parts}
-use Rattle.std.proofs.lemmas.List.{take_more, take-set, drop-set, take_more_set, map-append, take-append-drop, take-append-le, take_all, drop-map, drop-drop, drop_at, take_at, take-map, length-map}
+use Rattle.std.proofs.lemmas.List.{take_more, drop-set, take_more_set, map-append, take-append-le, take_all, drop-map, drop-drop, drop_at, take_at, take-map}
 use Rattle.std.proofs.Math.Seq.{map-set_same}
 use Rattle.indicatif_text.specs.Columns.{has_wide, rows_of, last_columns}
 use Rattle.indicatif_term.specs.Shows.{look, looks_of}

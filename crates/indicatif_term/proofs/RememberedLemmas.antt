@@ -1,19 +1,10 @@
 -- Lines that are remembered, and new ones beside them.
-use Rattle.std.proofs.Common.{◌≡◌, ℕ, zero, suc, ◌+◌, ◌-◌, ◌<◌, ◌≤◌, ◌^◌, min, true, false, List, [], ◌∷◌, ◌++◌, length, take, drop, map, get_or, refl, sym, ◌∙◌, ap, subst, arith, length-append, append_assoc, append-nil, chars, if◌then◌else◌}
-use Rattle.std.specs.Prelude.{IsTrue, IsFalse, string_bytes}
-use Rattle.std.proofs.lemmas.Bool.{or_parts}
-use Rattle.std.proofs.lemmas.List.Folds.{list_any-append}
-use Rattle.indicatif_text.specs.Columns.{has_wide}
-use Rattle.indicatif_term.specs.Frames.{line_text, text_lines, some_wide}
-use Rattle.indicatif_term.specs.Inside.Plans.{frame_lines}
-use Rattle.indicatif_term.specs.declared.lines.Segment.{Segment}
-use Rattle.indicatif_term.proofs.MeasureLemmas.{empty_narrow}
-use Rattle.indicatif_term.proofs.MemberLineLemmas.{member_lines, frame_step, frame_split}
-use Rattle.std.proofs.lemmas.List.{take_more, map-append, take_at, drop_at, drop-drop, take-map, drop-map, take-append-drop, take_all}
-use Rattle.indicatif_text.specs.Columns.{rows_of, last_columns}
-use Rattle.indicatif_term.specs.Shows.{look, looks_of}
-use Rattle.indicatif_term.specs.Inside.Skips.{PlacedLine, placed_height, Sits, AreSitting, rewrite_bytes}
-use Rattle.indicatif_term.specs.Standing.{placed_of, placed, texts, standing_rows, IsLine, AreLines}
+use Rattle.std.proofs.Common.{◌≡◌, ℕ, zero, suc, ◌+◌, ◌-◌, ◌<◌, ◌≤◌, ◌^◌, min, true, false, List, [], ◌∷◌, ◌++◌, length, take, drop, get_or, refl, sym, ◌∙◌, ap, subst, arith, length-append, chars, if◌then◌else◌}
+use Rattle.std.specs.Prelude.{string_bytes}
+use Rattle.std.proofs.lemmas.List.{take_more, map-append, take_at, drop_at, drop-drop, take_all}
+use Rattle.indicatif_text.specs.Columns.{rows_of}
+use Rattle.indicatif_term.specs.Inside.Skips.{PlacedLine, placed_height, rewrite_bytes}
+use Rattle.indicatif_term.specs.Standing.{placed_of, placed, standing_rows, IsLine, AreLines}
 use Rattle.indicatif_term.specs.Remembered.{AreRemembered}
 use Rattle.indicatif_term.specs.Lists.{Lists, all_rows, passed, kept_of, is_first}
 use Rattle.indicatif_term.specs.declared.remembered.Remembered.{Remembered}
@@ -21,7 +12,7 @@ use Rattle.indicatif_term.proofs.CountLemmas.{passed-rows}
 use Rattle.indicatif_term.specs.Inside.Places.{IsAt, IsThere}
 use Rattle.indicatif_term.specs.declared.remembered.StandingLine.{StandingLine}
 use Rattle.indicatif_term.specs.declared.beside.Place.{Place}
-use Rattle.indicatif_term.proofs.SkipLemmas.{height-append, sitting_both}
+use Rattle.indicatif_term.proofs.SkipLemmas.{height-append}
 
 -- ---- one more of some lines
 

@@ -1,5 +1,5 @@
 -- The lines that a plan shows.
-use Rattle.std.specs.Prelude.{◌≡◌, ℕ, ◌≤◌, false, IsFalse, List, [], ◌∷◌, length, take, drop, chars, string_bytes, Option, IfSome}
+use Rattle.std.specs.Prelude.{◌≡◌, ℕ, ◌≤◌, false, IsFalse, List, [], ◌∷◌, length, take, drop, string_bytes, Option, IfSome}
 use Rattle.std.specs.List.{AllByRecursion}
 use Rattle.indicatif_text.specs.Columns.{has_wide, rows_of, last_columns}
 use Rattle.indicatif_term.specs.Standing.{texts, AreLines}

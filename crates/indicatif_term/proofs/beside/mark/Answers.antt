@@ -1,4 +1,4 @@
-use Rattle.std.proofs.Common.{arith, ◌<◌, refl, sym, ◌∙◌, ap, subst, take_all, ◌≡◌, take, length}
+use Rattle.std.proofs.Common.{arith, ◌<◌, refl, sym, ◌∙◌, ap, take_all, ◌≡◌, take, length}
 use Rattle.std.specs.Prelude.{string_bytes}
 use Rattle.std.proofs.lemmas.List.{length-map}
 use Rattle.indicatif_term.specs.Standing.{IsLine}

@@ -3,7 +3,6 @@ use Rattle.std.proofs.lemmas.Result.{err_from_is_err_and}
 use Rattle.std.proofs.lemmas.List.{length-map, take_all}
 use Rattle.indicatif_term.specs.Frames.{bar_lines, line_text}
 use Rattle.indicatif_term.specs.Inside.Plans.{IsLaidOut, IsWithheld}
-use Rattle.indicatif_term.proofs.TerminalStepLemmas.{rows_some}
 use Rattle.indicatif_term.proofs.MeasureLemmas.{narrow_more}
 use Rattle.indicatif_term.specs.Inside.Fills.{PlanEndsAt, line_end}
 use Rattle.indicatif_term.proofs.LineEndLemmas.{line_ends_step}
