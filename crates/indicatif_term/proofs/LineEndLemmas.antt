@@ -98,7 +98,7 @@ nothing_ends_at w = rw chars-nil refl
 pub came_end : (w : ℕ) (came : List (Bor (List ℕ))) (x : Bor (List ℕ)) → line_end w x.now ≡ line_end w (last_or_none (map (λ line. line.now) (came ++ x ∷ [])))
 came_end w came x = ap (λ o. line_end w (line_or_none o)) (sym (ap last_of (map-append (λ (line : Bor (List ℕ)). line.now) came (x ∷ [])) ∙ last_push (map (λ line. line.now) came) x.now))
 
-one_row : (w : ℕ) → length (rows_of w (chars [])) ≡ 1
+pub one_row : (w : ℕ) → length (rows_of w (chars [])) ≡ 1
 unfolding rows_of visible
 one_row w = rw chars-nil refl
 

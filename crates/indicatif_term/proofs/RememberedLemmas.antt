@@ -1,28 +1,21 @@
 -- Lines that are remembered, and new ones beside them.
-use Rattle.std.proofs.Common.{◌≡◌, ℕ, zero, suc, ◌+◌, ◌-◌, ◌<◌, ◌≤◌, ◌^◌, min, true, false, List, [], ◌∷◌, ◌++◌, length, take, drop, map, get_or, refl, sym, ◌∙◌, ap, subst, arith, length-append, append_assoc, append-nil, chars, if◌then◌else◌}
-use Rattle.std.specs.Prelude.{IsTrue, IsFalse, string_bytes}
-use Rattle.std.proofs.lemmas.Bool.{or_parts}
-use Rattle.std.proofs.lemmas.List.Folds.{list_any-append}
-use Rattle.indicatif_text.specs.Columns.{has_wide}
-use Rattle.indicatif_term.specs.Frames.{line_text, text_lines, some_wide}
-use Rattle.indicatif_term.specs.Inside.Plans.{frame_lines}
-use Rattle.indicatif_term.specs.declared.lines.Segment.{Segment}
-use Rattle.indicatif_term.proofs.MeasureLemmas.{empty_narrow}
-use Rattle.indicatif_term.proofs.MemberLineLemmas.{member_lines, frame_step, frame_split}
-use Rattle.std.proofs.lemmas.List.{take_more, map-append, take_at, drop_at, drop-drop, take-map, drop-map, take-append-drop, take_all}
-use Rattle.indicatif_text.specs.Columns.{rows_of, last_columns}
-use Rattle.indicatif_term.specs.Shows.{look, looks_of}
-use Rattle.indicatif_term.specs.Inside.Skips.{PlacedLine, placed_height, Sits, AreSitting, rewrite_bytes}
-use Rattle.indicatif_term.specs.Remembered.{placed_of, placed, texts, standing_rows, IsLine, AreLines, AreRemembered}
+use Rattle.std.proofs.Common.{◌≡◌, ℕ, zero, suc, ◌+◌, ◌-◌, ◌<◌, ◌≤◌, ◌^◌, min, true, false, List, [], ◌∷◌, ◌++◌, length, take, drop, get_or, refl, sym, ◌∙◌, ap, subst, arith, length-append, chars, if◌then◌else◌, Option, Some, None}
+use Rattle.std.specs.Prelude.{string_bytes, IfSome}
+use Rattle.std.proofs.lemmas.List.{take_more, map-append, take_at, drop_at, drop-drop, length-map, length-take-le, length-drop, take-append-drop, take_all, nil_from_length}
+use Rattle.indicatif_text.specs.Columns.{rows_of}
+use Rattle.indicatif_term.specs.Inside.Skips.{PlacedLine, placed_height, placed_lines, free_behind, change_bytes}
+use Rattle.indicatif_term.specs.Inside.Fills.{last_of}
+use Rattle.indicatif_term.proofs.LastLineLemmas.{last_push}
+use Rattle.indicatif_term.specs.Standing.{placed_of, placed, texts, standing_rows, IsLine, AreLines}
+use Rattle.indicatif_term.specs.Remembered.{AreRemembered}
 use Rattle.indicatif_term.specs.Lists.{Lists, all_rows, passed, kept_of, is_first}
 use Rattle.indicatif_term.specs.declared.remembered.Remembered.{Remembered}
 use Rattle.indicatif_term.proofs.CountLemmas.{passed-rows}
-use Rattle.indicatif_term.specs.Inside.Fillings.{IsAt, BeginsAt, IsFilling, Fills}
+use Rattle.indicatif_term.specs.Inside.Places.{IsAt, IsThere, IsWithin}
 use Rattle.indicatif_term.specs.declared.remembered.StandingLine.{StandingLine}
-use Rattle.indicatif_term.specs.declared.remembered.Place.{Place}
-use Rattle.indicatif_term.specs.declared.remembered.Extent.{Extent}
-use Rattle.indicatif_term.specs.declared.remembered.Filling.{Filling}
-use Rattle.indicatif_term.proofs.SkipLemmas.{height-append, sitting_both}
+use Rattle.indicatif_term.specs.declared.beside.Place.{Place}
+use Rattle.indicatif_term.specs.declared.beside.Room.{Room}
+use Rattle.indicatif_term.proofs.SkipLemmas.{height-append}
 
 -- ---- one more of some lines
 
@@ -53,117 +46,22 @@ at_next w ls at row x h e r all is = λ small.
     ap (λ n. drop n (standing_rows w ls)) exact ∙ sym (drop-drop x.rows at.row (standing_rows w ls)) ∙ ap (drop x.rows) (here ∙ ap (standing_rows w) (drop_more ls at.index x h e))
     ∙ drop_at (rows_of w (chars (string_bytes x.text))) (standing_rows w (drop (at.index + 1) ls)) x.rows (sym l.rows_are)
 
-pub found_at : (w : ℕ) (ls : List StandingLine) (at : Place) (start : ℕ) (x : StandingLine) (text : List ℕ) (e : Extent) → at.index < length ls → get_or ls at.index x ≡ x → start ≤ 65535 → at.row ≡ start →
-    string_bytes x.text ≡ text → e.rows ≡ x.rows → e.last ≡ x.last → AreLines w ls → IsAt w ls at → BeginsAt w ls start text e
-found_at w ls at start x text e h i small r s a b all is =
-    let l = line_at w ls at.index x all h i in
-    let rows : e.rows ≡ length (rows_of w (chars text)) = a ∙ l.rows_are ∙ ap (λ t. length (rows_of w (chars t))) s in (
-      record { rows_are = rows; last_is = b ∙ l.last_is ∙ ap (λ t. last_columns w (chars t)) s },
-      ap (λ n. take e.rows (drop n (standing_rows w ls))) (sym r) ∙ ap (take e.rows) (is (omega arith) ∙ ap (standing_rows w) (drop_more ls at.index x h i))
-          ∙ ap (λ t. take e.rows (rows_of w (chars t) ++ standing_rows w (drop (at.index + 1) ls))) s
-          ∙ take_at (rows_of w (chars text)) (standing_rows w (drop (at.index + 1) ls)) e.rows (sym rows),
+-- a line that is the same as the one at a place stands there
+pub there_at : (w : ℕ) (ls : List StandingLine) (at : Place) (start : ℕ) (x y : StandingLine) → at.index < length ls → get_or ls at.index x ≡ x → start ≤ 65535 → at.row ≡ start →
+    string_bytes x.text ≡ string_bytes y.text → IsLine w y → IsAt w ls at → IsThere w ls start y
+there_at w ls at start x y h i small r s line is =
+    let rows : y.rows ≡ length (rows_of w (chars (string_bytes x.text))) = line.rows_are ∙ ap (λ t. length (rows_of w (chars t))) (sym s) in (
+      small,
+      ap (λ n. take y.rows (drop n (standing_rows w ls))) (sym r) ∙ ap (take y.rows) (is (omega arith) ∙ ap (standing_rows w) (drop_more ls at.index x h i))
+          ∙ take_at (rows_of w (chars (string_bytes x.text))) (standing_rows w (drop (at.index + 1) ls)) y.rows (sym rows)
+          ∙ ap (λ t. rows_of w (chars t)) s,
     )
-
--- ---- new lines
-
-pub fills_none : (w : ℕ) (f : Filling) → Fills w [] f f
-fills_none w f = record { texts_are = sym (append-nil (texts f.lines.items)); same = refl; skipped_is = refl; filling = λ all is. is }
-
-pub fills_then : (w : ℕ) (a b : List (List ℕ)) (f g h : Filling) → Fills w a f g → Fills w b g h → Fills w (a ++ b) f h
-fills_then w a b f g h p q = record {
-  texts_are = q.texts_are ∙ ap (λ x. x ++ b) p.texts_are ∙ append_assoc (texts f.lines.items) a b;
-  same = q.same ∙ p.same;
-  skipped_is = q.skipped_is ∙ p.skipped_is;
-  filling = λ all is. q.filling (subst (AreLines w) (sym p.same) all) (p.filling all is);
-}
-
-pub fills_next : (w : ℕ) (ys : List (List ℕ)) (i : ℕ) (y : List ℕ) (f g h : Filling) → i < length ys → get_or ys i y ≡ y → Fills w (take i ys) f g → Fills w (y ∷ []) g h → Fills w (take (i + 1) ys) f h
-fills_next w ys i y f g h k e p q =
-    let s : take (i + 1) ys ≡ take i ys ++ y ∷ [] = take_more ys i y k ∙ ap (λ x. take i ys ++ x ∷ []) e in
-    rw s (fills_then w (take i ys) (y ∷ []) f g h p q)
-
--- one more line
-pub fills_one : (w : ℕ) (text : List ℕ) (f g : Filling) (x : StandingLine) (place : Place) → g.standing.now ≡ f.standing.now → g.skipped ≡ f.skipped → g.place ≡ place →
-    g.lines.items ≡ f.lines.items ++ x ∷ [] → string_bytes x.text ≡ text → g.start ≡ min (f.start + x.rows) (2 ^ 64 - 1) →
-    (AreLines w f.standing.now → IsAt w f.standing.now f.place → IsAt w f.standing.now place) →
-    (AreLines w f.standing.now → IsAt w f.standing.now place → (x.rows ≡ length (rows_of w (chars text))) × (x.last ≡ last_columns w (chars text))) →
-    (AreLines w f.standing.now → IsAt w f.standing.now place → IsTrue x.stays → (f.start ≤ 65535) × (take x.rows (drop f.start (standing_rows w f.standing.now)) ≡ rows_of w (chars text))) →
-    Fills w (text ∷ []) f g
-fills_one w text f g x place s k p l t start at extent same = record {
-  texts_are = ap texts l ∙ map-append (λ (l : StandingLine). string_bytes l.text) f.lines.items (x ∷ []) ∙ ap (λ y. texts f.lines.items ++ y ∷ []) t;
-  same = s;
-  skipped_is = k;
-  filling = λ all is.
-      let ls = f.standing.now in
-      let rows = standing_rows w ls in
-      let ps = placed f.lines.items in
-      let here = at all is.at in
-      let e = extent all here in
-      let one : Sits w (drop (placed_height ps) (looks_of (drop f.skipped rows))) (placed_of x) = record {
-        rows_are = e.0 ∙ ap (λ y. length (rows_of w (chars y))) (sym t);
-        last_is = e.1 ∙ ap (λ y. last_columns w (chars y)) (sym t);
-        same = λ stays.
-            let c = same all here stays in
-            let exact : f.start ≡ f.skipped + placed_height ps = is.start_is c.0 in
-            ap (take x.rows) (drop-map (map look) (placed_height ps) (drop f.skipped rows) ∙ ap looks_of (drop-drop (placed_height ps) f.skipped rows ∙ ap (λ n. drop n rows) (sym exact)))
-            ∙ take-map (map look) x.rows (drop f.start rows) ∙ ap looks_of (c.1 ∙ ap (λ y. rows_of w (chars y)) (sym t));
-      } in
-      let split : placed g.lines.items ≡ ps ++ placed_of x ∷ [] = ap placed l ∙ map-append placed_of f.lines.items (x ∷ []) in
-      let height : placed_height (placed g.lines.items) ≡ placed_height ps + x.rows = ap placed_height split ∙ height-append ps (placed_of x ∷ []) ∙ omega arith in
-      record {
-        sits = subst (λ ys. AreSitting w (looks_of (drop g.skipped (standing_rows w ys))) (placed g.lines.items)) (sym s)
-            (subst (λ n. AreSitting w (looks_of (drop n rows)) (placed g.lines.items)) (sym k)
-            (subst (AreSitting w (looks_of (drop f.skipped rows))) (sym split) (sitting_both w ps (placed_of x ∷ []) (looks_of (drop f.skipped rows)) is.sits (one, tt))));
-        at = subst (λ ys. IsAt w ys g.place) (sym s) (subst (IsAt w ls) (sym p) here);
-        start_is = λ small. let exact : f.start ≡ f.skipped + placed_height ps = is.start_is (omega arith) in omega (arith, height, k);
-      };
-}
-
--- ---- lines that are not too wide
-
-narrow_parts : (w : ℕ) (a b : List (List ℕ)) → some_wide w (text_lines (a ++ b)) ≡ false → (some_wide w (text_lines a) ≡ false) × (some_wide w (text_lines b) ≡ false)
-narrow_parts w a b n = or_parts (some_wide w (text_lines a)) (some_wide w (text_lines b)) (sym (ap (some_wide w) (map-append chars a b) ∙ list_any-append (has_wide w) (text_lines a) (text_lines b)) ∙ n)
-
-pub narrow_take : (w n : ℕ) (lines : List (List ℕ)) → some_wide w (text_lines lines) ≡ false → some_wide w (text_lines (take n lines)) ≡ false
-narrow_take w n lines h = (narrow_parts w (take n lines) (drop n lines) (ap (λ x. some_wide w (text_lines x)) (take-append-drop n lines) ∙ h)).0
-
-pub narrow_at : (w : ℕ) (lines : List (List ℕ)) (i : ℕ) (y : List ℕ) → some_wide w (text_lines lines) ≡ false → i < length lines → get_or lines i y ≡ y → IsFalse (has_wide w (chars y))
-narrow_at w [] i y n h e = absurd (omega arith)
-narrow_at w (x ∷ lines) zero y n h e = subst (λ z. has_wide w (chars z) ≡ false) e (or_parts (has_wide w (chars x)) (some_wide w (text_lines lines)) n).0
-narrow_at w (x ∷ lines) (suc i) y n h e = narrow_at w lines i y (or_parts (has_wide w (chars x)) (some_wide w (text_lines lines)) n).1 (omega arith) e
-
-pub nothing_narrow : (w : ℕ) → IsFalse (has_wide w (chars []))
-nothing_narrow w = (or_parts (has_wide w (chars [])) false (empty_narrow w)).0
-
-pub narrow_member : (w n : ℕ) (frame : List Segment) (i : ℕ) (s : Segment) → some_wide w (text_lines (frame_lines frame)) ≡ false → i < length frame → get_or frame i s ≡ s →
-    some_wide w (text_lines (map line_text (take n s.lines.items))) ≡ false
-narrow_member w n frame i s h k e =
-    let front : some_wide w (text_lines (frame_lines (take (i + 1) frame))) ≡ false =
-    (narrow_parts w (frame_lines (take (i + 1) frame)) (frame_lines (drop (i + 1) frame)) (ap (λ x. some_wide w (text_lines x)) (sym (frame_split frame (i + 1))) ∙ h)).0 in
-    let member : some_wide w (text_lines (member_lines s)) ≡ false =
-    (narrow_parts w (frame_lines (take i frame)) (member_lines s) (ap (λ x. some_wide w (text_lines x)) (sym (frame_step frame i s k e)) ∙ front)).1 in
-    ap (λ x. some_wide w (text_lines x)) (sym (take-map line_text n s.lines.items)) ∙ narrow_take w n (member_lines s) member
-
--- ---- all of them
-
--- lines put beside others from the first on sit on their rows
-pub fills_sit : (w : ℕ) (lines : List (List ℕ)) (f g : Filling) → Fills w lines f g → f.lines.items ≡ [] → f.place ≡ record { index = 0; row = 0 } → f.start ≡ f.skipped → AreLines w f.standing.now →
-    AreSitting w (looks_of (drop f.skipped (standing_rows w f.standing.now))) (placed g.lines.items)
-fills_sit w lines f g p none first begins all =
-    let start : IsFilling w f = record {
-      sits = subst (λ xs. AreSitting w (looks_of (drop f.skipped (standing_rows w f.standing.now))) (placed xs)) (sym none) tt;
-      at = subst (IsAt w f.standing.now) (sym first) (λ small. refl);
-      start_is = λ small. let n : placed_height (placed f.lines.items) ≡ 0 = ap (λ xs. placed_height (placed xs)) none in omega (arith, n, begins);
-    } in
-    let end = p.filling all start in
-    subst (λ n. AreSitting w (looks_of (drop n (standing_rows w f.standing.now))) (placed g.lines.items)) p.skipped_is
-    (subst (λ xs. AreSitting w (looks_of (drop g.skipped (standing_rows w xs))) (placed g.lines.items)) p.same end.sits)
 
 -- ---- what is remembered
 
 -- nothing is remembered
 pub nothing_shown : (r : Remembered) (l : Lists) → r.width ≡ 0 → AreRemembered r l
-nothing_shown r l e = record { lines = λ p. absurd (omega arith); rows = λ p. absurd (omega arith) }
+nothing_shown r l e = λ p. absurd (omega arith)
 
 -- a bar's rows that are kept are where they were
 kept_rows : (w bar : ℕ) (l : Lists) → all_rows w (kept_of w bar l) ≡ all_rows w l
@@ -171,33 +69,71 @@ unfolding kept_of
 kept_rows w bar l = elim (is_first bar l.live.segments) as (λ b. all_rows w (if b then passed w 1 l else l) ≡ all_rows w l) [ true ↦ passed-rows w 1 l | false ↦ refl ]
 
 pub kept_shown : (w bar : ℕ) (r : Remembered) (l : Lists) → r.width ≡ w → AreRemembered r l → AreRemembered r (kept_of w bar l)
-kept_shown w bar r l e a = record {
-  lines = a.lines;
-  rows = λ p. let x = a.rows p in (x.0, x.1 ∙ ap (λ n. all_rows n l) e ∙ sym (kept_rows w bar l) ∙ ap (λ n. all_rows n (kept_of w bar l)) (sym e));
-}
+kept_shown w bar r l e a = λ p. let x = a p in (x.0, x.1 ∙ ap (λ n. all_rows n l) e ∙ sym (kept_rows w bar l) ∙ ap (λ n. all_rows n (kept_of w bar l)) (sym e))
 
--- ---- lines, and the last of them
+-- ---- lines around one of them
 
-pub split_at_end : (ls : List StandingLine) (k : ℕ) (x : StandingLine) → k + 1 ≡ length ls → get_or ls k x ≡ x → placed ls ≡ placed (take k ls) ++ placed_of x ∷ []
-split_at_end ls k x n e =
-    ap placed (sym (take_all (k + 1) ls (omega arith)) ∙ take_more ls k x (omega arith) ∙ ap (λ y. take k ls ++ y ∷ []) e) ∙ map-append placed_of (take k ls) (x ∷ [])
+split_around : (ls : List StandingLine) (k : ℕ) (x : StandingLine) → k < length ls → get_or ls k x ≡ x → placed ls ≡ placed (take k ls) ++ placed_of x ∷ placed (drop (k + 1) ls)
+split_around ls k x h e =
+    ap placed (sym (take-append-drop k ls) ∙ ap (λ y. take k ls ++ y) (drop_more ls k x h e)) ∙ map-append placed_of (take k ls) (x ∷ drop (k + 1) ls)
 
-pub height_at_end : (ls : List StandingLine) (k : ℕ) (x : StandingLine) → k + 1 ≡ length ls → get_or ls k x ≡ x → placed_height (placed (take k ls)) + x.rows ≡ placed_height (placed ls)
-height_at_end ls k x n e = sym (ap placed_height (split_at_end ls k x n e) ∙ height-append (placed (take k ls)) (placed_of x ∷ []) ∙ omega arith)
+parts_same : (ps qs : List PlacedLine) (a b : PlacedLine) (xs ys : List PlacedLine) → ps ++ a ∷ xs ≡ qs ++ b ∷ ys → length ps ≡ length qs → (ps ≡ qs) × (a ≡ b) × (xs ≡ ys)
+parts_same [] [] a b xs ys e k = (refl, cc, cc)
+parts_same [] (q ∷ qs) a b xs ys e k = absurd (omega arith)
+parts_same (p ∷ ps) [] a b xs ys e k = absurd (omega arith)
+parts_same (p ∷ ps) (q ∷ qs) a b xs ys e k =
+    let h : p ≡ q = cc in
+    let t : ps ++ a ∷ xs ≡ qs ++ b ∷ ys = cc in
+    let r = parts_same ps qs a b xs ys t (omega arith) in
+    (ap (λ z. z ∷ ps) h ∙ ap (λ zs. q ∷ zs) r.0, r.1, r.2)
 
-snoc_same : (ps qs : List PlacedLine) (a b : PlacedLine) → ps ++ a ∷ [] ≡ qs ++ b ∷ [] → (ps ≡ qs) × (a ≡ b)
-snoc_same [] [] a b e = (refl, cc)
-snoc_same [] (y ∷ qs) a b e = absurd (omega (arith, ap length e, length-append qs (b ∷ [])))
-snoc_same (x ∷ ps) [] a b e = absurd (omega (arith, ap length e, length-append ps (a ∷ [])))
-snoc_same (x ∷ ps) (y ∷ qs) a b e =
-    let h : x ≡ y = cc in
-    let t : ps ++ a ∷ [] ≡ qs ++ b ∷ [] = cc in
-    let r = snoc_same ps qs a b t in
-    (ap (λ z. z ∷ ps) h ∙ ap (λ zs. y ∷ zs) r.0, r.1)
+-- lines split around one of them in whatever way, so many up to it
+changed_in : (w free : ℕ) (ls : List StandingLine) (n : ℕ) (x : StandingLine) (front : List PlacedLine) (last : PlacedLine) (more : List PlacedLine) → 0 < n → n ≤ length ls → get_or ls (n - 1) x ≡ x →
+    placed ls ≡ front ++ last ∷ more → length front + 1 ≡ n → change_bytes w free (placed (take (n - 1) ls)) (placed_of x) (placed (drop n ls)) ≡ change_bytes w free front last more
+changed_in w free ls n x front last more p h e s k =
+    let next : n ≡ n - 1 + 1 = omega arith in
+    let r = parts_same (placed (take (n - 1) ls)) front (placed_of x) last (placed (drop (n - 1 + 1) ls)) more (sym (split_around ls (n - 1) x (omega arith) e) ∙ s)
+    (length-map (take (n - 1) ls) placed_of ∙ length-take-le (n - 1) ls (omega arith) ∙ omega (arith, k)) in
+    ap (λ m. change_bytes w free (placed (take (n - 1) ls)) (placed_of x) (placed (drop m ls))) next
+    ∙ ap (λ ps. change_bytes w free ps (placed_of x) (placed (drop (n - 1 + 1) ls))) r.0 ∙ ap (λ p. change_bytes w free front p (placed (drop (n - 1 + 1) ls))) r.1 ∙ ap (change_bytes w free front last) r.2
 
--- however lines are split before their last, these are its parts
-pub rewritten_by : (w : ℕ) (ls : List StandingLine) (k : ℕ) (x : StandingLine) (front : List PlacedLine) (last : PlacedLine) → k + 1 ≡ length ls → get_or ls k x ≡ x → placed ls ≡ front ++ last ∷ [] →
-    rewrite_bytes w (placed (take k ls)) (placed_of x) ≡ rewrite_bytes w front last
-rewritten_by w ls k x front last n e s =
-    let r = snoc_same (placed (take k ls)) front (placed_of x) last (sym (split_at_end ls k x n e) ∙ s) in
-    ap (λ ps. rewrite_bytes w ps (placed_of x)) r.0 ∙ ap (rewrite_bytes w front) r.1
+pub changed_by : (w free : ℕ) (ls a b : List StandingLine) (n : ℕ) (x : StandingLine) (front : List PlacedLine) (last : PlacedLine) (more : List PlacedLine) → a ≡ ls → b ≡ ls → 0 < n → n ≤ length ls → get_or ls (n - 1) x ≡ x →
+    placed ls ≡ front ++ last ∷ more → length front + 1 ≡ n → change_bytes w free (placed (take (n - 1) a)) (placed_of x) (placed (take (length b - n) (drop n b))) ≡ change_bytes w free front last more
+changed_by w free ls a b n x front last more ea eb p h e s k =
+    ap (λ xs. change_bytes w free (placed (take (n - 1) a)) (placed_of x) (placed xs)) (take_all (length b - n) (drop n b) (omega (arith, length-drop n b)))
+    ∙ ap (λ xs. change_bytes w free (placed (take (n - 1) xs)) (placed_of x) (placed (drop n b))) ea ∙ ap (λ xs. change_bytes w free (placed (take (n - 1) ls)) (placed_of x) (placed (drop n xs))) eb
+    ∙ changed_in w free ls n x front last more p h e s k
+
+pub height_to : (ls : List StandingLine) (n : ℕ) (x : StandingLine) → 0 < n → n ≤ length ls → get_or ls (n - 1) x ≡ x → placed_height (placed (take (n - 1) ls)) + x.rows ≡ placed_height (placed (take n ls))
+height_to ls n x p h e = sym (height_push ls (n - 1) x (omega arith) e) ∙ ap (λ m. placed_height (placed (take m ls))) (let next : n - 1 + 1 ≡ n = omega arith in next)
+
+-- the columns behind the last of lines
+pub none_behind : (w : ℕ) (ls : List StandingLine) → length ls ≡ 0 → 0 ≡ free_behind w (last_of (placed ls))
+none_behind w [] e = refl
+none_behind w (l ∷ ls) e = absurd (omega arith)
+
+pub last_behind : (w : ℕ) (ls : List StandingLine) (k : ℕ) (x : StandingLine) → k + 1 ≡ length ls → get_or ls k x ≡ x → w - x.last ≡ free_behind w (last_of (placed ls))
+last_behind w ls k x n e =
+    let nothing : drop (k + 1) ls ≡ [] = nil_from_length (drop (k + 1) ls) (length-drop (k + 1) ls ∙ omega arith) in
+    ap (free_behind w) (sym (last_push (placed (take k ls)) (placed_of x)) ∙ ap last_of (sym (split_around ls k x (omega arith) e ∙ ap (λ ys. placed (take k ls) ++ placed_of x ∷ placed ys) nothing)))
+
+pub lines_placed : (ls : List StandingLine) → placed_lines (placed ls) ≡ texts ls
+lines_placed [] = refl
+lines_placed (l ∷ ls) = ap (λ x. string_bytes l.text ∷ x) (lines_placed ls)
+
+-- ---- the lines that stand in rows that were there before
+
+-- so many lines from the front, and the rows that they leave
+pub record ArePassed (ls : List StandingLine) (rows n : ℕ) (room : Room) : Type 0 where
+  pub lines_are : room.lines ≡ n
+  pub in_lines : n ≤ length ls
+  pub rows_are : placed_height (placed (take n ls)) + room.free ≡ rows
+
+pub one_more_passed : (ls : List StandingLine) (rows n : ℕ) (room : Room) (x : StandingLine) → ArePassed ls rows n room → n < length ls → get_or ls n x ≡ x → x.rows ≤ room.free →
+    ArePassed ls rows (n + 1) (record { lines = n + 1; free = room.free - x.rows })
+one_more_passed ls rows n room x p h e k = record { lines_are = refl; in_lines = omega arith; rows_are = omega (arith, p.rows_are, height_push ls n x h e) }
+
+pub within_passed : (ls : List StandingLine) (rows n : ℕ) (room : Room) (found : Option Room) → ArePassed ls rows n room → IfSome found (λ r. (r ≡ room) × (0 < room.lines)) → IfSome found (λ r. IsWithin ls rows r)
+within_passed ls rows n room None p e = tt
+within_passed ls rows n room (Some r) p e =
+    rw e.0 (record { some = e.1; in_lines = omega (arith, p.lines_are, p.in_lines); rows_are = rw p.lines_are p.rows_are })

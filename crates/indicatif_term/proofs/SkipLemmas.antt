@@ -1,25 +1,28 @@
 -- A drawing among rows that stay, from its first byte to its last.
 use Rattle.std.proofs.Common.{inl, inr, ◌≡◌, ℕ, zero, suc, ◌+◌, ◌-◌, ◌<◌, ◌≤◌, Bool, true, false, List, [], ◌∷◌, ◌++◌, length, take, drop, replicate, map, refl, sym, ◌∙◌, ap, subst, arith, length-append, append_assoc, append-nil, chars, if◌then◌else◌}
-use Rattle.std.specs.Prelude.{IsTrue}
-use Rattle.std.proofs.lemmas.Bool.{cases_Bool}
+use Rattle.std.specs.Prelude.{IsTrue, nat_lt, ◌&&◌, ◌==◌, max}
+use Rattle.std.proofs.lemmas.Bool.{cases_Bool, and_parts, ltb-true}
+use Rattle.std.proofs.lemmas.Bool.Decides.{nat_tests}
 use Rattle.std.proofs.lemmas.Grind.{flat_map-append}
-use Rattle.std.proofs.lemmas.List.{length-replicate, length-map, drop_at, take-append-drop, length-take-le, length-drop, take-map, drop-map, drop-drop, map-append, take_all}
+use Rattle.std.proofs.lemmas.List.{length-replicate, length-map, drop_at, take-append-drop, length-take-le, length-drop, take-map, drop-map, drop-drop, drop-take, take-take, map-append, take_all, nil_from_length}
 use Rattle.indicatif_text.specs.Columns.{Cell, Blank, rows_of}
 use Rattle.indicatif_term.specs.Screen.{Screen}
 use Rattle.indicatif_term.specs.Terminal.{Terminal, GREATEST, after}
 use Rattle.indicatif_term.specs.Calls.{move_bytes}
 use Rattle.indicatif_term.specs.Shows.{look, looks_of}
-use Rattle.indicatif_term.specs.Inside.Skips.{PlacedLine, placed_height, placed_lines, changed_bytes, walk_bytes, walk_down, edge_bytes, last_bytes, skip_bytes, Sits, AreSitting}
+use Rattle.indicatif_term.specs.Inside.Skips.{PlacedLine, placed_height, placed_lines, changed_bytes, walk_bytes, walk_down, edge_bytes, last_bytes, skip_bytes, Sits, AreSitting, all_stay, filled_anew, rows_below, rewrite_bytes, free_behind, change_bytes}
+use Rattle.indicatif_term.specs.Inside.Bytes.{back_bytes, lines_bytes}
+use Rattle.indicatif_term.specs.Inside.Fills.{last_of}
 use Rattle.indicatif_term.proofs.CursorRowLemmas.{Stands}
 use Rattle.indicatif_term.proofs.FeedLemmas.{after-append}
-use Rattle.indicatif_term.proofs.FillLemmas.{spaces}
-use Rattle.indicatif_term.proofs.LastLineLemmas.{fill_width}
-use Rattle.indicatif_term.proofs.FilledLineLemmas.{filled_line, looks-append}
+use Rattle.indicatif_term.proofs.FillLemmas.{spaces, IsFull, filled_bytes}
+use Rattle.indicatif_term.proofs.LastLineLemmas.{fill_width, fill_bytes}
+use Rattle.indicatif_term.proofs.FilledLineLemmas.{filled_line, looks-append, refilled, refills}
 use Rattle.indicatif_term.proofs.ShownRowLemmas.{lines_rows}
 use Rattle.indicatif_term.proofs.TerminalStepLemmas.{StandsAfter, rows_some}
-use Rattle.indicatif_term.proofs.PaintingLemmas.{IsDrawable, AreDrawable, restand, relead, nothing_leads, leads_then, rises}
+use Rattle.indicatif_term.proofs.PaintingLemmas.{IsDrawable, AreDrawable, restand, relead, nothing_leads, leads_then, rises, row_for, left_at_end, back_leads, lines_lead, lines_column}
 use Rattle.indicatif_term.proofs.SkipStepLemmas.{unfronted, falls, changed_leads, changed_column, edge_leads, edge_column, ended_row, ended_look, ends_free}
-use Rattle.indicatif_term.proofs.DrawingLemmas.{looks_split}
+use Rattle.indicatif_term.proofs.DrawingLemmas.{looks_split, keeps_fewer}
 
 -- the parts of lines one below another
 pub sitting_parts : (w : ℕ) (ps qs : List PlacedLine) (looks : List (List Cell)) → AreSitting w looks (ps ++ qs) → AreSitting w looks ps × AreSitting w (drop (placed_height ps) looks) qs
@@ -31,6 +34,15 @@ sitting_parts w (p ∷ ps) qs looks s =
 pub sitting_both : (w : ℕ) (ps qs : List PlacedLine) (looks : List (List Cell)) → AreSitting w looks ps → AreSitting w (drop (placed_height ps) looks) qs → AreSitting w looks (ps ++ qs)
 sitting_both w [] qs looks a b = b
 sitting_both w (p ∷ ps) qs looks a b = (a.0, sitting_both w ps qs (drop p.rows looks) a.1 (subst (λ x. AreSitting w x qs) (sym (drop-drop (placed_height ps) p.rows looks)) b))
+
+-- lines sit on the first of the rows as on all, if these are as many as theirs
+pub sitting_front : (w n : ℕ) (ps : List PlacedLine) (looks : List (List Cell)) → placed_height ps ≤ n → AreSitting w looks ps → AreSitting w (take n looks) ps
+sitting_front w n [] looks k s = tt
+sitting_front w n (p ∷ ps) looks k s =
+    let rest : drop p.rows (take n looks) ≡ take (n - p.rows) (drop p.rows looks) = ap (λ m. drop p.rows (take m looks)) (let e : n ≡ p.rows + (n - p.rows) = omega arith in e) ∙ drop-take p.rows (n - p.rows) looks in (
+      record { rows_are = s.0.rows_are; last_is = s.0.last_is; same = λ e. take-take p.rows n looks (omega arith) ∙ s.0.same e },
+      subst (λ x. AreSitting w x ps) (sym rest) (sitting_front w (n - p.rows) ps (drop p.rows looks) (omega arith) s.1),
+    )
 
 pub height-append : (ps qs : List PlacedLine) → placed_height (ps ++ qs) ≡ placed_height ps + placed_height qs
 height-append [] qs = omega arith
@@ -211,17 +223,17 @@ module _ (w h : ℕ) (opening : Screen) (above : List (List Cell)) where
     pub looks : looks_of new ≡ looks_of (lines_rows w lines)
     pub column : (after t bytes).screen.column ≡ w
 
-  pub skip_leads : (ps : List PlacedLine) (p : PlacedLine) (old : List (List Cell)) (reach : ℕ) (t : Terminal) → 0 < w → w ≤ GREATEST → (IsTrue p.stays → p.last < w) →
+  pub skip_leads : (ps : List PlacedLine) (p : PlacedLine) (old : List (List Cell)) (further reach : ℕ) (t : Terminal) → 0 < w → w ≤ GREATEST → (IsTrue p.stays → p.last < w) →
       AreSitting w (looks_of old) ps → Sits w (drop (placed_height ps) (looks_of old)) p → AreDrawable w (placed_lines ps) → IsDrawable w p.line →
-      placed_height ps + p.rows ≡ length old → length old ≤ GREATEST → reach ≤ length above + h →
-      Stands w h opening (above ++ old) (length above + length old - 1) reach false t →
-      Skipped t (skip_bytes w ps p) (placed_lines ps ++ p.line ∷ []) (length old) reach
-  skip_leads ps p old reach t pos low room sit last d dp k small m s =
+      placed_height ps + p.rows ≡ length old → length old + further ≤ GREATEST → reach ≤ length above + h →
+      Stands w h opening (above ++ old) (length above + length old - 1 + further) reach false t →
+      Skipped t (skip_bytes w further ps p) (placed_lines ps ++ p.line ∷ []) (length old) reach
+  skip_leads ps p old further reach t pos low room sit last d dp k small m s =
       let none : List (List Cell) = [] in
       let n = placed_height ps in
       let some : 0 < p.rows = let q : 0 < length (rows_of w (chars p.line)) = rows_some w (chars p.line) in omega (arith, last.rows_are) in
-      let up = move_bytes 0x41 (n + p.rows - 1) in
-      let first = rises w h opening above old (n + p.rows - 1) (length above) reach false t (omega arith) (omega arith) (omega arith)
+      let up = move_bytes 0x41 (n + p.rows - 1 + further) in
+      let first = rises w h opening above old (n + p.rows - 1 + further) (length above) reach false t (omega arith) (omega arith) (omega arith)
       (restand w h opening above t _ _ _ _ reach reach false false refl (omega (arith, k)) refl refl s) in
       let walk = walk_leads ps old none 0 (length above) reach false (after t up) sit d (omega arith) (omega arith) m (omega arith) (omega arith) first.stands in
       let below = drop n old in
@@ -242,3 +254,161 @@ module _ (w h : ℕ) (opening : Screen) (above : List (List Cell)) where
             ∙ ap looks_of (ap (λ x. lines_rows w (placed_lines ps) ++ x) (sym (append-nil (rows_of w (chars p.line)))) ∙ sym (flat_map-append (λ line. rows_of w (chars line)) (placed_lines ps) (p.line ∷ [])));
         column = ap (λ u. u.screen.column) (after-append t up (walk_bytes 0 ps ++ last_bytes w down p) ∙ after-append (after t up) (walk_bytes 0 ps) (last_bytes w down p)) ∙ end.column;
       }
+
+-- ---- other rows below the lines, taken back before
+
+below_low : (n : ℕ) → rows_below n ≤ n
+below_low zero = omega arith
+below_low (suc n) = omega arith
+
+none_equal : (n : ℕ) → (suc n == 0) ≡ false
+none_equal n = grind (arith, nat_tests)
+
+-- the row of the cursor after rows were taken back
+row_back : (taken n : ℕ) → 0 < n → row_for (left_at_end false taken) n ≡ n - 1 + rows_below taken
+row_back zero n p = omega arith
+row_back (suc k) n p = rw (none_equal k) (omega arith)
+
+module _ (w h : ℕ) (opening : Screen) (above : List (List Cell)) where
+  took_back : (old rest : List (List Cell)) (reach : ℕ) (t : Terminal) → 0 < length old → length rest ≤ GREATEST → reach ≤ length above + h →
+      Stands w h opening (above ++ (old ++ rest)) (length above + length old + length rest - 1) reach false t →
+      StandsAfter w h opening above t (back_bytes false (length rest)) (above ++ old) (length above + length old - 1 + rows_below (length rest)) reach false
+  took_back old rest reach t some few m s =
+      let base = above ++ old in
+      let size : length base ≡ length above + length old = length-append above old in
+      let back = back_bytes false (length rest) in
+      let l = back_leads w h opening base rest false t reach few (omega (arith, size))
+      (restand w h opening above t _ (base ++ rest) _ (length base + length rest - 1) reach reach false false (sym (append_assoc above old rest)) (omega (arith, size)) refl refl s) in
+      record {
+        keeps = keeps_fewer (opening.row + length above) (opening.row + length base) t back (omega (arith, size)) l.keeps;
+        stands = unfronted w h opening above (after t back) _ _ reach _
+            (restand w h opening above (after t back) _ base _ (length above + length old - 1 + rows_below (length rest)) reach reach _ _ (append-nil base)
+            (row_back (length rest) (length base) (omega (arith, size)) ∙ omega (arith, size)) refl refl l.stands);
+      }
+
+  -- all of it, but where all lines stay and no row is taken back
+  anew_leads : (ps : List PlacedLine) (p : PlacedLine) (old rest : List (List Cell)) (reach : ℕ) (t : Terminal) → 0 < w → w ≤ GREATEST → (IsTrue p.stays → p.last < w) →
+      AreSitting w (looks_of old) ps → Sits w (drop (placed_height ps) (looks_of old)) p → AreDrawable w (placed_lines ps) → IsDrawable w p.line →
+      placed_height ps + p.rows ≡ length old → length old + length rest ≤ GREATEST → reach ≤ length above + h →
+      Stands w h opening (above ++ (old ++ rest)) (length above + length old + length rest - 1) reach false t →
+      Skipped w h opening above t (back_bytes false (length rest) ++ skip_bytes w (rows_below (length rest)) ps p) (placed_lines ps ++ p.line ∷ []) (length old) reach
+  anew_leads ps p old rest reach t pos low room sit last d dp k small m s =
+      let some : 0 < p.rows = let q : 0 < length (rows_of w (chars p.line)) = rows_some w (chars p.line) in omega (arith, last.rows_are) in
+      let back = back_bytes false (length rest) in
+      let skip = skip_bytes w (rows_below (length rest)) ps p in
+      let z = below_low (length rest) in
+      let first = took_back old rest reach t (omega (arith, k)) (omega arith) m s in
+      let skipped = skip_leads w h opening above ps p old (rows_below (length rest)) reach (after t back) pos low room sit last d dp k (omega arith) m first.stands in
+      record {
+        new = skipped.new;
+        leads = leads_then w h opening above t back skip _ _ _ _ reach reach false false first skipped.leads;
+        looks = skipped.looks;
+        column = ap (λ u. u.screen.column) (after-append t back skip) ∙ skipped.column;
+      }
+
+  weaker : (looks : List (List Cell)) (p : PlacedLine) → Sits w looks p → Sits w looks (filled_anew w p)
+  weaker looks p s = record { rows_are = s.rows_are; last_is = s.last_is; same = λ e. s.same (and_parts p.stays (nat_lt p.last w) e).0 }
+
+  -- lines that all stay are what is seen
+  staying_looks : (ps : List PlacedLine) (looks : List (List Cell)) → AreSitting w looks ps → all_stay ps ≡ true → placed_height ps ≡ length looks → looks ≡ looks_of (lines_rows w (placed_lines ps))
+  staying_looks [] [] s a k = refl
+  staying_looks [] (r ∷ rs) s a k = absurd (omega arith)
+  staying_looks (p ∷ ps) looks s a k =
+      let c = and_parts p.stays (all_stay ps) a in
+      sym (take-append-drop p.rows looks) ∙ cc (s.0.same c.0, staying_looks ps (drop p.rows looks) s.1 c.1 (omega (arith, length-drop p.rows looks)))
+      ∙ sym (looks-append (rows_of w (chars p.line)) (lines_rows w (placed_lines ps)))
+
+  nothing_column : (t : Terminal) → (after t []).screen.column ≡ t.screen.column
+  unfolding after
+  nothing_column t = refl
+
+  no_rest : (n : ℕ) (rest : List (List Cell)) → n ≡ length rest → (n == 0) ≡ true → rest ≡ []
+  no_rest n rest e z = nil_from_length rest (let q : n ≡ 0 = is_zero n z in omega (arith, e, q)) where
+    is_zero : (n : ℕ) → (n == 0) ≡ true → n ≡ 0
+    is_zero n e = grind (arith, nat_tests)
+
+  pub rewrite_leads : (ps : List PlacedLine) (p : PlacedLine) (old rest : List (List Cell)) (reach : ℕ) (t : Terminal) → 0 < w → w ≤ GREATEST →
+      AreSitting w (looks_of old) (ps ++ p ∷ []) → AreDrawable w (placed_lines ps) → IsDrawable w p.line →
+      placed_height ps + p.rows ≡ length old → length old + length rest ≤ GREATEST → reach ≤ length above + h → t.screen.column ≡ w →
+      Stands w h opening (above ++ (old ++ rest)) (length above + length old + length rest - 1) reach false t →
+      Skipped w h opening above t (rewrite_bytes w (length rest) ps p) (placed_lines ps ++ p.line ∷ []) (length old) reach
+  rewrite_leads ps p old rest reach t pos low sit d dp k small m at s = elim (cases_Bool ((length rest == 0) && all_stay (ps ++ p ∷ []))) [
+    | inl all ↦
+        let both = and_parts (length rest == 0) (all_stay (ps ++ p ∷ [])) all in
+        let none : rest ≡ [] = no_rest (length rest) rest refl both.0 in
+        let some : 0 < p.rows = let c = sitting_parts w ps (p ∷ []) (looks_of old) sit in let q : 0 < length (rows_of w (chars p.line)) = rows_some w (chars p.line) in omega (arith, c.1.0.rows_are) in
+        rw all (record {
+          new = old;
+          leads = nothing_leads w h opening above t (above ++ old) (length above + length old - 1) reach false (omega (arith, k))
+              (restand w h opening above t _ _ _ _ reach reach false false (ap (λ x. above ++ (old ++ x)) none ∙ ap (λ x. above ++ x) (append-nil old)) (omega (arith, ap length none)) refl refl s);
+          looks = staying_looks (ps ++ p ∷ []) (looks_of old) sit both.1 (omega (arith, height-append ps (p ∷ []), k, length-map old (map look)))
+              ∙ ap (λ x. looks_of (lines_rows w x)) (map-append (λ (q : PlacedLine). q.line) ps (p ∷ []));
+          column = nothing_column t ∙ at;
+        })
+    | inr some ↦
+        let q = filled_anew w p in
+        let c = sitting_parts w ps (p ∷ []) (looks_of old) sit in
+        rw some (anew_leads ps q old rest reach t pos low (λ (e : IsTrue q.stays). ltb-true p.last w (and_parts p.stays (nat_lt p.last w) e).1) c.0 (weaker _ p c.1.0) d dp k small m s)
+  ]
+
+  -- ---- and lines below them
+
+  -- the spaces behind lines, by the last of them as it was measured
+  pub tail_filled : (ps : List PlacedLine) (looks : List (List Cell)) → AreSitting w looks ps → replicate (free_behind w (last_of ps)) 0x20 ≡ fill_bytes false w (placed_lines ps)
+  tail_filled [] looks s = refl
+  tail_filled (p ∷ []) looks s = ap (λ n. replicate (w - n) 0x20) s.0.last_is
+  tail_filled (p ∷ q ∷ ps) looks s = tail_filled (q ∷ ps) (drop p.rows looks) s.1
+
+  -- what is known then
+  pub record Changed (t : Terminal) (bytes : List ℕ) (lines : List (List ℕ)) (reach : ℕ) : Type 0 where
+    pub new : List (List Cell)
+    pub leads : StandsAfter w h opening above t bytes (above ++ new) (length above + length new - 1) (max reach (length above + length new)) false
+    pub looks : looks_of new ≡ looks_of (lines_rows w lines)
+    pub column : (after t bytes).screen.column ≡ w
+
+  seen_length : (a b : List (List Cell)) → looks_of a ≡ looks_of b → length a ≡ length b
+  seen_length a b e = sym (length-map a (map look)) ∙ ap length e ∙ length-map b (map look)
+
+  -- where the cursor is below lines of which the last is filled, or still at the end of the row above them
+  more_column : (lines : List (List ℕ)) (upper : List (List Cell)) (t : Terminal) (reach : ℕ) → 0 < w → 0 < length above + length upper → length above + length upper ≤ reach → AreDrawable w lines → IsFull w lines →
+      t.screen.column ≡ w → Stands w h opening (above ++ upper) (length above + length upper - 1) reach false t → (after t (lines_bytes true lines)).screen.column ≡ w
+  more_column [] upper t reach pos some g d full at s = nothing_column t ∙ at
+  more_column (line ∷ lines) upper t reach pos some g d full at s = lines_column w h opening above (line ∷ lines) true upper t reach pos (omega arith) (λ e. some) g d full s
+
+  pub change_leads : (ps : List PlacedLine) (p : PlacedLine) (more : List PlacedLine) (old rest : List (List Cell)) (looks : List (List Cell)) (reach : ℕ) (t : Terminal) → 0 < w → w ≤ GREATEST →
+      AreSitting w (looks_of old) (ps ++ p ∷ []) → AreSitting w looks more → AreDrawable w (placed_lines ps) → IsDrawable w p.line → AreDrawable w (placed_lines more) →
+      placed_height ps + p.rows ≡ length old → length old + length rest ≤ GREATEST → reach ≤ length above + h → length above + length old ≤ reach → t.screen.column ≡ w →
+      Stands w h opening (above ++ (old ++ rest)) (length above + length old + length rest - 1) reach false t →
+      Changed t (change_bytes w (length rest) ps p more) ((placed_lines ps ++ p.line ∷ []) ++ placed_lines more) reach
+  change_leads ps p more old rest looks reach t pos low sit sit' d dp dm k small m used at s =
+      let some : 0 < p.rows = let c = sitting_parts w ps (p ∷ []) (looks_of old) sit in let q : 0 < length (rows_of w (chars p.line)) = rows_some w (chars p.line) in omega (arith, c.1.0.rows_are) in
+      let upper = rewrite_leads ps p old rest reach t pos low sit d dp k small m at s in
+      let bytes = rewrite_bytes w (length rest) ps p in
+      let u = after t bytes in
+      let lines = refilled false w (placed_lines more) in
+      let f = refills false w (placed_lines more) pos dm in
+      let heights : length old ≡ length (lines_rows w (placed_lines ps ++ p.line ∷ [])) =
+      sym k ∙ sym (height-append ps (p ∷ []) ∙ omega arith) ∙ placed_rows (ps ++ p ∷ []) (looks_of old) sit ∙ ap (λ x. length (lines_rows w x)) (map-append (λ (q : PlacedLine). q.line) ps (p ∷ [])) in
+      let size : length upper.new ≡ length old = seen_length upper.new (lines_rows w (placed_lines ps ++ p.line ∷ [])) upper.looks ∙ sym heights in
+      let stands = restand w h opening above u _ (above ++ upper.new) _ (length above + length upper.new - 1) reach reach false false refl (omega (arith, size)) refl refl upper.leads.stands in
+      let lower = lines_lead w h opening above lines true upper.new u reach pos (λ e. omega (arith, size, k)) (omega (arith, size)) f.drawable stands in
+      let new = upper.new ++ lines_rows w lines in
+      let new_length : length new ≡ length upper.new + length (lines_rows w lines) = length-append upper.new (lines_rows w lines) in
+      let below : StandsAfter w h opening above u (lines_bytes true lines) (above ++ new) (length above + length new - 1) (max reach (length above + length new)) false =
+      relead w h opening above u (lines_bytes true lines) _ _ _ _ _ _ _ _ refl (omega (arith, new_length)) (omega (arith, new_length)) refl lower in
+      let all : change_bytes w (length rest) ps p more ≡ bytes ++ lines_bytes true lines =
+      ap (λ x. bytes ++ x) (ap (λ x. lines_bytes true (placed_lines more) ++ x) (tail_filled more looks sit') ∙ filled_bytes w true (placed_lines more)) in
+      rw all (record {
+        new = new;
+        leads = leads_then w h opening above t bytes (lines_bytes true lines) _ _ _ _ _ _ _ _
+            (relead w h opening above t bytes _ (above ++ upper.new) _ (length above + length upper.new - 1) reach reach false false refl (omega (arith, size)) refl refl upper.leads) below;
+        looks = looks-append upper.new (lines_rows w lines) ∙ cc (upper.looks, f.looks) ∙ sym (looks-append (lines_rows w (placed_lines ps ++ p.line ∷ [])) (lines_rows w (placed_lines more)))
+            ∙ ap looks_of (sym (flat_map-append (λ line. rows_of w (chars line)) (placed_lines ps ++ p.line ∷ []) (placed_lines more)));
+        column = ap (λ v. v.screen.column) (after-append t bytes (lines_bytes true lines))
+            ∙ more_column lines upper.new u reach pos (omega (arith, size, k)) (omega (arith, size)) f.drawable (f.full refl) upper.column stands;
+      }) where
+        placed_rows : (qs : List PlacedLine) (looks : List (List Cell)) → AreSitting w looks qs → placed_height qs ≡ length (lines_rows w (placed_lines qs))
+        placed_rows [] looks s = refl
+        placed_rows (q ∷ qs) looks s =
+            let e : placed_height qs ≡ length (lines_rows w (placed_lines qs)) = placed_rows qs (drop q.rows looks) s.1 in
+            omega (arith, s.0.rows_are, length-append (rows_of w (chars q.line)) (lines_rows w (placed_lines qs)))

@@ -1,18 +1,21 @@
 -- A draw that leaves lines that stay, by what an engine remembers.
-use Rattle.std.proofs.Common.{inl, inr, ◌≡◌, ℕ, zero, suc, ◌+◌, ◌-◌, ◌<◌, ◌≤◌, ◌^◌, min, Bool, true, false, List, [], ◌∷◌, ◌++◌, length, take, drop, map, replicate, refl, sym, ◌∙◌, ap, subst, arith, length-append, chars, if◌then◌else◌}
-use Rattle.std.specs.Prelude.{IsTrue, IsFalse, string_bytes, ◌==◌}
+use Rattle.std.proofs.Common.{inl, inr, ◌≡◌, ℕ, zero, suc, ◌+◌, ◌-◌, ◌<◌, ◌≤◌, ◌^◌, min, Bool, true, false, List, [], ◌∷◌, ◌++◌, length, take, drop, map, replicate, refl, sym, ◌∙◌, ap, subst, arith, length-append, append_assoc, append-nil, chars, if◌then◌else◌}
+use Rattle.std.specs.Prelude.{IsTrue, IsFalse, string_bytes, ◌==◌, flat_map}
 use Rattle.std.proofs.lemmas.Bool.{cases_Bool}
 use Rattle.std.proofs.lemmas.Bool.Decides.{nat_tests}
-use Rattle.std.proofs.lemmas.List.{drop_at, drop-drop, length-map, nil_from_length}
+use Rattle.std.proofs.lemmas.List.{drop_at, drop-drop, take_at, take-map, length-map, nil_from_length}
 use Rattle.indicatif_text.specs.Columns.{Cell, rows_of}
 use Rattle.indicatif_term.specs.Terminal.{GREATEST}
 use Rattle.indicatif_term.specs.Shows.{looks_of}
-use Rattle.indicatif_term.specs.Lists.{Lists, all_rows, live_rows, live_height, drawn, passed, live_of_frame, shown_rows, BarLines, segments_height, blanks_for, fitting, lines_of}
+use Rattle.indicatif_term.specs.Lists.{Lists, all_rows, live_rows, live_height, drawn, logged, passed, live_of_frame, shown_rows, BarLines, segments_height, blanks_for, fitting, lines_of}
 use Rattle.indicatif_term.specs.Frames.{bar_lines, all_lines, are_plain, some_wide}
 use Rattle.indicatif_term.specs.Counts.{CountsOf}
-use Rattle.indicatif_term.specs.Inside.Plans.{frame_lines, IsPlan}
-use Rattle.indicatif_term.specs.Inside.Skips.{PlacedLine, placed_height, placed_lines, AreSitting, rewrite_bytes}
-use Rattle.indicatif_term.specs.Remembered.{placed, texts, standing_rows, AreLines, AreRemembered, Suits}
+use Rattle.indicatif_term.specs.Inside.Plans.{frame_lines, IsPlan, text_height}
+use Rattle.indicatif_term.specs.Inside.Skips.{PlacedLine, placed_height, placed_lines, AreSitting, change_bytes}
+use Rattle.indicatif_term.specs.Inside.Places.{IsWithin}
+use Rattle.indicatif_term.specs.declared.beside.Room.{Room}
+use Rattle.indicatif_term.specs.Standing.{placed_of, placed, texts, standing_rows, AreLines}
+use Rattle.indicatif_term.specs.Remembered.{AreRemembered, Suits}
 use Rattle.indicatif_term.specs.declared.remembered.StandingLine.{StandingLine}
 use Rattle.indicatif_term.specs.declared.remembered.Remembered.{Remembered}
 use Rattle.indicatif_term.specs.declared.counts.Counts.{Counts}
@@ -28,18 +31,16 @@ use Rattle.indicatif_term.specs.Engines.{Counted}
 use Rattle.indicatif_term.specs.Inside.Remembering.{Remembers}
 use Rattle.indicatif_term.specs.declared.draw_target.Engine.{Engine}
 use Rattle.indicatif_term.proofs.ShownRowLemmas.{lines_rows, frame_rows, frame_lines_le, frame_chars}
-use Rattle.indicatif_term.proofs.CountLemmas.{length-live, live_of, settled-rows, passed-rows}
+use Rattle.indicatif_term.proofs.CountLemmas.{length-live, live_of, settled-rows, passed-rows, same_blanks_log}
 use Rattle.indicatif_term.proofs.PaintingLemmas.{IsDrawable, AreDrawable}
-use Rattle.indicatif_term.proofs.SkipLemmas.{height-append}
-use Rattle.indicatif_term.proofs.SkipDrawingLemmas.{skip_redraws}
-use Rattle.indicatif_term.proofs.DrawingLemmas.{Replaces, drawn_goes, drawn-sound}
+use Rattle.indicatif_term.proofs.SkipLemmas.{height-append, sitting_parts}
+use Rattle.indicatif_term.proofs.RememberedLemmas.{lines_placed}
+use Rattle.indicatif_term.proofs.TerminalStepLemmas.{rows_some}
+use Rattle.indicatif_term.proofs.SkipDrawingLemmas.{change_redraws}
+use Rattle.indicatif_term.proofs.DrawingLemmas.{Replaces, drawn_goes, drawn-sound, log_live}
 use Rattle.indicatif_term.proofs.EngineLemmas.{Redraws, frame_drawable, suits_made}
 
 -- ---- lines as they are measured
-
-pub lines_sit : (w : ℕ) (looks : List (List Cell)) (ls : List StandingLine) → AreSitting w looks (placed ls) → AreLines w ls
-lines_sit w looks [] s = tt
-lines_sit w looks (l ∷ ls) s = (record { rows_are = s.0.rows_are; last_is = s.0.last_is }, lines_sit w (drop l.rows looks) ls s.1)
 
 pub lines_height : (w : ℕ) (ls : List StandingLine) → AreLines w ls → placed_height (placed ls) ≡ length (standing_rows w ls)
 lines_height w [] all = refl
@@ -47,24 +48,6 @@ lines_height w (l ∷ ls) all =
     let rest : placed_height (placed ls) ≡ length (standing_rows w ls) = lines_height w ls all.1 in
     let one : l.rows ≡ length (rows_of w (chars (string_bytes l.text))) = all.0.rows_are in
     omega (arith, length-append (rows_of w (chars (string_bytes l.text))) (standing_rows w ls))
-
-pub lines_placed : (ls : List StandingLine) → placed_lines (placed ls) ≡ texts ls
-lines_placed [] = refl
-lines_placed (l ∷ ls) = ap (λ x. string_bytes l.text ∷ x) (lines_placed ls)
-
-on_by : (b : Bool) (w v : ℕ) (ls : List StandingLine) → (b ≡ true → v ≡ w) → AreLines v ls → AreLines w (if b then ls else [])
-on_by true w v ls f all = subst (λ n. AreLines n ls) (f refl) all
-on_by false w v ls f all = tt
-
-same_number : (a b : ℕ) → (a == b) ≡ true → a ≡ b
-same_number a b e = grind (arith, nat_tests)
-
--- the lines that are remembered of a terminal of this width
-pub on_lines : (w : ℕ) (r : Remembered) (l : Lists) → 0 < w → AreRemembered r l → AreLines w (if r.width == w then r.lines.items else [])
-on_lines w r l p a = elim (cases_Bool (r.width == w)) [
-  | inl e ↦ let n : r.width ≡ w = same_number r.width w e in rw e (subst (λ n. AreLines n r.lines.items) n (a.lines (omega arith)))
-  | inr e ↦ rw e tt
-]
 
 -- ---- what is remembered of a draw
 
@@ -76,30 +59,51 @@ drawn_rows w h pass bottom frame l =
     let n = length (shown_rows w h (take pass frame)) in
     settled-rows w h (passed w n made) ∙ passed-rows w n made
 
-pub drawn_shown : (v w h pass blanks : ℕ) (bottom : Bool) (frame : List Segment) (l : Lists) (c : Counts) (plan : Plan) (r : Remembered) (looks : List (List Cell)) → v ≡ w → r.width ≡ v → CountsOf c l →
+pub drawn_shown : (v w h pass blanks : ℕ) (bottom : Bool) (frame : List Segment) (l : Lists) (c : Counts) (plan : Plan) (r : Remembered) → v ≡ w → r.width ≡ v → CountsOf c l →
     IsPlan w h pass (map bar_lines frame) plan → blanks ≡ blanks_for bottom c.live 0 plan.rows → texts r.lines.items ≡ replicate blanks [] ++ take plan.lines (frame_lines frame) →
-    AreSitting v looks (placed r.lines.items) → AreRemembered r (drawn w h bottom pass (map bar_lines frame) l)
-drawn_shown v w h pass blanks bottom frame l c plan r looks same_width e o q b t sits =
+    AreRemembered r (drawn w h bottom pass (map bar_lines frame) l)
+drawn_shown v w h pass blanks bottom frame l c plan r same_width e o q b t =
     let same : blanks_for bottom c.live 0 plan.rows ≡ (live_of_frame w h bottom (live_height l.live) 0 (map bar_lines frame)).blanks = rw (live_of c l o, q.rows_are) refl in
     let rows : standing_rows w r.lines.items ≡ live_rows w (live_of_frame w h bottom (live_height l.live) 0 (map bar_lines frame)) =
     ap (lines_rows w) (t ∙ ap (λ n. replicate blanks [] ++ take n (frame_lines frame)) q.lines_are) ∙ frame_rows w h frame blanks
     ∙ ap (λ n. live_rows w (record { blanks = n; segments = shown_rows w h (map bar_lines frame) })) (b ∙ same) in
     let width : r.width ≡ w = e ∙ same_width in
-    record {
-      lines = λ p. subst (λ n. AreLines n r.lines.items) (sym e) (lines_sit v looks r.lines.items sits);
-      rows = λ p. (
-        l.above ++ l.kept,
-        ap (λ n. (l.above ++ l.kept) ++ standing_rows n r.lines.items) width ∙ ap (λ x. (l.above ++ l.kept) ++ x) rows ∙ sym (drawn_rows w h pass bottom (map bar_lines frame) l)
-            ∙ ap (λ n. all_rows n (drawn w h bottom pass (map bar_lines frame) l)) (sym width),
-      );
-    }
+    λ p. (
+      l.above ++ l.kept,
+      ap (λ n. (l.above ++ l.kept) ++ standing_rows n r.lines.items) width ∙ ap (λ x. (l.above ++ l.kept) ++ x) rows ∙ sym (drawn_rows w h pass bottom (map bar_lines frame) l)
+          ∙ ap (λ n. all_rows n (drawn w h bottom pass (map bar_lines frame) l)) (sym width),
+    )
 
-pub drawn_suits : (v w h pass blanks : ℕ) (bottom : Bool) (frame : List Segment) (l : Lists) (c next : Counts) (plan : Plan) (r : Remembered) (looks : List (List Cell)) → v ≡ w → r.width ≡ v → CountsOf c l →
+pub drawn_suits : (v w h pass blanks : ℕ) (bottom : Bool) (frame : List Segment) (l : Lists) (c next : Counts) (plan : Plan) (r : Remembered) → v ≡ w → r.width ≡ v → CountsOf c l →
     IsPlan w h pass (map bar_lines frame) plan → blanks ≡ blanks_for bottom c.live 0 plan.rows → texts r.lines.items ≡ replicate blanks [] ++ take plan.lines (frame_lines frame) →
-    AreSitting v looks (placed r.lines.items) → CountsOf next (drawn w h bottom pass (map bar_lines frame) l) → Suits next false r (drawn w h bottom pass (map bar_lines frame) l)
-drawn_suits v w h pass blanks bottom frame l c next plan r looks same_width e o q b t sits o' =
+    CountsOf next (drawn w h bottom pass (map bar_lines frame) l) → Suits next false r (drawn w h bottom pass (map bar_lines frame) l)
+drawn_suits v w h pass blanks bottom frame l c next plan r same_width e o q b t o' =
     suits_made next r (drawn w h bottom pass (map bar_lines frame) l) o' (drawn-sound w h bottom pass (map bar_lines frame) l)
-    (drawn_shown v w h pass blanks bottom frame l c plan r looks same_width e o q b t sits)
+    (drawn_shown v w h pass blanks bottom frame l c plan r same_width e o q b t)
+
+-- ---- what is remembered of a log
+
+logged_rows : (w h : ℕ) (bottom : Bool) (text : List (List ℕ)) (frame : List BarLines) (l : Lists) →
+    all_rows w (logged w h bottom text frame l) ≡ (l.above ++ flat_map (rows_of w) text) ++ live_rows w (log_live w h bottom text frame l)
+unfolding logged
+logged_rows w h bottom text frame l = settled-rows w h (record l { above = l.above ++ flat_map (rows_of w) text; kept = []; live = log_live w h bottom text frame l })
+    ∙ ap (λ x. x ++ live_rows w (log_live w h bottom text frame l)) (append-nil (l.above ++ flat_map (rows_of w) text))
+
+pub logged_shown : (v w h height blanks : ℕ) (bottom : Bool) (text : List (List ℕ)) (frame : List Segment) (l : Lists) (c : Counts) (plan : Plan) (r : Remembered) → v ≡ w → r.width ≡ v → CountsOf c l →
+    IsPlan w h 0 (map bar_lines frame) plan → height ≡ min (text_height w text) (2 ^ 64 - 1) → blanks ≡ blanks_for bottom (c.kept + c.live) height plan.rows →
+    texts r.lines.items ≡ replicate blanks [] ++ take plan.lines (frame_lines frame) → AreRemembered r (logged w h bottom text (map bar_lines frame) l)
+logged_shown v w h height blanks bottom text frame l c plan r same_width e o q m b t =
+    let same : blanks ≡ (log_live w h bottom text (map bar_lines frame) l).blanks = b ∙ same_blanks_log w h height bottom text (map bar_lines frame) l c plan o q m in
+    let rows : standing_rows w r.lines.items ≡ live_rows w (log_live w h bottom text (map bar_lines frame) l) =
+    ap (lines_rows w) (t ∙ ap (λ n. replicate blanks [] ++ take n (frame_lines frame)) q.lines_are) ∙ frame_rows w h frame blanks
+    ∙ ap (λ n. live_rows w (record { blanks = n; segments = shown_rows w h (map bar_lines frame) })) same in
+    let width : r.width ≡ w = e ∙ same_width in
+    let before = l.above ++ flat_map (rows_of w) text in
+    λ p. (
+      before,
+      ap (λ n. before ++ standing_rows n r.lines.items) width ∙ ap (λ x. before ++ x) rows ∙ sym (logged_rows w h bottom text (map bar_lines frame) l)
+          ∙ ap (λ n. all_rows n (logged w h bottom text (map bar_lines frame) l)) (sym width),
+    )
 
 -- ---- which rows are those of the lines that are remembered
 
@@ -114,35 +118,45 @@ pub standing_live : (w taken : ℕ) (r : Remembered) (l : Lists) → 0 < w → r
     drop (min (placed_height (placed r.lines.items)) (2 ^ 64 - 1) - taken) (standing_rows w r.lines.items) ≡ live_rows w l.live
 standing_live w taken r l p e a k m low =
     let some : 0 < r.width = omega arith in
-    let height : placed_height (placed r.lines.items) ≡ length (standing_rows w r.lines.items) = subst (λ n. placed_height (placed r.lines.items) ≡ length (standing_rows n r.lines.items)) e (lines_height r.width r.lines.items (a.lines some)) in
-    let x = a.rows some in
+    let height : placed_height (placed r.lines.items) ≡ length (standing_rows w r.lines.items) = subst (λ n. placed_height (placed r.lines.items) ≡ length (standing_rows n r.lines.items)) e (lines_height r.width r.lines.items (r.right some)) in
+    let x = a some in
     let whole : x.0 ++ standing_rows w r.lines.items ≡ (l.above ++ l.kept) ++ live_rows w l.live = subst (λ n. x.0 ++ standing_rows n r.lines.items ≡ all_rows n l) e x.1 in
     ap (λ n. drop n (standing_rows w r.lines.items)) (omega (arith, height)) ∙ last_rows x.0 (standing_rows w r.lines.items) (l.above ++ l.kept) (live_rows w l.live) taken whole k (omega (arith, height))
 
 -- ---- the draw
 
--- lines, and the last of them
-pub split_last : (ps : List PlacedLine) → 0 < length ps → (front : List PlacedLine) × (last : PlacedLine) × (ps ≡ front ++ last ∷ [])
-split_last [] h = absurd (omega arith)
-split_last (p ∷ []) h = ([], p, refl)
-split_last (p ∷ q ∷ ps) h = let c = split_last (q ∷ ps) (omega arith) in (p ∷ c.0, c.1, ap (λ x. p ∷ x) c.2)
+-- lines around the last of so many
+pub split_at : (ps : List PlacedLine) (n : ℕ) → 0 < n → n ≤ length ps → (front : List PlacedLine) × (last : PlacedLine) × (more : List PlacedLine) × (ps ≡ front ++ last ∷ more) × (length front + 1 ≡ n)
+split_at ps zero h k = absurd (omega arith)
+split_at [] (suc n) h k = absurd (omega arith)
+split_at (p ∷ ps) (suc zero) h k = ([], p, ps, refl, refl)
+split_at (p ∷ ps) (suc (suc n)) h k = let c = split_at ps (suc n) (omega arith) (omega arith) in (p ∷ c.0, c.1, c.2, ap (λ x. p ∷ x) c.3, omega (arith, c.4))
 
-drawable_parts : (w : ℕ) (a : List (List ℕ)) (b : List ℕ) → AreDrawable w (a ++ b ∷ []) → AreDrawable w a × IsDrawable w b
-drawable_parts w [] b d = (tt, d.0)
-drawable_parts w (x ∷ a) b d = let c = drawable_parts w a b d.1 in ((d.0, c.0), c.1)
+drawable_parts : (w : ℕ) (a : List (List ℕ)) (b : List ℕ) (c : List (List ℕ)) → AreDrawable w (a ++ b ∷ c) → AreDrawable w a × IsDrawable w b × AreDrawable w c
+drawable_parts w [] b c d = (tt, d.0, d.1)
+drawable_parts w (x ∷ a) b c d = let r = drawable_parts w a b c d.1 in ((d.0, r.0), r.1, r.2)
 
-lines_both : (ps : List PlacedLine) (p : PlacedLine) → placed_lines (ps ++ p ∷ []) ≡ placed_lines ps ++ p.line ∷ []
-lines_both [] p = refl
-lines_both (q ∷ ps) p = ap (λ x. q.line ∷ x) (lines_both ps p)
+lines_around : (ps : List PlacedLine) (p : PlacedLine) (qs : List PlacedLine) → placed_lines (ps ++ p ∷ qs) ≡ placed_lines ps ++ p.line ∷ placed_lines qs
+lines_around [] p qs = refl
+lines_around (q ∷ ps) p qs = ap (λ x. q.line ∷ x) (lines_around ps p qs)
 
-pub draw_rewrites : (w h : ℕ) (l : Lists) (c next : Counts) (pass blanks : ℕ) (bottom : Bool) (frame : List Segment) (plan : Plan) (ls : List StandingLine) (front : List PlacedLine) (last : PlacedLine) →
+-- the rows of the lines up to the last of so many
+height_around : (ls : List StandingLine) (n : ℕ) (front : List PlacedLine) (last : PlacedLine) (more : List PlacedLine) → placed ls ≡ front ++ last ∷ more → length front + 1 ≡ n →
+    placed_height (placed (take n ls)) ≡ placed_height front + last.rows
+height_around ls n front last more s k =
+    let e : front ++ last ∷ more ≡ (front ++ last ∷ []) ++ more = sym (append_assoc front (last ∷ []) more) in
+    ap placed_height (sym (take-map placed_of n ls) ∙ ap (take n) (s ∙ e) ∙ take_at (front ++ last ∷ []) more n (omega (arith, length-append front (last ∷ []), k)))
+    ∙ height-append front (last ∷ []) ∙ omega arith
+
+pub draw_changes : (w h : ℕ) (l : Lists) (c next : Counts) (pass blanks : ℕ) (bottom : Bool) (frame : List Segment) (plan : Plan) (ls : List StandingLine) (room : Room) (front : List PlacedLine) (last : PlacedLine)
+    (more : List PlacedLine) →
     let l' = drawn w h bottom pass (map bar_lines frame) l in
     0 < w → w ≤ GREATEST → IsTrue (are_plain (all_lines (map bar_lines frame))) → IsFalse (some_wide w (all_lines (map bar_lines frame))) →
     CountsOf c l → IsPlan w h pass (map bar_lines frame) plan → CountsOf next l' → blanks ≡ blanks_for bottom c.live 0 plan.rows →
-    c.below ≡ false → next.below ≡ false → texts ls ≡ replicate blanks [] ++ take plan.lines (frame_lines frame) → placed ls ≡ front ++ last ∷ [] →
-    AreSitting w (looks_of (live_rows w l.live)) (placed ls) → placed_height (placed ls) ≡ c.live →
-    Redraws w h l l' (rewrite_bytes w front last)
-draw_rewrites w h l c next pass blanks bottom frame plan ls front last p1 low p2 p3 o q o' b on on' t s sits size =
+    c.below ≡ false → next.below ≡ false → texts ls ≡ replicate blanks [] ++ take plan.lines (frame_lines frame) → placed ls ≡ front ++ last ∷ more → length front + 1 ≡ room.lines →
+    AreSitting w (looks_of (live_rows w l.live)) (placed ls) → IsWithin ls c.live room →
+    Redraws w h l l' (change_bytes w room.free front last more)
+draw_changes w h l c next pass blanks bottom frame plan ls room front last more p1 low p2 p3 o q o' b on on' t s k sits within =
     let l' = drawn w h bottom pass (map bar_lines frame) l in
     let lines = replicate blanks [] ++ take (length (fitting h (lines_of w (map bar_lines frame)))) (frame_lines frame) in
     let gone = live_rows w l.live in
@@ -151,13 +165,15 @@ draw_rewrites w h l c next pass blanks bottom frame plan ls front last p1 low p2
     ∙ ap (λ n. live_rows w (record { blanks = n; segments = shown_rows w h (map bar_lines frame) })) (b ∙ same) in
     let count : length gone ≡ c.live = length-live w l.live ∙ sym (live_of c l o) in
     let few : length gone ≤ GREATEST = let f : c.kept + c.live ≤ c.reached = c.fits in let k : c.reached ≤ 65535 = c.small in omega (arith, count) in
-    let split : placed_lines front ++ last.line ∷ [] ≡ lines = sym (lines_both front last) ∙ ap placed_lines (sym s) ∙ lines_placed ls ∙ t ∙ ap (λ n. replicate blanks [] ++ take n (frame_lines frame)) q.lines_are in
-    let d = drawable_parts w (placed_lines front) last.line (subst (AreDrawable w) (sym split) (frame_drawable w blanks (length (fitting h (lines_of w (map bar_lines frame)))) frame p2 p3)) in
-    let height : placed_height front + last.rows ≡ length gone = omega (arith, height-append front (last ∷ []), ap placed_height s, size, count) in
-    let as_many : length gone ≡ length (lines_rows w (placed_lines front ++ last.line ∷ [])) =
-    count ∙ sym size ∙ lines_height w ls (lines_sit w (looks_of gone) ls sits) ∙ ap (λ x. length (lines_rows w x)) (sym (lines_placed ls) ∙ ap placed_lines s ∙ lines_both front last) in
-    skip_redraws w h l l' l.kept gone front last p1 low (sym o.below_is ∙ on) (sym o'.below_is ∙ on') few (subst (AreSitting w (looks_of gone)) s sits) d.0 d.1 height as_many
-    (λ a b. subst (Replaces w h l l' l.kept gone) (sym split) (drawn_goes w h pass bottom (map bar_lines frame) l lines a b rows))
+    let split : placed_lines front ++ last.line ∷ placed_lines more ≡ lines =
+    sym (lines_around front last more) ∙ ap placed_lines (sym s) ∙ lines_placed ls ∙ t ∙ ap (λ n. replicate blanks [] ++ take n (frame_lines frame)) q.lines_are in
+    let split' : (placed_lines front ++ last.line ∷ []) ++ placed_lines more ≡ lines = append_assoc (placed_lines front) (last.line ∷ []) (placed_lines more) ∙ split in
+    let d = drawable_parts w (placed_lines front) last.line (placed_lines more) (subst (AreDrawable w) (sym split) (frame_drawable w blanks (length (fitting h (lines_of w (map bar_lines frame)))) frame p2 p3)) in
+    let sits' : AreSitting w (looks_of gone) (front ++ last ∷ more) = subst (AreSitting w (looks_of gone)) s sits in
+    let some : 0 < last.rows = let x = (sitting_parts w front (last ∷ more) (looks_of gone) sits').1 in let r : 0 < length (rows_of w (chars last.line)) = rows_some w (chars last.line) in omega (arith, x.0.rows_are) in
+    change_redraws w h l l' l.kept gone front last more room.free p1 low (sym o.below_is ∙ on) (sym o'.below_is ∙ on') few sits' some d.0 d.1 d.2
+    (omega (arith, within.rows_are, height_around ls room.lines front last more s k, count))
+    (λ a b. subst (Replaces w h l l' l.kept gone) (sym split') (drawn_goes w h pass bottom (map bar_lines frame) l lines a b rows))
 
 on_same : (r : Remembered) (v : ℕ) → r.width ≡ v → (if r.width == v then r.lines.items else []) ≡ r.lines.items
 on_same r v e = elim (cases_Bool (r.width == v)) [
@@ -193,19 +209,19 @@ no_rows : (w h : ℕ) (frame : List BarLines) → length (fitting h (lines_of w 
 unfolding shown_rows grouped
 no_rows w h frame e = ap (λ ss. segments_height (fold onto_segments [] ss)) (nil_from_length (fitting h (lines_of w frame)) e)
 
-no_blanks : (bottom : Bool) (taken rows : ℕ) → rows ≡ 0 → blanks_for bottom taken 0 rows ≡ 0
-no_blanks true taken rows e = rw e refl
-no_blanks false taken rows e = refl
+no_blanks : (bottom : Bool) (taken text rows : ℕ) → rows ≡ 0 → blanks_for bottom taken text rows ≡ 0
+no_blanks true taken text rows e = rw e refl
+no_blanks false taken text rows e = refl
 
-some_by : (k : ℕ) (w h pass blanks taken : ℕ) (bottom : Bool) (frame : List Segment) (p : Plan) → k ≡ p.lines → IsPlan w h pass (map bar_lines frame) p → blanks ≡ blanks_for bottom taken 0 p.rows →
+some_by : (k : ℕ) (w h pass blanks taken text : ℕ) (bottom : Bool) (frame : List Segment) (p : Plan) → k ≡ p.lines → IsPlan w h pass (map bar_lines frame) p → blanks ≡ blanks_for bottom taken text p.rows →
     0 < blanks + p.lines → 0 < length (all_lines (map bar_lines frame))
-some_by zero w h pass blanks taken bottom frame p e q b some =
+some_by zero w h pass blanks taken text bottom frame p e q b some =
     let rows : p.rows ≡ 0 = q.rows_are ∙ no_rows w h (map bar_lines frame) (sym q.lines_are ∙ sym e) in
-    let none : blanks ≡ 0 = b ∙ no_blanks bottom taken p.rows rows in
+    let none : blanks ≡ 0 = b ∙ no_blanks bottom taken text p.rows rows in
     absurd (omega arith)
-some_by (suc k) w h pass blanks taken bottom frame p e q b some =
+some_by (suc k) w h pass blanks taken text bottom frame p e q b some =
     omega (arith, frame_lines_le w h frame, q.lines_are, e, ap length (frame_chars frame), length-map (frame_lines frame) chars)
 
-pub some_lines : (w h pass blanks taken : ℕ) (bottom : Bool) (frame : List Segment) (p : Plan) → IsPlan w h pass (map bar_lines frame) p → blanks ≡ blanks_for bottom taken 0 p.rows →
+pub some_lines : (w h pass blanks taken text : ℕ) (bottom : Bool) (frame : List Segment) (p : Plan) → IsPlan w h pass (map bar_lines frame) p → blanks ≡ blanks_for bottom taken text p.rows →
     0 < blanks + p.lines → 0 < length (all_lines (map bar_lines frame))
-some_lines w h pass blanks taken bottom frame p q b some = some_by p.lines w h pass blanks taken bottom frame p refl q b some
+some_lines w h pass blanks taken text bottom frame p q b some = some_by p.lines w h pass blanks taken text bottom frame p refl q b some

@@ -5,7 +5,7 @@ use Rattle.std.proofs.lemmas.Bool.{cases_Bool}
 use Rattle.std.proofs.lemmas.List.{take_more, map-append, take-append-drop}
 use Rattle.indicatif_term.specs.Calls.{TermView, LeadsOn, BreaksOff, DOWN, move_bytes}
 use Rattle.indicatif_term.specs.Inside.Skips.{PlacedLine, placed_height, emptied_bytes, changed_bytes, walk_bytes, walk_down, all_stay}
-use Rattle.indicatif_term.specs.Remembered.{placed_of, placed}
+use Rattle.indicatif_term.specs.Standing.{placed_of, placed}
 use Rattle.indicatif_term.specs.declared.remembered.StandingLine.{StandingLine}
 use Rattle.indicatif_term.proofs.CallTurnLemmas.{breaks_then, breaks_early}
 use Rattle.indicatif_term.proofs.RememberedLemmas.{height_push}

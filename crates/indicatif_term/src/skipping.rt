@@ -1,30 +1,69 @@
 //! Lines written among those that stay.
-ghost use Rattle.std.specs.Prelude.{◌≡◌, ◌+◌, ◌-◌, ◌≤◌, ◌++◌, ◌∷◌, [], ℕ, List, replicate, MatchResult};
+ghost use Rattle.std.specs.Prelude.{◌≡◌, ◌==◌, ◌&&◌, ◌+◌, ◌-◌, ◌≤◌, ◌++◌, ◌∷◌, [], ℕ, List, replicate, MatchResult};
 ghost use Rattle.indicatif_term.specs.Calls.{Writes, LeadsOn, BreaksOff, DOWN, RIGHT, move_bytes};
-ghost use Rattle.indicatif_term.specs.Inside.Skips.{PlacedLine, placed_height, changed_bytes, walk_bytes, walk_down, edge_bytes, last_bytes, skip_bytes, all_stay, filled_anew, rewrite_bytes};
-ghost use Rattle.indicatif_term.specs.Remembered.{placed_of, placed};
+ghost use Rattle.indicatif_term.specs.Inside.Skips.{PlacedLine, placed_height, changed_bytes, walk_bytes, walk_down, edge_bytes, last_bytes, skip_bytes, all_stay, filled_anew, rows_below, rewrite_bytes, free_behind, change_bytes};
+ghost use Rattle.indicatif_term.specs.Inside.Fills.{last_of};
+ghost use Rattle.indicatif_term.specs.Standing.{placed_of, placed};
 
-use crate::painting::{empty_down, go_up, put_spaces};
-use crate::remembered::{StandingLine, height_of};
+use crate::beside::height_of;
+use crate::painting::{empty_down, go_up, put_below, put_spaces, take_back_rows};
+use crate::remembered::StandingLine;
 use crate::term_like::TermLike;
 use std::io;
 
-/// Writes the lines that do not stay, where the cursor is on the last row of all these, and brings it to the end of that row;
-/// nothing where all stay.
+/// The lines of a drawing beside the rows that they replace: those that stand in the first of these, up to a last one; how many of
+/// the rows are free then; and the lines below them.
+#[derive(Clone, Copy)]
+pub struct Changes<'a> {
+    pub front: &'a [StandingLine],
+    pub last: &'a StandingLine,
+    pub free: usize,
+    pub more: &'a [StandingLine],
+}
+
+/// Writes the lines that do not stay, where the cursor is at the end of the last of the rows that they replace, and brings it to the
+/// end of the last of theirs; nothing where all stay and no row is free.
 pub fn write_changes<T: TermLike>(
     term: &mut T,
-    front: &[StandingLine],
-    last: &StandingLine,
+    changes: &Changes<'_>,
     width: usize,
 ) -> io::Result<()>
-    requires small { placed_height (placed front.now) + last.now.rows ≤ 65535 }
-    ensures { Writes (rewrite_bytes width (placed front.now) (placed_of last.now)) (T.view term.old) (T.view term.new) result }
+    requires small { placed_height (placed changes.now.front.now) + changes.now.last.now.rows + changes.now.free ≤ 65535 }
+    ensures { Writes (change_bytes width changes.now.free (placed changes.now.front.now) (placed_of changes.now.last.now) (placed changes.now.more.now)) (T.view term.old) (T.view term.new) result }
 {
-    if all_with_last(front, last) {
-        return term.flush();
-    }
-    write_among(term, front, last, width)?;
+    rewrite(term, changes, width)?;
+    put_below(term, changes.more, fill_behind(changes.more, width))?;
     term.flush()
+}
+
+/// How many columns are free behind the last of these lines; 0 where there is none.
+fn fill_behind(lines: &[StandingLine], width: usize) -> usize
+    ensures { result ≡ free_behind width (last_of (placed lines.now)) }
+{
+    let count = lines.len();
+    if count == 0 {
+        return 0;
+    }
+    width.saturating_sub(lines[count - 1].last)
+}
+
+/// The lines in the first of the rows: the rows below them are taken back, and those that do not stay are written.
+fn rewrite<T: TermLike>(term: &mut T, changes: &Changes<'_>, width: usize) -> io::Result<()>
+    requires small { placed_height (placed changes.now.front.now) + changes.now.last.now.rows + changes.now.free ≤ 65535 }
+    ensures { Writes (rewrite_bytes width changes.now.free (placed changes.now.front.now) (placed_of changes.now.last.now)) (T.view term.old) (T.view term.new) result }
+{
+    if is_nothing(changes) {
+        return Ok(());
+    }
+    take_back_rows(term, changes.free)?;
+    write_among(term, changes, width)
+}
+
+/// Whether nothing is to be written of the lines in the first of the rows: all stay, and no row is free.
+fn is_nothing(changes: &Changes<'_>) -> bool
+    ensures { result ≡ ((changes.now.free == 0) && all_stay (placed changes.now.front.now ++ placed_of changes.now.last.now ∷ [])) }
+{
+    changes.free == 0 && all_with_last(changes.front, changes.last)
 }
 
 /// Whether these lines and the last one stay.
@@ -47,19 +86,21 @@ fn all_standing(lines: &[StandingLine]) -> bool
 }
 
 /// Up to the first of the lines, down through them, and the last.
-fn write_among<T: TermLike>(
-    term: &mut T,
-    front: &[StandingLine],
-    last: &StandingLine,
-    width: usize,
-) -> io::Result<()>
-    requires small { placed_height (placed front.now) + last.now.rows ≤ 65535 }
-    ensures { Writes (skip_bytes width (placed front.now) (filled_anew width (placed_of last.now))) (T.view term.old) (T.view term.new) result }
+fn write_among<T: TermLike>(term: &mut T, changes: &Changes<'_>, width: usize) -> io::Result<()>
+    requires small { placed_height (placed changes.now.front.now) + changes.now.last.now.rows + changes.now.free ≤ 65535 }
+    ensures { Writes (skip_bytes width (rows_below changes.now.free) (placed changes.now.front.now) (filled_anew width (placed_of changes.now.last.now))) (T.view term.old) (T.view term.new) result }
 {
-    let rows = height_of(front) + last.rows;
-    go_up(term, rows.saturating_sub(1))?;
-    let down = walk(term, front)?;
-    write_last(term, down, last, width)
+    let rows = height_of(changes.front) + changes.last.rows;
+    go_up(term, rows.saturating_sub(1) + one_below(changes.free))?;
+    let down = walk(term, changes.front)?;
+    write_last(term, down, changes.last, width)
+}
+
+/// How far the cursor is below rows, where so many below them were taken back.
+fn one_below(taken: usize) -> usize
+    ensures { result ≡ rows_below taken }
+{
+    if taken == 0 { 0 } else { 1 }
 }
 
 /// Down through lines of which those that do not stay are written; how far the cursor is above the row below them then.

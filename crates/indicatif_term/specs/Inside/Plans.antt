@@ -12,6 +12,7 @@ use Rattle.indicatif_term.specs.Inside.Fills.{line_end, last_or_none, PlanEndsAt
 use Rattle.indicatif_term.specs.declared.lines.Segment.{Segment}
 use Rattle.indicatif_term.specs.declared.layout.RowCount.{RowCount}
 use Rattle.indicatif_term.specs.declared.layout.Plan.{Plan}
+use Rattle.indicatif_term.specs.declared.layout.Layout.{Layout}
 use Rattle.indicatif_term.specs.declared.layout.Planned.{Planned}
 
 -- ---- what is written
@@ -63,9 +64,9 @@ IsPlaced w h before member p result =
     MatchResult result (λ _. IsFalse (some_wide w member.lines) × IsLaidOut h (before ++ lines_of w (member ∷ [])) p) (λ e. IsWithheld w member.lines e)
 
 -- a plan, or why there is none
-abbrev pub Measured : ℕ → ℕ → ℕ → List BarLines → Result Plan Refusal → Type 0
+abbrev pub Measured : ℕ → ℕ → ℕ → List BarLines → Result Layout Refusal → Type 0
 Measured w h pass frame result =
-    MatchResult result (λ p. IsFalse (some_wide w (all_lines frame)) × IsPlan w h pass frame p × IsSummed h p) (λ e. IsWithheld w (all_lines frame) e)
+    MatchResult result (λ l. IsFalse (some_wide w (all_lines frame)) × IsPlan w h pass frame l.plan × IsSummed h l.plan) (λ e. IsWithheld w (all_lines frame) e)
 
 -- a line as it is measured, or why it is not
 abbrev pub MeasuredLine : ℕ → List ℕ → Result Metrics Refusal → Type 0

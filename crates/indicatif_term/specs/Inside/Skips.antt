@@ -1,9 +1,10 @@
 -- Drawing lines among others that stay.
-use Rattle.std.specs.Prelude.{◌≡◌, true, ◌&&◌, nat_lt, ℕ, ◌+◌, ◌-◌, Bool, IsTrue, List, [], ◌∷◌, ◌++◌, map, length, take, drop, replicate, chars, if◌then◌else◌}
+use Rattle.std.specs.Prelude.{◌≡◌, true, false, ◌&&◌, ◌==◌, nat_lt, ℕ, zero, suc, ◌+◌, ◌-◌, Bool, IsTrue, List, [], ◌∷◌, ◌++◌, map, length, take, drop, replicate, chars, Option, Some, None, if◌then◌else◌}
 use Rattle.indicatif_text.specs.Columns.{Cell, rows_of, last_columns}
 use Rattle.indicatif_term.specs.Calls.{UP, DOWN, RIGHT, move_bytes, clear_bytes}
 use Rattle.indicatif_term.specs.Shows.{looks_of}
-use Rattle.indicatif_term.specs.Inside.Bytes.{rows_down}
+use Rattle.indicatif_term.specs.Inside.Bytes.{rows_down, back_bytes, lines_bytes}
+use Rattle.indicatif_term.specs.Inside.Fills.{last_of}
 
 -- a line of a drawing: the rows that it takes, the columns that it takes of the last of them, and whether it stands there already
 pub record PlacedLine : Type 0 where
@@ -45,9 +46,9 @@ last_bytes w down p =
     if p.stays then move_bytes DOWN (down + p.rows - 1) ++ edge_bytes p.last (w - p.last)
     else changed_bytes down p.rows (p.line ++ replicate (w - p.last) 0x20)
 
--- lines among which some stay, from the last of their rows: up to the first of them, and down through them
-abbrev pub skip_bytes : ℕ → List PlacedLine → PlacedLine → List ℕ
-skip_bytes w front last = move_bytes UP (placed_height front + last.rows - 1) ++ (walk_bytes 0 front ++ last_bytes w (walk_down 0 front) last)
+-- lines among which some stay, from so many rows below the last of theirs: up to the first of them, and down through them
+abbrev pub skip_bytes : ℕ → ℕ → List PlacedLine → PlacedLine → List ℕ
+skip_bytes w below front last = move_bytes UP (placed_height front + last.rows - 1 + below) ++ (walk_bytes 0 front ++ last_bytes w (walk_down 0 front) last)
 
 -- ---- what stands there
 
@@ -66,7 +67,7 @@ abbrev pub AreSitting : ℕ → List (List Cell) → List PlacedLine → Type 0
 AreSitting w looks [] = Unit {0}
 AreSitting w looks (p ∷ ps) = Sits w looks p × AreSitting w (drop p.rows looks) ps
 
--- ---- all lines of a drawing, with as many rows as before
+-- ---- all lines of a drawing, from the last row of those that they replace
 
 -- whether all lines stay
 abbrev pub all_stay : List PlacedLine → Bool
@@ -77,6 +78,22 @@ all_stay (p ∷ ps) = p.stays && all_stay ps
 abbrev pub filled_anew : ℕ → PlacedLine → PlacedLine
 filled_anew w p = record p { stays = p.stays && nat_lt p.last w }
 
--- nothing where all lines stay
-abbrev pub rewrite_bytes : ℕ → List PlacedLine → PlacedLine → List ℕ
-rewrite_bytes w front last = if all_stay (front ++ last ∷ []) then [] else skip_bytes w front (filled_anew w last)
+-- how far below rows the cursor is, where so many below them were taken back
+abbrev pub rows_below : ℕ → ℕ
+rows_below zero = 0
+rows_below (suc n) = 1
+
+-- lines in the first of the rows, so many others taken back; nothing where all lines stay and there are no others
+abbrev pub rewrite_bytes : ℕ → ℕ → List PlacedLine → PlacedLine → List ℕ
+rewrite_bytes w taken front last =
+    if (taken == 0) && all_stay (front ++ last ∷ []) then [] else back_bytes false taken ++ skip_bytes w (rows_below taken) front (filled_anew w last)
+
+-- the columns that are free behind a line, if there is one
+abbrev pub free_behind : ℕ → Option PlacedLine → ℕ
+free_behind w None = 0
+free_behind w (Some p) = w - p.last
+
+-- the same, and more lines below them, each on a row of its own; the last one is filled
+abbrev pub change_bytes : ℕ → ℕ → List PlacedLine → PlacedLine → List PlacedLine → List ℕ
+change_bytes w taken front last more =
+    rewrite_bytes w taken front last ++ (lines_bytes true (placed_lines more) ++ replicate (free_behind w (last_of more)) 0x20)
