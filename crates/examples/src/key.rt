@@ -2,9 +2,10 @@
 ghost use Rattle.std.specs.Prelude.{◌-◌, decimal};
 
 use anyhow::Result;
-use indicatif::machine::{on_stderr, style_on_stderr};
-use indicatif::{FnTracker, Moment, ProgressBar, ProgressState, Refusal, TellsText};
+use indicatif::machine::{Shares, TerminalSetup};
+use indicatif::{FnTracker, Moment, ProgressBar, ProgressState, ProgressStyle, Refusal, TellsText};
 use std::alloc::Global;
+use std::io::Stderr;
 
 /// Tells how many of so many files are left.
 #[derive(Drop)]
@@ -22,15 +23,19 @@ impl TellsText for Left {
     }
 }
 
-pub fn main(rt: HostRuntime) -> Result<()> {
+pub const TEMPLATE: &str = "{wide_bar} {left} left";
+
+pub fn run<R: Shares>(
+    rt: R,
+    setup: TerminalSetup<Stderr>,
+    style: ProgressStyle<FnTracker<Left>>,
+) -> Result<()> {
     let alloc = rt.alloc();
     let left = FnTracker::new(alloc, Left { alloc, of: 400 })?;
-    let style = style_on_stderr(&rt, "{wide_bar} {left} left")?.with_key("left", left)?;
-    let bar = ProgressBar::styled(rt, alloc, style, Some(400), on_stderr(&rt)?)?;
+    let bar = ProgressBar::styled(rt, alloc, style.with_key("left", left)?, Some(400), setup)?;
     for _ in 0..400u32 {
         bar.inc(1)?;
     }
     bar.finish()?;
-    println!(rt; "done")?;
     Ok(())
 }

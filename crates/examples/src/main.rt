@@ -20,6 +20,7 @@ mod terminal;
 mod wrapped;
 
 use anyhow::Result;
+use indicatif::machine::{on_stderr, style_on_stderr};
 use std::env;
 
 fn main(rt: HostRuntime) -> Result<()> {
@@ -28,13 +29,13 @@ fn main(rt: HostRuntime) -> Result<()> {
         first::main(rt)?;
         run_others(&rt)?;
         print_name(&rt, "key")?;
-        key::main(rt)?;
+        key::run(rt, on_stderr(&rt)?, style_on_stderr(&rt, key::TEMPLATE)?)?;
         print_name(&rt, "guide")?;
         return guide::main(rt);
     };
     match name.as_str() {
         "first" => first::main(rt),
-        "key" => key::main(rt),
+        "key" => key::run(rt, on_stderr(&rt)?, style_on_stderr(&rt, key::TEMPLATE)?),
         "guide" => guide::main(rt),
         name => run(&rt, name),
     }
