@@ -6,6 +6,7 @@ usage: tools/pages.py [--write]   (at the root of the repository)
 - Each row of a table of docs/TEMPLATES.md is one row of crates/rows/data/templates_page.txt, which `crates/rows` plays.
 - The README's program is that of crates/example_readme.
 - Each call, clause, law and file that a table of docs/PROVED.md names is there.
+- The same of docs/REFUSALS.md, which names each public call of its modules.
 - The table of refusals in docs/USING.md has the numbers and texts of crates/rows/data/refusals.txt, and all of them. Other pages that
   name a refusal with its number name it so.
 - The options and statuses of docs/METER.md are those of crates/meter/src.
@@ -32,6 +33,15 @@ HEAD = """# The tables of docs/TEMPLATES.md, written by tools/pages.py: one bar 
 # columns, template, characters, colours, tab width, position, length, message, prefix, moment, whether finished
 BAR = ["40", None, "-", None, "8", "1500000", "6000000", "copying", "[1/3]", "10000000000", "0"]
 PROVED = pathlib.Path("docs/PROVED.md")
+REFUSALS = pathlib.Path("docs/REFUSALS.md")
+# the modules whose public calls that page names
+REFUSED = {
+    "indicatif_text": ["columns", "pieces", "range", "style_words", "format", "template", "refusal"],
+    "indicatif_term": ["term_like", "term", "in_memory", "in_memory/feeding", "limiter", "target", "draw_target", "lines"],
+    "indicatif_bar": ["bar_style", "bar_style/builders", "tracker", "progress", "bar_state", "bar_state/copies", "bar_lines", "finish", "lone"],
+    "indicatif_board": ["multi", "recorded", "slots", "call_copies", "done", "bridge"],
+    "indicatif": ["owned", "moves", "wrap", "items", "bytes", "seeking", "streams", "polled", "parallel", "progress_iterator", "seek", "ring"],
+}
 LIBRARIES = ["indicatif_text", "indicatif_term", "indicatif_bar", "indicatif_board", "indicatif"]
 PROGRAMS = ["bars_run", "meter_parts"]
 
@@ -163,9 +173,10 @@ def faults_of_row(cells, found, laws):
             yield f"no file {word}"
 
 
-def faults_of_proved():
-    found, laws = {}, set()
-    for line in PROVED.read_text(encoding="utf-8").splitlines():
+def rows_of(page):
+    """The rows of a page's tables, each with its section's crates, their contracts and their laws."""
+    found, laws, crates = {}, set(), []
+    for line in page.read_text(encoding="utf-8").splitlines():
         if line.startswith("## "):
             crates = PROGRAMS if line == "## Programs" else re.findall(r"`(\w+)`", line)
             found, laws = {}, set()
@@ -175,8 +186,26 @@ def faults_of_proved():
                 laws |= set(re.findall(r"^pub fn (\w+)", read(path), re.M)) if path.exists() else set()
         cells = [cell.strip() for cell in line.strip("|").split("|")]
         if found and line.startswith("| ") and len(cells) >= 4 and cells[0] not in ("Call", "---"):
-            for fault in faults_of_row(cells, found, laws):
-                yield f"{PROVED}: {fault}"
+            yield cells, crates, found, laws
+
+
+def faults_of_proved():
+    for cells, _, found, laws in rows_of(PROVED):
+        for fault in faults_of_row(cells, found, laws):
+            yield f"{PROVED}: {fault}"
+
+
+def faults_of_refused():
+    named = set()
+    for cells, crates, found, laws in rows_of(REFUSALS):
+        named |= {(crate, name) for crate in crates for _, name in calls_of(cells[0])}
+        for fault in faults_of_row([cells[0], cells[3], cells[3]], found, laws):
+            yield f"{REFUSALS}: {fault}"
+    for crate, modules in REFUSED.items():
+        for module in modules:
+            for name in re.findall(r"^ *pub fn (\w+)", read(f"crates/{crate}/src/{module}.rt"), re.M):
+                if (crate, name) not in named:
+                    yield f"{REFUSALS}: lacks {name} of {crate}/{module}"
 
 
 # docs/USING.md
@@ -453,6 +482,7 @@ def main():
     if len({tuple(program(it, "use anyhow::Result;")) for it in texts}) != 1:
         faults.append("README.md has another program than crates/example_readme")
     faults += faults_of_proved()
+    faults += faults_of_refused()
     faults += faults_of_refusals()
     faults += faults_of_meter()
     faults += faults_of_names()
