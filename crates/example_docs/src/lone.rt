@@ -2,10 +2,11 @@
 use anyhow::Result;
 use indicatif_bar::lone::{LoneBar, LoneCall};
 use indicatif_bar::state::{BarCommand, BarState};
-use indicatif_bar::style::{NoTracker, ProgressStyle};
+use indicatif_bar::style::{NoTracker, ProgressStyle, Tracks};
 use indicatif_term::draw_target::ProgressDrawTarget;
 use indicatif_term::in_memory::InMemoryTerm;
-use indicatif_text::columns::{Clock, Drawn, Refusal, StepClock};
+use indicatif_term::term_like::TermLike;
+use indicatif_text::columns::{Clock, Drawn, Moment, Refusal, StepClock};
 use std::alloc::Global;
 
 type Bar = LoneBar<NoTracker, InMemoryTerm>;
@@ -32,7 +33,16 @@ pub fn main(rt: &HostRuntime) -> Result<()> {
     )?;
     print_shown(rt, "with_style", &bar)?;
     println!(rt; "LoneCall {}", run_three(rt.alloc(), &mut bar)?)?;
-    print_shown(rt, "LoneCall", &bar)
+    print_shown(rt, "LoneCall", &bar)?;
+    step(&mut bar, 6_000_000_000)?;
+    Ok(())
+}
+
+fn step<K: Tracks, T: TermLike + Drop>(
+    bar: &mut LoneBar<K, T>,
+    now: Moment,
+) -> Result<Drawn, Refusal> {
+    bar.inc(1, now)
 }
 
 fn print_shown(rt: &HostRuntime, name: &str, bar: &Bar) -> Result<()> {

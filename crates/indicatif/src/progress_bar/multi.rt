@@ -361,7 +361,7 @@ impl<T: TermLike + Drop, C: Clock + Clone + Drop, R: Wait + Clone + Drop, K: Tra
 /// #[derive(Drop)]
 /// struct Length;
 ///
-/// impl<T: Drop, K: Tracks> RecordReader<T, K> for Length {
+/// impl<T: TermLike + Drop, K: Tracks> RecordReader<T, K> for Length {
 ///     type Found = usize;
 ///
 ///     fn read(self, record: Option<&Recorded<K, T>>) -> usize {
