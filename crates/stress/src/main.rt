@@ -9,6 +9,7 @@
 mod deed;
 mod numbers;
 mod player;
+mod tickers;
 
 use crate::player::{Bar, Multi, Player, Plays};
 use anyhow::{Result, anyhow};
@@ -16,6 +17,7 @@ use indicatif::machine::MachineClock;
 use indicatif::{InMemoryTerm, MultiProgress, ProgressBar, ProgressDrawTarget, Refusal, Setup};
 use std::env::{self, Env};
 use std::thread::join;
+use tickers::{bar_of, tell_off, tell_on};
 
 /// A seed, and how many steps a thread makes by it.
 #[derive(Clone, Copy, Drop)]
@@ -133,5 +135,10 @@ fn main(rt: HostRuntime) -> Result<()> {
         come_to_rest(bars.as_slice())?;
         say(rt, run, logged, &board)?;
     }
+    let bar = bar_of(rt)?;
+    let (on, off) = join(&rt, || tell_on(&bar), || tell_off(&bar));
+    let (on, off) = (on?, off?);
+    bar.disable_steady_tick()?;
+    println!(rt; "one ticker: told on {on} times, told off {off} times")?;
     Ok(())
 }
