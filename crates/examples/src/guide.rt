@@ -1,14 +1,16 @@
-//! Shows the programs of the guide at the head of crate `indicatif`: a first bar, templates, a board, a wrapper, and what goes wrong
-//! beside what goes right. Each prints what stands on a terminal in memory in the end.
+//! Shows the programs of the guide at the head of crate `indicatif`: a first bar, templates and keys of one's own, a board, a wrapper,
+//! and what goes wrong beside what goes right. Each prints what stands on a terminal in memory in the end.
+use crate::key::Left;
 use anyhow::{Result, anyhow};
+use indicatif::style::Tracks;
 use indicatif::{
-    InMemoryTerm, MultiProgress, ProgressBar, ProgressDrawTarget, ProgressFinish, ProgressStyle,
-    Setup, StepClock,
+    FnTracker, InMemoryTerm, MultiProgress, NoTracker, ProgressBar, ProgressDrawTarget,
+    ProgressFinish, ProgressStyle, Setup, StepClock,
 };
 use std::alloc::Global;
 use std::sync::Wait;
 
-type Bar<R> = ProgressBar<InMemoryTerm, StepClock, R>;
+type Bar<R, K = NoTracker> = ProgressBar<InMemoryTerm, StepClock, R, K>;
 
 type Several<R> = MultiProgress<InMemoryTerm, StepClock, R>;
 
@@ -20,7 +22,11 @@ fn setup(alloc: Global) -> Result<Setup<InMemoryTerm, StepClock>> {
 }
 
 /// Prints what stands on a bar's terminal.
-fn show<R: Print + Wait + Copy + Drop>(rt: R, name: &str, bar: &Bar<R>) -> Result<()> {
+fn show<R: Print + Wait + Copy + Drop, K: Tracks>(
+    rt: R,
+    name: &str,
+    bar: &Bar<R, K>,
+) -> Result<()> {
     let shown = bar.with_term(|term| term.map(|term| term.contents()));
     println!(rt; "-- {name}\n{}", shown.ok_or(anyhow!("no terminal"))??)?;
     Ok(())
@@ -51,6 +57,18 @@ fn template<R: AllocGlobal + Print + Wait + Copy + Drop>(rt: R) -> Result<()> {
         .with_message("a.txt")?;
     bar.set_position(75)?;
     show(rt, "a template", &bar)
+}
+
+fn key<R: AllocGlobal + Print + Wait + Copy + Drop>(rt: R) -> Result<()> {
+    let alloc = rt.alloc();
+    let setup = setup(alloc)?;
+    let left = FnTracker::new(alloc, Left { alloc, of: 10 })?;
+    let style = ProgressStyle::with_template(alloc, "{wide_bar} {left} left")?.with_key(
+        "left", left,
+    )?;
+    let bar = ProgressBar::styled(rt, alloc, style, Some(10), setup)?;
+    bar.set_position(3)?;
+    show(rt, "a key of one's own", &bar)
 }
 
 fn board<R: AllocGlobal + Print + Wait + Copy + Drop>(rt: R) -> Result<()> {
@@ -147,6 +165,7 @@ fn run_traps<R: AllocGlobal + Print + Wait + Copy + Drop>(rt: R) -> Result<()> {
 pub fn main<R: AllocGlobal + Print + Wait + Copy + Drop>(rt: R) -> Result<()> {
     first_bar(rt)?;
     template(rt)?;
+    key(rt)?;
     board(rt)?;
     wrapper(rt)?;
     run_traps(rt)

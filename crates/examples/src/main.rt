@@ -3,6 +3,7 @@
 //! - `first`: a first program. `wrapped`: a loop with a bar of its own. `download`: bytes, rate and time left.
 //! - `fine`: a bar of fine characters. `log`: lines above a bar. `refusal`: a call that is refused.
 //! - `formatters`: numbers as texts. `template`: the parts of a template. `terminal`: a bar on standard error.
+//! - `key`: a key of one's own in a template, on standard error.
 //! - `guide`: the programs of the guide at the head of crate `indicatif`.
 #![tactic(auto)]
 
@@ -11,6 +12,7 @@ mod fine;
 mod first;
 mod formatters;
 mod guide;
+mod key;
 mod log;
 mod refusal;
 mod template;
@@ -18,6 +20,7 @@ mod terminal;
 mod wrapped;
 
 use anyhow::Result;
+use indicatif::machine::{on_stderr, style_on_stderr};
 use std::env;
 
 fn main(rt: HostRuntime) -> Result<()> {
@@ -25,11 +28,14 @@ fn main(rt: HostRuntime) -> Result<()> {
         print_name(&rt, "first")?;
         first::main(rt)?;
         run_others(&rt)?;
+        print_name(&rt, "key")?;
+        key::run(rt, on_stderr(&rt)?, style_on_stderr(&rt, key::TEMPLATE)?)?;
         print_name(&rt, "guide")?;
         return guide::main(rt);
     };
     match name.as_str() {
         "first" => first::main(rt),
+        "key" => key::run(rt, on_stderr(&rt)?, style_on_stderr(&rt, key::TEMPLATE)?),
         "guide" => guide::main(rt),
         name => run(&rt, name),
     }
@@ -40,7 +46,7 @@ fn print_name(rt: &HostRuntime, name: &str) -> Result<()> {
     Ok(())
 }
 
-/// Runs all but the first and the guide's.
+/// Runs all but the first, the key's and the guide's.
 fn run_others(rt: &HostRuntime) -> Result<()> {
     for name in [
         "wrapped",

@@ -47,7 +47,7 @@ pub fn shown<R: Wait + Copy + Clone + Drop>(board: &Shared<R>, look: Look, got: 
     seen.kept
 }
 
-impl RecordReader<InMemoryTerm> for Look {
+impl RecordReader<InMemoryTerm, NoTracker> for Look {
     type Found = Seen;
 
     fn read(self, record: Option<&Recorded<NoTracker, InMemoryTerm>>) -> Seen {

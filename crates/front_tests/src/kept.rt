@@ -41,7 +41,7 @@ fn is_ticker(command: &BarCommand<NoTracker>, kind: Kind<'_>) -> bool {
     }
 }
 
-impl<'a> RecordReader<InMemoryTerm> for Kind<'a> {
+impl<'a> RecordReader<InMemoryTerm, NoTracker> for Kind<'a> {
     type Found = u64;
 
     fn read(self, record: Option<&Kept>) -> u64 {
@@ -100,7 +100,7 @@ struct RunsAgain {
     alloc: Global,
 }
 
-impl RecordReader<InMemoryTerm> for RunsAgain {
+impl RecordReader<InMemoryTerm, NoTracker> for RunsAgain {
     type Found = bool;
 
     fn read(self, record: Option<&Kept>) -> bool {

@@ -9,7 +9,7 @@
 //! - `bridges`: lines of a log above a board's bars.
 //! - `carried`: tests of the crate `indicatif` that need code. `carried_tickers`: those of tickers. `carried_trackers`: those of trackers.
 //! - `counted`: threads that count for a bar.
-//! - `ticking`: a bar's ticker, looked at from outside.
+//! - `ticking`: a bar's ticker, looked at from outside. `keyed`: shared bars with a key of the tests' own.
 //! - `lists`, `own_bars`, `pieces`: lists, block by block, lists with a bar of their own, and pieces in threads of their own; with the
 //!   bar `stepped` and the `gates`.
 #![tactic(auto)]
@@ -34,6 +34,8 @@ mod fronts;
 mod gates;
 #[cfg(test)]
 mod kept;
+#[cfg(test)]
+mod keyed;
 #[cfg(test)]
 mod lists;
 #[cfg(test)]

@@ -4,21 +4,20 @@ use Rattle.indicatif_text.specs.declared.refusal.Refusal.{Refusal}
 use Rattle.indicatif_text.specs.declared.refusal.Refusal.TheVariants.{Memory, NotMember}
 use Rattle.indicatif_text.specs.declared.refusal.Drawn.{Drawn}
 use Rattle.indicatif_term.specs.Calls.{TermView}
-use Rattle.indicatif_bar.specs.Trackers.{writes_nothing}
+use Rattle.indicatif_bar.specs.Trackers.{Tracking}
 use Rattle.indicatif_bar.specs.Commands.{BarRecord, Command}
 use Rattle.indicatif_bar.specs.Runs.{CallMade}
-use Rattle.indicatif_bar.specs.declared.tracker.NoTracker.{NoTracker}
 use Rattle.indicatif_board.specs.BoardBars.{board_bars}
 use Rattle.indicatif_board.specs.Boards.{BoardState, Call, Clear, Redraw, Insert, Remove, Location, Entrant, Id, Answer, Given, Done, Drew, Refused, drawn_of, board}
 use Rattle.indicatif_board.specs.Multi.{IsIn, known}
 use Rattle.indicatif_board.specs.declared.multi.Board.{Board}
 
--- a call of a board whose bars have no trackers; a state of one
-abbrev pub SharedCall : Type 0
-SharedCall = Call (BarRecord NoTracker) (Command NoTracker)
+-- a call of a board whose bars have trackers of this type; a state of one
+abbrev pub SharedCall : Type 0 → Type 0
+SharedCall K = Call (BarRecord K) (Command K)
 
-abbrev pub SharedState : Type 0
-SharedState = BoardState (BarRecord NoTracker)
+abbrev pub SharedState : Type 0 → Type 0
+SharedState K = BoardState (BarRecord K)
 
 -- what an answer gives of a bar that was to be taken in. An insertion answers nothing but the first two
 abbrev pub given_by : Answer → Result Id Refusal
@@ -27,19 +26,19 @@ given_by (Refused e) = Err e
 given_by Done = Err NotMember
 given_by (Drew drawn) = Err NotMember
 
-module _ {T : Type 0} (view : T → TermView) where
+module _ {K T : Type 0} (m : Tracking K) (view : T → TermView) where
   -- there are a board, a state of it and a moment at which it answers so
-  abbrev pub BoardCan : SharedCall → Answer → Type 0
+  abbrev pub BoardCan : SharedCall K → Answer → Type 0
   BoardCan call answer =
-      (mark : ℕ) × (now : ℕ) × (old : Board NoTracker T) × (new : Board NoTracker T) × (s : SharedState) × (next : SharedState)
-      × IsIn mark old s × IsIn mark new next × CallMade (board (board_bars writes_nothing) mark) (known view old) (known view new) (call, now) s answer next
+      (mark : ℕ) × (now : ℕ) × (old : Board K T) × (new : Board K T) × (s : SharedState K) × (next : SharedState K)
+      × IsIn mark old s × IsIn mark new next × CallMade (board (board_bars m) mark) (known view old) (known view new) (call, now) s answer next
 
   -- a board under a lock answers as some board does; or its history, or a text that it is handed, finds no memory
-  abbrev pub SharedAnswers : SharedCall → Answer → Type 0
+  abbrev pub SharedAnswers : SharedCall K → Answer → Type 0
   SharedAnswers call answer = BoardCan call answer ⊎ (answer ≡ Refused Memory)
 
   -- what such an answer tells of a draw
-  abbrev pub SharedDraws : SharedCall → Result Drawn Refusal → Type 0
+  abbrev pub SharedDraws : SharedCall K → Result Drawn Refusal → Type 0
   SharedDraws call drawn = (told : Answer) × (drawn ≡ drawn_of told) × SharedAnswers call told
 
   -- one that was suspended was cleared and drawn again; or the clear was refused
@@ -52,4 +51,4 @@ module _ {T : Type 0} (view : T → TermView) where
 
   -- what one gives that is to take a bar in at a place
   abbrev pub SharedTakes : Location → Result Id Refusal → Type 0
-  SharedTakes at taken = (entrant : Entrant (BarRecord NoTracker)) × (told : Answer) × (taken ≡ given_by told) × SharedAnswers (Insert at entrant) told
+  SharedTakes at taken = (entrant : Entrant (BarRecord K)) × (told : Answer) × (taken ≡ given_by told) × SharedAnswers (Insert at entrant) told

@@ -2,6 +2,7 @@
 ghost use Rattle.std.specs.Prelude.{◌≡◌, ℕ, true, Some, []};
 
 use crate::progress_bar::MultiProgress;
+use indicatif_bar::style::{NoTracker, Tracks};
 pub use indicatif_board::bridge::{bridge_line, emit};
 use indicatif_term::term_like::TermLike;
 use indicatif_text::columns::{Clock, Drawn, Refusal};
@@ -70,32 +71,45 @@ impl LineForm for LevelOnEachLine {
 /// warn!(rt; "low disk"); // `WARN  low disk` stands above the bars
 /// ```
 #[derive(Drop)]
-pub struct LogBridge<T: TermLike + Drop, C: Clock + Drop, R: Wait + Clone + Drop, F = LevelOnce> {
-    board: MultiProgress<T, C, R>,
+pub struct LogBridge<
+    T: TermLike + Drop,
+    C: Clock + Drop,
+    R: Wait + Clone + Drop,
+    F = LevelOnce,
+    K: Tracks = NoTracker,
+> {
+    board: MultiProgress<T, C, R, K>,
     most: LevelFilter,
     form: F,
     missed: AtomicU64,
 }
 
-impl<T: TermLike + Drop, C: Clock + Drop, R: Wait + Clone + Drop> LogBridge<T, C, R> {
+impl<T: TermLike + Drop, C: Clock + Drop, R: Wait + Clone + Drop, K: Tracks> LogBridge<
+    T,
+    C,
+    R,
+    LevelOnce,
+    K,
+> {
     /// A sink over this board, for records of each level, with the level once before the text.
-    pub fn new(board: MultiProgress<T, C, R>) -> Self {
+    pub fn new(board: MultiProgress<T, C, R, K>) -> Self {
         LogBridge::with_form(board, LevelOnce)
     }
 }
 
-impl<T: TermLike + Drop, C: Clock + Drop, R: Wait + Clone + Drop, F: LineForm + Drop> LogBridge<
-    T,
-    C,
-    R,
-    F,
-> {
+impl<
+    T: TermLike + Drop,
+    C: Clock + Drop,
+    R: Wait + Clone + Drop,
+    F: LineForm + Drop,
+    K: Tracks,
+> LogBridge<T, C, R, F, K> {
     /// The same, with lines of this form.
     ///
     /// ```
     /// let bridge = LogBridge::with_form(board.clone()?, LevelOnEachLine);
     /// ```
-    pub fn with_form(board: MultiProgress<T, C, R>, form: F) -> Self {
+    pub fn with_form(board: MultiProgress<T, C, R, K>, form: F) -> Self {
         LogBridge {
             board,
             most: LevelFilter::Trace,
@@ -130,9 +144,9 @@ impl<T: TermLike + Drop, C: Clock + Drop, R: Wait + Clone + Drop, F: LineForm + 
     }
 
     /// Writes what is written of a record above the bars.
-    fn print<D: Display, K: Source, S: Spans>(
+    fn print<D: Display, V: Source, S: Spans>(
         &self,
-        record: &Record<'_, D, K, S>,
+        record: &Record<'_, D, V, S>,
     ) -> Result<Drawn, Refusal> {
         let alloc = self.board.alloc();
         let text = String::format(alloc, record.args())?;
@@ -143,8 +157,8 @@ impl<T: TermLike + Drop, C: Clock + Drop, R: Wait + Clone + Drop, F: LineForm + 
     }
 }
 
-impl<T: TermLike + Drop, C: Clock + Drop, R: Wait + Clone + Drop, F: LineForm + Drop> Log
-    for LogBridge<T, C, R, F> {
+impl<T: TermLike + Drop, C: Clock + Drop, R: Wait + Clone + Drop, F: LineForm + Drop, K: Tracks> Log
+    for LogBridge<T, C, R, F, K> {
     ghost use Rattle.std.specs.Prelude.{Some, []};
     ghost use Rattle.log.specs.Level.{allows};
 
@@ -156,7 +170,7 @@ impl<T: TermLike + Drop, C: Clock + Drop, R: Wait + Clone + Drop, F: LineForm + 
         self.most.allows(metadata.level())
     }
 
-    fn log<D: Display, K: Source, S: Spans>(&self, record: &Record<'_, D, K, S>) {
+    fn log<D: Display, V: Source, S: Spans>(&self, record: &Record<'_, D, V, S>) {
         if !self.most.allows(record.level()) {
             return;
         }

@@ -7,15 +7,12 @@ ghost use Rattle.indicatif.specs.Owned.{Built, MayBuild};
 use crate::owned::OwnedBar;
 use crate::wrap::ProgressBarIter;
 use indicatif_bar::state::ProgressFinish;
-use indicatif_bar::style::{ProgressStyle, ProgressTracker};
+use indicatif_bar::style::{ProgressStyle, Tracks};
 use indicatif_term::term_like::TermLike;
 use indicatif_text::columns::{Clock, Drawn, Refusal};
 
 /// Each of these asks no draw, and leaves `last_draw` as it is.
-impl<I, K: ProgressTracker, W: TermLike + Drop, C: Clock + Drop> ProgressBarIter<
-    I,
-    OwnedBar<K, W, C>,
-> {
+impl<I, K: Tracks, W: TermLike + Drop, C: Clock + Drop> ProgressBarIter<I, OwnedBar<K, W, C>> {
     /// Another position of the bar, which the rate doesn't count.
     pub fn with_position(self, position: u64) -> Self
         ensures { Built K.means W.view self (PutPosition position) result }
@@ -38,7 +35,7 @@ impl<I, K: ProgressTracker, W: TermLike + Drop, C: Clock + Drop> ProgressBarIter
 }
 
 /// Neither do these ask a draw. One that is refused gives up what it was called on, so lend it what has to be kept.
-impl<I: Drop, K: ProgressTracker, W: TermLike + Drop, C: Clock + Drop> ProgressBarIter<
+impl<I: Drop, K: Tracks, W: TermLike + Drop, C: Clock + Drop> ProgressBarIter<
     I,
     OwnedBar<K, W, C>,
 > {

@@ -6,6 +6,7 @@ ghost use Rattle.indicatif_bar.specs.Lone as Lone;
 ghost use Rattle.indicatif.specs.Fronts.{CanAnswer};
 
 use crate::progress_bar::ProgressBar;
+use indicatif_bar::style::Tracks;
 use indicatif_board::done::{BarWorker, Done};
 use indicatif_term::term_like::TermLike;
 use indicatif_text::columns::{Clock, Drawn, Refusal};
@@ -13,7 +14,12 @@ use std::sync::Wait;
 
 /// Threads that count for this bar. A step of a bar that is shared takes its lock; a worker's `add` takes none, and the bar
 /// moves once, when it absorbs the sum.
-impl<T: TermLike + Drop, C: Clock + Drop, R: Wait + Clone + Drop> ProgressBar<T, C, R> {
+impl<T: TermLike + Drop, C: Clock + Drop, R: Wait + Clone + Drop, K: Tracks> ProgressBar<
+    T,
+    C,
+    R,
+    K,
+> {
     /// A sum of 0, and the worker that has the whole share of it; each thread adds by a worker of its own, split off from it. The
     /// bar isn't touched until it absorbs the sum, nor need it ever: the sum is no part of it.
     ///
@@ -38,7 +44,7 @@ impl<T: TermLike + Drop, C: Clock + Drop, R: Wait + Clone + Drop> ProgressBar<T,
     pub fn absorb(&self, done: Done, worker: BarWorker) -> Result<Drawn, Refusal>
         requires of { worker.adds_to ≡ done }
         requires whole { worker.account.parts ≡ whole_share }
-        ensures { CanAnswer T.view (Lone.Obey (Command.Inc (worker.account.added % 2 ^ 64))) result }
+        ensures { CanAnswer K.means T.view (Lone.Obey (Command.Inc (worker.account.added % 2 ^ 64))) result }
     {
         self.inc(done.close(worker))
     }

@@ -14,7 +14,7 @@ ghost use Rattle.indicatif.specs.Seek.{Seeks, no_seeks, saturated, Forward, afte
 
 use crate::moves::Moves;
 use crate::wrap::ProgressBarIter;
-use indicatif_bar::style::ProgressTracker;
+use indicatif_bar::style::Tracks;
 use indicatif_term::term_like::TermLike;
 
 /// What is kept after a list of updates is its last `n`, the latest first.
@@ -61,7 +61,7 @@ pub fn the_moves_of_a_loop<I: Iterator, P: Moves>()
 
 /// Any list of moves of a bar with its clock, as those of a loop, is a run of that bar, call by call with these answers; and the
 /// headline holds of it.
-pub fn moves_are_a_run<K: ProgressTracker, T: TermLike + Drop, C>()
+pub fn moves_are_a_run<K: Tracks, T: TermLike + Drop, C>()
     ensures { (made : List (Move × Result Drawn Refusal)) (old new : OwnedBar K T C) →
         MovedAlong (Commanded K.means T.view) made old new → IsRun K.means T.view made old new }
 {}

@@ -63,6 +63,34 @@
 //! dot the style: `{msg:>20!.green}`. docs/TEMPLATES.md has all keys, each with what it shows. Colours are off until
 //! `with_colors(true)`; `machine::style_on_stderr` turns them on where they are wanted.
 //!
+//! # Keys of your own
+//!
+//! ```
+//! impl TellsText for Left {
+//!     ghost told_text = { λ left p now. decimal (left.of - p.position) };
+//!
+//!     fn tell(&self, state: &ProgressState, _now: Moment) -> Result<String, Refusal> {
+//!         let left = self.of.saturating_sub(state.pos());
+//!         Ok(format!(in self.alloc; "{left}")?)
+//!     }
+//! }
+//! ```
+//!
+//! ```
+//! let left = FnTracker::new(alloc, Left { alloc, of: 10 })?;
+//! let style = ProgressStyle::with_template(alloc, "{wide_bar} {left} left")?.with_key("left", left)?;
+//! let bar = ProgressBar::styled(rt, alloc, style, Some(10), setup)?;
+//! bar.set_position(3)?;
+//! ```
+//!
+//! ```text
+//! ██████░░░░░░░░░░░░░░░░░ 7 left
+//! ```
+//!
+//! What a key says is stated beside it, as a function of what the bar has reached and the moment. A type that changes when the bar ticks
+//! is a `style::ProgressTracker`. `MultiProgress::keyed` makes a board for such bars; a function over bars of any keys asks for
+//! `K: style::Tracks`.
+//!
 //! # Several bars
 //!
 //! ```

@@ -8,7 +8,7 @@ ghost use Rattle.indicatif.specs.Machine.{IsBehind, IsOnStream};
 
 use crate::own_rows::OwnRows;
 use crate::progress_bar::{MultiProgress, ProgressBar};
-use indicatif_bar::style::{NoTracker, ProgressStyle, TICKS};
+use indicatif_bar::style::{NoTracker, ProgressStyle, TICKS, Tracks};
 use indicatif_term::draw_target::{Facts, ProgressDrawTarget, Setup};
 use indicatif_term::term_like::Term;
 use indicatif_text::columns::{Clock, Moment, Refusal};
@@ -164,10 +164,10 @@ pub fn wants_colors<R: Env + AllocGlobal>(rt: &R, stream: &impl IsTerminal) -> R
 /// ```
 ///
 /// Refused: as `ProgressStyle::with_template`.
-pub fn style_on_stderr(
+pub fn style_on_stderr<K: Tracks>(
     rt: &HostRuntime,
     template: &str,
-) -> Result<ProgressStyle<NoTracker>, Refusal>
+) -> Result<ProgressStyle<K>, Refusal>
     ensures parts { IfOk result (λ style. Parses (chars template.now) style.parts) }
     ensures style { IfOk result (λ style. (colours : Bool) × (style ≡ record (first_style TICKS.now style.parts) { colours = colours })) }
     ensures refused { IfErr result (λ e. (e ≡ Refusal.Memory)
@@ -209,10 +209,20 @@ pub type StreamSetup<W> = Setup<StreamTerm<W>, MachineClock<HostRuntime>>;
 ///     bar.inc(1)
 /// }
 /// ```
-pub type StderrBar<R> = ProgressBar<StreamTerm<Stderr>, MachineClock<HostRuntime>, R>;
+pub type StderrBar<R, K = NoTracker> = ProgressBar<
+    StreamTerm<Stderr>,
+    MachineClock<HostRuntime>,
+    R,
+    K,
+>;
 
 /// A shared board there.
-pub type StderrBoard<R> = MultiProgress<StreamTerm<Stderr>, MachineClock<HostRuntime>, R>;
+pub type StderrBoard<R, K = NoTracker> = MultiProgress<
+    StreamTerm<Stderr>,
+    MachineClock<HostRuntime>,
+    R,
+    K,
+>;
 
 /// What functions over shared bars ask of the runtime, in one word: memory, locks, threads and the time. The one that `main` is
 /// given has it.

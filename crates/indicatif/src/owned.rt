@@ -6,7 +6,7 @@ ghost use Rattle.indicatif.specs.Owned.{lone_of, Begins, BeginsPlain};
 use crate::moves::Moves;
 use indicatif_bar::lone::LoneBar;
 use indicatif_bar::state::BarState;
-use indicatif_bar::style::{NoTracker, ProgressStyle, ProgressTracker, TICKS};
+use indicatif_bar::style::{NoTracker, ProgressStyle, TICKS, Tracks};
 use indicatif_term::draw_target::Setup;
 use indicatif_term::term_like::TermLike;
 use indicatif_text::columns::{Clock, Drawn, Refusal};
@@ -57,7 +57,7 @@ impl<K, T: Drop, C> Debug for OwnedBar<K, T, C> {
     }
 }
 
-impl<K: ProgressTracker, T: TermLike + Drop, C: Clock + Drop> OwnedBar<K, T, C> {
+impl<K: Tracks, T: TermLike + Drop, C: Clock + Drop> OwnedBar<K, T, C> {
     /// A bar of this length or of none, in this style, on the setup's target, made at the moment that its clock tells. Nothing
     /// is drawn.
     ///
@@ -91,17 +91,15 @@ impl<T: TermLike + Drop, C: Clock + Drop> OwnedBar<NoTracker, T, C> {
     }
 }
 
-/// It tells where it stands. (For styles without trackers of the caller's own: the toolchain passes no bound that holds of other
-/// threads, as those of `ProgressTracker`, on from a trait's method.)
-impl<T: TermLike + Drop, C: Clock + Drop> Moves for OwnedBar<NoTracker, T, C> {
+/// It tells where it stands.
+impl<K: Tracks, T: TermLike + Drop, C: Clock + Drop> Moves for OwnedBar<K, T, C> {
     ghost use Rattle.std.specs.Prelude.{Some};
     ghost use Rattle.indicatif_bar.specs.LoneBars.{record_of};
-    ghost use Rattle.indicatif_bar.specs.Trackers.{writes_nothing};
     ghost use Rattle.indicatif.specs.Owned.{lone_of, standing_of, Commanded};
 
     ghost stands = { λ owned. Some (standing_of (record_of (lone_of owned))) };
 
-    ghost leads = { λ old move answer new. Commanded writes_nothing T.view old move answer new };
+    ghost leads = { λ old move answer new. Commanded K.means T.view old move answer new };
 
     fn advance(&mut self, n: u64) -> Result<Drawn, Refusal> {
         let now = self.clock.now();

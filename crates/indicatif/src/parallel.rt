@@ -10,7 +10,7 @@ ghost use Rattle.indicatif.specs.Parallel.{Blocks, block_length};
 use crate::moves::Moves;
 use crate::owned::OwnedBar;
 use crate::wrap::ProgressBarIter;
-use indicatif_bar::style::{NoTracker, ProgressStyle, TICKS};
+use indicatif_bar::style::{NoTracker, ProgressStyle, TICKS, Tracks};
 use indicatif_term::draw_target::Setup;
 use indicatif_term::term_like::TermLike;
 use indicatif_text::columns::{Clock, Refusal};
@@ -88,12 +88,12 @@ pub trait ParallelProgressIterator: Sized {
     /// A bar of as many as there are items, in this style.
     ///
     /// Refused: `Memory`; nothing is made, and what was handed in is given up.
-    fn progress_with_style<W: TermLike + Drop, C: Clock + Drop>(
+    fn progress_with_style<K: Tracks, W: TermLike + Drop, C: Clock + Drop>(
         self,
         alloc: Global,
-        style: ProgressStyle<NoTracker>,
+        style: ProgressStyle<K>,
         setup: Setup<W, C>,
-    ) -> Result<ProgressBarIter<Self, OwnedBar<NoTracker, W, C>>, Refusal>
+    ) -> Result<ProgressBarIter<Self, OwnedBar<K, W, C>>, Refusal>
         ensures wraps { IfOk result (λ w. Wraps w self) }
         ensures bar { IfOk result (λ w. (now : ℕ) × Begins w.progress (new_bar style (Some (count self)) now) setup.target) }
         ensures memory { IfErr result (λ e. e ≡ Refusal.Memory) };
@@ -127,12 +127,12 @@ impl<'a, T> ParallelProgressIterator for &'a [T] {
         Ok(ProgressBarIter::new(self, bar))
     }
 
-    fn progress_with_style<W: TermLike + Drop, C: Clock + Drop>(
+    fn progress_with_style<K: Tracks, W: TermLike + Drop, C: Clock + Drop>(
         self,
         alloc: Global,
-        style: ProgressStyle<NoTracker>,
+        style: ProgressStyle<K>,
         setup: Setup<W, C>,
-    ) -> Result<ProgressBarIter<&'a [T], OwnedBar<NoTracker, W, C>>, Refusal> {
+    ) -> Result<ProgressBarIter<&'a [T], OwnedBar<K, W, C>>, Refusal> {
         let len = self.len() as u64;
         let bar = OwnedBar::styled(alloc, style, Some(len), setup)?;
         Ok(ProgressBarIter::new(self, bar))

@@ -44,7 +44,7 @@ use crate::seek::SeekMax;
 use crate::wrap::ProgressBarIter;
 use futures::stream::Stream;
 use indicatif_bar::state::{BarCommand, BarState, Change, ProgressFinish, ProgressState, Rate};
-use indicatif_bar::style::{NoTracker, ProgressStyle};
+use indicatif_bar::style::{NoTracker, ProgressStyle, Tracks};
 use indicatif_board::multi::{BarId, InsertLocation};
 use indicatif_term::draw_target::{ProgressDrawTarget, Setup};
 use indicatif_term::term_like::TermLike;
@@ -74,12 +74,18 @@ use tokio::io::{AsyncRead, AsyncWrite};
 /// let other = bar.clone()?; // for another thread
 /// bar.inc(1)?;
 /// ```
-pub struct ProgressBar<T: TermLike + Drop, C: Clock + Drop, R: Wait + Clone + Drop> {
-    pub(crate) state: Arc<Locked<T, C>, Global>,
+pub struct ProgressBar<
+    T: TermLike + Drop,
+    C: Clock + Drop,
+    R: Wait + Clone + Drop,
+    K: Tracks = NoTracker,
+> {
+    pub(crate) state: Arc<Locked<K, T, C>, Global>,
     pub(crate) alloc: Global,
     pub(crate) rt: R,
 }
 
+/// Bars whose styles have no keys of the caller's own.
 impl<T: TermLike + Drop, C: Clock + Drop, R: Wait + Clone + Drop> ProgressBar<T, C, R> {
     /// A bar of this length in the style `{wide_bar} {pos}/{len}`, which draws nothing yet.
     ///
@@ -87,8 +93,7 @@ impl<T: TermLike + Drop, C: Clock + Drop, R: Wait + Clone + Drop> ProgressBar<T,
     pub fn new(rt: R, alloc: Global, len: u64, setup: Setup<T, C>) -> Result<Self, Refusal>
         ensures { IfErr result (λ e. e ≡ Refusal.Memory) }
     {
-        let Setup { target, clock } = setup;
-        ProgressBar::with_draw_target(rt, alloc, Some(len), target, clock)
+        ProgressBar::plain(rt, alloc, Some(len), setup)
     }
 
     /// A bar without a length in the same style, which draws nothing yet: it stays empty, and `{len}` shows the position.
@@ -97,8 +102,7 @@ impl<T: TermLike + Drop, C: Clock + Drop, R: Wait + Clone + Drop> ProgressBar<T,
     pub fn no_length(rt: R, alloc: Global, setup: Setup<T, C>) -> Result<Self, Refusal>
         ensures { IfErr result (λ e. e ≡ Refusal.Memory) }
     {
-        let Setup { target, clock } = setup;
-        ProgressBar::with_draw_target(rt, alloc, None, target, clock)
+        ProgressBar::plain(rt, alloc, None, setup)
     }
 
     /// A bar without a length on no terminal, in the style `{wide_bar} {pos}/{len}`. It is drawn once a board takes it in or it
@@ -108,7 +112,8 @@ impl<T: TermLike + Drop, C: Clock + Drop, R: Wait + Clone + Drop> ProgressBar<T,
     pub fn hidden(rt: R, alloc: Global, clock: C) -> Result<Self, Refusal>
         ensures { IfErr result (λ e. e ≡ Refusal.Memory) }
     {
-        ProgressBar::with_draw_target(rt, alloc, None, ProgressDrawTarget::hidden(), clock)
+        let target = ProgressDrawTarget::hidden();
+        ProgressBar::plain(rt, alloc, None, Setup { target, clock })
     }
 
     /// A bar without a length in the style `{spinner} {msg}`, which draws nothing yet.
@@ -117,9 +122,7 @@ impl<T: TermLike + Drop, C: Clock + Drop, R: Wait + Clone + Drop> ProgressBar<T,
     pub fn new_spinner(rt: R, alloc: Global, setup: Setup<T, C>) -> Result<Self, Refusal>
         ensures { IfErr result (λ e. e ≡ Refusal.Memory) }
     {
-        let Setup { target, clock } = setup;
-        let style = ProgressStyle::default_spinner(alloc)?;
-        ProgressBar::made(rt, alloc, style, None, Setup { target, clock })
+        ProgressBar::spinning(rt, alloc, setup)
     }
 
     /// A bar of this length or of none on this target, by this clock, in the style `{wide_bar} {pos}/{len}`. It draws nothing yet.
@@ -134,15 +137,28 @@ impl<T: TermLike + Drop, C: Clock + Drop, R: Wait + Clone + Drop> ProgressBar<T,
     ) -> Result<Self, Refusal>
         ensures { IfErr result (λ e. e ≡ Refusal.Memory) }
     {
-        let style = ProgressStyle::default_bar(alloc)?;
-        ProgressBar::made(rt, alloc, style, len, Setup { target, clock })
+        ProgressBar::plain(rt, alloc, len, Setup { target, clock })
     }
+}
 
-    /// A bar in this style with its first owner.
-    fn made(
+impl<T: TermLike + Drop, C: Clock + Drop, R: Wait + Clone + Drop, K: Tracks> ProgressBar<
+    T,
+    C,
+    R,
+    K,
+> {
+    /// A bar of this length or of none in this style, which may have keys of one's own. It draws nothing yet.
+    ///
+    /// ```
+    /// let style = ProgressStyle::with_template(rt.alloc(), "{wide_bar} {left}")?.with_key("left", Left { of: 10 })?;
+    /// let bar = ProgressBar::styled(rt, rt.alloc(), style, Some(10), setup)?;
+    /// ```
+    ///
+    /// Refused: `Memory`; nothing is made, and what was handed in is given up.
+    pub fn styled(
         rt: R,
         alloc: Global,
-        style: ProgressStyle<NoTracker>,
+        style: ProgressStyle<K>,
         len: Option<u64>,
         setup: Setup<T, C>,
     ) -> Result<Self, Refusal>
@@ -162,10 +178,31 @@ impl<T: TermLike + Drop, C: Clock + Drop, R: Wait + Clone + Drop> ProgressBar<T,
         }
     }
 
+    /// A bar in the style `{wide_bar} {pos}/{len}`.
+    pub(crate) fn plain(
+        rt: R,
+        alloc: Global,
+        len: Option<u64>,
+        setup: Setup<T, C>,
+    ) -> Result<Self, Refusal>
+        ensures { IfErr result (λ e. e ≡ Refusal.Memory) }
+    {
+        let style = ProgressStyle::default_bar(alloc)?;
+        ProgressBar::styled(rt, alloc, style, len, setup)
+    }
+
+    /// A bar in the style `{spinner} {msg}`.
+    pub(crate) fn spinning(rt: R, alloc: Global, setup: Setup<T, C>) -> Result<Self, Refusal>
+        ensures { IfErr result (λ e. e ≡ Refusal.Memory) }
+    {
+        let style = ProgressStyle::default_spinner(alloc)?;
+        ProgressBar::styled(rt, alloc, style, None, setup)
+    }
+
     /// A command of the bar.
     #[tactic(auto, using(crate::proofs::FrontLemmas::place_answers))]
-    fn tell(&self, command: BarCommand<NoTracker>) -> Result<Drawn, Refusal>
-        ensures { CanAnswer T.view (Lone.Obey (command_of command)) result }
+    fn tell(&self, command: BarCommand<K>) -> Result<Drawn, Refusal>
+        ensures { CanAnswer K.means T.view (Lone.Obey (command_of command)) result }
     {
         self.state.lock.lock(&self.rt).tell(&self.rt, command)
     }
@@ -173,7 +210,7 @@ impl<T: TermLike + Drop, C: Clock + Drop, R: Wait + Clone + Drop> ProgressBar<T,
     /// A call of the bar with a text.
     #[tactic(auto, using(crate::proofs::FrontLemmas::place_answers))]
     fn tell_text(&self, told: Worded, text: &str) -> Result<Drawn, Refusal>
-        ensures { CanAnswer T.view (worded told text.now) result }
+        ensures { CanAnswer K.means T.view (worded told text.now) result }
     {
         let mut held = self.state.lock.lock(&self.rt);
         held.tell_text(&self.rt, told, text)
@@ -188,7 +225,7 @@ impl<T: TermLike + Drop, C: Clock + Drop, R: Wait + Clone + Drop> ProgressBar<T,
 
     /// One more tick, up to 2^64 - 1, and a draw: a spinner shows its next text. While a steady ticker is on, nothing changes.
     pub fn tick(&self) -> Result<Drawn, Refusal>
-        ensures { CanAnswer T.view (Lone.Obey Command.Tick) result }
+        ensures { CanAnswer K.means T.view (Lone.Obey Command.Tick) result }
     {
         self.tell(BarCommand::Tick)
     }
@@ -197,63 +234,63 @@ impl<T: TermLike + Drop, C: Clock + Drop, R: Wait + Clone + Drop> ProgressBar<T,
     /// more each millisecond, so that a loop may call it at each of its steps.
     #[tactic(auto, using(crate::proofs::FrontLemmas::place_answers))]
     pub fn inc(&self, delta: u64) -> Result<Drawn, Refusal>
-        ensures { CanAnswer T.view (Lone.Obey (Command.Inc delta)) result }
+        ensures { CanAnswer K.means T.view (Lone.Obey (Command.Inc delta)) result }
     {
         self.state.lock.lock(&self.rt).inc(&self.rt, delta)
     }
 
     /// The position goes down by `delta`, modulo 2^64; else as `inc`.
     pub fn dec(&self, delta: u64) -> Result<Drawn, Refusal>
-        ensures { CanAnswer T.view (Lone.Obey (Command.Dec delta)) result }
+        ensures { CanAnswer K.means T.view (Lone.Obey (Command.Dec delta)) result }
     {
         self.tell(BarCommand::Dec(delta))
     }
 
     /// Another position; else as `inc`. A lower one begins the rate anew.
     pub fn set_position(&self, position: u64) -> Result<Drawn, Refusal>
-        ensures { CanAnswer T.view (Lone.Obey (Command.SetPosition position)) result }
+        ensures { CanAnswer K.means T.view (Lone.Obey (Command.SetPosition position)) result }
     {
         self.tell(BarCommand::SetPosition(position))
     }
 
     /// Another length, and a draw: `{bar}`, `{percent}` and `{eta}` follow it.
     pub fn set_length(&self, len: u64) -> Result<Drawn, Refusal>
-        ensures { CanAnswer T.view (Lone.Obey (Command.SetLength len)) result }
+        ensures { CanAnswer K.means T.view (Lone.Obey (Command.SetLength len)) result }
     {
         self.tell(BarCommand::SetLength(len))
     }
 
     /// No length, and a draw: the bar is empty, `{len}` shows the position, and `{eta}` is 0.
     pub fn unset_length(&self) -> Result<Drawn, Refusal>
-        ensures { CanAnswer T.view (Lone.Obey Command.UnsetLength) result }
+        ensures { CanAnswer K.means T.view (Lone.Obey Command.UnsetLength) result }
     {
         self.tell(BarCommand::UnsetLength)
     }
 
     /// A length that is longer by `delta`, up to 2^64 - 1, where there is one; and a draw.
     pub fn inc_length(&self, delta: u64) -> Result<Drawn, Refusal>
-        ensures { CanAnswer T.view (Lone.Obey (Command.IncLength delta)) result }
+        ensures { CanAnswer K.means T.view (Lone.Obey (Command.IncLength delta)) result }
     {
         self.tell(BarCommand::IncLength(delta))
     }
 
     /// A length that is shorter by `delta`, down to 0, where there is one; and a draw.
     pub fn dec_length(&self, delta: u64) -> Result<Drawn, Refusal>
-        ensures { CanAnswer T.view (Lone.Obey (Command.DecLength delta)) result }
+        ensures { CanAnswer K.means T.view (Lone.Obey (Command.DecLength delta)) result }
     {
         self.tell(BarCommand::DecLength(delta))
     }
 
     /// Another message, and a draw. It shows only where the template has `{msg}` or `{wide_msg}`: that of `new` hasn't.
     pub fn set_message(&self, text: &str) -> Result<Drawn, Refusal>
-        ensures { CanAnswer T.view (Lone.Obey (Command.SetMessage text.now)) result }
+        ensures { CanAnswer K.means T.view (Lone.Obey (Command.SetMessage text.now)) result }
     {
         self.tell_text(Worded::Message, text)
     }
 
     /// Another prefix, and a draw. It shows only where the template has `{prefix}`.
     pub fn set_prefix(&self, text: &str) -> Result<Drawn, Refusal>
-        ensures { CanAnswer T.view (Lone.Obey (Command.SetPrefix text.now)) result }
+        ensures { CanAnswer K.means T.view (Lone.Obey (Command.SetPrefix text.now)) result }
     {
         self.tell_text(Worded::Prefix, text)
     }
@@ -261,15 +298,15 @@ impl<T: TermLike + Drop, C: Clock + Drop, R: Wait + Clone + Drop> ProgressBar<T,
     /// Another style, with the bar's width of tabs. No draw is asked: the next one is in this style.
     ///
     /// Refused: `Memory`; the style is given up.
-    pub fn set_style(&self, style: ProgressStyle<NoTracker>) -> Result<Drawn, Refusal>
-        ensures { CanAnswer T.view (Lone.Obey (Command.SetStyle style)) result }
+    pub fn set_style(&self, style: ProgressStyle<K>) -> Result<Drawn, Refusal>
+        ensures { CanAnswer K.means T.view (Lone.Obey (Command.SetStyle style)) result }
     {
         self.tell(BarCommand::SetStyle(style))
     }
 
     /// As many spaces for a tab, in the message, the prefix and the style; and a draw by force.
     pub fn set_tab_width(&self, tab: usize) -> Result<Drawn, Refusal>
-        ensures { CanAnswer T.view (Lone.Obey (Command.SetTabWidth tab)) result }
+        ensures { CanAnswer K.means T.view (Lone.Obey (Command.SetTabWidth tab)) result }
     {
         self.tell(BarCommand::SetTabWidth(tab))
     }
@@ -278,77 +315,77 @@ impl<T: TermLike + Drop, C: Clock + Drop, R: Wait + Clone + Drop> ProgressBar<T,
     ///
     /// Refused: `ElapsedBeyondClock`, where they are more than the moment.
     pub fn set_elapsed(&self, nanos: u64) -> Result<Drawn, Refusal>
-        ensures { CanAnswer T.view (Lone.Obey (Command.SetElapsed nanos)) result }
+        ensures { CanAnswer K.means T.view (Lone.Obey (Command.SetElapsed nanos)) result }
     {
         self.tell(BarCommand::SetElapsed(nanos))
     }
 
     /// The rate, and the time that is left by it, are counted from now on, as after a pause. No draw is asked.
     pub fn reset_eta(&self) -> Result<Drawn, Refusal>
-        ensures { CanAnswer T.view (Lone.Obey Command.ResetEta) result }
+        ensures { CanAnswer K.means T.view (Lone.Obey Command.ResetEta) result }
     {
         self.tell(BarCommand::ResetEta)
     }
 
     /// The rate and the time are counted from now on. No draw is asked.
     pub fn reset_elapsed(&self) -> Result<Drawn, Refusal>
-        ensures { CanAnswer T.view (Lone.Obey Command.ResetElapsed) result }
+        ensures { CanAnswer K.means T.view (Lone.Obey Command.ResetElapsed) result }
     {
         self.tell(BarCommand::ResetElapsed)
     }
 
     /// The bar goes on from position 0, its rate and its time from now on; and a draw.
     pub fn reset(&self) -> Result<Drawn, Refusal>
-        ensures { CanAnswer T.view (Lone.Obey Command.Reset) result }
+        ensures { CanAnswer K.means T.view (Lone.Obey Command.Reset) result }
     {
         self.tell(BarCommand::Reset)
     }
 
     /// The bar is finished at its length, where it has one, and stays on the screen. A draw by force.
     pub fn finish(&self) -> Result<Drawn, Refusal>
-        ensures { CanAnswer T.view (Lone.Obey (Command.FinishBy Finish.AndLeave)) result }
+        ensures { CanAnswer K.means T.view (Lone.Obey (Command.FinishBy Finish.AndLeave)) result }
     {
         self.tell(BarCommand::Finish(ProgressFinish::AndLeave))
     }
 
     /// As `finish`, with this message, which shows only where the template has `{msg}` or `{wide_msg}`.
     pub fn finish_with_message(&self, text: &str) -> Result<Drawn, Refusal>
-        ensures { CanAnswer T.view (Lone.Obey (Command.FinishBy (Finish.WithMessage text.now))) result }
+        ensures { CanAnswer K.means T.view (Lone.Obey (Command.FinishBy (Finish.WithMessage text.now))) result }
     {
         self.tell_text(Worded::Finish, text)
     }
 
     /// The bar is finished at its length, where it has one, and goes from the screen: it has no lines any more. A draw by force.
     pub fn finish_and_clear(&self) -> Result<Drawn, Refusal>
-        ensures { CanAnswer T.view (Lone.Obey (Command.FinishBy Finish.AndClear)) result }
+        ensures { CanAnswer K.means T.view (Lone.Obey (Command.FinishBy Finish.AndClear)) result }
     {
         self.tell(BarCommand::Finish(ProgressFinish::AndClear))
     }
 
     /// The bar is finished where it stands, as where work is given up, and stays on the screen. A draw by force.
     pub fn abandon(&self) -> Result<Drawn, Refusal>
-        ensures { CanAnswer T.view (Lone.Obey (Command.FinishBy Finish.Abandon)) result }
+        ensures { CanAnswer K.means T.view (Lone.Obey (Command.FinishBy Finish.Abandon)) result }
     {
         self.tell(BarCommand::Finish(ProgressFinish::Abandon))
     }
 
     /// As `abandon`, with this message.
     pub fn abandon_with_message(&self, text: &str) -> Result<Drawn, Refusal>
-        ensures { CanAnswer T.view (Lone.Obey (Command.FinishBy (Finish.AbandonWithMessage text.now))) result }
+        ensures { CanAnswer K.means T.view (Lone.Obey (Command.FinishBy (Finish.AbandonWithMessage text.now))) result }
     {
         self.tell_text(Worded::Abandon, text)
     }
 
     /// The bar is finished by its stored finish: that of `with_finish`, at first `AndClear`. A draw by force.
     pub fn finish_using_style(&self) -> Result<Drawn, Refusal>
-        ensures { CanAnswer T.view (Lone.Obey Command.FinishUsingStyle) result }
+        ensures { CanAnswer K.means T.view (Lone.Obey Command.FinishUsingStyle) result }
     {
         self.tell(BarCommand::FinishUsingStyle)
     }
 
     /// A draw by force. Nothing of the bar changes.
     pub fn force_draw(&self) -> Result<Drawn, Refusal>
-        ensures { CanAnswer T.view (Lone.Obey Command.ForceDraw) result }
+        ensures { CanAnswer K.means T.view (Lone.Obey Command.ForceDraw) result }
     {
         self.tell(BarCommand::ForceDraw)
     }
@@ -357,7 +394,7 @@ impl<T: TermLike + Drop, C: Clock + Drop, R: Wait + Clone + Drop> ProgressBar<T,
     /// the closure isn't called.
     pub fn update<F: FnOnce(&ProgressState) -> Change>(&self, f: F) -> Result<Drawn, Refusal>
         requires { F.IsAlwaysCallable f }
-        ensures { (change : Changed) × CanAnswer T.view (Lone.Obey (Command.Update change.pos change.len)) result
+        ensures { (change : Changed) × CanAnswer K.means T.view (Lone.Obey (Command.Update change.pos change.len)) result
             × (((shown : Progress) × FnOnceReturnsAt F.FnOnce f shown change) ⊎ (change ≡ unchanged)) }
     {
         self.state.lock.lock(&self.rt).update(&self.rt, f)
@@ -366,7 +403,7 @@ impl<T: TermLike + Drop, C: Clock + Drop, R: Wait + Clone + Drop> ProgressBar<T,
     /// Writes the text's lines above the bar, by force; the bar goes on below them. On a hidden target the text is dropped: print it
     /// yourself where `is_hidden` says so.
     pub fn println(&self, text: &str) -> Result<Drawn, Refusal>
-        ensures { CanAnswer T.view (Lone.Log text.now) result }
+        ensures { CanAnswer K.means T.view (Lone.Log text.now) result }
     {
         self.tell_text(Worded::Log, text)
     }
@@ -378,7 +415,7 @@ impl<T: TermLike + Drop, C: Clock + Drop, R: Wait + Clone + Drop> ProgressBar<T,
     pub fn suspend<F: FnOnce() -> A, A>(&self, f: F) -> (A, Result<Drawn, Refusal>)
         requires { F.pre f }
         ensures value { F.post f result.0 }
-        ensures drawn { CanSuspend T.view result.1 }
+        ensures drawn { CanSuspend K.means T.view result.1 }
     {
         self.state.lock.lock(&self.rt).suspend(&self.rt, f)
     }
@@ -391,7 +428,7 @@ impl<T: TermLike + Drop, C: Clock + Drop, R: Wait + Clone + Drop> ProgressBar<T,
     /// target is given up.
     #[tactic(auto, using(crate::proofs::FrontLemmas::place_turns))]
     pub fn set_draw_target(&self, target: ProgressDrawTarget<T>) -> Result<Drawn, Refusal>
-        ensures { CanTurn T.view result }
+        ensures { CanTurn K.means T.view result }
     {
         let mut held = self.state.lock.lock(&self.rt);
         held.set_draw_target(&self.rt, target)
@@ -467,7 +504,7 @@ impl<T: TermLike + Drop, C: Clock + Drop, R: Wait + Clone + Drop> ProgressBar<T,
     /// ```
     ///
     /// Refused: `Memory`.
-    pub fn style(&self) -> Result<ProgressStyle<NoTracker>, Refusal>
+    pub fn style(&self) -> Result<ProgressStyle<K>, Refusal>
         ensures { IfErr result (λ e. e ≡ Refusal.Memory) }
     {
         let held = self.state.lock.lock(&self.rt);
@@ -509,7 +546,7 @@ impl<T: TermLike + Drop, C: Clock + Drop, R: Wait + Clone + Drop> ProgressBar<T,
     /// Refused: `Memory`, where the history of the bar's board finds none: the ticker that was installed goes on then.
     #[tactic(auto, using(crate::proofs::FrontLemmas::place_answers))]
     pub fn disable_steady_tick(&self) -> Result<(), Refusal>
-        ensures { IfErr result (λ e. CanAnswer T.view (Lone.Obey (Command.SetTicker false)) (Err e)) }
+        ensures { IfErr result (λ e. CanAnswer K.means T.view (Lone.Obey (Command.SetTicker false)) (Err e)) }
     {
         let mut held = self.state.lock.lock(&self.rt);
         if let Err(refusal) = held.disable_ticker(&self.rt) {
@@ -523,7 +560,7 @@ impl<T: TermLike + Drop, C: Clock + Drop, R: Wait + Clone + Drop> ProgressBar<T,
     /// A weak one of this bar: it owns nothing.
     ///
     /// Refused: want of memory; the bar stays as it is.
-    pub fn downgrade(&self) -> Result<WeakProgressBar<T, C, R>, AllocError> {
+    pub fn downgrade(&self) -> Result<WeakProgressBar<T, C, R, K>, AllocError> {
         let state = Arc::try_clone(&self.state)?;
         let rt = self.rt.clone()?;
         Ok(WeakProgressBar::of(state, self.alloc, rt))
@@ -540,16 +577,16 @@ impl<T: TermLike + Drop, C: Clock + Drop, R: Wait + Clone + Drop> ProgressBar<T,
     }
 
     /// Takes the bar in on a board.
-    pub(crate) fn take_in(&self, board: Shared<T, C>, at: InsertLocation) -> Result<(), Refusal>
-        ensures { IfErr result (λ e. SharedTakes T.view (place_at at) (Err e)) }
+    pub(crate) fn take_in(&self, board: Shared<K, T, C>, at: InsertLocation) -> Result<(), Refusal>
+        ensures { IfErr result (λ e. SharedTakes K.means T.view (place_at at) (Err e)) }
     {
         let mut held = self.state.lock.lock(&self.rt);
         held.take_in(&self.rt, board, at, self.alloc)
     }
 
     /// Takes the bar out of the order of a board.
-    pub(crate) fn take_out(&self, board: &Mutex<SharedBoard<T, C>>) -> Result<(), Refusal>
-        ensures { IfErr result (λ e. (id : Id) × SharedAnswers T.view (Remove id) (Refused e)) }
+    pub(crate) fn take_out(&self, board: &Mutex<SharedBoard<K, T, C>>) -> Result<(), Refusal>
+        ensures { IfErr result (λ e. (id : Id) × SharedAnswers K.means T.view (Remove id) (Refused e)) }
     {
         self.state.lock.lock(&self.rt).take_out(&self.rt, board)
     }
@@ -563,12 +600,17 @@ impl<T: TermLike + Drop, C: Clock + Drop, R: Wait + Clone + Drop> ProgressBar<T,
 }
 
 /// What is said of a bar before it moves: each gives it back.
-impl<T: TermLike + Drop, C: Clock + Drop, R: Wait + Clone + Drop> ProgressBar<T, C, R> {
+impl<T: TermLike + Drop, C: Clock + Drop, R: Wait + Clone + Drop, K: Tracks> ProgressBar<
+    T,
+    C,
+    R,
+    K,
+> {
     /// In another style, with which it is drawn next. No draw is asked.
     ///
     /// Refused: `Memory`; this owner is given up.
-    pub fn with_style(self, style: ProgressStyle<NoTracker>) -> Result<Self, Refusal>
-        ensures { IfErr result (λ e. CanAnswer T.view (Lone.Obey (Command.SetStyle style)) (Err e)) }
+    pub fn with_style(self, style: ProgressStyle<K>) -> Result<Self, Refusal>
+        ensures { IfErr result (λ e. CanAnswer K.means T.view (Lone.Obey (Command.SetStyle style)) (Err e)) }
     {
         match self.set_style(style) {
             Ok(_) => Ok(self),
@@ -580,7 +622,7 @@ impl<T: TermLike + Drop, C: Clock + Drop, R: Wait + Clone + Drop> ProgressBar<T,
     ///
     /// Refused: `Memory`; this owner is given up.
     pub fn with_tab_width(self, tab: usize) -> Result<Self, Refusal>
-        ensures { IfErr result (λ e. CanAnswer T.view (Lone.Obey (Command.PutTabWidth tab)) (Err e)) }
+        ensures { IfErr result (λ e. CanAnswer K.means T.view (Lone.Obey (Command.PutTabWidth tab)) (Err e)) }
     {
         match self.tell(BarCommand::WithTabWidth(tab)) {
             Ok(_) => Ok(self),
@@ -592,7 +634,7 @@ impl<T: TermLike + Drop, C: Clock + Drop, R: Wait + Clone + Drop> ProgressBar<T,
     ///
     /// Refused: `Memory`; this owner is given up.
     pub fn with_prefix(self, text: &str) -> Result<Self, Refusal>
-        ensures { IfErr result (λ e. CanAnswer T.view (Lone.Obey (Command.PutPrefix text.now)) (Err e)) }
+        ensures { IfErr result (λ e. CanAnswer K.means T.view (Lone.Obey (Command.PutPrefix text.now)) (Err e)) }
     {
         match self.tell_text(Worded::PutPrefix, text) {
             Ok(_) => Ok(self),
@@ -604,7 +646,7 @@ impl<T: TermLike + Drop, C: Clock + Drop, R: Wait + Clone + Drop> ProgressBar<T,
     ///
     /// Refused: `Memory`; this owner is given up.
     pub fn with_message(self, text: &str) -> Result<Self, Refusal>
-        ensures { IfErr result (λ e. CanAnswer T.view (Lone.Obey (Command.PutMessage text.now)) (Err e)) }
+        ensures { IfErr result (λ e. CanAnswer K.means T.view (Lone.Obey (Command.PutMessage text.now)) (Err e)) }
     {
         match self.tell_text(Worded::PutMessage, text) {
             Ok(_) => Ok(self),
@@ -616,7 +658,7 @@ impl<T: TermLike + Drop, C: Clock + Drop, R: Wait + Clone + Drop> ProgressBar<T,
     ///
     /// Refused: on a board alone, as each command there; this owner is given up.
     pub fn with_position(self, position: u64) -> Result<Self, Refusal>
-        ensures { IfErr result (λ e. CanAnswer T.view (Lone.Obey (Command.PutPosition position)) (Err e)) }
+        ensures { IfErr result (λ e. CanAnswer K.means T.view (Lone.Obey (Command.PutPosition position)) (Err e)) }
     {
         match self.tell(BarCommand::WithPosition(position)) {
             Ok(_) => Ok(self),
@@ -628,7 +670,7 @@ impl<T: TermLike + Drop, C: Clock + Drop, R: Wait + Clone + Drop> ProgressBar<T,
     ///
     /// Refused: `ElapsedBeyondClock`, where they are more than the moment; this owner is given up.
     pub fn with_elapsed(self, nanos: u64) -> Result<Self, Refusal>
-        ensures { IfErr result (λ e. CanAnswer T.view (Lone.Obey (Command.SetElapsed nanos)) (Err e)) }
+        ensures { IfErr result (λ e. CanAnswer K.means T.view (Lone.Obey (Command.SetElapsed nanos)) (Err e)) }
     {
         match self.set_elapsed(nanos) {
             Ok(_) => Ok(self),
@@ -641,7 +683,7 @@ impl<T: TermLike + Drop, C: Clock + Drop, R: Wait + Clone + Drop> ProgressBar<T,
     ///
     /// Refused: on a board alone, as each command there; this owner is given up.
     pub fn with_finish(self, finish: ProgressFinish) -> Result<Self, Refusal>
-        ensures { IfErr result (λ e. CanAnswer T.view (Lone.Obey (Command.PutFinish (finish_of finish))) (Err e)) }
+        ensures { IfErr result (λ e. CanAnswer K.means T.view (Lone.Obey (Command.PutFinish (finish_of finish))) (Err e)) }
     {
         match self.tell(BarCommand::WithFinish(finish)) {
             Ok(_) => Ok(self),
@@ -651,7 +693,12 @@ impl<T: TermLike + Drop, C: Clock + Drop, R: Wait + Clone + Drop> ProgressBar<T,
 }
 
 /// Wrappers that move this bar, each with an owner of its own.
-impl<T: TermLike + Drop, C: Clock + Drop, R: Wait + Clone + Drop> ProgressBar<T, C, R> {
+impl<T: TermLike + Drop, C: Clock + Drop, R: Wait + Clone + Drop, K: Tracks> ProgressBar<
+    T,
+    C,
+    R,
+    K,
+> {
     /// An iterator that advances the bar by its items and finishes it at its end.
     ///
     /// ```
@@ -747,8 +794,9 @@ impl<T: TermLike + Drop, C: Clock + Drop, R: Wait + Clone + Drop> ProgressBar<T,
 }
 
 /// Another owner of the same bar. Refused: want of memory; or 2^64 - 1 own it already.
-impl<T: TermLike + Drop, C: Clock + Drop, R: Wait + Clone + Drop> Clone for ProgressBar<T, C, R> {
-    fn clone(&self) -> Result<ProgressBar<T, C, R>, AllocError> {
+impl<T: TermLike + Drop, C: Clock + Drop, R: Wait + Clone + Drop, K: Tracks> Clone
+    for ProgressBar<T, C, R, K> {
+    fn clone(&self) -> Result<ProgressBar<T, C, R, K>, AllocError> {
         let rt = self.rt.clone()?;
         let state = Arc::try_clone(&self.state)?;
         if self.counted() {
@@ -763,7 +811,8 @@ impl<T: TermLike + Drop, C: Clock + Drop, R: Wait + Clone + Drop> Clone for Prog
     }
 }
 
-impl<T: TermLike + Drop, C: Clock + Drop, R: Wait + Clone + Drop> Drop for ProgressBar<T, C, R> {
+impl<T: TermLike + Drop, C: Clock + Drop, R: Wait + Clone + Drop, K: Tracks> Drop
+    for ProgressBar<T, C, R, K> {
     fn drop(self) {
         let ProgressBar { state, alloc, rt } = self;
         let _ = alloc;
@@ -774,14 +823,16 @@ impl<T: TermLike + Drop, C: Clock + Drop, R: Wait + Clone + Drop> Drop for Progr
     }
 }
 
-impl<T: TermLike + Drop, C: Clock + Drop, R: Wait + Clone + Drop> Debug for ProgressBar<T, C, R> {
+impl<T: TermLike + Drop, C: Clock + Drop, R: Wait + Clone + Drop, K: Tracks> Debug
+    for ProgressBar<T, C, R, K> {
     fn fmt<W: fmt::Write>(&self, f: &mut Formatter<W>) -> fmt::Result {
         f.write_str("ProgressBar")
     }
 }
 
 /// It tells nothing of where it stands, as others may move it meanwhile.
-impl<T: TermLike + Drop, C: Clock + Drop, R: Wait + Clone + Drop> Moves for ProgressBar<T, C, R> {
+impl<T: TermLike + Drop, C: Clock + Drop, R: Wait + Clone + Drop, K: Tracks> Moves
+    for ProgressBar<T, C, R, K> {
     fn advance(&mut self, n: u64) -> Result<Drawn, Refusal> {
         self.inc(n)
     }

@@ -8,7 +8,7 @@ ghost use Rattle.indicatif.specs.Owned.{Begins, BeginsPlain};
 use crate::moves::Moves;
 use crate::owned::OwnedBar;
 use crate::wrap::ProgressBarIter;
-use indicatif_bar::style::{NoTracker, ProgressStyle, TICKS};
+use indicatif_bar::style::{NoTracker, ProgressStyle, TICKS, Tracks};
 use indicatif_term::draw_target::Setup;
 use indicatif_term::term_like::TermLike;
 use indicatif_text::columns::{Clock, Refusal};
@@ -58,12 +58,12 @@ pub trait ProgressIterator: Iterator + Sized {
     /// A bar of as many as are left, in this style.
     ///
     /// Refused: `Memory`; the iterator and the setup are given up.
-    fn progress_with_style<W: TermLike + Drop, C: Clock + Drop>(
+    fn progress_with_style<K: Tracks, W: TermLike + Drop, C: Clock + Drop>(
         self,
         alloc: Global,
-        style: ProgressStyle<NoTracker>,
+        style: ProgressStyle<K>,
         setup: Setup<W, C>,
-    ) -> Result<ProgressBarIter<Self, OwnedBar<NoTracker, W, C>>, Refusal>
+    ) -> Result<ProgressBarIter<Self, OwnedBar<K, W, C>>, Refusal>
     where
         Self: ExactSizeIterator,
         ensures wraps { IfOk result (λ w. Wraps w self) }
@@ -118,12 +118,12 @@ impl<I: Iterator> ProgressIterator for I {
         Ok(ProgressBarIter::new(self, bar))
     }
 
-    fn progress_with_style<W: TermLike + Drop, C: Clock + Drop>(
+    fn progress_with_style<K: Tracks, W: TermLike + Drop, C: Clock + Drop>(
         self,
         alloc: Global,
-        style: ProgressStyle<NoTracker>,
+        style: ProgressStyle<K>,
         setup: Setup<W, C>,
-    ) -> Result<ProgressBarIter<I, OwnedBar<NoTracker, W, C>>, Refusal>
+    ) -> Result<ProgressBarIter<I, OwnedBar<K, W, C>>, Refusal>
     where
         I: ExactSizeIterator,
     {

@@ -8,6 +8,7 @@ ghost use Rattle.indicatif.specs.Inside.Pieces.{JobAt, IsEnded, CountsPieces};
 
 use crate::moves::Moves;
 use crate::progress_bar::ProgressBar;
+use indicatif_bar::style::Tracks;
 use indicatif_board::done::{BarWorker, Done};
 use indicatif_term::term_like::TermLike;
 use indicatif_text::columns::{Clock, Refusal};
@@ -79,13 +80,14 @@ pub fn run_workers<
     W: TermLike + Drop,
     C: Clock + Drop,
     B: Wait + Clone + Drop,
+    K: Tracks,
 >(
     rt: &R,
     alloc: Global,
     pieces: &[Vec<T>],
     f: F,
     gate: &G,
-    bar: &ProgressBar<W, C, B>,
+    bar: &ProgressBar<W, C, B, K>,
 ) -> Result<Vec<Vec<A>>, Refusal>
     requires { F.IsAlwaysCallable f }
     ensures answers { IfOk result (λ made. AllZip (λ piece answers. AllZip (FnReturnsAt F.Fn f) piece.items answers.items) pieces.now made.items) }

@@ -6,12 +6,12 @@ ghost use Rattle.indicatif_bar.specs.Bars.{lines_of_bar, lines_take_memory, is_b
 
 use crate::bar_state::BarState;
 use crate::spare::SpareLines;
-use crate::tracker::ProgressTracker;
+use crate::tracker::Tracks;
 use indicatif_term::draw_target::LineType;
 use indicatif_text::columns::{Moment, Refusal};
 use std::alloc::Global;
 
-impl<K: ProgressTracker> BarState<K> {
+impl<K: Tracks> BarState<K> {
     /// The lines that the bar shows on a terminal of `width` columns at this moment: those of its style, and none once it
     /// finished hidden.
     ///

@@ -16,7 +16,7 @@ use crate::finish::ProgressFinish;
 use crate::position_limiter::PositionLimiter;
 use crate::progress::{ProgressState, Status};
 use crate::state::Ask;
-use crate::tracker::ProgressTracker;
+use crate::tracker::Tracks;
 use indicatif_text::columns::{Moment, Refusal};
 use std::alloc::Global;
 use std::marker::Model;
@@ -56,7 +56,7 @@ impl<K> Model for BarState<K> {
     } };
 }
 
-impl<K: ProgressTracker> BarState<K> {
+impl<K: Tracks> BarState<K> {
     /// A bar of this length or of none, made at this moment, with the template `{wide_bar} {pos}/{len}`.
     ///
     /// Refused: `Memory`.

@@ -9,7 +9,7 @@ mod drawing;
 use crate::progress::ProgressState;
 use crate::style::steps::{Step, steps_of};
 use crate::style::texts::Texts;
-use crate::tracker::{ProgressTracker, reset_all, tick_all};
+use crate::tracker::{Tracks, reset_all, tick_all};
 pub use builders::TICKS;
 use indicatif_text::columns::{Moment, Refusal};
 use indicatif_text::template::Template;
@@ -66,7 +66,7 @@ impl<K> Model for ProgressStyle<K> {
         × (2 ≤ length (texts_in s.tick_strings)) };
 }
 
-impl<K: ProgressTracker> ProgressStyle<K> {
+impl<K: Tracks> ProgressStyle<K> {
     /// The spinner's text after so many ticks: they come in turn, all but the last one.
     pub fn get_tick_str(&self, ticks: u64) -> &str
         ensures { result.now ≡ tick_string self.now.tick_strings ticks }

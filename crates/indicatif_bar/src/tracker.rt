@@ -48,6 +48,74 @@ pub trait ProgressTracker: Sized + Send + Sync + Drop {
         ensures memory { IfErr result (λ e. e ≡ Refusal.Memory) };
 }
 
+/// What a bar asks of the trackers of its keys: the calls of `ProgressTracker`, without that trait's two bounds on threads. Every
+/// `ProgressTracker` meets it, so implement that one. A function of one's own over bars of any trackers asks for this one.
+///
+/// ```
+/// fn step<K: Tracks, T: TermLike + Drop>(bar: &mut LoneBar<K, T>, now: Moment) -> Result<Drawn, Refusal> {
+///     bar.inc(1, now)
+/// }
+/// ```
+pub trait Tracks: Sized + Drop {
+    /// The text, and what a tick and a reset leave.
+    ghost means: { Tracking Self };
+
+    /// As `ProgressTracker::tick`.
+    fn track_tick(&mut self, state: &ProgressState, now: Moment)
+        ensures { self.new ≡ means.ticked self.old state.now now };
+
+    /// As `ProgressTracker::reset`.
+    fn track_reset(&mut self, state: &ProgressState, now: Moment)
+        ensures { self.new ≡ means.was_reset self.old state.now now };
+
+    /// As `ProgressTracker::write`.
+    ///
+    /// Refused: `Memory`, with `out` as before.
+    fn track_text(
+        &self,
+        state: &ProgressState,
+        now: Moment,
+        out: &mut String,
+    ) -> Result<(), Refusal>
+        ensures text { OnOk result (string_bytes out.new
+            ≡ string_bytes out.old ++ means.text self.now state.now now) }
+        ensures unchanged { OnErr result (string_bytes out.new ≡ string_bytes out.old) }
+        ensures memory { IfErr result (λ e. e ≡ Refusal.Memory) };
+
+    /// As `ProgressTracker::try_clone`.
+    ///
+    /// Refused: `Memory`.
+    fn track_clone(&self) -> Result<Self, Refusal>
+        ensures same { IfOk result (λ other. other ≡ self.now) }
+        ensures memory { IfErr result (λ e. e ≡ Refusal.Memory) };
+}
+
+/// Each tracker, by its own calls.
+impl<K: ProgressTracker> Tracks for K {
+    ghost means = { K.means };
+
+    fn track_tick(&mut self, state: &ProgressState, now: Moment) {
+        self.tick(state, now);
+    }
+
+    fn track_reset(&mut self, state: &ProgressState, now: Moment) {
+        self.reset(state, now);
+    }
+
+    fn track_text(
+        &self,
+        state: &ProgressState,
+        now: Moment,
+        out: &mut String,
+    ) -> Result<(), Refusal> {
+        self.write(state, now, out)
+    }
+
+    fn track_clone(&self) -> Result<K, Refusal> {
+        self.try_clone()
+    }
+}
+
 /// The tracker of a style without keys of its own: its text is empty.
 ///
 /// ```
@@ -162,7 +230,7 @@ impl<F: TellsText> ProgressTracker for FnTracker<F> {
 }
 
 /// Ticks the trackers of these entries.
-pub(crate) fn tick_all<K: ProgressTracker>(
+pub(crate) fn tick_all<K: Tracks>(
     keys: &mut Vec<(String, K)>,
     state: &ProgressState,
     now: Moment,
@@ -171,12 +239,12 @@ pub(crate) fn tick_all<K: ProgressTracker>(
         ≡ changed_trackers (λ k. K.means.ticked k state.now now) (entries keys.old.items) }
 {
     for entry in keys.iter_mut() {
-        entry.1.tick(state, now);
+        entry.1.track_tick(state, now);
     }
 }
 
 /// Resets the trackers of these entries.
-pub(crate) fn reset_all<K: ProgressTracker>(
+pub(crate) fn reset_all<K: Tracks>(
     keys: &mut Vec<(String, K)>,
     state: &ProgressState,
     now: Moment,
@@ -185,6 +253,6 @@ pub(crate) fn reset_all<K: ProgressTracker>(
         ≡ changed_trackers (λ k. K.means.was_reset k state.now now) (entries keys.old.items) }
 {
     for entry in keys.iter_mut() {
-        entry.1.reset(state, now);
+        entry.1.track_reset(state, now);
     }
 }

@@ -6,7 +6,7 @@ ghost use Rattle.indicatif_board.specs.Bridge.{bridge_bytes, level_column};
 ghost use Rattle.indicatif_board.specs.Multi.{LeadsBy, RecordsStay, IsNowhere, mark_of, terminal_of};
 
 use crate::multi::Board;
-use indicatif_bar::style::ProgressTracker;
+use indicatif_bar::style::Tracks;
 use indicatif_term::term_like::TermLike;
 use indicatif_text::columns::{Drawn, Moment, Refusal};
 use log::Level;
@@ -40,7 +40,7 @@ pub fn bridge_line(level: Level, text: &str, out: &mut String) -> Result<(), Ref
 /// ```
 /// let drawn = emit(alloc, &mut board, Level::Error, "no such file", now)?; // `ERROR no such file` stands above the bars
 /// ```
-pub fn emit<K: ProgressTracker, T: TermLike + Drop>(
+pub fn emit<K: Tracks, T: TermLike + Drop>(
     alloc: Global,
     board: &mut Board<K, T>,
     level: Level,

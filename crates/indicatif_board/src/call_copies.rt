@@ -3,11 +3,11 @@ ghost use Rattle.std.specs.Prelude.{◌≡◌, string_bytes, IfOk, IfErr};
 ghost use Rattle.indicatif_board.specs.Calls.{call_of, entrant_of};
 
 use crate::calls::{Answer, Call, Candidate};
-use indicatif_bar::style::ProgressTracker;
+use indicatif_bar::style::Tracks;
 use indicatif_text::columns::Refusal;
 use std::alloc::Global;
 
-impl<K: ProgressTracker> Call<K> {
+impl<K: Tracks> Call<K> {
     /// Another call, equal to this one.
     ///
     /// ```
@@ -36,7 +36,7 @@ impl<K: ProgressTracker> Call<K> {
     }
 }
 
-impl<K: ProgressTracker> Candidate<K> {
+impl<K: Tracks> Candidate<K> {
     /// Another candidate, equal to this one.
     ///
     /// ```

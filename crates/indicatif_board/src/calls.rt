@@ -6,7 +6,7 @@ ghost use Rattle.indicatif_board.specs.Calls.{given, removal, answer_of};
 
 use crate::bar_id::BarId;
 use indicatif_bar::state::{BarCommand, BarState};
-use indicatif_bar::style::ProgressTracker;
+use indicatif_bar::style::Tracks;
 use indicatif_term::draw_target::MultiProgressAlignment;
 use indicatif_text::columns::{Drawn, Refusal};
 
@@ -128,7 +128,7 @@ pub fn is_undisturbed(drawn: &Result<Drawn, Refusal>) -> bool
 }
 
 /// The answer of an insertion; a candidate that was turned away is given up.
-pub fn insertion_answer<K: ProgressTracker>(taken: Result<BarId, Turned<K>>) -> Answer
+pub fn insertion_answer<K: Tracks>(taken: Result<BarId, Turned<K>>) -> Answer
     ensures { answer_of result ≡ given taken }
 {
     match taken {
@@ -138,7 +138,7 @@ pub fn insertion_answer<K: ProgressTracker>(taken: Result<BarId, Turned<K>>) -> 
 }
 
 /// The answer of a removal; a bar that was removed is given up.
-pub fn removal_answer<K: ProgressTracker>(removed: Result<Option<BarState<K>>, Refusal>) -> Answer
+pub fn removal_answer<K: Tracks>(removed: Result<Option<BarState<K>>, Refusal>) -> Answer
     ensures { answer_of result ≡ removal removed }
 {
     match removed {

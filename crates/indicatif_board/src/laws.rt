@@ -16,7 +16,7 @@ ghost use Rattle.indicatif_board.specs.PlainBoardLaws.{BoardRunsArePlain};
 ghost use Rattle.indicatif_board.specs.OrderLaws.{RunsKeep, StandsOnce, IsGone, NumbersCount, NumbersAreNew};
 ghost use Rattle.indicatif_board.specs.Slots.{SlotTable, IsSeated, slot_of, occurrences};
 
-use indicatif_bar::style::ProgressTracker;
+use indicatif_bar::style::Tracks;
 
 /// Two halves that are joined again are what was split, share and adds and sights.
 pub fn halves_join_again()
@@ -53,7 +53,7 @@ pub fn what_a_run_reads<B, C>()
 
 /// The same from a terminal that shows the lists of the run's start, whatever the calls are: a board's rows are forgotten only
 /// where the terminal failed.
-pub fn what_a_board_run_reads<K: ProgressTracker>()
+pub fn what_a_board_run_reads<K: Tracks>()
     ensures { (mark : ℕ) (calls : List (Call (BarRecord K) (Command K) × ℕ)) (answers : List Answer) (v : TermView)
         (s : BoardState (BarRecord K)) (new : Option TermView) (next : BoardState (BarRecord K)) →
         IsFalse s.lists.failed → ReadsAfter (board (board_bars K.means) mark) calls answers v s new next }
@@ -61,7 +61,7 @@ pub fn what_a_board_run_reads<K: ProgressTracker>()
 
 /// Where the texts of bars, commands and logs consist of characters with a width and colour sequences, every run of a board is
 /// plain, so that what is said of plain runs holds of it.
-pub fn plain_texts_give_plain_runs<K: ProgressTracker>()
+pub fn plain_texts_give_plain_runs<K: Tracks>()
     ensures { BoardRunsArePlain K.means }
 {}
 

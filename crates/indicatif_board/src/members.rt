@@ -3,7 +3,7 @@ ghost use Rattle.std.specs.Prelude.{◌≡◌, ◌<◌, ◌≤◌, ◌+◌, ◌+
 ghost use Rattle.std.specs.List.{insert, prefix_len, position_or_len};
 
 use indicatif_bar::state::BarState;
-use indicatif_bar::style::ProgressTracker;
+use indicatif_bar::style::Tracks;
 use indicatif_term::draw_target::Segment;
 
 /// A bar on a board. Its number and its lines stand at the same place of the board's frame.
@@ -16,7 +16,7 @@ pub struct Member<K> {
 }
 
 /// How many members at the head are dropped.
-pub fn leading<K: ProgressTracker>(members: &[Member<K>]) -> usize
+pub fn leading<K: Tracks>(members: &[Member<K>]) -> usize
     ensures { result ≡ prefix_len (λ m. m.dropped) members.now }
 {
     for (count, member) in members.iter().enumerate() {

@@ -26,7 +26,7 @@ pub use crate::recorded::{Entry, Opening, Recorded, Size};
 use crate::shown_bars::{BoardWriting, ShownBars};
 pub use crate::slots::MultiState;
 use indicatif_bar::state::{Ask, BarCommand, BarState};
-use indicatif_bar::style::ProgressTracker;
+use indicatif_bar::style::Tracks;
 use indicatif_term::draw_target::{
     Engine, Keep, MultiProgressAlignment, ProgressDrawTarget, RateLimiter,
 };
@@ -60,7 +60,7 @@ pub struct Board<K, T: Drop> {
     engine: Option<Engine<T>>,
 }
 
-impl<K: ProgressTracker, T: TermLike + Drop> Board<K, T> {
+impl<K: Tracks, T: TermLike + Drop> Board<K, T> {
     ghost use Rattle.indicatif_board.specs.Calls.{entrant_of, given, removal, answer_of, place_at, call_of, timed, IsForeign, NamesForeign, AreTurnedAway, acts_on};
     ghost use Rattle.indicatif_board.specs.Multi.{IsIn, IsNowhere, mark_of, record_at, RecordsStay, OtherRecordsStay, RecordObeys, RecordsTake, RecordsChange, StaysOrComes, LeadsBy, Suspends, known, slots_of, terminal_of};
 

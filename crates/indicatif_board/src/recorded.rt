@@ -16,7 +16,7 @@ use crate::bar_id::BarId;
 use crate::calls::{draw_answer, removal_answer};
 use crate::multi::{Answer, Board, Call, Candidate, InsertLocation, Turned};
 use indicatif_bar::state::BarState;
-use indicatif_bar::style::ProgressTracker;
+use indicatif_bar::style::Tracks;
 use indicatif_term::draw_target::{ProgressDrawTarget, RateLimiter};
 use indicatif_term::term_like::TermLike;
 use indicatif_text::columns::{Moment, Refusal};
@@ -82,7 +82,7 @@ pub struct Opening {
 /// let kept = record.entries(); // one entry: the call, its moment, its answer
 /// ```
 #[derive(Drop)]
-pub struct Recorded<K: ProgressTracker, T: Drop> {
+pub struct Recorded<K: Tracks, T: Drop> {
     alloc: Global,
     opening: Opening,
     board: Board<K, T>,
@@ -90,7 +90,7 @@ pub struct Recorded<K: ProgressTracker, T: Drop> {
 }
 
 /// Contracts see the mark and the limiter of the opening, the board, and its steps.
-impl<K: ProgressTracker, T: Drop> Model for Recorded<K, T> {
+impl<K: Tracks, T: Drop> Model for Recorded<K, T> {
     ghost use Rattle.std.specs.Prelude.{map};
     ghost use Rattle.indicatif_board.specs.Recorded.{Record, IsOneRun, step_of};
 
@@ -101,7 +101,7 @@ impl<K: ProgressTracker, T: Drop> Model for Recorded<K, T> {
     ghost invariant = { λ r. IsOneRun K.means (record { mark = r.opening.mark; limiter = r.opening.limiter; board = r.board; steps = map step_of r.entries.items }) };
 }
 
-impl<K: ProgressTracker, T: TermLike + Drop> Recorded<K, T> {
+impl<K: Tracks, T: TermLike + Drop> Recorded<K, T> {
     /// A board without bars on this target, of this mark, that has made no call. It takes no memory and writes nothing.
     pub fn new(alloc: Global, target: ProgressDrawTarget<T>, mark: u64) -> Self
         ensures opening { (result.mark ≡ mark) × (result.limiter ≡ limiter_of target) }
@@ -191,7 +191,7 @@ fn with_limiter<T: Drop>(
 }
 
 /// How large a board's terminal is.
-fn size_of<K: ProgressTracker, T: TermLike + Drop>(board: &Board<K, T>) -> Option<Size>
+fn size_of<K: Tracks, T: TermLike + Drop>(board: &Board<K, T>) -> Option<Size>
     ensures { target_by result ≡ target_of (known T.view board.now) }
 {
     match board.term() {
@@ -204,7 +204,7 @@ fn size_of<K: ProgressTracker, T: TermLike + Drop>(board: &Board<K, T>) -> Optio
 }
 
 /// The new bar of a call that isn't made.
-fn returned_bar<K: ProgressTracker>(call: Call<K>) -> Option<BarState<K>>
+fn returned_bar<K: Tracks>(call: Call<K>) -> Option<BarState<K>>
     ensures { (s : BoardState (BarRecord K)) (other : BarRecord K) → result ≡ handed_back (call_of call) (Refused Refusal.Memory) other s.members }
 {
     match call {
@@ -221,7 +221,7 @@ fn returned_bar<K: ProgressTracker>(call: Call<K>) -> Option<BarState<K>>
 }
 
 /// The new bar that a candidate is.
-fn new_bar_in<K: ProgressTracker>(candidate: Candidate<K>) -> Option<BarState<K>>
+fn new_bar_in<K: Tracks>(candidate: Candidate<K>) -> Option<BarState<K>>
     ensures { result ≡ bar_in (entrant_of candidate) }
 {
     match candidate {
@@ -231,7 +231,7 @@ fn new_bar_in<K: ProgressTracker>(candidate: Candidate<K>) -> Option<BarState<K>
 }
 
 /// Makes a call, and hands back the bar that was removed, or the new one that was turned away.
-fn made_on<K: ProgressTracker, T: TermLike + Drop>(
+fn made_on<K: Tracks, T: TermLike + Drop>(
     board: &mut Board<K, T>,
     call: Call<K>,
     now: Moment,
@@ -257,7 +257,7 @@ fn made_on<K: ProgressTracker, T: TermLike + Drop>(
 }
 
 /// Takes a bar in at a place.
-fn inserted_on<K: ProgressTracker, T: TermLike + Drop>(
+fn inserted_on<K: Tracks, T: TermLike + Drop>(
     board: &mut Board<K, T>,
     at: InsertLocation,
     candidate: Candidate<K>,
@@ -275,7 +275,7 @@ fn inserted_on<K: ProgressTracker, T: TermLike + Drop>(
 }
 
 /// The answer of an insertion, and the new bar that was turned away.
-fn insertion<K: ProgressTracker>(taken: Result<BarId, Turned<K>>) -> (Answer, Option<BarState<K>>)
+fn insertion<K: Tracks>(taken: Result<BarId, Turned<K>>) -> (Answer, Option<BarState<K>>)
     ensures answer { answer_of result.0 ≡ given taken }
     ensures back { result.1 ≡ turned_back taken }
 {
@@ -289,7 +289,7 @@ fn insertion<K: ProgressTracker>(taken: Result<BarId, Turned<K>>) -> (Answer, Op
 }
 
 /// The answer of a removal, and the bar that was removed.
-fn removal<K: ProgressTracker>(
+fn removal<K: Tracks>(
     removed: Result<Option<BarState<K>>, Refusal>,
 ) -> (Answer, Option<BarState<K>>)
     ensures answer { answer_of result.0 ≡ removal removed }

@@ -17,7 +17,7 @@ ghost use Rattle.indicatif_board.specs.Inside.Writings.{writing_by};
 use crate::members::{Member, drop_front, leading, place_of_bar, put_at};
 use crate::slots::MultiState;
 use indicatif_bar::state::{Ask, BarState, SpareLines};
-use indicatif_bar::style::ProgressTracker;
+use indicatif_bar::style::Tracks;
 use indicatif_term::draw_target::{Engine, LineType, MultiProgressAlignment, RateLimiter, Segment};
 use indicatif_term::term_like::TermLike;
 use indicatif_text::columns::{Drawn, Moment, Refusal};
@@ -53,7 +53,7 @@ pub struct ShownBars<K> {
     ghost seated: { map (λ s. s.bar) frame.items ≡ table.order },
 }
 
-impl<K: ProgressTracker> ShownBars<K> {
+impl<K: Tracks> ShownBars<K> {
     ghost use Rattle.indicatif_board.specs.ShownBars.{AreShownAs, record_on};
     ghost use Rattle.indicatif_board.specs.Inside.Standing.{is_of_draw, seat_of, StandsAt, AllStay, AllOthersStay};
 
@@ -218,7 +218,7 @@ impl<K: ProgressTracker> ShownBars<K> {
 }
 
 /// Puts a bar's lines in the place of those that were stored, whose room is the next spare one.
-fn relay<K: ProgressTracker>(
+fn relay<K: Tracks>(
     bar: &BarState<K>,
     stored: &mut Vec<LineType>,
     spare: &mut SpareLines,

@@ -3,3 +3,4 @@ mod LogLemmas
 mod MoveLemmas
 mod PictureLemmas
 mod PlainLemmas
+mod SharedLemmas

@@ -4,6 +4,7 @@
 //! - `drawings`: what a terminal shows after one drawing.
 //! - `runs`: what a terminal shows after a list of calls of a bar.
 //! - `boards`: what a terminal shows after a list of calls of a board.
+//! - `fronts`: what is known of shared bars and boards, and of lists and pieces that threads work on.
 //! - `logs`: that a logged line stands, whatever is drawn after it.
 //! - `loops`: what a loop makes of the bar that shows its progress.
 //! - `lent`: what is known of a bar or a board that was lent.
@@ -14,6 +15,7 @@
 
 pub mod boards;
 pub mod drawings;
+pub mod fronts;
 pub mod lent;
 pub mod logs;
 pub mod loops;

@@ -3,12 +3,11 @@ use Rattle.std.specs.Prelude.{ℕ, List}
 use Rattle.indicatif_bar.specs.Commands.{Command, SetMessage, SetPrefix, PutMessage, PutPrefix, FinishBy}
 use Rattle.indicatif_bar.specs.Finishes.{WithMessage, AbandonWithMessage}
 use Rattle.indicatif_bar.specs.Lone.{LoneCall, Obey, Log}
-use Rattle.indicatif_bar.specs.declared.tracker.NoTracker.{NoTracker}
 use Rattle.indicatif.specs.declared.progress_bar.worded.Worded.{Worded}
 use Rattle.indicatif.specs.declared.progress_bar.worded.Worded.TheVariants as told
 
 -- lines of text are logged; a text is the message or the prefix from now on, or the message that the bar is finished with
-abbrev pub worded : Worded → List ℕ → LoneCall (Command NoTracker)
+abbrev pub worded : {K : Type 0} → Worded → List ℕ → LoneCall (Command K)
 worded told.Log text = Log text
 worded told.Message text = Obey (SetMessage text)
 worded told.Prefix text = Obey (SetPrefix text)

@@ -22,7 +22,7 @@ use crate::progress_bar::worded::Worded;
 use crate::seek::SeekMax;
 use indicatif_bar::lone::LoneCall;
 use indicatif_bar::state::{BarCommand, Change, ProgressState, Rate};
-use indicatif_bar::style::NoTracker;
+use indicatif_bar::style::Tracks;
 use indicatif_board::multi::InsertLocation;
 use indicatif_term::draw_target::ProgressDrawTarget;
 use indicatif_term::term_like::TermLike;
@@ -32,23 +32,23 @@ use std::sync::{Condvar, Mutex, Wait};
 
 /// The lock of a bar, and what waits for the bar to change.
 #[derive(Drop)]
-pub struct Locked<T: Drop, C> {
-    pub lock: Mutex<Held<T, C>>,
+pub struct Locked<K: Tracks, T: Drop, C> {
+    pub lock: Mutex<Held<K, T, C>>,
     pub changed: Condvar,
 }
 
 /// A bar, its clock and ticker, and how many own it.
 #[derive(Drop)]
-pub struct Held<T: Drop, C> {
+pub struct Held<K: Tracks, T: Drop, C> {
     owners: u64,
     pub ticker: Ticker,
     clock: C,
-    place: Place<T, C>,
+    place: Place<K, T, C>,
 }
 
-impl<T: Drop, C> Held<T, C> {
+impl<K: Tracks, T: Drop, C> Held<K, T, C> {
     /// A bar with its first owner.
-    pub fn owned(bar: Single<T>, clock: C) -> Held<T, C>
+    pub fn owned(bar: Single<K, T>, clock: C) -> Held<K, T, C>
         ensures { (result.owners ≡ 1) × (result.place ≡ Place.Alone bar) × (result.clock ≡ clock) }
     {
         Held {
@@ -81,14 +81,10 @@ impl<T: Drop, C> Held<T, C> {
     }
 }
 
-impl<T: TermLike + Drop, C: Clock + Drop> Held<T, C> {
+impl<K: Tracks, T: TermLike + Drop, C: Clock + Drop> Held<K, T, C> {
     /// A command of the bar.
-    pub fn tell<R: Wait>(
-        &mut self,
-        rt: &R,
-        command: BarCommand<NoTracker>,
-    ) -> Result<Drawn, Refusal>
-        ensures place { PlaceMakes T.view self.old.place (Lone.Obey (command_of command)) result self.new.place }
+    pub fn tell<R: Wait>(&mut self, rt: &R, command: BarCommand<K>) -> Result<Drawn, Refusal>
+        ensures place { PlaceMakes K.means T.view self.old.place (Lone.Obey (command_of command)) result self.new.place }
         ensures ticker { self.new.ticker ≡ self.old.ticker }
     {
         let now = self.clock.now();
@@ -100,7 +96,7 @@ impl<T: TermLike + Drop, C: Clock + Drop> Held<T, C> {
 
     /// The position goes up.
     pub fn inc<R: Wait>(&mut self, rt: &R, delta: u64) -> Result<Drawn, Refusal>
-        ensures { PlaceMakes T.view self.old.place (Lone.Obey (Inc delta)) result self.new.place }
+        ensures { PlaceMakes K.means T.view self.old.place (Lone.Obey (Inc delta)) result self.new.place }
     {
         let now = self.clock.now();
         match &mut self.place {
@@ -117,7 +113,7 @@ impl<T: TermLike + Drop, C: Clock + Drop> Held<T, C> {
         n: u64,
     ) -> Result<Drawn, Refusal>
         ensures seeks { (position : ℕ) × (place : ℕ) × ((place, seeks.new) ≡ after_move 5 10 seeks.old position n)
-            × PlaceMakes T.view self.old.place (Lone.Obey (SetPosition place)) result self.new.place }
+            × PlaceMakes K.means T.view self.old.place (Lone.Obey (SetPosition place)) result self.new.place }
     {
         let position = self.place.read(rt, |state| state.pos());
         let place = seeks.update_seq(position.unwrap_or(0), n);
@@ -126,7 +122,7 @@ impl<T: TermLike + Drop, C: Clock + Drop> Held<T, C> {
 
     /// A call with a text.
     pub fn tell_text<R: Wait>(&mut self, rt: &R, told: Worded, text: &str) -> Result<Drawn, Refusal>
-        ensures { PlaceMakes T.view self.old.place (worded told text.now) result self.new.place }
+        ensures { PlaceMakes K.means T.view self.old.place (worded told text.now) result self.new.place }
     {
         let now = self.clock.now();
         match &mut self.place {
@@ -143,7 +139,7 @@ impl<T: TermLike + Drop, C: Clock + Drop> Held<T, C> {
         f: F,
     ) -> Result<Drawn, Refusal>
         requires { F.IsAlwaysCallable f }
-        ensures { (change : Changed) × PlaceMakes T.view self.old.place (Lone.Obey (Update change.pos change.len)) result self.new.place
+        ensures { (change : Changed) × PlaceMakes K.means T.view self.old.place (Lone.Obey (Update change.pos change.len)) result self.new.place
             × IsOf (FnOnceReturnsAt F.FnOnce f) self.old.place change }
     {
         let now = self.clock.now();
@@ -161,7 +157,7 @@ impl<T: TermLike + Drop, C: Clock + Drop> Held<T, C> {
     ) -> (A, Result<Drawn, Refusal>)
         requires { F.pre f }
         ensures value { F.post f result.0 }
-        ensures place { PlaceSuspends T.view self.old.place result.1 self.new.place }
+        ensures place { PlaceSuspends K.means T.view self.old.place result.1 self.new.place }
     {
         let now = self.clock.now();
         match &mut self.place {
@@ -173,7 +169,7 @@ impl<T: TermLike + Drop, C: Clock + Drop> Held<T, C> {
     /// One owner less; whether it was the last, and then the bar ends too.
     pub fn release<R: Wait>(&mut self, rt: &R) -> bool
         ensures owners { OwnerLeaves result self.old.owners self.new.owners }
-        ensures last { (result ≡ true) → (answer : _) × PlaceEnds T.view self.old.place answer self.new.place }
+        ensures last { (result ≡ true) → (answer : _) × PlaceEnds K.means T.view self.old.place answer self.new.place }
         ensures others { (result ≡ false) → self.new.place ≡ self.old.place }
     {
         let last = self.leave();
@@ -185,7 +181,7 @@ impl<T: TermLike + Drop, C: Clock + Drop> Held<T, C> {
 
     /// What the last owner runs: a bar that stands alone and isn't finished is finished by its stored finish, a board's is dropped.
     fn gone<R: Wait>(&mut self, rt: &R) -> Result<Drawn, Refusal>
-        ensures ends { PlaceEnds T.view self.old.place result self.new.place }
+        ensures ends { PlaceEnds K.means T.view self.old.place result self.new.place }
         ensures owners { self.new.owners ≡ self.old.owners }
     {
         let now = self.clock.now();
@@ -199,9 +195,9 @@ impl<T: TermLike + Drop, C: Clock + Drop> Held<T, C> {
     pub fn install_ticker<R: Wait>(&mut self, rt: &R, number: u64) -> Result<(), Refusal>
         requires { number < self.old.ticker.next }
         ensures installed { IfOk result (λ _. (self.new.ticker.installed ≡ Some number)
-            × ((drawn : _) × PlaceMakes T.view self.old.place (Lone.Obey (SetTicker true)) (Ok drawn) self.new.place)) }
+            × ((drawn : _) × PlaceMakes K.means T.view self.old.place (Lone.Obey (SetTicker true)) (Ok drawn) self.new.place)) }
         ensures refused { IfErr result (λ e. (self.new.ticker ≡ self.old.ticker)
-            × PlaceMakes T.view self.old.place (Lone.Obey (SetTicker true)) (Err e) self.new.place) }
+            × PlaceMakes K.means T.view self.old.place (Lone.Obey (SetTicker true)) (Err e) self.new.place) }
     {
         self.tell(rt, BarCommand::SetTicker(true))?;
         self.ticker.install(number);
@@ -211,9 +207,9 @@ impl<T: TermLike + Drop, C: Clock + Drop> Held<T, C> {
     /// No ticker from now on. Where the bar can't be told so, the ticker stays as it is.
     pub fn disable_ticker<R: Wait>(&mut self, rt: &R) -> Result<(), Refusal>
         ensures disabled { IfOk result (λ _. (self.new.ticker.installed ≡ None)
-            × ((drawn : _) × PlaceMakes T.view self.old.place (Lone.Obey (SetTicker false)) (Ok drawn) self.new.place)) }
+            × ((drawn : _) × PlaceMakes K.means T.view self.old.place (Lone.Obey (SetTicker false)) (Ok drawn) self.new.place)) }
         ensures refused { IfErr result (λ e. (self.new.ticker ≡ self.old.ticker)
-            × PlaceMakes T.view self.old.place (Lone.Obey (SetTicker false)) (Err e) self.new.place) }
+            × PlaceMakes K.means T.view self.old.place (Lone.Obey (SetTicker false)) (Err e) self.new.place) }
     {
         self.tell(rt, BarCommand::SetTicker(false))?;
         self.ticker.disable();
@@ -238,7 +234,7 @@ impl<T: TermLike + Drop, C: Clock + Drop> Held<T, C> {
     }
 
     /// Where the bar stands.
-    pub fn place(&self) -> &Place<T, C>
+    pub fn place(&self) -> &Place<K, T, C>
         ensures { result.now ≡ self.now.place }
     {
         &self.place
@@ -289,7 +285,7 @@ impl<T: TermLike + Drop, C: Clock + Drop> Held<T, C> {
     }
 
     /// The bar stands there from now on; where it stood before is given up.
-    fn stand(&mut self, place: Place<T, C>)
+    fn stand(&mut self, place: Place<K, T, C>)
         ensures { self.new.place ≡ place }
     {
         self.place = place;
@@ -302,7 +298,7 @@ impl<T: TermLike + Drop, C: Clock + Drop> Held<T, C> {
         rt: &R,
         target: ProgressDrawTarget<T>,
     ) -> Result<Drawn, Refusal>
-        ensures { PlaceTurns T.view self.old.place (term_of target) result self.new.place }
+        ensures { PlaceTurns K.means T.view self.old.place (term_of target) result self.new.place }
     {
         match &mut self.place {
             Place::Alone(bar) => {
@@ -323,11 +319,11 @@ impl<T: TermLike + Drop, C: Clock + Drop> Held<T, C> {
     pub fn take_in<R: Wait>(
         &mut self,
         rt: &R,
-        board: Shared<T, C>,
+        board: Shared<K, T, C>,
         at: InsertLocation,
         alloc: Global,
     ) -> Result<(), Refusal>
-        ensures { IfErr result (λ e. SharedTakes T.view (place_at at) (Err e)) }
+        ensures { IfErr result (λ e. SharedTakes K.means T.view (place_at at) (Err e)) }
     {
         let Ok(candidate) = self.place.candidate() else {
             return Err(Refusal::Memory);
@@ -344,9 +340,9 @@ impl<T: TermLike + Drop, C: Clock + Drop> Held<T, C> {
     pub fn take_out<R: Wait>(
         &mut self,
         rt: &R,
-        board: &Mutex<SharedBoard<T, C>>,
+        board: &Mutex<SharedBoard<K, T, C>>,
     ) -> Result<(), Refusal>
-        ensures { IfErr result (λ e. (id : Id) × SharedAnswers T.view (Remove id) (Refused e)) }
+        ensures { IfErr result (λ e. (id : Id) × SharedAnswers K.means T.view (Remove id) (Refused e)) }
     {
         let Some(id) = self.place.id() else {
             return Ok(());

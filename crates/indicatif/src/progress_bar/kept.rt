@@ -1,7 +1,6 @@
 //! What the lock of a shared board keeps.
 ghost use Rattle.std.specs.Prelude.{◌≡◌, ℕ, Some, None, IfOk, IfErr, Ok, Err, MatchResult};
 ghost use Rattle.indicatif_term.specs.Targets.{term_of};
-ghost use Rattle.indicatif_bar.specs.Trackers.{writes_nothing};
 ghost use Rattle.indicatif_board.specs.Boards.{Remove, Refused, drawn_of};
 ghost use Rattle.indicatif_board.specs.BoardValues.{id_of};
 ghost use Rattle.indicatif_board.specs.Calls.{call_of, answer_of, entrant_of, place_at, removal};
@@ -10,7 +9,7 @@ ghost use Rattle.indicatif.specs.SharedBoards.{BoardCan, SharedAnswers, SharedDr
 ghost use Rattle.indicatif.specs.Inside.Kept.{KeptMakes, KeptDraws, KeptTakes, KeptRemoves, KeptSuspends, refused_with};
 
 use indicatif_bar::state::BarState;
-use indicatif_bar::style::NoTracker;
+use indicatif_bar::style::Tracks;
 use indicatif_board::multi::{Answer, BarId, Board, Call, Candidate, InsertLocation, Recorded};
 use indicatif_term::draw_target::ProgressDrawTarget;
 use indicatif_term::term_like::TermLike;
@@ -21,24 +20,23 @@ use std::sync::{Arc, Mutex};
 
 /// A board that keeps no history. It is always in some state.
 #[derive(Drop)]
-pub struct Unrecorded<T: Drop> {
-    board: Board<NoTracker, T>,
+pub struct Unrecorded<K, T: Drop> {
+    board: Board<K, T>,
 }
 
 /// Contracts see the board.
-impl<T: Drop> Model for Unrecorded<T> {
+impl<K, T: Drop> Model for Unrecorded<K, T> {
     ghost use Rattle.indicatif.specs.Inside.Unrecorded.{IsSomewhere};
-    ghost use Rattle.indicatif_bar.specs.declared.tracker.NoTracker.{NoTracker};
     ghost use Rattle.indicatif_board.specs.declared.multi.Board.{Board};
 
-    ghost Value = { Board NoTracker T };
+    ghost Value = { Board K T };
 
     ghost view = { λ u. u.board };
 
     ghost invariant = { λ u. IsSomewhere u.board };
 }
 
-impl<T: TermLike + Drop> Unrecorded<T> {
+impl<K: Tracks, T: TermLike + Drop> Unrecorded<K, T> {
     /// A board without bars on this target, of this mark.
     pub fn new(alloc: Global, target: ProgressDrawTarget<T>, mark: u64) -> Self
         ensures { terminal_of result ≡ term_of target }
@@ -49,17 +47,17 @@ impl<T: TermLike + Drop> Unrecorded<T> {
     }
 
     /// Makes a call. A bar that is removed or turned away is given up.
-    pub fn call(&mut self, call: Call<NoTracker>, now: Moment) -> Answer
-        ensures leads { LeadsBy writes_nothing T.view self.old self.new (call_of call) now (answer_of result) }
-        ensures can { BoardCan T.view (call_of call) (answer_of result) }
+    pub fn call(&mut self, call: Call<K>, now: Moment) -> Answer
+        ensures leads { LeadsBy K.means T.view self.old self.new (call_of call) now (answer_of result) }
+        ensures can { BoardCan K.means T.view (call_of call) (answer_of result) }
     {
         self.board.call(call, now)
     }
 
     /// Takes a bar out of the order and hands it back.
-    pub fn remove(&mut self, id: BarId) -> Result<Option<BarState<NoTracker>>, Refusal>
-        ensures leads { (now : ℕ) → LeadsBy writes_nothing T.view self.old self.new (Remove (id_of id)) now (removal result) }
-        ensures can { BoardCan T.view (Remove (id_of id)) (removal result) }
+    pub fn remove(&mut self, id: BarId) -> Result<Option<BarState<K>>, Refusal>
+        ensures leads { (now : ℕ) → LeadsBy K.means T.view self.old self.new (Remove (id_of id)) now (removal result) }
+        ensures can { BoardCan K.means T.view (Remove (id_of id)) (removal result) }
     {
         self.board.remove(id)
     }
@@ -72,7 +70,7 @@ impl<T: TermLike + Drop> Unrecorded<T> {
     }
 
     /// The board.
-    pub fn board(&self) -> &Board<NoTracker, T>
+    pub fn board(&self) -> &Board<K, T>
         ensures { result.now ≡ self.now }
     {
         &self.board
@@ -81,18 +79,18 @@ impl<T: TermLike + Drop> Unrecorded<T> {
 
 /// A board under its lock, with its history or without.
 #[derive(Drop)]
-pub enum Kept<T: Drop> {
+pub enum Kept<K: Tracks, T: Drop> {
     /// It keeps no history.
-    Open(Unrecorded<T>),
+    Open(Unrecorded<K, T>),
     /// It keeps its history.
-    Recorded(Recorded<NoTracker, T>),
+    Recorded(Recorded<K, T>),
 }
 
-impl<T: TermLike + Drop> Kept<T> {
+impl<K: Tracks, T: TermLike + Drop> Kept<K, T> {
     /// Makes a call. A bar that is removed or turned away is given up.
-    pub fn call(&mut self, call: Call<NoTracker>, now: Moment) -> Answer
-        ensures made { KeptMakes T.view self.old (call_of call) now (answer_of result) self.new }
-        ensures can { SharedAnswers T.view (call_of call) (answer_of result) }
+    pub fn call(&mut self, call: Call<K>, now: Moment) -> Answer
+        ensures made { KeptMakes K.means T.view self.old (call_of call) now (answer_of result) self.new }
+        ensures can { SharedAnswers K.means T.view (call_of call) (answer_of result) }
     {
         match self {
             Kept::Open(board) => board.call(call, now),
@@ -104,17 +102,17 @@ impl<T: TermLike + Drop> Kept<T> {
     }
 
     /// A call that draws.
-    pub fn draw(&mut self, call: Call<NoTracker>, now: Moment) -> Result<Drawn, Refusal>
-        ensures made { KeptDraws T.view self.old (call_of call) now result self.new }
-        ensures can { SharedDraws T.view (call_of call) result }
+    pub fn draw(&mut self, call: Call<K>, now: Moment) -> Result<Drawn, Refusal>
+        ensures made { KeptDraws K.means T.view self.old (call_of call) now result self.new }
+        ensures can { SharedDraws K.means T.view (call_of call) result }
     {
         drawn_of(self.call(call, now))
     }
 
     /// Takes a bar out of the order and hands it back; `None` where it isn't there.
-    pub fn remove(&mut self, id: BarId, now: Moment) -> Result<Option<BarState<NoTracker>>, Refusal>
-        ensures made { MatchResult result (λ _. KeptRemoves T.view self.old (id_of id) now None self.new) (λ e. KeptRemoves T.view self.old (id_of id) now (Some e) self.new) }
-        ensures can { IfErr result (λ e. SharedAnswers T.view (Remove (id_of id)) (Refused e)) }
+    pub fn remove(&mut self, id: BarId, now: Moment) -> Result<Option<BarState<K>>, Refusal>
+        ensures made { MatchResult result (λ _. KeptRemoves K.means T.view self.old (id_of id) now None self.new) (λ e. KeptRemoves K.means T.view self.old (id_of id) now (Some e) self.new) }
+        ensures can { IfErr result (λ e. SharedAnswers K.means T.view (Remove (id_of id)) (Refused e)) }
     {
         match self {
             Kept::Open(board) => board.remove(id),
@@ -139,7 +137,7 @@ impl<T: TermLike + Drop> Kept<T> {
     }
 
     /// The board.
-    pub fn board(&self) -> &Board<NoTracker, T> {
+    pub fn board(&self) -> &Board<K, T> {
         match self {
             Kept::Open(board) => board.board(),
             Kept::Recorded(record) => record.board(),
@@ -147,7 +145,7 @@ impl<T: TermLike + Drop> Kept<T> {
     }
 
     /// The board with its history; `None` where it keeps none.
-    pub fn record(&self) -> Option<&Recorded<NoTracker, T>> {
+    pub fn record(&self) -> Option<&Recorded<K, T>> {
         match self {
             Kept::Open(_) => None,
             Kept::Recorded(record) => Some(record),
@@ -159,8 +157,8 @@ impl<T: TermLike + Drop> Kept<T> {
     pub fn suspend<F: FnOnce() -> A, A>(&mut self, now: Moment, f: F) -> (A, Result<Drawn, Refusal>)
         requires { F.pre f }
         ensures value { F.post f result.0 }
-        ensures made { KeptSuspends T.view self.old now result.1 self.new }
-        ensures drawn { SharedSuspends T.view result.1 }
+        ensures made { KeptSuspends K.means T.view self.old now result.1 self.new }
+        ensures drawn { SharedSuspends K.means T.view result.1 }
     {
         let cleared = self.draw(Call::Clear, now);
         let value = f();
@@ -175,17 +173,17 @@ impl<T: TermLike + Drop> Kept<T> {
 }
 
 /// What a board with its history answered.
-type Answered = (Answer, Option<BarState<NoTracker>>);
+type Answered<K> = (Answer, Option<BarState<K>>);
 
 /// The answer; a bar that was handed back is given up.
-fn answer_alone(answered: Answered) -> Answer
+fn answer_alone<K: Drop>(answered: Answered<K>) -> Answer
     ensures { result ≡ answered.0 }
 {
     answered.0
 }
 
 /// The bar that was handed back, unless the call was refused.
-fn bar_unless_refused(answered: Answered) -> Result<Option<BarState<NoTracker>>, Refusal>
+fn bar_unless_refused<K: Drop>(answered: Answered<K>) -> Result<Option<BarState<K>>, Refusal>
     ensures { MatchResult result (λ _. refused_with (answer_of answered.0) ≡ None) (λ e. answered.0 ≡ Answer.Refused e) }
 {
     let (answer, bar) = answered;
@@ -220,22 +218,22 @@ fn id_given(answer: Answer) -> Result<BarId, Refusal>
 
 /// What stands under the lock of a shared board: the board and its clock.
 #[derive(Drop)]
-pub struct SharedBoard<T: Drop, C> {
-    pub kept: Kept<T>,
+pub struct SharedBoard<K: Tracks, T: Drop, C> {
+    pub kept: Kept<K, T>,
     clock: C,
 }
 
 /// A board that bars and others share.
-pub type Shared<T, C> = Arc<Mutex<SharedBoard<T, C>>, Global>;
+pub type Shared<K, T, C> = Arc<Mutex<SharedBoard<K, T, C>>, Global>;
 
-impl<T: Drop, C> SharedBoard<T, C> {
+impl<K: Tracks, T: Drop, C> SharedBoard<K, T, C> {
     /// A board with its clock.
-    pub fn new(kept: Kept<T>, clock: C) -> SharedBoard<T, C> {
+    pub fn new(kept: Kept<K, T>, clock: C) -> SharedBoard<K, T, C> {
         SharedBoard { kept, clock }
     }
 }
 
-impl<T: Drop, C: Clone> SharedBoard<T, C> {
+impl<K: Tracks, T: Drop, C: Clone> SharedBoard<K, T, C> {
     /// A copy of its clock.
     ///
     /// Refused: `Memory`.
@@ -246,36 +244,32 @@ impl<T: Drop, C: Clone> SharedBoard<T, C> {
     }
 }
 
-impl<T: TermLike + Drop, C: Clock + Drop> SharedBoard<T, C> {
+impl<K: Tracks, T: TermLike + Drop, C: Clock + Drop> SharedBoard<K, T, C> {
     /// A call that draws.
-    pub fn draw(&mut self, call: Call<NoTracker>) -> Result<Drawn, Refusal>
-        ensures made { (now : ℕ) × KeptDraws T.view self.old.kept (call_of call) now result self.new.kept }
-        ensures can { SharedDraws T.view (call_of call) result }
+    pub fn draw(&mut self, call: Call<K>) -> Result<Drawn, Refusal>
+        ensures made { (now : ℕ) × KeptDraws K.means T.view self.old.kept (call_of call) now result self.new.kept }
+        ensures can { SharedDraws K.means T.view (call_of call) result }
     {
         let now = self.clock.now();
         self.kept.draw(call, now)
     }
 
     /// Takes a bar in.
-    pub fn insert(
-        &mut self,
-        at: InsertLocation,
-        candidate: Candidate<NoTracker>,
-    ) -> Result<BarId, Refusal>
+    pub fn insert(&mut self, at: InsertLocation, candidate: Candidate<K>) -> Result<BarId, Refusal>
         ensures made { MatchResult result
-            (λ id. (now : ℕ) × KeptTakes T.view self.old.kept (place_at at) (entrant_of candidate) now (Ok (id_of id)) self.new.kept)
-            (λ e. (now : ℕ) × KeptTakes T.view self.old.kept (place_at at) (entrant_of candidate) now (Err e) self.new.kept) }
-        ensures can { MatchResult result (λ id. SharedTakes T.view (place_at at) (Ok (id_of id))) (λ e. SharedTakes T.view (place_at at) (Err e)) }
+            (λ id. (now : ℕ) × KeptTakes K.means T.view self.old.kept (place_at at) (entrant_of candidate) now (Ok (id_of id)) self.new.kept)
+            (λ e. (now : ℕ) × KeptTakes K.means T.view self.old.kept (place_at at) (entrant_of candidate) now (Err e) self.new.kept) }
+        ensures can { MatchResult result (λ id. SharedTakes K.means T.view (place_at at) (Ok (id_of id))) (λ e. SharedTakes K.means T.view (place_at at) (Err e)) }
     {
         let now = self.clock.now();
         id_given(self.kept.call(Call::Insert { at, candidate }, now))
     }
 
     /// Takes a bar out of the order and hands it back; `None` where it isn't there.
-    pub fn remove(&mut self, id: BarId) -> Result<Option<BarState<NoTracker>>, Refusal>
-        ensures made { MatchResult result (λ _. (now : ℕ) × KeptRemoves T.view self.old.kept (id_of id) now None self.new.kept)
-            (λ e. (now : ℕ) × KeptRemoves T.view self.old.kept (id_of id) now (Some e) self.new.kept) }
-        ensures can { IfErr result (λ e. SharedAnswers T.view (Remove (id_of id)) (Refused e)) }
+    pub fn remove(&mut self, id: BarId) -> Result<Option<BarState<K>>, Refusal>
+        ensures made { MatchResult result (λ _. (now : ℕ) × KeptRemoves K.means T.view self.old.kept (id_of id) now None self.new.kept)
+            (λ e. (now : ℕ) × KeptRemoves K.means T.view self.old.kept (id_of id) now (Some e) self.new.kept) }
+        ensures can { IfErr result (λ e. SharedAnswers K.means T.view (Remove (id_of id)) (Refused e)) }
     {
         let now = self.clock.now();
         self.kept.remove(id, now)
@@ -285,8 +279,8 @@ impl<T: TermLike + Drop, C: Clock + Drop> SharedBoard<T, C> {
     pub fn suspend<F: FnOnce() -> A, A>(&mut self, f: F) -> (A, Result<Drawn, Refusal>)
         requires { F.pre f }
         ensures value { F.post f result.0 }
-        ensures made { (now : ℕ) × KeptSuspends T.view self.old.kept now result.1 self.new.kept }
-        ensures drawn { SharedSuspends T.view result.1 }
+        ensures made { (now : ℕ) × KeptSuspends K.means T.view self.old.kept now result.1 self.new.kept }
+        ensures drawn { SharedSuspends K.means T.view result.1 }
     {
         let now = self.clock.now();
         self.kept.suspend(now, f)

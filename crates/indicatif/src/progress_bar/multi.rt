@@ -7,7 +7,7 @@ ghost use Rattle.indicatif.specs.SharedBoards.{SharedAnswers, SharedDraws, Share
 
 use crate::progress_bar::ProgressBar;
 use crate::progress_bar::kept::{Kept, Shared, SharedBoard, Unrecorded};
-use indicatif_bar::style::NoTracker;
+use indicatif_bar::style::{NoTracker, Tracks};
 use indicatif_board::multi::{Call, InsertLocation, Recorded};
 use indicatif_term::draw_target::{MultiProgressAlignment, ProgressDrawTarget, Setup};
 use indicatif_term::term_like::TermLike;
@@ -33,12 +33,18 @@ use std::sync::{Arc, Mutex, Wait};
 /// board.println("a.txt")?; // stands above the bars from now on
 /// ```
 #[derive(Drop)]
-pub struct MultiProgress<T: TermLike + Drop, C: Clock + Drop, R: Wait + Clone + Drop> {
-    board: Shared<T, C>,
+pub struct MultiProgress<
+    T: TermLike + Drop,
+    C: Clock + Drop,
+    R: Wait + Clone + Drop,
+    K: Tracks = NoTracker,
+> {
+    board: Shared<K, T, C>,
     alloc: Global,
     rt: R,
 }
 
+/// Boards whose bars have no keys of the caller's own.
 impl<T: TermLike + Drop, C: Clock + Drop, R: Wait + Clone + Drop> MultiProgress<T, C, R> {
     /// A board without bars, of this mark. It writes nothing yet. Its bars come by `new_bar`, `new_spinner` and `add`.
     ///
@@ -62,8 +68,7 @@ impl<T: TermLike + Drop, C: Clock + Drop, R: Wait + Clone + Drop> MultiProgress<
     ) -> Result<Self, Refusal>
         ensures { IfErr result (λ e. e ≡ Refusal.Memory) }
     {
-        let kept = Kept::Open(Unrecorded::new(alloc, target, mark));
-        MultiProgress::shared(rt, alloc, SharedBoard::new(kept, clock))
+        MultiProgress::keyed(rt, alloc, Setup { target, clock }, mark)
     }
 
     /// The same, and the board keeps its history; `with_record` lends it. It grows with each call.
@@ -78,6 +83,44 @@ impl<T: TermLike + Drop, C: Clock + Drop, R: Wait + Clone + Drop> MultiProgress<
     ) -> Result<Self, Refusal>
         ensures { IfErr result (λ e. e ≡ Refusal.Memory) }
     {
+        MultiProgress::keyed_recorded(rt, alloc, Setup { target, clock }, mark)
+    }
+}
+
+impl<T: TermLike + Drop, C: Clock + Drop, R: Wait + Clone + Drop, K: Tracks> MultiProgress<
+    T,
+    C,
+    R,
+    K,
+> {
+    /// The same as `new`, for bars whose styles have keys of one's own.
+    ///
+    /// ```
+    /// let board = MultiProgress::keyed(rt, rt.alloc(), setup, 1)?;
+    /// let bar = board.new_bar(10)?.with_style(style)?; // style: with_key("left", Left { of: 10 })
+    /// ```
+    ///
+    /// Refused: `Memory`; nothing is made, and what was handed in is given up.
+    pub fn keyed(rt: R, alloc: Global, setup: Setup<T, C>, mark: u64) -> Result<Self, Refusal>
+        ensures { IfErr result (λ e. e ≡ Refusal.Memory) }
+    {
+        let Setup { target, clock } = setup;
+        let kept = Kept::Open(Unrecorded::new(alloc, target, mark));
+        MultiProgress::shared(rt, alloc, SharedBoard::new(kept, clock))
+    }
+
+    /// The same as `keyed`, and the board keeps its history; `with_record` lends it. It grows with each call.
+    ///
+    /// Refused: `Memory`; nothing is made, and what was handed in is given up.
+    pub fn keyed_recorded(
+        rt: R,
+        alloc: Global,
+        setup: Setup<T, C>,
+        mark: u64,
+    ) -> Result<Self, Refusal>
+        ensures { IfErr result (λ e. e ≡ Refusal.Memory) }
+    {
+        let Setup { target, clock } = setup;
         let kept = Kept::Recorded(Recorded::new(alloc, target, mark));
         MultiProgress::shared(rt, alloc, SharedBoard::new(kept, clock))
     }
@@ -88,7 +131,7 @@ impl<T: TermLike + Drop, C: Clock + Drop, R: Wait + Clone + Drop> MultiProgress<
     }
 
     /// A board under its lock.
-    fn shared(rt: R, alloc: Global, board: SharedBoard<T, C>) -> Result<Self, Refusal>
+    fn shared(rt: R, alloc: Global, board: SharedBoard<K, T, C>) -> Result<Self, Refusal>
         ensures { IfErr result (λ e. e ≡ Refusal.Memory) }
     {
         match Arc::new(alloc, Mutex::new(board)) {
@@ -105,8 +148,8 @@ impl<T: TermLike + Drop, C: Clock + Drop, R: Wait + Clone + Drop> MultiProgress<
     /// ```
     /// let bar = board.add(bar)?; // it is drawn among the board's bars from now on
     /// ```
-    pub fn add(&self, bar: ProgressBar<T, C, R>) -> Result<ProgressBar<T, C, R>, Refusal>
-        ensures { IfErr result (λ e. SharedTakes T.view End (Err e)) }
+    pub fn add(&self, bar: ProgressBar<T, C, R, K>) -> Result<ProgressBar<T, C, R, K>, Refusal>
+        ensures { IfErr result (λ e. SharedTakes K.means T.view End (Err e)) }
     {
         self.take_in(InsertLocation::End, bar)
     }
@@ -115,9 +158,9 @@ impl<T: TermLike + Drop, C: Clock + Drop, R: Wait + Clone + Drop> MultiProgress<
     pub fn insert(
         &self,
         index: usize,
-        bar: ProgressBar<T, C, R>,
-    ) -> Result<ProgressBar<T, C, R>, Refusal>
-        ensures { IfErr result (λ e. SharedTakes T.view (Index index) (Err e)) }
+        bar: ProgressBar<T, C, R, K>,
+    ) -> Result<ProgressBar<T, C, R, K>, Refusal>
+        ensures { IfErr result (λ e. SharedTakes K.means T.view (Index index) (Err e)) }
     {
         self.take_in(InsertLocation::Index(index), bar)
     }
@@ -126,9 +169,9 @@ impl<T: TermLike + Drop, C: Clock + Drop, R: Wait + Clone + Drop> MultiProgress<
     pub fn insert_from_back(
         &self,
         count: usize,
-        bar: ProgressBar<T, C, R>,
-    ) -> Result<ProgressBar<T, C, R>, Refusal>
-        ensures { IfErr result (λ e. SharedTakes T.view (FromBack count) (Err e)) }
+        bar: ProgressBar<T, C, R, K>,
+    ) -> Result<ProgressBar<T, C, R, K>, Refusal>
+        ensures { IfErr result (λ e. SharedTakes K.means T.view (FromBack count) (Err e)) }
     {
         self.take_in(InsertLocation::FromBack(count), bar)
     }
@@ -138,10 +181,10 @@ impl<T: TermLike + Drop, C: Clock + Drop, R: Wait + Clone + Drop> MultiProgress<
     /// Refused too: `ForeignBar` for an anchor of another board, `NotMember` for one that stands alone.
     pub fn insert_before(
         &self,
-        anchor: &ProgressBar<T, C, R>,
-        bar: ProgressBar<T, C, R>,
-    ) -> Result<ProgressBar<T, C, R>, Refusal>
-        ensures { IfErr result (λ e. (e ≡ Refusal.NotMember) ⊎ ((id : Id) × SharedTakes T.view (Before id) (Err e))) }
+        anchor: &ProgressBar<T, C, R, K>,
+        bar: ProgressBar<T, C, R, K>,
+    ) -> Result<ProgressBar<T, C, R, K>, Refusal>
+        ensures { IfErr result (λ e. (e ≡ Refusal.NotMember) ⊎ ((id : Id) × SharedTakes K.means T.view (Before id) (Err e))) }
     {
         match anchor.id() {
             Some(id) => self.take_in(InsertLocation::Before(id), bar),
@@ -152,10 +195,10 @@ impl<T: TermLike + Drop, C: Clock + Drop, R: Wait + Clone + Drop> MultiProgress<
     /// Takes a bar in right after the anchor; else as `insert_before`.
     pub fn insert_after(
         &self,
-        anchor: &ProgressBar<T, C, R>,
-        bar: ProgressBar<T, C, R>,
-    ) -> Result<ProgressBar<T, C, R>, Refusal>
-        ensures { IfErr result (λ e. (e ≡ Refusal.NotMember) ⊎ ((id : Id) × SharedTakes T.view (After id) (Err e))) }
+        anchor: &ProgressBar<T, C, R, K>,
+        bar: ProgressBar<T, C, R, K>,
+    ) -> Result<ProgressBar<T, C, R, K>, Refusal>
+        ensures { IfErr result (λ e. (e ≡ Refusal.NotMember) ⊎ ((id : Id) × SharedTakes K.means T.view (After id) (Err e))) }
     {
         match anchor.id() {
             Some(id) => self.take_in(InsertLocation::After(id), bar),
@@ -168,9 +211,9 @@ impl<T: TermLike + Drop, C: Clock + Drop, R: Wait + Clone + Drop> MultiProgress<
     fn take_in(
         &self,
         at: InsertLocation,
-        bar: ProgressBar<T, C, R>,
-    ) -> Result<ProgressBar<T, C, R>, Refusal>
-        ensures { IfErr result (λ e. SharedTakes T.view (place_at at) (Err e)) }
+        bar: ProgressBar<T, C, R, K>,
+    ) -> Result<ProgressBar<T, C, R, K>, Refusal>
+        ensures { IfErr result (λ e. SharedTakes K.means T.view (place_at at) (Err e)) }
     {
         let Ok(board) = Arc::try_clone(&self.board) else {
             return Err(Refusal::Memory);
@@ -183,8 +226,8 @@ impl<T: TermLike + Drop, C: Clock + Drop, R: Wait + Clone + Drop> MultiProgress<
     /// stands alone stays as it is.
     ///
     /// Refused: `ForeignBar` for a bar of another board; `Memory`, where the history finds none. Nothing has changed then.
-    pub fn remove(&self, bar: &ProgressBar<T, C, R>) -> Result<(), Refusal>
-        ensures { IfErr result (λ e. (id : Id) × SharedAnswers T.view (Remove id) (Refused e)) }
+    pub fn remove(&self, bar: &ProgressBar<T, C, R, K>) -> Result<(), Refusal>
+        ensures { IfErr result (λ e. (id : Id) × SharedAnswers K.means T.view (Remove id) (Refused e)) }
     {
         bar.take_out(&self.board)
     }
@@ -192,7 +235,7 @@ impl<T: TermLike + Drop, C: Clock + Drop, R: Wait + Clone + Drop> MultiProgress<
     /// Writes the text's lines above the bars, by force; the bars go on below them. On a hidden target the text is dropped: print it
     /// yourself where `is_hidden` says so.
     pub fn println(&self, text: &str) -> Result<Drawn, Refusal>
-        ensures { SharedDraws T.view (Log text.now) result }
+        ensures { SharedDraws K.means T.view (Log text.now) result }
     {
         match String::from_str(self.alloc, text) {
             Ok(text) => self.board.lock(&self.rt).draw(Call::Log(text)),
@@ -202,7 +245,7 @@ impl<T: TermLike + Drop, C: Clock + Drop, R: Wait + Clone + Drop> MultiProgress<
 
     /// Takes the bars' rows back, by force. The next draw shows the bars again, but for those that were dropped.
     pub fn clear(&self) -> Result<Drawn, Refusal>
-        ensures { SharedDraws T.view Clear result }
+        ensures { SharedDraws K.means T.view Clear result }
     {
         self.board.lock(&self.rt).draw(Call::Clear)
     }
@@ -212,7 +255,7 @@ impl<T: TermLike + Drop, C: Clock + Drop, R: Wait + Clone + Drop> MultiProgress<
     pub fn suspend<F: FnOnce() -> A, A>(&self, f: F) -> (A, Result<Drawn, Refusal>)
         requires { F.pre f }
         ensures value { F.post f result.0 }
-        ensures drawn { SharedSuspends T.view result.1 }
+        ensures drawn { SharedSuspends K.means T.view result.1 }
     {
         self.board.lock(&self.rt).suspend(f)
     }
@@ -221,7 +264,7 @@ impl<T: TermLike + Drop, C: Clock + Drop, R: Wait + Clone + Drop> MultiProgress<
     ///
     /// Refused: `Memory`, where the history finds none; nothing has changed then.
     pub fn set_alignment(&self, alignment: MultiProgressAlignment) -> Result<(), Refusal>
-        ensures { IfErr result (λ e. SharedDraws T.view (Align (is_bottom alignment)) (Err e)) }
+        ensures { IfErr result (λ e. SharedDraws K.means T.view (Align (is_bottom alignment)) (Err e)) }
     {
         self.board.lock(&self.rt).draw(Call::Align(alignment))?;
         Ok(())
@@ -252,14 +295,19 @@ impl<T: TermLike + Drop, C: Clock + Drop, R: Wait + Clone + Drop> MultiProgress<
     }
 
     /// Lends the board with its history to the reader under the lock; `None` where it keeps none.
-    pub fn with_record<F: RecordReader<T>>(&self, reader: F) -> F::Found {
+    pub fn with_record<F: RecordReader<T, K>>(&self, reader: F) -> F::Found {
         let on = self.board.lock(&self.rt);
         reader.read(on.kept.record())
     }
 }
 
 /// Bars that are made for the board, each by a copy of the board's clock.
-impl<T: TermLike + Drop, C: Clock + Clone + Drop, R: Wait + Clone + Drop> MultiProgress<T, C, R> {
+impl<T: TermLike + Drop, C: Clock + Clone + Drop, R: Wait + Clone + Drop, K: Tracks> MultiProgress<
+    T,
+    C,
+    R,
+    K,
+> {
     /// A bar of this length behind all others, in the style `{wide_bar} {pos}/{len}`, which draws nothing yet. Keep the owner as long as
     /// the bar is to be seen: the last one that goes clears a bar that wasn't finished.
     ///
@@ -269,13 +317,13 @@ impl<T: TermLike + Drop, C: Clock + Clone + Drop, R: Wait + Clone + Drop> MultiP
     ///
     /// Refused: `Memory`; nothing has changed then.
     #[tactic(auto, using(crate::proofs::FrontLemmas::not_taken))]
-    pub fn new_bar(&self, len: u64) -> Result<ProgressBar<T, C, R>, Refusal>
-        ensures { IfErr result (λ e. SharedTakes T.view End (Err e)) }
+    pub fn new_bar(&self, len: u64) -> Result<ProgressBar<T, C, R, K>, Refusal>
+        ensures { IfErr result (λ e. SharedTakes K.means T.view End (Err e)) }
     {
         let Ok((rt, setup)) = self.setup() else {
             return Err(Refusal::Memory);
         };
-        match ProgressBar::new(rt, self.alloc, len, setup) {
+        match ProgressBar::plain(rt, self.alloc, Some(len), setup) {
             Ok(bar) => self.add(bar),
             Err(_) => Err(Refusal::Memory),
         }
@@ -285,13 +333,13 @@ impl<T: TermLike + Drop, C: Clock + Clone + Drop, R: Wait + Clone + Drop> MultiP
     ///
     /// Refused: `Memory`; nothing has changed then.
     #[tactic(auto, using(crate::proofs::FrontLemmas::not_taken))]
-    pub fn new_spinner(&self) -> Result<ProgressBar<T, C, R>, Refusal>
-        ensures { IfErr result (λ e. SharedTakes T.view End (Err e)) }
+    pub fn new_spinner(&self) -> Result<ProgressBar<T, C, R, K>, Refusal>
+        ensures { IfErr result (λ e. SharedTakes K.means T.view End (Err e)) }
     {
         let Ok((rt, setup)) = self.setup() else {
             return Err(Refusal::Memory);
         };
-        match ProgressBar::new_spinner(rt, self.alloc, setup) {
+        match ProgressBar::spinning(rt, self.alloc, setup) {
             Ok(bar) => self.add(bar),
             Err(_) => Err(Refusal::Memory),
         }
@@ -314,25 +362,26 @@ impl<T: TermLike + Drop, C: Clock + Clone + Drop, R: Wait + Clone + Drop> MultiP
 /// #[derive(Drop)]
 /// struct Length;
 ///
-/// impl<T: Drop> RecordReader<T> for Length {
+/// impl<T: Drop, K: Tracks> RecordReader<T, K> for Length {
 ///     type Found = usize;
 ///
-///     fn read(self, record: Option<&Recorded<NoTracker, T>>) -> usize {
+///     fn read(self, record: Option<&Recorded<K, T>>) -> usize {
 ///         record.map_or(0, |record| record.entries().len())
 ///     }
 /// }
 /// ```
-pub trait RecordReader<T: Drop> {
+pub trait RecordReader<T: Drop, K: Tracks> {
     /// What it finds.
     type Found;
 
     /// What it finds of a history, if there is one.
-    fn read(self, record: Option<&Recorded<NoTracker, T>>) -> Self::Found;
+    fn read(self, record: Option<&Recorded<K, T>>) -> Self::Found;
 }
 
 /// The same board. Refused: want of memory.
-impl<T: TermLike + Drop, C: Clock + Drop, R: Wait + Clone + Drop> Clone for MultiProgress<T, C, R> {
-    fn clone(&self) -> Result<MultiProgress<T, C, R>, AllocError> {
+impl<T: TermLike + Drop, C: Clock + Drop, R: Wait + Clone + Drop, K: Tracks> Clone
+    for MultiProgress<T, C, R, K> {
+    fn clone(&self) -> Result<MultiProgress<T, C, R, K>, AllocError> {
         Ok(MultiProgress {
             board: Arc::try_clone(&self.board)?,
             alloc: self.alloc,
@@ -341,7 +390,8 @@ impl<T: TermLike + Drop, C: Clock + Drop, R: Wait + Clone + Drop> Clone for Mult
     }
 }
 
-impl<T: TermLike + Drop, C: Clock + Drop, R: Wait + Clone + Drop> Debug for MultiProgress<T, C, R> {
+impl<T: TermLike + Drop, C: Clock + Drop, R: Wait + Clone + Drop, K: Tracks> Debug
+    for MultiProgress<T, C, R, K> {
     fn fmt<W: fmt::Write>(&self, f: &mut Formatter<W>) -> fmt::Result {
         f.write_str("MultiProgress")
     }

@@ -15,7 +15,7 @@ use crate::progress_bar::kept::Shared;
 use crate::progress_bar::single::Single;
 use crate::progress_bar::worded::Worded;
 use indicatif_bar::state::{BarCommand, BarState, Change, ProgressState};
-use indicatif_bar::style::{NoTracker, ProgressStyle};
+use indicatif_bar::style::{ProgressStyle, Tracks};
 use indicatif_board::multi::{BarId, Call, Candidate};
 use indicatif_term::term_like::TermLike;
 use indicatif_text::columns::{Clock, Drawn, Moment, Refusal};
@@ -23,8 +23,8 @@ use std::alloc::Global;
 use std::sync::Wait;
 
 /// What a closure answers of the bar's state, or nothing where there is no bar.
-fn change_by<F: FnOnce(&ProgressState) -> Change>(
-    bar: Result<&BarState<NoTracker>, Refusal>,
+fn change_by<K: Tracks, F: FnOnce(&ProgressState) -> Change>(
+    bar: Result<&BarState<K>, Refusal>,
     f: F,
 ) -> Change
     requires { F.IsAlwaysCallable f }
@@ -48,8 +48,8 @@ fn told_of<F: FnOnce(&ProgressState) -> A, A>(shown: &ProgressState, f: F) -> A
 }
 
 /// What a closure finds of a bar's state, if there is a bar.
-fn found_of<F: FnOnce(&ProgressState) -> A, A>(
-    bar: Result<&BarState<NoTracker>, Refusal>,
+fn found_of<K: Tracks, F: FnOnce(&ProgressState) -> A, A>(
+    bar: Result<&BarState<K>, Refusal>,
     f: F,
 ) -> Option<A>
     requires { F.IsAlwaysCallable f }
@@ -63,30 +63,30 @@ fn found_of<F: FnOnce(&ProgressState) -> A, A>(
 
 /// A bar on a board.
 #[derive(Drop)]
-pub struct Seat<T: Drop, C> {
-    pub board: Shared<T, C>,
+pub struct Seat<K: Tracks, T: Drop, C> {
+    pub board: Shared<K, T, C>,
     pub id: BarId,
     pub alloc: Global,
 }
 
 /// Where a bar stands.
 #[derive(Drop)]
-pub enum Place<T: Drop, C> {
+pub enum Place<K: Tracks, T: Drop, C> {
     /// Alone on its target.
-    Alone(Single<T>),
+    Alone(Single<K, T>),
     /// On a board.
-    On(Seat<T, C>),
+    On(Seat<K, T, C>),
 }
 
-impl<T: TermLike + Drop, C: Clock + Drop> Seat<T, C> {
+impl<K: Tracks, T: TermLike + Drop, C: Clock + Drop> Seat<K, T, C> {
     /// A command of the bar.
     pub fn tell<R: Wait>(
         &self,
         rt: &R,
-        command: BarCommand<NoTracker>,
+        command: BarCommand<K>,
         now: Moment,
     ) -> Result<Drawn, Refusal>
-        ensures { SharedDraws T.view (Tell (id_of self.now.id) (command_of command)) result }
+        ensures { SharedDraws K.means T.view (Tell (id_of self.now.id) (command_of command)) result }
     {
         let call = Call::Bar(self.id, command);
         self.board.lock(rt).kept.draw(call, now)
@@ -100,7 +100,7 @@ impl<T: TermLike + Drop, C: Clock + Drop> Seat<T, C> {
         now: Moment,
     ) -> Result<Drawn, Refusal>
         requires { F.IsAlwaysCallable f }
-        ensures { (change : Changed) × SharedDraws T.view (Tell (id_of self.now.id) (Update change.pos change.len)) result
+        ensures { (change : Changed) × SharedDraws K.means T.view (Tell (id_of self.now.id) (Update change.pos change.len)) result
             × (((shown : Progress) × FnOnceReturnsAt F.FnOnce f shown change) ⊎ (change ≡ unchanged)) }
     {
         let mut on = self.board.lock(rt);
@@ -117,7 +117,7 @@ impl<T: TermLike + Drop, C: Clock + Drop> Seat<T, C> {
         text: &str,
         now: Moment,
     ) -> Result<Drawn, Refusal>
-        ensures { SharedDraws T.view (on_board (id_of self.now.id) (worded told text.now)) result }
+        ensures { SharedDraws K.means T.view (on_board (id_of self.now.id) (worded told text.now)) result }
     {
         match String::from_str(self.alloc, text) {
             Ok(text) => {
@@ -137,14 +137,14 @@ impl<T: TermLike + Drop, C: Clock + Drop> Seat<T, C> {
     ) -> (A, Result<Drawn, Refusal>)
         requires { F.pre f }
         ensures value { F.post f result.0 }
-        ensures drawn { SharedSuspends T.view result.1 }
+        ensures drawn { SharedSuspends K.means T.view result.1 }
     {
         self.board.lock(rt).kept.suspend(now, f)
     }
 
     /// The bar's owner is gone.
     pub fn gone<R: Wait>(&self, rt: &R, now: Moment) -> Result<Drawn, Refusal>
-        ensures { SharedDraws T.view (Dropped (id_of self.now.id)) result }
+        ensures { SharedDraws K.means T.view (Dropped (id_of self.now.id)) result }
     {
         self.board.lock(rt).kept.draw(Call::Drop(self.id), now)
     }
@@ -154,8 +154,8 @@ impl<T: TermLike + Drop, C: Clock + Drop> Seat<T, C> {
         &self,
         rt: &R,
         now: Moment,
-    ) -> Result<(BarState<NoTracker>, Result<Drawn, Refusal>), Refusal>
-        ensures { MatchResult result (λ left. SharedDraws T.view Redraw left.1) (λ e. SharedKeeps T.view (id_of self.now.id) e) }
+    ) -> Result<(BarState<K>, Result<Drawn, Refusal>), Refusal>
+        ensures { MatchResult result (λ left. SharedDraws K.means T.view Redraw left.1) (λ e. SharedKeeps K.means T.view (id_of self.now.id) e) }
     {
         let mut on = self.board.lock(rt);
         match on.kept.remove(self.id, now) {
@@ -169,7 +169,7 @@ impl<T: TermLike + Drop, C: Clock + Drop> Seat<T, C> {
     }
 }
 
-impl<T: TermLike + Drop, C: Clock + Drop> Place<T, C> {
+impl<K: Tracks, T: TermLike + Drop, C: Clock + Drop> Place<K, T, C> {
     /// What the closure finds of the bar's state; `None` where its board hasn't the bar.
     pub fn read<R: Wait, F: FnOnce(&ProgressState) -> A, A>(&self, rt: &R, f: F) -> Option<A>
         requires { F.IsAlwaysCallable f }
@@ -232,7 +232,7 @@ impl<T: TermLike + Drop, C: Clock + Drop> Place<T, C> {
     }
 
     /// A style equal to the bar's; that of a new bar where its board hasn't the bar.
-    pub fn style<R: Wait>(&self, rt: &R, alloc: Global) -> Result<ProgressStyle<NoTracker>, Refusal>
+    pub fn style<R: Wait>(&self, rt: &R, alloc: Global) -> Result<ProgressStyle<K>, Refusal>
         ensures style { IfOk result (λ style. LooksSo self.now style) }
         ensures memory { IfErr result (λ e. e ≡ Refusal.Memory) }
     {
@@ -280,7 +280,7 @@ impl<T: TermLike + Drop, C: Clock + Drop> Place<T, C> {
     }
 
     /// What is to be taken in on a board: the bar that stands on one, or another one that is equal to it.
-    pub fn candidate(&self) -> Result<Candidate<NoTracker>, Refusal>
+    pub fn candidate(&self) -> Result<Candidate<K>, Refusal>
         ensures { IfErr result (λ e. e ≡ Refusal.Memory) }
     {
         match self {

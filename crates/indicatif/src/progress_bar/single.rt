@@ -6,7 +6,6 @@ ghost use Rattle.indicatif_bar.specs.Commands.{Inc, Update, FinishUsingStyle};
 ghost use Rattle.indicatif_bar.specs.Lone as Lone;
 ghost use Rattle.indicatif_bar.specs.LoneBars.{record_of, lone_terminal, lone_call_of, CallDone, LoneLeadsBy};
 ghost use Rattle.indicatif_bar.specs.Progress.{is_finished};
-ghost use Rattle.indicatif_bar.specs.Trackers.{writes_nothing};
 ghost use Rattle.indicatif_bar.specs.declared.command.Change.{Change as Changed};
 ghost use Rattle.indicatif.specs.Fronts.{SuspendedBy};
 ghost use Rattle.indicatif.specs.Inside.Single.{MadeBy};
@@ -15,7 +14,7 @@ ghost use Rattle.indicatif.specs.Inside.Worded.{worded};
 use crate::progress_bar::worded::Worded;
 use indicatif_bar::lone::{LoneBar, LoneCall};
 use indicatif_bar::state::{BarCommand, BarState, Change, ProgressState};
-use indicatif_bar::style::NoTracker;
+use indicatif_bar::style::Tracks;
 use indicatif_term::draw_target::ProgressDrawTarget;
 use indicatif_term::term_like::TermLike;
 use indicatif_text::columns::{Drawn, Moment, Refusal};
@@ -23,26 +22,25 @@ use std::marker::Model;
 
 /// A bar that stands alone on its target. It is always in some state.
 #[derive(Drop)]
-pub struct Single<T: Drop> {
-    bar: LoneBar<NoTracker, T>,
+pub struct Single<K, T: Drop> {
+    bar: LoneBar<K, T>,
 }
 
 /// Contracts see the lone bar.
-impl<T: Drop> Model for Single<T> {
+impl<K, T: Drop> Model for Single<K, T> {
     ghost use Rattle.indicatif.specs.Fronts.{LoneIsSomewhere};
     ghost use Rattle.indicatif_bar.specs.declared.lone.LoneBar.{LoneBar};
-    ghost use Rattle.indicatif_bar.specs.declared.tracker.NoTracker.{NoTracker};
 
-    ghost Value = { LoneBar NoTracker T };
+    ghost Value = { LoneBar K T };
 
     ghost view = { λ s. s.bar };
 
     ghost invariant = { λ s. LoneIsSomewhere s.bar };
 }
 
-impl<T: TermLike + Drop> Single<T> {
+impl<K: Tracks, T: TermLike + Drop> Single<K, T> {
     /// The bar on this target.
-    pub fn new(bar: BarState<NoTracker>, target: ProgressDrawTarget<T>) -> Single<T>
+    pub fn new(bar: BarState<K>, target: ProgressDrawTarget<T>) -> Single<K, T>
         ensures bar { record_of result ≡ bar }
         ensures terminal { lone_terminal result ≡ term_of target }
     {
@@ -52,22 +50,22 @@ impl<T: TermLike + Drop> Single<T> {
     }
 
     /// A call as a value.
-    pub fn call(&mut self, call: LoneCall<NoTracker>, now: Moment) -> Result<Drawn, Refusal>
-        ensures { MadeBy T.view self.old self.new (lone_call_of call) now result }
+    pub fn call(&mut self, call: LoneCall<K>, now: Moment) -> Result<Drawn, Refusal>
+        ensures { MadeBy K.means T.view self.old self.new (lone_call_of call) now result }
     {
         self.bar.call(call, now)
     }
 
     /// The position goes up: as that call, but not as a value, since a step is made most often.
     pub fn inc(&mut self, delta: u64, now: Moment) -> Result<Drawn, Refusal>
-        ensures { MadeBy T.view self.old self.new (Lone.Obey (Inc delta)) now result }
+        ensures { MadeBy K.means T.view self.old self.new (Lone.Obey (Inc delta)) now result }
     {
         self.bar.inc(delta, now)
     }
 
     /// A call with a text.
     pub fn tell_text(&mut self, told: Worded, text: &str, now: Moment) -> Result<Drawn, Refusal>
-        ensures { MadeBy T.view self.old self.new (worded told text.now) now result }
+        ensures { MadeBy K.means T.view self.old self.new (worded told text.now) now result }
     {
         tell_lone(&mut self.bar, told, text, now)
     }
@@ -80,7 +78,7 @@ impl<T: TermLike + Drop> Single<T> {
     ) -> Result<Drawn, Refusal>
         requires { F.IsAlwaysCallable f }
         ensures { (change : Changed) × FnOnceReturnsAt F.FnOnce f (record_of self.old).progress change
-            × MadeBy T.view self.old self.new (Lone.Obey (Update change.pos change.len)) now result }
+            × MadeBy K.means T.view self.old self.new (Lone.Obey (Update change.pos change.len)) now result }
     {
         self.bar.update(f, now)
     }
@@ -89,7 +87,7 @@ impl<T: TermLike + Drop> Single<T> {
     pub fn suspend<F: FnOnce() -> A, A>(&mut self, now: Moment, f: F) -> (A, Result<Drawn, Refusal>)
         requires { F.pre f }
         ensures value { F.post f result.0 }
-        ensures suspended { SuspendedBy T.view self.old self.new now result.1 }
+        ensures suspended { SuspendedBy K.means T.view self.old self.new now result.1 }
     {
         self.bar.suspend(now, f)
     }
@@ -97,7 +95,7 @@ impl<T: TermLike + Drop> Single<T> {
     /// A bar that isn't finished is finished by its stored finish.
     pub fn end(&mut self, now: Moment) -> Result<Drawn, Refusal>
         ensures finished { IsTrue (is_finished (record_of self.old).progress) → self.new ≡ self.old }
-        ensures unfinished { IsFalse (is_finished (record_of self.old).progress) → MadeBy T.view self.old self.new (Lone.Obey FinishUsingStyle) now result }
+        ensures unfinished { IsFalse (is_finished (record_of self.old).progress) → MadeBy K.means T.view self.old self.new (Lone.Obey FinishUsingStyle) now result }
     {
         if self.bar.bar().state().is_finished() {
             return Ok(Drawn::Limited);
@@ -114,7 +112,7 @@ impl<T: TermLike + Drop> Single<T> {
     }
 
     /// The lone bar.
-    pub fn lone(&self) -> &LoneBar<NoTracker, T>
+    pub fn lone(&self) -> &LoneBar<K, T>
         ensures { result.now ≡ self.now }
     {
         &self.bar
@@ -122,14 +120,14 @@ impl<T: TermLike + Drop> Single<T> {
 }
 
 /// A call of a lone bar with a text.
-fn tell_lone<T: TermLike + Drop>(
-    bar: &mut LoneBar<NoTracker, T>,
+fn tell_lone<K: Tracks, T: TermLike + Drop>(
+    bar: &mut LoneBar<K, T>,
     told: Worded,
     text: &str,
     now: Moment,
 ) -> Result<Drawn, Refusal>
-    ensures done { CallDone writes_nothing bar.old bar.new (worded told text.now) now result }
-    ensures leads { LoneLeadsBy writes_nothing T.view bar.old bar.new (worded told text.now) now result }
+    ensures done { CallDone K.means bar.old bar.new (worded told text.now) now result }
+    ensures leads { LoneLeadsBy K.means T.view bar.old bar.new (worded told text.now) now result }
 {
     match told {
         Worded::Log => bar.println(text, now),

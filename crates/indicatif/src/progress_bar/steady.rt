@@ -7,6 +7,7 @@ ghost use Rattle.indicatif.specs.Fronts.{CanAnswer};
 use crate::progress_bar::ProgressBar;
 use crate::progress_bar::held::Locked;
 use indicatif_bar::state::BarCommand;
+use indicatif_bar::style::Tracks;
 use indicatif_term::term_like::TermLike;
 use indicatif_text::columns::{Clock, Refusal};
 use std::sync::{Arc, Wait};
@@ -16,9 +17,9 @@ use std::{thread, time};
 
 /// Ticks until this ticker is no longer the installed one, or the bar is finished or has no owner. Between two ticks it waits the
 /// whole interval: what wakes it earlier without ending it, as the end of another ticker, makes it wait on.
-fn run_ticker<T: TermLike + Drop, C: Clock + Drop, R: Wait + time::Clock>(
+fn run_ticker<K: Tracks, T: TermLike + Drop, C: Clock + Drop, R: Wait + time::Clock>(
     rt: &R,
-    cell: &Locked<T, C>,
+    cell: &Locked<K, T, C>,
     number: u64,
     interval: Duration,
 ) {
@@ -39,7 +40,8 @@ impl<
     T: TermLike + Drop + Send + 'static,
     C: Clock + Drop + Send + 'static,
     R: Wait + Threads + time::Clock + Clone + Drop + Send + 'static,
-> ProgressBar<T, C, R> {
+    K: Tracks + Send + 'static,
+> ProgressBar<T, C, R, K> {
     /// A thread ticks the bar from now on, at once and then each `nanos` nanoseconds, in the place of any ticker that the bar had;
     /// other ticks do nothing meanwhile. An interval of 0 changes nothing.
     ///
@@ -56,7 +58,7 @@ impl<
     #[tactic(auto, using(crate::proofs::FrontLemmas::place_answers))]
     pub fn enable_steady_tick(&self, nanos: u64) -> Result<(), Refusal>
         ensures idle { nanos ≡ 0 → IsTrue (is_ok result) }
-        ensures refused { IfErr result (λ e. (e ≡ Refusal.Memory) ⊎ CanAnswer T.view (Lone.Obey (SetTicker true)) (Err e)) }
+        ensures refused { IfErr result (λ e. (e ≡ Refusal.Memory) ⊎ CanAnswer K.means T.view (Lone.Obey (SetTicker true)) (Err e)) }
     {
         if nanos == 0 {
             return Ok(());

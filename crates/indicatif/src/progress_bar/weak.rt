@@ -1,6 +1,7 @@
 //! A shared bar without an owner.
 use crate::progress_bar::ProgressBar;
 use crate::progress_bar::held::Locked;
+use indicatif_bar::style::{NoTracker, Tracks};
 use indicatif_term::term_like::TermLike;
 use indicatif_text::columns::Clock;
 use std::alloc::{AllocError, Global};
@@ -17,26 +18,36 @@ use std::sync::{Arc, Wait};
 /// }
 /// ```
 #[derive(Drop)]
-pub struct WeakProgressBar<T: TermLike + Drop, C: Clock + Drop, R: Wait + Clone + Drop> {
-    of: Option<Known<T, C, R>>,
+pub struct WeakProgressBar<
+    T: TermLike + Drop,
+    C: Clock + Drop,
+    R: Wait + Clone + Drop,
+    K: Tracks = NoTracker,
+> {
+    of: Option<Known<T, C, R, K>>,
 }
 
 /// A bar that was known.
 #[derive(Drop)]
-struct Known<T: TermLike + Drop, C: Clock + Drop, R: Wait + Clone + Drop> {
-    state: Arc<Locked<T, C>, Global>,
+struct Known<T: TermLike + Drop, C: Clock + Drop, R: Wait + Clone + Drop, K: Tracks> {
+    state: Arc<Locked<K, T, C>, Global>,
     alloc: Global,
     rt: R,
 }
 
-impl<T: TermLike + Drop, C: Clock + Drop, R: Wait + Clone + Drop> WeakProgressBar<T, C, R> {
+impl<T: TermLike + Drop, C: Clock + Drop, R: Wait + Clone + Drop, K: Tracks> WeakProgressBar<
+    T,
+    C,
+    R,
+    K,
+> {
     /// Of no bar: it is never one again.
-    pub fn new() -> WeakProgressBar<T, C, R> {
+    pub fn new() -> WeakProgressBar<T, C, R, K> {
         WeakProgressBar { of: None }
     }
 
     /// Of this bar.
-    pub(crate) fn of(state: Arc<Locked<T, C>, Global>, alloc: Global, rt: R) -> Self {
+    pub(crate) fn of(state: Arc<Locked<K, T, C>, Global>, alloc: Global, rt: R) -> Self {
         WeakProgressBar {
             of: Some(Known { state, alloc, rt }),
         }
@@ -45,7 +56,7 @@ impl<T: TermLike + Drop, C: Clock + Drop, R: Wait + Clone + Drop> WeakProgressBa
     /// One owner more, exactly where the count of owners is above 0 and below 2^64 - 1.
     ///
     /// Refused: want of memory; nothing has changed then.
-    pub fn upgrade(&self) -> Result<Option<ProgressBar<T, C, R>>, AllocError> {
+    pub fn upgrade(&self) -> Result<Option<ProgressBar<T, C, R, K>>, AllocError> {
         let Some(known) = &self.of else {
             return Ok(None);
         };
@@ -63,16 +74,16 @@ impl<T: TermLike + Drop, C: Clock + Drop, R: Wait + Clone + Drop> WeakProgressBa
     }
 }
 
-impl<T: TermLike + Drop, C: Clock + Drop, R: Wait + Clone + Drop> Default
-    for WeakProgressBar<T, C, R> {
-    fn default() -> WeakProgressBar<T, C, R> {
+impl<T: TermLike + Drop, C: Clock + Drop, R: Wait + Clone + Drop, K: Tracks> Default
+    for WeakProgressBar<T, C, R, K> {
+    fn default() -> WeakProgressBar<T, C, R, K> {
         WeakProgressBar::new()
     }
 }
 
-impl<T: TermLike + Drop, C: Clock + Drop, R: Wait + Clone + Drop> Clone
-    for WeakProgressBar<T, C, R> {
-    fn clone(&self) -> Result<WeakProgressBar<T, C, R>, AllocError> {
+impl<T: TermLike + Drop, C: Clock + Drop, R: Wait + Clone + Drop, K: Tracks> Clone
+    for WeakProgressBar<T, C, R, K> {
+    fn clone(&self) -> Result<WeakProgressBar<T, C, R, K>, AllocError> {
         match &self.of {
             None => Ok(WeakProgressBar::new()),
             Some(known) => Ok(WeakProgressBar::of(
@@ -84,8 +95,8 @@ impl<T: TermLike + Drop, C: Clock + Drop, R: Wait + Clone + Drop> Clone
     }
 }
 
-impl<T: TermLike + Drop, C: Clock + Drop, R: Wait + Clone + Drop> Debug
-    for WeakProgressBar<T, C, R> {
+impl<T: TermLike + Drop, C: Clock + Drop, R: Wait + Clone + Drop, K: Tracks> Debug
+    for WeakProgressBar<T, C, R, K> {
     fn fmt<W: fmt::Write>(&self, f: &mut Formatter<W>) -> fmt::Result {
         f.write_str("WeakProgressBar")
     }

@@ -6,7 +6,6 @@ ghost use Rattle.indicatif.specs.Fronts.{on_board};
 ghost use Rattle.indicatif.specs.Inside.Worded.{worded};
 
 use indicatif_bar::state::{BarCommand, ProgressFinish};
-use indicatif_bar::style::NoTracker;
 use indicatif_board::multi::{BarId, Call};
 
 /// What a bar is told with a text.
@@ -30,7 +29,7 @@ pub enum Worded {
 
 impl Worded {
     /// The call of the board.
-    pub fn call(self, id: BarId, text: String) -> Call<NoTracker>
+    pub fn call<K>(self, id: BarId, text: String) -> Call<K>
         ensures { call_of result ≡ on_board (id_of id) (worded self (string_bytes text)) }
     {
         match self {

@@ -9,23 +9,26 @@ use crate::progress_bar::ProgressBar;
 use crate::progress_bar::worded::Worded;
 use crate::wrap::ProgressBarIter;
 use indicatif_bar::state::{BarCommand, ProgressFinish};
-use indicatif_bar::style::{NoTracker, ProgressStyle};
+use indicatif_bar::style::{ProgressStyle, Tracks};
 use indicatif_term::term_like::TermLike;
 use indicatif_text::columns::{Clock, Refusal};
 use std::sync::Wait;
 
 /// Each of these is a call of the bar, which all its owners see, asks no draw, and leaves `last_draw` as it is. One that is refused
 /// gives up what it was called on, so lend it what has to be kept.
-impl<I: Drop, W: TermLike + Drop, C: Clock + Drop, R: Wait + Clone + Drop> ProgressBarIter<
-    I,
-    ProgressBar<W, C, R>,
-> {
+impl<
+    I: Drop,
+    W: TermLike + Drop,
+    C: Clock + Drop,
+    R: Wait + Clone + Drop,
+    K: Tracks,
+> ProgressBarIter<I, ProgressBar<W, C, R, K>> {
     /// Another position of the bar, which the rate doesn't count.
     ///
     /// Refused: on a board alone, as each command there.
     pub fn with_position(self, position: u64) -> Result<Self, Refusal>
         ensures itself { IfOk result (λ wrapped. wrapped ≡ self) }
-        ensures refused { IfErr result (λ e. CanAnswer W.view (Lone.Obey (PutPosition position)) (Err e)) }
+        ensures refused { IfErr result (λ e. CanAnswer K.means W.view (Lone.Obey (PutPosition position)) (Err e)) }
     {
         match self.progress.tell(BarCommand::WithPosition(position)) {
             Ok(_) => Ok(self),
@@ -38,7 +41,7 @@ impl<I: Drop, W: TermLike + Drop, C: Clock + Drop, R: Wait + Clone + Drop> Progr
     /// Refused: on a board alone, as each command there.
     pub fn with_finish(self, finish: ProgressFinish) -> Result<Self, Refusal>
         ensures itself { IfOk result (λ wrapped. wrapped ≡ self) }
-        ensures refused { IfErr result (λ e. CanAnswer W.view (Lone.Obey (PutFinish (finish_of finish))) (Err e)) }
+        ensures refused { IfErr result (λ e. CanAnswer K.means W.view (Lone.Obey (PutFinish (finish_of finish))) (Err e)) }
     {
         match self.progress.tell(BarCommand::WithFinish(finish)) {
             Ok(_) => Ok(self),
@@ -49,9 +52,9 @@ impl<I: Drop, W: TermLike + Drop, C: Clock + Drop, R: Wait + Clone + Drop> Progr
     /// Another style of the bar.
     ///
     /// Refused: `Memory`; on a board as each command there.
-    pub fn with_style(self, style: ProgressStyle<NoTracker>) -> Result<Self, Refusal>
+    pub fn with_style(self, style: ProgressStyle<K>) -> Result<Self, Refusal>
         ensures itself { IfOk result (λ wrapped. wrapped ≡ self) }
-        ensures refused { IfErr result (λ e. CanAnswer W.view (Lone.Obey (SetStyle style)) (Err e)) }
+        ensures refused { IfErr result (λ e. CanAnswer K.means W.view (Lone.Obey (SetStyle style)) (Err e)) }
     {
         match self.progress.set_style(style) {
             Ok(_) => Ok(self),
@@ -64,7 +67,7 @@ impl<I: Drop, W: TermLike + Drop, C: Clock + Drop, R: Wait + Clone + Drop> Progr
     /// Refused: `Memory`; on a board as each command there.
     pub fn with_prefix(self, text: &str) -> Result<Self, Refusal>
         ensures itself { IfOk result (λ wrapped. wrapped ≡ self) }
-        ensures refused { IfErr result (λ e. CanAnswer W.view (Lone.Obey (PutPrefix text.now)) (Err e)) }
+        ensures refused { IfErr result (λ e. CanAnswer K.means W.view (Lone.Obey (PutPrefix text.now)) (Err e)) }
     {
         match self.progress.tell_text(Worded::PutPrefix, text) {
             Ok(_) => Ok(self),
@@ -77,7 +80,7 @@ impl<I: Drop, W: TermLike + Drop, C: Clock + Drop, R: Wait + Clone + Drop> Progr
     /// Refused: `Memory`; on a board as each command there.
     pub fn with_message(self, text: &str) -> Result<Self, Refusal>
         ensures itself { IfOk result (λ wrapped. wrapped ≡ self) }
-        ensures refused { IfErr result (λ e. CanAnswer W.view (Lone.Obey (PutMessage text.now)) (Err e)) }
+        ensures refused { IfErr result (λ e. CanAnswer K.means W.view (Lone.Obey (PutMessage text.now)) (Err e)) }
     {
         match self.progress.tell_text(Worded::PutMessage, text) {
             Ok(_) => Ok(self),
@@ -90,7 +93,7 @@ impl<I: Drop, W: TermLike + Drop, C: Clock + Drop, R: Wait + Clone + Drop> Progr
     /// Refused: `ElapsedBeyondClock`, where they are more than its clock tells; on a board as each command there.
     pub fn with_elapsed(self, nanos: u64) -> Result<Self, Refusal>
         ensures itself { IfOk result (λ wrapped. wrapped ≡ self) }
-        ensures refused { IfErr result (λ e. CanAnswer W.view (Lone.Obey (SetElapsed nanos)) (Err e)) }
+        ensures refused { IfErr result (λ e. CanAnswer K.means W.view (Lone.Obey (SetElapsed nanos)) (Err e)) }
     {
         match self.progress.set_elapsed(nanos) {
             Ok(_) => Ok(self),

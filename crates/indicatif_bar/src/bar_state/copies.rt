@@ -4,11 +4,11 @@ ghost use Rattle.indicatif_bar.specs.Commands.{command_of};
 
 use crate::bar_state::BarState;
 use crate::command::BarCommand;
-use crate::tracker::ProgressTracker;
+use crate::tracker::Tracks;
 use indicatif_text::columns::Refusal;
 use std::alloc::Global;
 
-impl<K: ProgressTracker> BarState<K> {
+impl<K: Tracks> BarState<K> {
     /// Another bar, equal to this one: what is said to either from now on is not said to the other.
     ///
     /// ```
@@ -31,7 +31,7 @@ impl<K: ProgressTracker> BarState<K> {
     }
 }
 
-impl<K: ProgressTracker> BarCommand<K> {
+impl<K: Tracks> BarCommand<K> {
     /// Another command, equal to this one.
     ///
     /// ```

@@ -17,7 +17,7 @@ use crate::spare::SpareLines;
 use crate::style::clusters;
 use crate::style::steps::steps_of;
 use crate::style::texts::Texts;
-use crate::tracker::ProgressTracker;
+use crate::tracker::Tracks;
 use indicatif_term::draw_target::LineType;
 use indicatif_text::columns::{Moment, Refusal};
 use indicatif_text::template::Template;
@@ -36,7 +36,7 @@ const TICK_STRINGS: [&str; 30] = [
     "⠖", "⠒", "⠐", "⠐", "⠒", "⠓", "⠋", "⠉", "⠈", "⠈", " ",
 ];
 
-impl<K: ProgressTracker> ProgressStyle<K> {
+impl<K: Tracks> ProgressStyle<K> {
     /// A style of this template, with the characters `█░` for a bar, a spinner of dots, no trackers, colours off, and eight
     /// spaces for a tab.
     ///
@@ -249,7 +249,7 @@ fn parsed(alloc: Global, text: &str) -> Result<Template, Refusal>
 }
 
 /// Trackers equal to these, under the same names.
-fn cloned_keys<K: ProgressTracker>(
+fn cloned_keys<K: Tracks>(
     alloc: Global,
     keys: &[(String, K)],
 ) -> Result<Vec<(String, K)>, Refusal>
@@ -264,10 +264,10 @@ fn cloned_keys<K: ProgressTracker>(
 }
 
 /// An equal tracker, under the same name.
-fn cloned_key<K: ProgressTracker>(alloc: Global, key: &(String, K)) -> Result<(String, K), Refusal>
+fn cloned_key<K: Tracks>(alloc: Global, key: &(String, K)) -> Result<(String, K), Refusal>
     ensures key { IfOk result (λ made. (string_bytes made.0 ≡ string_bytes key.now.0) × (made.1 ≡ key.now.1)) }
     ensures memory { IfErr result (λ e. e ≡ Refusal.Memory) }
 {
     let name = String::from_str(alloc, key.0.as_str())?;
-    Ok((name, key.1.try_clone()?))
+    Ok((name, key.1.track_clone()?))
 }

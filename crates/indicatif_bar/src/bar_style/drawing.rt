@@ -24,13 +24,13 @@ use crate::style::keys::Key;
 use crate::style::padding::{AtWidth, push_padded};
 use crate::style::steps::{Placeholder, Source, Step, WideKey, literal_at};
 use crate::tabs::push_expanded;
-use crate::tracker::ProgressTracker;
+use crate::tracker::Tracks;
 use indicatif_term::draw_target::LineType;
 use indicatif_text::columns::{Moment, Refusal};
 use indicatif_text::template::Alignment;
 use std::mem::replace;
 
-impl<K: ProgressTracker> ProgressStyle<K> {
+impl<K: Tracks> ProgressStyle<K> {
     /// Appends a bar of so many columns, as a placeholder asks for it.
     fn push_bar(
         &self,
@@ -131,7 +131,7 @@ impl<K: ProgressTracker> ProgressStyle<K> {
         ensures memory { IfErr result (λ e. e ≡ Refusal.Memory) }
     {
         let mut text = spare.text();
-        tracker.write(state, now, &mut text)?;
+        tracker.track_text(state, now, &mut text)?;
         push_expanded(text.as_str(), self.tab, out)?;
         spare.keep_text(text);
         Ok(())

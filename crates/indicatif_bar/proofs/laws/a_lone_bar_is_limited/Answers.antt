@@ -5,13 +5,13 @@ use Rattle.indicatif_bar.proofs.BoundLemmas.{runs_bounded, runs_bounded_from, lo
 use Rattle.indicatif_bar.proofs.laws.a_lone_bar_is_limited.Goals as goal
 
 pub returns-clause-asks : goal.returns-clause-asks
-returns-clause-asks g c = lone_limited (bar_kind g.K.ProgressTracker.means)
+returns-clause-asks g c = lone_limited (bar_kind g.K.Tracks.means)
 
 pub returns-clause-bounded : goal.returns-clause-bounded
-returns-clause-bounded g c = runs_bounded (lone_bar g.K.ProgressTracker.means) (λ s. s.limiter) (lone_limited (bar_kind g.K.ProgressTracker.means))
+returns-clause-bounded g c = runs_bounded (lone_bar g.K.Tracks.means) (λ s. s.limiter) (lone_limited (bar_kind g.K.Tracks.means))
 
 pub returns-clause-joins : goal.returns-clause-joins
-returns-clause-joins g c = runs_bounded_from (lone_bar g.K.ProgressTracker.means) (λ s. s.limiter) (lone_limited (bar_kind g.K.ProgressTracker.means))
+returns-clause-joins g c = runs_bounded_from (lone_bar g.K.Tracks.means) (λ s. s.limiter) (lone_limited (bar_kind g.K.Tracks.means))
 
 pub returns-clause-free : goal.returns-clause-free
-returns-clause-free g c = λ target call now s none. allowed_without (asks (bar_kind g.K.ProgressTracker.means) call now s.bar) now s.limiter none
+returns-clause-free g c = λ target call now s none. allowed_without (asks (bar_kind g.K.Tracks.means) call now s.bar) now s.limiter none

@@ -18,7 +18,7 @@ returns-in-Remove-clause-back g c = λ mark s other inside.
 
 pub returns-in-Log-clause-leads : goal.returns-in-Log-clause-leads
 returns-in-Log-clause-leads g c = rw (c.in-Log.is, c.draw_answer-in-Log.ensures)
-    (subst (λ t. LeadsBy g.K.ProgressTracker.means g.T.TermLike.view c.args.board.now c.println.new.self (Log t) c.args.now (says c.println.result)) c.as_str.ensures.value c.println.ensures.leads)
+    (subst (λ t. LeadsBy g.K.Tracks.means g.T.TermLike.view c.args.board.now c.println.new.self (Log t) c.args.now (says c.println.result)) c.as_str.ensures.value c.println.ensures.leads)
 
 pub returns-in-Clear-clause-leads : goal.returns-in-Clear-clause-leads
 returns-in-Clear-clause-leads g c = rw (c.in-Clear.is, c.draw_answer-in-Clear.ensures) c.clear.ensures.leads

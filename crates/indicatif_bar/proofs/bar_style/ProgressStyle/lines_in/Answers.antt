@@ -11,7 +11,7 @@ use Rattle.indicatif_bar.proofs.bar_style.ProgressStyle.lines_in.Goals as goal
 
 pub returns-then-is_empty-clause-lines : goal.returns-then-is_empty-clause-lines
 returns-then-is_empty-clause-lines g c =
-    let m = g.K.ProgressTracker.means in
+    let m = g.K.Tracks.means in
     let style = c.args.self.now in
     let state = c.args.state.now in
     let items = c.self.inside.steps.items in
@@ -33,7 +33,7 @@ returns-then-is_empty-clause-lines g c =
 
 pub returns-clause-lines : goal.returns-clause-lines
 returns-clause-lines g c =
-    let m = g.K.ProgressTracker.means in
+    let m = g.K.Tracks.means in
     let style = c.args.self.now in
     let state = c.args.state.now in
     let items = c.self.inside.steps.items in

@@ -11,8 +11,8 @@ use Rattle.indicatif_bar.proofs.bar_style.ProgressStyle.lines_in.Given as goal
 abbrev pub invariant-loop-step : goal.invariant-loop-step
 invariant-loop-step g l = record {
   texts :
-      map line_text l.lines.items ++ lines_from g.K.ProgressTracker.means l.self l.state l.now l.width (option_map wide_found l.line.wide) (string_bytes l.line.text)
+      map line_text l.lines.items ++ lines_from g.K.Tracks.means l.self l.state l.now l.width (option_map wide_found l.line.wide) (string_bytes l.line.text)
       (map (effect_of (map part_of l.parts)) (drop l.step-index l.step-items))
-      ≡ lines_from g.K.ProgressTracker.means l.self l.state l.now l.width None [] (map (effect_of (map part_of l.parts)) l.step-items);
+      ≡ lines_from g.K.Tracks.means l.self l.state l.now l.width None [] (map (effect_of (map part_of l.parts)) l.step-items);
   kind : IsTrue (list_all is_bar_line l.lines.items);
 }

@@ -15,9 +15,9 @@ returns-then-some-clause-text g c =
     let numbers = numbers_of c.text_style-style.result in
     let colours = c.self.inside.colours in
     let text = option_map_or (λ width. padded
-    (source_text g.K.ProgressTracker.means c.args.self.now c.args.state.now c.args.now (placeholder_layout placeholder) placeholder.source) width placeholder.align
+    (source_text g.K.Tracks.means c.args.self.now c.args.state.now c.args.now (placeholder_layout placeholder) placeholder.source) width placeholder.align
     placeholder.truncate) placeholder.width
-    (source_text g.K.ProgressTracker.means c.args.self.now c.args.state.now c.args.now (placeholder_layout placeholder) placeholder.source) in
+    (source_text g.K.Tracks.means c.args.self.now c.args.state.now c.args.now (placeholder_layout placeholder) placeholder.source) in
     grown_three _ _ _ _ (opening_of colours numbers) text (sequence_of 0) c.in_ok-some.ensures.bytes c.in_ok-push_sized.ensures.text
     (c.in_ok-push_str.ensures.bytes ∙ ap (λ t. string_bytes c.push_sized.new.out ++ t) last_sequence)
     ∙ ap (λ t. old ++ t) (sym (styled_opened colours numbers text (sym c.in_ok-some.ensures.some ∙ c.if-some.true)))

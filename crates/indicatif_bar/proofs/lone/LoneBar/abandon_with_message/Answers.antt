@@ -8,7 +8,7 @@ pub returns : goal.returns
 returns g c =
     c.obey_unless.ensures.obeys c.args.self.now (FinishBy (AbandonWithMessage c.args.text.now))
     (record {
-      as_told = told_with_memory g.K.ProgressTracker.means c.args.self.now.shown.bar c.abandon_with_message-asked.new.self c.args.now
+      as_told = told_with_memory g.K.Tracks.means c.args.self.now.shown.bar c.abandon_with_message-asked.new.self c.args.now
           (FinishBy (AbandonWithMessage c.args.text.now)) c.abandon_with_message-asked.result refl c.abandon_with_message-asked.ensures.done c.abandon_with_message-asked.ensures.unchanged
           c.abandon_with_message-asked.ensures.memory;
       rest = refl;

@@ -10,14 +10,14 @@ returns-in-Bar g c =
     let x = c.apply-asked in
     let o = c.obey_unless.ensures.obeys c.args.self.now (command_of c.in-Bar.command)
     (record {
-      as_told = told_as_value g.K.ProgressTracker.means c.args.self.now.shown.bar x.new.self c.args.now
+      as_told = told_as_value g.K.Tracks.means c.args.self.now.shown.bar x.new.self c.args.now
           (command_of c.in-Bar.command) x.result x.ensures.done x.ensures.unchanged x.ensures.beyond x.ensures.memory x.ensures.no_other;
       rest = refl;
     }) in
     record { bar = rw c.in-Bar.is o.bar; silent = o.silent; nowhere = o.nowhere; leads = rw c.in-Bar.is o.leads }
 
 pub returns-in-Log-clause-leads : goal.returns-in-Log-clause-leads
-returns-in-Log-clause-leads g c = rw c.in-Log.is (subst (λ t. LoneLeadsBy g.K.ProgressTracker.means g.T.TermLike.view c.args.self.now c.println.new.self (Log t) c.args.now c.println.result)
+returns-in-Log-clause-leads g c = rw c.in-Log.is (subst (λ t. LoneLeadsBy g.K.Tracks.means g.T.TermLike.view c.args.self.now c.println.new.self (Log t) c.args.now c.println.result)
     c.as_str.ensures.value c.println.ensures.leads)
 
 pub returns-in-Clear-clause-leads : goal.returns-in-Clear-clause-leads

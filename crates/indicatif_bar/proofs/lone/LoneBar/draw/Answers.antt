@@ -15,8 +15,8 @@ pub returns-then-is_no-clause-drew : goal.returns-then-is_no-clause-drew
 unfolding LoneIsIn
 returns-then-is_no-clause-drew g c = λ takes s inside.
     let old = lone_known g.T.TermLike.view c.args.self.now in
-    let d = draw_asked (bar_kind g.K.ProgressTracker.means) (target_of old) takes c.args.ask c.args.now (writing_as c.args.writing) s in
-    (s, inside, drew_none (lone (bar_kind g.K.ProgressTracker.means)) old d s.lists (Ok Limited) s refl refl (outcome-unasked (target_of old) d (sym c.is_no.ensures ∙ c.if-is_no.true)))
+    let d = draw_asked (bar_kind g.K.Tracks.means) (target_of old) takes c.args.ask c.args.now (writing_as c.args.writing) s in
+    (s, inside, drew_none (lone (bar_kind g.K.Tracks.means)) old d s.lists (Ok Limited) s refl refl (outcome-unasked (target_of old) d (sym c.is_no.ensures ∙ c.if-is_no.true)))
 
 pub returns-in-Some-clause-drew : goal.returns-in-Some-clause-drew
 unfolding LoneIsIn
@@ -27,8 +27,8 @@ returns-in-Some-clause-drew g c = λ takes s inside.
     let d = c.draw_on.ensures.drew takes s (sym c.is_no.ensures ∙ c.if-is_no.false) inside.0 fit in (
       d.next,
       (d.holds, d.fits),
-      subst (λ o. DrewOn (lone (bar_kind g.K.ProgressTracker.means)) o (Some (view (engine_term c.draw_on.new.engine)))
-          (draw_asked (bar_kind g.K.ProgressTracker.means) (target_of o) takes c.args.ask c.args.now (writing_as c.args.writing) s) s.lists c.draw_on.result d.next) (sym known_is)
+      subst (λ o. DrewOn (lone (bar_kind g.K.Tracks.means)) o (Some (view (engine_term c.draw_on.new.engine)))
+          (draw_asked (bar_kind g.K.Tracks.means) (target_of o) takes c.args.ask c.args.now (writing_as c.args.writing) s) s.lists c.draw_on.result d.next) (sym known_is)
           (record { leads = d.leads; writes = (view (engine_term c.draw_on.new.engine), refl, d.writes) }),
     )
 
@@ -37,10 +37,10 @@ unfolding LoneIsIn
 returns-in-None-clause-drew g c = λ takes s inside.
     let view = g.T.TermLike.view in
     let known_is = ap (λ o. option_map view (option_map engine_term o)) c.in-None.is in
-    let d = draw_asked (bar_kind g.K.ProgressTracker.means) (target_of None) takes c.args.ask c.args.now (writing_as c.args.writing) s in (
+    let d = draw_asked (bar_kind g.K.Tracks.means) (target_of None) takes c.args.ask c.args.now (writing_as c.args.writing) s in (
       s,
       (inside.0, subst (λ o. MatchOption o (Unit {0}) (λ e. Fits e s.lists)) (sym c.in-None.is) tt),
-      subst (λ o. DrewOn (lone (bar_kind g.K.ProgressTracker.means)) o o
-          (draw_asked (bar_kind g.K.ProgressTracker.means) (target_of o) takes c.args.ask c.args.now (writing_as c.args.writing) s) s.lists (Ok Hidden) s) (sym known_is)
-          (drew_none (lone (bar_kind g.K.ProgressTracker.means)) None d s.lists (Ok Hidden) s refl refl (outcome-hidden (target_of None) d (sym c.is_no.ensures ∙ c.if-is_no.false) refl)),
+      subst (λ o. DrewOn (lone (bar_kind g.K.Tracks.means)) o o
+          (draw_asked (bar_kind g.K.Tracks.means) (target_of o) takes c.args.ask c.args.now (writing_as c.args.writing) s) s.lists (Ok Hidden) s) (sym known_is)
+          (drew_none (lone (bar_kind g.K.Tracks.means)) None d s.lists (Ok Hidden) s refl refl (outcome-hidden (target_of None) d (sym c.is_no.ensures ∙ c.if-is_no.false) refl)),
     )

@@ -8,7 +8,7 @@ pub returns : goal.returns
 returns g c =
     c.obey_unless.ensures.obeys c.args.self.now (FinishBy (WithMessage c.args.text.now))
     (record {
-      as_told = told_with_memory g.K.ProgressTracker.means c.args.self.now.shown.bar c.finish_with_message-asked.new.self c.args.now
+      as_told = told_with_memory g.K.Tracks.means c.args.self.now.shown.bar c.finish_with_message-asked.new.self c.args.now
           (FinishBy (WithMessage c.args.text.now)) c.finish_with_message-asked.result refl c.finish_with_message-asked.ensures.done c.finish_with_message-asked.ensures.unchanged
           c.finish_with_message-asked.ensures.memory;
       rest = refl;

@@ -17,7 +17,7 @@ use Rattle.indicatif_bar.proofs.lone.LoneBar.run.Goals as goal
 
 pub returns-then-is_empty-clause-run : goal.returns-then-is_empty-clause-run
 returns-then-is_empty-clause-run g c = λ s inside.
-    let machine = lone_bar g.K.ProgressTracker.means in
+    let machine = lone_bar g.K.Tracks.means in
     let old = option_map g.T.TermLike.view (lone_terminal c.args.self.now) in
     let none = nothing c.args.calls.items (omega (arith, eqb-true (vec_len c.args.calls) 0 (sym c.is_empty.ensures ∙ c.if-is_empty.true), c.args.calls.ok)) in
     let run = subst (λ xs. Runs machine (map lone_timed xs) c.new.result.items old s old s) (sym none)
@@ -31,10 +31,10 @@ loop-call-init g c = record {
   ran = λ s inside. (
     s,
     inside,
-    subst (λ xs. Runs (lone_bar g.K.ProgressTracker.means) [] xs (option_map g.T.TermLike.view (lone_terminal c.args.self.now)) s
+    subst (λ xs. Runs (lone_bar g.K.Tracks.means) [] xs (option_map g.T.TermLike.view (lone_terminal c.args.self.now)) s
         (option_map g.T.TermLike.view (lone_terminal c.args.self.now)) s) (sym c.in_ok-answers.ensures.items) (refl, refl),
   );
-  went = let bar = record_of c.args.self.now in subst (λ xs. RecordsGo g.K.ProgressTracker.means [] xs bar bar) (sym c.in_ok-answers.ensures.items) refl;
+  went = let bar = record_of c.args.self.now in subst (λ xs. RecordsGo g.K.Tracks.means [] xs bar bar) (sym c.in_ok-answers.ensures.items) refl;
   silent = λ quiet. refl;
   nowhere = λ none. rw c.in_ok-answers.ensures.items refl;
 }
@@ -56,14 +56,14 @@ loop-call-preserved g c = record {
         made.0,
         made.1,
         rw (c.push_reserved.ensures.items, map-append)
-            (runs-push (lone_bar g.K.ProgressTracker.means) _ _
+            (runs-push (lone_bar g.K.Tracks.means) _ _
             (option_map g.T.TermLike.view (lone_terminal c.args.self.now)) s (option_map g.T.TermLike.view (lone_terminal c.loop-call.self)) before.0
             (option_map g.T.TermLike.view (lone_terminal c.call-answer.new.self)) made.0 (lone_timed (c.in-Some.call, c.in-Some.now)) c.call-answer.result before.2 made.2),
       );
   went =
-      let made = goes_by g.K.ProgressTracker.means c.loop-call.self c.call-answer.new.self (lone_call_of c.in-Some.call) c.in-Some.now c.call-answer.result c.call-answer.ensures.bar in
+      let made = goes_by g.K.Tracks.means c.loop-call.self c.call-answer.new.self (lone_call_of c.in-Some.call) c.in-Some.now c.call-answer.result c.call-answer.ensures.bar in
       rw (c.push_reserved.ensures.items, map-append)
-      (goes-push g.K.ProgressTracker.means _ _ (record_of c.args.self.now) (record_of c.loop-call.self) (record_of c.call-answer.new.self) (lone_timed (c.in-Some.call, c.in-Some.now))
+      (goes-push g.K.Tracks.means _ _ (record_of c.args.self.now) (record_of c.loop-call.self) (record_of c.call-answer.new.self) (lone_timed (c.in-Some.call, c.in-Some.now))
       c.call-answer.result c.loop-call.invariant.went made);
   silent = λ quiet.
       let parts = or_parts (list_any wrote c.loop-call.answers.items) (wrote c.call-answer.result)
@@ -84,12 +84,12 @@ returns-clause-run g c =
     let old = option_map g.T.TermLike.view (lone_terminal c.args.self.now) in
     let new = option_map g.T.TermLike.view (lone_terminal c.loop-call.self) in
     let all = c.loop-call.invariant.ran s inside in
-    let run = subst (λ xs. Runs (lone_bar g.K.ProgressTracker.means) (map lone_timed xs) c.loop-call.answers.items old s new all.0) (sym (map-id c.loop-call.yielded) ∙ t.0) all.2 in
-    (all.0, all.1, run, headline (lone_bar g.K.ProgressTracker.means) (map lone_timed c.args.calls.items) c.loop-call.answers.items old s new all.0 run)
+    let run = subst (λ xs. Runs (lone_bar g.K.Tracks.means) (map lone_timed xs) c.loop-call.answers.items old s new all.0) (sym (map-id c.loop-call.yielded) ∙ t.0) all.2 in
+    (all.0, all.1, run, headline (lone_bar g.K.Tracks.means) (map lone_timed c.args.calls.items) c.loop-call.answers.items old s new all.0 run)
 
 pub returns-clause-ample : goal.returns-clause-ample
 returns-clause-ample g c =
-    let tracks = g.K.ProgressTracker.means in
+    let tracks = g.K.Tracks.means in
     let t = YieldsList-end (YieldsList-from_vec c.args.calls.items c.into_iter-call-iterator.ensures.into_iter_gives.0
     (omega (arith, c.into_iter-call-iterator.ensures.into_iter_gives.1, c.args.calls.ok))) c.loop-call.yielded c.loop-call.call-iterator c.loop-call.yielded_by c.next.result c.next.new.self
     c.in-None.is c.next.ensures.steps in

@@ -13,9 +13,9 @@ invariant-loop-call g l = record {
   counted : vec_len l.answers ≡ length l.yielded;
   room : length l.fn.calls.items ≤ vec_capacity l.answers;
   ran : (s : LoneState (BarRecord g.row.K.Denot)) → LoneIsIn l.fn.self s → (m : LoneState (BarRecord g.row.K.Denot)) × LoneIsIn l.self m ×
-      Runs (lone_bar g.K.ProgressTracker.means) (map lone_timed l.yielded) l.answers.items
+      Runs (lone_bar g.K.Tracks.means) (map lone_timed l.yielded) l.answers.items
       (option_map g.T.TermLike.view (lone_terminal l.fn.self)) s (option_map g.T.TermLike.view (lone_terminal l.self)) m;
-  went : RecordsGo g.K.ProgressTracker.means (map lone_timed l.yielded) l.answers.items (record_of l.fn.self) (record_of l.self);
+  went : RecordsGo g.K.Tracks.means (map lone_timed l.yielded) l.answers.items (record_of l.fn.self) (record_of l.self);
   silent : IsFalse (list_any wrote l.answers.items) → lone_terminal l.self ≡ lone_terminal l.fn.self;
   nowhere : LoneIsNowhere g.T.TermLike.view l.fn.self → IsFalse (list_any wrote l.answers.items);
 }

@@ -7,7 +7,7 @@ pub returns-clause-obeys : goal.returns-clause-obeys
 returns-clause-obeys g c =
     c.obey_unless.ensures.obeys c.args.self.now (SetStyle c.args.style)
     (record {
-      as_told = told_with_memory g.K.ProgressTracker.means c.args.self.now.shown.bar c.set_style-asked.new.self c.args.now
+      as_told = told_with_memory g.K.Tracks.means c.args.self.now.shown.bar c.set_style-asked.new.self c.args.now
           (SetStyle c.args.style) c.set_style-asked.result refl c.set_style-asked.ensures.done c.set_style-asked.ensures.unchanged c.set_style-asked.ensures.memory;
       rest = refl;
     })

@@ -7,7 +7,7 @@ pub returns : goal.returns
 returns g c =
     c.obey_unless.ensures.obeys c.args.self.now (SetTabWidth c.args.tab)
     (record {
-      as_told = told_with_memory g.K.ProgressTracker.means c.args.self.now.shown.bar c.set_tab_width-asked.new.self c.args.now
+      as_told = told_with_memory g.K.Tracks.means c.args.self.now.shown.bar c.set_tab_width-asked.new.self c.args.now
           (SetTabWidth c.args.tab) c.set_tab_width-asked.result refl c.set_tab_width-asked.ensures.done c.set_tab_width-asked.ensures.unchanged c.set_tab_width-asked.ensures.memory;
       rest = refl;
     })

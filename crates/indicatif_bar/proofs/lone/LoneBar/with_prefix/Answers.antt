@@ -7,7 +7,7 @@ pub returns-clause-obeys : goal.returns-clause-obeys
 returns-clause-obeys g c =
     c.obey_unless.ensures.obeys c.args.self.now (PutPrefix c.args.text.now)
     (record {
-      as_told = told_with_memory g.K.ProgressTracker.means c.args.self.now.shown.bar c.with_prefix-asked.new.self c.args.now
+      as_told = told_with_memory g.K.Tracks.means c.args.self.now.shown.bar c.with_prefix-asked.new.self c.args.now
           (PutPrefix c.args.text.now) c.with_prefix-asked.result refl c.with_prefix-asked.ensures.done c.with_prefix-asked.ensures.unchanged c.with_prefix-asked.ensures.memory;
       rest = refl;
     })

@@ -12,7 +12,7 @@ use Rattle.indicatif_board.proofs.multi.Board.bar_println.Goals as goal
 
 pub returns-in_err-at-clause-leads : goal.returns-in_err-at-clause-leads
 returns-in_err-at-clause-leads g c = λ mark s inside.
-    let tracks = g.K.ProgressTracker.means in
+    let tracks = g.K.Tracks.means in
     let old = known g.T.TermLike.view c.args.self.now in
     let id = id_of c.args.id in
     let x = err_from_is_err_and c.from_residual.result c.from_residual.ensures.1 in
@@ -28,7 +28,7 @@ returns-in_err-at-clause-leads g c = λ mark s inside.
 
 pub returns-clause-leads : goal.returns-clause-leads
 returns-clause-leads g c = λ mark s inside.
-    let tracks = g.K.ProgressTracker.means in
+    let tracks = g.K.Tracks.means in
     let old = known g.T.TermLike.view c.args.self.now in
     let id = id_of c.args.id in
     let f = c.in_ok-at.ensures.found mark s inside in

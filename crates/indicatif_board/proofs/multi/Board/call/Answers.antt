@@ -17,7 +17,7 @@ returns-in-Drop-clause-leads g c = rw (c.in-Drop.is, c.draw_answer.ensures) c.dr
 
 pub returns-in-Log-clause-leads : goal.returns-in-Log-clause-leads
 returns-in-Log-clause-leads g c = rw (c.in-Log.is, c.draw_answer-in-Log.ensures)
-    (subst (λ t. LeadsBy g.K.ProgressTracker.means g.T.TermLike.view c.args.self.now c.println.new.self (Log t) c.args.now (says c.println.result)) c.as_str.ensures.value c.println.ensures.leads)
+    (subst (λ t. LeadsBy g.K.Tracks.means g.T.TermLike.view c.args.self.now c.println.new.self (Log t) c.args.now (says c.println.result)) c.as_str.ensures.value c.println.ensures.leads)
 
 pub returns-in-Clear-clause-leads : goal.returns-in-Clear-clause-leads
 returns-in-Clear-clause-leads g c = rw (c.in-Clear.is, c.draw_answer-in-Clear.ensures) c.clear.ensures.leads
@@ -58,7 +58,7 @@ pub returns-in-Bar-clause-records : goal.returns-in-Bar-clause-records
 returns-in-Bar-clause-records g c =
     let said = sym (ap drawn_of c.draw_answer-in-Bar.ensures ∙ drawn_of_said c.command.result) in
     rw c.in-Bar.is (
-      λ own. subst (λ r. RecordObeys g.K.ProgressTracker.means (id_of c.in-Bar.id).number (command_of c.in-Bar.command) c.args.now r c.args.self.now c.command.new.self) said
+      λ own. subst (λ r. RecordObeys g.K.Tracks.means (id_of c.in-Bar.id).number (command_of c.in-Bar.command) c.args.now r c.args.self.now c.command.new.self) said
           (c.command.ensures.«record» own),
       λ foreign number. ap (record_at number) (c.command.ensures.foreign foreign).1,
       c.command.ensures.others,

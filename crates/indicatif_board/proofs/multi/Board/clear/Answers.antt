@@ -9,7 +9,7 @@ use Rattle.indicatif_board.proofs.multi.Board.clear.Goals as goal
 
 pub returns-clause-leads : goal.returns-clause-leads
 returns-clause-leads g c = λ mark s inside.
-    let tracks = g.K.ProgressTracker.means in
+    let tracks = g.K.Tracks.means in
     let old = known g.T.TermLike.view c.args.self.now in
     let d = c.draw.ensures.drew mark false s None inside tt in (
       d.0,

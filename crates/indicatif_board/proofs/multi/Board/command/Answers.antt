@@ -19,7 +19,7 @@ use Rattle.indicatif_board.proofs.multi.Board.command.Goals as goal
 
 pub returns-in_err-at-clause-leads : goal.returns-in_err-at-clause-leads
 returns-in_err-at-clause-leads g c = λ mark s inside.
-    let tracks = g.K.ProgressTracker.means in
+    let tracks = g.K.Tracks.means in
     let old = known g.T.TermLike.view c.args.self.now in
     let id = id_of c.args.id in
     let command = command_of c.args.command in
@@ -37,7 +37,7 @@ returns-in_err-at-clause-leads g c = λ mark s inside.
 pub returns-in_err-ask-clause-leads : goal.returns-in_err-ask-clause-leads
 unfolding IsIn
 returns-in_err-ask-clause-leads g c = λ mark s inside.
-    let tracks = g.K.ProgressTracker.means in
+    let tracks = g.K.Tracks.means in
     let b = c.args.self.now.shown in
     let old = known g.T.TermLike.view c.args.self.now in
     let id = id_of c.args.id in
@@ -69,7 +69,7 @@ returns-in_err-ask-clause-leads g c = λ mark s inside.
 pub returns-clause-leads : goal.returns-clause-leads
 unfolding IsIn
 returns-clause-leads g c = λ mark s inside.
-    let tracks = g.K.ProgressTracker.means in
+    let tracks = g.K.Tracks.means in
     let b = c.args.self.now.shown in
     let view = g.T.TermLike.view in
     let old = known view c.args.self.now in
@@ -171,7 +171,7 @@ returns-clause-record g c = λ own bar some.
     let bar_is : item.bar ≡ bar = cc (sym stood ∙ some) in (
       c.apply.new.self,
       c.draw.ensures.records c.args.id.number ∙ told_on b c.args.id.number c.in_ok-at.at c.in_ok-at.ensures.own item c.apply.new.self c.index_mut.ensures.value,
-      inl (ap (λ r. r.0) c.in_ok-ask.ensures.done ∙ ap (λ r. (obeyed g.K.ProgressTracker.means (command_of c.args.command) r c.args.now).0) bar_is),
+      inl (ap (λ r. r.0) c.in_ok-ask.ensures.done ∙ ap (λ r. (obeyed g.K.Tracks.means (command_of c.args.command) r c.args.now).0) bar_is),
     )
 
 pub returns-clause-others : goal.returns-clause-others

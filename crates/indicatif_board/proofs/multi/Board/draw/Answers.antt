@@ -16,7 +16,7 @@ use Rattle.indicatif_board.proofs.multi.Board.draw.Goals as goal
 pub returns-then-is_no-clause-drew : goal.returns-then-is_no-clause-drew
 unfolding IsIn
 returns-then-is_no-clause-drew g c = λ mark takes s number inside placed.
-    let tracks = g.K.ProgressTracker.means in
+    let tracks = g.K.Tracks.means in
     let old = known g.T.TermLike.view c.args.self.now in
     let target = target_of old in
     let d = draw_of target takes c.args.ask c.args.now (writing_by c.args.writing) s (named_laid_out tracks target c.args.now number s) (named_layout_takes tracks number s) in
@@ -25,7 +25,7 @@ returns-then-is_no-clause-drew g c = λ mark takes s number inside placed.
 pub returns-in-Some-clause-drew : goal.returns-in-Some-clause-drew
 unfolding IsIn
 returns-in-Some-clause-drew g c = λ mark takes s number inside placed.
-    let tracks = g.K.ProgressTracker.means in
+    let tracks = g.K.Tracks.means in
     let view = g.T.TermLike.view in
     let known_is = ap (λ o. option_map view (option_map engine_term o)) c.in-Some.is in
     let fit = subst (λ o. MatchOption o (s.lists ≡ opening_lists) (λ e. Fits e s.lists)) c.in-Some.is inside.2 in
@@ -41,7 +41,7 @@ returns-in-Some-clause-drew g c = λ mark takes s number inside placed.
 pub returns-in-None-clause-drew : goal.returns-in-None-clause-drew
 unfolding IsIn
 returns-in-None-clause-drew g c = λ mark takes s number inside placed.
-    let tracks = g.K.ProgressTracker.means in
+    let tracks = g.K.Tracks.means in
     let view = g.T.TermLike.view in
     let known_is = ap (λ o. option_map view (option_map engine_term o)) c.in-None.is in
     let target = target_of None in

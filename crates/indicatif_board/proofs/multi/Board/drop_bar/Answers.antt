@@ -22,7 +22,7 @@ use Rattle.indicatif_board.proofs.multi.Board.drop_bar.Goals as goal
 
 pub returns-in_err-at-clause-leads : goal.returns-in_err-at-clause-leads
 returns-in_err-at-clause-leads g c = λ mark s inside.
-    let tracks = g.K.ProgressTracker.means in
+    let tracks = g.K.Tracks.means in
     let old = known g.T.TermLike.view c.args.self.now in
     let id = id_of c.args.id in
     let x = err_from_is_err_and c.from_residual.result c.from_residual.ensures.1 in
@@ -37,7 +37,7 @@ returns-in_err-at-clause-leads g c = λ mark s inside.
 pub returns-in-Ok-clause-leads : goal.returns-in-Ok-clause-leads
 unfolding IsIn
 returns-in-Ok-clause-leads g c = λ mark s inside.
-    let tracks = g.K.ProgressTracker.means in
+    let tracks = g.K.Tracks.means in
     let b = c.args.self.now.shown in
     let view = g.T.TermLike.view in
     let old = known view c.args.self.now in
@@ -69,7 +69,7 @@ returns-in-Ok-clause-leads g c = λ mark s inside.
 pub returns-in-Err-clause-leads : goal.returns-in-Err-clause-leads
 unfolding IsIn
 returns-in-Err-clause-leads g c = λ mark s inside.
-    let tracks = g.K.ProgressTracker.means in
+    let tracks = g.K.Tracks.means in
     let b = c.args.self.now.shown in
     let old = known g.T.TermLike.view c.args.self.now in
     let id = id_of c.args.id in

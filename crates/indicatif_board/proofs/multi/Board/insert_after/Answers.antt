@@ -13,7 +13,7 @@ use Rattle.indicatif_board.proofs.multi.Board.insert_after.Goals as goal
 pub returns-clause-leads : goal.returns-clause-leads
 unfolding IsIn
 returns-clause-leads g c = λ now mark s inside.
-    let tracks = g.K.ProgressTracker.means in
+    let tracks = g.K.Tracks.means in
     let f = c.in-Ok.ensures.found mark s inside in
     let d = c.insert_at.ensures.inserted mark s (After (id_of c.args.anchor)) inside (ap (λ k. k + 1) f.1.0) in
     let old = known g.T.TermLike.view c.args.self.now in
@@ -26,7 +26,7 @@ returns-clause-leads g c = λ now mark s inside.
 
 pub returns-in-Err-clause-leads : goal.returns-in-Err-clause-leads
 returns-in-Err-clause-leads g c = λ now mark s inside.
-    let tracks = g.K.ProgressTracker.means in
+    let tracks = g.K.Tracks.means in
     let old = known g.T.TermLike.view c.args.self.now in
     let id = id_of c.args.anchor in
     let why = c.in-Err.ensures.found mark s inside in (

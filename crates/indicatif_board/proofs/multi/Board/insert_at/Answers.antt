@@ -8,7 +8,7 @@ use Rattle.indicatif_board.proofs.multi.Board.insert_at.Goals as goal
 pub returns-in-Ok-take_in-clause-inserted : goal.returns-in-Ok-take_in-clause-inserted
 unfolding IsIn
 returns-in-Ok-take_in-clause-inserted g c = λ mark s spot inside here.
-    let tracks = g.K.ProgressTracker.means in
+    let tracks = g.K.Tracks.means in
     let t = c.in-Ok-take_in.ensures.taken s spot inside.1 here in (
       taken_in spot c.in-New.bar s,
       (inside.0, t.2, inside.2),
@@ -22,7 +22,7 @@ returns-in-Err-take_in-clause-turned g c = ap New-value c.in-Err-take_in.ensures
 pub returns-in-Err-take_in-clause-inserted : goal.returns-in-Err-take_in-clause-inserted
 unfolding IsIn
 returns-in-Err-take_in-clause-inserted g c = λ mark s spot inside here.
-    let tracks = g.K.ProgressTracker.means in
+    let tracks = g.K.Tracks.means in
     let t = c.in-Err-take_in.ensures.taken s spot inside.1 here in
     (s, (inside.0, t.1, inside.2), refl, λ target. rw c.in-New.is (new_refused tracks mark s spot c.in-New.bar target))
 

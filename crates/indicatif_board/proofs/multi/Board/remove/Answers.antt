@@ -10,7 +10,7 @@ use Rattle.indicatif_board.proofs.multi.Board.remove.Goals as goal
 pub returns-then-id-self-clause-leads : goal.returns-then-id-self-clause-leads
 unfolding IsIn
 returns-then-id-self-clause-leads g c = λ now mark s inside.
-    let tracks = g.K.ProgressTracker.means in
+    let tracks = g.K.Tracks.means in
     let old = known g.T.TermLike.view c.args.self.now in
     let id = id_of c.args.id in
     (s, inside, made_at_once tracks mark old old (Remove id) now s false (Refused ForeignBar) s (removed_foreign mark id s (λ e. c.if-id-self.true (e ∙ sym inside.0))) refl refl)
@@ -18,7 +18,7 @@ returns-then-id-self-clause-leads g c = λ now mark s inside.
 pub returns-in-Ok-clause-leads : goal.returns-in-Ok-clause-leads
 unfolding IsIn
 returns-in-Ok-clause-leads g c = λ now mark s inside.
-    let tracks = g.K.ProgressTracker.means in
+    let tracks = g.K.Tracks.means in
     let old = known g.T.TermLike.view c.args.self.now in
     let id = id_of c.args.id in
     let f = c.in-Ok.ensures.found mark s inside in
@@ -31,7 +31,7 @@ returns-in-Ok-clause-leads g c = λ now mark s inside.
 pub returns-in-Err-clause-leads : goal.returns-in-Err-clause-leads
 unfolding IsIn
 returns-in-Err-clause-leads g c = λ now mark s inside.
-    let tracks = g.K.ProgressTracker.means in
+    let tracks = g.K.Tracks.means in
     let old = known g.T.TermLike.view c.args.self.now in
     let id = id_of c.args.id in
     let why = c.in-Err.ensures.found mark s inside in

@@ -20,7 +20,7 @@ use Rattle.indicatif_board.proofs.multi.Board.run.Goals as goal
 
 pub returns-then-is_empty-clause-run : goal.returns-then-is_empty-clause-run
 returns-then-is_empty-clause-run g c = λ mark s inside.
-    let machine = board (board_bars g.K.ProgressTracker.means) mark in
+    let machine = board (board_bars g.K.Tracks.means) mark in
     let old = known g.T.TermLike.view c.args.self.now in
     let none = nothing c.args.calls.items (omega (arith, eqb-true (vec_len c.args.calls) 0 (sym c.is_empty.ensures ∙ c.if-is_empty.true), c.args.calls.ok)) in
     let run = subst (λ xs. Runs machine (map timed xs) (map answer_of c.new.result.items) old s old s) (sym none)
@@ -33,7 +33,7 @@ loop-call-init g c = record {
   room = omega (arith, c.in_ok-answers.ensures.capacity, c.len.ensures, c.args.calls.ok);
   ran = λ mark s inside.
       let old = known g.T.TermLike.view c.args.self.now in
-      (s, inside, subst (λ xs. Runs (board (board_bars g.K.ProgressTracker.means) mark) [] (map answer_of xs) old s old s) (sym c.in_ok-answers.ensures.items) (refl, refl));
+      (s, inside, subst (λ xs. Runs (board (board_bars g.K.Tracks.means) mark) [] (map answer_of xs) old s old s) (sym c.in_ok-answers.ensures.items) (refl, refl));
   silent = λ quiet. refl;
   nowhere = λ none. refl;
   foreign = subst (λ xs. AreTurnedAway {K = g.row.K.Denot} (mark_of c.args.self.now) [] (map answer_of xs)) (sym c.in_ok-answers.ensures.items) tt;
@@ -58,7 +58,7 @@ loop-call-preserved g c = record {
         made.0,
         made.1,
         rw (c.push_reserved.ensures.items, map-append, map-append)
-            (runs-push (board (board_bars g.K.ProgressTracker.means) mark) _ _ (known g.T.TermLike.view c.args.self.now) s (known g.T.TermLike.view c.loop-call.self) before.0
+            (runs-push (board (board_bars g.K.Tracks.means) mark) _ _ (known g.T.TermLike.view c.args.self.now) s (known g.T.TermLike.view c.loop-call.self) before.0
             (known g.T.TermLike.view c.call-answer.new.self) made.0 (timed (c.in-Some.call, c.in-Some.now)) (answer_of c.call-answer.result) before.2 made.2),
       );
   silent = λ quiet.
@@ -73,7 +73,7 @@ loop-call-preserved g c = record {
       (turned_more (mark_of c.args.self.now) (map timed c.loop-call.yielded) (map answer_of c.loop-call.answers.items) (timed (c.in-Some.call, c.in-Some.now)) (answer_of c.call-answer.result)
       c.loop-call.invariant.foreign (λ foreign. (c.call-answer.ensures.foreign (subst (λ mark. NamesForeign mark (call_of c.in-Some.call)) (sym c.loop-call.invariant.mark) foreign)).0));
   records = λ number apart.
-      let tracks = g.K.ProgressTracker.means in
+      let tracks = g.K.Tracks.means in
       let acted = λ (call : CallValue g.row.K.Denot × ℕ). acts_on (mark_of c.args.self.now) number (call_of call.0) in
       let parts = or_parts (list_any acted c.loop-call.yielded) (acted (c.in-Some.call, c.in-Some.now)) (sym (any-push acted c.loop-call.yielded (c.in-Some.call, c.in-Some.now)) ∙ apart) in
       subst (λ xs. StaysOrComes number xs c.args.self.now c.call-answer.new.self) (sym c.push_reserved.ensures.items)
@@ -88,7 +88,7 @@ returns-clause-run g c =
     (omega (arith, c.into_iter-call-iterator.ensures.into_iter_gives.1, c.args.calls.ok))) c.loop-call.yielded c.loop-call.call-iterator c.loop-call.yielded_by c.next.result c.next.new.self
     c.in-None.is c.next.ensures.steps in
     λ mark s inside.
-    let machine = board (board_bars g.K.ProgressTracker.means) mark in
+    let machine = board (board_bars g.K.Tracks.means) mark in
     let old = known g.T.TermLike.view c.args.self.now in
     let new = known g.T.TermLike.view c.loop-call.self in
     let all = c.loop-call.invariant.ran mark s inside in

@@ -15,7 +15,7 @@ invariant-loop-call g l = record {
   counted : vec_len l.answers ≡ length l.yielded;
   room : length l.fn.calls.items ≤ vec_capacity l.answers;
   ran : (mark : ℕ) (s : BoardState (BarRecord g.row.K.Denot)) → IsIn mark l.fn.self s → (m : BoardState (BarRecord g.row.K.Denot)) × IsIn mark l.self m ×
-      Runs (board (board_bars g.K.ProgressTracker.means) mark) (map timed l.yielded) (map answer_of l.answers.items) (known g.T.TermLike.view l.fn.self) s (known g.T.TermLike.view l.self) m;
+      Runs (board (board_bars g.K.Tracks.means) mark) (map timed l.yielded) (map answer_of l.answers.items) (known g.T.TermLike.view l.fn.self) s (known g.T.TermLike.view l.self) m;
   silent : IsFalse (list_any (λ answer. wrote (drawn_of (answer_of answer))) l.answers.items) → terminal_of l.self ≡ terminal_of l.fn.self;
   nowhere : IsNowhere g.T.TermLike.view l.fn.self → terminal_of l.self ≡ terminal_of l.fn.self;
   foreign : AreTurnedAway (mark_of l.fn.self) (map timed l.yielded) (map answer_of l.answers.items);

@@ -8,7 +8,7 @@ use Rattle.indicatif_board.proofs.multi.Board.set_alignment.Goals as goal
 pub returns-clause-leads : goal.returns-clause-leads
 unfolding IsIn
 returns-clause-leads g c = λ now mark s inside.
-    let tracks = g.K.ProgressTracker.means in
+    let tracks = g.K.Tracks.means in
     let bottom = is_bottom c.args.alignment in
     let holds = inside.1 in
     let next = record s { bottom = bottom } in

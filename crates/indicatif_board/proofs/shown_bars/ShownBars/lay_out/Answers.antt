@@ -21,7 +21,7 @@ invariant_of-self-clause-seated g c =
 
 pub returns-in-Some-clause-laid : goal.returns-in-Some-clause-laid
 returns-in-Some-clause-laid g c =
-    let tracks = g.K.ProgressTracker.means in
+    let tracks = g.K.Tracks.means in
     let b = c.args.self.now in
     when_ok c.relay.result c.relay.ensures.lines (λ lines target s number columns placed holds.
     laid_at tracks b.frame.items b.members.items b.table.made
@@ -36,5 +36,5 @@ returns-in-Some-clause-memory g c =
     when_err c.relay.result c.relay.ensures.memory (λ e short. (
       short.0,
       λ s number named holds.
-          lays_at g.K.ProgressTracker.means b.members.items s number c.args.bar c.in-Some.at c.index.result.now holds.members_are c.in-Some.is named within c.index.ensures short.1,
+          lays_at g.K.Tracks.means b.members.items s number c.args.bar c.in-Some.at c.index.result.now holds.members_are c.in-Some.is named within c.index.ensures short.1,
     ))

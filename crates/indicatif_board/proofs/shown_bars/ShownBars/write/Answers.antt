@@ -25,7 +25,7 @@ put-requires g c =
 
 pub returns-in_err-put-clause-drew : goal.returns-in_err-put-clause-drew
 returns-in_err-put-clause-drew g c = λ mark now takes lays ask s laid asked some allows holds lists_stay fits.
-    let tracks = g.K.ProgressTracker.means in
+    let tracks = g.K.Tracks.means in
     let b = c.args.self.now in
     let view = g.T.TermLike.view in
     let bottom = is_bottom b.alignment in
@@ -55,7 +55,7 @@ invariant_of-self-clause-seated g c =
 
 pub returns-clause-drew : goal.returns-clause-drew
 returns-clause-drew g c = λ mark now takes lays ask s laid asked some allows holds lists_stay fits.
-    let tracks = g.K.ProgressTracker.means in
+    let tracks = g.K.Tracks.means in
     let b = c.args.self.now in
     let view = g.T.TermLike.view in
     let bottom = is_bottom b.alignment in

@@ -8,9 +8,9 @@ returns-in-Open-clause-made g c = rw c.in-Open.is (c.call.new.self, refl, c.call
 
 pub returns-in-Recorded-clause-made : goal.returns-in-Recorded-clause-made
 returns-in-Recorded-clause-made g c = rw (c.in-Recorded.is, c.answer_alone.ensures)
-    (c.apply.new.self, refl, grows_so g.T.TermLike.view c.in-Recorded.record c.apply.new.self (call_of c.args.call) c.args.now c.apply.result.0 c.apply.ensures.grows)
+    (c.apply.new.self, refl, grows_so g.K.Tracks.means g.T.TermLike.view c.in-Recorded.record c.apply.new.self (call_of c.args.call) c.args.now c.apply.result.0 c.apply.ensures.grows)
 
 pub returns-in-Recorded-clause-can : goal.returns-in-Recorded-clause-can
 returns-in-Recorded-clause-can g c = rw c.answer_alone.ensures
-    (record_answers g.T.TermLike.view c.in-Recorded.record c.apply.new.self (call_of c.args.call) c.args.now (answer_of c.apply.result.0) c.replays.ensures
-    (grows_so g.T.TermLike.view c.in-Recorded.record c.apply.new.self (call_of c.args.call) c.args.now c.apply.result.0 c.apply.ensures.grows))
+    (record_answers g.K.Tracks.means g.T.TermLike.view c.in-Recorded.record c.apply.new.self (call_of c.args.call) c.args.now (answer_of c.apply.result.0) c.replays.ensures
+    (grows_so g.K.Tracks.means g.T.TermLike.view c.in-Recorded.record c.apply.new.self (call_of c.args.call) c.args.now c.apply.result.0 c.apply.ensures.grows))

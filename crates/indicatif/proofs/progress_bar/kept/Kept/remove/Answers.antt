@@ -6,17 +6,17 @@ use Rattle.indicatif.proofs.progress_bar.kept.Kept.remove.Goals as goal
 
 pub returns-in-Open-clause-made : goal.returns-in-Open-clause-made
 returns-in-Open-clause-made g c = rw c.in-Open.is
-    (removed_open g.T.TermLike.view c.in-Open.board c.remove.new.self (id_of c.args.id) c.args.now c.remove.result (c.remove.ensures.leads c.args.now))
+    (removed_open g.K.Tracks.means g.T.TermLike.view c.in-Open.board c.remove.new.self (id_of c.args.id) c.args.now c.remove.result (c.remove.ensures.leads c.args.now))
 
 pub returns-in-Open-clause-can : goal.returns-in-Open-clause-can
-returns-in-Open-clause-can g c = refused_so g.T.TermLike.view (id_of c.args.id) c.remove.result c.remove.ensures.can
+returns-in-Open-clause-can g c = refused_so g.K.Tracks.means g.T.TermLike.view (id_of c.args.id) c.remove.result c.remove.ensures.can
 
 pub returns-in-Recorded-clause-made : goal.returns-in-Recorded-clause-made
 returns-in-Recorded-clause-made g c = rw c.in-Recorded.is
-    (removed_recorded g.T.TermLike.view c.in-Recorded.record c.apply.new.self (id_of c.args.id) c.args.now c.bar_unless_refused.result c.apply.result.0 c.bar_unless_refused.ensures
-    (grows_so g.T.TermLike.view c.in-Recorded.record c.apply.new.self (Remove (id_of c.args.id)) c.args.now c.apply.result.0 c.apply.ensures.grows))
+    (removed_recorded g.K.Tracks.means g.T.TermLike.view c.in-Recorded.record c.apply.new.self (id_of c.args.id) c.args.now c.bar_unless_refused.result c.apply.result.0 c.bar_unless_refused.ensures
+    (grows_so g.K.Tracks.means g.T.TermLike.view c.in-Recorded.record c.apply.new.self (Remove (id_of c.args.id)) c.args.now c.apply.result.0 c.apply.ensures.grows))
 
 pub returns-in-Recorded-clause-can : goal.returns-in-Recorded-clause-can
-returns-in-Recorded-clause-can g c = refused_as g.T.TermLike.view (id_of c.args.id) c.bar_unless_refused.result c.apply.result.0 c.bar_unless_refused.ensures
-    (record_answers g.T.TermLike.view c.in-Recorded.record c.apply.new.self (Remove (id_of c.args.id)) c.args.now (answer_of c.apply.result.0) c.replays.ensures
-    (grows_so g.T.TermLike.view c.in-Recorded.record c.apply.new.self (Remove (id_of c.args.id)) c.args.now c.apply.result.0 c.apply.ensures.grows))
+returns-in-Recorded-clause-can g c = refused_as g.K.Tracks.means g.T.TermLike.view (id_of c.args.id) c.bar_unless_refused.result c.apply.result.0 c.bar_unless_refused.ensures
+    (record_answers g.K.Tracks.means g.T.TermLike.view c.in-Recorded.record c.apply.new.self (Remove (id_of c.args.id)) c.args.now (answer_of c.apply.result.0) c.replays.ensures
+    (grows_so g.K.Tracks.means g.T.TermLike.view c.in-Recorded.record c.apply.new.self (Remove (id_of c.args.id)) c.args.now c.apply.result.0 c.apply.ensures.grows))

@@ -7,8 +7,8 @@ use Rattle.indicatif.proofs.FrontLemmas.{no_memory}
 use Rattle.indicatif.proofs.progress_bar.place.Seat.tell_text.Goals as goal
 
 pub returns-in-Ok : goal.returns-in-Ok
-returns-in-Ok g c = subst (λ call. SharedDraws g.T.TermLike.view call c.draw.result)
+returns-in-Ok g c = subst (λ call. SharedDraws g.K.Tracks.means g.T.TermLike.view call c.draw.result)
     (c.call-call.ensures ∙ ap (λ text. on_board (id_of c.args.self.now.id) (worded c.args.told text)) c.in-Ok.ensures.ok) c.draw.ensures.can
 
 pub returns-in-Err : goal.returns-in-Err
-returns-in-Err g c = no_memory g.T.TermLike.view (on_board (id_of c.args.self.now.id) (worded c.args.told c.args.text.now))
+returns-in-Err g c = no_memory g.K.Tracks.means g.T.TermLike.view (on_board (id_of c.args.self.now.id) (worded c.args.told c.args.text.now))

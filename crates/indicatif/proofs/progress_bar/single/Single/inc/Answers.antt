@@ -5,5 +5,5 @@ use Rattle.indicatif.specs.Inside.Single.{MadeBy}
 use Rattle.indicatif.proofs.progress_bar.single.Single.inc.Goals as goal
 
 pub returns : goal.returns
-returns g c = subst (λ old. MadeBy g.T.TermLike.view old c.inc.new.self (Obey (Inc c.args.delta)) c.args.now c.inc.result) c.self.view_is
+returns g c = subst (λ old. MadeBy g.K.Tracks.means g.T.TermLike.view old c.inc.new.self (Obey (Inc c.args.delta)) c.args.now c.inc.result) c.self.view_is
     (record { was = c.self.invariant; done = inl c.inc.ensures.bar; leads = c.inc.ensures.leads })

@@ -11,5 +11,5 @@ pub returns : goal.returns
 returns g c =
     let u = c.update.ensures in
     subst (λ old. (change : Changed) × FnOnceReturnsAt g.F.FnOnce c.args.f (record_of old).progress change
-    × MadeBy g.T.TermLike.view old c.update.new.self (Obey (Update change.pos change.len)) c.args.now c.update.result) c.self.view_is
+    × MadeBy g.K.Tracks.means g.T.TermLike.view old c.update.new.self (Obey (Update change.pos change.len)) c.args.now c.update.result) c.self.view_is
     (u.0, u.1, record { was = c.self.invariant; done = inl u.2.bar; leads = u.2.leads })

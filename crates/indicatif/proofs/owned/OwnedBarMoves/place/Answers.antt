@@ -1,11 +1,10 @@
 use Rattle.std.proofs.Common.{◌∙◌, ap, Some}
 use Rattle.indicatif_bar.specs.LoneBars.{record_of}
-use Rattle.indicatif_bar.specs.Trackers.{writes_nothing}
 use Rattle.indicatif.specs.Owned.{standing_of}
 use Rattle.indicatif.proofs.OwnedLemmas.{moved_stands}
-use Rattle.indicatif.proofs.owned.OwnedBarNoTrackerMoves.place.Goals as goal
+use Rattle.indicatif.proofs.owned.OwnedBarMoves.place.Goals as goal
 
 pub returns-clause-goes : goal.returns-clause-goes
 returns-clause-goes g c =
     ap (λ bar. Some (standing_of bar)) c.set_position.ensures.bar
-    ∙ ap Some (moved_stands writes_nothing (c.args.place) (record_of c.args.self.now.bar) c.now-now.result)
+    ∙ ap Some (moved_stands g.K.Tracks.means (c.args.place) (record_of c.args.self.now.bar) c.now-now.result)

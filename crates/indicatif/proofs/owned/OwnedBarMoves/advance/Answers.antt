@@ -1,12 +1,11 @@
 use Rattle.std.proofs.Common.{◌∙◌, ap, Some}
 use Rattle.std.specs.Prelude.{◌+◌, ◌%◌, ◌^◌}
 use Rattle.indicatif_bar.specs.LoneBars.{record_of}
-use Rattle.indicatif_bar.specs.Trackers.{writes_nothing}
 use Rattle.indicatif.specs.Owned.{standing_of}
 use Rattle.indicatif.proofs.OwnedLemmas.{moved_stands}
-use Rattle.indicatif.proofs.owned.OwnedBarNoTrackerMoves.advance.Goals as goal
+use Rattle.indicatif.proofs.owned.OwnedBarMoves.advance.Goals as goal
 
 pub returns-clause-goes : goal.returns-clause-goes
 returns-clause-goes g c =
     ap (λ bar. Some (standing_of bar)) c.inc.ensures.bar
-    ∙ ap Some (moved_stands writes_nothing (((record_of c.args.self.now.bar).progress.position + c.args.n) % 2 ^ 64) (record_of c.args.self.now.bar) c.now-now.result)
+    ∙ ap Some (moved_stands g.K.Tracks.means (((record_of c.args.self.now.bar).progress.position + c.args.n) % 2 ^ 64) (record_of c.args.self.now.bar) c.now-now.result)

@@ -1,0 +1,93 @@
+//! What is known of shared bars and boards, and of lists and pieces that threads work on.
+ghost use Rattle.std.specs.Prelude.{◌≡◌, ◌⊎◌, ◌+◌, ◌*◌, ◌%◌, ◌^◌, IfOk, IfErr, Err};
+ghost use Rattle.std.specs.List.{AllZip};
+ghost use Rattle.indicatif_bar.specs.Commands.{Inc};
+ghost use Rattle.indicatif_bar.specs.Lone.{Obey};
+ghost use Rattle.indicatif.specs.Fronts.{CanAnswer};
+ghost use Rattle.indicatif.specs.Wrap.{inner_of};
+
+use indicatif::style::Tracks;
+use indicatif::{
+    Clock, Gate, Moves, MultiProgress, ParallelProgressIterator, ProgressBar, ProgressBarIter,
+    Refusal, TermLike, run_workers,
+};
+use std::alloc::Global;
+use std::sync::Wait;
+use std::thread::Threads;
+
+/// The number after this one, found while the rows of a bar are taken back; where the bar's step is refused, a bar can refuse it so.
+pub fn next_beside<T: TermLike + Drop, C: Clock + Drop, R: Wait + Clone + Drop, K: Tracks>(
+    bar: &ProgressBar<T, C, R, K>,
+    number: u32,
+) -> Result<u32, Refusal>
+    ensures next { IfOk result (λ next. next ≡ (number + 1) % 2 ^ 32) }
+    ensures refused { IfErr result (λ e. CanAnswer K.means T.view (Obey (Inc 1)) (Err e)) }
+{
+    match bar.inc(1) {
+        Ok(_) => {
+            let (next, _) = bar.suspend(
+                || -> u32
+                    ensures { result ≡ (number + 1) % 2 ^ 32 }
+                { number.wrapping_add(1) },
+            );
+            Ok(next)
+        }
+        Err(refusal) => Err(refusal),
+    }
+}
+
+/// The same, found while the rows of all bars of a board are taken back.
+pub fn next_above<T: TermLike + Drop, C: Clock + Drop, R: Wait + Clone + Drop, K: Tracks>(
+    board: &MultiProgress<T, C, R, K>,
+    number: u32,
+) -> u32
+    ensures { result ≡ (number + 1) % 2 ^ 32 }
+{
+    let (next, _) = board.suspend(
+        || -> u32
+            ensures { result ≡ (number + 1) % 2 ^ 32 }
+        { number.wrapping_add(1) },
+    );
+    next
+}
+
+/// Each number of a list doubled, in order, by threads, whatever bar is moved.
+pub fn doubled<R: Threads + Sync, P: Moves>(
+    rt: &R,
+    alloc: Global,
+    list: ProgressBarIter<&[u32], P>,
+) -> (Result<Vec<u32>, Refusal>, P)
+    ensures { IfOk result.0 (λ made. AllZip (λ x y. y ≡ x * 2 % 2 ^ 32) (inner_of list.entry).now made.items) }
+{
+    list.map_collect(
+        rt,
+        alloc,
+        |x: &u32| -> u32
+            ensures { result ≡ x.now * 2 % 2 ^ 32 }
+        { x.wrapping_mul(2) },
+    )
+}
+
+/// Each number of each piece doubled, in order, by threads that count for a shared bar; `ZeroPieces` and `Memory` alone are refused.
+pub fn doubled_pieces<
+    R: Threads + Sync,
+    G: Gate,
+    T: TermLike + Drop,
+    C: Clock + Drop,
+    B: Wait + Clone + Drop,
+    K: Tracks,
+>(
+    rt: &R,
+    alloc: Global,
+    pieces: &[Vec<u32>],
+    gate: &G,
+    bar: &ProgressBar<T, C, B, K>,
+) -> Result<Vec<Vec<u32>>, Refusal>
+    ensures made { IfOk result (λ made. AllZip (λ piece answers. AllZip (λ x y. y ≡ x * 2 % 2 ^ 32) piece.items answers.items) pieces.now made.items) }
+    ensures refused { IfErr result (λ e. (e ≡ Refusal.ZeroPieces) ⊎ (e ≡ Refusal.Memory)) }
+{
+    let double = |x: &u32| -> u32
+        ensures { result ≡ x.now * 2 % 2 ^ 32 }
+    { x.wrapping_mul(2) };
+    run_workers(rt, alloc, pieces, double, gate, bar)
+}
