@@ -1,14 +1,19 @@
 #!/usr/bin/env bash
-# Compares docs/GALLERY.md with what tmux shows. Each block `gallery COLSxROWS WHEN` of that page begins with a prompt and a command,
-# which is typed into a pane of that size. WHEN is `end`, where the picture is taken once the prompt is back, or a number of seconds.
+# Compares the pictures of docs/GALLERY.md and docs/METER.md with what tmux shows. Each block `gallery COLSxROWS WHEN ..` begins with a
+# prompt and a command, which is typed into a pane of that size. WHEN is `end`, where the picture is taken once the prompt is back, or a
+# number of seconds. Behind several of them the block has what stands below the command at each, behind a line that says when. A block
+# `gallery ~ COLSxROWS WHEN ..` has a run's own numbers: its digits, and how far its bars are, aren't compared.
 #
-# usage: tools/gallery.sh [--write]
+# usage: tools/gallery.sh [--write] [PAGE ..]
 #
-# It builds the programs, and wants tmux. With --write the page is written anew. The exit status is 1 where a picture is another. It is no
-# part of the gate.
+# It builds the programs that the pages name, but for those that stand in the folder $PROGRAMS. It wants tmux, and for blocks with `pv`
+# Debian's package; without it these are passed over. With --write the pages are written anew. The exit status is 1 where a picture is
+# another. It is no part of the gate.
 set -u
-crates=$(cd "$(dirname "$0")/../crates" && pwd) || exit 2
-page=$crates/../docs/GALLERY.md
+root=$(cd "$(dirname "$0")/.." && pwd) || exit 2
+write=no
+[ "${1:-}" = --write ] && { write=yes; shift; }
+[ $# -gt 0 ] || set -- "$root/docs/GALLERY.md" "$root/docs/METER.md"
 command -v tmux > /dev/null || { echo "no tmux" >&2; exit 2; }
 folder=$(mktemp -d) || exit 2
 socket=$folder/tmux
@@ -17,17 +22,28 @@ clean_up() { mux kill-server 2> /dev/null; rm -rf "$folder"; }
 trap clean_up EXIT
 export LC_ALL=C.UTF-8
 printf '%s\n' 'set -g status off' 'set -g exit-empty off' 'set -g default-terminal screen-256color' > "$folder/conf"
+head -c 3M /dev/zero > "$folder/disk.iso"
+# a producer: 6 MiB in 1.2 seconds, nothing for 3 seconds, 4 MiB in 0.8
+printf '%s\n' '#!/bin/sh' 'piece() { head -c 1M /dev/zero; sleep 0.2; }' 'for turn in 1 2 3 4 5 6; do piece; done; sleep 3' \
+  'for turn in 1 2 3 4; do piece; done' > "$folder/slow"
+chmod +x "$folder/slow"
 
-# built PROGRAM WORD ..: builds it, by running it with words at which it succeeds
+# built PROGRAM WORD ..: builds it, if a page names it, by running it with words at which it succeeds
 built() {
   local name=$1 printed
   shift
-  if ! printed=$(cd "$crates/$name" && rt run -- "$@" 2>&1 < /dev/null); then
+  grep -qE "^\\$ (.*[ |(])?$name\b" "${pages[@]}" || return 0
+  if [ -x "${PROGRAMS:-}/$name" ]; then
+    ln -s "$PROGRAMS/$name" "$folder/$name"
+    return
+  fi
+  if ! printed=$(cd "$root/crates/$name" && rt run -- "$@" 2>&1 < /dev/null); then
     printf '%s\n' "$printed" | tail -5 >&2
     exit 2
   fi
-  ln -s "$crates/$name/out/$name" "$folder/$name"
+  ln -s "$root/crates/$name/out/$name" "$folder/$name"
 }
+pages=("$@")
 built example_readme
 built example_logs
 built example_threads
@@ -35,49 +51,95 @@ built examples fine
 built ported
 built bars demo
 built meter --help
-head -c 3M /dev/zero > "$folder/disk.iso"
 
-# shown COLSxROWS WHEN COMMAND: what a pane of this size shows
+# until WHEN: waits from $since on for so many seconds, or for the prompt
+until_when() {
+  local turn
+  if [ "$1" != end ]; then
+    sleep "$(awk -v since="$since" -v now="$EPOCHREALTIME" -v at="$1" 'BEGIN { print (since + at > now) ? since + at - now : 0 }')"
+    return
+  fi
+  for turn in $(seq 300); do
+    sleep 0.1
+    [ "$turn" -gt 3 ] && [ "$(mux capture-pane -p -t shown | sed '/^$/d' | tail -n 1)" = '$' ] && break
+  done
+}
+
+# picture: what the pane shows, without blanks at the ends
+picture() { mux capture-pane -p -t shown | sed -e 's/ *$//' -e ':a' -e '/^\n*$/{$d;N;ba' -e '}'; }
+
+# shown COLSxROWS COMMAND WHEN ..: what a pane of this size shows
 shown() {
-  local size=$1 when=$2 command=$3 turn
+  local size=$1 command=$2 when since first
+  shift 2
   mux new-session -d -s shown -x "${size%x*}" -y "${size#*x}" -c "$folder" \
     "PATH=$folder:\$PATH COLUMNS=${size%x*} LINES=${size#*x} PS1='\$ ' exec bash --norc --noprofile" || exit 2
   sleep 0.5
   mux send-keys -t shown -l "$command"
   mux send-keys -t shown Enter
-  if [ "$when" = end ]; then
-    for turn in $(seq 300); do
-      sleep 0.1
-      [ "$turn" -gt 3 ] && [ "$(mux capture-pane -p -t shown | sed '/^$/d' | tail -n 1)" = '$' ] && break
-    done
-  else
-    sleep "$when"
-  fi
-  mux capture-pane -p -t shown | sed -e 's/ *$//' -e ':a' -e '/^\n*$/{$d;N;ba' -e '}'
+  since=$EPOCHREALTIME
+  first=$(((${#command} + 1) / ${size%x*} + 2))
+  printf '$ %s\n' "$command"
+  for when in "$@"; do
+    until_when "$when"
+    case $#/$when in
+      1/*) ;;
+      */end) echo "-- at the end" ;;
+      *) echo "-- after $when seconds" ;;
+    esac
+    picture | tail -n "+$first"
+  done
   mux kill-session -t shown
+}
+
+# alike: a picture without digits, and without how far bars are
+alike() { sed -E 's/[0-9]/0/g; s/\[[=> █░]*\]/[bar]/g'; }
+
+# block [~] SIZE WHEN ..: the block that follows on standard input, as it is now, or as it was where it counts as the same
+block() {
+  local about=no size line command
+  [ "$1" = '~' ] && { about=yes; shift; }
+  size=$1
+  shift
+  IFS= read -r line
+  command=${line#\$ }
+  printf '%s\n' "$line" > "$folder/old"
+  while IFS= read -r line && [ "$line" != '```' ]; do printf '%s\n' "$line"; done >> "$folder/old"
+  if [[ $command == *"pv "* ]] && ! command -v pv > /dev/null; then
+    echo "no pv for: $command" >&2
+    cat "$folder/old"
+  else
+    shown "$size" "$command" "$@" > "$folder/new"
+    if [ $about = yes ] && [ "$(alike < "$folder/old")" = "$(alike < "$folder/new")" ]; then
+      cat "$folder/old"
+    else
+      cat "$folder/new"
+    fi
+  fi
+  printf '%s\n' '```'
 }
 
 # the page with each picture as it is now
 renewed() {
-  local line size when
+  local line words
   while IFS= read -r line; do
     printf '%s\n' "$line"
-    case $line in
-      '```gallery '*)
-        read -r _ size when <<< "$line"
-        IFS= read -r line
-        shown "$size" "$when" "${line#\$ }"
-        while IFS= read -r line && [ "$line" != '```' ]; do :; done
-        printf '%s\n' "$line"
-        ;;
-    esac
-  done < "$page"
+    if [[ $line == '```gallery '* ]]; then
+      read -ra words <<< "$line"
+      block "${words[@]:1}"
+    fi
+  done
 }
-renewed > "$folder/page"
-if [ "${1:-}" = --write ]; then
-  cp "$folder/page" "$page"
-elif diff "$page" "$folder/page"; then
-  echo "$(grep -c '^```gallery' "$page") pictures are those of the page"
-else
-  exit 1
-fi
+
+status=0
+for page in "${pages[@]}"; do
+  renewed < "$page" > "$folder/page"
+  if [ $write = yes ]; then
+    cp "$folder/page" "$page"
+  elif diff "$page" "$folder/page"; then
+    echo "$(grep -c '^```gallery' "$page") pictures are those of ${page##*/}"
+  else
+    status=1
+  fi
+done
+exit $status

@@ -1,6 +1,7 @@
 #!/usr/bin/env bash
 # Runs `meter` where inputs and outputs go wrong, and with each option, and compares its status, what it says and what it hands on
-# with what docs/METER.md says; beside each row stands what `pv` answers, where Debian's package is installed.
+# with what docs/METER.md says; beside each row stands what `pv` answers, where Debian's package is installed. The page has each of pv's
+# options.
 #
 # usage: tools/meter_pv.sh
 #
@@ -8,6 +9,7 @@
 # row is otherwise.
 set -u
 meter=${METER:-$(cd "$(dirname "$0")/../crates/meter" && pwd)/out/meter}
+page=$(cd "$(dirname "$0")/../docs" && pwd)/METER.md
 [ -x "$meter" ] || { echo "no meter: (cd crates/meter && rt run < /dev/null)" >&2; exit 2; }
 folder=$(mktemp -d) || exit 2
 trap 'rm -rf "$folder"' EXIT
@@ -90,5 +92,11 @@ done
 for size in 16E 18446744073709551616 '' M 10X '10 M' 10Mi; do
   row "--size '$size'" 2 'meter: a size is a number as 700, 10M, 10MB or 1GiB' "\$P -s '$size' lines > handed 2> said; echo \$? > status"
 done
+# each option of pv stands on the page
+if command -v pv > /dev/null; then
+  for option in $(pv --help | sed -n 's/^ *-\(.\),.*/\1/p'); do
+    grep -q -- "[\` ]-$option\b" "$page" || { echo "docs/METER.md has nothing of pv -$option"; failed=$((failed + 1)); }
+  done
+fi
 echo "$passed as wanted, $failed otherwise"
 [ "$failed" -eq 0 ]

@@ -6,6 +6,7 @@ usage: tools/pages.py [--write]   (at the root of the repository)
 - Each row of a table of docs/TEMPLATES.md is one row of crates/rows/data/templates_page.txt, which `crates/rows` plays.
 - The README's program is that of crates/example_readme.
 - Each call, clause, law and file that a table of docs/PROVED.md names is there.
+- The same of docs/REFUSALS.md, which names each public call of its modules.
 - The table of refusals in docs/USING.md has the numbers and texts of crates/rows/data/refusals.txt, and all of them. Other pages that
   name a refusal with its number name it so.
 - The options and statuses of docs/METER.md are those of crates/meter/src.
@@ -16,6 +17,8 @@ usage: tools/pages.py [--write]   (at the root of the repository)
 - A block of `contract FILE CALL` is the head and the clauses of that call in crates/FILE.
 - An indented block is one of these, lines of crates.txt, or commands. A line `$ printf 'LINES' | .. run ROWS COLS` is a row of
   crates/rows/data/program.txt, which gives the lines below it.
+- The lines of each example in a documentation comment of the libraries stand in one file of a program or a test that the gate runs: an
+  `assert_eq!(a, b)` as that or as `a == b`, an `assert!(a)` as that or as `a`; `{ .. }` stands for any block.
 - What isn't compared here: blocks of `rust` (the Rust crate's code) and of `diagram`, other commands, and those of `gallery`, which
   have a picture that tools/gallery.sh compares.
 
@@ -32,6 +35,15 @@ HEAD = """# The tables of docs/TEMPLATES.md, written by tools/pages.py: one bar 
 # columns, template, characters, colours, tab width, position, length, message, prefix, moment, whether finished
 BAR = ["40", None, "-", None, "8", "1500000", "6000000", "copying", "[1/3]", "10000000000", "0"]
 PROVED = pathlib.Path("docs/PROVED.md")
+REFUSALS = pathlib.Path("docs/REFUSALS.md")
+# the modules whose public calls that page names
+REFUSED = {
+    "indicatif_text": ["columns", "pieces", "range", "style_words", "format", "template", "refusal"],
+    "indicatif_term": ["term_like", "term", "in_memory", "in_memory/feeding", "limiter", "target", "draw_target", "lines"],
+    "indicatif_bar": ["bar_style", "bar_style/builders", "tracker", "progress", "bar_state", "bar_state/copies", "bar_lines", "finish", "lone"],
+    "indicatif_board": ["multi", "recorded", "slots", "call_copies", "done", "bridge"],
+    "indicatif": ["owned", "moves", "wrap", "items", "bytes", "seeking", "streams", "polled", "parallel", "progress_iterator", "seek", "ring"],
+}
 LIBRARIES = ["indicatif_text", "indicatif_term", "indicatif_bar", "indicatif_board", "indicatif"]
 PROGRAMS = ["bars_run", "meter_parts"]
 
@@ -163,9 +175,10 @@ def faults_of_row(cells, found, laws):
             yield f"no file {word}"
 
 
-def faults_of_proved():
-    found, laws = {}, set()
-    for line in PROVED.read_text(encoding="utf-8").splitlines():
+def rows_of(page):
+    """The rows of a page's tables, each with its section's crates, their contracts and their laws."""
+    found, laws, crates = {}, set(), []
+    for line in page.read_text(encoding="utf-8").splitlines():
         if line.startswith("## "):
             crates = PROGRAMS if line == "## Programs" else re.findall(r"`(\w+)`", line)
             found, laws = {}, set()
@@ -175,8 +188,26 @@ def faults_of_proved():
                 laws |= set(re.findall(r"^pub fn (\w+)", read(path), re.M)) if path.exists() else set()
         cells = [cell.strip() for cell in line.strip("|").split("|")]
         if found and line.startswith("| ") and len(cells) >= 4 and cells[0] not in ("Call", "---"):
-            for fault in faults_of_row(cells, found, laws):
-                yield f"{PROVED}: {fault}"
+            yield cells, crates, found, laws
+
+
+def faults_of_proved():
+    for cells, _, found, laws in rows_of(PROVED):
+        for fault in faults_of_row(cells, found, laws):
+            yield f"{PROVED}: {fault}"
+
+
+def faults_of_refused():
+    named = set()
+    for cells, crates, found, laws in rows_of(REFUSALS):
+        named |= {(crate, name) for crate in crates for _, name in calls_of(cells[0])}
+        for fault in faults_of_row([cells[0], cells[3], cells[3]], found, laws):
+            yield f"{REFUSALS}: {fault}"
+    for crate, modules in REFUSED.items():
+        for module in modules:
+            for name in re.findall(r"^ *pub fn (\w+)", read(f"crates/{crate}/src/{module}.rt"), re.M):
+                if (crate, name) not in named:
+                    yield f"{REFUSALS}: lacks {name} of {crate}/{module}"
 
 
 # docs/USING.md
@@ -438,6 +469,90 @@ def faults_of_blocks():
                 yield f"{name}: this block stands in no source: {(bare(lines, False) or ['(empty)'])[0]}"
 
 
+# Examples of documentation comments
+
+# Those that can't stand in code as they are.
+UNRUN = {
+    "fn add_all(done: &Done, mut worker: BarWorker) -> BarWorker // adds 1 a thousand times": "a contract: its body needs an invariant",
+    "let drawn = record.apply(Call::Clear, 5); // on a terminal of 4 rows and 10 columns": "an index, which has to be proved",
+    "let (answer, none) = record.apply(Call::Clear, 5);": "an index, which has to be proved",
+}
+
+
+def examples(text):
+    """The fenced blocks of documentation comments, each as lines."""
+    block = None
+    for line in text.splitlines():
+        doc = re.match(r"\s*/// ?(.*)", line)
+        if not doc:
+            block = None
+        elif doc[1].startswith("```") and block is None:
+            block = []
+        elif doc[1].startswith("```"):
+            yield block
+            block = None
+        elif block is not None:
+            block.append(doc[1])
+
+
+def without_space(text):
+    """Code without comments, white space, and commas before a bracket; asserts without the runtime."""
+    text = re.sub(r"(^|\s)//.*$", "", text, flags=re.M)
+    text = re.sub(r"(assert(?:_eq)?!\()rt;", r"\1", text)
+    return re.sub(r",([)\]}])", r"\1", re.sub(r"\s+", "", text))
+
+
+def statements(block):
+    """The statements of an example: each as long as its brackets are open."""
+    open_brackets, lines = 0, []
+    for line in block:
+        code = re.sub(r"(^|\s)//.*$", "", line)
+        if not code.strip():
+            continue
+        lines.append(code)
+        open_brackets += len(re.findall(r"[({[]", code)) - len(re.findall(r"[)}\]]", code))
+        if open_brackets == 0:
+            yield without_space("\n".join(lines)).rstrip(";")
+            lines = []
+    if lines:
+        yield without_space("\n".join(lines))
+
+
+def spellings(statement):
+    """The ways in which code may have a statement."""
+    yield statement
+    equal = re.fullmatch(r"assert_eq!\((.*)\)", statement)
+    if equal:
+        depth, cut = 0, 0
+        for at, char in enumerate(equal[1]):
+            depth += (char in "([{") - (char in ")]}")
+            cut = at if char == "," and depth == 0 else cut
+        yield equal[1][:cut] + "==" + equal[1][cut + 1 :]
+    holds = re.fullmatch(r"assert!\((.*)\)", statement)
+    if holds:
+        yield holds[1]
+
+
+def is_in(statement, code):
+    for it in spellings(statement):
+        if "{..}" in it and re.search(re.escape(it).replace(r"\{\.\.\}", r"\{.*?\}"), code):
+            return True
+        if it in code:
+            return True
+    return False
+
+
+def faults_of_examples():
+    files = [path for path in pathlib.Path("crates").glob("*/src/**/*.rt") if path.parts[1] not in LIBRARIES]
+    code = [without_space(read(path)) for path in files]
+    for crate in LIBRARIES:
+        for path in sorted(pathlib.Path(f"crates/{crate}/src").rglob("*.rt")):
+            for block in examples(read(path)):
+                wanted = list(statements(block))
+                if block[0] not in UNRUN and not any(all(is_in(it, source) for it in wanted) for source in code):
+                    yield f"{path}: this example stands in no code that runs: {block[0]}"
+
+
 def main():
     rows = HEAD + "".join(row(*it) + "\n" for it in tables(PAGE.read_text(encoding="utf-8")))
     if "--write" in sys.argv[1:]:
@@ -453,10 +568,12 @@ def main():
     if len({tuple(program(it, "use anyhow::Result;")) for it in texts}) != 1:
         faults.append("README.md has another program than crates/example_readme")
     faults += faults_of_proved()
+    faults += faults_of_refused()
     faults += faults_of_refusals()
     faults += faults_of_meter()
     faults += faults_of_names()
     faults += faults_of_blocks()
+    faults += faults_of_examples()
     print("\n".join(faults) or "the pages have what the gate compares")
     return 1 if faults else 0
 

@@ -1,8 +1,46 @@
 #!/bin/sh
-# Refuses memory to the scripts of crate `sweeps`, once in each run: `tools/refusals.sh board|lone FROM TO` refuses each allocation from
-# this number to that. Each run has to say `as it should be`. By hand: a run builds anew, which takes a minute, and it proves nothing.
-cd "$(dirname "$0")/../crates/sweeps" || exit 2
-for number in $(seq "$2" "$3"); do
-    echo "allocation $number:"
-    rt try --fail-alloc "$number" -- memory "$1"
+# Refuses memory to the scripts of crate `sweeps`: each allocation of a script in turn, one in each run. Each run judges itself, and says
+# that it is as it is defined, and where memory was refused. Printed are, for each script, how many runs said what; a run that says
+# anything else is printed with the number of its allocation, and the status is 1 then.
+#
+# By hand. It proves and builds the program once (`rt run`), as LLVM builds it; a small library in C (refuse_one.c) stands between it and
+# the C library's `malloc`. It needs a C compiler, `cc`.
+set -eu
+here=$(cd "$(dirname "$0")" && pwd)
+work=$(mktemp -d)
+trap 'rm -rf "$work"' EXIT
+cc -shared -fPIC -O1 -o "$work/refuse_one.so" "$here/refuse_one.c" -ldl
+cd "$here/../crates/sweeps"
+rt run -- memory board >&2
+
+# NUMBER WORD..: the program with these words, its allocation of this number refused.
+refusing() {
+    number=$1
+    shift
+    LD_PRELOAD="$work/refuse_one.so" REFUSE="$number" out/sweeps memory "$@"
+}
+
+status=0
+all=0
+for words in 'board stays' 'board grows' 'lone stays' 'lone grows' 'shared stays' 'shared grows' 'loop stays' 'loop grows' 'run stays'; do
+    # shellcheck disable=SC2086
+    count=$(refusing 0 $words unjudged 2>&1 >/dev/null)
+    : >"$work/said"
+    for number in $(seq 1 "$count"); do
+        # shellcheck disable=SC2086
+        said=$(refusing "$number" $words count 2>&1) || said="status $?: $said"
+        echo "$said" >>"$work/said"
+        case $said in
+        'as defined: '*) ;;
+        *)
+            echo "$words, allocation $number: $said"
+            status=1
+            ;;
+        esac
+    done
+    all=$((all + count))
+    echo "$words: $count allocations"
+    sort "$work/said" | uniq -c
 done
+echo "$all runs"
+exit $status

@@ -5,6 +5,9 @@ ghost use Rattle.indicatif_bar.specs.Trackers.{telling};
 use indicatif_bar::lone::LoneBar;
 use indicatif_bar::state::{BarCommand, BarState, ProgressFinish, ProgressState};
 use indicatif_bar::style::{FnTracker, ProgressStyle, ProgressTracker, TellsText};
+use indicatif_board::multi::{
+    Answer, BarId, Board, Call, Candidate, Entry, InsertLocation, Recorded,
+};
 use indicatif_term::draw_target::ProgressDrawTarget;
 use indicatif_term::in_memory::InMemoryTerm;
 use indicatif_text::columns::{Drawn, Moment, Refusal};
@@ -182,6 +185,97 @@ fn a_sequence_of_another_kind_is_drawn(rt: HostRuntime) -> Result<(), Fail> {
     assert_eq!(rt; drawn.tick(0), Ok(Drawn::Yes));
     Ok(())
 }
+
+// ---- the same on a board that keeps its history
+
+type Kept = Recorded<FnTracker<Says>, InMemoryTerm>;
+
+type OnBoard = Board<FnTracker<Says>, InMemoryTerm>;
+
+/// A terminal of 4 rows and 10 columns.
+fn target(alloc: Global) -> Result<ProgressDrawTarget<InMemoryTerm>, Refusal> {
+    Ok(ProgressDrawTarget::term_like(InMemoryTerm::new(alloc, 4, 10)?))
+}
+
+/// A bar whose tracker writes this text, with two spaces for a tab.
+fn insertion_of(alloc: Global, text: &'static str) -> Result<Call<FnTracker<Says>>, Refusal> {
+    let look = tracked(alloc, "{t}", text, false)?;
+    let mut bar = bar(alloc, look, Some(4))?;
+    bar.with_tab_width(2, 0)?;
+    Ok(Call::Insert {
+        at: InsertLocation::End,
+        candidate: Candidate::New(Box::into_inner(bar)),
+    })
+}
+
+/// What a board answers to a call; a bar that comes back is given up.
+fn applied(board: &mut Kept, call: Call<FnTracker<Says>>) -> Answer {
+    let (answer, bar) = board.apply(call, 0);
+    drop(bar);
+    answer
+}
+
+/// The first bar of the board of the mark 1.
+const FIRST: BarId = BarId { mark: 1, number: 0 };
+
+/// Whether a board takes such a bar in, and draws it.
+fn is_drawn(alloc: Global, board: &mut Kept, text: &'static str) -> Result<bool, Refusal> {
+    let taken = applied(board, insertion_of(alloc, text)?);
+    let drawn = applied(board, Call::Bar(FIRST, BarCommand::Tick));
+    Ok(taken == Answer::Id(FIRST) && drawn == Answer::Drawn(Drawn::Yes))
+}
+
+/// Whether a board makes the calls of these entries with the same answers.
+fn answers_so(
+    alloc: Global,
+    board: &mut OnBoard,
+    entries: &[Entry<FnTracker<Says>>],
+) -> Result<bool, Refusal> {
+    for entry in entries {
+        if board.call(entry.call.try_clone(alloc)?, 0) != entry.answer {
+            return Ok(false);
+        }
+    }
+    Ok(true)
+}
+
+fn contents(term: Option<&InMemoryTerm>) -> Result<String, Refusal> {
+    match term {
+        Some(term) => term.contents(),
+        None => Err(Refusal::NotMember),
+    }
+}
+
+/// What a board shows that keeps its history, where it draws a bar whose tracker writes this text, and a fresh board that makes the same
+/// calls answers and shows the same.
+fn kept_shows(alloc: Global, text: &'static str) -> Result<String, Refusal> {
+    let mut kept: Box<Kept> = Box::new(alloc, Recorded::new(alloc, target(alloc)?, 1))?;
+    let mut fresh: Box<OnBoard> = Box::new(alloc, Board::new(alloc, target(alloc)?, 1))?;
+    let drawn = is_drawn(alloc, &mut kept, text)?;
+    let same = answers_so(alloc, &mut fresh, kept.entries())?;
+    let shown = contents(kept.board().term())?;
+    match drawn && same && kept.entries().len() == 2 && shown == contents(fresh.term())? {
+        true => Ok(shown),
+        false => Err(Refusal::NotMember),
+    }
+}
+
+/// A tracker's tab is two spaces and its newline parts two lines, on a board too.
+#[test]
+fn a_tab_and_a_newline_on_a_board(rt: HostRuntime) -> Result<(), Fail> {
+    let shown = kept_shows(rt.alloc(), "a\tb\nc")?;
+    assert_eq!(rt; shown.as_str(), "a  b\nc");
+    Ok(())
+}
+
+/// What isn't a colour sequence is drawn on a board too; what it does to the terminal isn't claimed.
+#[test]
+fn a_sequence_of_another_kind_on_a_board(rt: HostRuntime) -> Result<(), Fail> {
+    assert!(rt; kept_shows(rt.alloc(), "\u{1B}[2J").is_ok());
+    Ok(())
+}
+
+// ---- names of keys
 
 /// Trackers of the names of keys, and two of one name.
 fn named(alloc: Global) -> Result<Look<FnTracker<Says>>, Refusal> {

@@ -159,6 +159,17 @@ impl Judge {
     }
 }
 
+/// The rows that stand once a terminal of this size was given these bytes, those among them that left its window, down to the last one that
+/// isn't empty.
+pub fn shown(alloc: Global, size: Size, bytes: &[u8]) -> Result<Vec<String>, Finding> {
+    let mut judge = Judge::new(alloc, size, Look::EachCall)?;
+    judge.feed(bytes)?;
+    let mut picture = judge.cells.picture()?;
+    let last = picture.iter().rposition(|row| !row.is_empty());
+    picture.truncate(last.map_or(0, |at| at.saturating_add(1)));
+    Ok(picture)
+}
+
 /// Whether the first drawing after a failure begins on a new row; one that fails too, or writes nothing, needn't.
 fn begins_anew(bytes: &[u8], has_failed: bool) -> bool {
     has_failed || bytes.is_empty() || bytes.starts_with(b"\r\n")
@@ -186,12 +197,12 @@ fn fronts_are(rows: &[String], fronts: &[String]) -> bool {
     fronts.len() <= rows.len() && pairs.all(|(front, row)| row.as_str().starts_with(front.as_str()))
 }
 
-/// The rows of a text of letters.
+/// The rows of a text of letters; a newline at its end ends its last line.
 fn rows_of(alloc: Global, text: &str, cols: usize) -> Result<Vec<String>, Finding> {
     let mut rows = Vec::new(alloc);
     let mut row = String::new(alloc);
     let mut columns: usize = 0;
-    for c in text.chars() {
+    for c in text.strip_suffix('\n').unwrap_or(text).chars() {
         if c == '\n' || columns == cols {
             rows.push(row)?;
             row = String::new(alloc);

@@ -33,6 +33,7 @@ impl<T: TermLike + Drop> Stage for OnBar<T> {
         match step {
             Step::Tick(_) => self.bar.tick(0),
             Step::Message(_, text) => self.bar.set_message(text, 0),
+            Step::Told(_, text) => self.bar.with_message(text, 0),
             Step::Finish(_) => self.bar.finish(0),
             Step::Log(text) | Step::BarLog(_, text) => self.bar.println(text, 0),
             Step::Clear => self.bar.clear(0),

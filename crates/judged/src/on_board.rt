@@ -73,6 +73,11 @@ impl<T: TermLike + Drop> OnBoard<T> {
         self.command(bar, BarCommand::SetMessage(text))
     }
 
+    fn told(&mut self, bar: u64, text: &str) -> Said {
+        let text = String::from_str(self.alloc, text)?;
+        self.command(bar, BarCommand::WithMessage(text))
+    }
+
     fn remove(&mut self, bar: u64) -> Said {
         match self.board.remove(id(bar)) {
             Ok(_) => Ok(Drawn::Limited),
@@ -109,6 +114,7 @@ impl<T: TermLike + Drop> Stage for OnBoard<T> {
         match step {
             Step::Tick(bar) => self.command(bar, BarCommand::Tick),
             Step::Message(bar, text) => self.message(bar, text),
+            Step::Told(bar, text) => self.told(bar, text),
             Step::Keep(bar) => {
                 self.command(bar, BarCommand::WithFinish(ProgressFinish::AndLeave))
             }

@@ -35,7 +35,7 @@ impl Plan {
 }
 
 /// What a writer was given so far.
-#[derive(Clone, Copy, Drop)]
+#[derive(Clone, Copy, Default, Drop)]
 pub struct Mark {
     /// Bytes.
     pub bytes: usize,
@@ -50,6 +50,8 @@ pub struct Mark {
 pub struct Record {
     plan: Cell<Plan>,
     mark: Cell<Mark>,
+    failed_call: Cell<u64>,
+    failed_by: Cell<ErrorKind>,
     taken: RefCell<Vec<u8>>,
 }
 
@@ -58,11 +60,9 @@ impl Record {
     pub fn new(alloc: Global, plan: Plan, room: usize) -> Result<Rc<Record>, Refusal> {
         let record = Record {
             plan: Cell::new(plan),
-            mark: Cell::new(Mark {
-                bytes: 0,
-                calls: 0,
-                failures: 0,
-            }),
+            mark: Cell::new(Mark::default()),
+            failed_call: Cell::new(0),
+            failed_by: Cell::new(ErrorKind::BrokenPipe),
             taken: RefCell::new(Vec::with_capacity(alloc, room)?),
         };
         Ok(Rc::new(alloc, record)?)
@@ -78,10 +78,28 @@ impl Record {
         self.mark.get()
     }
 
+    /// The number of the call that failed last; 0 if none has.
+    pub fn failed_call(&self) -> u64 {
+        self.failed_call.get()
+    }
+
+    /// How that call failed.
+    pub fn failed_by(&self) -> ErrorKind {
+        self.failed_by.get()
+    }
+
     /// The bytes that it has taken behind this mark.
     pub fn since(&self, alloc: Global, mark: Mark) -> Result<Vec<u8>, Refusal> {
+        self.between(alloc, mark, self.mark())
+    }
+
+    /// The bytes that it has taken between two marks.
+    pub fn between(&self, alloc: Global, from: Mark, to: Mark) -> Result<Vec<u8>, Refusal> {
         match self.taken.try_borrow() {
-            Ok(taken) => Ok(Vec::from_slice(alloc, taken.get(mark.bytes..).unwrap_or(&[]))?),
+            Ok(taken) => {
+                let bytes = taken.get(from.bytes..to.bytes).unwrap_or(&[]);
+                Ok(Vec::from_slice(alloc, bytes)?)
+            }
             Err(_) => Err(Refusal::Memory),
         }
     }
@@ -94,12 +112,14 @@ impl Record {
         !self.plan.get().denies(mark.calls)
     }
 
-    /// Counts a failure.
-    fn failure(&self) -> Error {
+    /// Counts a failure of this kind.
+    fn failure(&self, kind: ErrorKind) -> Error {
         let mut mark = self.mark.get();
         mark.failures = mark.failures.saturating_add(1);
         self.mark.set(mark);
-        Error::from(ErrorKind::BrokenPipe)
+        self.failed_call.set(mark.calls);
+        self.failed_by.set(kind);
+        Error::from(kind)
     }
 
     /// How many bytes may be taken now; none once where the next one isn't.
@@ -119,7 +139,9 @@ impl Record {
         let Ok(mut taken) = self.taken.try_borrow_mut() else {
             return Err(Error::from(ErrorKind::OutOfMemory));
         };
-        taken.extend_from_slice(bytes)?;
+        if taken.extend_from_slice(bytes).is_err() {
+            return Err(self.failure(ErrorKind::OutOfMemory));
+        }
         let mut mark = self.mark.get();
         mark.bytes = mark.bytes.saturating_add(bytes.len());
         self.mark.set(mark);
@@ -134,10 +156,10 @@ pub struct Wire(pub Rc<Record>);
 impl Write for Wire {
     fn write(&mut self, buf: &[u8]) -> io::Result<usize> {
         if !self.0.admits() {
-            return Err(self.0.failure());
+            return Err(self.0.failure(ErrorKind::BrokenPipe));
         }
         let Some(room) = self.0.room() else {
-            return Err(self.0.failure());
+            return Err(self.0.failure(ErrorKind::BrokenPipe));
         };
         let taken = buf.len().min(room);
         self.0.take(&buf[..taken])?;
@@ -147,7 +169,7 @@ impl Write for Wire {
     fn flush(&mut self) -> io::Result<()> {
         match self.0.admits() {
             true => Ok(()),
-            false => Err(self.0.failure()),
+            false => Err(self.0.failure(ErrorKind::BrokenPipe)),
         }
     }
 }

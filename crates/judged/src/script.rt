@@ -15,6 +15,8 @@ pub enum Step {
     Tick(u64),
     /// A bar says something else.
     Message(u64, &'static str),
+    /// The same, and nothing is drawn.
+    Told(u64, &'static str),
     /// A bar keeps its rows when it is dropped.
     Keep(u64),
     /// A bar is finished.
@@ -45,11 +47,22 @@ impl Step {
         match self {
             Step::Add(_)
             | Step::Before(..)
+            | Step::Told(..)
             | Step::Keep(_)
             | Step::Remove(_)
             | Step::Bottom
             | Step::Top => Ok(Drawn::Limited),
             _ => Ok(Drawn::Yes),
+        }
+    }
+
+    /// What it may have done where memory was refused to its draw alone.
+    pub fn begun(self) -> Option<Step> {
+        match self {
+            Step::Message(bar, text) => Some(Step::Told(bar, text)),
+            Step::Suspend => Some(Step::Clear),
+            Step::Tick(_) | Step::Finish(_) | Step::Drop(_) => Some(self),
+            _ => None,
         }
     }
 
@@ -80,6 +93,30 @@ pub const BOARD: [Step; 20] = [
     Step::Remove(0),
     Step::Log("F"),
     Step::Redraw,
+    Step::Top,
+    Step::Suspend,
+    Step::Clear,
+    Step::Tick(2),
+];
+
+/// The same for a shared board, which has no redraw but behind a clear.
+pub const SHARED: [Step; 20] = [
+    Step::Add("a"),
+    Step::Tick(0),
+    Step::Add("bb"),
+    Step::Before(1, "c\nd"),
+    Step::Tick(2),
+    Step::Tick(1),
+    Step::Log("AB"),
+    Step::Bottom,
+    Step::Message(2, "c"),
+    Step::BarLog(0, "CD\nE"),
+    Step::Keep(1),
+    Step::Drop(1),
+    Step::Tick(0),
+    Step::Remove(0),
+    Step::Log("F"),
+    Step::Suspend,
     Step::Top,
     Step::Suspend,
     Step::Clear,

@@ -7,7 +7,7 @@ use judged::on_bar::OnBar;
 use judged::on_board::OnBoard;
 use judged::played::{Stage, played};
 use judged::record::{Mark, Record};
-use judged::script::{BOARD, LONE, Step};
+use judged::script::{BOARD, LONE, SHARED, Step};
 use std::alloc::Global;
 use std::sync::Wait;
 
@@ -21,7 +21,7 @@ pub enum Kind {
 }
 
 /// The calls of a loop over five items, the last of which finds its end.
-const LOOP: [Step; 6] = [Step::Tick(0); 6];
+pub const LOOP: [Step; 6] = [Step::Tick(0); 6];
 
 impl Kind {
     /// Its name.
@@ -37,7 +37,8 @@ impl Kind {
     /// Its script.
     fn script(self) -> &'static [Step] {
         match self {
-            Kind::Board | Kind::Shared => &BOARD,
+            Kind::Board => &BOARD,
+            Kind::Shared => &SHARED,
             Kind::Lone => &LONE,
             Kind::Loop => &LOOP,
         }

@@ -1,40 +1,173 @@
-//! A script where memory may be refused once.
+//! Scripts where memory may be refused once.
+use crate::in_loop::InLoop;
+use crate::kinds::LOOP;
+use crate::on_shared::OnShared;
+use crate::printing;
+use crate::sweep::Runs;
+use indicatif_text::columns::Refusal;
 use judged::judge::Finding;
 use judged::on_bar::OnBar;
 use judged::on_board::OnBoard;
-use judged::played::Stage;
-use judged::record::{Plan, Record, Size};
-use judged::refused::played_again;
-use judged::script::{BOARD, LONE, Step};
+use judged::record::{Behind, Plan, Record, Size};
+use judged::refused::{Notes, Run, Stages, Where, noted};
+use judged::script::{BOARD, LONE, SHARED, Step};
 use std::alloc::Global;
+use std::rc::Rc;
 
 const SIZE: Size = Size { rows: 4, cols: 6 };
 
-/// How many bytes the terminal's writer has room for from the first: it takes no memory.
+/// How many bytes the terminal's writer has room for from the first, where it takes no memory.
 const ROOM: usize = 4096;
 
-/// Whether a script of `board` or `lone` is as it should be; so is one whose first objects, or whose judge, find no memory.
-pub fn told(alloc: Global, name: &str) -> &'static str {
-    let refused = match name {
-        "board" => on_board(alloc),
-        "lone" => on_bar(alloc),
-        _ => return "no such script",
-    };
-    match refused {
-        Ok(0 | 1) | Err(Finding::Memory) => "as it should be",
-        Ok(_) => "refused more than once",
-        Err(_) => "not as it should be",
+/// Boards.
+#[derive(Drop)]
+struct Boards(Global);
+
+impl Stages for Boards {
+    type Made = OnBoard<Behind>;
+
+    fn on(&self, record: &Rc<Record>) -> Result<OnBoard<Behind>, Refusal> {
+        OnBoard::new(self.0, SIZE.terminal(record)?)
+    }
+
+    fn script(&self) -> &'static [Step] {
+        &BOARD
     }
 }
 
-fn on_board(alloc: Global) -> Result<u64, Finding> {
-    let record = Record::new(alloc, Plan::Never, ROOM)?;
-    let mut stage = OnBoard::new(alloc, SIZE.terminal(&record)?)?;
-    played_again(alloc, &mut stage, &record, &BOARD)
+/// Lone bars.
+#[derive(Drop)]
+struct Bars(Global);
+
+impl Stages for Bars {
+    type Made = OnBar<Behind>;
+
+    fn on(&self, record: &Rc<Record>) -> Result<OnBar<Behind>, Refusal> {
+        OnBar::new(self.0, SIZE.terminal(record)?)
+    }
+
+    fn script(&self) -> &'static [Step] {
+        &LONE
+    }
 }
 
-fn on_bar(alloc: Global) -> Result<u64, Finding> {
-    let record = Record::new(alloc, Plan::Never, ROOM)?;
-    let mut stage = OnBar::new(alloc, SIZE.terminal(&record)?)?;
-    played_again(alloc, &mut stage, &record, &LONE)
+/// Loops with a bar.
+#[derive(Drop)]
+struct Loops(Global);
+
+impl Stages for Loops {
+    type Made = InLoop;
+
+    fn on(&self, record: &Rc<Record>) -> Result<InLoop, Refusal> {
+        InLoop::new(self.0, SIZE.terminal(record)?)
+    }
+
+    fn script(&self) -> &'static [Step] {
+        &LOOP
+    }
+}
+
+/// Shared boards.
+#[derive(Drop)]
+struct Shared<R: Drop>(R);
+
+impl<R: Runs> Stages for Shared<R> {
+    type Made = OnShared<R>;
+
+    fn on(&self, record: &Rc<Record>) -> Result<OnShared<R>, Refusal> {
+        OnShared::new(self.0, SIZE.terminal(record)?, record.clone()?)
+    }
+
+    fn script(&self) -> &'static [Step] {
+        &SHARED
+    }
+}
+
+/// Where memory is taken and may be refused.
+#[derive(Clone, Copy, Drop)]
+pub enum Growing {
+    /// By the library alone.
+    Library,
+    /// By the terminal too.
+    Terminal,
+}
+
+/// What becomes of a script once it was played.
+#[derive(Clone, Copy, Drop)]
+pub enum Judging {
+    /// It is judged.
+    Judged,
+    /// Nothing: so it shows how often a script takes memory.
+    Unjudged,
+}
+
+/// How a script is played.
+#[derive(Clone, Copy, Drop)]
+pub struct Playing {
+    pub growing: Growing,
+    pub judging: Judging,
+}
+
+/// The room that a writer has at first.
+fn room(growing: Growing) -> usize {
+    match growing {
+        Growing::Library => ROOM,
+        Growing::Terminal => 0,
+    }
+}
+
+fn record_of(alloc: Global, growing: Growing) -> Result<Rc<Record>, Refusal> {
+    match Record::new(alloc, Plan::Never, room(growing)) {
+        Ok(record) => Ok(record),
+        Err(_) => Record::new(alloc, Plan::Never, room(growing)),
+    }
+}
+
+fn notes_of(alloc: Global) -> Result<Notes, Finding> {
+    match Notes::new(alloc) {
+        Ok(notes) => Ok(notes),
+        Err(_) => Notes::new(alloc),
+    }
+}
+
+/// Plays a script, and judges it; twice where the judge finds no memory.
+fn told<M: Stages>(alloc: Global, stages: &M, playing: Playing) -> Result<Where, Finding> {
+    let record = record_of(alloc, playing.growing)?;
+    let mut notes = notes_of(alloc)?;
+    let mut stage = match stages.on(&record) {
+        Ok(stage) => stage,
+        Err(Refusal::Memory) => return Ok(Where::Unmade),
+        Err(_) => return Err(Finding::Answer),
+    };
+    noted(&mut stage, &record, stages.script(), &mut notes)?;
+    if let Judging::Unjudged = playing.judging {
+        return Ok(Where::Nowhere);
+    }
+    let run = Run {
+        alloc,
+        size: SIZE,
+        stages,
+        record: &record,
+        notes: &notes,
+    };
+    match run.judged() {
+        Err(Finding::Memory) => run.judged(),
+        judged => judged,
+    }
+}
+
+/// What plays a script, by its name.
+pub const NAMES: [&str; 5] = ["board", "lone", "shared", "loop", "run"];
+
+/// Where memory was refused in the script of a name; nothing where there is no such script.
+pub fn found<R: Runs>(rt: R, name: &str, playing: Playing) -> Option<Result<Where, Finding>> {
+    let alloc = rt.alloc();
+    Some(match name {
+        "board" => told(alloc, &Boards(alloc), playing),
+        "lone" => told(alloc, &Bars(alloc), playing),
+        "shared" => told(alloc, &Shared(rt), playing),
+        "loop" => told(alloc, &Loops(alloc), playing),
+        "run" => printing::refused(alloc),
+        _ => return None,
+    })
 }

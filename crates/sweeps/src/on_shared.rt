@@ -7,7 +7,6 @@ use judged::played::Stage;
 use judged::record::{Behind, Record};
 use judged::script::{Said, Step};
 use std::alloc::Global;
-use std::io::ErrorKind;
 use std::rc::Rc;
 use std::sync::Wait;
 
@@ -46,7 +45,7 @@ impl<R: AllocGlobal + Wait + Copy + Clone + Drop> OnShared<R> {
             rt,
             alloc,
             board: MultiProgress::new(rt, alloc, setup, 1)?,
-            bars: Vec::new(alloc),
+            bars: Vec::with_capacity(alloc, 8)?,
             record,
         })
     }
@@ -78,6 +77,12 @@ impl<R: Wait + Copy + Clone + Drop> OnShared<R> {
         Ok(self.bars.push(Some(bar))?)
     }
 
+    fn told(&mut self, number: u64, text: &str) -> Result<(), Refusal> {
+        let bar = self.bar(number)?.clone()?;
+        drop(bar.with_message(text)?);
+        Ok(())
+    }
+
     fn keep(&mut self, number: u64) -> Result<(), Refusal> {
         let bar = self.bar(number)?.clone()?;
         drop(bar.with_finish(ProgressFinish::AndLeave)?);
@@ -92,7 +97,7 @@ impl<R: Wait + Copy + Clone + Drop> OnShared<R> {
         }
         match self.record.mark().failures == before {
             true => Ok(Drawn::Yes),
-            false => Err(Refusal::Terminal(ErrorKind::BrokenPipe)),
+            false => Err(Refusal::Terminal(self.record.failed_by())),
         }
     }
 
@@ -104,6 +109,7 @@ impl<R: Wait + Copy + Clone + Drop> OnShared<R> {
         match step {
             Step::Add(text) => self.add(text),
             Step::Before(anchor, text) => self.before(anchor, text),
+            Step::Told(bar, text) => self.told(bar, text),
             Step::Keep(bar) => self.keep(bar),
             Step::Remove(bar) => self.remove(bar),
             Step::Bottom => self.board.set_alignment(MultiProgressAlignment::Bottom),
@@ -123,7 +129,7 @@ impl<R: Wait + Copy + Clone + Drop> Stage for OnShared<R> {
             Step::Log(text) => self.board.println(text),
             Step::BarLog(bar, text) => self.bar(bar)?.println(text),
             Step::Clear => self.board.clear(),
-            Step::Redraw | Step::Suspend => self.board.suspend(|| ()).1,
+            Step::Suspend => self.board.suspend(|| ()).1,
             _ => done(self.settles(step)),
         }
     }

@@ -1,7 +1,9 @@
 //! `bars run` before an output that fails at each of its bytes.
 use anyhow::Result;
 use bars_run::run_bars;
-use std::alloc::Global;
+use judged::judge::Finding;
+use judged::refused::Where;
+use std::alloc::{AllocError, Global};
 use std::io;
 use std::io::{Error, ErrorKind, Write};
 
@@ -61,6 +63,51 @@ fn words(alloc: Global) -> Result<Vec<String>> {
         args.push(String::from_str(alloc, word)?)?;
     }
     Ok(args)
+}
+
+/// Where memory was refused in a run, in which the output has room for all: it prints that, or says which line it was, or that it was none.
+pub fn refused(alloc: Global) -> Result<Where, Finding> {
+    let args = match words(alloc) {
+        Ok(args) => args,
+        Err(_) => words(alloc).map_err(|_| Finding::Memory)?,
+    };
+    let mut output = Output {
+        taken: again(Vec::with_capacity(alloc, 64), alloc)?,
+        room: usize::MAX,
+    };
+    let mut said = again(Vec::with_capacity(alloc, 64), alloc)?;
+    let status = run_bars(alloc, &args, COMMANDS, &mut output, &mut said);
+    match status {
+        0 if output.taken.as_slice() == PRINTED && said.is_empty() => Ok(Where::Nowhere),
+        1 if output.taken.is_empty() => named(&said),
+        _ => Err(Finding::Answer),
+    }
+}
+
+/// The room, or as much once more where memory was refused.
+fn again(room: Result<Vec<u8>, AllocError>, alloc: Global) -> Result<Vec<u8>, Finding> {
+    match room {
+        Ok(room) => Ok(room),
+        Err(_) => Ok(Vec::with_capacity(alloc, 64)?),
+    }
+}
+
+/// Where memory was refused by what is said on standard error: in a line, or before the first and behind the last.
+fn named(said: &[u8]) -> Result<Where, Finding> {
+    let Some(rest) = said.strip_prefix(b"bars: ") else {
+        return Err(Finding::Answer);
+    };
+    let (line, rest) = match rest {
+        [b'l', b'i', b'n', b'e', b' ', digit, b':', b' ', rest @ ..] => {
+            (usize::from(digit.wrapping_sub(b'0')), rest)
+        }
+        _ => (0, rest),
+    };
+    match rest {
+        b"E14\n" if line <= 9 => Ok(Where::Call(line)),
+        b"E13\n" if line <= 9 => Ok(Where::Terminal(line)),
+        _ => Err(Finding::Answer),
+    }
 }
 
 /// How many runs there are, one for each room up to that for all, and how many of them aren't as they should be.

@@ -1,4 +1,6 @@
 //! Random numbers.
+ghost use Rattle.std.specs.Prelude.{◌<◌};
+
 use indicatif_term::draw_target::MultiProgressAlignment;
 use rand_core::utils::NextWord;
 use rand_pcg::Pcg32;
@@ -17,7 +19,9 @@ impl Chance {
     }
 
     /// A number below this one; 0 where that is 0.
-    pub fn below(&mut self, bound: u32) -> u32 {
+    pub fn below(&mut self, bound: u32) -> u32
+        ensures { 0 < bound → result < bound }
+    {
         let word = self.words.next_word();
         if bound == 0 { 0 } else { word % bound }
     }

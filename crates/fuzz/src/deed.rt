@@ -22,9 +22,9 @@ pub enum Deed {
 }
 
 impl Deed {
-    /// What this number stands for: its bits from the 40th on.
-    pub fn of(number: u64) -> Deed {
-        match (number >> 40) % 16 {
+    /// What a number below 16 stands for.
+    pub fn of(number: usize) -> Deed {
+        match number {
             0 => Deed::Log,
             1 => Deed::LogByBar,
             2 => Deed::TellOn,

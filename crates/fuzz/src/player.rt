@@ -4,8 +4,8 @@ use crate::numbers::Numbers;
 use indicatif::machine::MachineClock;
 use indicatif::{Change, Drawn, InMemoryTerm, MultiProgress, ProgressBar, Refusal};
 use std::sync::Wait;
-use std::thread::Threads;
-use std::time::Clock;
+use std::thread::{Threads, sleep};
+use std::time::{Clock, Duration};
 
 /// What the runtime is asked for.
 pub trait Plays: AllocGlobal + Threads + Wait + Clock + Sync + Send + Copy + Drop + 'static {}
@@ -38,24 +38,32 @@ impl<'a, R: Plays> Player<'a, R> {
         }
     }
 
-    /// Makes so many calls by this seed; how many lines it logged.
+    /// Makes so many calls by this seed, before some of which it waits for a while; how many lines it logged.
     pub fn plays(&self, seed: u64, steps: u64) -> Result<u64, Refusal> {
         let mut numbers = Numbers::new(seed, self.number);
         let mut logged: u64 = 0;
         for step in 0..steps {
-            let number = numbers.next();
-            let deed = Deed::of(number);
+            self.waits(&mut numbers);
+            let deed = Deed::of(numbers.below(16));
             if deed.logs() {
                 logged = logged.wrapping_add(1);
             }
-            self.makes(deed, (number >> 33) as usize, step)?;
+            self.makes(deed, numbers.below(self.bars.len()), step)?;
         }
         Ok(logged)
     }
 
+    /// Waits up to a fifth of a millisecond, or not at all.
+    fn waits(&self, numbers: &mut Numbers) {
+        if numbers.one_in(3) {
+            let nanos = u64::from(numbers.next() % 200_000);
+            sleep(self.rt, Duration::from_nanos(nanos));
+        }
+    }
+
     /// Makes one call, of a bar that this number picks.
     fn makes(&self, deed: Deed, pick: usize, step: u64) -> Result<(), Refusal> {
-        let Some(bar) = self.bars.get(pick % self.bars.len().max(1)) else {
+        let Some(bar) = self.bars.get(pick) else {
             return Ok(());
         };
         match deed {

@@ -1,0 +1,235 @@
+//! Random lists of calls of a board.
+use crate::calls::{MARK, board_call};
+use crate::law::{Held, Law};
+use crate::numbers::Numbers;
+use crate::setting::{Setting, Watch, Wrote};
+use indicatif_bar::state::BarCommand;
+use indicatif_bar::style::NoTracker;
+use indicatif_board::multi::{Answer, BarId, Board, Call, Candidate, InsertLocation};
+use indicatif_text::columns::{Drawn, Moment, Refusal};
+use judged::record::{Behind, Record};
+use std::alloc::Global;
+use std::rc::Rc;
+
+type Calls = Vec<(Call<NoTracker>, Moment)>;
+
+type OnWire = Box<Board<NoTracker, Behind>>;
+
+fn board_on(alloc: Global, record: &Rc<Record>, setting: Setting) -> Result<OnWire, Law> {
+    let board = Board::new(alloc, setting.target(record)?, MARK);
+    Ok(Box::new(alloc, board)?)
+}
+
+fn random_calls(alloc: Global, numbers: &mut Numbers) -> Result<Calls, Law> {
+    let mut calls = Vec::new(alloc);
+    let mut now: Moment = 0;
+    for _ in 0..numbers.up_to(40) {
+        calls.push((board_call(alloc, numbers)?, now))?;
+        now = numbers.moment(now);
+    }
+    Ok(calls)
+}
+
+fn copies(alloc: Global, calls: &Calls) -> Result<Calls, Law> {
+    let mut copies = Vec::new(alloc);
+    for (call, now) in calls {
+        copies.push((call.try_clone(alloc)?, *now))?;
+    }
+    Ok(copies)
+}
+
+/// What a call has to answer before anything is drawn.
+#[derive(Clone, Copy, Drop)]
+enum Wanted {
+    /// This refusal.
+    Refused(Refusal),
+    /// This bar.
+    Id(BarId),
+    /// That it was done.
+    Done,
+    /// What a draw answers.
+    Draw,
+}
+
+fn logged_by(call: &Call<NoTracker>) -> Option<&str> {
+    match call {
+        Call::Log(text) | Call::BarLog(_, text) => Some(text.as_str()),
+        _ => None,
+    }
+}
+
+fn drawn_of(answer: &Answer) -> Result<Result<Drawn, Refusal>, Law> {
+    match answer {
+        Answer::Drawn(drawn) => Ok(Ok(*drawn)),
+        Answer::Refused(refusal) => Ok(Err(*refusal)),
+        _ => Err(Law::Answer),
+    }
+}
+
+/// A board that makes calls one by one, what its terminal is given, how many bars came, and which of them have no owner.
+#[derive(Drop)]
+struct Stage {
+    alloc: Global,
+    setting: Setting,
+    board: OnWire,
+    watch: Watch,
+    came: u64,
+    gone: Vec<u64>,
+    draws: u64,
+}
+
+impl Stage {
+    fn new(alloc: Global, setting: Setting) -> Result<Stage, Law> {
+        let record = setting.record(alloc)?;
+        Ok(Stage {
+            alloc,
+            setting,
+            board: board_on(alloc, &record, setting)?,
+            watch: Watch::new(alloc, setting, record)?,
+            came: 0,
+            gone: Vec::new(alloc),
+            draws: 0,
+        })
+    }
+
+    /// What refuses a call of this bar.
+    fn lacks(&self, id: BarId) -> Option<Refusal> {
+        if id.mark != MARK {
+            return Some(Refusal::ForeignBar);
+        }
+        let is_there = self.board.order().contains(&id.number);
+        match is_there && !self.gone.contains(&id.number) {
+            true => None,
+            false => Some(Refusal::NotMember),
+        }
+    }
+
+    fn of_bar(&self, id: BarId) -> Wanted {
+        match self.lacks(id) {
+            Some(refusal) => Wanted::Refused(refusal),
+            None => Wanted::Draw,
+        }
+    }
+
+    fn of_insertion(&self, at: InsertLocation, candidate: &Candidate<NoTracker>) -> Wanted {
+        let anchor = match at {
+            InsertLocation::Before(id) | InsertLocation::After(id) => self.lacks(id),
+            _ => None,
+        };
+        let member = match candidate {
+            Candidate::Member(id) => self.lacks(*id),
+            Candidate::New(_) => None,
+        };
+        match (anchor, member, candidate) {
+            (Some(refusal), _, _) | (None, Some(refusal), _) => Wanted::Refused(refusal),
+            (None, None, Candidate::Member(id)) => Wanted::Id(*id),
+            (None, None, Candidate::New(_)) => Wanted::Id(BarId {
+                mark: MARK,
+                number: self.came,
+            }),
+        }
+    }
+
+    fn of_command(&self, id: BarId, command: &BarCommand<NoTracker>, now: Moment) -> Wanted {
+        match (self.lacks(id), command) {
+            (Some(refusal), _) => Wanted::Refused(refusal),
+            (None, BarCommand::SetElapsed(nanos)) if *nanos > now => {
+                Wanted::Refused(Refusal::ElapsedBeyondClock)
+            }
+            _ => Wanted::Draw,
+        }
+    }
+
+    /// What a call has to answer before anything is drawn.
+    fn wanted(&self, call: &Call<NoTracker>, now: Moment) -> Wanted {
+        match call {
+            Call::Insert { at, candidate } => self.of_insertion(*at, candidate),
+            Call::Remove(id) if id.mark != MARK => Wanted::Refused(Refusal::ForeignBar),
+            Call::Remove(_) | Call::Align(_) => Wanted::Done,
+            Call::Drop(id) | Call::BarLog(id, _) => self.of_bar(*id),
+            Call::Log(_) | Call::Clear | Call::Redraw => Wanted::Draw,
+            Call::Bar(id, command) => self.of_command(*id, command, now),
+        }
+    }
+
+    /// An answer is the one that it has to be.
+    fn is_right(&self, wanted: Wanted, answer: &Answer, wrote: Wrote) -> Held {
+        let is_right = match wanted {
+            Wanted::Draw => return self.setting.draws(&drawn_of(answer)?, wrote),
+            Wanted::Refused(refusal) => *answer == Answer::Refused(refusal),
+            Wanted::Id(id) => *answer == Answer::Id(id),
+            Wanted::Done => *answer == Answer::Done,
+        };
+        Law::Answer.holds(is_right)?;
+        Law::Written.holds(!wrote.has_bytes && !wrote.has_failed)
+    }
+
+    /// What is known of the bars behind a call that was taken.
+    fn notes(
+        &mut self,
+        call: &Call<NoTracker>,
+        wanted: Wanted,
+        answer: &Answer,
+        now: Moment,
+    ) -> Held {
+        match (call, wanted) {
+            (Call::Insert { .. }, Wanted::Id(id)) if id.number == self.came => {
+                self.came = self.came.saturating_add(1);
+            }
+            (Call::Drop(id), Wanted::Draw) => self.gone.push(id.number)?,
+            (Call::Bar(_, BarCommand::Tick), Wanted::Draw)
+                if *answer == Answer::Drawn(Drawn::Yes) => {
+                self.draws = self.draws.saturating_add(1);
+                self.setting.allows(self.draws, now)?;
+            }
+            _ => {}
+        }
+        Law::Order.holds(self.is_order())
+    }
+
+    /// Each bar that came stands at most once.
+    fn is_order(&self) -> bool {
+        let order = self.board.order();
+        let mut bars = order.iter();
+        bars.all(|bar| *bar < self.came
+            && order.iter().filter(|other| **other == *bar).count() == 1)
+    }
+
+    /// Makes a call that has to answer and to leave what it should; what it answers.
+    fn makes(&mut self, call: &Call<NoTracker>, now: Moment) -> Result<Answer, Law> {
+        let before = self.watch.mark();
+        let wanted = self.wanted(call, now);
+        let answer = self.board.call(call.try_clone(self.alloc)?, now);
+        let wrote = self.watch.looks(before)?;
+        self.is_right(wanted, &answer, wrote)?;
+        self.notes(call, wanted, &answer, now)?;
+        if let Wanted::Draw = wanted {
+            self.watch.logged(logged_by(call), &drawn_of(&answer)?)?;
+        }
+        Ok(answer)
+    }
+
+    /// Each of these calls alone answers as it did in a run.
+    fn answers(&mut self, calls: &Calls, answers: &[Answer]) -> Held {
+        Law::Replay.holds(calls.len() == answers.len())?;
+        for ((call, now), wanted) in calls.iter().zip(answers.iter()) {
+            let answer = self.makes(call, *now)?;
+            Law::Replay.holds(answer == *wanted)?;
+        }
+        Ok(())
+    }
+}
+
+/// A random list of calls of a board: in a run and one by one they answer and write the same, as they should.
+pub fn played(alloc: Global, numbers: &mut Numbers) -> Held {
+    let setting = Setting::by(numbers);
+    let calls = random_calls(alloc, numbers)?;
+    let run_record = setting.record(alloc)?;
+    let mut run = board_on(alloc, &run_record, setting)?;
+    let answers = run.run(copies(alloc, &calls)?)?;
+    let mut stage = Stage::new(alloc, setting)?;
+    stage.answers(&calls, &answers)?;
+    Law::Replay.holds(run.order() == stage.board.order())?;
+    let run_watch = Watch::new(alloc, setting, run_record)?;
+    Law::Replay.holds(run_watch.bytes()? == stage.watch.bytes()?)
+}

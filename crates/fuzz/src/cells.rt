@@ -1,0 +1,148 @@
+//! Random bytes for the cell terminal.
+use crate::law::{Held, Law};
+use crate::numbers::Numbers;
+use indicatif_term::in_memory::Cells;
+use indicatif_text::columns::{Refusal, columns};
+use std::alloc::Global;
+
+/// Sequences, characters of all widths, and beginnings of both.
+const PIECES: [&[u8]; 32] = [
+    b"\r",
+    b"\n",
+    b"\r\n",
+    b"\x1B",
+    b"[",
+    b"\x1B[",
+    b";",
+    b"2",
+    b"0",
+    b"A",
+    b"K",
+    b"m",
+    b"\x1B[A",
+    b"\x1B[2A",
+    b"\x1B[B",
+    b"\x1B[3C",
+    b"\x1B[D",
+    b"\x1B[99D",
+    b"\x1B[2K",
+    b"\x1B[02K",
+    b"\x1B[1;31m",
+    b"\x1B[?25l",
+    b"\x1B[70000C",
+    b"\t",
+    b"a",
+    b"xyz",
+    b" ",
+    b"\xE5\x9B\xBD",
+    b"\xCC\x88",
+    b"\xE1\x9F\x98",
+    b"\xE5\x9B",
+    b"\xF0\x9F\x98\x80",
+];
+
+/// So many bytes: half of them from pieces, the others any.
+fn random_bytes(alloc: Global, numbers: &mut Numbers, count: usize) -> Result<Vec<u8>, Law> {
+    let mut bytes = Vec::new(alloc);
+    for _ in 0..count {
+        if bytes.len() < count {
+            push_some(numbers, &mut bytes)?;
+        }
+    }
+    bytes.truncate(count);
+    Ok(bytes)
+}
+
+fn push_some(numbers: &mut Numbers, bytes: &mut Vec<u8>) -> Held {
+    if numbers.one_in(3) {
+        return Ok(bytes.push(numbers.byte())?);
+    }
+    let at = numbers.below(PIECES.len());
+    Ok(bytes.extend_from_slice(PIECES.get(at).copied().unwrap_or(b""))?)
+}
+
+fn feed(cells: &mut Cells, bytes: &[u8]) -> Held {
+    match cells.feed(bytes) {
+        Ok(()) => Ok(()),
+        Err((_, refusal)) => Err(Law::Refused(refusal)),
+    }
+}
+
+/// Feeds bytes in random pieces.
+fn feed_cut(alloc: Global, numbers: &mut Numbers, cells: &mut Cells, bytes: &[u8]) -> Held {
+    let mut piece: Vec<u8> = Vec::new(alloc);
+    for byte in bytes {
+        piece.push(*byte)?;
+        if numbers.one_in(3) {
+            feed(cells, &piece)?;
+            piece.clear();
+        }
+    }
+    feed(cells, &piece)
+}
+
+fn feed_each(cells: &mut Cells, bytes: &[u8]) -> Held {
+    for byte in bytes {
+        feed(cells, &[*byte])?;
+    }
+    Ok(())
+}
+
+/// Two terminals show the same, and so do their cursors.
+fn are_alike(one: &Cells, other: &Cells) -> Result<bool, Refusal> {
+    Ok(one.picture()? == other.picture()? && one.cursor() == other.cursor())
+}
+
+/// Rows and columns of a terminal.
+type Sizes = (u16, u16);
+
+/// How many rows have scrolled away.
+fn scrolled(picture: &[String], (rows, _): Sizes) -> usize {
+    picture.len().saturating_sub(usize::from(rows))
+}
+
+/// Whether these rows begin with so many of the others.
+fn begins_with(rows: &[String], front: &[String], count: usize) -> bool {
+    let mut pairs = rows.iter().zip(front.iter()).take(count);
+    count <= rows.len() && pairs.all(|(one, other)| one == other)
+}
+
+/// No row is too wide, and the cursor stands in the window.
+fn is_within(picture: &[String], cursor: (u16, u16), (rows, cols): Sizes) -> bool {
+    let (row, column) = cursor;
+    let mut widths = picture.iter().map(|row| columns(row.as_str()));
+    row < rows && column <= cols && widths.all(|width| width <= usize::from(cols))
+}
+
+/// Feeds bytes in two halves: what has scrolled away behind the first stays, and all stands in the window.
+fn feed_halves(cells: &mut Cells, (front, back): (&[u8], &[u8]), sizes: Sizes) -> Held {
+    feed(cells, front)?;
+    let before = cells.picture()?;
+    feed(cells, back)?;
+    let after = cells.picture()?;
+    let stays = begins_with(&after, &before, scrolled(&before, sizes));
+    Law::Scrolled.holds(stays)?;
+    Law::Window.holds(is_within(&after, cells.cursor(), sizes))
+}
+
+/// So many random bytes give the same cells whole, in two halves, in random pieces and one by one.
+pub fn fed(alloc: Global, numbers: &mut Numbers, count: usize) -> Held {
+    let bytes = random_bytes(alloc, numbers, count)?;
+    let sizes = (
+        numbers.size(5).saturating_add(1),
+        numbers.size(11).saturating_add(1),
+    );
+    let middle = numbers.below(count);
+    let front = bytes.get(..middle).unwrap_or(&[]);
+    let back = bytes.get(middle..).unwrap_or(&[]);
+    let mut whole = Cells::new(alloc, sizes.0, sizes.1)?;
+    feed(&mut whole, &bytes)?;
+    let mut halves = Cells::new(alloc, sizes.0, sizes.1)?;
+    feed_halves(&mut halves, (front, back), sizes)?;
+    let mut cut = Cells::new(alloc, sizes.0, sizes.1)?;
+    feed_cut(alloc, numbers, &mut cut, &bytes)?;
+    let mut each = Cells::new(alloc, sizes.0, sizes.1)?;
+    feed_each(&mut each, &bytes)?;
+    let same = are_alike(&whole, &halves)? && are_alike(&whole, &cut)? && are_alike(&whole, &each)?;
+    Law::Cut.holds(same)
+}

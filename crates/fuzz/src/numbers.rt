@@ -1,0 +1,68 @@
+//! Random numbers by a seed.
+use rand_core::utils::NextWord;
+use rand_pcg::Pcg32;
+
+/// Numbers one after another, which a seed and the number of a stream determine.
+#[derive(Drop)]
+pub struct Numbers {
+    words: Pcg32,
+}
+
+impl Numbers {
+    /// The numbers of this seed in this stream.
+    pub fn new(seed: u64, stream: u64) -> Numbers {
+        Numbers {
+            words: Pcg32::new(seed, stream),
+        }
+    }
+
+    /// The next one.
+    pub fn next(&mut self) -> u32 {
+        self.words.next_word()
+    }
+
+    /// The next byte.
+    pub fn byte(&mut self) -> u8 {
+        let [byte, _, _, _] = self.next().to_le_bytes();
+        byte
+    }
+
+    /// A number below this one; 0 where there is none.
+    pub fn below(&mut self, count: usize) -> usize {
+        self.next() as usize % count.max(1)
+    }
+
+    /// A number from 1 up to this one.
+    pub fn up_to(&mut self, most: usize) -> usize {
+        self.below(most).saturating_add(1)
+    }
+
+    /// A number of rows or columns, from 0 up to this one.
+    pub fn size(&mut self, most: u16) -> u16 {
+        let [low, high, _, _] = self.next().to_le_bytes();
+        u16::from_le_bytes([low, high]) % most.saturating_add(1).max(1)
+    }
+
+    /// The moment of the next call: mostly the same or a little later, and once in eight times any in the first second.
+    pub fn moment(&mut self, now: u64) -> u64 {
+        match self.below(8) {
+            0 => u64::from(self.next() % 1_000_000_000),
+            1 | 2 => now.saturating_add(u64::from(self.next() % 100_000_000)),
+            _ => now,
+        }
+    }
+
+    /// True once in so many times.
+    pub fn one_in(&mut self, count: usize) -> bool {
+        self.below(count) == 0
+    }
+
+    /// One of these texts.
+    pub fn text_of<'a>(&mut self, texts: &[&'a str]) -> &'a str {
+        let at = self.below(texts.len());
+        match texts.get(at) {
+            Some(text) => text,
+            None => "",
+        }
+    }
+}

@@ -1,0 +1,172 @@
+//! Where a list of calls is played.
+use crate::law::{Held, Law};
+use crate::numbers::Numbers;
+use indicatif_term::draw_target::ProgressDrawTarget;
+use indicatif_text::columns::{Drawn, Moment, Refusal};
+use judged::judge::{Judge, Look};
+use judged::record::{Behind, Mark, Plan, Record, Size};
+use std::alloc::Global;
+use std::io::ErrorKind;
+use std::rc::Rc;
+
+/// A terminal of this size that fails so, how often it is drawn, and how closely its bytes are looked at.
+#[derive(Clone, Copy, Drop)]
+pub struct Setting {
+    size: Size,
+    plan: Plan,
+    is_limited: bool,
+    look: Look,
+}
+
+/// Draws a second of a limited target, and the time between two of them.
+const RATE: u8 = 20;
+
+const INTERVAL: Moment = 50_000_000;
+
+/// How many draws are in hand at once.
+const AT_ONCE: u64 = 20;
+
+fn random_plan(numbers: &mut Numbers) -> Plan {
+    match numbers.below(10) {
+        0 => Plan::Call(numbers.up_to(60) as u64),
+        1 => Plan::Byte(numbers.below(400)),
+        2 => Plan::From(numbers.up_to(60) as u64),
+        3 => Plan::Both(numbers.up_to(30) as u64, numbers.up_to(60) as u64),
+        _ => Plan::Never,
+    }
+}
+
+/// One to five rows and one to ten columns; once in twenty times any of the two may be 0.
+fn random_size(numbers: &mut Numbers) -> Size {
+    let least = if numbers.one_in(20) { 0 } else { 1 };
+    Size {
+        rows: numbers.size(4).saturating_add(least),
+        cols: numbers.size(9).saturating_add(least),
+    }
+}
+
+impl Setting {
+    /// Any.
+    pub fn by(numbers: &mut Numbers) -> Setting {
+        Setting {
+            size: random_size(numbers),
+            plan: random_plan(numbers),
+            is_limited: numbers.one_in(3),
+            look: if numbers.one_in(8) {
+                Look::EachByte
+            } else {
+                Look::EachCall
+            },
+        }
+    }
+
+    /// What the terminal is given.
+    pub fn record(self, alloc: Global) -> Result<Rc<Record>, Refusal> {
+        Record::new(alloc, self.plan, 1024)
+    }
+
+    /// The target before a record.
+    pub fn target(self, record: &Rc<Record>) -> Result<ProgressDrawTarget<Behind>, Refusal> {
+        let term = self.size.terminal(record)?;
+        match self.is_limited {
+            true => ProgressDrawTarget::term_like_with_hz(term, RATE, 0),
+            false => Ok(ProgressDrawTarget::term_like(term)),
+        }
+    }
+
+    /// Who judges the bytes; nobody where the terminal has no rows or no columns.
+    pub fn judge(self, alloc: Global) -> Result<Option<Judge>, Law> {
+        if self.size.rows == 0 || self.size.cols == 0 {
+            return Ok(None);
+        }
+        Ok(Some(Judge::new(alloc, self.size, self.look)?))
+    }
+
+    /// So many draws that weren't forced, the last of them at this moment, are as many as the rate allows.
+    pub fn allows(self, draws: u64, last: Moment) -> Held {
+        let most = AT_ONCE.saturating_add(last / INTERVAL);
+        Law::Limit.holds(!self.is_limited || draws <= most)
+    }
+
+    /// A call that may draw answers so only where that is right.
+    pub fn draws(self, said: &Result<Drawn, Refusal>, wrote: Wrote) -> Held {
+        let cols = self.size.cols;
+        let is_right = match said {
+            Err(Refusal::Terminal(ErrorKind::BrokenPipe)) => wrote.has_failed,
+            Ok(Drawn::Yes) => cols > 0,
+            Ok(Drawn::Limited) => true,
+            Err(Refusal::NoColumns) => cols == 0,
+            Err(Refusal::TooWide) => cols == 1,
+            _ => false,
+        };
+        let is_failure = matches!(said, Err(Refusal::Terminal(_)));
+        Law::Answer.holds(is_right && is_failure == wrote.has_failed)?;
+        let may_write = matches!(said, Ok(Drawn::Yes) | Err(Refusal::Terminal(_)));
+        Law::Written.holds(may_write || !wrote.has_bytes)
+    }
+}
+
+/// What a call did to the terminal.
+#[derive(Clone, Copy, Drop)]
+pub struct Wrote {
+    /// It wrote something.
+    pub has_bytes: bool,
+    /// The terminal failed in it.
+    pub has_failed: bool,
+}
+
+/// The terminal behind a call, and who judges what it was given.
+#[derive(Drop)]
+pub struct Watch {
+    alloc: Global,
+    record: Rc<Record>,
+    judge: Option<Judge>,
+}
+
+impl Watch {
+    /// Watches this record in this setting.
+    pub fn new(alloc: Global, setting: Setting, record: Rc<Record>) -> Result<Watch, Law> {
+        let judge = setting.judge(alloc)?;
+        Ok(Watch {
+            alloc,
+            record,
+            judge,
+        })
+    }
+
+    /// What was written behind so many bytes and failures; rows above stand.
+    pub fn looks(&mut self, before: Mark) -> Result<Wrote, Law> {
+        let bytes = self.record.since(self.alloc, before)?;
+        let has_failed = self.record.mark().failures != before.failures;
+        if let Some(judge) = &mut self.judge {
+            judge.reads(&bytes, has_failed)?;
+        }
+        Ok(Wrote {
+            has_bytes: !bytes.is_empty(),
+            has_failed,
+        })
+    }
+
+    /// How much the terminal was given.
+    pub fn mark(&self) -> Mark {
+        self.record.mark()
+    }
+
+    /// All that it took.
+    pub fn bytes(&self) -> Result<Vec<u8>, Law> {
+        let opening = Mark {
+            bytes: 0,
+            calls: 0,
+            failures: 0,
+        };
+        Ok(self.record.since(self.alloc, opening)?)
+    }
+
+    /// A text was logged, where that is so.
+    pub fn logged(&mut self, text: Option<&str>, said: &Result<Drawn, Refusal>) -> Held {
+        match (&mut self.judge, text) {
+            (Some(judge), Some(text)) if *said == Ok(Drawn::Yes) => Ok(judge.logged(text)?),
+            _ => Ok(()),
+        }
+    }
+}

@@ -1,0 +1,261 @@
+//! Random templates, and the styles of those that have parts.
+use crate::law::{Held, Law};
+use crate::numbers::Numbers;
+use crate::texts::{joined, message};
+use indicatif_bar::state::BarState;
+use indicatif_bar::style::{NoTracker, ProgressStyle};
+use indicatif_term::draw_target::LineType;
+use indicatif_text::columns::{Refusal, pieces};
+use indicatif_text::template::{Template, TemplateError};
+use std::alloc::Global;
+use std::convert::AsStr;
+
+/// What templates are of, and what breaks them.
+const PIECES: [&str; 44] = [
+    "{",
+    "}",
+    "{{",
+    "}}",
+    ":",
+    ".",
+    "!",
+    "/",
+    "<",
+    "^",
+    ">",
+    " ",
+    "\n",
+    "\t",
+    "0",
+    "9",
+    "70000",
+    "a",
+    "国",
+    "\u{308}",
+    "red",
+    "cyan.on_blue",
+    "{msg}",
+    "{prefix}",
+    "{pos}",
+    "{len}",
+    "{bar}",
+    "{wide_bar}",
+    "{wide_msg}",
+    "{spinner}",
+    "{percent}",
+    "{percent_precise}",
+    "{eta}",
+    "{elapsed_precise}",
+    "{per_sec}",
+    "{bytes}/{total_bytes}",
+    "{msg:5}",
+    "{msg:^7!}",
+    "{pos:>9}",
+    "{bar:8.red/blue}",
+    "{wide_bar:.green.on_red/blue}",
+    "{human_pos:<4.bold}",
+    "{prefix:.dim}",
+    "{key}",
+];
+
+/// The first so many characters of a text.
+fn front_of(alloc: Global, text: &str, count: usize) -> Result<String, Law> {
+    let mut front = String::new(alloc);
+    for c in text.chars().take(count) {
+        front.push(c)?;
+    }
+    Ok(front)
+}
+
+/// What refuses a text.
+fn refusal_of(alloc: Global, text: &str) -> Result<Option<Refusal>, Law> {
+    match Template::parse(alloc, text) {
+        Ok(_) => Ok(None),
+        Err(TemplateError::Unexpected { next, state }) => {
+            Ok(Some(Refusal::Template { next, state }))
+        }
+        Err(TemplateError::WidthTooLarge) => Ok(Some(Refusal::WidthTooLarge)),
+        Err(TemplateError::Memory) => Err(Law::Refused(Refusal::Memory)),
+    }
+}
+
+/// What is refused of a beginning is refused of the whole.
+fn has_a_fair_beginning(
+    alloc: Global,
+    numbers: &mut Numbers,
+    text: &str,
+    refusal: Option<Refusal>,
+) -> Held {
+    let count = numbers.below(text.len().saturating_add(1));
+    let front = front_of(alloc, text, count)?;
+    match refusal_of(alloc, front.as_str())? {
+        Some(found) => Law::Beginning.holds(refusal == Some(found)),
+        None => Ok(()),
+    }
+}
+
+type Style = Box<ProgressStyle<NoTracker>>;
+
+type Bar = Box<BarState<NoTracker>>;
+
+/// A style of this template, or what refused it.
+fn style_of(alloc: Global, text: &str) -> Result<Result<Style, Refusal>, Law> {
+    match ProgressStyle::with_template(alloc, text) {
+        Ok(style) => Ok(Ok(Box::new(alloc, style)?)),
+        Err(refusal) => Ok(Err(refusal)),
+    }
+}
+
+/// Clusters, each with its columns.
+const CLUSTERS: [(&str, usize); 6] = [
+    ("=", 1),
+    (">", 1),
+    ("-", 1),
+    ("国", 2),
+    ("\u{1}", 0),
+    ("\u{2}", 0),
+];
+
+/// What refuses these clusters.
+fn cluster_refusal(widths: &[usize]) -> Option<Refusal> {
+    match widths {
+        [] | [_] => Some(Refusal::FewProgressChars),
+        [first, rest @ ..] if !rest.iter().all(|width| *width == *first) => {
+            Some(Refusal::UnequalWidths)
+        }
+        [0, ..] => Some(Refusal::ZeroWidthChars),
+        _ => None,
+    }
+}
+
+/// A style with other clusters, which has to be made or refused as their rule says; the style as it was where it was refused.
+fn reclustered(alloc: Global, numbers: &mut Numbers, style: Style) -> Result<Style, Law> {
+    let mut chars = String::new(alloc);
+    let mut widths: Vec<usize> = Vec::new(alloc);
+    for _ in 0..numbers.below(4) {
+        let count = if numbers.one_in(2) { 3 } else { CLUSTERS.len() };
+        let at = numbers.below(count);
+        let (cluster, width) = CLUSTERS.get(at).copied().unwrap_or(("=", 1));
+        chars.push_str(cluster)?;
+        widths.push(width)?;
+    }
+    let copy = style.try_clone()?;
+    match (
+        copy.progress_chars(chars.as_str()),
+        cluster_refusal(&widths),
+    ) {
+        (Ok(style), None) => Ok(Box::new(alloc, style)?),
+        (Err(found), Some(wanted)) if found == wanted => Ok(style),
+        _ => Err(Law::Builder),
+    }
+}
+
+/// The same with the texts of a spinner.
+fn respun(alloc: Global, numbers: &mut Numbers, style: Style) -> Result<Style, Law> {
+    let strings = ["-", "", "国", "ab"];
+    let count = numbers.below(5);
+    let copy = style.try_clone()?;
+    match copy.tick_strings(strings.get(..count).unwrap_or(&[])) {
+        Ok(style) if count > 1 => Ok(Box::new(alloc, style)?),
+        Err(Refusal::FewTicks) if count < 2 => Ok(style),
+        _ => Err(Law::Builder),
+    }
+}
+
+/// A bar of this style somewhere on its way.
+fn bar_of(alloc: Global, numbers: &mut Numbers, style: Style) -> Result<Bar, Law> {
+    let len = match numbers.below(3) {
+        0 => None,
+        1 => Some(numbers.below(9) as u64),
+        _ => Some(u64::MAX),
+    };
+    let bar = BarState::styled(alloc, Box::into_inner(style), len, 0)?;
+    let mut bar = Box::new(alloc, bar)?;
+    bar.with_message(message(alloc, numbers)?.as_str(), 0)?;
+    bar.with_prefix(message(alloc, numbers)?.as_str(), 0)?;
+    bar.with_tab_width(numbers.below(6), 0)?;
+    bar.with_position(numbers.below(12) as u64, 0);
+    for _ in 0..numbers.below(3) {
+        bar.tick(0);
+    }
+    Ok(bar)
+}
+
+/// The same bar in a copy of its style, with colours or without.
+fn coloured(alloc: Global, bar: &Bar, colours: bool) -> Result<Bar, Law> {
+    let style = bar.style().try_clone()?.with_colors(colours)?;
+    let mut copy = Box::new(alloc, bar.try_clone()?)?;
+    copy.with_style(style, 0)?;
+    Ok(copy)
+}
+
+/// No line has a newline or a tab in it.
+fn are_lines(lines: &[LineType]) -> bool {
+    lines.iter().all(|line| {
+        let text = line.as_str();
+        !text.contains('\n') && !text.contains('\t')
+    })
+}
+
+fn are_same(lines: &[LineType], others: &[LineType]) -> bool {
+    let mut pairs = lines.iter().zip(others.iter());
+    lines.len() == others.len() && pairs.all(|(one, other)| one.as_str() == other.as_str())
+}
+
+/// The lines without their colours, each with a newline behind it.
+fn visible(alloc: Global, lines: &[LineType]) -> Result<String, Law> {
+    let mut text = String::new(alloc);
+    for line in lines {
+        push_visible(line.as_str(), &mut text)?;
+    }
+    Ok(text)
+}
+
+fn push_visible(line: &str, text: &mut String) -> Held {
+    for piece in pieces(line) {
+        if !piece.colour {
+            text.push_str(piece.text)?;
+        }
+    }
+    Ok(text.push('\n')?)
+}
+
+/// Whether the visible lines with colours are those without. What stands behind the last newline is a line where it isn't empty, and colours
+/// alone are enough for that.
+fn are_visible(plain: &str, coloured: &str) -> bool {
+    match coloured.strip_prefix(plain) {
+        Some(rest) => rest.is_empty() || rest == "\n",
+        None => false,
+    }
+}
+
+/// A bar's lines on any width: they are lines, a copy of the style has the same, and colours change no visible character.
+fn is_laid_out(alloc: Global, numbers: &mut Numbers, bar: &Bar) -> Held {
+    let width = numbers.size(40);
+    let now = numbers.next().into();
+    let lines = bar.lines(now, width)?;
+    Law::Line.holds(are_lines(&lines))?;
+    let plain = coloured(alloc, bar, false)?.lines(now, width)?;
+    Law::Copy.holds(are_same(&lines, &plain))?;
+    let colours = coloured(alloc, bar, true)?.lines(now, width)?;
+    let plain = visible(alloc, &plain)?;
+    let colours = visible(alloc, &colours)?;
+    Law::Colours.holds(are_visible(plain.as_str(), colours.as_str()))
+}
+
+/// A random text is a template or is refused, and a style says the same of it; the lines of a bar in this style are lines.
+pub fn parsed(alloc: Global, numbers: &mut Numbers) -> Held {
+    let text = joined(alloc, numbers, &PIECES, 10)?;
+    let refusal = refusal_of(alloc, text.as_str())?;
+    has_a_fair_beginning(alloc, numbers, text.as_str(), refusal)?;
+    match (style_of(alloc, text.as_str())?, refusal) {
+        (Ok(style), None) => {
+            let style = reclustered(alloc, numbers, style)?;
+            let style = respun(alloc, numbers, style)?;
+            let bar = bar_of(alloc, numbers, style)?;
+            is_laid_out(alloc, numbers, &bar)
+        }
+        (Err(found), Some(wanted)) => Law::Style.holds(found == wanted),
+        _ => Err(Law::Style),
+    }
+}
