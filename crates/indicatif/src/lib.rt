@@ -224,6 +224,7 @@ mod items;
 pub mod laws;
 pub mod machine;
 mod moves;
+mod own_rows;
 mod owned;
 mod parallel;
 mod polled;
@@ -238,6 +239,7 @@ mod workers;
 mod wrap;
 
 pub use crate::moves::Moves;
+pub use crate::own_rows::OwnRows;
 pub use crate::owned::OwnedBar;
 pub use crate::parallel::ParallelProgressIterator;
 pub use crate::progress_bar::{MultiProgress, ProgressBar, RecordReader, WeakProgressBar};
