@@ -1,19 +1,22 @@
 //! What is asked of the machine.
 use anyhow::Result;
 use indicatif::machine::{
-    MachineClock, Shares, StderrBar, TerminalSetup, facts_of, on_stderr, style_on_stderr,
-    told_setup, wants_colors,
+    MachineClock, Shares, StderrBar, StreamSetup, StreamTerm, TerminalSetup, facts_of, on_stderr,
+    style_on_stderr, told_setup, wants_colors,
 };
 use indicatif::{
-    BarState, Clock, Drawn, LoneBar, NoTracker, ProgressIterator, ProgressStyle, Refusal,
+    BarState, Clock, Drawn, LoneBar, NoTracker, OwnRows, ProgressBar, ProgressDrawTarget,
+    ProgressIterator, ProgressStyle, Refusal, Term,
 };
-use std::io::Stderr;
+use std::io::{Stderr, Stdout};
 
 pub fn main(rt: HostRuntime) -> Result<()> {
     println!(rt; "MachineClock {}", goes_on(rt))?;
     println!(rt; "facts_of {}", told_columns(rt)?)?;
     println!(rt; "wants_colors {}", coloured(rt)?.len())?;
     println!(rt; "TerminalSetup {}", set_up(rt)?)?;
+    println!(rt; "StreamSetup {}", set_up_on_a_stream(rt)?)?;
+    println!(rt; "OwnRows {} {}", own_hidden(rt)?, left_to_the_terminal(rt)?)?;
     println!(rt;
         "on_stderr {}",
         first_on_stderr(rt, vec![in rt.alloc(); 7u64]?)?.unwrap_or(0)
@@ -48,14 +51,50 @@ fn coloured(rt: HostRuntime) -> Result<String, Refusal> {
 /// Whether a bar on standard error has been made.
 fn set_up(rt: HostRuntime) -> Result<bool, Refusal> {
     let bar = BarState::<NoTracker>::new(rt.alloc(), Some(3), 0)?;
-    let setup: TerminalSetup<Stderr> = on_stderr(&rt)?;
+    let facts = facts_of(&rt, &rt.stderr())?;
+    let setup: TerminalSetup<Stderr> = told_setup(&rt, rt.stderr(), facts)?;
     let bar = LoneBar::new(bar, setup.target);
     Ok(bar.bar().state().pos() == 0)
+}
+
+/// The same by what the machine tells.
+fn set_up_on_a_stream(rt: HostRuntime) -> Result<bool, Refusal> {
+    let bar = BarState::<NoTracker>::new(rt.alloc(), Some(3), 0)?;
+    let setup: StreamSetup<Stderr> = on_stderr(&rt)?;
+    let bar = LoneBar::new(bar, setup.target);
+    Ok(bar.bar().state().pos() == 0)
+}
+
+/// Whether a target whose rows the program ends is hidden, where nobody looks.
+fn own_hidden(rt: HostRuntime) -> Result<bool, Refusal> {
+    let mut facts = facts_of(&rt, &rt.stderr())?;
+    facts.attended = false;
+    let now = MachineClock::new(rt).now();
+    let writer: Vec<u8> = Vec::new(rt.alloc());
+    let term = OwnRows::new(Term::new(writer, 24, 79));
+    let target = ProgressDrawTarget::term(term, facts, 20, now)?;
+    Ok(target.is_hidden())
+}
+
+/// How many bytes a terminal was given that wraps rows by itself, before the first drawing.
+fn left_to_the_terminal(rt: HostRuntime) -> Result<usize, Refusal> {
+    let writer: Vec<u8> = Vec::new(rt.alloc());
+    let term = OwnRows::left_to_terminal(Term::new(writer, 24, 80));
+    let own = term;
+    let writer = own.term().writer();
+    Ok(writer.len())
 }
 
 fn first_on_stderr(rt: HostRuntime, list: Vec<u64>) -> Result<Option<u64>, Refusal> {
     let mut wrapped = list.into_iter().progress(rt.alloc(), on_stderr(&rt)?)?;
     Ok(wrapped.next())
+}
+
+/// Whether a bar on standard output is shown.
+pub fn shown<R: Shares>(
+    bar: &ProgressBar<StreamTerm<Stdout>, MachineClock<HostRuntime>, R>,
+) -> bool {
+    !bar.is_hidden()
 }
 
 /// A step of a bar on standard error.
