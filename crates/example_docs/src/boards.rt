@@ -62,12 +62,20 @@ fn emitted(alloc: Global) -> Result<String, Refusal> {
     let term = terminal(alloc)?;
     let mut board: Bars = Board::new(alloc, ProgressDrawTarget::term_like(term), 1);
     let drawn = emit(alloc, &mut board, Level::Error, "no such file", now)?;
-    if drawn == Drawn::Yes { text_of(&board) } else { Err(Refusal::NotMember) }
+    if drawn == Drawn::Yes {
+        text_of(&board)
+    } else {
+        Err(Refusal::NotMember)
+    }
 }
 
 fn taken_in(board: &mut Bars, bar: BarState<NoTracker>) -> Result<(BarId, bool), Refusal> {
-    let id = board.add(Candidate::New(bar)).map_err(|turned| turned.refusal)?;
-    let stays = board.insert(0, Candidate::Member(id)).is_ok_and(|again| again == id);
+    let id = board
+        .add(Candidate::New(bar))
+        .map_err(|turned| turned.refusal)?;
+    let stays = board
+        .insert(0, Candidate::Member(id))
+        .is_ok_and(|again| again == id);
     Ok((id, stays))
 }
 
@@ -88,8 +96,16 @@ fn turn_away(alloc: Global, board: &mut Bars, id: BarId) -> Result<(), Refusal> 
 fn stack(alloc: Global, board: &mut Bars) -> Result<(), Refusal> {
     let now = 0;
     let (bar, other) = (bar_saying(alloc, "lower")?, bar_saying(alloc, "upper")?);
-    let first = board.add(Candidate::New(bar)).map_err(|turned| turned.refusal)?;
-    board.call(Call::Insert { at: InsertLocation::Before(first), candidate: Candidate::New(other) }, now);
+    let first = board
+        .add(Candidate::New(bar))
+        .map_err(|turned| turned.refusal)?;
+    board.call(
+        Call::Insert {
+            at: InsertLocation::Before(first),
+            candidate: Candidate::New(other),
+        },
+        now,
+    );
     Ok(())
 }
 
@@ -121,12 +137,19 @@ fn answer(rt: &HostRuntime, board: &mut Bars, id: BarId) -> Result<()> {
     let clear = board.call(Call::Clear, now);
     let remove = board.call(Call::Remove(id), now);
     println!(rt; "Call {}", log == Answer::Drawn(Drawn::Yes))?;
-    println!(rt; "Answer {} {}", clear == Answer::Drawn(Drawn::Yes), remove == Answer::Done)?;
+    println!(rt;
+        "Answer {} {}",
+        clear == Answer::Drawn(Drawn::Yes),
+        remove == Answer::Done
+    )?;
     println!(rt; "Answer::same {}", copied_answer(&clear) == clear)?;
     let call = copied(rt.alloc(), &Call::Redraw)?;
     println!(rt; "Call::try_clone {}", matches!(call, Call::Redraw))?;
     let candidate = copied_candidate(&Candidate::Member(id))?;
-    println!(rt; "Candidate::try_clone {}", matches!(candidate, Candidate::Member(_)))?;
+    println!(rt;
+        "Candidate::try_clone {}",
+        matches!(candidate, Candidate::Member(_))
+    )?;
     Ok(())
 }
 

@@ -52,7 +52,10 @@ fn aligned(rt: &HostRuntime) -> Result<()> {
     let lines = vec![in alloc; LineType::Text(String::from_str(alloc, "x")?)]?;
     let frame = vec![in alloc; Segment { bar: 1, lines }]?;
     engine.draw(&frame, 0, MultiProgressAlignment::Bottom)?;
-    println!(rt; "MultiProgressAlignment {:?}", engine.term().contents()?.as_str())?;
+    println!(rt;
+        "MultiProgressAlignment {:?}",
+        engine.term().contents()?.as_str()
+    )?;
     Ok(())
 }
 

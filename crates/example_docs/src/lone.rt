@@ -15,9 +15,21 @@ pub fn main(rt: &HostRuntime) -> Result<()> {
     println!(rt; "Drawn {}", is_hidden(&mut bar)?)?;
     let mut bar = shown(rt.alloc())?;
     print_shown(rt, "LoneBar", &bar)?;
-    println!(rt; "with_style {}", restyle(rt.alloc(), &mut bar)? == Drawn::Limited)?;
+    println!(rt;
+        "with_style {}",
+        restyle(rt.alloc(), &mut bar)? == Drawn::Limited
+    )?;
     println!(rt; "with_elapsed {}", put_elapsed(&mut bar)? == Drawn::Limited)?;
-    println!(rt; "Clock {}", tick_now(&mut bar, StepClock { next: 5_000_000_000, step: 1 })? == Drawn::Yes)?;
+    println!(rt;
+        "Clock {}",
+        tick_now(
+            &mut bar,
+            StepClock {
+                next: 5_000_000_000,
+                step: 1
+            }
+        )? == Drawn::Yes
+    )?;
     print_shown(rt, "with_style", &bar)?;
     println!(rt; "LoneCall {}", run_three(rt.alloc(), &mut bar)?)?;
     print_shown(rt, "LoneCall", &bar)
@@ -46,7 +58,10 @@ fn is_hidden(bar: &mut Bar) -> Result<bool, Refusal> {
 fn shown(alloc: Global) -> Result<Box<Bar>, Refusal> {
     let now = 0;
     let term = InMemoryTerm::new(alloc, 4, 20)?;
-    let mut bar = LoneBar::new(BarState::new(alloc, Some(10), now)?, ProgressDrawTarget::term_like(term));
+    let mut bar = LoneBar::new(
+        BarState::new(alloc, Some(10), now)?,
+        ProgressDrawTarget::term_like(term),
+    );
     bar.set_message("copying", now)?;
     bar.println("a.txt", now)?;
     Ok(Box::new(alloc, bar)?)
@@ -73,7 +88,11 @@ fn tick_now(bar: &mut Bar, mut clock: StepClock) -> Result<Drawn, Refusal> {
 /// Whether all of three calls draw.
 fn run_three(alloc: Global, bar: &mut Bar) -> Result<bool, Refusal> {
     let log = LoneCall::Log(String::from_str(alloc, "a.txt")?);
-    let calls = vec![in alloc; (LoneCall::Bar(BarCommand::Tick), 0), (log, 0), (LoneCall::Clear, 5)]?;
+    let calls = vec![in alloc;
+        (LoneCall::Bar(BarCommand::Tick), 0),
+        (log, 0),
+        (LoneCall::Clear, 5),
+    ]?;
     let answers = bar.run(calls)?;
     Ok(answers.as_slice() == [Ok(Drawn::Yes), Ok(Drawn::Yes), Ok(Drawn::Yes)].as_slice())
 }

@@ -40,7 +40,10 @@ fn feed_spaces(cells: &mut Cells) -> Fed {
 
 fn show_cells(rt: &HostRuntime, name: &str, cells: &Cells) -> Result<()> {
     let (row, column) = cells.cursor();
-    println!(rt; "{name} contents {:?} cursor {row} {column}", cells.contents()?.as_str())?;
+    println!(rt;
+        "{name} contents {:?} cursor {row} {column}",
+        cells.contents()?.as_str()
+    )?;
     for text in &cells.picture()? {
         println!(rt; "  {:?}", text.as_str())?;
     }
@@ -69,7 +72,10 @@ fn cells(rt: &HostRuntime) -> Result<()> {
 
 fn show(rt: &HostRuntime, name: &str, term: &InMemoryTerm) -> Result<()> {
     let (row, column) = term.cursor();
-    println!(rt; "{name} contents {:?} cursor {row} {column}", term.contents()?.as_str())?;
+    println!(rt;
+        "{name} contents {:?} cursor {row} {column}",
+        term.contents()?.as_str()
+    )?;
     for text in &term.picture()? {
         println!(rt; "  {:?}", text.as_str())?;
     }

@@ -28,7 +28,10 @@ pub fn main(rt: &HostRuntime) -> Result<()> {
 }
 
 fn style_of(alloc: Global) -> Result<ProgressStyle<NoTracker>, Refusal> {
-    let style: ProgressStyle<NoTracker> = ProgressStyle::with_template(alloc, "{bar:10} {pos}/{len}")?.progress_chars("=> ")?;
+    let style: ProgressStyle<NoTracker> = ProgressStyle::with_template(
+        alloc,
+        "{bar:10} {pos}/{len}",
+    )?.progress_chars("=> ")?;
     Ok(style)
 }
 
@@ -59,15 +62,26 @@ fn again(alloc: Global, command: &BarCommand<NoTracker>) -> Result<BarCommand<No
 
 fn commanded(rt: &HostRuntime, bar: &mut Bar) -> Result<()> {
     let now = 0;
-    let change = Change { pos: Some(3), len: Some(4) };
+    let change = Change {
+        pos: Some(3),
+        len: Some(4),
+    };
     bar.apply(BarCommand::Update(change), 0)?;
-    println!(rt; "Change {} {}", bar.state().pos(), bar.state().len().unwrap_or(0))?;
+    println!(rt;
+        "Change {} {}",
+        bar.state().pos(),
+        bar.state().len().unwrap_or(0)
+    )?;
     let ask = bar.apply(BarCommand::Inc(2), now)?;
     println!(rt; "BarCommand {} {}", bar.state().pos(), ask == Ask::Unforced)?;
     bar.apply(again(rt.alloc(), &BarCommand::Inc(2))?, now)?;
     println!(rt; "BarCommand::try_clone {}", bar.state().pos())?;
     let asked = bar.tick(now);
-    println!(rt; "Ask {} {}", asked == Ask::Unforced, bar.force_draw(now) == Ask::Forced)?;
+    println!(rt;
+        "Ask {} {}",
+        asked == Ask::Unforced,
+        bar.force_draw(now) == Ask::Forced
+    )?;
     Ok(())
 }
 
@@ -84,10 +98,18 @@ fn finished(rt: &HostRuntime, bar: &mut Bar) -> Result<()> {
     let now = 0;
     let before = bar.try_clone()?;
     bar.inc(1, now);
-    println!(rt; "BarState::try_clone {} {}", before.state().pos(), bar.state().pos())?;
+    println!(rt;
+        "BarState::try_clone {} {}",
+        before.state().pos(),
+        bar.state().pos()
+    )?;
     bar.with_finish(ProgressFinish::AndLeave, now);
     bar.finish_using_style(now)?;
-    println!(rt; "ProgressFinish {} {}", bar.state().pos(), bar.state().is_finished())?;
+    println!(rt;
+        "ProgressFinish {} {}",
+        bar.state().pos(),
+        bar.state().is_finished()
+    )?;
     Ok(())
 }
 
@@ -156,7 +178,10 @@ impl TellsText for Always {
 
 /// A bar of files of which three are done.
 fn files_left(alloc: Global) -> Result<Box<BarState<Left>>, Refusal> {
-    let style = ProgressStyle::with_template(alloc, "{msg} {left}")?.with_key("left", Left { of: 10 })?;
+    let style = ProgressStyle::with_template(alloc, "{msg} {left}")?.with_key(
+        "left",
+        Left { of: 10 },
+    )?;
     let mut bar = Box::new(alloc, BarState::styled(alloc, style, None, 0)?)?;
     bar.set_message("files", 0)?;
     bar.set_position(3, 0);
@@ -165,7 +190,12 @@ fn files_left(alloc: Global) -> Result<Box<BarState<Left>>, Refusal> {
 
 /// A bar that says that it is ready.
 fn ready(alloc: Global) -> Result<Box<BarState<FnTracker<Always>>>, Refusal> {
-    let tracker = FnTracker::new(alloc, Always { text: String::from_str(alloc, "ready")? })?;
+    let tracker = FnTracker::new(
+        alloc,
+        Always {
+            text: String::from_str(alloc, "ready")?,
+        },
+    )?;
     let style = ProgressStyle::with_template(alloc, "{word}!")?.with_key("word", tracker)?;
     Ok(Box::new(alloc, BarState::styled(alloc, style, None, 0)?)?)
 }

@@ -14,7 +14,13 @@ pub type InMemory = Setup<InMemoryTerm, StepClock>;
 
 pub fn setup_of(alloc: Global) -> Result<InMemory, Refusal> {
     let target = ProgressDrawTarget::term_like(InMemoryTerm::new(alloc, 4, 20)?);
-    Ok(Setup { target, clock: StepClock { next: 0, step: 1_000_000 } })
+    Ok(Setup {
+        target,
+        clock: StepClock {
+            next: 0,
+            step: 1_000_000,
+        },
+    })
 }
 
 /// A bar that shows its position.

@@ -14,9 +14,18 @@ impl Gate for Open {
 
 pub fn main<R: Shares + Print>(rt: R) -> Result<()> {
     let alloc = rt.alloc();
-    println!(rt; "ParallelProgressIterator {:?}", doubled(rt, bar_of(rt)?)?.as_slice())?;
-    println!(rt; "map_collect {:?}", squared(rt, &[1, 2, 3], bar_of(rt)?)?.as_slice())?;
-    let paths = vec![in alloc; String::from_str(alloc, "a")?, String::from_str(alloc, "b")?]?;
+    println!(rt;
+        "ParallelProgressIterator {:?}",
+        doubled(rt, bar_of(rt)?)?.as_slice()
+    )?;
+    println!(rt;
+        "map_collect {:?}",
+        squared(rt, &[1, 2, 3], bar_of(rt)?)?.as_slice()
+    )?;
+    let paths = vec![in alloc;
+        String::from_str(alloc, "a")?,
+        String::from_str(alloc, "b")?,
+    ]?;
     println!(rt; "for_each {}", digested(rt, &paths, bar_of(rt)?).position())?;
     let (pieces, position) = worked(rt, bar_of(rt)?)?;
     println!(rt; "run_workers {pieces} {position}")?;
@@ -35,7 +44,9 @@ fn doubled<R: Shares + Print>(rt: R, bar: Bar<R>) -> Result<Vec<u32>, Refusal> {
 
 fn squared<R: Shares + Print>(rt: R, numbers: &[u32], bar: Bar<R>) -> Result<Vec<u32>, Refusal> {
     let alloc = rt.alloc();
-    let (squares, bar) = numbers.progress_with(bar).map_collect(&rt, alloc, |n: &u32| n.wrapping_mul(*n));
+    let (squares, bar) = numbers
+        .progress_with(bar)
+        .map_collect(&rt, alloc, |n: &u32| n.wrapping_mul(*n));
     squares
 }
 
@@ -45,7 +56,9 @@ fn digest(path: &String) {
 }
 
 fn digested<R: Shares + Print>(rt: R, paths: &[String], bar: Bar<R>) -> Bar<R> {
-    let (_, bar) = paths.progress_with(bar).for_each(&rt, |path: &String| digest(path));
+    let (_, bar) = paths
+        .progress_with(bar)
+        .for_each(&rt, |path: &String| digest(path));
     bar
 }
 
@@ -53,13 +66,27 @@ fn digested<R: Shares + Print>(rt: R, paths: &[String], bar: Bar<R>) -> Bar<R> {
 fn worked<R: Shares + Print>(rt: R, bar: Bar<R>) -> Result<(usize, u64), Refusal> {
     let alloc = rt.alloc();
     let pieces = vec![in alloc; vec![in alloc; 1u32, 2]?, vec![in alloc; 3u32]?]?;
-    let made = run_workers(&rt, alloc, pieces.as_slice(), |x: &u32| x.wrapping_mul(2), &Open, &bar)?;
+    let made = run_workers(
+        &rt,
+        alloc,
+        pieces.as_slice(),
+        |x: &u32| x.wrapping_mul(2),
+        &Open,
+        &bar,
+    )?;
     Ok((made.len(), bar.position()))
 }
 
 fn worked_with<R: Shares + Print>(rt: R, mut bar: Bar<R>) -> Result<(usize, u64), Refusal> {
     let alloc = rt.alloc();
     let pieces = vec![in alloc; vec![in alloc; 1u32, 2]?, vec![in alloc; 3u32]?]?;
-    let made = run_workers_with(&rt, alloc, pieces.as_slice(), |x: &u32| x.wrapping_mul(2), &Open, &mut bar)?;
+    let made = run_workers_with(
+        &rt,
+        alloc,
+        pieces.as_slice(),
+        |x: &u32| x.wrapping_mul(2),
+        &Open,
+        &mut bar,
+    )?;
     Ok((made.len(), bar.position()))
 }

@@ -14,7 +14,10 @@ pub fn main(rt: HostRuntime) -> Result<()> {
     println!(rt; "facts_of {}", told_columns(rt)?)?;
     println!(rt; "wants_colors {}", coloured(rt)?.len())?;
     println!(rt; "TerminalSetup {}", set_up(rt)?)?;
-    println!(rt; "on_stderr {}", first_on_stderr(rt, vec![in rt.alloc(); 7u64]?)?.unwrap_or(0))?;
+    println!(rt;
+        "on_stderr {}",
+        first_on_stderr(rt, vec![in rt.alloc(); 7u64]?)?.unwrap_or(0)
+    )?;
     Ok(())
 }
 

@@ -1,10 +1,11 @@
 //! Boards that are shared, their histories, and logs above their bars.
 use crate::bars::{Bar, InMemory, setup_of};
 use anyhow::Result;
-use indicatif::machine::Shares;
 use indicatif::bridge::{LevelOnEachLine, LogBridge};
+use indicatif::machine::Shares;
 use indicatif::{
-    InMemoryTerm, MultiProgress, NoTracker, ProgressBar, RecordReader, Recorded, Refusal, StepClock,
+    InMemoryTerm, MultiProgress, NoTracker, ProgressBar, RecordReader, Recorded, Refusal,
+    StepClock, TermLike,
 };
 use log::{Level, LevelFilter, Logged, warn};
 
@@ -13,7 +14,10 @@ type Bars<R> = MultiProgress<InMemoryTerm, StepClock, R>;
 pub fn main<R: Shares + Print>(rt: R) -> Result<()> {
     let board = named(rt, setup_of(rt.alloc())?, StepClock { next: 0, step: 1 })?;
     print_shown(rt, "MultiProgress", &board)?;
-    let bar = joined(&board, ProgressBar::hidden(rt, rt.alloc(), StepClock { next: 0, step: 1 })?)?;
+    let bar = joined(
+        &board,
+        ProgressBar::hidden(rt, rt.alloc(), StepClock { next: 0, step: 1 })?,
+    )?;
     println!(rt; "add {}", bar.is_hidden())?;
     println!(rt; "new_bar {}", one_more(&board)?.length().unwrap_or(0))?;
     println!(rt; "RecordReader {}", board.with_record(Length))?;
@@ -51,7 +55,7 @@ fn one_more<R: Shares + Print>(board: &Bars<R>) -> Result<Bar<R>, Refusal> {
 #[derive(Drop)]
 struct Length;
 
-impl<T: Drop> RecordReader<T> for Length {
+impl<T: TermLike + Drop> RecordReader<T> for Length {
     type Found = usize;
 
     fn read(self, record: Option<&Recorded<NoTracker, T>>) -> usize {

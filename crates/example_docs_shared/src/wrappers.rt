@@ -1,11 +1,11 @@
 //! What a bar wraps.
 use crate::bars::{Bar, InMemory, bar_of, setup_of};
 use anyhow::Result;
-use indicatif::machine::Shares;
 use futures::Stream;
+use indicatif::machine::Shares;
 use indicatif::{
-    BarState, InMemoryTerm, LoneBar, Moves, NoTracker, OwnedBar, ProgressBarIter, ProgressDrawTarget,
-    ProgressIterator, Refusal, Setup, StepClock,
+    BarState, InMemoryTerm, LoneBar, Moves, NoTracker, OwnedBar, ProgressBarIter,
+    ProgressDrawTarget, ProgressIterator, Refusal, Setup, StepClock,
 };
 use std::alloc::Global;
 use std::io::{Read, Write};
@@ -15,11 +15,18 @@ type Own = OwnedBar<NoTracker, InMemoryTerm, StepClock>;
 
 pub fn main<R: Shares + Print>(rt: R) -> Result<()> {
     let bar = bar_of(rt)?;
-    println!(rt; "wrap_iter {}", first_item(&bar, vec![in rt.alloc(); 7u64, 8]?)?.unwrap_or(0))?;
+    println!(rt;
+        "wrap_iter {}",
+        first_item(&bar, vec![in rt.alloc(); 7u64, 8]?)?.unwrap_or(0)
+    )?;
     bar.set_position(0)?;
     println!(rt; "wrap_read {} {}", read_four(&bar)?, bar.position())?;
     bar.set_position(0)?;
-    println!(rt; "wrap_write {} {}", write_three(&bar, rt.alloc())?, bar.position())?;
+    println!(rt;
+        "wrap_write {} {}",
+        write_three(&bar, rt.alloc())?,
+        bar.position()
+    )?;
     owned(rt)
 }
 
@@ -40,19 +47,28 @@ fn write_three<R: Shares + Print>(bar: &Bar<R>, alloc: Global) -> Result<usize> 
 }
 
 /// A stream that a bar goes along with.
-pub fn streamed<S: Stream + Drop, R: Shares>(bar: &Bar<R>, stream: S) -> Result<ProgressBarIter<S, Bar<R>>, Refusal> {
+pub fn streamed<S: Stream + Drop, R: Shares>(
+    bar: &Bar<R>,
+    stream: S,
+) -> Result<ProgressBarIter<S, Bar<R>>, Refusal> {
     let mut wrapped = bar.wrap_stream(stream)?;
     Ok(wrapped)
 }
 
 /// A reader that is polled.
-pub fn read_along<S: AsyncRead + Drop, R: Shares>(bar: &Bar<R>, socket: S) -> Result<ProgressBarIter<S, Bar<R>>, Refusal> {
+pub fn read_along<S: AsyncRead + Drop, R: Shares>(
+    bar: &Bar<R>,
+    socket: S,
+) -> Result<ProgressBarIter<S, Bar<R>>, Refusal> {
     let mut wrapped = bar.wrap_async_read(socket)?;
     Ok(wrapped)
 }
 
 /// A writer that is polled.
-pub fn written_along<S: AsyncWrite + Drop, R: Shares>(bar: &Bar<R>, socket: S) -> Result<ProgressBarIter<S, Bar<R>>, Refusal> {
+pub fn written_along<S: AsyncWrite + Drop, R: Shares>(
+    bar: &Bar<R>,
+    socket: S,
+) -> Result<ProgressBarIter<S, Bar<R>>, Refusal> {
     let mut wrapped = bar.wrap_async_write(socket)?;
     Ok(wrapped)
 }
@@ -67,7 +83,13 @@ fn first_of<P: Moves>(list: Vec<u64>, bar: P) -> (Option<u64>, P) {
 
 /// A bar of its own, made from parts.
 fn own(state: BarState<NoTracker>, target: ProgressDrawTarget<InMemoryTerm>) -> Own {
-    let bar = OwnedBar::new(LoneBar::new(state, target), StepClock { next: 0, step: 1_000_000 });
+    let bar = OwnedBar::new(
+        LoneBar::new(state, target),
+        StepClock {
+            next: 0,
+            step: 1_000_000,
+        },
+    );
     bar
 }
 
@@ -75,13 +97,25 @@ fn owned<R: Shares + Print>(rt: R) -> Result<()> {
     let alloc = rt.alloc();
     let state = BarState::new(alloc, Some(2), 0)?;
     let bar = own(state, setup_of(alloc)?.target);
-    println!(rt; "ProgressBarIter {}", looped(bar, vec![in alloc; 1u64, 2]?).position())?;
+    println!(rt;
+        "ProgressBarIter {}",
+        looped(bar, vec![in alloc; 1u64, 2]?).position()
+    )?;
     let state = BarState::new(alloc, Some(2), 0)?;
-    let (first, bar) = first_of(vec![in alloc; 7u64, 8]?, own(state, setup_of(alloc)?.target));
+    let (first, bar) = first_of(
+        vec![in alloc; 7u64, 8]?,
+        own(state, setup_of(alloc)?.target),
+    );
     println!(rt; "Moves {} {}", first.unwrap_or(0), bar.position())?;
     let term = InMemoryTerm::new(alloc, 4, 20)?;
-    println!(rt; "ProgressIterator {}", progressed(alloc, term, vec![in alloc; 1u64, 2]?)?)?;
-    println!(rt; "try_progress {}", tried(alloc, setup_of(alloc)?, vec![in alloc; 1u64, 2, 3]?)?)?;
+    println!(rt;
+        "ProgressIterator {}",
+        progressed(alloc, term, vec![in alloc; 1u64, 2]?)?
+    )?;
+    println!(rt;
+        "try_progress {}",
+        tried(alloc, setup_of(alloc)?, vec![in alloc; 1u64, 2, 3]?)?
+    )?;
     Ok(())
 }
 
@@ -96,7 +130,10 @@ fn looped(bar: Own, items: Vec<u64>) -> Own {
 /// How many items there were.
 fn progressed(alloc: Global, term: InMemoryTerm, list: Vec<u64>) -> Result<u64, Refusal> {
     let clock = StepClock { next: 0, step: 1 };
-    let setup = Setup { target: ProgressDrawTarget::term_like(term), clock };
+    let setup = Setup {
+        target: ProgressDrawTarget::term_like(term),
+        clock,
+    };
     let mut wrapped = list.into_iter().progress(alloc, setup)?;
     let mut count = 0u64;
     while let Some(item) = wrapped.next() {
