@@ -2,10 +2,11 @@
 use anyhow::Result;
 use indicatif_bar::lone::{LoneBar, LoneCall};
 use indicatif_bar::state::{BarCommand, BarState};
-use indicatif_bar::style::{NoTracker, ProgressStyle};
+use indicatif_bar::style::{NoTracker, ProgressStyle, Tracks};
 use indicatif_term::draw_target::ProgressDrawTarget;
 use indicatif_term::in_memory::InMemoryTerm;
-use indicatif_text::columns::{Clock, Drawn, Refusal, StepClock};
+use indicatif_term::term_like::TermLike;
+use indicatif_text::columns::{Clock, Drawn, Moment, Refusal, StepClock};
 use std::alloc::Global;
 
 type Bar = LoneBar<NoTracker, InMemoryTerm>;
@@ -31,6 +32,7 @@ pub fn main(rt: &HostRuntime) -> Result<()> {
         )? == Drawn::Yes
     )?;
     print_shown(rt, "with_style", &bar)?;
+    println!(rt; "Tracks {}", step(&mut bar, 6_000_000_000)? == Drawn::Yes)?;
     println!(rt; "LoneCall {}", run_three(rt.alloc(), &mut bar)?)?;
     print_shown(rt, "LoneCall", &bar)
 }
@@ -52,6 +54,14 @@ fn bar_on(alloc: Global, target: ProgressDrawTarget<InMemoryTerm>) -> Result<Box
 fn is_hidden(bar: &mut Bar) -> Result<bool, Refusal> {
     let drawn = bar.tick(0)?;
     Ok(drawn == Drawn::Hidden)
+}
+
+/// A step of a bar with any keys.
+fn step<K: Tracks, T: TermLike + Drop>(
+    bar: &mut LoneBar<K, T>,
+    now: Moment,
+) -> Result<Drawn, Refusal> {
+    bar.inc(1, now)
 }
 
 /// A bar on a terminal of 4 rows and 20 columns, a name above it.

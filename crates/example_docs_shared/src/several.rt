@@ -3,9 +3,9 @@ use crate::bars::{Bar, InMemory, setup_of};
 use anyhow::Result;
 use indicatif::bridge::{LevelOnEachLine, LogBridge};
 use indicatif::machine::Shares;
+use indicatif::style::Tracks;
 use indicatif::{
-    InMemoryTerm, MultiProgress, NoTracker, ProgressBar, RecordReader, Recorded, Refusal,
-    StepClock, TermLike,
+    InMemoryTerm, MultiProgress, ProgressBar, RecordReader, Recorded, Refusal, StepClock, TermLike,
 };
 use log::{Level, LevelFilter, Logged, warn};
 
@@ -55,10 +55,10 @@ fn one_more<R: Shares + Print>(board: &Bars<R>) -> Result<Bar<R>, Refusal> {
 #[derive(Drop)]
 struct Length;
 
-impl<T: TermLike + Drop> RecordReader<T> for Length {
+impl<T: TermLike + Drop, K: Tracks> RecordReader<T, K> for Length {
     type Found = usize;
 
-    fn read(self, record: Option<&Recorded<NoTracker, T>>) -> usize {
+    fn read(self, record: Option<&Recorded<K, T>>) -> usize {
         record.map_or(0, |record| record.entries().len())
     }
 }
