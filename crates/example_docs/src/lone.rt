@@ -14,27 +14,36 @@ type Bar = LoneBar<NoTracker, InMemoryTerm>;
 pub fn main(rt: &HostRuntime) -> Result<()> {
     let mut bar = bar_on(rt.alloc(), ProgressDrawTarget::hidden())?;
     println!(rt; "Drawn {}", is_hidden(&mut bar)?)?;
+    on_terminal(rt)
+}
+
+fn on_terminal(rt: &HostRuntime) -> Result<()> {
     let mut bar = shown(rt.alloc())?;
-    print_shown(rt, "LoneBar", &bar)?;
-    println!(rt;
-        "with_style {}",
-        restyle(rt.alloc(), &mut bar)? == Drawn::Limited
-    )?;
-    println!(rt; "with_elapsed {}", put_elapsed(&mut bar)? == Drawn::Limited)?;
-    println!(rt;
-        "Clock {}",
+    let bar = &mut *bar;
+    print_shown(rt, "LoneBar", bar)?;
+    print_drawn(rt, "with_style", restyle(rt.alloc(), bar))?;
+    print_drawn(rt, "with_elapsed", put_elapsed(bar))?;
+    print_drawn(
+        rt,
+        "Clock",
         tick_now(
-            &mut bar,
+            bar,
             StepClock {
                 next: 5_000_000_000,
-                step: 1
-            }
-        )? == Drawn::Yes
+                step: 1,
+            },
+        ),
     )?;
-    print_shown(rt, "with_style", &bar)?;
-    println!(rt; "Tracks {}", step(&mut bar, 6_000_000_000)? == Drawn::Yes)?;
-    println!(rt; "LoneCall {}", run_three(rt.alloc(), &mut bar)?)?;
-    print_shown(rt, "LoneCall", &bar)
+    print_shown(rt, "with_style", bar)?;
+    print_drawn(rt, "Tracks", step(bar, 6_000_000_000))?;
+    println!(rt; "LoneCall {}", run_three(rt.alloc(), bar)?)?;
+    print_shown(rt, "LoneCall", bar)
+}
+
+/// Prints what became of a draw.
+fn print_drawn(rt: &HostRuntime, name: &str, drawn: Result<Drawn, Refusal>) -> Result<()> {
+    println!(rt; "{name} {:?}", drawn?)?;
+    Ok(())
 }
 
 fn print_shown(rt: &HostRuntime, name: &str, bar: &Bar) -> Result<()> {
