@@ -481,7 +481,6 @@ UNRUN = {
     "fn add_all(done: &Done, mut worker: BarWorker) -> BarWorker // adds 1 a thousand times": "a contract: its body needs an invariant",
     "let drawn = record.apply(Call::Clear, 5); // on a terminal of 4 rows and 10 columns": "an index, which has to be proved",
     "let (answer, none) = record.apply(Call::Clear, 5);": "an index, which has to be proved",
-    "#[derive(Drop)]": "of RecordReader: the bound of its impl has to be T: TermLike + Drop",
 }
 
 

@@ -63,10 +63,8 @@ fn key<R: AllocGlobal + Print + Wait + Copy + Drop>(rt: R) -> Result<()> {
     let alloc = rt.alloc();
     let setup = setup(alloc)?;
     let left = FnTracker::new(alloc, Left { alloc, of: 10 })?;
-    let style = ProgressStyle::with_template(alloc, "{wide_bar} {left} left")?.with_key(
-        "left", left,
-    )?;
-    let bar = ProgressBar::styled(rt, alloc, style, Some(10), setup)?;
+    let style = ProgressStyle::with_template(alloc, "{wide_bar} {left} left")?;
+    let bar = ProgressBar::styled(rt, alloc, style.with_key("left", left)?, Some(10), setup)?;
     bar.set_position(3)?;
     show(rt, "a key of one's own", &bar)
 }

@@ -6,7 +6,7 @@ use indicatif::{
 };
 use std::alloc::Global;
 use std::cell::Cell;
-use std::io::{self, BufWriter, ErrorKind, Write};
+use std::io::{self, BufWriter, ErrorKind};
 use std::test::Fail;
 use std::time::{self, Duration};
 
@@ -56,7 +56,9 @@ fn a_terminal_of_which_is_told(rt: HostRuntime) -> Result<(), Fail> {
 }
 
 /// Whether nothing is drawn on what was made.
-fn is_hidden<W: Write + Drop>(made: Result<TerminalSetup<W>, Refusal>) -> Result<bool, Refusal> {
+fn is_hidden<T: Drop>(
+    made: Result<Setup<T, MachineClock<HostRuntime>>, Refusal>,
+) -> Result<bool, Refusal> {
     let setup = made?;
     Ok(setup.target.is_hidden())
 }

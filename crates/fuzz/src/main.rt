@@ -9,6 +9,7 @@
 //! - `cells`: bytes. `templates`: templates and styles.
 //! - `setting`: a terminal, how it fails, and who looks at its bytes. `lone_lists`, `board_lists`: lists of calls.
 //! - `threads`: a shared board that keeps its history. `player`, `deed`: what a thread does.
+//! - `tickers`: one bar's ticker, told on by one thread and off by another, 200 times each; both have to end.
 #![tactic(auto)]
 
 mod board_lists;
@@ -23,6 +24,7 @@ mod setting;
 mod templates;
 mod texts;
 mod threads;
+mod tickers;
 
 use crate::law::{Held, Tally};
 use crate::numbers::Numbers;
@@ -154,6 +156,11 @@ fn main(rt: HostRuntime) -> Result<ExitCode> {
         tally.count(threads::judged(rt, &board, bars.as_slice(), logged));
     }
     let threads = say(&rt, "lists in four threads", tally)?;
+    let bar = tickers::bar_of(rt)?;
+    let (on, off) = join(&rt, || tickers::tell_on(&bar), || tickers::tell_off(&bar));
+    let (on, off) = (on?, off?);
+    bar.disable_steady_tick()?;
+    println!(rt; "one ticker: told on {on} times, told off {off} times")?;
     Ok(if alone && threads {
         ExitCode::SUCCESS
     } else {

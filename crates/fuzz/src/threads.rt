@@ -96,7 +96,7 @@ struct RunsAgain {
     logged: u64,
 }
 
-impl RecordReader<InMemoryTerm> for RunsAgain {
+impl RecordReader<InMemoryTerm, NoTracker> for RunsAgain {
     type Found = Held;
 
     fn read(self, record: Option<&Kept>) -> Held {

@@ -1,6 +1,7 @@
 pub mod Fronts
 pub mod Machine
 pub mod Moves
+pub mod OwnRows
 pub mod Owned
 pub mod Parallel
 pub mod Ring

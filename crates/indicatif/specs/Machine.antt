@@ -4,7 +4,15 @@ use Rattle.indicatif_term.specs.Limiters.{Limiter, draw_limiter}
 use Rattle.indicatif_term.specs.Targets.{hides, term_behind}
 use Rattle.indicatif_term.specs.Writers.{WriterTerm}
 use Rattle.indicatif_term.specs.declared.target.Facts.{Facts}
+use Rattle.indicatif.specs.OwnRows.{new_rows}
+use Rattle.indicatif.specs.declared.own_rows.OwnRows.{OwnRows}
+use Rattle.indicatif.specs.declared.own_rows.RowEnds.{RowEnds}
 
 -- a target on the terminal behind some writer, which may be drawn 20 times a second; a hidden one where the facts say so
 abbrev pub IsBehind : {W : Type 0} → Option (WriterTerm W × Option Limiter) → Facts → Type 0
 IsBehind {W} target facts = (w : W) × (now : ℕ) × (target ≡ (if hides facts then None else Some (term_behind w facts, Some (draw_limiter 20 now))))
+
+-- the same on a terminal whose full rows the program or the terminal ends
+abbrev pub IsOnStream : {W : Type 0} → Option (OwnRows (WriterTerm W) × Option Limiter) → Facts → Type 0
+IsOnStream {W} target facts = (w : W) × (now : ℕ) × (ends : RowEnds)
+    × (target ≡ (if hides facts then None else Some (new_rows (term_behind w facts) ends, Some (draw_limiter 20 now))))

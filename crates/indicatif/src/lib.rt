@@ -78,8 +78,8 @@
 //!
 //! ```
 //! let left = FnTracker::new(alloc, Left { alloc, of: 10 })?;
-//! let style = ProgressStyle::with_template(alloc, "{wide_bar} {left} left")?.with_key("left", left)?;
-//! let bar = ProgressBar::styled(rt, alloc, style, Some(10), setup)?;
+//! let style = ProgressStyle::with_template(alloc, "{wide_bar} {left} left")?;
+//! let bar = ProgressBar::styled(rt, alloc, style.with_key("left", left)?, Some(10), setup)?;
 //! bar.set_position(3)?;
 //! ```
 //!
@@ -224,6 +224,7 @@ mod items;
 pub mod laws;
 pub mod machine;
 mod moves;
+mod own_rows;
 mod owned;
 mod parallel;
 mod polled;
@@ -238,6 +239,7 @@ mod workers;
 mod wrap;
 
 pub use crate::moves::Moves;
+pub use crate::own_rows::OwnRows;
 pub use crate::owned::OwnedBar;
 pub use crate::parallel::ParallelProgressIterator;
 pub use crate::progress_bar::{MultiProgress, ProgressBar, RecordReader, WeakProgressBar};

@@ -1,11 +1,12 @@
 //! What bars ask of the machine: the time, and whether and how wide a terminal stands behind a stream. Nothing else in this
 //! library asks it anything, so a program that finds these itself needs nothing of this module.
-ghost use Rattle.std.specs.Prelude.{◌≡◌, ◌⊎◌, ◌≤◌, ◌<◌, Bool, chars, IfOk, IfErr};
+ghost use Rattle.std.specs.Prelude.{◌≡◌, ◌⊎◌, ◌≤◌, ◌<◌, Bool, chars, IfOk, IfErr, IfSome};
 ghost use Rattle.indicatif_text.specs.declared.template.TemplateError.{TemplateError};
 ghost use Rattle.indicatif_text.specs.Template.{Parses, IsRefused, refusal_of};
 ghost use Rattle.indicatif_bar.specs.Builders.{first_style};
-ghost use Rattle.indicatif.specs.Machine.{IsBehind};
+ghost use Rattle.indicatif.specs.Machine.{IsBehind, IsOnStream};
 
+use crate::own_rows::OwnRows;
 use crate::progress_bar::{MultiProgress, ProgressBar};
 use indicatif_bar::style::{NoTracker, ProgressStyle, TICKS, Tracks};
 use indicatif_term::draw_target::{Facts, ProgressDrawTarget, Setup};
@@ -82,6 +83,9 @@ const ROWS: u16 = 24;
 /// The columns of a terminal whose columns nobody told.
 const COLUMNS: u16 = 80;
 
+/// Draws a second on the program's own streams.
+const HZ: u8 = 20;
+
 /// What the machine tells of a stream: whether it is a terminal, its kind by the variable `TERM`, and its size by `LINES` and
 /// `COLUMNS`, where they say a number from 1 to 65,535; else 24 rows and 80 columns are taken. A program that knows better
 /// changes what it got.
@@ -98,25 +102,24 @@ pub fn facts_of<R: Env + AllocGlobal>(rt: &R, stream: &impl IsTerminal) -> Resul
     ensures memory { IfErr result (λ e. e ≡ Refusal.Memory) }
 {
     Ok(Facts {
-        rows: number_said(rt, "LINES", ROWS)?,
-        cols: number_said(rt, "COLUMNS", COLUMNS)?,
+        rows: number_said(rt, "LINES")?.unwrap_or(ROWS),
+        cols: number_said(rt, "COLUMNS")?.unwrap_or(COLUMNS),
         attended: stream.is_terminal(),
         term: text_said(rt, "TERM")?,
     })
 }
 
-/// The number above 0 that a variable says, and else a guess.
-fn number_said<R: Env + AllocGlobal>(rt: &R, name: &str, guess: u16) -> Result<u16, Refusal>
-    requires { 0 < guess }
-    ensures some { IfOk result (λ n. 0 < n) }
+/// The number above 0 that a variable says, if it says one.
+fn number_said<R: Env + AllocGlobal>(rt: &R, name: &str) -> Result<Option<u16>, Refusal>
+    ensures some { IfOk result (λ said. IfSome said (λ n. 0 < n)) }
     ensures memory { IfErr result (λ e. e ≡ Refusal.Memory) }
 {
     let Some(text) = text_said(rt, name)? else {
-        return Ok(guess);
+        return Ok(None);
     };
     match text.as_str().parse::<u16>() {
-        Ok(0) | Err(_) => Ok(guess),
-        Ok(number) => Ok(number),
+        Ok(0) | Err(_) => Ok(None),
+        Ok(number) => Ok(Some(number)),
     }
 }
 
@@ -177,10 +180,27 @@ pub fn style_on_stderr<K: Tracks>(
 /// What a bar is made with on a terminal behind a writer, by the machine's clock.
 ///
 /// ```
-/// let setup: TerminalSetup<Stderr> = on_stderr(&rt)?;
+/// let setup: TerminalSetup<Stderr> = told_setup(&rt, rt.stderr(), facts)?;
 /// let bar = LoneBar::new(bar, setup.target);
 /// ```
 pub type TerminalSetup<W> = Setup<Term<BufWriter<W>>, MachineClock<HostRuntime>>;
+
+/// The terminal behind one of the program's own streams.
+///
+/// ```
+/// fn shown<R: Shares>(bar: &ProgressBar<StreamTerm<Stdout>, MachineClock<HostRuntime>, R>) -> bool {
+///     !bar.is_hidden()
+/// }
+/// ```
+pub type StreamTerm<W> = OwnRows<Term<BufWriter<W>>>;
+
+/// What a bar is made with there.
+///
+/// ```
+/// let setup: StreamSetup<Stderr> = on_stderr(&rt)?;
+/// let bar = LoneBar::new(bar, setup.target);
+/// ```
+pub type StreamSetup<W> = Setup<StreamTerm<W>, MachineClock<HostRuntime>>;
 
 /// A shared bar on standard error, as `on_stderr` sets it up; `R` is the runtime of the function that has it.
 ///
@@ -190,7 +210,7 @@ pub type TerminalSetup<W> = Setup<Term<BufWriter<W>>, MachineClock<HostRuntime>>
 /// }
 /// ```
 pub type StderrBar<R, K = NoTracker> = ProgressBar<
-    Term<BufWriter<Stderr>>,
+    StreamTerm<Stderr>,
     MachineClock<HostRuntime>,
     R,
     K,
@@ -198,7 +218,7 @@ pub type StderrBar<R, K = NoTracker> = ProgressBar<
 
 /// A shared board there.
 pub type StderrBoard<R, K = NoTracker> = MultiProgress<
-    Term<BufWriter<Stderr>>,
+    StreamTerm<Stderr>,
     MachineClock<HostRuntime>,
     R,
     K,
@@ -222,28 +242,29 @@ impl<R: AllocGlobal + Wait + Threads + time::Clock + Sync + Send + Copy + Drop +
 /// A bar's setup on standard error, where bars stand by custom, so that standard output is the program's own: 20 draws a second
 /// by the machine's clock, hidden where standard error is no terminal or one without moves (`facts_of`).
 ///
+/// Where nobody told the columns, no drawing erases a row that isn't the bars' own, however wide the terminal is (`OwnRows`): bars
+/// have 79 columns then, and logged lines are cut there too. A width that was told is believed.
+///
 /// ```
 /// let mut wrapped = list.into_iter().progress(rt.alloc(), on_stderr(&rt)?)?;
 /// ```
 ///
 /// Refused: `Memory`.
-pub fn on_stderr(rt: &HostRuntime) -> Result<TerminalSetup<Stderr>, Refusal>
-    ensures target { IfOk result (λ setup. (facts : Facts) × IsBehind setup.target facts) }
+pub fn on_stderr(rt: &HostRuntime) -> Result<StreamSetup<Stderr>, Refusal>
+    ensures target { IfOk result (λ setup. (facts : Facts) × IsOnStream setup.target facts) }
     ensures memory { IfErr result (λ e. e ≡ Refusal.Memory) }
 {
-    let facts = facts_of(rt, &rt.stderr())?;
-    told_setup(rt, rt.stderr(), facts)
+    stream_setup(rt, rt.stderr())
 }
 
 /// The same on standard output.
 ///
 /// Refused: `Memory`.
-pub fn on_stdout(rt: &HostRuntime) -> Result<TerminalSetup<Stdout>, Refusal>
-    ensures target { IfOk result (λ setup. (facts : Facts) × IsBehind setup.target facts) }
+pub fn on_stdout(rt: &HostRuntime) -> Result<StreamSetup<Stdout>, Refusal>
+    ensures target { IfOk result (λ setup. (facts : Facts) × IsOnStream setup.target facts) }
     ensures memory { IfErr result (λ e. e ≡ Refusal.Memory) }
 {
-    let facts = facts_of(rt, &rt.stdout())?;
-    told_setup(rt, rt.stdout(), facts)
+    stream_setup(rt, rt.stdout())
 }
 
 /// The same behind any writer, on a terminal of which this is told.
@@ -263,10 +284,38 @@ pub fn told_setup<W: Write + Drop>(
     ensures target { IfOk result (λ setup. IsBehind setup.target facts) }
     ensures memory { IfErr result (λ e. e ≡ Refusal.Memory) }
 {
-    let Ok(buffered) = BufWriter::new(rt.alloc(), writer) else {
-        return Err(Refusal::Memory);
+    let mut clock = MachineClock::new(*rt);
+    let target = ProgressDrawTarget::stderr(buffered(rt, writer)?, facts, clock.now());
+    Ok(Setup { target, clock })
+}
+
+/// What a bar is made with on a stream: of 79 columns, where nobody told them.
+fn stream_setup<W: Write + IsTerminal + Drop>(
+    rt: &HostRuntime,
+    stream: W,
+) -> Result<StreamSetup<W>, Refusal>
+    ensures target { IfOk result (λ setup. (facts : Facts) × IsOnStream setup.target facts) }
+    ensures memory { IfErr result (λ e. e ≡ Refusal.Memory) }
+{
+    let mut facts = facts_of(rt, &stream)?;
+    let told = number_said(rt, "COLUMNS")?;
+    facts.cols = told.unwrap_or(COLUMNS - 1);
+    let term = Term::new(buffered(rt, stream)?, facts.rows, facts.cols);
+    let term = match told {
+        Some(_) => OwnRows::left_to_terminal(term),
+        None => OwnRows::new(term),
     };
     let mut clock = MachineClock::new(*rt);
-    let target = ProgressDrawTarget::stderr(buffered, facts, clock.now());
+    let target = ProgressDrawTarget::term(term, facts, HZ, clock.now())?;
     Ok(Setup { target, clock })
+}
+
+/// A buffer before a writer.
+fn buffered<W: Write + Drop>(rt: &HostRuntime, writer: W) -> Result<BufWriter<W>, Refusal>
+    ensures { IfErr result (λ e. e ≡ Refusal.Memory) }
+{
+    match BufWriter::new(rt.alloc(), writer) {
+        Ok(buffered) => Ok(buffered),
+        Err(_) => Err(Refusal::Memory),
+    }
 }

@@ -150,8 +150,7 @@ impl<T: TermLike + Drop, C: Clock + Drop, R: Wait + Clone + Drop, K: Tracks> Pro
     /// A bar of this length or of none in this style, which may have keys of one's own. It draws nothing yet.
     ///
     /// ```
-    /// let style = ProgressStyle::with_template(rt.alloc(), "{wide_bar} {left}")?.with_key("left", Left { of: 10 })?;
-    /// let bar = ProgressBar::styled(rt, rt.alloc(), style, Some(10), setup)?;
+    /// let bar = ProgressBar::styled(rt, alloc, style.with_key("left", left)?, Some(10), setup)?;
     /// ```
     ///
     /// Refused: `Memory`; nothing is made, and what was handed in is given up.

@@ -1,6 +1,6 @@
 //! A download with its bytes, its rate and the time that is left.
 use anyhow::Result;
-use indicatif::machine::{Shares, TerminalSetup};
+use indicatif::machine::{Shares, StreamSetup};
 use indicatif::{NoTracker, ProgressBar, ProgressStyle};
 use std::io::Stderr;
 use std::thread::sleep;
@@ -18,7 +18,7 @@ const PIECES: u64 = 104;
 
 pub fn run<R: Shares>(
     rt: R,
-    setup: TerminalSetup<Stderr>,
+    setup: StreamSetup<Stderr>,
     style: ProgressStyle<NoTracker>,
 ) -> Result<()> {
     let bar = ProgressBar::new(rt, rt.alloc(), TOTAL, setup)?;

@@ -1,6 +1,6 @@
 //! A loop with a spinner that ticks by itself, and a message at its end.
 use anyhow::Result;
-use indicatif::machine::{Shares, TerminalSetup};
+use indicatif::machine::{Shares, StreamSetup};
 use indicatif::{NoTracker, ProgressBar, ProgressFinish, ProgressStyle};
 use std::io::Stderr;
 use std::thread::sleep;
@@ -10,7 +10,7 @@ pub const TEMPLATE: &str = "{spinner:.blue} {msg} {pos}";
 
 pub fn run<R: Shares>(
     rt: R,
-    setup: TerminalSetup<Stderr>,
+    setup: StreamSetup<Stderr>,
     style: ProgressStyle<NoTracker>,
 ) -> Result<u64> {
     let style = style.tick_strings(&[">    ", " >   ", "  >  ", "   > ", "    >", "done "])?;

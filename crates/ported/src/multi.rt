@@ -1,6 +1,6 @@
 //! Two bars at once, each moved by a thread, with lines that are logged above them.
 use anyhow::Result;
-use indicatif::machine::{Shares, StderrBar, TerminalSetup};
+use indicatif::machine::{Shares, StderrBar, StreamSetup};
 use indicatif::{MultiProgress, NoTracker, ProgressStyle, Refusal};
 use std::io::Stderr;
 use std::thread::{join, sleep};
@@ -20,7 +20,7 @@ fn work<R: Shares>(rt: &R, bar: &StderrBar<R>, steps: u64) -> Result<(), Refusal
 
 pub fn run<R: Shares>(
     rt: R,
-    setup: TerminalSetup<Stderr>,
+    setup: StreamSetup<Stderr>,
     style: ProgressStyle<NoTracker>,
 ) -> Result<()> {
     let board = MultiProgress::new(rt, rt.alloc(), setup, 1)?;

@@ -96,8 +96,7 @@ impl<T: TermLike + Drop, C: Clock + Drop, R: Wait + Clone + Drop, K: Tracks> Mul
     /// The same as `new`, for bars whose styles have keys of one's own.
     ///
     /// ```
-    /// let board = MultiProgress::keyed(rt, rt.alloc(), setup, 1)?;
-    /// let bar = board.new_bar(10)?.with_style(style)?; // style: with_key("left", Left { of: 10 })
+    /// let board: Several<R> = MultiProgress::keyed(rt, alloc, setup(alloc)?, 1)?; // MultiProgress<InMemoryTerm, StepClock, R, Left>
     /// ```
     ///
     /// Refused: `Memory`; nothing is made, and what was handed in is given up.
@@ -362,7 +361,7 @@ impl<T: TermLike + Drop, C: Clock + Clone + Drop, R: Wait + Clone + Drop, K: Tra
 /// #[derive(Drop)]
 /// struct Length;
 ///
-/// impl<T: Drop, K: Tracks> RecordReader<T, K> for Length {
+/// impl<T: TermLike + Drop, K: Tracks> RecordReader<T, K> for Length {
 ///     type Found = usize;
 ///
 ///     fn read(self, record: Option<&Recorded<K, T>>) -> usize {

@@ -1,0 +1,166 @@
+//! A terminal whose wrap can be turned off and on: cells, and DEC's private mode 7 before them (ESC `[?7l`, ESC `[?7h`).
+//!
+//! With the wrap off a character on the last column leaves the cursor there, so that the next one takes its place; one of two columns
+//! that would begin there is passed over. So does tmux.
+use indicatif::{Cells, Refusal, width};
+use std::alloc::Global;
+use std::cell::{Cell, RefCell};
+use std::io::{self, Error, ErrorKind, Write};
+use std::rc::Rc;
+use std::str;
+
+/// The cells, whether a full row goes on on the next one, and which write fails.
+#[derive(Drop)]
+pub struct Pane {
+    cells: RefCell<Cells>,
+    columns: u16,
+    wraps: Cell<bool>,
+    /// How many writes from now on the one is that fails; none where it is 0.
+    fails: Cell<u64>,
+}
+
+impl Pane {
+    /// An empty one of this size, which wraps.
+    pub fn new(alloc: Global, rows: u16, columns: u16) -> Result<Rc<Pane>, Refusal> {
+        let pane = Pane {
+            cells: RefCell::new(Cells::new(alloc, rows, columns)?),
+            columns,
+            wraps: Cell::new(true),
+            fails: Cell::new(0),
+        };
+        Ok(Rc::new(alloc, pane)?)
+    }
+
+    /// The rows, also those scrolled away.
+    pub fn picture(&self) -> Result<Vec<String>, Refusal> {
+        match self.cells.try_borrow() {
+            Ok(cells) => cells.picture(),
+            Err(_) => Err(Refusal::Memory),
+        }
+    }
+
+    /// Whether a full row goes on on the next one.
+    pub fn wraps(&self) -> bool {
+        self.wraps.get()
+    }
+
+    /// The write of this number fails, counted from now on.
+    pub fn fail(&self, number: u64) {
+        self.fails.set(number);
+    }
+
+    /// Fails where this write is the one that does.
+    fn admit(&self) -> io::Result<()> {
+        let left = self.fails.get();
+        self.fails.set(left.saturating_sub(1));
+        if left == 1 {
+            return Err(Error::from(ErrorKind::BrokenPipe));
+        }
+        Ok(())
+    }
+
+    /// Shows a text.
+    pub fn show(&self, text: &str) -> io::Result<()> {
+        let mut rest = text;
+        for _ in 0..text.len() {
+            rest = match self.switched(rest) {
+                Some(behind) => behind,
+                None => self.show_first(rest)?,
+            };
+        }
+        Ok(())
+    }
+
+    /// Turns the wrap off or on, where the text begins with that; what stands behind it.
+    fn switched<'a>(&self, text: &'a str) -> Option<&'a str> {
+        let off = text.strip_prefix("\u{1b}[?7l");
+        let on = text.strip_prefix("\u{1b}[?7h");
+        self.wraps
+            .set(self.wraps.get() && off.is_none() || on.is_some());
+        off.or(on)
+    }
+
+    /// Shows the first character, or the escape sequence at the front; what stands behind it.
+    fn show_first<'a>(&self, text: &'a str) -> io::Result<&'a str> {
+        let mut chars = text.chars();
+        let Some(first) = chars.next() else {
+            return Ok("");
+        };
+        self.put(first)?;
+        if first == '\u{1b}' {
+            for c in chars.by_ref() {
+                self.feed(c)?;
+                if c.is_ascii_alphabetic() {
+                    break;
+                }
+            }
+        }
+        Ok(chars.as_str())
+    }
+
+    /// The column of the cursor, and whether it stands behind a full row.
+    fn column(&self) -> u16 {
+        match self.cells.try_borrow() {
+            Ok(cells) => cells.cursor().1,
+            Err(_) => 0,
+        }
+    }
+
+    /// Shows a character.
+    fn put(&self, c: char) -> io::Result<()> {
+        if self.wraps.get() {
+            return self.feed(c);
+        }
+        self.stay_within()?;
+        let left = usize::from(self.columns.saturating_sub(self.column()));
+        if width(c) > left {
+            return Ok(());
+        }
+        self.feed(c)?;
+        self.stay_within()
+    }
+
+    /// Brings the cursor back from behind a full row.
+    fn stay_within(&self) -> io::Result<()> {
+        if self.column() < self.columns {
+            return Ok(());
+        }
+        self.feed_bytes(b"\x1b[1D")
+    }
+
+    /// Hands a character to the cells.
+    fn feed(&self, c: char) -> io::Result<()> {
+        let mut bytes = [0u8; 4];
+        let text = c.encode_utf8(&mut bytes);
+        self.feed_bytes(text.as_bytes())
+    }
+
+    fn feed_bytes(&self, bytes: &[u8]) -> io::Result<()> {
+        let Ok(mut cells) = self.cells.try_borrow_mut() else {
+            return Err(Error::from(ErrorKind::OutOfMemory));
+        };
+        match cells.feed(bytes) {
+            Ok(()) => Ok(()),
+            Err(_) => Err(Error::from(ErrorKind::OutOfMemory)),
+        }
+    }
+}
+
+/// The writer that leads to a pane. It takes texts whole.
+#[derive(Drop)]
+pub struct Wire(pub Rc<Pane>);
+
+impl Write for Wire {
+    fn write(&mut self, buf: &[u8]) -> io::Result<usize> {
+        self.0.admit()?;
+        match str::from_utf8(buf) {
+            Ok(text) => self.0.show(text)?,
+            Err(_) => return Err(Error::from(ErrorKind::InvalidData)),
+        }
+        Ok(buf.len())
+    }
+
+    fn flush(&mut self) -> io::Result<()> {
+        Ok(())
+    }
+}
