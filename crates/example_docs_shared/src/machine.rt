@@ -5,18 +5,22 @@ use indicatif::machine::{
     style_on_stderr, told_setup, wants_colors,
 };
 use indicatif::{
-    BarState, Clock, Drawn, LoneBar, NoTracker, OwnRows, ProgressBar, ProgressDrawTarget,
-    ProgressIterator, ProgressStyle, Refusal, Term,
+    BarState, Clock, Drawn, Facts, LoneBar, Moment, NoTracker, OwnRows, ProgressBar,
+    ProgressDrawTarget, ProgressIterator, ProgressStyle, Refusal, Term, TermLike,
 };
-use std::io::{Stderr, Stdout};
+use std::io::{self, Stderr, Stdout};
 
 pub fn main(rt: HostRuntime) -> Result<()> {
     println!(rt; "MachineClock {}", goes_on(rt))?;
     println!(rt; "facts_of {}", told_columns(rt)?)?;
+    println!(rt; "told_setup {}", is_told_hidden(rt, unnamed())?)?;
+    println!(rt;
+        "OwnRows {}",
+        is_own_hidden(Vec::new(rt.alloc()), unnamed(), 0)?
+    )?;
+    println!(rt; "left_to_terminal {}", left_rows(Vec::new(rt.alloc()))?)?;
     println!(rt; "wants_colors {}", coloured(rt)?.len())?;
     println!(rt; "TerminalSetup {}", set_up(rt)?)?;
-    println!(rt; "StreamSetup {}", set_up_on_a_stream(rt)?)?;
-    println!(rt; "OwnRows {} {}", own_hidden(rt)?, left_to_the_terminal(rt)?)?;
     println!(rt;
         "on_stderr {}",
         first_on_stderr(rt, vec![in rt.alloc(); 7u64]?)?.unwrap_or(0)
@@ -51,43 +55,25 @@ fn coloured(rt: HostRuntime) -> Result<String, Refusal> {
 /// Whether a bar on standard error has been made.
 fn set_up(rt: HostRuntime) -> Result<bool, Refusal> {
     let bar = BarState::<NoTracker>::new(rt.alloc(), Some(3), 0)?;
-    let facts = facts_of(&rt, &rt.stderr())?;
-    let setup: TerminalSetup<Stderr> = told_setup(&rt, rt.stderr(), facts)?;
-    let bar = LoneBar::new(bar, setup.target);
-    Ok(bar.bar().state().pos() == 0)
-}
-
-/// The same by what the machine tells.
-fn set_up_on_a_stream(rt: HostRuntime) -> Result<bool, Refusal> {
-    let bar = BarState::<NoTracker>::new(rt.alloc(), Some(3), 0)?;
     let setup: StreamSetup<Stderr> = on_stderr(&rt)?;
     let bar = LoneBar::new(bar, setup.target);
     Ok(bar.bar().state().pos() == 0)
 }
 
-/// Whether a target whose rows the program ends is hidden, where nobody looks.
-fn own_hidden(rt: HostRuntime) -> Result<bool, Refusal> {
-    let mut facts = facts_of(&rt, &rt.stderr())?;
-    facts.attended = false;
-    let now = MachineClock::new(rt).now();
-    let writer: Vec<u8> = Vec::new(rt.alloc());
-    let term = OwnRows::new(Term::new(writer, 24, 79));
-    let target = ProgressDrawTarget::term(term, facts, 20, now)?;
-    Ok(target.is_hidden())
-}
-
-/// How many bytes a terminal was given that wraps rows by itself, before the first drawing.
-fn left_to_the_terminal(rt: HostRuntime) -> Result<usize, Refusal> {
-    let writer: Vec<u8> = Vec::new(rt.alloc());
-    let term = OwnRows::left_to_terminal(Term::new(writer, 24, 80));
-    let own = term;
-    let writer = own.term().writer();
-    Ok(writer.len())
+/// Whether a target of which this is told is hidden.
+fn is_told_hidden(rt: HostRuntime, facts: Facts) -> Result<bool, Refusal> {
+    let setup: TerminalSetup<Stderr> = told_setup(&rt, rt.stderr(), facts)?;
+    Ok(setup.target.is_hidden())
 }
 
 fn first_on_stderr(rt: HostRuntime, list: Vec<u64>) -> Result<Option<u64>, Refusal> {
     let mut wrapped = list.into_iter().progress(rt.alloc(), on_stderr(&rt)?)?;
     Ok(wrapped.next())
+}
+
+/// A step of a bar on standard error.
+pub fn copy<R: Shares>(bar: &StderrBar<R>) -> Result<Drawn, Refusal> {
+    bar.inc(1)
 }
 
 /// Whether a bar on standard output is shown.
@@ -97,7 +83,28 @@ pub fn shown<R: Shares>(
     !bar.is_hidden()
 }
 
-/// A step of a bar on standard error.
-pub fn copy<R: Shares>(bar: &StderrBar<R>) -> Result<Drawn, Refusal> {
-    bar.inc(1)
+/// What is told of a terminal without a name.
+fn unnamed() -> Facts {
+    Facts {
+        rows: 24,
+        cols: 79,
+        attended: true,
+        term: None,
+    }
+}
+
+/// Whether a target whose rows the program ends is hidden.
+fn is_own_hidden(writer: Vec<u8>, facts: Facts, now: Moment) -> Result<bool, Refusal> {
+    let term = OwnRows::new(Term::new(writer, 24, 79));
+    let target = ProgressDrawTarget::term(term, facts, 20, now)?;
+    Ok(target.is_hidden())
+}
+
+/// How many bytes a line takes where the terminal ends full rows.
+fn left_rows(writer: Vec<u8>) -> io::Result<usize> {
+    let term = OwnRows::left_to_terminal(Term::new(writer, 24, 80));
+    let mut own = term;
+    own.write_line("ab")?;
+    let writer = own.term().writer();
+    Ok(writer.len())
 }
