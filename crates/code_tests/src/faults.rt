@@ -28,16 +28,24 @@ fn contents(alloc: Global, bar: &Shown<FailsOnce>) -> Result<String, Refusal> {
 /// The rows down to the cursor's, each ended by a newline.
 fn rows_to_the_cursor(alloc: Global, bar: &Shown<FailsOnce>) -> Result<String, Refusal> {
     let mut text = String::new(alloc);
-    let Some(term) = bar.term() else {
-        return Ok(text);
-    };
-    let (row, _) = term.inner().cursor();
-    let rows = term.inner().picture()?;
-    for line in rows.iter().take(row as usize + 1) {
-        text.push_str(line.as_str())?;
-        text.push('\n')?;
+    if let Some(term) = bar.term() {
+        push_rows_to_the_cursor(&mut text, term.inner())?;
     }
     Ok(text)
+}
+
+fn push_rows_to_the_cursor(text: &mut String, term: &InMemoryTerm) -> Result<(), Refusal> {
+    let (row, _) = term.cursor();
+    push_rows(text, &term.picture()?, usize::from(row))
+}
+
+/// Appends the rows down to the last of these numbers, each ended by a newline.
+fn push_rows(text: &mut String, rows: &[String], last: usize) -> Result<(), Refusal> {
+    for row in rows.get(..=last).unwrap_or(rows) {
+        text.push_str(row.as_str())?;
+        text.push('\n')?;
+    }
+    Ok(())
 }
 
 /// Makes the call, and answers what a failure left on the screen. After one, the call's rows stand below what it left.

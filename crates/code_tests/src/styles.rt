@@ -8,7 +8,7 @@ use indicatif_bar::style::{FnTracker, ProgressStyle, ProgressTracker, TellsText}
 use indicatif_board::multi::{
     Answer, BarId, Board, Call, Candidate, Entry, InsertLocation, Recorded,
 };
-use indicatif_term::draw_target::ProgressDrawTarget;
+use indicatif_term::draw_target::{LineType, ProgressDrawTarget};
 use indicatif_term::in_memory::InMemoryTerm;
 use indicatif_text::columns::{Drawn, Moment, Refusal};
 use itoa::Buffer;
@@ -59,11 +59,16 @@ fn lines<K: ProgressTracker>(
     columns: u16,
 ) -> Result<String, Refusal> {
     let mut text = String::new(alloc);
-    for line in &bar.lines(0, columns)? {
+    push_lines(&mut text, &bar.lines(0, columns)?)?;
+    Ok(text)
+}
+
+fn push_lines(text: &mut String, lines: &[LineType]) -> Result<(), Refusal> {
+    for line in lines {
         text.push_str(line.as_str())?;
         text.push('\n')?;
     }
-    Ok(text)
+    Ok(())
 }
 
 /// The lines are these.

@@ -218,21 +218,27 @@ fn a_bar_behind_a_writer_of_one_byte_a_call(rt: HostRuntime) -> Result<(), Fail>
 
 /// The rows down to the cursor's that these bytes show, each behind a newline.
 fn shown(alloc: Global, bytes: &[u8]) -> Result<String, Fail> {
-    let mut cells = Cells::new(alloc, 20, 10)?;
+    let mut cells = Box::new(alloc, Cells::new(alloc, 20, 10)?)?;
+    let mut text = String::new(alloc);
+    push_shown(&mut text, &mut cells, bytes)?;
+    Ok(text)
+}
+
+fn push_shown(text: &mut String, cells: &mut Cells, bytes: &[u8]) -> Result<(), Refusal> {
     if let Err((_, refusal)) = cells.feed(bytes) {
-        return Err(Fail::from(refusal));
+        return Err(refusal);
     }
     let (row, _) = cells.cursor();
-    let mut text = String::new(alloc);
-    for line in cells
-        .picture()?
-        .iter()
-        .take(usize::from(row).saturating_add(1))
-    {
+    push_rows(text, &cells.picture()?, usize::from(row))
+}
+
+/// Appends the rows down to the last of these numbers, each behind a newline.
+fn push_rows(text: &mut String, rows: &[String], last: usize) -> Result<(), Refusal> {
+    for row in rows.get(..=last).unwrap_or(rows) {
         text.push('\n')?;
-        text.push_str(line.as_str())?;
+        text.push_str(row.as_str())?;
     }
-    Ok(text)
+    Ok(())
 }
 
 /// Whether these rows stand at the bottom of what the terminal's bytes show.
