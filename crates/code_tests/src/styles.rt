@@ -5,9 +5,8 @@ ghost use Rattle.indicatif_bar.specs.Trackers.{telling};
 use indicatif_bar::lone::LoneBar;
 use indicatif_bar::state::{BarCommand, BarState, ProgressFinish, ProgressState};
 use indicatif_bar::style::{FnTracker, ProgressStyle, ProgressTracker, TellsText};
-use indicatif_board::multi::{
-    Answer, BarId, Board, Call, Candidate, Entry, InsertLocation, Recorded,
-};
+use indicatif_board::multi;
+use indicatif_board::multi::{Answer, BarId, Board, Candidate, Entry, InsertLocation, Recorded};
 use indicatif_term::draw_target::{LineType, ProgressDrawTarget};
 use indicatif_term::in_memory::InMemoryTerm;
 use indicatif_text::columns::{Drawn, Moment, Refusal};
@@ -203,18 +202,21 @@ fn target(alloc: Global) -> Result<ProgressDrawTarget<InMemoryTerm>, Refusal> {
 }
 
 /// A bar whose tracker writes this text, with two spaces for a tab.
-fn insertion_of(alloc: Global, text: &'static str) -> Result<Call<FnTracker<Says>>, Refusal> {
+fn insertion_of(
+    alloc: Global,
+    text: &'static str,
+) -> Result<multi::Call<FnTracker<Says>>, Refusal> {
     let look = tracked(alloc, "{t}", text, false)?;
     let mut bar = bar(alloc, look, Some(4))?;
     bar.with_tab_width(2, 0)?;
-    Ok(Call::Insert {
+    Ok(multi::Call::Insert {
         at: InsertLocation::End,
         candidate: Candidate::New(Box::into_inner(bar)),
     })
 }
 
 /// What a board answers to a call; a bar that comes back is given up.
-fn applied(board: &mut Kept, call: Call<FnTracker<Says>>) -> Answer {
+fn applied(board: &mut Kept, call: multi::Call<FnTracker<Says>>) -> Answer {
     let (answer, bar) = board.apply(call, 0);
     drop(bar);
     answer
@@ -226,7 +228,7 @@ const FIRST: BarId = BarId { mark: 1, number: 0 };
 /// Whether a board takes such a bar in, and draws it.
 fn is_drawn(alloc: Global, board: &mut Kept, text: &'static str) -> Result<bool, Refusal> {
     let taken = applied(board, insertion_of(alloc, text)?);
-    let drawn = applied(board, Call::Bar(FIRST, BarCommand::Tick));
+    let drawn = applied(board, multi::Call::Bar(FIRST, BarCommand::Tick));
     Ok(taken == Answer::Id(FIRST) && drawn == Answer::Drawn(Drawn::Yes))
 }
 
