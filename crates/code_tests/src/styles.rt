@@ -7,7 +7,7 @@ use indicatif_bar::state::{BarCommand, BarState, ProgressFinish, ProgressState};
 use indicatif_bar::style::{FnTracker, ProgressStyle, ProgressTracker, TellsText};
 use indicatif_board::multi;
 use indicatif_board::multi::{Answer, BarId, Board, Candidate, Entry, InsertLocation, Recorded};
-use indicatif_term::draw_target::ProgressDrawTarget;
+use indicatif_term::draw_target::{LineType, ProgressDrawTarget};
 use indicatif_term::in_memory::InMemoryTerm;
 use indicatif_text::columns::{Drawn, Moment, Refusal};
 use itoa::Buffer;
@@ -58,11 +58,16 @@ fn lines<K: ProgressTracker>(
     columns: u16,
 ) -> Result<String, Refusal> {
     let mut text = String::new(alloc);
-    for line in &bar.lines(0, columns)? {
+    push_lines(&mut text, &bar.lines(0, columns)?)?;
+    Ok(text)
+}
+
+fn push_lines(text: &mut String, lines: &[LineType]) -> Result<(), Refusal> {
+    for line in lines {
         text.push_str(line.as_str())?;
         text.push('\n')?;
     }
-    Ok(text)
+    Ok(())
 }
 
 /// The lines are these.
