@@ -140,13 +140,16 @@ fn reclustered(alloc: Global, numbers: &mut Numbers, style: Style) -> Result<Sty
         widths.push(width)?;
     }
     let copy = style.try_clone()?;
-    match (
-        copy.progress_chars(chars.as_str()),
-        cluster_refusal(&widths),
-    ) {
-        (Ok(style), None) => Ok(Box::new(alloc, style)?),
-        (Err(found), Some(wanted)) if found == wanted => Ok(style),
-        _ => Err(Law::Builder),
+    let wanted = cluster_refusal(&widths);
+    match copy.progress_chars(chars.as_str()) {
+        Ok(made) => {
+            Law::Builder.holds(wanted.is_none())?;
+            Ok(Box::new(alloc, made)?)
+        }
+        Err(found) => {
+            Law::Builder.holds(wanted == Some(found))?;
+            Ok(style)
+        }
     }
 }
 
