@@ -69,6 +69,9 @@ pub const SCRIPT: [(Step, &str); 6] = [
     (Step::Message("e"), "e"),
 ];
 
+/// The place in the script of the tick that changes no line: the log before it wrote all of them. Such a drawing writes nothing.
+pub const STILL: usize = 4;
+
 /// Makes the call.
 pub fn made<T: TermLike + Drop>(bar: &mut Shown<T>, step: Step) -> Result<Drawn, Refusal> {
     match step {

@@ -7,7 +7,7 @@ use indicatif_bar::state::{BarCommand, BarState, ProgressFinish, ProgressState};
 use indicatif_bar::style::{FnTracker, ProgressStyle, ProgressTracker, TellsText};
 use indicatif_board::multi;
 use indicatif_board::multi::{Answer, BarId, Board, Candidate, Entry, InsertLocation, Recorded};
-use indicatif_term::draw_target::ProgressDrawTarget;
+use indicatif_term::draw_target::{LineType, ProgressDrawTarget};
 use indicatif_term::in_memory::InMemoryTerm;
 use indicatif_text::columns::{Drawn, Moment, Refusal};
 use itoa::Buffer;
@@ -58,11 +58,16 @@ fn lines<K: ProgressTracker>(
     columns: u16,
 ) -> Result<String, Refusal> {
     let mut text = String::new(alloc);
-    for line in &bar.lines(0, columns)? {
+    push_lines(&mut text, &bar.lines(0, columns)?)?;
+    Ok(text)
+}
+
+fn push_lines(text: &mut String, lines: &[LineType]) -> Result<(), Refusal> {
+    for line in lines {
         text.push_str(line.as_str())?;
         text.push('\n')?;
     }
-    Ok(text)
+    Ok(())
 }
 
 /// The lines are these.
@@ -349,7 +354,7 @@ fn lit(alloc: Global) -> Result<Told<Light>, Refusal> {
 
 /// A call of a bar.
 #[derive(Clone, Copy, Debug, Drop)]
-enum Call {
+enum Step {
     WithPosition,
     ForceDraw,
     WithMessage,
@@ -365,46 +370,46 @@ enum Call {
     Finish,
 }
 
-fn command(alloc: Global, call: Call) -> Result<BarCommand<Light>, Refusal> {
+fn command(alloc: Global, call: Step) -> Result<BarCommand<Light>, Refusal> {
     let message = String::from_str(alloc, "m")?;
     Ok(match call {
-        Call::WithPosition => BarCommand::WithPosition(1),
-        Call::ForceDraw => BarCommand::ForceDraw,
-        Call::WithMessage => BarCommand::WithMessage(message),
-        Call::Tick => BarCommand::Tick,
-        Call::ResetEta => BarCommand::ResetEta,
-        Call::ResetElapsed => BarCommand::ResetElapsed,
-        Call::Reset => BarCommand::Reset,
-        Call::SetMessage => BarCommand::SetMessage(message),
-        Call::Inc => BarCommand::Inc(1),
-        Call::SetLength => BarCommand::SetLength(3),
-        Call::SetTicker => BarCommand::SetTicker(true),
-        Call::TickerTick => BarCommand::TickerTick,
-        Call::Finish => BarCommand::Finish(ProgressFinish::AndLeave),
+        Step::WithPosition => BarCommand::WithPosition(1),
+        Step::ForceDraw => BarCommand::ForceDraw,
+        Step::WithMessage => BarCommand::WithMessage(message),
+        Step::Tick => BarCommand::Tick,
+        Step::ResetEta => BarCommand::ResetEta,
+        Step::ResetElapsed => BarCommand::ResetElapsed,
+        Step::Reset => BarCommand::Reset,
+        Step::SetMessage => BarCommand::SetMessage(message),
+        Step::Inc => BarCommand::Inc(1),
+        Step::SetLength => BarCommand::SetLength(3),
+        Step::SetTicker => BarCommand::SetTicker(true),
+        Step::TickerTick => BarCommand::TickerTick,
+        Step::Finish => BarCommand::Finish(ProgressFinish::AndLeave),
     })
 }
 
 /// Calls one after another, and what the bar shows then. Each that updates the bar ticks its trackers; a reset resets them, and nothing
 /// else touches them.
-const CALLS: [(Call, &str); 18] = [
-    (Call::WithPosition, "off\n"),
-    (Call::ForceDraw, "off\n"),
-    (Call::WithMessage, "off\n"),
-    (Call::Tick, "on\n"),
-    (Call::ResetEta, "on\n"),
-    (Call::ResetElapsed, "on\n"),
-    (Call::Reset, "off\n"),
-    (Call::SetMessage, "on\n"),
-    (Call::Reset, "off\n"),
-    (Call::Inc, "on\n"),
-    (Call::Reset, "off\n"),
-    (Call::SetLength, "on\n"),
-    (Call::Reset, "off\n"),
-    (Call::SetTicker, "off\n"),
-    (Call::Tick, "off\n"),
-    (Call::TickerTick, "on\n"),
-    (Call::Reset, "off\n"),
-    (Call::Finish, "off\n"),
+const CALLS: [(Step, &str); 18] = [
+    (Step::WithPosition, "off\n"),
+    (Step::ForceDraw, "off\n"),
+    (Step::WithMessage, "off\n"),
+    (Step::Tick, "on\n"),
+    (Step::ResetEta, "on\n"),
+    (Step::ResetElapsed, "on\n"),
+    (Step::Reset, "off\n"),
+    (Step::SetMessage, "on\n"),
+    (Step::Reset, "off\n"),
+    (Step::Inc, "on\n"),
+    (Step::Reset, "off\n"),
+    (Step::SetLength, "on\n"),
+    (Step::Reset, "off\n"),
+    (Step::SetTicker, "off\n"),
+    (Step::Tick, "off\n"),
+    (Step::TickerTick, "on\n"),
+    (Step::Reset, "off\n"),
+    (Step::Finish, "off\n"),
 ];
 
 /// After this call the bar shows this.
@@ -412,7 +417,7 @@ fn shows_after(
     rt: &impl Abort,
     alloc: Global,
     bar: &mut BarState<Light>,
-    (call, wanted): (Call, &str),
+    (call, wanted): (Step, &str),
 ) -> Result<(), Fail> {
     bar.apply(command(alloc, call)?, 0)?;
     shows(rt, alloc, bar, (80, wanted))

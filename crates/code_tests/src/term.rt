@@ -3,43 +3,70 @@ use indicatif_term::draw_target::{Engine, MultiProgressAlignment, ProgressDrawTa
 use indicatif_term::in_memory::InMemoryTerm;
 use indicatif_term::term_like::TermLike;
 use indicatif_text::columns::{Clock, Refusal, StepClock};
+use std::alloc::Global;
 use std::io::ErrorKind;
 use std::test::Fail;
 
+type Target = ProgressDrawTarget<InMemoryTerm>;
+
+fn hidden() -> Target {
+    ProgressDrawTarget::hidden()
+}
+
+fn target(alloc: Global) -> Result<Target, Refusal> {
+    let term = InMemoryTerm::new(alloc, 2, 3)?;
+    Ok(ProgressDrawTarget::term_like(term))
+}
+
+/// One that draws once a second.
+fn often(alloc: Global) -> Result<Target, Refusal> {
+    ProgressDrawTarget::term_like_with_hz(InMemoryTerm::new(alloc, 2, 3)?, 1, 0)
+}
+
+/// Whether a target gives an engine, and whether a limiter.
+fn opened(alloc: Global, target: Target) -> (bool, bool) {
+    let (engine, limiter) = Engine::opened_on(alloc, target);
+    (engine.is_some(), limiter.is_some())
+}
+
 #[test]
 fn engines_of_targets(rt: HostRuntime) -> Result<(), Fail> {
-    let term = InMemoryTerm::new(rt.alloc(), 2, 3)?;
-    let (engine, limiter) = Engine::opened_on(rt.alloc(), ProgressDrawTarget::term_like(term));
-    assert!(rt; engine.is_some() && limiter.is_none());
-    let nowhere: ProgressDrawTarget<InMemoryTerm> = ProgressDrawTarget::hidden();
-    let (engine, limiter) = Engine::opened_on(rt.alloc(), nowhere);
-    assert!(rt; engine.is_none() && limiter.is_none());
-    let term = InMemoryTerm::new(rt.alloc(), 2, 3)?;
-    let often = ProgressDrawTarget::term_like_with_hz(term, 1, 0)?;
-    let (engine, limiter) = Engine::opened_on(rt.alloc(), often);
-    assert!(rt; engine.is_some() && limiter.is_some());
+    let alloc = rt.alloc();
+    assert_eq!(rt; opened(alloc, target(alloc)?), (true, false));
+    assert_eq!(rt; opened(alloc, hidden()), (false, false));
+    assert_eq!(rt; opened(alloc, often(alloc)?), (true, true));
     Ok(())
+}
+
+/// Rows and columns of a target's terminal, where it has one and no limiter.
+fn size_of(target: Target) -> Option<(u16, u16)> {
+    match target.into_parts() {
+        Some((term, None)) => Some((term.height(), term.width())),
+        _ => None,
+    }
+}
+
+/// Whether a target is hidden, and the size of its terminal.
+fn told(target: Target) -> (bool, Option<(u16, u16)>) {
+    (target.is_hidden(), size_of(target))
+}
+
+/// What a bar is made with: what is told of its target, and what its clock tells.
+fn taken_apart(setup: Setup<InMemoryTerm, StepClock>) -> (bool, Option<(u16, u16)>, u64) {
+    let Setup { target, mut clock } = setup;
+    let (is_hidden, size) = told(target);
+    (is_hidden, size, clock.now())
 }
 
 #[test]
 fn what_a_bar_is_made_with(rt: HostRuntime) -> Result<(), Fail> {
-    let term = InMemoryTerm::new(rt.alloc(), 2, 3)?;
     let setup = Setup {
-        target: ProgressDrawTarget::term_like(term),
+        target: target(rt.alloc())?,
         clock: StepClock { next: 5, step: 2 },
     };
-    let Setup { target, mut clock } = setup;
-    assert_eq!(rt; clock.now(), 5);
-    assert!(rt; !target.is_hidden());
-    let Some((term, None)) = target.into_parts() else {
-        assert!(rt; false, "a target without its terminal");
-        return Ok(());
-    };
-    assert_eq!(rt; term.height(), 2);
-    assert_eq!(rt; term.width(), 3);
-    let nowhere: ProgressDrawTarget<InMemoryTerm> = ProgressDrawTarget::hidden();
-    assert!(rt; nowhere.is_hidden());
-    assert!(rt; nowhere.into_parts().is_none());
+    assert_eq!(rt; taken_apart(setup), (false, Some((2, 3)), 5));
+    assert_eq!(rt; told(hidden()), (true, None));
+    assert!(rt; hidden().into_parts().is_none());
     Ok(())
 }
 
@@ -51,30 +78,43 @@ fn bars_stand_at_the_top_by_default(rt: HostRuntime) {
     );
 }
 
-/// Want of memory is a fault of its kind, counted once, and leaves a terminal that goes on. The gate runs this with ample
-/// memory; that it holds with each allocation failing in turn is tried by hand, by `rt try --test --fail-alloc N`.
-#[test]
-fn want_of_memory(rt: HostRuntime) -> Result<(), Fail> {
-    let mut term = match InMemoryTerm::new(rt.alloc(), 2, 4) {
-        Ok(term) => term,
-        Err(refusal) => {
-            assert_eq!(rt; refusal, Refusal::Memory);
-            return Ok(());
-        }
-    };
+/// Writes texts; the failures that the terminal counts are those that it told, each of them want of memory.
+fn writes_all(term: &mut InMemoryTerm) -> bool {
     let mut failed: u64 = 0;
     for text in ["abcdef", "\u{56FD}", "e\u{308}", "\r\n\r\nx"] {
         if let Err(e) = term.write_str(text) {
             failed = failed.saturating_add(1);
-            assert_eq!(rt; e.kind(), ErrorKind::OutOfMemory);
+            if e.kind() != ErrorKind::OutOfMemory {
+                return false;
+            }
         }
-        assert_eq!(rt; term.faults(), failed);
+        if term.faults() != failed {
+            return false;
+        }
     }
+    true
+}
+
+/// Whether the cursor stands on the terminal, whose text is told or memory is refused.
+fn goes_on(term: &InMemoryTerm) -> bool {
     let (row, column) = term.cursor();
-    assert!(rt; row < 2);
-    assert!(rt; column <= 4);
-    if let Err(refusal) = term.contents() {
-        assert_eq!(rt; refusal, Refusal::Memory);
+    let is_told = match term.contents() {
+        Ok(_) => true,
+        Err(refusal) => refusal == Refusal::Memory,
+    };
+    row < 2 && column <= 4 && is_told
+}
+
+/// Want of memory is a fault of its kind, counted once, and leaves a terminal that goes on. The gate runs this with ample
+/// memory; that it holds with each allocation failing in turn is tried by hand, by `rt try --test --fail-alloc N`.
+#[test]
+fn want_of_memory(rt: HostRuntime) {
+    match InMemoryTerm::new(rt.alloc(), 2, 4) {
+        Ok(mut term) => {
+            assert!(rt; writes_all(&mut term) && goes_on(&term));
+        }
+        Err(refusal) => {
+            assert_eq!(rt; refusal, Refusal::Memory);
+        }
     }
-    Ok(())
 }

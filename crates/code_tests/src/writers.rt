@@ -1,5 +1,5 @@
 //! What a terminal hands on to its writer, and what it makes of the writer's answers.
-use crate::shown::{SCRIPT, Shown, Step, made};
+use crate::shown::{SCRIPT, STILL, Shown, Step, made};
 use indicatif_term::in_memory::Cells;
 use indicatif_term::term_like::{Term, TermLike};
 use indicatif_text::columns::{Drawn, Refusal};
@@ -42,17 +42,18 @@ fn writes_and_flushes(bar: &Buffered) -> Option<(u64, u64)> {
     Some((count.writes, count.flushes))
 }
 
-/// Each call of the script is drawn by one more write and one more flush.
+/// Each call of the script is drawn by one more flush, and by one more write where it changes a line.
 fn each_is_one_write(rt: &impl Abort, bar: &mut Buffered) {
-    let mut drawings: u64 = 0;
-    for (step, _) in &SCRIPT {
-        drawings = drawings.saturating_add(1);
-        let answer = (made(bar, *step), writes_and_flushes(bar));
-        assert_eq!(rt; answer, (Ok(Drawn::Yes), Some((drawings, drawings))));
+    let (mut writes, mut flushes): (u64, u64) = (0, 0);
+    for (place, call) in SCRIPT.iter().enumerate() {
+        writes = writes.saturating_add(u64::from(place != STILL));
+        flushes = flushes.saturating_add(1);
+        let answer = (made(bar, call.0), writes_and_flushes(bar));
+        assert_eq!(rt; answer, (Ok(Drawn::Yes), Some((writes, flushes))));
     }
 }
 
-/// Behind a `BufWriter` each drawing is one write; a call that is refused makes none.
+/// Behind a `BufWriter` each drawing that changes a line is one write; one that changes none makes none, as a call that is refused.
 #[test]
 fn a_drawing_is_one_write(rt: HostRuntime) -> Result<(), Fail> {
     let writer = BufWriter::new(rt.alloc(), CallCount::default())?;
@@ -218,21 +219,27 @@ fn a_bar_behind_a_writer_of_one_byte_a_call(rt: HostRuntime) -> Result<(), Fail>
 
 /// The rows down to the cursor's that these bytes show, each behind a newline.
 fn shown(alloc: Global, bytes: &[u8]) -> Result<String, Fail> {
-    let mut cells = Cells::new(alloc, 20, 10)?;
+    let mut cells = Box::new(alloc, Cells::new(alloc, 20, 10)?)?;
+    let mut text = String::new(alloc);
+    push_shown(&mut text, &mut cells, bytes)?;
+    Ok(text)
+}
+
+fn push_shown(text: &mut String, cells: &mut Cells, bytes: &[u8]) -> Result<(), Refusal> {
     if let Err((_, refusal)) = cells.feed(bytes) {
-        return Err(Fail::from(refusal));
+        return Err(refusal);
     }
     let (row, _) = cells.cursor();
-    let mut text = String::new(alloc);
-    for line in cells
-        .picture()?
-        .iter()
-        .take(usize::from(row).saturating_add(1))
-    {
+    push_rows(text, &cells.picture()?, usize::from(row))
+}
+
+/// Appends the rows down to the last of these numbers, each behind a newline.
+fn push_rows(text: &mut String, rows: &[String], last: usize) -> Result<(), Refusal> {
+    for row in rows.get(..=last).unwrap_or(rows) {
         text.push('\n')?;
-        text.push_str(line.as_str())?;
+        text.push_str(row.as_str())?;
     }
-    Ok(text)
+    Ok(())
 }
 
 /// Whether these rows stand at the bottom of what the terminal's bytes show.

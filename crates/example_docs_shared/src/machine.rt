@@ -19,7 +19,7 @@ pub fn main(rt: HostRuntime) -> Result<()> {
         is_own_hidden(Vec::new(rt.alloc()), unnamed(), 0)?
     )?;
     println!(rt; "left_to_terminal {}", left_rows(Vec::new(rt.alloc()))?)?;
-    println!(rt; "wants_colors {}", coloured(rt)?.len())?;
+    println!(rt; "wants_colors {}", coloured(rt)?)?;
     println!(rt; "TerminalSetup {}", set_up(rt)?)?;
     println!(rt;
         "on_stderr {}",
@@ -44,12 +44,16 @@ fn told_columns(rt: HostRuntime) -> Result<u16, Refusal> {
     Ok(columns)
 }
 
-/// A style in colours where they are wanted, as it shows a bar.
-fn coloured(rt: HostRuntime) -> Result<String, Refusal> {
+/// How many bytes the last spinner text of a style has that is in colours where they are wanted: it is a space.
+fn coloured(rt: HostRuntime) -> Result<usize, Refusal> {
     let style: ProgressStyle<NoTracker> = ProgressStyle::default_spinner(rt.alloc())?;
     let style = style.with_colors(wants_colors(&rt, &rt.stderr())?)?;
     let style = style_on_stderr(&rt, "[{bar:40.cyan/blue}] {pos}/{len} {msg}")?;
-    Ok(String::new(rt.alloc()))
+    Ok(last_spinner(&style).len())
+}
+
+fn last_spinner(style: &ProgressStyle<NoTracker>) -> &str {
+    style.get_final_tick_str()
 }
 
 /// Whether a bar on standard error has been made.

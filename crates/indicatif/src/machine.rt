@@ -5,6 +5,8 @@ ghost use Rattle.indicatif_text.specs.declared.template.TemplateError.{TemplateE
 ghost use Rattle.indicatif_text.specs.Template.{Parses, IsRefused, refusal_of};
 ghost use Rattle.indicatif_bar.specs.Builders.{first_style};
 ghost use Rattle.indicatif.specs.Machine.{IsBehind, IsOnStream};
+ghost use Rattle.indicatif.specs.OwnRows.{new_rows};
+ghost use Rattle.indicatif.specs.declared.own_rows.RowEnds.{RowEnds};
 
 use crate::own_rows::OwnRows;
 use crate::progress_bar::{MultiProgress, ProgressBar};
@@ -301,13 +303,20 @@ fn stream_setup<W: Write + IsTerminal + Drop>(
     let told = number_said(rt, "COLUMNS")?;
     facts.cols = told.unwrap_or(COLUMNS - 1);
     let term = Term::new(buffered(rt, stream)?, facts.rows, facts.cols);
-    let term = match told {
-        Some(_) => OwnRows::left_to_terminal(term),
-        None => OwnRows::new(term),
-    };
+    let term = told_rows(term, told);
     let mut clock = MachineClock::new(*rt);
     let target = ProgressDrawTarget::term(term, facts, HZ, clock.now())?;
     Ok(Setup { target, clock })
+}
+
+/// A terminal that ends its full rows by itself, where somebody told its columns.
+fn told_rows<T>(term: T, told: Option<u16>) -> OwnRows<T>
+    ensures { (ends : RowEnds) × (result ≡ new_rows term ends) }
+{
+    match told {
+        Some(_) => OwnRows::left_to_terminal(term),
+        None => OwnRows::new(term),
+    }
 }
 
 /// A buffer before a writer.
