@@ -430,6 +430,7 @@ class Sources:
 
     def __init__(self):
         self.code = sources(["*/src/**/*.rt"], True)
+        self.spaceless = [without_space("\n".join(it)) for it in self.code]
         self.specs = sources(["*/specs/**/*.antt"], False)
         self.shown = sources(["*/stdout", "*rows/data/*.txt"], False)
         self.results = list(results())
@@ -437,7 +438,11 @@ class Sources:
         self.program = read("crates/rows/data/program.txt").splitlines()
 
     def has_code(self, lines):
-        return any(stands_in(lines, it, True) for it in self.code)
+        if any(stands_in(lines, it, True) for it in self.code):
+            return True
+        # with other line ends
+        wanted = [without_space("\n".join(part)) for part in parts(lines)]
+        return all(wanted) and any(all(it in source for it in wanted) for source in self.spaceless)
 
     def has_shown(self, lines):
         return bare(lines, False) in self.results or any(stands_in(lines, it, False) for it in self.shown)

@@ -5,9 +5,8 @@ ghost use Rattle.indicatif_bar.specs.Trackers.{telling};
 use indicatif_bar::lone::LoneBar;
 use indicatif_bar::state::{BarCommand, BarState, ProgressFinish, ProgressState};
 use indicatif_bar::style::{FnTracker, ProgressStyle, ProgressTracker, TellsText};
-use indicatif_board::multi::{
-    Answer, BarId, Board, Call, Candidate, Entry, InsertLocation, Recorded,
-};
+use indicatif_board::multi;
+use indicatif_board::multi::{Answer, BarId, Board, Candidate, Entry, InsertLocation, Recorded};
 use indicatif_term::draw_target::ProgressDrawTarget;
 use indicatif_term::in_memory::InMemoryTerm;
 use indicatif_text::columns::{Drawn, Moment, Refusal};
@@ -198,18 +197,21 @@ fn target(alloc: Global) -> Result<ProgressDrawTarget<InMemoryTerm>, Refusal> {
 }
 
 /// A bar whose tracker writes this text, with two spaces for a tab.
-fn insertion_of(alloc: Global, text: &'static str) -> Result<Call<FnTracker<Says>>, Refusal> {
+fn insertion_of(
+    alloc: Global,
+    text: &'static str,
+) -> Result<multi::Call<FnTracker<Says>>, Refusal> {
     let look = tracked(alloc, "{t}", text, false)?;
     let mut bar = bar(alloc, look, Some(4))?;
     bar.with_tab_width(2, 0)?;
-    Ok(Call::Insert {
+    Ok(multi::Call::Insert {
         at: InsertLocation::End,
         candidate: Candidate::New(Box::into_inner(bar)),
     })
 }
 
 /// What a board answers to a call; a bar that comes back is given up.
-fn applied(board: &mut Kept, call: Call<FnTracker<Says>>) -> Answer {
+fn applied(board: &mut Kept, call: multi::Call<FnTracker<Says>>) -> Answer {
     let (answer, bar) = board.apply(call, 0);
     drop(bar);
     answer
@@ -221,7 +223,7 @@ const FIRST: BarId = BarId { mark: 1, number: 0 };
 /// Whether a board takes such a bar in, and draws it.
 fn is_drawn(alloc: Global, board: &mut Kept, text: &'static str) -> Result<bool, Refusal> {
     let taken = applied(board, insertion_of(alloc, text)?);
-    let drawn = applied(board, Call::Bar(FIRST, BarCommand::Tick));
+    let drawn = applied(board, multi::Call::Bar(FIRST, BarCommand::Tick));
     Ok(taken == Answer::Id(FIRST) && drawn == Answer::Drawn(Drawn::Yes))
 }
 
@@ -347,7 +349,7 @@ fn lit(alloc: Global) -> Result<Told<Light>, Refusal> {
 
 /// A call of a bar.
 #[derive(Clone, Copy, Debug, Drop)]
-enum Call {
+enum Step {
     WithPosition,
     ForceDraw,
     WithMessage,
@@ -363,46 +365,46 @@ enum Call {
     Finish,
 }
 
-fn command(alloc: Global, call: Call) -> Result<BarCommand<Light>, Refusal> {
+fn command(alloc: Global, call: Step) -> Result<BarCommand<Light>, Refusal> {
     let message = String::from_str(alloc, "m")?;
     Ok(match call {
-        Call::WithPosition => BarCommand::WithPosition(1),
-        Call::ForceDraw => BarCommand::ForceDraw,
-        Call::WithMessage => BarCommand::WithMessage(message),
-        Call::Tick => BarCommand::Tick,
-        Call::ResetEta => BarCommand::ResetEta,
-        Call::ResetElapsed => BarCommand::ResetElapsed,
-        Call::Reset => BarCommand::Reset,
-        Call::SetMessage => BarCommand::SetMessage(message),
-        Call::Inc => BarCommand::Inc(1),
-        Call::SetLength => BarCommand::SetLength(3),
-        Call::SetTicker => BarCommand::SetTicker(true),
-        Call::TickerTick => BarCommand::TickerTick,
-        Call::Finish => BarCommand::Finish(ProgressFinish::AndLeave),
+        Step::WithPosition => BarCommand::WithPosition(1),
+        Step::ForceDraw => BarCommand::ForceDraw,
+        Step::WithMessage => BarCommand::WithMessage(message),
+        Step::Tick => BarCommand::Tick,
+        Step::ResetEta => BarCommand::ResetEta,
+        Step::ResetElapsed => BarCommand::ResetElapsed,
+        Step::Reset => BarCommand::Reset,
+        Step::SetMessage => BarCommand::SetMessage(message),
+        Step::Inc => BarCommand::Inc(1),
+        Step::SetLength => BarCommand::SetLength(3),
+        Step::SetTicker => BarCommand::SetTicker(true),
+        Step::TickerTick => BarCommand::TickerTick,
+        Step::Finish => BarCommand::Finish(ProgressFinish::AndLeave),
     })
 }
 
 /// Calls one after another, and what the bar shows then. Each that updates the bar ticks its trackers; a reset resets them, and nothing
 /// else touches them.
-const CALLS: [(Call, &str); 18] = [
-    (Call::WithPosition, "off\n"),
-    (Call::ForceDraw, "off\n"),
-    (Call::WithMessage, "off\n"),
-    (Call::Tick, "on\n"),
-    (Call::ResetEta, "on\n"),
-    (Call::ResetElapsed, "on\n"),
-    (Call::Reset, "off\n"),
-    (Call::SetMessage, "on\n"),
-    (Call::Reset, "off\n"),
-    (Call::Inc, "on\n"),
-    (Call::Reset, "off\n"),
-    (Call::SetLength, "on\n"),
-    (Call::Reset, "off\n"),
-    (Call::SetTicker, "off\n"),
-    (Call::Tick, "off\n"),
-    (Call::TickerTick, "on\n"),
-    (Call::Reset, "off\n"),
-    (Call::Finish, "off\n"),
+const CALLS: [(Step, &str); 18] = [
+    (Step::WithPosition, "off\n"),
+    (Step::ForceDraw, "off\n"),
+    (Step::WithMessage, "off\n"),
+    (Step::Tick, "on\n"),
+    (Step::ResetEta, "on\n"),
+    (Step::ResetElapsed, "on\n"),
+    (Step::Reset, "off\n"),
+    (Step::SetMessage, "on\n"),
+    (Step::Reset, "off\n"),
+    (Step::Inc, "on\n"),
+    (Step::Reset, "off\n"),
+    (Step::SetLength, "on\n"),
+    (Step::Reset, "off\n"),
+    (Step::SetTicker, "off\n"),
+    (Step::Tick, "off\n"),
+    (Step::TickerTick, "on\n"),
+    (Step::Reset, "off\n"),
+    (Step::Finish, "off\n"),
 ];
 
 /// After this call the bar shows this.
@@ -410,7 +412,7 @@ fn shows_after(
     rt: &impl Abort,
     alloc: Global,
     bar: &mut BarState<Light>,
-    (call, wanted): (Call, &str),
+    (call, wanted): (Step, &str),
 ) -> Result<(), Fail> {
     bar.apply(command(alloc, call)?, 0)?;
     shows(rt, alloc, bar, (80, wanted))

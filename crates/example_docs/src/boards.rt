@@ -14,17 +14,33 @@ use std::alloc::Global;
 type Bars = Board<NoTracker, InMemoryTerm>;
 
 pub fn main(rt: &HostRuntime) -> Result<()> {
-    let alloc = rt.alloc();
-    println!(rt; "Board {:?}", logged(alloc)?.as_str())?;
-    let mut board = board_of(alloc)?;
-    let id = take_in(rt, &mut board)?;
-    turn_away(alloc, &mut board, BarId { mark: 9, number: 0 })?;
-    stack(alloc, &mut board)?;
+    print_text(rt, "Board", logged(rt.alloc()))?;
+    on_board(rt)?;
+    copies(rt)?;
+    print_text(rt, "emit", emitted(rt.alloc()))?;
+    println!(rt; "Done {}", summed(rt.alloc())?)?;
+    Ok(())
+}
+
+/// Prints what stands on a terminal.
+fn print_text(rt: &HostRuntime, name: &str, text: Result<String, Refusal>) -> Result<()> {
+    println!(rt; "{name} {:?}", text?.as_str())?;
+    Ok(())
+}
+
+fn on_board(rt: &HostRuntime) -> Result<()> {
+    let mut board = board_of(rt.alloc())?;
+    let board = &mut *board;
+    let id = take_in(rt, board)?;
+    turn_away(rt.alloc(), board, BarId { mark: 9, number: 0 })?;
+    stack(rt.alloc(), board)?;
+    ordered(rt, board)?;
+    answer(rt, board, id)
+}
+
+fn ordered(rt: &HostRuntime, board: &mut Bars) -> Result<()> {
     println!(rt; "InsertLocation {:?}", board.order())?;
-    println!(rt; "BarId {}", is_foreign(&mut board))?;
-    answer(rt, &mut board, id)?;
-    println!(rt; "emit {:?}", emitted(alloc)?.as_str())?;
-    println!(rt; "Done {}", summed(alloc)?)?;
+    println!(rt; "BarId {}", is_foreign(board))?;
     Ok(())
 }
 
@@ -130,22 +146,35 @@ fn copied_answer(answer: &Answer) -> Answer {
     again
 }
 
-fn answer(rt: &HostRuntime, board: &mut Bars, id: BarId) -> Result<()> {
+fn log_on(alloc: Global, board: &mut Bars) -> Result<bool, Refusal> {
     let now = 0;
-    let text = String::from_str(rt.alloc(), "log")?;
+    let text = String::from_str(alloc, "log")?;
     let log = board.call(Call::Log(text), now);
+    Ok(log == Answer::Drawn(Drawn::Yes))
+}
+
+fn cleared(board: &mut Bars) -> bool {
+    let now = 0;
     let clear = board.call(Call::Clear, now);
+    copied_answer(&clear) == clear && clear == Answer::Drawn(Drawn::Yes)
+}
+
+fn removed(board: &mut Bars, id: BarId) -> bool {
+    let now = 0;
     let remove = board.call(Call::Remove(id), now);
-    println!(rt; "Call {}", log == Answer::Drawn(Drawn::Yes))?;
-    println!(rt;
-        "Answer {} {}",
-        clear == Answer::Drawn(Drawn::Yes),
-        remove == Answer::Done
-    )?;
-    println!(rt; "Answer::same {}", copied_answer(&clear) == clear)?;
+    remove == Answer::Done
+}
+
+fn answer(rt: &HostRuntime, board: &mut Bars, id: BarId) -> Result<()> {
+    println!(rt; "Call {}", log_on(rt.alloc(), board)?)?;
+    println!(rt; "Answer {} {}", cleared(board), removed(board, id))?;
+    Ok(())
+}
+
+fn copies(rt: &HostRuntime) -> Result<()> {
     let call = copied(rt.alloc(), &Call::Redraw)?;
     println!(rt; "Call::try_clone {}", matches!(call, Call::Redraw))?;
-    let candidate = copied_candidate(&Candidate::Member(id))?;
+    let candidate = copied_candidate(&Candidate::Member(BarId { mark: 1, number: 0 }))?;
     println!(rt;
         "Candidate::try_clone {}",
         matches!(candidate, Candidate::Member(_))

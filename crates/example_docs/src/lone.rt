@@ -14,35 +14,36 @@ type Bar = LoneBar<NoTracker, InMemoryTerm>;
 pub fn main(rt: &HostRuntime) -> Result<()> {
     let mut bar = bar_on(rt.alloc(), ProgressDrawTarget::hidden())?;
     println!(rt; "Drawn {}", is_hidden(&mut bar)?)?;
-    let mut bar = shown(rt.alloc())?;
-    print_shown(rt, "LoneBar", &bar)?;
-    println!(rt;
-        "with_style {}",
-        restyle(rt.alloc(), &mut bar)? == Drawn::Limited
-    )?;
-    println!(rt; "with_elapsed {}", put_elapsed(&mut bar)? == Drawn::Limited)?;
-    println!(rt;
-        "Clock {}",
-        tick_now(
-            &mut bar,
-            StepClock {
-                next: 5_000_000_000,
-                step: 1
-            }
-        )? == Drawn::Yes
-    )?;
-    print_shown(rt, "with_style", &bar)?;
-    println!(rt; "LoneCall {}", run_three(rt.alloc(), &mut bar)?)?;
-    print_shown(rt, "LoneCall", &bar)?;
-    step(&mut bar, 6_000_000_000)?;
-    Ok(())
+    on_terminal(rt)
 }
 
-fn step<K: Tracks, T: TermLike + Drop>(
-    bar: &mut LoneBar<K, T>,
-    now: Moment,
-) -> Result<Drawn, Refusal> {
-    bar.inc(1, now)
+fn on_terminal(rt: &HostRuntime) -> Result<()> {
+    let mut bar = shown(rt.alloc())?;
+    let bar = &mut *bar;
+    print_shown(rt, "LoneBar", bar)?;
+    print_drawn(rt, "with_style", restyle(rt.alloc(), bar))?;
+    print_drawn(rt, "with_elapsed", put_elapsed(bar))?;
+    print_drawn(
+        rt,
+        "Clock",
+        tick_now(
+            bar,
+            StepClock {
+                next: 5_000_000_000,
+                step: 1,
+            },
+        ),
+    )?;
+    print_shown(rt, "with_style", bar)?;
+    print_drawn(rt, "Tracks", step(bar, 6_000_000_000))?;
+    println!(rt; "LoneCall {}", run_three(rt.alloc(), bar)?)?;
+    print_shown(rt, "LoneCall", bar)
+}
+
+/// Prints what became of a draw.
+fn print_drawn(rt: &HostRuntime, name: &str, drawn: Result<Drawn, Refusal>) -> Result<()> {
+    println!(rt; "{name} {:?}", drawn?)?;
+    Ok(())
 }
 
 fn print_shown(rt: &HostRuntime, name: &str, bar: &Bar) -> Result<()> {
@@ -62,6 +63,14 @@ fn bar_on(alloc: Global, target: ProgressDrawTarget<InMemoryTerm>) -> Result<Box
 fn is_hidden(bar: &mut Bar) -> Result<bool, Refusal> {
     let drawn = bar.tick(0)?;
     Ok(drawn == Drawn::Hidden)
+}
+
+/// A step of a bar with any keys.
+fn step<K: Tracks, T: TermLike + Drop>(
+    bar: &mut LoneBar<K, T>,
+    now: Moment,
+) -> Result<Drawn, Refusal> {
+    bar.inc(1, now)
 }
 
 /// A bar on a terminal of 4 rows and 20 columns, a name above it.

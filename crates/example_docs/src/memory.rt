@@ -51,23 +51,53 @@ fn show_cells(rt: &HostRuntime, name: &str, cells: &Cells) -> Result<()> {
 }
 
 fn cells(rt: &HostRuntime) -> Result<()> {
+    first_cells(rt)?;
+    many_cells(rt)?;
+    full_row(rt)?;
+    scrolled_row(rt)?;
+    written_space(rt)?;
+    wide_character(rt)
+}
+
+fn first_cells(rt: &HostRuntime) -> Result<()> {
     let mut cells = Cells::new(rt.alloc(), 2, 4)?;
     let _ = feed_all(&mut cells);
-    show_cells(rt, "Cells", &cells)?;
+    show_cells(rt, "Cells", &cells)
+}
+
+fn many_cells(rt: &HostRuntime) -> Result<()> {
     let cells = Cells::new(rt.alloc(), 65535, 65535)?;
-    println!(rt; "Cells::new {:?}", cells.contents()?.as_str())?;
+    show_start(rt, "Cells::new", cells.contents()?.as_str())
+}
+
+fn full_row(rt: &HostRuntime) -> Result<()> {
     let mut cells = Cells::new(rt.alloc(), 2, 2)?;
     let _ = feed_row(&mut cells);
-    show_cells(rt, "Cells::cursor", &cells)?;
+    show_cells(rt, "Cells::cursor", &cells)
+}
+
+fn scrolled_row(rt: &HostRuntime) -> Result<()> {
     let mut cells = Cells::new(rt.alloc(), 1, 3)?;
     let _ = feed_rows(&mut cells);
-    show_cells(rt, "Cells::picture", &cells)?;
+    show_cells(rt, "Cells::picture", &cells)
+}
+
+fn written_space(rt: &HostRuntime) -> Result<()> {
     let mut cells = Cells::new(rt.alloc(), 3, 3)?;
     let _ = feed_spaces(&mut cells);
-    show_cells(rt, "Cells::contents", &cells)?;
+    show_cells(rt, "Cells::contents", &cells)
+}
+
+fn wide_character(rt: &HostRuntime) -> Result<()> {
     let mut cells = Cells::new(rt.alloc(), 1, 4)?;
     let _ = feed_parts(&mut cells);
     show_cells(rt, "Cells::feed", &cells)
+}
+
+/// Prints what stands on a new terminal.
+fn show_start(rt: &HostRuntime, name: &str, contents: &str) -> Result<()> {
+    println!(rt; "{name} {contents:?}")?;
+    Ok(())
 }
 
 fn show(rt: &HostRuntime, name: &str, term: &InMemoryTerm) -> Result<()> {
@@ -104,19 +134,40 @@ fn calls(rt: &HostRuntime) -> Result<()> {
 }
 
 fn readings(rt: &HostRuntime) -> Result<()> {
+    new_terminal(rt)?;
+    trimmed(rt)?;
+    waiting(rt)?;
+    scrolled(rt)?;
+    emptied(rt)
+}
+
+fn new_terminal(rt: &HostRuntime) -> Result<()> {
     let term = InMemoryTerm::new(rt.alloc(), 24, 80)?;
-    println!(rt; "new {:?}", term.contents()?.as_str())?;
+    show_start(rt, "new", term.contents()?.as_str())
+}
+
+fn trimmed(rt: &HostRuntime) -> Result<()> {
     let mut term = InMemoryTerm::new(rt.alloc(), 3, 5)?;
     term.write_str("a  \r\n\r\n ")?;
-    show(rt, "contents", &term)?;
+    show(rt, "contents", &term)
+}
+
+fn waiting(rt: &HostRuntime) -> Result<()> {
     let mut term = InMemoryTerm::new(rt.alloc(), 2, 2)?;
     term.write_str("ab")?;
     show(rt, "cursor", &term)?;
     term.write_str("c")?;
-    show(rt, "cursor", &term)?;
+    show(rt, "cursor", &term)
+}
+
+fn scrolled(rt: &HostRuntime) -> Result<()> {
     let mut term = InMemoryTerm::new(rt.alloc(), 2, 3)?;
     term.write_str("a\r\nb\r\nc")?;
-    show(rt, "picture", &term)?;
+    show(rt, "picture", &term)
+}
+
+fn emptied(rt: &HostRuntime) -> Result<()> {
+    let mut term = InMemoryTerm::new(rt.alloc(), 2, 3)?;
     term.write_line("ab")?;
     term.move_cursor_up(1)?;
     term.clear_line()?;

@@ -7,28 +7,45 @@ use indicatif_text::columns::{Moment, StepClock};
 use std::io::BufWriter;
 
 pub fn main(rt: &HostRuntime) -> Result<()> {
+    println!(rt; "Facts {}", are_hiding())?;
+    let term = Some(String::from_str(rt.alloc(), "xterm")?);
+    println!(rt;
+        "ProgressDrawTarget {}",
+        is_hidden(Vec::new(rt.alloc()), term, 0)
+    )?;
+    println!(rt;
+        "term_like {}",
+        is_often_hidden(InMemoryTerm::new(rt.alloc(), 3, 10)?)
+    )?;
+    println!(rt;
+        "Setup {}",
+        is_setup_hidden(InMemoryTerm::new(rt.alloc(), 3, 10)?)
+    )?;
+    written(rt)
+}
+
+/// Whether a terminal without a name hides bars.
+fn are_hiding() -> bool {
     let facts = Facts {
         rows: 24,
         cols: 80,
         attended: true,
         term: None,
     };
-    println!(rt; "Facts {}", facts.hides())?;
-    let term = Some(String::from_str(rt.alloc(), "xterm")?);
-    println!(rt;
-        "ProgressDrawTarget {}",
-        is_hidden(Vec::new(rt.alloc()), term, 0)
-    )?;
-    let term = InMemoryTerm::new(rt.alloc(), 3, 10)?;
+    facts.hides()
+}
+
+fn is_often_hidden(term: InMemoryTerm) -> bool {
     let often = ProgressDrawTarget::term_like(term);
-    println!(rt; "term_like {}", often.is_hidden())?;
-    let term = InMemoryTerm::new(rt.alloc(), 3, 10)?;
+    often.is_hidden()
+}
+
+fn is_setup_hidden(term: InMemoryTerm) -> bool {
     let setup = Setup {
         target: ProgressDrawTarget::term_like(term),
         clock: StepClock { next: 0, step: 1 },
     };
-    println!(rt; "Setup {}", setup.target.is_hidden())?;
-    written(rt)
+    setup.target.is_hidden()
 }
 
 /// Whether such a target is hidden.
