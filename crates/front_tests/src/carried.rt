@@ -1,5 +1,6 @@
 //! Tests of the crate `indicatif` 0.18.6 that need code, each under its own name and with its own values: bars and boards that are
 //! shared, and what a bar wraps. Most others are rows; docs/DIFFERENCES.md has a table of all.
+use indicatif::machine::Shares;
 use indicatif::{
     InMemoryTerm, MaxRingBuf, Moves, MultiProgress, NoTracker, OwnedBar, ParallelProgressIterator,
     ProgressBar, ProgressBarIter, ProgressDrawTarget, ProgressIterator, ProgressStyle, Refusal,
@@ -9,7 +10,6 @@ use std::alloc::Global;
 use std::io;
 use std::sync::Wait;
 use std::test::Fail;
-use std::thread::Threads;
 use std::vec::IntoIter;
 
 /// A bar on a terminal in memory, whose clock stands still.
@@ -206,7 +206,7 @@ fn it_can_wrap_an_iterator(rt: HostRuntime) -> Result<(), Fail> {
 }
 
 /// The items of a list, each doubled by one of several threads.
-fn mapped<R: Threads + Sync, P: Moves>(
+fn mapped<R: Shares, P: Moves>(
     rt: &R,
     alloc: Global,
     list: ProgressBarIter<&[u32], P>,

@@ -1,11 +1,11 @@
 //! Lists with a bar of their own, on a terminal in memory.
+use indicatif::machine::Shares;
 use indicatif::{
     InMemoryTerm, Moves, NoTracker, OwnedBar, ParallelProgressIterator, ProgressBarIter,
     ProgressDrawTarget, ProgressStyle, Refusal, Setup, StepClock,
 };
 use std::alloc::Global;
 use std::test::Fail;
-use std::thread::Threads;
 
 /// A terminal of 4 rows and 20 columns, and a clock that goes on by a second each time it is asked.
 fn setup(alloc: Global) -> Result<Setup<InMemoryTerm, StepClock>, Refusal> {
@@ -21,7 +21,7 @@ fn setup(alloc: Global) -> Result<Setup<InMemoryTerm, StepClock>, Refusal> {
 }
 
 /// The sum of what a list's items are doubled to, and where its bar stands then.
-fn doubled<R: Threads + Sync>(
+fn doubled<R: Shares>(
     rt: &R,
     alloc: Global,
     list: ProgressBarIter<&[u32], OwnedBar<NoTracker, InMemoryTerm, StepClock>>,

@@ -1,12 +1,19 @@
 //! Lists that threads work on, with a bar.
-ghost use Rattle.std.specs.Prelude.{◌≡◌, ◌≤◌, ◌<◌, ℕ, Some, Ok, IfOk, IfErr, OnOk, length};
+//!
+//! - `course`: how far the bar is. `watch`: how far the threads are (private).
+ghost use Rattle.std.specs.Prelude.{◌≡◌, ◌≤◌, ℕ, Some, Ok, IfOk, IfErr, OnOk, length};
 ghost use Rattle.std.specs.List.{All, AllZip};
 ghost use Rattle.std.specs.Fn.{FnReturnsAt};
 ghost use Rattle.indicatif_bar.specs.Commands.{new_bar};
 ghost use Rattle.indicatif.specs.Wrap.{inner_of, Wraps};
 ghost use Rattle.indicatif.specs.Owned.{Begins, BeginsPlain};
-ghost use Rattle.indicatif.specs.Parallel.{Blocks, block_length};
+ghost use Rattle.indicatif.specs.Parallel.{Blocks};
 
+mod course;
+mod watch;
+
+use self::course::Course;
+use self::watch::{Tally, Watch};
 use crate::moves::Moves;
 use crate::owned::OwnedBar;
 use crate::wrap::ProgressBarIter;
@@ -14,35 +21,11 @@ use indicatif_bar::style::{NoTracker, ProgressStyle, TICKS, Tracks};
 use indicatif_term::draw_target::Setup;
 use indicatif_term::term_like::TermLike;
 use indicatif_text::columns::{Clock, Refusal};
-use rayon::current_num_threads;
 use rayon::prelude::*;
 use std::alloc::{AllocError, Global};
-use std::thread::Threads;
-
-/// The most items of a block.
-const BLOCK: usize = 4096;
-
-/// How many blocks a list is cut into that is no longer than one.
-const PARTS: usize = 10;
-
-/// How many items each block has but the last of a list of so many: as many as a block may have; of a list that is no longer a tenth,
-/// and at least one for each processor.
-fn block_of<R: Threads>(rt: &R, items: usize) -> usize
-    ensures { (0 < result) × (result ≤ block_length) }
-{
-    if items > BLOCK {
-        return BLOCK;
-    }
-    items
-        .div_ceil(PARTS)
-        .max(current_num_threads(rt))
-        .min(BLOCK)
-}
-
-/// How few items of a block of so many are worth a thread: a block's share of each processor.
-fn least_piece<R: Threads>(rt: &R, items: usize) -> usize {
-    items / current_num_threads(rt)
-}
+use std::sync::Wait;
+use std::thread::{Threads, join};
+use std::time;
 
 /// A slice is wrapped into one on which threads work with a bar (`map_collect`, `for_each`): a bar that is handed in, or one
 /// that is made on a target with a clock (`Setup`), in the style `{wide_bar} {pos}/{len}` or another. Nothing is drawn by this.
@@ -139,10 +122,11 @@ impl<'a, T> ParallelProgressIterator for &'a [T] {
     }
 }
 
-/// Each of these works on the list in blocks, on as many threads as the machine has processors, and advances the bar behind each
-/// block by its items, from the thread that calls. A block has 4,096 items; of a list that has no more, a tenth, and at least one for
-/// each processor, so that the bar of a few heavy items moves as well. The bar comes back as it is then; it isn't finished. What a
-/// draw answered isn't told: an advance whose draw was refused is an advance all the same.
+/// Each of these works on the list by as many threads as the machine has processors, or more, which are started once. The thread that
+/// calls waits for them, and advances the bar meanwhile: behind each block, and each 50 milliseconds by what the threads have met of
+/// the next one. A block has 4,096 items; of a list that has no more, a tenth, and at least one for each processor, so that the bar of a
+/// few heavy items moves as well. The bar comes back as it is then; it isn't finished. What a draw answered isn't told: an advance whose
+/// draw was refused is an advance all the same.
 impl<'a, T: Sync, P: Moves> ProgressBarIter<&'a [T], P> {
     /// What `f` answers at each item, in the list's order.
     ///
@@ -150,20 +134,19 @@ impl<'a, T: Sync, P: Moves> ProgressBarIter<&'a [T], P> {
     /// let (squares, bar) = numbers.progress_with(bar).map_collect(&rt, alloc, |n: &u32| n.wrapping_mul(*n));
     /// ```
     ///
-    /// Refused: `Memory`; the bar was advanced by the blocks that were done before.
-    pub fn map_collect<R: Threads + Sync, A: Send + Drop, F: Fn(&T) -> A + Sync + Drop>(
-        self,
-        rt: &R,
-        alloc: Global,
-        f: F,
-    ) -> (Result<Vec<A>, Refusal>, P)
+    /// Refused: `Memory`; the bar was advanced as far as the threads were seen then.
+    pub fn map_collect<
+        R: Threads + Wait + time::Clock + Sync,
+        A: Send + Drop,
+        F: Fn(&T) -> A + Sync + Drop,
+    >(self, rt: &R, alloc: Global, f: F) -> (Result<Vec<A>, Refusal>, P)
         requires { F.IsAlwaysCallable f }
         ensures list { IfOk result.0 (λ made. AllZip (FnReturnsAt F.Fn f) (inner_of self.entry).now made.items) }
         ensures bar { OnOk result.0 (Blocks P.stands P.leads self.entry.progress (length (inner_of self.entry).now) result.1) }
         ensures memory { IfErr result.0 (λ e. (e ≡ Refusal.Memory) × ((n : ℕ) × (n ≤ length (inner_of self.entry).now) × Blocks P.stands P.leads self.entry.progress n result.1)) }
     {
         let (items, mut bar) = self.into_inner();
-        let made = map_blocks(rt, alloc, items, &mut bar, &f);
+        let made = map_watched(rt, alloc, items, &mut bar, &f);
         (made, bar)
     }
 
@@ -172,7 +155,7 @@ impl<'a, T: Sync, P: Moves> ProgressBarIter<&'a [T], P> {
     /// ```
     /// let (_, bar) = paths.progress_with(bar).for_each(&rt, |path: &String| digest(path));
     /// ```
-    pub fn for_each<R: Threads + Sync, F: Fn(&T) + Sync + Drop>(
+    pub fn for_each<R: Threads + Wait + time::Clock + Sync, F: Fn(&T) + Sync + Drop>(
         self,
         rt: &R,
         f: F,
@@ -182,16 +165,17 @@ impl<'a, T: Sync, P: Moves> ProgressBarIter<&'a [T], P> {
         ensures bar { Blocks P.stands P.leads self.entry.progress (length (inner_of self.entry).now) result.1 }
     {
         let (items, mut bar) = self.into_inner();
-        run_blocks(rt, items, &mut bar, &f);
+        run_watched(rt, items, &mut bar, &f);
         (Ok(()), bar)
     }
 }
 
-// The answers of `f` at the items of a block, found by threads.
+// The answers of `f` at the items, found by threads that tell how far they are.
 fn mapped<R: Threads + Sync, T: Sync, A: Send + Drop, F: Fn(&T) -> A + Sync>(
     rt: &R,
     alloc: Global,
     items: &[T],
+    watch: &Watch,
     f: &F,
 ) -> Result<Vec<A>, AllocError>
     requires { F.IsAlwaysCallable f.now }
@@ -199,18 +183,29 @@ fn mapped<R: Threads + Sync, T: Sync, A: Send + Drop, F: Fn(&T) -> A + Sync>(
 {
     items
         .par_iter()
-        .with_min_len(least_piece(rt, items.len()))
-        .map(
-            |x: &T| -> A
+        .with_min_len(1)
+        .map_init(
+            || Tally::new(watch),
+            |tally: &mut Tally<'_>, x: &T| -> A
                 requires { F.IsAlwaysCallable f.now }
                 ensures { FnReturnsAt F.Fn f.entry.now x.now result }
-            { f(x) },
+            {
+                let answer = f(x);
+                tally.count();
+                answer
+            },
         )
         .collect(rt, alloc)
 }
 
-// The answers of `f` at each item; the bar is advanced behind each block, whose answers are kept by then.
-fn map_blocks<R: Threads + Sync, T: Sync, A: Send + Drop, F: Fn(&T) -> A + Sync, P: Moves>(
+// The answers of `f` at each item. The bar is advanced while the threads work.
+fn map_watched<
+    R: Threads + Wait + time::Clock + Sync,
+    T: Sync,
+    A: Send + Drop,
+    F: Fn(&T) -> A + Sync,
+    P: Moves,
+>(
     rt: &R,
     alloc: Global,
     items: &[T],
@@ -222,41 +217,67 @@ fn map_blocks<R: Threads + Sync, T: Sync, A: Send + Drop, F: Fn(&T) -> A + Sync,
     ensures bar { OnOk result (Blocks P.stands P.leads bar.old (length items.now) bar.new) }
     ensures memory { IfErr result (λ e. (e ≡ Refusal.Memory) × ((n : ℕ) × (n ≤ length items.now) × Blocks P.stands P.leads bar.old n bar.new)) }
 {
-    let mut made = Vec::with_capacity(alloc, items.len())?;
-    let most = block_of(rt, items.len());
-    let mut start = 0;
-    while start < items.len() {
-        let n = most.min(items.len() - start);
-        let mut block = mapped(rt, alloc, &items[start..start + n], f)?;
-        made.append(&mut block)?;
-        let _ = bar.advance(n as u64);
-        start += n;
-    }
+    let watch = Watch::new(items.len());
+    let (made, mut course) = join(
+        rt,
+        || -> Result<Vec<A>, AllocError>
+            requires { F.IsAlwaysCallable f.now }
+            ensures { IfOk result (λ made. AllZip (FnReturnsAt F.Fn f.entry.now) items.entry.now made.items) }
+        {
+            let made = mapped(rt, alloc, items, &watch, f);
+            watch.end(rt);
+            made
+        },
+        || -> Course
+            ensures { (result.done ≤ length items.entry.now) × Blocks P.stands P.leads bar.entry.now result.done bar.exit.now }
+        { watch.follow(rt, bar, items.len()) },
+    );
+    let made = made?;
+    course.reach(bar, items.len());
     Ok(made)
 }
 
-// Calls `f` with each item; the bar is advanced behind each block.
-fn run_blocks<R: Threads + Sync, T: Sync, F: Fn(&T) + Sync, P: Moves>(
-    rt: &R,
-    items: &[T],
-    bar: &mut P,
-    f: &F,
-)
+// Calls `f` with each item. The bar is advanced while the threads work.
+fn run_watched<
+    R: Threads + Wait + time::Clock + Sync,
+    T: Sync,
+    F: Fn(&T) + Sync,
+    P: Moves,
+>(rt: &R, items: &[T], bar: &mut P, f: &F)
     requires { F.IsAlwaysCallable f.now }
     ensures { Blocks P.stands P.leads bar.old (length items.now) bar.new }
 {
-    let most = block_of(rt, items.len());
-    let mut start = 0;
-    while start < items.len() {
-        let n = most.min(items.len() - start);
-        let part = &items[start..start + n];
-        part.par_iter().with_min_len(least_piece(rt, n)).for_each(
-            rt,
-            |x: &T|
+    let watch = Watch::new(items.len());
+    let (_, mut course) = join(
+        rt,
+        ||
+            requires { F.IsAlwaysCallable f.now }
+        {
+            run(rt, items, &watch, f);
+            watch.end(rt);
+        },
+        || -> Course
+            ensures { (result.done ≤ length items.entry.now) × Blocks P.stands P.leads bar.entry.now result.done bar.exit.now }
+        { watch.follow(rt, bar, items.len()) },
+    );
+    course.reach(bar, items.len());
+}
+
+// Calls `f` with each item, by threads that tell how far they are.
+fn run<R: Threads + Sync, T: Sync, F: Fn(&T) + Sync>(rt: &R, items: &[T], watch: &Watch, f: &F)
+    requires { F.IsAlwaysCallable f.now }
+{
+    items
+        .par_iter()
+        .with_min_len(1)
+        .map_init(
+            || Tally::new(watch),
+            |tally: &mut Tally<'_>, x: &T|
                 requires { F.IsAlwaysCallable f.now }
-            { f(x) },
-        );
-        let _ = bar.advance(n as u64);
-        start += n;
-    }
+            {
+                f(x);
+                tally.count();
+            },
+        )
+        .for_each(rt, |_: ()| ());
 }

@@ -6,6 +6,7 @@ ghost use Rattle.indicatif_bar.specs.Lone.{Obey};
 ghost use Rattle.indicatif.specs.Fronts.{CanAnswer};
 ghost use Rattle.indicatif.specs.Wrap.{inner_of};
 
+use indicatif::machine::Shares;
 use indicatif::style::Tracks;
 use indicatif::{
     Clock, Gate, Moves, MultiProgress, ParallelProgressIterator, ProgressBar, ProgressBarIter,
@@ -52,7 +53,7 @@ pub fn next_above<T: TermLike + Drop, C: Clock + Drop, R: Wait + Clone + Drop, K
 }
 
 /// Each number of a list doubled, in order, by threads, whatever bar is moved.
-pub fn doubled<R: Threads + Sync, P: Moves>(
+pub fn doubled<R: Shares, P: Moves>(
     rt: &R,
     alloc: Global,
     list: ProgressBarIter<&[u32], P>,
