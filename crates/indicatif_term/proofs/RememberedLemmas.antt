@@ -1,5 +1,7 @@
 -- Lines that are remembered, and new ones beside them.
-use Rattle.std.proofs.Common.{◌≡◌, ℕ, zero, suc, ◌+◌, ◌-◌, ◌<◌, ◌≤◌, ◌^◌, min, true, false, List, [], ◌∷◌, ◌++◌, length, take, drop, get_or, refl, sym, ◌∙◌, ap, subst, arith, length-append, chars, if◌then◌else◌, Option, Some, None}
+use Rattle.std.proofs.Props.{props}
+use Rattle.std.proofs.Math.Logic.{∥∥₁_elim}
+use Rattle.std.proofs.Common.{◌≡◌, ℕ, zero, suc, ◌+◌, ◌-◌, ◌<◌, ◌≤◌, ◌^◌, min, true, false, List, [], ◌∷◌, ◌++◌, length, take, drop, get_or, refl, sym, ◌∙◌, ap, subst, arith, chars, if◌then◌else◌, Option, Some, None}
 use Rattle.std.specs.Prelude.{string_bytes, IfSome}
 use Rattle.std.proofs.lemmas.List.{take_more, map-append, take_at, drop_at, drop-drop, length-map, length-take-le, length-drop, take-append-drop, take_all, nil_from_length}
 use Rattle.indicatif_text.specs.Columns.{rows_of}
@@ -58,6 +60,10 @@ there_at w ls at start x y h i small r s line is =
     )
 
 -- ---- what is remembered
+
+-- the lines are as they are measured
+pub lines_right : (r : Remembered) → 0 < r.width → AreLines r.width r.lines.items
+lines_right r some = ∥∥₁_elim r.right (Prim.hlevel props) (λ right. right some)
 
 -- nothing is remembered
 pub nothing_shown : (r : Remembered) (l : Lists) → r.width ≡ 0 → AreRemembered r l

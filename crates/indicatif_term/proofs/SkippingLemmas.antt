@@ -34,7 +34,7 @@ use Rattle.indicatif_term.proofs.ShownRowLemmas.{lines_rows, frame_rows, frame_l
 use Rattle.indicatif_term.proofs.CountLemmas.{length-live, live_of, settled-rows, passed-rows, same_blanks_log}
 use Rattle.indicatif_term.proofs.PaintingLemmas.{IsDrawable, AreDrawable}
 use Rattle.indicatif_term.proofs.SkipLemmas.{height-append, sitting_parts}
-use Rattle.indicatif_term.proofs.RememberedLemmas.{lines_placed}
+use Rattle.indicatif_term.proofs.RememberedLemmas.{lines_placed, lines_right}
 use Rattle.indicatif_term.proofs.TerminalStepLemmas.{rows_some}
 use Rattle.indicatif_term.proofs.SkipDrawingLemmas.{change_redraws}
 use Rattle.indicatif_term.proofs.DrawingLemmas.{Replaces, drawn_goes, drawn-sound, log_live}
@@ -118,7 +118,7 @@ pub standing_live : (w taken : ℕ) (r : Remembered) (l : Lists) → 0 < w → r
     drop (min (placed_height (placed r.lines.items)) (2 ^ 64 - 1) - taken) (standing_rows w r.lines.items) ≡ live_rows w l.live
 standing_live w taken r l p e a k m low =
     let some : 0 < r.width = omega arith in
-    let height : placed_height (placed r.lines.items) ≡ length (standing_rows w r.lines.items) = subst (λ n. placed_height (placed r.lines.items) ≡ length (standing_rows n r.lines.items)) e (lines_height r.width r.lines.items (r.right some)) in
+    let height : placed_height (placed r.lines.items) ≡ length (standing_rows w r.lines.items) = subst (λ n. placed_height (placed r.lines.items) ≡ length (standing_rows n r.lines.items)) e (lines_height r.width r.lines.items (lines_right r some)) in
     let x = a some in
     let whole : x.0 ++ standing_rows w r.lines.items ≡ (l.above ++ l.kept) ++ live_rows w l.live = subst (λ n. x.0 ++ standing_rows n r.lines.items ≡ all_rows n l) e x.1 in
     ap (λ n. drop n (standing_rows w r.lines.items)) (omega (arith, height)) ∙ last_rows x.0 (standing_rows w r.lines.items) (l.above ++ l.kept) (live_rows w l.live) taken whole k (omega (arith, height))

@@ -1,0 +1,159 @@
+//! Random frames, each like the one before, and calls.
+use crate::chance::Chance;
+use indicatif_term::draw_target::{LineType, Segment};
+use indicatif_text::columns::Refusal;
+use std::alloc::Global;
+
+/// A call to an engine; a draw and a log have the frame beside them.
+#[derive(Drop)]
+pub enum Call {
+    /// The first bars, so many, pass.
+    Draw(usize),
+    Log(String),
+    Clear,
+    Keep(u64),
+}
+
+/// The bars that are drawn.
+#[derive(Drop)]
+pub struct Frame {
+    alloc: Global,
+    bars: Vec<Segment>,
+    /// The number of the next new bar.
+    next: u64,
+}
+
+impl Frame {
+    pub fn new(alloc: Global) -> Frame {
+        Frame {
+            alloc,
+            bars: Vec::new(alloc),
+            next: 0,
+        }
+    }
+
+    pub fn bars(&self) -> &[Segment] {
+        &self.bars
+    }
+
+    /// Changes it a little, or not at all.
+    pub fn change(&mut self, chance: &mut Chance) -> Result<(), Refusal> {
+        let at = chance.index(self.bars.len() + 1);
+        match chance.below(8) {
+            0 | 1 => self.add(at, chance),
+            2 => {
+                self.take(at);
+                Ok(())
+            }
+            3 => self.lengthen(at, chance),
+            4 | 5 => self.rewrite(at, chance),
+            _ => Ok(()),
+        }
+    }
+
+    /// A new bar of up to three lines.
+    fn add(&mut self, at: usize, chance: &mut Chance) -> Result<(), Refusal> {
+        let mut lines = Vec::new(self.alloc);
+        for _ in 0..chance.below(4) {
+            lines.push(line(self.alloc, chance)?)?;
+        }
+        let bar = self.next;
+        self.next = self.next.saturating_add(1);
+        self.bars
+            .insert(at.min(self.bars.len()), Segment { bar, lines })?;
+        Ok(())
+    }
+
+    /// One bar less.
+    fn take(&mut self, at: usize) {
+        if at < self.bars.len() {
+            self.bars.remove(at);
+        }
+    }
+
+    /// One more line of a bar.
+    fn lengthen(&mut self, at: usize, chance: &mut Chance) -> Result<(), Refusal> {
+        if at < self.bars.len() {
+            let line = line(self.alloc, chance)?;
+            let place = chance.index(self.bars[at].lines.len() + 1);
+            let lines = &mut self.bars[at].lines;
+            lines.insert(place.min(lines.len()), line)?;
+        }
+        Ok(())
+    }
+
+    /// Another text of a line.
+    fn rewrite(&mut self, at: usize, chance: &mut Chance) -> Result<(), Refusal> {
+        if at < self.bars.len() {
+            let line = line(self.alloc, chance)?;
+            let place = chance.index(self.bars[at].lines.len());
+            if place < self.bars[at].lines.len() {
+                self.bars[at].lines[place] = line;
+            }
+        }
+        Ok(())
+    }
+
+    /// A call that suits it.
+    pub fn call(&mut self, chance: &mut Chance) -> Result<Call, Refusal> {
+        Ok(match chance.below(16) {
+            0 | 1 => Call::Log(text(self.alloc, chance)?),
+            2 => Call::Clear,
+            3 => match self.bars.first() {
+                Some(bar) => Call::Keep(bar.bar),
+                None => Call::Keep(0),
+            },
+            4 | 5 => Call::Draw(chance.index(self.bars.len() + 1)),
+            _ => Call::Draw(0),
+        })
+    }
+
+    /// Bars that passed or were kept are gone.
+    pub fn follow(&mut self, call: &Call) {
+        match call {
+            Call::Draw(pass) => {
+                for _ in 0..*pass {
+                    self.take(0);
+                }
+            }
+            Call::Keep(_) => self.take(0),
+            Call::Log(_) | Call::Clear => {}
+        }
+    }
+}
+
+/// A line.
+fn line(alloc: Global, chance: &mut Chance) -> Result<LineType, Refusal> {
+    Ok(match chance.below(6) {
+        0 => LineType::Empty,
+        1 => LineType::Text(characters(alloc, chance)?),
+        _ => LineType::Bar(characters(alloc, chance)?),
+    })
+}
+
+/// A text of one line or two.
+fn text(alloc: Global, chance: &mut Chance) -> Result<String, Refusal> {
+    let mut text = characters(alloc, chance)?;
+    if chance.below(3) == 0 {
+        text.push('\n')?;
+        text.push_str(characters(alloc, chance)?.as_str())?;
+    }
+    Ok(text)
+}
+
+/// Some characters: narrow, wide and joined ones, and colours. The first isn't a joined one.
+fn characters(alloc: Global, chance: &mut Chance) -> Result<String, Refusal> {
+    let mut text = String::new(alloc);
+    for at in 0..chance.below(10) {
+        text.push_str(match chance.below(12) {
+            0 | 1 => "国",
+            2 if at > 0 => "a\u{308}",
+            3 => "\u{1b}[31mr\u{1b}[0m",
+            4 => " ",
+            5 | 6 => "b",
+            7 => "c",
+            _ => "d",
+        })?;
+    }
+    Ok(text)
+}

@@ -1,0 +1,305 @@
+//! An engine that writes whole frames: it takes all rows back, and writes all lines anew.
+use indicatif_term::draw_target::{Keep, LineType, MultiProgressAlignment, Segment};
+use indicatif_term::in_memory::InMemoryTerm;
+use indicatif_term::term_like::TermLike;
+use indicatif_text::columns::{Refusal, wrapped};
+use std::alloc::Global;
+use std::convert::AsStr;
+use std::io;
+
+/// How many rows a bar has.
+#[derive(Clone, Copy, Drop)]
+struct BarRows {
+    bar: u64,
+    rows: usize,
+}
+
+/// What of a frame is shown: its lines, so many from the front, and how many rows each bar has of them.
+#[derive(Drop)]
+struct Shown {
+    lines: usize,
+    bars: Vec<BarRows>,
+}
+
+/// An engine that writes whole frames. Rows are counted from the first one that may still change.
+#[derive(Drop)]
+pub struct WholeFrames {
+    alloc: Global,
+    term: InMemoryTerm,
+    kept: usize,
+    blanks: usize,
+    bars: Vec<BarRows>,
+    /// How many rows were reached.
+    reach: usize,
+    /// Whether the cursor is at the front of the row below all these; else it waits at the end of the last.
+    below: bool,
+}
+
+impl WholeFrames {
+    pub fn new(alloc: Global, term: InMemoryTerm) -> WholeFrames {
+        WholeFrames {
+            alloc,
+            term,
+            kept: 0,
+            blanks: 0,
+            bars: Vec::new(alloc),
+            reach: 1,
+            below: true,
+        }
+    }
+
+    pub fn term(&self) -> &InMemoryTerm {
+        &self.term
+    }
+
+    /// Draws a frame in the place of the live rows; the rows of its first bars, so many, are kept.
+    pub fn draw(
+        &mut self,
+        frame: &[Segment],
+        pass: usize,
+        alignment: MultiProgressAlignment,
+    ) -> Result<(), Refusal> {
+        let shown = self.shown(frame)?;
+        let taken = self.live();
+        let rows = total(&shown.bars);
+        let blanks = blanks(alignment, taken, rows);
+        self.take_back(taken)?;
+        self.put(None, blanks, &lines_of(self.alloc, frame, shown.lines)?)?;
+        self.bars = shown.bars;
+        self.blanks = blanks;
+        self.reach = self.reach.max(self.kept.saturating_add(self.live()));
+        self.pass(frame, pass);
+        let gone = self.kept.min(self.reach.saturating_sub(self.height()));
+        self.kept -= gone;
+        self.reach = self.reach.saturating_sub(gone);
+        self.rest()
+    }
+
+    /// Writes a text above a frame, in the place of all rows.
+    pub fn log(
+        &mut self,
+        text: &str,
+        frame: &[Segment],
+        alignment: MultiProgressAlignment,
+    ) -> Result<(), Refusal> {
+        let above = self.rows_of_text(text)?;
+        let shown = self.shown(frame)?;
+        let taken = self.kept.saturating_add(self.live());
+        let rows = total(&shown.bars);
+        let blanks = blanks(alignment, taken.saturating_sub(above), rows);
+        self.take_back(taken)?;
+        self.put(
+            Some(text),
+            blanks,
+            &lines_of(self.alloc, frame, shown.lines)?,
+        )?;
+        self.bars = shown.bars;
+        self.blanks = blanks;
+        self.kept = 0;
+        let reached = above.saturating_add(self.live());
+        self.reach = self.reach.max(reached).saturating_sub(above);
+        self.rest()
+    }
+
+    /// Takes all rows back.
+    pub fn clear(&mut self) -> Result<(), Refusal> {
+        self.take_back(self.kept.saturating_add(self.live()))?;
+        self.kept = 0;
+        self.blanks = 0;
+        self.bars.clear();
+        self.rest()
+    }
+
+    /// Keeps the rows of a bar that is gone, if they are the first.
+    pub fn keep(&mut self, bar: u64) -> Keep {
+        match self.bars.iter().position(|rows| rows.bar == bar) {
+            None => Keep::Absent,
+            Some(0) => {
+                self.keep_first();
+                Keep::Passed
+            }
+            Some(_) => Keep::Behind,
+        }
+    }
+
+    /// The first bar's rows are kept, with the blanks above them.
+    fn keep_first(&mut self) {
+        if self.bars.is_empty() {
+            return;
+        }
+        let first = self.bars.remove(0);
+        self.kept = self
+            .kept
+            .saturating_add(self.blanks)
+            .saturating_add(first.rows);
+        self.blanks = 0;
+    }
+
+    /// The first bars' rows are kept.
+    fn pass(&mut self, frame: &[Segment], pass: usize) {
+        for bar in frame.iter().take(pass) {
+            if self.is_first(bar.bar) {
+                self.keep_first();
+            }
+        }
+    }
+
+    fn is_first(&self, bar: u64) -> bool {
+        match self.bars.first() {
+            Some(first) => first.bar == bar,
+            None => false,
+        }
+    }
+
+    fn live(&self) -> usize {
+        self.blanks.saturating_add(total(&self.bars))
+    }
+
+    fn width(&self) -> usize {
+        self.term.width() as usize
+    }
+
+    fn height(&self) -> usize {
+        self.term.height() as usize
+    }
+
+    fn rows_of_text(&self, text: &str) -> Result<usize, Refusal> {
+        if text.is_empty() {
+            return Ok(1);
+        }
+        let mut rows = 0_usize;
+        for line in text.lines() {
+            rows = rows.saturating_add(wrapped(line, self.width())?.height);
+        }
+        Ok(rows)
+    }
+
+    /// As many lines from the front as have at most the terminal's rows together.
+    fn shown(&self, frame: &[Segment]) -> Result<Shown, Refusal> {
+        let mut shown = Shown {
+            lines: 0,
+            bars: Vec::new(self.alloc),
+        };
+        let mut room = Some(self.height());
+        for bar in frame {
+            let mut rows = 0_usize;
+            for line in &bar.lines {
+                let height = wrapped(line.as_str(), self.width())?.height;
+                room = room_behind(room, height);
+                if room.is_some() {
+                    shown.lines = shown.lines.saturating_add(1);
+                    rows = rows.saturating_add(height);
+                }
+            }
+            if rows > 0 {
+                shown.bars.push(BarRows { bar: bar.bar, rows })?;
+            }
+        }
+        Ok(shown)
+    }
+
+    /// Takes the last rows back, so many: the cursor is at the front of the first then.
+    fn take_back(&mut self, rows: usize) -> Result<(), Refusal> {
+        if rows == 0 {
+            return Ok(());
+        }
+        let up = if self.below { rows } else { rows - 1 };
+        told(self.term.move_cursor_up(up))?;
+        told(self.term.clear_line())?;
+        for _ in 1..rows {
+            told(self.term.write_line(""))?;
+            told(self.term.clear_line())?;
+        }
+        told(self.term.move_cursor_up(rows - 1))?;
+        self.below = true;
+        Ok(())
+    }
+
+    /// Writes lines, each on a row of its own, and fills the last row.
+    fn put(&mut self, text: Option<&str>, blanks: usize, lines: &[&str]) -> Result<(), Refusal> {
+        if let Some(text) = text {
+            self.put_text(text)?;
+        }
+        for _ in 0..blanks {
+            self.put_line("")?;
+        }
+        for line in lines {
+            self.put_line(line)?;
+        }
+        Ok(())
+    }
+
+    fn put_text(&mut self, text: &str) -> Result<(), Refusal> {
+        if text.is_empty() {
+            return self.put_line("");
+        }
+        for line in text.lines() {
+            self.put_line(line)?;
+        }
+        Ok(())
+    }
+
+    /// Writes a line and fills its last row.
+    fn put_line(&mut self, line: &str) -> Result<(), Refusal> {
+        if !self.below {
+            told(self.term.write_line(""))?;
+        }
+        told(self.term.write_str(line))?;
+        let last = wrapped(line, self.width())?.last_line_width;
+        for _ in last..self.width() {
+            told(self.term.write_str(" "))?;
+        }
+        self.below = false;
+        Ok(())
+    }
+
+    /// Goes below the rows where no live one is left, and rows below them were reached.
+    fn rest(&mut self) -> Result<(), Refusal> {
+        let goes_below = self.live() == 0 && self.reach > self.kept;
+        if goes_below && !self.below {
+            told(self.term.write_line(""))?;
+        }
+        self.below = goes_below;
+        Ok(())
+    }
+}
+
+/// How much room a line of these rows leaves; none once one found too little.
+fn room_behind(room: Option<usize>, rows: usize) -> Option<usize> {
+    room?.checked_sub(rows)
+}
+
+fn total(bars: &[BarRows]) -> usize {
+    let mut rows = 0_usize;
+    for bar in bars {
+        rows = rows.saturating_add(bar.rows);
+    }
+    rows
+}
+
+fn blanks(alignment: MultiProgressAlignment, taken: usize, rows: usize) -> usize {
+    match alignment {
+        MultiProgressAlignment::Bottom if rows > 0 => taken.saturating_sub(rows),
+        _ => 0,
+    }
+}
+
+/// The first lines of a frame.
+fn lines_of(alloc: Global, frame: &[Segment], count: usize) -> Result<Vec<&str>, Refusal> {
+    let mut lines = Vec::new(alloc);
+    for bar in frame {
+        for line in &bar.lines {
+            if lines.len() < count {
+                lines.push(line.as_str())?;
+            }
+        }
+    }
+    Ok(lines)
+}
+
+fn told(answer: io::Result<()>) -> Result<(), Refusal> {
+    match answer {
+        Ok(()) => Ok(()),
+        Err(e) => Err(Refusal::Terminal(e.kind())),
+    }
+}
