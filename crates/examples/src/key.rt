@@ -2,7 +2,7 @@
 ghost use Rattle.std.specs.Prelude.{◌-◌, decimal};
 
 use anyhow::Result;
-use indicatif::machine::{Shares, TerminalSetup};
+use indicatif::machine::{Shares, StreamSetup};
 use indicatif::{FnTracker, Moment, ProgressBar, ProgressState, ProgressStyle, Refusal, TellsText};
 use std::alloc::Global;
 use std::io::Stderr;
@@ -27,7 +27,7 @@ pub const TEMPLATE: &str = "{wide_bar} {left} left";
 
 pub fn run<R: Shares>(
     rt: R,
-    setup: TerminalSetup<Stderr>,
+    setup: StreamSetup<Stderr>,
     style: ProgressStyle<FnTracker<Left>>,
 ) -> Result<()> {
     let alloc = rt.alloc();
