@@ -230,11 +230,7 @@ impl<F: TellsText> ProgressTracker for FnTracker<F> {
 }
 
 /// Ticks the trackers of these entries.
-pub(crate) fn tick_all<K: Tracks>(
-    keys: &mut Vec<(String, K)>,
-    state: &ProgressState,
-    now: Moment,
-)
+pub(crate) fn tick_all<K: Tracks>(keys: &mut Vec<(String, K)>, state: &ProgressState, now: Moment)
     ensures { entries keys.new.items
         ≡ changed_trackers (λ k. K.means.ticked k state.now now) (entries keys.old.items) }
 {
@@ -244,11 +240,7 @@ pub(crate) fn tick_all<K: Tracks>(
 }
 
 /// Resets the trackers of these entries.
-pub(crate) fn reset_all<K: Tracks>(
-    keys: &mut Vec<(String, K)>,
-    state: &ProgressState,
-    now: Moment,
-)
+pub(crate) fn reset_all<K: Tracks>(keys: &mut Vec<(String, K)>, state: &ProgressState, now: Moment)
     ensures { entries keys.new.items
         ≡ changed_trackers (λ k. K.means.was_reset k state.now now) (entries keys.old.items) }
 {

@@ -249,10 +249,7 @@ fn parsed(alloc: Global, text: &str) -> Result<Template, Refusal>
 }
 
 /// Trackers equal to these, under the same names.
-fn cloned_keys<K: Tracks>(
-    alloc: Global,
-    keys: &[(String, K)],
-) -> Result<Vec<(String, K)>, Refusal>
+fn cloned_keys<K: Tracks>(alloc: Global, keys: &[(String, K)]) -> Result<Vec<(String, K)>, Refusal>
     ensures keys { IfOk result (λ v. entries v.items ≡ entries keys.now) }
     ensures memory { IfErr result (λ e. e ≡ Refusal.Memory) }
 {
