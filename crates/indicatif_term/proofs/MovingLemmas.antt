@@ -1,7 +1,7 @@
 -- A draw whose lines are written over those that stand there, by what an engine remembers.
 use Rattle.std.proofs.Common.{◌≡◌, ℕ, zero, suc, ◌+◌, ◌-◌, ◌<◌, ◌≤◌, Bool, true, false, List, [], ◌∷◌, ◌++◌, length, take, replicate, map, chars, refl, sym, ◌∙◌, ap, subst, arith}
 use Rattle.std.specs.Prelude.{IsTrue, IsFalse, string_bytes}
-use Rattle.std.proofs.lemmas.List.{length-map}
+use Rattle.std.proofs.lemmas.List.{length-map, nil_from_length}
 use Rattle.indicatif_text.specs.Columns.{Cell, rows_of}
 use Rattle.indicatif_term.specs.Terminal.{GREATEST}
 use Rattle.indicatif_term.specs.Calls.{move_bytes}
@@ -14,6 +14,9 @@ use Rattle.indicatif_term.specs.Inside.Skips.{placed_height}
 use Rattle.indicatif_term.specs.Inside.Moves.{run_bytes, moved_bytes, AreEven}
 use Rattle.indicatif_term.specs.Standing.{placed, texts, standing_rows, AreLines}
 use Rattle.indicatif_term.specs.declared.remembered.StandingLine.{StandingLine}
+use Rattle.indicatif_term.specs.declared.remembered.Remembered.{Remembered}
+use Rattle.indicatif_term.specs.Remembered.{AreRemembered}
+use Rattle.indicatif_term.specs.Inside.Remembering.{AreKnown}
 use Rattle.indicatif_term.specs.declared.counts.Counts.{Counts}
 use Rattle.indicatif_term.specs.declared.layout.Plan.{Plan}
 use Rattle.indicatif_term.specs.declared.lines.Segment.{Segment}
@@ -25,9 +28,10 @@ use Rattle.indicatif_term.proofs.CountLemmas.{length-live, live_of}
 use Rattle.indicatif_term.proofs.PaintingLemmas.{AreDrawable}
 use Rattle.indicatif_term.proofs.DrawingLemmas.{Replaces, drawn_goes}
 use Rattle.indicatif_term.proofs.EngineLemmas.{Redraws, frame_drawable}
-use Rattle.indicatif_term.proofs.SkippingLemmas.{lines_height}
+use Rattle.indicatif_term.proofs.SkippingLemmas.{lines_height, standing_live}
+use Rattle.indicatif_term.proofs.RememberedLemmas.{lines_right}
 use Rattle.indicatif_term.proofs.OverLemmas.{AreWide}
-use Rattle.indicatif_term.proofs.OverLineLemmas.{IsSolid, solid_line}
+use Rattle.indicatif_term.proofs.OverLineLemmas.{IsSolid, solid_line, standing_wide, wide_behind}
 use Rattle.indicatif_term.proofs.OverDrawingLemmas.{AreSolid, joined_lines, over_redraws}
 
 -- lines filled up to the ends of their rows
@@ -102,3 +106,15 @@ draw_moves w h l c next pass blanks bottom frame plan ls p1 p2 p3 o q o' b there
     (by_lines w h l l' gone (filled_all w ls) (texts ls) p1 (omega (arith, length-map ls (filled_one w))) (all_solid w ls p1 d all even) wide (omega (arith, count, height)) few looks
     (resting_there l c o there ∙ ap (λ n. length l.above + length l.kept + (n - 1)) (sym count)) (sym o'.below_is ∙ on')
     (λ x y. rw plain (drawn_goes w h pass bottom (map bar_lines frame) l lines x y rows))))
+
+-- rows of lines that are remembered have their cells
+pub live_wide : (v w : ℕ) (r : Remembered) (l : Lists) (c : Counts) → v ≡ w → 0 < v → AreRemembered r l → CountsOf c l → (0 < c.live → AreKnown r c.live v) → AreWide w (live_rows w l.live)
+live_wide v w r l c same pos a o known = subst (λ n. AreWide n (live_rows n l.live)) same (by c.live refl) where
+  by : (n : ℕ) → c.live ≡ n → AreWide v (live_rows v l.live)
+  by zero e = let none : live_rows v l.live ≡ [] = nil_from_length (live_rows v l.live) (length-live v l.live ∙ sym (live_of c l o) ∙ e) in subst (AreWide v) (sym none) tt
+  by (suc n) e =
+      let k : AreKnown r c.live v = known (omega (arith, e)) in
+      let count : length (live_rows v l.live) ≡ c.live = length-live v l.live ∙ sym (live_of c l o) in
+      let width : r.width ≡ v = k.same_width in
+      let right : AreLines v r.lines.items = subst (λ n. AreLines n r.lines.items) width (lines_right r (omega arith)) in
+      subst (AreWide v) (standing_live v c.live r l pos width a count k.known k.few) (wide_behind v _ (standing_rows v r.lines.items) (standing_wide v r.lines.items right))

@@ -232,14 +232,14 @@ module _ (w h : ℕ) where
       (omega (arith, n.wide, length-emptied_front (drop (glyph_width g) n.row), length-drop (glyph_width g) n.row)) (clean_front (columns_in (g ∷ [])) (drop (glyph_width g) n.row)) n.all f.1
       ∙ next_pieces a x (row_of w piece) ps b n some (full_row piece rest f.0 k))
       full where
-    next_pieces : (a : List (List Cell)) (x y : List Cell) (ps : List (List Glyph)) (b : List (List Cell)) (n : Below w b) → 0 < length ps → x ≡ y →
-        after_pieces (a ++ x ∷ []) ps n.more ≡ made w h (a ++ ((y ∷ map (row_of w) ps) ++ drop (suc (length ps) - 1) b)) (length a + suc (length ps) - 1) w
-    next_pieces a x y ps b n some e =
-        let count : suc (length ps) - 1 ≡ length ps = omega arith in
-        same_screen _ _ _ _ _ _ _ _
-        (append_assoc a (x ∷ []) (map (row_of w) ps ++ drop (length ps - 1) n.more) ∙ ap (λ z. a ++ z ∷ (map (row_of w) ps ++ drop (length ps - 1) n.more)) e
-        ∙ ap (λ z. a ++ y ∷ (map (row_of w) ps ++ z)) (n.dropped (length ps) some ∙ ap (λ k. drop k b) (sym count)))
-        (omega (arith, length-append a (x ∷ []))) refl
+        next_pieces : (a : List (List Cell)) (x y : List Cell) (ps : List (List Glyph)) (b : List (List Cell)) (n : Below w b) → 0 < length ps → x ≡ y →
+            after_pieces (a ++ x ∷ []) ps n.more ≡ made w h (a ++ ((y ∷ map (row_of w) ps) ++ drop (suc (length ps) - 1) b)) (length a + suc (length ps) - 1) w
+        next_pieces a x y ps b n some e =
+            let count : suc (length ps) - 1 ≡ length ps = omega arith in
+            same_screen _ _ _ _ _ _ _ _
+            (append_assoc a (x ∷ []) (map (row_of w) ps ++ drop (length ps - 1) n.more) ∙ ap (λ z. a ++ z ∷ (map (row_of w) ps ++ drop (length ps - 1) n.more)) e
+            ∙ ap (λ z. a ++ y ∷ (map (row_of w) ps ++ z)) (n.dropped (length ps) some ∙ ap (λ k. drop k b) (sym count)))
+            (omega (arith, length-append a (x ∷ []))) refl
 
   -- ---- texts
 

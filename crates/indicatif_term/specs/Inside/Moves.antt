@@ -6,9 +6,13 @@ use Rattle.indicatif_term.specs.Calls.{UP, move_bytes}
 use Rattle.indicatif_term.specs.Inside.Skips.{PlacedLine}
 use Rattle.indicatif_term.specs.declared.remembered.StandingLine.{StandingLine}
 
--- lines with the spaces that fill their last rows, one behind another
+-- a line with the spaces that fill its last row
+abbrev pub filled_bytes : ℕ → PlacedLine → List ℕ
+filled_bytes w p = p.line ++ replicate (w - p.last) 0x20
+
+-- the same of lines, one behind another
 abbrev pub run_bytes : ℕ → List PlacedLine → List ℕ
-run_bytes w ps = flat_map (λ (p : PlacedLine). p.line ++ replicate (w - p.last) 0x20) ps
+run_bytes w ps = flat_map (filled_bytes w) ps
 
 -- from the last of so many rows up to the front of the first, or to the front of the cursor's row; and the lines
 abbrev pub moved_bytes : ℕ → ℕ → List PlacedLine → List ℕ
