@@ -1,5 +1,5 @@
 -- The bytes of lines written one behind another, and the first visible character of a text.
-use Rattle.std.proofs.Common.{chars, None, Some, ◌≡◌, ℕ, ◌+◌, ◌<◌, List, [], ◌∷◌, ◌++◌, length, take, drop, get_or, refl, sym, ◌∙◌, ap, subst, append-nil, ◌==◌, false, Bool}
+use Rattle.std.proofs.Common.{chars, None, Some, ◌≡◌, ℕ, ◌+◌, ◌<◌, List, [], ◌∷◌, ◌++◌, length, take, drop, get_or, sym, ◌∙◌, ap, subst, append-nil, ◌==◌, false}
 use Rattle.std.specs.Prelude.{flat_map, MatchOption, Option}
 use Rattle.std.proofs.Math.Utf8.{encode}
 use Rattle.std.specs.Str.{IsUtf8}
@@ -10,7 +10,6 @@ use Rattle.indicatif_text.specs.Pieces.{TextPiece}
 use Rattle.indicatif_text.specs.PieceLaws.{run_text}
 use Rattle.indicatif_text.proofs.WrappingLemmas.{past, chars_none}
 use Rattle.indicatif_term.specs.Calls.{TermView, LeadsOn, BreaksOff}
-use Rattle.indicatif_term.specs.Inside.Skips.{PlacedLine}
 use Rattle.indicatif_term.specs.Inside.Moves.{filled_bytes, run_bytes, joins, IsEven, AreEven}
 use Rattle.indicatif_term.specs.Standing.{placed_of, placed}
 use Rattle.indicatif_term.specs.declared.remembered.StandingLine.{StandingLine}

@@ -31,7 +31,7 @@ use Rattle.indicatif_term.proofs.EngineLemmas.{Redraws, frame_drawable}
 use Rattle.indicatif_term.proofs.SkippingLemmas.{lines_height, standing_live}
 use Rattle.indicatif_term.proofs.RememberedLemmas.{lines_right}
 use Rattle.indicatif_term.proofs.OverLemmas.{AreWide}
-use Rattle.indicatif_term.proofs.OverLineLemmas.{IsSolid, solid_line, standing_wide, wide_behind}
+use Rattle.indicatif_term.proofs.OverLineLemmas.{solid_line, standing_wide, wide_behind}
 use Rattle.indicatif_term.proofs.OverDrawingLemmas.{AreSolid, joined_lines, over_redraws}
 
 -- lines filled up to the ends of their rows

@@ -1,18 +1,17 @@
 -- Lines written over those that stand there lead a terminal that shows the lists to one that shows the next ones.
-use Rattle.std.proofs.Common.{◌≡◌, ℕ, zero, suc, ◌+◌, ◌-◌, ◌<◌, ◌≤◌, max, Bool, true, false, List, [], ◌∷◌, ◌++◌, length, take, drop, replicate, map, chars, refl, sym, ◌∙◌, ap, subst, arith, length-append, append_assoc, append-nil, take-append-drop}
+use Rattle.std.proofs.Common.{◌≡◌, ℕ, zero, suc, ◌+◌, ◌-◌, ◌<◌, ◌≤◌, max, Bool, false, List, [], ◌∷◌, ◌++◌, length, take, drop, replicate, map, chars, refl, sym, ◌∙◌, ap, subst, arith, length-append, append_assoc, take-append-drop}
 use Rattle.std.specs.Prelude.{flat_map}
 use Rattle.std.specs.List.{AllByRecursion}
-use Rattle.std.proofs.Math.Utf8.{encodes}
 use Rattle.std.proofs.lemmas.Str.{encodes-chars}
-use Rattle.std.proofs.lemmas.List.{length-map, length-replicate, length-take-le, length-drop, drop-map, drop_at, drop-drop, drop-replicate, drop_all}
+use Rattle.std.proofs.lemmas.List.{length-map, length-replicate, drop-map, drop_at, drop-drop, drop-replicate}
 use Rattle.indicatif_text.specs.Columns.{Cell, blank_row, visible, rows_of}
 use Rattle.indicatif_term.specs.Screen.{Screen, Op, Put, Return, performed_all}
-use Rattle.indicatif_term.specs.Terminal.{Terminal, GREATEST, idle, after}
+use Rattle.indicatif_term.specs.Terminal.{Terminal, GREATEST, after}
 use Rattle.indicatif_term.specs.Calls.{move_bytes}
 use Rattle.indicatif_term.specs.Shows.{Shows, IsOpening, resting, look, looks_of, resting_row}
 use Rattle.indicatif_term.specs.Lists.{Lists, lists_height, live_height, all_rows}
 use Rattle.indicatif_term.proofs.CursorRowLemmas.{Stands, IsBelow}
-use Rattle.indicatif_term.proofs.ScreenRowLemmas.{made, same_screen}
+use Rattle.indicatif_term.proofs.ScreenRowLemmas.{same_screen}
 use Rattle.indicatif_term.proofs.CallLemmas.{Asks, after_asks, text_asks}
 use Rattle.indicatif_term.proofs.MoveLemmas.{asks_append, return_asks}
 use Rattle.indicatif_term.proofs.FeedLemmas.{after-append}

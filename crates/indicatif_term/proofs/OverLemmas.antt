@@ -1,11 +1,10 @@
 -- Glyphs written over rows that hold anything, where each row is written to its end.
-use Rattle.std.proofs.Common.{◌≡◌, ℕ, zero, suc, ◌+◌, ◌-◌, ◌<◌, ◌≤◌, Bool, true, false, List, [], ◌∷◌, ◌++◌, length, get_or, take, drop, replicate, map, refl, sym, ◌∙◌, ap, subst, arith, length-append, append_assoc, append-nil, add-one, Some, inl, inr}
+use Rattle.std.proofs.Common.{◌≡◌, ℕ, zero, suc, ◌+◌, ◌-◌, ◌<◌, ◌≤◌, true, false, List, [], ◌∷◌, ◌++◌, length, get_or, drop, replicate, map, refl, sym, ◌∙◌, ap, subst, arith, length-append, append_assoc, append-nil, Some, inl, inr}
 use Rattle.std.specs.Prelude.{flat_map, nat_le, nat_lt}
 use Rattle.std.specs.List.{AllByRecursion}
-use Rattle.std.proofs.lemmas.Bool.{cases_Bool, cond_both, leb-true, leb-false, le-ltb, lt-ltb}
+use Rattle.std.proofs.lemmas.Bool.{cases_Bool, cond_both, leb-true, le-ltb, lt-ltb}
 use Rattle.std.proofs.lemmas.List.{length-replicate, length-map, length-drop, get_or-append_right, get_or_at, set_at, take_at, drop_at, drop-drop, nil_from_length}
 use Rattle.std.proofs.lemmas.List.Elements.{recursion_from_All}
-use Rattle.std.proofs.lemmas.Grind.{flat_map-append}
 use Rattle.unicode_width.specs.Width.{char_width}
 use Rattle.indicatif_text.specs.Columns.{Cell, Blank, Written, Continued, Glyph, width_of, glyph_width, glyph_cells, glyphs_of, columns_in, blank_row, row_of, pieces_after, pieces_of}
 use Rattle.indicatif_text.proofs.WrappingLemmas.{pieces_some}

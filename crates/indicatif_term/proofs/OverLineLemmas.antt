@@ -1,5 +1,5 @@
 -- A line whose rows but the last are full fills its rows with the spaces behind it; and rows of lines have their cells.
-use Rattle.std.proofs.Common.{◌≡◌, ℕ, zero, suc, ◌+◌, ◌-◌, ◌*◌, ◌<◌, ◌≤◌, true, false, List, [], ◌∷◌, ◌++◌, length, drop, replicate, map, chars, refl, sym, ◌∙◌, ap, arith, eqb, length-append, inl, inr}
+use Rattle.std.proofs.Common.{◌≡◌, ℕ, zero, suc, ◌+◌, ◌-◌, ◌*◌, ◌<◌, ◌≤◌, false, List, [], ◌∷◌, ◌++◌, length, drop, replicate, map, chars, refl, sym, ◌∙◌, ap, arith, eqb, length-append, inl, inr}
 use Rattle.std.specs.Prelude.{flat_map, nat_le, nat_lt, sum_by, IsFalse}
 use Rattle.std.specs.List.{AllByRecursion, list_any}
 use Rattle.std.proofs.Math.Nat.{suc-mul}
