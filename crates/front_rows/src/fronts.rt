@@ -30,7 +30,7 @@ use crate::tell::{Told, tell};
 use indicatif::{Drawn, InMemoryTerm, MultiProgressAlignment, Refusal, StepClock, WeakProgressBar};
 use scripts::got::{Bad, Got};
 use scripts::row::next;
-use scripts::spelling::{number, optional, unescaped};
+use scripts::spelling::{flag, number, optional, unescaped};
 use std::alloc::Global;
 use std::random::RandomSource;
 use std::sync::Wait;
@@ -227,6 +227,7 @@ impl<R: Wait + Copy + Clone + Drop> Fronts<R> {
                 self.on = mark.wrapping_sub(1);
                 return Ok(true);
             }
+            Some(("move", word)) => self.board()?.set_move_cursor(flag(word)?),
             _ => match step {
                 "top" => self.board()?.set_alignment(MultiProgressAlignment::Top),
                 "bottom" => self.board()?.set_alignment(MultiProgressAlignment::Bottom),

@@ -152,6 +152,24 @@ impl<K: Tracks, T: TermLike + Drop> Board<K, T> {
         }
     }
 
+    /// Whether draws write their lines over those that stand there, by moves of the cursor alone, where that shows the same:
+    /// `Engine::set_move_cursor` says where. Nothing is written now. On a hidden target this does nothing, and another target begins
+    /// with it off.
+    ///
+    /// ```
+    /// board.set_move_cursor(true); // for a terminal that flickers where rows are emptied
+    /// ```
+    pub fn set_move_cursor(&mut self, on: bool)
+        ensures terminal { terminal_of self.new ≡ terminal_of self.old }
+        ensures mark { mark_of self.new ≡ mark_of self.old }
+        ensures records { RecordsStay self.old self.new }
+        ensures state { (mark : ℕ) (s : BoardState (BarRecord K)) → IsIn mark self.old s → IsIn mark self.new s }
+    {
+        if let Some(engine) = &mut self.engine {
+            engine.set_move_cursor(on);
+        }
+    }
+
     /// Whether bars stand at the top of what is taken back, or at its bottom, from the next draw on.
     pub fn set_alignment(&mut self, alignment: MultiProgressAlignment)
         ensures terminal { terminal_of self.new ≡ terminal_of self.old }

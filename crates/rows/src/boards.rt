@@ -11,7 +11,7 @@ use scripts::got::{Bad, Got};
 use scripts::lone::read_bar;
 use scripts::row::{At, headed, timed};
 use scripts::screen::{self, Behind, Look, Screen, Target};
-use scripts::spelling::unescaped;
+use scripts::spelling::{flag, unescaped};
 use std::rc::Rc;
 
 /// The board.
@@ -47,6 +47,7 @@ impl OnScreen {
         }
         match headed(step) {
             ("target", rest) => self.go_on(rest, at, got)?,
+            ("move", word) => self.board.set_move_cursor(flag(word)?),
             ("suspend", "") => suspend(&mut self.board, &self.screen, at.now, got)?,
             ("suspend", text) => outside::suspend(&mut self.board, &self.screen, (text, at), got)?,
             ("run", calls) => run(&mut self.board, calls, at, got)?,

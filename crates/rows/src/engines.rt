@@ -4,7 +4,7 @@ use indicatif_term::term_like::TermLike;
 use scripts::got::{Bad, Got};
 use scripts::row::{At, headed, next};
 use scripts::screen::{self, Behind, Screen};
-use scripts::spelling::{number, unescaped};
+use scripts::spelling::{flag, number, unescaped};
 use std::rc::Rc;
 
 /// An engine on a screen.
@@ -30,7 +30,7 @@ impl Drawing {
     }
 
     /// `draw FRAME`; `pass N FRAME`, of which the first N bars pass; `log TEXT` and, behind a tab each, the frame's bars; `keep BAR`;
-    /// `clear`; `faults`; or a look at
+    /// `clear`; `move yes` or `move no`; `faults`; or a look at
     /// the screen.
     pub fn step(&mut self, step: &str, at: At, got: &mut Got) -> Result<(), Bad> {
         if screen::look_at(&self.screen, step, at, got)? {
@@ -42,12 +42,18 @@ impl Drawing {
             ("log", rest) => self.log(rest, at),
             ("keep", rest) => keep(&mut self.engine, number(rest)?, got),
             ("clear", "") => clear(&mut self.engine),
+            ("move", word) => self.set_move_cursor(flag(word)?),
             ("faults", "") => {
                 got.number(self.engine.term().faults());
                 Ok(())
             }
             _ => Err(Bad::Step),
         }
+    }
+
+    fn set_move_cursor(&mut self, on: bool) -> Result<(), Bad> {
+        self.engine.set_move_cursor(on);
+        Ok(())
     }
 
     fn draw(&mut self, frame: &[Segment], pass: usize) -> Result<(), Bad> {

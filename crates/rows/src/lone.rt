@@ -7,7 +7,7 @@ use scripts::got::{Bad, Got};
 use scripts::lone::{Bar, bar_of, lone_call, read_bar, style_of};
 use scripts::row::{At, headed, next, timed};
 use scripts::screen::{self, Behind, Look, Screen, Target};
-use scripts::spelling::{number, optional};
+use scripts::spelling::{flag, number, optional};
 use std::rc::Rc;
 
 type Lone = LoneBar<NoTracker, Behind>;
@@ -49,6 +49,7 @@ impl OnScreen {
             ("hidden", "") => got.flag(self.bar.is_hidden()),
             ("faults", "") => push_faults(&self.bar, got),
             ("target", rest) => self.go_on(rest, at, got)?,
+            ("move", word) => self.bar.set_move_cursor(flag(word)?),
             ("suspend", "") => suspend(&mut self.bar, &self.screen, at.now, got)?,
             ("suspend_bytes", "") => suspend_bytes(&mut self.bar, &self.screen, at.now, got),
             ("run", calls) => run(&mut self.bar, calls, at, got)?,

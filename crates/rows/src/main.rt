@@ -9,6 +9,7 @@
 //! - `slots`: the order of bars and their slots. `streams`: targets on streams. `program`: runs of `bars run`.
 //! - `formats`: texts of formatters. `columns`: columns, rows and pieces of texts. `templates`: templates, and words of styles.
 //!   `refusals`: numbers and texts of refusals.
+//! - `noted`: a board on a terminal in memory whose calls are read.
 //! - `cells`: the cell terminal. `memory`: the terminal in memory. `engines`: the engine. `limiters`: limiters.
 //! - `styles`: styles and their builders. `lines`: lines of bars. `runs`: long texts, told by their runs.
 #![tactic(auto)]
@@ -22,6 +23,7 @@ mod limiters;
 mod lines;
 mod lone;
 mod memory;
+mod noted;
 mod outside;
 mod program;
 mod recorded;

@@ -2,8 +2,8 @@
 //! `begun` and `step`; a question that needs no world is a module and a line in `asked`.
 use crate::terminals::Terminal;
 use crate::{
-    boards, cells, columns, engines, formats, limiters, lines, lone, memory, program, recorded,
-    records, refusals, runs, slots, streams, styles, templates,
+    boards, cells, columns, engines, formats, limiters, lines, lone, memory, noted, program,
+    recorded, records, refusals, runs, slots, streams, styles, templates,
 };
 use indicatif_text::columns::Moment;
 use scripts::got::{Bad, Got};
@@ -24,6 +24,7 @@ enum On {
     Slots(slots::Table),
     Cells(cells::Fed),
     Memory(memory::Memory),
+    Noted(noted::OnNoted),
     Engine(engines::Drawing),
     Style(styles::Styled),
 }
@@ -73,6 +74,7 @@ fn begun(name: &str, rest: &str, at: At) -> Result<Option<On>, Bad> {
         "table" => Ok(Some(On::Slots(slots::Table::begin(at)?))),
         "cells" => Ok(Some(On::Cells(cells::Fed::begin(rest, at)?))),
         "memory" => Ok(Some(On::Memory(memory::Memory::begin(rest, at)?))),
+        "noted" => Ok(Some(On::Noted(noted::OnNoted::begin(rest, at)?))),
         "engine" => Ok(Some(On::Engine(engines::Drawing::begin(rest, at)?))),
         "style" | "default_bar" | "default_spinner" => {
             Ok(Some(On::Style(styles::Styled::begin(name, rest, at)?)))
@@ -94,6 +96,7 @@ impl On {
             On::Slots(world) => world.step(step, got),
             On::Cells(world) => world.step(step, at, got),
             On::Memory(world) => world.step(step, at, got),
+            On::Noted(world) => world.step(step, at, got),
             On::Engine(world) => world.step(step, at, got),
             On::Style(world) => world.step(step, at, got),
         }

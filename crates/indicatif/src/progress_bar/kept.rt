@@ -69,6 +69,13 @@ impl<K: Tracks, T: TermLike + Drop> Unrecorded<K, T> {
         let _ = self.board.set_draw_target(target);
     }
 
+    /// Whether draws write over what stands, by moves of the cursor alone, where that shows the same.
+    pub fn set_move_cursor(&mut self, on: bool)
+        ensures { terminal_of self.new ≡ terminal_of self.old }
+    {
+        self.board.set_move_cursor(on);
+    }
+
     /// The board.
     pub fn board(&self) -> &Board<K, T>
         ensures { result.now ≡ self.now }
@@ -130,6 +137,19 @@ impl<K: Tracks, T: TermLike + Drop> Kept<K, T> {
         match self {
             Kept::Open(board) => {
                 board.set_draw_target(target);
+                Ok(())
+            }
+            Kept::Recorded(_) => Err(Refusal::RecordedTarget),
+        }
+    }
+
+    /// Whether draws write over what stands, by moves of the cursor alone. A board with its history isn't told.
+    pub fn set_move_cursor(&mut self, on: bool) -> Result<(), Refusal>
+        ensures { IfErr result (λ e. (e ≡ Refusal.RecordedTarget) × (self.new ≡ self.old)) }
+    {
+        match self {
+            Kept::Open(board) => {
+                board.set_move_cursor(on);
                 Ok(())
             }
             Kept::Recorded(_) => Err(Refusal::RecordedTarget),

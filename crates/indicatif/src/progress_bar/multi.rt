@@ -278,6 +278,22 @@ impl<T: TermLike + Drop, C: Clock + Drop, R: Wait + Clone + Drop, K: Tracks> Mul
         self.board.lock(&self.rt).kept.set_draw_target(target)
     }
 
+    /// Whether draws write the bars' lines over those that stand there, by moves of the cursor alone: up to the first row, to its
+    /// front, and each line with the spaces that fill its last row. It is off at first, and off again on another target. A draw that
+    /// would show anything else that way (it has fewer rows than stand, or a row that ends early for a wide character) goes as with it
+    /// off, and so do logs and clears. On a hidden target this does nothing.
+    ///
+    /// ```
+    /// multi.set_move_cursor(true)?; // for a terminal that flickers where rows are emptied
+    /// ```
+    ///
+    /// Refused: `RecordedTarget` for a board that keeps its history; nothing has changed then.
+    pub fn set_move_cursor(&self, on: bool) -> Result<(), Refusal>
+        ensures { IfErr result (λ e. e ≡ Refusal.RecordedTarget) }
+    {
+        self.board.lock(&self.rt).kept.set_move_cursor(on)
+    }
+
     /// Whether the target is hidden: nothing is drawn until another is set.
     pub fn is_hidden(&self) -> bool {
         self.board.lock(&self.rt).kept.board().is_hidden()
