@@ -474,11 +474,88 @@ def faults_of_blocks():
                 yield f"{name}: this block stands in no source: {(bare(lines, False) or ['(empty)'])[0]}"
 
 
+# Examples of documentation comments
+
+# Those that can't stand in code as they are.
+UNRUN = {
+    "fn add_all(done: &Done, mut worker: BarWorker) -> BarWorker // adds 1 a thousand times": "a contract: its body needs an invariant",
+    "let drawn = record.apply(Call::Clear, 5); // on a terminal of 4 rows and 10 columns": "an index, which has to be proved",
+    "let (answer, none) = record.apply(Call::Clear, 5);": "an index, which has to be proved",
+}
+
+
+def examples(text):
+    """The fenced blocks of documentation comments, each as lines."""
+    block = None
+    for line in text.splitlines():
+        doc = re.match(r"\s*/// ?(.*)", line)
+        if not doc:
+            block = None
+        elif doc[1].startswith("```") and block is None:
+            block = []
+        elif doc[1].startswith("```"):
+            yield block
+            block = None
+        elif block is not None:
+            block.append(doc[1])
+
+
 def without_space(text):
     """Code without comments, white space, and commas before a bracket; asserts without the runtime."""
     text = re.sub(r"(^|\s)//.*$", "", text, flags=re.M)
     text = re.sub(r"(assert(?:_eq)?!\()rt;", r"\1", text)
     return re.sub(r",([)\]}])", r"\1", re.sub(r"\s+", "", text))
+
+
+def statements(block):
+    """The statements of an example: each as long as its brackets are open."""
+    open_brackets, lines = 0, []
+    for line in block:
+        code = re.sub(r"(^|\s)//.*$", "", line)
+        if not code.strip():
+            continue
+        lines.append(code)
+        open_brackets += len(re.findall(r"[({[]", code)) - len(re.findall(r"[)}\]]", code))
+        if open_brackets == 0:
+            yield without_space("\n".join(lines)).rstrip(";")
+            lines = []
+    if lines:
+        yield without_space("\n".join(lines))
+
+
+def spellings(statement):
+    """The ways in which code may have a statement."""
+    yield statement
+    equal = re.fullmatch(r"assert_eq!\((.*)\)", statement)
+    if equal:
+        depth, cut = 0, 0
+        for at, char in enumerate(equal[1]):
+            depth += (char in "([{") - (char in ")]}")
+            cut = at if char == "," and depth == 0 else cut
+        yield equal[1][:cut] + "==" + equal[1][cut + 1 :]
+    holds = re.fullmatch(r"assert!\((.*)\)", statement)
+    if holds:
+        yield holds[1]
+
+
+def is_in(statement, code):
+    for it in spellings(statement):
+        if "{..}" in it and re.search(re.escape(it).replace(r"\{\.\.\}", r"\{.*?\}"), code):
+            return True
+        if it in code:
+            return True
+    return False
+
+
+def faults_of_examples():
+    files = [path for path in pathlib.Path("crates").glob("*/src/**/*.rt") if path.parts[1] not in LIBRARIES]
+    code = [without_space(read(path)) for path in files]
+    for crate in LIBRARIES:
+        for path in sorted(pathlib.Path(f"crates/{crate}/src").rglob("*.rt")):
+            for block in examples(read(path)):
+                wanted = list(statements(block))
+                if block[0] not in UNRUN and not any(all(is_in(it, source) for it in wanted) for source in code):
+                    yield f"{path}: this example stands in no code that runs: {block[0]}"
 
 
 def main():
@@ -501,6 +578,7 @@ def main():
     faults += faults_of_meter()
     faults += faults_of_names()
     faults += faults_of_blocks()
+    faults += faults_of_examples()
     print("\n".join(faults) or "the pages have what the gate compares")
     return 1 if faults else 0
 
