@@ -42,7 +42,9 @@ REFUSED = {
     "indicatif_term": ["term_like", "term", "in_memory", "in_memory/feeding", "limiter", "target", "draw_target", "lines"],
     "indicatif_bar": ["bar_style", "bar_style/builders", "tracker", "progress", "bar_state", "bar_state/copies", "bar_lines", "finish", "lone"],
     "indicatif_board": ["multi", "recorded", "slots", "call_copies", "done", "bridge"],
-    "indicatif": ["owned", "moves", "wrap", "items", "bytes", "seeking", "streams", "polled", "parallel", "progress_iterator", "seek", "ring"],
+    "indicatif": ["owned", "moves", "wrap", "items", "bytes", "seeking", "streams", "polled", "parallel", "progress_iterator", "seek", "ring",
+                  "progress_bar", "progress_bar/multi", "progress_bar/weak", "progress_bar/steady", "progress_bar/wrapped", "builders", "counting",
+                  "workers", "bridge", "machine", "own_rows"],
 }
 LIBRARIES = ["indicatif_text", "indicatif_term", "indicatif_bar", "indicatif_board", "indicatif"]
 PROGRAMS = ["bars_run", "meter_parts"]

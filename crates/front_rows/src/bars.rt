@@ -1,37 +1,49 @@
 //! Bars and boards that are shared, on terminals in memory, and how they are made.
+use crate::clock::RowClock;
 use indicatif::{
-    InMemoryTerm, MultiProgress, NoTracker, ProgressBar, ProgressDrawTarget, ProgressStyle,
-    Refusal, Setup, StepClock,
+    InMemoryTerm, Moment, MultiProgress, NoTracker, ProgressBar, ProgressDrawTarget, ProgressStyle,
+    Refusal, Setup,
 };
 use scripts::got::{Bad, Got};
 use std::alloc::Global;
 use std::sync::Wait;
 
 /// A bar that is shared.
-pub type Bar<R> = ProgressBar<InMemoryTerm, StepClock, R>;
+pub type Bar<R> = ProgressBar<InMemoryTerm, RowClock, R>;
 
 /// A board that is shared.
-pub type Shared<R> = MultiProgress<InMemoryTerm, StepClock, R>;
+pub type Shared<R> = MultiProgress<InMemoryTerm, RowClock, R>;
 
 /// What is drawn on.
 pub type Target = ProgressDrawTarget<InMemoryTerm>;
 
-/// How large terminals are, and how much further a clock is with each reading.
+/// How often a second a target is drawn, and when it was made.
+#[derive(Clone, Copy, Drop)]
+pub struct Pace {
+    pub hz: u8,
+    pub made: Moment,
+}
+
+/// How large terminals are, how often they are drawn where that is limited, and what clocks tell.
 #[derive(Clone, Copy, Drop)]
 pub struct Room {
     pub rows: u16,
     pub cols: u16,
-    pub clock: StepClock,
+    pub pace: Option<Pace>,
+    pub clock: RowClock,
 }
 
 impl Room {
     /// A terminal with nothing on it.
     pub fn target(self, alloc: Global) -> Result<Target, Refusal> {
         let term = InMemoryTerm::new(alloc, self.rows, self.cols)?;
-        Ok(ProgressDrawTarget::term_like(term))
+        match self.pace {
+            Some(Pace { hz, made }) => ProgressDrawTarget::term_like_with_hz(term, hz, made),
+            None => Ok(ProgressDrawTarget::term_like(term)),
+        }
     }
 
-    fn setup(self, alloc: Global) -> Result<Setup<InMemoryTerm, StepClock>, Refusal> {
+    fn setup(self, alloc: Global) -> Result<Setup<InMemoryTerm, RowClock>, Refusal> {
         Ok(Setup {
             target: self.target(alloc)?,
             clock: self.clock,

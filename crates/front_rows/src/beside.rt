@@ -6,12 +6,13 @@
 //! with the rate `hidden` there is no terminal. `turn RATE` gives both another terminal. `call CALL` tells both, `each` makes the calls
 //! that were learnt, and `random N SEED` N of them, by the numbers of a generator: `same`, or the call and what differs behind it.
 use crate::bars::{Bar, Room, Target, spinner};
+use crate::clock::RowClock;
 use crate::fronts::room_of;
 use crate::history::{rows_of, same_rows};
 use crate::tell::{Told, tell};
 use indicatif::{
     BarCommand, BarState, Change, Clock, InMemoryTerm, LoneBar, LoneCall, Moment, NoTracker,
-    ProgressBar, ProgressDrawTarget, ProgressState, ProgressStyle, Refusal, Setup, StepClock,
+    ProgressBar, ProgressDrawTarget, ProgressState, ProgressStyle, Refusal, Setup,
 };
 use scripts::commands::{command, finish};
 use scripts::got::{Bad, Got};
@@ -27,7 +28,7 @@ type Lone = LoneBar<NoTracker, InMemoryTerm>;
 struct Both<R: Wait + Copy + Clone + Drop> {
     shared: Bar<R>,
     lone: Box<Lone>,
-    clock: StepClock,
+    clock: RowClock,
     alloc: Global,
     room: Room,
 }
@@ -64,14 +65,14 @@ fn shared<R: Wait + Copy + Clone + Drop>(
     rt: R,
     alloc: Global,
     target: Target,
-    clock: StepClock,
+    clock: RowClock,
 ) -> Result<Bar<R>, Refusal> {
     let bar = ProgressBar::new(rt, alloc, 10, Setup { target, clock })?;
     bar.with_style(style(alloc)?)
 }
 
 /// A `LoneBar` that is made at the moment of the first, and is then told the same style.
-fn lone_bar(alloc: Global, target: Target, clock: &mut StepClock) -> Result<Box<Lone>, Refusal> {
+fn lone_bar(alloc: Global, target: Target, clock: &mut RowClock) -> Result<Box<Lone>, Refusal> {
     let bar = BarState::new(alloc, Some(10), clock.now())?;
     let mut bar = Box::new(alloc, LoneBar::new(bar, target))?;
     bar.with_style(style(alloc)?, clock.now())?;

@@ -3,6 +3,8 @@
 //! `fronts ROWS COLS FROM STEP` begins with nothing, on terminals of this size, by clocks that stand at `FROM` and go on by `STEP`
 //! nanoseconds with each reading. Then
 //!
+//! - `rate HZ MOMENT`: what is made from now on is drawn at most so often a second, by a target that was made then; `moments COUNT
+//!   MOMENT ..`: its clock tells this moment so many times, the next one so many times, and then goes on as it began.
 //! - `board`, `recorded`: a board without and with a history, of the next mark, from 1 on; `on MARK`: steps speak of this board.
 //! - `alone TEXT`, `bar LEN TEMPLATE`, `hidden_bar`: a bar that stands alone, whose owner comes behind the others: owners are numbered
 //!   from 0.
@@ -21,13 +23,14 @@
 //! - `shows`, `hidden`, `order`, `adds`: what is seen of the board; the calls that its history has gained since it was last asked.
 //!   `adds OWNER: CALL`: a call, and what it adds. Behind them stands `!answer` where the last of them is kept with another answer than
 //!   was given, and `!run` where a fresh board that makes all that were kept gives another answer or shows something else.
-use crate::bars::{Bar, Maker, Room, Shared, push_board};
+use crate::bars::{Bar, Maker, Pace, Room, Shared, push_board};
 use crate::bytes::{Over, Wrapped, asks, kept_over};
+use crate::clock::{RowClock, moments_of};
 use crate::history::{Answered, Look, Question, shown};
 use crate::readings::read;
 use crate::scripted::{Scripted, script_of};
 use crate::tell::{Told, tell};
-use indicatif::{Drawn, InMemoryTerm, MultiProgressAlignment, Refusal, StepClock, WeakProgressBar};
+use indicatif::{Drawn, InMemoryTerm, MultiProgressAlignment, Refusal, WeakProgressBar};
 use scripts::got::{Bad, Got};
 use scripts::row::next;
 use scripts::spelling::{flag, number, optional, unescaped};
@@ -37,7 +40,7 @@ use std::sync::Wait;
 use std::thread::{self, Threads};
 use std::time::{Clock, Duration};
 
-type Weak<R> = WeakProgressBar<InMemoryTerm, StepClock, R>;
+type Weak<R> = WeakProgressBar<InMemoryTerm, RowClock, R>;
 
 /// Boards and owners of bars.
 #[derive(Drop)]
@@ -65,8 +68,13 @@ pub fn room_of(words: &mut &str) -> Result<Room, Bad> {
     let (rows, cols) = size_of(words)?;
     let from = number(next(words))?;
     let step = number(next(words))?;
-    let clock = StepClock { next: from, step };
-    Ok(Room { rows, cols, clock })
+    let clock = RowClock::stepping(from, step);
+    Ok(Room {
+        rows,
+        cols,
+        pace: None,
+        clock,
+    })
 }
 
 impl<R: Wait + Copy + Clone + Drop> Fronts<R> {
@@ -105,6 +113,20 @@ impl<R: Wait + Copy + Clone + Drop> Fronts<R> {
     }
 
     // ---- boards and owners
+
+    /// What is made from now on is paced or timed so; whether the step asks for that.
+    fn times_next(&mut self, step: &str) -> Result<bool, Bad> {
+        match step.split_once(' ') {
+            Some(("rate", mut words)) => {
+                let hz = number(next(&mut words))?;
+                let made = number(next(&mut words))?;
+                self.maker.room.pace = Some(Pace { hz, made });
+            }
+            Some(("moments", words)) => self.maker.room.clock.told = moments_of(words)?,
+            _ => return Ok(false),
+        }
+        Ok(true)
+    }
 
     /// Another board; whether the step asks for that.
     fn begins(&mut self, step: &str) -> Result<bool, Bad> {
@@ -387,13 +409,13 @@ impl<
         if self.wraps(step, got)? {
             return Ok(());
         }
-        if self.reads(step, got)? || self.begins(step)? || self.comes(step)? {
+        if self.reads(step, got)? || self.times_next(step)? || self.begins(step)? {
             return Ok(());
         }
-        if self.goes(step)? || self.takes_in(step)? || self.weakens(step, got)? {
+        if self.comes(step)? || self.goes(step)? || self.takes_in(step)? {
             return Ok(());
         }
-        if self.settles(step, got)? || self.times(step, got)? {
+        if self.weakens(step, got)? || self.settles(step, got)? || self.times(step, got)? {
             return Ok(());
         }
         let told = self.told(step)?;

@@ -5,11 +5,12 @@
 //! said of the bar before it moves: `with_style TEMPLATE`, `with_prefix TEXT`, `with_message TEXT`, `with_position N`, `with_elapsed N`,
 //! `with_finish CALL`.
 use crate::bars::{Room, Target};
+use crate::clock::RowClock;
 use crate::fronts::room_of;
 use crate::lists::{items_of, push_item};
 use indicatif::{
     BarState, InMemoryTerm, LoneBar, NoTracker, OwnedBar, ProgressBarIter, ProgressIterator,
-    ProgressStyle, Refusal, Setup, StepClock,
+    ProgressStyle, Refusal, Setup,
 };
 use scripts::commands::finish;
 use scripts::got::{Bad, Got};
@@ -18,7 +19,7 @@ use scripts::spelling::number;
 use std::alloc::Global;
 use std::vec::IntoIter;
 
-type Wrapped = ProgressBarIter<IntoIter<u32>, OwnedBar<NoTracker, InMemoryTerm, StepClock>>;
+type Wrapped = ProgressBarIter<IntoIter<u32>, OwnedBar<NoTracker, InMemoryTerm, RowClock>>;
 
 /// A loop; none once a call refused something and gave it up.
 #[derive(Drop)]
@@ -27,7 +28,7 @@ pub struct Looped {
     wrapped: Option<Box<Wrapped>>,
 }
 
-fn setup(alloc: Global, room: Room) -> Result<Setup<InMemoryTerm, StepClock>, Refusal> {
+fn setup(alloc: Global, room: Room) -> Result<Setup<InMemoryTerm, RowClock>, Refusal> {
     Ok(Setup {
         target: room.target(alloc)?,
         clock: room.clock,
@@ -58,7 +59,7 @@ fn styled(alloc: Global, template: &str, room: Room, items: IntoIter<u32>) -> Re
 fn made(
     alloc: Global,
     target: Target,
-    clock: StepClock,
+    clock: RowClock,
     items: IntoIter<u32>,
 ) -> Result<Wrapped, Refusal> {
     let bar = LoneBar::new(BarState::new(alloc, Some(1), 0)?, target);

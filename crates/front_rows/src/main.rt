@@ -5,6 +5,7 @@
 //!
 //! - `playing`: files, played line by line. `stage`: what is played on, and which module plays a step.
 //! - `bars`: bars and boards that are shared, and how they are made. `tell`: a bar's calls. `readings`: what a bar tells of itself.
+//! - `clock`: what clocks tell.
 //! - `fronts`: bars that stand alone or on boards. `entries`: calls of a board as rows spell them. `history`: what a board has kept.
 //! - `beside`: a shared bar beside a lone one, call by call.
 //! - `counted`: a bar that counts its moves. `scripted`: a reader, a writer and a stream that do what a row says. `bytes`: steps of
@@ -16,6 +17,7 @@
 mod bars;
 mod beside;
 mod bytes;
+mod clock;
 mod counted;
 mod entries;
 mod environment;

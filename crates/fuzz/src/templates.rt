@@ -6,7 +6,7 @@ use indicatif_bar::state::BarState;
 use indicatif_bar::style::{NoTracker, ProgressStyle};
 use indicatif_term::draw_target::LineType;
 use indicatif_text::columns::{Refusal, pieces};
-use indicatif_text::template::{Template, TemplateError};
+use indicatif_text::template::{Part, Template, TemplateError};
 use std::alloc::Global;
 use std::convert::AsStr;
 
@@ -223,17 +223,75 @@ fn push_visible(line: &str, text: &mut String) -> Held {
     Ok(text.push('\n')?)
 }
 
-/// Whether the visible lines with colours are those without. What stands behind the last newline is a line where it isn't empty, and colours
-/// alone are enough for that.
-fn are_visible(plain: &str, coloured: &str) -> bool {
+/// How much the visible lines with colours may differ from those without.
+///
+/// A wide message gives up the white space at its end where nothing stands behind it in its line of the template. Colours behind it are
+/// something: those of its own placeholder, or of an empty one.
+#[derive(Clone, Copy, Drop)]
+enum Leave {
+    /// In an empty line at the end. What stands behind the last newline is a line where it isn't empty, and colours alone are enough for that.
+    LastLine,
+    /// In more white space, too.
+    WhiteSpace,
+}
+
+impl Leave {
+    /// What a template of these parts leaves open: it is the last line where no wide message is among them, or where each line ends in
+    /// a character of its own.
+    fn of(parts: &[Part]) -> Leave {
+        if parts.iter().any(is_wide_message) && !parts.split(is_line_end).all(ends_in_text) {
+            return Leave::WhiteSpace;
+        }
+        Leave::LastLine
+    }
+
+    /// Whether the visible lines are as they may be.
+    fn holds(self, plain: &str, coloured: &str) -> bool {
+        match self {
+            Leave::LastLine => is_but_for_a_line(plain, coloured),
+            Leave::WhiteSpace => is_but_for_white_space(plain, coloured),
+        }
+    }
+}
+
+fn is_wide_message(part: &Part) -> bool {
+    match part {
+        Part::Placeholder { key, .. } => key.as_str() == "wide_msg",
+        _ => false,
+    }
+}
+
+fn is_line_end(part: &Part) -> bool {
+    matches!(part, Part::NewLine)
+}
+
+fn ends_in_text(line: &[Part]) -> bool {
+    matches!(line.last(), Some(Part::Literal(_)))
+}
+
+fn is_but_for_a_line(plain: &str, coloured: &str) -> bool {
     match coloured.strip_prefix(plain) {
         Some(rest) => rest.is_empty() || rest == "\n",
         None => false,
     }
 }
 
+/// Whether the second text is the first with more white space.
+fn is_but_for_white_space(plain: &str, coloured: &str) -> bool {
+    let mut wanted = plain.chars();
+    let mut next = wanted.next();
+    for c in coloured.chars() {
+        if next == Some(c) {
+            next = wanted.next();
+        } else if !c.is_whitespace() {
+            return false;
+        }
+    }
+    next.is_none()
+}
+
 /// A bar's lines on any width: they are lines, a copy of the style has the same, and colours change no visible character.
-fn is_laid_out(alloc: Global, numbers: &mut Numbers, bar: &Bar) -> Held {
+fn is_laid_out(alloc: Global, numbers: &mut Numbers, bar: &Bar, leave: Leave) -> Held {
     let width = numbers.size(40);
     let now = numbers.next().into();
     let lines = bar.lines(now, width)?;
@@ -243,10 +301,34 @@ fn is_laid_out(alloc: Global, numbers: &mut Numbers, bar: &Bar) -> Held {
     let colours = coloured(alloc, bar, true)?.lines(now, width)?;
     let plain = visible(alloc, &plain)?;
     let colours = visible(alloc, &colours)?;
-    Law::Colours.holds(are_visible(plain.as_str(), colours.as_str()))
+    Law::Colours.holds(leave.holds(plain.as_str(), colours.as_str()))
 }
 
-/// A random text is a template or is refused, and a style says the same of it; the lines of a bar in this style are lines.
+/// A template with a character of no columns at the end of each line.
+fn ended(alloc: Global, text: &str) -> Result<String, Law> {
+    let mut ended = String::new(alloc);
+    for line in text.split('\n') {
+        if !ended.is_empty() {
+            ended.push('\n')?;
+        }
+        ended.push_str(line)?;
+        ended.push('\u{1}')?;
+    }
+    Ok(ended)
+}
+
+/// The bar's lines by this template, if it is one.
+fn is_laid_out_by(alloc: Global, numbers: &mut Numbers, bar: &mut Bar, text: &str) -> Held {
+    let Ok(template) = Template::parse(alloc, text) else {
+        return Ok(());
+    };
+    let style = bar.style().try_clone()?.template(text)?;
+    bar.with_style(style, 0)?;
+    is_laid_out(alloc, numbers, bar, Leave::of(template.parts()))
+}
+
+/// A random text is a template or is refused, and a style says the same of it; the lines of a bar in this style are lines, and so are
+/// they where each line of the template ends in a character.
 pub fn parsed(alloc: Global, numbers: &mut Numbers) -> Held {
     let text = joined(alloc, numbers, &PIECES, 10)?;
     let refusal = refusal_of(alloc, text.as_str())?;
@@ -255,8 +337,10 @@ pub fn parsed(alloc: Global, numbers: &mut Numbers) -> Held {
         (Ok(style), None) => {
             let style = reclustered(alloc, numbers, style)?;
             let style = respun(alloc, numbers, style)?;
-            let bar = bar_of(alloc, numbers, style)?;
-            is_laid_out(alloc, numbers, &bar)
+            let mut bar = bar_of(alloc, numbers, style)?;
+            is_laid_out_by(alloc, numbers, &mut bar, text.as_str())?;
+            let ended = ended(alloc, text.as_str())?;
+            is_laid_out_by(alloc, numbers, &mut bar, ended.as_str())
         }
         (Err(found), Some(wanted)) => Law::Style.holds(found == wanted),
         _ => Err(Law::Style),
