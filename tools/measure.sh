@@ -55,8 +55,11 @@ log_draw 4000
 board_frame 2000
 tick_draw 2000
 board_draw 2000
+board_step 1000
 inc_limited 20000
 inc_clock 20000
+tick_held 20000
+message_held 20000
 wrap_iter 20000
 inc_front 20000
 LIST

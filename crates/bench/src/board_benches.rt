@@ -44,6 +44,14 @@ impl ShownBoard {
         }
     }
 
+    /// A step of a bar that isn't looked at, and a tick: a drawing.
+    #[inline(always)]
+    fn step(&mut self, number: u64) -> Result<(), Refusal> {
+        self.board
+            .command(BarId { mark: 1, number }, BarCommand::Inc(1), 0)?;
+        self.tick(number)
+    }
+
     /// A tick of a bar: a drawing.
     #[inline(always)]
     fn tick(&mut self, number: u64) -> Result<(), Refusal> {
@@ -87,4 +95,27 @@ pub fn board_draw(rt: &HostRuntime, count: u64) -> Result<Measured> {
     take_in_ten(rt.alloc(), &mut board)?;
     draw_ten(&mut board)?;
     measure(rt, &mut *board, count)
+}
+
+/// A step and a tick of one of ten bars, each in its turn: a drawing of all, in which one line is another than before.
+#[derive(Drop)]
+struct Steps<'a>(&'a mut ShownBoard);
+
+impl<'a> Work for Steps<'a> {
+    #[inline(always)]
+    fn once(&mut self, turn: u64) -> Result<(), Refusal> {
+        self.0.step(turn % 10)
+    }
+
+    fn made(&self) -> Made {
+        self.0.made()
+    }
+}
+
+/// The same board, one of whose bars goes on before each drawing.
+pub fn board_step(rt: &HostRuntime, count: u64) -> Result<Measured> {
+    let mut board = Box::new(rt.alloc(), ShownBoard::new(rt.alloc()))?;
+    take_in_ten(rt.alloc(), &mut board)?;
+    draw_ten(&mut board)?;
+    measure(rt, &mut Steps(&mut board), count)
 }

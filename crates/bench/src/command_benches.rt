@@ -1,4 +1,4 @@
-//! Steps of a bar of which few are looked at.
+//! Steps of a bar of which few are looked at, and calls whose drawings are held back.
 use crate::measured::{Made, Measured, Work, measure};
 use crate::shown::Shown;
 use anyhow::Result;
@@ -55,4 +55,51 @@ fn steps_by_clock(
 pub fn inc_clock(rt: &HostRuntime, count: u64) -> Result<Measured> {
     let mut bar = bar_of(rt.alloc(), count)?;
     steps_by_clock(rt, &mut bar, (Instant::now(rt)?, count))
+}
+
+/// Ticks of a bar whose drawings are held back.
+#[derive(Drop)]
+struct HeldTicks<'a>(&'a mut Shown);
+
+impl<'a> Work for HeldTicks<'a> {
+    #[inline(always)]
+    fn once(&mut self, _turn: u64) -> Result<(), Refusal> {
+        self.0.tick()
+    }
+
+    fn made(&self) -> Made {
+        self.0.drawn()
+    }
+}
+
+/// A new message of 60 characters at a bar whose drawings are held back.
+#[derive(Drop)]
+struct HeldMessages<'a>(&'a mut Shown);
+
+impl<'a> Work for HeldMessages<'a> {
+    #[inline(always)]
+    fn once(&mut self, _turn: u64) -> Result<(), Refusal> {
+        self.0.set_message("abcdefghijklmnopqrstuvwxyzabcdefghijklmnopqrstuvwxyzabcdefgh")
+    }
+
+    fn made(&self) -> Made {
+        self.0.drawn()
+    }
+}
+
+/// A bar in the default style with at most 20 draws a second, all of whose calls come at one moment.
+fn held_bar(alloc: Global) -> Result<Box<Shown>, Refusal> {
+    Ok(Box::new(alloc, Shown::held_back(alloc, 1000)?)?)
+}
+
+/// Ticks that are held back, but for the first twenty at most.
+pub fn tick_held(rt: &HostRuntime, count: u64) -> Result<Measured> {
+    let mut bar = held_bar(rt.alloc())?;
+    measure(rt, &mut HeldTicks(&mut bar), count)
+}
+
+/// New messages that are held back, but for the first twenty at most.
+pub fn message_held(rt: &HostRuntime, count: u64) -> Result<Measured> {
+    let mut bar = held_bar(rt.alloc())?;
+    measure(rt, &mut HeldMessages(&mut bar), count)
 }

@@ -10,7 +10,7 @@
 //! - `shown`: a bar on a terminal.
 //! - `draw_benches`: drawings of a bar and of a board's frame.
 //! - `board_benches`: drawings of bars on a board.
-//! - `command_benches`: steps of a bar.
+//! - `command_benches`: steps of a bar, and calls whose drawings are held back.
 //! - `wrap_benches`: a loop with a bar.
 //! - `thread_benches`: bars that are shared, and work in several threads.
 #![tactic(auto)]
@@ -75,8 +75,11 @@ fn drawn_by(rt: &HostRuntime, name: &str, count: u64) -> Result<Measured> {
         "board_frame" => draw_benches::board_frame(rt, count),
         "tick_draw" => draw_benches::tick_draw(rt, count),
         "board_draw" => board_benches::board_draw(rt, count),
+        "board_step" => board_benches::board_step(rt, count),
         "inc_limited" => command_benches::inc_limited(rt, count),
         "inc_clock" => command_benches::inc_clock(rt, count),
+        "tick_held" => command_benches::tick_held(rt, count),
+        "message_held" => command_benches::message_held(rt, count),
         "wrap_iter" => wrap_benches::wrap_iter(rt, count),
         _ => bail!("no measurement of this name"),
     }

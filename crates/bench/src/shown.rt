@@ -94,6 +94,15 @@ impl Shown {
         Ok(on_terminal(state, terminal(alloc)))
     }
 
+    /// A bar of this length in the default style, with at most 20 draws a second that aren't forced.
+    pub fn held_back(alloc: Global, len: u64) -> Result<Shown, Refusal> {
+        let state = BarState::new(alloc, Some(len), 0)?;
+        let target = ProgressDrawTarget::term_like_with_hz(terminal(alloc), 20, 0)?;
+        Ok(Shown {
+            bar: LoneBar::new(state, target),
+        })
+    }
+
     #[inline(always)]
     pub fn set_message(&mut self, text: &str) -> Result<(), Refusal> {
         self.bar.set_message(text, 0)?;
