@@ -4,5 +4,6 @@ pub mod Owners
 pub mod Pieces
 pub mod Places
 pub mod Single
+pub mod Steps
 pub mod Unrecorded
 pub mod Worded

@@ -1,7 +1,7 @@
 //! A bar that its owners share.
 //!
 //! - `held`: what its lock keeps; `place`: where the bar stands, `single` alone, or on a board, which `kept` is (private).
-//! - `worded`: what a bar is told with a text (private).
+//! - `worded`: what a bar is told with a text; `step`: what moves its position (private).
 //! - `ticker`: which steady ticker it has; `steady`: the thread that ticks (private).
 //! - `weak`: a bar without an owner (private). `wrapped`: what is said of a wrapper's bar (private).
 ghost use Rattle.std.specs.Prelude.{◌≡◌, ◌⊎◌, ℕ, false, IfOk, IfErr, Err};
@@ -19,6 +19,7 @@ ghost use Rattle.indicatif_board.specs.Calls.{place_at};
 ghost use Rattle.indicatif.specs.Fronts.{CanAnswer, CanSuspend, CanTurn, NoText, unchanged};
 ghost use Rattle.indicatif.specs.Inside.Owners.{OwnerJoins};
 ghost use Rattle.indicatif.specs.SharedBoards.{SharedAnswers, SharedTakes};
+ghost use Rattle.indicatif.specs.Inside.Steps.{stepped};
 ghost use Rattle.indicatif.specs.Inside.Worded.{worded};
 ghost use Rattle.indicatif.specs.Wrap.{Wraps};
 
@@ -28,6 +29,7 @@ mod multi;
 mod place;
 mod single;
 mod steady;
+mod step;
 mod ticker;
 mod weak;
 mod worded;
@@ -37,6 +39,7 @@ use self::held::{Held, Locked};
 use self::kept::{Shared, SharedBoard};
 pub use self::multi::{MultiProgress, RecordReader};
 use self::single::Single;
+use self::step::Step;
 pub use self::weak::WeakProgressBar;
 use self::worded::Worded;
 use crate::moves::Moves;
@@ -206,6 +209,19 @@ impl<T: TermLike + Drop, C: Clock + Drop, R: Wait + Clone + Drop, K: Tracks> Pro
         self.state.lock.lock(&self.rt).tell(&self.rt, command)
     }
 
+    /// A step of the bar's position. The lock is mostly free, which one comparison tells.
+    #[inline(always)]
+    #[tactic(auto, using(crate::proofs::FrontLemmas::place_answers))]
+    fn step(&self, step: Step) -> Result<Drawn, Refusal>
+        ensures { CanAnswer K.means T.view (Lone.Obey (stepped step)) result }
+    {
+        let mut held = match self.state.lock.try_lock() {
+            Some(held) => held,
+            None => self.state.lock.lock(&self.rt),
+        };
+        held.step(&self.rt, step)
+    }
+
     /// A call of the bar with a text.
     #[tactic(auto, using(crate::proofs::FrontLemmas::place_answers))]
     fn tell_text(&self, told: Worded, text: &str) -> Result<Drawn, Refusal>
@@ -231,25 +247,27 @@ impl<T: TermLike + Drop, C: Clock + Drop, R: Wait + Clone + Drop, K: Tracks> Pro
 
     /// The position goes up by `delta`, modulo 2^64; and a tick, as often as the position's limiter allows: 10 times at once, and once
     /// more each millisecond, so that a loop may call it at each of its steps.
-    #[tactic(auto, using(crate::proofs::FrontLemmas::place_answers))]
+    #[inline(always)]
     pub fn inc(&self, delta: u64) -> Result<Drawn, Refusal>
         ensures { CanAnswer K.means T.view (Lone.Obey (Command.Inc delta)) result }
     {
-        self.state.lock.lock(&self.rt).inc(&self.rt, delta)
+        self.step(Step::Up(delta))
     }
 
     /// The position goes down by `delta`, modulo 2^64; else as `inc`.
+    #[inline(always)]
     pub fn dec(&self, delta: u64) -> Result<Drawn, Refusal>
         ensures { CanAnswer K.means T.view (Lone.Obey (Command.Dec delta)) result }
     {
-        self.tell(BarCommand::Dec(delta))
+        self.step(Step::Down(delta))
     }
 
     /// Another position; else as `inc`. A lower one begins the rate anew.
+    #[inline(always)]
     pub fn set_position(&self, position: u64) -> Result<Drawn, Refusal>
         ensures { CanAnswer K.means T.view (Lone.Obey (Command.SetPosition position)) result }
     {
-        self.tell(BarCommand::SetPosition(position))
+        self.step(Step::To(position))
     }
 
     /// Another length, and a draw: `{bar}`, `{percent}` and `{eta}` follow it.

@@ -2,7 +2,7 @@
 ghost use Rattle.std.specs.Prelude.{◌≡◌, ◌<◌, ℕ, Some, None, Ok, Err, true, false, IfOk, IfErr};
 ghost use Rattle.std.specs.Fn.{FnOnceReturnsAt};
 ghost use Rattle.indicatif_term.specs.Targets.{term_of};
-ghost use Rattle.indicatif_bar.specs.Commands.{Inc, Update, SetTicker, SetPosition, command_of};
+ghost use Rattle.indicatif_bar.specs.Commands.{Update, SetTicker, SetPosition, command_of};
 ghost use Rattle.indicatif_bar.specs.Lone as Lone;
 ghost use Rattle.indicatif_bar.specs.Progress.{eta, per_sec, duration, elapsed};
 ghost use Rattle.indicatif_bar.specs.declared.command.Change.{Change as Changed};
@@ -11,12 +11,14 @@ ghost use Rattle.indicatif_board.specs.Calls.{place_at};
 ghost use Rattle.indicatif.specs.Inside.Owners.{OwnerJoins, OwnerLeaves};
 ghost use Rattle.indicatif.specs.Inside.Places.{PlaceMakes, PlaceSuspends, PlaceEnds, IsOf, IsUnfinished, Measures, PlaceTurns};
 ghost use Rattle.indicatif.specs.SharedBoards.{SharedTakes, SharedAnswers};
+ghost use Rattle.indicatif.specs.Inside.Steps.{stepped};
 ghost use Rattle.indicatif.specs.Inside.Worded.{worded};
 ghost use Rattle.indicatif.specs.Seek.{after_move};
 
 use crate::progress_bar::kept::{Shared, SharedBoard};
 use crate::progress_bar::place::{Place, Seat};
 use crate::progress_bar::single::Single;
+use crate::progress_bar::step::Step;
 use crate::progress_bar::ticker::Ticker;
 use crate::progress_bar::worded::Worded;
 use crate::seek::SeekMax;
@@ -94,14 +96,15 @@ impl<K: Tracks, T: TermLike + Drop, C: Clock + Drop> Held<K, T, C> {
         }
     }
 
-    /// The position goes up.
-    pub fn inc<R: Wait>(&mut self, rt: &R, delta: u64) -> Result<Drawn, Refusal>
-        ensures { PlaceMakes K.means T.view self.old.place (Lone.Obey (Inc delta)) result self.new.place }
+    /// A step of the position.
+    #[inline(always)]
+    pub fn step<R: Wait>(&mut self, rt: &R, step: Step) -> Result<Drawn, Refusal>
+        ensures { PlaceMakes K.means T.view self.old.place (Lone.Obey (stepped step)) result self.new.place }
     {
         let now = self.clock.now();
         match &mut self.place {
-            Place::Alone(bar) => bar.inc(delta, now),
-            Place::On(seat) => seat.tell(rt, BarCommand::Inc(delta), now),
+            Place::Alone(bar) => bar.step(step, now),
+            Place::On(seat) => seat.tell(rt, step.command(), now),
         }
     }
 
@@ -117,7 +120,7 @@ impl<K: Tracks, T: TermLike + Drop, C: Clock + Drop> Held<K, T, C> {
     {
         let position = self.place.read(rt, |state| state.pos());
         let place = seeks.update_seq(position.unwrap_or(0), n);
-        self.tell(rt, BarCommand::SetPosition(place))
+        self.step(rt, Step::To(place))
     }
 
     /// A call with a text.

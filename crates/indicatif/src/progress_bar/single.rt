@@ -2,15 +2,17 @@
 ghost use Rattle.std.specs.Prelude.{◌≡◌, IsTrue, IsFalse};
 ghost use Rattle.std.specs.Fn.{FnOnceReturnsAt};
 ghost use Rattle.indicatif_term.specs.Targets.{term_of};
-ghost use Rattle.indicatif_bar.specs.Commands.{Inc, Update, FinishUsingStyle};
+ghost use Rattle.indicatif_bar.specs.Commands.{Update, FinishUsingStyle};
 ghost use Rattle.indicatif_bar.specs.Lone as Lone;
-ghost use Rattle.indicatif_bar.specs.LoneBars.{record_of, lone_terminal, lone_call_of, CallDone, LoneLeadsBy};
+ghost use Rattle.indicatif_bar.specs.LoneBars.{record_of, lone_terminal, lone_call_of, CallDone, LoneLeadsBy, Obeys};
 ghost use Rattle.indicatif_bar.specs.Progress.{is_finished};
 ghost use Rattle.indicatif_bar.specs.declared.command.Change.{Change as Changed};
 ghost use Rattle.indicatif.specs.Fronts.{SuspendedBy};
 ghost use Rattle.indicatif.specs.Inside.Single.{MadeBy};
+ghost use Rattle.indicatif.specs.Inside.Steps.{stepped};
 ghost use Rattle.indicatif.specs.Inside.Worded.{worded};
 
+use crate::progress_bar::step::Step;
 use crate::progress_bar::worded::Worded;
 use indicatif_bar::lone::{LoneBar, LoneCall};
 use indicatif_bar::state::{BarCommand, BarState, Change, ProgressState};
@@ -56,11 +58,12 @@ impl<K: Tracks, T: TermLike + Drop> Single<K, T> {
         self.bar.call(call, now)
     }
 
-    /// The position goes up: as that call, but not as a value, since a step is made most often.
-    pub fn inc(&mut self, delta: u64, now: Moment) -> Result<Drawn, Refusal>
-        ensures { MadeBy K.means T.view self.old self.new (Lone.Obey (Inc delta)) now result }
+    /// A step of the position, which is made most often: as that call, but not as a value.
+    #[inline(always)]
+    pub fn step(&mut self, step: Step, now: Moment) -> Result<Drawn, Refusal>
+        ensures { MadeBy K.means T.view self.old self.new (Lone.Obey (stepped step)) now result }
     {
-        self.bar.inc(delta, now)
+        step_lone(&mut self.bar, step, now)
     }
 
     /// A call with a text.
@@ -116,6 +119,22 @@ impl<K: Tracks, T: TermLike + Drop> Single<K, T> {
         ensures { result.now ≡ self.now }
     {
         &self.bar
+    }
+}
+
+/// A step of a lone bar.
+#[inline(always)]
+fn step_lone<K: Tracks, T: TermLike + Drop>(
+    bar: &mut LoneBar<K, T>,
+    step: Step,
+    now: Moment,
+) -> Result<Drawn, Refusal>
+    ensures { Obeys K.means T.view bar.old bar.new (stepped step) now result }
+{
+    match step {
+        Step::Up(delta) => bar.inc(delta, now),
+        Step::Down(delta) => bar.dec(delta, now),
+        Step::To(position) => bar.set_position(position, now),
     }
 }
 
