@@ -1,5 +1,6 @@
 //! A board on a terminal in memory whose calls are read while it draws.
-ghost use Rattle.std.specs.Prelude.{List, ℕ};
+ghost use Rattle.std.specs.Prelude.{◌≡◌, ◌+◌, ◌%◌, ◌^◌, List, ℕ, if◌then◌else◌};
+ghost use Rattle.std.specs.Result.{is_err};
 ghost use Rattle.indicatif_term.specs.Calls.{Writes};
 ghost use Rattle.rows.specs.Noted.{noted_view};
 
@@ -47,6 +48,15 @@ impl Noted {
         ensures { (bytes : List ℕ) → Writes bytes (noted_view self.old) (noted_view self.new) result }
     {
         let done = passed(&self.memory, told);
+        self.counted(done)
+    }
+
+    /// Hands on what became of a call, and counts a failure.
+    fn counted(&mut self, done: io::Result<()>) -> io::Result<()>
+        ensures same { result ≡ done }
+        ensures size { (self.new.rows ≡ self.old.rows) × (self.new.cols ≡ self.old.cols) }
+        ensures counts { self.new.faults ≡ (if is_err done then (self.old.faults + 1) % 2 ^ 64 else self.old.faults) }
+    {
         if done.is_err() {
             self.faults = self.faults.wrapping_add(1);
         }
