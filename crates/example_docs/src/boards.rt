@@ -31,6 +31,7 @@ fn print_text(rt: &HostRuntime, name: &str, text: Result<String, Refusal>) -> Re
 fn on_board(rt: &HostRuntime) -> Result<()> {
     let mut board = board_of(rt.alloc())?;
     let board = &mut *board;
+    board.set_move_cursor(true);
     let id = take_in(rt, board)?;
     turn_away(rt.alloc(), board, BarId { mark: 9, number: 0 })?;
     stack(rt.alloc(), board)?;

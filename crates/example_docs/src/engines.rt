@@ -37,6 +37,7 @@ fn drawn(rt: &HostRuntime) -> Result<()> {
     let frame = frame_of(alloc)?;
     println!(rt; "LineType {}", is_fetched(&frame))?;
     let mut engine = Engine::new(alloc, InMemoryTerm::new(alloc, 4, 5)?);
+    engine.set_move_cursor(true);
     engine.draw(&frame, 0, MultiProgressAlignment::Top)?;
     engine.log("done", &frame, MultiProgressAlignment::Top)?;
     println!(rt; "Engine {:?}", engine.term().contents()?.as_str())?;

@@ -21,6 +21,7 @@ fn on_terminal(rt: &HostRuntime) -> Result<()> {
     let mut bar = shown(rt.alloc())?;
     let bar = &mut *bar;
     print_shown(rt, "LoneBar", bar)?;
+    bar.set_move_cursor(true);
     print_drawn(rt, "with_style", restyle(rt.alloc(), bar))?;
     print_drawn(rt, "with_elapsed", put_elapsed(bar))?;
     print_drawn(

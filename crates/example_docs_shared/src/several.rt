@@ -48,6 +48,7 @@ fn joined<R: Shares + Print>(board: &Bars<R>, bar: Bar<R>) -> Result<Bar<R>, Ref
 }
 
 fn one_more<R: Shares + Print>(board: &Bars<R>) -> Result<Bar<R>, Refusal> {
+    board.set_move_cursor(true)?;
     let bar = board.new_bar(100)?;
     Ok(bar)
 }
