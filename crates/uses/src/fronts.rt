@@ -1,11 +1,13 @@
 //! What is known of shared bars and boards, and of lists and pieces that threads work on.
-ghost use Rattle.std.specs.Prelude.{◌≡◌, ◌⊎◌, ◌+◌, ◌*◌, ◌%◌, ◌^◌, IfOk, IfErr, Err};
+ghost use Rattle.std.specs.Prelude.{◌≡◌, ◌⊎◌, ◌<◌, ◌+◌, ◌*◌, ◌%◌, ◌^◌, IfOk, IfErr, IfSome, OnOk, Some, Err, length};
 ghost use Rattle.std.specs.List.{AllZip};
 ghost use Rattle.indicatif_bar.specs.Commands.{Inc};
 ghost use Rattle.indicatif_bar.specs.Lone.{Obey};
 ghost use Rattle.indicatif.specs.Fronts.{CanAnswer};
+ghost use Rattle.indicatif.specs.Moves.{Advance, after_bar_move};
 ghost use Rattle.indicatif.specs.Wrap.{inner_of};
 
+use indicatif::laws::blocks_add_up;
 use indicatif::style::Tracks;
 use indicatif::{
     Clock, Gate, Moves, MultiProgress, ParallelProgressIterator, ProgressBar, ProgressBarIter,
@@ -51,14 +53,18 @@ pub fn next_above<T: TermLike + Drop, C: Clock + Drop, R: Wait + Clone + Drop, K
     next
 }
 
-/// Each number of a list doubled, in order, by threads, whatever bar is moved.
+/// Each number of a list doubled, in order, by threads, whatever bar is moved; one that tells where it stands has gone on by as many
+/// as there are numbers, once each.
 pub fn doubled<R: Threads + Sync, P: Moves>(
     rt: &R,
     alloc: Global,
     list: ProgressBarIter<&[u32], P>,
 ) -> (Result<Vec<u32>, Refusal>, P)
-    ensures { IfOk result.0 (λ made. AllZip (λ x y. y ≡ x * 2 % 2 ^ 32) (inner_of list.entry).now made.items) }
+    ensures numbers { IfOk result.0 (λ made. AllZip (λ x y. y ≡ x * 2 % 2 ^ 32) (inner_of list.entry).now made.items) }
+    ensures bar { OnOk result.0 (IfSome (P.stands list.entry.progress) (λ bar. bar.position < 2 ^ 64 →
+        P.stands result.1 ≡ Some (after_bar_move bar (Advance (length (inner_of list.entry).now))))) }
 {
+    blocks_add_up::<P>();
     list.map_collect(
         rt,
         alloc,
