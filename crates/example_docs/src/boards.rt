@@ -172,14 +172,27 @@ fn answer(rt: &HostRuntime, board: &mut Bars, id: BarId) -> Result<()> {
     Ok(())
 }
 
+/// A copy of a call that draws again.
+fn copied_redraw(alloc: Global) -> Result<Call<NoTracker>, Refusal> {
+    copied(alloc, &Call::Redraw)
+}
+
+fn is_redraw(call: Call<NoTracker>) -> bool {
+    matches!(call, Call::Redraw)
+}
+
+/// A copy of a candidate that is a member.
+fn copied_member() -> Result<Candidate<NoTracker>, Refusal> {
+    copied_candidate(&Candidate::Member(BarId { mark: 1, number: 0 }))
+}
+
+fn is_member(candidate: Candidate<NoTracker>) -> bool {
+    matches!(candidate, Candidate::Member(_))
+}
+
 fn copies(rt: &HostRuntime) -> Result<()> {
-    let call = copied(rt.alloc(), &Call::Redraw)?;
-    println!(rt; "Call::try_clone {}", matches!(call, Call::Redraw))?;
-    let candidate = copied_candidate(&Candidate::Member(BarId { mark: 1, number: 0 }))?;
-    println!(rt;
-        "Candidate::try_clone {}",
-        matches!(candidate, Candidate::Member(_))
-    )?;
+    println!(rt; "Call::try_clone {}", is_redraw(copied_redraw(rt.alloc())?))?;
+    println!(rt; "Candidate::try_clone {}", is_member(copied_member()?))?;
     Ok(())
 }
 
