@@ -284,7 +284,7 @@ impl<T: TermLike + Drop, C: Clock + Drop, R: Wait + Clone + Drop, K: Tracks> Mul
     /// off, and so do logs and clears. On a hidden target this does nothing.
     ///
     /// ```
-    /// multi.set_move_cursor(true)?; // for a terminal that flickers where rows are emptied
+    /// board.set_move_cursor(true)?; // for a terminal that flickers where rows are emptied
     /// ```
     ///
     /// Refused: `RecordedTarget` for a board that keeps its history; nothing has changed then.
