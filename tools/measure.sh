@@ -56,6 +56,9 @@ board_frame 2000
 tick_draw 2000
 board_draw 2000
 board_step 1000
+insert_10 1000
+insert_1000 100
+insert_10000 20
 inc_limited 20000
 inc_clock 20000
 tick_held 20000
