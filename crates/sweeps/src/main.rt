@@ -1,4 +1,4 @@
-//! Plays scripts of calls on terminals of 1 to 4 rows and 1 to 6 columns that fail, at each place where they can, and has them judged.
+//! Plays scripts of calls on terminals that fail, at each place where they can, and has them judged.
 //!
 //! `sweeps` says of each sweep whether all of its runs are as they should be, and `sweeps count` how many runs there are, too.
 //! `sweeps memory SCRIPT` plays one of the scripts `board`, `lone`, `shared`, `loop` and `run` once, for `tools/refusals.sh`, which refuses it an
@@ -19,12 +19,16 @@ mod sweep;
 
 use crate::kinds::Kind;
 use crate::memory::{Growing, Judging, NAMES, Playing};
-use crate::sweep::{Runs, Sweep, Tally};
+use crate::sweep::{Case, Runs, Tally, all_sizes, each_byte, each_call, each_pair, from_each_call};
 use anyhow::{Result, anyhow};
-use judged::judge::Finding;
+use judged::judge::{Finding, Look};
+use judged::record::{Plan, Size};
 use judged::refused::Where;
 use std::env::{self, Env};
 use std::io;
+
+/// The size of most runs.
+const SIZE: Size = Size { rows: 4, cols: 6 };
 
 /// What is said of sweeps.
 #[derive(Clone, Copy, Drop)]
@@ -52,19 +56,23 @@ fn say<R: Print>(rt: &R, telling: Telling, kind: Kind, name: &str, tally: Tally)
     Ok(())
 }
 
-/// All sweeps of a script, on terminals of each size.
+/// All sweeps of a script. Where two calls fail, bytes are looked at behind each call.
 fn swept<R: Runs + Print>(rt: &R, telling: Telling, kind: Kind) -> Result<()> {
-    let sweeps = [
-        Sweep::EachCall,
-        Sweep::EachByte,
-        Sweep::FromEachCall,
-        Sweep::EachPair,
-    ];
-    for sweep in sweeps {
-        let tally = sweep.all_sizes(*rt, kind);
-        say(rt, telling, kind, sweep.name(), tally)?;
-    }
-    Ok(())
+    let case = Case {
+        kind,
+        size: SIZE,
+        plan: Plan::Never,
+        look: Look::AtFailures,
+    };
+    say(rt, telling, kind, "each call fails", each_call(*rt, case))?;
+    say(rt, telling, kind, "each byte fails", each_byte(*rt, case))?;
+    let tally = from_each_call(*rt, case);
+    say(rt, telling, kind, "from each call on all fail", tally)?;
+    let tally = all_sizes(*rt, case);
+    say(rt, telling, kind, "each call fails at each size", tally)?;
+    let look = Look::EachCall;
+    let tally = each_pair(*rt, Case { look, ..case });
+    say(rt, telling, kind, "each two calls fail", tally)
 }
 
 /// The sweep of `bars run`.

@@ -89,66 +89,8 @@ fn whole<R: Runs>(rt: R, case: Case) -> Mark {
     }
 }
 
-/// Where a terminal fails in the runs of a script.
-#[derive(Clone, Copy, Drop)]
-pub enum Sweep {
-    /// At each call, once; it takes nothing.
-    EachCall,
-    /// At each byte, once; what stands before it in its call is taken.
-    EachByte,
-    /// From each call on at all.
-    FromEachCall,
-    /// At each two calls.
-    EachPair,
-}
-
-impl Sweep {
-    /// Its name.
-    pub fn name(self) -> &'static str {
-        match self {
-            Sweep::EachCall => "each call fails",
-            Sweep::EachByte => "each byte fails",
-            Sweep::FromEachCall => "from each call on all fail",
-            Sweep::EachPair => "each two calls fail",
-        }
-    }
-
-    /// Makes the runs on terminals of one to four rows and of one to six columns.
-    pub fn all_sizes<R: Runs>(self, rt: R, kind: Kind) -> Tally {
-        let mut tally = Tally::default();
-        for rows in 1..=4u16 {
-            tally = tally.and(self.all_widths(rt, kind, rows));
-        }
-        tally
-    }
-
-    fn all_widths<R: Runs>(self, rt: R, kind: Kind, rows: u16) -> Tally {
-        let mut tally = Tally::default();
-        for cols in 1..=6u16 {
-            let case = Case {
-                kind,
-                size: Size { rows, cols },
-                plan: Plan::Never,
-                look: Look::AtFailures,
-            };
-            tally = tally.and(self.all(rt, case));
-        }
-        tally
-    }
-
-    /// Makes the runs at one size. Where two calls fail, bytes are looked at behind each call.
-    fn all<R: Runs>(self, rt: R, case: Case) -> Tally {
-        let look = Look::EachCall;
-        match self {
-            Sweep::EachCall => each_call(rt, case),
-            Sweep::EachByte => each_byte(rt, case),
-            Sweep::FromEachCall => from_each_call(rt, case),
-            Sweep::EachPair => each_pair(rt, Case { look, ..case }),
-        }
-    }
-}
-
-fn each_call<R: Runs>(rt: R, case: Case) -> Tally {
+/// Each call fails once, and takes nothing.
+pub fn each_call<R: Runs>(rt: R, case: Case) -> Tally {
     let mut tally = Tally::default();
     for call in 1..=whole(rt, case).calls {
         tally.plays(rt, case.by(Plan::Call(call)), 1);
@@ -156,7 +98,8 @@ fn each_call<R: Runs>(rt: R, case: Case) -> Tally {
     tally
 }
 
-fn each_byte<R: Runs>(rt: R, case: Case) -> Tally {
+/// Each byte fails once: what stands before it in its call is taken.
+pub fn each_byte<R: Runs>(rt: R, case: Case) -> Tally {
     let mut tally = Tally::default();
     for byte in 0..whole(rt, case).bytes {
         tally.plays(rt, case.by(Plan::Byte(byte)), 1);
@@ -164,7 +107,8 @@ fn each_byte<R: Runs>(rt: R, case: Case) -> Tally {
     tally
 }
 
-fn from_each_call<R: Runs>(rt: R, case: Case) -> Tally {
+/// From each call on all fail.
+pub fn from_each_call<R: Runs>(rt: R, case: Case) -> Tally {
     let mut tally = Tally::default();
     for call in 1..=whole(rt, case).calls {
         tally.plays(rt, case.by(Plan::From(call)), u64::MAX);
@@ -172,7 +116,8 @@ fn from_each_call<R: Runs>(rt: R, case: Case) -> Tally {
     tally
 }
 
-fn each_pair<R: Runs>(rt: R, case: Case) -> Tally {
+/// Each two calls fail.
+pub fn each_pair<R: Runs>(rt: R, case: Case) -> Tally {
     let mut tally = Tally::default();
     let calls = whole(rt, case).calls;
     for first in 1..=calls {
@@ -186,6 +131,24 @@ fn with_each_later<R: Runs>(rt: R, case: Case, first: u64, calls: u64) -> Tally 
     let mut tally = Tally::default();
     for second in first.saturating_add(1)..=calls {
         tally.plays(rt, case.by(Plan::Both(first, second)), 2);
+    }
+    tally
+}
+
+/// Each call fails once, on terminals of one to four rows and of one to six columns.
+pub fn all_sizes<R: Runs>(rt: R, case: Case) -> Tally {
+    let mut tally = Tally::default();
+    for rows in 1..=4u16 {
+        tally = tally.and(all_widths(rt, case, rows));
+    }
+    tally
+}
+
+fn all_widths<R: Runs>(rt: R, case: Case, rows: u16) -> Tally {
+    let mut tally = Tally::default();
+    for cols in 1..=6u16 {
+        let size = Size { rows, cols };
+        tally = tally.and(each_call(rt, Case { size, ..case }));
     }
     tally
 }

@@ -1,10 +1,11 @@
 //! What is known of a bar or a board that was lent, by one who doesn't know how it was used before.
-ghost use Rattle.std.specs.Prelude.{◌≡◌, ◌≢◌, ◌⊎◌, ◌+◌, ◌%◌, ◌^◌, ℕ, Some, None, Ok, Err, IfOk, IsTrue, IsFalse, is_some, string_bytes, vec_len};
+ghost use Rattle.std.specs.Prelude.{◌≡◌, ◌≢◌, ◌⊎◌, ◌+◌, ◌%◌, ◌^◌, ℕ, Some, None, Ok, Err, IfOk, IsTrue, IsFalse, is_some, string_bytes, vec_len, if◌then◌else◌};
 ghost use Rattle.std.specs.List.{list_any};
 ghost use Rattle.indicatif_bar.specs.Commands.{BarRecord};
 ghost use Rattle.indicatif_bar.specs.LoneBars.{record_of, lone_terminal};
 ghost use Rattle.indicatif_board.specs.Calls.{acts_on, call_of};
-ghost use Rattle.indicatif_board.specs.Multi.{mark_of, record_at, OtherRecordsStay};
+ghost use Rattle.indicatif_board.specs.Multi.{mark_of, record_at, terminal_of, OtherRecordsStay};
+ghost use Rattle.indicatif_term.specs.Engines.{is_failure};
 
 use indicatif_bar::lone::{LoneBar, LoneCall};
 use indicatif_bar::state::{BarCommand, BarState};
@@ -34,16 +35,31 @@ pub fn say<K: ProgressTracker, T: TermLike + Drop>(
     bar.set_message(text, now)
 }
 
-/// Draws a bar that was lent by force. Whatever was done with it before, where there is nothing to draw on the answer says why.
+/// Draws a bar that was lent by force. Whatever was done with it before: where there is nothing to draw on the answer says why, and
+/// the terminal's faults grow exactly by its failure.
 pub fn draw_lent<K: ProgressTracker, T: TermLike + Drop>(
     bar: &mut LoneBar<K, T>,
     now: Moment,
 ) -> Result<Drawn, Refusal>
     ensures hidden { lone_terminal bar.old ≡ None → result ≡ Ok Drawn.Hidden }
     ensures no_columns { (term : T) → lone_terminal bar.old ≡ Some term → (T.view term).columns ≡ 0 → result ≡ Err Refusal.NoColumns }
+    ensures failed { (term : T) → lone_terminal bar.old ≡ Some term → (next : T) × (lone_terminal bar.new ≡ Some next)
+        × ((T.view next).faults ≡ (if is_failure result then ((T.view term).faults + 1) % 2 ^ 64 else (T.view term).faults)) }
 {
     let _in_some_state = bar.bar();
     bar.force_draw(now)
+}
+
+/// Draws the bars of a board that was lent. Whatever was done with it before, where there is nothing to draw on the answer says why.
+pub fn redraw_lent<K: ProgressTracker, T: TermLike + Drop>(
+    board: &mut Board<K, T>,
+    now: Moment,
+) -> Result<Drawn, Refusal>
+    ensures hidden { terminal_of board.old ≡ None → result ≡ Ok Drawn.Hidden }
+    ensures no_columns { (term : T) → terminal_of board.old ≡ Some term → (T.view term).columns ≡ 0 → result ≡ Err Refusal.NoColumns }
+{
+    let _in_some_state = board.order();
+    board.redraw(now)
 }
 
 /// Whether something of a text may have been written above the bar; if not, the terminal is as it was.

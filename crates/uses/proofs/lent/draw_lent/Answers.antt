@@ -1,6 +1,9 @@
 use Rattle.std.proofs.Common.{ap, subst, false, Some, option_map}
 use Rattle.indicatif_bar.specs.Machines.{target_of}
-use Rattle.uses.proofs.LentLemmas.{Forces, forced_hidden, forced_narrow}
+use Rattle.indicatif_bar.specs.Lone.{Obey}
+use Rattle.indicatif_bar.specs.Commands.{ForceDraw}
+use Rattle.indicatif_bar.specs.LoneBars.{lone_terminal}
+use Rattle.uses.proofs.LentLemmas.{Forces, forced_hidden, forced_narrow, lent_faults}
 use Rattle.uses.proofs.lent.draw_lent.Goals as goal
 
 pub returns-clause-hidden : goal.returns-clause-hidden
@@ -20,3 +23,9 @@ returns-clause-no_columns g c = λ term there narrow.
     let led = subst (λ o. Forces m c.args.now s.0 made.0 c.force_draw.result (target_of o)) (ap (option_map view) there) made.2.leads in
     forced_narrow m c.args.now s.0 made.0 c.force_draw.result (view term).rows
     (subst (λ w. Forces m c.args.now s.0 made.0 c.force_draw.result (record { hidden = false; columns = w; rows = (view term).rows })) narrow led)
+
+pub returns-clause-failed : goal.returns-clause-failed
+returns-clause-failed g c =
+    let s = c.bar-in_some_state.ensures.some in
+    let made = c.force_draw.ensures.leads s.0 s.1 in
+    lent_faults g.K.ProgressTracker.means g.T.TermLike.view (lone_terminal c.args.bar.now) (lone_terminal c.force_draw.new.self) (Obey ForceDraw, c.args.now) s.0 made.0 c.force_draw.result made.2
