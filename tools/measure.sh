@@ -55,6 +55,9 @@ log_draw 4000
 board_frame 2000
 tick_draw 2000
 board_draw 2000
+insert_10 1000
+insert_1000 100
+insert_10000 20
 inc_limited 20000
 inc_clock 20000
 wrap_iter 20000

@@ -1,4 +1,4 @@
-//! Drawings of bars on a board, on a terminal of 24 rows and 80 columns.
+//! Drawings of bars on a board, on a terminal of 24 rows and 80 columns; and bars taken in.
 use crate::measured::{Made, Measured, Work, measure};
 use crate::shown::{Sink, drawn_on, terminal};
 use anyhow::Result;
@@ -87,4 +87,46 @@ pub fn board_draw(rt: &HostRuntime, count: u64) -> Result<Measured> {
     take_in_ten(rt.alloc(), &mut board)?;
     draw_ten(&mut board)?;
     measure(rt, &mut *board, count)
+}
+
+/// Bars on a board, before which another is taken in, and taken out again.
+#[derive(Drop)]
+struct Entered {
+    alloc: Global,
+    shown: ShownBoard,
+}
+
+/// A bar taken in at the head, and out again. Nothing is drawn.
+impl Work for Entered {
+    #[inline(always)]
+    fn once(&mut self, turn: u64) -> Result<(), Refusal> {
+        match self.shown.board.insert(0, bar_at(self.alloc, turn)?) {
+            Ok(id) => {
+                self.shown.board.remove(id)?;
+                Ok(())
+            }
+            Err(turned) => Err(refusal(turned)),
+        }
+    }
+
+    fn made(&self) -> Made {
+        drawn_on(self.shown.board.term())
+    }
+}
+
+/// Takes so many bars in.
+fn take_in(alloc: Global, board: &mut ShownBoard, bars: u64) -> Result<(), Refusal> {
+    for position in 0..bars {
+        board.add(bar_at(alloc, position)?)?;
+    }
+    Ok(())
+}
+
+/// Bars taken in at the head of a board of so many, each of them taken out again.
+pub fn board_insert(rt: &HostRuntime, count: u64, bars: u64) -> Result<Measured> {
+    let alloc = rt.alloc();
+    let shown = ShownBoard::new(alloc);
+    let mut entered = Box::new(alloc, Entered { alloc, shown })?;
+    take_in(alloc, &mut entered.shown, bars)?;
+    measure(rt, &mut *entered, count)
 }

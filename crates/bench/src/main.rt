@@ -9,7 +9,7 @@
 //! - `terminal_benches`: the cell terminal.
 //! - `shown`: a bar on a terminal.
 //! - `draw_benches`: drawings of a bar and of a board's frame.
-//! - `board_benches`: drawings of bars on a board.
+//! - `board_benches`: drawings of bars on a board, and bars taken in.
 //! - `command_benches`: steps of a bar.
 //! - `wrap_benches`: a loop with a bar.
 //! - `thread_benches`: bars that are shared, and work in several threads.
@@ -75,6 +75,9 @@ fn drawn_by(rt: &HostRuntime, name: &str, count: u64) -> Result<Measured> {
         "board_frame" => draw_benches::board_frame(rt, count),
         "tick_draw" => draw_benches::tick_draw(rt, count),
         "board_draw" => board_benches::board_draw(rt, count),
+        "insert_10" => board_benches::board_insert(rt, count, 10),
+        "insert_1000" => board_benches::board_insert(rt, count, 1000),
+        "insert_10000" => board_benches::board_insert(rt, count, 10_000),
         "inc_limited" => command_benches::inc_limited(rt, count),
         "inc_clock" => command_benches::inc_clock(rt, count),
         "wrap_iter" => wrap_benches::wrap_iter(rt, count),

@@ -7,6 +7,7 @@ use Rattle.indicatif_board.specs.Slots.{SlotTable, occurrences}
 use Rattle.indicatif_board.specs.declared.members.Member.{Member as MemberValue}
 use Rattle.indicatif_board.proofs.MemberLemmas.{taken_holds, inserted_bars}
 use Rattle.indicatif_board.proofs.BarRecordLemmas.{evenly, record_none, taken_record, taken_others}
+use Rattle.indicatif_board.proofs.SeatLemmas.{slot_taken}
 use Rattle.indicatif_board.proofs.shown_bars.ShownBars.take_in.Goals as goal
 
 pub invariant_of-self-2-clause-seated : goal.invariant_of-self-2-clause-seated
@@ -29,7 +30,7 @@ returns-clause-taken g c = λ s spot holds here.
           (is_bottom b.alignment) b.limiter s spot c.args.at c.args.bar c.new-lines.result
           (subst (λ n. Holds b.frame.items b.members.items n (is_bottom b.alignment) b.limiter s) (sym c.in-Ok.ensures.number) holds) here c.new-lines.ensures.items
           (c.put_at-2.ensures ∙ ap (λ xs. insert xs c.args.at (record { bar = number; lines = c.new-lines.result })) c.reserve-2.ensures.items)
-          (c.put_at.ensures ∙ ap (λ xs. insert xs c.args.at (record { bar = c.args.bar; dropped = false })) c.reserve.ensures.items)
+          (c.put_at.ensures ∙ ap (insert b.members.items c.args.at) c.in-Ok-new.ensures ∙ ap (λ xs. insert xs c.args.at (record { bar = c.args.bar; dropped = false })) c.reserve.ensures.items)
           (ap (λ (t : SlotTable). t.made) c.in-Ok.ensures.inserted ∙ ap (λ n. n + 1) (sym c.in-Ok.ensures.number)),
     )
 
@@ -47,3 +48,10 @@ returns-clause-records g c =
       taken_record number c.args.at b.table.order b.members.items even c.insert.new.self.order c.put_at.new.items.items item order members none within,
       taken_others number c.args.at b.table.order b.members.items even c.insert.new.self.order c.put_at.new.items.items item order members within,
     )
+
+pub returns-clause-slot : goal.returns-clause-slot
+returns-clause-slot g c =
+    let b = c.args.self.now in
+    let even = evenly b.frame.items b.table.order b.members.items (omega (arith, b.even, b.members.ok, b.frame.ok)) b.seated in
+    let within : c.args.at ≤ length b.table.order = omega (arith, c.requires.within, even, b.members.ok) in
+    slot_taken b.table c.insert.new.self c.in-Ok.number c.args.at c.in-Ok.ensures.seated c.in-Ok.ensures.inserted c.in-Ok.ensures.number within
