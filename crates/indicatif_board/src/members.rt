@@ -1,5 +1,5 @@
 //! The members of a board: bars in their order, with their lines beside them.
-ghost use Rattle.std.specs.Prelude.{◌≡◌, ◌<◌, ◌≤◌, ◌+◌, ◌++◌, ◌⊎◌, ◌↔◌, true, drop, length, vec_len, vec_capacity, ◌==◌, Err, IfOk, IfErr, OnErr, IsTrue, IsFalse, MatchResult};
+ghost use Rattle.std.specs.Prelude.{◌≡◌, ◌<◌, ◌≤◌, ◌+◌, ◌++◌, ◌⊎◌, ◌↔◌, true, false, drop, length, vec_len, vec_capacity, ◌==◌, Err, IfOk, IfErr, OnErr, IsTrue, IsFalse, MatchResult};
 ghost use Rattle.std.specs.List.{insert, prefix_len, position_or_len};
 ghost use Rattle.indicatif_bar.specs.Progress.{is_finished};
 ghost use Rattle.indicatif_bar.specs.Commands.{FinishUsingStyle, command_of, obeyed, after_drop, takes_memory, is_beyond_clock};

@@ -44,3 +44,8 @@ loop-worker-preserved c =
           (subst (All (λ w. w.account.seen ≤ most)) (sym split) (All-cons (λ w. w.account.seen ≤ most) c.in-Some.worker (into_iter_items c.next-in-loop-worker.new.self) (omega (arith, both)) others))
           (omega (arith, both)),
     )
+
+pub join-all-requires-clause-other_of : goal.join-all-requires-clause-other_of
+join-all-requires-clause-other_of c =
+    let split : into_iter_items c.loop-worker.worker-iterator ≡ c.in-Some.worker ∷ into_iter_items c.next-in-loop-worker.new.self = search rules in
+    All-head (λ w. w.adds_to ≡ c.args.done.now) _ _ (All-same (λ w. w.adds_to ≡ c.args.done.now) _ _ (sym split) c.loop-worker.invariant.1)
