@@ -1,6 +1,6 @@
-//! Lists, block by block.
+//! Lists in threads: a bar stops behind each block, and moves within one.
 use crate::stepped::bar_at;
-use indicatif::ParallelProgressIterator;
+use indicatif::{Drawn, Moves, ParallelProgressIterator, Refusal};
 use std::alloc::{AllocError, Global};
 use std::sync::atomic::{AtomicU64, Ordering};
 use std::test::Fail;
@@ -15,6 +15,19 @@ fn numbers(alloc: Global, count: u32) -> Result<Vec<u32>, AllocError> {
     Ok(items)
 }
 
+/// Whether a bar that made these steps stood at each of these places, and at the last one in the end.
+fn stood_at(steps: &[u64], places: &[u64]) -> bool {
+    let mut position: u64 = 0;
+    let mut passed = 0usize;
+    for step in steps {
+        position = position.wrapping_add(*step);
+        if places.get(passed) == Some(&position) {
+            passed = passed.saturating_add(1);
+        }
+    }
+    passed == places.len() && places.last().is_none_or(|place| *place == position)
+}
+
 #[test]
 fn ten_thousand_items_are_three_blocks(rt: HostRuntime) -> Result<(), Fail> {
     let items = numbers(rt.alloc(), 10_000)?;
@@ -25,7 +38,7 @@ fn ten_thousand_items_are_three_blocks(rt: HostRuntime) -> Result<(), Fail> {
     for (k, x) in made.iter().enumerate() {
         assert_eq!(rt; *x as usize, k.wrapping_mul(2));
     }
-    assert!(rt; bar.steps.as_slice() == [4096, 4096, 1808].as_slice());
+    assert!(rt; stood_at(bar.steps.as_slice(), &[4096, 8192, 10_000]));
     assert_eq!(rt; bar.position, 10_000);
     assert!(rt; !bar.finished);
     Ok(())
@@ -38,7 +51,8 @@ fn a_shorter_list_moves_by_tenths(rt: HostRuntime) -> Result<(), Fail> {
     let list = items.as_slice().progress_with(bar_at(rt.alloc(), 0));
     let (made, bar) = list.map_collect(&rt, rt.alloc(), |x: &u32| *x);
     assert!(rt; made? == items);
-    assert!(rt; bar.steps.as_slice() == [200; 10].as_slice());
+    let places = [200, 400, 600, 800, 1000, 1200, 1400, 1600, 1800, 2000];
+    assert!(rt; stood_at(bar.steps.as_slice(), &places));
     Ok(())
 }
 
@@ -67,7 +81,7 @@ fn pieces_of_a_list_run_at_the_same_time(rt: HostRuntime) -> Result<(), Fail> {
     let (made, bar) = list.map_collect(&rt, rt.alloc(), |item: &usize| meets(&begun, *item));
     let both = made?.as_slice() == [true, true].as_slice();
     assert!(rt; both || !has_processors(&rt));
-    assert!(rt; bar.steps.as_slice() == [2].as_slice() || !has_processors(&rt));
+    assert_eq!(rt; bar.position, 2);
     Ok(())
 }
 
@@ -112,7 +126,7 @@ fn a_whole_block_and_one_item_more(rt: HostRuntime) -> Result<(), Fail> {
     let list = items.as_slice().progress_with(bar_at(rt.alloc(), 0));
     let (made, bar) = list.map_collect(&rt, rt.alloc(), |x: &u32| *x);
     assert!(rt; made? == items);
-    assert!(rt; bar.steps.as_slice() == [4096, 1].as_slice());
+    assert!(rt; stood_at(bar.steps.as_slice(), &[4096, 4097]));
     Ok(())
 }
 
@@ -127,11 +141,12 @@ fn a_million_items(rt: HostRuntime) -> Result<(), Fail> {
     for (k, x) in made.iter().enumerate() {
         assert_eq!(rt; *x as usize, k.wrapping_mul(2));
     }
-    assert_eq!(rt; bar.steps.len(), 245);
-    assert_eq!(rt; bar.steps[0], 4096);
-    assert_eq!(rt; bar.steps[243], 4096);
-    assert_eq!(rt; bar.steps[244], 576);
-    assert_eq!(rt; bar.position, 1_000_000);
+    let mut places = Vec::new(rt.alloc());
+    for block in 1..245u64 {
+        places.push(block.wrapping_mul(4096))?;
+    }
+    places.push(1_000_000)?;
+    assert!(rt; stood_at(bar.steps.as_slice(), places.as_slice()));
     Ok(())
 }
 
@@ -162,7 +177,67 @@ fn each_item_is_met_once(rt: HostRuntime) -> Result<(), Fail> {
         times.fetch_add(1, Ordering::SeqCst);
     });
     assert_eq!(rt; answer, Ok(()));
-    assert!(rt; bar.steps.as_slice() == [4096, 4096, 1808].as_slice());
+    assert!(rt; stood_at(bar.steps.as_slice(), &[4096, 8192, 10_000]));
     assert!(rt; are_met_once(met.as_slice()));
+    Ok(())
+}
+
+/// A bar that tells the threads that it has moved.
+#[derive(Drop)]
+struct Telling<'a> {
+    moved: &'a AtomicU64,
+    position: u64,
+}
+
+impl Moves for Telling<'_> {
+    fn advance(&mut self, n: u64) -> Result<Drawn, Refusal> {
+        self.position = self.position.wrapping_add(n);
+        self.moved.store(self.position, Ordering::SeqCst);
+        Ok(Drawn::Limited)
+    }
+
+    fn place(&mut self, place: u64) -> Result<Drawn, Refusal> {
+        self.position = place;
+        Ok(Drawn::Limited)
+    }
+
+    fn finish(&mut self) -> Result<Drawn, Refusal> {
+        Ok(Drawn::Limited)
+    }
+
+    fn position(&self) -> u64 {
+        self.position
+    }
+
+    fn finished(&self) -> bool {
+        false
+    }
+}
+
+/// Whether the bar moves before so many turns are over.
+fn sees_a_move(moved: &AtomicU64) -> bool {
+    for _ in 0..TURNS.saturating_mul(100) {
+        if moved.load(Ordering::SeqCst) > 0 {
+            return true;
+        }
+    }
+    false
+}
+
+/// The second of two items isn't done until the bar has moved: it moves while the threads work, within a block.
+#[test]
+fn a_bar_moves_within_a_block(rt: HostRuntime) -> Result<(), Fail> {
+    let items = [0usize, 1];
+    let moved = AtomicU64::new(0);
+    let bar = Telling {
+        moved: &moved,
+        position: 0,
+    };
+    let list = items.as_slice().progress_with(bar);
+    let (made, bar) = list.map_collect(&rt, rt.alloc(), |item: &usize| {
+        *item == 0 || sees_a_move(&moved)
+    });
+    assert!(rt; made?.as_slice() == [true, true].as_slice());
+    assert_eq!(rt; bar.position, 2);
     Ok(())
 }
