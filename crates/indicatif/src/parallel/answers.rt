@@ -1,5 +1,5 @@
 //! What threads answer at the items of a list.
-ghost use Rattle.std.specs.Prelude.{◌≡◌, ◌≤◌, ◌<◌, ◌++◌, [], ℕ, IfOk, IfErr, OnOk, MatchResult, length, vec_capacity};
+ghost use Rattle.std.specs.Prelude.{◌≡◌, ◌≤◌, ◌<◌, ◌++◌, [], ℕ, IfOk, IfErr, OnOk, IsOkAnd, length, vec_capacity};
 ghost use Rattle.std.specs.List.{AllZip};
 ghost use Rattle.std.specs.Fn.{FnReturnsAt};
 ghost use Rattle.std.specs.Thread.{IsSync, IsSend};
@@ -47,7 +47,7 @@ fn met_by_all<R: Threads + Sync, T: Sync, A: Send + Drop, F: Fn(&T) -> A + Sync,
     requires front { course.done ≡ 0 }
     ensures list { IfOk result.0 (λ made. AllZip (FnReturnsAt F.Fn f.now) items.now made.items) }
     ensures memory { IfErr result.0 (λ e. e ≡ Refusal.Memory) }
-    ensures course { GoesOn P.stands P.leads course result.1 }
+    ensures course { GoesOn P.stands P.leads course.done course.bar result.1.done result.1.bar }
     ensures within { result.1.done ≤ length items.now }
 {
     let Ok(room) = Vec::with_capacity(alloc, items.len()) else {
@@ -61,7 +61,7 @@ fn met_by_all<R: Threads + Sync, T: Sync, A: Send + Drop, F: Fn(&T) -> A + Sync,
     { mapped(rt, alloc, others, tally, f) };
     let mine = move || -> (Vec<A>, Course<P>)
         requires { F.IsAlwaysCallable f.now × (room.items ≡ []) × (length own.items.now ≤ vec_capacity room) × (course.done ≤ tally.now.items) }
-        ensures { AllZip (FnReturnsAt F.Fn f.entry.now) own.items.now result.0.items × GoesOn P.stands P.leads course result.1 × (result.1.done ≤ tally.entry.now.items) }
+        ensures { AllZip (FnReturnsAt F.Fn f.entry.now) own.items.now result.0.items × GoesOn P.stands P.leads course.done course.bar result.1.done result.1.bar × (result.1.done ≤ tally.entry.now.items) }
     { own_answers(room, own.items, tally, f, course) };
     let (others, (made, course)) = join(rt, theirs, mine);
     (joined(made, others), course)
@@ -69,11 +69,12 @@ fn met_by_all<R: Threads + Sync, T: Sync, A: Send + Drop, F: Fn(&T) -> A + Sync,
 
 // One's own answers, and behind them those of others.
 fn joined<A: Drop>(mine: Vec<A>, theirs: Result<Vec<A>, AllocError>) -> Result<Vec<A>, Refusal>
-    ensures items { IfOk result (λ made. MatchResult theirs (λ others. made.items ≡ mine.items ++ others.items) (λ _. ⊥)) }
+    ensures items { IfOk result (λ made. IsOkAnd theirs (λ others. made.items ≡ mine.items ++ others.items)) }
     ensures memory { IfErr result (λ e. e ≡ Refusal.Memory) }
 {
     let mut made = mine;
-    made.append(&mut theirs?)?;
+    let mut rest = theirs?;
+    made.append(&mut rest)?;
     Ok(made)
 }
 
@@ -90,7 +91,7 @@ fn own_answers<T, A: Drop, F: Fn(&T) -> A, P: Moves>(
     requires wide { length items.now ≤ vec_capacity room }
     requires within { course.done ≤ tally.now.items }
     ensures list { AllZip (FnReturnsAt F.Fn f.now) items.now result.0.items }
-    ensures course { GoesOn P.stands P.leads course result.1 }
+    ensures course { GoesOn P.stands P.leads course.done course.bar result.1.done result.1.bar }
     ensures within { result.1.done ≤ tally.now.items }
 {
     let mut made = room;
@@ -130,9 +131,10 @@ fn mapped<R: Threads + Sync, T: Sync, A: Send + Drop, F: Fn(&T) -> A + Sync>(
         requires { IsSync R.row × IsSync T.row × IsSync F.row × IsSend A.row × F.IsAlwaysCallable f.now }
         ensures { IfOk result (λ made. AllZip (FnReturnsAt F.Fn f.entry.now) back.items.now made.items) }
     { mapped(rt, alloc, back, tally, f) };
-    let (front, back) = join(rt, first, second);
-    let mut made = front?;
-    made.append(&mut back?)?;
+    let (a, b) = join(rt, first, second);
+    let mut made = a?;
+    let mut rest = b?;
+    made.append(&mut rest)?;
     Ok(made)
 }
 

@@ -58,7 +58,7 @@ impl<P: Moves> Course<P> {
         requires before { self.old.done < item }
         ensures farther { self.old.done < self.new.done }
         ensures within { self.new.done ≤ item }
-        ensures goes { GoesOn P.stands P.leads self.old self.new }
+        ensures goes { GoesOn P.stands P.leads self.old.done self.old.bar self.new.done self.new.bar }
     {
         let left = self.block - self.done % self.block;
         let n = left.min(item - self.done);
@@ -70,7 +70,7 @@ impl<P: Moves> Course<P> {
     pub fn reach(&mut self, item: usize)
         ensures reached { self.old.done ≤ item → self.new.done ≡ item }
         ensures farther { item ≤ self.old.done → self.new.done ≡ self.old.done }
-        ensures goes { GoesOn P.stands P.leads self.old self.new }
+        ensures goes { GoesOn P.stands P.leads self.old.done self.old.bar self.new.done self.new.bar }
     {
         while self.done < item {
             self.step(item);

@@ -35,7 +35,7 @@ fn visited_by_all<R: Threads + Sync, T: Sync, F: Fn(&T) + Sync, P: Moves>(
 ) -> Course<P>
     requires callable { F.IsAlwaysCallable f.now }
     requires front { course.done ≡ 0 }
-    ensures course { GoesOn P.stands P.leads course result }
+    ensures course { GoesOn P.stands P.leads course.done course.bar result.done result.bar }
     ensures within { result.done ≤ length items.now }
 {
     let tally = &Tally::new(items.len());
@@ -45,7 +45,7 @@ fn visited_by_all<R: Threads + Sync, T: Sync, F: Fn(&T) + Sync, P: Moves>(
     { visited(rt, others, tally, f) };
     let mine = move || -> Course<P>
         requires { F.IsAlwaysCallable f.now × (course.done ≤ tally.now.items) }
-        ensures { GoesOn P.stands P.leads course result × (result.done ≤ tally.entry.now.items) }
+        ensures { GoesOn P.stands P.leads course.done course.bar result.done result.bar × (result.done ≤ tally.entry.now.items) }
     { own_visits(own.items, tally, f, course) };
     let (_, course) = join(rt, theirs, mine);
     course
@@ -60,7 +60,7 @@ fn own_visits<T, F: Fn(&T), P: Moves>(
 ) -> Course<P>
     requires callable { F.IsAlwaysCallable f.now }
     requires within { course.done ≤ tally.now.items }
-    ensures course { GoesOn P.stands P.leads course result }
+    ensures course { GoesOn P.stands P.leads course.done course.bar result.done result.bar }
     ensures within { result.done ≤ tally.now.items }
 {
     let mut course = course;

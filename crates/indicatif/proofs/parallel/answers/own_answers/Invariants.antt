@@ -9,5 +9,5 @@ invariant-loop-item g l =
     (length l.fn.items ≤ vec_capacity l.made)
     × (length l.made.items ≡ l.item-index)
     × AllZip (FnReturnsAt g.F.Fn l.fn.f) (take l.item-index l.fn.items) l.made.items
-    × GoesOn g.P.Moves.stands g.P.Moves.leads l.fn.course l.course
+    × GoesOn g.P.Moves.stands g.P.Moves.leads l.fn.course.done l.fn.course.bar l.course.done l.course.bar
     × (l.course.done ≤ l.fn.tally.items)
