@@ -1,4 +1,4 @@
-//! Plays scripts of calls on terminals of 1 to 4 rows and 1 to 6 columns that fail, at each place where they can, and has them judged.
+//! Plays scripts of calls on terminals that fail, at each place where they can, and has them judged.
 //!
 //! `sweeps` says of each sweep whether all of its runs are as they should be, and `sweeps count` how many runs there are, too.
 //! `sweeps memory SCRIPT` plays one of the scripts `board`, `lone`, `shared`, `loop` and `run` once, for `tools/refusals.sh`, which refuses it an
@@ -52,7 +52,7 @@ fn say<R: Print>(rt: &R, telling: Telling, kind: Kind, name: &str, tally: Tally)
     Ok(())
 }
 
-/// All sweeps of a script, on terminals of each size.
+/// All sweeps of a script.
 fn swept<R: Runs + Print>(rt: &R, telling: Telling, kind: Kind) -> Result<()> {
     let sweeps = [
         Sweep::EachCall,
@@ -61,7 +61,7 @@ fn swept<R: Runs + Print>(rt: &R, telling: Telling, kind: Kind) -> Result<()> {
         Sweep::EachPair,
     ];
     for sweep in sweeps {
-        let tally = sweep.all_sizes(*rt, kind);
+        let tally = sweep.played(*rt, kind);
         say(rt, telling, kind, sweep.name(), tally)?;
     }
     Ok(())

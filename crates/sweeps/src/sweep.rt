@@ -106,15 +106,22 @@ impl Sweep {
     /// Its name.
     pub fn name(self) -> &'static str {
         match self {
-            Sweep::EachCall => "each call fails",
-            Sweep::EachByte => "each byte fails",
-            Sweep::FromEachCall => "from each call on all fail",
+            Sweep::EachCall => "each call fails at each size",
+            Sweep::EachByte => "each byte fails at each size",
+            Sweep::FromEachCall => "from each call on all fail at each size",
             Sweep::EachPair => "each two calls fail",
         }
     }
 
-    /// Makes the runs on terminals of one to four rows and of one to six columns.
-    pub fn all_sizes<R: Runs>(self, rt: R, kind: Kind) -> Tally {
+    /// Makes the runs: on terminals of one to four rows and of one to six columns, of two calls on one of four rows and six columns.
+    pub fn played<R: Runs>(self, rt: R, kind: Kind) -> Tally {
+        match self {
+            Sweep::EachPair => self.at(rt, kind, Size { rows: 4, cols: 6 }),
+            _ => self.all_sizes(rt, kind),
+        }
+    }
+
+    fn all_sizes<R: Runs>(self, rt: R, kind: Kind) -> Tally {
         let mut tally = Tally::default();
         for rows in 1..=4u16 {
             tally = tally.and(self.all_widths(rt, kind, rows));
@@ -125,19 +132,19 @@ impl Sweep {
     fn all_widths<R: Runs>(self, rt: R, kind: Kind, rows: u16) -> Tally {
         let mut tally = Tally::default();
         for cols in 1..=6u16 {
-            let case = Case {
-                kind,
-                size: Size { rows, cols },
-                plan: Plan::Never,
-                look: Look::AtFailures,
-            };
-            tally = tally.and(self.all(rt, case));
+            tally = tally.and(self.at(rt, kind, Size { rows, cols }));
         }
         tally
     }
 
     /// Makes the runs at one size. Where two calls fail, bytes are looked at behind each call.
-    fn all<R: Runs>(self, rt: R, case: Case) -> Tally {
+    fn at<R: Runs>(self, rt: R, kind: Kind, size: Size) -> Tally {
+        let case = Case {
+            kind,
+            size,
+            plan: Plan::Never,
+            look: Look::AtFailures,
+        };
         let look = Look::EachCall;
         match self {
             Sweep::EachCall => each_call(rt, case),
