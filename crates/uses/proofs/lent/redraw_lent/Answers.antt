@@ -1,4 +1,4 @@
-use Rattle.std.proofs.Common.{ap, subst, false, Some, option_map}
+use Rattle.std.proofs.Common.{ap, subst, false, option_map}
 use Rattle.indicatif_bar.specs.Machines.{target_of}
 use Rattle.indicatif_board.specs.Multi.{mark_of}
 use Rattle.uses.proofs.LentLemmas.{Redraws, redrawn_hidden, redrawn_narrow}
