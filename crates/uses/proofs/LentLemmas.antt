@@ -1,26 +1,21 @@
--- What one step makes of a bar's position; what a forced draw answers where there is nothing to draw on, or memory is refused; and
--- how often a terminal has failed after it.
-use Rattle.std.proofs.Common.{◌≡◌, ℕ, ◌+◌, ◌%◌, ◌^◌, Bool, true, false, refl, sym, ◌∙◌, ap, subst, inl, inr, option_map, Option, Some, None, Result, Ok, Err, List, [], ◌∷◌, map, chars, if◌then◌else◌}
-use Rattle.std.specs.Prelude.{◌==◌, MatchOption}
-use Rattle.std.specs.List.{list_any}
-use Rattle.std.proofs.lemmas.Bool.{cases_Bool, false≢true}
-use Rattle.indicatif_text.specs.Columns.{has_wide}
+-- What one step makes of a bar's position; what a draw answers where there is nothing to draw on; and how often a terminal has
+-- failed after a call.
+use Rattle.std.proofs.Common.{◌≡◌, ℕ, ◌+◌, ◌%◌, ◌^◌, Bool, true, false, refl, sym, ◌∙◌, ap, subst, inl, inr, option_map, Option, Some, None, Result, Ok, Err, if◌then◌else◌}
+use Rattle.std.specs.Prelude.{MatchOption}
+use Rattle.std.proofs.lemmas.Bool.{false≢true}
 use Rattle.indicatif_text.specs.declared.refusal.Refusal.{Refusal}
-use Rattle.indicatif_text.specs.declared.refusal.Refusal.TheVariants.{NoColumns, TooWide, Memory}
+use Rattle.indicatif_text.specs.declared.refusal.Refusal.TheVariants.{NoColumns}
 use Rattle.indicatif_text.specs.declared.refusal.Drawn.{Drawn}
-use Rattle.indicatif_text.specs.declared.refusal.Drawn.TheVariants.{Yes, Limited, Hidden}
+use Rattle.indicatif_text.specs.declared.refusal.Drawn.TheVariants.{Hidden}
 use Rattle.indicatif_term.specs.Calls.{TermView}
 use Rattle.indicatif_term.specs.Engines.{is_failure}
 use Rattle.indicatif_bar.specs.Machines.{Target, Leads, drawn_by}
 use Rattle.indicatif_bar.specs.Runs.{CallMade, WritesLines, deed_on, lines_by}
-use Rattle.indicatif_bar.specs.Kinds.{Frame, has_line, lines_to_write}
-use Rattle.indicatif_bar.specs.Bars.{bar_kind, lines_of_bar, lines_take_memory}
-use Rattle.indicatif_bar.specs.Lone.{LoneState, LoneCall, Obey, lone_frame}
+use Rattle.indicatif_bar.specs.Lone.{LoneState, LoneCall, Obey}
 use Rattle.indicatif_bar.specs.LoneBars.{lone_bar}
 use Rattle.indicatif_bar.specs.declared.state.Ask.{Ask}
 use Rattle.indicatif_bar.specs.declared.state.Ask.TheVariants.{No}
 use Rattle.indicatif_bar.specs.Trackers.{Tracking}
-use Rattle.indicatif_bar.specs.Progress.{is_hidden}
 use Rattle.indicatif_bar.specs.PositionLimiters.{allow_position}
 use Rattle.indicatif_bar.specs.Commands.{BarRecord, Command, Inc, ForceDraw, obeyed, tick, ticker_tick}
 use Rattle.indicatif_board.specs.BoardBars.{board_bars}
@@ -64,23 +59,6 @@ nowhere = record { hidden = true; columns = 0; rows = 0 }
 abbrev pub without_columns : ℕ → Target
 without_columns rows = record { hidden = false; columns = 0; rows = rows }
 
--- the outcome of a draw that is forced, on a target that is hidden or has no columns or not, of lines that are too wide or not
-abbrev forced : {S : Type 0} → Bool → Bool → Bool → S → S → S → S → Result Drawn Refusal × S
-forced h z w a b c d = if h then (Ok Hidden, a) else if z then (Err NoColumns, b) else if w then (Err TooWide, c) else (Ok Yes, d)
-
--- no limiter holds it back, and it isn't want of memory
-unlimited : {S : Type 0} (h z w : Bool) (a b c d : S) → (forced h z w a b c d).0 ≡ Ok Limited → ⊥
-unlimited true z w a b c d e = absurd (cc e)
-unlimited false true w a b c d e = absurd (cc e)
-unlimited false false true a b c d e = absurd (cc e)
-unlimited false false false a b c d e = absurd (cc e)
-
-unrefused : {S : Type 0} (h z w : Bool) (a b c d : S) → (forced h z w a b c d).0 ≡ Err Memory → ⊥
-unrefused true z w a b c d e = absurd (cc e)
-unrefused false true w a b c d e = absurd (cc e)
-unrefused false false true a b c d e = absurd (cc e)
-unrefused false false false a b c d e = absurd (cc e)
-
 module _ {K : Type 0} (m : Tracking K) (now : ℕ) (s next : LoneState (BarRecord K)) (answer : Result Drawn Refusal) where
   -- a forced draw led there on a target
   abbrev pub Forces : Target → Type 0
@@ -97,39 +75,6 @@ module _ {K : Type 0} (m : Tracking K) (now : ℕ) (s next : LoneState (BarRecor
   forced_narrow rows (inl made) = ap (λ o. o.0) made
   forced_narrow rows (inr (inl short)) = elim short.1 [ inl text ↦ absurd (false≢true text.0) | inr lines ↦ absurd (false≢true lines.0) ]
   forced_narrow rows (inr (inr broken)) = absurd (let q = broken.2.0 in cc q)
-
-  -- a hidden bar has no lines, and they take no memory
-  hidden_takes : (bar : BarRecord K) → is_hidden bar.progress ≡ true → lines_take_memory bar ≡ false
-  hidden_takes bar gone = rw gone refl
-
-  hidden_lines : (bar : BarRecord K) (columns : ℕ) → is_hidden bar.progress ≡ true → lines_of_bar m bar now columns ≡ []
-  hidden_lines bar columns gone = rw gone refl
-
-  hidden_rows : (columns : ℕ) → is_hidden s.bar.progress ≡ true → has_line (record { bar = 0; lines = map chars (lines_of_bar m s.bar now columns) } ∷ []) ≡ false
-  hidden_rows columns gone = ap (λ (lines : List (List ℕ)). has_line (record { bar = 0; lines = map chars lines } ∷ [])) (hidden_lines s.bar columns gone)
-
-  -- the lines that it writes are these of the bar
-  abbrev wide : Target → Bool
-  wide target = list_any (has_wide target.columns) (lines_to_write Frame 0 (lone_frame (bar_kind m) target now s.bar))
-
-  pub forced_asked : (target : Target) → Forces target → answer ≡ Ok Limited → ⊥
-  unfolding drawn_by
-  forced_asked target (inl made) e = unlimited target.hidden (target.columns == 0) (wide target) _ _ _ _ (sym (ap (λ o. o.0) made) ∙ e)
-  forced_asked target (inr (inl short)) e = absurd (let q = sym short.0 ∙ e in cc q)
-  forced_asked target (inr (inr broken)) e = absurd (let q = sym broken.1 ∙ e in cc q)
-
-  pub forced_memory : (target : Target) → Forces target → answer ≡ Err Memory → is_hidden s.bar.progress ≡ false
-  unfolding drawn_by
-  forced_memory target (inl made) e =
-      absurd (unrefused target.hidden (target.columns == 0) (wide target) _ _ _ _ (sym (ap (λ o. o.0) made) ∙ e))
-  forced_memory target (inr (inl short)) e = elim short.1 [
-    | inl text ↦ absurd (false≢true text.0)
-    | inr lines ↦ elim (cases_Bool (is_hidden s.bar.progress)) [
-      | inl gone ↦ elim lines.1 [ inl laid ↦ absurd (false≢true (sym (hidden_takes s.bar gone) ∙ laid.0)) | inr rows ↦ absurd (false≢true (sym (hidden_rows target.columns gone) ∙ rows.0)) ]
-      | inr stays ↦ stays
-    ]
-  ]
-  forced_memory target (inr (inr broken)) e = absurd (let q = sym broken.1 ∙ e in cc q)
 
 -- the same of a board whose bars are drawn
 module _ {K : Type 0} (m : Tracking K) (mark now : ℕ) (s next : BoardState (BarRecord K)) (answer : Result Drawn Refusal) where

@@ -3,7 +3,6 @@ ghost use Rattle.std.specs.Prelude.{◌≡◌, ◌≢◌, ◌⊎◌, ◌+◌, �
 ghost use Rattle.std.specs.List.{list_any};
 ghost use Rattle.indicatif_bar.specs.Commands.{BarRecord};
 ghost use Rattle.indicatif_bar.specs.LoneBars.{record_of, lone_terminal};
-ghost use Rattle.indicatif_bar.specs.Progress.{is_hidden};
 ghost use Rattle.indicatif_board.specs.Calls.{acts_on, call_of};
 ghost use Rattle.indicatif_board.specs.Multi.{mark_of, record_at, terminal_of, OtherRecordsStay};
 ghost use Rattle.indicatif_term.specs.Engines.{is_failure};
@@ -36,16 +35,14 @@ pub fn say<K: ProgressTracker, T: TermLike + Drop>(
     bar.set_message(text, now)
 }
 
-/// Draws a bar that was lent by force. Whatever was done with it before: where there is nothing to draw on the answer says why, no
-/// limiter holds the draw back, memory is refused only where the bar has lines, and the terminal's faults grow exactly by its failure.
+/// Draws a bar that was lent by force. Whatever was done with it before: where there is nothing to draw on the answer says why, and
+/// the terminal's faults grow exactly by its failure.
 pub fn draw_lent<K: ProgressTracker, T: TermLike + Drop>(
     bar: &mut LoneBar<K, T>,
     now: Moment,
 ) -> Result<Drawn, Refusal>
     ensures hidden { lone_terminal bar.old ≡ None → result ≡ Ok Drawn.Hidden }
     ensures no_columns { (term : T) → lone_terminal bar.old ≡ Some term → (T.view term).columns ≡ 0 → result ≡ Err Refusal.NoColumns }
-    ensures forced { result ≢ Ok Drawn.Limited }
-    ensures memory { result ≡ Err Refusal.Memory → IsFalse (is_hidden (record_of bar.old).progress) }
     ensures failed { (term : T) → lone_terminal bar.old ≡ Some term → (next : T) × (lone_terminal bar.new ≡ Some next)
         × ((T.view next).faults ≡ (if is_failure result then ((T.view term).faults + 1) % 2 ^ 64 else (T.view term).faults)) }
 {

@@ -1,10 +1,9 @@
-use Rattle.std.proofs.Common.{◌∙◌, ap, sym, subst, false, Some, option_map}
+use Rattle.std.proofs.Common.{ap, subst, false, Some, option_map}
 use Rattle.indicatif_bar.specs.Machines.{target_of}
-use Rattle.indicatif_bar.specs.Progress.{is_hidden}
 use Rattle.indicatif_bar.specs.Lone.{Obey}
 use Rattle.indicatif_bar.specs.Commands.{ForceDraw}
-use Rattle.indicatif_bar.specs.LoneBars.{lone_terminal, lone_known}
-use Rattle.uses.proofs.LentLemmas.{Forces, forced_hidden, forced_narrow, forced_asked, forced_memory, lent_faults}
+use Rattle.indicatif_bar.specs.LoneBars.{lone_terminal}
+use Rattle.uses.proofs.LentLemmas.{Forces, forced_hidden, forced_narrow, lent_faults}
 use Rattle.uses.proofs.lent.draw_lent.Goals as goal
 
 pub returns-clause-hidden : goal.returns-clause-hidden
@@ -24,19 +23,6 @@ returns-clause-no_columns g c = λ term there narrow.
     let led = subst (λ o. Forces m c.args.now s.0 made.0 c.force_draw.result (target_of o)) (ap (option_map view) there) made.2.leads in
     forced_narrow m c.args.now s.0 made.0 c.force_draw.result (view term).rows
     (subst (λ w. Forces m c.args.now s.0 made.0 c.force_draw.result (record { hidden = false; columns = w; rows = (view term).rows })) narrow led)
-
-pub returns-clause-forced : goal.returns-clause-forced
-returns-clause-forced g c = λ held.
-    let s = c.bar-in_some_state.ensures.some in
-    let made = c.force_draw.ensures.leads s.0 s.1 in
-    forced_asked g.K.ProgressTracker.means c.args.now s.0 made.0 c.force_draw.result (target_of (lone_known g.T.TermLike.view c.args.bar.now)) made.2.leads held
-
-pub returns-clause-memory : goal.returns-clause-memory
-returns-clause-memory g c = λ short.
-    let s = c.bar-in_some_state.ensures.some in
-    let made = c.force_draw.ensures.leads s.0 s.1 in
-    let own = sym (c.bar-in_some_state.ensures.bar) ∙ c.bar-in_some_state.ensures.state s.0 s.1 in
-    ap (λ b. is_hidden b.progress) own ∙ forced_memory g.K.ProgressTracker.means c.args.now s.0 made.0 c.force_draw.result (target_of (lone_known g.T.TermLike.view c.args.bar.now)) made.2.leads short
 
 pub returns-clause-failed : goal.returns-clause-failed
 returns-clause-failed g c =
