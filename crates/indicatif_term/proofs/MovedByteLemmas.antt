@@ -1,16 +1,13 @@
 -- The bytes of lines written one behind another, and the first visible character of a text.
-use Rattle.std.proofs.Common.{chars, None, Some, ◌≡◌, ℕ, ◌+◌, ◌<◌, List, [], ◌∷◌, ◌++◌, length, take, drop, get_or, sym, ◌∙◌, ap, subst, append-nil, ◌==◌, false}
+use Rattle.std.proofs.Common.{chars, None, Some, ◌≡◌, ℕ, ◌+◌, ◌<◌, List, [], ◌∷◌, ◌++◌, length, take, drop, get_or, sym, ◌∙◌, ap, subst, append-nil}
 use Rattle.std.specs.Prelude.{flat_map, MatchOption, Option}
 use Rattle.std.proofs.Math.Utf8.{encode}
 use Rattle.std.specs.Str.{IsUtf8}
 use Rattle.std.proofs.lemmas.List.{take_more, map-append, take-append-drop}
 use Rattle.std.proofs.lemmas.Grind.{flat_map-append}
-use Rattle.indicatif_text.specs.Columns.{width_of}
-use Rattle.indicatif_text.specs.Pieces.{TextPiece}
-use Rattle.indicatif_text.specs.PieceLaws.{run_text}
 use Rattle.indicatif_text.proofs.WrappingLemmas.{past, chars_none}
 use Rattle.indicatif_term.specs.Calls.{TermView, LeadsOn, BreaksOff}
-use Rattle.indicatif_term.specs.Inside.Moves.{filled_bytes, run_bytes, joins, IsEven, AreEven}
+use Rattle.indicatif_term.specs.Inside.Moves.{filled_bytes, run_bytes, IsEven, AreEven}
 use Rattle.indicatif_term.specs.Standing.{placed_of, placed}
 use Rattle.indicatif_term.specs.declared.remembered.StandingLine.{StandingLine}
 use Rattle.indicatif_term.proofs.CallTurnLemmas.{breaks_then, breaks_early}
@@ -45,14 +42,3 @@ module _ (w : ℕ) (lines : List StandingLine) (i : ℕ) (x : StandingLine) (h :
 pub first_of_run : (bs rest : List ℕ) (o : Option ℕ) (A : Type 0) → IsUtf8 bs → MatchOption o A (λ c. bs ≡ encode c ++ rest) → (A → length bs ≡ 0) → MatchOption o (chars bs ≡ []) (λ c. (more : List ℕ) × (chars bs ≡ c ∷ more))
 first_of_run bs rest None A u m empty = chars_none bs (empty m)
 first_of_run bs rest (Some c) A u m empty = (chars rest, past bs rest c u m)
-
--- a piece that shows nothing
-pub shows_none : (left rest : List TextPiece) (p : TextPiece) (seen : List ℕ) → flat_map run_text left ≡ seen → left ≡ p ∷ rest → run_text p ≡ [] → flat_map run_text rest ≡ seen
-shows_none left rest p seen all e none = sym (ap (λ x. x ++ flat_map run_text rest) none) ∙ sym (ap (flat_map run_text) e) ∙ all
-
--- one that shows some
-pub shows_first : (left rest : List TextPiece) (p : TextPiece) (seen : List ℕ) (c : ℕ) (more : List ℕ) → flat_map run_text left ≡ seen → left ≡ p ∷ rest → run_text p ≡ c ∷ more → joins seen ≡ (width_of c == 0)
-shows_first left rest p seen c more all e some = ap joins (sym all ∙ ap (flat_map run_text) e ∙ ap (λ x. x ++ flat_map run_text rest) some)
-
-pub shows_nothing : (left : List TextPiece) (seen : List ℕ) → flat_map run_text left ≡ seen → left ≡ [] → joins seen ≡ false
-shows_nothing left seen all e = ap joins (sym all ∙ ap (flat_map run_text) e)
