@@ -57,6 +57,19 @@ fn a_total_is_read_from_the_shared_word(rt: HostRuntime) -> Result<(), Fail> {
 }
 
 #[test]
+fn a_total_is_read_anew_each_time(rt: HostRuntime) -> Result<(), Fail> {
+    let (done, worker) = Done::new(rt.alloc())?;
+    let (mut first, mut second) = worker.split(&done)?;
+    first.add(&done, 5);
+    assert_eq!(rt; second.total(&done), 5);
+    first.add(&done, 4);
+    assert_eq!(rt; second.total(&done), 9);
+    second.add(&done, 1);
+    assert_eq!(rt; second.total(&done), 10);
+    Ok(())
+}
+
+#[test]
 fn a_sum_of_nothing_is_closed_at_once(rt: HostRuntime) -> Result<(), Fail> {
     let (done, mut worker) = Done::new(rt.alloc())?;
     assert_eq!(rt; worker.total(&done), 0);

@@ -1,5 +1,5 @@
 -- A bar's record and what each command makes of it. Texts are lists of bytes in UTF-8, moments and times nanoseconds.
-use Rattle.std.specs.Prelude.{not, ◌||◌, ◌==◌, ℕ, string_bytes, ◌+◌, ◌-◌, ◌%◌, ◌^◌, Bool, false, nat_lt, min, List, Option, Some, None, if◌then◌else◌, unwrap_or, option_map}
+use Rattle.std.specs.Prelude.{not, ◌||◌, ◌==◌, ℕ, string_bytes, ◌+◌, ◌-◌, ◌%◌, ◌^◌, Bool, true, false, nat_lt, min, List, Option, Some, None, if◌then◌else◌, unwrap_or, option_map}
 use Rattle.indicatif_bar.specs.declared.state.Ask.{Ask}
 use Rattle.indicatif_bar.specs.declared.state.Ask.TheVariants.{No, Unforced, Forced}
 use Rattle.indicatif_bar.specs.Measures.{greatest_u64, recorded}
@@ -184,6 +184,17 @@ takes_memory (SetTabWidth tab) bar = width_takes_memory tab bar
 takes_memory (FinishBy by) bar = finish_takes_memory by
 takes_memory FinishUsingStyle bar = finish_takes_memory bar.on_finish
 takes_memory _ bar = false
+
+-- a copy of a command takes memory: of one with a style, or with a text that isn't empty
+abbrev pub copy_takes_memory : {K : Type 0} → Command K → Bool
+copy_takes_memory (SetMessage text) = is_some_text text
+copy_takes_memory (SetPrefix text) = is_some_text text
+copy_takes_memory (PutMessage text) = is_some_text text
+copy_takes_memory (PutPrefix text) = is_some_text text
+copy_takes_memory (SetStyle style) = true
+copy_takes_memory (PutFinish by) = finish_takes_memory by
+copy_takes_memory (FinishBy by) = finish_takes_memory by
+copy_takes_memory _ = false
 
 -- ---- commands as values
 

@@ -1,6 +1,7 @@
 //! How a bar is finished.
-ghost use Rattle.std.specs.Prelude.{◌≡◌, IfOk, IfErr};
-ghost use Rattle.indicatif_bar.specs.Finishes.{finish_of};
+ghost use Rattle.std.specs.Prelude.{◌≡◌, string_bytes, IfOk, IfErr, IsTrue};
+ghost use Rattle.indicatif_bar.specs.Finishes.{finish_of, finish_takes_memory};
+ghost use Rattle.indicatif_bar.specs.Tabs.{is_some_text};
 
 use indicatif_text::columns::Refusal;
 use std::alloc::Global;
@@ -29,21 +30,32 @@ pub enum ProgressFinish {
 impl ProgressFinish {
     /// Another one, equal to this one.
     ///
-    /// Refused: `Memory`, where it has a message.
+    /// Refused: `Memory`, only where it has a message that isn't empty.
     pub fn try_clone(&self, alloc: Global) -> Result<ProgressFinish, Refusal>
         ensures same { IfOk result (λ other. finish_of other ≡ finish_of self.now) }
-        ensures memory { IfErr result (λ e. e ≡ Refusal.Memory) }
+        ensures memory { IfErr result (λ e. (e ≡ Refusal.Memory) × IsTrue (finish_takes_memory (finish_of self.now))) }
     {
         Ok(match self {
             ProgressFinish::AndLeave => ProgressFinish::AndLeave,
             ProgressFinish::WithMessage(text) => {
-                ProgressFinish::WithMessage(String::from_str(alloc, text.as_str())?)
+                ProgressFinish::WithMessage(same_text(alloc, text)?)
             }
             ProgressFinish::AndClear => ProgressFinish::AndClear,
             ProgressFinish::Abandon => ProgressFinish::Abandon,
             ProgressFinish::AbandonWithMessage(text) => {
-                ProgressFinish::AbandonWithMessage(String::from_str(alloc, text.as_str())?)
+                ProgressFinish::AbandonWithMessage(same_text(alloc, text)?)
             }
         })
     }
+}
+
+/// The same text. An empty one takes no memory.
+pub(crate) fn same_text(alloc: Global, text: &String) -> Result<String, Refusal>
+    ensures same { IfOk result (λ other. string_bytes other ≡ string_bytes text.now) }
+    ensures memory { IfErr result (λ e. (e ≡ Refusal.Memory) × IsTrue (is_some_text (string_bytes text.now))) }
+{
+    if text.is_empty() {
+        return Ok(String::new(alloc));
+    }
+    Ok(String::from_str(alloc, text.as_str())?)
 }

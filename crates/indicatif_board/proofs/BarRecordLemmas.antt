@@ -9,7 +9,7 @@ use Rattle.indicatif_text.specs.declared.refusal.Refusal.{Refusal}
 use Rattle.indicatif_text.specs.declared.refusal.Drawn.{Drawn}
 use Rattle.indicatif_bar.specs.Commands.{BarRecord}
 use Rattle.indicatif_board.specs.Boards.{Entrant, New, Old, Refused}
-use Rattle.indicatif_board.specs.Multi.{RecordsTake}
+use Rattle.indicatif_board.specs.Multi.{RecordsTake, SlotsTake}
 use Rattle.indicatif_board.specs.declared.multi.Board.{Board}
 use Rattle.indicatif_board.specs.declared.shown_bars.ShownBars.{ShownBars}
 use Rattle.indicatif_board.specs.Slots.{occurrences}
@@ -241,6 +241,10 @@ pub none_taken : {K T : Type 0} (entrant : Entrant (BarRecord K)) (e : Refusal) 
 none_taken (New bar) e b = λ number. refl
 none_taken (Old id) e b = λ number. refl
 
+pub none_seated : {K T : Type 0} (entrant : Entrant (BarRecord K)) (e : Refusal) (b : Board K T) → SlotsTake entrant (Refused e) b b
+none_seated (New bar) e b = refl
+none_seated (Old id) e b = refl
+
 module _ {K : Type 0} (b : ShownBars K) where
   even_on : length b.members.items ≡ length b.table.order
   even_on = evenly b.frame.items b.table.order b.members.items (omega (arith, b.even, b.members.ok, b.frame.ok)) b.seated
@@ -273,11 +277,10 @@ module _ {K : Type 0} (b : ShownBars K) where
     has_record none = let x = some_there b.members.items at there.within in is_there (record_on number b) x.0.bar (record_stands x.0 x.1) none
 
     -- told something
-    pub told_on : (item : Member K) (bar : BarRecord K) → item ≡ get_or b.members.items at item →
-        record_in number b.table.order (set b.members.items at (record { bar = bar; dropped = item.dropped })) ≡ Some bar
-    told_on item bar is =
-        let m : Member K = record { bar = bar; dropped = item.dropped } in
-        told_record number at b.table.order b.members.items even_on m there.seat there.within ∙ owned m (there.owned item is)
+    pub told_on : (item next : Member K) → next ≡ record item { bar = next.bar } → item ≡ get_or b.members.items at item →
+        record_in number b.table.order (set b.members.items at next) ≡ Some next.bar
+    told_on item next stays is =
+        told_record number at b.table.order b.members.items even_on next there.seat there.within ∙ owned next (ap (λ (m : Member K). m.dropped) stays ∙ there.owned item is)
 
     pub told_apart : (m : Member K) (other : ℕ) → other ≢ number → record_in other b.table.order (set b.members.items at m) ≡ record_on other b
     told_apart m other apart = told_others number at b.table.order b.members.items even_on m there.seat other apart

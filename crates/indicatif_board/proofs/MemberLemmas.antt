@@ -173,11 +173,11 @@ module _ {K : Type 0} (frame : List Segment) (members : List (MemberValue K)) (m
   found_there item within item_is e = found_some item false within item_is e
 
 -- a bar told something at its place
-pub told_at : {K : Type 0} → (f : BarRecord K → BarRecord K) (frame : List Segment) (members : List (MemberValue K)) (made : ℕ) (bottom : Bool) (limiter : Option Limiter) (mark : ℕ)
+told_by : {K : Type 0} → (f : BarRecord K → BarRecord K) (frame : List Segment) (members : List (MemberValue K)) (made : ℕ) (bottom : Bool) (limiter : Option Limiter) (mark : ℕ)
     (s : BoardState (BarRecord K)) (number at : ℕ) (item : MemberValue K) (bar : BarRecord K) →
     Holds frame members made bottom limiter s → at ≡ place_of number s.members → at < length s.members → item ≡ get_or members at item → bar ≡ f item.bar →
     Holds frame (set members at (record { bar = bar; dropped = item.dropped })) made bottom limiter (bar_changed number f s)
-told_at {K = K} f frame members made bottom limiter mark s number at item bar holds here within item_is bar_is =
+told_by {K = K} f frame members made bottom limiter mark s number at item bar holds here within item_is bar_is =
     let ms = s.members in
     let change = λ (m : Member (BarRecord K)). let x : Member (BarRecord K) = record m { bar = f m.bar } in x in
     let d = new_member 0 item.bar in
@@ -198,16 +198,32 @@ told_at {K = K} f frame members made bottom limiter mark s number at item bar ho
       limiter_is = holds.limiter_is;
     }
 
+-- the same of a member whose bar alone has changed
+pub told_at : {K : Type 0} → (f : BarRecord K → BarRecord K) (frame : List Segment) (members : List (MemberValue K)) (made : ℕ) (bottom : Bool) (limiter : Option Limiter) (mark : ℕ)
+    (s : BoardState (BarRecord K)) (number at : ℕ) (item next : MemberValue K) → next ≡ record item { bar = next.bar } →
+    Holds frame members made bottom limiter s → at ≡ place_of number s.members → at < length s.members → item ≡ get_or members at item → next.bar ≡ f item.bar →
+    Holds frame (set members at next) made bottom limiter (bar_changed number f s)
+told_at f frame members made bottom limiter mark s number at item next stays holds here within item_is bar_is =
+    subst (λ m. Holds frame (set members at m) made bottom limiter (bar_changed number f s)) (sym stays)
+    (told_by f frame members made bottom limiter mark s number at item next.bar holds here within item_is bar_is)
+
 -- a changed bar that is as it was
-pub same_at : {K : Type 0} → (frame : List Segment) (members : List (MemberValue K)) (made : ℕ) (bottom : Bool) (limiter : Option Limiter) (s : BoardState (BarRecord K)) (at : ℕ)
+same_by : {K : Type 0} → (frame : List Segment) (members : List (MemberValue K)) (made : ℕ) (bottom : Bool) (limiter : Option Limiter) (s : BoardState (BarRecord K)) (at : ℕ)
     (item : MemberValue K) (bar : BarRecord K) →
     Holds frame members made bottom limiter s → at < length s.members → item ≡ get_or members at item → bar ≡ item.bar →
     Holds frame (set members at (record { bar = bar; dropped = item.dropped })) made bottom limiter s
-same_at {K = K} frame members made bottom limiter s at item bar holds within item_is bar_is =
+same_by {K = K} frame members made bottom limiter s at item bar holds within item_is bar_is =
     let item' : MemberValue K = record { bar = bar; dropped = item.dropped } in
     let same : item' ≡ get_or members at item = ap (λ z. let x : MemberValue K = record { bar = z; dropped = item.dropped } in x) bar_is ∙ item_is in
     let size : length members ≡ length s.members = ap length holds.members_are ∙ length-map s.members member_of in
     subst (λ xs. Holds frame xs made bottom limiter s) (sym (ap (set members at) same ∙ set-own members at item (omega (arith, size, within)))) holds
+
+pub same_at : {K : Type 0} → (frame : List Segment) (members : List (MemberValue K)) (made : ℕ) (bottom : Bool) (limiter : Option Limiter) (s : BoardState (BarRecord K)) (at : ℕ)
+    (item next : MemberValue K) → next ≡ record item { bar = next.bar } →
+    Holds frame members made bottom limiter s → at < length s.members → item ≡ get_or members at item → next.bar ≡ item.bar →
+    Holds frame (set members at next) made bottom limiter s
+same_at frame members made bottom limiter s at item next stays holds within item_is bar_is =
+    subst (λ m. Holds frame (set members at m) made bottom limiter s) (sym stays) (same_by frame members made bottom limiter s at item next.bar holds within item_is bar_is)
 
 -- what is said of each bar alike is said of one that is there
 pub said_there : {B X : Type 0} (other x : X) (number : ℕ) (ms : List (Member B)) → place_of number ms < length ms → said_of other (λ b. x) number ms ≡ x

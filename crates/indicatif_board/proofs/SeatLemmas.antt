@@ -1,8 +1,9 @@
 -- A bar's slot is its own, and it has one exactly where it stands in the order.
-use Rattle.std.proofs.Common.{◌≡◌, ◌⊎◌, ℕ, ◌+◌, ◌≤◌, Bool, true, false, List, [], ◌∷◌, length, Option, Some, None, refl, sym, ◌∙◌, arith, inl, inr, if◌then◌else◌}
+use Rattle.std.proofs.Common.{ap, ◌≡◌, ◌⊎◌, ℕ, zero, suc, ◌+◌, ◌≤◌, Bool, true, false, List, [], ◌∷◌, length, Option, Some, None, refl, sym, ◌∙◌, arith, inl, inr, if◌then◌else◌}
 use Rattle.std.specs.Prelude.{◌==◌, ◌↔◌}
-use Rattle.std.proofs.lemmas.Bool.{cases_Bool, cases_lt, eqb-true, eqb-false}
-use Rattle.indicatif_board.specs.Slots.{SlotTable, IsSeated, slot_in, slot_of, occurrences}
+use Rattle.std.specs.List.{insert}
+use Rattle.std.proofs.lemmas.Bool.{cases_Bool, cases_lt, eqb-true, eqb-false, eq-eqb}
+use Rattle.indicatif_board.specs.Slots.{SlotTable, IsSeated, slot_in, slot_of, next_slot, seated, occurrences}
 use Rattle.indicatif_board.proofs.SlotLemmas.{ones_same, ones_other, occurrences-front}
 
 -- the bar at the front has this slot, or one of the others
@@ -62,3 +63,19 @@ without_slot number (n ∷ order) (x ∷ slots) out = elim (cases_Bool (n == num
 
 pub slot_where_it_stands : (t : SlotTable) (number : ℕ) → IsSeated t → (slot_of number t ≡ None) ↔ (occurrences number t.order ≡ 0)
 slot_where_it_stands t number seats = (λ none. out_of_order number t.order t.slots none seats.even, λ out. without_slot number t.order t.slots out)
+
+-- a bar that is taken in has the slot that is put beside it
+slot_inserted : (number slot at : ℕ) (order slots : List ℕ) → occurrences number order ≡ 0 → at ≤ length order → length order ≡ length slots →
+    slot_in number (insert order at number) (insert slots at slot) ≡ Some slot
+slot_inserted number slot zero order slots out within even = rw (eq-eqb number number refl) refl
+slot_inserted number slot (suc at) [] slots out within even = absurd (omega (arith, within))
+slot_inserted number slot (suc at) (n ∷ order) [] out within even = absurd (omega (arith, even))
+slot_inserted number slot (suc at) (n ∷ order) (x ∷ slots) out within even = elim (cases_Bool (n == number)) [
+  | inl here ↦ absurd (omega (arith, occurrences-front number n order, ones_same number n (eqb-true n number here), out))
+  | inr there ↦ rw there (slot_inserted number slot at order slots (omega (arith, occurrences-front number n order, out)) (omega (arith, within)) (omega (arith, even)))
+]
+
+pub slot_taken : (t t' : SlotTable) (number at : ℕ) → IsSeated t → t' ≡ seated at t → number ≡ t.made → at ≤ length t.order → slot_of number t' ≡ Some (next_slot t)
+slot_taken t t' number at seats taken number_is within =
+    ap (slot_of number) taken ∙ ap (λ n. slot_in n (insert t.order at t.made) (insert t.slots at (next_slot t))) number_is
+    ∙ slot_inserted t.made (next_slot t) at t.order t.slots (seats.given t.made (omega arith)) within seats.even

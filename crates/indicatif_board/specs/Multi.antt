@@ -15,7 +15,7 @@ use Rattle.indicatif_bar.specs.Runs.{CallMade, Runs}
 use Rattle.indicatif_board.specs.BoardBars.{board_bars}
 use Rattle.indicatif_board.specs.Boards.{BoardState, Id, Entrant, New, Call, Insert, Remove, Drop, Clear, Redraw, Tell, Answer, Given, Drew, Refused, says, drawn_of, board}
 use Rattle.indicatif_board.specs.Calls.{answer_of, gives}
-use Rattle.indicatif_board.specs.Slots.{SlotTable}
+use Rattle.indicatif_board.specs.Slots.{SlotTable, next_slot, slot_of}
 use Rattle.indicatif_board.specs.ShownBars.{AreShownAs, record_on}
 use Rattle.indicatif_board.specs.declared.calls.Answer.{Answer as AnswerValue}
 use Rattle.indicatif_board.specs.declared.multi.Board.{Board}
@@ -70,6 +70,12 @@ module _ {K T : Type 0} where
   RecordsTake (New bar) (Given id) old new =
       (id.mark ≡ old.mark) × (record_at id.number old ≡ None) × (record_at id.number new ≡ Some bar) × OtherRecordsStay id.number old new
   RecordsTake _ _ old new = RecordsStay old new
+
+  -- one was to be taken in: a new bar has the slot that was freed last, or where none was free the first that was never used; where
+  -- it was turned away, or was there already, each bar has the slot that it had
+  abbrev pub SlotsTake : Entrant (BarRecord K) → Answer → Board K T → Board K T → Type 0
+  SlotsTake (New bar) (Given id) old new = slot_of id.number (slots_of new) ≡ Some (next_slot (slots_of old))
+  SlotsTake _ _ old new = slots_of new ≡ slots_of old
 
   -- a call named a bar: of a bar of this board it made what is said, and others stay; of another board's, all stay
   abbrev pub NamedGoes : Id → Type 0 → Board K T → Board K T → Type 0

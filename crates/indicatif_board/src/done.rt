@@ -192,13 +192,15 @@ impl BarWorker {
         Ok(workers)
     }
 
-    /// One worker in place of all of these, with all their shares and all that any of them added; none in place of none.
+    /// One worker in place of all of these, with all their shares and all that any of them added; none in place of none. What one of
+    /// them had seen, it has seen.
     pub fn join_all(workers: Vec<BarWorker>, done: &Done) -> Option<BarWorker>
         requires of { All (λ w. w.adds_to ≡ done.now) workers.items }
         ensures none { IsNone result ↔ (workers.items ≡ []) }
         ensures of { IfSome result (λ w. w.adds_to ≡ done.now) }
         ensures parts { IfSome result (λ w. w.account.parts ≡ shares_of workers.items) }
         ensures added { IfSome result (λ w. w.account.added ≡ added_by workers.items) }
+        ensures seen { IfSome result (λ w. All (λ one. one.account.seen ≤ w.account.seen) workers.items) }
     {
         let mut rest = workers.into_iter();
         let mut all = rest.next()?;

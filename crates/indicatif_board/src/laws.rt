@@ -76,6 +76,11 @@ pub fn what_an_answer_says<B, C>()
     ensures { (kind : BoardKind B C) (mark : ℕ) → EachSays (board kind mark) }
 {}
 
+/// The same of a board whose bars have these trackers, for whoever is lent one.
+pub fn what_a_board_answers<K: Tracks>()
+    ensures { (mark : ℕ) → EachSays (board (board_bars K.means) mark) }
+{}
+
 /// A board asks its limiter once for each unforced draw, and nothing else changes that: from a rate's limiter as it is made on, a
 /// run makes at most 20 unforced draws, and one more for each interval from the making to the last of them. Without a limiter each
 /// draw is allowed.

@@ -1,10 +1,15 @@
 //! The members of a board: bars in their order, with their lines beside them.
-ghost use Rattle.std.specs.Prelude.{◌≡◌, ◌<◌, ◌≤◌, ◌+◌, ◌++◌, drop, length, vec_len, vec_capacity, ◌==◌};
+ghost use Rattle.std.specs.Prelude.{◌≡◌, ◌<◌, ◌≤◌, ◌+◌, ◌++◌, ◌⊎◌, ◌↔◌, true, false, drop, length, vec_len, vec_capacity, ◌==◌, Err, IfOk, IfErr, OnErr, IsTrue, IsFalse, MatchResult};
 ghost use Rattle.std.specs.List.{insert, prefix_len, position_or_len};
+ghost use Rattle.indicatif_bar.specs.Progress.{is_finished};
+ghost use Rattle.indicatif_bar.specs.Commands.{FinishUsingStyle, command_of, obeyed, after_drop, takes_memory, is_beyond_clock};
 
-use indicatif_bar::state::BarState;
+use indicatif_bar::state::{Ask, BarCommand, BarState};
 use indicatif_bar::style::Tracks;
 use indicatif_term::draw_target::Segment;
+use indicatif_text::columns::{Moment, Refusal};
+use std::alloc::Global;
+use std::marker::Model;
 
 /// A bar on a board. Its number and its lines stand at the same place of the board's frame.
 #[derive(Drop)]
@@ -15,12 +20,91 @@ pub struct Member<K> {
     pub dropped: bool,
 }
 
+/// A member in a room of its own, so that one that is taken in or out moves no other's record.
+#[derive(Drop)]
+pub struct Seated<K> {
+    member: Box<Member<K>>,
+}
+
+/// Contracts see the member.
+impl<K> Model for Seated<K> {
+    ghost use Rattle.indicatif_board.specs.declared.members.Member.{Member};
+
+    ghost Value = { Member K };
+
+    ghost view = { λ s. s.member.value };
+}
+
+impl<K: Tracks> Seated<K> {
+    /// A bar with its owner. It comes back where it finds no room.
+    pub fn new(alloc: Global, bar: BarState<K>) -> Result<Seated<K>, BarState<K>>
+        ensures { MatchResult result (λ m. m ≡ record { bar = bar; dropped = false }) (λ b. b ≡ bar) }
+    {
+        let dropped = false;
+        match Box::new(alloc, Member { bar, dropped }) {
+            Ok(member) => Ok(Seated { member }),
+            Err(failed) => Err(failed.value.bar),
+        }
+    }
+
+    /// Its bar's record.
+    pub fn bar(&self) -> &BarState<K>
+        ensures { result.now ≡ self.now.bar }
+    {
+        &self.member.bar
+    }
+
+    /// Its bar, alone.
+    pub fn into_bar(self) -> BarState<K>
+        ensures { result ≡ self.bar }
+    {
+        Box::into_inner(self.member).bar
+    }
+
+    /// Whether its owner is gone.
+    pub fn is_dropped(&self) -> bool
+        ensures { result ≡ self.now.dropped }
+    {
+        self.member.dropped
+    }
+
+    /// Its bar is told something, as `BarState::apply`.
+    pub fn obey(&mut self, command: BarCommand<K>, now: Moment) -> Result<Ask, Refusal>
+        ensures done { IfOk result (λ ask. (self.new.bar, ask) ≡ obeyed K.means (command_of command) self.old.bar now) }
+        ensures unchanged { OnErr result (self.new.bar ≡ self.old.bar) }
+        ensures beyond { (result ≡ Err Refusal.ElapsedBeyondClock) ↔ IsTrue (is_beyond_clock (command_of command) now) }
+        ensures memory { result ≡ Err Refusal.Memory → IsTrue (takes_memory (command_of command) self.old.bar) }
+        ensures no_other { IfErr result (λ e. (e ≡ Refusal.ElapsedBeyondClock) ⊎ (e ≡ Refusal.Memory)) }
+        ensures stays { self.new ≡ record self.old { bar = self.new.bar } }
+    {
+        self.member.bar.apply(command, now)
+    }
+
+    /// Its bar's owner is gone, as `BarState::dropped`; it isn't marked yet.
+    pub fn lose_owner(&mut self, now: Moment) -> Result<Ask, Refusal>
+        ensures done { IfOk result (λ ask. (self.new.bar, ask) ≡ after_drop self.old.bar now) }
+        ensures unchanged { OnErr result (self.new.bar ≡ self.old.bar) }
+        ensures memory { IfErr result (λ e. (e ≡ Refusal.Memory) × IsFalse (is_finished self.old.bar.progress)
+            × IsTrue (takes_memory FinishUsingStyle self.old.bar)) }
+        ensures stays { self.new ≡ record self.old { bar = self.new.bar } }
+    {
+        self.member.bar.dropped(now)
+    }
+
+    /// Its owner is gone.
+    pub fn mark(&mut self)
+        ensures { self.new ≡ record self.old { dropped = true } }
+    {
+        self.member.dropped = true;
+    }
+}
+
 /// How many members at the head are dropped.
-pub fn leading<K: Tracks>(members: &[Member<K>]) -> usize
+pub fn leading<K: Tracks>(members: &[Seated<K>]) -> usize
     ensures { result ≡ prefix_len (λ m. m.dropped) members.now }
 {
     for (count, member) in members.iter().enumerate() {
-        if !member.dropped {
+        if !member.is_dropped() {
             return count;
         }
     }

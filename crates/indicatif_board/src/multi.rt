@@ -62,7 +62,7 @@ pub struct Board<K, T: Drop> {
 
 impl<K: Tracks, T: TermLike + Drop> Board<K, T> {
     ghost use Rattle.indicatif_board.specs.Calls.{entrant_of, given, removal, answer_of, place_at, call_of, timed, IsForeign, NamesForeign, AreTurnedAway, acts_on};
-    ghost use Rattle.indicatif_board.specs.Multi.{IsIn, IsNowhere, mark_of, record_at, RecordsStay, OtherRecordsStay, RecordObeys, RecordsTake, RecordsChange, StaysOrComes, LeadsBy, Suspends, known, slots_of, terminal_of};
+    ghost use Rattle.indicatif_board.specs.Multi.{IsIn, IsNowhere, mark_of, record_at, RecordsStay, OtherRecordsStay, RecordObeys, RecordsTake, SlotsTake, RecordsChange, StaysOrComes, LeadsBy, Suspends, known, slots_of, terminal_of};
 
     /// A board without bars on this target, of this mark. It takes no memory and writes nothing.
     pub fn new(alloc: Global, target: ProgressDrawTarget<T>, mark: u64) -> Self
@@ -107,7 +107,7 @@ impl<K: Tracks, T: TermLike + Drop> Board<K, T> {
             MatchResult result (λ bar. record_at id.number self.now ≡ Some bar.now) (λ e. (e ≡ Refusal.NotMember) × (record_at id.number self.now ≡ None)) }
     {
         let at = self.find(id)?;
-        Ok(&self.shown.members[at].bar)
+        Ok(self.shown.members[at].bar())
     }
 
     /// The bars' numbers in their order, from the top. A bar that was dropped stands there until it leaves. The board is in some
@@ -191,6 +191,7 @@ impl<K: Tracks, T: TermLike + Drop> Board<K, T> {
         ensures leads { (now : ℕ) → LeadsBy K.means T.view self.old self.new (Insert End (entrant_of candidate)) now (given result) }
         ensures foreign { NamesForeign (mark_of self.old) (Insert End (entrant_of candidate)) → (given result ≡ Refused Refusal.ForeignBar) × (self.new ≡ self.old) }
         ensures records { RecordsTake (entrant_of candidate) (given result) self.old self.new }
+        ensures slot { SlotsTake (entrant_of candidate) (given result) self.old self.new }
     {
         let at = self.shown.members.len();
         self.insert_at(at, candidate)
@@ -207,6 +208,7 @@ impl<K: Tracks, T: TermLike + Drop> Board<K, T> {
         ensures leads { (now : ℕ) → LeadsBy K.means T.view self.old self.new (Insert (Index index) (entrant_of candidate)) now (given result) }
         ensures foreign { NamesForeign (mark_of self.old) (Insert (Index index) (entrant_of candidate)) → (given result ≡ Refused Refusal.ForeignBar) × (self.new ≡ self.old) }
         ensures records { RecordsTake (entrant_of candidate) (given result) self.old self.new }
+        ensures slot { SlotsTake (entrant_of candidate) (given result) self.old self.new }
     {
         let at = index.min(self.shown.members.len());
         self.insert_at(at, candidate)
@@ -227,6 +229,7 @@ impl<K: Tracks, T: TermLike + Drop> Board<K, T> {
         ensures leads { (now : ℕ) → LeadsBy K.means T.view self.old self.new (Insert (FromBack count) (entrant_of candidate)) now (given result) }
         ensures foreign { NamesForeign (mark_of self.old) (Insert (FromBack count) (entrant_of candidate)) → (given result ≡ Refused Refusal.ForeignBar) × (self.new ≡ self.old) }
         ensures records { RecordsTake (entrant_of candidate) (given result) self.old self.new }
+        ensures slot { SlotsTake (entrant_of candidate) (given result) self.old self.new }
     {
         let at = self.shown.members.len().saturating_sub(count);
         self.insert_at(at, candidate)
@@ -249,6 +252,7 @@ impl<K: Tracks, T: TermLike + Drop> Board<K, T> {
         ensures beside { IsTrue (is_some (record_at anchor.number self.old)) → IsForeign (mark_of self.old) (entrant_of candidate) →
             (given result ≡ Refused Refusal.ForeignBar) × (self.new ≡ self.old) }
         ensures records { RecordsTake (entrant_of candidate) (given result) self.old self.new }
+        ensures slot { SlotsTake (entrant_of candidate) (given result) self.old self.new }
     {
         let at = match self.find(anchor) {
             Ok(at) => at,
@@ -274,6 +278,7 @@ impl<K: Tracks, T: TermLike + Drop> Board<K, T> {
         ensures beside { IsTrue (is_some (record_at anchor.number self.old)) → IsForeign (mark_of self.old) (entrant_of candidate) →
             (given result ≡ Refused Refusal.ForeignBar) × (self.new ≡ self.old) }
         ensures records { RecordsTake (entrant_of candidate) (given result) self.old self.new }
+        ensures slot { SlotsTake (entrant_of candidate) (given result) self.old self.new }
     {
         let at = match self.find(anchor) {
             Ok(at) => at,
@@ -326,7 +331,7 @@ impl<K: Tracks, T: TermLike + Drop> Board<K, T> {
     {
         let at = self.find(id)?;
         let shown = &mut self.shown;
-        match shown.members[at].bar.dropped(now) {
+        match shown.members[at].lose_owner(now) {
             Ok(ask) => {
                 let drawn = self.draw(ask, Some(at), BoardWriting::Frame, now);
                 self.part(id.number, &drawn);
@@ -362,7 +367,7 @@ impl<K: Tracks, T: TermLike + Drop> Board<K, T> {
     {
         let at = self.find(id)?;
         let shown = &mut self.shown;
-        let ask = shown.members[at].bar.apply(command, now)?;
+        let ask = shown.members[at].obey(command, now)?;
         self.draw(ask, Some(at), BoardWriting::Frame, now)
     }
 
@@ -536,6 +541,7 @@ impl<K: Tracks, T: TermLike + Drop> Board<K, T> {
         ensures quiet { IsFalse (wrote (drawn_of (given result))) }
         ensures foreign { IsForeign (mark_of self.old) (entrant_of candidate) → (given result ≡ Refused Refusal.ForeignBar) × (self.new ≡ self.old) }
         ensures records { RecordsTake (entrant_of candidate) (given result) self.old self.new }
+        ensures slot { SlotsTake (entrant_of candidate) (given result) self.old self.new }
         ensures inserted { (mark : ℕ) (s : BoardState (BarRecord K)) (spot : Location) → IsIn mark self.old s → at ≡ index_of spot s.members →
             (next : BoardState (BarRecord K)) × IsIn mark self.new next × (next.lists ≡ s.lists)
             × ((target : Target) → Leads (board (board_bars K.means) mark) target s (inserted mark spot (entrant_of candidate) s) (given result) next) }
@@ -622,7 +628,7 @@ impl<K: Tracks, T: TermLike + Drop> Board<K, T> {
         if at == self.shown.frame.len() {
             return Err(Refusal::NotMember);
         }
-        if self.shown.members[at].dropped {
+        if self.shown.members[at].is_dropped() {
             return Err(Refusal::NotMember);
         }
         Ok(at)

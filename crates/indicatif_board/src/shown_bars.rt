@@ -11,10 +11,11 @@ ghost use Rattle.indicatif_bar.specs.Shown.{PutsFrame, DrewBy};
 ghost use Rattle.indicatif_board.specs.BoardBars.{board_bars};
 ghost use Rattle.indicatif_board.specs.Boards.{BoardState, Location, opening_board, draw_of, index_of, taken_in, marked_on, board};
 ghost use Rattle.indicatif_board.specs.Members.{place_of, without, is_head, said_of};
+ghost use Rattle.indicatif_board.specs.Slots.{next_slot, slot_of};
 ghost use Rattle.indicatif_board.specs.Inside.Named.{HasPlace, named_laid_out, named_layout_takes};
 ghost use Rattle.indicatif_board.specs.Inside.Writings.{writing_by};
 
-use crate::members::{Member, drop_front, leading, place_of_bar, put_at};
+use crate::members::{Seated, drop_front, leading, place_of_bar, put_at};
 use crate::slots::MultiState;
 use indicatif_bar::state::{Ask, BarState, SpareLines};
 use indicatif_bar::style::Tracks;
@@ -40,7 +41,7 @@ pub enum BoardWriting<'a> {
 pub struct ShownBars<K> {
     pub alloc: Global,
     /// The bars.
-    pub members: Vec<Member<K>>,
+    pub members: Vec<Seated<K>>,
     /// Their numbers and lines, at the same places.
     pub frame: Vec<Segment>,
     /// Room of lines that were laid out before.
@@ -81,6 +82,7 @@ impl<K: Tracks> ShownBars<K> {
             MatchResult result (λ n. (s.made ≡ n) × (n < 2 ^ 64) × AreShownAs self.new (taken_in spot bar s)) (λ b. (b ≡ bar) × AreShownAs self.new s) }
         ensures bar { IfErr result (λ b. b ≡ bar) }
         ensures records { MatchResult result (λ n. (record_on n self.old ≡ None) × (record_on n self.new ≡ Some bar) × AllOthersStay n self.old self.new) (λ _. AllStay self.old self.new) }
+        ensures slot { MatchResult result (λ n. slot_of n self.new.table ≡ Some (next_slot self.old.table)) (λ _. self.new.table ≡ self.old.table) }
     {
         if self.members.reserve(1).is_err() {
             return Err(bar);
@@ -88,12 +90,15 @@ impl<K: Tracks> ShownBars<K> {
         if self.frame.reserve(1).is_err() {
             return Err(bar);
         }
+        let member = match Seated::new(self.alloc, bar) {
+            Ok(member) => member,
+            Err(bar) => return Err(bar),
+        };
         let number = match self.table.insert(at) {
             Ok(number) => number,
-            Err(_) => return Err(bar),
+            Err(_) => return Err(member.into_bar()),
         };
-        let dropped = false;
-        put_at(&mut self.members, at, Member { bar, dropped });
+        put_at(&mut self.members, at, member);
         let lines = Vec::new(self.alloc);
         put_at(&mut self.frame, at, Segment { bar: number, lines });
         Ok(number)
@@ -113,7 +118,7 @@ impl<K: Tracks> ShownBars<K> {
         let member = self.members.remove(at);
         self.frame.remove(at);
         self.table.remove(at);
-        member.bar
+        member.into_bar()
     }
 
     /// Whether a bar is the first.
@@ -136,7 +141,7 @@ impl<K: Tracks> ShownBars<K> {
     {
         let at = place_of_bar(&self.frame, number);
         if at < self.members.len() {
-            self.members[at].dropped = true;
+            self.members[at].mark();
         }
     }
 
@@ -187,7 +192,7 @@ impl<K: Tracks> ShownBars<K> {
         match bar {
             Some(at) => {
                 let stored = &mut self.frame[at].lines;
-                relay(&self.members[at].bar, stored, &mut self.spare, width, now)
+                relay(self.members[at].bar(), stored, &mut self.spare, width, now)
             }
             None => Ok(()),
         }

@@ -1,9 +1,10 @@
 //! Bars and commands equal to others.
-ghost use Rattle.std.specs.Prelude.{◌≡◌, string_bytes, IfOk, IfErr};
-ghost use Rattle.indicatif_bar.specs.Commands.{command_of};
+ghost use Rattle.std.specs.Prelude.{◌≡◌, IfOk, IfErr, IsTrue};
+ghost use Rattle.indicatif_bar.specs.Commands.{command_of, copy_takes_memory};
 
 use crate::bar_state::BarState;
 use crate::command::BarCommand;
+use crate::finish::same_text;
 use crate::tracker::Tracks;
 use indicatif_text::columns::Refusal;
 use std::alloc::Global;
@@ -38,10 +39,10 @@ impl<K: Tracks> BarCommand<K> {
     /// let again = command.try_clone(alloc)?;
     /// ```
     ///
-    /// Refused: `Memory`, where it has a text or a style.
+    /// Refused: `Memory`, only where it has a style, or a text that isn't empty.
     pub fn try_clone(&self, alloc: Global) -> Result<BarCommand<K>, Refusal>
         ensures same { IfOk result (λ other. command_of other ≡ command_of self.now) }
-        ensures memory { IfErr result (λ e. e ≡ Refusal.Memory) }
+        ensures memory { IfErr result (λ e. (e ≡ Refusal.Memory) × IsTrue (copy_takes_memory (command_of self.now))) }
     {
         Ok(match self {
             BarCommand::Tick => BarCommand::Tick,
@@ -73,12 +74,4 @@ impl<K: Tracks> BarCommand<K> {
             BarCommand::ForceDraw => BarCommand::ForceDraw,
         })
     }
-}
-
-/// The same text.
-fn same_text(alloc: Global, text: &String) -> Result<String, Refusal>
-    ensures same { IfOk result (λ other. string_bytes other ≡ string_bytes text.now) }
-    ensures memory { IfErr result (λ e. e ≡ Refusal.Memory) }
-{
-    Ok(String::from_str(alloc, text.as_str())?)
 }

@@ -1,5 +1,6 @@
-use Rattle.std.proofs.Common.{rules, ◌≡◌, ◌∷◌, sym, ap, ◌∙◌, arith}
-use Rattle.std.proofs.lemmas.List.Elements.{All-head, All-rest, All-same}
+use Rattle.std.proofs.Common.{rules, ◌≡◌, ◌+◌, ◌≤◌, ◌∷◌, sym, ap, ◌∙◌, subst, All, arith}
+use Rattle.std.specs.Prelude.{max}
+use Rattle.std.proofs.lemmas.List.Elements.{All-cons, All-head, All-rest, All-same}
 use Rattle.std.specs.Vec.Iter.{into_iter_items}
 use Rattle.indicatif_board.specs.Done.{shares_of, added_by}
 use Rattle.indicatif_board.proofs.DividedLemmas.{shares_of-cons, added_by-cons}
@@ -13,6 +14,8 @@ loop-worker-init c =
       All-rest (λ w. w.adds_to ≡ c.args.done.now) _ _ _ split c.requires.of,
       omega (arith, ap shares_of split, shares_of-cons c.in_ok-all.all (into_iter_items c.into_iter-worker-iterator.result)),
       omega (arith, ap added_by split, added_by-cons c.in_ok-all.all (into_iter_items c.into_iter-worker-iterator.result)),
+      λ most others own.
+          subst (All (λ w. w.account.seen ≤ most)) (sym split) (All-cons (λ w. w.account.seen ≤ most) c.in_ok-all.all (into_iter_items c.into_iter-worker-iterator.result) own others),
     )
 
 pub loop-worker-preserved : goal.loop-worker-preserved
@@ -34,4 +37,15 @@ loop-worker-preserved c =
         ap (λ w. w.account.added) c.join-all.ensures.joined,
         c.loop-worker.invariant.3,
       ),
+      λ most others own.
+          let both : max (max c.loop-worker.all.account.seen c.in-Some.worker.account.seen) (c.loop-worker.all.account.added + c.in-Some.worker.account.added) ≤ most =
+          omega (arith, own, ap (λ w. w.account.seen) c.join-all.ensures.joined) in
+          c.loop-worker.invariant.4 most
+          (subst (All (λ w. w.account.seen ≤ most)) (sym split) (All-cons (λ w. w.account.seen ≤ most) c.in-Some.worker (into_iter_items c.next-in-loop-worker.new.self) (omega (arith, both)) others))
+          (omega (arith, both)),
     )
+
+pub join-all-requires-clause-other_of : goal.join-all-requires-clause-other_of
+join-all-requires-clause-other_of c =
+    let split : into_iter_items c.loop-worker.worker-iterator ≡ c.in-Some.worker ∷ into_iter_items c.next-in-loop-worker.new.self = search rules in
+    All-head (λ w. w.adds_to ≡ c.args.done.now) _ _ (All-same (λ w. w.adds_to ≡ c.args.done.now) _ _ (sym split) c.loop-worker.invariant.1)

@@ -1,4 +1,4 @@
-use Rattle.std.proofs.Common.{◌<◌, length, arith}
+use Rattle.std.proofs.Common.{◌<◌, ◌∙◌, Some, length, ap, sym, arith}
 use Rattle.indicatif_term.specs.Engines.{is_bottom}
 use Rattle.indicatif_board.specs.BoardValues.{id_of}
 use Rattle.indicatif_board.specs.Multi.{IsIn}
@@ -15,6 +15,6 @@ returns g c = record {
       let f = c.in_ok-at.ensures.found mark s inside in
       let size = members_length b.frame.items b.members.items b.table.made (is_bottom b.alignment) b.limiter s inside.1 in
       let within : c.in_ok-at.at < length b.members.items = omega (arith, size, f.1.1) in
-      (f.0, said_of_place other (λ bar. bar) b.members.items s.members (id_of c.args.id).number c.in_ok-at.at c.index.result.now inside.1.members_are f.1.0 within c.index.ensures);
-  «record» = λ own. record_stands c.args.self.now.shown c.args.id.number c.in_ok-at.at c.in_ok-at.ensures.own c.index.result.now c.index.ensures;
+      (f.0, c.bar.ensures ∙ said_of_place other (λ bar. bar) b.members.items s.members (id_of c.args.id).number c.in_ok-at.at c.index.result.now inside.1.members_are f.1.0 within c.index.ensures);
+  «record» = λ own. record_stands c.args.self.now.shown c.args.id.number c.in_ok-at.at c.in_ok-at.ensures.own c.index.result.now c.index.ensures ∙ ap Some (sym c.bar.ensures);
 }

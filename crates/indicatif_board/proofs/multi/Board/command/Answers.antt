@@ -50,7 +50,7 @@ returns-in_err-ask-clause-leads g c = λ mark s inside.
     let size = members_length b.frame.items b.members.items b.table.made (is_bottom b.alignment) b.limiter s inside.1 in
     let within : c.in_ok-at.at < length b.members.items = omega (arith, size, f.1.1) in
     let same = same_at b.frame.items b.members.items b.table.made
-    (is_bottom b.alignment) b.limiter s c.in_ok-at.at item c.apply.new.self inside.1 f.1.1 c.index_mut.ensures.value c.in_err-ask.ensures.unchanged in
+    (is_bottom b.alignment) b.limiter s c.in_ok-at.at item c.obey.new.self c.obey.ensures.stays inside.1 f.1.1 c.index_mut.ensures.value c.in_err-ask.ensures.unchanged in
     rw (x.1 ∙ ap Err x.2) (
       s,
       (inside.0, same, inside.2),
@@ -83,7 +83,7 @@ returns-clause-leads g c = λ mark s inside.
     let next = bar_changed id.number change s in
     let size = members_length b.frame.items b.members.items b.table.made (is_bottom b.alignment) b.limiter s inside.1 in
     let within : c.in_ok-at.at < length b.members.items = omega (arith, size, f.1.1) in
-    let holds = told_at change b.frame.items b.members.items b.table.made (is_bottom b.alignment) b.limiter mark s id.number c.in_ok-at.at item c.apply.new.self
+    let holds = told_at change b.frame.items b.members.items b.table.made (is_bottom b.alignment) b.limiter mark s id.number c.in_ok-at.at item c.obey.new.self c.obey.ensures.stays
     inside.1 f.1.0 f.1.1 c.index_mut.ensures.value (ap (λ r. r.0) c.in_ok-ask.ensures.done) in
     let placed = told_placed change id.number c.in_ok-at.at s.members f.1 in
     let takes_is = said_of false (λ bar. takes_memory command bar) id.number s.members in
@@ -134,8 +134,8 @@ returns-in_err-ask-clause-record g c = λ own bar some.
     let item = c.index_mut.result.now in
     let stood = record_stands b c.args.id.number c.in_ok-at.at c.in_ok-at.ensures.own item c.index_mut.ensures.value in
     let bar_is : item.bar ≡ bar = cc (sym stood ∙ some) in (
-      c.apply.new.self,
-      told_on b c.args.id.number c.in_ok-at.at c.in_ok-at.ensures.own item c.apply.new.self c.index_mut.ensures.value,
+      c.obey.new.self.bar,
+      told_on b c.args.id.number c.in_ok-at.at c.in_ok-at.ensures.own item c.obey.new.self c.obey.ensures.stays c.index_mut.ensures.value,
       inr (
         c.in_err-ask.field-0.0,
         x.1 ∙ ap Err x.2,
@@ -149,7 +149,7 @@ returns-in_err-ask-clause-record g c = λ own bar some.
 
 pub returns-in_err-ask-clause-others : goal.returns-in_err-ask-clause-others
 returns-in_err-ask-clause-others g c =
-    told_apart c.args.self.now.shown c.args.id.number c.in_ok-at.at c.in_ok-at.ensures.own (record { bar = c.apply.new.self; dropped = c.index_mut.result.now.dropped })
+    told_apart c.args.self.now.shown c.args.id.number c.in_ok-at.at c.in_ok-at.ensures.own c.obey.new.self
 
 pub returns-clause-not_member : goal.returns-clause-not_member
 returns-clause-not_member g c = λ own. (
@@ -169,12 +169,12 @@ returns-clause-record g c = λ own bar some.
     let item = c.index_mut.result.now in
     let stood = record_stands b c.args.id.number c.in_ok-at.at c.in_ok-at.ensures.own item c.index_mut.ensures.value in
     let bar_is : item.bar ≡ bar = cc (sym stood ∙ some) in (
-      c.apply.new.self,
-      c.draw.ensures.records c.args.id.number ∙ told_on b c.args.id.number c.in_ok-at.at c.in_ok-at.ensures.own item c.apply.new.self c.index_mut.ensures.value,
+      c.obey.new.self.bar,
+      c.draw.ensures.records c.args.id.number ∙ told_on b c.args.id.number c.in_ok-at.at c.in_ok-at.ensures.own item c.obey.new.self c.obey.ensures.stays c.index_mut.ensures.value,
       inl (ap (λ r. r.0) c.in_ok-ask.ensures.done ∙ ap (λ r. (obeyed g.K.Tracks.means (command_of c.args.command) r c.args.now).0) bar_is),
     )
 
 pub returns-clause-others : goal.returns-clause-others
 returns-clause-others g c = λ other apart.
     c.draw.ensures.records other
-    ∙ told_apart c.args.self.now.shown c.args.id.number c.in_ok-at.at c.in_ok-at.ensures.own (record { bar = c.apply.new.self; dropped = c.index_mut.result.now.dropped }) other apart
+    ∙ told_apart c.args.self.now.shown c.args.id.number c.in_ok-at.at c.in_ok-at.ensures.own c.obey.new.self other apart

@@ -50,7 +50,7 @@ returns-in-Ok-clause-leads g c = λ mark s inside.
     let next = bar_changed id.number change s in
     let size = members_length b.frame.items b.members.items b.table.made (is_bottom b.alignment) b.limiter s inside.1 in
     let within : c.in_ok-at.at < length b.members.items = omega (arith, size, f.1.1) in
-    let holds = told_at change b.frame.items b.members.items b.table.made (is_bottom b.alignment) b.limiter mark s id.number c.in_ok-at.at item c.dropped.new.self
+    let holds = told_at change b.frame.items b.members.items b.table.made (is_bottom b.alignment) b.limiter mark s id.number c.in_ok-at.at item c.lose_owner.new.self c.lose_owner.ensures.stays
     inside.1 f.1.0 f.1.1 c.index_mut.ensures.value (ap (λ r. r.0) c.in-Ok.ensures.done) in
     let placed = told_placed change id.number c.in_ok-at.at s.members f.1 in
     let takes_is = said_of false ((board_bars tracks).left_takes now) id.number s.members in
@@ -79,7 +79,7 @@ returns-in-Err-clause-leads g c = λ mark s inside.
     let size = members_length b.frame.items b.members.items b.table.made (is_bottom b.alignment) b.limiter s inside.1 in
     let within : c.in_ok-at.at < length b.members.items = omega (arith, size, f.1.1) in
     let same = same_at b.frame.items b.members.items b.table.made
-    (is_bottom b.alignment) b.limiter s c.in_ok-at.at item c.dropped.new.self inside.1 f.1.1 c.index_mut.ensures.value c.in-Err.ensures.unchanged in
+    (is_bottom b.alignment) b.limiter s c.in_ok-at.at item c.lose_owner.new.self c.lose_owner.ensures.stays inside.1 f.1.1 c.index_mut.ensures.value c.in-Err.ensures.unchanged in
     let takes = said_of_place false ((board_bars tracks).left_takes now) b.members.items s.members id.number c.in_ok-at.at item inside.1.members_are f.1.0 within c.index_mut.ensures.value in
     let unfinished = c.in-Err.ensures.memory.1 in
     let short = c.in-Err.ensures.memory.2 in
@@ -107,7 +107,7 @@ returns-in-Ok-clause-not_member g c = λ own. (
 pub returns-in-Ok-clause-others : goal.returns-in-Ok-clause-others
 returns-in-Ok-clause-others g c = λ other apart.
     c.part.ensures.others other apart ∙ c.draw-drawn.ensures.records other
-    ∙ told_apart c.args.self.now.shown c.args.id.number c.in_ok-at.at c.in_ok-at.ensures.own (record { bar = c.dropped.new.self; dropped = c.index_mut.result.now.dropped }) other apart
+    ∙ told_apart c.args.self.now.shown c.args.id.number c.in_ok-at.at c.in_ok-at.ensures.own c.lose_owner.new.self other apart
 
 pub returns-in-Err-clause-not_member : goal.returns-in-Err-clause-not_member
 returns-in-Err-clause-not_member g c = λ own. (
@@ -118,4 +118,4 @@ returns-in-Err-clause-not_member g c = λ own. (
 pub returns-in-Err-clause-others : goal.returns-in-Err-clause-others
 returns-in-Err-clause-others g c = λ other apart.
     c.mark.ensures.others other apart
-    ∙ told_apart c.args.self.now.shown c.args.id.number c.in_ok-at.at c.in_ok-at.ensures.own (record { bar = c.dropped.new.self; dropped = c.index_mut.result.now.dropped }) other apart
+    ∙ told_apart c.args.self.now.shown c.args.id.number c.in_ok-at.at c.in_ok-at.ensures.own c.lose_owner.new.self other apart

@@ -34,9 +34,9 @@ returns-then-at-len-clause-found g c = λ mark s inside.
     found_none b.frame.items b.members.items b.table.made (is_bottom b.alignment) b.limiter mark (id_of c.args.id) s c.place_of_bar-at.result (c.if-id-self.false ∙ inside.0) inside.1 at_is
     (c.if-at-len.true ∙ c.len.ensures ∙ sym c.deref.ensures.len ∙ ap length c.deref.ensures.value)
 
-pub returns-then-index-clause-found : goal.returns-then-index-clause-found
+pub returns-then-is_dropped-clause-found : goal.returns-then-is_dropped-clause-found
 unfolding IsIn
-returns-then-index-clause-found g c = λ mark s inside.
+returns-then-is_dropped-clause-found g c = λ mark s inside.
     let b = c.args.self.now.shown in
     let at_is = c.place_of_bar-at.ensures ∙ ap (position_or_len (λ x. x.bar == c.args.id.number)) c.deref.ensures.value in
     let size = frame_length b.frame.items s.members inside.1.frame_is in
@@ -53,7 +53,7 @@ returns-then-index-clause-found g c = λ mark s inside.
       c.if-at-len.false,
     ) in
     found_gone b.frame.items b.members.items b.table.made (is_bottom b.alignment) b.limiter mark (id_of c.args.id) s c.place_of_bar-at.result (c.if-id-self.false ∙ inside.0) inside.1 at_is
-    c.index.result.now within c.index.ensures c.if-index.true
+    c.index.result.now within c.index.ensures (sym c.is_dropped.ensures ∙ c.if-is_dropped.true)
 
 pub returns-clause-found : goal.returns-clause-found
 unfolding IsIn
@@ -74,7 +74,7 @@ returns-clause-found g c = λ mark s inside.
       c.if-at-len.false,
     ) in (
       found_there b.frame.items b.members.items b.table.made (is_bottom b.alignment) b.limiter mark (id_of c.args.id) s c.place_of_bar-at.result (c.if-id-self.false ∙ inside.0) inside.1 at_is
-          c.index.result.now within c.index.ensures c.if-index.false,
+          c.index.result.now within c.index.ensures (sym c.is_dropped.ensures ∙ c.if-is_dropped.false),
       (placed_at b.frame.items b.members.items b.table.made (is_bottom b.alignment) b.limiter mark (id_of c.args.id) s c.place_of_bar-at.result (c.if-id-self.false ∙ inside.0) inside.1 at_is, within),
     )
 
@@ -105,10 +105,10 @@ returns-clause-own g c =
       b.even,
       b.members.ok,
     ) in
-    stands b c.args.id.number c.place_of_bar-at.result c.index.result.now here within c.index.ensures c.if-index.false
+    stands b c.args.id.number c.place_of_bar-at.result c.index.result.now here within c.index.ensures (sym c.is_dropped.ensures ∙ c.if-is_dropped.false)
 
-pub returns-then-index-clause-absent : goal.returns-then-index-clause-absent
-returns-then-index-clause-absent g c = λ own.
+pub returns-then-is_dropped-clause-absent : goal.returns-then-is_dropped-clause-absent
+returns-then-is_dropped-clause-absent g c = λ own.
     let b = c.args.self.now.shown in
     let here = c.place_of_bar-at.ensures ∙ ap (position_or_len (λ x. x.bar == c.args.id.number)) c.deref.ensures.value ∙ seat_is b.frame.items b.table.order c.args.id.number b.seated in
     let within : c.place_of_bar-at.result < length b.members.items =
@@ -122,7 +122,7 @@ returns-then-index-clause-absent g c = λ own.
       b.even,
       b.members.ok,
     ) in
-    (refl, dropped_on b c.args.id.number c.place_of_bar-at.result c.index.result.now here within c.index.ensures c.if-index.true)
+    (refl, dropped_on b c.args.id.number c.place_of_bar-at.result c.index.result.now here within c.index.ensures (sym c.is_dropped.ensures ∙ c.if-is_dropped.true))
 
 pub returns-then-at-len-clause-absent : goal.returns-then-at-len-clause-absent
 returns-then-at-len-clause-absent g c = λ own.

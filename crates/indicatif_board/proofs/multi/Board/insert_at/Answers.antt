@@ -30,3 +30,9 @@ pub returns-in-Ok-take_in-clause-records : goal.returns-in-Ok-take_in-clause-rec
 returns-in-Ok-take_in-clause-records g c =
     let r = c.in-Ok-take_in.ensures.records in
     rw c.in-New.is (refl, r.0, r.1, r.2)
+
+pub returns-in-Ok-take_in-clause-slot : goal.returns-in-Ok-take_in-clause-slot
+returns-in-Ok-take_in-clause-slot g c = rw c.in-New.is c.in-Ok-take_in.ensures.slot
+
+pub returns-in-Err-take_in-clause-slot : goal.returns-in-Err-take_in-clause-slot
+returns-in-Err-take_in-clause-slot g c = rw c.in-New.is c.in-Err-take_in.ensures.slot

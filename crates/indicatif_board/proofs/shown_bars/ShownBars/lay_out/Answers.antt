@@ -1,6 +1,7 @@
-use Rattle.std.proofs.Common.{◌∙◌, ◌<◌, arith, length, subst, Result, Ok, Err}
+use Rattle.std.proofs.Common.{◌∙◌, ◌<◌, ap, sym, arith, length, subst, Result, Ok, Err}
 use Rattle.std.specs.Prelude.{vec_len, IfSome, IfOk, IfErr}
 use Rattle.indicatif_term.specs.Engines.{is_bottom}
+use Rattle.indicatif_bar.specs.Bars.{lines_of_bar, lines_take_memory}
 use Rattle.indicatif_board.proofs.MemberLemmas.{laid_at, lays_at, relaid_bars}
 use Rattle.indicatif_board.proofs.shown_bars.ShownBars.lay_out.Goals as goal
 
@@ -26,7 +27,7 @@ returns-in-Some-clause-laid g c =
     when_ok c.relay.result c.relay.ensures.lines (λ lines target s number columns placed holds.
     laid_at tracks b.frame.items b.members.items b.table.made
     (is_bottom b.alignment) b.limiter s target c.args.now c.args.width c.in-Some.at c.index.result.now c.index_mut.result.now c.relay.new.stored
-    columns holds c.index.ensures c.index_mut.ensures.value lines number c.args.bar c.in-Some.is placed)
+    columns holds c.index.ensures c.index_mut.ensures.value (lines ∙ ap (λ x. lines_of_bar tracks x c.args.now c.args.width) c.bar.ensures) number c.args.bar c.in-Some.is placed)
 
 pub returns-in-Some-clause-memory : goal.returns-in-Some-clause-memory
 returns-in-Some-clause-memory g c =
@@ -36,5 +37,5 @@ returns-in-Some-clause-memory g c =
     when_err c.relay.result c.relay.ensures.memory (λ e short. (
       short.0,
       λ s number named holds.
-          lays_at g.K.Tracks.means b.members.items s number c.args.bar c.in-Some.at c.index.result.now holds.members_are c.in-Some.is named within c.index.ensures short.1,
+          lays_at g.K.Tracks.means b.members.items s number c.args.bar c.in-Some.at c.index.result.now holds.members_are c.in-Some.is named within c.index.ensures (ap lines_take_memory (sym c.bar.ensures) ∙ short.1),
     ))

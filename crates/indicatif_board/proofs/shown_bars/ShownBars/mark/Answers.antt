@@ -1,8 +1,10 @@
-use Rattle.std.proofs.Common.{◌≡◌, ◌<◌, ◌≤◌, ◌∙◌, ap, length, arith, true}
+use Rattle.std.proofs.Common.{◌≡◌, ◌<◌, ◌≤◌, ◌∙◌, ap, sym, subst, set, length, arith}
 use Rattle.std.specs.Prelude.{not, ◌==◌}
 use Rattle.std.specs.List.{position_or_len}
 use Rattle.std.proofs.lemmas.List.Sums.{prefix_len-le-length}
 use Rattle.indicatif_term.specs.Engines.{is_bottom}
+use Rattle.indicatif_board.specs.Boards.{marked_on}
+use Rattle.indicatif_board.specs.ShownBars.{Holds, owned_record}
 use Rattle.indicatif_board.proofs.MemberLemmas.{place_is, frame_length}
 use Rattle.indicatif_board.proofs.DropLemmas.{marked_nowhere, marked_there}
 use Rattle.indicatif_board.proofs.BarRecordLemmas.{seat_is, evenly, record_past, told_record, told_others}
@@ -15,8 +17,9 @@ returns-then-at-len-clause-marked g c = λ s holds.
     let here = c.place_of_bar-at.ensures ∙ ap (position_or_len (λ x. x.bar == c.args.number)) c.deref.ensures.value ∙ place_is b.frame.items s.members c.args.number holds.frame_is in
     let size = frame_length b.frame.items s.members holds.frame_is in
     let within : c.place_of_bar-at.result < length s.members = omega (arith, size, c.len.ensures, c.if-at-len.true, b.even, b.members.ok, b.frame.ok) in
-    marked_there b.frame.items b.members.items b.table.made (is_bottom b.alignment) b.limiter s c.args.number
-    c.place_of_bar-at.result holds here c.index_mut.result.now within c.index_mut.ensures.value
+    subst (λ m. Holds b.frame.items (set b.members.items c.place_of_bar-at.result m) b.table.made (is_bottom b.alignment) b.limiter (marked_on c.args.number s)) (sym c.mark.ensures)
+    (marked_there b.frame.items b.members.items b.table.made (is_bottom b.alignment) b.limiter s c.args.number
+    c.place_of_bar-at.result holds here c.index_mut.result.now within c.index_mut.ensures.value)
 
 pub returns-else-at-len-clause-marked : goal.returns-else-at-len-clause-marked
 returns-else-at-len-clause-marked g c = λ s holds.
@@ -44,14 +47,14 @@ returns-then-at-len-clause-record g c =
     let here = c.place_of_bar-at.ensures ∙ ap (position_or_len (λ x. x.bar == c.args.number)) c.deref.ensures.value ∙ seat_is b.frame.items b.table.order c.args.number b.seated in
     let even = evenly b.frame.items b.table.order b.members.items (omega (arith, b.even, b.members.ok, b.frame.ok)) b.seated in
     let within : c.place_of_bar-at.result < length b.members.items = omega (arith, c.len.ensures, c.if-at-len.true, b.members.ok) in
-    told_record c.args.number c.place_of_bar-at.result b.table.order b.members.items even (record { bar = c.index_mut.result.now.bar; dropped = true }) here within
+    told_record c.args.number c.place_of_bar-at.result b.table.order b.members.items even c.mark.new.self here within ∙ ap owned_record c.mark.ensures
 
 pub returns-then-at-len-clause-others : goal.returns-then-at-len-clause-others
 returns-then-at-len-clause-others g c =
     let b = c.args.self.now in
     let here = c.place_of_bar-at.ensures ∙ ap (position_or_len (λ x. x.bar == c.args.number)) c.deref.ensures.value ∙ seat_is b.frame.items b.table.order c.args.number b.seated in
     let even = evenly b.frame.items b.table.order b.members.items (omega (arith, b.even, b.members.ok, b.frame.ok)) b.seated in
-    told_others c.args.number c.place_of_bar-at.result b.table.order b.members.items even (record { bar = c.index_mut.result.now.bar; dropped = true }) here
+    told_others c.args.number c.place_of_bar-at.result b.table.order b.members.items even c.mark.new.self here
 
 pub returns-else-at-len-clause-record : goal.returns-else-at-len-clause-record
 returns-else-at-len-clause-record g c =

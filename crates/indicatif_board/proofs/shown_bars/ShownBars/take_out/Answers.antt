@@ -1,4 +1,4 @@
-use Rattle.std.proofs.Common.{◌<◌, ◌∙◌, length, arith, sym, ap, subst, map}
+use Rattle.std.proofs.Common.{◌<◌, ◌∙◌, Some, length, arith, sym, ap, subst, map}
 use Rattle.indicatif_term.specs.Engines.{is_bottom}
 use Rattle.indicatif_term.specs.declared.lines.Segment.{Segment}
 use Rattle.indicatif_board.specs.ShownBars.{Holds}
@@ -24,7 +24,7 @@ pub returns-clause-bar : goal.returns-clause-bar
 returns-clause-bar g c = λ s number other holds here.
     let b = c.args.self.now in
     let within : c.args.at < length b.members.items = omega (arith, b.members.ok, c.requires.within) in
-    said_of_place other (λ bar. bar) b.members.items s.members number c.args.at c.remove-member.result holds.members_are here within c.remove-member.ensures.value
+    c.into_bar.ensures ∙ said_of_place other (λ bar. bar) b.members.items s.members number c.args.at c.remove-member.result holds.members_are here within c.remove-member.ensures.value
 
 pub returns-clause-record : goal.returns-clause-record
 returns-clause-record g c = λ number stands.
@@ -32,6 +32,7 @@ returns-clause-record g c = λ number stands.
     let member = c.remove-member.result in
     let even = evenly b.frame.items b.table.order b.members.items (omega (arith, b.even, b.members.ok, b.frame.ok)) b.seated in
     there_record number c.args.at b.table.order b.members.items even member stands.seat stands.within c.remove-member.ensures.value ∙ owned member (stands.owned member c.remove-member.ensures.value)
+    ∙ ap Some (sym c.into_bar.ensures)
 
 pub returns-clause-gone : goal.returns-clause-gone
 returns-clause-gone g c = λ number here.
