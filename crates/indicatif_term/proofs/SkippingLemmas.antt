@@ -15,7 +15,7 @@ use Rattle.indicatif_term.specs.Inside.Skips.{PlacedLine, placed_height, placed_
 use Rattle.indicatif_term.specs.Inside.Places.{IsWithin}
 use Rattle.indicatif_term.specs.declared.beside.Room.{Room}
 use Rattle.indicatif_term.specs.Standing.{placed_of, placed, texts, standing_rows, AreLines}
-use Rattle.indicatif_term.specs.Remembered.{AreRemembered, Suits}
+use Rattle.indicatif_term.specs.Remembered.{AreRemembered, known_lines, Suits}
 use Rattle.indicatif_term.specs.declared.remembered.StandingLine.{StandingLine}
 use Rattle.indicatif_term.specs.declared.remembered.Remembered.{Remembered}
 use Rattle.indicatif_term.specs.declared.counts.Counts.{Counts}
@@ -34,7 +34,7 @@ use Rattle.indicatif_term.proofs.ShownRowLemmas.{lines_rows, frame_rows, frame_l
 use Rattle.indicatif_term.proofs.CountLemmas.{length-live, live_of, settled-rows, passed-rows, same_blanks_log}
 use Rattle.indicatif_term.proofs.PaintingLemmas.{IsDrawable, AreDrawable}
 use Rattle.indicatif_term.proofs.SkipLemmas.{height-append, sitting_parts}
-use Rattle.indicatif_term.proofs.RememberedLemmas.{lines_placed, lines_right}
+use Rattle.indicatif_term.proofs.RememberedLemmas.{known_rows, lines_placed, lines_right}
 use Rattle.indicatif_term.proofs.TerminalStepLemmas.{rows_some}
 use Rattle.indicatif_term.proofs.SkipDrawingLemmas.{change_redraws}
 use Rattle.indicatif_term.proofs.DrawingLemmas.{Replaces, drawn_goes, drawn-sound, log_live}
@@ -59,27 +59,33 @@ drawn_rows w h pass bottom frame l =
     let n = length (shown_rows w h (take pass frame)) in
     settled-rows w h (passed w n made) ∙ passed-rows w n made
 
+-- the lines before the last drawing stand above the live rows
+abbrev pub StandAbove : ℕ → Remembered → Lists → Type 0
+StandAbove w r l = (front : List (List Cell)) × (front ++ standing_rows w r.kept.items ≡ l.above ++ l.kept)
+
 pub drawn_shown : (v w h pass blanks : ℕ) (bottom : Bool) (frame : List Segment) (l : Lists) (c : Counts) (plan : Plan) (r : Remembered) → v ≡ w → r.width ≡ v → CountsOf c l →
-    IsPlan w h pass (map bar_lines frame) plan → blanks ≡ blanks_for bottom c.live 0 plan.rows → texts r.lines.items ≡ replicate blanks [] ++ take plan.lines (frame_lines frame) →
+    IsPlan w h pass (map bar_lines frame) plan → blanks ≡ blanks_for bottom c.live 0 plan.rows → texts r.lines.items ≡ replicate blanks [] ++ take plan.lines (frame_lines frame) → StandAbove v r l →
     AreRemembered r (drawn w h bottom pass (map bar_lines frame) l)
-drawn_shown v w h pass blanks bottom frame l c plan r same_width e o q b t =
+drawn_shown v w h pass blanks bottom frame l c plan r same_width e o q b t k =
     let same : blanks_for bottom c.live 0 plan.rows ≡ (live_of_frame w h bottom (live_height l.live) 0 (map bar_lines frame)).blanks = rw (live_of c l o, q.rows_are) refl in
     let rows : standing_rows w r.lines.items ≡ live_rows w (live_of_frame w h bottom (live_height l.live) 0 (map bar_lines frame)) =
     ap (lines_rows w) (t ∙ ap (λ n. replicate blanks [] ++ take n (frame_lines frame)) q.lines_are) ∙ frame_rows w h frame blanks
     ∙ ap (λ n. live_rows w (record { blanks = n; segments = shown_rows w h (map bar_lines frame) })) (b ∙ same) in
     let width : r.width ≡ w = e ∙ same_width in
+    let above : k.0 ++ standing_rows w r.kept.items ≡ l.above ++ l.kept = subst (λ n. k.0 ++ standing_rows n r.kept.items ≡ l.above ++ l.kept) same_width k.1 in
     λ p. (
-      l.above ++ l.kept,
-      ap (λ n. (l.above ++ l.kept) ++ standing_rows n r.lines.items) width ∙ ap (λ x. (l.above ++ l.kept) ++ x) rows ∙ sym (drawn_rows w h pass bottom (map bar_lines frame) l)
+      k.0,
+      ap (λ n. k.0 ++ standing_rows n (known_lines r)) width ∙ known_rows w r k.0 ∙ ap (λ x. x ++ standing_rows w r.lines.items) above
+          ∙ ap (λ x. (l.above ++ l.kept) ++ x) rows ∙ sym (drawn_rows w h pass bottom (map bar_lines frame) l)
           ∙ ap (λ n. all_rows n (drawn w h bottom pass (map bar_lines frame) l)) (sym width),
     )
 
 pub drawn_suits : (v w h pass blanks : ℕ) (bottom : Bool) (frame : List Segment) (l : Lists) (c next : Counts) (plan : Plan) (r : Remembered) → v ≡ w → r.width ≡ v → CountsOf c l →
     IsPlan w h pass (map bar_lines frame) plan → blanks ≡ blanks_for bottom c.live 0 plan.rows → texts r.lines.items ≡ replicate blanks [] ++ take plan.lines (frame_lines frame) →
-    CountsOf next (drawn w h bottom pass (map bar_lines frame) l) → Suits next false r (drawn w h bottom pass (map bar_lines frame) l)
-drawn_suits v w h pass blanks bottom frame l c next plan r same_width e o q b t o' =
+    StandAbove v r l → CountsOf next (drawn w h bottom pass (map bar_lines frame) l) → Suits next false r (drawn w h bottom pass (map bar_lines frame) l)
+drawn_suits v w h pass blanks bottom frame l c next plan r same_width e o q b t k o' =
     suits_made next r (drawn w h bottom pass (map bar_lines frame) l) o' (drawn-sound w h bottom pass (map bar_lines frame) l)
-    (drawn_shown v w h pass blanks bottom frame l c plan r same_width e o q b t)
+    (drawn_shown v w h pass blanks bottom frame l c plan r same_width e o q b t k)
 
 -- ---- what is remembered of a log
 
@@ -91,8 +97,8 @@ logged_rows w h bottom text frame l = settled-rows w h (record l { above = l.abo
 
 pub logged_shown : (v w h height blanks : ℕ) (bottom : Bool) (text : List (List ℕ)) (frame : List Segment) (l : Lists) (c : Counts) (plan : Plan) (r : Remembered) → v ≡ w → r.width ≡ v → CountsOf c l →
     IsPlan w h 0 (map bar_lines frame) plan → height ≡ min (text_height w text) (2 ^ 64 - 1) → blanks ≡ blanks_for bottom (c.kept + c.live) height plan.rows →
-    texts r.lines.items ≡ replicate blanks [] ++ take plan.lines (frame_lines frame) → AreRemembered r (logged w h bottom text (map bar_lines frame) l)
-logged_shown v w h height blanks bottom text frame l c plan r same_width e o q m b t =
+    texts r.lines.items ≡ replicate blanks [] ++ take plan.lines (frame_lines frame) → r.kept.items ≡ [] → AreRemembered r (logged w h bottom text (map bar_lines frame) l)
+logged_shown v w h height blanks bottom text frame l c plan r same_width e o q m b t none =
     let same : blanks ≡ (log_live w h bottom text (map bar_lines frame) l).blanks = b ∙ same_blanks_log w h height bottom text (map bar_lines frame) l c plan o q m in
     let rows : standing_rows w r.lines.items ≡ live_rows w (log_live w h bottom text (map bar_lines frame) l) =
     ap (lines_rows w) (t ∙ ap (λ n. replicate blanks [] ++ take n (frame_lines frame)) q.lines_are) ∙ frame_rows w h frame blanks
@@ -101,7 +107,7 @@ logged_shown v w h height blanks bottom text frame l c plan r same_width e o q m
     let before = l.above ++ flat_map (rows_of w) text in
     λ p. (
       before,
-      ap (λ n. before ++ standing_rows n r.lines.items) width ∙ ap (λ x. before ++ x) rows ∙ sym (logged_rows w h bottom text (map bar_lines frame) l)
+      ap (λ n. before ++ standing_rows n (known_lines r)) width ∙ ap (λ ls. before ++ standing_rows w (ls ++ r.lines.items)) none ∙ ap (λ x. before ++ x) rows ∙ sym (logged_rows w h bottom text (map bar_lines frame) l)
           ∙ ap (λ n. all_rows n (logged w h bottom text (map bar_lines frame) l)) (sym width),
     )
 
@@ -120,8 +126,9 @@ standing_live w taken r l p e a k m low =
     let some : 0 < r.width = omega arith in
     let height : placed_height (placed r.lines.items) ≡ length (standing_rows w r.lines.items) = subst (λ n. placed_height (placed r.lines.items) ≡ length (standing_rows n r.lines.items)) e (lines_height r.width r.lines.items (lines_right r some)) in
     let x = a some in
-    let whole : x.0 ++ standing_rows w r.lines.items ≡ (l.above ++ l.kept) ++ live_rows w l.live = subst (λ n. x.0 ++ standing_rows n r.lines.items ≡ all_rows n l) e x.1 in
-    ap (λ n. drop n (standing_rows w r.lines.items)) (omega (arith, height)) ∙ last_rows x.0 (standing_rows w r.lines.items) (l.above ++ l.kept) (live_rows w l.live) taken whole k (omega (arith, height))
+    let before = x.0 ++ standing_rows w r.kept.items in
+    let whole : before ++ standing_rows w r.lines.items ≡ (l.above ++ l.kept) ++ live_rows w l.live = sym (known_rows w r x.0) ∙ subst (λ n. x.0 ++ standing_rows n (known_lines r) ≡ all_rows n l) e x.1 in
+    ap (λ n. drop n (standing_rows w r.lines.items)) (omega (arith, height)) ∙ last_rows before (standing_rows w r.lines.items) (l.above ++ l.kept) (live_rows w l.live) taken whole k (omega (arith, height))
 
 -- ---- the draw
 
