@@ -54,11 +54,7 @@ pub fn carried(
 }
 
 /// Copies of the lines above the live rows, down to the first of those that are needed for the kept rows.
-fn copied_above(
-    spare: &mut Spare,
-    shown: &Remembered,
-    counts: &Counts,
-) -> Option<Vec<StandingLine>>
+fn copied_above(spare: &mut Spare, shown: &Remembered, counts: &Counts) -> Option<Vec<StandingLine>>
     ensures { IfSome result (λ ls. (at : ℕ) × (cut : ℕ)
         × (texts ls.items ≡ texts (drop at shown.now.kept.items) ++ texts (take cut shown.now.lines.items))
         × (cut ≤ length shown.now.lines.items) × (placed_height (placed (drop cut shown.now.lines.items)) ≡ counts.now.live)

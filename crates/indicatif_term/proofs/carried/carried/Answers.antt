@@ -1,4 +1,4 @@
-use Rattle.std.proofs.Common.{ℕ, ◌≡◌, ◌<◌, subst, sym}
+use Rattle.std.proofs.Common.{◌≡◌, ◌<◌, subst, sym}
 use Rattle.indicatif_term.specs.Standing.{AreLines}
 use Rattle.indicatif_term.proofs.RememberedLemmas.{lines_right, kept_right}
 use Rattle.indicatif_term.proofs.CarriedLemmas.{carried_rows, none_carried}
