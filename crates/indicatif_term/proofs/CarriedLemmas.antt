@@ -23,7 +23,8 @@ use Rattle.indicatif_term.proofs.SkippingLemmas.{lines_height}
 abbrev bytes_of : StandingLine → List ℕ
 bytes_of l = string_bytes l.text
 
-pub texts_more : (old more new : List StandingLine) (i : ℕ) (x y : StandingLine) (before : List (List ℕ)) → i < length more → get_or more i x ≡ x → new ≡ old ++ y ∷ [] → string_bytes y.text ≡ string_bytes x.text →
+pub texts_more : (old more new : List StandingLine) (i : ℕ) (x y : StandingLine) (before : List (List ℕ)) → i < length more →
+    get_or more i x ≡ x → new ≡ old ++ y ∷ [] → string_bytes y.text ≡ string_bytes x.text →
     texts old ≡ before ++ texts (take i more) → texts new ≡ before ++ texts (take (i + 1) more)
 texts_more old more new i x y before h e n t is =
     ap texts n ∙ map-append bytes_of old (y ∷ []) ∙ ap (λ xs. xs ++ string_bytes y.text ∷ []) is ∙ ap (λ z. (before ++ texts (take i more)) ++ z ∷ []) t
@@ -76,11 +77,13 @@ rows_above w at cut live r l ls p e a right n t h =
     ∙ ap (λ y. before ++ y) (append_assoc (standing_rows w (drop at ks)) (standing_rows w (take cut new)) low)
     ∙ ap (λ y. before ++ (standing_rows w (drop at ks) ++ y)) (sym (rows_split w cut new))
     ∙ append_assoc x.0 (standing_rows w (take at ks)) (standing_rows w (drop at ks) ++ standing_rows w new)
-    ∙ ap (λ y. x.0 ++ y) (sym (append_assoc (standing_rows w (take at ks)) (standing_rows w (drop at ks)) (standing_rows w new)) ∙ ap (λ y. y ++ standing_rows w new) (sym (rows_split w at ks)) ∙ sym (rows-append w ks new)) in
+    ∙ ap (λ y. x.0 ++ y) (sym (append_assoc (standing_rows w (take at ks)) (standing_rows w (drop at ks)) (standing_rows w new))
+    ∙ ap (λ y. y ++ standing_rows w new) (sym (rows_split w at ks)) ∙ sym (rows-append w ks new)) in
     (before, same_before (before ++ standing_rows w ls) low (l.above ++ l.kept) (live_rows w l.live) (parts ∙ whole) (omega (arith, lower, n)))
 
-pub carried_rows : (v at cut : ℕ) (r : Remembered) (c : Counts) (ls : List StandingLine) → 0 < v → r.width ≡ v → AreLines v r.lines.items → texts ls ≡ texts (drop at r.kept.items) ++ texts (take cut r.lines.items) →
-    placed_height (placed (drop cut r.lines.items)) ≡ c.live → (l : Lists) → AreRemembered r l → CountsOf c l → (front : List (List Cell)) × (front ++ standing_rows v ls ≡ l.above ++ l.kept)
+pub carried_rows : (v at cut : ℕ) (r : Remembered) (c : Counts) (ls : List StandingLine) → 0 < v → r.width ≡ v → AreLines v r.lines.items →
+    texts ls ≡ texts (drop at r.kept.items) ++ texts (take cut r.lines.items) → placed_height (placed (drop cut r.lines.items)) ≡ c.live →
+    (l : Lists) → AreRemembered r l → CountsOf c l → (front : List (List Cell)) × (front ++ standing_rows v ls ≡ l.above ++ l.kept)
 carried_rows v at cut r c ls p e right t h l a o = rows_above v at cut c.live r l ls p e a right (length-live v l.live ∙ sym (live_of c l o)) t h
 
 -- where no line is carried

@@ -173,7 +173,8 @@ whole_cell Continued c e = elim (cases_Bool ((c == 0x20) && (0 == 0))) [
 ]
 
 -- a row that looks like this one ends with a cell that looks like its last
-last_cell : (cells r : List Cell) (c : Cell) → map look r ≡ map look (cells ++ c ∷ []) → (front : List Cell) × (x : Cell) × (r ≡ front ++ x ∷ []) × (length front ≡ length cells) × (map look front ≡ map look cells) × (look x ≡ look c)
+last_cell : (cells r : List Cell) (c : Cell) → map look r ≡ map look (cells ++ c ∷ []) →
+    (front : List Cell) × (x : Cell) × (r ≡ front ++ x ∷ []) × (length front ≡ length cells) × (map look front ≡ map look cells) × (look x ≡ look c)
 last_cell [] [] c e = absurd (cc)
 last_cell [] (x ∷ []) c e = ([], x, refl, refl, refl, cc)
 last_cell [] (x ∷ y ∷ r) c e = absurd (cc)
@@ -220,7 +221,8 @@ plain_ends_by w h line pos d e full =
     let whole : length cells + 1 ≡ w = omega (arith, l.is, columns, one, fits, full) in
     let none : w - columns_in (l.piece ++ g ∷ []) ≡ 0 = omega (arith, columns_push l.piece g, columns, one, full) in
     let row : row_of w (l.piece ++ g ∷ []) ≡ cells ++ narrow c ∷ [] =
-    ap (λ n. flat_map glyph_cells (l.piece ++ g ∷ []) ++ replicate n Blank) none ∙ append-nil (flat_map glyph_cells (l.piece ++ g ∷ [])) ∙ cells_push l.piece g ∙ ap (λ n. cells ++ narrow c ∷ replicate (n - 1) Continued) one in
+    ap (λ n. flat_map glyph_cells (l.piece ++ g ∷ []) ++ replicate n Blank) none ∙ append-nil (flat_map glyph_cells (l.piece ++ g ∷ []))
+    ∙ cells_push l.piece g ∙ ap (λ n. cells ++ narrow c ∷ replicate (n - 1) Continued) one in
     let last : last_byte line ≡ c ∷ [] = last_is line c i.ends in
     record {
       front = map (row_of w) l.front;

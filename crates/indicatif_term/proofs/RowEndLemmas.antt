@@ -92,7 +92,8 @@ abbrev slice_set_row : List (List Cell) → List Cell → List (List Cell) → L
 slice_set_row a r b x = slice_set (a ++ r ∷ b) (length a) x
 
 module _ (w h : ℕ) where
-  pub narrow_put : (c : ℕ) (a : List (List Cell)) (cells : List Cell) (x : Cell) (rest : List Cell) (b : List (List Cell)) → width_of c ≡ 1 → is_continued x ≡ false → AllByRecursion IsFree rest → length cells < w →
+  pub narrow_put : (c : ℕ) (a : List (List Cell)) (cells : List Cell) (x : Cell) (rest : List Cell) (b : List (List Cell)) →
+      width_of c ≡ 1 → is_continued x ≡ false → AllByRecursion IsFree rest → length cells < w →
       performed (Put c) (made w h (a ++ (cells ++ x ∷ rest) ∷ b) (length a) (length cells)) ≡ made w h (a ++ ((cells ++ narrow c ∷ []) ++ rest) ∷ b) (length a) (length cells + 1)
   narrow_put c a cells x rest b one e all room =
       let s = made w h (a ++ (cells ++ x ∷ rest) ∷ b) (length a) (length cells) in
@@ -106,11 +107,14 @@ module _ (w h : ℕ) where
       ∙ ap (λ y. made w h y (length a) (length cells + 1)) (set_at a (cells ++ x ∷ rest) b ((cells ++ narrow c ∷ []) ++ rest) (length a) refl)
 
   spaces_put : (rest cells : List Cell) (a b : List (List Cell)) → AllByRecursion IsFree rest → length cells + length rest ≤ w →
-      performed_all (replicate (length rest) (Put 0x20)) (made w h (a ++ (cells ++ rest) ∷ b) (length a) (length cells)) ≡ made w h (a ++ (cells ++ replicate (length rest) space) ∷ b) (length a) (length cells + length rest)
+      performed_all (replicate (length rest) (Put 0x20)) (made w h (a ++ (cells ++ rest) ∷ b) (length a) (length cells))
+      ≡ made w h (a ++ (cells ++ replicate (length rest) space) ∷ b) (length a) (length cells + length rest)
   spaces_put [] cells a b all room = same_screen _ _ _ _ _ _ _ _ refl refl (omega arith)
   spaces_put (c ∷ rest) cells a b all room =
       let k = length-append cells (space ∷ []) in
-      ap (performed_all (replicate (length rest) (Put 0x20))) (narrow_put 0x20 a cells c rest b space_width (free_ends c all.0) all.1 (omega arith) ∙ same_screen w h _ (a ++ ((cells ++ space ∷ []) ++ rest) ∷ b) _ (length a) _ (length (cells ++ space ∷ [])) refl refl (sym k))
+      ap (performed_all (replicate (length rest) (Put 0x20)))
+      (narrow_put 0x20 a cells c rest b space_width (free_ends c all.0) all.1 (omega arith)
+      ∙ same_screen w h _ (a ++ ((cells ++ space ∷ []) ++ rest) ∷ b) _ (length a) _ (length (cells ++ space ∷ [])) refl refl (sym k))
       ∙ spaces_put rest (cells ++ space ∷ []) a b all.1 (omega (arith, k))
       ∙ same_screen _ _ _ _ _ _ _ _ (ap (λ x. a ++ x ∷ b) (append_assoc cells (space ∷ []) (replicate (length rest) space))) refl (omega (arith, k))
 
@@ -119,7 +123,8 @@ module _ (w h : ℕ) where
 module _ (w h n : ℕ) where
   right_stays : (rows : List (List Cell)) (row k : ℕ) → n ≤ row + 1 →
       (take n (performed (Right k) (made w h rows row 0)).rows ≡ take n rows) × (n ≤ (performed (Right k) (made w h rows row 0)).row + 1)
-  right_stays rows row k low = cond_both (eqb 0 w) (made w h rows row 0) (made w h rows row (min (0 + k) (w - 1))) (λ s. (take n s.rows ≡ take n rows) × (n ≤ s.row + 1)) (λ e. (refl, low)) (λ e. (refl, low))
+  right_stays rows row k low = cond_both (eqb 0 w) (made w h rows row 0) (made w h rows row (min (0 + k) (w - 1)))
+      (λ s. (take n s.rows ≡ take n rows) × (n ≤ s.row + 1)) (λ e. (refl, low)) (λ e. (refl, low))
 
   -- what leads there
   pub record Does (s s' : Screen) (bytes : List ℕ) : Type 0 where
@@ -161,7 +166,8 @@ module _ (w h n : ℕ) where
       record { stay = keeps n s text again.ops (omega arith) again.asks (kept_level n s again.ops below again.level); leads = after_asks s _ text again.ops again.asks (again.done a b) } in
       does_then _ _ _ (column_bytes k) text (does_then _ _ _ (0x0D ∷ []) (move_bytes 0x43 k) first right) last
 
-module _ (w h : ℕ) (opening : Screen) (above : List (List Cell)) (more rest : List (List Cell)) (r : List Cell) (k row reach : ℕ) (front : Bool) (text : List ℕ) (again : Again w h k text r) (t : Terminal)
+module _ (w h : ℕ) (opening : Screen) (above : List (List Cell)) (more rest : List (List Cell)) (r : List Cell) (k row reach : ℕ) (front : Bool) (text : List ℕ)
+    (again : Again w h k text r) (t : Terminal)
     (low : w ≤ GREATEST) (room : k < w) (here : row ≡ length above + length more)
     (s : Stands w h opening (above ++ (more ++ r ∷ rest)) row reach front t) where
   abbrev a : List (List Cell)
@@ -230,9 +236,11 @@ spaces_again w h cells r m whole e =
       asks = spaces_ask m;
       level = spaces_level m;
       done = λ a b.
-          let put : performed_all (replicate (length lower) (Put 0x20)) (made w h (a ++ (upper ++ lower) ∷ b) (length a) (length upper)) ≡ made w h (a ++ (upper ++ replicate (length lower) space) ∷ b) (length a) (length upper + length lower) =
+          let put : performed_all (replicate (length lower) (Put 0x20)) (made w h (a ++ (upper ++ lower) ∷ b) (length a) (length upper))
+          ≡ made w h (a ++ (upper ++ replicate (length lower) space) ∷ b) (length a) (length upper + length lower) =
           spaces_put w h lower upper a b (free_all lower m lower_look) (omega (arith, upper_length, lower_length, whole)) in
-          let put' : performed_all (replicate m (Put 0x20)) (made w h (a ++ r ∷ b) (length a) k) ≡ made w h (a ++ (upper ++ replicate m space) ∷ b) (length a) (k + m) = cc (put, split, upper_length, lower_length) in
+          let put' : performed_all (replicate m (Put 0x20)) (made w h (a ++ r ∷ b) (length a) k) ≡ made w h (a ++ (upper ++ replicate m space) ∷ b) (length a) (k + m) =
+          cc (put, split, upper_length, lower_length) in
           put' ∙ same_screen w h (a ++ (upper ++ replicate m space) ∷ b) _ (length a) _ (k + m) w refl refl whole;
     }
 

@@ -163,8 +163,8 @@ module _ (w h : ℕ) (opening : Screen) (above : List (List Cell)) where
   last_seen (r ∷ []) row e = (r, refl, cc)
   last_seen (r ∷ q ∷ rows) row e = absurd (cc)
 
-  last_stays : (k : ℕ) (text : List ℕ) (p : PlacedLine) (old more : List (List Cell)) (down row reach : ℕ) (front : Bool) (t : Terminal) → w ≤ GREATEST → EndsBy w h k text p.line → Sits w (looks_of old) p →
-      p.stays ≡ true → p.rows ≡ length old → down + p.rows ≤ GREATEST → reach ≤ length above + h → row + down ≡ length above + length more → length above ≤ suc row →
+  last_stays : (k : ℕ) (text : List ℕ) (p : PlacedLine) (old more : List (List Cell)) (down row reach : ℕ) (front : Bool) (t : Terminal) → w ≤ GREATEST →
+      EndsBy w h k text p.line → Sits w (looks_of old) p → p.stays ≡ true → p.rows ≡ length old → down + p.rows ≤ GREATEST → reach ≤ length above + h → row + down ≡ length above + length more → length above ≤ suc row →
       Stands w h opening (above ++ (more ++ old)) row reach front t →
       Ended more t (move_bytes 0x42 (down + p.rows - 1) ++ (column_bytes k ++ text)) p.line p.rows reach
   last_stays k text p old more down row reach front t low f sit is count small m e on s =
@@ -175,7 +175,8 @@ module _ (w h : ℕ) (opening : Screen) (above : List (List Cell)) where
       let n = length f.front in
       let upper = take n old in
       let lower = drop n old in
-      let lower_looks : looks_of lower ≡ map look x ∷ [] = sym (drop-map (map look) n old) ∙ ap (drop n) looks ∙ drop-map (map look) n (f.front ++ x ∷ []) ∙ ap looks_of (drop_at f.front (x ∷ []) n refl) in
+      let lower_looks : looks_of lower ≡ map look x ∷ [] =
+      sym (drop-map (map look) n old) ∙ ap (drop n) looks ∙ drop-map (map look) n (f.front ++ x ∷ []) ∙ ap looks_of (drop_at f.front (x ∷ []) n refl) in
       let seen = last_seen lower x lower_looks in
       let r = seen.0 in
       let whole : upper ++ r ∷ [] ≡ old = ap (λ y. upper ++ y) (sym seen.1) ∙ take-append-drop n old in
@@ -198,8 +199,8 @@ module _ (w h : ℕ) (opening : Screen) (above : List (List Cell)) where
             ∙ edge_column w h opening above (more ++ upper) [] r k at reach front text again (after t moved) low f.room here s';
       }
 
-  last_left : (p : PlacedLine) (old more : List (List Cell)) (down row reach : ℕ) (front : Bool) (t : Terminal) → 0 < w → w ≤ GREATEST → has_end w p ≡ true → Sits w (looks_of old) p → IsDrawable w p.line →
-      p.stays ≡ true → p.rows ≡ length old → down + p.rows ≤ GREATEST → reach ≤ length above + h → row + down ≡ length above + length more → length above ≤ suc row →
+  last_left : (p : PlacedLine) (old more : List (List Cell)) (down row reach : ℕ) (front : Bool) (t : Terminal) → 0 < w → w ≤ GREATEST → has_end w p ≡ true →
+      Sits w (looks_of old) p → IsDrawable w p.line → p.stays ≡ true → p.rows ≡ length old → down + p.rows ≤ GREATEST → reach ≤ length above + h → row + down ≡ length above + length more → length above ≤ suc row →
       Stands w h opening (above ++ (more ++ old)) row reach front t → Ended more t (move_bytes 0x42 (down + p.rows - 1) ++ end_bytes w p) p.line p.rows reach
   last_left p old more down row reach front t pos low ends sit d is k small m e on s = elim (cases_Bool (nat_lt p.last w)) [
     | inl room ↦

@@ -11,7 +11,8 @@ loop-line-preserved c =
     let x = c.line-item.result in
     let y = c.in_ok-copied.field-0 in
     record {
-      texts_are = texts_more c.loop-line.lines.items more c.push.new.self.items i x y (texts c.args.lines.now.items) (omega arith) (sym c.line-item.is) c.in_ok-push.ensures.items c.in_ok-copied.ensures.text c.loop-line.invariant.texts_are;
+      texts_are = texts_more c.loop-line.lines.items more c.push.new.self.items i x y (texts c.args.lines.now.items) (omega arith) (sym c.line-item.is)
+          c.in_ok-push.ensures.items c.in_ok-copied.ensures.text c.loop-line.invariant.texts_are;
       right = λ w all right. lines_more w c.loop-line.lines.items c.push.new.self.items y c.in_ok-push.ensures.items (c.loop-line.invariant.right w all right)
           (c.in_ok-copied.ensures.right w (line_at w more i x right (omega arith) (sym c.line-item.is)));
     }
