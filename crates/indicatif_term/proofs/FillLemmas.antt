@@ -202,7 +202,7 @@ rows_spaces w n p (g ∷ gs) h = elim (cases_Bool (nat_le (columns_in p + glyph_
 ]
 
 -- the last piece fits
-last_fits : (w : ℕ) (p gs : List Glyph) → columns_in p ≤ w → AllByRecursion (IsSized w) gs → columns_of_last (pieces_after w p gs) ≤ w
+pub last_fits : (w : ℕ) (p gs : List Glyph) → columns_in p ≤ w → AllByRecursion (IsSized w) gs → columns_of_last (pieces_after w p gs) ≤ w
 last_fits w p [] h all = h
 last_fits w p (g ∷ gs) h all = elim (cases_Bool (nat_le (columns_in p + glyph_width g) w)) [
   | inl fits ↦ rw fits (last_fits w (p ++ g ∷ []) gs (omega (arith, columns_push p g, leb-true (columns_in p + glyph_width g) w fits)) all.1)

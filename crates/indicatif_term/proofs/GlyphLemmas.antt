@@ -38,7 +38,7 @@ no_piece w h above n = ap (λ k. screen_at w h above (replicate k Blank) n 0) (o
 abbrev pub IsPiece : List Glyph → Type 0
 IsPiece piece = length (flat_map glyph_cells piece) ≡ columns_in piece
 
-length_cells : (g : Glyph) → 0 < glyph_width g → length (glyph_cells g) ≡ glyph_width g
+pub length_cells : (g : Glyph) → 0 < glyph_width g → length (glyph_cells g) ≡ glyph_width g
 length_cells g h = omega (arith, length-replicate (glyph_width g - 1) Continued)
 
 pub cells_push : (piece : List Glyph) (g : Glyph) → flat_map glyph_cells (piece ++ g ∷ []) ≡ flat_map glyph_cells piece ++ glyph_cells g
@@ -47,7 +47,7 @@ cells_push piece g = flat_map-append glyph_cells piece (g ∷ []) ∙ ap (λ xs.
 pub columns_push : (piece : List Glyph) (g : Glyph) → columns_in (piece ++ g ∷ []) ≡ columns_in piece + glyph_width g
 columns_push piece g = sum_by_push glyph_width piece g
 
-is_piece_push : (piece : List Glyph) (g : Glyph) → 0 < glyph_width g → IsPiece piece → IsPiece (piece ++ g ∷ [])
+pub is_piece_push : (piece : List Glyph) (g : Glyph) → 0 < glyph_width g → IsPiece piece → IsPiece (piece ++ g ∷ [])
 is_piece_push piece g h is = omega (
   arith,
   ap length (cells_push piece g),

@@ -1,6 +1,6 @@
 -- The bytes of lines written one behind another, and the first visible character of a text.
 use Rattle.std.proofs.Common.{chars, None, Some, ◌≡◌, ℕ, ◌+◌, ◌<◌, List, [], ◌∷◌, ◌++◌, length, take, drop, get_or, sym, ◌∙◌, ap, subst, append-nil}
-use Rattle.std.specs.Prelude.{flat_map, MatchOption, Option}
+use Rattle.std.specs.Prelude.{MatchOption, Option}
 use Rattle.std.proofs.Math.Utf8.{encode}
 use Rattle.std.specs.Str.{IsUtf8}
 use Rattle.std.proofs.lemmas.List.{take_more, map-append, take-append-drop}

@@ -11,7 +11,7 @@ use Rattle.indicatif_text.proofs.WrappingLemmas.{pieces_some}
 use Rattle.indicatif_term.specs.Screen.{Screen, Put, performed, performed_all, put_here, put_sized, line_feed, is_continued, written_at, emptied_front, cut_before, cursor_row, with_mark, joined_at}
 use Rattle.indicatif_term.proofs.CursorRowLemmas.{IsSized, IsShowable, glyph_ops}
 use Rattle.indicatif_term.proofs.ScreenRowLemmas.{made, same_screen, joined}
-use Rattle.indicatif_term.proofs.GlyphLemmas.{IsPiece, cells_push, columns_push, put_sized_here, put_sized_next, some_width}
+use Rattle.indicatif_term.proofs.GlyphLemmas.{IsPiece, length_cells, is_piece_push, cells_push, columns_push, put_sized_here, put_sized_next, some_width}
 use Rattle.indicatif_term.proofs.RowEditLemmas.{length-emptied_front}
 use Rattle.indicatif_term.proofs.FeedLemmas.{performed_all-append}
 use Rattle.indicatif_term.proofs.WrittenLineLemmas.{marks_before, split_glyphs, glyphs_sized}
@@ -45,18 +45,6 @@ clean_front n [] p = refl
 clean_front n (c ∷ cs) p = elim c as (λ c. is_continued (get_or (emptied_front (c ∷ cs)) 0 Blank) ≡ false) [ Blank ↦ refl | Written g ↦ refl | Continued ↦ refl ]
 
 -- ---- one glyph
-
-length_cells : (g : Glyph) → 0 < glyph_width g → length (glyph_cells g) ≡ glyph_width g
-length_cells g h = omega (arith, length-replicate (glyph_width g - 1) Continued)
-
-is_piece_push : (piece : List Glyph) (g : Glyph) → 0 < glyph_width g → IsPiece piece → IsPiece (piece ++ g ∷ [])
-is_piece_push piece g h is = omega (
-  arith,
-  ap length (cells_push piece g),
-  length-append (flat_map glyph_cells piece) (glyph_cells g),
-  length_cells g h,
-  columns_push piece g,
-)
 
 -- every row has w cells
 abbrev pub AreWide : ℕ → List (List Cell) → Type 0

@@ -1,15 +1,17 @@
 -- Lines that are remembered, and new ones beside them.
 use Rattle.std.proofs.Props.{props}
 use Rattle.std.proofs.Math.Logic.{∥∥₁_elim}
-use Rattle.std.proofs.Common.{◌≡◌, ℕ, zero, suc, ◌+◌, ◌-◌, ◌<◌, ◌≤◌, ◌^◌, min, true, false, List, [], ◌∷◌, ◌++◌, length, take, drop, get_or, refl, sym, ◌∙◌, ap, subst, arith, chars, if◌then◌else◌, Option, Some, None}
+use Rattle.std.proofs.Common.{◌≡◌, ℕ, zero, suc, ◌+◌, ◌-◌, ◌<◌, ◌≤◌, ◌^◌, min, true, false, List, [], ◌∷◌, ◌++◌, length, take, drop, get_or, refl, sym, ◌∙◌, ap, subst, arith, append_assoc, chars, if◌then◌else◌, Option, Some, None}
 use Rattle.std.specs.Prelude.{string_bytes, IfSome}
+use Rattle.std.proofs.lemmas.Grind.{flat_map-append}
 use Rattle.std.proofs.lemmas.List.{take_more, map-append, take_at, drop_at, drop-drop, length-map, length-take-le, length-drop, take-append-drop, take_all, nil_from_length}
-use Rattle.indicatif_text.specs.Columns.{rows_of}
+use Rattle.indicatif_text.specs.Columns.{Cell, rows_of}
 use Rattle.indicatif_term.specs.Inside.Skips.{PlacedLine, placed_height, placed_lines, free_behind, change_bytes}
 use Rattle.indicatif_term.specs.Inside.Fills.{last_of}
 use Rattle.indicatif_term.proofs.LastLineLemmas.{last_push}
 use Rattle.indicatif_term.specs.Standing.{placed_of, placed, texts, standing_rows, IsLine, AreLines}
-use Rattle.indicatif_term.specs.Remembered.{AreRemembered}
+use Rattle.indicatif_term.specs.Remembered.{AreRemembered, known_lines}
+use Rattle.indicatif_term.proofs.ShownRowLemmas.{lines_rows}
 use Rattle.indicatif_term.specs.Lists.{Lists, all_rows, passed, kept_of, is_first}
 use Rattle.indicatif_term.specs.declared.remembered.Remembered.{Remembered}
 use Rattle.indicatif_term.proofs.CountLemmas.{passed-rows}
@@ -60,11 +62,23 @@ there_at w ls at start x y h i small r s line is =
           ∙ ap (λ t. rows_of w (chars t)) s,
     )
 
+-- the rows of lines and of others below them
+pub rows-append : (w : ℕ) (before ls : List StandingLine) → standing_rows w (before ++ ls) ≡ standing_rows w before ++ standing_rows w ls
+rows-append w before ls =
+    ap (lines_rows w) (map-append (λ (l : StandingLine). string_bytes l.text) before ls) ∙ flat_map-append (λ line. rows_of w (chars line)) (texts before) (texts ls)
+
+-- the rows of all lines that are remembered, from those before the last drawing on
+pub known_rows : (w : ℕ) (r : Remembered) (front : List (List Cell)) → front ++ standing_rows w (known_lines r) ≡ (front ++ standing_rows w r.kept.items) ++ standing_rows w r.lines.items
+known_rows w r front = ap (λ x. front ++ x) (rows-append w r.kept.items r.lines.items) ∙ sym (append_assoc front (standing_rows w r.kept.items) (standing_rows w r.lines.items))
+
 -- ---- what is remembered
 
 -- the lines are as they are measured
 pub lines_right : (r : Remembered) → 0 < r.width → AreLines r.width r.lines.items
-lines_right r some = ∥∥₁_elim r.right (Prim.hlevel props) (λ right. right some)
+lines_right r some = ∥∥₁_elim r.right (Prim.hlevel props) (λ right. (right some).1)
+
+pub kept_right : (r : Remembered) → 0 < r.width → AreLines r.width r.kept.items
+kept_right r some = ∥∥₁_elim r.right (Prim.hlevel props) (λ right. (right some).0)
 
 -- nothing is remembered
 pub nothing_shown : (r : Remembered) (l : Lists) → r.width ≡ 0 → AreRemembered r l

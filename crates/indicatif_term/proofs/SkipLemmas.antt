@@ -1,16 +1,16 @@
 -- A drawing among rows that stay, from its first byte to its last.
 use Rattle.std.proofs.Common.{inl, inr, ◌≡◌, ℕ, zero, suc, ◌+◌, ◌-◌, ◌<◌, ◌≤◌, Bool, true, false, List, [], ◌∷◌, ◌++◌, length, take, drop, replicate, map, refl, sym, ◌∙◌, ap, subst, arith, length-append, append_assoc, append-nil, chars, if◌then◌else◌}
 use Rattle.std.specs.Prelude.{IsTrue, nat_lt, ◌&&◌, ◌==◌, max}
-use Rattle.std.proofs.lemmas.Bool.{cases_Bool, and_parts, ltb-true}
+use Rattle.std.proofs.lemmas.Bool.{cases_Bool, and_parts, ltb-true, ltb-false}
 use Rattle.std.proofs.lemmas.Bool.Decides.{nat_tests}
 use Rattle.std.proofs.lemmas.Grind.{flat_map-append}
-use Rattle.std.proofs.lemmas.List.{length-replicate, length-map, drop_at, take-append-drop, length-take-le, length-drop, take-map, drop-map, drop-drop, drop-take, take-take, map-append, take_all, nil_from_length}
-use Rattle.indicatif_text.specs.Columns.{Cell, Blank, rows_of}
+use Rattle.std.proofs.lemmas.List.{length-map, drop_at, take-append-drop, length-take-le, length-drop, take-map, drop-map, drop-drop, drop-take, take-take, map-append, take_all, nil_from_length}
+use Rattle.indicatif_text.specs.Columns.{Cell, rows_of}
 use Rattle.indicatif_term.specs.Screen.{Screen}
 use Rattle.indicatif_term.specs.Terminal.{Terminal, GREATEST, after}
 use Rattle.indicatif_term.specs.Calls.{move_bytes}
 use Rattle.indicatif_term.specs.Shows.{look, looks_of}
-use Rattle.indicatif_term.specs.Inside.Skips.{PlacedLine, placed_height, placed_lines, changed_bytes, walk_bytes, walk_down, edge_bytes, last_bytes, skip_bytes, Sits, AreSitting, all_stay, filled_anew, rows_below, rewrite_bytes, free_behind, change_bytes}
+use Rattle.indicatif_term.specs.Inside.Skips.{PlacedLine, placed_height, placed_lines, changed_bytes, walk_bytes, walk_down, column_bytes, end_bytes, last_bytes, skip_bytes, Sits, AreSitting, all_stay, has_end, filled_anew, rows_below, rewrite_bytes, free_behind, change_bytes}
 use Rattle.indicatif_term.specs.Inside.Bytes.{back_bytes, lines_bytes}
 use Rattle.indicatif_term.specs.Inside.Fills.{last_of}
 use Rattle.indicatif_term.proofs.CursorRowLemmas.{Stands}
@@ -21,7 +21,10 @@ use Rattle.indicatif_term.proofs.FilledLineLemmas.{filled_line, looks-append, re
 use Rattle.indicatif_term.proofs.ShownRowLemmas.{lines_rows}
 use Rattle.indicatif_term.proofs.TerminalStepLemmas.{StandsAfter, rows_some}
 use Rattle.indicatif_term.proofs.PaintingLemmas.{IsDrawable, AreDrawable, restand, relead, nothing_leads, leads_then, rises, row_for, left_at_end, back_leads, lines_lead, lines_column}
-use Rattle.indicatif_term.proofs.SkipStepLemmas.{unfronted, falls, changed_leads, changed_column, edge_leads, edge_column, ended_row, ended_look, ends_free}
+use Rattle.indicatif_term.specs.Inside.LastChar.{last_byte}
+use Rattle.indicatif_term.proofs.SkipStepLemmas.{unfronted, falls, changed_leads, changed_column}
+use Rattle.indicatif_term.proofs.RowEndLemmas.{EndsBy, free_ends_by, edge_leads, edge_column}
+use Rattle.indicatif_term.proofs.LastCharLemmas.{plain_ends_by}
 use Rattle.indicatif_term.proofs.DrawingLemmas.{looks_split, keeps_fewer}
 
 -- the parts of lines one below another
@@ -39,8 +42,7 @@ sitting_both w (p ∷ ps) qs looks a b = (a.0, sitting_both w ps qs (drop p.rows
 pub sitting_front : (w n : ℕ) (ps : List PlacedLine) (looks : List (List Cell)) → placed_height ps ≤ n → AreSitting w looks ps → AreSitting w (take n looks) ps
 sitting_front w n [] looks k s = tt
 sitting_front w n (p ∷ ps) looks k s =
-    let rest : drop p.rows (take n looks) ≡ take (n - p.rows) (drop p.rows looks) =
-    ap (λ m. drop p.rows (take m looks)) (let e : n ≡ p.rows + (n - p.rows) = omega arith in e) ∙ drop-take p.rows (n - p.rows) looks in (
+    let rest : drop p.rows (take n looks) ≡ take (n - p.rows) (drop p.rows looks) = ap (λ m. drop p.rows (take m looks)) (let e : n ≡ p.rows + (n - p.rows) = omega arith in e) ∙ drop-take p.rows (n - p.rows) looks in (
       record { rows_are = s.0.rows_are; last_is = s.0.last_is; same = λ e. take-take p.rows n looks (omega arith) ∙ s.0.same e },
       subst (λ x. AreSitting w x ps) (sym rest) (sitting_front w (n - p.rows) ps (drop p.rows looks) (omega arith) s.1),
     )
@@ -155,72 +157,67 @@ module _ (w h : ℕ) (opening : Screen) (above : List (List Cell)) where
       changed_column w h opening above old more [] line down row reach front t (omega arith) (omega (arith, k)) m f.drawable many e on s' ∙ f.full in
       rw (same, k) (record { new = rs; leads = rw append-nil at leads; looks = f.looks; column = column })
 
-  blanks_look : (m : ℕ) → map look (replicate m Blank) ≡ replicate m Blank
-  blanks_look zero = refl
-  blanks_look (suc m) = ap (λ x. Blank ∷ x) (blanks_look m)
-
   -- one row that looks like this one
   last_seen : (rows : List (List Cell)) (row : List Cell) → looks_of rows ≡ map look row ∷ [] → (r : List Cell) × (rows ≡ r ∷ []) × (map look r ≡ map look row)
   last_seen [] row e = absurd (cc)
   last_seen (r ∷ []) row e = (r, refl, cc)
   last_seen (r ∷ q ∷ rows) row e = absurd (cc)
 
-  last_stays : (p : PlacedLine) (old more : List (List Cell)) (down row reach : ℕ) (front : Bool) (t : Terminal) → w ≤ GREATEST → p.last < w → Sits w (looks_of old) p → IsDrawable w p.line →
-      p.stays ≡ true → p.rows ≡ length old → down + p.rows ≤ GREATEST → reach ≤ length above + h → row + down ≡ length above + length more → length above ≤ suc row →
+  last_stays : (k : ℕ) (text : List ℕ) (p : PlacedLine) (old more : List (List Cell)) (down row reach : ℕ) (front : Bool) (t : Terminal) → w ≤ GREATEST →
+      EndsBy w h k text p.line → Sits w (looks_of old) p → p.stays ≡ true → p.rows ≡ length old → down + p.rows ≤ GREATEST → reach ≤ length above + h → row + down ≡ length above + length more → length above ≤ suc row →
       Stands w h opening (above ++ (more ++ old)) row reach front t →
-      Ended more t (move_bytes 0x42 (down + p.rows - 1) ++ edge_bytes p.last (w - p.last)) p.line p.rows reach
-  last_stays p old more down row reach front t low room sit d is k small m e on s =
+      Ended more t (move_bytes 0x42 (down + p.rows - 1) ++ (column_bytes k ++ text)) p.line p.rows reach
+  last_stays k text p old more down row reach front t low f sit is count small m e on s =
       let rs = rows_of w (chars p.line) in
-      let pos : 0 < length rs = rows_some w (chars p.line) in
-      let f = ends_free w p.line d in
-      let free = w - p.last in
-      let x = f.cells ++ replicate free Blank in
-      let split : rs ≡ f.front ++ x ∷ [] = f.split ∙ ap (λ n. f.front ++ (f.cells ++ replicate (w - n) Blank) ∷ []) (sym sit.last_is) in
-      let looks : looks_of old ≡ looks_of (f.front ++ x ∷ []) = ap looks_of (sym (take_all p.rows old (omega (arith, k)))) ∙ same_rows w old p sit is ∙ ap looks_of split in
+      let x = f.last in
+      let looks : looks_of old ≡ looks_of (f.front ++ x ∷ []) = ap looks_of (sym (take_all p.rows old (omega (arith, count)))) ∙ same_rows w old p sit is ∙ ap looks_of f.split in
       let parts = looks_split old f.front (x ∷ []) looks in
       let n = length f.front in
       let upper = take n old in
       let lower = drop n old in
-      let lower_looks : looks_of lower ≡ map look x ∷ [] = sym (drop-map (map look) n old) ∙ ap (drop n) looks ∙ drop-map (map look) n (f.front ++ x ∷ [])
-      ∙ ap looks_of (drop_at f.front (x ∷ []) n refl) in
+      let lower_looks : looks_of lower ≡ map look x ∷ [] =
+      sym (drop-map (map look) n old) ∙ ap (drop n) looks ∙ drop-map (map look) n (f.front ++ x ∷ []) ∙ ap looks_of (drop_at f.front (x ∷ []) n refl) in
       let seen = last_seen lower x lower_looks in
       let r = seen.0 in
       let whole : upper ++ r ∷ [] ≡ old = ap (λ y. upper ++ y) (sym seen.1) ∙ take-append-drop n old in
-      let count : p.rows ≡ n + 1 = omega (arith, sit.rows_are, ap length split, length-append f.front (x ∷ [])) in
-      let cells_length : length f.cells ≡ p.last = f.columns_are ∙ sym sit.last_is in
-      let r_length : length r ≡ p.last + free = sym (length-map r look) ∙ ap length seen.2 ∙ length-map x look ∙ length-append f.cells (replicate free Blank)
-      ∙ omega (arith, cells_length, length-replicate free Blank) in
-      let behind : map look (drop p.last r) ≡ replicate free Blank =
-      sym (drop-map look p.last r) ∙ ap (drop p.last) (seen.2 ∙ map-append look f.cells (replicate free Blank))
-      ∙ drop_at (map look f.cells) (map look (replicate free Blank)) p.last (length-map f.cells look ∙ cells_length)
-      ∙ blanks_look free in
+      let rows : p.rows ≡ n + 1 = omega (arith, sit.rows_are, ap length f.split, length-append f.front (x ∷ [])) in
       let far = down + p.rows - 1 in
       let moved = move_bytes 0x42 far in
-      let fall = falls w h opening above (more ++ old) far row reach front t (omega arith) (omega (arith, e, length-append more old, k, count)) on s in
-      let here : length above + length more + p.rows - 1 ≡ length above + length (more ++ upper) = omega (arith, length-append more upper, parts.0, count) in
-      let s' = restand w h opening above (after t moved) _ (above ++ ((more ++ upper) ++ r ∷ [])) _ (length above + length more + p.rows - 1) _ reach _ front
-      (ap (λ y. above ++ (more ++ y)) (sym whole) ∙ ap (λ y. above ++ y) (sym (append_assoc more upper (r ∷ [])))) (omega (arith, e, count)) refl refl fall.stands in
-      let edge = edge_leads w h opening above (more ++ upper) [] r p.last free (length above + length more + p.rows - 1) reach front (after t moved) low r_length behind (omega arith)
-      (omega arith) here s' in
-      let row' = ended_row w h opening above (more ++ upper) [] r p.last free (length above + length more + p.rows - 1) reach front (after t moved) low r_length behind (omega arith)
-      (omega arith) here s' in
-      let row_look : map look row' ≡ map look r = ended_look w h opening above (more ++ upper) [] r p.last free (length above + length more + p.rows - 1) reach front
-      (after t moved) low r_length behind (omega arith) (omega arith) here s' in
+      let fall = falls w h opening above (more ++ old) far row reach front t (omega arith) (omega (arith, e, length-append more old, count, rows)) on s in
+      let again = f.again r seen.2 in
+      let at = length above + length more + p.rows - 1 in
+      let here : at ≡ length above + length (more ++ upper) = omega (arith, length-append more upper, parts.0, rows) in
+      let s' = restand w h opening above (after t moved) _ (above ++ ((more ++ upper) ++ r ∷ [])) _ at _ reach _ front
+      (ap (λ y. above ++ (more ++ y)) (sym whole) ∙ ap (λ y. above ++ y) (sym (append_assoc more upper (r ∷ [])))) (omega (arith, e, rows)) refl refl fall.stands in
+      let edge = edge_leads w h opening above (more ++ upper) [] r k at reach front text again (after t moved) low f.room here s' in
       record {
-        new = upper ++ row' ∷ [];
-        leads = leads_then w h opening above t moved (edge_bytes p.last free) _ _ _ _ reach reach front false fall
-            (relead w h opening above (after t moved) (edge_bytes p.last free) _ _ _ _ reach reach false false (ap (λ y. above ++ y) (append_assoc more upper (row' ∷ []))) refl refl refl edge);
-        looks = looks-append upper (row' ∷ []) ∙ cc (parts.2, row_look, seen.2) ∙ sym (looks-append f.front (x ∷ [])) ∙ ap looks_of (sym split);
-        column = ap (λ u. u.screen.column) (after-append t moved (edge_bytes p.last free))
-            ∙ edge_column w h opening above (more ++ upper) [] r p.last free (length above + length more + p.rows - 1) reach front (after t moved) low r_length behind (omega arith)
-            (omega arith) here s';
+        new = upper ++ again.new ∷ [];
+        leads = leads_then w h opening above t moved (column_bytes k ++ text) _ _ _ _ reach reach front false fall
+            (relead w h opening above (after t moved) (column_bytes k ++ text) _ _ _ _ reach reach false false (ap (λ y. above ++ y) (append_assoc more upper (again.new ∷ []))) refl refl refl edge);
+        looks = looks-append upper (again.new ∷ []) ∙ cc (parts.2, again.looks, seen.2) ∙ sym (looks-append f.front (x ∷ [])) ∙ ap looks_of (sym f.split);
+        column = ap (λ u. u.screen.column) (after-append t moved (column_bytes k ++ text))
+            ∙ edge_column w h opening above (more ++ upper) [] r k at reach front text again (after t moved) low f.room here s';
       }
 
-  pub last_leads : (p : PlacedLine) (old more : List (List Cell)) (down row reach : ℕ) (front : Bool) (t : Terminal) → 0 < w → w ≤ GREATEST → (IsTrue p.stays → p.last < w) →
+  last_left : (p : PlacedLine) (old more : List (List Cell)) (down row reach : ℕ) (front : Bool) (t : Terminal) → 0 < w → w ≤ GREATEST → has_end w p ≡ true →
+      Sits w (looks_of old) p → IsDrawable w p.line → p.stays ≡ true → p.rows ≡ length old → down + p.rows ≤ GREATEST → reach ≤ length above + h → row + down ≡ length above + length more → length above ≤ suc row →
+      Stands w h opening (above ++ (more ++ old)) row reach front t → Ended more t (move_bytes 0x42 (down + p.rows - 1) ++ end_bytes w p) p.line p.rows reach
+  last_left p old more down row reach front t pos low ends sit d is k small m e on s = elim (cases_Bool (nat_lt p.last w)) [
+    | inl room ↦
+        let by : EndsBy w h p.last (replicate (w - p.last) 0x20) p.line =
+        subst (λ n. EndsBy w h n (replicate (w - n) 0x20) p.line) (sym sit.last_is) (free_ends_by w h p.line d (subst (λ n. n < w) sit.last_is (ltb-true p.last w room))) in
+        rw room (last_stays p.last (replicate (w - p.last) 0x20) p old more down row reach front t low by sit is k small m e on s)
+    | inr full ↦
+        let by : EndsBy w h (w - 1) (last_byte p.line) p.line =
+        plain_ends_by w h p.line pos d (rw full at ends) (subst (λ n. w ≤ n) sit.last_is (ltb-false p.last w full)) in
+        rw full (last_stays (w - 1) (last_byte p.line) p old more down row reach front t low by sit is k small m e on s)
+  ]
+
+  pub last_leads : (p : PlacedLine) (old more : List (List Cell)) (down row reach : ℕ) (front : Bool) (t : Terminal) → 0 < w → w ≤ GREATEST → (IsTrue p.stays → IsTrue (has_end w p)) →
       Sits w (looks_of old) p → IsDrawable w p.line → p.rows ≡ length old → down + p.rows ≤ GREATEST → reach ≤ length above + h → row + down ≡ length above + length more → length above ≤ suc row →
       Stands w h opening (above ++ (more ++ old)) row reach front t → Ended more t (last_bytes w down p) p.line p.rows reach
-  last_leads p old more down row reach front t pos low room sit d k small m e on s = elim (cases_Bool p.stays) [
-    | inl is ↦ rw is (last_stays p old more down row reach front t low (room is) sit d is k small m e on s)
+  last_leads p old more down row reach front t pos low ends sit d k small m e on s = elim (cases_Bool p.stays) [
+    | inl is ↦ rw is (last_left p old more down row reach front t pos low (ends is) sit d is k small m e on s)
     | inr is ↦ rw is (last_changed p old more down row reach front t pos sit d k small m e on s)
   ]
 
@@ -231,7 +228,7 @@ module _ (w h : ℕ) (opening : Screen) (above : List (List Cell)) where
     pub looks : looks_of new ≡ looks_of (lines_rows w lines)
     pub column : (after t bytes).screen.column ≡ w
 
-  pub skip_leads : (ps : List PlacedLine) (p : PlacedLine) (old : List (List Cell)) (further reach : ℕ) (t : Terminal) → 0 < w → w ≤ GREATEST → (IsTrue p.stays → p.last < w) →
+  pub skip_leads : (ps : List PlacedLine) (p : PlacedLine) (old : List (List Cell)) (further reach : ℕ) (t : Terminal) → 0 < w → w ≤ GREATEST → (IsTrue p.stays → IsTrue (has_end w p)) →
       AreSitting w (looks_of old) ps → Sits w (drop (placed_height ps) (looks_of old)) p → AreDrawable w (placed_lines ps) → IsDrawable w p.line →
       placed_height ps + p.rows ≡ length old → length old + further ≤ GREATEST → reach ≤ length above + h →
       Stands w h opening (above ++ old) (length above + length old - 1 + further) reach false t →
@@ -251,8 +248,7 @@ module _ (w h : ℕ) (opening : Screen) (above : List (List Cell)) where
       let down = walk_down 0 ps in
       let t' = after (after t up) (walk_bytes 0 ps) in
       let end = last_leads p below upper down (length above + n - down) reach false t' pos low room (subst (λ x. Sits w x p) (drop-map (map look) n old) last) dp (sym below_length)
-      (let z = walk_low w 0 ps (looks_of old) sit in omega arith) m (let z = walk_low w 0 ps (looks_of old) sit in omega (arith, upper_length))
-      (let z = walk_low w 0 ps (looks_of old) sit in omega arith)
+      (let z = walk_low w 0 ps (looks_of old) sit in omega arith) m (let z = walk_low w 0 ps (looks_of old) sit in omega (arith, upper_length)) (let z = walk_low w 0 ps (looks_of old) sit in omega arith)
       (restand w h opening above t' _ _ _ _ reach reach false false refl (omega arith) refl refl walk.stands) in
       let both = leads_then w h opening above (after t up) (walk_bytes 0 ps) (last_bytes w down p) _ _ _ _ reach reach false false walk
       (relead w h opening above t' (last_bytes w down p) _ _ _ (length above + length old - 1) reach reach false false refl (omega (arith, upper_length)) refl refl end.leads) in
@@ -260,8 +256,7 @@ module _ (w h : ℕ) (opening : Screen) (above : List (List Cell)) where
         new = upper ++ end.new;
         leads = leads_then w h opening above t up (walk_bytes 0 ps ++ last_bytes w down p) _ _ _ _ reach reach false false first both;
         looks = looks-append upper end.new ∙ cc (written_looks w old ps sit, end.looks) ∙ sym (looks-append (lines_rows w (placed_lines ps)) (rows_of w (chars p.line)))
-            ∙ ap looks_of (ap (λ x. lines_rows w (placed_lines ps) ++ x) (sym (append-nil (rows_of w (chars p.line))))
-            ∙ sym (flat_map-append (λ line. rows_of w (chars line)) (placed_lines ps) (p.line ∷ [])));
+            ∙ ap looks_of (ap (λ x. lines_rows w (placed_lines ps) ++ x) (sym (append-nil (rows_of w (chars p.line)))) ∙ sym (flat_map-append (λ line. rows_of w (chars line)) (placed_lines ps) (p.line ∷ [])));
         column = ap (λ u. u.screen.column) (after-append t up (walk_bytes 0 ps ++ last_bytes w down p) ∙ after-append (after t up) (walk_bytes 0 ps) (last_bytes w down p)) ∙ end.column;
       }
 
@@ -297,7 +292,7 @@ module _ (w h : ℕ) (opening : Screen) (above : List (List Cell)) where
       }
 
   -- all of it, but where all lines stay and no row is taken back
-  anew_leads : (ps : List PlacedLine) (p : PlacedLine) (old rest : List (List Cell)) (reach : ℕ) (t : Terminal) → 0 < w → w ≤ GREATEST → (IsTrue p.stays → p.last < w) →
+  anew_leads : (ps : List PlacedLine) (p : PlacedLine) (old rest : List (List Cell)) (reach : ℕ) (t : Terminal) → 0 < w → w ≤ GREATEST → (IsTrue p.stays → IsTrue (has_end w p)) →
       AreSitting w (looks_of old) ps → Sits w (drop (placed_height ps) (looks_of old)) p → AreDrawable w (placed_lines ps) → IsDrawable w p.line →
       placed_height ps + p.rows ≡ length old → length old + length rest ≤ GREATEST → reach ≤ length above + h →
       Stands w h opening (above ++ (old ++ rest)) (length above + length old + length rest - 1) reach false t →
@@ -317,7 +312,7 @@ module _ (w h : ℕ) (opening : Screen) (above : List (List Cell)) where
       }
 
   weaker : (looks : List (List Cell)) (p : PlacedLine) → Sits w looks p → Sits w looks (filled_anew w p)
-  weaker looks p s = record { rows_are = s.rows_are; last_is = s.last_is; same = λ e. s.same (and_parts p.stays (nat_lt p.last w) e).0 }
+  weaker looks p s = record { rows_are = s.rows_are; last_is = s.last_is; same = λ e. s.same (and_parts p.stays (has_end w p) e).0 }
 
   -- lines that all stay are what is seen
   staying_looks : (ps : List PlacedLine) (looks : List (List Cell)) → AreSitting w looks ps → all_stay ps ≡ true → placed_height ps ≡ length looks → looks ≡ looks_of (lines_rows w (placed_lines ps))
@@ -358,7 +353,7 @@ module _ (w h : ℕ) (opening : Screen) (above : List (List Cell)) where
     | inr some ↦
         let q = filled_anew w p in
         let c = sitting_parts w ps (p ∷ []) (looks_of old) sit in
-        rw some (anew_leads ps q old rest reach t pos low (λ (e : IsTrue q.stays). ltb-true p.last w (and_parts p.stays (nat_lt p.last w) e).1) c.0 (weaker _ p c.1.0) d dp k small m s)
+        rw some (anew_leads ps q old rest reach t pos low (λ (e : IsTrue q.stays). (and_parts p.stays (has_end w p) e).1) c.0 (weaker _ p c.1.0) d dp k small m s)
   ]
 
   -- ---- and lines below them
@@ -380,8 +375,7 @@ module _ (w h : ℕ) (opening : Screen) (above : List (List Cell)) where
   seen_length a b e = sym (length-map a (map look)) ∙ ap length e ∙ length-map b (map look)
 
   -- where the cursor is below lines of which the last is filled, or still at the end of the row above them
-  more_column : (lines : List (List ℕ)) (upper : List (List Cell)) (t : Terminal) (reach : ℕ) → 0 < w → 0 < length above + length upper → length above + length upper ≤ reach → AreDrawable w lines →
-      IsFull w lines →
+  more_column : (lines : List (List ℕ)) (upper : List (List Cell)) (t : Terminal) (reach : ℕ) → 0 < w → 0 < length above + length upper → length above + length upper ≤ reach → AreDrawable w lines → IsFull w lines →
       t.screen.column ≡ w → Stands w h opening (above ++ upper) (length above + length upper - 1) reach false t → (after t (lines_bytes true lines)).screen.column ≡ w
   more_column [] upper t reach pos some g d full at s = nothing_column t ∙ at
   more_column (line ∷ lines) upper t reach pos some g d full at s = lines_column w h opening above (line ∷ lines) true upper t reach pos (omega arith) (λ e. some) g d full s

@@ -1,11 +1,12 @@
 //! Lines written among those that stay.
-ghost use Rattle.std.specs.Prelude.{◌≡◌, ◌==◌, ◌&&◌, ◌+◌, ◌-◌, ◌≤◌, ◌++◌, ◌∷◌, [], ℕ, List, replicate, MatchResult};
+ghost use Rattle.std.specs.Prelude.{◌≡◌, ◌==◌, ◌&&◌, IsTrue, ◌+◌, ◌-◌, ◌≤◌, ◌++◌, ◌∷◌, [], ℕ, List, replicate, MatchResult};
 ghost use Rattle.indicatif_term.specs.Calls.{Writes, LeadsOn, BreaksOff, DOWN, RIGHT, move_bytes};
-ghost use Rattle.indicatif_term.specs.Inside.Skips.{PlacedLine, placed_height, changed_bytes, walk_bytes, walk_down, edge_bytes, last_bytes, skip_bytes, all_stay, filled_anew, rows_below, rewrite_bytes, free_behind, change_bytes};
+ghost use Rattle.indicatif_term.specs.Inside.Skips.{PlacedLine, placed_height, changed_bytes, walk_bytes, walk_down, column_bytes, end_bytes, last_bytes, skip_bytes, all_stay, has_end, filled_anew, rows_below, rewrite_bytes, free_behind, change_bytes};
 ghost use Rattle.indicatif_term.specs.Inside.Fills.{last_of};
 ghost use Rattle.indicatif_term.specs.Standing.{placed_of, placed};
 
 use crate::beside::height_of;
+use crate::last_char::{ends_plainly, last_char};
 use crate::painting::{empty_down, go_up, put_below, put_spaces, take_back_rows};
 use crate::remembered::StandingLine;
 use crate::term_like::TermLike;
@@ -152,31 +153,50 @@ fn write_last<T: TermLike>(
     requires small { down + line.now.rows ≤ 65536 }
     ensures { Writes (last_bytes width down (filled_anew width (placed_of line.now))) (T.view term.old) (T.view term.new) result }
 {
-    let free = width.saturating_sub(line.last);
-    if is_open(line, width) {
+    if is_left(line, width) {
         let far = down + line.rows;
         go_down(term, far.saturating_sub(1))?;
-        go_to_end(term, line.last, free)
+        go_to_end(term, line, width)
     } else {
         write_changed(term, down, line)?;
-        put_spaces(term, free)
+        put_spaces(term, width.saturating_sub(line.last))
     }
 }
 
-/// Whether a line stays and its last row isn't full: else it can't be gone behind.
-fn is_open(line: &StandingLine, width: usize) -> bool
+/// Whether a line stays and its end can be gone to, by spaces or by its last character.
+fn is_left(line: &StandingLine, width: usize) -> bool
     ensures { result ≡ (filled_anew width (placed_of line.now)).stays }
 {
-    line.stays && line.last < width
+    line.stays && has_end(line, width)
 }
 
-/// To a column of the cursor's row, and spaces behind it.
-fn go_to_end<T: TermLike>(term: &mut T, column: usize, free: usize) -> io::Result<()>
-    ensures { Writes (edge_bytes column free) (T.view term.old) (T.view term.new) result }
+/// Whether the end of a line can be gone to.
+fn has_end(line: &StandingLine, width: usize) -> bool
+    ensures { result ≡ has_end width (placed_of line.now) }
+{
+    line.last < width || ends_plainly(&line.text)
+}
+
+/// From the last row of a line to its end: spaces over the columns that are free there; where none is, its last character again.
+fn go_to_end<T: TermLike>(term: &mut T, line: &StandingLine, width: usize) -> io::Result<()>
+    requires ends { IsTrue (has_end width (placed_of line.now)) }
+    ensures { Writes (end_bytes width (placed_of line.now)) (T.view term.old) (T.view term.new) result }
+{
+    if line.last < width {
+        go_to_column(term, line.last)?;
+        put_spaces(term, width - line.last)
+    } else {
+        go_to_column(term, width.saturating_sub(1))?;
+        term.write_str(last_char(&line.text))
+    }
+}
+
+/// To a column of the cursor's row.
+fn go_to_column<T: TermLike>(term: &mut T, column: usize) -> io::Result<()>
+    ensures { Writes (column_bytes column) (T.view term.old) (T.view term.new) result }
 {
     term.write_str("\r")?;
-    go_right(term, column)?;
-    put_spaces(term, free)
+    go_right(term, column)
 }
 
 /// Down so many rows; none is no call.

@@ -1,10 +1,11 @@
 -- Drawing lines among others that stay.
-use Rattle.std.specs.Prelude.{◌≡◌, true, false, ◌&&◌, ◌==◌, nat_lt, ℕ, zero, suc, ◌+◌, ◌-◌, Bool, IsTrue, List, [], ◌∷◌, ◌++◌, map, length, take, drop, replicate, chars, Option, Some, None, if◌then◌else◌}
+use Rattle.std.specs.Prelude.{◌≡◌, true, false, ◌&&◌, ◌||◌, ◌==◌, nat_lt, ℕ, zero, suc, ◌+◌, ◌-◌, Bool, IsTrue, List, [], ◌∷◌, ◌++◌, map, length, take, drop, replicate, chars, Option, Some, None, if◌then◌else◌}
 use Rattle.indicatif_text.specs.Columns.{Cell, rows_of, last_columns}
 use Rattle.indicatif_term.specs.Calls.{UP, DOWN, RIGHT, move_bytes, clear_bytes}
 use Rattle.indicatif_term.specs.Shows.{looks_of}
 use Rattle.indicatif_term.specs.Inside.Bytes.{rows_down, back_bytes, lines_bytes}
 use Rattle.indicatif_term.specs.Inside.Fills.{last_of}
+use Rattle.indicatif_term.specs.Inside.LastChar.{ends_plainly, last_byte}
 
 -- a line of a drawing: the rows that it takes, the columns that it takes of the last of them, and whether it stands there already
 pub record PlacedLine : Type 0 where
@@ -36,14 +37,18 @@ abbrev pub walk_down : ℕ → List PlacedLine → ℕ
 walk_down down [] = down
 walk_down down (p ∷ ps) = if p.stays then walk_down (down + p.rows) ps else walk_down 1 ps
 
--- to column k of the cursor's row, and spaces over the m columns behind it
-abbrev pub edge_bytes : ℕ → ℕ → List ℕ
-edge_bytes k m = (0x0D ∷ []) ++ (move_bytes RIGHT k ++ replicate m 0x20)
+-- to column k of the cursor's row
+abbrev pub column_bytes : ℕ → List ℕ
+column_bytes k = (0x0D ∷ []) ++ move_bytes RIGHT k
+
+-- from the last row of a line to its end: spaces over the columns that are free there; where none is, its last character again
+abbrev pub end_bytes : ℕ → PlacedLine → List ℕ
+end_bytes w p = if nat_lt p.last w then column_bytes p.last ++ replicate (w - p.last) 0x20 else column_bytes (w - 1) ++ last_byte p.line
 
 -- the last line, from a row so far above it: written and filled up to the end of its row, or that end gone to
 abbrev pub last_bytes : ℕ → ℕ → PlacedLine → List ℕ
 last_bytes w down p =
-    if p.stays then move_bytes DOWN (down + p.rows - 1) ++ edge_bytes p.last (w - p.last)
+    if p.stays then move_bytes DOWN (down + p.rows - 1) ++ end_bytes w p
     else changed_bytes down p.rows (p.line ++ replicate (w - p.last) 0x20)
 
 -- lines among which some stay, from so many rows below the last of theirs: up to the first of them, and down through them
@@ -74,9 +79,13 @@ abbrev pub all_stay : List PlacedLine → Bool
 all_stay [] = true
 all_stay (p ∷ ps) = p.stays && all_stay ps
 
--- a last line that fills its row can't be gone behind: it doesn't stay where anything is written
+-- whether the end of a line can be gone to: moves alone don't lead behind a full row, but its last character does, written again
+abbrev pub has_end : ℕ → PlacedLine → Bool
+has_end w p = nat_lt p.last w || ends_plainly p.line
+
+-- a last line whose end can't be gone to doesn't stay where anything is written
 abbrev pub filled_anew : ℕ → PlacedLine → PlacedLine
-filled_anew w p = record p { stays = p.stays && nat_lt p.last w }
+filled_anew w p = record p { stays = p.stays && has_end w p }
 
 -- how far below rows the cursor is, where so many below them were taken back
 abbrev pub rows_below : ℕ → ℕ
