@@ -42,7 +42,8 @@ sitting_both w (p ∷ ps) qs looks a b = (a.0, sitting_both w ps qs (drop p.rows
 pub sitting_front : (w n : ℕ) (ps : List PlacedLine) (looks : List (List Cell)) → placed_height ps ≤ n → AreSitting w looks ps → AreSitting w (take n looks) ps
 sitting_front w n [] looks k s = tt
 sitting_front w n (p ∷ ps) looks k s =
-    let rest : drop p.rows (take n looks) ≡ take (n - p.rows) (drop p.rows looks) = ap (λ m. drop p.rows (take m looks)) (let e : n ≡ p.rows + (n - p.rows) = omega arith in e) ∙ drop-take p.rows (n - p.rows) looks in (
+    let rest : drop p.rows (take n looks) ≡ take (n - p.rows) (drop p.rows looks) =
+    ap (λ m. drop p.rows (take m looks)) (let e : n ≡ p.rows + (n - p.rows) = omega arith in e) ∙ drop-take p.rows (n - p.rows) looks in (
       record { rows_are = s.0.rows_are; last_is = s.0.last_is; same = λ e. take-take p.rows n looks (omega arith) ∙ s.0.same e },
       subst (λ x. AreSitting w x ps) (sym rest) (sitting_front w (n - p.rows) ps (drop p.rows looks) (omega arith) s.1),
     )
@@ -164,7 +165,8 @@ module _ (w h : ℕ) (opening : Screen) (above : List (List Cell)) where
   last_seen (r ∷ q ∷ rows) row e = absurd (cc)
 
   last_stays : (k : ℕ) (text : List ℕ) (p : PlacedLine) (old more : List (List Cell)) (down row reach : ℕ) (front : Bool) (t : Terminal) → w ≤ GREATEST →
-      EndsBy w h k text p.line → Sits w (looks_of old) p → p.stays ≡ true → p.rows ≡ length old → down + p.rows ≤ GREATEST → reach ≤ length above + h → row + down ≡ length above + length more → length above ≤ suc row →
+      EndsBy w h k text p.line → Sits w (looks_of old) p → p.stays ≡ true → p.rows ≡ length old → down + p.rows ≤ GREATEST → reach ≤ length above + h → row + down ≡ length above + length more →
+      length above ≤ suc row →
       Stands w h opening (above ++ (more ++ old)) row reach front t →
       Ended more t (move_bytes 0x42 (down + p.rows - 1) ++ (column_bytes k ++ text)) p.line p.rows reach
   last_stays k text p old more down row reach front t low f sit is count small m e on s =
@@ -200,7 +202,8 @@ module _ (w h : ℕ) (opening : Screen) (above : List (List Cell)) where
       }
 
   last_left : (p : PlacedLine) (old more : List (List Cell)) (down row reach : ℕ) (front : Bool) (t : Terminal) → 0 < w → w ≤ GREATEST → has_end w p ≡ true →
-      Sits w (looks_of old) p → IsDrawable w p.line → p.stays ≡ true → p.rows ≡ length old → down + p.rows ≤ GREATEST → reach ≤ length above + h → row + down ≡ length above + length more → length above ≤ suc row →
+      Sits w (looks_of old) p → IsDrawable w p.line → p.stays ≡ true → p.rows ≡ length old → down + p.rows ≤ GREATEST → reach ≤ length above + h → row + down ≡ length above + length more →
+      length above ≤ suc row →
       Stands w h opening (above ++ (more ++ old)) row reach front t → Ended more t (move_bytes 0x42 (down + p.rows - 1) ++ end_bytes w p) p.line p.rows reach
   last_left p old more down row reach front t pos low ends sit d is k small m e on s = elim (cases_Bool (nat_lt p.last w)) [
     | inl room ↦
@@ -248,7 +251,8 @@ module _ (w h : ℕ) (opening : Screen) (above : List (List Cell)) where
       let down = walk_down 0 ps in
       let t' = after (after t up) (walk_bytes 0 ps) in
       let end = last_leads p below upper down (length above + n - down) reach false t' pos low room (subst (λ x. Sits w x p) (drop-map (map look) n old) last) dp (sym below_length)
-      (let z = walk_low w 0 ps (looks_of old) sit in omega arith) m (let z = walk_low w 0 ps (looks_of old) sit in omega (arith, upper_length)) (let z = walk_low w 0 ps (looks_of old) sit in omega arith)
+      (let z = walk_low w 0 ps (looks_of old) sit in omega arith) m (let z = walk_low w 0 ps (looks_of old) sit in omega (arith, upper_length))
+      (let z = walk_low w 0 ps (looks_of old) sit in omega arith)
       (restand w h opening above t' _ _ _ _ reach reach false false refl (omega arith) refl refl walk.stands) in
       let both = leads_then w h opening above (after t up) (walk_bytes 0 ps) (last_bytes w down p) _ _ _ _ reach reach false false walk
       (relead w h opening above t' (last_bytes w down p) _ _ _ (length above + length old - 1) reach reach false false refl (omega (arith, upper_length)) refl refl end.leads) in
@@ -256,7 +260,8 @@ module _ (w h : ℕ) (opening : Screen) (above : List (List Cell)) where
         new = upper ++ end.new;
         leads = leads_then w h opening above t up (walk_bytes 0 ps ++ last_bytes w down p) _ _ _ _ reach reach false false first both;
         looks = looks-append upper end.new ∙ cc (written_looks w old ps sit, end.looks) ∙ sym (looks-append (lines_rows w (placed_lines ps)) (rows_of w (chars p.line)))
-            ∙ ap looks_of (ap (λ x. lines_rows w (placed_lines ps) ++ x) (sym (append-nil (rows_of w (chars p.line)))) ∙ sym (flat_map-append (λ line. rows_of w (chars line)) (placed_lines ps) (p.line ∷ [])));
+            ∙ ap looks_of (ap (λ x. lines_rows w (placed_lines ps) ++ x) (sym (append-nil (rows_of w (chars p.line))))
+            ∙ sym (flat_map-append (λ line. rows_of w (chars line)) (placed_lines ps) (p.line ∷ [])));
         column = ap (λ u. u.screen.column) (after-append t up (walk_bytes 0 ps ++ last_bytes w down p) ∙ after-append (after t up) (walk_bytes 0 ps) (last_bytes w down p)) ∙ end.column;
       }
 
@@ -375,7 +380,8 @@ module _ (w h : ℕ) (opening : Screen) (above : List (List Cell)) where
   seen_length a b e = sym (length-map a (map look)) ∙ ap length e ∙ length-map b (map look)
 
   -- where the cursor is below lines of which the last is filled, or still at the end of the row above them
-  more_column : (lines : List (List ℕ)) (upper : List (List Cell)) (t : Terminal) (reach : ℕ) → 0 < w → 0 < length above + length upper → length above + length upper ≤ reach → AreDrawable w lines → IsFull w lines →
+  more_column : (lines : List (List ℕ)) (upper : List (List Cell)) (t : Terminal) (reach : ℕ) → 0 < w → 0 < length above + length upper → length above + length upper ≤ reach → AreDrawable w lines →
+      IsFull w lines →
       t.screen.column ≡ w → Stands w h opening (above ++ upper) (length above + length upper - 1) reach false t → (after t (lines_bytes true lines)).screen.column ≡ w
   more_column [] upper t reach pos some g d full at s = nothing_column t ∙ at
   more_column (line ∷ lines) upper t reach pos some g d full at s = lines_column w h opening above (line ∷ lines) true upper t reach pos (omega arith) (λ e. some) g d full s

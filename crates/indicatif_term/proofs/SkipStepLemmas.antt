@@ -53,7 +53,8 @@ pub text_among : (w h : ℕ) (a b : List (List Cell)) (line : List ℕ) (m : ℕ
 text_among w h a b line m d e =
     let is = is_text w line d.utf8 d.plain d.narrow in
     let same : encodes (chars line) ≡ line = encodes-chars line d.utf8 in
-    subst (λ bytes. after (resting (made w h (a ++ (replicate m (blank_row w) ++ b)) (length a) 0)) bytes ≡ resting (made w h (a ++ (rows_of w (chars line) ++ b)) (length a + m - 1) (last_columns w (chars line)))) same
+    subst (λ bytes. after (resting (made w h (a ++ (replicate m (blank_row w) ++ b)) (length a) 0)) bytes ≡ resting
+    (made w h (a ++ (rows_of w (chars line) ++ b)) (length a + m - 1) (last_columns w (chars line)))) same
     (after_asks _ _ (encodes (chars line)) (map (λ c. Put c) (visible (chars line))) (text_asks w (chars line) is) (text_ops w h a b (chars line) is m e))
 
 module _ (w h : ℕ) (opening : Screen) (above : List (List Cell)) where
@@ -65,7 +66,8 @@ module _ (w h : ℕ) (opening : Screen) (above : List (List Cell)) where
 
   pub falls : (rows : List (List Cell)) (k row reach : ℕ) (front : Bool) (t : Terminal) → k ≤ GREATEST → row + k < length above + length rows → length above ≤ suc row →
       Stands w h opening (above ++ rows) row reach front t → StandsAfter w h opening above t (move_bytes 0x42 k) (above ++ rows) (row + k) reach front
-  falls rows zero row reach front t small within low s = nothing_leads w h opening above t _ (row + 0) reach front (omega arith) (restand w h opening above t _ _ _ _ reach reach front front refl (omega arith) refl refl s)
+  falls rows zero row reach front t small within low s = nothing_leads w h opening above t _ (row + 0) reach front (omega arith)
+      (restand w h opening above t _ _ _ _ reach reach front front refl (omega arith) refl refl s)
   falls rows (suc k) row reach front t small within low s =
       let s' = screen_of w h opening (above ++ rows) s.below row s.column in
       let asks = down_asks (suc k) (omega arith) (omega arith) in
@@ -80,14 +82,17 @@ module _ (w h : ℕ) (opening : Screen) (above : List (List Cell)) where
   empties_in : (gone more rest : List (List Cell)) (row reach : ℕ) (t : Terminal) → suc row ≡ length above + length more →
       Stands w h opening (above ++ (more ++ (gone ++ rest))) row reach true t →
       StandsAfter w h opening above t (rows_down (length gone)) (above ++ (more ++ (replicate (length gone) (blank_row w) ++ rest))) (row + length gone) reach true
-  empties_in [] more rest row reach t e s = relead w h opening above t [] _ _ _ _ reach reach true true refl (omega arith) refl refl (nothing_leads w h opening above t _ row reach true (omega arith) s)
+  empties_in [] more rest row reach t e s = relead w h opening above t [] _ _ _ _ reach reach true true refl (omega arith) refl refl
+      (nothing_leads w h opening above t _ row reach true (omega arith) s)
   empties_in (r ∷ gone) more rest row reach t e s =
       let blanks = replicate (length gone) (blank_row w) in
       let down = down_leads w h opening above t (more ++ r ∷ (gone ++ rest)) row reach true s (omega (arith, e, length-append more (r ∷ (gone ++ rest)))) (omega arith) in
-      let clear = clear_leads w h opening above (after t next_row) more r (gone ++ rest) reach true (restand w h opening above (after t next_row) _ _ _ _ reach reach true true refl e refl refl down.stands) in
+      let clear = clear_leads w h opening above (after t next_row) more r (gone ++ rest) reach true
+      (restand w h opening above (after t next_row) _ _ _ _ reach reach true true refl e refl refl down.stands) in
       let both = leads_then w h opening above t next_row clear_bytes _ _ _ _ reach reach true true down clear in
       let lower = empties_in gone (more ++ blank_row w ∷ []) rest (suc row) reach (after t (next_row ++ clear_bytes)) (omega (arith, e, length-append more (blank_row w ∷ [])))
-      (restand w h opening above (after t (next_row ++ clear_bytes)) _ _ _ _ reach reach true true (ap (λ x. above ++ x) (sym (append_assoc more (blank_row w ∷ []) (gone ++ rest)))) (sym e) refl refl both.stands) in
+      (restand w h opening above (after t (next_row ++ clear_bytes)) _ _ _ _ reach reach true true (ap (λ x. above ++ x) (sym (append_assoc more (blank_row w ∷ []) (gone ++ rest))))
+      (sym e) refl refl both.stands) in
       leads_then w h opening above t (next_row ++ clear_bytes) (rows_down (length gone)) _ _ _ _ reach reach true true both
       (relead w h opening above (after t (next_row ++ clear_bytes)) (rows_down (length gone)) _ _ _ _ reach reach true true
       (ap (λ x. above ++ x) (append_assoc more (blank_row w ∷ []) (blanks ++ rest))) (omega arith) refl refl lower)
@@ -102,9 +107,11 @@ module _ (w h : ℕ) (opening : Screen) (above : List (List Cell)) where
       (restand w h opening above (after t clear_bytes) _ _ _ _ reach reach true true (ap (λ x. above ++ x) (sym (append_assoc more (blank_row w ∷ []) (rs ++ rest)))) refl refl refl clear.stands) in
       let both = leads_then w h opening above t clear_bytes (rows_down n) _ _ _ _ reach reach true true clear down in
       let blanks = replicate n (blank_row w) in
-      let up = rises w h opening above ((more ++ blank_row w ∷ []) ++ (blanks ++ rest)) n (length above + length more) reach true (after t (clear_bytes ++ rows_down n)) few (omega arith) (omega arith) both.stands in
+      let up = rises w h opening above ((more ++ blank_row w ∷ []) ++ (blanks ++ rest)) n (length above + length more) reach true (after t (clear_bytes ++ rows_down n)) few (omega arith)
+      (omega arith) both.stands in
       let one : n ≡ suc n - 1 = omega arith in
-      subst (λ k. StandsAfter w h opening above t ((clear_bytes ++ rows_down k) ++ move_bytes 0x41 k) (above ++ (more ++ (replicate (suc n) (blank_row w) ++ rest))) (length above + length more) reach true) one
+      subst (λ k. StandsAfter w h opening above t ((clear_bytes ++ rows_down k) ++ move_bytes 0x41 k) (above ++ (more ++ (replicate (suc n) (blank_row w) ++ rest)))
+      (length above + length more) reach true) one
       (relead w h opening above t _ _ _ _ _ reach reach true true (ap (λ x. above ++ x) (append_assoc more (blank_row w ∷ []) (blanks ++ rest))) refl refl refl
       (leads_then w h opening above t (clear_bytes ++ rows_down n) (move_bytes 0x41 n) _ _ _ _ reach reach true true both up))
 
@@ -147,7 +154,13 @@ module _ (w h : ℕ) (opening : Screen) (above : List (List Cell)) where
         length-append more (rows_of w (chars line) ++ rest),
         length-append (rows_of w (chars line)) rest,
       ) in
-      let long : n + m ≤ length new = omega (arith, e, length-append above (more ++ (rows_of w (chars line) ++ rest)), length-append more (rows_of w (chars line) ++ rest), length-append (rows_of w (chars line)) rest) in
+      let long : n + m ≤ length new = omega (
+        arith,
+        e,
+        length-append above (more ++ (rows_of w (chars line) ++ rest)),
+        length-append more (rows_of w (chars line) ++ rest),
+        length-append (rows_of w (chars line)) rest,
+      ) in
       leads_from w h opening above old new t line n (n + m - 1) reach reach s.below (last_columns w (chars line)) true false s
       (subst (Keeps (opening.row + length above) (resting s')) same (text_keeps w (opening.row + length above) s' (chars line)
       (record { below = omega arith; in_rows = omega (arith, total w h opening old s.below s.opens, s.in_rows); window = window w h opening s.opens }) (is_text w line d.utf8 d.plain d.narrow)))
@@ -175,7 +188,8 @@ module _ (w h : ℕ) (opening : Screen) (above : List (List Cell)) where
       (restand w h opening above (after t moved) _ _ _ _ reach reach front front refl e refl refl fall.stands))
 
   pub changed_leads : (gone more rest : List (List Cell)) (line : List ℕ) (down row reach : ℕ) (front : Bool) (t : Terminal) → down ≤ GREATEST → length gone ≤ GREATEST → reach ≤ length above + h →
-      IsDrawable w line → length gone ≡ length (rows_of w (chars line)) → row + down ≡ length above + length more → length above ≤ suc row → Stands w h opening (above ++ (more ++ (gone ++ rest))) row reach front t →
+      IsDrawable w line → length gone ≡ length (rows_of w (chars line)) → row + down ≡ length above + length more → length above ≤ suc row →
+      Stands w h opening (above ++ (more ++ (gone ++ rest))) row reach front t →
       StandsAfter w h opening above t (changed_bytes down (length gone) line) (above ++ (more ++ (rows_of w (chars line) ++ rest))) (length above + length more + length gone - 1) reach false
   changed_leads gone more rest line down row reach front t small few m d k e low s =
       let some : 0 < length (rows_of w (chars line)) = rows_some w (chars line) in
@@ -186,7 +200,8 @@ module _ (w h : ℕ) (opening : Screen) (above : List (List Cell)) where
       (leads_then w h opening above t bytes line _ _ _ _ reach reach true false first (text_in more rest (length gone) (after t bytes) line reach d k first.stands))
 
   pub changed_column : (gone more rest : List (List Cell)) (line : List ℕ) (down row reach : ℕ) (front : Bool) (t : Terminal) → down ≤ GREATEST → length gone ≤ GREATEST → reach ≤ length above + h →
-      IsDrawable w line → length gone ≡ length (rows_of w (chars line)) → row + down ≡ length above + length more → length above ≤ suc row → Stands w h opening (above ++ (more ++ (gone ++ rest))) row reach front t →
+      IsDrawable w line → length gone ≡ length (rows_of w (chars line)) → row + down ≡ length above + length more → length above ≤ suc row →
+      Stands w h opening (above ++ (more ++ (gone ++ rest))) row reach front t →
       (after t (changed_bytes down (length gone) line)).screen.column ≡ last_columns w (chars line)
   changed_column gone more rest line down row reach front t small few m d k e low s =
       let some : 0 < length (rows_of w (chars line)) = rows_some w (chars line) in
