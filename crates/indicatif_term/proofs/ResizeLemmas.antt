@@ -346,6 +346,14 @@ module _ (w h w' h' : ℕ) (opening : Screen) (l : Lists) (t : Terminal) (s : Sh
 test_parts : (a b c d : ℕ) → ((a == b) && (c == d)) ≡ true → (a ≡ b) × (c ≡ d)
 test_parts a b c d e = let p = and_parts (a == b) (c == d) e in (eqb-true a b p.0, eqb-true c d p.1)
 
+pub resized-columns : (w h : ℕ) (s : Screen) → (resized w h s).columns ≡ w
+unfolding resized
+resized-columns w h s = cond_both ((s.columns == w) && (s.height == h)) s (recut_screen w h s) (λ z. z.columns ≡ w) (λ e. (test_parts s.columns w s.height h e).0) (λ e. refl)
+
+pub resized-height : (w h : ℕ) (s : Screen) → (resized w h s).height ≡ h
+unfolding resized
+resized-height w h s = cond_both ((s.columns == w) && (s.height == h)) s (recut_screen w h s) (λ z. z.height ≡ h) (λ e. (test_parts s.columns w s.height h e).1) (λ e. refl)
+
 module _ (w h w' h' : ℕ) (opening : Screen) (l : Lists) (t : Terminal) (s : Shows w h opening l t) (some : 0 < w) (some' : 0 < h') where
   abbrev same : Bool
   same = (w == w') && (h == h')

@@ -1,11 +1,12 @@
 -- A terminal that changes its size, and the lists that it shows: each row is cut anew. Rows aren't joined again.
-use Rattle.std.specs.Prelude.{ℕ, ◌+◌, ◌-◌, min, max, ◌&&◌, ◌==◌, nat_le, List, [], ◌∷◌, ◌++◌, map, filter, flat_map, length, take, drop, replicate, if◌then◌else◌, Bool}
+use Rattle.std.specs.Prelude.{◌≡◌, ℕ, ◌+◌, ◌-◌, min, max, Bool, ◌&&◌, ◌==◌, nat_le, IsTrue, List, [], ◌∷◌, ◌++◌, map, filter, flat_map, length, take, drop, replicate, if◌then◌else◌}
 use Rattle.std.specs.Int.{is_in_range}
 use Rattle.std.specs.List.{list_all}
 use Rattle.indicatif_text.specs.Columns.{Cell, Blank, Written, Continued, Glyph, glyph_width, pieces_of, row_of, blank_row}
 use Rattle.indicatif_term.specs.Screen.{Screen, cursor_row}
 use Rattle.indicatif_term.specs.Terminal.{Terminal}
 use Rattle.indicatif_term.specs.Pictures.{is_blank, trimmed}
+use Rattle.indicatif_term.specs.Calls.{Told, State, Bytes, Nothing, is_told, TermView}
 use Rattle.indicatif_term.specs.Lists.{Lists, BarRows, lists_height, live_rows, settled}
 
 -- ---- a row
@@ -110,3 +111,18 @@ settled_whole w h l = settled h (rows_passed w ((l.reach - h) - (length l.above 
 -- the lists of a terminal of w columns and h rows that gets w' columns and h' rows
 unfoldable pub resized_lists : ℕ → ℕ → ℕ → ℕ → Lists → Lists
 resized_lists w h w' h' l = if (w == w') && (h == h') then l else settled_whole w' h' (recut_lists w' l)
+
+-- ---- what is known of a terminal
+
+-- what a terminal tells when it gets w columns and h rows: bytes that it was given stay
+abbrev pub told_resized : ℕ → ℕ → Told → Told
+told_resized w h (State t) = State (resized_terminal w h t)
+told_resized w h (Bytes bytes) = Bytes bytes
+told_resized w h Nothing = Nothing
+
+-- it got w columns and h rows, and nothing else changed
+pub record Resized (w h : ℕ) (old new : TermView) : Type 0 where
+  pub told_is : IsTrue (is_told old.told) → new.told ≡ told_resized w h old.told
+  pub columns_are : new.columns ≡ w
+  pub rows_are : new.rows ≡ h
+  pub faults_are : new.faults ≡ old.faults
