@@ -1,5 +1,5 @@
 -- Rows that look alike are cut alike, and how many rows they become.
-use Rattle.std.proofs.Common.{◌≡◌, ℕ, zero, suc, ◌+◌, ◌-◌, ◌<◌, ◌≤◌, true, false, ◌&&◌, List, [], ◌∷◌, ◌++◌, map, filter, length, take, drop, replicate, refl, sym, ◌∙◌, ap, arith, append-nil, length-append, slice_index_or, if◌then◌else◌}
+use Rattle.std.proofs.Common.{◌≡◌, ℕ, zero, suc, ◌+◌, ◌-◌, ◌<◌, ◌≤◌, true, ◌&&◌, List, [], ◌∷◌, ◌++◌, map, filter, length, take, drop, replicate, refl, sym, ◌∙◌, ap, arith, append-nil, length-append, slice_index_or, if◌then◌else◌}
 use Rattle.std.specs.Prelude.{flat_map, ◌==◌}
 use Rattle.std.specs.List.{list_all}
 use Rattle.std.proofs.lemmas.Bool.{cond_both, eqb-true, ne_eqb, and_parts, false≢true}

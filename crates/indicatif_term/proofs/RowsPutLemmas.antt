@@ -1,7 +1,6 @@
 -- Rows that are put on a new screen, one after another, are the old rows cut anew.
-use Rattle.std.proofs.Common.{◌≡◌, ℕ, zero, suc, ◌+◌, ◌-◌, ◌<◌, ◌≤◌, max, min, get_or, Bool, true, false, List, [], ◌∷◌, ◌++◌, map, filter, length, take, drop, replicate, refl, sym, ◌∙◌, ap, arith, append_assoc, append-nil, length-append, if◌then◌else◌}
-use Rattle.std.specs.Prelude.{fold, flat_map, ◌==◌, ◌&&◌, nat_le}
-use Rattle.std.specs.Int.{is_in_range}
+use Rattle.std.proofs.Common.{◌≡◌, ℕ, zero, suc, ◌+◌, ◌-◌, ◌<◌, ◌≤◌, max, min, get_or, Bool, true, false, List, [], ◌∷◌, ◌++◌, filter, length, take, drop, replicate, refl, sym, ◌∙◌, ap, arith, append_assoc, append-nil, length-append, if◌then◌else◌}
+use Rattle.std.specs.Prelude.{fold, ◌==◌, nat_le}
 use Rattle.std.proofs.lemmas.Bool.{cond_both, leb-true, leb-false, and_parts, eq-eqb, ne_eqb}
 use Rattle.std.proofs.lemmas.List.Folds.{list_all_at}
 use Rattle.std.specs.List.{list_all}
@@ -10,12 +9,12 @@ use Rattle.std.proofs.lemmas.List.{length-map, length-replicate, length-take-le,
 use Rattle.std.proofs.lemmas.List.Concat.{flat_map-append}
 use Rattle.indicatif_text.specs.Columns.{Cell, Glyph, glyph_width, columns_in, row_of, pieces_of, pieces_after, columns_of_last, blank_row}
 use Rattle.indicatif_text.proofs.WrappingLemmas.{pieces_some}
-use Rattle.indicatif_term.specs.Screen.{Screen, IsWhole, Put, performed, cursor_row, blank_screen, top}
+use Rattle.indicatif_term.specs.Screen.{Screen, cursor_row, blank_screen, top}
 use Rattle.indicatif_term.specs.Resizes.{has_place, glyphs_in, recut, recut_all, used_rows, lasting_rows, row_then, column_then, recut_screen}
 use Rattle.indicatif_term.specs.Inside.RowsPut.{LastingPut, marks_joined, glyph_put, row_put, next_row, rows_ended, rows_begun}
 use Rattle.indicatif_term.specs.declared.in_memory.grid.resizing.CursorRows.{CursorRows}
 use Rattle.indicatif_term.proofs.CursorRowLemmas.{screen_at, screen_after}
-use Rattle.indicatif_term.proofs.ScreenRowLemmas.{made, same_screen}
+use Rattle.indicatif_term.proofs.ScreenRowLemmas.{made}
 use Rattle.indicatif_term.proofs.GlyphLemmas.{piece_at, no_piece, IsPiece, is_piece_push, put_base, put_base_next, marks_at, screen_with, with_one, with_more}
 use Rattle.indicatif_term.proofs.WrittenLineLemmas.{line_feed_after}
 use Rattle.indicatif_term.proofs.RecutLemmas.{recut_some}
@@ -107,8 +106,7 @@ begun_at w h above n column (row ∷ rows) some =
     let more : 0 < length cut = recut_some w row in
     let left : ((n - 1) + 1) - length cut ≡ n - length cut = omega (arith, more) in
     let all : (n - length cut) - length (recut_all w rows) ≡ n - length (cut ++ recut_all w rows) = omega (arith, length-append cut (recut_all w rows)) in
-    let rest = begun_at w h (above ++ cut) (n - length cut) (last_of w row) rows (some_more above cut more) in
-    (
+    let rest = begun_at w h (above ++ cut) (n - length cut) (last_of w row) rows (some_more above cut more) in (
       rest.0,
       ap (λ s. rows_begun s rows) (ap (λ s. row_put s row) (next_at w h above n column some) ∙ row_at w h above (n - 1) row
           ∙ ap (λ k. screen_after w h (above ++ cut) k (last_of w row)) left)
@@ -215,7 +213,7 @@ module _ (old new now : Screen) (cursor : CursorRows) (put : LastingPut old new 
   placed row column e f =
       let t : top now ≡ length put_rows - new.height = omega (arith, height, put.height_stays) in
       let all : made now.columns now.height now.rows (max row (top now)) column
-          ≡ made new.columns new.height (put_rows ++ replicate (new.height - length put_rows) (blank_row new.columns)) (max (row_then new.columns old) (length put_rows - new.height)) (column_then new.columns old) =
+      ≡ made new.columns new.height (put_rows ++ replicate (new.height - length put_rows) (blank_row new.columns)) (max (row_then new.columns old) (length put_rows - new.height)) (column_then new.columns old) =
       cc (put.columns_stay, put.height_stays, put.rows_are, t, e, f) in
       all
 

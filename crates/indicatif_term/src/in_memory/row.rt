@@ -149,11 +149,7 @@ fn show_cells(
 }
 
 /// The characters of cells with their marks. Refused: `Memory`.
-fn glyphs_of(
-    alloc: Global,
-    cells: &[Cell],
-    marks: &[CombiningMark],
-) -> Result<Vec<Glyph>, Refusal>
+fn glyphs_of(alloc: Global, cells: &[Cell], marks: &[CombiningMark]) -> Result<Vec<Glyph>, Refusal>
     ensures glyphs { IfOk result (λ v. v.items ≡ flat_map glyph_at (map (cell_shown marks.now) cells.now)) }
     ensures refused { IfErr result (λ e. e ≡ Refusal.Memory) }
 {

@@ -1,5 +1,4 @@
-use Rattle.std.proofs.Common.{◌≡◌, ◌∙◌, ◌&&◌, true, false, ap, sym, if◌then◌else◌}
-use Rattle.std.specs.Prelude.{◌==◌}
+use Rattle.std.proofs.Common.{◌∙◌, ap, sym, if◌then◌else◌}
 use Rattle.indicatif_term.specs.Resizes.{resized, recut_screen}
 use Rattle.indicatif_term.proofs.in_memory.grid.Grid.resize.Goals as goal
 
