@@ -81,7 +81,10 @@ recut_some w row = rw length-map (pieces_some w [] (filter (has_place w) (glyphs
 
 pub recut_more : (w : ℕ) (rows : List (List Cell)) → length rows ≤ length (recut_all w rows)
 recut_more w [] = omega arith
-recut_more w (r ∷ rows) = let a : 0 < length (recut w r) = recut_some w r in let b : length rows ≤ length (recut_all w rows) = recut_more w rows in omega (arith, length-append (recut w r) (recut_all w rows))
+recut_more w (r ∷ rows) =
+    let some : 0 < length (recut w r) = recut_some w r in
+    let rest : length rows ≤ length (recut_all w rows) = recut_more w rows in
+    omega (arith, some, rest, length-append (recut w r) (recut_all w rows))
 
 -- a row more
 pub row_more : (w n : ℕ) (rows : List (List Cell)) → n < length rows → length (recut_all w (take n rows)) + length (recut w (slice_index_or rows n [])) ≡ length (recut_all w (take (suc n) rows))

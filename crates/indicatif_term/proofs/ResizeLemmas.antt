@@ -26,7 +26,8 @@ segments_recut w [] = refl
 segments_recut w (s ∷ segments) = ap (λ x. recut_all w s.rows ++ x) (segments_recut w segments) ∙ sym (flat_map-append (recut w) s.rows (flat_map (λ (s : BarRows). s.rows) segments))
 
 live_recut : (w n : ℕ) (live : Live) → live_rows w (record { blanks = live.blanks; segments = map (recut_bar w) live.segments }) ≡ recut_all w (live_rows n live)
-live_recut w n live = rw (segments_recut w live.segments, sym (recut_blanks w n live.blanks)) (sym (flat_map-append (recut w) (replicate live.blanks (blank_row n)) (flat_map (λ (s : BarRows). s.rows) live.segments)))
+live_recut w n live = rw (segments_recut w live.segments, sym (recut_blanks w n live.blanks))
+    (sym (flat_map-append (recut w) (replicate live.blanks (blank_row n)) (flat_map (λ (s : BarRows). s.rows) live.segments)))
 
 pub recut_lists-rows : (w n : ℕ) (l : Lists) → all_rows w (recut_lists w l) ≡ recut_all w (all_rows n l)
 recut_lists-rows w n l = ap (λ x. (recut_all w l.above ++ recut_all w l.kept) ++ x) (live_recut w n l.live)
@@ -49,7 +50,8 @@ segments_after-rows zero [] = refl
 segments_after-rows (suc n) [] = refl
 segments_after-rows n (s ∷ segments) =
     let others = flat_map (λ (s : BarRows). s.rows) segments in
-    cond_both (nat_le (length s.rows) n) (segments_after (n - length s.rows) segments) (record s { rows = drop n s.rows } ∷ segments) (λ x. flat_map (λ (s : BarRows). s.rows) x ≡ drop n (s.rows ++ others))
+    cond_both (nat_le (length s.rows) n) (segments_after (n - length s.rows) segments) (record s { rows = drop n s.rows } ∷ segments)
+    (λ x. flat_map (λ (s : BarRows). s.rows) x ≡ drop n (s.rows ++ others))
     (λ e. segments_after-rows (n - length s.rows) segments ∙ sym (drop_past n s.rows others (is_le (length s.rows) n e)))
     (λ e. sym (drop-append-le n s.rows others (let h : n < length s.rows = not_le (length s.rows) n e in omega (arith, h))))
 
@@ -124,9 +126,11 @@ module _ (w h : ℕ) (l : Lists) (some : 0 < h) where
       let d : whole.reach ≡ max passing.reach (lists_height passing) = refl in
       let e : lists_height cut ≡ length cut.above + length cut.kept + live_height cut.live = refl in
       let f : length (live_rows w cut.live) ≡ live_height cut.live = length-live w cut.live in
-      let g : length passing.kept ≡ length cut.kept + min more (length (live_rows w cut.live)) = length-append cut.kept (take more (live_rows w cut.live)) ∙ ap (λ n. length cut.kept + n) (length-take more (live_rows w cut.live)) in
+      let g : length passing.kept ≡ length cut.kept + min more (length (live_rows w cut.live)) =
+      length-append cut.kept (take more (live_rows w cut.live)) ∙ ap (λ n. length cut.kept + n) (length-take more (live_rows w cut.live)) in
       let gone = (max passing.reach (lists_height passing) - h) - length passing.above in
-      let i : length whole.above ≡ length cut.above + min gone (length passing.kept) = length-append passing.above (take gone passing.kept) ∙ ap (λ n. length cut.above + n) (length-take gone passing.kept) in
+      let i : length whole.above ≡ length cut.above + min gone (length passing.kept) =
+      length-append passing.above (take gone passing.kept) ∙ ap (λ n. length cut.above + n) (length-take gone passing.kept) in
       let j : one_if l.below ≤ 1 = at_most_one l.below in
       let cr : cut.reach ≡ lists_height cut + one_if l.below = refl in
       omega (arith, a, c, d, e, f, g, i, j, cr)
@@ -172,7 +176,8 @@ module _ (w h w' h' k b row column : ℕ) (xs : List (List Cell)) (some : 0 < h'
   padded : rows ++ replicate (h' - length rows) (blank_row w') ≡ recut_all w' xs ++ replicate (blank_then h' (length (recut_all w' xs)) b) (blank_row w')
   padded = append_assoc (recut_all w' xs) (replicate b (blank_row w')) (replicate (h' - length rows) (blank_row w'))
       ∙ ap (λ z. recut_all w' xs ++ z) (replicate-append-replicate b (h' - length rows) (blank_row w')
-      ∙ ap (λ n. replicate n (blank_row w')) (let e : b + (h' - length rows) ≡ blank_then h' (length (recut_all w' xs)) b = omega (arith, length-append (recut_all w' xs) (replicate b (blank_row w')), length-replicate b (blank_row w')) in e))
+      ∙ ap (λ n. replicate n (blank_row w')) (let e : b + (h' - length rows) ≡ blank_then h' (length (recut_all w' xs)) b =
+      omega (arith, length-append (recut_all w' xs) (replicate b (blank_row w')), length-replicate b (blank_row w')) in e))
 
   pub screen_cut : (row' column' : ℕ) → row_then w' before ≡ row' → column_then w' before ≡ column' → row' + 1 ≡ length (recut_all w' xs) + b →
       recut_screen w' h' before ≡ made w' h' (recut_all w' xs ++ replicate (blank_then h' (length (recut_all w' xs)) b) (blank_row w')) row' column'
@@ -315,7 +320,8 @@ module _ (w h w' h' : ℕ) (opening : Screen) (l : Lists) (t : Terminal) (s : Sh
   terminal_cut =
       let c = by_below l.below refl in
       ap resting (ap (λ z. recut_screen w' h' z.screen) s.terminal_is
-      ∙ screen_cut w h w' h' s.blank b (opening.row + resting_row l) (resting_column w l) all some' c.0 c.1 (u + resting_row l') (resting_column w' l') c.2 c.3 (c.4 ∙ ap (λ n. n + b) (sym all-height'))
+      ∙ screen_cut w h w' h' s.blank b (opening.row + resting_row l) (resting_column w l) all some' c.0 c.1 (u + resting_row l') (resting_column w' l') c.2 c.3
+      (c.4 ∙ ap (λ n. n + b) (sym all-height'))
       ∙ same_screen w' h' _ _ _ _ _ _ (ap (λ n. recut_all w' all ++ replicate (blank_then h' n b) (blank_row w')) all-height'
       ∙ ap (λ z. z ++ replicate (blank_then h' (u + lists_height l') b) (blank_row w')) (flat_map-append (recut w') untouched s.shown)) refl refl)
 
@@ -364,7 +370,8 @@ module _ (w h w' h' : ℕ) (opening : Screen) (l : Lists) (t : Terminal) (s : Sh
   at_rest : (x : Screen) → with_screen x ≡ resting x
   at_rest x = ap (λ r. let y : Terminal = record { screen = x; reader = r } in y) (ap (λ z. z.reader) s.terminal_is)
 
-  by_size : (b : Bool) → same ≡ b → Shows w' h' (if b then opening else recut_screen w' h' opening) (if b then l else settled_whole w' h' (recut_lists w' l)) (with_screen (if b then t.screen else recut_screen w' h' t.screen))
+  by_size : (b : Bool) → same ≡ b →
+      Shows w' h' (if b then opening else recut_screen w' h' opening) (if b then l else settled_whole w' h' (recut_lists w' l)) (with_screen (if b then t.screen else recut_screen w' h' t.screen))
   by_size true e =
       let p = test_parts w w' h h' e in
       subst (λ n. Shows w' n opening l t) p.1 (subst (λ n. Shows n h opening l t) p.0 s)
@@ -393,7 +400,8 @@ module _ (w h w' h' : ℕ) (opening : Screen) (l : Lists) (t : Terminal) (s : Sh
   resized_shows =
       subst (λ x. Shows w' h' x (resized_lists w h w' h' l) (resized_terminal w' h' t)) (sym opening_resized)
       (subst (λ x. Shows w' h' (if same then opening else recut_screen w' h' opening) x (resized_terminal w' h' t)) (sym lists_resized)
-      (subst (λ x. Shows w' h' (if same then opening else recut_screen w' h' opening) (if same then l else settled_whole w' h' (recut_lists w' l)) (with_screen x)) (sym screen_resized) (by_size same refl)))
+      (subst (λ x. Shows w' h' (if same then opening else recut_screen w' h' opening) (if same then l else settled_whole w' h' (recut_lists w' l)) (with_screen x)) (sym screen_resized)
+      (by_size same refl)))
 
 -- ---- rows above are cut, and more only added at their end
 
@@ -428,7 +436,8 @@ forgotten_stay w h w' h' some =
     elim ((w == w') && (h == h')) as (λ b. (if b then forgotten_lists else settled_whole w' h' (recut_lists w' forgotten_lists)) ≡ forgotten_lists) [ true ↦ refl | false ↦ forgotten_cut w' h' some ]
 
 -- what has not failed rests as before
-pub resized_rests : (w h w' h' : ℕ) (opening : Screen) (l : Lists) (t : Terminal) → Rests w h opening l t → IsFalse l.failed → 0 < w → 0 < h' → Rests w' h' (resized w' h' opening) (resized_lists w h w' h' l) (resized_terminal w' h' t)
+pub resized_rests : (w h w' h' : ℕ) (opening : Screen) (l : Lists) (t : Terminal) → Rests w h opening l t → IsFalse l.failed → 0 < w → 0 < h' →
+    Rests w' h' (resized w' h' opening) (resized_lists w h w' h' l) (resized_terminal w' h' t)
 resized_rests w h w' h' opening l t r f some some' =
     let e : (resized_lists w h w' h' l).failed ≡ false = still_failed w h w' h' l ∙ f in
     record {

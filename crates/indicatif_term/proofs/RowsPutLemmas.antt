@@ -200,7 +200,9 @@ module _ (old new now : Screen) (cursor : CursorRows) (put : LastingPut old new 
       ∙ length-append (recut_all new.columns (take old.row old.rows)) (recut new.columns (cursor_row old) ++ [])
       ∙ ap (λ z. length (recut_all new.columns (take old.row old.rows)) + length z) (append-nil (recut new.columns (cursor_row old))) in
       let used = used_rows (drop (old.row + 1) old.rows) in
-      omega (arith, front, ap length (flat_map-append (recut new.columns) (take (old.row + 1) old.rows) used), length-append (recut_all new.columns (take (old.row + 1) old.rows)) (recut_all new.columns used))
+      let all : length put_rows ≡ length (recut_all new.columns (take (old.row + 1) old.rows)) + length (recut_all new.columns used) =
+      ap length (flat_map-append (recut new.columns) (take (old.row + 1) old.rows) used) ∙ length-append (recut_all new.columns (take (old.row + 1) old.rows)) (recut_all new.columns used) in
+      omega (arith, front, all)
 
   pub last_within : cursor.last < length now.rows
   last_within = omega (arith, put.first_is, put.last_is, height, upper_rows)
@@ -213,7 +215,8 @@ module _ (old new now : Screen) (cursor : CursorRows) (put : LastingPut old new 
   placed row column e f =
       let t : top now ≡ length put_rows - new.height = omega (arith, height, put.height_stays) in
       let all : made now.columns now.height now.rows (max row (top now)) column
-      ≡ made new.columns new.height (put_rows ++ replicate (new.height - length put_rows) (blank_row new.columns)) (max (row_then new.columns old) (length put_rows - new.height)) (column_then new.columns old) =
+      ≡ made new.columns new.height (put_rows ++ replicate (new.height - length put_rows) (blank_row new.columns))
+      (max (row_then new.columns old) (length put_rows - new.height)) (column_then new.columns old) =
       cc (put.columns_stay, put.height_stays, put.rows_are, t, e, f) in
       all
 

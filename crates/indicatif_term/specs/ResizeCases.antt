@@ -52,7 +52,8 @@ RowsBelowDropped = let four = drawn 10 4 false 0 (bar 0 (codes "a") ∷ bar 1 (c
 abbrev pub ReachedBelow : Type 0
 ReachedBelow = let none = cleared two_rows in (none.below ≡ true) × (none.reach ≡ 2) × ((resized_lists 10 4 5 4 none).reach ≡ 1) × ((resized_lists 10 4 5 4 none).below ≡ true)
 
--- a bar that is gone above one that is shown: on 2 rows its two rows have scrolled away, and a blank row stays one
+-- a bar that is gone, below a blank row and above a bar that is shown: at 3 columns on 2 rows the blank row and the first of its two
+-- rows have scrolled away
 abbrev pub KeptRowsScrollAway : Type 0
 KeptRowsScrollAway = let three = drawn 6 4 true 0 (bar 1 (codes "a") ∷ bar 2 (codes "keeper") ∷ bar 3 (codes "x") ∷ []) opening_lists in
     let gone = kept_of 6 2 (drawn 6 4 true 0 (bar 2 (codes "keeper") ∷ bar 3 (codes "x") ∷ []) three) in

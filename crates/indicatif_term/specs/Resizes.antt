@@ -51,7 +51,7 @@ row_then w s =
     let before = length (recut_all w (take s.row s.rows)) in
     if s.column == s.columns then before + length (recut w (cursor_row s)) - 1 else before
 
--- its column: it stays, or is the last that there is; a cursor that waits goes on waiting
+-- its column stays, but is at most w; a cursor that waits goes on waiting
 abbrev pub column_then : ℕ → Screen → ℕ
 column_then w s = if s.column == s.columns then w else min s.column w
 

@@ -119,8 +119,8 @@ impl TermLike for Box<dyn TermLike + Drop> {
 
 /// A terminal whose size can be changed between its calls.
 ///
-/// A bar draws for the size that its terminal tells. Where a terminal got another size and nobody told, the next drawings take
-/// rows back that aren't theirs, or leave some that are.
+/// A `Term` takes the new size for the drawings to come, and nothing else: what stands on the screen behind its writer is that
+/// screen's own. An engine that drew before knows its rows by the old size, so begin a new one below them.
 pub trait Resize: TermLike {
     /// Gets `rows` rows and `cols` columns; no byte is written, and no failure counted. A terminal that tells its state has cut
     /// each of its rows anew then. One that tells its bytes tells the same ones.
@@ -129,7 +129,7 @@ pub trait Resize: TermLike {
     /// let mut term = InMemoryTerm::new(rt.alloc(), 4, 10)?;
     /// term.write_str("progress")?;
     /// term.resize(4, 5)?;
-    /// // contents: "progr\ness", width: 5
+    /// // contents: "progr\ness", cursor: (0, 5)
     /// ```
     ///
     /// Refused: `ZeroSize` where `rows` or `cols` is 0; `Memory`. All is unchanged then.

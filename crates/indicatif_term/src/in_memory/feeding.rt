@@ -166,7 +166,7 @@ impl Cells {
     }
 
     /// Gets `rows` rows and `cols` columns. Each row, without the blanks at its end, is cut into rows of the new width, and rows
-    /// are never joined again. A size that it has changes nothing.
+    /// aren't joined again. A size that it has already changes nothing.
     ///
     /// ```
     /// let mut cells = Cells::new(rt.alloc(), 4, 10)?;
@@ -174,7 +174,7 @@ impl Cells {
     /// cells.resize(4, 5)?;
     /// // contents: "progr\ness b\nars", cursor: (2, 3)
     /// cells.resize(4, 20)?;
-    /// // contents: "progr\ness b\nars" still
+    /// // contents: "progr\ness b\nars" still: no row is joined to another
     /// ```
     ///
     /// Blank rows below the cursor's row and below all others are dropped. The window is the last `rows` rows then, and those
@@ -190,7 +190,7 @@ impl Cells {
         ensures zero_size { (result ≡ Err Refusal.ZeroSize) ↔ ((rows ≡ 0) ⊎ (cols ≡ 0)) }
         ensures no_other { IfErr result (λ e. (e ≡ Refusal.ZeroSize) ⊎ (e ≡ Refusal.Memory)) }
     {
-        if rows == 0 || cols == 0 {
+        if cols == 0 || rows == 0 {
             return Err(Refusal::ZeroSize);
         }
         self.grid.resize(rows, cols)
