@@ -11,7 +11,7 @@ use Rattle.indicatif_text.specs.Columns.{Cell, Glyph, glyph_width, columns_in, r
 use Rattle.indicatif_text.proofs.WrappingLemmas.{pieces_some}
 use Rattle.indicatif_term.specs.Screen.{Screen, cursor_row, blank_screen, top}
 use Rattle.indicatif_term.specs.Resizes.{has_place, glyphs_in, recut, recut_all, used_rows, lasting_rows, row_then, column_then, recut_screen}
-use Rattle.indicatif_term.specs.Inside.RowsPut.{LastingPut, marks_joined, glyph_put, row_put, next_row, rows_ended, rows_begun}
+use Rattle.indicatif_term.specs.Inside.Resizing.{LastingPut, marks_joined, glyph_put, row_put, next_row, rows_ended, rows_begun}
 use Rattle.indicatif_term.specs.declared.in_memory.grid.resizing.CursorRows.{CursorRows}
 use Rattle.indicatif_term.proofs.CursorRowLemmas.{screen_at, screen_after}
 use Rattle.indicatif_term.proofs.ScreenRowLemmas.{made}

@@ -4,7 +4,7 @@ ghost use Rattle.indicatif_text.specs.Columns.{width_of};
 ghost use Rattle.std.specs.Int.{is_in_range};
 ghost use Rattle.indicatif_term.specs.Screen.{blank_screen, top};
 ghost use Rattle.indicatif_term.specs.Resizes.{recut_screen, resized, used_rows};
-ghost use Rattle.indicatif_term.specs.Inside.RowsPut.{LastingPut, marks_joined, glyph_put, row_put, next_row, rows_ended, rows_begun};
+ghost use Rattle.indicatif_term.specs.Inside.Resizing.{LastingPut, marks_joined, glyph_put, row_put, next_row, rows_ended, rows_begun};
 
 use crate::in_memory::glyph::Glyph;
 use crate::in_memory::grid::Grid;

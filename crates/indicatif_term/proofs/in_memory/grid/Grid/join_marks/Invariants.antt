@@ -1,5 +1,5 @@
 use Rattle.std.proofs.Common.{◌≡◌, ◌≤◌, length, drop, reverse}
-use Rattle.indicatif_term.specs.Inside.RowsPut.{marks_joined}
+use Rattle.indicatif_term.specs.Inside.Resizing.{marks_joined}
 use Rattle.indicatif_term.proofs.in_memory.grid.Grid.join_marks.Given as goal
 
 abbrev pub invariant-loop-left : goal.invariant-loop-left

@@ -1,5 +1,5 @@
 use Rattle.std.proofs.Common.{◌≡◌, take}
-use Rattle.indicatif_term.specs.Inside.RowsPut.{rows_begun}
+use Rattle.indicatif_term.specs.Inside.Resizing.{rows_begun}
 use Rattle.indicatif_term.proofs.in_memory.grid.Grid.put_begun.Given as goal
 
 abbrev pub invariant-loop-row : goal.invariant-loop-row

@@ -1,5 +1,5 @@
 use Rattle.std.proofs.Common.{◌≡◌, take}
-use Rattle.indicatif_term.specs.Inside.RowsPut.{rows_ended}
+use Rattle.indicatif_term.specs.Inside.Resizing.{rows_ended}
 use Rattle.indicatif_term.proofs.in_memory.grid.Grid.put_ended.Given as goal
 
 abbrev pub invariant-loop-row : goal.invariant-loop-row

@@ -4,7 +4,7 @@ use Rattle.indicatif_text.specs.Columns.{Cell}
 use Rattle.indicatif_term.specs.Screen.{cursor_row}
 use Rattle.indicatif_term.specs.Resizes.{used_rows}
 use Rattle.indicatif_term.specs.Inside.Grids.{screen_of}
-use Rattle.indicatif_term.specs.Inside.RowsPut.{LastingPut, rows_ended, row_put, rows_begun}
+use Rattle.indicatif_term.specs.Inside.Resizing.{LastingPut, rows_ended, row_put, rows_begun}
 use Rattle.indicatif_term.proofs.RowsPutLemmas.{lasting_put}
 use Rattle.indicatif_term.proofs.in_memory.grid.Grid.put_lasting.Goals as goal
 
