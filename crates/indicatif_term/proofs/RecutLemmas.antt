@@ -4,11 +4,13 @@ use Rattle.std.specs.Prelude.{flat_map, ◌==◌}
 use Rattle.std.specs.List.{list_all}
 use Rattle.std.proofs.lemmas.Bool.{cond_both, eqb-true, ne_eqb, and_parts, false≢true}
 use Rattle.std.proofs.lemmas.List.{length-map}
+use Rattle.std.proofs.lemmas.List.Concat.{flat_map-append}
 use Rattle.indicatif_text.specs.Columns.{Cell, Blank, Written, Continued, Glyph, row_of, pieces_of, blank_row}
 use Rattle.indicatif_text.proofs.WrappingLemmas.{pieces_some}
+use Rattle.indicatif_term.specs.Screen.{Screen, cursor_row}
 use Rattle.indicatif_term.specs.Pictures.{is_blank, trimmed}
 use Rattle.indicatif_term.specs.Shows.{look, looks_of}
-use Rattle.indicatif_term.specs.Resizes.{glyph_at, glyphs_in, has_place, recut, recut_all}
+use Rattle.indicatif_term.specs.Resizes.{glyph_at, glyphs_in, has_place, recut, recut_all, used_rows, lasting_rows}
 use Rattle.indicatif_term.proofs.RowReadingLemmas.{all-look, all_blank}
 
 -- ---- rows that look alike
@@ -93,3 +95,14 @@ row_more w zero (r ∷ rows) h = let e : length (recut w r) ≡ length (recut w 
 row_more w (suc n) (r ∷ rows) h =
     let i : length (recut_all w (take n rows)) + length (recut w (slice_index_or rows n [])) ≡ length (recut_all w (take (suc n) rows)) = row_more w n rows (omega (arith, h)) in
     omega (arith, i, length-append (recut w r) (recut_all w (take n rows)), length-append (recut w r) (recut_all w (take (suc n) rows)))
+
+-- the rows down to the cursor's are among those that last
+pub upper_rows : (w : ℕ) (s : Screen) → s.row < length s.rows →
+    length (recut_all w (take s.row s.rows)) + length (recut w (cursor_row s)) ≤ length (recut_all w (lasting_rows s))
+upper_rows w s within =
+    let used = used_rows (drop (s.row + 1) s.rows) in
+    let front : length (recut_all w (take (s.row + 1) s.rows)) ≡ length (recut_all w (take s.row s.rows)) + length (recut w (cursor_row s)) =
+    ap (λ n. length (recut_all w (take n s.rows))) (let e : s.row + 1 ≡ suc s.row = omega arith in e) ∙ sym (row_more w s.row s.rows within) in
+    let all : length (recut_all w (lasting_rows s)) ≡ length (recut_all w (take (s.row + 1) s.rows)) + length (recut_all w used) =
+    ap length (flat_map-append (recut w) (take (s.row + 1) s.rows) used) ∙ length-append (recut_all w (take (s.row + 1) s.rows)) (recut_all w used) in
+    omega (arith, front, all)

@@ -17,7 +17,7 @@ use Rattle.indicatif_term.proofs.CursorRowLemmas.{screen_at, screen_after}
 use Rattle.indicatif_term.proofs.ScreenRowLemmas.{made}
 use Rattle.indicatif_term.proofs.GlyphLemmas.{piece_at, no_piece, IsPiece, is_piece_push, put_base, put_base_next, marks_at, screen_with, with_one, with_more}
 use Rattle.indicatif_term.proofs.WrittenLineLemmas.{line_feed_after}
-use Rattle.indicatif_term.proofs.RecutLemmas.{recut_some}
+use Rattle.indicatif_term.proofs.RecutLemmas.{recut_some, upper_rows}
 
 -- ---- glyphs
 
@@ -192,23 +192,14 @@ module _ (old new now : Screen) (cursor : CursorRows) (put : LastingPut old new 
   height = ap length put.rows_are ∙ length-append put_rows (replicate (new.height - length put_rows) (blank_row new.columns))
       ∙ ap (λ n. length put_rows + n) (length-replicate (new.height - length put_rows) (blank_row new.columns))
 
-  upper_rows : length (recut_all new.columns (take old.row old.rows)) + length (recut new.columns (cursor_row old)) ≤ length put_rows
-  upper_rows =
-      let front : length (recut_all new.columns (take (old.row + 1) old.rows)) ≡ length (recut_all new.columns (take old.row old.rows)) + length (recut new.columns (cursor_row old)) =
-      ap (λ z. length (recut_all new.columns z)) (take_more old.rows old.row [] within)
-      ∙ ap length (flat_map-append (recut new.columns) (take old.row old.rows) (cursor_row old ∷ []))
-      ∙ length-append (recut_all new.columns (take old.row old.rows)) (recut new.columns (cursor_row old) ++ [])
-      ∙ ap (λ z. length (recut_all new.columns (take old.row old.rows)) + length z) (append-nil (recut new.columns (cursor_row old))) in
-      let used = used_rows (drop (old.row + 1) old.rows) in
-      let all : length put_rows ≡ length (recut_all new.columns (take (old.row + 1) old.rows)) + length (recut_all new.columns used) =
-      ap length (flat_map-append (recut new.columns) (take (old.row + 1) old.rows) used) ∙ length-append (recut_all new.columns (take (old.row + 1) old.rows)) (recut_all new.columns used) in
-      omega (arith, front, all)
+  upper : length (recut_all new.columns (take old.row old.rows)) + length (recut new.columns (cursor_row old)) ≤ length put_rows
+  upper = upper_rows new.columns old within
 
   pub last_within : cursor.last < length now.rows
-  last_within = omega (arith, put.first_is, put.last_is, height, upper_rows)
+  last_within = omega (arith, put.first_is, put.last_is, height, upper)
 
   pub first_within : cursor.first < length now.rows
-  first_within = omega (arith, put.first_is, put.last_is, height, upper_rows, recut_some new.columns (cursor_row old))
+  first_within = omega (arith, put.first_is, put.last_is, height, upper, recut_some new.columns (cursor_row old))
 
   placed : (row column : ℕ) → row_then new.columns old ≡ row → column_then new.columns old ≡ column →
       record now { row = max row (top now); column = column } ≡ recut_screen new.columns new.height old

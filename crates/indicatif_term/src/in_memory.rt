@@ -4,7 +4,7 @@
 //! - `whole_char`: whole characters at the front of bytes, which most bytes are.
 //! - `scanner`: what bytes ask for: characters first, escape sequences next.
 //! - `spelling`: the bytes of a character that isn't whole.
-//! - `grid`: the rows and the cursor, and what each operation does to them.
+//! - `grid`: the rows and the cursor, what each operation does to them, and what another size does.
 //! - `row`: a row of cells, and what writing into it does to its wide characters.
 //! - `cell`: a cell of a row.
 //! - `glyph`: a character and its marks, as they are taken out of a row.
