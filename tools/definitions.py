@@ -66,6 +66,7 @@ SOURCES = {
         "Memory": (OWN, {CRATE: "move_text hex_digit code_text quoted_char written_text"}),
         "Pictures": (OWN, {}),
         "Remembered": (OWN, {}),
+        "Resizes": (OWN, {}),
         "Screen": (OWN, {SEQUENCES: "line_feed performed", WIDTHS: "put_sized"}),
         "Shows": (OWN, {}),
         "Standing": (OWN, {}),

@@ -1,7 +1,7 @@
 //! Examples of the terminals in memory. A line begins with the call, then come the contents, the cursor, the picture.
 use anyhow::Result;
 use indicatif_term::in_memory::{Cells, InMemoryTerm};
-use indicatif_term::term_like::TermLike;
+use indicatif_term::term_like::{Resize, TermLike};
 use indicatif_text::columns::Refusal;
 
 type Fed = Result<(), (usize, Refusal)>;
@@ -38,6 +38,11 @@ fn feed_spaces(cells: &mut Cells) -> Fed {
     Ok(())
 }
 
+fn feed_long(cells: &mut Cells) -> Fed {
+    cells.feed(b"progress b\r\nars")?;
+    Ok(())
+}
+
 fn show_cells(rt: &HostRuntime, name: &str, cells: &Cells) -> Result<()> {
     let (row, column) = cells.cursor();
     println!(rt;
@@ -56,7 +61,8 @@ fn cells(rt: &HostRuntime) -> Result<()> {
     full_row(rt)?;
     scrolled_row(rt)?;
     written_space(rt)?;
-    wide_character(rt)
+    wide_character(rt)?;
+    cut_rows(rt)
 }
 
 fn first_cells(rt: &HostRuntime) -> Result<()> {
@@ -92,6 +98,15 @@ fn wide_character(rt: &HostRuntime) -> Result<()> {
     let mut cells = Cells::new(rt.alloc(), 1, 4)?;
     let _ = feed_parts(&mut cells);
     show_cells(rt, "Cells::feed", &cells)
+}
+
+fn cut_rows(rt: &HostRuntime) -> Result<()> {
+    let mut cells = Cells::new(rt.alloc(), 4, 10)?;
+    let _ = feed_long(&mut cells);
+    cells.resize(4, 5)?;
+    show_cells(rt, "Cells::resize", &cells)?;
+    cells.resize(4, 20)?;
+    show_cells(rt, "Cells::resize", &cells)
 }
 
 /// Prints what stands on a new terminal.
@@ -138,7 +153,8 @@ fn readings(rt: &HostRuntime) -> Result<()> {
     trimmed(rt)?;
     waiting(rt)?;
     scrolled(rt)?;
-    emptied(rt)
+    emptied(rt)?;
+    resized(rt)
 }
 
 fn new_terminal(rt: &HostRuntime) -> Result<()> {
@@ -172,4 +188,11 @@ fn emptied(rt: &HostRuntime) -> Result<()> {
     term.move_cursor_up(1)?;
     term.clear_line()?;
     show(rt, "TermLike", &term)
+}
+
+fn resized(rt: &HostRuntime) -> Result<()> {
+    let mut term = InMemoryTerm::new(rt.alloc(), 4, 10)?;
+    term.write_str("progress")?;
+    term.resize(4, 5)?;
+    show(rt, "Resize", &term)
 }

@@ -9,7 +9,8 @@ use Rattle.std.proofs.lemmas.Grind.{flat_map-append}
 use Rattle.std.specs.List.{AllByRecursion}
 use Rattle.unicode_width.specs.Width.{char_width}
 use Rattle.indicatif_text.specs.Columns.{Cell, width_of, Blank, Continued, Glyph, glyph_cells, glyph_width, columns_in, row_of, pieces_after, blank_row, columns_of_last}
-use Rattle.indicatif_term.specs.Screen.{Screen, Put, joined_at, with_mark, put_here, put_sized, line_feed, performed, performed_all}
+use Rattle.indicatif_term.specs.Screen.{Screen, Put, joined_at, with_mark, put_here, put_sized, put_mark, line_feed, performed, performed_all}
+use Rattle.indicatif_term.specs.Inside.Resizing.{marks_joined}
 use Rattle.indicatif_text.proofs.WrappingLemmas.{pieces_some, last_more}
 use Rattle.indicatif_term.proofs.CursorRowLemmas.{screen_at, screen_after, glyph_ops, IsSized}
 use Rattle.indicatif_term.proofs.FeedLemmas.{performed_all-append}
@@ -94,9 +95,10 @@ put_base_next w h above piece n c pos fits full =
     ∙ sym (put_sized_here c (width_of c) (piece_at w h (above ++ row_of w piece ∷ []) [] (n - 1)) pos fits (omega arith))
     ∙ sym (ap (λ o. put_sized c o (piece_at w h (above ++ row_of w piece ∷ []) [] (n - 1))) (some_width (char_width false c) pos))
 
-put_mark_at : (w h : ℕ) (above : List (List Cell)) (piece : List Glyph) (n c : ℕ) (g : Glyph) → 0 < glyph_width g → IsPiece piece → char_width false c ≡ Some 0 →
-    performed (Put c) (piece_at w h above (piece ++ g ∷ []) n) ≡ piece_at w h above (piece ++ with_mark c g ∷ []) n
-put_mark_at w h above piece n c g pos is zero_width =
+-- a mark joins the last glyph
+mark_at : (w h : ℕ) (above : List (List Cell)) (piece : List Glyph) (n c : ℕ) (g : Glyph) → 0 < glyph_width g → IsPiece piece →
+    put_mark c (piece_at w h above (piece ++ g ∷ []) n) ≡ piece_at w h above (piece ++ with_mark c g ∷ []) n
+mark_at w h above piece n c g pos is =
     let is' : length (flat_map glyph_cells (piece ++ g ∷ [])) ≡ columns_in (piece ++ g ∷ []) = is_piece_push piece g pos is in
     let row : joined_at (columns_in (piece ++ g ∷ [])) c (row_of w (piece ++ g ∷ [])) ≡ row_of w (piece ++ with_mark c g ∷ []) =
     cc (
@@ -106,18 +108,26 @@ put_mark_at w h above piece n c g pos is zero_width =
       columns_push piece g,
       columns_push piece (with_mark c g),
     ) in
-    ap (λ o. put_sized c o (piece_at w h above (piece ++ g ∷ []) n)) zero_width
-    ∙ rw (cursor_row_at w h above (row_of w (piece ++ g ∷ [])) n (columns_in (piece ++ g ∷ [])), row) (
+    rw (cursor_row_at w h above (row_of w (piece ++ g ∷ [])) n (columns_in (piece ++ g ∷ [])), row) (
     with_row_at w h above (row_of w (piece ++ g ∷ [])) n (columns_in (piece ++ g ∷ [])) (row_of w (piece ++ with_mark c g ∷ []))
     ∙ cc (columns_push piece g, columns_push piece (with_mark c g)))
 
+pub marks_at : (w h : ℕ) (above : List (List Cell)) (piece : List Glyph) (n : ℕ) (ms : List ℕ) (g : Glyph) → 0 < glyph_width g → IsPiece piece →
+    marks_joined (piece_at w h above (piece ++ g ∷ []) n) ms ≡ piece_at w h above (piece ++ record g { marks = g.marks ++ ms } ∷ []) n
+marks_at w h above piece n [] g pos is = ap (λ ms. piece_at w h above (piece ++ record g { marks = ms } ∷ []) n) (sym (append-nil g.marks))
+marks_at w h above piece n (m ∷ ms) g pos is =
+    ap (λ s. marks_joined s ms) (mark_at w h above piece n m g pos is)
+    ∙ marks_at w h above piece n ms (with_mark m g) pos is
+    ∙ ap (λ ms. piece_at w h above (piece ++ record g { marks = ms } ∷ []) n) (append_assoc g.marks (m ∷ []) ms)
+
+-- characters without columns are marks
+as_marks : (ms : List ℕ) (s : Screen) → AllByRecursion (λ c. char_width false c ≡ Some 0) ms → performed_all (map (λ c. Put c) ms) s ≡ marks_joined s ms
+as_marks [] s all = refl
+as_marks (m ∷ ms) s all = ap (performed_all (map (λ c. Put c) ms)) (ap (λ o. put_sized m o s) all.0) ∙ as_marks ms (put_mark m s) all.1
+
 marks_put : (w h : ℕ) (above : List (List Cell)) (piece : List Glyph) (n : ℕ) (ms : List ℕ) (g : Glyph) → 0 < glyph_width g → IsPiece piece → AllByRecursion (λ c. char_width false c ≡ Some 0) ms →
     performed_all (map (λ c. Put c) ms) (piece_at w h above (piece ++ g ∷ []) n) ≡ piece_at w h above (piece ++ record g { marks = g.marks ++ ms } ∷ []) n
-marks_put w h above piece n [] g pos is all = ap (λ ms. piece_at w h above (piece ++ record g { marks = ms } ∷ []) n) (sym (append-nil g.marks))
-marks_put w h above piece n (m ∷ ms) g pos is all =
-    ap (performed_all (map (λ c. Put c) ms)) (put_mark_at w h above piece n m g pos is all.0)
-    ∙ marks_put w h above piece n ms (with_mark m g) pos is all.1
-    ∙ ap (λ ms. piece_at w h above (piece ++ record g { marks = ms } ∷ []) n) (append_assoc g.marks (m ∷ []) ms)
+marks_put w h above piece n ms g pos is all = as_marks ms (piece_at w h above (piece ++ g ∷ []) n) all ∙ marks_at w h above piece n ms g pos is
 
 glyph_put : (w h : ℕ) (above : List (List Cell)) (piece : List Glyph) (n : ℕ) (g : Glyph) → IsSized w g → IsPiece piece → columns_in piece + glyph_width g ≤ w →
     performed_all (glyph_ops g) (piece_at w h above piece n) ≡ piece_at w h above (piece ++ g ∷ []) n
@@ -137,13 +147,13 @@ glyph_put_next w h above piece n g sized is full =
 abbrev pub screen_with : ℕ → ℕ → List (List Cell) → List (List Glyph) → ℕ → Screen
 screen_with w h above ps n = screen_after w h (above ++ map (row_of w) ps) ((n + 1) - length ps) (columns_of_last ps)
 
-with_one : (w h : ℕ) (above : List (List Cell)) (piece : List Glyph) (n : ℕ) → piece_at w h above piece n ≡ screen_with w h above (piece ∷ []) n
+pub with_one : (w h : ℕ) (above : List (List Cell)) (piece : List Glyph) (n : ℕ) → piece_at w h above piece n ≡ screen_with w h above (piece ∷ []) n
 with_one w h above piece n =
     let blanks : (n + 1) - 1 ≡ n = omega arith in
     let row : length (above ++ row_of w piece ∷ []) - 1 ≡ length above = omega (arith, length-append above (row_of w piece ∷ [])) in
     cc (append_assoc above (row_of w piece ∷ []) (replicate n (blank_row w)))
 
-with_more : (w h : ℕ) (above : List (List Cell)) (piece : List Glyph) (ps : List (List Glyph)) (n : ℕ) → 0 < length ps →
+pub with_more : (w h : ℕ) (above : List (List Cell)) (piece : List Glyph) (ps : List (List Glyph)) (n : ℕ) → 0 < length ps →
     screen_with w h (above ++ row_of w piece ∷ []) ps (n - 1) ≡ screen_with w h above (piece ∷ ps) n
 with_more w h above piece ps n some =
     let blanks : ((n - 1) + 1) - length ps ≡ (n + 1) - suc (length ps) = omega arith in

@@ -6,8 +6,11 @@ ghost use Rattle.indicatif_term.specs.Calls.{move_bytes, line_bytes, clear_bytes
 ghost use Rattle.indicatif_term.specs.Shows.{look, looks_of};
 ghost use Rattle.indicatif_term.specs.Frames.{logged_lines};
 ghost use Rattle.indicatif_term.specs.Memory.{move_text, quoted_char, written_text};
+ghost use Rattle.indicatif_term.specs.Terminal.{after};
 ghost use Rattle.indicatif_term.specs.CellCases.{contents_after, cursor_after, picture_after, ESC};
 ghost use Rattle.indicatif_term.specs.Cases.{LongLine, ThreeOnTwo, LogAbove, AtTheBottom, KeptScrollsAway, ClearLeavesAbove, FatesOfBars, LogScrolls};
+ghost use Rattle.indicatif_term.specs.Resizes.{resized_terminal};
+ghost use Rattle.indicatif_term.specs.ResizeCases.{fed, picture_at, cursor_at, NotJoined, LiveRowsScrollAway, LogIsCut, RowsBelowDropped, ReachedBelow, KeptRowsScrollAway};
 ghost use Rattle.indicatif_term.specs.Targets.{is_dumb};
 ghost use Rattle.indicatif_term.specs.LimiterCases.{TwentyAtOnce, WholeMilliseconds, NoMoreInHand, NoneBefore};
 
@@ -96,6 +99,49 @@ pub fn scrolled()
     ensures contents { contents_after 2 3 (codes "a\r\nb\r\nc") ≡ codes "b\nc" }
     ensures space { contents_after 3 3 (codes "a \r\n ") ≡ codes "a\n" }
     ensures blank { contents_after 3 3 (codes "a\r\n") ≡ codes "a" }
+{}
+
+/// A narrower terminal: rows are cut, and a wider one joins none again. A space within a row is a glyph, also where no character
+/// was written; those at its end aren't. A character that is too wide is left out.
+pub fn cut_rows()
+    ensures narrower { picture_at 4 5 (fed 4 10 (codes "progress bars")) ≡ codes "progr" ∷ codes "ess b" ∷ codes "ars" ∷ [] ∷ [] }
+    ensures not_joined { picture_at 4 20 (resized_terminal 5 4 (fed 4 10 (codes "progress bars")))
+        ≡ codes "progr" ∷ codes "ess b" ∷ codes "ars" ∷ [] ∷ [] }
+    ensures spaces { picture_at 2 2 (fed 2 6 (codes "a" ++ ESC ++ codes "[3Cb ")) ≡ codes "a" ∷ [] ∷ codes "b" ∷ [] }
+    ensures wide { picture_at 2 3 (fed 2 4 (codes "ab" ++ 0xE5 ∷ 0x9B ∷ 0xBD ∷ [])) ≡ codes "ab" ∷ (0xE5 ∷ 0x9B ∷ 0xBD ∷ []) ∷ [] }
+    ensures too_wide { picture_at 3 1 (fed 3 4 (codes "a" ++ 0xE5 ∷ 0x9B ∷ 0xBD ∷ codes "b")) ≡ codes "a" ∷ codes "b" ∷ [] ∷ [] }
+    ensures marked { picture_at 2 1 (fed 2 4 (codes "a" ++ 0xCC ∷ 0x88 ∷ codes "b")) ≡ (codes "a" ++ 0xCC ∷ 0x88 ∷ []) ∷ codes "b" ∷ [] }
+{}
+
+/// Rows that scroll away and come back, and those below the cursor's that are dropped, but not where the size stays.
+pub fn cut_windows()
+    ensures scrolled { picture_at 2 5 (fed 2 10 (codes "progress bars")) ≡ codes "progr" ∷ codes "ess b" ∷ codes "ars" ∷ [] }
+    ensures back { cursor_at 3 4 (fed 2 4 (codes "a\r\nb\r\nc")) ≡ (2, 1) }
+    ensures dropped { picture_at 2 4 (fed 4 4 (codes "a")) ≡ codes "a" ∷ [] ∷ [] }
+    ensures lasts { picture_at 2 4 (fed 4 4 (codes "a\r\n\r\nb" ++ ESC ++ codes "[2A")) ≡ codes "a" ∷ [] ∷ codes "b" ∷ [] }
+    ensures same { resized_terminal 4 4 (fed 4 4 (codes "a")) ≡ fed 4 4 (codes "a") }
+{}
+
+/// Where the cursor goes: at a row's front to the front of the first row that this became; within it, to that row, and its column
+/// stays as far as it can; waiting at its end, to the end of the last. One above the window goes to its first row.
+pub fn cut_cursors()
+    ensures front { cursor_at 4 5 (fed 4 10 (codes "progress\r")) ≡ (0, 0) }
+    ensures within { cursor_at 4 5 (fed 4 10 (codes "progress" ++ ESC ++ codes "[5D")) ≡ (0, 3) }
+    ensures too_far { cursor_at 4 5 (fed 4 10 (codes "progress")) ≡ (0, 5) }
+    ensures waiting { cursor_at 4 4 (fed 4 10 (codes "progress b")) ≡ (2, 4) }
+    ensures wider { cursor_at 4 12 (fed 4 10 (codes "progress b")) ≡ (0, 12) }
+    ensures above { cursor_at 2 3 (fed 2 9 (codes "abcdef\r\nghijkl" ++ ESC ++ codes "[1A")) ≡ (0, 3) }
+    ensures half_read { picture_at 1 4 (after (resized_terminal 5 1 (fed 1 4 (0xE5 ∷ 0x9B ∷ []))) (0xBD ∷ [])) ≡ (0xE5 ∷ 0x9B ∷ 0xBD ∷ []) ∷ [] }
+{}
+
+/// Lists that get another size.
+pub fn cut_lists()
+    ensures not_joined { NotJoined }
+    ensures live_rows_scroll_away { LiveRowsScrollAway }
+    ensures log_is_cut { LogIsCut }
+    ensures rows_below_dropped { RowsBelowDropped }
+    ensures reached_below { ReachedBelow }
+    ensures kept_rows_scroll_away { KeptRowsScrollAway }
 {}
 
 /// Sequences that are no moves, and bytes that spell no character.

@@ -4,9 +4,10 @@
 //! - `whole_char`: whole characters at the front of bytes, which most bytes are.
 //! - `scanner`: what bytes ask for: characters first, escape sequences next.
 //! - `spelling`: the bytes of a character that isn't whole.
-//! - `grid`: the rows and the cursor, and what each operation does to them.
+//! - `grid`: the rows and the cursor, what each operation does to them, and what another size does.
 //! - `row`: a row of cells, and what writing into it does to its wide characters.
 //! - `cell`: a cell of a row.
+//! - `glyph`: a character and its marks, as they are taken out of a row.
 //! - `marks`: the marks of a row, which are joined to its characters.
 //! - `known_width`: the columns of a character, remembered while it comes again.
 //! - `call_log`: the calls as text.
@@ -18,12 +19,14 @@ ghost use Rattle.indicatif_term.specs.Screen.{top};
 ghost use Rattle.indicatif_term.specs.Terminal.{after, blank_terminal};
 ghost use Rattle.indicatif_term.specs.Pictures.{contents_text, picture_text};
 ghost use Rattle.indicatif_term.specs.Calls.{Writes, move_bytes, line_bytes, clear_bytes, UP, DOWN, RIGHT, LEFT};
+ghost use Rattle.indicatif_term.specs.Resizes.{Resized, resized_terminal};
 ghost use Rattle.indicatif_term.specs.Memory.{view_of, Records, move_text, written_text};
 ghost use Rattle.indicatif_term.specs.Inside.Feeding.{ReadsBeginning};
 
 mod call_log;
 mod cell;
 mod feeding;
+mod glyph;
 mod grid;
 mod known_width;
 mod marks;
@@ -34,7 +37,7 @@ mod whole_char;
 
 use crate::in_memory::call_log::{ended_line, move_line, own_line, text_line};
 use crate::move_bytes::MoveBytes;
-use crate::term_like::TermLike;
+use crate::term_like::{Resize, TermLike};
 pub use feeding::Cells;
 use indicatif_text::columns::Refusal;
 use std::alloc::Global;
@@ -337,5 +340,18 @@ impl TermLike for InMemoryTerm {
     {
         let line = own_line(self.alloc, "Flush\n");
         self.play(line, b"", b"")
+    }
+}
+
+impl Resize for InMemoryTerm {
+    fn resize(&mut self, rows: u16, cols: u16) -> Result<(), Refusal>
+        ensures resized { OnOk result (Resized cols rows (view_of self.old) (view_of self.new)) }
+        ensures unchanged { OnErr result (self.new ≡ self.old) }
+        ensures zero_size { (result ≡ Err Refusal.ZeroSize) ↔ ((rows ≡ 0) ⊎ (cols ≡ 0)) }
+        ensures no_other { IfErr result (λ e. (e ≡ Refusal.ZeroSize) ⊎ (e ≡ Refusal.Memory)) }
+        ensures alone { OnOk result (self.new
+            ≡ record self.old { terminal = resized_terminal cols rows self.old.terminal }) }
+    {
+        self.cells.resize(rows, cols)
     }
 }

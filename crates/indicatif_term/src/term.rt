@@ -1,16 +1,18 @@
 //! A terminal behind a writer of bytes.
-ghost use Rattle.std.specs.Prelude.{◌≡◌, ◌+◌, ◌%◌, ◌^◌, if◌then◌else◌, IsOk};
+ghost use Rattle.std.specs.Prelude.{◌≡◌, ◌+◌, ◌%◌, ◌^◌, ◌⊎◌, ◌↔◌, if◌then◌else◌, IsOk, IfErr, OnOk, OnErr};
 ghost use Rattle.std.specs.Result.{is_err};
 ghost use Rattle.indicatif_term.specs.Calls.{Writes, move_bytes, UP, DOWN, RIGHT, LEFT};
+ghost use Rattle.indicatif_term.specs.Resizes.{Resized};
 ghost use Rattle.indicatif_term.specs.Writers.{WriterTerm, view_behind, AppendsAllOrFront};
 
 use crate::move_bytes::MoveBytes;
-use crate::term_like::TermLike;
+use crate::term_like::{Resize, TermLike};
+use indicatif_text::columns::Refusal;
 use std::io;
 use std::io::{ErrorKind, Write};
 use std::marker::Model;
 
-/// A terminal whose calls write their bytes to a writer. Its size is what it was made with.
+/// A terminal whose calls write their bytes to a writer. Its size is what it was made with, or what `resize` told it since.
 ///
 /// A call that fails has written a beginning of its bytes, and adds 1 modulo 2^64 to `faults`. A move by 0 writes nothing and
 /// never fails.
@@ -146,6 +148,23 @@ impl<W: Write> TermLike for Term<W> {
     fn flush(&mut self) -> io::Result<()> {
         let flushed = self.writer.flush();
         self.counted(flushed)
+    }
+}
+
+impl<W: Write> Resize for Term<W> {
+    fn resize(&mut self, rows: u16, cols: u16) -> Result<(), Refusal>
+        ensures resized { OnOk result (Resized cols rows (view_behind W.contents self.old) (view_behind W.contents self.new)) }
+        ensures unchanged { OnErr result (self.new ≡ self.old) }
+        ensures zero_size { (result ≡ Err Refusal.ZeroSize) ↔ ((rows ≡ 0) ⊎ (cols ≡ 0)) }
+        ensures no_other { IfErr result (λ e. (e ≡ Refusal.ZeroSize) ⊎ (e ≡ Refusal.Memory)) }
+        ensures alone { OnOk result (self.new ≡ record self.old { columns = cols; rows = rows }) }
+    {
+        if rows == 0 || cols == 0 {
+            return Err(Refusal::ZeroSize);
+        }
+        self.columns = cols;
+        self.rows = rows;
+        Ok(())
     }
 }
 

@@ -1,8 +1,10 @@
-//! What a terminal has to offer: its size, its faults, and eight calls, each by the bytes that it writes.
-ghost use Rattle.std.specs.Prelude.{◌≡◌, ◌^◌, ◌<◌, []};
+//! What a terminal has to offer: its size, its faults, and eight calls, each by the bytes that it writes. And what changes its size.
+ghost use Rattle.std.specs.Prelude.{◌≡◌, ◌^◌, ◌<◌, ◌⊎◌, ◌↔◌, [], IfErr, OnOk, OnErr};
 ghost use Rattle.indicatif_term.specs.Calls.{TermView, Writes, move_bytes, line_bytes, clear_bytes, UP, DOWN, RIGHT, LEFT};
+ghost use Rattle.indicatif_term.specs.Resizes.{Resized};
 
 pub use crate::term::{Term, write_whole};
+use indicatif_text::columns::Refusal;
 use std::io;
 
 /// A terminal that bars can be drawn on.
@@ -113,4 +115,28 @@ impl TermLike for Box<dyn TermLike + Drop> {
     fn flush(&mut self) -> io::Result<()> {
         (**self).flush()
     }
+}
+
+/// A terminal whose size can be changed between its calls.
+///
+/// A `Term` takes the new size for the drawings to come, and nothing else: what stands on the screen behind its writer is that
+/// screen's own. An engine has its terminal for itself and isn't told: take the terminal back (`Engine::into_term`), and begin a new
+/// engine below the rows that stand.
+pub trait Resize: TermLike {
+    /// Gets `rows` rows and `cols` columns; no byte is written, and no failure counted. A terminal that tells its state has cut
+    /// each of its rows anew then. One that tells its bytes tells the same ones.
+    ///
+    /// ```
+    /// let mut term = InMemoryTerm::new(rt.alloc(), 4, 10)?;
+    /// term.write_str("progress")?;
+    /// term.resize(4, 5)?;
+    /// // contents: "progr\ness", cursor: (0, 5)
+    /// ```
+    ///
+    /// Refused: `ZeroSize` where `rows` or `cols` is 0; `Memory`. All is unchanged then.
+    fn resize(&mut self, rows: u16, cols: u16) -> Result<(), Refusal>
+        ensures resized { OnOk result (Resized cols rows (Self.view self.old) (Self.view self.new)) }
+        ensures unchanged { OnErr result (self.new ≡ self.old) }
+        ensures zero_size { (result ≡ Err Refusal.ZeroSize) ↔ ((rows ≡ 0) ⊎ (cols ≡ 0)) }
+        ensures no_other { IfErr result (λ e. (e ≡ Refusal.ZeroSize) ⊎ (e ≡ Refusal.Memory)) };
 }

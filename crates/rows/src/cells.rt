@@ -19,10 +19,11 @@ impl Fed {
         })
     }
 
-    /// `feed BYTES`, or what is read: `contents`, `picture`, `cursor`.
+    /// `feed BYTES`, `size ROWS COLS`, or what is read: `contents`, `picture`, `cursor`, `reading`.
     pub fn step(&mut self, step: &str, at: At, got: &mut Got) -> Result<(), Bad> {
         match step.split_once(' ') {
             Some(("feed", rest)) => feed(&mut self.cells, &unescaped_bytes(at.alloc, rest)?),
+            Some(("size", rest)) => resize(&mut self.cells, rest),
             None => read(&self.cells, step, got),
             Some(_) => Err(Bad::Step),
         }
@@ -50,8 +51,16 @@ fn feed(cells: &mut Cells, bytes: &[u8]) -> Result<(), Bad> {
     }
 }
 
+fn resize(cells: &mut Cells, rest: &str) -> Result<(), Bad> {
+    let mut words = rest;
+    let (rows, cols) = next_size(&mut words)?;
+    cells.resize(rows, cols)?;
+    Ok(())
+}
+
 fn read(cells: &Cells, what: &str, got: &mut Got) -> Result<(), Bad> {
     match what {
+        "reading" => return push_reading(cells, got),
         "contents" => got.text(cells.contents()?.as_str()),
         "picture" => got.rows(&cells.picture()?),
         "cursor" => push_cursor(cells.cursor(), got),
@@ -111,6 +120,7 @@ fn fed_twice(size: Size, bytes: &[u8], cut: usize, at: At) -> Result<Box<Cells>,
     Ok(cells)
 }
 
+/// Appends the picture without the empty rows at its end, the contents and the cursor, a tab between two.
 fn push_reading(cells: &Cells, got: &mut Got) -> Result<(), Bad> {
     push_picture(&cells.picture()?, got);
     got.text("\t");

@@ -1,6 +1,6 @@
 //! The terminal in memory, and what hides bars.
 use crate::cells::{next_size, push_cursor};
-use crate::terminals::{called, push_done};
+use crate::terminals::{called, push_done, resize};
 use indicatif_term::draw_target::Facts;
 use indicatif_term::in_memory::InMemoryTerm;
 use indicatif_term::term_like::TermLike;
@@ -21,7 +21,7 @@ impl Memory {
         Ok(Memory(at.boxed(term)?))
     }
 
-    /// Makes a call as of a terminal before a screen, or reads something.
+    /// Makes a call as of a terminal before a screen, takes another size, or reads something.
     pub fn step(&mut self, step: &str, at: At, got: &mut Got) -> Result<(), Bad> {
         let term = &mut *self.0;
         match step {
@@ -56,6 +56,9 @@ fn reset(term: &mut InMemoryTerm) {
 
 fn call(term: &mut InMemoryTerm, step: &str, at: At, got: &mut Got) -> Result<(), Bad> {
     let (name, rest) = headed(step);
+    if name == "size" {
+        return resize(term, rest);
+    }
     push_done(called(term, name, (rest, at))?, got);
     Ok(())
 }

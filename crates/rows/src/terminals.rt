@@ -1,6 +1,6 @@
 //! A terminal before a screen.
-use crate::cells::push_cursor;
-use indicatif_term::term_like::TermLike;
+use crate::cells::{next_size, push_cursor};
+use indicatif_term::term_like::{Resize, TermLike};
 use scripts::got::{Bad, Got};
 use scripts::row::{At, headed};
 use scripts::screen::{self, Behind, Screen};
@@ -31,10 +31,19 @@ impl Terminal {
         match headed(step) {
             ("faults", "") => got.number(self.term.faults()),
             ("size", "") => push_cursor((self.term.height(), self.term.width()), got),
+            ("size", rest) => return resize(&mut self.term, rest),
             (name, rest) => push_done(called(&mut self.term, name, (rest, at))?, got),
         }
         Ok(())
     }
+}
+
+/// `size ROWS COLS`.
+pub fn resize<T: Resize>(term: &mut T, rest: &str) -> Result<(), Bad> {
+    let mut words = rest;
+    let (rows, cols) = next_size(&mut words)?;
+    term.resize(rows, cols)?;
+    Ok(())
 }
 
 /// `up N`, `down N`, `right N`, `left N`, `text TEXT`, `line TEXT`, `clear_line`, `flush`.

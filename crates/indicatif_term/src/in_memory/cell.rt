@@ -1,11 +1,13 @@
 //! A cell of a row as it is kept: a few bytes, and no memory of its own. Its marks stand in the row's list of marks.
-ghost use Rattle.std.specs.Prelude.{◌≡◌, ◌++◌, [], IfErr, OnOk, OnErr, encode_utf8_all, string_bytes};
+ghost use Rattle.std.specs.Prelude.{◌≡◌, ◌++◌, [], IfOk, IfErr, OnOk, OnErr, encode_utf8_all, string_bytes, option_to_list};
 ghost use Rattle.indicatif_text.specs.Columns.{Blank, Written, Continued};
 ghost use Rattle.indicatif_term.specs.Screen.{is_continued};
 ghost use Rattle.indicatif_term.specs.Pictures.{cell_text, is_blank, is_written};
+ghost use Rattle.indicatif_term.specs.Resizes.{glyph_at};
 ghost use Rattle.indicatif_term.specs.Inside.Rows.{cell_shown, JoinsMark};
 
-use crate::in_memory::marks::{CombiningMark, keep_mark, leads_to_none, show_marks};
+use crate::in_memory::glyph::Glyph;
+use crate::in_memory::marks::{CombiningMark, keep_mark, leads_to_none, marks_up_to, show_marks};
 use indicatif_text::columns::Refusal;
 use std::alloc::Global;
 use std::marker::Model;
@@ -119,6 +121,27 @@ impl Cell {
             CellKind::Empty | CellKind::Continued => {}
         }
         Ok(())
+    }
+
+    /// The character that begins here, with its marks: a space where it is empty, and none where it continues one. Refused:
+    /// `Memory`.
+    pub(crate) fn glyph(
+        &self,
+        alloc: Global,
+        marks: &[CombiningMark],
+    ) -> Result<Option<Glyph>, Refusal>
+        ensures glyph { IfOk result (λ g. option_to_list g ≡ glyph_at (cell_shown marks.now self.now)) }
+        ensures refused { IfErr result (λ e. e ≡ Refusal.Memory) }
+    {
+        match self.kind {
+            CellKind::Empty => Ok(Some(Glyph::plain(alloc, ' '))),
+            CellKind::Single(c) => Ok(Some(Glyph::plain(alloc, c))),
+            CellKind::Joined(c, last) => Ok(Some(Glyph::marked(
+                c,
+                marks_up_to(alloc, marks, last)?,
+            ))),
+            CellKind::Continued => Ok(None),
+        }
     }
 
     /// Appends its characters to `out`: a blank one for an empty cell. Refused: `Memory`.

@@ -3,6 +3,7 @@ ghost use Rattle.std.specs.Prelude.{◌≡◌, ◌∷◌, [], ◌⊎◌, ◌↔�
 ghost use Rattle.indicatif_term.specs.Screen.{top};
 ghost use Rattle.indicatif_term.specs.Terminal.{after, blank_terminal};
 ghost use Rattle.indicatif_term.specs.Pictures.{contents_text, picture_text};
+ghost use Rattle.indicatif_term.specs.Resizes.{resized_terminal};
 
 use crate::in_memory::grid::Grid;
 use crate::in_memory::scanner::Scanner;
@@ -162,6 +163,37 @@ impl Cells {
         ensures refused { IfErr result (λ e. e ≡ Refusal.Memory) }
     {
         self.grid.contents()
+    }
+
+    /// Gets `rows` rows and `cols` columns. Each row, without the blanks at its end, is cut into rows of the new width, and rows
+    /// aren't joined again. A size that it has already changes nothing.
+    ///
+    /// ```
+    /// let mut cells = Cells::new(rt.alloc(), 4, 10)?;
+    /// cells.feed(b"progress b\r\nars")?;
+    /// cells.resize(4, 5)?;
+    /// // contents: "progr\ness b\nars", cursor: (2, 3)
+    /// cells.resize(4, 20)?;
+    /// // contents: "progr\ness b\nars" still: no row is joined to another
+    /// ```
+    ///
+    /// Blank rows below the cursor's row and below all others are dropped. The window is the last `rows` rows then, and those
+    /// above it have scrolled away. The cursor goes to the first row that its row became, and keeps its column, which is at
+    /// most `cols`; one that waits behind a row's end waits behind the last. Above the window it goes to the window's first
+    /// row. A character wider than `cols` is left out.
+    ///
+    /// Refused: `ZeroSize` where `rows` or `cols` is 0, which is tested before memory is taken; `Memory`, which is taken for all
+    /// rows, those that scrolled away too, before anything changes.
+    pub fn resize(&mut self, rows: u16, cols: u16) -> Result<(), Refusal>
+        ensures resized { OnOk result (self.new ≡ resized_terminal cols rows self.old) }
+        ensures unchanged { OnErr result (self.new ≡ self.old) }
+        ensures zero_size { (result ≡ Err Refusal.ZeroSize) ↔ ((rows ≡ 0) ⊎ (cols ≡ 0)) }
+        ensures no_other { IfErr result (λ e. (e ≡ Refusal.ZeroSize) ⊎ (e ≡ Refusal.Memory)) }
+    {
+        if cols == 0 || rows == 0 {
+            return Err(Refusal::ZeroSize);
+        }
+        self.grid.resize(rows, cols)
     }
 
     /// As made anew, with no memory taken.

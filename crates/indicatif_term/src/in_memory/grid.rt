@@ -7,6 +7,8 @@ ghost use Rattle.indicatif_term.specs.Pictures.{contents_text, picture_text, row
 ghost use Rattle.indicatif_term.specs.Inside.Grids.{op_of};
 ghost use Rattle.unicode_width.specs.Width.{char_width};
 
+mod resizing;
+
 use crate::in_memory::known_width::KnownWidth;
 use crate::in_memory::row::Row;
 use indicatif_text::columns::Refusal;

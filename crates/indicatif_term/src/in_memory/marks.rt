@@ -54,8 +54,12 @@ pub(crate) fn show_marks(
     push_reversed(&found, out)
 }
 
-/// The same marks, the last one first. Refused: `Memory`.
-fn marks_up_to(alloc: Global, marks: &[CombiningMark], last: u32) -> Result<Vec<char>, Refusal>
+/// The marks of the character whose last one has this place, that one first. Refused: `Memory`.
+pub(crate) fn marks_up_to(
+    alloc: Global,
+    marks: &[CombiningMark],
+    last: u32,
+) -> Result<Vec<char>, Refusal>
     ensures found { IfOk result (λ v. reverse v.items ≡ chain (reverse marks.now) last) }
     ensures refused { IfErr result (λ e. e ≡ Refusal.Memory) }
 {

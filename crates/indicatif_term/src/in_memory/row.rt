@@ -1,11 +1,14 @@
 //! A row of cells, and what writing into it does to its wide characters.
-ghost use Rattle.std.specs.Prelude.{◌≡◌, ◌+◌, ◌<◌, ◌≤◌, ◌++◌, ◌⊎◌, IfErr, OnOk, OnErr, map, length, drop, take, string_bytes, encode_utf8_all, flat_map};
+ghost use Rattle.std.specs.Prelude.{◌≡◌, ◌+◌, ◌<◌, ◌≤◌, ◌++◌, ◌⊎◌, IfOk, IfErr, OnOk, OnErr, map, length, drop, take, string_bytes, encode_utf8_all, flat_map};
+ghost use Rattle.std.specs.List.{list_all};
 ghost use Rattle.indicatif_text.specs.Columns.{blank_row};
 ghost use Rattle.indicatif_term.specs.Screen.{cut_before, written_at, joined_at};
 ghost use Rattle.indicatif_term.specs.Pictures.{cell_text, is_blank, is_written, has_written, row_text, trimmed};
+ghost use Rattle.indicatif_term.specs.Resizes.{glyph_at, glyphs_in};
 ghost use Rattle.indicatif_term.specs.Inside.Rows.{cell_shown, KeepsMarks, BeginTheSame, emptied_back, emptied_on, overwritten, character_cells};
 
 use crate::in_memory::cell::Cell;
+use crate::in_memory::glyph::Glyph;
 use crate::in_memory::marks::CombiningMark;
 use indicatif_text::columns::Refusal;
 use std::alloc::Global;
@@ -102,6 +105,22 @@ impl Row {
         false
     }
 
+    /// Whether each of its cells is empty, or a space without a mark.
+    pub(crate) fn is_blank(&self) -> bool
+        ensures { result ≡ list_all is_blank self.now }
+    {
+        shown_length(&self.cells, &self.marks) == 0
+    }
+
+    /// Its characters with their marks, without the blanks at its end; an empty cell before is a space. Refused: `Memory`.
+    pub(crate) fn glyphs(&self, alloc: Global) -> Result<Vec<Glyph>, Refusal>
+        ensures glyphs { IfOk result (λ v. v.items ≡ glyphs_in self.now) }
+        ensures refused { IfErr result (λ e. e ≡ Refusal.Memory) }
+    {
+        let end = shown_length(&self.cells, &self.marks);
+        glyphs_of(alloc, &self.cells[..end], &self.marks)
+    }
+
     /// Appends its text to `out`, without the blanks at its end. Refused: `Memory`.
     pub(crate) fn show(&self, alloc: Global, out: &mut String) -> Result<(), Refusal>
         ensures shown { OnOk result (string_bytes out.new ≡ string_bytes out.old ++ row_text self.now) }
@@ -127,6 +146,20 @@ fn show_cells(
         cell.show(alloc, marks, out)?;
     }
     Ok(())
+}
+
+/// The characters of cells with their marks. Refused: `Memory`.
+fn glyphs_of(alloc: Global, cells: &[Cell], marks: &[CombiningMark]) -> Result<Vec<Glyph>, Refusal>
+    ensures glyphs { IfOk result (λ v. v.items ≡ flat_map glyph_at (map (cell_shown marks.now) cells.now)) }
+    ensures refused { IfErr result (λ e. e ≡ Refusal.Memory) }
+{
+    let mut glyphs = Vec::new(alloc);
+    for cell in cells {
+        if let Some(glyph) = cell.glyph(alloc, marks)? {
+            glyphs.push(glyph)?;
+        }
+    }
+    Ok(glyphs)
 }
 
 /// How many cells there are up to the last one that is no blank.
