@@ -1,3 +1,4 @@
+mod ExactLemmas
 mod LentLemmas
 mod LogLemmas
 mod MoveLemmas
