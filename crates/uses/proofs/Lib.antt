@@ -5,3 +5,4 @@ mod MoveLemmas
 mod PictureLemmas
 mod PlainLemmas
 mod SharedLemmas
+mod ShownLemmas

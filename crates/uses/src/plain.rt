@@ -1,13 +1,17 @@
 //! What stands where the texts are plain, with no premise on what the calls lead to.
 ghost use Rattle.std.specs.Prelude.{◌≡◌, ◌∷◌, [], ℕ, map, replicate, IfOk, string_bytes, codes};
 
-use indicatif_bar::style::NoTracker;
+use indicatif_bar::laws::what_a_lone_run_reads;
+use indicatif_bar::lone::LoneBar;
+use indicatif_bar::state::BarState;
+use indicatif_bar::style::{NoTracker, ProgressStyle};
 use indicatif_board::laws::{plain_texts_give_plain_runs, what_a_board_run_reads};
 use indicatif_board::multi::Board;
 use indicatif_term::draw_target::ProgressDrawTarget;
 use indicatif_term::in_memory::InMemoryTerm;
 use indicatif_term::laws::a_new_terminal_is_an_opening;
 use indicatif_text::columns::Refusal;
+use indicatif_text::laws::template_or_refused;
 use std::alloc::Global;
 
 /// Two names logged on a new terminal of 4 rows and 10 columns, and the texts of the rows that stand then: they, and empty ones.
@@ -29,6 +33,32 @@ pub fn names_logged(alloc: Global) -> Result<Vec<String>, Refusal>
     what_a_board_run_reads::<NoTracker>();
     plain_texts_give_plain_runs::<NoTracker>();
     match board.term() {
+        Some(term) => {
+            let texts = term.picture()?;
+            Ok(texts)
+        }
+        None => Err(Refusal::Memory),
+    }
+}
+
+/// A bar that says `copying`, with a name logged above it, on a new terminal of 4 rows and 10 columns; and the texts of the rows that
+/// stand then: the name, the bar, and empty ones.
+///
+/// Refused: `Memory`.
+pub fn name_above_a_bar(alloc: Global) -> Result<Vec<String>, Refusal>
+    ensures { IfOk result (λ texts. (blank : ℕ) × (map (λ text. string_bytes text) texts.items
+        ≡ codes "a.txt" ∷ codes "copying" ∷ replicate blank [])) }
+{
+    let term = InMemoryTerm::new(alloc, 4, 10)?;
+    let style: ProgressStyle<NoTracker> = ProgressStyle::with_template(alloc, "{msg}")?;
+    let record = BarState::styled(alloc, style, None, 0)?;
+    let mut bar = LoneBar::new(record, ProgressDrawTarget::term_like(term));
+    let _said = bar.set_message("copying", 0)?;
+    let _logged = bar.println("a.txt", 0)?;
+    template_or_refused();
+    a_new_terminal_is_an_opening();
+    what_a_lone_run_reads::<NoTracker>();
+    match bar.into_term() {
         Some(term) => {
             let texts = term.picture()?;
             Ok(texts)
