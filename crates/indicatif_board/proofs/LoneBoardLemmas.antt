@@ -42,7 +42,7 @@ module _ {B : Type 0} where
 
   -- the outcomes are alike
   abbrev AreAlike : Result Drawn Refusal × LoneState B → Result Drawn Refusal × BoardState B → Type 0
-  AreAlike o p = (p.0 ≡ o.0) × (then : List (List ℕ)) × (p.1 ≡ with_one then o.1)
+  AreAlike o p = (p.0 ≡ o.0) × (kept : List (List ℕ)) × (p.1 ≡ with_one kept o.1)
 
   outcome_alike : (target : Target) (stored laid : List (List ℕ)) (d : Draw (LoneState B)) → AreAlike (drawn_by target d) (drawn_by target (drawn_on stored laid d))
   unfolding drawn_by
@@ -59,7 +59,7 @@ module _ {B : Type 0} where
 module _ {B C : Type 0} (kind : BoardKind B C) (mark : ℕ) (target : Target) where
   -- what a draw of the lone bar leads to, that of the board does
   draw_carried : (stored laid : List (List ℕ)) (d : Draw (LoneState B)) (s next : LoneState B) (answer : Result Drawn Refusal) → Leads (lone kind.bars) target s (Draws d (λ x. x) (λ x. x)) answer next →
-      (then : List (List ℕ)) × Leads (board kind mark) target (with_one stored s) (draws (drawn_on stored laid d)) (says answer) (with_one then next)
+      (kept : List (List ℕ)) × Leads (board kind mark) target (with_one stored s) (draws (drawn_on stored laid d)) (says answer) (with_one kept next)
   draw_carried stored laid d s next answer (inl made) =
       let o = drawn_by target d in
       let p = drawn_by target (drawn_on stored laid d) in
@@ -79,7 +79,7 @@ module _ {B C : Type 0} (kind : BoardKind B C) (mark : ℕ) (target : Target) wh
   -- the same of a call that may be refused at once
   deed_carried : (why : Option Refusal) (stored laid : List (List ℕ)) (d : Draw (LoneState B)) (s next : LoneState B) (answer : Result Drawn Refusal) →
       Leads (lone kind.bars) target s (deed_unless kind.bars why d s) answer next →
-      (then : List (List ℕ)) × Leads (board kind mark) target (with_one stored s) (or_refused why (draws (drawn_on stored laid d)) (with_one stored s)) (says answer) (with_one then next)
+      (kept : List (List ℕ)) × Leads (board kind mark) target (with_one stored s) (or_refused why (draws (drawn_on stored laid d)) (with_one stored s)) (says answer) (with_one kept next)
   deed_carried None stored laid d s next answer led = draw_carried stored laid d s next answer led
   deed_carried (Some e) stored laid d s next answer (inl made) = (stored, inl (ap (λ (x : Result Drawn Refusal × LoneState B). (says x.0, with_one stored x.1)) made))
   deed_carried (Some e) stored laid d s next answer (inr (inl short)) = (stored, inr (inl (ap says short.0, (short.1.0, ap (with_one stored) short.1.1))))
@@ -96,7 +96,7 @@ module _ {B C : Type 0} (kind : BoardKind B C) (mark : ℕ) (target : Target) wh
   is_meant stored s = rw (eq-eqb mark mark refl) refl
 
   -- what the board stores of the bar for a call
-  laid_for : LoneCall C → ℕ → LoneState B → List (List ℕ) → List (List ℕ)
+  abbrev laid_for : LoneCall C → ℕ → LoneState B → List (List ℕ) → List (List ℕ)
   laid_for (Obey command) now s stored = map chars (kind.bars.lines (kind.bars.after command s.bar now).0 now target.columns)
   laid_for (Log text) now s stored = map chars (kind.bars.lines s.bar now target.columns)
   laid_for Clear now s stored = stored
@@ -112,7 +112,7 @@ module _ {B C : Type 0} (kind : BoardKind B C) (mark : ℕ) (target : Target) wh
 module _ {B C : Type 0} (kind : BoardKind B C) where
   call_carried : (mark : ℕ) (call : LoneCall C) (now : ℕ) (old new : Option TermView) (s next : LoneState B) (answer : Result Drawn Refusal) (stored : List (List ℕ)) →
       CallMade (lone kind.bars) old new (call, now) s answer next →
-      (then : List (List ℕ)) × CallMade (board kind mark) old new (on_board mark (call, now)) (with_one stored s) (says answer) (with_one then next)
+      (kept : List (List ℕ)) × CallMade (board kind mark) old new (on_board mark (call, now)) (with_one stored s) (says answer) (with_one kept next)
   call_carried mark call now old new s next answer stored made =
       let target = target_of old in
       let why = refused_at_once kind.bars call now s.bar in
