@@ -74,7 +74,7 @@ module _ {B C : Type 0} (kind : BoardKind B C) (mark : ℕ) (target : Target) wh
     ]
   ]
   draw_carried stored laid d s next answer (inr (inr broken)) =
-      (laid, inr (inr (broken.0, ap says broken.1, (outcome_alike target stored laid d).0 ∙ broken.2.0, ap (with_one laid) broken.2.1)))
+      (laid, inr (inr (broken.0, ap says broken.1, ((outcome_alike target stored laid d).0 ∙ broken.2.0, ap (with_one laid) broken.2.1))))
 
   -- the same of a call that may be refused at once
   deed_carried : (why : Option Refusal) (stored laid : List (List ℕ)) (d : Draw (LoneState B)) (s next : LoneState B) (answer : Result Drawn Refusal) →
