@@ -1,6 +1,7 @@
 -- What a bar that says something leaves, with a line logged above it: a lone one, and one on a board.
-use Rattle.std.proofs.Common.{◌≡◌, ℕ, List, [], ◌∷◌, map, refl, ◌∙◌, ap, Option, Some, None, Result, Ok, Err, inl, inr, true}
+use Rattle.std.proofs.Common.{◌≡◌, ℕ, List, [], ◌∷◌, map, refl, sym, ◌∙◌, ap, Option, Some, None, Result, Ok, Err, inl, inr, true}
 use Rattle.std.specs.Prelude.{codes, false}
+use Rattle.std.proofs.lemmas.Bool.{false≢true}
 use Rattle.std.specs.Str.{chars}
 use Rattle.std.proofs.Math.Utf8.{encode}
 use Rattle.unicode_width.specs.Width.{char_width}
@@ -14,8 +15,9 @@ use Rattle.indicatif_term.specs.Frames.{are_plain}
 use Rattle.indicatif_term.specs.Pictures.{row_text}
 use Rattle.indicatif_bar.specs.BarStyles.{BarStyle, lines}
 use Rattle.indicatif_bar.specs.Builders.{first_clusters}
-use Rattle.indicatif_bar.specs.Machines.{Machine, Leads, done_by, drawn_by}
-use Rattle.indicatif_bar.specs.Runs.{lines_by}
+use Rattle.indicatif_term.specs.Calls.{TermView}
+use Rattle.indicatif_bar.specs.Machines.{Machine, Leads, target_of, done_by, drawn_by}
+use Rattle.indicatif_bar.specs.Runs.{CallMade, lines_by}
 use Rattle.indicatif_bar.specs.Trackers.{Tracking}
 use Rattle.indicatif_bar.specs.Commands.{BarRecord, Command, SetMessage, new_bar}
 use Rattle.indicatif_bar.specs.Lone.{LoneState, LoneCall, Obey, Log, opening_state}
@@ -47,6 +49,12 @@ pub style_known : {K : Type 0} {ticks : List (List ℕ)} (style : BarStyle K) �
     (strings : List (List ℕ)) × (style ≡ message_style strings)
 style_known {K} {ticks} style is parts =
     (ticks, is ∙ ap (λ (p : List TemplatePart). record { parts = p; clusters = first_clusters; tick_strings = ticks; keys = []; colours = false; tab = 8 }) parts)
+
+-- a terminal keeps its size in a call
+pub small_still : {S C A : Type 0} (m : Machine S C A) (old new : Option TermView) (call : C × ℕ) (s next : S) (answer : A) → CallMade m old new call s answer next →
+    target_of old ≡ small → target_of new ≡ small
+small_still m None new call s next answer made e = absurd (false≢true (sym (ap (λ t. t.hidden) e)))
+small_still m (Some v) new call s next answer made e = ap target_of made.writes.1 ∙ rw (made.writes.2.counted.columns_stay, made.writes.2.counted.rows_stay) e
 
 -- ---- a lone bar
 

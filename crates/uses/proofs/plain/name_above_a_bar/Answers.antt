@@ -1,4 +1,4 @@
-use Rattle.std.proofs.Common.{◌≡◌, refl, sym, ◌∙◌, ap, subst, arith, map, ◌++◌, ◌∷◌, Ok, Some, None, option_map, replicate, []}
+use Rattle.std.proofs.Common.{◌≡◌, refl, sym, ◌∙◌, ap, subst, arith, map, ◌++◌, ◌∷◌, Ok, Some, None, option_map, replicate, [], true}
 use Rattle.std.specs.Prelude.{codes}
 use Rattle.std.specs.Str.{chars}
 use Rattle.indicatif_term.specs.Screen.{blank_screen}
@@ -10,12 +10,12 @@ use Rattle.indicatif_term.specs.Memory.{view_of}
 use Rattle.indicatif_bar.specs.Commands.{new_bar}
 use Rattle.indicatif_bar.specs.Lone.{Log, opening_state}
 use Rattle.indicatif_bar.specs.LoneBars.{LoneIsIn, lone_bar, lone_known}
-use Rattle.indicatif_bar.specs.Machines.{Leads, target_of}
+use Rattle.indicatif_bar.specs.Machines.{Leads}
 use Rattle.indicatif_bar.specs.Runs.{Runs, CallMade, lines_by}
 use Rattle.indicatif_bar.specs.Trackers.{writes_nothing}
 use Rattle.uses.proofs.PictureLemmas.{state_told}
-use Rattle.uses.proofs.PlainLemmas.{first_name, small, new_memory}
-use Rattle.uses.proofs.ShownLemmas.{message_parts, message_read, message_bar, style_known, say, LoneLed, shown_read, say_plain, log_plain}
+use Rattle.uses.proofs.PlainLemmas.{first_name, new_memory}
+use Rattle.uses.proofs.ShownLemmas.{message_parts, message_read, message_bar, style_known, small_still, say, LoneLed, shown_read, say_plain, log_plain}
 use Rattle.uses.proofs.plain.name_above_a_bar.Goals as goal
 
 pub returns-in-Some : goal.returns-in-Some
@@ -40,13 +40,12 @@ returns-in-Some c =
     let answers = Ok c.in_ok-_said._said ∷ Ok c.in_ok-_logged._logged ∷ [] in
     let run : Runs (lone_bar m) calls answers old start (lone_known view_of c.println.new.self) other.0 =
     (lone_known view_of c.set_message.new.self, one.0, first, (lone_known view_of c.println.new.self, other.0, other.2, (refl, refl))) in
-    let counted = first.writes.2.counted in
-    let target_is : target_of (lone_known view_of c.set_message.new.self) ≡ small = ap target_of first.writes.1 ∙ rw (counted.columns_stay, counted.rows_stay) refl in
+    let target_is = small_still (lone_bar m) old (lone_known view_of c.set_message.new.self) (say, 0) start one.0 (Ok c.in_ok-_said._said) first refl in
     let led : LoneLed m say start c.in_ok-_said._said one.0 = first.leads in
-    let log_is = subst (λ t. are_plain (lines_by ((lone_bar m).deed t (Log first_name) 0 one.0)) ≡ _) (sym target_is) (log_plain m ticks one.0 c.in_ok-_said._said led) in
+    let log_is = subst (λ t. are_plain (lines_by ((lone_bar m).deed t (Log first_name) 0 one.0)) ≡ true) (sym target_is) (log_plain m ticks one.0 c.in_ok-_said._said led) in
     let shows = c.a_new_terminal_is_an_opening.ensures.shows 4 10 (omega arith) in
     let read = c.what_a_lone_run_reads.ensures calls answers (view_of new_memory) start (lone_known view_of c.println.new.self) other.0 refl run refl
-    ((λ w. say_plain m ticks), (λ w. log_is), tt) (blank_screen 4 10) (blank_terminal 4 10, refl, shows) in
+    ((λ w. say_plain m ticks), ((λ w. log_is), tt)) (blank_screen 4 10) (blank_terminal 4 10, refl, shows) in
     let names = shown_read m ticks one.0 c.in_ok-_said._said led other.0 c.in_ok-_logged._logged
     (subst (λ t. Leads (lone_bar m) t one.0 ((lone_bar m).deed t (Log first_name) 0 one.0) (Ok c.in_ok-_logged._logged) other.0) target_is other.2.leads) in
     let left = sym c.in-Some.is ∙ c.into_term.ensures in
