@@ -464,6 +464,7 @@ impl<K: Tracks, T: TermLike + Drop> Board<K, T> {
     /// ```
     /// let (answer, removed) = board.apply(Call::Remove(id), now); // Answer::Done, and the bar
     /// ```
+    #[inline(always)]
     pub fn apply(&mut self, call: Call<K>, now: Moment) -> (Answer, Option<BarState<K>>)
         ensures silent { IsFalse (wrote (drawn_of (answer_of result.0))) → terminal_of self.new ≡ terminal_of self.old }
         ensures nowhere { IsNowhere T.view self.old → terminal_of self.new ≡ terminal_of self.old }

@@ -1,5 +1,5 @@
 //! Exact answers of a bar or a board that was lent, whatever was done with it before.
-ghost use Rattle.std.specs.Prelude.{◌≡◌, ◌≢◌, ◌⊎◌, Some, None, Ok, Err, IsTrue, IsFalse};
+ghost use Rattle.std.specs.Prelude.{◌≡◌, ◌≢◌, ◌↔◌, ◌⊎◌, Some, None, Ok, Err, IsTrue, IsFalse};
 ghost use Rattle.indicatif_term.specs.Engines.{is_failure};
 ghost use Rattle.indicatif_term.specs.Frames.{logged_lines, some_wide, text_lines};
 ghost use Rattle.indicatif_bar.specs.Commands.{BarRecord, command_of};
@@ -37,12 +37,15 @@ pub fn tell<K: ProgressTracker, T: TermLike + Drop>(
     bar.call(LoneCall::Bar(command), now)
 }
 
-/// Takes a bar's rows back. Where the terminal has columns that is done, or the terminal fails. No memory is taken for it.
+/// Takes a bar's rows back. Where the terminal has columns that is done, or the terminal fails: that is so exactly where its faults
+/// grew. No memory is taken for it.
 pub fn take_back<K: ProgressTracker, T: TermLike + Drop>(
     bar: &mut LoneBar<K, T>,
     now: Moment,
 ) -> Result<Drawn, Refusal>
     ensures done { (term : T) → lone_terminal bar.old ≡ Some term → (T.view term).columns ≢ 0 → (result ≡ Ok Drawn.Yes) ⊎ IsTrue (is_failure result) }
+    ensures failed { (term next : T) → lone_terminal bar.old ≡ Some term → lone_terminal bar.new ≡ Some next →
+        (IsTrue (is_failure result) ↔ ((T.view next).faults ≢ (T.view term).faults)) }
     ensures memory { result ≢ Err Refusal.Memory }
 {
     let _in_some_state = bar.bar();
@@ -96,13 +99,15 @@ pub fn tell_on<K: ProgressTracker, T: TermLike + Drop>(
     board.command(id, command, now)
 }
 
-/// Takes the bars' rows back. Where the terminal has columns that is done, or the terminal fails. No memory is taken for it. If it
-/// was done, the dropped bars at the head leave the order; else nobody does.
+/// Takes the bars' rows back. Where the terminal has columns that is done, or the terminal fails: that is so exactly where its faults
+/// grew. No memory is taken for it. If it was done, the dropped bars at the head leave the order; else nobody does.
 pub fn take_bars_back<K: ProgressTracker, T: TermLike + Drop>(
     board: &mut Board<K, T>,
     now: Moment,
 ) -> Result<Drawn, Refusal>
     ensures done { (term : T) → terminal_of board.old ≡ Some term → (T.view term).columns ≢ 0 → (result ≡ Ok Drawn.Yes) ⊎ IsTrue (is_failure result) }
+    ensures failed { (term next : T) → terminal_of board.old ≡ Some term → terminal_of board.new ≡ Some next →
+        (IsTrue (is_failure result) ↔ ((T.view next).faults ≢ (T.view term).faults)) }
     ensures memory { result ≢ Err Refusal.Memory }
     ensures leave { result ≡ Ok Drawn.Yes → (s : BoardState (BarRecord K)) × IsIn (mark_of board.old) board.old s
         × ((slots_of board.new).order ≡ order_of (followers s.members)) }

@@ -25,3 +25,12 @@ returns-clause-memory g c = λ short.
     let s = c.bar-in_some_state.ensures.some in
     let made = c.clear.ensures.leads s.0 s.1 in
     cleared_ample m c.args.now s.0 c.clear.result old new (c.what_a_lone_bar_answers.ensures old new (Clear, c.args.now) s.0 c.clear.result made.0 made.2) short
+
+pub returns-clause-failed : goal.returns-clause-failed
+returns-clause-failed g c = λ term next there left.
+    let view = g.T.TermLike.view in
+    let old = lone_known view c.args.bar.now in
+    let new = lone_known view c.clear.new.self in
+    let s = c.bar-in_some_state.ensures.some in
+    let made = c.clear.ensures.leads s.0 s.1 in
+    (c.what_a_lone_bar_answers.ensures old new (Clear, c.args.now) s.0 c.clear.result made.0 made.2).failed (view term) (view next) (ap (option_map view) there) (ap (option_map view) left)

@@ -18,9 +18,9 @@ use Rattle.uses.proofs.PlainLemmas.{first_name, new_memory}
 use Rattle.uses.proofs.ShownLemmas.{message_parts, message_read, message_bar, style_known, small_still, say, LoneLed, shown_read, say_plain, log_plain}
 use Rattle.uses.proofs.plain.name_above_a_bar.Goals as goal
 
-pub returns-in-Some : goal.returns-in-Some
+pub returns-in_ok-texts-in-Some : goal.returns-in_ok-texts-in-Some
 unfolding chars
-returns-in-Some c =
+returns-in_ok-texts-in-Some c =
     let m = writes_nothing in
     let parts = c.template_or_refused.ensures.one_list (codes "{msg}") c.in_ok-style.style.parts message_parts c.in_ok-style.ensures.parts message_read in
     let style = style_known c.in_ok-style.style c.in_ok-style.ensures.style parts in
