@@ -31,8 +31,8 @@ use Rattle.indicatif_board.specs.Members.{followers, order_of}
 
 -- no conjunction with a false side holds
 never_both : (a b : Bool) → b ≡ false → (a && b) ≡ true → ⊥
-never_both true b no e = false≢true (sym no ∙ e)
-never_both false b no e = false≢true e
+never_both true b lacks e = false≢true (sym lacks ∙ e)
+never_both false b lacks e = false≢true e
 
 -- a draw that wrote was answered so
 wrote_so : (answer : Result Drawn Refusal) → wrote answer ≡ true → (answer ≡ Ok Yes) ⊎ (is_failure answer ≡ true)
@@ -89,7 +89,7 @@ module _ {K : Type 0} (m : Tracking K) (now : ℕ) (s : LoneState (BarRecord K))
   pub unlimited : Says (lone_bar m) old new (Obey TickerTick, now) s answer → (draw_of_call (bar_kind m) (target_of old) (Obey TickerTick) now s).allowed ≡ true → answer ≡ Ok Limited → ⊥
   unlimited w free e =
       let asked = is_asked (is_finished (obeyed m TickerTick s.bar now).0.progress) in
-      elim ((w.decided (λ q. let z = sym e ∙ q in cc)).limited.0 e) [ inl no ↦ false≢true (sym asked ∙ no) | inr held ↦ false≢true (sym held.1 ∙ free) ]
+      elim ((w.decided (λ q. let z = sym e ∙ q in cc)).limited.0 e) [ inl unasked ↦ false≢true (sym asked ∙ unasked) | inr held ↦ false≢true (sym held.1 ∙ free) ]
 
 -- ---- who leaves a board
 
@@ -153,9 +153,9 @@ module _ {K : Type 0} (m : Tracking K) (mark now : ℕ) (s : BoardState (BarReco
     stay_unless_cleared (inr (inr broken)) other = ap (λ (x : BoardState (BarRecord K)). order_of x.members) broken.2.1
 
     pub leave_when_cleared : Clears → answer ≡ Ok Yes → order_of next.members ≡ order_of (followers s.members)
-    leave_when_cleared (inl made) yes =
+    leave_when_cleared (inl made) done =
         let d = draw_of target false Forced now NoFrame s s false in
         let a = said (drawn_by target d).0 (ap (λ o. o.0) made) in
-        ap (λ (o : _ × BoardState (BarRecord K)). order_of o.1.members) made ∙ written_by_yes (λ (x : BoardState (BarRecord K)). order_of x.members) target d (sym a ∙ yes)
-    leave_when_cleared (inr (inl short)) yes = absurd (let z = sym yes ∙ said (Err Memory) short.0 in cc)
-    leave_when_cleared (inr (inr broken)) yes = absurd (let z = ap says (sym yes) ∙ broken.1 in cc)
+        ap (λ (o : _ × BoardState (BarRecord K)). order_of o.1.members) made ∙ written_by_yes (λ (x : BoardState (BarRecord K)). order_of x.members) target d (sym a ∙ done)
+    leave_when_cleared (inr (inl short)) done = absurd (let z = sym done ∙ said (Err Memory) short.0 in cc)
+    leave_when_cleared (inr (inr broken)) done = absurd (let z = ap says (sym done) ∙ broken.1 in cc)

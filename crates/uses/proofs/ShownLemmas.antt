@@ -86,7 +86,7 @@ module _ {K : Type 0} (m : Tracking K) where
 
     -- the lines of the log are plain
     pub log_plain : are_plain (lines_by ((lone_bar m).deed small (Log first_name) 0 x)) ≡ true
-    unfolding char_width unicode_width visible is_plain chars encode lines drawn_by
+    unfolding char_width unicode_width visible has_wide is_plain chars encode lines drawn_by
     log_plain = ap (λ y. are_plain (lines_by ((lone_bar m).deed small (Log first_name) 0 y))) (lone_made say (opening_state (message_bar ticks) None) x one led) ∙ refl
 
   -- so is that of the message
@@ -141,7 +141,7 @@ module _ {K : Type 0} (m : Tracking K) where
 
         -- so are those of the log
         pub log_on_plain : are_plain (lines_by ((machine m).deed small (LogOn first_name) 0 y)) ≡ true
-        unfolding char_width unicode_width visible is_plain chars encode lines drawn_by
+        unfolding char_width unicode_width visible has_wide is_plain chars encode lines drawn_by
         log_on_plain = ap (λ z. are_plain (lines_by ((machine m).deed small (LogOn first_name) 0 z))) told ∙ refl
 
         -- the rows after all read as the name and the message

@@ -33,13 +33,13 @@ returns-clause-memory g c = λ short.
     board_cleared_ample m mark c.args.now s.0 c.clear-drawn.result old new (c.what_a_board_answers.ensures mark old new (Clear, c.args.now) s.0 (says c.clear-drawn.result) made.0 made.2) short
 
 pub returns-clause-leave : goal.returns-clause-leave
-returns-clause-leave g c = λ yes.
+returns-clause-leave g c = λ done.
     let m = g.K.ProgressTracker.means in
     let mark = mark_of c.args.board.now in
     let old = known g.T.TermLike.view c.args.board.now in
     let s = c.order-before.ensures.some in
     let made = c.clear-drawn.ensures.leads mark s.0 s.1 in
-    (s.0, s.1, sym c.order-after.ensures.slots ∙ c.order-after.ensures.order mark made.0 made.1 ∙ leave_when_cleared m mark c.args.now s.0 c.clear-drawn.result (target_of old) made.0 made.2.leads yes)
+    (s.0, s.1, sym c.order-after.ensures.slots ∙ c.order-after.ensures.order mark made.0 made.1 ∙ leave_when_cleared m mark c.args.now s.0 c.clear-drawn.result (target_of old) made.0 made.2.leads done)
 
 pub returns-clause-stay : goal.returns-clause-stay
 returns-clause-stay g c = λ other.

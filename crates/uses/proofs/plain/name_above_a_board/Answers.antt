@@ -44,7 +44,7 @@ returns-in-Some c =
     let told = c.in_ok-_said.ensures.leads 0 taken.0 taken.1 in
     let named = taken_first m ticks taken.0 id first.leads in
     let second = subst (λ i. CallMade (machine m) one two (Tell i (SetMessage saying), 0) taken.0 (Drew c.in_ok-_said._said) told.0) named
-    (subst (λ text. CallMade (machine m) one two (Tell id (SetMessage text), 0) taken.0 (Drew c.in_ok-_said._said) told.0) c.in_ok-said.ensures told.2) in
+    (subst (λ text. CallMade (machine m) one two (Tell id (SetMessage text), 0) taken.0 (Drew c.in_ok-_said._said) told.0) c.in_ok-said.ensures.ok told.2) in
     let two_small = small_still (machine m) one two (say_on, 0) taken.0 told.0 (Drew c.in_ok-_said._said) second one_small in
     let said = subst (λ t. Leads (machine m) t taken.0 ((machine m).deed t say_on 0 taken.0) (Drew c.in_ok-_said._said) told.0) one_small second.leads in
     let other = c.in_ok-_logged.ensures.leads 0 told.0 told.1 in
