@@ -58,7 +58,8 @@ module _ {B : Type 0} where
 
 module _ {B C : Type 0} (kind : BoardKind B C) (mark : ℕ) (target : Target) where
   -- what a draw of the lone bar leads to, that of the board does
-  draw_carried : (stored laid : List (List ℕ)) (d : Draw (LoneState B)) (s next : LoneState B) (answer : Result Drawn Refusal) → Leads (lone kind.bars) target s (Draws d (λ x. x) (λ x. x)) answer next →
+  draw_carried : (stored laid : List (List ℕ)) (d : Draw (LoneState B)) (s next : LoneState B) (answer : Result Drawn Refusal) →
+      Leads (lone kind.bars) target s (Draws d (λ x. x) (λ x. x)) answer next →
       (kept : List (List ℕ)) × Leads (board kind mark) target (with_one stored s) (draws (drawn_on stored laid d)) (says answer) (with_one kept next)
   draw_carried stored laid d s next answer (inl made) =
       let o = drawn_by target d in

@@ -80,11 +80,11 @@ pub fn name_above_a_board(alloc: Global) -> Result<Vec<String>, Refusal>
     ensures { IfOk result (λ texts. (blank : ℕ) × (map (λ text. string_bytes text) texts.items
         ≡ codes "a.txt" ∷ codes "copying" ∷ replicate blank [])) }
 {
-    let term = InMemoryTerm::new(alloc, 4, 10)?;
+    let terminal = InMemoryTerm::new(alloc, 4, 10)?;
     let style: ProgressStyle<NoTracker> = ProgressStyle::with_template(alloc, "{msg}")?;
     let record = BarState::styled(alloc, style, None, 0)?;
     let said = String::from_str(alloc, "copying")?;
-    let mut board = Board::new(alloc, ProgressDrawTarget::term_like(term), 0);
+    let mut board = Board::new(alloc, ProgressDrawTarget::term_like(terminal), 0);
     let id = first_bar(&mut board, record)?;
     let _said = board.command(id, BarCommand::SetMessage(said), 0)?;
     let _logged = board.println("a.txt", 0)?;
@@ -92,8 +92,8 @@ pub fn name_above_a_board(alloc: Global) -> Result<Vec<String>, Refusal>
     a_new_terminal_is_an_opening();
     what_a_board_run_reads::<NoTracker>();
     match board.term() {
-        Some(term) => {
-            let texts = term.picture()?;
+        Some(left) => {
+            let texts = left.picture()?;
             Ok(texts)
         }
         None => Err(Refusal::Memory),

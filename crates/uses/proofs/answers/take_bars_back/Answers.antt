@@ -39,7 +39,8 @@ returns-clause-leave g c = λ done.
     let old = known g.T.TermLike.view c.args.board.now in
     let s = c.order-before.ensures.some in
     let made = c.clear-drawn.ensures.leads mark s.0 s.1 in
-    (s.0, s.1, sym c.order-after.ensures.slots ∙ c.order-after.ensures.order mark made.0 made.1 ∙ leave_when_cleared m mark c.args.now s.0 c.clear-drawn.result (target_of old) made.0 made.2.leads done)
+    let leave = leave_when_cleared m mark c.args.now s.0 c.clear-drawn.result (target_of old) made.0 made.2.leads done in
+    (s.0, s.1, sym c.order-after.ensures.slots ∙ c.order-after.ensures.order mark made.0 made.1 ∙ leave)
 
 pub returns-clause-stay : goal.returns-clause-stay
 returns-clause-stay g c = λ other.
@@ -60,5 +61,6 @@ returns-clause-failed g c = λ term next there left.
     let new = known view c.clear-drawn.new.self in
     let s = c.order-before.ensures.some in
     let made = c.clear-drawn.ensures.leads mark s.0 s.1 in
+    let w = c.what_a_board_answers.ensures mark old new (Clear, c.args.now) s.0 (says c.clear-drawn.result) made.0 made.2 in
     subst (λ r. (is_failure r ≡ true) ↔ ((view next).faults ≢ (view term).faults)) (drawn_of_said c.clear-drawn.result)
-    ((c.what_a_board_answers.ensures mark old new (Clear, c.args.now) s.0 (says c.clear-drawn.result) made.0 made.2).failed (view term) (view next) (ap (option_map view) there) (ap (option_map view) left))
+    (w.failed (view term) (view next) (ap (option_map view) there) (ap (option_map view) left))

@@ -29,7 +29,7 @@ returns-in-Some c =
     let ticks = style.0 in
     let start = opening_board None in
     let old = Some (view_of new_memory) in
-    let made : c.in_ok-term.term ≡ new_memory = c.in_ok-term.ensures.blank in
+    let made : c.in_ok-terminal.terminal ≡ new_memory = c.in_ok-terminal.ensures.blank in
     let bar_is : c.in_ok-record.record ≡ message_bar ticks = c.in_ok-record.ensures.bar ∙ ap (λ s. new_bar s None 0) style.1 in
     let known_is : known view_of c.new-board.result ≡ old = ap (option_map view_of) (c.new-board.ensures.terminal ∙ ap term_of c.term_like.ensures) ∙ ap (λ t. Some (view_of t)) made in
     let begun = subst (λ target. IsIn 0 c.new-board.result (opening_board (limiter_of target))) c.term_like.ensures c.new-board.ensures.state in
@@ -53,11 +53,12 @@ returns-in-Some c =
     let answers = Given id ∷ Drew c.in_ok-_said._said ∷ Drew c.in_ok-_logged._logged ∷ [] in
     let run : Runs (machine m) calls answers old start three other.0 = (one, taken.0, first, (two, told.0, second, (three, other.0, other.2, (refl, refl)))) in
     let say_is = subst (λ t. are_plain (lines_by ((machine m).deed t say_on 0 taken.0)) ≡ true) (sym one_small) (say_on_plain m ticks taken.0 id first.leads) in
-    let log_is = subst (λ t. are_plain (lines_by ((machine m).deed t (Log first_name) 0 told.0)) ≡ true) (sym two_small) (log_on_plain m ticks taken.0 id first.leads told.0 c.in_ok-_said._said said) in
+    let log_is = subst (λ t. are_plain (lines_by ((machine m).deed t (Log first_name) 0 told.0)) ≡ true) (sym two_small)
+    (log_on_plain m ticks taken.0 id first.leads told.0 c.in_ok-_said._said said) in
     let shows = c.a_new_terminal_is_an_opening.ensures.shows 4 10 (omega arith) in
     let read = c.what_a_board_run_reads.ensures 0 calls answers (view_of new_memory) start three other.0 refl run refl
     ((λ w. absurd (false≢true w)), ((λ w. say_is), ((λ w. log_is), tt))) (blank_screen 4 10) (blank_terminal 4 10, refl, shows) in
     let names = board_shown_read m ticks taken.0 id first.leads told.0 c.in_ok-_said._said said other.0 c.in_ok-_logged._logged logged in
     let left = ap (option_map (λ t. t.now)) (sym c.in-Some.is) ∙ c.term.ensures in
-    let t = state_told c.in-Some.term.now read.0 read.2.0 (ap (option_map view_of) left ∙ read.1) read.2.1 in
+    let t = state_told c.in-Some.left.now read.0 read.2.0 (ap (option_map view_of) left ∙ read.1) read.2.1 in
     (read.2.2, c.in_ok-texts-in-Some.ensures.picture ∙ ap (λ u. picture_text u.screen) t ∙ read.2.3 ∙ ap (λ xs. xs ++ replicate read.2.2 []) names)
