@@ -129,9 +129,7 @@ pub fn is_undisturbed(drawn: &Result<Drawn, Refusal>) -> bool
 }
 
 /// The answer of an insertion, and the new bar that was turned away.
-pub fn insertion_answer<K: Tracks>(
-    taken: Result<BarId, Turned<K>>,
-) -> (Answer, Option<BarState<K>>)
+pub fn insertion_answer<K: Tracks>(taken: Result<BarId, Turned<K>>) -> (Answer, Option<BarState<K>>)
     ensures answer { answer_of result.0 ≡ given taken }
     ensures back { result.1 ≡ turned_back taken }
 {

@@ -540,11 +540,7 @@ impl<K: Tracks, T: TermLike + Drop> Board<K, T> {
     }
 
     /// Takes a bar in at a place.
-    fn insert_by(
-        &mut self,
-        at: InsertLocation,
-        candidate: Candidate<K>,
-    ) -> Result<BarId, Turned<K>>
+    fn insert_by(&mut self, at: InsertLocation, candidate: Candidate<K>) -> Result<BarId, Turned<K>>
         ensures terminal { terminal_of self.new ≡ terminal_of self.old }
         ensures mark { mark_of self.new ≡ mark_of self.old }
         ensures turned { IfErr result (λ t. t.candidate ≡ candidate) }
