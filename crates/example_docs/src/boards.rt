@@ -166,8 +166,15 @@ fn removed(board: &mut Bars, id: BarId) -> bool {
     remove == Answer::Done
 }
 
+fn taken_out(board: &mut Bars, id: BarId) -> bool {
+    let now = 0;
+    let (answer, removed) = board.apply(Call::Remove(id), now);
+    answer == Answer::Done && removed.is_some()
+}
+
 fn answer(rt: &HostRuntime, board: &mut Bars, id: BarId) -> Result<()> {
     println!(rt; "Call {}", log_on(rt.alloc(), board)?)?;
+    println!(rt; "apply {}", taken_out(board, id))?;
     println!(rt; "Answer {} {}", cleared(board), removed(board, id))?;
     Ok(())
 }

@@ -16,4 +16,5 @@ pub mod RecordLemmas
 pub mod BarRecordLemmas
 pub mod RunRecordLemmas
 pub mod SomeBoardLemmas
+pub mod LoneBoardLemmas
 pub mod PlainBoardLemmas

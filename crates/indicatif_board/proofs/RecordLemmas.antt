@@ -13,7 +13,7 @@ use Rattle.indicatif_board.specs.Calls.{call_of, answer_of, removal}
 use Rattle.indicatif_board.specs.Members.{Member, is_member, said_of}
 use Rattle.indicatif_board.specs.Multi.{LeadsBy, known}
 use Rattle.indicatif_board.specs.Recorded.{CallStep, BoardStep, Replays, IsOneRun, AddsCall, step_of, target_by, handed_back}
-use Rattle.indicatif_board.specs.Inside.Recorded.{removed_back}
+use Rattle.indicatif_board.specs.Inside.Calls.{removed_back}
 use Rattle.indicatif_board.specs.declared.multi.Board.{Board}
 use Rattle.indicatif_board.specs.declared.recorded.Entry.{Entry}
 

@@ -3,4 +3,4 @@ pub mod Named
 pub mod Writings
 pub mod Parting
 pub mod Standing
-pub mod Recorded
+pub mod Calls

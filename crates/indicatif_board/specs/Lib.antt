@@ -11,6 +11,7 @@ pub mod ShownBars
 pub mod Multi
 pub mod OrderLaws
 pub mod LimitLaws
+pub mod LoneLaws
 pub mod Recorded
 pub mod Bridge
 pub mod Inside

@@ -13,7 +13,7 @@ use Rattle.indicatif_bar.specs.LoneBars.{RecordGoes}
 use Rattle.indicatif_bar.specs.Machines.{target_of}
 use Rattle.indicatif_bar.specs.Runs.{CallMade, Runs}
 use Rattle.indicatif_board.specs.BoardBars.{board_bars}
-use Rattle.indicatif_board.specs.Boards.{BoardState, Id, Entrant, New, Call, Insert, Remove, Drop, Clear, Redraw, Tell, Answer, Given, Drew, Refused, says, drawn_of, board}
+use Rattle.indicatif_board.specs.Boards.{BoardState, Id, Entrant, New, Old, Call, Insert, Remove, Drop, Clear, Redraw, Tell, Answer, Given, Drew, Refused, says, drawn_of, board}
 use Rattle.indicatif_board.specs.Calls.{answer_of, gives}
 use Rattle.indicatif_board.specs.Slots.{SlotTable, next_slot, slot_of}
 use Rattle.indicatif_board.specs.ShownBars.{AreShownAs, record_on}
@@ -49,6 +49,15 @@ module _ {K T : Type 0} where
   -- the record of its bar of a number; none where no call may name that: it was removed, dropped or never given
   abbrev pub record_at : ℕ → Board K T → Option (BarRecord K)
   record_at number b = record_on number b.shown
+
+  -- a bar of this board that no call may name: it was removed, dropped or never given
+  abbrev pub IsAbsent : Board K T → Id → Type 0
+  IsAbsent b id = (id.mark ≡ b.mark) × (record_at id.number b ≡ None)
+
+  -- such a bar is to be taken in
+  abbrev pub EntersAbsent : Board K T → Entrant (BarRecord K) → Type 0
+  EntersAbsent b (New bar) = ⊥
+  EntersAbsent b (Old id) = IsAbsent b id
 
   -- every bar's record is as before
   abbrev pub RecordsStay : Board K T → Board K T → Type 0

@@ -2,7 +2,8 @@
 ghost use Rattle.std.specs.Prelude.{◌≡◌};
 ghost use Rattle.indicatif_bar.specs.Runs.{is_undisturbed};
 ghost use Rattle.indicatif_board.specs.Boards.{says};
-ghost use Rattle.indicatif_board.specs.Calls.{given, removal, answer_of};
+ghost use Rattle.indicatif_board.specs.Calls.{given, removal, answer_of, entrant_of};
+ghost use Rattle.indicatif_board.specs.Inside.Calls.{bar_in, turned_back, removed_back};
 
 use crate::bar_id::BarId;
 use indicatif_bar::state::{BarCommand, BarState};
@@ -127,22 +128,39 @@ pub fn is_undisturbed(drawn: &Result<Drawn, Refusal>) -> bool
     !matches!(drawn, Err(Refusal::Memory | Refusal::Terminal(_)))
 }
 
-/// The answer of an insertion; a candidate that was turned away is given up.
-pub fn insertion_answer<K: Tracks>(taken: Result<BarId, Turned<K>>) -> Answer
-    ensures { answer_of result ≡ given taken }
+/// The answer of an insertion, and the new bar that was turned away.
+pub fn insertion_answer<K: Tracks>(taken: Result<BarId, Turned<K>>) -> (Answer, Option<BarState<K>>)
+    ensures answer { answer_of result.0 ≡ given taken }
+    ensures back { result.1 ≡ turned_back taken }
 {
     match taken {
-        Ok(id) => Answer::Id(id),
-        Err(turned) => Answer::Refused(turned.refusal),
+        Ok(id) => (Answer::Id(id), None),
+        Err(turned) => (
+            Answer::Refused(turned.refusal),
+            new_bar_in(turned.candidate),
+        ),
     }
 }
 
-/// The answer of a removal; a bar that was removed is given up.
-pub fn removal_answer<K: Tracks>(removed: Result<Option<BarState<K>>, Refusal>) -> Answer
-    ensures { answer_of result ≡ removal removed }
+/// The answer of a removal, and the bar that was removed.
+pub fn removal_answer<K: Tracks>(
+    removed: Result<Option<BarState<K>>, Refusal>,
+) -> (Answer, Option<BarState<K>>)
+    ensures answer { answer_of result.0 ≡ removal removed }
+    ensures back { result.1 ≡ removed_back removed }
 {
     match removed {
-        Ok(_) => Answer::Done,
-        Err(refusal) => Answer::Refused(refusal),
+        Ok(bar) => (Answer::Done, bar),
+        Err(refusal) => (Answer::Refused(refusal), None),
+    }
+}
+
+/// The new bar that a candidate is.
+pub fn new_bar_in<K: Tracks>(candidate: Candidate<K>) -> Option<BarState<K>>
+    ensures { result ≡ bar_in (entrant_of candidate) }
+{
+    match candidate {
+        Candidate::New(bar) => Some(bar),
+        Candidate::Member(_) => None,
     }
 }

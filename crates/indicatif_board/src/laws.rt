@@ -12,6 +12,7 @@ ghost use Rattle.indicatif_board.specs.BoardBars.{board_bars};
 ghost use Rattle.indicatif_board.specs.Done.{account_of_both, kept_half, given_half};
 ghost use Rattle.indicatif_board.specs.declared.done.Account.{Account};
 ghost use Rattle.indicatif_board.specs.LimitLaws.{IsAllowed};
+ghost use Rattle.indicatif_board.specs.LoneLaws.{OneIsTakenIn, LoneRunsAreBoardRuns};
 ghost use Rattle.indicatif_board.specs.PlainBoardLaws.{BoardRunsArePlain};
 ghost use Rattle.indicatif_board.specs.OrderLaws.{RunsKeep, StandsOnce, IsGone, NumbersCount, NumbersAreNew};
 ghost use Rattle.indicatif_board.specs.Slots.{SlotTable, IsSeated, slot_of, occurrences};
@@ -79,6 +80,13 @@ pub fn what_an_answer_says<B, C>()
 /// The same of a board whose bars have these trackers, for whoever is lent one.
 pub fn what_a_board_answers<K: Tracks>()
     ensures { (mark : ℕ) → EachSays (board (board_bars K.means) mark) }
+{}
+
+/// A lone bar is a board with one bar, which lays itself out at each draw and keeps no rows: every run of it is one of that board,
+/// with the same answers, the same bytes and the same rows.
+pub fn a_lone_bar_is_a_board_of_one<K: Tracks>()
+    ensures begins { OneIsTakenIn (BarRecord K) }
+    ensures runs { LoneRunsAreBoardRuns (board_bars K.means) }
 {}
 
 /// A board asks its limiter once for each unforced draw, and nothing else changes that: from a rate's limiter as it is made on, a

@@ -13,6 +13,7 @@ ghost use Rattle.indicatif_board.specs.Boards.{BoardState, Tell, Log, BarLog, Cl
 ghost use Rattle.indicatif_board.specs.BoardValues.{id_of};
 ghost use Rattle.indicatif_board.specs.Members.{is_member, order_of, said_of};
 ghost use Rattle.indicatif_board.specs.Slots.{slot_of, IsSeated};
+ghost use Rattle.indicatif_board.specs.Recorded.{handed_back};
 ghost use Rattle.indicatif_board.specs.Inside.Named.{HasPlace, named_laid_out, named_layout_takes};
 ghost use Rattle.indicatif_board.specs.Inside.Parting.{parted, RestsOn};
 ghost use Rattle.indicatif_board.specs.Inside.Standing.{is_of_draw, StandsAt};
@@ -62,7 +63,7 @@ pub struct Board<K, T: Drop> {
 
 impl<K: Tracks, T: TermLike + Drop> Board<K, T> {
     ghost use Rattle.indicatif_board.specs.Calls.{entrant_of, given, removal, answer_of, place_at, call_of, timed, IsForeign, NamesForeign, AreTurnedAway, acts_on};
-    ghost use Rattle.indicatif_board.specs.Multi.{IsIn, IsNowhere, mark_of, record_at, RecordsStay, OtherRecordsStay, RecordObeys, RecordsTake, SlotsTake, RecordsChange, StaysOrComes, LeadsBy, Suspends, known, slots_of, terminal_of};
+    ghost use Rattle.indicatif_board.specs.Multi.{IsIn, IsNowhere, IsAbsent, EntersAbsent, mark_of, record_at, RecordsStay, OtherRecordsStay, RecordObeys, RecordsTake, SlotsTake, RecordsChange, StaysOrComes, LeadsBy, Suspends, known, slots_of, terminal_of};
 
     /// A board without bars on this target, of this mark. It takes no memory and writes nothing.
     pub fn new(alloc: Global, target: ProgressDrawTarget<T>, mark: u64) -> Self
@@ -101,8 +102,10 @@ impl<K: Tracks, T: TermLike + Drop> Board<K, T> {
     /// Refused: `ForeignBar` or `NotMember`, as `Board` says.
     pub fn bar(&self, id: BarId) -> Result<&BarState<K>, Refusal>
         ensures foreign { id.mark ≢ mark_of self.now → result ≡ Err Refusal.ForeignBar }
+        ensures turned { (mark : ℕ) (s : BoardState (BarRecord K)) → IsIn mark self.now s →
+            MatchResult result (λ bar. turned_away mark (id_of id) s ≡ None) (λ e. turned_away mark (id_of id) s ≡ Some e) }
         ensures bar { (mark : ℕ) (s : BoardState (BarRecord K)) (other : BarRecord K) → IsIn mark self.now s →
-            MatchResult result (λ bar. (turned_away mark (id_of id) s ≡ None) × (bar.now ≡ said_of other (λ b. b) id.number s.members)) (λ e. turned_away mark (id_of id) s ≡ Some e) }
+            IfOk result (λ bar. bar.now ≡ said_of other (λ b. b) id.number s.members) }
         ensures record { id.mark ≡ mark_of self.now →
             MatchResult result (λ bar. record_at id.number self.now ≡ Some bar.now) (λ e. (e ≡ Refusal.NotMember) × (record_at id.number self.now ≡ None)) }
     {
@@ -190,6 +193,7 @@ impl<K: Tracks, T: TermLike + Drop> Board<K, T> {
         ensures turned { IfErr result (λ t. t.candidate ≡ candidate) }
         ensures leads { (now : ℕ) → LeadsBy K.means T.view self.old self.new (Insert End (entrant_of candidate)) now (given result) }
         ensures foreign { NamesForeign (mark_of self.old) (Insert End (entrant_of candidate)) → (given result ≡ Refused Refusal.ForeignBar) × (self.new ≡ self.old) }
+        ensures not_member { EntersAbsent self.old (entrant_of candidate) → (given result ≡ Refused Refusal.NotMember) × (self.new ≡ self.old) }
         ensures records { RecordsTake (entrant_of candidate) (given result) self.old self.new }
         ensures slot { SlotsTake (entrant_of candidate) (given result) self.old self.new }
     {
@@ -207,6 +211,7 @@ impl<K: Tracks, T: TermLike + Drop> Board<K, T> {
         ensures turned { IfErr result (λ t. t.candidate ≡ candidate) }
         ensures leads { (now : ℕ) → LeadsBy K.means T.view self.old self.new (Insert (Index index) (entrant_of candidate)) now (given result) }
         ensures foreign { NamesForeign (mark_of self.old) (Insert (Index index) (entrant_of candidate)) → (given result ≡ Refused Refusal.ForeignBar) × (self.new ≡ self.old) }
+        ensures not_member { EntersAbsent self.old (entrant_of candidate) → (given result ≡ Refused Refusal.NotMember) × (self.new ≡ self.old) }
         ensures records { RecordsTake (entrant_of candidate) (given result) self.old self.new }
         ensures slot { SlotsTake (entrant_of candidate) (given result) self.old self.new }
     {
@@ -228,6 +233,7 @@ impl<K: Tracks, T: TermLike + Drop> Board<K, T> {
         ensures turned { IfErr result (λ t. t.candidate ≡ candidate) }
         ensures leads { (now : ℕ) → LeadsBy K.means T.view self.old self.new (Insert (FromBack count) (entrant_of candidate)) now (given result) }
         ensures foreign { NamesForeign (mark_of self.old) (Insert (FromBack count) (entrant_of candidate)) → (given result ≡ Refused Refusal.ForeignBar) × (self.new ≡ self.old) }
+        ensures not_member { EntersAbsent self.old (entrant_of candidate) → (given result ≡ Refused Refusal.NotMember) × (self.new ≡ self.old) }
         ensures records { RecordsTake (entrant_of candidate) (given result) self.old self.new }
         ensures slot { SlotsTake (entrant_of candidate) (given result) self.old self.new }
     {
@@ -249,6 +255,7 @@ impl<K: Tracks, T: TermLike + Drop> Board<K, T> {
         ensures turned { IfErr result (λ t. t.candidate ≡ candidate) }
         ensures leads { (now : ℕ) → LeadsBy K.means T.view self.old self.new (Insert (Before (id_of anchor)) (entrant_of candidate)) now (given result) }
         ensures foreign { NamesForeign (mark_of self.old) (Insert (Before (id_of anchor)) (entrant_of candidate)) → (given result ≡ Refused Refusal.ForeignBar) × (self.new ≡ self.old) }
+        ensures not_member { IsAbsent self.old (id_of anchor) → (given result ≡ Refused Refusal.NotMember) × (self.new ≡ self.old) }
         ensures beside { IsTrue (is_some (record_at anchor.number self.old)) → IsForeign (mark_of self.old) (entrant_of candidate) →
             (given result ≡ Refused Refusal.ForeignBar) × (self.new ≡ self.old) }
         ensures records { RecordsTake (entrant_of candidate) (given result) self.old self.new }
@@ -275,6 +282,7 @@ impl<K: Tracks, T: TermLike + Drop> Board<K, T> {
         ensures turned { IfErr result (λ t. t.candidate ≡ candidate) }
         ensures leads { (now : ℕ) → LeadsBy K.means T.view self.old self.new (Insert (After (id_of anchor)) (entrant_of candidate)) now (given result) }
         ensures foreign { NamesForeign (mark_of self.old) (Insert (After (id_of anchor)) (entrant_of candidate)) → (given result ≡ Refused Refusal.ForeignBar) × (self.new ≡ self.old) }
+        ensures not_member { IsAbsent self.old (id_of anchor) → (given result ≡ Refused Refusal.NotMember) × (self.new ≡ self.old) }
         ensures beside { IsTrue (is_some (record_at anchor.number self.old)) → IsForeign (mark_of self.old) (entrant_of candidate) →
             (given result ≡ Refused Refusal.ForeignBar) × (self.new ≡ self.old) }
         ensures records { RecordsTake (entrant_of candidate) (given result) self.old self.new }
@@ -450,7 +458,40 @@ impl<K: Tracks, T: TermLike + Drop> Board<K, T> {
         }
     }
 
-    /// A call as a value: what the method that `Call` names does and refuses. A bar that is removed or turned away is given up.
+    /// A call as a value: what the method that `Call` names does and refuses. Beside the answer it hands back the bar that was removed,
+    /// or the new one that was turned away.
+    ///
+    /// ```
+    /// let (answer, removed) = board.apply(Call::Remove(id), now); // Answer::Done, and the bar
+    /// ```
+    #[inline(always)]
+    pub fn apply(&mut self, call: Call<K>, now: Moment) -> (Answer, Option<BarState<K>>)
+        ensures silent { IsFalse (wrote (drawn_of (answer_of result.0))) → terminal_of self.new ≡ terminal_of self.old }
+        ensures nowhere { IsNowhere T.view self.old → terminal_of self.new ≡ terminal_of self.old }
+        ensures mark { mark_of self.new ≡ mark_of self.old }
+        ensures leads { LeadsBy K.means T.view self.old self.new (call_of call) now (answer_of result.0) }
+        ensures foreign { NamesForeign (mark_of self.old) (call_of call) → (answer_of result.0 ≡ Refused Refusal.ForeignBar) × (self.new ≡ self.old) }
+        ensures records { RecordsChange K.means (call_of call) now (answer_of result.0) self.old self.new }
+        ensures back { (mark : ℕ) (s : BoardState (BarRecord K)) (other : BarRecord K) → IsIn mark self.old s →
+            result.1 ≡ handed_back (call_of call) (answer_of result.0) other s.members }
+    {
+        match call {
+            Call::Insert { at, candidate } => insertion_answer(self.insert_by(at, candidate)),
+            Call::Remove(id) => removal_answer(self.remove(id)),
+            Call::Drop(id) => (draw_answer(self.drop_bar(id, now)), None),
+            Call::Log(text) => (draw_answer(self.println(text.as_str(), now)), None),
+            Call::BarLog(id, text) => (draw_answer(self.bar_println(id, text.as_str(), now)), None),
+            Call::Clear => (draw_answer(self.clear(now)), None),
+            Call::Redraw => (draw_answer(self.redraw(now)), None),
+            Call::Align(alignment) => {
+                self.set_alignment(alignment);
+                (Answer::Done, None)
+            }
+            Call::Bar(id, command) => (draw_answer(self.command(id, command, now)), None),
+        }
+    }
+
+    /// As `apply`. A bar that is removed or turned away is given up.
     pub fn call(&mut self, call: Call<K>, now: Moment) -> Answer
         ensures silent { IsFalse (wrote (drawn_of (answer_of result))) → terminal_of self.new ≡ terminal_of self.old }
         ensures nowhere { IsNowhere T.view self.old → terminal_of self.new ≡ terminal_of self.old }
@@ -459,20 +500,7 @@ impl<K: Tracks, T: TermLike + Drop> Board<K, T> {
         ensures foreign { NamesForeign (mark_of self.old) (call_of call) → (answer_of result ≡ Refused Refusal.ForeignBar) × (self.new ≡ self.old) }
         ensures records { RecordsChange K.means (call_of call) now (answer_of result) self.old self.new }
     {
-        match call {
-            Call::Insert { at, candidate } => self.insert_by(at, candidate),
-            Call::Remove(id) => removal_answer(self.remove(id)),
-            Call::Drop(id) => draw_answer(self.drop_bar(id, now)),
-            Call::Log(text) => draw_answer(self.println(text.as_str(), now)),
-            Call::BarLog(id, text) => draw_answer(self.bar_println(id, text.as_str(), now)),
-            Call::Clear => draw_answer(self.clear(now)),
-            Call::Redraw => draw_answer(self.redraw(now)),
-            Call::Align(alignment) => {
-                self.set_alignment(alignment);
-                Answer::Done
-            }
-            Call::Bar(id, command) => draw_answer(self.command(id, command, now)),
-        }
+        self.apply(call, now).0
     }
 
     /// Makes the calls one after another, each at its moment, and answers what each answered. No calls change nothing, and are never
@@ -512,23 +540,20 @@ impl<K: Tracks, T: TermLike + Drop> Board<K, T> {
     }
 
     /// Takes a bar in at a place.
-    fn insert_by(&mut self, at: InsertLocation, candidate: Candidate<K>) -> Answer
+    fn insert_by(&mut self, at: InsertLocation, candidate: Candidate<K>) -> Result<BarId, Turned<K>>
         ensures terminal { terminal_of self.new ≡ terminal_of self.old }
         ensures mark { mark_of self.new ≡ mark_of self.old }
-        ensures leads { (now : ℕ) → LeadsBy K.means T.view self.old self.new (Insert (place_at at) (entrant_of candidate)) now (answer_of result) }
-        ensures foreign { NamesForeign (mark_of self.old) (Insert (place_at at) (entrant_of candidate)) → (answer_of result ≡ Refused Refusal.ForeignBar) × (self.new ≡ self.old) }
-        ensures records { RecordsTake (entrant_of candidate) (answer_of result) self.old self.new }
+        ensures turned { IfErr result (λ t. t.candidate ≡ candidate) }
+        ensures leads { (now : ℕ) → LeadsBy K.means T.view self.old self.new (Insert (place_at at) (entrant_of candidate)) now (given result) }
+        ensures foreign { NamesForeign (mark_of self.old) (Insert (place_at at) (entrant_of candidate)) → (given result ≡ Refused Refusal.ForeignBar) × (self.new ≡ self.old) }
+        ensures records { RecordsTake (entrant_of candidate) (given result) self.old self.new }
     {
         match at {
-            InsertLocation::End => insertion_answer(self.add(candidate)),
-            InsertLocation::Index(index) => insertion_answer(self.insert(index, candidate)),
-            InsertLocation::FromBack(count) => {
-                insertion_answer(self.insert_from_back(count, candidate))
-            }
-            InsertLocation::Before(anchor) => insertion_answer(self.insert_before(
-                anchor, candidate,
-            )),
-            InsertLocation::After(anchor) => insertion_answer(self.insert_after(anchor, candidate)),
+            InsertLocation::End => self.add(candidate),
+            InsertLocation::Index(index) => self.insert(index, candidate),
+            InsertLocation::FromBack(count) => self.insert_from_back(count, candidate),
+            InsertLocation::Before(anchor) => self.insert_before(anchor, candidate),
+            InsertLocation::After(anchor) => self.insert_after(anchor, candidate),
         }
     }
 
@@ -540,6 +565,7 @@ impl<K: Tracks, T: TermLike + Drop> Board<K, T> {
         ensures turned { IfErr result (λ t. t.candidate ≡ candidate) }
         ensures quiet { IsFalse (wrote (drawn_of (given result))) }
         ensures foreign { IsForeign (mark_of self.old) (entrant_of candidate) → (given result ≡ Refused Refusal.ForeignBar) × (self.new ≡ self.old) }
+        ensures not_member { EntersAbsent self.old (entrant_of candidate) → (given result ≡ Refused Refusal.NotMember) × (self.new ≡ self.old) }
         ensures records { RecordsTake (entrant_of candidate) (given result) self.old self.new }
         ensures slot { SlotsTake (entrant_of candidate) (given result) self.old self.new }
         ensures inserted { (mark : ℕ) (s : BoardState (BarRecord K)) (spot : Location) → IsIn mark self.old s → at ≡ index_of spot s.members →

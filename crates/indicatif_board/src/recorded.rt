@@ -4,17 +4,15 @@ ghost use Rattle.indicatif_term.specs.Limiters.{Limiter};
 ghost use Rattle.indicatif_term.specs.Targets.{term_of, limiter_of};
 ghost use Rattle.indicatif_bar.specs.Commands.{BarRecord};
 ghost use Rattle.indicatif_bar.specs.Machines.{target_of};
-ghost use Rattle.indicatif_board.specs.Boards.{BoardState, Insert, Refused};
-ghost use Rattle.indicatif_board.specs.Calls.{call_of, answer_of, entrant_of, place_at, given, removal};
-ghost use Rattle.indicatif_board.specs.Multi.{IsIn, LeadsBy, known, terminal_of};
+ghost use Rattle.indicatif_board.specs.Boards.{BoardState, Refused};
+ghost use Rattle.indicatif_board.specs.Calls.{call_of, answer_of};
+ghost use Rattle.indicatif_board.specs.Multi.{IsIn, known, terminal_of};
 ghost use Rattle.indicatif_board.specs.Recorded.{IsOneRun, AddsCall, target_by, step_of, handed_back};
-ghost use Rattle.indicatif_board.specs.Inside.Recorded.{bar_in, turned_back, removed_back};
 ghost use Rattle.indicatif_board.specs.declared.calls.Answer.{Answer};
 ghost use Rattle.indicatif_text.specs.declared.refusal.Refusal.{Refusal};
 
-use crate::bar_id::BarId;
-use crate::calls::{draw_answer, removal_answer};
-use crate::multi::{Answer, Board, Call, Candidate, InsertLocation, Turned};
+use crate::calls::new_bar_in;
+use crate::multi::{Answer, Board, Call};
 use indicatif_bar::state::BarState;
 use indicatif_bar::style::Tracks;
 use indicatif_term::draw_target::{ProgressDrawTarget, RateLimiter};
@@ -135,7 +133,7 @@ impl<K: Tracks, T: TermLike + Drop> Recorded<K, T> {
             return (Answer::Refused(Refusal::Memory), returned_bar(call));
         }
         let size = size_of(&self.board);
-        let (answer, bar) = made_on(&mut self.board, call, now);
+        let (answer, bar) = self.board.apply(call, now);
         self.entries.push_reserved(Entry {
             call: copy,
             now,
@@ -217,86 +215,5 @@ fn returned_bar<K: Tracks>(call: Call<K>) -> Option<BarState<K>>
         | Call::Redraw
         | Call::Align(_)
         | Call::Bar(_, _) => None,
-    }
-}
-
-/// The new bar that a candidate is.
-fn new_bar_in<K: Tracks>(candidate: Candidate<K>) -> Option<BarState<K>>
-    ensures { result ≡ bar_in (entrant_of candidate) }
-{
-    match candidate {
-        Candidate::New(bar) => Some(bar),
-        Candidate::Member(_) => None,
-    }
-}
-
-/// Makes a call, and hands back the bar that was removed, or the new one that was turned away.
-fn made_on<K: Tracks, T: TermLike + Drop>(
-    board: &mut Board<K, T>,
-    call: Call<K>,
-    now: Moment,
-) -> (Answer, Option<BarState<K>>)
-    ensures leads { LeadsBy K.means T.view board.old board.new (call_of call) now (answer_of result.0) }
-    ensures back { (mark : ℕ) (s : BoardState (BarRecord K)) (other : BarRecord K) → IsIn mark board.old s →
-        result.1 ≡ handed_back (call_of call) (answer_of result.0) other s.members }
-{
-    match call {
-        Call::Insert { at, candidate } => insertion(inserted_on(board, at, candidate)),
-        Call::Remove(id) => removal(board.remove(id)),
-        Call::Drop(id) => (draw_answer(board.drop_bar(id, now)), None),
-        Call::Log(text) => (draw_answer(board.println(text.as_str(), now)), None),
-        Call::BarLog(id, text) => (draw_answer(board.bar_println(id, text.as_str(), now)), None),
-        Call::Clear => (draw_answer(board.clear(now)), None),
-        Call::Redraw => (draw_answer(board.redraw(now)), None),
-        Call::Align(alignment) => {
-            board.set_alignment(alignment);
-            (Answer::Done, None)
-        }
-        Call::Bar(id, command) => (draw_answer(board.command(id, command, now)), None),
-    }
-}
-
-/// Takes a bar in at a place.
-fn inserted_on<K: Tracks, T: TermLike + Drop>(
-    board: &mut Board<K, T>,
-    at: InsertLocation,
-    candidate: Candidate<K>,
-) -> Result<BarId, Turned<K>>
-    ensures turned { IfErr result (λ t. t.candidate ≡ candidate) }
-    ensures leads { (now : ℕ) → LeadsBy K.means T.view board.old board.new (Insert (place_at at) (entrant_of candidate)) now (given result) }
-{
-    match at {
-        InsertLocation::End => board.add(candidate),
-        InsertLocation::Index(index) => board.insert(index, candidate),
-        InsertLocation::FromBack(count) => board.insert_from_back(count, candidate),
-        InsertLocation::Before(anchor) => board.insert_before(anchor, candidate),
-        InsertLocation::After(anchor) => board.insert_after(anchor, candidate),
-    }
-}
-
-/// The answer of an insertion, and the new bar that was turned away.
-fn insertion<K: Tracks>(taken: Result<BarId, Turned<K>>) -> (Answer, Option<BarState<K>>)
-    ensures answer { answer_of result.0 ≡ given taken }
-    ensures back { result.1 ≡ turned_back taken }
-{
-    match taken {
-        Ok(id) => (Answer::Id(id), None),
-        Err(turned) => (
-            Answer::Refused(turned.refusal),
-            new_bar_in(turned.candidate),
-        ),
-    }
-}
-
-/// The answer of a removal, and the bar that was removed.
-fn removal<K: Tracks>(
-    removed: Result<Option<BarState<K>>, Refusal>,
-) -> (Answer, Option<BarState<K>>)
-    ensures answer { answer_of result.0 ≡ removal removed }
-    ensures back { result.1 ≡ removed_back removed }
-{
-    match removed {
-        Ok(bar) => (Answer::Done, bar),
-        Err(refusal) => (Answer::Refused(refusal), None),
     }
 }

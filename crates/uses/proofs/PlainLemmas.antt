@@ -12,6 +12,8 @@ use Rattle.indicatif_text.specs.Columns.{rows_of, visible, has_wide}
 use Rattle.indicatif_text.specs.declared.refusal.Drawn.{Drawn}
 use Rattle.indicatif_term.specs.Lists.{all_rows, drawn, logged, cleared, shown_rows, lines_of, fitting, grouped}
 use Rattle.indicatif_term.specs.Pictures.{row_text}
+use Rattle.indicatif_term.specs.Terminal.{blank_terminal}
+use Rattle.indicatif_term.specs.Memory.{MemoryTerm}
 use Rattle.indicatif_bar.specs.Machines.{Target, Machine, Leads, done_by, drawn_by}
 use Rattle.indicatif_text.proofs.PrintedLemmas.{printed_is_plain}
 use Rattle.indicatif_bar.specs.StyleLaws.{IsPlainText}
@@ -31,6 +33,10 @@ second_name = codes "b.txt"
 -- a terminal of 4 rows and 10 columns
 abbrev pub small : Target
 small = record { hidden = false; columns = 10; rows = 4 }
+
+-- such a terminal as it is made
+abbrev pub new_memory : MemoryTerm
+new_memory = record { terminal = blank_terminal 4 10; faults = 0; moves = [] }
 
 module _ {K : Type 0} (m : Tracking K) where
   abbrev pub machine : Machine (BoardState (BarRecord K)) (Call (BarRecord K) (Command K)) Answer

@@ -1,5 +1,6 @@
 //! Small callers of the libraries, each proved from their public contracts alone: that these say enough.
 //!
+//! - `answers`: exact answers of a bar or a board that was lent.
 //! - `texts`: a line's rows, and an amount as text.
 //! - `drawings`: what a terminal shows after one drawing.
 //! - `runs`: what a terminal shows after a list of calls of a bar.
@@ -13,6 +14,7 @@
 //! - `warnings`: that a warning on a board is one log of its line.
 #![tactic(auto)]
 
+pub mod answers;
 pub mod boards;
 pub mod drawings;
 pub mod fronts;

@@ -4,7 +4,7 @@ use Rattle.indicatif_term.specs.Screen.{blank_screen}
 use Rattle.indicatif_term.specs.Terminal.{blank_terminal}
 use Rattle.indicatif_term.specs.Pictures.{picture_text}
 use Rattle.indicatif_term.specs.Targets.{term_of, limiter_of}
-use Rattle.indicatif_term.specs.Memory.{MemoryTerm, view_of}
+use Rattle.indicatif_term.specs.Memory.{view_of}
 use Rattle.indicatif_bar.specs.Machines.{Leads, target_of}
 use Rattle.indicatif_bar.specs.Runs.{Runs, CallMade}
 use Rattle.indicatif_bar.specs.Trackers.{writes_nothing}
@@ -12,12 +12,8 @@ use Rattle.indicatif_board.specs.Boards.{Log, Drew, opening_board}
 use Rattle.indicatif_board.specs.Multi.{IsIn, known}
 use Rattle.indicatif_board.specs.PlainBoardLaws.{IsPlainMember}
 use Rattle.uses.proofs.PictureLemmas.{state_told}
-use Rattle.uses.proofs.PlainLemmas.{first_name, second_name, small, machine, names_read, name_logs, logs_plain, nothing_plain}
+use Rattle.uses.proofs.PlainLemmas.{first_name, second_name, small, new_memory, machine, names_read, name_logs, logs_plain, nothing_plain}
 use Rattle.uses.proofs.plain.names_logged.Goals as goal
-
--- the terminal as it is made
-abbrev new_memory : MemoryTerm
-new_memory = record { terminal = blank_terminal 4 10; faults = 0; moves = [] }
 
 pub returns-in-Some : goal.returns-in-Some
 returns-in-Some c =

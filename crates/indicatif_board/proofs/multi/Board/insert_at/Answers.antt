@@ -3,7 +3,12 @@ use Rattle.indicatif_board.specs.declared.calls.Candidate.TheVariants.{New as Ne
 use Rattle.indicatif_board.specs.Boards.{taken_in}
 use Rattle.indicatif_board.specs.Multi.{IsIn}
 use Rattle.indicatif_board.proofs.BoardCallLemmas.{new_leads, new_refused}
+use Rattle.indicatif_board.proofs.BarRecordLemmas.{has_record}
 use Rattle.indicatif_board.proofs.multi.Board.insert_at.Goals as goal
+
+pub returns-in-Ok-clause-not_member : goal.returns-in-Ok-clause-not_member
+returns-in-Ok-clause-not_member g c =
+    rw c.in-Member.is (λ absent. absurd (has_record c.args.self.now.shown c.in-Member.id.number c.in-Ok.field-0 c.in-Ok.ensures.own absent.1))
 
 pub returns-in-Ok-take_in-clause-inserted : goal.returns-in-Ok-take_in-clause-inserted
 unfolding IsIn

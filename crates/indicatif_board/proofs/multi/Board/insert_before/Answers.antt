@@ -7,7 +7,7 @@ use Rattle.indicatif_board.specs.Boards.{Before, Insert, or_refused, inserted, b
 use Rattle.indicatif_board.specs.Calls.{entrant_of, given}
 use Rattle.indicatif_board.specs.Multi.{IsIn, known}
 use Rattle.indicatif_board.proofs.BoardCallLemmas.{made_by_insertion, made_turned_away, turned_quietly}
-use Rattle.indicatif_board.proofs.BarRecordLemmas.{none_taken, none_seated}
+use Rattle.indicatif_board.proofs.BarRecordLemmas.{has_record, none_taken, none_seated}
 use Rattle.indicatif_board.proofs.multi.Board.insert_before.Goals as goal
 
 pub returns-clause-leads : goal.returns-clause-leads
@@ -41,3 +41,6 @@ returns-in-Err-clause-records g c = none_taken (entrant_of c.args.candidate) c.i
 
 pub returns-in-Err-clause-slot : goal.returns-in-Err-clause-slot
 returns-in-Err-clause-slot g c = none_seated (entrant_of c.args.candidate) c.in-Err.refusal c.args.self.now
+
+pub returns-clause-not_member : goal.returns-clause-not_member
+returns-clause-not_member g c = λ absent. absurd (has_record c.args.self.now.shown c.args.anchor.number c.in-Ok.at c.in-Ok.ensures.own absent.1)

@@ -1,16 +1,16 @@
 use Rattle.indicatif_board.proofs.multi.Board.insert_by.Goals as goal
 
 pub returns-in-End-clause-leads : goal.returns-in-End-clause-leads
-returns-in-End-clause-leads g c = λ now. rw (c.in-End.is, c.insertion_answer.ensures) (c.add.ensures.leads now)
+returns-in-End-clause-leads g c = λ now. rw c.in-End.is (c.add.ensures.leads now)
 
 pub returns-in-Index-clause-leads : goal.returns-in-Index-clause-leads
-returns-in-Index-clause-leads g c = λ now. rw (c.in-Index.is, c.insertion_answer-in-Index.ensures) (c.insert.ensures.leads now)
+returns-in-Index-clause-leads g c = λ now. rw c.in-Index.is (c.insert.ensures.leads now)
 
 pub returns-in-FromBack-clause-leads : goal.returns-in-FromBack-clause-leads
-returns-in-FromBack-clause-leads g c = λ now. rw (c.in-FromBack.is, c.insertion_answer-in-FromBack.ensures) (c.insert_from_back.ensures.leads now)
+returns-in-FromBack-clause-leads g c = λ now. rw c.in-FromBack.is (c.insert_from_back.ensures.leads now)
 
 pub returns-in-Before-clause-leads : goal.returns-in-Before-clause-leads
-returns-in-Before-clause-leads g c = λ now. rw (c.in-Before.is, c.insertion_answer-in-Before.ensures) (c.insert_before.ensures.leads now)
+returns-in-Before-clause-leads g c = λ now. rw c.in-Before.is (c.insert_before.ensures.leads now)
 
 pub returns-in-After-clause-leads : goal.returns-in-After-clause-leads
-returns-in-After-clause-leads g c = λ now. rw (c.in-After.is, c.insertion_answer-in-After.ensures) (c.insert_after.ensures.leads now)
+returns-in-After-clause-leads g c = λ now. rw c.in-After.is (c.insert_after.ensures.leads now)

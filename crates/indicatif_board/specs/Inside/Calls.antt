@@ -1,4 +1,4 @@
--- The bar that a recorded board hands back, by what its board answered.
+-- The bar that a call hands back, by what its board answered.
 use Rattle.std.specs.Prelude.{Option, Some, None, Result, Ok, Err}
 use Rattle.indicatif_text.specs.declared.refusal.Refusal.{Refusal}
 use Rattle.indicatif_bar.specs.Commands.{BarRecord}

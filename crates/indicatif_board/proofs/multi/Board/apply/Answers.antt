@@ -4,13 +4,19 @@ use Rattle.indicatif_board.specs.Multi.{LeadsBy}
 use Rattle.indicatif_board.specs.Multi.{record_at, RecordObeys}
 use Rattle.indicatif_bar.specs.Commands.{command_of}
 use Rattle.indicatif_board.specs.BoardValues.{id_of}
-use Rattle.indicatif_board.proofs.multi.Board.call.Goals as goal
+use Rattle.indicatif_board.proofs.RecordLemmas.{removed_is_back}
+use Rattle.indicatif_board.proofs.multi.Board.apply.Goals as goal
 
 pub returns-in-Insert-clause-leads : goal.returns-in-Insert-clause-leads
-returns-in-Insert-clause-leads g c = rw c.in-Insert.is (c.insert_by.ensures.leads c.args.now)
+returns-in-Insert-clause-leads g c = rw (c.in-Insert.is, c.insertion_answer.ensures.answer) (c.insert_by.ensures.leads c.args.now)
 
 pub returns-in-Remove-clause-leads : goal.returns-in-Remove-clause-leads
-returns-in-Remove-clause-leads g c = rw (c.in-Remove.is, c.removal_answer.ensures) (c.remove.ensures.leads c.args.now)
+returns-in-Remove-clause-leads g c = rw (c.in-Remove.is, c.removal_answer.ensures.answer) (c.remove.ensures.leads c.args.now)
+
+pub returns-in-Remove-clause-back : goal.returns-in-Remove-clause-back
+returns-in-Remove-clause-back g c = λ mark s other inside.
+    rw (c.in-Remove.is, c.removal_answer.ensures.answer)
+    (c.removal_answer.ensures.back ∙ removed_is_back c.remove.result (id_of c.in-Remove.id) other s.members (c.remove.ensures.bar mark s other inside))
 
 pub returns-in-Drop-clause-leads : goal.returns-in-Drop-clause-leads
 returns-in-Drop-clause-leads g c = rw (c.in-Drop.is, c.draw_answer.ensures) c.drop_bar.ensures.leads
@@ -29,7 +35,7 @@ pub returns-in-Align-clause-leads : goal.returns-in-Align-clause-leads
 returns-in-Align-clause-leads g c = rw c.in-Align.is (c.set_alignment.ensures.leads c.args.now)
 
 pub returns-in-Insert-clause-records : goal.returns-in-Insert-clause-records
-returns-in-Insert-clause-records g c = rw c.in-Insert.is c.insert_by.ensures.records
+returns-in-Insert-clause-records g c = rw (c.in-Insert.is, c.insertion_answer.ensures.answer) c.insert_by.ensures.records
 
 pub returns-in-Remove-clause-records : goal.returns-in-Remove-clause-records
 returns-in-Remove-clause-records g c =
