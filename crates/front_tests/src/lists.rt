@@ -1,6 +1,6 @@
-//! Lists, block by block.
+//! Lists in threads: the blocks that a bar goes on by, and what a bar that is shared shows within one.
 use crate::stepped::bar_at;
-use indicatif::ParallelProgressIterator;
+use indicatif::{Drawn, Moves, ParallelProgressIterator, Refusal};
 use std::alloc::{AllocError, Global};
 use std::sync::atomic::{AtomicU64, Ordering};
 use std::test::Fail;
@@ -164,5 +164,100 @@ fn each_item_is_met_once(rt: HostRuntime) -> Result<(), Fail> {
     assert_eq!(rt; answer, Ok(()));
     assert!(rt; bar.steps.as_slice() == [4096, 4096, 1808].as_slice());
     assert!(rt; are_met_once(met.as_slice()));
+    Ok(())
+}
+
+/// A bar that may stop within a block, and tells the threads where it stands.
+#[derive(Drop)]
+struct Telling<'a> {
+    place: &'a AtomicU64,
+    steps: Vec<u64>,
+}
+
+impl Moves for Telling<'_> {
+    fn advance(&mut self, n: u64) -> Result<Drawn, Refusal> {
+        self.steps.push(n)?;
+        self.place.fetch_add(n, Ordering::SeqCst);
+        Ok(Drawn::Limited)
+    }
+
+    fn place(&mut self, place: u64) -> Result<Drawn, Refusal> {
+        self.place.store(place, Ordering::SeqCst);
+        Ok(Drawn::Limited)
+    }
+
+    fn finish(&mut self) -> Result<Drawn, Refusal> {
+        Ok(Drawn::Limited)
+    }
+
+    fn stops_within_blocks(&self) -> bool {
+        true
+    }
+
+    fn position(&self) -> u64 {
+        self.place.load(Ordering::SeqCst)
+    }
+
+    fn finished(&self) -> bool {
+        false
+    }
+}
+
+/// Whether a bar that made these steps stood at each of these places, the last of them in the end.
+fn stood_at(steps: &[u64], places: &[u64]) -> bool {
+    let mut position: u64 = 0;
+    let mut passed = 0usize;
+    for step in steps {
+        position = position.wrapping_add(*step);
+        if places.get(passed) == Some(&position) {
+            passed = passed.saturating_add(1);
+        }
+    }
+    passed == places.len() && places.last() == Some(&position)
+}
+
+/// Smaller steps add up, and each block's end is one of them.
+#[test]
+fn a_bar_that_stops_within_blocks_stops_behind_each(rt: HostRuntime) -> Result<(), Fail> {
+    let items = numbers(rt.alloc(), 10_000)?;
+    let place = AtomicU64::new(0);
+    let bar = Telling {
+        place: &place,
+        steps: Vec::new(rt.alloc()),
+    };
+    let list = items.as_slice().progress_with(bar);
+    let (made, bar) = list.map_collect(&rt, rt.alloc(), |x: &u32| *x);
+    assert!(rt; made? == items);
+    assert!(rt; stood_at(bar.steps.as_slice(), &[4096, 8192, 10_000]));
+    assert!(rt; bar.steps.len() > 3);
+    Ok(())
+}
+
+/// Whether the bar moves before so many turns are over.
+fn sees_a_move(place: &AtomicU64) -> bool {
+    for _ in 0..TURNS {
+        if place.load(Ordering::SeqCst) > 0 {
+            return true;
+        }
+    }
+    false
+}
+
+/// Two items are one block. The second isn't done until the bar has moved: it moves while a thread works, within the block.
+#[test]
+fn a_bar_moves_within_a_block(rt: HostRuntime) -> Result<(), Fail> {
+    let items = [0usize, 1];
+    let place = AtomicU64::new(0);
+    let bar = Telling {
+        place: &place,
+        steps: Vec::new(rt.alloc()),
+    };
+    let list = items.as_slice().progress_with(bar);
+    let (made, bar) = list.map_collect(&rt, rt.alloc(), |item: &usize| {
+        *item == 0 || sees_a_move(&place)
+    });
+    let seen = made?.as_slice() == [true, true].as_slice();
+    assert!(rt; seen || !has_processors(&rt));
+    assert_eq!(rt; bar.position(), 2);
     Ok(())
 }

@@ -1,4 +1,5 @@
 -- What only the contracts of private functions cite.
+pub mod Courses
 pub mod Kept
 pub mod Owners
 pub mod Pieces
