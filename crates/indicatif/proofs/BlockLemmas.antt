@@ -1,7 +1,6 @@
 -- A block more: of the bar's advances, and of the list and its results.
 use Rattle.std.proofs.Common.{◌≡◌, ℕ, zero, suc, ◌+◌, ◌≤◌, ◌<◌, List, [], ◌∷◌, ◌++◌, map, take, drop, Option, Result, refl, sym, ap, subst, ◌∙◌, arith}
-use Rattle.std.specs.Prelude.{sum, Ok, Err, IfOk, IsOkAnd, Vec}
-use Rattle.std.specs.declared.alloc.Global.{Global}
+use Rattle.std.specs.Prelude.{sum}
 use Rattle.std.specs.List.{AllByRecursion, AllZip}
 use Rattle.std.proofs.lemmas.List.{map-append}
 use Rattle.rayon.proofs.ListFacts.{AllZip-append, sum-append}
@@ -64,12 +63,3 @@ module _ {X Y : Type 0} (R : X → Y → Type 0) where
   zip_more items part at n ys zs all is whole front back =
       let together = AllZip-append R (take at items) part ys zs front back in
       rw (whole, take_split at n (at + n) items refl, sym is) together
-
-  -- the answers of the front, and behind them those of others, if there are any
-  pub zip_joined : {E F : Type 0} (items front back : List X) (mine : List Y) (theirs : Result (Vec Y Global) E) (all : Result (Vec Y Global) F) → items ≡ front ++ back
-      → AllZip R front mine → IfOk theirs (λ others. AllZip R back others.items)
-      → IfOk all (λ made. IsOkAnd theirs (λ others. made.items ≡ mine ++ others.items))
-      → IfOk all (λ made. AllZip R items made.items)
-  zip_joined items front back mine theirs (Err e) is first second together = tt
-  zip_joined items front back mine (Err e) (Ok made) is first second together = absurd together
-  zip_joined items front back mine (Ok others) (Ok made) is first second together = zip_both items front back mine others.items made.items is together first second

@@ -1,7 +1,7 @@
 //! Lists that threads work on, with a bar.
 //!
-//! - `part`: how a list is cut for threads; `tally`: how far they are; `course`: how far the bar is (private).
-//! - `answers`: what threads answer at a list's items; `visits`: the same without answers (private).
+//! - `claims`: what threads take of a list, and how far they are; `course`: how far the bar is (private).
+//! - `piece`: answers at a part of a list; `answers`: what threads answer at all its items; `visits`: the same without answers (private).
 ghost use Rattle.std.specs.Prelude.{◌≡◌, ◌≤◌, ℕ, Some, Ok, IfOk, IfErr, OnOk, length};
 ghost use Rattle.std.specs.List.{AllZip};
 ghost use Rattle.std.specs.Fn.{FnReturnsAt};
@@ -11,9 +11,9 @@ ghost use Rattle.indicatif.specs.Owned.{Begins, BeginsPlain};
 ghost use Rattle.indicatif.specs.Parallel.{Blocks};
 
 mod answers;
+mod claims;
 mod course;
-mod part;
-mod tally;
+mod piece;
 mod visits;
 
 use self::answers::map_in_threads;
@@ -123,11 +123,11 @@ impl<'a, T> ParallelProgressIterator for &'a [T] {
     }
 }
 
-/// Each of these works on the list by a thread for each processor, the one that calls among them. The threads are started once, and
-/// each has its own share of the items. The thread that calls has the bar. It advances it behind each block of items that were met,
-/// whichever they are, as it goes on with its own share, and to the end once all are met. A block has 4,096 items; of a list that has
-/// no more, a tenth, and at least one for each processor. A bar that may stop within a block (`Moves::stops_within_blocks`), as one
-/// that is shared may, is advanced by smaller steps too, some hundred in all, so that it shows how far a block is.
+/// Each of these works on the list by a thread for each processor, the one that calls among them. The threads are started once; each
+/// takes the next part of the list that is left, some thousandth of it, until none is. The thread that calls has the bar. Behind each
+/// of its parts it advances it by the blocks that are full of items which were met, whichever they are; at the end by what is left. A
+/// block has 4,096 items; of a list that has no more, a tenth, and at least one for each processor. A bar that may stop within a block
+/// (`Moves::stops_within_blocks`), as one that is shared may, is advanced by what was met, so that it shows how far a block is.
 ///
 /// The bar comes back as it is then; it isn't finished. What a draw answered isn't told: an advance whose draw was refused is an
 /// advance all the same.

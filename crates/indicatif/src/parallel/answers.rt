@@ -1,16 +1,18 @@
 //! What threads answer at the items of a list.
-ghost use Rattle.std.specs.Prelude.{◌≡◌, ◌≤◌, ◌<◌, ◌++◌, [], ℕ, IfOk, IfErr, OnOk, IsOkAnd, length, vec_capacity};
+ghost use Rattle.std.specs.Prelude.{◌≡◌, ◌≤◌, ◌<◌, ◌++◌, [], ℕ, IfOk, IfErr, OnOk, IsOkAnd, length, All};
 ghost use Rattle.std.specs.List.{AllZip};
 ghost use Rattle.std.specs.Fn.{FnReturnsAt};
 ghost use Rattle.std.specs.Thread.{IsSync, IsSend};
 ghost use Rattle.indicatif.specs.Inside.Courses.{GoesOn};
+ghost use Rattle.indicatif.specs.Inside.ListPieces.{IsPiece};
 ghost use Rattle.indicatif.specs.Parallel.{Blocks};
 
 use crate::moves::Moves;
+use crate::parallel::claims::Claims;
 use crate::parallel::course::Course;
-use crate::parallel::part::Part;
-use crate::parallel::tally::{Tally, Untold};
+use crate::parallel::piece::{Piece, in_order};
 use indicatif_text::columns::Refusal;
+use rayon::current_num_threads;
 use std::alloc::{AllocError, Global};
 use std::thread::{Threads, join};
 
@@ -28,129 +30,172 @@ pub fn map_in_threads<R: Threads + Sync, T: Sync, A: Send + Drop, F: Fn(&T) -> A
     ensures memory { IfErr result.0 (λ e. (e ≡ Refusal.Memory) × ((n : ℕ) × (n ≤ length items.now) × Blocks P.stands P.leads bar n result.1)) }
 {
     let course = Course::new(rt, bar, items.len());
-    let (made, mut course) = met_by_all(rt, alloc, items, f, course);
+    let Ok(room) = Vec::with_capacity(alloc, items.len()) else {
+        return (Err(Refusal::Memory), course.bar);
+    };
+    let (pieces, mut course) = pieces_of_all(rt, alloc, items, f, course);
+    let made = whole(alloc, room, items, pieces, f);
     if made.is_ok() {
         course.reach(items.len());
     }
     (made, course.bar)
 }
 
-// The answers at each item, and how far the bar was moved meanwhile.
-fn met_by_all<R: Threads + Sync, T: Sync, A: Send + Drop, F: Fn(&T) -> A + Sync, P: Moves>(
+// The answers at all items, if those of the threads are there.
+fn whole<T, A: Drop, F: Fn(&T) -> A>(
+    alloc: Global,
+    room: Vec<A>,
+    items: &[T],
+    pieces: Result<Vec<Piece<A>>, AllocError>,
+    f: &F,
+) -> Result<Vec<A>, Refusal>
+    requires callable { F.IsAlwaysCallable f.now }
+    requires empty { room.items ≡ [] }
+    requires pieces { IfOk pieces (λ made. All (IsPiece (FnReturnsAt F.Fn f.now) items.now) made.items) }
+    ensures list { IfOk result (λ made. AllZip (FnReturnsAt F.Fn f.now) items.now made.items) }
+    ensures memory { IfErr result (λ e. e ≡ Refusal.Memory) }
+{
+    let made = in_order(alloc, room, items, pieces?, f)?;
+    Ok(made)
+}
+
+// The answers at the parts that each thread took, and how far the bar was moved meanwhile.
+fn pieces_of_all<R: Threads + Sync, T: Sync, A: Send + Drop, F: Fn(&T) -> A + Sync, P: Moves>(
     rt: &R,
     alloc: Global,
     items: &[T],
     f: &F,
     course: Course<P>,
-) -> (Result<Vec<A>, Refusal>, Course<P>)
+) -> (Result<Vec<Piece<A>>, AllocError>, Course<P>)
     requires callable { F.IsAlwaysCallable f.now }
     requires front { course.done ≡ 0 }
-    ensures list { IfOk result.0 (λ made. AllZip (FnReturnsAt F.Fn f.now) items.now made.items) }
-    ensures memory { IfErr result.0 (λ e. e ≡ Refusal.Memory) }
+    ensures pieces { IfOk result.0 (λ made. All (IsPiece (FnReturnsAt F.Fn f.now) items.now) made.items) }
     ensures course { GoesOn P.stands P.leads course.done course.bar result.1.done result.1.bar }
     ensures within { result.1.done ≤ length items.now }
 {
-    let Ok(room) = Vec::with_capacity(alloc, items.len()) else {
-        return (Err(Refusal::Memory), course);
-    };
-    let tally = &Tally::new(items.len());
-    let (own, others) = Part::whole(rt, items).cut(1);
-    let theirs = || -> Result<Vec<A>, AllocError>
-        requires { IsSync R.row × IsSync T.row × IsSync F.row × IsSend A.row × F.IsAlwaysCallable f.now }
-        ensures { IfOk result (λ made. AllZip (FnReturnsAt F.Fn f.entry.now) others.entry.items.now made.items) }
-    { mapped(rt, alloc, others, tally, f) };
-    let mine = move || -> (Vec<A>, Course<P>)
-        requires { F.IsAlwaysCallable f.now × (room.items ≡ []) × (length own.items.now ≤ vec_capacity room) × (course.done ≤ tally.now.items) }
-        ensures { AllZip (FnReturnsAt F.Fn f.entry.now) own.entry.items.now result.0.items × GoesOn P.stands P.leads course.done course.bar result.1.done result.1.bar × (result.1.done ≤ tally.entry.now.items) }
-    { own_answers(room, own.items, tally, f, course) };
-    let (others, (made, course)) = join(rt, theirs, mine);
-    (joined(made, others), course)
+    let claims = &Claims::new(items.len());
+    let others = current_num_threads(rt).min(items.len()).saturating_sub(1);
+    let theirs = || -> Result<Vec<Piece<A>>, AllocError>
+        requires { IsSync R.row × IsSync T.row × IsSync F.row × IsSend A.row × F.IsAlwaysCallable f.now × (claims.now.items ≡ length items.now) }
+        ensures { IfOk result (λ made. All (IsPiece (FnReturnsAt F.Fn f.entry.now) items.entry.now) made.items) }
+    { pieces_of(rt, alloc, items, claims, others, f) };
+    let mine = move || -> (Result<Vec<Piece<A>>, AllocError>, Course<P>)
+        requires { F.IsAlwaysCallable f.now × (claims.now.items ≡ length items.now) × (course.done ≤ claims.now.items) }
+        ensures { IfOk result.0 (λ made. All (IsPiece (FnReturnsAt F.Fn f.entry.now) items.entry.now) made.items)
+            × GoesOn P.stands P.leads course.done course.bar result.1.done result.1.bar × (result.1.done ≤ claims.entry.now.items) }
+    { own_pieces(alloc, items, claims, f, course) };
+    let (rest, (made, course)) = join(rt, theirs, mine);
+    (together(made, rest), course)
 }
 
-// One's own answers, and behind them those of others.
-fn joined<A: Drop>(mine: Vec<A>, theirs: Result<Vec<A>, AllocError>) -> Result<Vec<A>, Refusal>
-    ensures items { IfOk result (λ made. IsOkAnd theirs (λ others. made.items ≡ mine.items ++ others.items)) }
-    ensures memory { IfErr result (λ e. e ≡ Refusal.Memory) }
+// The pieces of both.
+fn together<A: Drop>(
+    first: Result<Vec<Piece<A>>, AllocError>,
+    second: Result<Vec<Piece<A>>, AllocError>,
+) -> Result<Vec<Piece<A>>, AllocError>
+    ensures { IfOk result (λ made. IsOkAnd first (λ front. IsOkAnd second (λ back. made.items ≡ front.items ++ back.items))) }
 {
-    let mut made = mine;
-    let mut rest = theirs?;
+    let mut made = first?;
+    let mut rest = second?;
     made.append(&mut rest)?;
     Ok(made)
 }
 
-// The answers at one's own items, put where there is room for them. The bar is moved behind each item of which the threads are told.
-fn own_answers<T, A: Drop, F: Fn(&T) -> A, P: Moves>(
-    room: Vec<A>,
+// The answers at the parts that the thread with the bar took. The bar is moved behind each part.
+fn own_pieces<T, A: Drop, F: Fn(&T) -> A, P: Moves>(
+    alloc: Global,
     items: &[T],
-    tally: &Tally,
+    claims: &Claims,
     f: &F,
     course: Course<P>,
-) -> (Vec<A>, Course<P>)
+) -> (Result<Vec<Piece<A>>, AllocError>, Course<P>)
     requires callable { F.IsAlwaysCallable f.now }
-    requires empty { room.items ≡ [] }
-    requires wide { length items.now ≤ vec_capacity room }
-    requires within { course.done ≤ tally.now.items }
-    ensures list { AllZip (FnReturnsAt F.Fn f.now) items.now result.0.items }
+    requires list { claims.now.items ≡ length items.now }
+    requires within { course.done ≤ claims.now.items }
+    ensures pieces { IfOk result.0 (λ made. All (IsPiece (FnReturnsAt F.Fn f.now) items.now) made.items) }
     ensures course { GoesOn P.stands P.leads course.done course.bar result.1.done result.1.bar }
-    ensures within { result.1.done ≤ tally.now.items }
+    ensures within { result.1.done ≤ claims.now.items }
 {
-    let mut made = room;
     let mut course = course;
-    let mut untold = Untold::new();
-    for item in items {
-        made.push_reserved(f(item));
-        course.keep_up(&mut untold, tally);
-    }
+    let made = kept_up_pieces(alloc, items, claims, f, &mut course);
     (made, course)
 }
 
-// The answers at items, by so many threads.
-#[cycle(halves)]
-fn mapped<R: Threads + Sync, T: Sync, A: Send + Drop, F: Fn(&T) -> A + Sync>(
-    rt: &R,
-    alloc: Global,
-    part: Part<'_, T>,
-    tally: &Tally,
-    f: &F,
-) -> Result<Vec<A>, AllocError>
-    requires { F.IsAlwaysCallable f.now }
-    ensures { IfOk result (λ made. AllZip (FnReturnsAt F.Fn f.now) part.entry.items.now made.items) }
-{
-    if part.threads < 2 {
-        return answers_of(alloc, part.items, tally, f);
-    }
-    let half = part.threads / 2;
-    let (front, back) = part.cut(half);
-    let first = move || -> Result<Vec<A>, AllocError>
-        requires { IsSync R.row × IsSync T.row × IsSync F.row × IsSend A.row × F.IsAlwaysCallable f.now }
-        ensures { IfOk result (λ made. AllZip (FnReturnsAt F.Fn f.entry.now) front.entry.items.now made.items) }
-    { mapped(rt, alloc, front, tally, f) };
-    let second = move || -> Result<Vec<A>, AllocError>
-        requires { IsSync R.row × IsSync T.row × IsSync F.row × IsSend A.row × F.IsAlwaysCallable f.now }
-        ensures { IfOk result (λ made. AllZip (FnReturnsAt F.Fn f.entry.now) back.entry.items.now made.items) }
-    { mapped(rt, alloc, back, tally, f) };
-    let (a, b) = join(rt, first, second);
-    let mut made = a?;
-    let mut rest = b?;
-    made.append(&mut rest)?;
-    Ok(made)
-}
-
-// The answers at items, of which the others are told.
-fn answers_of<T, A: Drop, F: Fn(&T) -> A>(
+// The same of a bar that is lent.
+fn kept_up_pieces<T, A: Drop, F: Fn(&T) -> A, P: Moves>(
     alloc: Global,
     items: &[T],
-    tally: &Tally,
+    claims: &Claims,
     f: &F,
-) -> Result<Vec<A>, AllocError>
-    requires { F.IsAlwaysCallable f.now }
-    ensures { IfOk result (λ made. AllZip (FnReturnsAt F.Fn f.now) items.now made.items) }
+    course: &mut Course<P>,
+) -> Result<Vec<Piece<A>>, AllocError>
+    requires callable { F.IsAlwaysCallable f.now }
+    requires list { claims.now.items ≡ length items.now }
+    requires within { course.old.done ≤ claims.now.items }
+    ensures pieces { IfOk result (λ made. All (IsPiece (FnReturnsAt F.Fn f.now) items.now) made.items) }
+    ensures course { GoesOn P.stands P.leads course.old.done course.old.bar course.new.done course.new.bar }
+    ensures within { course.new.done ≤ claims.now.items }
 {
-    let mut made = Vec::with_capacity(alloc, items.len())?;
-    let mut untold = Untold::new();
-    for item in items {
-        made.push_reserved(f(item));
-        untold.count(tally);
+    let mut pieces = Vec::new(alloc);
+    for _ in 0..claims.parts() {
+        let Some(part) = claims.take() else {
+            break;
+        };
+        pieces.push(Piece::at(alloc, items, &part, f)?)?;
+        course.keep_up(claims, &part);
     }
-    Ok(made)
+    Ok(pieces)
+}
+
+// The answers at the parts that so many other threads took.
+#[cycle(halves)]
+fn pieces_of<R: Threads + Sync, T: Sync, A: Send + Drop, F: Fn(&T) -> A + Sync>(
+    rt: &R,
+    alloc: Global,
+    items: &[T],
+    claims: &Claims,
+    threads: usize,
+    f: &F,
+) -> Result<Vec<Piece<A>>, AllocError>
+    requires callable { F.IsAlwaysCallable f.now }
+    requires list { claims.now.items ≡ length items.now }
+    ensures { IfOk result (λ made. All (IsPiece (FnReturnsAt F.Fn f.now) items.now) made.items) }
+{
+    if threads < 2 {
+        return pieces_of_one(alloc, items, claims, f);
+    }
+    let half = threads / 2;
+    let others = threads - half;
+    let first = move || -> Result<Vec<Piece<A>>, AllocError>
+        requires { IsSync R.row × IsSync T.row × IsSync F.row × IsSend A.row × F.IsAlwaysCallable f.now × (claims.now.items ≡ length items.now) }
+        ensures { IfOk result (λ made. All (IsPiece (FnReturnsAt F.Fn f.entry.now) items.entry.now) made.items) }
+    { pieces_of(rt, alloc, items, claims, half, f) };
+    let second = move || -> Result<Vec<Piece<A>>, AllocError>
+        requires { IsSync R.row × IsSync T.row × IsSync F.row × IsSend A.row × F.IsAlwaysCallable f.now × (claims.now.items ≡ length items.now) }
+        ensures { IfOk result (λ made. All (IsPiece (FnReturnsAt F.Fn f.entry.now) items.entry.now) made.items) }
+    { pieces_of(rt, alloc, items, claims, others, f) };
+    let (a, b) = join(rt, first, second);
+    together(a, b)
+}
+
+// The answers at the parts that one thread took.
+fn pieces_of_one<T, A: Drop, F: Fn(&T) -> A>(
+    alloc: Global,
+    items: &[T],
+    claims: &Claims,
+    f: &F,
+) -> Result<Vec<Piece<A>>, AllocError>
+    requires callable { F.IsAlwaysCallable f.now }
+    requires list { claims.now.items ≡ length items.now }
+    ensures { IfOk result (λ made. All (IsPiece (FnReturnsAt F.Fn f.now) items.now) made.items) }
+{
+    let mut pieces = Vec::new(alloc);
+    for _ in 0..claims.parts() {
+        let Some(part) = claims.take() else {
+            break;
+        };
+        pieces.push(Piece::at(alloc, items, &part, f)?)?;
+        claims.tell(&part);
+    }
+    Ok(pieces)
 }

@@ -4,7 +4,7 @@ ghost use Rattle.indicatif.specs.Inside.Courses.{GoesOn};
 ghost use Rattle.indicatif.specs.Parallel.{block_length};
 
 use crate::moves::Moves;
-use crate::parallel::tally::{Tally, Untold};
+use crate::parallel::claims::{Claims, Part};
 use rayon::current_num_threads;
 use std::thread::Threads;
 
@@ -91,13 +91,12 @@ impl<P: Moves> Course<P> {
         }
     }
 
-    /// An item was met by the thread that has the bar; where the others are told of it, the bar follows what all have met.
-    pub fn keep_up(&mut self, untold: &mut Untold, tally: &Tally)
-        ensures within { self.old.done ≤ tally.now.items → self.new.done ≤ tally.now.items }
+    /// The items of a part were met by the thread that has the bar: the bar follows what all have met.
+    pub fn keep_up(&mut self, claims: &Claims, part: &Part)
+        ensures within { self.old.done ≤ claims.now.items → self.new.done ≤ claims.now.items }
         ensures goes { GoesOn P.stands P.leads self.old.done self.old.bar self.new.done self.new.bar }
     {
-        if untold.count(tally) {
-            self.follow(tally.met());
-        }
+        claims.tell(part);
+        self.follow(claims.met());
     }
 }

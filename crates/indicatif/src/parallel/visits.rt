@@ -5,9 +5,9 @@ ghost use Rattle.indicatif.specs.Inside.Courses.{GoesOn};
 ghost use Rattle.indicatif.specs.Parallel.{Blocks};
 
 use crate::moves::Moves;
+use crate::parallel::claims::Claims;
 use crate::parallel::course::Course;
-use crate::parallel::part::Part;
-use crate::parallel::tally::{Tally, Untold};
+use rayon::current_num_threads;
 use std::thread::{Threads, join};
 
 /// Calls `f` with each item; the bar, which is moved while the threads work.
@@ -38,72 +38,89 @@ fn visited_by_all<R: Threads + Sync, T: Sync, F: Fn(&T) + Sync, P: Moves>(
     ensures course { GoesOn P.stands P.leads course.done course.bar result.done result.bar }
     ensures within { result.done ≤ length items.now }
 {
-    let tally = &Tally::new(items.len());
-    let (own, others) = Part::whole(rt, items).cut(1);
+    let claims = &Claims::new(items.len());
+    let others = current_num_threads(rt).min(items.len()).saturating_sub(1);
     let theirs = ||
-        requires { IsSync R.row × IsSync T.row × IsSync F.row × F.IsAlwaysCallable f.now }
-    { visited(rt, others, tally, f) };
+        requires { IsSync R.row × IsSync T.row × IsSync F.row × F.IsAlwaysCallable f.now × (claims.now.items ≡ length items.now) }
+    { visited(rt, items, claims, others, f) };
     let mine = move || -> Course<P>
-        requires { F.IsAlwaysCallable f.now × (course.done ≤ tally.now.items) }
-        ensures { GoesOn P.stands P.leads course.done course.bar result.done result.bar × (result.done ≤ tally.entry.now.items) }
-    { own_visits(own.items, tally, f, course) };
+        requires { F.IsAlwaysCallable f.now × (claims.now.items ≡ length items.now) × (course.done ≤ claims.now.items) }
+        ensures { GoesOn P.stands P.leads course.done course.bar result.done result.bar × (result.done ≤ claims.entry.now.items) }
+    { own_visits(items, claims, f, course) };
     let (_, course) = join(rt, theirs, mine);
     course
 }
 
-// Calls `f` with each of one's own items. The bar is moved behind each item of which the threads are told.
+// Calls `f` with the items of the parts that the thread with the bar takes. The bar is moved behind each part.
 fn own_visits<T, F: Fn(&T), P: Moves>(
     items: &[T],
-    tally: &Tally,
+    claims: &Claims,
     f: &F,
     course: Course<P>,
 ) -> Course<P>
     requires callable { F.IsAlwaysCallable f.now }
-    requires within { course.done ≤ tally.now.items }
+    requires list { claims.now.items ≡ length items.now }
+    requires within { course.done ≤ claims.now.items }
     ensures course { GoesOn P.stands P.leads course.done course.bar result.done result.bar }
-    ensures within { result.done ≤ tally.now.items }
+    ensures within { result.done ≤ claims.now.items }
 {
     let mut course = course;
-    let mut untold = Untold::new();
-    for item in items {
-        f(item);
-        course.keep_up(&mut untold, tally);
+    for _ in 0..claims.parts() {
+        let Some(part) = claims.take() else {
+            break;
+        };
+        visit(&items[part.start..part.end], f);
+        course.keep_up(claims, &part);
     }
     course
 }
 
-// Calls `f` with each item, by so many threads.
+// Calls `f` with the items of the parts that so many other threads take.
 #[cycle(halves)]
 fn visited<R: Threads + Sync, T: Sync, F: Fn(&T) + Sync>(
     rt: &R,
-    part: Part<'_, T>,
-    tally: &Tally,
+    items: &[T],
+    claims: &Claims,
+    threads: usize,
     f: &F,
 )
-    requires { F.IsAlwaysCallable f.now }
+    requires callable { F.IsAlwaysCallable f.now }
+    requires list { claims.now.items ≡ length items.now }
 {
-    if part.threads < 2 {
-        visit(part.items, tally, f);
+    if threads < 2 {
+        visit_parts(items, claims, f);
         return;
     }
-    let half = part.threads / 2;
-    let (front, back) = part.cut(half);
+    let half = threads / 2;
+    let others = threads - half;
     let first = move ||
-        requires { IsSync R.row × IsSync T.row × IsSync F.row × F.IsAlwaysCallable f.now }
-    { visited(rt, front, tally, f) };
+        requires { IsSync R.row × IsSync T.row × IsSync F.row × F.IsAlwaysCallable f.now × (claims.now.items ≡ length items.now) }
+    { visited(rt, items, claims, half, f) };
     let second = move ||
-        requires { IsSync R.row × IsSync T.row × IsSync F.row × F.IsAlwaysCallable f.now }
-    { visited(rt, back, tally, f) };
+        requires { IsSync R.row × IsSync T.row × IsSync F.row × F.IsAlwaysCallable f.now × (claims.now.items ≡ length items.now) }
+    { visited(rt, items, claims, others, f) };
     join(rt, first, second);
 }
 
-// Calls `f` with items, of which the others are told.
-fn visit<T, F: Fn(&T)>(items: &[T], tally: &Tally, f: &F)
+// Calls `f` with the items of the parts that one thread takes.
+fn visit_parts<T, F: Fn(&T)>(items: &[T], claims: &Claims, f: &F)
+    requires callable { F.IsAlwaysCallable f.now }
+    requires list { claims.now.items ≡ length items.now }
+{
+    for _ in 0..claims.parts() {
+        let Some(part) = claims.take() else {
+            break;
+        };
+        visit(&items[part.start..part.end], f);
+        claims.tell(&part);
+    }
+}
+
+// Calls `f` with items.
+fn visit<T, F: Fn(&T)>(items: &[T], f: &F)
     requires { F.IsAlwaysCallable f.now }
 {
-    let mut untold = Untold::new();
     for item in items {
         f(item);
-        untold.count(tally);
     }
 }
