@@ -1,7 +1,11 @@
 //! Lists in threads: the blocks that a bar goes on by, and what a bar that is shared shows within one.
 use crate::stepped::bar_at;
-use indicatif::{Drawn, Moves, ParallelProgressIterator, Refusal};
+use indicatif::{
+    Drawn, InMemoryTerm, Moves, ParallelProgressIterator, ProgressBar, ProgressDrawTarget, Refusal,
+    Setup, StepClock,
+};
 use std::alloc::{AllocError, Global};
+use std::sync::Wait;
 use std::sync::atomic::{AtomicU64, Ordering};
 use std::test::Fail;
 use std::thread::{Threads, available_parallelism};
@@ -257,6 +261,41 @@ fn a_bar_moves_while_threads_work(rt: HostRuntime) -> Result<(), Fail> {
     };
     let list = items.as_slice().progress_with(bar);
     let (seen, bar) = list.map_collect(&rt, rt.alloc(), |_item: &u8| sees_a_move(&place));
+    assert!(rt; seen?.contains(&true));
+    assert_eq!(rt; bar.position(), 40);
+    Ok(())
+}
+
+type Shared<R> = ProgressBar<InMemoryTerm, StepClock, R>;
+
+/// A shared bar of 40 on no terminal.
+fn shared_bar<R: Wait + Clone + Drop>(rt: R, alloc: Global) -> Result<Shared<R>, Refusal> {
+    let setup = Setup {
+        target: ProgressDrawTarget::hidden(),
+        clock: StepClock { next: 0, step: 1 },
+    };
+    ProgressBar::new(rt, alloc, 40, setup)
+}
+
+/// Whether one who looks at a shared bar so often sees it within a block of four.
+fn sees_within<R: Wait + Clone + Drop>(bar: &Shared<R>) -> bool {
+    for _ in 0..LOOKS / 10 {
+        if bar.position() % 4 != 0 {
+            return true;
+        }
+    }
+    false
+}
+
+/// A shared bar moves while threads work, by less than a block too. (Forty items are blocks of four, or of more where there are more
+/// processors.)
+#[test]
+fn a_shared_bar_moves_within_a_block(rt: HostRuntime) -> Result<(), Fail> {
+    let items = [0u8; 40];
+    let bar = shared_bar(rt, rt.alloc())?;
+    let owner = bar.clone()?;
+    let list = items.as_slice().progress_with(owner);
+    let (seen, _owner) = list.map_collect(&rt, rt.alloc(), |_item: &u8| sees_within(&bar));
     assert!(rt; seen?.contains(&true));
     assert_eq!(rt; bar.position(), 40);
     Ok(())
