@@ -1,7 +1,11 @@
-//! Lists, block by block.
+//! Lists in threads: the blocks that a bar goes on by, and what a bar that is shared shows within one.
 use crate::stepped::bar_at;
-use indicatif::ParallelProgressIterator;
+use indicatif::{
+    Drawn, InMemoryTerm, Moves, ParallelProgressIterator, ProgressBar, ProgressDrawTarget, Refusal,
+    Setup, StepClock,
+};
 use std::alloc::{AllocError, Global};
+use std::sync::Wait;
 use std::sync::atomic::{AtomicU64, Ordering};
 use std::test::Fail;
 use std::thread::{Threads, available_parallelism};
@@ -164,5 +168,135 @@ fn each_item_is_met_once(rt: HostRuntime) -> Result<(), Fail> {
     assert_eq!(rt; answer, Ok(()));
     assert!(rt; bar.steps.as_slice() == [4096, 4096, 1808].as_slice());
     assert!(rt; are_met_once(met.as_slice()));
+    Ok(())
+}
+
+/// A bar that may stop within a block, and tells the threads where it stands.
+#[derive(Drop)]
+struct Telling<'a> {
+    place: &'a AtomicU64,
+    steps: Vec<u64>,
+}
+
+impl Moves for Telling<'_> {
+    fn advance(&mut self, n: u64) -> Result<Drawn, Refusal> {
+        self.steps.push(n)?;
+        self.place.fetch_add(n, Ordering::SeqCst);
+        Ok(Drawn::Limited)
+    }
+
+    fn place(&mut self, place: u64) -> Result<Drawn, Refusal> {
+        self.place.store(place, Ordering::SeqCst);
+        Ok(Drawn::Limited)
+    }
+
+    fn finish(&mut self) -> Result<Drawn, Refusal> {
+        Ok(Drawn::Limited)
+    }
+
+    fn stops_within_blocks(&self) -> bool {
+        true
+    }
+
+    fn position(&self) -> u64 {
+        self.place.load(Ordering::SeqCst)
+    }
+
+    fn finished(&self) -> bool {
+        false
+    }
+}
+
+/// Whether a bar that made these steps stood at each of these places, the last of them in the end.
+fn stood_at(steps: &[u64], places: &[u64]) -> bool {
+    let mut position: u64 = 0;
+    let mut passed = 0usize;
+    for step in steps {
+        position = position.wrapping_add(*step);
+        if places.get(passed) == Some(&position) {
+            passed = passed.saturating_add(1);
+        }
+    }
+    passed == places.len() && places.last() == Some(&position)
+}
+
+/// Smaller steps add up, and each block's end is one of them.
+#[test]
+fn a_bar_that_stops_within_blocks_stops_behind_each(rt: HostRuntime) -> Result<(), Fail> {
+    let items = numbers(rt.alloc(), 10_000)?;
+    let place = AtomicU64::new(0);
+    let bar = Telling {
+        place: &place,
+        steps: Vec::new(rt.alloc()),
+    };
+    let list = items.as_slice().progress_with(bar);
+    let (made, bar) = list.map_collect(&rt, rt.alloc(), |x: &u32| *x);
+    assert!(rt; made? == items);
+    assert!(rt; stood_at(bar.steps.as_slice(), &[4096, 8192, 10_000]));
+    assert!(rt; bar.steps.len() > 3);
+    Ok(())
+}
+
+/// How often an item of this list looks whether the bar has moved.
+const LOOKS: u32 = 200_000;
+
+/// Whether the bar moves before so many looks are over.
+fn sees_a_move(place: &AtomicU64) -> bool {
+    for _ in 0..LOOKS {
+        if place.load(Ordering::SeqCst) > 0 {
+            return true;
+        }
+    }
+    false
+}
+
+/// Forty items that look whether the bar has moved. One of them sees it: the bar moves while others are worked on.
+#[test]
+fn a_bar_moves_while_threads_work(rt: HostRuntime) -> Result<(), Fail> {
+    let items = [0u8; 40];
+    let place = AtomicU64::new(0);
+    let bar = Telling {
+        place: &place,
+        steps: Vec::new(rt.alloc()),
+    };
+    let list = items.as_slice().progress_with(bar);
+    let (seen, bar) = list.map_collect(&rt, rt.alloc(), |_item: &u8| sees_a_move(&place));
+    assert!(rt; seen?.contains(&true));
+    assert_eq!(rt; bar.position(), 40);
+    Ok(())
+}
+
+type Shared<R> = ProgressBar<InMemoryTerm, StepClock, R>;
+
+/// A shared bar of 40 on no terminal.
+fn shared_bar<R: Wait + Clone + Drop>(rt: R, alloc: Global) -> Result<Shared<R>, Refusal> {
+    let setup = Setup {
+        target: ProgressDrawTarget::hidden(),
+        clock: StepClock { next: 0, step: 1 },
+    };
+    ProgressBar::new(rt, alloc, 40, setup)
+}
+
+/// Whether one who looks at a shared bar so often sees it within a block of four.
+fn sees_within<R: Wait + Clone + Drop>(bar: &Shared<R>) -> bool {
+    for _ in 0..LOOKS / 10 {
+        if bar.position() % 4 != 0 {
+            return true;
+        }
+    }
+    false
+}
+
+/// A shared bar moves while threads work, by less than a block too. (Forty items are blocks of four, or of more where there are more
+/// processors.)
+#[test]
+fn a_shared_bar_moves_within_a_block(rt: HostRuntime) -> Result<(), Fail> {
+    let items = [0u8; 40];
+    let bar = shared_bar(rt, rt.alloc())?;
+    let owner = bar.clone()?;
+    let list = items.as_slice().progress_with(owner);
+    let (seen, _owner) = list.map_collect(&rt, rt.alloc(), |_item: &u8| sees_within(&bar));
+    assert!(rt; seen?.contains(&true));
+    assert_eq!(rt; bar.position(), 40);
     Ok(())
 }

@@ -53,6 +53,11 @@ module _ {X : Type 0} where
       ap (λ j. take j (x ∷ xs)) f ∙ ap (λ l. x ∷ l) (take_split m n (m + n) xs refl)
 
 module _ {X Y : Type 0} (R : X → Y → Type 0) where
+  -- the answers at items that were cut in two
+  pub zip_both : (items front back : List X) (ys zs all : List Y) → items ≡ front ++ back → all ≡ ys ++ zs
+      → AllZip R front ys → AllZip R back zs → AllZip R items all
+  zip_both items front back ys zs all is whole first second = rw (is, whole) (AllZip-append R front back ys zs first second)
+
   pub zip_more : (items part : List X) (at n : ℕ) (ys zs all : List Y) → part ≡ take n (drop at items) → all ≡ ys ++ zs
       → AllZip R (take at items) ys → AllZip R part zs → AllZip R (take (at + n) items) all
   zip_more items part at n ys zs all is whole front back =

@@ -5,6 +5,7 @@ mod LoopLemmas
 mod OwnedLemmas
 mod BuilderLemmas
 mod BlockLemmas
+mod PieceLemmas
 mod SumLemmas
 mod WorkerLemmas
 mod WaveLemmas

@@ -49,6 +49,12 @@ pub trait Moves: Drop {
         ensures led { leads self.old FinishAsStored result self.new }
         ensures goes { Goes (stands self.old) FinishAsStored result (stands self.new) };
 
+    /// Whether threads that work on a list (`map_collect`, `for_each`) may move it within a block, by smaller steps; how many these are
+    /// is told nobody, since it depends on how the threads go on. Where they may not, it moves behind each block alone.
+    fn stops_within_blocks(&self) -> bool {
+        false
+    }
+
     /// The position.
     fn position(&self) -> u64
         ensures { IfSome (stands self.now) (λ bar. result ≡ bar.position) };

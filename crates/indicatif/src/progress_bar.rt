@@ -870,6 +870,11 @@ impl<T: TermLike + Drop, C: Clock + Drop, R: Wait + Clone + Drop, K: Tracks> Mov
         self.finish_using_style()
     }
 
+    /// Its position isn't one that a contract could tell.
+    fn stops_within_blocks(&self) -> bool {
+        true
+    }
+
     fn position(&self) -> u64 {
         ProgressBar::position(self)
     }

@@ -7,10 +7,9 @@ use std::thread::sleep;
 use std::time::Duration;
 
 pub const TEMPLATE: &str =
-    "{spinner:.green} [{elapsed_precise}] [{wide_bar:.cyan/blue}] {bytes}/{total_bytes} ({eta})";
+    "{spinner:.green} [{elapsed_precise}] [{wide_bar:.cyan/blue}] {bytes}/{total_bytes} ({bytes_per_sec}, {eta})";
 
 const TOTAL: u64 = 23_123_123;
-
 /// The bytes of a piece, but for the last one, and how many pieces there are.
 const PIECE: u64 = 223_211;
 

@@ -1,0 +1,74 @@
+//! What threads take of a list, and how far they are with it.
+ghost use Rattle.std.specs.Prelude.{◌≡◌, ◌≤◌, ◌<◌, IfSome};
+
+use std::sync::atomic::{AtomicU64, Ordering};
+
+/// How many parts a long list has.
+const PARTS: usize = 1024;
+
+/// A part of a list: the items from one place to another.
+#[derive(Drop)]
+pub struct Part {
+    /// The place of its first item.
+    pub start: usize,
+    /// The place behind its last item.
+    pub end: usize,
+    ghost ordered: { start ≤ end },
+}
+
+/// A list of which each thread takes the next part that is left. Which one that is, is told by no contract.
+#[derive(Drop)]
+pub struct Claims {
+    /// The items of the list.
+    pub items: usize,
+    /// The items of each part but the last.
+    each: usize,
+    taken: AtomicU64,
+    met: AtomicU64,
+    ghost some: { 0 < each },
+}
+
+impl Claims {
+    /// Of a list of so many items, of which nothing is taken.
+    pub fn new(items: usize) -> Claims
+        ensures { result.items ≡ items }
+    {
+        Claims {
+            items,
+            each: items / PARTS + 1,
+            taken: AtomicU64::new(0),
+            met: AtomicU64::new(0),
+        }
+    }
+
+    /// How many parts there are.
+    pub fn parts(&self) -> usize {
+        self.items.div_ceil(self.each)
+    }
+
+    /// The next part, if one is left.
+    pub fn take(&self) -> Option<Part>
+        ensures { IfSome result (λ part. part.end ≤ self.now.items) }
+    {
+        let number = self.taken.fetch_add(1, Ordering::SeqCst) as usize;
+        let start = number.saturating_mul(self.each);
+        if start >= self.items {
+            return None;
+        }
+        let end = start.saturating_add(self.each).min(self.items);
+        Some(Part { start, end })
+    }
+
+    /// The items of this part were met.
+    pub fn tell(&self, part: &Part) {
+        let count = part.end - part.start;
+        self.met.fetch_add(count as u64, Ordering::SeqCst);
+    }
+
+    /// How many items were met, as far as the threads have told.
+    pub fn met(&self) -> usize
+        ensures { result ≤ self.now.items }
+    {
+        (self.met.load(Ordering::SeqCst) as usize).min(self.items)
+    }
+}

@@ -1,0 +1,100 @@
+//! Answers at a part of a list, and how they are put in order.
+ghost use Rattle.std.specs.Prelude.{◌≡◌, ◌⊎◌, ◌≤◌, ◌++◌, [], IfOk, All, length, take, drop, ◌-◌};
+ghost use Rattle.std.specs.List.{AllZip};
+ghost use Rattle.std.specs.Fn.{FnReturnsAt};
+ghost use Rattle.indicatif.specs.Inside.ListPieces.{IsPiece};
+
+use crate::parallel::claims::Part;
+use std::alloc::{AllocError, Global};
+
+/// The answers at a part of a list.
+#[derive(Drop)]
+pub struct Piece<A> {
+    /// The place of the part's first item.
+    pub start: usize,
+    /// The place behind its last item.
+    pub end: usize,
+    /// The answers at its items.
+    pub answers: Vec<A>,
+}
+
+impl<A: Drop> Piece<A> {
+    /// The answers of `f` at a part.
+    pub fn at<T, F: Fn(&T) -> A>(
+        alloc: Global,
+        items: &[T],
+        part: &Part,
+        f: &F,
+    ) -> Result<Piece<A>, AllocError>
+        requires callable { F.IsAlwaysCallable f.now }
+        requires within { part.now.end ≤ length items.now }
+        ensures { IfOk result (λ piece. IsPiece (FnReturnsAt F.Fn f.now) items.now piece) }
+    {
+        let answers = answers_of(alloc, &items[part.start..part.end], f)?;
+        Ok(Piece {
+            start: part.start,
+            end: part.end,
+            answers,
+        })
+    }
+
+    /// Puts the answers behind those at all items before this place, if it is theirs; the place behind.
+    fn put_behind(self, made: &mut Vec<A>, place: usize) -> Result<usize, AllocError>
+        ensures { IfOk result (λ end. ((end ≡ place) × (made.new.items ≡ made.old.items))
+            ⊎ ((self.start ≡ place) × (self.end ≡ end) × (made.new.items ≡ made.old.items ++ self.answers.items))) }
+    {
+        let Piece {
+            start,
+            end,
+            answers,
+        } = self;
+        if start != place {
+            return Ok(place);
+        }
+        let mut answers = answers;
+        made.append(&mut answers)?;
+        Ok(end)
+    }
+}
+
+/// The answers of `f` at items.
+fn answers_of<T, A: Drop, F: Fn(&T) -> A>(
+    alloc: Global,
+    items: &[T],
+    f: &F,
+) -> Result<Vec<A>, AllocError>
+    requires { F.IsAlwaysCallable f.now }
+    ensures { IfOk result (λ made. AllZip (FnReturnsAt F.Fn f.now) items.now made.items) }
+{
+    let mut made = Vec::with_capacity(alloc, items.len())?;
+    for item in items {
+        made.push_reserved(f(item));
+    }
+    Ok(made)
+}
+
+/// The answers of pieces in the list's order, put where there is room for them. Threads that took each part of the list once have left
+/// none out. What is left out all the same at the end is found here.
+pub fn in_order<T, A: Drop, F: Fn(&T) -> A>(
+    alloc: Global,
+    room: Vec<A>,
+    items: &[T],
+    pieces: Vec<Piece<A>>,
+    f: &F,
+) -> Result<Vec<A>, AllocError>
+    requires callable { F.IsAlwaysCallable f.now }
+    requires empty { room.items ≡ [] }
+    requires pieces { All (IsPiece (FnReturnsAt F.Fn f.now) items.now) pieces.items }
+    ensures { IfOk result (λ made. AllZip (FnReturnsAt F.Fn f.now) items.now made.items) }
+{
+    let mut pieces = pieces;
+    pieces.sort_unstable_by_key(|piece: &Piece<A>| -> usize { piece.start });
+    let mut made = room;
+    let mut place = 0;
+    for piece in pieces {
+        place = piece.put_behind(&mut made, place)?;
+    }
+    let mut rest = answers_of(alloc, &items[place..], f)?;
+    made.append(&mut rest)?;
+    Ok(made)
+}
