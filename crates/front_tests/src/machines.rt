@@ -1,11 +1,11 @@
 //! What is asked of the machine: its clock, and the terminals behind the program's own streams or behind a writer.
 use indicatif::machine::{
-    MachineClock, TerminalSetup, facts_of, on_stderr, on_stdout, style_on_stderr, told_setup,
-    wants_colors,
+    MachineClock, StderrBoard, TerminalSetup, facts_of, on_stderr, on_stdout, on_stream,
+    style_on_stderr, told_setup, wants_colors,
 };
 use indicatif::{
-    BarState, Clock, Drawn, Facts, LoneBar, Moment, NoTracker, ProgressDrawTarget, ProgressStyle,
-    Refusal, Setup, Term, TermLike,
+    BarState, Clock, Drawn, Facts, LoneBar, Moment, MultiProgress, NoTracker, ProgressDrawTarget,
+    ProgressStyle, Refusal, Setup, Term, TermLike,
 };
 use std::alloc::Global;
 use std::cell::Cell;
@@ -89,7 +89,15 @@ fn the_programs_own_streams(rt: HostRuntime) -> Result<(), Fail> {
     assert!(rt; is_hidden(on_stdout(&rt))? == out);
     let err = is_hidden_by(facts_of(&rt, &rt.stderr()))?;
     assert!(rt; is_hidden(on_stderr(&rt))? == err);
+    let setup = on_stream(&rt, rt.stderr())?;
+    assert!(rt; setup.target.is_hidden() == err);
+    assert!(rt; board_on_stderr(rt)?.is_hidden() == err);
     Ok(())
+}
+
+/// A board on standard error.
+fn board_on_stderr(rt: HostRuntime) -> Result<StderrBoard<HostRuntime>, Refusal> {
+    MultiProgress::new(rt, rt.alloc(), on_stderr(&rt)?, 1)
 }
 
 /// Whether a bar with the message `x` has this one line in a style.

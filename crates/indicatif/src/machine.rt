@@ -218,6 +218,12 @@ pub type StderrBar<R, K = NoTracker> = ProgressBar<
 >;
 
 /// A shared board there.
+///
+/// ```
+/// fn board_on_stderr(rt: HostRuntime) -> Result<StderrBoard<HostRuntime>, Refusal> {
+///     MultiProgress::new(rt, rt.alloc(), on_stderr(&rt)?, 1)
+/// }
+/// ```
 pub type StderrBoard<R, K = NoTracker> = MultiProgress<
     StreamTerm<Stderr>,
     MachineClock<HostRuntime>,
@@ -227,6 +233,10 @@ pub type StderrBoard<R, K = NoTracker> = MultiProgress<
 
 /// What functions over shared bars ask of the runtime, in one word: memory, locks, threads and the time. The one that `main` is
 /// given has it.
+///
+/// ```
+/// fn work<R: Shares>(rt: &R, bar: &StderrBar<R>, steps: u64) -> Result<(), Refusal> { .. } // may lock, sleep and start threads
+/// ```
 pub trait Shares: AllocGlobal
     + Wait
     + Threads
