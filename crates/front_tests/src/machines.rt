@@ -1,7 +1,7 @@
 //! What is asked of the machine: its clock, and the terminals behind the program's own streams or behind a writer.
 use indicatif::machine::{
-    MachineClock, StderrBoard, TerminalSetup, facts_of, on_stderr, on_stdout, on_stream,
-    style_on_stderr, told_setup, wants_colors,
+    MachineClock, Shares, StderrBoard, StreamSetup, TerminalSetup, facts_of, on_stderr, on_stdout,
+    on_stream, style_on_stderr, told_setup, wants_colors,
 };
 use indicatif::{
     BarState, Clock, Drawn, Facts, LoneBar, Moment, MultiProgress, NoTracker, ProgressDrawTarget,
@@ -9,7 +9,7 @@ use indicatif::{
 };
 use std::alloc::Global;
 use std::cell::Cell;
-use std::io::{self, BufWriter, ErrorKind};
+use std::io::{self, BufWriter, ErrorKind, Stderr};
 use std::test::Fail;
 use std::time::{self, Duration};
 
@@ -91,13 +91,14 @@ fn the_programs_own_streams(rt: HostRuntime) -> Result<(), Fail> {
     assert!(rt; is_hidden(on_stderr(&rt))? == err);
     let setup = on_stream(&rt, rt.stderr())?;
     assert!(rt; setup.target.is_hidden() == err);
-    assert!(rt; board_on_stderr(rt)?.is_hidden() == err);
+    let board = board_on(rt, on_stderr(&rt)?)?;
+    assert!(rt; board.is_hidden() == err);
     Ok(())
 }
 
 /// A board on standard error.
-fn board_on_stderr(rt: HostRuntime) -> Result<StderrBoard<HostRuntime>, Refusal> {
-    MultiProgress::new(rt, rt.alloc(), on_stderr(&rt)?, 1)
+fn board_on<R: Shares>(rt: R, setup: StreamSetup<Stderr>) -> Result<StderrBoard<R>, Refusal> {
+    MultiProgress::new(rt, rt.alloc(), setup, 1)
 }
 
 /// Whether a bar with the message `x` has this one line in a style.

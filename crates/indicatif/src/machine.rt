@@ -220,8 +220,8 @@ pub type StderrBar<R, K = NoTracker> = ProgressBar<
 /// A shared board there.
 ///
 /// ```
-/// fn board_on_stderr(rt: HostRuntime) -> Result<StderrBoard<HostRuntime>, Refusal> {
-///     MultiProgress::new(rt, rt.alloc(), on_stderr(&rt)?, 1)
+/// fn board_on<R: Shares>(rt: R, setup: StreamSetup<Stderr>) -> Result<StderrBoard<R>, Refusal> {
+///     MultiProgress::new(rt, rt.alloc(), setup, 1)
 /// }
 /// ```
 pub type StderrBoard<R, K = NoTracker> = MultiProgress<
