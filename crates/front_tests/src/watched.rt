@@ -2,7 +2,7 @@
 use crate::shown::{Bytes, Shown, is_seen, is_written, no_bytes, setup_on};
 use indicatif::{Drawn, MultiProgress, ProgressBar, ProgressStyle, Refusal, StepClock, Term};
 use std::alloc::Global;
-use std::sync::Wait;
+use std::sync::{Arc, Wait};
 use std::test::Fail;
 
 type Board<R> = MultiProgress<Term<Shown<R>>, StepClock, R>;
@@ -40,22 +40,22 @@ fn draws<R: Wait + Copy + Clone + Drop>(bar: &Bar<R>) -> bool {
 /// Whether the board's rows are gone while a closure runs, and it draws.
 fn board_pauses<R: Wait + Copy + Clone + Drop>(
     board: &Board<R>,
-    rt: &R,
+    rt: R,
     alloc: Global,
-    bytes: &Bytes,
+    bytes: Bytes,
 ) -> bool {
-    let (gone, drawn) = board.suspend(|| is_seen(rt, alloc, bytes, "") == Ok(true));
+    let (gone, drawn) = board.suspend(move || is_seen(&rt, alloc, &bytes, "") == Ok(true));
     gone && drawn == Ok(Drawn::Yes)
 }
 
 /// The same by a call of a bar.
 fn bar_pauses<R: Wait + Copy + Clone + Drop>(
     bar: &Bar<R>,
-    rt: &R,
+    rt: R,
     alloc: Global,
-    bytes: &Bytes,
+    bytes: Bytes,
 ) -> bool {
-    let (gone, drawn) = bar.suspend(|| is_seen(rt, alloc, bytes, "") == Ok(true));
+    let (gone, drawn) = bar.suspend(move || is_seen(&rt, alloc, &bytes, "") == Ok(true));
     gone && drawn == Ok(Drawn::Yes)
 }
 
@@ -68,9 +68,9 @@ fn bars_are_taken_back_while_a_closure_runs(rt: HostRuntime) -> Result<(), Fail>
     let other = bar_of(&board, rt.alloc(), "b")?;
     assert!(rt; draws(&one) && draws(&other));
     assert!(rt; is_seen(&rt, rt.alloc(), &bytes, "a\nb") == Ok(true));
-    assert!(rt; board_pauses(&board, &rt, rt.alloc(), &bytes));
+    assert!(rt; board_pauses(&board, rt, rt.alloc(), Arc::try_clone(&bytes)?));
     assert!(rt; is_seen(&rt, rt.alloc(), &bytes, "a\nb") == Ok(true));
-    assert!(rt; bar_pauses(&one, &rt, rt.alloc(), &bytes));
+    assert!(rt; bar_pauses(&one, rt, rt.alloc(), Arc::try_clone(&bytes)?));
     assert!(rt; is_seen(&rt, rt.alloc(), &bytes, "a\nb") == Ok(true));
     Ok(())
 }
@@ -82,7 +82,7 @@ fn a_bar_is_taken_back_while_a_closure_runs(rt: HostRuntime) -> Result<(), Fail>
     let bar: Bar<HostRuntime> = ProgressBar::new(rt, rt.alloc(), 10, setup_on(rt, &bytes, 10)?)?;
     bar.set_style(ProgressStyle::with_template(rt.alloc(), "{pos}/{len}")?)?;
     assert!(rt; draws(&bar));
-    assert!(rt; bar_pauses(&bar, &rt, rt.alloc(), &bytes));
+    assert!(rt; bar_pauses(&bar, rt, rt.alloc(), Arc::try_clone(&bytes)?));
     assert!(rt; is_seen(&rt, rt.alloc(), &bytes, "0/10") == Ok(true));
     Ok(())
 }

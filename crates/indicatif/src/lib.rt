@@ -101,8 +101,8 @@
 //!
 //! What a key says is stated beside it, in `told_text`: a function of the teller, of `p` and of the moment. `p` is the bar's record:
 //! `position`, `len`, `ticks`, `message` and what else it has (docs/DEFINITIONS.md, `Progress`). `decimal` gives a number's digits. A
-//! type that changes when the bar ticks is a `style::ProgressTracker`. `MultiProgress::keyed` makes a board for such bars; a function over bars of any keys asks for
-//! `K: style::Tracks`.
+//! type that changes when the bar ticks is a `style::ProgressTracker`. `MultiProgress::keyed` makes a board for such bars; a function
+//! over bars of any keys asks for `K: style::Tracks`.
 //!
 //! # Several bars
 //!

@@ -302,27 +302,7 @@ pub fn on_stream<R: Env + AllocGlobal + time::Clock + Copy, W: Write + IsTermina
     Ok(Setup { target, clock })
 }
 
-/// The columns that were told, 79 where none were.
-fn columns_by(told: Option<u16>) -> u16
-    ensures { result ≡ columns_by told }
-{
-    match told {
-        Some(columns) => columns,
-        None => COLUMNS - 1,
-    }
-}
-
-/// A terminal that ends its full rows by itself, where its columns were told.
-fn rows_by<T>(told: Option<u16>, term: T) -> OwnRows<T>
-    ensures { result ≡ new_rows term (ends_by told) }
-{
-    match told {
-        Some(_) => OwnRows::left_to_terminal(term),
-        None => OwnRows::new(term),
-    }
-}
-
-/// The same behind any writer, on a terminal of which this is told.
+/// What a bar is made with behind any writer, on a terminal of which this is told.
 ///
 /// ```
 /// let mut facts = facts_of(&rt, &rt.stderr())?;
@@ -342,6 +322,26 @@ pub fn told_setup<W: Write + Drop>(
     let mut clock = MachineClock::new(*rt);
     let target = ProgressDrawTarget::stderr(buffered(rt, writer)?, facts, clock.now());
     Ok(Setup { target, clock })
+}
+
+/// The columns that were told, 79 where none were.
+fn columns_by(told: Option<u16>) -> u16
+    ensures { result ≡ columns_by told }
+{
+    match told {
+        Some(columns) => columns,
+        None => COLUMNS - 1,
+    }
+}
+
+/// A terminal that ends its full rows by itself, where its columns were told.
+fn rows_by<T>(told: Option<u16>, term: T) -> OwnRows<T>
+    ensures { result ≡ new_rows term (ends_by told) }
+{
+    match told {
+        Some(_) => OwnRows::left_to_terminal(term),
+        None => OwnRows::new(term),
+    }
 }
 
 /// A buffer before a writer.
