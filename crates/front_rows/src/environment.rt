@@ -1,12 +1,15 @@
 //! What an environment says of a terminal: `environment VARIABLE=TEXT ..` gives rows, columns, whether the stream is a terminal, and the
-//! kind, in quotes, or `none`; `colours VARIABLE=TEXT ..` whether colours are wanted. A stream that is no terminal has `not` in front.
-use indicatif::Facts;
-use indicatif::machine::{facts_of, wants_colors};
+//! kind, in quotes, or `none`; `colours VARIABLE=TEXT ..` whether colours are wanted; `stream VARIABLE=TEXT ..` rows and columns of what
+//! bars are made with there, and who ends a full row, the `program` or the `terminal`, or `hidden`. A stream that is no terminal has
+//! `not` in front.
+use indicatif::machine::{StreamTerm, facts_of, on_stream, wants_colors};
+use indicatif::{Facts, TermLike};
 use scripts::got::{Bad, Got};
 use scripts::spelling::unescaped_bytes;
 use std::alloc::Global;
 use std::env::{Env, FillError};
-use std::io::IsTerminal;
+use std::io::{self, ErrorKind, IsTerminal, Write};
+use std::time::{Clock, Duration};
 
 /// A program's environment: variables and what they say with escapes, parted by spaces.
 #[derive(Clone, Copy, Drop)]
@@ -55,10 +58,32 @@ impl Env for Told<'_> {
     }
 }
 
-/// A stream that is a terminal, or isn't one.
+/// It tells no time.
+impl Clock for Told<'_> {
+    fn monotonic(&self) -> io::Result<Duration> {
+        Err(io::Error::from(ErrorKind::Unsupported))
+    }
+
+    fn since_1970(&self) -> io::Result<Duration> {
+        self.monotonic()
+    }
+}
+
+/// A stream that is a terminal, or isn't one, and what was written to it.
 #[derive(Drop)]
 struct Stream {
     attended: bool,
+    bytes: Vec<u8>,
+}
+
+impl Stream {
+    /// A terminal, unless the words begin with `not`.
+    fn of(alloc: Global, words: &str) -> Stream {
+        Stream {
+            attended: !words.starts_with("not"),
+            bytes: Vec::new(alloc),
+        }
+    }
 }
 
 impl IsTerminal for Stream {
@@ -67,21 +92,64 @@ impl IsTerminal for Stream {
     }
 }
 
+impl Write for Stream {
+    fn write(&mut self, buf: &[u8]) -> io::Result<usize> {
+        match self.bytes.extend_from_slice(buf) {
+            Ok(()) => Ok(buf.len()),
+            Err(_) => Err(io::Error::from(ErrorKind::OutOfMemory)),
+        }
+    }
+
+    fn flush(&mut self) -> io::Result<()> {
+        Ok(())
+    }
+}
+
 /// Appends what an environment says.
 pub fn said(alloc: Global, rest: &str, got: &mut Got) -> Result<(), Bad> {
-    let attended = !rest.starts_with("not");
     let told = Told { words: rest, alloc };
-    let facts = facts_of(&(told, alloc), &Stream { attended })?;
+    let facts = facts_of(&(told, alloc), &Stream::of(alloc, rest))?;
     push_facts(&facts, got);
     Ok(())
 }
 
 /// Appends whether an environment wants colours.
 pub fn wants(alloc: Global, rest: &str, got: &mut Got) -> Result<(), Bad> {
-    let attended = !rest.starts_with("not");
     let told = Told { words: rest, alloc };
-    got.flag(wants_colors(&(told, alloc), &Stream { attended })?);
+    got.flag(wants_colors(&(told, alloc), &Stream::of(alloc, rest))?);
     Ok(())
+}
+
+/// Appends what bars are made with on a stream.
+pub fn opens(alloc: Global, rest: &str, got: &mut Got) -> Result<(), Bad> {
+    let told = Told { words: rest, alloc };
+    let setup = on_stream(&(told, alloc), Stream::of(alloc, rest))?;
+    match setup.target.into_term() {
+        Some(term) => push_term(term, got),
+        None => got.text("hidden"),
+    }
+    Ok(())
+}
+
+/// Appends a terminal's size, and who ends its full rows.
+fn push_term(term: StreamTerm<Stream>, got: &mut Got) {
+    got.number(term.height());
+    got.text(" ");
+    got.number(term.width());
+    got.text(match turns_wrap_off(term) {
+        Ok(true) => " program",
+        Ok(false) => " terminal",
+        Err(_) => " failed",
+    });
+}
+
+/// Whether a drawing begins with an escape sequence: that turns the terminal's own wrap off.
+fn turns_wrap_off(term: StreamTerm<Stream>) -> io::Result<bool> {
+    let mut term = term;
+    term.write_str("a")?;
+    term.flush()?;
+    let written = &term.term().writer().get_ref().bytes;
+    Ok(written.first() == Some(&0x1b))
 }
 
 fn push_facts(facts: &Facts, got: &mut Got) {

@@ -11,7 +11,7 @@
 //! - `add BAR`, `insert N BAR`, `back N BAR`, `before OWNER BAR`, `after OWNER BAR`: a new bar with this message, behind `=` another owner
 //!   of a bar, or with `<` the last owner itself; the owner that comes back stands behind the others.
 //! - `own OWNER`, `release`, `drop`: another owner; the last owner is given up, or dropped.
-//! - `remove OWNER`, `log TEXT`, `clear`, `suspend`, `top`, `bottom`, `turn` (to another target): calls of the board.
+//! - `remove OWNER`, `log TEXT`, `clear`, `suspend`, `top`, `bottom`, `turn` (to another target), `hide` (to none): calls of the board.
 //! - `OWNER: CALL`: a call of a bar (`tell`), a reading (`readings`), `target` (to a target of its own), `as OWNER` (in the style of another
 //!   bar), `ticker NANOS`, `ticker off`, `ticks_past N` (whether it ticks more often than so, for ten seconds; from the
 //!   last `mark` on), `ticks_since` (how often it has ticked since then), `rests` (whether it
@@ -30,7 +30,9 @@ use crate::history::{Answered, Look, Question, shown};
 use crate::readings::read;
 use crate::scripted::{Scripted, script_of};
 use crate::tell::{Told, tell};
-use indicatif::{Drawn, InMemoryTerm, MultiProgressAlignment, Refusal, WeakProgressBar};
+use indicatif::{
+    Drawn, InMemoryTerm, MultiProgressAlignment, ProgressDrawTarget, Refusal, WeakProgressBar,
+};
 use scripts::got::{Bad, Got};
 use scripts::row::next;
 use scripts::spelling::{flag, number, optional, unescaped};
@@ -253,7 +255,8 @@ impl<R: Wait + Copy + Clone + Drop> Fronts<R> {
             _ => match step {
                 "top" => self.board()?.set_alignment(MultiProgressAlignment::Top),
                 "bottom" => self.board()?.set_alignment(MultiProgressAlignment::Bottom),
-                "turn" => self.turn()?,
+                "turn" => self.turn(self.maker.room.target(self.maker.alloc)?)?,
+                "hide" => self.turn(ProgressDrawTarget::hidden())?,
                 _ => return Ok(false),
             },
         };
@@ -269,9 +272,9 @@ impl<R: Wait + Copy + Clone + Drop> Fronts<R> {
     }
 
     /// Another target for the board, by another owner of it.
-    fn turn(&self) -> Result<Result<(), Refusal>, Bad> {
+    fn turn(&self, target: ProgressDrawTarget<InMemoryTerm>) -> Result<Result<(), Refusal>, Bad> {
         let board = self.board()?.clone()?;
-        Ok(board.set_draw_target(self.maker.room.target(self.maker.alloc)?))
+        Ok(board.set_draw_target(target))
     }
 
     /// What a call of the board that draws answers, or of a bar behind its owner's number.

@@ -86,6 +86,7 @@ impl<
         match name {
             "environment" => return environment::said(self.alloc, rest, got),
             "colours" => return environment::wants(self.alloc, rest, got),
+            "stream" => return environment::opens(self.alloc, rest, got),
             _ => (),
         }
         match self.begun(name, rest)? {

@@ -1,5 +1,6 @@
 //! Gates.
 use indicatif::Gate;
+use std::alloc::{AllocError, Global};
 use std::sync::atomic::{AtomicU64, Ordering};
 
 /// Holds nobody.
@@ -34,6 +35,39 @@ impl Gate for Waves {
         let before = self.passed.fetch_add(1, Ordering::SeqCst);
         if piece >= 256 && before < 256 {
             self.early.fetch_add(1, Ordering::SeqCst);
+        }
+    }
+}
+
+/// Counts of each piece how often it passes.
+#[derive(Drop)]
+pub struct Roll {
+    passed: Vec<AtomicU64>,
+}
+
+impl Roll {
+    /// For so many pieces.
+    pub fn of(alloc: Global, pieces: u32) -> Result<Roll, AllocError> {
+        let mut passed = Vec::new(alloc);
+        for _ in 0..pieces {
+            passed.push(AtomicU64::new(0))?;
+        }
+        Ok(Roll { passed })
+    }
+
+    /// How often this piece has passed.
+    pub fn passed(&self, piece: u32) -> u64 {
+        match self.passed.get(piece as usize) {
+            Some(passed) => passed.load(Ordering::SeqCst),
+            None => 0,
+        }
+    }
+}
+
+impl Gate for Roll {
+    fn pass(&self, piece: usize) {
+        if let Some(passed) = self.passed.get(piece) {
+            passed.fetch_add(1, Ordering::SeqCst);
         }
     }
 }

@@ -2,14 +2,15 @@
 //! list of calls stands as rows in `front_rows`.
 //!
 //! - `fronts`: bars and boards for tests, whose calls have no clauses. `kept`: what a board has kept.
-//! - `owners`: what the last owner of a bar leaves, on a terminal that others see. `bars`: bars in threads, pauses and bounds.
+//! - `shown`: a terminal that others see. `owners`: what the last owner of a bar leaves there. `watched`: boards there, while a closure
+//!   runs, and where the cursor only moves. `bars`: bars in threads, pauses and bounds.
 //! - `boards`: boards that threads share. `records`: a board with its history that nobody shares.
 //! - `shared`: clocks of different openings, boards that make their bars, and threads at one bar.
 //! - `machines`: what is asked of the machine. `made`: iterators that get a bar when they are wrapped.
 //! - `bridges`: lines of a log above a board's bars.
 //! - `carried`: tests of the crate `indicatif` that need code. `carried_tickers`: those of tickers. `carried_trackers`: those of trackers.
 //! - `counted`: threads that count for a bar.
-//! - `ticking`: a bar's ticker, looked at from outside. `keyed`: shared bars with a key of the tests' own.
+//! - `ticking`: a bar's ticker, looked at from outside. `intervals`: how often it ticks. `keyed`: shared bars with a key of the tests' own.
 //! - `lists`, `own_bars`, `pieces`: lists, block by block, lists with a bar of their own, and pieces in threads of their own; with the
 //!   bar `stepped` and the `gates`.
 #![tactic(auto)]
@@ -33,6 +34,8 @@ mod fronts;
 #[cfg(test)]
 mod gates;
 #[cfg(test)]
+mod intervals;
+#[cfg(test)]
 mod kept;
 #[cfg(test)]
 mod keyed;
@@ -53,6 +56,10 @@ mod records;
 #[cfg(test)]
 mod shared;
 #[cfg(test)]
+mod shown;
+#[cfg(test)]
 mod stepped;
 #[cfg(test)]
 mod ticking;
+#[cfg(test)]
+mod watched;

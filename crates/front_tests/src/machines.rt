@@ -1,12 +1,15 @@
 //! What is asked of the machine: its clock, and the terminals behind the program's own streams or behind a writer.
-use indicatif::machine::{MachineClock, TerminalSetup, facts_of, on_stderr, on_stdout, told_setup};
+use indicatif::machine::{
+    MachineClock, Shares, StderrBoard, StreamSetup, TerminalSetup, facts_of, on_stderr, on_stdout,
+    on_stream, style_on_stderr, told_setup, wants_colors,
+};
 use indicatif::{
-    BarState, Clock, Drawn, Facts, LoneBar, Moment, NoTracker, ProgressDrawTarget, Refusal, Setup,
-    Term, TermLike,
+    BarState, Clock, Drawn, Facts, LoneBar, Moment, MultiProgress, NoTracker, ProgressDrawTarget,
+    ProgressStyle, Refusal, Setup, Term, TermLike,
 };
 use std::alloc::Global;
 use std::cell::Cell;
-use std::io::{self, BufWriter, ErrorKind};
+use std::io::{self, BufWriter, ErrorKind, Stderr};
 use std::test::Fail;
 use std::time::{self, Duration};
 
@@ -86,6 +89,38 @@ fn the_programs_own_streams(rt: HostRuntime) -> Result<(), Fail> {
     assert!(rt; is_hidden(on_stdout(&rt))? == out);
     let err = is_hidden_by(facts_of(&rt, &rt.stderr()))?;
     assert!(rt; is_hidden(on_stderr(&rt))? == err);
+    let setup = on_stream(&rt, rt.stderr())?;
+    assert!(rt; setup.target.is_hidden() == err);
+    let board = board_on(rt, on_stderr(&rt)?)?;
+    assert!(rt; board.is_hidden() == err);
+    Ok(())
+}
+
+/// A board on standard error.
+fn board_on<R: Shares>(rt: R, setup: StreamSetup<Stderr>) -> Result<StderrBoard<R>, Refusal> {
+    MultiProgress::new(rt, rt.alloc(), setup, 1)
+}
+
+/// Whether a bar with the message `x` has this one line in a style.
+fn shows(alloc: Global, style: ProgressStyle<NoTracker>, wanted: &str) -> Result<bool, Refusal> {
+    let mut bar = Box::new(alloc, BarState::styled(alloc, style, None, 0)?)?;
+    bar.set_message("x", 0)?;
+    let lines = bar.lines(0, 20)?;
+    Ok(match lines.as_slice() {
+        [line] => line.is_text(wanted),
+        _ => false,
+    })
+}
+
+/// A style for standard error has colours where they are wanted there, and none elsewhere.
+#[test]
+fn a_style_for_standard_error(rt: HostRuntime) -> Result<(), Fail> {
+    let wanted = match wants_colors(&rt, &rt.stderr())? {
+        true => "\u{1b}[31mx\u{1b}[0m",
+        false => "x",
+    };
+    let style = style_on_stderr(&rt, "{msg:.red}")?;
+    assert!(rt; shows(rt.alloc(), style, wanted)?);
     Ok(())
 }
 

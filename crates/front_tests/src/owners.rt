@@ -1,60 +1,12 @@
 //! What the last owner of a bar leaves, and threads with owners of their own, on a terminal that others see.
-use indicatif::{
-    Cells, Drawn, ProgressBar, ProgressDrawTarget, ProgressFinish, ProgressStyle, Refusal, Setup,
-    StepClock, Term,
-};
+use crate::shown::{Bytes, Shown, is_seen, no_bytes, setup_on};
+use indicatif::{Drawn, ProgressBar, ProgressFinish, ProgressStyle, Refusal, StepClock, Term};
 use std::alloc::Global;
-use std::io::{self, Write};
-use std::sync::{Arc, Mutex, Wait};
+use std::sync::Wait;
 use std::test::Fail;
 use std::thread::{self, join};
 
-// ---- a terminal that others see
-
-/// A writer whose bytes stand under a lock.
-#[derive(Drop)]
-struct Shown<R: Wait + Drop> {
-    bytes: Bytes,
-    rt: R,
-}
-
-type Bytes = Arc<Mutex<Vec<u8>>, Global>;
-
-impl<R: Wait + Drop> Write for Shown<R> {
-    fn write(&mut self, buf: &[u8]) -> io::Result<usize> {
-        let mut bytes = self.bytes.lock(&self.rt);
-        match bytes.extend_from_slice(buf) {
-            Ok(()) => Ok(buf.len()),
-            Err(_) => Err(io::Error::from(io::ErrorKind::OutOfMemory)),
-        }
-    }
-
-    fn flush(&mut self) -> io::Result<()> {
-        Ok(())
-    }
-}
-
 type Bar<R> = ProgressBar<Term<Shown<R>>, StepClock, R>;
-
-/// The window of 4 rows and 10 columns after these bytes.
-fn seen<R: Wait>(rt: &R, alloc: Global, bytes: &Mutex<Vec<u8>>) -> Result<String, Refusal> {
-    let mut cells = Box::new(alloc, Cells::new(alloc, 4, 10)?)?;
-    let fed = cells.feed(bytes.lock(rt).as_slice());
-    match fed {
-        Ok(()) => cells.contents(),
-        Err((_, refusal)) => Err(refusal),
-    }
-}
-
-/// Whether this stands in that window.
-fn is_seen<R: Wait>(
-    rt: &R,
-    alloc: Global,
-    bytes: &Mutex<Vec<u8>>,
-    wanted: &str,
-) -> Result<bool, Refusal> {
-    Ok(seen(rt, alloc, bytes)?.as_str() == wanted)
-}
 
 /// A bar on that terminal, of this template and a length of 10.
 fn bar_on<R: Wait + Copy + Clone + Drop>(
@@ -63,21 +15,8 @@ fn bar_on<R: Wait + Copy + Clone + Drop>(
     bytes: &Bytes,
     template: &str,
 ) -> Result<Bar<R>, Refusal> {
-    let writer = Shown {
-        bytes: Arc::try_clone(bytes)?,
-        rt,
-    };
-    let setup = Setup {
-        target: ProgressDrawTarget::term_like(Term::new(writer, 4, 10)),
-        clock: StepClock { next: 0, step: 1 },
-    };
     let style = ProgressStyle::with_template(alloc, template)?;
-    ProgressBar::new(rt, alloc, 10, setup)?.with_style(style)
-}
-
-fn no_bytes(alloc: Global) -> Result<Bytes, Refusal> {
-    let bytes = Vec::new(alloc);
-    Ok(Arc::new(alloc, Mutex::new(bytes))?)
+    ProgressBar::new(rt, alloc, 10, setup_on(rt, bytes, 10)?)?.with_style(style)
 }
 
 // ---- owners

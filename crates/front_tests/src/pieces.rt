@@ -1,5 +1,5 @@
 //! Pieces in threads of their own.
-use crate::gates::{Open, Together, Turnstile, Waves};
+use crate::gates::{Open, Roll, Together, Turnstile, Waves};
 use crate::stepped::{Stepped, bar_at};
 use indicatif::{Refusal, run_workers_with};
 use std::alloc::{AllocError, Global};
@@ -147,6 +147,36 @@ fn six_hundred_pieces(rt: HostRuntime) -> Result<(), Fail> {
     assert!(rt; bar.steps.as_slice() == [1200].as_slice());
     assert_eq!(rt; gate.passed.load(Ordering::SeqCst), 600);
     assert_eq!(rt; gate.early.load(Ordering::SeqCst), 0);
+    Ok(())
+}
+
+/// So many pieces, each with its own number, twice.
+fn numbered(alloc: Global, count: u32) -> Result<Vec<Vec<u32>>, AllocError> {
+    let mut pieces = Vec::new(alloc);
+    for number in 0..count {
+        pieces.push(vec![in alloc; number, number]?)?;
+    }
+    Ok(pieces)
+}
+
+/// Each of three hundred pieces has passed the gate, by its own number and once, before its first item is met.
+#[test]
+fn each_piece_passes_before_its_items(rt: HostRuntime) -> Result<(), Fail> {
+    let pieces = numbered(rt.alloc(), 300)?;
+    let roll = Roll::of(rt.alloc(), 300)?;
+    let mut bar = bar_at(rt.alloc(), 0);
+    let made = run_workers_with(
+        &rt,
+        rt.alloc(),
+        pieces.as_slice(),
+        |piece: &u32| roll.passed(*piece),
+        &roll,
+        &mut bar,
+    )?;
+    assert_eq!(rt; made.len(), 300);
+    for answers in made.iter() {
+        assert!(rt; answers.as_slice() == [1, 1].as_slice());
+    }
     Ok(())
 }
 

@@ -146,6 +146,17 @@ fn a_wrappers_bar_is_told(rt: HostRuntime) -> Result<(), Fail> {
     Ok(())
 }
 
+/// So is its elapsed time: a machine that runs for an hour has room for an hour, and for no second more.
+#[test]
+fn a_wrappers_bar_begins_with_elapsed_time(rt: HostRuntime) -> Result<(), Fail> {
+    let bar = bar_by(rt, rt.alloc(), clock_of(&[3600 * SECOND]))?;
+    let wrapped = bar.wrap_iter(0..3u32)?.with_elapsed(3600 * SECOND)?;
+    assert_eq!(rt; bar.elapsed(), 3600 * SECOND);
+    let refused = wrapped.with_elapsed(3601 * SECOND).err();
+    assert!(rt; refused == Some(Refusal::ElapsedBeyondClock));
+    Ok(())
+}
+
 /// What stands on the bar's terminal.
 fn shown_by<R: Wait + Clone + Drop>(bar: &Bar<R>) -> Option<String> {
     bar.with_term(|term| match term {

@@ -7,12 +7,23 @@ use Rattle.indicatif_term.specs.declared.target.Facts.{Facts}
 use Rattle.indicatif.specs.OwnRows.{new_rows}
 use Rattle.indicatif.specs.declared.own_rows.OwnRows.{OwnRows}
 use Rattle.indicatif.specs.declared.own_rows.RowEnds.{RowEnds}
+use Rattle.indicatif.specs.declared.own_rows.RowEnds.TheVariants.{ByProgram, ByTerminal}
 
 -- a target on the terminal behind some writer, which may be drawn 20 times a second; a hidden one where the facts say so
 abbrev pub IsBehind : {W : Type 0} → Option (WriterTerm W × Option Limiter) → Facts → Type 0
 IsBehind {W} target facts = (w : W) × (now : ℕ) × (target ≡ (if hides facts then None else Some (term_behind w facts, Some (draw_limiter 20 now))))
 
--- the same on a terminal whose full rows the program or the terminal ends
-abbrev pub IsOnStream : {W : Type 0} → Option (OwnRows (WriterTerm W) × Option Limiter) → Facts → Type 0
-IsOnStream {W} target facts = (w : W) × (now : ℕ) × (ends : RowEnds)
-    × (target ≡ (if hides facts then None else Some (new_rows (term_behind w facts) ends, Some (draw_limiter 20 now))))
+-- the columns that were told; 79 where none were
+abbrev pub columns_by : Option ℕ → ℕ
+columns_by (Some columns) = columns
+columns_by None = 79
+
+-- who ends a full row: the terminal where its columns were told, else the program
+abbrev pub ends_by : Option ℕ → RowEnds
+ends_by (Some columns) = ByTerminal
+ends_by None = ByProgram
+
+-- the same on a terminal of which these columns were told, or none: it has so many, and full rows are ended so
+abbrev pub IsOnStream : {W : Type 0} → Option (OwnRows (WriterTerm W) × Option Limiter) → Option ℕ → Facts → Type 0
+IsOnStream {W} target told facts = (facts.cols ≡ columns_by told) × (w : W) × (now : ℕ)
+    × (target ≡ (if hides facts then None else Some (new_rows (term_behind w facts) (ends_by told), Some (draw_limiter 20 now))))

@@ -30,7 +30,11 @@ pub trait LineForm {
     fn push_line(&self, level: Level, text: &str, out: &mut String) -> Result<(), Refusal>;
 }
 
-/// The level once, before the text (`bridge_line`): further lines of the text stand as they are.
+/// The level once, before the text (`bridge_line`): further lines of the text stand as they are. `LogBridge::new` takes this form.
+///
+/// ```
+/// let log = Logged::new(rt, Level::Info, LogBridge::new(board.clone()?)); // `e\nf` stands as `ERROR e` and `f`
+/// ```
 #[derive(Clone, Copy, Debug, Default, Drop, PartialEq, Eq)]
 pub struct LevelOnce;
 
@@ -41,6 +45,10 @@ impl LineForm for LevelOnce {
 }
 
 /// The level before each line of the text.
+///
+/// ```
+/// let bridge = LogBridge::with_form(board.clone()?, LevelOnEachLine); // `e\nf` stands as `ERROR e` and `ERROR f`
+/// ```
 #[derive(Clone, Copy, Debug, Default, Drop, PartialEq, Eq)]
 pub struct LevelOnEachLine;
 

@@ -1,5 +1,6 @@
 //! Progress bars for the terminal: the Rust crate `indicatif` 0.18.6 in Rattle, with its names and its templates. What stands on the
-//! screen after any list of calls is a theorem: docs/THEOREM.md has it, and docs/PROVED.md says of each call what is proved.
+//! screen after any list of calls of a bar or a board without a lock is a theorem: docs/THEOREM.md has it. Of bars and boards that
+//! threads share it is proved which answers come. docs/PROVED.md says of each call what is proved and what is tested.
 //!
 //! # What is here
 //!
@@ -66,6 +67,17 @@
 //! # Keys of your own
 //!
 //! ```
+//! ghost use Rattle.std.specs.Prelude.{◌-◌, decimal};
+//! // ..
+//! use indicatif::{FnTracker, Moment, ProgressBar, ProgressState, ProgressStyle, Refusal, TellsText};
+//! use std::alloc::Global;
+//! // ..
+//! #[derive(Drop)]
+//! pub struct Left {
+//!     pub alloc: Global,
+//!     pub of: u64,
+//! }
+//!
 //! impl TellsText for Left {
 //!     ghost told_text = { λ left p now. decimal (left.of - p.position) };
 //!
@@ -87,9 +99,10 @@
 //! ██████░░░░░░░░░░░░░░░░░ 7 left
 //! ```
 //!
-//! What a key says is stated beside it, as a function of what the bar has reached and the moment. A type that changes when the bar ticks
-//! is a `style::ProgressTracker`. `MultiProgress::keyed` makes a board for such bars; a function over bars of any keys asks for
-//! `K: style::Tracks`.
+//! What a key says is stated beside it, in `told_text`: a function of the teller, of `p` and of the moment. `p` is the bar's record:
+//! `position`, `len`, `ticks`, `message` and what else it has (docs/DEFINITIONS.md, `Progress`). `decimal` gives a number's digits. A
+//! type that changes when the bar ticks is a `style::ProgressTracker`. `MultiProgress::keyed` makes a board for such bars; a function
+//! over bars of any keys asks for `K: style::Tracks`.
 //!
 //! # Several bars
 //!

@@ -1,12 +1,11 @@
 //! What bars ask of the machine: the time, and whether and how wide a terminal stands behind a stream. Nothing else in this
 //! library asks it anything, so a program that finds these itself needs nothing of this module.
-ghost use Rattle.std.specs.Prelude.{◌≡◌, ◌⊎◌, ◌≤◌, ◌<◌, Bool, chars, IfOk, IfErr, IfSome};
+ghost use Rattle.std.specs.Prelude.{◌≡◌, ◌⊎◌, ◌≤◌, ◌<◌, ℕ, Bool, Option, chars, IfOk, IfErr, IfSome};
 ghost use Rattle.indicatif_text.specs.declared.template.TemplateError.{TemplateError};
 ghost use Rattle.indicatif_text.specs.Template.{Parses, IsRefused, refusal_of};
 ghost use Rattle.indicatif_bar.specs.Builders.{first_style};
-ghost use Rattle.indicatif.specs.Machine.{IsBehind, IsOnStream};
+ghost use Rattle.indicatif.specs.Machine.{IsBehind, IsOnStream, columns_by, ends_by};
 ghost use Rattle.indicatif.specs.OwnRows.{new_rows};
-ghost use Rattle.indicatif.specs.declared.own_rows.RowEnds.{RowEnds};
 
 use crate::own_rows::OwnRows;
 use crate::progress_bar::{MultiProgress, ProgressBar};
@@ -196,13 +195,13 @@ pub type TerminalSetup<W> = Setup<Term<BufWriter<W>>, MachineClock<HostRuntime>>
 /// ```
 pub type StreamTerm<W> = OwnRows<Term<BufWriter<W>>>;
 
-/// What a bar is made with there.
+/// What a bar is made with there; `R` is the runtime that tells the time.
 ///
 /// ```
 /// let setup: StreamSetup<Stderr> = on_stderr(&rt)?;
 /// let bar = LoneBar::new(bar, setup.target);
 /// ```
-pub type StreamSetup<W> = Setup<StreamTerm<W>, MachineClock<HostRuntime>>;
+pub type StreamSetup<W, R = HostRuntime> = Setup<StreamTerm<W>, MachineClock<R>>;
 
 /// A shared bar on standard error, as `on_stderr` sets it up; `R` is the runtime of the function that has it.
 ///
@@ -219,6 +218,12 @@ pub type StderrBar<R, K = NoTracker> = ProgressBar<
 >;
 
 /// A shared board there.
+///
+/// ```
+/// fn board_on<R: Shares>(rt: R, setup: StreamSetup<Stderr>) -> Result<StderrBoard<R>, Refusal> {
+///     MultiProgress::new(rt, rt.alloc(), setup, 1)
+/// }
+/// ```
 pub type StderrBoard<R, K = NoTracker> = MultiProgress<
     StreamTerm<Stderr>,
     MachineClock<HostRuntime>,
@@ -228,6 +233,10 @@ pub type StderrBoard<R, K = NoTracker> = MultiProgress<
 
 /// What functions over shared bars ask of the runtime, in one word: memory, locks, threads and the time. The one that `main` is
 /// given has it.
+///
+/// ```
+/// fn work<R: Shares>(rt: &R, bar: &StderrBar<R>, steps: u64) -> Result<(), Refusal> { .. } // may lock, sleep and start threads
+/// ```
 pub trait Shares: AllocGlobal
     + Wait
     + Threads
@@ -253,23 +262,47 @@ impl<R: AllocGlobal + Wait + Threads + time::Clock + Sync + Send + Copy + Drop +
 ///
 /// Refused: `Memory`.
 pub fn on_stderr(rt: &HostRuntime) -> Result<StreamSetup<Stderr>, Refusal>
-    ensures target { IfOk result (λ setup. (facts : Facts) × IsOnStream setup.target facts) }
+    ensures target { IfOk result (λ setup. (told : Option ℕ) × (facts : Facts) × IsOnStream setup.target told facts) }
     ensures memory { IfErr result (λ e. e ≡ Refusal.Memory) }
 {
-    stream_setup(rt, rt.stderr())
+    on_stream(rt, rt.stderr())
 }
 
 /// The same on standard output.
 ///
 /// Refused: `Memory`.
 pub fn on_stdout(rt: &HostRuntime) -> Result<StreamSetup<Stdout>, Refusal>
-    ensures target { IfOk result (λ setup. (facts : Facts) × IsOnStream setup.target facts) }
+    ensures target { IfOk result (λ setup. (told : Option ℕ) × (facts : Facts) × IsOnStream setup.target told facts) }
     ensures memory { IfErr result (λ e. e ≡ Refusal.Memory) }
 {
-    stream_setup(rt, rt.stdout())
+    on_stream(rt, rt.stdout())
 }
 
-/// The same behind any writer, on a terminal of which this is told.
+/// The same on any stream that says whether it is a terminal, by the variables and the clock of any runtime.
+///
+/// ```
+/// let setup = on_stream(&rt, rt.stderr())?; // what `on_stderr(&rt)?` makes
+/// ```
+///
+/// Refused: `Memory`; the stream is given up.
+pub fn on_stream<R: Env + AllocGlobal + time::Clock + Copy, W: Write + IsTerminal + Drop>(
+    rt: &R,
+    stream: W,
+) -> Result<StreamSetup<W, R>, Refusal>
+    ensures target { IfOk result (λ setup. (told : Option ℕ) × (facts : Facts) × IsOnStream setup.target told facts) }
+    ensures memory { IfErr result (λ e. e ≡ Refusal.Memory) }
+{
+    let mut facts = facts_of(rt, &stream)?;
+    let told = number_said(rt, "COLUMNS")?;
+    facts.cols = columns_by(told);
+    let term = Term::new(buffered(rt, stream)?, facts.rows, facts.cols);
+    let term = rows_by(told, term);
+    let mut clock = MachineClock::new(*rt);
+    let target = ProgressDrawTarget::term(term, facts, HZ, clock.now())?;
+    Ok(Setup { target, clock })
+}
+
+/// What a bar is made with behind any writer, on a terminal of which this is told.
 ///
 /// ```
 /// let mut facts = facts_of(&rt, &rt.stderr())?;
@@ -291,27 +324,19 @@ pub fn told_setup<W: Write + Drop>(
     Ok(Setup { target, clock })
 }
 
-/// What a bar is made with on a stream: of 79 columns, where nobody told them.
-fn stream_setup<W: Write + IsTerminal + Drop>(
-    rt: &HostRuntime,
-    stream: W,
-) -> Result<StreamSetup<W>, Refusal>
-    ensures target { IfOk result (λ setup. (facts : Facts) × IsOnStream setup.target facts) }
-    ensures memory { IfErr result (λ e. e ≡ Refusal.Memory) }
+/// The columns that were told, 79 where none were.
+fn columns_by(told: Option<u16>) -> u16
+    ensures { result ≡ columns_by told }
 {
-    let mut facts = facts_of(rt, &stream)?;
-    let told = number_said(rt, "COLUMNS")?;
-    facts.cols = told.unwrap_or(COLUMNS - 1);
-    let term = Term::new(buffered(rt, stream)?, facts.rows, facts.cols);
-    let term = told_rows(term, told);
-    let mut clock = MachineClock::new(*rt);
-    let target = ProgressDrawTarget::term(term, facts, HZ, clock.now())?;
-    Ok(Setup { target, clock })
+    match told {
+        Some(columns) => columns,
+        None => COLUMNS - 1,
+    }
 }
 
-/// A terminal that ends its full rows by itself, where somebody told its columns.
-fn told_rows<T>(term: T, told: Option<u16>) -> OwnRows<T>
-    ensures { (ends : RowEnds) × (result ≡ new_rows term ends) }
+/// A terminal that ends its full rows by itself, where its columns were told.
+fn rows_by<T>(told: Option<u16>, term: T) -> OwnRows<T>
+    ensures { result ≡ new_rows term (ends_by told) }
 {
     match told {
         Some(_) => OwnRows::left_to_terminal(term),
@@ -320,7 +345,7 @@ fn told_rows<T>(term: T, told: Option<u16>) -> OwnRows<T>
 }
 
 /// A buffer before a writer.
-fn buffered<W: Write + Drop>(rt: &HostRuntime, writer: W) -> Result<BufWriter<W>, Refusal>
+fn buffered<R: AllocGlobal, W: Write + Drop>(rt: &R, writer: W) -> Result<BufWriter<W>, Refusal>
     ensures { IfErr result (λ e. e ≡ Refusal.Memory) }
 {
     match BufWriter::new(rt.alloc(), writer) {

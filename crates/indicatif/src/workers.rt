@@ -69,8 +69,9 @@ impl<'a, G: Gate> Behind<'a, G> {
 /// let made = run_workers(&rt, alloc, pieces.as_slice(), |x: &u32| x.wrapping_mul(2), &Open, &bar)?;
 /// ```
 ///
-/// Refused: `ZeroPieces` where there is no piece, and nothing is done. `Memory`; where the pieces ran, the bar is advanced by
-/// the items that were met all the same.
+/// Refused: `ZeroPieces` where there is no piece, and nothing is done. `Memory`. Where a piece finds none for its answers, the others
+/// go on, and the bar is advanced by the items that were met. Where the lists that hand pieces to their threads find none, the pieces
+/// that run are waited for, no more begin, and the bar stays as it was; with more than 256 pieces some have run by then.
 pub fn run_workers<
     R: Threads + Sync,
     T: Sync,

@@ -142,7 +142,8 @@ impl<T: TermLike + Drop, C: Clock + Drop, R: Wait + Clone + Drop, K: Tracks> Mul
     /// Takes a bar in behind all others, and hands its owner back. A bar that stood alone leaves its target, where what it drew
     /// stays; one that is on this board already stays where it is.
     ///
-    /// Refused: `ForeignBar` for a bar of another board; `Memory`. Nothing has changed then, and this owner is given up.
+    /// Refused: `ForeignBar` for a bar of another board; `Memory`. The board is as before then, and this owner is given up as by
+    /// `ProgressBar::release`: if it was the only one, its bar is finished by its stored finish, and leaves the board that has it.
     ///
     /// ```
     /// let bar = board.add(bar)?; // it is drawn among the board's bars from now on

@@ -1,0 +1,76 @@
+//! A terminal that others see: a writer whose bytes stand under a lock.
+use indicatif::{Cells, ProgressDrawTarget, Refusal, Setup, StepClock, Term};
+use std::alloc::Global;
+use std::io::{self, Write};
+use std::sync::{Arc, Mutex, Wait};
+
+/// A writer whose bytes stand under a lock.
+#[derive(Drop)]
+pub struct Shown<R: Wait + Drop> {
+    bytes: Bytes,
+    rt: R,
+}
+
+/// These bytes.
+pub type Bytes = Arc<Mutex<Vec<u8>>, Global>;
+
+impl<R: Wait + Drop> Write for Shown<R> {
+    fn write(&mut self, buf: &[u8]) -> io::Result<usize> {
+        let mut bytes = self.bytes.lock(&self.rt);
+        match bytes.extend_from_slice(buf) {
+            Ok(()) => Ok(buf.len()),
+            Err(_) => Err(io::Error::from(io::ErrorKind::OutOfMemory)),
+        }
+    }
+
+    fn flush(&mut self) -> io::Result<()> {
+        Ok(())
+    }
+}
+
+/// No bytes as yet.
+pub fn no_bytes(alloc: Global) -> Result<Bytes, Refusal> {
+    let bytes = Vec::new(alloc);
+    Ok(Arc::new(alloc, Mutex::new(bytes))?)
+}
+
+/// That terminal, of 4 rows and so many columns, with a clock that goes on by 1 with each reading.
+pub fn setup_on<R: Wait + Drop>(
+    rt: R,
+    bytes: &Bytes,
+    cols: u16,
+) -> Result<Setup<Term<Shown<R>>, StepClock>, Refusal> {
+    let writer = Shown {
+        bytes: Arc::try_clone(bytes)?,
+        rt,
+    };
+    Ok(Setup {
+        target: ProgressDrawTarget::term_like(Term::new(writer, 4, cols)),
+        clock: StepClock { next: 0, step: 1 },
+    })
+}
+
+/// The window of 4 rows and 10 columns after these bytes.
+fn seen<R: Wait>(rt: &R, alloc: Global, bytes: &Mutex<Vec<u8>>) -> Result<String, Refusal> {
+    let mut cells = Box::new(alloc, Cells::new(alloc, 4, 10)?)?;
+    let fed = cells.feed(bytes.lock(rt).as_slice());
+    match fed {
+        Ok(()) => cells.contents(),
+        Err((_, refusal)) => Err(refusal),
+    }
+}
+
+/// Whether this stands in that window.
+pub fn is_seen<R: Wait>(
+    rt: &R,
+    alloc: Global,
+    bytes: &Mutex<Vec<u8>>,
+    wanted: &str,
+) -> Result<bool, Refusal> {
+    Ok(seen(rt, alloc, bytes)?.as_str() == wanted)
+}
+
+/// Whether these are the bytes.
+pub fn is_written<R: Wait>(rt: &R, bytes: &Mutex<Vec<u8>>, wanted: &str) -> bool {
+    bytes.lock(rt).as_slice() == wanted.as_bytes()
+}
