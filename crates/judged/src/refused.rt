@@ -2,7 +2,7 @@
 //!
 //! While a script is played, what its calls do is noted in room that was taken before. It is judged behind the last call, where memory is
 //! there again.
-use crate::judge::{Finding, Judge, Look, shown};
+use crate::judge::{Finding, Judge, Look};
 use crate::played::Stage;
 use crate::record::{Mark, Plan, Record, Size};
 use crate::script::{Said, Step};
@@ -230,14 +230,29 @@ impl<M: Stages> Run<'_, M> {
         Ok(script)
     }
 
-    /// Whether a new stage that makes these calls answers the same behind the first calls, so many here and so many there, and has the same
-    /// order and shows the same at the end.
+    /// Whether a new stage that makes these calls answers the same and shows the same behind the first calls, so many here and so many there,
+    /// and has the same order at the end.
     fn is_like(&self, script: &[Step], (here, there): (usize, usize)) -> Result<bool, Finding> {
         let fresh = self.fresh(script, Plan::Never)?;
         let same = are_same(self.notes.answers(here), fresh.notes.answers(there));
         let all = self.notes.calls.len();
         let order = self.notes.order(all) == fresh.notes.order(fresh.notes.calls.len());
-        Ok(same && order && self.shows()? == fresh.shows(self.alloc, self.size)?)
+        Ok(same && order && self.shows_as(&fresh, (here, script, there))?)
+    }
+
+    /// Whether the same stands behind the calls that drew, from some on here and from some on there, where that script was played.
+    fn shows_as(
+        &self,
+        fresh: &Fresh,
+        (here, script, there): (usize, &[Step], usize),
+    ) -> Result<bool, Finding> {
+        let mut mine = Judge::new(self.alloc, self.size, Look::EachCall)?;
+        let calls = (self.stages.script(), here);
+        let shown = pictures(&mut mine, (self.record, self.notes), calls)?;
+        let mut other = Judge::new(self.alloc, self.size, Look::EachCall)?;
+        let calls = (script, there);
+        let wanted = pictures(&mut other, (&fresh.record, &fresh.notes), calls)?;
+        Ok(shown == wanted)
     }
 
     /// Whether a new stage on a terminal that fails at the same call of its writer writes the same bytes, and answers the same but for the
@@ -263,10 +278,6 @@ impl<M: Stages> Run<'_, M> {
     fn bytes(&self) -> Result<Vec<u8>, Finding> {
         bytes_of(self.alloc, self.record, self.notes)
     }
-
-    fn shows(&self) -> Result<Vec<String>, Finding> {
-        shown(self.alloc, self.size, &self.bytes()?)
-    }
 }
 
 /// A script that a new stage has made.
@@ -280,10 +291,29 @@ impl Fresh {
     fn bytes(&self, alloc: Global) -> Result<Vec<u8>, Finding> {
         bytes_of(alloc, &self.record, &self.notes)
     }
+}
 
-    fn shows(&self, alloc: Global, size: Size) -> Result<Vec<String>, Finding> {
-        shown(alloc, size, &self.bytes(alloc)?)
+/// Rows that stand, one picture behind another.
+type Pictures = Vec<Vec<String>>;
+
+/// What stands behind each call of a script from this one on that drew, and behind the last one. What a bar's drop draws may be lost: the
+/// next draw shows it.
+fn pictures(
+    judge: &mut Judge,
+    (record, notes): (&Record, &Notes),
+    (script, from): (&[Step], usize),
+) -> Result<Pictures, Finding> {
+    let mut pictures = Vec::new(judge.alloc());
+    for (at, (note, step)) in notes.calls.iter().zip(script.iter()).enumerate() {
+        let bytes = record.between(judge.alloc(), notes.before(at), note.mark)?;
+        judge.takes(&bytes)?;
+        let has_drawn = note.said == Ok(Drawn::Yes) && !matches!(step, Step::Drop(_));
+        if at >= from && has_drawn {
+            pictures.push(judge.rows()?)?;
+        }
     }
+    pictures.push(judge.rows()?)?;
+    Ok(pictures)
 }
 
 /// The bytes of the calls that were noted.

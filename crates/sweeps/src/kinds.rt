@@ -20,6 +20,9 @@ pub enum Kind {
     Loop,
 }
 
+/// All of them.
+pub const KINDS: [Kind; 4] = [Kind::Board, Kind::Lone, Kind::Shared, Kind::Loop];
+
 /// The calls of a loop over five items, the last of which finds its end.
 pub const LOOP: [Step; 6] = [Step::Tick(0); 6];
 
