@@ -46,7 +46,10 @@ fn say<R: Print>(rt: &R, telling: Telling, name: (&str, &str, &str), tally: Tall
     let runs = tally.runs;
     let (kind, sweep, sizes) = name;
     if let Some(finding) = tally.first {
-        println!(rt; "{kind}, {sweep}{sizes}: {} of {runs} runs differ", tally.differ)?;
+        println!(rt;
+            "{kind}, {sweep}{sizes}: {} of {runs} runs differ",
+            tally.differ
+        )?;
         println!(rt; "  {finding:?}")?;
         return Ok(());
     }
@@ -78,7 +81,12 @@ fn paired<R: Runs + Print>(rt: &R) -> Result<()> {
     let sweep = Sweep::EachPair;
     for kind in KINDS {
         let tally = sweep.at_each_size(*rt, kind);
-        say(rt, Telling::Counts, (kind.name(), sweep.name(), EACH_SIZE), tally)?;
+        say(
+            rt,
+            Telling::Counts,
+            (kind.name(), sweep.name(), EACH_SIZE),
+            tally,
+        )?;
     }
     Ok(())
 }

@@ -70,7 +70,13 @@ impl Tally {
     /// Plays this case where nothing fails, and looks behind each byte; what the writer was given.
     fn unfailed<R: Runs>(&mut self, rt: R, case: Case) -> Mark {
         let look = Look::EachByte;
-        self.plays(rt, Case { look, ..case.by(Plan::Never) })
+        self.plays(
+            rt,
+            Case {
+                look,
+                ..case.by(Plan::Never)
+            },
+        )
     }
 
     fn and(self, other: Tally) -> Tally {
