@@ -136,8 +136,8 @@ impl<M: Stages> Run<'_, M> {
     ///
     /// Each call answers what it does where nothing is refused, or `Memory`, or `Terminal` with the kind `OutOfMemory` where the
     /// terminal's own growth was refused; the first of these leaves the order. A call with `Memory` writes nothing. Rows above stand behind
-    /// each byte. What comes behind is what a new stage does that makes the same calls with ample memory: without the refused call, or with
-    /// what that call did before its draw; or on a terminal that fails at that very call of the writer.
+    /// each byte. What comes behind, by the answers and by what each drawing shows, is what a new stage does that makes the same calls with
+    /// ample memory: without the refused call, or with what that call had begun; or on a terminal that fails at that very call of the writer.
     pub fn judged(&self) -> Result<Where, Finding> {
         let found = self.looked_at()?;
         let follows = match found {
@@ -209,12 +209,20 @@ impl<M: Stages> Run<'_, M> {
         if self.is_like(&without, (behind, at))? {
             return Ok(true);
         }
-        let step = self.stages.script().get(at).and_then(|step| step.begun());
+        let Some(step) = self.stages.script().get(at) else {
+            return Ok(false);
+        };
+        let [first, second] = step.begun();
+        Ok(self.follows(at, first)? || self.follows(at, second)?)
+    }
+
+    /// Whether what comes behind this call is what comes behind that one, if there is one, in its place.
+    fn follows(&self, at: usize, step: Option<Step>) -> Result<bool, Finding> {
         if step.is_none() {
             return Ok(false);
         }
-        let begun = self.edited(at, step)?;
-        self.is_like(&begun, (behind, behind))
+        let behind = at.saturating_add(1);
+        self.is_like(&self.edited(at, step)?, (behind, behind))
     }
 
     /// The script with another call in this place, or with none.
