@@ -64,7 +64,7 @@ impl Ran {
     fn is_beginning_of(&self, whole: &Ran) -> bool {
         self.status == 2
             && self.mark.failures == 1
-            && self.said.as_slice() == b"bars: output failed\n"
+            && self.said.as_slice() == b"bars: output failed\n".as_slice()
             && whole.printed.starts_with(&self.printed)
     }
 }
