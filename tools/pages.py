@@ -6,7 +6,8 @@ usage: tools/pages.py [--write]   (at the root of the repository)
 - Each row of a table of docs/TEMPLATES.md is one row of crates/rows/data/templates_page.txt, which `crates/rows` plays.
 - The README's program is that of crates/example_readme.
 - Each call, clause, law and file that a table of docs/PROVED.md names is there.
-- The same of docs/REFUSALS.md, which names each public call of its modules.
+- The same of docs/REFUSALS.md, which names each public call of the libraries: those of public types and traits, and free ones that a
+  public path has. Of a trait's calls that a type makes it names those that answer a Result or an Option, with the trait or the type.
 - The table of refusals in docs/USING.md has the numbers and texts of crates/rows/data/refusals.txt, and all of them. Other pages that
   name a refusal with its number name it so.
 - The options and statuses of docs/METER.md are those of crates/meter/src.
@@ -36,16 +37,6 @@ HEAD = """# The tables of docs/TEMPLATES.md, written by tools/pages.py: one bar 
 BAR = ["40", None, "-", None, "8", "1500000", "6000000", "copying", "[1/3]", "10000000000", "0"]
 PROVED = pathlib.Path("docs/PROVED.md")
 REFUSALS = pathlib.Path("docs/REFUSALS.md")
-# the modules whose public calls that page names
-REFUSED = {
-    "indicatif_text": ["columns", "pieces", "range", "style_words", "format", "template", "refusal"],
-    "indicatif_term": ["term_like", "term", "in_memory", "in_memory/feeding", "limiter", "target", "draw_target", "lines"],
-    "indicatif_bar": ["bar_style", "bar_style/builders", "tracker", "progress", "bar_state", "bar_state/copies", "bar_lines", "finish", "lone"],
-    "indicatif_board": ["multi", "recorded", "slots", "call_copies", "done", "bridge"],
-    "indicatif": ["owned", "moves", "wrap", "items", "bytes", "seeking", "streams", "polled", "parallel", "progress_iterator", "seek", "ring",
-                  "progress_bar", "progress_bar/multi", "progress_bar/weak", "progress_bar/steady", "progress_bar/wrapped", "builders", "counting",
-                  "workers", "bridge", "machine", "own_rows"],
-}
 LIBRARIES = ["indicatif_text", "indicatif_term", "indicatif_bar", "indicatif_board", "indicatif"]
 PROGRAMS = ["bars_run", "meter_parts"]
 
@@ -199,17 +190,100 @@ def faults_of_proved():
             yield f"{PROVED}: {fault}"
 
 
+# What is left out of docs/REFUSALS.md: facts without a body of their own, and what prints (one sentence there is for all of it).
+FACTS = {"laws", "cases"}
+PRINTED = {"Display", "Debug"}
+
+
+def modules(crate):
+    """The files of a crate by their modules."""
+    base = pathlib.Path(f"crates/{crate}/src")
+    return {path.relative_to(base).with_suffix("").as_posix(): read(path) for path in sorted(base.rglob("*.rt"))}
+
+
+def open_modules(texts):
+    """The modules that a public path has."""
+    found, left = set(), ["lib"]
+    while left:
+        module = left.pop()
+        found.add(module)
+        inside = "" if module == "lib" else module + "/"
+        left += [inside + name for name in re.findall(r"^pub mod (\w+);", texts[module], re.M)]
+    return found
+
+
+def passed_on(texts):
+    """The names that modules pass on."""
+    for text in texts.values():
+        for path in re.findall(r"^pub use ([^;]*);", text, re.M):
+            yield from re.findall(r"\w+", path.rpartition("::")[2] if "{" not in path else path[path.index("{") :])
+
+
+def without_parameters(head):
+    """What stands behind `impl` and its type parameters."""
+    depth = 0
+    for at, char in enumerate(head):
+        depth += (char == "<") - (char == ">" and head[at - 1] != "-")
+        if depth == 0 and char != "<" and (char != ">" or at > 0):
+            return head[at + 1 :] if char == ">" else head[at:]
+    return head
+
+
+def block_of(line):
+    """What a block's head says: the trait whose calls stand there, which may be empty, and the type or trait that has them."""
+    trait = re.match(r"(?:pub )?trait (\w+)", line)
+    if trait:
+        return "", trait[1]
+    of, _, owner = without_parameters(line.removeprefix("impl").strip()).partition(" where ")[0].rpartition(" for ")
+    return re.sub(r"<.*", "", of).rpartition("::")[2].strip(), re.match(r"\W*(\w*)", owner)[1]
+
+
+def heads_of_calls(text):
+    """Each call of a file: the trait, the owner, whether it is marked public, its name, and what it answers."""
+    text = re.sub(r"^impl\b[^{]*", lambda head: " ".join(head[0].split()) + " ", text, flags=re.M)
+    lines, trait, owner = text.splitlines(), "", ""
+    for at, line in enumerate(lines):
+        if re.match(r"impl\b|(pub )?trait\b", line):
+            trait, owner = block_of(line)
+        elif line.startswith("}"):
+            trait, owner = "", ""
+        call = re.match(r"\s*(pub )?fn (\w+)", line)
+        if call:
+            head = re.split(r"\{|;|\brequires\b|\bensures\b", " ".join(lines[at : at + 12]))[0]
+            yield trait, owner, bool(call[1]), call[2], head.partition("->")[2]
+
+
+def public_calls(crate):
+    """The public calls of a library that docs/REFUSALS.md names: the trait, the owner, which may be empty, and the name."""
+    texts = modules(crate)
+    is_open, names = open_modules(texts), set(passed_on(texts))
+    types, traits = set(), set()
+    for module, text in texts.items():
+        for kind, name in re.findall(r"^pub (struct|enum|trait) (\w+)", text, re.M):
+            if module in is_open or name in names:
+                (traits if kind == "trait" else types).add(name)
+    for module in texts.keys() - FACTS:
+        for trait, owner, is_marked, name, answer in heads_of_calls(texts[module]):
+            if owner in traits or not trait and is_marked and owner in types:
+                yield "", owner, name
+            elif trait and owner in types and trait not in PRINTED and re.search(r"\b(Result|Option)\b", answer):
+                yield trait, owner, name
+            elif not owner and is_marked and (module in is_open or name in names):
+                yield "", "", name
+
+
 def faults_of_refused():
     named = set()
     for cells, crates, found, laws in rows_of(REFUSALS):
-        named |= {(crate, name) for crate in crates for _, name in calls_of(cells[0])}
+        named |= {(crate, *call) for crate in crates for call in calls_of(cells[0])}
         for fault in faults_of_row([cells[0], cells[3], cells[3]], found, laws):
             yield f"{REFUSALS}: {fault}"
-    for crate, modules in REFUSED.items():
-        for module in modules:
-            for name in re.findall(r"^ *pub fn (\w+)", read(f"crates/{crate}/src/{module}.rt"), re.M):
-                if (crate, name) not in named:
-                    yield f"{REFUSALS}: lacks {name} of {crate}/{module}"
+    of_any = {call[1:] for call in named}
+    for crate in LIBRARIES:
+        for trait, owner, name in sorted(set(public_calls(crate))):
+            is_named = {(crate, owner, name), (crate, owner, "") if trait else None} & named
+            if not is_named and (not trait or (trait, name) not in of_any):
+                yield f"{REFUSALS}: lacks {owner}::{name} of {crate}"
 
 
 # docs/USING.md
