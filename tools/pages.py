@@ -213,9 +213,11 @@ def open_modules(texts):
 
 
 def passed_on(texts):
-    """The names that modules pass on."""
+    """The names that modules pass on of their own crate."""
     for text in texts.values():
         for path in re.findall(r"^pub use ([^;]*);", text, re.M):
+            if path.partition("::")[0] in LIBRARIES:
+                continue
             yield from re.findall(r"\w+", path.rpartition("::")[2] if "{" not in path else path[path.index("{") :])
 
 
