@@ -553,7 +553,7 @@ def faults_of_examples():
     files = [path for path in pathlib.Path("crates").glob("*/src/**/*.rt") if path.parts[1] not in LIBRARIES]
     code = [without_space(read(path)) for path in files]
     # (of `indicatif` itself no program with all examples is proved yet)
-    for crate in LIBRARIES[:4]:
+    for crate in LIBRARIES:
         for path in sorted(pathlib.Path(f"crates/{crate}/src").rglob("*.rt")):
             for block in examples(read(path)):
                 wanted = list(statements(block))
