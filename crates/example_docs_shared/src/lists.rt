@@ -3,6 +3,7 @@ use crate::bars::{Bar, bar_of};
 use anyhow::Result;
 use indicatif::machine::Shares;
 use indicatif::{Gate, ParallelProgressIterator, Refusal, run_workers, run_workers_with};
+use std::alloc::Global;
 
 /// Holds nobody.
 #[derive(Drop)]
@@ -13,25 +14,36 @@ impl Gate for Open {
 }
 
 pub fn main<R: Shares + Print>(rt: R) -> Result<()> {
-    let alloc = rt.alloc();
-    println!(rt;
-        "ParallelProgressIterator {:?}",
-        doubled(rt, bar_of(rt)?)?.as_slice()
-    )?;
-    println!(rt;
-        "map_collect {:?}",
-        squared(rt, &[1, 2, 3], bar_of(rt)?)?.as_slice()
-    )?;
-    let paths = vec![in alloc;
-        String::from_str(alloc, "a")?,
-        String::from_str(alloc, "b")?,
-    ]?;
-    println!(rt; "for_each {}", digested(rt, &paths, bar_of(rt)?).position())?;
+    print_numbers(rt, "ParallelProgressIterator", doubled(rt, bar_of(rt)?))?;
+    print_numbers(rt, "map_collect", squared(rt, &[1, 2, 3], bar_of(rt)?))?;
+    println!(rt; "for_each {}", two_digested(rt)?)?;
     let (pieces, position) = worked(rt, bar_of(rt)?)?;
     println!(rt; "run_workers {pieces} {position}")?;
     let (pieces, position) = worked_with(rt, bar_of(rt)?)?;
     println!(rt; "run_workers_with {pieces} {position}")?;
     Ok(())
+}
+
+fn print_numbers<R: Shares + Print>(
+    rt: R,
+    name: &str,
+    numbers: Result<Vec<u32>, Refusal>,
+) -> Result<()> {
+    println!(rt; "{name} {:?}", numbers?.as_slice())?;
+    Ok(())
+}
+
+fn two_paths(alloc: Global) -> Result<Vec<String>, Refusal> {
+    Ok(vec![in alloc;
+        String::from_str(alloc, "a")?,
+        String::from_str(alloc, "b")?,
+    ]?)
+}
+
+/// How far a bar is that goes along with two paths.
+fn two_digested<R: Shares + Print>(rt: R) -> Result<u64, Refusal> {
+    let paths = two_paths(rt.alloc())?;
+    Ok(digested(rt, &paths, bar_of(rt)?).position())
 }
 
 fn doubled<R: Shares + Print>(rt: R, bar: Bar<R>) -> Result<Vec<u32>, Refusal> {

@@ -20,6 +20,7 @@ pub fn main(rt: HostRuntime) -> Result<()> {
     )?;
     println!(rt; "left_to_terminal {}", left_rows(Vec::new(rt.alloc()))?)?;
     println!(rt; "wants_colors {}", coloured(rt)?)?;
+    println!(rt; "style_on_stderr {}", styled(rt)?)?;
     println!(rt; "TerminalSetup {}", set_up(rt)?)?;
     println!(rt;
         "on_stderr {}",
@@ -48,6 +49,11 @@ fn told_columns(rt: HostRuntime) -> Result<u16, Refusal> {
 fn coloured(rt: HostRuntime) -> Result<usize, Refusal> {
     let style: ProgressStyle<NoTracker> = ProgressStyle::default_spinner(rt.alloc())?;
     let style = style.with_colors(wants_colors(&rt, &rt.stderr())?)?;
+    Ok(last_spinner(&style).len())
+}
+
+/// The same of a style that is made so at once.
+fn styled(rt: HostRuntime) -> Result<usize, Refusal> {
     let style = style_on_stderr(&rt, "[{bar:40.cyan/blue}] {pos}/{len} {msg}")?;
     Ok(last_spinner(&style).len())
 }

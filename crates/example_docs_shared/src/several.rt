@@ -25,6 +25,7 @@ pub fn main<R: Shares + Print>(rt: R) -> Result<()> {
     warn_on(rt, &board)?;
     print_shown(rt, "LogBridge", &board)?;
     warn_in_form(rt, &board)?;
+    filter(&board)?;
     print_shown(rt, "with_form", &board)
 }
 
@@ -81,6 +82,11 @@ fn warn_in_form<R: Shares + Print>(rt: R, board: &Bars<R>) -> Result<(), Refusal
     let bridge = LogBridge::with_form(board.clone()?, LevelOnEachLine);
     let rt = Logged::new(rt, Level::Info, bridge);
     warn!(rt; "a\nb");
+    Ok(())
+}
+
+/// A bridge that lets warnings and errors through.
+fn filter<R: Shares + Print>(board: &Bars<R>) -> Result<(), Refusal> {
     let bridge = LogBridge::new(board.clone()?).with_filter(LevelFilter::Warn);
     Ok(())
 }

@@ -95,28 +95,41 @@ fn own(state: BarState<NoTracker>, target: ProgressDrawTarget<InMemoryTerm>) -> 
 
 fn owned<R: Shares + Print>(rt: R) -> Result<()> {
     let alloc = rt.alloc();
-    let state = BarState::new(alloc, Some(2), 0)?;
-    let bar = own(state, setup_of(alloc)?.target);
-    println!(rt;
-        "ProgressBarIter {}",
-        looped(bar, vec![in alloc; 1u64, 2]?).position()
-    )?;
-    let state = BarState::new(alloc, Some(2), 0)?;
-    let (first, bar) = first_of(
-        vec![in alloc; 7u64, 8]?,
-        own(state, setup_of(alloc)?.target),
-    );
-    println!(rt; "Moves {} {}", first.unwrap_or(0), bar.position())?;
-    let term = InMemoryTerm::new(alloc, 4, 20)?;
-    println!(rt;
-        "ProgressIterator {}",
-        progressed(alloc, term, vec![in alloc; 1u64, 2]?)?
-    )?;
-    println!(rt;
-        "try_progress {}",
-        tried(alloc, setup_of(alloc)?, vec![in alloc; 1u64, 2, 3]?)?
-    )?;
+    println!(rt; "ProgressBarIter {}", all_of_two(alloc)?)?;
+    let (first, position) = first_of_two(alloc)?;
+    println!(rt; "Moves {first} {position}")?;
+    println!(rt; "ProgressIterator {}", two_progressed(alloc)?)?;
+    println!(rt; "try_progress {}", three_tried(alloc)?)?;
     Ok(())
+}
+
+/// A bar of two steps, of its own.
+fn own_of_two(alloc: Global) -> Result<Own, Refusal> {
+    let target = setup_of(alloc)?.target;
+    Ok(own(BarState::new(alloc, Some(2), 0)?, target))
+}
+
+/// How far such a bar is behind a loop of two items.
+fn all_of_two(alloc: Global) -> Result<u64, Refusal> {
+    let items = vec![in alloc; 1u64, 2]?;
+    Ok(looped(own_of_two(alloc)?, items).position())
+}
+
+/// The first of two items, and how far such a bar is behind it.
+fn first_of_two(alloc: Global) -> Result<(u64, u64), Refusal> {
+    let items = vec![in alloc; 7u64, 8]?;
+    let (first, bar) = first_of(items, own_of_two(alloc)?);
+    Ok((first.unwrap_or(0), bar.position()))
+}
+
+fn two_progressed(alloc: Global) -> Result<u64, Refusal> {
+    let items = vec![in alloc; 1u64, 2]?;
+    progressed(alloc, InMemoryTerm::new(alloc, 4, 20)?, items)
+}
+
+fn three_tried(alloc: Global) -> Result<u64, Refusal> {
+    let items = vec![in alloc; 1u64, 2, 3]?;
+    tried(alloc, setup_of(alloc)?, items)
 }
 
 /// Goes through all items, and gives the bar back.
