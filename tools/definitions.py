@@ -2,10 +2,10 @@
 """Writes docs/DEFINITIONS.md: each definition of the crates' specs/ beside the plain words above it, and the standard
 that it comes from.
 
-usage: tools/definitions.py   (at the root of the repository)
+usage: tools/definitions.py [--check]   (at the root of the repository)
 
 It ends with 1 and writes nothing where a file has no source below, or where a source is given for a definition that is
-not there.
+not there. With --check it writes nothing, and ends with 1 where the page isn't what it would write.
 """
 import pathlib
 import re
@@ -221,7 +221,11 @@ def main():
             text += page_of(crate, path, faults)
     if faults:
         sys.exit("\n".join(faults))
-    pathlib.Path("docs/DEFINITIONS.md").write_text(folded("\n".join(text)))
+    page, written = pathlib.Path("docs/DEFINITIONS.md"), folded("\n".join(text))
+    if "--check" not in sys.argv[1:]:
+        page.write_text(written)
+    elif page.read_text() != written:
+        sys.exit(f"{page} isn't what the specs say: run tools/definitions.py")
 
 
 main()

@@ -121,7 +121,8 @@ module _ (w : ℕ) (on : List StandingLine) (before : List (List ℕ)) (p p' : P
       }
 
 -- the plan changes elsewhere
-pub still_has : (w : ℕ) (on : List StandingLine) (before : List (List ℕ)) (p p' : Plan) (ls : List StandingLine) → HasLines w on before p ls → p'.lines ≡ p.lines → p'.full ≡ p.full → HasLines w on before p' ls
+pub still_has : (w : ℕ) (on : List StandingLine) (before : List (List ℕ)) (p p' : Plan) (ls : List StandingLine) → HasLines w on before p ls → p'.lines ≡ p.lines → p'.full ≡ p.full →
+    HasLines w on before p' ls
 still_has w on before p p' ls e a c = record {
   lines_in = omega (arith, a, e.lines_in);
   all_in = λ f. a ∙ e.all_in (sym c ∙ f);
@@ -161,7 +162,8 @@ replicate_push : (k : ℕ) (x : List ℕ) → replicate k x ++ x ∷ [] ≡ repl
 replicate_push zero x = refl
 replicate_push (suc k) x = ap (λ ys. x ∷ ys) (replicate_push k x) ∙ ap (λ n. replicate n x) (let e : suc (k + 1) ≡ suc k + 1 = omega arith in e)
 
-pub one_blank_more : (k : ℕ) (blanks : List StandingLine) (x : StandingLine) → AreBlanks k blanks → string_bytes x.text ≡ [] → x.rows ≡ 1 → x.last ≡ 0 → x.like ≡ None → AreBlanks (k + 1) (blanks ++ x ∷ [])
+pub one_blank_more : (k : ℕ) (blanks : List StandingLine) (x : StandingLine) → AreBlanks k blanks → string_bytes x.text ≡ [] → x.rows ≡ 1 → x.last ≡ 0 → x.like ≡ None →
+    AreBlanks (k + 1) (blanks ++ x ∷ [])
 one_blank_more k blanks x b t r l n = record {
   count = omega (arith, length-append blanks (x ∷ []), b.count);
   empty = map-append (λ (l : StandingLine). string_bytes l.text) blanks (x ∷ []) ∙ ap (λ ys. ys ++ string_bytes x.text ∷ []) b.empty ∙ ap (λ y. replicate k [] ++ y ∷ []) t ∙ replicate_push k [];

@@ -39,6 +39,7 @@ module _ (w : ℕ) (lines : List StandingLine) (i : ℕ) (x : StandingLine) (h :
 -- ---- pieces of a text
 
 -- a character read from the front of a run
-pub first_of_run : (bs rest : List ℕ) (o : Option ℕ) (A : Type 0) → IsUtf8 bs → MatchOption o A (λ c. bs ≡ encode c ++ rest) → (A → length bs ≡ 0) → MatchOption o (chars bs ≡ []) (λ c. (more : List ℕ) × (chars bs ≡ c ∷ more))
+pub first_of_run : (bs rest : List ℕ) (o : Option ℕ) (A : Type 0) → IsUtf8 bs → MatchOption o A (λ c. bs ≡ encode c ++ rest) → (A → length bs ≡ 0) →
+    MatchOption o (chars bs ≡ []) (λ c. (more : List ℕ) × (chars bs ≡ c ∷ more))
 first_of_run bs rest None A u m empty = chars_none bs (empty m)
 first_of_run bs rest (Some c) A u m empty = (chars rest, past bs rest c u m)

@@ -76,7 +76,8 @@ first_split w (r ∷ b) p all = (r, b, refl, all.0, all.1)
 
 drop_past : {A : Type 0} (k : ℕ) (xs ys : List A) → length xs ≤ k → drop k (xs ++ ys) ≡ drop (k - length xs) ys
 drop_past k xs ys h =
-    ap (λ n. drop n (xs ++ ys)) (let e : k ≡ length xs + (k - length xs) = omega arith in e) ∙ sym (drop-drop (k - length xs) (length xs) (xs ++ ys)) ∙ ap (drop (k - length xs)) (drop_at xs ys (length xs) refl)
+    ap (λ n. drop n (xs ++ ys)) (let e : k ≡ length xs + (k - length xs) = omega arith in e) ∙ sym (drop-drop (k - length xs) (length xs) (xs ++ ys))
+    ∙ ap (drop (k - length xs)) (drop_at xs ys (length xs) refl)
 
 less_one : {A : Type 0} (k : ℕ) (x : A) (xs : List A) → 0 < k → drop (k - 1) xs ≡ drop k (x ∷ xs)
 less_one zero x xs p = absurd (omega arith)
@@ -123,7 +124,8 @@ module _ (w h : ℕ) (opening : Screen) (above gone : List (List Cell)) (line : 
       ap (λ x. performed_all (puts (seen_of (line ∷ lines))) x) (same_screen w h _ (a ++ r ∷ b) _ (length a) 0 0 before (sym a_length) refl)
       ∙ texts_over w h a r b (visible (chars line)) (seen_of lines) pos (all_fill w (line ∷ lines) solid) split.3 split.4
       ∙ ap (λ x. waiting w h (a ++ x) (drop (length x - 1) b)) cells
-      ∙ same_screen _ _ _ _ _ _ _ _ (ap (λ x. (a ++ rows) ++ x) behind ∙ ap (λ x. x ++ replicate left (blank_row w)) (append_assoc (over w h opening) above rows)) (omega (arith, length-append a rows, a_length, some_row)) refl
+      ∙ same_screen _ _ _ _ _ _ _ _ (ap (λ x. (a ++ rows) ++ x) behind ∙ ap (λ x. x ++ replicate left (blank_row w)) (append_assoc (over w h opening) above rows))
+      (omega (arith, length-append a rows, a_length, some_row)) refl
 
   over_keeps : Keeps (opening.row + length above) (resting start) bytes
   over_keeps =
@@ -189,7 +191,8 @@ module _ (w h : ℕ) (l l' : Lists) (kept gone : List (List Cell)) (line : List 
   first : StandsAfter w h opening before t up (before ++ back) (length before) l.reach l.below
   first = rises w h opening before back (length back - 1) (length before) l.reach l.below t (omega (arith, parts.1))
       (let a : l.reach ≤ length l.above + h = s.movable in omega (arith, parts.0, length-append l.above kept)) (omega arith)
-      (restand w h opening before t _ _ _ _ l.reach l.reach l.below l.below (sym (take-append-drop (length base) s.shown)) (omega (arith, at, parts.0, parts.1, length-append l.above kept)) refl refl (stands_from s))
+      (restand w h opening before t _ _ _ _ l.reach l.reach l.below l.below (sym (take-append-drop (length base) s.shown))
+      (omega (arith, at, parts.0, parts.1, length-append l.above kept)) refl refl (stands_from s))
 
   less : length back ≤ length new
   less = omega (arith, parts.1)

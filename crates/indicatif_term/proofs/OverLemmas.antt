@@ -124,13 +124,15 @@ module _ (w h : ℕ) where
   over_at a piece rest b = made w h (a ++ (flat_map glyph_cells piece ++ rest) ∷ b) (length a) (columns_in piece)
 
   put_over : (a : List (List Cell)) (cells rest : List Cell) (b : List (List Cell)) (column k : ℕ) (g : Glyph) → length cells ≡ column → IsClean (length cells) rest →
-      put_here g k (made w h (a ++ (cells ++ rest) ∷ b) (length a) column) ≡ made w h (a ++ ((cells ++ glyph_cells g) ++ emptied_front (drop (length (glyph_cells g)) rest)) ∷ b) (length a) (column + k)
+      put_here g k (made w h (a ++ (cells ++ rest) ∷ b) (length a) column) ≡ made w h (a ++ ((cells ++ glyph_cells g) ++ emptied_front (drop (length (glyph_cells g)) rest)) ∷ b) (length a)
+      (column + k)
   put_over a cells rest b column k g e clean =
       let new = (cells ++ glyph_cells g) ++ emptied_front (drop (length (glyph_cells g)) rest) in
       let here : cursor_row (made w h (a ++ (cells ++ rest) ∷ b) (length a) (length cells)) ≡ cells ++ rest = get_or_at a (cells ++ rest) b [] (length a) refl in
       rw (← e, here, written_over cells (glyph_cells g) rest clean, set_at a (cells ++ rest) b new (length a) refl) refl
 
-  put_base : (a : List (List Cell)) (piece : List Glyph) (rest : List Cell) (b : List (List Cell)) (c : ℕ) → 0 < width_of c → IsPiece piece → columns_in piece + width_of c ≤ w → IsClean (columns_in piece) rest →
+  put_base : (a : List (List Cell)) (piece : List Glyph) (rest : List Cell) (b : List (List Cell)) (c : ℕ) → 0 < width_of c → IsPiece piece → columns_in piece + width_of c ≤ w →
+      IsClean (columns_in piece) rest →
       performed (Put c) (over_at a piece rest b) ≡ over_at a (piece ++ record { base = c; marks = [] } ∷ []) (emptied_front (drop (width_of c) rest)) b
   put_base a piece rest b c pos is fits clean =
       let g : Glyph = record { base = c; marks = [] } in
@@ -159,7 +161,8 @@ module _ (w h : ℕ) where
       ∙ rw (here, row, set_at a (cells ++ rest) b (new ++ rest) (length a) refl) refl
       ∙ same_screen _ _ _ _ _ _ _ _ refl refl (columns_push piece g ∙ sym (columns_push piece (with_mark c g)))
 
-  marks_over : (a : List (List Cell)) (piece : List Glyph) (rest : List Cell) (b : List (List Cell)) (ms : List ℕ) (g : Glyph) → 0 < glyph_width g → IsPiece piece → AllByRecursion (λ c. char_width false c ≡ Some 0) ms →
+  marks_over : (a : List (List Cell)) (piece : List Glyph) (rest : List Cell) (b : List (List Cell)) (ms : List ℕ) (g : Glyph) → 0 < glyph_width g → IsPiece piece →
+      AllByRecursion (λ c. char_width false c ≡ Some 0) ms →
       performed_all (map (λ c. Put c) ms) (over_at a (piece ++ g ∷ []) rest b) ≡ over_at a (piece ++ record g { marks = g.marks ++ ms } ∷ []) rest b
   marks_over a piece rest b [] g pos is all = ap (λ ms. over_at a (piece ++ record g { marks = ms } ∷ []) rest b) (sym (append-nil g.marks))
   marks_over a piece rest b (m ∷ ms) g pos is all =
@@ -167,7 +170,8 @@ module _ (w h : ℕ) where
       ∙ marks_over a piece rest b ms (with_mark m g) pos is all.1
       ∙ ap (λ ms. over_at a (piece ++ record g { marks = ms } ∷ []) rest b) (append_assoc g.marks (m ∷ []) ms)
 
-  glyph_over : (a : List (List Cell)) (piece : List Glyph) (rest : List Cell) (b : List (List Cell)) (g : Glyph) → IsSized w g → IsPiece piece → columns_in piece + glyph_width g ≤ w → IsClean (columns_in piece) rest →
+  glyph_over : (a : List (List Cell)) (piece : List Glyph) (rest : List Cell) (b : List (List Cell)) (g : Glyph) → IsSized w g → IsPiece piece → columns_in piece + glyph_width g ≤ w →
+      IsClean (columns_in piece) rest →
       performed_all (glyph_ops g) (over_at a piece rest b) ≡ over_at a (piece ++ g ∷ []) (emptied_front (drop (glyph_width g) rest)) b
   glyph_over a piece rest b g sized is fits clean =
       let rest' = emptied_front (drop (glyph_width g) rest) in
@@ -202,7 +206,8 @@ module _ (w h : ℕ) where
   full_row piece rest e k =
       ap (λ x. flat_map glyph_cells piece ++ x) (nil_from_length rest (omega arith) ∙ ap (λ n. replicate n Blank) (let z : 0 ≡ w - columns_in piece = omega arith in z))
 
-  glyphs_over : (a : List (List Cell)) (piece : List Glyph) (rest : List Cell) (b : List (List Cell)) (gs : List Glyph) → AllByRecursion (IsSized w) gs → IsPiece piece → columns_in piece + length rest ≡ w →
+  glyphs_over : (a : List (List Cell)) (piece : List Glyph) (rest : List Cell) (b : List (List Cell)) (gs : List Glyph) → AllByRecursion (IsSized w) gs → IsPiece piece →
+      columns_in piece + length rest ≡ w →
       IsClean (columns_in piece) rest → AreWide w b → AreFull w (pieces_after w piece gs) →
       performed_all (flat_map glyph_ops gs) (over_at a piece rest b) ≡ after_pieces a (pieces_after w piece gs) b
   glyphs_over a piece rest b [] sized is k clean wide full =
@@ -257,7 +262,8 @@ module _ (w h : ℕ) where
       let count : length ps ≡ length (text_cells w cs) = sym (length-map ps (row_of w)) in
       ap (λ ops. performed_all ops (made w h (a ++ r ∷ b) (length a) 0)) (puts_glyphs cs f)
       ∙ glyphs_over a [] r b (glyphs_of cs) (glyphs_sized w cs f.printable) refl (omega (arith, wide)) (λ p. absurd (omega arith)) all f.full
-      ∙ same_screen _ _ _ _ _ _ _ _ (sym (append_assoc a (text_cells w cs) (drop (length ps - 1) b)) ∙ ap (λ n. (a ++ text_cells w cs) ++ drop (n - 1) b) count) (omega (arith, count, length-append a (text_cells w cs))) refl
+      ∙ same_screen _ _ _ _ _ _ _ _ (sym (append_assoc a (text_cells w cs) (drop (length ps - 1) b)) ∙ ap (λ n. (a ++ text_cells w cs) ++ drop (n - 1) b) count)
+      (omega (arith, count, length-append a (text_cells w cs))) refl
 
   no_glyph : (cs : List ℕ) → 0 < w → AreFull w (pieces_of w (glyphs_of cs)) → glyphs_of cs ≡ [] → ⊥
   no_glyph cs pos full e = let z : AreFull w (pieces_of w []) = subst (λ gs. AreFull w (pieces_of w gs)) e full in let q : 0 ≡ w = z.0 in omega arith
@@ -268,7 +274,8 @@ module _ (w h : ℕ) where
   last_split (x ∷ y ∷ rows) p = let s = last_split (y ∷ rows) (omega arith) in (x ∷ s.0, s.1, ap (λ z. x ∷ z) s.2)
 
   glyphs_next : (a : List (List Cell)) (x : List Cell) (b : List (List Cell)) (gs : List Glyph) → 0 < length gs → AllByRecursion (IsSized w) gs → AreWide w b → AreFull w (pieces_of w gs) →
-      performed_all (flat_map glyph_ops gs) (made w h (a ++ x ∷ b) (length a) w) ≡ made w h ((a ++ x ∷ []) ++ (map (row_of w) (pieces_of w gs) ++ drop (length (pieces_of w gs)) b)) (length (a ++ x ∷ []) + length (pieces_of w gs) - 1) w
+      performed_all (flat_map glyph_ops gs) (made w h (a ++ x ∷ b) (length a) w) ≡ made w h ((a ++ x ∷ []) ++ (map (row_of w) (pieces_of w gs) ++ drop (length (pieces_of w gs)) b))
+      (length (a ++ x ∷ []) + length (pieces_of w gs) - 1) w
   glyphs_next a x b [] some sized wide full = absurd (omega arith)
   glyphs_next a x b (g ∷ gs) some sized wide full =
       let n = below w b wide in
@@ -299,9 +306,11 @@ module _ (w h : ℕ) where
       let count : length ps ≡ length (text_cells w cs) = sym (length-map ps (row_of w)) in
       let rows_length : length rows ≡ length a + 1 = ap length s.2 ∙ length-append a (x ∷ []) in
       ap (λ ops. performed_all ops (waiting rows b)) (puts_glyphs cs f)
-      ∙ ap (performed_all (flat_map glyph_ops (glyphs_of cs))) (same_screen w h (rows ++ b) (a ++ x ∷ b) (length rows - 1) (length a) w w (ap (λ z. z ++ b) s.2 ∙ append_assoc a (x ∷ []) b) (omega arith) refl)
+      ∙ ap (performed_all (flat_map glyph_ops (glyphs_of cs))) (same_screen w h (rows ++ b) (a ++ x ∷ b) (length rows - 1) (length a) w w (ap (λ z. z ++ b) s.2 ∙ append_assoc a (x ∷ []) b)
+      (omega arith) refl)
       ∙ glyphs_next a x b (glyphs_of cs) (some_glyphs (glyphs_of cs) (no_glyph cs pos f.full)) (glyphs_sized w cs f.printable) wide f.full
-      ∙ same_screen _ _ _ _ _ _ _ _ (ap (λ z. z ++ (text_cells w cs ++ drop (length ps) b)) (sym s.2) ∙ sym (append_assoc rows (text_cells w cs) (drop (length ps) b)) ∙ ap (λ n. (rows ++ text_cells w cs) ++ drop n b) count)
+      ∙ same_screen _ _ _ _ _ _ _ _ (ap (λ z. z ++ (text_cells w cs ++ drop (length ps) b)) (sym s.2) ∙ sym (append_assoc rows (text_cells w cs) (drop (length ps) b))
+      ∙ ap (λ n. (rows ++ text_cells w cs) ++ drop n b) count)
       (omega (arith, ap length s.2, count, length-append rows (text_cells w cs))) refl
 
   -- ---- many texts

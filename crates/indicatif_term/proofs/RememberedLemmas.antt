@@ -39,7 +39,8 @@ line_at w (y ∷ ls) (suc i) x all h e = line_at w ls i x all.1 (omega arith) e
 
 -- ---- places
 
-pub at_next : (w : ℕ) (ls : List StandingLine) (at : Place) (row : ℕ) (x : StandingLine) → at.index < length ls → get_or ls at.index x ≡ x → row ≡ min (at.row + x.rows) (2 ^ 64 - 1) → AreLines w ls → IsAt w ls at →
+pub at_next : (w : ℕ) (ls : List StandingLine) (at : Place) (row : ℕ) (x : StandingLine) → at.index < length ls → get_or ls at.index x ≡ x → row ≡ min (at.row + x.rows) (2 ^ 64 - 1) →
+    AreLines w ls → IsAt w ls at →
     IsAt w ls (record { index = at.index + 1; row = row })
 at_next w ls at row x h e r all is = λ small.
     let exact : row ≡ at.row + x.rows = omega arith in
@@ -101,16 +102,20 @@ changed_in w free ls n x front last more p h e s k =
     let r = parts_same (placed (take (n - 1) ls)) front (placed_of x) last (placed (drop (n - 1 + 1) ls)) more (sym (split_around ls (n - 1) x (omega arith) e) ∙ s)
     (length-map (take (n - 1) ls) placed_of ∙ length-take-le (n - 1) ls (omega arith) ∙ omega (arith, k)) in
     ap (λ m. change_bytes w free (placed (take (n - 1) ls)) (placed_of x) (placed (drop m ls))) next
-    ∙ ap (λ ps. change_bytes w free ps (placed_of x) (placed (drop (n - 1 + 1) ls))) r.0 ∙ ap (λ p. change_bytes w free front p (placed (drop (n - 1 + 1) ls))) r.1 ∙ ap (change_bytes w free front last) r.2
+    ∙ ap (λ ps. change_bytes w free ps (placed_of x) (placed (drop (n - 1 + 1) ls))) r.0 ∙ ap (λ p. change_bytes w free front p (placed (drop (n - 1 + 1) ls))) r.1
+    ∙ ap (change_bytes w free front last) r.2
 
-pub changed_by : (w free : ℕ) (ls a b : List StandingLine) (n : ℕ) (x : StandingLine) (front : List PlacedLine) (last : PlacedLine) (more : List PlacedLine) → a ≡ ls → b ≡ ls → 0 < n → n ≤ length ls → get_or ls (n - 1) x ≡ x →
-    placed ls ≡ front ++ last ∷ more → length front + 1 ≡ n → change_bytes w free (placed (take (n - 1) a)) (placed_of x) (placed (take (length b - n) (drop n b))) ≡ change_bytes w free front last more
+pub changed_by : (w free : ℕ) (ls a b : List StandingLine) (n : ℕ) (x : StandingLine) (front : List PlacedLine) (last : PlacedLine) (more : List PlacedLine) → a ≡ ls → b ≡ ls → 0 < n →
+    n ≤ length ls → get_or ls (n - 1) x ≡ x →
+    placed ls ≡ front ++ last ∷ more → length front + 1 ≡ n → change_bytes w free (placed (take (n - 1) a)) (placed_of x)
+    (placed (take (length b - n) (drop n b))) ≡ change_bytes w free front last more
 changed_by w free ls a b n x front last more ea eb p h e s k =
     ap (λ xs. change_bytes w free (placed (take (n - 1) a)) (placed_of x) (placed xs)) (take_all (length b - n) (drop n b) (omega (arith, length-drop n b)))
     ∙ ap (λ xs. change_bytes w free (placed (take (n - 1) xs)) (placed_of x) (placed (drop n b))) ea ∙ ap (λ xs. change_bytes w free (placed (take (n - 1) ls)) (placed_of x) (placed (drop n xs))) eb
     ∙ changed_in w free ls n x front last more p h e s k
 
-pub height_to : (ls : List StandingLine) (n : ℕ) (x : StandingLine) → 0 < n → n ≤ length ls → get_or ls (n - 1) x ≡ x → placed_height (placed (take (n - 1) ls)) + x.rows ≡ placed_height (placed (take n ls))
+pub height_to : (ls : List StandingLine) (n : ℕ) (x : StandingLine) → 0 < n → n ≤ length ls → get_or ls (n - 1) x ≡ x →
+    placed_height (placed (take (n - 1) ls)) + x.rows ≡ placed_height (placed (take n ls))
 height_to ls n x p h e = sym (height_push ls (n - 1) x (omega arith) e) ∙ ap (λ m. placed_height (placed (take m ls))) (let next : n - 1 + 1 ≡ n = omega arith in next)
 
 -- the columns behind the last of lines
@@ -139,7 +144,8 @@ pub one_more_passed : (ls : List StandingLine) (rows n : ℕ) (room : Room) (x :
     ArePassed ls rows (n + 1) (record { lines = n + 1; free = room.free - x.rows })
 one_more_passed ls rows n room x p h e k = record { lines_are = refl; in_lines = omega arith; rows_are = omega (arith, p.rows_are, height_push ls n x h e) }
 
-pub within_passed : (ls : List StandingLine) (rows n : ℕ) (room : Room) (found : Option Room) → ArePassed ls rows n room → IfSome found (λ r. (r ≡ room) × (0 < room.lines)) → IfSome found (λ r. IsWithin ls rows r)
+pub within_passed : (ls : List StandingLine) (rows n : ℕ) (room : Room) (found : Option Room) → ArePassed ls rows n room → IfSome found (λ r. (r ≡ room) × (0 < room.lines)) →
+    IfSome found (λ r. IsWithin ls rows r)
 within_passed ls rows n room None p e = tt
 within_passed ls rows n room (Some r) p e =
     rw e.0 (record { some = e.1; in_lines = omega (arith, p.lines_are, p.in_lines); rows_are = rw p.lines_are p.rows_are })

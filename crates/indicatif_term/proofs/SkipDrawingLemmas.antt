@@ -110,7 +110,8 @@ module _ (w h : ℕ) (l l' : Lists) (kept gone : List (List Cell)) (ps : List Pl
       (λ e. changed.column)
 
   keeps_changed : Keeps (opening.row + length l.above) t (change_bytes w (length rest) ps p more)
-  keeps_changed = keeps_fewer (opening.row + length l.above) (opening.row + length front) t (change_bytes w (length rest) ps p more) (omega (arith, length-append l.above kept, parts.0)) changed.leads.keeps
+  keeps_changed = keeps_fewer (opening.row + length l.above) (opening.row + length front) t (change_bytes w (length rest) ps p more)
+      (omega (arith, length-append l.above kept, parts.0)) changed.leads.keeps
 
   pub change_shows : Shows w h opening l' (after t (change_bytes w taken ps p more))
   change_shows = subst (λ n. Shows w h opening l' (after t (change_bytes w n ps p more))) rest_length shows_changed
@@ -119,7 +120,8 @@ module _ (w h : ℕ) (l l' : Lists) (kept gone : List (List Cell)) (ps : List Pl
   change_keeps = subst (λ n. Keeps (opening.row + length l.above) t (change_bytes w n ps p more)) rest_length keeps_changed
 
 -- lines among which some stay in the first of these rows, the others taken back, and more lines below them
-pub change_redraws : (w h : ℕ) (l l' : Lists) (kept gone : List (List Cell)) (ps : List PlacedLine) (p : PlacedLine) (more : List PlacedLine) (taken : ℕ) → 0 < w → w ≤ GREATEST → l.below ≡ false → l'.below ≡ false →
+pub change_redraws : (w h : ℕ) (l l' : Lists) (kept gone : List (List Cell)) (ps : List PlacedLine) (p : PlacedLine) (more : List PlacedLine) (taken : ℕ) → 0 < w → w ≤ GREATEST → l.below ≡ false →
+    l'.below ≡ false →
     length gone ≤ GREATEST → AreSitting w (looks_of gone) (ps ++ p ∷ more) → 0 < p.rows → AreDrawable w (placed_lines ps) → IsDrawable w p.line → AreDrawable w (placed_lines more) →
     placed_height ps + p.rows + taken ≡ length gone →
     (lists_height l ≤ l.reach → l.reach ≤ length l.above + h → Replaces w h l l' kept gone ((placed_lines ps ++ p.line ∷ []) ++ placed_lines more)) → Redraws w h l l' (change_bytes w taken ps p more)

@@ -39,7 +39,8 @@ sitting_both w (p ∷ ps) qs looks a b = (a.0, sitting_both w ps qs (drop p.rows
 pub sitting_front : (w n : ℕ) (ps : List PlacedLine) (looks : List (List Cell)) → placed_height ps ≤ n → AreSitting w looks ps → AreSitting w (take n looks) ps
 sitting_front w n [] looks k s = tt
 sitting_front w n (p ∷ ps) looks k s =
-    let rest : drop p.rows (take n looks) ≡ take (n - p.rows) (drop p.rows looks) = ap (λ m. drop p.rows (take m looks)) (let e : n ≡ p.rows + (n - p.rows) = omega arith in e) ∙ drop-take p.rows (n - p.rows) looks in (
+    let rest : drop p.rows (take n looks) ≡ take (n - p.rows) (drop p.rows looks) =
+    ap (λ m. drop p.rows (take m looks)) (let e : n ≡ p.rows + (n - p.rows) = omega arith in e) ∙ drop-take p.rows (n - p.rows) looks in (
       record { rows_are = s.0.rows_are; last_is = s.0.last_is; same = λ e. take-take p.rows n looks (omega arith) ∙ s.0.same e },
       subst (λ x. AreSitting w x ps) (sym rest) (sitting_front w (n - p.rows) ps (drop p.rows looks) (omega arith) s.1),
     )
@@ -180,15 +181,18 @@ module _ (w h : ℕ) (opening : Screen) (above : List (List Cell)) where
       let n = length f.front in
       let upper = take n old in
       let lower = drop n old in
-      let lower_looks : looks_of lower ≡ map look x ∷ [] = sym (drop-map (map look) n old) ∙ ap (drop n) looks ∙ drop-map (map look) n (f.front ++ x ∷ []) ∙ ap looks_of (drop_at f.front (x ∷ []) n refl) in
+      let lower_looks : looks_of lower ≡ map look x ∷ [] = sym (drop-map (map look) n old) ∙ ap (drop n) looks ∙ drop-map (map look) n (f.front ++ x ∷ [])
+      ∙ ap looks_of (drop_at f.front (x ∷ []) n refl) in
       let seen = last_seen lower x lower_looks in
       let r = seen.0 in
       let whole : upper ++ r ∷ [] ≡ old = ap (λ y. upper ++ y) (sym seen.1) ∙ take-append-drop n old in
       let count : p.rows ≡ n + 1 = omega (arith, sit.rows_are, ap length split, length-append f.front (x ∷ [])) in
       let cells_length : length f.cells ≡ p.last = f.columns_are ∙ sym sit.last_is in
-      let r_length : length r ≡ p.last + free = sym (length-map r look) ∙ ap length seen.2 ∙ length-map x look ∙ length-append f.cells (replicate free Blank) ∙ omega (arith, cells_length, length-replicate free Blank) in
+      let r_length : length r ≡ p.last + free = sym (length-map r look) ∙ ap length seen.2 ∙ length-map x look ∙ length-append f.cells (replicate free Blank)
+      ∙ omega (arith, cells_length, length-replicate free Blank) in
       let behind : map look (drop p.last r) ≡ replicate free Blank =
-      sym (drop-map look p.last r) ∙ ap (drop p.last) (seen.2 ∙ map-append look f.cells (replicate free Blank)) ∙ drop_at (map look f.cells) (map look (replicate free Blank)) p.last (length-map f.cells look ∙ cells_length)
+      sym (drop-map look p.last r) ∙ ap (drop p.last) (seen.2 ∙ map-append look f.cells (replicate free Blank))
+      ∙ drop_at (map look f.cells) (map look (replicate free Blank)) p.last (length-map f.cells look ∙ cells_length)
       ∙ blanks_look free in
       let far = down + p.rows - 1 in
       let moved = move_bytes 0x42 far in
@@ -196,16 +200,20 @@ module _ (w h : ℕ) (opening : Screen) (above : List (List Cell)) where
       let here : length above + length more + p.rows - 1 ≡ length above + length (more ++ upper) = omega (arith, length-append more upper, parts.0, count) in
       let s' = restand w h opening above (after t moved) _ (above ++ ((more ++ upper) ++ r ∷ [])) _ (length above + length more + p.rows - 1) _ reach _ front
       (ap (λ y. above ++ (more ++ y)) (sym whole) ∙ ap (λ y. above ++ y) (sym (append_assoc more upper (r ∷ [])))) (omega (arith, e, count)) refl refl fall.stands in
-      let edge = edge_leads w h opening above (more ++ upper) [] r p.last free (length above + length more + p.rows - 1) reach front (after t moved) low r_length behind (omega arith) (omega arith) here s' in
-      let row' = ended_row w h opening above (more ++ upper) [] r p.last free (length above + length more + p.rows - 1) reach front (after t moved) low r_length behind (omega arith) (omega arith) here s' in
-      let row_look : map look row' ≡ map look r = ended_look w h opening above (more ++ upper) [] r p.last free (length above + length more + p.rows - 1) reach front (after t moved) low r_length behind (omega arith) (omega arith) here s' in
+      let edge = edge_leads w h opening above (more ++ upper) [] r p.last free (length above + length more + p.rows - 1) reach front (after t moved) low r_length behind (omega arith)
+      (omega arith) here s' in
+      let row' = ended_row w h opening above (more ++ upper) [] r p.last free (length above + length more + p.rows - 1) reach front (after t moved) low r_length behind (omega arith)
+      (omega arith) here s' in
+      let row_look : map look row' ≡ map look r = ended_look w h opening above (more ++ upper) [] r p.last free (length above + length more + p.rows - 1) reach front
+      (after t moved) low r_length behind (omega arith) (omega arith) here s' in
       record {
         new = upper ++ row' ∷ [];
         leads = leads_then w h opening above t moved (edge_bytes p.last free) _ _ _ _ reach reach front false fall
             (relead w h opening above (after t moved) (edge_bytes p.last free) _ _ _ _ reach reach false false (ap (λ y. above ++ y) (append_assoc more upper (row' ∷ []))) refl refl refl edge);
         looks = looks-append upper (row' ∷ []) ∙ cc (parts.2, row_look, seen.2) ∙ sym (looks-append f.front (x ∷ [])) ∙ ap looks_of (sym split);
         column = ap (λ u. u.screen.column) (after-append t moved (edge_bytes p.last free))
-            ∙ edge_column w h opening above (more ++ upper) [] r p.last free (length above + length more + p.rows - 1) reach front (after t moved) low r_length behind (omega arith) (omega arith) here s';
+            ∙ edge_column w h opening above (more ++ upper) [] r p.last free (length above + length more + p.rows - 1) reach front (after t moved) low r_length behind (omega arith)
+            (omega arith) here s';
       }
 
   pub last_leads : (p : PlacedLine) (old more : List (List Cell)) (down row reach : ℕ) (front : Bool) (t : Terminal) → 0 < w → w ≤ GREATEST → (IsTrue p.stays → p.last < w) →
@@ -243,7 +251,8 @@ module _ (w h : ℕ) (opening : Screen) (above : List (List Cell)) where
       let down = walk_down 0 ps in
       let t' = after (after t up) (walk_bytes 0 ps) in
       let end = last_leads p below upper down (length above + n - down) reach false t' pos low room (subst (λ x. Sits w x p) (drop-map (map look) n old) last) dp (sym below_length)
-      (let z = walk_low w 0 ps (looks_of old) sit in omega arith) m (let z = walk_low w 0 ps (looks_of old) sit in omega (arith, upper_length)) (let z = walk_low w 0 ps (looks_of old) sit in omega arith)
+      (let z = walk_low w 0 ps (looks_of old) sit in omega arith) m (let z = walk_low w 0 ps (looks_of old) sit in omega (arith, upper_length))
+      (let z = walk_low w 0 ps (looks_of old) sit in omega arith)
       (restand w h opening above t' _ _ _ _ reach reach false false refl (omega arith) refl refl walk.stands) in
       let both = leads_then w h opening above (after t up) (walk_bytes 0 ps) (last_bytes w down p) _ _ _ _ reach reach false false walk
       (relead w h opening above t' (last_bytes w down p) _ _ _ (length above + length old - 1) reach reach false false refl (omega (arith, upper_length)) refl refl end.leads) in
@@ -251,7 +260,8 @@ module _ (w h : ℕ) (opening : Screen) (above : List (List Cell)) where
         new = upper ++ end.new;
         leads = leads_then w h opening above t up (walk_bytes 0 ps ++ last_bytes w down p) _ _ _ _ reach reach false false first both;
         looks = looks-append upper end.new ∙ cc (written_looks w old ps sit, end.looks) ∙ sym (looks-append (lines_rows w (placed_lines ps)) (rows_of w (chars p.line)))
-            ∙ ap looks_of (ap (λ x. lines_rows w (placed_lines ps) ++ x) (sym (append-nil (rows_of w (chars p.line)))) ∙ sym (flat_map-append (λ line. rows_of w (chars line)) (placed_lines ps) (p.line ∷ [])));
+            ∙ ap looks_of (ap (λ x. lines_rows w (placed_lines ps) ++ x) (sym (append-nil (rows_of w (chars p.line))))
+            ∙ sym (flat_map-append (λ line. rows_of w (chars line)) (placed_lines ps) (p.line ∷ [])));
         column = ap (λ u. u.screen.column) (after-append t up (walk_bytes 0 ps ++ last_bytes w down p) ∙ after-append (after t up) (walk_bytes 0 ps) (last_bytes w down p)) ∙ end.column;
       }
 
@@ -370,7 +380,8 @@ module _ (w h : ℕ) (opening : Screen) (above : List (List Cell)) where
   seen_length a b e = sym (length-map a (map look)) ∙ ap length e ∙ length-map b (map look)
 
   -- where the cursor is below lines of which the last is filled, or still at the end of the row above them
-  more_column : (lines : List (List ℕ)) (upper : List (List Cell)) (t : Terminal) (reach : ℕ) → 0 < w → 0 < length above + length upper → length above + length upper ≤ reach → AreDrawable w lines → IsFull w lines →
+  more_column : (lines : List (List ℕ)) (upper : List (List Cell)) (t : Terminal) (reach : ℕ) → 0 < w → 0 < length above + length upper → length above + length upper ≤ reach → AreDrawable w lines →
+      IsFull w lines →
       t.screen.column ≡ w → Stands w h opening (above ++ upper) (length above + length upper - 1) reach false t → (after t (lines_bytes true lines)).screen.column ≡ w
   more_column [] upper t reach pos some g d full at s = nothing_column t ∙ at
   more_column (line ∷ lines) upper t reach pos some g d full at s = lines_column w h opening above (line ∷ lines) true upper t reach pos (omega arith) (λ e. some) g d full s

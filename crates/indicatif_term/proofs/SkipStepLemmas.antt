@@ -59,7 +59,8 @@ pub text_among : (w h : ℕ) (a b : List (List Cell)) (line : List ℕ) (m : ℕ
 text_among w h a b line m d e =
     let is = is_text w line d.utf8 d.plain d.narrow in
     let same : encodes (chars line) ≡ line = encodes-chars line d.utf8 in
-    subst (λ bytes. after (resting (made w h (a ++ (replicate m (blank_row w) ++ b)) (length a) 0)) bytes ≡ resting (made w h (a ++ (rows_of w (chars line) ++ b)) (length a + m - 1) (last_columns w (chars line)))) same
+    subst (λ bytes. after (resting (made w h (a ++ (replicate m (blank_row w) ++ b)) (length a) 0)) bytes ≡ resting
+    (made w h (a ++ (rows_of w (chars line) ++ b)) (length a + m - 1) (last_columns w (chars line)))) same
     (after_asks _ _ (encodes (chars line)) (map (λ c. Put c) (visible (chars line))) (text_asks w (chars line) is) (text_ops w h a b (chars line) is m e))
 
 module _ (w h : ℕ) (opening : Screen) (above : List (List Cell)) where
@@ -71,7 +72,8 @@ module _ (w h : ℕ) (opening : Screen) (above : List (List Cell)) where
 
   pub falls : (rows : List (List Cell)) (k row reach : ℕ) (front : Bool) (t : Terminal) → k ≤ GREATEST → row + k < length above + length rows → length above ≤ suc row →
       Stands w h opening (above ++ rows) row reach front t → StandsAfter w h opening above t (move_bytes 0x42 k) (above ++ rows) (row + k) reach front
-  falls rows zero row reach front t small within low s = nothing_leads w h opening above t _ (row + 0) reach front (omega arith) (restand w h opening above t _ _ _ _ reach reach front front refl (omega arith) refl refl s)
+  falls rows zero row reach front t small within low s = nothing_leads w h opening above t _ (row + 0) reach front (omega arith)
+      (restand w h opening above t _ _ _ _ reach reach front front refl (omega arith) refl refl s)
   falls rows (suc k) row reach front t small within low s =
       let s' = screen_of w h opening (above ++ rows) s.below row s.column in
       let asks = down_asks (suc k) (omega arith) (omega arith) in
@@ -86,14 +88,17 @@ module _ (w h : ℕ) (opening : Screen) (above : List (List Cell)) where
   empties_in : (gone more rest : List (List Cell)) (row reach : ℕ) (t : Terminal) → suc row ≡ length above + length more →
       Stands w h opening (above ++ (more ++ (gone ++ rest))) row reach true t →
       StandsAfter w h opening above t (rows_down (length gone)) (above ++ (more ++ (replicate (length gone) (blank_row w) ++ rest))) (row + length gone) reach true
-  empties_in [] more rest row reach t e s = relead w h opening above t [] _ _ _ _ reach reach true true refl (omega arith) refl refl (nothing_leads w h opening above t _ row reach true (omega arith) s)
+  empties_in [] more rest row reach t e s = relead w h opening above t [] _ _ _ _ reach reach true true refl (omega arith) refl refl
+      (nothing_leads w h opening above t _ row reach true (omega arith) s)
   empties_in (r ∷ gone) more rest row reach t e s =
       let blanks = replicate (length gone) (blank_row w) in
       let down = down_leads w h opening above t (more ++ r ∷ (gone ++ rest)) row reach true s (omega (arith, e, length-append more (r ∷ (gone ++ rest)))) (omega arith) in
-      let clear = clear_leads w h opening above (after t next_row) more r (gone ++ rest) reach true (restand w h opening above (after t next_row) _ _ _ _ reach reach true true refl e refl refl down.stands) in
+      let clear = clear_leads w h opening above (after t next_row) more r (gone ++ rest) reach true
+      (restand w h opening above (after t next_row) _ _ _ _ reach reach true true refl e refl refl down.stands) in
       let both = leads_then w h opening above t next_row clear_bytes _ _ _ _ reach reach true true down clear in
       let lower = empties_in gone (more ++ blank_row w ∷ []) rest (suc row) reach (after t (next_row ++ clear_bytes)) (omega (arith, e, length-append more (blank_row w ∷ [])))
-      (restand w h opening above (after t (next_row ++ clear_bytes)) _ _ _ _ reach reach true true (ap (λ x. above ++ x) (sym (append_assoc more (blank_row w ∷ []) (gone ++ rest)))) (sym e) refl refl both.stands) in
+      (restand w h opening above (after t (next_row ++ clear_bytes)) _ _ _ _ reach reach true true (ap (λ x. above ++ x) (sym (append_assoc more (blank_row w ∷ []) (gone ++ rest))))
+      (sym e) refl refl both.stands) in
       leads_then w h opening above t (next_row ++ clear_bytes) (rows_down (length gone)) _ _ _ _ reach reach true true both
       (relead w h opening above (after t (next_row ++ clear_bytes)) (rows_down (length gone)) _ _ _ _ reach reach true true
       (ap (λ x. above ++ x) (append_assoc more (blank_row w ∷ []) (blanks ++ rest))) (omega arith) refl refl lower)
@@ -108,9 +113,11 @@ module _ (w h : ℕ) (opening : Screen) (above : List (List Cell)) where
       (restand w h opening above (after t clear_bytes) _ _ _ _ reach reach true true (ap (λ x. above ++ x) (sym (append_assoc more (blank_row w ∷ []) (rs ++ rest)))) refl refl refl clear.stands) in
       let both = leads_then w h opening above t clear_bytes (rows_down n) _ _ _ _ reach reach true true clear down in
       let blanks = replicate n (blank_row w) in
-      let up = rises w h opening above ((more ++ blank_row w ∷ []) ++ (blanks ++ rest)) n (length above + length more) reach true (after t (clear_bytes ++ rows_down n)) few (omega arith) (omega arith) both.stands in
+      let up = rises w h opening above ((more ++ blank_row w ∷ []) ++ (blanks ++ rest)) n (length above + length more) reach true (after t (clear_bytes ++ rows_down n)) few (omega arith)
+      (omega arith) both.stands in
       let one : n ≡ suc n - 1 = omega arith in
-      subst (λ k. StandsAfter w h opening above t ((clear_bytes ++ rows_down k) ++ move_bytes 0x41 k) (above ++ (more ++ (replicate (suc n) (blank_row w) ++ rest))) (length above + length more) reach true) one
+      subst (λ k. StandsAfter w h opening above t ((clear_bytes ++ rows_down k) ++ move_bytes 0x41 k) (above ++ (more ++ (replicate (suc n) (blank_row w) ++ rest)))
+      (length above + length more) reach true) one
       (relead w h opening above t _ _ _ _ _ reach reach true true (ap (λ x. above ++ x) (append_assoc more (blank_row w ∷ []) (blanks ++ rest))) refl refl refl
       (leads_then w h opening above t (clear_bytes ++ rows_down n) (move_bytes 0x41 n) _ _ _ _ reach reach true true both up))
 
@@ -153,7 +160,13 @@ module _ (w h : ℕ) (opening : Screen) (above : List (List Cell)) where
         length-append more (rows_of w (chars line) ++ rest),
         length-append (rows_of w (chars line)) rest,
       ) in
-      let long : n + m ≤ length new = omega (arith, e, length-append above (more ++ (rows_of w (chars line) ++ rest)), length-append more (rows_of w (chars line) ++ rest), length-append (rows_of w (chars line)) rest) in
+      let long : n + m ≤ length new = omega (
+        arith,
+        e,
+        length-append above (more ++ (rows_of w (chars line) ++ rest)),
+        length-append more (rows_of w (chars line) ++ rest),
+        length-append (rows_of w (chars line)) rest,
+      ) in
       leads_from w h opening above old new t line n (n + m - 1) reach reach s.below (last_columns w (chars line)) true false s
       (subst (Keeps (opening.row + length above) (resting s')) same (text_keeps w (opening.row + length above) s' (chars line)
       (record { below = omega arith; in_rows = omega (arith, total w h opening old s.below s.opens, s.in_rows); window = window w h opening s.opens }) (is_text w line d.utf8 d.plain d.narrow)))
@@ -181,7 +194,8 @@ module _ (w h : ℕ) (opening : Screen) (above : List (List Cell)) where
       (restand w h opening above (after t moved) _ _ _ _ reach reach front front refl e refl refl fall.stands))
 
   pub changed_leads : (gone more rest : List (List Cell)) (line : List ℕ) (down row reach : ℕ) (front : Bool) (t : Terminal) → down ≤ GREATEST → length gone ≤ GREATEST → reach ≤ length above + h →
-      IsDrawable w line → length gone ≡ length (rows_of w (chars line)) → row + down ≡ length above + length more → length above ≤ suc row → Stands w h opening (above ++ (more ++ (gone ++ rest))) row reach front t →
+      IsDrawable w line → length gone ≡ length (rows_of w (chars line)) → row + down ≡ length above + length more → length above ≤ suc row →
+      Stands w h opening (above ++ (more ++ (gone ++ rest))) row reach front t →
       StandsAfter w h opening above t (changed_bytes down (length gone) line) (above ++ (more ++ (rows_of w (chars line) ++ rest))) (length above + length more + length gone - 1) reach false
   changed_leads gone more rest line down row reach front t small few m d k e low s =
       let some : 0 < length (rows_of w (chars line)) = rows_some w (chars line) in
@@ -192,7 +206,8 @@ module _ (w h : ℕ) (opening : Screen) (above : List (List Cell)) where
       (leads_then w h opening above t bytes line _ _ _ _ reach reach true false first (text_in more rest (length gone) (after t bytes) line reach d k first.stands))
 
   pub changed_column : (gone more rest : List (List Cell)) (line : List ℕ) (down row reach : ℕ) (front : Bool) (t : Terminal) → down ≤ GREATEST → length gone ≤ GREATEST → reach ≤ length above + h →
-      IsDrawable w line → length gone ≡ length (rows_of w (chars line)) → row + down ≡ length above + length more → length above ≤ suc row → Stands w h opening (above ++ (more ++ (gone ++ rest))) row reach front t →
+      IsDrawable w line → length gone ≡ length (rows_of w (chars line)) → row + down ≡ length above + length more → length above ≤ suc row →
+      Stands w h opening (above ++ (more ++ (gone ++ rest))) row reach front t →
       (after t (changed_bytes down (length gone) line)).screen.column ≡ last_columns w (chars line)
   changed_column gone more rest line down row reach front t small few m d k e low s =
       let some : 0 < length (rows_of w (chars line)) = rows_some w (chars line) in
@@ -264,17 +279,20 @@ module _ (w h n : ℕ) where
       ∙ ap (λ x. made w h x (length a) (length cells + 1)) (set_at a (cells ++ c ∷ rest) b ((cells ++ space ∷ []) ++ rest) (length a) refl)
 
   spaces_put : (rest cells : List Cell) (a b : List (List Cell)) → AllByRecursion IsFree rest → length cells + length rest ≤ w →
-      performed_all (replicate (length rest) (Put 0x20)) (made w h (a ++ (cells ++ rest) ∷ b) (length a) (length cells)) ≡ made w h (a ++ (cells ++ replicate (length rest) space) ∷ b) (length a) (length cells + length rest)
+      performed_all (replicate (length rest) (Put 0x20)) (made w h (a ++ (cells ++ rest) ∷ b) (length a) (length cells)) ≡ made w h (a ++ (cells ++ replicate (length rest) space) ∷ b) (length a)
+      (length cells + length rest)
   spaces_put [] cells a b all room = same_screen _ _ _ _ _ _ _ _ refl refl (omega arith)
   spaces_put (c ∷ rest) cells a b all room =
       let k = length-append cells (space ∷ []) in
-      ap (performed_all (replicate (length rest) (Put 0x20))) (space_put a cells c rest b all.0 all.1 (omega arith) ∙ same_screen w h _ (a ++ ((cells ++ space ∷ []) ++ rest) ∷ b) _ (length a) _ (length (cells ++ space ∷ [])) refl refl (sym k))
+      ap (performed_all (replicate (length rest) (Put 0x20))) (space_put a cells c rest b all.0 all.1 (omega arith)
+      ∙ same_screen w h _ (a ++ ((cells ++ space ∷ []) ++ rest) ∷ b) _ (length a) _ (length (cells ++ space ∷ [])) refl refl (sym k))
       ∙ spaces_put rest (cells ++ space ∷ []) a b all.1 (omega (arith, k))
       ∙ same_screen _ _ _ _ _ _ _ _ (ap (λ x. a ++ x ∷ b) (append_assoc cells (space ∷ []) (replicate (length rest) space))) refl (omega (arith, k))
 
   right_stays : (rows : List (List Cell)) (row k : ℕ) → n ≤ row + 1 →
       (take n (performed (Right k) (made w h rows row 0)).rows ≡ take n rows) × (n ≤ (performed (Right k) (made w h rows row 0)).row + 1)
-  right_stays rows row k low = cond_both (eqb 0 w) (made w h rows row 0) (made w h rows row (min (0 + k) (w - 1))) (λ s. (take n s.rows ≡ take n rows) × (n ≤ s.row + 1)) (λ e. (refl, low)) (λ e. (refl, low))
+  right_stays rows row k low = cond_both (eqb 0 w) (made w h rows row 0) (made w h rows row (min (0 + k) (w - 1))) (λ s. (take n s.rows ≡ take n rows) × (n ≤ s.row + 1)) (λ e. (refl, low))
+      (λ e. (refl, low))
 
   -- what leads there
   pub record Does (s s' : Screen) (bytes : List ℕ) : Type 0 where
@@ -365,7 +383,8 @@ module _ (w h : ℕ) (opening : Screen) (above : List (List Cell)) (more rest : 
   end : made w h (a ++ ended_row ∷ b) (length a) w ≡ screen_of w h opening (above ++ (more ++ ended_row ∷ rest)) s.below row w
   end = same_screen w h _ (over w h opening ++ (above ++ (more ++ ended_row ∷ rest)) ++ replicate s.below (blank_row w)) _ _ w w (simp append_assoc refl) a_length refl
 
-  led : after (resting (screen_of w h opening (above ++ (more ++ r ∷ rest)) s.below row s.column)) (edge_bytes k m) ≡ resting (screen_of w h opening (above ++ (more ++ ended_row ∷ rest)) s.below row w)
+  led : after (resting (screen_of w h opening (above ++ (more ++ r ∷ rest)) s.below row s.column)) (edge_bytes k m) ≡ resting
+      (screen_of w h opening (above ++ (more ++ ended_row ∷ rest)) s.below row w)
   led = ap (λ x. after (resting x) (edge_bytes k m)) start ∙ done.leads ∙ ap (λ x. resting x) end
 
   pub edge_leads : StandsAfter w h opening above t (edge_bytes k m) (above ++ (more ++ ended_row ∷ rest)) row reach false
@@ -431,6 +450,7 @@ ends_free w line d =
     record {
       front = map (row_of w) l.front;
       cells = flat_map glyph_cells l.piece;
-      split = ap (map (row_of w)) l.split ∙ map-append (row_of w) l.front (l.piece ∷ []) ∙ ap (λ n. map (row_of w) l.front ++ (flat_map glyph_cells l.piece ++ replicate (w - n) Blank) ∷ []) (sym l.columns_are);
+      split = ap (map (row_of w)) l.split ∙ map-append (row_of w) l.front (l.piece ∷ [])
+          ∙ ap (λ n. map (row_of w) l.front ++ (flat_map glyph_cells l.piece ++ replicate (w - n) Blank) ∷ []) (sym l.columns_are);
       columns_are = l.is ∙ sym l.columns_are;
     }

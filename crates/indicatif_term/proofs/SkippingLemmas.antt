@@ -89,7 +89,8 @@ unfolding logged
 logged_rows w h bottom text frame l = settled-rows w h (record l { above = l.above ++ flat_map (rows_of w) text; kept = []; live = log_live w h bottom text frame l })
     ∙ ap (λ x. x ++ live_rows w (log_live w h bottom text frame l)) (append-nil (l.above ++ flat_map (rows_of w) text))
 
-pub logged_shown : (v w h height blanks : ℕ) (bottom : Bool) (text : List (List ℕ)) (frame : List Segment) (l : Lists) (c : Counts) (plan : Plan) (r : Remembered) → v ≡ w → r.width ≡ v → CountsOf c l →
+pub logged_shown : (v w h height blanks : ℕ) (bottom : Bool) (text : List (List ℕ)) (frame : List Segment) (l : Lists) (c : Counts) (plan : Plan) (r : Remembered) → v ≡ w → r.width ≡ v →
+    CountsOf c l →
     IsPlan w h 0 (map bar_lines frame) plan → height ≡ min (text_height w text) (2 ^ 64 - 1) → blanks ≡ blanks_for bottom (c.kept + c.live) height plan.rows →
     texts r.lines.items ≡ replicate blanks [] ++ take plan.lines (frame_lines frame) → AreRemembered r (logged w h bottom text (map bar_lines frame) l)
 logged_shown v w h height blanks bottom text frame l c plan r same_width e o q m b t =
@@ -114,19 +115,23 @@ last_rows front back a b n e k m =
     ap (drop (length back - n)) (sym (drop_at front back (length front) refl)) ∙ drop-drop (length back - n) (length front) (front ++ back) ∙ ap (λ k. drop k (front ++ back)) (sym inner)
     ∙ ap (drop (length a)) e ∙ drop_at a b (length a) refl
 
-pub standing_live : (w taken : ℕ) (r : Remembered) (l : Lists) → 0 < w → r.width ≡ w → AreRemembered r l → length (live_rows w l.live) ≡ taken → taken ≤ min (placed_height (placed r.lines.items)) (2 ^ 64 - 1) → min (placed_height (placed r.lines.items)) (2 ^ 64 - 1) ≤ 65535 →
+pub standing_live : (w taken : ℕ) (r : Remembered) (l : Lists) → 0 < w → r.width ≡ w → AreRemembered r l → length (live_rows w l.live) ≡ taken →
+    taken ≤ min (placed_height (placed r.lines.items)) (2 ^ 64 - 1) → min (placed_height (placed r.lines.items)) (2 ^ 64 - 1) ≤ 65535 →
     drop (min (placed_height (placed r.lines.items)) (2 ^ 64 - 1) - taken) (standing_rows w r.lines.items) ≡ live_rows w l.live
 standing_live w taken r l p e a k m low =
     let some : 0 < r.width = omega arith in
-    let height : placed_height (placed r.lines.items) ≡ length (standing_rows w r.lines.items) = subst (λ n. placed_height (placed r.lines.items) ≡ length (standing_rows n r.lines.items)) e (lines_height r.width r.lines.items (lines_right r some)) in
+    let height : placed_height (placed r.lines.items) ≡ length (standing_rows w r.lines.items) =
+    subst (λ n. placed_height (placed r.lines.items) ≡ length (standing_rows n r.lines.items)) e (lines_height r.width r.lines.items (lines_right r some)) in
     let x = a some in
     let whole : x.0 ++ standing_rows w r.lines.items ≡ (l.above ++ l.kept) ++ live_rows w l.live = subst (λ n. x.0 ++ standing_rows n r.lines.items ≡ all_rows n l) e x.1 in
-    ap (λ n. drop n (standing_rows w r.lines.items)) (omega (arith, height)) ∙ last_rows x.0 (standing_rows w r.lines.items) (l.above ++ l.kept) (live_rows w l.live) taken whole k (omega (arith, height))
+    ap (λ n. drop n (standing_rows w r.lines.items)) (omega (arith, height))
+    ∙ last_rows x.0 (standing_rows w r.lines.items) (l.above ++ l.kept) (live_rows w l.live) taken whole k (omega (arith, height))
 
 -- ---- the draw
 
 -- lines around the last of so many
-pub split_at : (ps : List PlacedLine) (n : ℕ) → 0 < n → n ≤ length ps → (front : List PlacedLine) × (last : PlacedLine) × (more : List PlacedLine) × (ps ≡ front ++ last ∷ more) × (length front + 1 ≡ n)
+pub split_at : (ps : List PlacedLine) (n : ℕ) → 0 < n → n ≤ length ps → (front : List PlacedLine) × (last : PlacedLine) × (more : List PlacedLine) × (ps ≡ front ++ last ∷ more)
+    × (length front + 1 ≡ n)
 split_at ps zero h k = absurd (omega arith)
 split_at [] (suc n) h k = absurd (omega arith)
 split_at (p ∷ ps) (suc zero) h k = ([], p, ps, refl, refl)
@@ -148,7 +153,8 @@ height_around ls n front last more s k =
     ap placed_height (sym (take-map placed_of n ls) ∙ ap (take n) (s ∙ e) ∙ take_at (front ++ last ∷ []) more n (omega (arith, length-append front (last ∷ []), k)))
     ∙ height-append front (last ∷ []) ∙ omega arith
 
-pub draw_changes : (w h : ℕ) (l : Lists) (c next : Counts) (pass blanks : ℕ) (bottom : Bool) (frame : List Segment) (plan : Plan) (ls : List StandingLine) (room : Room) (front : List PlacedLine) (last : PlacedLine)
+pub draw_changes : (w h : ℕ) (l : Lists) (c next : Counts) (pass blanks : ℕ) (bottom : Bool) (frame : List Segment) (plan : Plan) (ls : List StandingLine) (room : Room) (front : List PlacedLine)
+    (last : PlacedLine)
     (more : List PlacedLine) →
     let l' = drawn w h bottom pass (map bar_lines frame) l in
     0 < w → w ≤ GREATEST → IsTrue (are_plain (all_lines (map bar_lines frame))) → IsFalse (some_wide w (all_lines (map bar_lines frame))) →
@@ -168,9 +174,11 @@ draw_changes w h l c next pass blanks bottom frame plan ls room front last more 
     let split : placed_lines front ++ last.line ∷ placed_lines more ≡ lines =
     sym (lines_around front last more) ∙ ap placed_lines (sym s) ∙ lines_placed ls ∙ t ∙ ap (λ n. replicate blanks [] ++ take n (frame_lines frame)) q.lines_are in
     let split' : (placed_lines front ++ last.line ∷ []) ++ placed_lines more ≡ lines = append_assoc (placed_lines front) (last.line ∷ []) (placed_lines more) ∙ split in
-    let d = drawable_parts w (placed_lines front) last.line (placed_lines more) (subst (AreDrawable w) (sym split) (frame_drawable w blanks (length (fitting h (lines_of w (map bar_lines frame)))) frame p2 p3)) in
+    let d = drawable_parts w (placed_lines front) last.line (placed_lines more)
+    (subst (AreDrawable w) (sym split) (frame_drawable w blanks (length (fitting h (lines_of w (map bar_lines frame)))) frame p2 p3)) in
     let sits' : AreSitting w (looks_of gone) (front ++ last ∷ more) = subst (AreSitting w (looks_of gone)) s sits in
-    let some : 0 < last.rows = let x = (sitting_parts w front (last ∷ more) (looks_of gone) sits').1 in let r : 0 < length (rows_of w (chars last.line)) = rows_some w (chars last.line) in omega (arith, x.0.rows_are) in
+    let some : 0 < last.rows = let x = (sitting_parts w front (last ∷ more) (looks_of gone) sits').1 in let r : 0 < length (rows_of w (chars last.line)) = rows_some w (chars last.line) in
+    omega (arith, x.0.rows_are) in
     change_redraws w h l l' l.kept gone front last more room.free p1 low (sym o.below_is ∙ on) (sym o'.below_is ∙ on') few sits' some d.0 d.1 d.2
     (omega (arith, within.rows_are, height_around ls room.lines front last more s k, count))
     (λ a b. subst (Replaces w h l l' l.kept gone) (sym split') (drawn_goes w h pass bottom (map bar_lines frame) l lines a b rows))
@@ -184,7 +192,8 @@ on_same r v e = elim (cases_Bool (r.width == v)) [
   differ a b f e = grind (arith, nat_tests)
 
 -- lines that sit on the last rows that are remembered sit on the live ones
-pub sits_live : (v w : ℕ) (r : Remembered) (on : List StandingLine) (l : Lists) (c : Counts) (ps : List PlacedLine) → v ≡ w → 0 < v → r.width ≡ v → on ≡ (if r.width == v then r.lines.items else []) → AreRemembered r l →
+pub sits_live : (v w : ℕ) (r : Remembered) (on : List StandingLine) (l : Lists) (c : Counts) (ps : List PlacedLine) → v ≡ w → 0 < v → r.width ≡ v →
+    on ≡ (if r.width == v then r.lines.items else []) → AreRemembered r l →
     CountsOf c l → c.live ≤ min (placed_height (placed r.lines.items)) (2 ^ 64 - 1) → min (placed_height (placed r.lines.items)) (2 ^ 64 - 1) ≤ 65535 →
     AreSitting v (looks_of (drop (min (placed_height (placed on)) (2 ^ 64 - 1) - c.live) (standing_rows v on))) ps → AreSitting w (looks_of (live_rows w l.live)) ps
 sits_live v w r on l c ps same p e f a o m low s =
@@ -197,7 +206,8 @@ sits_live v w r on l c ps same p e f a o m low s =
 
 -- ---- what is written, counted
 
-pub counted_by : {T : Type 0} (bytes : List ℕ) (v v' : TermView) (next : Counts) (shown : Remembered) (r : Result Unit Refusal) (new : Engine T) → Remembers next shown r new → Writes bytes v v' r → Counted v v' r
+pub counted_by : {T : Type 0} (bytes : List ℕ) (v v' : TermView) (next : Counts) (shown : Remembered) (r : Result Unit Refusal) (new : Engine T) → Remembers next shown r new → Writes bytes v v' r →
+    Counted v v' r
 counted_by bytes v v' next shown (Ok u) new g q = record { columns_stay = q.columns_are; rows_stay = q.rows_are; faults_are = q.faults_are }
 counted_by bytes v v' next shown (Err x) new g q =
     let broke : is_fault x ≡ true = ap is_fault g.0.1 in
@@ -213,7 +223,8 @@ no_blanks : (bottom : Bool) (taken text rows : ℕ) → rows ≡ 0 → blanks_fo
 no_blanks true taken text rows e = rw e refl
 no_blanks false taken text rows e = refl
 
-some_by : (k : ℕ) (w h pass blanks taken text : ℕ) (bottom : Bool) (frame : List Segment) (p : Plan) → k ≡ p.lines → IsPlan w h pass (map bar_lines frame) p → blanks ≡ blanks_for bottom taken text p.rows →
+some_by : (k : ℕ) (w h pass blanks taken text : ℕ) (bottom : Bool) (frame : List Segment) (p : Plan) → k ≡ p.lines → IsPlan w h pass (map bar_lines frame) p →
+    blanks ≡ blanks_for bottom taken text p.rows →
     0 < blanks + p.lines → 0 < length (all_lines (map bar_lines frame))
 some_by zero w h pass blanks taken text bottom frame p e q b some =
     let rows : p.rows ≡ 0 = q.rows_are ∙ no_rows w h (map bar_lines frame) (sym q.lines_are ∙ sym e) in

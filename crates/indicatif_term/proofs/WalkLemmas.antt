@@ -63,7 +63,8 @@ module _ (lines : List StandingLine) (i : ℕ) (x : StandingLine) (h : i < lengt
 
   pub room_next : placed_height (placed lines) ≤ 65535 → walk_down 0 (placed (take i lines)) + x.rows ≤ 65536
   room_next small =
-      let whole : placed (take (i + 1) lines) ++ placed (drop (i + 1) lines) ≡ placed lines = sym (map-append placed_of (take (i + 1) lines) (drop (i + 1) lines)) ∙ ap placed (take-append-drop (i + 1) lines) in
+      let whole : placed (take (i + 1) lines) ++ placed (drop (i + 1) lines) ≡ placed lines =
+      sym (map-append placed_of (take (i + 1) lines) (drop (i + 1) lines)) ∙ ap placed (take-append-drop (i + 1) lines) in
       let z = down_low (placed (take i lines)) in
       omega (arith, height_push lines i x h e, ap placed_height whole, height-append (placed (take (i + 1) lines)) (placed (drop (i + 1) lines)))
 
@@ -71,19 +72,23 @@ module _ (lines : List StandingLine) (i : ℕ) (x : StandingLine) (h : i < lengt
   pub walk_breaks : (s t u : TermView) → LeadsOn (walk_bytes 0 (placed (take i lines))) s t → BreaksOff (walk_bytes (walk_down 0 (placed (take i lines))) (placed_of x ∷ [])) t u →
       BreaksOff (walk_bytes 0 (placed lines)) s u
   walk_breaks s t u p q =
-      let whole : placed (take (i + 1) lines) ++ placed (drop (i + 1) lines) ≡ placed lines = sym (map-append placed_of (take (i + 1) lines) (drop (i + 1) lines)) ∙ ap placed (take-append-drop (i + 1) lines) in
+      let whole : placed (take (i + 1) lines) ++ placed (drop (i + 1) lines) ≡ placed lines =
+      sym (map-append placed_of (take (i + 1) lines) (drop (i + 1) lines)) ∙ ap placed (take-append-drop (i + 1) lines) in
       let rest = walk_bytes (walk_down 0 (placed (take (i + 1) lines))) (placed (drop (i + 1) lines)) in
       let b : BreaksOff (walk_bytes 0 (placed (take (i + 1) lines)) ++ rest) s u = breaks_early rest (subst (λ x. BreaksOff x s u) (sym bytes_next) (breaks_then p q)) in
       subst (λ x. BreaksOff x s u) (sym (walk-append 0 (placed (take (i + 1) lines)) (placed (drop (i + 1) lines))) ∙ ap (walk_bytes 0) whole) b
 
   pub stays_more : x.stays ≡ true → all_stay (placed (take (i + 1) lines)) ≡ all_stay (placed (take i lines))
-  stays_more is = ap all_stay split ∙ stay-append (placed (take i lines)) (placed_of x ∷ []) ∙ ap (λ b. all_stay (placed (take i lines)) && (b && true)) is ∙ and-true (all_stay (placed (take i lines)))
+  stays_more is = ap all_stay split ∙ stay-append (placed (take i lines)) (placed_of x ∷ []) ∙ ap (λ b. all_stay (placed (take i lines)) && (b && true)) is
+      ∙ and-true (all_stay (placed (take i lines)))
 
   pub stays_less : x.stays ≡ false → all_stay (placed lines) ≡ false
   stays_less is =
-      let whole : placed (take (i + 1) lines) ++ placed (drop (i + 1) lines) ≡ placed lines = sym (map-append placed_of (take (i + 1) lines) (drop (i + 1) lines)) ∙ ap placed (take-append-drop (i + 1) lines) in
+      let whole : placed (take (i + 1) lines) ++ placed (drop (i + 1) lines) ≡ placed lines =
+      sym (map-append placed_of (take (i + 1) lines) (drop (i + 1) lines)) ∙ ap placed (take-append-drop (i + 1) lines) in
       ap all_stay (sym whole) ∙ stay-append (placed (take (i + 1) lines)) (placed (drop (i + 1) lines))
-      ∙ ap (λ b. b && all_stay (placed (drop (i + 1) lines))) (ap all_stay split ∙ stay-append (placed (take i lines)) (placed_of x ∷ []) ∙ ap (λ b. all_stay (placed (take i lines)) && (b && true)) is ∙ and-false (all_stay (placed (take i lines))))
+      ∙ ap (λ b. b && all_stay (placed (drop (i + 1) lines))) (ap all_stay split ∙ stay-append (placed (take i lines)) (placed_of x ∷ [])
+      ∙ ap (λ b. all_stay (placed (take i lines)) && (b && true)) is ∙ and-false (all_stay (placed (take i lines))))
 
 -- bytes of calls, put in other brackets
 pub three : {A : Type 0} (a b c : List A) → (a ++ b) ++ c ≡ a ++ (b ++ c)

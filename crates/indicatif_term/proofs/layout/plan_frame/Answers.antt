@@ -30,7 +30,8 @@ pub returns-in-Err-clause-plan : goal.returns-in-Err-clause-plan
 returns-in-Err-clause-plan c =
     let wide = c.args.window.columns in
     let i = c.loop-member.member-index in
-    frame_refused wide c.args.window.rows c.args.frame.now i c.member-item.result (omega arith) (sym c.member-item.is) (lines_of wide (map bar_lines (take i c.args.frame.now))) c.place_member.new.laid.plan
+    frame_refused wide c.args.window.rows c.args.frame.now i c.member-item.result (omega arith) (sym c.member-item.is)
+    (lines_of wide (map bar_lines (take i c.args.frame.now))) c.place_member.new.laid.plan
     c.in-Err.e (c.in-Err.ensures.placed _ c.loop-member.invariant.laid)
 
 pub returns-in-Err-clause-memory : goal.returns-in-Err-clause-memory
@@ -52,7 +53,8 @@ loop-member-preserved c =
     let laid = lines_step wide high frame i s (omega arith) (sym c.member-item.is) [] p placed.1 in
     let ends : PlanEndsAt (frame_ends wide (take (i + 1) frame)) p = rw (member_ends_step wide frame i s (omega arith) (sym c.member-item.is)) (c.in_default.ensures.ends _ old.ends) in
     let on = c.args.beside.lines.now in
-    let lines : HasLines wide on (frame_lines (take (i + 1) frame)) p c.place_member.new.laid.lines.items = rw (frame_step frame i s (omega arith) (sym c.member-item.is)) (c.in_default.ensures.lines _ old.lines) in
+    let lines : HasLines wide on (frame_lines (take (i + 1) frame)) p c.place_member.new.laid.lines.items =
+    rw (frame_step frame i s (omega arith) (sym c.member-item.is)) (c.in_default.ensures.lines _ old.lines) in
     elim c.if-left-gt0.branch [
       | then-left-gt0 w ↦ rw (w.laid-is, w.left-is) (record {
         left_is = omega (arith, old.left_is, w.if-left-gt0.true);

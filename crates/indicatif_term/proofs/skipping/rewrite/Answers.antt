@@ -11,10 +11,12 @@ pub returns-in_err-take_back_rows : goal.returns-in_err-take_back_rows
 returns-in_err-take_back_rows g c =
     let x = c.args.changes.now in
     rw (sym c.is_nothing.ensures ∙ c.if-is_nothing.false)
-    (writes_fail (skip_bytes c.args.width (rows_below x.free) (placed x.front.now) (filled_anew c.args.width (placed_of x.last.now))) c.from_residual.result c.from_residual.ensures.0 c.in_err-take_back_rows.ensures)
+    (writes_fail (skip_bytes c.args.width (rows_below x.free) (placed x.front.now) (filled_anew c.args.width (placed_of x.last.now))) c.from_residual.result c.from_residual.ensures.0
+    c.in_err-take_back_rows.ensures)
 
 pub returns : goal.returns
 returns g c =
     let x = c.args.changes.now in
     rw (sym c.is_nothing.ensures ∙ c.if-is_nothing.false)
-    (writes_then (skip_bytes c.args.width (rows_below x.free) (placed x.front.now) (filled_anew c.args.width (placed_of x.last.now))) _ c.write_among.result c.in_ok-take_back_rows.ensures c.write_among.ensures)
+    (writes_then (skip_bytes c.args.width (rows_below x.free) (placed x.front.now) (filled_anew c.args.width (placed_of x.last.now))) _ c.write_among.result c.in_ok-take_back_rows.ensures
+    c.write_among.ensures)

@@ -37,5 +37,6 @@ returns-in-Some-clause-memory g c =
     when_err c.relay.result c.relay.ensures.memory (λ e short. (
       short.0,
       λ s number named holds.
-          lays_at g.K.Tracks.means b.members.items s number c.args.bar c.in-Some.at c.index.result.now holds.members_are c.in-Some.is named within c.index.ensures (ap lines_take_memory (sym c.bar.ensures) ∙ short.1),
+          lays_at g.K.Tracks.means b.members.items s number c.args.bar c.in-Some.at c.index.result.now holds.members_are c.in-Some.is named within c.index.ensures
+          (ap lines_take_memory (sym c.bar.ensures) ∙ short.1),
     ))
