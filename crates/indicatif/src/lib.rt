@@ -276,7 +276,7 @@ pub use indicatif_term::draw_target::{
     Segment, Setup,
 };
 pub use indicatif_term::in_memory::{Cells, InMemoryTerm};
-pub use indicatif_term::term_like::{Term, TermLike, write_whole};
+pub use indicatif_term::term_like::{Resize, Term, TermLike, write_whole};
 pub use indicatif_text::columns::{
     Clock, Drawn, Metrics, Moment, Piece, Pieces, Refusal, StepClock, Style, TemplateState,
     columns, pieces, width, wrapped,
