@@ -1,5 +1,5 @@
 //! Laws of the definitions: functions that do nothing, each with a law as its contract.
-ghost use Rattle.std.specs.Prelude.{◌≡◌, ◌≤◌, ◌↔◌, ℕ, List, Option, Some, None, IsFalse};
+ghost use Rattle.std.specs.Prelude.{◌≡◌, ◌≢◌, ◌≤◌, ◌↔◌, ℕ, List, Option, Some, None, IsFalse};
 ghost use Rattle.indicatif_term.specs.Calls.{TermView};
 ghost use Rattle.indicatif_bar.specs.Commands.{BarRecord, Command};
 ghost use Rattle.indicatif_bar.specs.Machines.{Target};
@@ -15,7 +15,7 @@ ghost use Rattle.indicatif_board.specs.LimitLaws.{IsAllowed};
 ghost use Rattle.indicatif_board.specs.LoneLaws.{OneIsTakenIn, LoneRunsAreBoardRuns};
 ghost use Rattle.indicatif_board.specs.PlainBoardLaws.{BoardRunsArePlain};
 ghost use Rattle.indicatif_board.specs.OrderLaws.{RunsKeep, StandsOnce, IsGone, NumbersCount, NumbersAreNew};
-ghost use Rattle.indicatif_board.specs.Slots.{SlotTable, IsSeated, slot_of, occurrences};
+ghost use Rattle.indicatif_board.specs.Slots.{SlotTable, IsSeated, slot_of, seated, unseated, head_unseated, occurrences};
 
 use indicatif_bar::style::Tracks;
 
@@ -118,4 +118,12 @@ pub fn numbers_are_never_used_again<B, C>()
 pub fn each_bar_has_its_slot()
     ensures some { (t : SlotTable) (number : ℕ) → IsSeated t → (slot_of number t ≡ None) ↔ (occurrences number t.order ≡ 0) }
     ensures apart { (t : SlotTable) (one other slot : ℕ) → IsSeated t → slot_of one t ≡ Some slot → slot_of other t ≡ Some slot → one ≡ other }
+{}
+
+/// A bar keeps its slot as others come and go: what it has after bars at the head left, after one left from anywhere, or after a new
+/// one was taken in, it had before.
+pub fn each_bar_keeps_its_slot()
+    ensures head { (t : SlotTable) (count number slot : ℕ) → IsSeated t → slot_of number (head_unseated count t) ≡ Some slot → slot_of number t ≡ Some slot }
+    ensures out { (t : SlotTable) (at number slot : ℕ) → IsSeated t → slot_of number (unseated at t) ≡ Some slot → slot_of number t ≡ Some slot }
+    ensures new { (t : SlotTable) (at number : ℕ) → IsSeated t → t.made ≢ number → slot_of number (seated at t) ≡ slot_of number t }
 {}
