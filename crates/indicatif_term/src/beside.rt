@@ -177,7 +177,7 @@ fn passed_over(standing: &[StandingLine], place: Place, start: usize) -> Place
 }
 
 /// Whether two texts are the same.
-fn is_same(a: &str, b: &str) -> bool
+pub fn is_same(a: &str, b: &str) -> bool
     ensures { IsTrue result ↔ (a.now ≡ b.now) }
 {
     a == b
