@@ -1,8 +1,8 @@
 -- The counts of rows that are cut anew go on as the lists do.
-use Rattle.std.proofs.Common.{◌≡◌, ℕ, zero, suc, ◌+◌, ◌-◌, ◌<◌, ◌≤◌, min, max, Bool, true, false, List, [], ◌∷◌, ◌++◌, length, get_or, map, take, drop, replicate, refl, sym, ◌∙◌, ap, arith, append_assoc, length-append, length-take, length-drop, if◌then◌else◌}
+use Rattle.std.proofs.Common.{◌≡◌, ℕ, zero, suc, ◌+◌, ◌-◌, ◌<◌, ◌≤◌, min, max, Bool, true, false, List, [], ◌∷◌, ◌++◌, length, get_or, map, take, drop, replicate, refl, sym, ◌∙◌, ap, subst, arith, append_assoc, length-append, length-take, length-drop, if◌then◌else◌}
 use Rattle.std.specs.Prelude.{flat_map, sum, sum_by, nat_le}
 use Rattle.std.proofs.lemmas.Bool.{cond_both, leb-true, leb-false, le-leb, lt-leb}
-use Rattle.std.proofs.lemmas.List.{length-replicate, length-map, map-append, take_at, drop_at, nil_from_length}
+use Rattle.std.proofs.lemmas.List.{length-replicate, length-map, map-append, take_at, drop_at, drop-drop, nil_from_length}
 use Rattle.std.proofs.lemmas.List.Concat.{length-flat_map}
 use Rattle.std.proofs.lemmas.List.Sums.{sum-map, sum_by-cons, sum_by-take-drop}
 use Rattle.indicatif_text.specs.Columns.{Cell, blank_row}
@@ -31,7 +31,7 @@ heights-append w xs ys = map-append (λ row. length (recut w row)) xs ys
 
 -- ---- segments
 
-abbrev counted : ℕ → ℕ → RowCount
+abbrev pub counted : ℕ → ℕ → RowCount
 counted bar rows = record { bar = bar; rows = rows }
 
 pub segments_cut : (w : ℕ) (ss : List BarRows) → cut_counts (row_heights w (flat_map (λ (s : BarRows). s.rows) ss)) (map row_count ss) ≡ map row_count (map (recut_bar w) ss)
@@ -79,6 +79,21 @@ pub drop_one : (ss : List RowCount) (i : ℕ) (s : RowCount) → i < length ss �
 drop_one [] i s h at = absurd (omega arith)
 drop_one (x ∷ ss) zero s h at = ap (λ y. y ∷ ss) at
 drop_one (x ∷ ss) (suc i) s h at = drop_one ss i s (omega arith) at ∙ ap (λ k. s ∷ drop k (x ∷ ss)) (let k : suc (i + 1) ≡ suc i + 1 = omega arith in k)
+
+-- the counts of one segment more
+pub next_cut : (hs : List ℕ) (ss : List RowCount) (i at rows : ℕ) (s : RowCount) (before now all : List RowCount) → i < length ss → get_or ss i s ≡ s →
+    rows ≡ sum (take s.rows (drop at hs)) → now ≡ before ++ counted s.bar rows ∷ [] → before ++ cut_counts (drop at hs) (drop i ss) ≡ all →
+    now ++ cut_counts (drop (at + s.rows) hs) (drop (i + 1) ss) ≡ all
+next_cut hs ss i at rows s before now all h e r n f =
+    let rest = drop (i + 1) ss in
+    let more = cut_counts (drop (at + s.rows) hs) rest in
+    ap (λ xs. xs ++ more) n ∙ append_assoc before (counted s.bar rows ∷ []) more ∙ ap (λ k. before ++ counted s.bar k ∷ more) r
+    ∙ ap (λ ys. before ++ counted s.bar (sum (take s.rows (drop at hs))) ∷ cut_counts ys rest) (sym (drop-drop s.rows at hs))
+    ∙ ap (λ zs. before ++ cut_counts (drop at hs) zs) (sym (drop_one ss i s h e)) ∙ f
+
+pub next_left : (ss : List RowCount) (i at all : ℕ) (s : RowCount) → i < length ss → get_or ss i s ≡ s → at + sum_by rows_by (drop i ss) ≤ all →
+    (at + s.rows) + sum_by rows_by (drop (i + 1) ss) ≤ all
+next_left ss i at all s h e le = omega (arith, le, ap (sum_by rows_by) (drop_one ss i s h e), sum_by-cons rows_by s (drop (i + 1) ss))
 
 pub after_passed : (left : ℕ) (ss : List RowCount) (i : ℕ) (s : RowCount) → i < length ss → get_or ss i s ≡ s → s.rows ≤ left → counts_after left (drop i ss) ≡ counts_after (left - s.rows) (drop (i + 1) ss)
 after_passed left ss i s h at le = ap (counts_after left) (drop_one ss i s h at) ∙ rw (le-leb s.rows left le) refl
@@ -195,3 +210,14 @@ module _ (w w' h : ℕ) (l : Lists) (c c' : Counts) (o : CountsOf c l) (some : 0
           reached_is = omega (arith, s.reached_is, k, kn, g, u, q, r, reach_now);
           below_is = s.below_is ∙ o.below_is;
         }
+
+-- the same counts by other names
+pub settled_same : (h kept kept' blanks live live' : ℕ) (segments segments' : List RowCount) (below : Bool) (c : Counts) → kept ≡ kept' → live ≡ live' → segments ≡ segments' →
+    IsSettledWhole h kept blanks live segments below c → IsSettledWhole h kept' blanks live' segments' below c
+settled_same h kept kept' blanks live live' segments segments' below c a b e s =
+    subst (λ n. IsSettledWhole h n blanks live' segments' below c) a
+    (subst (λ n. IsSettledWhole h kept blanks n segments' below c) b (subst (λ ss. IsSettledWhole h kept blanks live ss below c) e s))
+
+pub end_at_most_one : (b : Bool) → end_row b ≤ 1
+end_at_most_one true = omega arith
+end_at_most_one false = omega arith

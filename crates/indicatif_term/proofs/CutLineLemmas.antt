@@ -2,7 +2,7 @@
 use Rattle.std.proofs.Common.{◌≡◌, ℕ, zero, suc, ◌+◌, ◌<◌, ◌≤◌, false, true, IsFalse, List, [], ◌∷◌, ◌++◌, map, filter, length, take, drop, refl, sym, ◌∙◌, ap, subst, arith, append_assoc, append-nil, chars}
 use Rattle.std.specs.Prelude.{flat_map, string_bytes}
 use Rattle.std.specs.List.{AllByRecursion, list_all}
-use Rattle.std.proofs.lemmas.List.{map-append, length-map}
+use Rattle.std.proofs.lemmas.List.{map-append, length-map, drop-drop, length-drop, nil_from_length}
 use Rattle.std.proofs.lemmas.List.Concat.{flat_map-append}
 use Rattle.indicatif_text.specs.Columns.{Cell, Glyph, columns_in, glyphs_of, pieces_of, row_of, rows_of, visible, has_wide, last_columns, columns_of_last}
 use Rattle.indicatif_term.specs.Resizes.{has_place, glyphs_in, recut, recut_all}
@@ -185,3 +185,41 @@ first_row w w' gs e =
 pub next_row_cut : (w w' : ℕ) (gs : List Glyph) → 0 < length gs → list_all (has_place w) gs ≡ true →
     rows_left w w' gs ≡ new_pieces w' (take (fitting_count w 0 gs) gs) ∷ rows_left w w' (drop (fitting_count w 0 gs) gs)
 next_row_cut w w' gs some e = ap (map (new_pieces w')) (more_some w gs some ∙ ap (pieces_of w) (all_placed w gs e)) ∙ first_row w w' gs e
+
+-- ---- the lines of a row, one after another
+
+-- after the line of the first piece those of the others are left
+pub piece_left : (w n : ℕ) (gs : List Glyph) (before now : List LineShown) → n ≡ fitting_count w 0 gs → now ≡ before ++ row_line (filter (has_place w) (take n gs)) ∷ [] →
+    now ++ map row_line (more_pieces w (drop n gs)) ≡ before ++ map row_line (pieces_of w (filter (has_place w) gs))
+piece_left w n gs before now e f =
+    let more = map row_line (more_pieces w (drop n gs)) in
+    ap (λ xs. xs ++ more) f ∙ append_assoc before (row_line (filter (has_place w) (take n gs)) ∷ []) more
+    ∙ ap (λ xs. before ++ xs) (sym (ap (map row_line) (first_piece w gs ∙ ap (λ k. filter (has_place w) (take k gs) ∷ more_pieces w (drop k gs)) (sym e))))
+
+pub next_piece_left : (w n at : ℕ) (gs : List Glyph) (before now : List LineShown) → at < length gs → n ≡ fitting_count w 0 (drop at gs) →
+    now ≡ before ++ row_line (filter (has_place w) (take n (drop at gs))) ∷ [] →
+    now ++ map row_line (more_pieces w (drop (at + n) gs)) ≡ before ++ map row_line (more_pieces w (drop at gs))
+next_piece_left w n at gs before now some e f =
+    ap (λ rest. now ++ map row_line (more_pieces w rest)) (sym (drop-drop n at gs)) ∙ piece_left w n (drop at gs) before now e f
+    ∙ ap (λ ps. before ++ map row_line ps) (sym (more_some w (drop at gs) (omega (arith, some, length-drop at gs))))
+
+-- after the rows of one more piece those of the others are left
+pub next_rows_left : (w w' n at : ℕ) (gs : List Glyph) (done all : List (List (List Glyph))) → at < length gs → list_all (has_place w) gs ≡ true → n ≡ fitting_count w 0 (drop at gs) →
+    done ++ rows_left w w' (drop at gs) ≡ all → (done ++ new_pieces w' (take n (drop at gs)) ∷ []) ++ rows_left w w' (drop (at + n) gs) ≡ all
+next_rows_left w w' n at gs done all some placed e f =
+    let rest = drop at gs in
+    let row = new_pieces w' (take n rest) in
+    let left : rows_left w w' rest ≡ row ∷ rows_left w w' (drop n rest) =
+    next_row_cut w w' rest (omega (arith, some, length-drop at gs)) (placed_dropped w at gs placed) ∙ ap (λ k. new_pieces w' (take k rest) ∷ rows_left w w' (drop k rest)) (sym e) in
+    append_assoc done (row ∷ []) (rows_left w w' (drop (at + n) gs))
+    ∙ ap (λ xs. done ++ row ∷ rows_left w w' xs) (sym (drop-drop n at gs)) ∙ ap (λ xs. done ++ xs) (sym left) ∙ f
+
+none_behind : (at : ℕ) (gs : List Glyph) → length gs ≤ at → drop at gs ≡ []
+none_behind at gs h = nil_from_length (drop at gs) (omega (arith, h, length-drop at gs))
+
+-- behind the last one none is left
+pub no_piece_left : (w at : ℕ) (gs : List Glyph) (now all : List LineShown) → length gs ≤ at → now ++ map row_line (more_pieces w (drop at gs)) ≡ all → now ≡ all
+no_piece_left w at gs now all h e = sym (append-nil now) ∙ ap (λ rest. now ++ map row_line (more_pieces w rest)) (sym (none_behind at gs h)) ∙ e
+
+pub no_row_left : (w w' at : ℕ) (gs : List Glyph) (done all : List (List (List Glyph))) → length gs ≤ at → done ++ rows_left w w' (drop at gs) ≡ all → done ≡ all
+no_row_left w w' at gs done all h e = sym (append-nil done) ∙ ap (λ rest. done ++ rows_left w w' rest) (sym (none_behind at gs h)) ∙ e

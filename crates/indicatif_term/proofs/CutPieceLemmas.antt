@@ -1,5 +1,5 @@
 -- Glyphs cut into pieces one after another.
-use Rattle.std.proofs.Common.{◌≡◌, ℕ, zero, suc, ◌+◌, ◌-◌, ◌<◌, ◌≤◌, Bool, true, false, ◌&&◌, List, [], ◌∷◌, ◌++◌, map, filter, length, take, drop, get_or, refl, sym, ◌∙◌, ap, arith, append_assoc, append-nil, inl, inr, if◌then◌else◌}
+use Rattle.std.proofs.Common.{◌≡◌, ℕ, zero, suc, ◌+◌, ◌-◌, ◌<◌, ◌≤◌, Bool, true, false, ◌&&◌, List, [], ◌∷◌, ◌++◌, map, filter, length, take, drop, get_or, refl, sym, ◌∙◌, ap, arith, append_assoc, append-nil, take_all, length-drop, inl, inr, if◌then◌else◌}
 use Rattle.std.specs.Prelude.{nat_le, flat_map}
 use Rattle.std.specs.List.{AllByRecursion, list_all}
 use Rattle.std.proofs.lemmas.Bool.{cases_Bool, cond_both, leb-true, leb-false, le-leb, lt-leb, and_parts}
@@ -188,3 +188,23 @@ pub placed_dropped : (w n : ℕ) (gs : List Glyph) → list_all (has_place w) gs
 placed_dropped w zero gs e = e
 placed_dropped w (suc n) [] e = refl
 placed_dropped w (suc n) (g ∷ gs) e = let p = and_parts (has_place w g) (list_all (has_place w) gs) e in placed_dropped w n gs p.1
+
+-- ---- columns that are taken so far
+
+pub taken_columns : (w i : ℕ) (gs : List Glyph) (g : Glyph) → i < length gs → get_or gs i g ≡ g → has_place w g ≡ true →
+    columns_in (filter (has_place w) (take i gs)) + glyph_width g ≤ columns_in (filter (has_place w) gs)
+taken_columns w i [] g h at e = absurd (omega arith)
+taken_columns w zero (x ∷ gs) g h at e =
+    let here : has_place w x ≡ true = ap (has_place w) at ∙ e in
+    let all : columns_in (x ∷ filter (has_place w) gs) ≡ glyph_width x + columns_in (filter (has_place w) gs) = sum_by-cons glyph_width x (filter (has_place w) gs) in
+    rw here (let same : glyph_width x ≡ glyph_width g = ap (λ y. glyph_width y) at in omega (arith, all, same))
+taken_columns w (suc i) (x ∷ gs) g h at e = elim (cases_Bool (has_place w x)) [
+  | inl here ↦
+      let more : columns_in (filter (has_place w) (take i gs)) + glyph_width g ≤ columns_in (filter (has_place w) gs) = taken_columns w i gs g (omega arith) at e in
+      rw here (omega (arith, more, sum_by-cons glyph_width x (filter (has_place w) gs), sum_by-cons glyph_width x (filter (has_place w) (take i gs))))
+  | inr none ↦ rw none (taken_columns w i gs g (omega arith) at e)
+]
+
+-- what stands behind the first n
+pub rest_of : (n : ℕ) (gs : List Glyph) → take (length gs - n) (drop n gs) ≡ drop n gs
+rest_of n gs = take_all (length gs - n) (drop n gs) (omega (arith, length-drop n gs))

@@ -1,16 +1,18 @@
 -- What an engine remembers is right for the lists of the new size.
 use Rattle.std.proofs.Common.{◌≡◌, ℕ, zero, suc, ◌+◌, ◌-◌, ◌<◌, ◌≤◌, Bool, true, false, ◌&&◌, IsTrue, IsFalse, List, [], ◌∷◌, ◌++◌, map, length, take, drop, refl, sym, ◌∙◌, ap, subst, arith, append_assoc, length-append}
-use Rattle.std.specs.Prelude.{flat_map}
+use Rattle.std.specs.Prelude.{flat_map, ◌==◌, Result, Ok, Err, IfOk}
 use Rattle.std.proofs.lemmas.Bool.{false≢true}
 use Rattle.std.proofs.lemmas.List.{length-map, map-append}
 use Rattle.std.proofs.lemmas.List.Concat.{flat_map-append}
 use Rattle.indicatif_text.specs.Columns.{Cell}
 use Rattle.indicatif_term.specs.Counts.{CountsOf}
-use Rattle.indicatif_term.specs.Lists.{Lists, all_rows, live_rows}
+use Rattle.indicatif_term.specs.Lists.{Lists, all_rows, live_rows, forgotten_lists}
 use Rattle.indicatif_term.specs.Remembered.{Suits, AreRemembered, known_lines}
 use Rattle.indicatif_term.specs.Standing.{texts, standing_rows, AreLines}
-use Rattle.indicatif_term.specs.Resizes.{recut, recut_all, recut_lists, settled_whole}
+use Rattle.indicatif_term.specs.Resizes.{recut, recut_all, recut_lists, settled_whole, resized_lists}
 use Rattle.indicatif_term.specs.Inside.Recutting.{row_heights, IsShownCut, HasMore, cut_lines, shown_lines}
+use Rattle.indicatif_term.specs.Engines.{Fits}
+use Rattle.indicatif_term.specs.declared.draw_target.Engine.{Engine}
 use Rattle.indicatif_term.specs.declared.counts.Counts.{Counts}
 use Rattle.indicatif_term.specs.declared.remembered.Remembered.{Remembered}
 use Rattle.indicatif_term.specs.declared.remembered.StandingLine.{StandingLine}
@@ -18,7 +20,7 @@ use Rattle.indicatif_term.specs.declared.recutting.CutLines.{CutLines}
 use Rattle.indicatif_term.proofs.CountLemmas.{length-live, live_of}
 use Rattle.indicatif_term.proofs.CutLineLemmas.{cut_rows, cut_right, cut_heights, lines_of_pieces}
 use Rattle.indicatif_term.proofs.RememberedLemmas.{rows-append}
-use Rattle.indicatif_term.proofs.ResizeLemmas.{whole-rows}
+use Rattle.indicatif_term.proofs.ResizeLemmas.{whole-rows, forgotten_stay}
 
 -- ---- what is remembered, cut anew
 
@@ -125,3 +127,40 @@ module _ (w w' h : ℕ) (l : Lists) (counts counts' : Counts) (failed : Bool) (o
               (ap (λ rows. recut_all w' f.0 ++ rows) r.1 ∙ sym (flat_map-append (recut w') f.0 x.rows) ∙ ap (recut_all w') f.1 ∙ sym (whole-rows w' h l some w)),
         ));
   }
+
+-- ---- what lists become
+
+-- after a failure there are none, and there are none then
+pub none_resized : (w h w' h' : ℕ) (counts : Counts) (failed : Bool) (shown : Remembered) (l : Lists) → 0 < h' → failed ≡ true → Suits counts failed shown l → resized_lists w h w' h' l ≡ l
+none_resized w h w' h' counts failed shown l some broke s =
+    let none : l ≡ forgotten_lists = s.forgets (sym s.failed_is ∙ broke) in
+    ap (resized_lists w h w' h') none ∙ forgotten_stay w h w' h' some ∙ sym none
+
+pub others_resized : (w h w' h' : ℕ) (l : Lists) → ((w == w') && (h == h')) ≡ false → resized_lists w h w' h' l ≡ settled_whole w' h' (recut_lists w' l)
+unfolding resized_lists
+others_resized w h w' h' l e = rw e refl
+
+pub same_resized : (w h w' h' : ℕ) (l : Lists) → ((w == w') && (h == h')) ≡ true → resized_lists w h w' h' l ≡ l
+unfolding resized_lists
+same_resized w h w' h' l e = rw e refl
+
+pub suits_same : (counts counts' : Counts) (failed failed' : Bool) (shown shown' : Remembered) (l l' : Lists) → counts' ≡ counts → failed' ≡ failed → shown' ≡ shown → l' ≡ l →
+    Suits counts failed shown l → Suits counts' failed' shown' l'
+suits_same counts counts' failed failed' shown shown' l l' a b c e s =
+    subst (λ x. Suits x failed' shown' l') (sym a) (subst (λ x. Suits counts x shown' l') (sym b) (subst (λ x. Suits counts failed x l') (sym c) (subst (Suits counts failed shown) (sym e) s)))
+
+-- ---- an engine
+
+pub fits_suits : {T : Type 0} (e : Engine T) (l : Lists) → Fits e l → Suits e.counts e.failed e.shown l
+unfolding Fits
+fits_suits e l f = f
+
+pub suits_fits : {T : Type 0} (e : Engine T) (l l' : Lists) (counts : Counts) (failed : Bool) (shown : Remembered) → e.counts ≡ counts → e.failed ≡ failed → e.shown ≡ shown → l' ≡ l →
+    Suits counts failed shown l → Fits e l'
+unfolding Fits
+suits_fits e l l' counts failed shown a b c d s = suits_same counts e.counts failed e.failed shown e.shown l l' a b c d s
+
+-- what an answer says where the call was made
+pub where_made : {A E : Type 0} (result : Result A E) (P : A → Type 0) → ((a : A) → P a) → IfOk result P
+where_made (Ok a) P p = p a
+where_made (Err e) P p = tt

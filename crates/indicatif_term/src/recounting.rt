@@ -122,14 +122,15 @@ fn cut_segments(
     ensures memory { IfErr result (λ e. e ≡ Refusal.Memory) }
 {
     let mut cut = Vec::new(alloc);
-    let mut rest = heights;
+    let mut at = 0_usize;
     for segment in segments {
-        let rows = rows_in(&rest[..segment.rows])?;
+        let end = at + segment.rows;
+        let rows = rows_in(&heights[at..end])?;
         cut.push(RowCount {
             bar: segment.bar,
             rows,
         })?;
-        rest = &rest[segment.rows..];
+        at = end;
     }
     Ok(cut)
 }

@@ -81,11 +81,10 @@ impl CutLines {
         ensures added { OnOk result (HasMore self.old self.new (cut_pieces widths.from widths.to glyphs.now)) }
         ensures memory { IfErr result (λ e. e ≡ Refusal.Memory) }
     {
-        let first = self.add_first_row(alloc, glyphs, widths)?;
-        let mut rest = &glyphs[first..];
-        while !rest.is_empty() {
-            let next = self.add_first_row(alloc, rest, widths)?;
-            rest = &rest[next..];
+        let mut at = self.add_first_row(alloc, glyphs, widths)?;
+        while at < glyphs.len() {
+            let next = self.add_first_row(alloc, &glyphs[at..], widths)?;
+            at += next;
         }
         Ok(())
     }
@@ -168,12 +167,11 @@ fn cut_row(
     ensures cut { OnOk result (shown_lines lines.new.items ≡ shown_lines lines.old.items ++ map row_line (new_pieces width row.now)) }
     ensures memory { IfErr result (λ e. e ≡ Refusal.Memory) }
 {
-    let row = &row[..used_count(row)];
-    let first = push_piece(alloc, lines, row, width)?;
-    let mut rest = &row[first..];
-    while !rest.is_empty() {
-        let next = push_piece(alloc, lines, rest, width)?;
-        rest = &rest[next..];
+    let used = &row[..used_count(row)];
+    let mut at = push_piece(alloc, lines, used, width)?;
+    while at < used.len() {
+        let next = push_piece(alloc, lines, &used[at..], width)?;
+        at += next;
     }
     Ok(())
 }
