@@ -1,5 +1,5 @@
 -- The counts of rows that are cut anew go on as the lists do.
-use Rattle.std.proofs.Common.{◌≡◌, ℕ, zero, suc, ◌+◌, ◌-◌, ◌<◌, ◌≤◌, min, max, Bool, true, false, List, [], ◌∷◌, ◌++◌, length, get_or, map, take, drop, replicate, refl, sym, ◌∙◌, ap, subst, arith, append_assoc, length-append, length-take, length-drop, if◌then◌else◌}
+use Rattle.std.proofs.Common.{◌≡◌, ℕ, zero, suc, ◌+◌, ◌-◌, ◌<◌, ◌≤◌, min, max, Bool, true, false, List, [], ◌∷◌, ◌++◌, length, get_or, map, take, drop, replicate, refl, sym, ◌∙◌, ap, subst, arith, append_assoc, length-append, length-take, length-drop}
 use Rattle.std.specs.Prelude.{flat_map, sum, sum_by, nat_le}
 use Rattle.std.proofs.lemmas.Bool.{cond_both, leb-true, leb-false, le-leb, lt-leb}
 use Rattle.std.proofs.lemmas.List.{length-replicate, length-map, map-append, take_at, drop_at, drop-drop, nil_from_length}
@@ -8,12 +8,12 @@ use Rattle.std.proofs.lemmas.List.Sums.{sum-map, sum_by-cons, sum_by-take-drop}
 use Rattle.indicatif_text.specs.Columns.{Cell, blank_row}
 use Rattle.indicatif_term.specs.Counts.{CountsOf, row_count}
 use Rattle.indicatif_term.specs.Lists.{Lists, BarRows, live_rows, live_height, lists_height, segments_height}
-use Rattle.indicatif_term.specs.Resizes.{recut, recut_all, recut_bar, recut_lists, segments_after, rows_passed, settled_whole}
+use Rattle.indicatif_term.specs.Resizes.{recut, recut_all, recut_bar, recut_lists, segments_after, settled_whole}
 use Rattle.indicatif_term.specs.Inside.Recutting.{row_heights, end_row, cut_counts, counts_after, IsSettledWhole}
 use Rattle.indicatif_term.specs.declared.counts.Counts.{Counts}
 use Rattle.indicatif_term.specs.declared.layout.RowCount.{RowCount}
-use Rattle.indicatif_term.proofs.CountLemmas.{length-flat, length-live, settled-height}
-use Rattle.indicatif_term.proofs.ResizeLemmas.{segments_recut, passing, passing-height, whole-reach}
+use Rattle.indicatif_term.proofs.CountLemmas.{length-flat, length-live}
+use Rattle.indicatif_term.proofs.ResizeLemmas.{segments_recut, passing, passing-height}
 
 abbrev pub rows_by : RowCount → ℕ
 rows_by s = s.rows

@@ -1,17 +1,17 @@
 -- The lines that lines become where their rows are cut anew: their rows are those that the rows of the lines become.
-use Rattle.std.proofs.Common.{◌≡◌, ℕ, zero, suc, ◌+◌, ◌<◌, ◌≤◌, false, true, IsFalse, List, [], ◌∷◌, ◌++◌, map, filter, length, take, drop, refl, sym, ◌∙◌, ap, subst, arith, append_assoc, append-nil, chars}
+use Rattle.std.proofs.Common.{◌≡◌, ℕ, ◌+◌, ◌<◌, ◌≤◌, true, IsFalse, List, [], ◌∷◌, ◌++◌, map, filter, length, take, drop, refl, sym, ◌∙◌, ap, subst, arith, append_assoc, append-nil, chars}
 use Rattle.std.specs.Prelude.{flat_map, string_bytes}
 use Rattle.std.specs.List.{AllByRecursion, list_all}
 use Rattle.std.proofs.lemmas.List.{map-append, length-map, drop-drop, length-drop, nil_from_length}
 use Rattle.std.proofs.lemmas.List.Concat.{flat_map-append}
 use Rattle.indicatif_text.specs.Columns.{Cell, Glyph, columns_in, glyphs_of, pieces_of, row_of, rows_of, visible, has_wide, last_columns, columns_of_last}
-use Rattle.indicatif_term.specs.Resizes.{has_place, glyphs_in, recut, recut_all}
-use Rattle.indicatif_term.specs.Standing.{texts, standing_rows, IsLine, AreLines}
-use Rattle.indicatif_term.specs.Inside.Recutting.{piece_text, without_spaces, fitting_count, new_pieces, cut_pieces, cut_line, cut_lines, LineShown, shown_line, shown_lines, row_line, HasMore}
+use Rattle.indicatif_term.specs.Resizes.{has_place, recut, recut_all}
+use Rattle.indicatif_term.specs.Standing.{texts, standing_rows, AreLines}
+use Rattle.indicatif_term.specs.Inside.Recutting.{piece_text, without_spaces, fitting_count, new_pieces, cut_pieces, cut_line, cut_lines, LineShown, shown_lines, row_line, HasMore}
 use Rattle.indicatif_term.specs.declared.remembered.StandingLine.{StandingLine}
 use Rattle.indicatif_term.specs.declared.recutting.CutLines.{CutLines}
 use Rattle.indicatif_term.proofs.CutPieceLemmas.{more_pieces, more_some, first_piece, all_filtered, all_unspaced, all_in_pieces, IsNarrow, narrow_pieces, only_piece, all_placed, placed_taken, placed_dropped}
-use Rattle.indicatif_term.proofs.CutTextLemmas.{IsRead, glyphs_read, piece_glyphs, piece_narrow, row_glyphs, line_placed}
+use Rattle.indicatif_term.proofs.CutTextLemmas.{IsRead, glyphs_read, piece_glyphs, piece_narrow, row_glyphs}
 
 -- ---- a line of one row
 

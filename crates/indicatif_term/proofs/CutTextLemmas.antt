@@ -1,15 +1,14 @@
 -- The text of a row's glyphs reads back as these glyphs, and a row of cells gives the glyphs that were put in it.
-use Rattle.std.proofs.Common.{◌≡◌, ℕ, zero, suc, ◌+◌, ◌-◌, ◌<◌, ◌≤◌, Bool, true, false, ◌&&◌, ◌||◌, cond, eqb, List, [], ◌∷◌, ◌++◌, map, length, replicate, refl, sym, ◌∙◌, ap, subst, arith, append_assoc, append-nil, None, Option, inl, inr, if◌then◌else◌}
-use Rattle.std.specs.Prelude.{◌==◌, nat_lt, nat_le, flat_map, take_while}
+use Rattle.std.proofs.Common.{◌≡◌, ℕ, zero, suc, ◌+◌, ◌-◌, ◌≤◌, Bool, true, false, cond, List, [], ◌∷◌, ◌++◌, length, replicate, refl, sym, ◌∙◌, ap, subst, arith, append-nil, None, inl, inr, if◌then◌else◌}
+use Rattle.std.specs.Prelude.{◌==◌, nat_lt, nat_le, flat_map}
 use Rattle.std.specs.List.{AllByRecursion, list_all, list_any}
 use Rattle.std.proofs.lemmas.Bool.{cases_Bool, cond_both, eqb-true, eqb-false, le-ltb, le-leb, ltb-false, and_parts, and_from, or_parts}
-use Rattle.std.proofs.lemmas.List.Concat.{flat_map-append}
 use Rattle.std.proofs.lemmas.List.Sums.{sum_by-cons}
 use Rattle.unicode_width.specs.Width.{char_width}
 use Rattle.indicatif_text.specs.Columns.{Cell, Blank, Written, Continued, Glyph, width_of, glyph_width, glyph_cells, glyphs_of, columns_in, row_of, visible, visible_from, colour_length, has_wide}
 use Rattle.indicatif_term.specs.Pictures.{is_blank, is_empty, trimmed}
 use Rattle.indicatif_term.specs.Resizes.{glyph_at, glyphs_in, has_place}
-use Rattle.indicatif_term.specs.Inside.Recutting.{glyph_text, guarded_char, guarded, piece_text, is_space, without_spaces}
+use Rattle.indicatif_term.specs.Inside.Recutting.{glyph_text, guarded, piece_text, is_space, without_spaces}
 use Rattle.indicatif_term.specs.Inside.Rows.{whole_row}
 use Rattle.indicatif_term.proofs.KeptRowLemmas.{text_kept}
 use Rattle.indicatif_term.proofs.WrittenLineLemmas.{has_no_width, marks_before, marks_before-cons}

@@ -1,5 +1,5 @@
 -- Lines that are cut anew: each of their rows becomes lines of one row.
-use Rattle.std.specs.Prelude.{◌≡◌, ◌<◌, ℕ, ◌+◌, ◌-◌, Bool, ◌&&◌, ◌==◌, nat_le, List, [], ◌∷◌, ◌++◌, map, filter, flat_map, length, zero, suc, chars, string_bytes, sum, min, take, drop, if◌then◌else◌}
+use Rattle.std.specs.Prelude.{◌≡◌, ◌<◌, ℕ, ◌+◌, ◌-◌, Bool, ◌&&◌, ◌==◌, nat_le, List, [], ◌∷◌, ◌++◌, map, filter, flat_map, length, suc, chars, string_bytes, sum, min, take, drop, if◌then◌else◌}
 use Rattle.std.specs.List.{list_all}
 use Rattle.indicatif_text.specs.Columns.{Cell, Glyph, glyph_width, columns_in, glyphs_of, pieces_of, visible}
 use Rattle.indicatif_term.specs.Pictures.{is_empty}

@@ -1,11 +1,10 @@
-use Rattle.std.proofs.Common.{◌≡◌, ◌∙◌, ◌++◌, ◌∷◌, [], false, true, ap, sym, refl, rules}
+use Rattle.std.proofs.Common.{◌≡◌, ◌∙◌, ◌++◌, ◌∷◌, [], ap, refl, rules}
 use Rattle.std.specs.Prelude.{string_bytes}
 use Rattle.std.specs.Char.{IsScalar}
 use Rattle.std.specs.Str.{chars}
 use Rattle.std.proofs.lemmas.Str.{IsUtf8-string_bytes, chars-append}
 use Rattle.std.proofs.lemmas.Bool.{eq-eqb, ne_eqb}
 use Rattle.indicatif_text.proofs.DraftLemmas.{chars_one}
-use Rattle.indicatif_term.specs.Inside.Recutting.{guarded_char}
 use Rattle.indicatif_term.proofs.marked.push_guarded.Goals as goal
 
 spelled : chars (0x1B ∷ 0x1B ∷ 0x5B ∷ 0x6D ∷ []) ≡ 0x1B ∷ 0x1B ∷ 0x5B ∷ 0x6D ∷ []

@@ -1,8 +1,8 @@
-use Rattle.std.proofs.Common.{◌≡◌, ◌∙◌, ◌++◌, ◌∷◌, [], ◌<◌, filter, take, drop, map, sym, ap, arith, length, length-drop, ◌-◌}
+use Rattle.std.proofs.Common.{◌≡◌, ◌∙◌, ◌++◌, ◌∷◌, [], ◌<◌, filter, take, drop, map, ap, arith, length, length-drop, ◌-◌}
 use Rattle.indicatif_text.specs.Columns.{pieces_of}
 use Rattle.indicatif_term.specs.Resizes.{has_place}
-use Rattle.indicatif_term.specs.Inside.Recutting.{shown_lines, row_line, new_pieces, fitting_count}
-use Rattle.indicatif_term.proofs.CutPieceLemmas.{more_pieces, rest_of}
+use Rattle.indicatif_term.specs.Inside.Recutting.{shown_lines, row_line, fitting_count}
+use Rattle.indicatif_term.proofs.CutPieceLemmas.{rest_of}
 use Rattle.indicatif_term.proofs.CutLineLemmas.{piece_left, next_piece_left, no_piece_left}
 use Rattle.indicatif_term.proofs.recutting.cut_row.Goals as goal
 

@@ -1,4 +1,4 @@
-use Rattle.std.proofs.Common.{◌≡◌, ◌≤◌, ◌+◌, length, drop}
+use Rattle.std.proofs.Common.{◌≡◌, ◌≤◌, ◌+◌, drop}
 use Rattle.indicatif_term.specs.Inside.Recutting.{fitting_count}
 use Rattle.indicatif_term.proofs.recutting.fitting_count.Given as goal
 
