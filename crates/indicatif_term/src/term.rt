@@ -158,6 +158,7 @@ impl<W: Write> Resize for Term<W> {
         ensures zero_size { (result ≡ Err Refusal.ZeroSize) ↔ ((rows ≡ 0) ⊎ (cols ≡ 0)) }
         ensures no_other { IfErr result (λ e. (e ≡ Refusal.ZeroSize) ⊎ (e ≡ Refusal.Memory)) }
         ensures alone { OnOk result (self.new ≡ record self.old { columns = cols; rows = rows }) }
+        ensures no_memory { IfErr result (λ e. e ≡ Refusal.ZeroSize) }
     {
         if rows == 0 || cols == 0 {
             return Err(Refusal::ZeroSize);

@@ -120,8 +120,7 @@ impl TermLike for Box<dyn TermLike + Drop> {
 /// A terminal whose size can be changed between its calls.
 ///
 /// A `Term` takes the new size for the drawings to come, and nothing else: what stands on the screen behind its writer is that
-/// screen's own. An engine has its terminal for itself and isn't told: take the terminal back (`Engine::into_term`), and begin a new
-/// engine below the rows that stand.
+/// screen's own. An engine has its terminal for itself: `Engine::resize` gives both the new size.
 pub trait Resize: TermLike {
     /// Gets `rows` rows and `cols` columns; no byte is written, and no failure counted. A terminal that tells its state has cut
     /// each of its rows anew then. One that tells its bytes tells the same ones.
