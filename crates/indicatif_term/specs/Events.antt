@@ -5,7 +5,7 @@ use Rattle.indicatif_term.specs.Screen.{Screen}
 use Rattle.indicatif_term.specs.Terminal.{Terminal, after}
 use Rattle.indicatif_term.specs.Calls.{Told, led_on}
 use Rattle.indicatif_term.specs.Shows.{RowsStay}
-use Rattle.indicatif_term.specs.Resizes.{recut_all, resized, resized_terminal, told_resized}
+use Rattle.indicatif_term.specs.Resizes.{recut_all, resized_terminal, told_resized}
 
 -- bytes, or a size
 pub data Event : Type 0 where
@@ -23,12 +23,6 @@ abbrev pub told_after : Told → List Event → Told
 told_after told [] = told
 told_after told (Given bytes ∷ events) = told_after (led_on told bytes) events
 told_after told (Sized w h ∷ events) = told_after (told_resized w h told) events
-
--- an opening after them: sizes alone change it
-abbrev pub opening_after : Screen → List Event → Screen
-opening_after s [] = s
-opening_after s (Given bytes ∷ events) = opening_after s events
-opening_after s (Sized w h ∷ events) = opening_after (resized w h s) events
 
 -- ---- rows that last
 
