@@ -691,15 +691,15 @@ impl<K: Tracks, T: TermLike + Drop> Board<K, T> {
 }
 
 impl<K: Tracks, T: Resize + Drop> Board<K, T> {
-    ghost use Rattle.indicatif_bar.specs.Scripts.{Size, SizedOn, sized, Plays};
+    ghost use Rattle.indicatif_bar.specs.Scripts.{Size as NewSize, SizedOn, sized, Plays};
     ghost use Rattle.indicatif_board.specs.Multi.{IsIn, RecordsStay, board_sizing, known, mark_of, slots_of, terminal_of};
 
     /// The terminal gets `rows` rows and `cols` columns, and what stands there is cut anew: each row by itself, never joined with
     /// another. Nothing is written now; the next draw takes back the bars' rows as they are then. On a hidden target this does nothing.
     ///
     /// ```
-    /// board.resize(4, 3)?; // the text `hello` above the bars stands on two rows: `hel`, `lo`
-    /// board.redraw(now)?; // so it does below; the bars' lines stand as they were laid out, now on rows of three columns
+    /// board.println("hello", now)?;
+    /// board.resize(4, 3)?; // it stands on two rows from now on: `hel`, `lo`
     /// ```
     ///
     /// Refused: `ZeroSize` where `rows` or `cols` is 0, also on a hidden target; `Memory`. All is unchanged then.
@@ -708,7 +708,7 @@ impl<K: Tracks, T: Resize + Drop> Board<K, T> {
             let machine = board (board_bars K.means) mark in
             let next = sized machine (board_sizing K.means mark) cols rows (target_of (known T.view self.old)) s in
             IfOk result (λ _. IsIn mark self.new next
-            × Plays machine (board_sizing K.means mark) (Size cols rows ∷ []) (known T.view self.old) s (known T.view self.new) next) }
+            × Plays machine (board_sizing K.means mark) (NewSize cols rows ∷ []) (known T.view self.old) s (known T.view self.new) next) }
         ensures sized { IfOk result (λ _. SizedOn cols rows (known T.view self.old) (known T.view self.new)) }
         ensures mark { mark_of self.new ≡ mark_of self.old }
         ensures records { RecordsStay self.old self.new }

@@ -1,20 +1,20 @@
 -- Rows that stand above whatever is written next are cut when a terminal gets another size, and stay safe.
 use Rattle.std.proofs.Common.{◌≡◌, ℕ, suc, ◌+◌, ◌-◌, ◌<◌, ◌≤◌, min, Bool, true, false, ◌&&◌, List, ◌++◌, map, length, take, drop, replicate, refl, sym, ◌∙◌, ap, subst, arith, append_assoc, length-append, length-take, inl, inr, if◌then◌else◌}
-use Rattle.std.specs.Prelude.{◌==◌, IsFalse}
-use Rattle.std.proofs.lemmas.Bool.{cond_both, eq-eqb, eqb-true, ne_eqb, and_parts, cases_Bool}
+use Rattle.std.specs.Prelude.{◌==◌}
+use Rattle.std.proofs.lemmas.Bool.{cond_both, eq-eqb, eqb-true, and_parts, cases_Bool}
 use Rattle.std.proofs.lemmas.List.{length-replicate, length-map, length-take-le, take-append-drop, take_at, take-take, take_min, take-map}
 use Rattle.std.proofs.lemmas.List.Concat.{flat_map-append}
 use Rattle.indicatif_text.specs.Columns.{Cell, blank_row}
 use Rattle.indicatif_term.specs.Screen.{Screen, cursor_row}
 use Rattle.indicatif_term.specs.Terminal.{Terminal}
 use Rattle.indicatif_term.specs.Lists.{Lists, all_rows, live_rows, lists_height, forgotten_lists}
-use Rattle.indicatif_term.specs.Shows.{Shows, Rests, Placed, IsOpening, look, looks_of, resting_row, resting_column}
+use Rattle.indicatif_term.specs.Shows.{Shows, Placed, IsOpening, look, looks_of, resting_row, resting_column}
 use Rattle.indicatif_term.specs.Resizes.{recut, recut_all, used_rows, lasting_rows, row_then, recut_screen, resized, resized_terminal, resized_lists}
 use Rattle.indicatif_term.specs.Events.{standing_rows, rows_then}
 use Rattle.indicatif_term.proofs.RecutLemmas.{recut_some, recut_alike, row_more, upper_rows}
 use Rattle.indicatif_term.proofs.ResizeLemmas.{opening_cut, above_resized, same_size}
 use Rattle.indicatif_term.proofs.PlaceLemmas.{IsSizedInside}
-use Rattle.indicatif_term.proofs.StandLemmas.{sized_place, broke_placed, placed_fewer, shows_placed}
+use Rattle.indicatif_term.proofs.StandLemmas.{sized_place, broke_placed, placed_fewer}
 
 -- ---- a screen that gets another size
 
@@ -115,9 +115,9 @@ rows_placed w h w' h' n t some p =
     let with_screen : Screen → Terminal = λ z. record t { screen = z } in
     cond_both same (take n s.rows) (cut w' h' n s i.inside.in_rows) (λ r. Placed w' h' (length r) forgotten_lists (with_screen (if same then s else recut_screen w' h' s)))
     (λ e.
-        let parts = both_tests s.columns w' s.height h' e in
-        let here = subst (λ k. Placed w' k n forgotten_lists t) (sym i.height ∙ parts.1) (subst (λ k. Placed k h n forgotten_lists t) (sym i.columns ∙ parts.0) p) in
-        rw e (placed_fewer w' h' (length (take n s.rows)) n forgotten_lists t (omega (arith, length-take n s.rows)) here))
+    let parts = both_tests s.columns w' s.height h' e in
+    let here = subst (λ k. Placed w' k n forgotten_lists t) (sym i.height ∙ parts.1) (subst (λ k. Placed k h n forgotten_lists t) (sym i.columns ∙ parts.0) p) in
+    rw e (placed_fewer w' h' (length (take n s.rows)) n forgotten_lists t (omega (arith, length-take n s.rows)) here))
     (λ e. rw e (broke_placed w' h' (length (cut w' h' n s i.inside.in_rows)) (with_screen (recut_screen w' h' s)) (cut_sized w' h' n s i.inside.in_rows some) (cut_low w' h' n s i.inside.in_rows)))
 
 -- ---- one that shows lists
@@ -195,6 +195,7 @@ module _ (w h w' h' n : ℕ) (opening : Screen) (l : Lists) (t : Terminal) (x : 
         | inr e ↦
             let z = above_resized w h w' h' l e some' in
             let more : length (resized_lists w h w' h' l).above ≡ length (recut_all w' l.above) + length z.0 = ap length z.1 ∙ length-append (recut_all w' l.above) z.0 in
-            let cut_n : length (recut_all w' (take (standing_rows n s) s.rows)) ≡ length (recut_all w' (take n s.rows)) = ap (λ k. length (recut_all w' (take k s.rows))) (all_stand w h n opening l t x few) in
+            let cut_n : length (recut_all w' (take (standing_rows n s) s.rows)) ≡ length (recut_all w' (take n s.rows)) =
+            ap (λ k. length (recut_all w' (take k s.rows))) (all_stand w h n opening l t x few) in
             rw (test ∙ e, test' ∙ e) (omega (arith, cut_n, cut_fewer w' n (opening.row + a) s.rows few, first_rows, opening_row, more))
       ]
