@@ -1,16 +1,15 @@
 -- What a script leaves on the terminal, of whatever draws.
-use Rattle.std.proofs.Common.{◌≡◌, ℕ, ◌+◌, ◌-◌, ◌<◌, ◌≤◌, Bool, true, false, ◌||◌, List, [], ◌∷◌, ◌++◌, map, length, take, replicate, refl, sym, ◌∙◌, ap, subst, arith, length-append, Option, Some, None}
+use Rattle.std.proofs.Common.{◌≡◌, ℕ, ◌+◌, ◌-◌, ◌<◌, ◌≤◌, Bool, true, false, ◌||◌, List, [], ◌∷◌, length, refl, sym, ◌∙◌, ap, subst, arith, length-append, Option, Some, None}
 use Rattle.std.specs.Prelude.{IsTrue, IsFalse}
 use Rattle.std.specs.List.{list_any}
 use Rattle.std.proofs.lemmas.Bool.{cond_both, false≢true, or_parts}
 use Rattle.std.proofs.lemmas.List.Elements.{recursion_from_All}
 use Rattle.indicatif_term.specs.Screen.{Screen}
 use Rattle.indicatif_term.specs.Terminal.{Terminal, after}
-use Rattle.indicatif_term.specs.Calls.{Told, State as Holding, Bytes, Nothing, is_told, led_on, TermView}
-use Rattle.indicatif_term.specs.Pictures.{row_text}
-use Rattle.indicatif_term.specs.Lists.{Lists, forgotten_lists, all_rows}
+use Rattle.indicatif_term.specs.Calls.{Told, State as Holding, Bytes, Nothing, is_told, TermView}
+use Rattle.indicatif_term.specs.Lists.{Lists}
 use Rattle.indicatif_term.specs.Shows.{Rests, Placed}
-use Rattle.indicatif_term.specs.Resizes.{Resized, resized, resized_terminal, resized_lists, told_resized}
+use Rattle.indicatif_term.specs.Resizes.{resized, resized_terminal, resized_lists, told_resized}
 use Rattle.indicatif_term.specs.Events.{Event, Given, Sized, terminal_after, told_after, RowsLastThrough, rows_then}
 use Rattle.indicatif_term.specs.Engines.{Paints}
 use Rattle.indicatif_term.proofs.CallTurnLemmas.{still_tells}
@@ -18,9 +17,9 @@ use Rattle.indicatif_term.proofs.ResizeLemmas.{resized_rests, still_failed, forg
 use Rattle.indicatif_term.proofs.StandLemmas.{placed_fewer, shows_placed, sized_place}
 use Rattle.indicatif_term.proofs.StandingRowLemmas.{rows_taken, rows_placed, rows_safe}
 use Rattle.indicatif_term.proofs.RowReadingLemmas.{shown_is_read}
-use Rattle.indicatif_bar.specs.Machines.{Target, target_of, Machine, outcomes}
-use Rattle.indicatif_bar.specs.Runs.{Runs, AllPlain, broke, is_undisturbed}
-use Rattle.indicatif_bar.specs.Scripts.{SizedOn, sized_target, sized_lists, Sizing, Part, Called, Size, opening_then, MaySize, sized, Plays, script_broke, AllRunsPlain, AllSizesKnown, Carries, ScriptsCarry, ScriptsAreRead, UnbrokenScriptsAreRead, AllUndisturbed, played, OneScriptOutcome}
+use Rattle.indicatif_bar.specs.Machines.{Target, target_of, Machine}
+use Rattle.indicatif_bar.specs.Runs.{broke, is_undisturbed}
+use Rattle.indicatif_bar.specs.Scripts.{SizedOn, sized_target, sized_lists, Sizing, Part, Called, Size, opening_then, MaySize, sized, Plays, script_broke, AllRunsPlain, AllSizesKnown, ScriptsCarry, ScriptsAreRead, UnbrokenScriptsAreRead, played, OneScriptOutcome}
 use Rattle.indicatif_bar.proofs.SoundRunLemmas.{Sound, GoesSoundly, runs_soundly}
 use Rattle.indicatif_bar.proofs.RunLemmas.{headline, run_target_stays, runs_once}
 

@@ -1,5 +1,5 @@
 -- A size that an engine took is a script, of whatever draws.
-use Rattle.std.proofs.Common.{◌≡◌, ℕ, ◌<◌, [], ◌∷◌, refl, sym, subst, Result, Ok, Err, Option, Some, None, option_map}
+use Rattle.std.proofs.Common.{◌≡◌, ℕ, ◌<◌, [], ◌∷◌, refl, sym, subst, Result, Ok, Err, Option, Some, option_map}
 use Rattle.std.specs.Prelude.{IfOk}
 use Rattle.indicatif_text.specs.declared.refusal.Refusal.{Refusal}
 use Rattle.indicatif_term.specs.Calls.{TermView}
