@@ -1,11 +1,26 @@
 //! What the arguments of `bars run` ask for.
 use indicatif_term::draw_target::MultiProgressAlignment;
 
+/// A terminal's size.
+#[derive(Clone, Copy, Debug, Drop, PartialEq, Eq)]
+pub struct Size {
+    pub rows: u16,
+    pub columns: u16,
+}
+
+impl Size {
+    /// The size of these rows and columns, each one or more decimal digits, and at most 65,535; `None` of other words.
+    pub fn spelt(rows: &str, columns: &str) -> Option<Size> {
+        let rows = size_of(rows)?;
+        let columns = size_of(columns)?;
+        Some(Size { rows, columns })
+    }
+}
+
 /// A terminal's size, and where bars stand in what is taken back.
 #[derive(Clone, Copy, Debug, Drop, PartialEq, Eq)]
 pub struct Asked {
-    pub rows: u16,
-    pub columns: u16,
+    pub size: Size,
     pub alignment: MultiProgressAlignment,
 }
 
@@ -35,13 +50,8 @@ fn sized(
     if run.as_str() != "run" {
         return None;
     }
-    let rows = size_of(rows.as_str())?;
-    let columns = size_of(columns.as_str())?;
-    Some(Asked {
-        rows,
-        columns,
-        alignment,
-    })
+    let size = Size::spelt(rows.as_str(), columns.as_str())?;
+    Some(Asked { size, alignment })
 }
 
 /// The number of at most 65,535 that one or more decimal digits spell.

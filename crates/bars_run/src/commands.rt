@@ -1,5 +1,5 @@
 //! What a line spells.
-use crate::arguments::is_digits;
+use crate::arguments::{Size, is_digits};
 use std::str;
 
 /// A command of a line.
@@ -13,6 +13,8 @@ pub enum Command<'a> {
     Warn(&'a str),
     /// The bars' rows taken back.
     Clear,
+    /// Another size of the terminal.
+    Size(Size),
     /// Something done to the bar of a number; `None` where that is past 2^64 - 1, which is no bar's.
     Bar(Option<u64>, BarAction<'a>),
 }
@@ -64,6 +66,10 @@ fn with_rest<'a>(word: &str, rest: &'a str) -> Option<Command<'a>> {
         "add" => Some(Command::Add(rest)),
         "log" => Some(Command::Log(rest)),
         "warn" => Some(Command::Warn(rest)),
+        "size" => {
+            let (rows, columns) = rest.split_once(' ')?;
+            Some(Command::Size(Size::spelt(rows, columns)?))
+        }
         "msg" => {
             let (number, text) = rest.split_once(' ').unwrap_or((rest, ""));
             numbered(number, BarAction::Message(text))

@@ -30,7 +30,7 @@ impl Player {
     ///
     /// Refused: `ZeroSize` where the terminal would have no cells, or `Memory`.
     pub fn new(alloc: Global, asked: Asked) -> Result<Player, Refusal> {
-        let term = InMemoryTerm::new(alloc, asked.rows, asked.columns)?;
+        let term = InMemoryTerm::new(alloc, asked.size.rows, asked.size.columns)?;
         let board = Board::new(alloc, ProgressDrawTarget::term_like(term), MARK);
         let mut player = Player {
             alloc,
@@ -45,7 +45,17 @@ impl Player {
     ///
     /// Refused: what the board refuses, `NotMember` also for a number that was never given, and `Memory`.
     pub fn obey(&mut self, command: Command<'_>) -> Result<(), Refusal> {
-        let call = self.call_of(command)?;
+        let call = match command {
+            Command::Size(size) => return self.board.resize(size.rows, size.columns),
+            Command::Add(text) => Call::Insert {
+                at: InsertLocation::End,
+                candidate: Candidate::New(bar_saying(self.alloc, text)?),
+            },
+            Command::Log(text) => Call::Log(String::from_str(self.alloc, text)?),
+            Command::Warn(text) => Call::Log(warning(self.alloc, text)?),
+            Command::Clear => Call::Clear,
+            Command::Bar(number, action) => bar_call(self.alloc, self.id_of(number)?, action)?,
+        };
         self.make(call)
     }
 
@@ -68,23 +78,6 @@ impl Player {
             }
         }
         Ok(())
-    }
-
-    /// The board's call for a command.
-    fn call_of(&self, command: Command<'_>) -> Result<Call<NoTracker>, Refusal> {
-        match command {
-            Command::Add(text) => {
-                let bar = bar_saying(self.alloc, text)?;
-                Ok(Call::Insert {
-                    at: InsertLocation::End,
-                    candidate: Candidate::New(bar),
-                })
-            }
-            Command::Log(text) => Ok(Call::Log(String::from_str(self.alloc, text)?)),
-            Command::Warn(text) => Ok(Call::Log(warning(self.alloc, text)?)),
-            Command::Clear => Ok(Call::Clear),
-            Command::Bar(number, action) => bar_call(self.alloc, self.id_of(number)?, action),
-        }
     }
 
     /// The bar of this number, counted from 1.

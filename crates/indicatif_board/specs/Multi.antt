@@ -1,5 +1,5 @@
 -- What contracts see of a board: its terminal, whether it is in a given state, and what a call leads to.
-use Rattle.std.specs.Prelude.{◌≡◌, ◌≢◌, ◌⊎◌, ℕ, IsTrue, List, [], ◌∷◌, Option, Some, None, MatchOption, option_map, Result, Err}
+use Rattle.std.specs.Prelude.{◌≡◌, ◌≢◌, ◌⊎◌, ℕ, IsTrue, List, [], ◌∷◌, Option, Some, None, MatchOption, option_map, Result, Err, refl}
 use Rattle.std.specs.List.{list_any}
 use Rattle.indicatif_text.specs.declared.refusal.Refusal.{Refusal}
 use Rattle.indicatif_text.specs.declared.refusal.Drawn.{Drawn}
@@ -12,6 +12,7 @@ use Rattle.indicatif_bar.specs.Lone.{Obey}
 use Rattle.indicatif_bar.specs.LoneBars.{RecordGoes}
 use Rattle.indicatif_bar.specs.Machines.{target_of}
 use Rattle.indicatif_bar.specs.Runs.{CallMade, Runs}
+use Rattle.indicatif_bar.specs.Scripts.{Sizing}
 use Rattle.indicatif_board.specs.BoardBars.{board_bars}
 use Rattle.indicatif_board.specs.Boards.{BoardState, Id, Entrant, New, Old, Call, Insert, Remove, Drop, Clear, Redraw, Tell, Answer, Given, Drew, Refused, says, drawn_of, board}
 use Rattle.indicatif_board.specs.Calls.{answer_of, gives}
@@ -132,3 +133,7 @@ module _ {K T : Type 0} where
       (next : BoardState (BarRecord K)) × IsIn mark new next
       × (((cleared : Drawn) × Runs machine ((Clear, now) ∷ (Redraw, now) ∷ []) (Drew cleared ∷ says answer ∷ []) (known view old) s (known view new) next)
       ⊎ ((e : Refusal) × (answer ≡ Err e) × Runs machine ((Clear, now) ∷ []) (Refused e ∷ []) (known view old) s (known view new) next))
+
+-- a board with other rows, as its terminal gets another size
+abbrev pub board_sizing : {K : Type 0} → (m : Tracking K) (mark : ℕ) → Sizing (board (board_bars m) mark)
+board_sizing m mark = record { put = λ l s. record s { lists = l }; lists_are = λ l s. refl }

@@ -8,7 +8,9 @@ ghost use Rattle.indicatif_bar.specs.Says.{EachSays};
 ghost use Rattle.indicatif_bar.specs.Bounds.{IsLimited, RunsAreBounded, RunsAreBoundedFrom};
 ghost use Rattle.indicatif_term.specs.Limiters.{Limiter};
 ghost use Rattle.indicatif_board.specs.Boards.{BoardKind, BoardState, Call, Answer, opening_board, board};
+ghost use Rattle.indicatif_bar.specs.Scripts.{UnbrokenScriptsAreRead, ScriptsAreBounded, ScriptsAreBoundedFrom};
 ghost use Rattle.indicatif_board.specs.BoardBars.{board_bars};
+ghost use Rattle.indicatif_board.specs.Multi.{board_sizing};
 ghost use Rattle.indicatif_board.specs.Done.{account_of_both, kept_half, given_half};
 ghost use Rattle.indicatif_board.specs.declared.done.Account.{Account};
 ghost use Rattle.indicatif_board.specs.LimitLaws.{IsAllowed};
@@ -98,6 +100,14 @@ pub fn a_board_is_limited<B, C>()
     ensures joins { (kind : BoardKind B C) (mark : ℕ) → RunsAreBoundedFrom (board kind mark) (λ s. s.limiter) }
     ensures free { (kind : BoardKind B C) (mark : ℕ) (target : Target) (call : Call B C) (now : ℕ) (s : BoardState B) → s.limiter ≡ None →
         IsAllowed ((board kind mark).deed target call now s) }
+{}
+
+/// Scripts of a board, that is runs with sizes between them: where the terminal broke no call off, they are read, whenever the sizes
+/// come; and sizes count for nothing in how often it draws. What else is said of scripts holds of any that draws by calls.
+pub fn scripts_of_a_board<K: Tracks>()
+    ensures read { (mark : ℕ) → UnbrokenScriptsAreRead (board (board_bars K.means) mark) (board_sizing K.means mark) }
+    ensures bounded { (mark : ℕ) → ScriptsAreBounded (board (board_bars K.means) mark) (board_sizing K.means mark) (λ s. s.limiter) }
+    ensures joins { (mark : ℕ) → ScriptsAreBoundedFrom (board (board_bars K.means) mark) (board_sizing K.means mark) (λ s. s.limiter) }
 {}
 
 /// No bar stands in a board's order twice, and none that was not taken in: so it is at first, and after each call of any run.

@@ -1,5 +1,5 @@
 //! A board: several bars on one target, in an order.
-ghost use Rattle.std.specs.Prelude.{◌≡◌, ◌≢◌, ◌==◌, ◌↔◌, ◌<◌, ◌≤◌, ℕ, Bool, Option, Some, None, Ok, Err, is_some, true, option_map, IsTrue, IsFalse, IfOk, IfErr, IfSome, MatchResult, MatchOption, map, OnErr, is_ok, vec_len, if◌then◌else◌};
+ghost use Rattle.std.specs.Prelude.{◌≡◌, ◌≢◌, ◌==◌, ◌↔◌, ◌⊎◌, ◌<◌, ◌≤◌, ◌∷◌, [], ℕ, Bool, Option, Some, None, Ok, Err, is_some, true, option_map, IsTrue, IsFalse, IfOk, IfErr, IfSome, MatchResult, MatchOption, map, OnErr, is_ok, vec_len, if◌then◌else◌};
 ghost use Rattle.std.specs.List.{list_any};
 ghost use Rattle.indicatif_term.specs.Engines.{is_bottom, engine_term, Fits};
 ghost use Rattle.indicatif_term.specs.Lists.{fate, kept_of, opening_lists};
@@ -31,7 +31,7 @@ use indicatif_bar::style::Tracks;
 use indicatif_term::draw_target::{
     Engine, Keep, MultiProgressAlignment, ProgressDrawTarget, RateLimiter,
 };
-use indicatif_term::term_like::TermLike;
+use indicatif_term::term_like::{Resize, TermLike};
 use indicatif_text::columns::{Drawn, Moment, Refusal};
 use std::alloc::Global;
 use std::mem::replace;
@@ -703,6 +703,44 @@ impl<K: Tracks, T: TermLike + Drop> Board<K, T> {
         match &mut self.engine {
             Some(engine) => self.shown.draw_on(engine, ask, bar, writing, now),
             None => Ok(Drawn::Hidden),
+        }
+    }
+}
+
+impl<K: Tracks, T: Resize + Drop> Board<K, T> {
+    ghost use Rattle.indicatif_bar.specs.Scripts.{Size as NewSize, SizedOn, sized, Plays};
+    ghost use Rattle.indicatif_board.specs.Multi.{IsIn, RecordsStay, board_sizing, known, mark_of, slots_of, terminal_of};
+
+    /// The terminal gets `rows` rows and `cols` columns, and what stands there is cut anew: each row by itself, never joined with
+    /// another. Nothing is written now; the next draw takes back the bars' rows as they are then. On a hidden target this does nothing.
+    ///
+    /// ```
+    /// board.println("hello", now)?;
+    /// board.resize(4, 3)?; // it stands on two rows from now on: `hel`, `lo`
+    /// ```
+    ///
+    /// Refused: `ZeroSize` where `rows` or `cols` is 0, also on a hidden target; `Memory`. All is unchanged then.
+    pub fn resize(&mut self, rows: u16, cols: u16) -> Result<(), Refusal>
+        ensures plays { (mark : ℕ) (s : BoardState (BarRecord K)) → IsIn mark self.old s →
+            let machine = board (board_bars K.means) mark in
+            let next = sized machine (board_sizing K.means mark) cols rows (target_of (known T.view self.old)) s in
+            IfOk result (λ _. IsIn mark self.new next
+            × Plays machine (board_sizing K.means mark) (NewSize cols rows ∷ []) (known T.view self.old) s (known T.view self.new) next) }
+        ensures sized { IfOk result (λ _. SizedOn cols rows (known T.view self.old) (known T.view self.new)) }
+        ensures mark { mark_of self.new ≡ mark_of self.old }
+        ensures records { RecordsStay self.old self.new }
+        ensures slots { slots_of self.new ≡ slots_of self.old }
+        ensures hidden { terminal_of self.old ≡ None → (self.new ≡ self.old) × (result ≢ Err Refusal.Memory) }
+        ensures unchanged { OnErr result (self.new ≡ self.old) }
+        ensures zero_size { (result ≡ Err Refusal.ZeroSize) ↔ ((rows ≡ 0) ⊎ (cols ≡ 0)) }
+        ensures no_other { IfErr result (λ e. (e ≡ Refusal.ZeroSize) ⊎ (e ≡ Refusal.Memory)) }
+    {
+        if rows == 0 || cols == 0 {
+            return Err(Refusal::ZeroSize);
+        }
+        match &mut self.engine {
+            Some(engine) => engine.resize(rows, cols),
+            None => Ok(()),
         }
     }
 }
