@@ -95,10 +95,12 @@ pub next_left : (ss : List RowCount) (i at all : ℕ) (s : RowCount) → i < len
     (at + s.rows) + sum_by rows_by (drop (i + 1) ss) ≤ all
 next_left ss i at all s h e le = omega (arith, le, ap (sum_by rows_by) (drop_one ss i s h e), sum_by-cons rows_by s (drop (i + 1) ss))
 
-pub after_passed : (left : ℕ) (ss : List RowCount) (i : ℕ) (s : RowCount) → i < length ss → get_or ss i s ≡ s → s.rows ≤ left → counts_after left (drop i ss) ≡ counts_after (left - s.rows) (drop (i + 1) ss)
+pub after_passed : (left : ℕ) (ss : List RowCount) (i : ℕ) (s : RowCount) → i < length ss → get_or ss i s ≡ s → s.rows ≤ left →
+    counts_after left (drop i ss) ≡ counts_after (left - s.rows) (drop (i + 1) ss)
 after_passed left ss i s h at le = ap (counts_after left) (drop_one ss i s h at) ∙ rw (le-leb s.rows left le) refl
 
-pub after_part : (left : ℕ) (ss : List RowCount) (i : ℕ) (s : RowCount) → i < length ss → get_or ss i s ≡ s → left < s.rows → counts_after left (drop i ss) ≡ record s { rows = s.rows - left } ∷ drop (i + 1) ss
+pub after_part : (left : ℕ) (ss : List RowCount) (i : ℕ) (s : RowCount) → i < length ss → get_or ss i s ≡ s → left < s.rows →
+    counts_after left (drop i ss) ≡ record s { rows = s.rows - left } ∷ drop (i + 1) ss
 after_part left ss i s h at lt = ap (counts_after left) (drop_one ss i s h at) ∙ rw (lt-leb s.rows left lt) refl
 
 -- ---- all counts

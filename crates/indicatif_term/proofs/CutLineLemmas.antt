@@ -136,7 +136,8 @@ texts_right : (w w' : ℕ) (lines : List (List ℕ)) → AllByRecursion (IsShown
 texts_right w w' [] = tt
 texts_right w w' (l ∷ lines) =
     subst (AllByRecursion (IsShownRight w')) (sym (flat_map-append (map row_line) (cut_line w w' l) (cut_lines w w' lines)))
-    (all_joined (IsShownRight w') (lines_of_pieces (cut_line w w' l)) (lines_of_pieces (cut_lines w w' lines)) (rows_right w' (pieces_of w (glyphs_of (visible (chars l)))) (line_read w l)) (texts_right w w' lines))
+    (all_joined (IsShownRight w') (lines_of_pieces (cut_line w w' l)) (lines_of_pieces (cut_lines w w' lines))
+    (rows_right w' (pieces_of w (glyphs_of (visible (chars l)))) (line_read w l)) (texts_right w w' lines))
 
 shown_standing : (w : ℕ) (ls : List StandingLine) → standing_rows w ls ≡ shown_rows_of w (shown_lines ls)
 shown_standing w [] = refl

@@ -119,7 +119,8 @@ glyphs_placed w (c ∷ cs) e =
     cond_both (has_no_width c) (glyphs_of cs) (g ∷ glyphs_of cs) (λ gs. list_all (has_place w) gs ≡ true)
     (λ none. glyphs_placed w cs p.1)
     (λ some. let fits = place_from w c some p.0 in
-    and_from (has_place w g) (list_all (has_place w) (glyphs_of cs)) (and_from (nat_le 1 (width_of c)) (nat_le (width_of c) w) (le-leb 1 (width_of c) fits.0) (le-leb (width_of c) w fits.1)) (glyphs_placed w cs p.1))
+    and_from (has_place w g) (list_all (has_place w) (glyphs_of cs))
+    (and_from (nat_le 1 (width_of c)) (nat_le (width_of c) w) (le-leb 1 (width_of c) fits.0) (le-leb (width_of c) w fits.1)) (glyphs_placed w cs p.1))
 
 pub line_placed : (w : ℕ) (line : List ℕ) → has_wide w line ≡ false → list_all (has_place w) (glyphs_of (visible line)) ≡ true
 unfolding has_wide

@@ -61,6 +61,10 @@ cut_line w w' text = cut_pieces w w' (glyphs_of (visible (chars text)))
 abbrev pub cut_lines : ℕ → ℕ → List (List ℕ) → List (List (List Glyph))
 cut_lines w w' texts = flat_map (cut_line w w') texts
 
+-- their texts
+abbrev pub texts_then : ℕ → ℕ → List ℕ → List (List (List ℕ))
+texts_then w w' text = map (map piece_text) (cut_line w w' text)
+
 -- ---- lines
 
 -- a line by its characters

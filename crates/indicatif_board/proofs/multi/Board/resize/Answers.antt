@@ -1,4 +1,4 @@
-use Rattle.std.proofs.Common.{◌≡◌, ◌<◌, arith, refl, sym, subst, Some, None}
+use Rattle.std.proofs.Common.{◌≡◌, ◌<◌, arith, subst, Some}
 use Rattle.std.specs.Prelude.{MatchOption}
 use Rattle.indicatif_term.specs.Lists.{opening_lists}
 use Rattle.indicatif_term.specs.Engines.{Fits}

@@ -13,7 +13,8 @@ settled-requires-clause-live_is c =
     let own = take (length c.deref.result.now - counts.passed) (drop counts.passed c.deref.result.now) in
     let same : bars ≡ drop a hs = take_all (length hs - a) (drop a hs) (omega (arith, length-drop a hs)) in
     let segments : own ≡ drop counts.passed counts.segments.items =
-    take_all (length c.deref.result.now - counts.passed) (drop counts.passed c.deref.result.now) (omega (arith, length-drop counts.passed c.deref.result.now)) ∙ ap (drop counts.passed) c.deref.ensures.value in
+    take_all (length c.deref.result.now - counts.passed) (drop counts.passed c.deref.result.now) (omega (arith, length-drop counts.passed c.deref.result.now))
+    ∙ ap (drop counts.passed) c.deref.ensures.value in
     let live : counts.live ≡ counts.blanks + sum_by rows_by (drop counts.passed counts.segments.items) = counts.live_is in
     let n : length bars ≡ sum_by rows_by own = omega (arith, ap length same, length-drop a hs, c.requires.rows, ap (sum_by rows_by) segments, live) in
     let total : sum_by rows_by c.in_ok-segments.segments.items ≡ sum bars = ap (sum_by rows_by) c.in_ok-segments.ensures.cut ∙ total_cut bars own n in
@@ -28,7 +29,8 @@ returns-clause-counts c = λ w w' l o e.
     let own = take (length c.deref.result.now - counts.passed) (drop counts.passed c.deref.result.now) in
     let same : bars ≡ drop a hs = take_all (length hs - a) (drop a hs) (omega (arith, length-drop a hs)) in
     let segments : own ≡ drop counts.passed counts.segments.items =
-    take_all (length c.deref.result.now - counts.passed) (drop counts.passed c.deref.result.now) (omega (arith, length-drop counts.passed c.deref.result.now)) ∙ ap (drop counts.passed) c.deref.ensures.value in
+    take_all (length c.deref.result.now - counts.passed) (drop counts.passed c.deref.result.now) (omega (arith, length-drop counts.passed c.deref.result.now))
+    ∙ ap (drop counts.passed) c.deref.ensures.value in
     recut_counts_of w w' c.args.height l counts c.settled.result o c.requires.some hs e
     (settled_same c.args.height c.in_ok-kept.kept (sum (take counts.kept hs)) counts.blanks (counts.blanks + c.in_ok-rows.rows) (counts.blanks + sum (drop a hs)) c.in_ok-segments.segments.items
     (cut_counts (drop a hs) (drop counts.passed counts.segments.items)) counts.below c.settled.result c.in_ok-kept.ensures.rows (ap (λ k. counts.blanks + k) (c.in_ok-rows.ensures.rows ∙ ap sum same))

@@ -31,5 +31,6 @@ returns-clause-lists g c = λ l fits.
     let e = c.args.self.now in
     let v = g.T.TermLike.view (engine_term e) in
     let r = c.remember.ensures.remembered in
-    suits_fits c.remember.new.self (settled_whole c.args.cols c.args.rows (recut_lists c.args.cols l)) (resized_lists v.columns v.rows c.args.cols c.args.rows l) c.in_ok-cut.cut.counts false c.in_ok-cut.cut.shown
+    suits_fits c.remember.new.self (settled_whole c.args.cols c.args.rows (recut_lists c.args.cols l)) (resized_lists v.columns v.rows c.args.cols c.args.rows l)
+    c.in_ok-cut.cut.counts false c.in_ok-cut.cut.shown
     r.0 r.1 r.2 (others_resized v.columns v.rows c.args.cols c.args.rows l (sym c.has_size.ensures ∙ c.if-has_size.false)) (c.in_ok-cut.ensures.suits l (fits_suits e l fits) c.if-self.false)
