@@ -18,8 +18,9 @@ returns g c = λ trackers texts logged v known.
     let new = lone_known view c.println.new.self in
     let step = subst (λ o. CallMade (lone_bar m) o new call s.0 c.println.result made.0) known made.2 in
     let run : Runs (lone_bar m) (call ∷ []) (c.println.result ∷ []) (Some v) s.0 new made.0 = (new, made.0, step, (refl, refl)) in
+    let taken = subst (λ (b : BarRecord g.row.K.Denot). AreTaken b.style.clusters) c.bar-record.ensures.bar c.style-_style.ensures.taken in
     let plain : IsPlainBar (record_of c.args.bar.now) = record {
-      style = record { literals = texts.literals; ticks = texts.ticks; clusters = subst (λ (b : BarRecord g.row.K.Denot). AreTaken b.style.clusters) c.bar-record.ensures.bar c.style-_style.ensures.taken };
+      style = record { literals = texts.literals; ticks = texts.ticks; clusters = taken };
       message = texts.message;
       prefix = texts.prefix;
       on_finish = texts.on_finish;

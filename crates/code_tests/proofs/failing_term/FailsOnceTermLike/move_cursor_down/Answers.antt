@@ -7,5 +7,5 @@ returns-in_err-admit c = denied _ _ _ _ _ _ _ _ c.from_residual.result c.from_re
 
 pub returns : goal.returns
 returns c =
-    passed _ _ _ _ _ _ _ _ _ _ _ c.move_cursor_down-done.result c.counted.result c.in_ok-admit.ensures.inner c.in_ok-admit.ensures.counts c.in_ok-admit.ensures.kind c.move_cursor_down-done.ensures.writes
-    c.counted.ensures.same c.counted.ensures.inner c.counted.ensures.counts c.counted.ensures.kind
+    passed _ _ _ _ _ _ _ _ _ _ _ c.move_cursor_down-done.result c.counted.result c.in_ok-admit.ensures.inner c.in_ok-admit.ensures.counts c.in_ok-admit.ensures.kind
+    c.move_cursor_down-done.ensures.writes c.counted.ensures.same c.counted.ensures.inner c.counted.ensures.counts c.counted.ensures.kind
