@@ -18,7 +18,7 @@ usage: tools/pages.py [--write]   (at the root of the repository)
 - A block of `contract FILE CALL` is the head and the clauses of that call in crates/FILE.
 - An indented block is one of these, lines of crates.txt, or commands. A line `$ printf 'LINES' | .. run ROWS COLS` is a row of
   crates/rows/data/program.txt, which gives the lines below it.
-- The lines of each example in a documentation comment of the four lower libraries stand in one file of a program or a test that the gate runs: an
+- The lines of each example in a documentation comment of the libraries stand in one file of a program or a test that the gate runs: an
   `assert_eq!(a, b)` as that or as `a == b`, an `assert!(a)` as that or as `a`; `{ .. }` stands for any block.
 - What isn't compared here: blocks of `rust` (the Rust crate's code) and of `diagram`, other commands, and those of `gallery`, which
   have a picture that tools/gallery.sh compares.
@@ -628,8 +628,7 @@ def is_in(statement, code):
 def faults_of_examples():
     files = [path for path in pathlib.Path("crates").glob("*/src/**/*.rt") if path.parts[1] not in LIBRARIES]
     code = [without_space(read(path)) for path in files]
-    # (of `indicatif` itself no program with all examples is proved yet)
-    for crate in LIBRARIES[:4]:
+    for crate in LIBRARIES:
         for path in sorted(pathlib.Path(f"crates/{crate}/src").rglob("*.rt")):
             for block in examples(read(path)):
                 wanted = list(statements(block))
