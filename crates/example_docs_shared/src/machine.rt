@@ -9,6 +9,8 @@ use indicatif::{
     ProgressDrawTarget, ProgressIterator, ProgressStyle, Refusal, Term, TermLike,
 };
 use std::io::{self, Stderr, Stdout};
+use std::thread::sleep;
+use std::time::Duration;
 
 pub fn main(rt: HostRuntime) -> Result<()> {
     println!(rt; "MachineClock {}", goes_on(rt))?;
@@ -84,6 +86,15 @@ fn first_on_stderr(rt: HostRuntime, list: Vec<u64>) -> Result<Option<u64>, Refus
 /// A step of a bar on standard error.
 pub fn copy<R: Shares>(bar: &StderrBar<R>) -> Result<Drawn, Refusal> {
     bar.inc(1)
+}
+
+/// Goes on by so many steps, one each millisecond.
+pub fn work<R: Shares>(rt: &R, bar: &StderrBar<R>, steps: u64) -> Result<(), Refusal> {
+    for _ in 0..steps {
+        bar.inc(1)?;
+        sleep(rt, Duration::from_millis(1));
+    }
+    Ok(())
 }
 
 /// Whether a bar on standard output is shown.

@@ -26,5 +26,7 @@ fn main(rt: HostRuntime) -> Result<()> {
     machine::main(rt)?;
     let bar = ProgressBar::new(rt, rt.alloc(), 3, on_stderr(&rt)?)?;
     println!(rt; "StderrBar {}", machine::copy(&bar).is_ok())?;
+    machine::work(&rt, &bar, 2)?;
+    println!(rt; "Shares {}", bar.position())?;
     places::main(rt)
 }

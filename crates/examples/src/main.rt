@@ -4,7 +4,7 @@
 //! - `fine`: a bar of fine characters. `log`: lines above a bar. `refusal`: a call that is refused.
 //! - `formatters`: numbers as texts. `template`: the parts of a template. `terminal`: a bar on standard error.
 //! - `key`: a key of one's own in a template, on standard error.
-//! - `guide`: the programs of the guide at the head of crate `indicatif`.
+//! - `guide`: the programs of the guide at the head of crate `indicatif`. `guide_key`: the one with a key of one's own.
 #![tactic(auto)]
 
 mod download;
@@ -12,6 +12,7 @@ mod fine;
 mod first;
 mod formatters;
 mod guide;
+mod guide_key;
 mod key;
 mod log;
 mod refusal;
@@ -20,7 +21,6 @@ mod terminal;
 mod wrapped;
 
 use anyhow::Result;
-use indicatif::machine::{on_stderr, style_on_stderr};
 use std::env;
 
 fn main(rt: HostRuntime) -> Result<()> {
@@ -29,13 +29,13 @@ fn main(rt: HostRuntime) -> Result<()> {
         first::main(rt)?;
         run_others(&rt)?;
         print_name(&rt, "key")?;
-        key::run(rt, on_stderr(&rt)?, style_on_stderr(&rt, key::TEMPLATE)?)?;
+        key::main(rt)?;
         print_name(&rt, "guide")?;
         return guide::main(rt);
     };
     match name.as_str() {
         "first" => first::main(rt),
-        "key" => key::run(rt, on_stderr(&rt)?, style_on_stderr(&rt, key::TEMPLATE)?),
+        "key" => key::main(rt),
         "guide" => guide::main(rt),
         name => run(&rt, name),
     }

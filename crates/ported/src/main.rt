@@ -8,18 +8,13 @@ mod iterator;
 mod multi;
 
 use anyhow::Result;
-use indicatif::machine::{on_stderr, style_on_stderr};
 
 fn main(rt: HostRuntime) -> Result<()> {
     println!(rt; "== download")?;
-    let style = style_on_stderr(&rt, download::TEMPLATE)?;
-    download::run(rt, on_stderr(&rt)?, style)?;
+    download::main(rt)?;
     println!(rt; "== multi")?;
-    let style = style_on_stderr(&rt, multi::TEMPLATE)?;
-    multi::run(rt, on_stderr(&rt)?, style)?;
+    multi::main(rt)?;
     println!(rt; "== iterator")?;
-    let style = style_on_stderr(&rt, iterator::TEMPLATE)?;
-    let sum = iterator::run(rt, on_stderr(&rt)?, style)?;
-    println!(rt; "sum {sum}")?;
+    println!(rt; "sum {}", iterator::main(rt)?)?;
     Ok(())
 }
