@@ -3,7 +3,7 @@
 //! - `first`: a first program. `wrapped`: a loop with a bar of its own. `download`: bytes, rate and time left.
 //! - `fine`: a bar of fine characters. `log`: lines above a bar. `refusal`: a call that is refused.
 //! - `formatters`: numbers as texts. `template`: the parts of a template. `terminal`: a bar on standard error.
-//! - `key`: a key of one's own in a template, on standard error.
+//! - `key`: a key of one's own in a template, on standard error. `still`: ten bars there, of which one goes on.
 //! - `guide`: the programs of the guide at the head of crate `indicatif`. `guide_key`: the one with a key of one's own.
 #![tactic(auto)]
 
@@ -16,6 +16,7 @@ mod guide_key;
 mod key;
 mod log;
 mod refusal;
+mod still;
 mod template;
 mod terminal;
 mod wrapped;
@@ -30,12 +31,15 @@ fn main(rt: HostRuntime) -> Result<()> {
         run_others(&rt)?;
         print_name(&rt, "key")?;
         key::main(rt)?;
+        print_name(&rt, "still")?;
+        still::main(rt)?;
         print_name(&rt, "guide")?;
         return guide::main(rt);
     };
     match name.as_str() {
         "first" => first::main(rt),
         "key" => key::main(rt),
+        "still" => still::main(rt),
         "guide" => guide::main(rt),
         name => run(&rt, name),
     }
@@ -46,7 +50,7 @@ fn print_name(rt: &HostRuntime, name: &str) -> Result<()> {
     Ok(())
 }
 
-/// Runs all but the first, the key's and the guide's.
+/// Runs those that are lent the runtime.
 fn run_others(rt: &HostRuntime) -> Result<()> {
     for name in [
         "wrapped",
