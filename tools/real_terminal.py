@@ -21,7 +21,6 @@ import re
 import subprocess
 import sys
 import tempfile
-import time
 
 TOP = os.path.dirname(os.path.dirname(os.path.abspath(__file__)))
 CRATE = os.path.join(TOP, "crates", "rows")
@@ -150,43 +149,46 @@ class Tmux:
     def run(self, *words):
         return subprocess.run(self.command + list(words), capture_output=True, text=True, env={**os.environ, "LC_ALL": "C.UTF-8"})
 
-    def played(self, size, bytes_, name):
-        """A pane of this size and name that was given these bytes."""
+    def opened(self, size, bytes_, name):
+        """The words that open a pane of this size and name, and wait until it has read these bytes, as its answer to ESC [6n shows."""
         path = os.path.join(self.folder, name)
         with open(path, "wb") as file:
             file.write(bytes_)
+        with open(path + ".sh", "w", encoding="utf-8") as file:
+            file.write(f"stty raw -echo\ncat '{path}'\nprintf '\\033[6n'\nIFS= read -rd R answer\n")
+            file.write(f"{' '.join(self.command)} wait-for -S {name}\nexec sleep 1000\n")
         rows, columns = size
-        writes = f"stty raw -echo; cat '{path}'; {' '.join(self.command)} wait-for -S {name}; exec sleep 1000"
-        self.run("new-session", "-d", "-s", name, "-x", columns, "-y", rows, writes)
-        self.run("wait-for", name)
+        return ["new-session", "-d", "-s", name, "-x", columns, "-y", rows, f"bash '{path}.sh'", ";", "wait-for", name, ";"]
 
     def shown(self, case):
         """What a pane of the case's size shows after its bytes."""
-        self.played(case.size, case.bytes, "case")
-        for _ in range(60):
-            got = trimmed(self.run("capture-pane", "-p", "-t", "case").stdout)
-            if got == case.wanted:
-                break
-            time.sleep(0.05)
-        self.run("kill-session", "-t", "case")
-        return got
+        words = self.opened(case.size, case.bytes, "case")
+        return trimmed(self.run(*words, "capture-pane", "-p", "-t", "case", ";", "kill-session", "-t", "case").stdout)
 
     def all_shown(self, size, several):
-        """What panes of this size show, each after its bytes: all rows, and the cursor. They are asked until they are the same."""
-        names = [f"case{index}" for index in range(len(several))]
-        for name, bytes_ in zip(names, several):
-            self.played(size, bytes_, name)
-        for _ in range(60):
-            got = [self.run("capture-pane", "-p", "-e", "-S", "-", "-t", name).stdout + self.cursor(name) for name in names]
-            if len(set(got)) == 1:
-                break
-            time.sleep(0.05)
-        for name in names:
-            self.run("kill-session", "-t", name)
-        return got
+        """What panes of this size show, each after its bytes: all rows, and the cursor."""
+        words = []
+        for index, bytes_ in enumerate(several):
+            name = f"case{index}"
+            words += self.opened(size, bytes_, name)
+            words += ["capture-pane", "-p", "-e", "-S", "-", "-t", name, ";"]
+            words += ["display-message", "-p", "-t", name, "cursor at row #{cursor_y}, column #{cursor_x}", ";"]
+            words += ["kill-session", "-t", name, ";"]
+        return [coloured(rows) + at for rows, at in re.findall(r"(.*?)^(cursor at [^\n]*)\n", self.run(*words).stdout, re.M | re.S)]
 
-    def cursor(self, name):
-        return self.run("display-message", "-p", "-t", name, "cursor at row #{cursor_y}, column #{cursor_x}").stdout
+
+def coloured(text):
+    """Rows with the colour of each character between braces, where it isn't that of the one before. A blank has none."""
+    out, now, said = "", "", ""
+    for colour, char in re.findall(r"\x1b\[([\d;]*)m|(.)", text, re.S):
+        if not char:
+            now = "" if colour in ("", "0", "39") else colour
+        elif char in " \n" or now == said:
+            out += char
+        else:
+            said = now
+            out += "{" + now + "}" + char
+    return "\n".join(row.rstrip(" ") for row in out.split("\n"))
 
 
 def lists(seed, count):
@@ -199,7 +201,7 @@ def lists(seed, count):
             for at in range(int(count)):
                 size, *several = told[4 * at : 4 * at + 4]
                 got = tmux.all_shown(size.split(" "), [unescaped(text[1:-1]) for text in several])
-                if len(set(got)) > 1:
+                if len(got) != 3 or len(set(got)) > 1:
                     differ += 1
                     print(f"list {at} of seed {seed}, rows and columns {size}", *got, sep="\n--\n")
         finally:
