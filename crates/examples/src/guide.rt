@@ -123,11 +123,13 @@ fn dropped_early<R: AllocGlobal + Print + Wait + Copy + Drop>(rt: R) -> Result<(
 fn finished<R: AllocGlobal + Print + Wait + Copy + Drop>(rt: R) -> Result<()> {
     let setup = setup(rt.alloc())?;
     let board = MultiProgress::new(rt, rt.alloc(), setup, 1)?;
+    let mut bars = Vec::new(rt.alloc());
     for name in ["a.txt", "b.txt"] {
         let bar = board.new_bar(3)?;
         bar.set_position(3)?;
         board.println(name)?;
-        bar.finish()?; // stays, whoever drops it
+        bar.finish()?;
+        bars.push(bar)?; // both bars have an owner to the end
     }
     show_all(rt, "bars that were finished", &board)
 }

@@ -1,5 +1,5 @@
 //! Shows a key of one's own on standard error: how many of 400 files are left. Where that is no terminal, the bar is hidden.
-ghost use Rattle.std.specs.Prelude.{◌-◌, decimal};
+ghost use Rattle.std.specs.Prelude.{◌-◌, ◌++◌, codes, decimal};
 
 use anyhow::Result;
 use indicatif::machine::{on_stderr, style_on_stderr};
@@ -10,16 +10,16 @@ use std::alloc::Global;
 struct Left(Global);
 
 impl TellsText for Left {
-    ghost told_text = { λ left p now. decimal (400 - p.position) };
+    ghost told_text = { λ left p now. decimal (400 - p.position) ++ codes " left" };
 
     fn tell(&self, state: &ProgressState, _now: Moment) -> Result<String, Refusal> {
-        Ok(format!(in self.0; "{}", 400u64.saturating_sub(state.pos()))?)
+        Ok(format!(in self.0; "{} left", 400u64.saturating_sub(state.pos()))?)
     }
 }
 
 pub fn main(rt: HostRuntime) -> Result<()> {
     let left = FnTracker::new(rt.alloc(), Left(rt.alloc()))?;
-    let style = style_on_stderr(&rt, "{wide_bar} {left} left")?.with_key("left", left)?;
+    let style = style_on_stderr(&rt, "{wide_bar} {left}")?.with_key("left", left)?;
     let bar = ProgressBar::styled(rt, rt.alloc(), style, Some(400), on_stderr(&rt)?)?;
     for _ in 0..400u32 {
         bar.inc(1)?;
