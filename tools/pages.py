@@ -79,6 +79,8 @@ def row(section, template, shown):
     fields = list(BAR)
     fields[1] = template
     fields[3] = "1" if section.startswith("Styles") else "0"
+    if section == "Without a length":
+        fields[6] = "-"
     return "laid " + "\t".join(fields) + " -> " + spelled(shown + "\\n")
 
 
