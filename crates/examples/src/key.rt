@@ -2,7 +2,7 @@
 ghost use Rattle.std.specs.Prelude.{◌-◌, ◌++◌, codes, decimal};
 
 use anyhow::Result;
-use indicatif::machine::{on_stderr, style_on_stderr};
+use indicatif::machine::{Shares, on_stderr, style_on_stderr};
 use indicatif::{FnTracker, Moment, ProgressBar, ProgressState, Refusal, TellsText};
 use std::alloc::Global;
 
@@ -17,10 +17,10 @@ impl TellsText for Left {
     }
 }
 
-pub fn main(rt: HostRuntime) -> Result<()> {
+pub fn main<R: Shares>(rt: R, host: &HostRuntime) -> Result<()> {
     let left = FnTracker::new(rt.alloc(), Left(rt.alloc()))?;
-    let style = style_on_stderr(&rt, "{wide_bar} {left}")?.with_key("left", left)?;
-    let bar = ProgressBar::styled(rt, rt.alloc(), style, Some(400), on_stderr(&rt)?)?;
+    let style = style_on_stderr(host, "{wide_bar} {left}")?.with_key("left", left)?;
+    let bar = ProgressBar::styled(rt, rt.alloc(), style, Some(400), on_stderr(host)?)?;
     for _ in 0..400u32 {
         bar.inc(1)?;
     }

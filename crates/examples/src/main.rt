@@ -30,16 +30,16 @@ fn main(rt: HostRuntime) -> Result<()> {
         first::main(rt)?;
         run_others(&rt)?;
         print_name(&rt, "key")?;
-        key::main(rt)?;
+        key::main(rt, &rt)?;
         print_name(&rt, "still")?;
-        still::main(rt)?;
+        still::main(rt, &rt)?;
         print_name(&rt, "guide")?;
         return guide::main(rt);
     };
     match name.as_str() {
         "first" => first::main(rt),
-        "key" => key::main(rt),
-        "still" => still::main(rt),
+        "key" => key::main(rt, &rt),
+        "still" => still::main(rt, &rt),
         "guide" => guide::main(rt),
         name => run(&rt, name),
     }

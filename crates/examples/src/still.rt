@@ -14,8 +14,8 @@ fn nine_bars<R: Shares>(rt: R, board: &StderrBoard<R>) -> Result<Vec<StderrBar<R
     Ok(bars)
 }
 
-pub fn main(rt: HostRuntime) -> Result<()> {
-    let board = MultiProgress::new(rt, rt.alloc(), on_stderr(&rt)?, 1)?;
+pub fn main<R: Shares>(rt: R, host: &HostRuntime) -> Result<()> {
+    let board = MultiProgress::new(rt, rt.alloc(), on_stderr(host)?, 1)?;
     let first = board.new_bar(100)?;
     first.tick()?;
     let others = nine_bars(rt, &board)?;

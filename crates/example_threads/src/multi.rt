@@ -16,9 +16,9 @@ fn work<R: Shares>(rt: &R, bar: &StderrBar<R>, steps: u64) -> Result<Drawn, Refu
     bar.finish_with_message("done")
 }
 
-pub fn main(rt: HostRuntime) -> Result<()> {
-    let style = style_on_stderr(&rt, TEMPLATE)?.progress_chars("##-")?;
-    let board = MultiProgress::new(rt, rt.alloc(), on_stderr(&rt)?, 1)?;
+pub fn main<R: Shares>(rt: R, host: &HostRuntime) -> Result<()> {
+    let style = style_on_stderr(host, TEMPLATE)?.progress_chars("##-")?;
+    let board = MultiProgress::new(rt, rt.alloc(), on_stderr(host)?, 1)?;
     let first = board.new_bar(200)?.with_style(style.try_clone()?)?;
     let second = board.new_bar(400)?.with_style(style)?;
     board.println("starting!")?;

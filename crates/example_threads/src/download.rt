@@ -1,7 +1,7 @@
 //! A download with its bytes, its rate and the time that is left.
 use anyhow::Result;
 use indicatif::ProgressBar;
-use indicatif::machine::{on_stderr, style_on_stderr};
+use indicatif::machine::{Shares, on_stderr, style_on_stderr};
 use std::thread::sleep;
 use std::time::Duration;
 
@@ -14,9 +14,9 @@ const PIECE: u64 = 223_211;
 
 const PIECES: u64 = 104;
 
-pub fn main(rt: HostRuntime) -> Result<()> {
-    let style = style_on_stderr(&rt, TEMPLATE)?.progress_chars("#>-")?;
-    let bar = ProgressBar::new(rt, rt.alloc(), TOTAL, on_stderr(&rt)?)?.with_style(style)?;
+pub fn main<R: Shares>(rt: R, host: &HostRuntime) -> Result<()> {
+    let style = style_on_stderr(host, TEMPLATE)?.progress_chars("#>-")?;
+    let bar = ProgressBar::new(rt, rt.alloc(), TOTAL, on_stderr(host)?)?.with_style(style)?;
     for piece in 1..=PIECES {
         bar.set_position(piece.saturating_mul(PIECE).min(TOTAL))?;
         sleep(&rt, Duration::from_millis(12));
