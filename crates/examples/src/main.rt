@@ -4,6 +4,7 @@
 //! - `fine`: a bar of fine characters. `log`: lines above a bar. `refusal`: a call that is refused.
 //! - `formatters`: numbers as texts. `template`: the parts of a template. `terminal`: a bar on standard error.
 //! - `key`: a key of one's own in a template, on standard error. `still`: ten bars there, of which one goes on.
+//! - `reader`: standard input through a reader with a bar.
 //! - `guide`: the programs of the guide at the head of crate `indicatif`. `guide_key`: the one with a key of one's own.
 #![tactic(auto)]
 
@@ -15,6 +16,8 @@ mod guide;
 mod guide_key;
 mod key;
 mod log;
+mod reader;
+mod reader;
 mod refusal;
 mod still;
 mod template;
@@ -33,6 +36,8 @@ fn main(rt: HostRuntime) -> Result<()> {
         key::main(rt, &rt)?;
         print_name(&rt, "still")?;
         still::main(rt, &rt)?;
+        print_name(&rt, "reader")?;
+        reader::main(rt, &rt)?;
         print_name(&rt, "guide")?;
         return guide::main(rt);
     };
@@ -40,6 +45,7 @@ fn main(rt: HostRuntime) -> Result<()> {
         "first" => first::main(rt),
         "key" => key::main(rt, &rt),
         "still" => still::main(rt, &rt),
+        "reader" => reader::main(rt, &rt),
         "guide" => guide::main(rt),
         name => run(&rt, name),
     }
