@@ -1,21 +1,17 @@
 //! A loop with a spinner that ticks by itself, and a message at its end.
 use anyhow::Result;
-use indicatif::machine::{Shares, StreamSetup};
-use indicatif::{NoTracker, ProgressBar, ProgressFinish, ProgressStyle};
-use std::io::Stderr;
+use indicatif::machine::{Shares, on_stderr, style_on_stderr};
+use indicatif::{ProgressBar, ProgressFinish};
 use std::thread::sleep;
 use std::time::Duration;
 
-pub const TEMPLATE: &str = "{spinner:.blue} {msg} {pos}";
+const TICKS: [&str; 6] = [">    ", " >   ", "  >  ", "   > ", "    >", "done "];
 
-pub fn run<R: Shares>(
-    rt: R,
-    setup: StreamSetup<Stderr>,
-    style: ProgressStyle<NoTracker>,
-) -> Result<u64> {
-    let style = style.tick_strings(&[">    ", " >   ", "  >  ", "   > ", "    >", "done "])?;
+/// The sum of the loop's items.
+pub fn main<R: Shares>(rt: R, host: &HostRuntime) -> Result<u64> {
+    let style = style_on_stderr(host, "{spinner:.blue} {msg} {pos}")?.tick_strings(&TICKS)?;
     let ready = ProgressFinish::WithMessage(String::from_str(rt.alloc(), "ready")?);
-    let bar = ProgressBar::new_spinner(rt, rt.alloc(), setup)?
+    let bar = ProgressBar::new_spinner(rt, rt.alloc(), on_stderr(host)?)?
         .with_style(style)?
         .with_message("calculating")?
         .with_finish(ready)?;

@@ -1,17 +1,15 @@
 //! Logs above two bars: the macros of `log` write through a bridge, while a thread ticks one of the bars. On standard error; where
 //! that is no terminal, the bars are hidden and the lines are dropped.
-#![tactic(auto)]
-
 use anyhow::Result;
 use indicatif::MultiProgress;
 use indicatif::bridge::LogBridge;
-use indicatif::machine::on_stderr;
+use indicatif::machine::{Shares, on_stderr};
 use log::{Level, Logged, info, warn};
 use std::thread::sleep;
 use std::time::Duration;
 
-fn main(rt: HostRuntime) -> Result<()> {
-    let board = MultiProgress::new(rt, rt.alloc(), on_stderr(&rt)?, 1)?;
+pub fn main<R: Shares>(rt: R, host: &HostRuntime) -> Result<()> {
+    let board = MultiProgress::new(rt, rt.alloc(), on_stderr(host)?, 1)?;
     let files = board.new_bar(3)?;
     let work = board.new_spinner()?;
     work.set_message("copying")?;
