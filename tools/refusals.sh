@@ -1,7 +1,8 @@
 #!/bin/sh
-# Refuses memory to the scripts of crate `sweeps`: each allocation of a script in turn, one in each run, on terminals of 1 to 4 rows and 1 to
-# 6 columns, and of `bars run` on one. Each run judges itself, and says that it is as it is defined, and where memory was refused. Printed are, for each script, how many runs said what; a run that says
-# anything else is printed with the number of its allocation, and the status is 1 then.
+# Refuses memory to the scripts of crate `sweeps`: each allocation of a script in turn, one in each run, on terminals of 1 to 4 rows and
+# 1 to 6 columns, and of `bars run` on one. Each run judges itself, and says that it is as it is defined, and where memory was refused.
+# Printed are, for each script, how many runs said what; a run that says anything else is printed with the number of its allocation, and
+# the status is 1 then.
 #
 # By hand. It proves and builds the program once (`rt run`), as LLVM builds it; a small library in C (refuse_one.c) stands between it and
 # the C library's `malloc`. It needs a C compiler, `cc`.

@@ -48,6 +48,8 @@ pub enum Look {
     EachByte,
     /// Behind each from the first call that fails on, and behind the last one of each call before it.
     FromFailure,
+    /// Behind each of a call that fails and of the first drawing behind it, and behind the last one of each other call.
+    AtFailure,
     /// Behind the last byte of a call.
     EachCall,
 }
@@ -112,6 +114,7 @@ impl Judge {
         match self.look {
             Look::EachByte => self.reads_each(bytes)?,
             Look::FromFailure if has_failed || self.is_littered => self.reads_each(bytes)?,
+            Look::AtFailure if has_failed || self.has_failed => self.reads_each(bytes)?,
             _ => self.reads_all(bytes)?,
         }
         self.has_failed = has_failed || self.has_failed && bytes.is_empty();

@@ -118,6 +118,16 @@ impl Sweep {
         }
     }
 
+    /// How closely bytes are looked at. Where two calls fail, behind each call; else behind each byte from the first failure on, but on
+    /// smaller terminals only while a failure isn't drawn over.
+    fn look(self, size: Size) -> Look {
+        match self {
+            Sweep::EachPair => Look::EachCall,
+            _ if size == LARGEST => Look::FromFailure,
+            _ => Look::AtFailure,
+        }
+    }
+
     /// Makes the runs on terminals of one to four rows and of one to six columns.
     pub fn at_each_size<R: Runs>(self, rt: R, kind: Kind) -> Tally {
         let mut tally = Tally::default();
@@ -135,16 +145,13 @@ impl Sweep {
         tally
     }
 
-    /// Makes the runs at one size. Where two calls fail, bytes are looked at behind each call.
+    /// Makes the runs at one size.
     pub fn at<R: Runs>(self, rt: R, kind: Kind, size: Size) -> Tally {
         let case = Case {
             kind,
             size,
             plan: Plan::Never,
-            look: match self {
-                Sweep::EachPair => Look::EachCall,
-                _ => Look::FromFailure,
-            },
+            look: self.look(size),
         };
         match self {
             Sweep::EachCall => each_call(rt, case),
