@@ -17,7 +17,6 @@ mod guide_key;
 mod key;
 mod log;
 mod reader;
-mod reader;
 mod refusal;
 mod still;
 mod template;
