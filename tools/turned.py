@@ -45,6 +45,8 @@ def unnamed(crate):
         words += ["--", *rows]
         ran = subprocess.run(words, cwd=f"crates/{crate}", stdout=subprocess.PIPE, stderr=subprocess.STDOUT)
     said = ran.stdout.decode(errors="replace")
+    if " passed, " not in said:
+        sys.exit(f"{crate} wasn't played: {said[-600:]}")
     for name, row in rows.items():
         if told(name, row) not in said or not re.search(rf"^{re.escape(name)}: \d+ passed, 1 failed$", said, re.M):
             yield f"{crate}/data/{name}, line {row[0]}"
