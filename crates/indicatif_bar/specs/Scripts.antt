@@ -105,8 +105,8 @@ module _ {State Call Answer : Type 0} (m : Machine State Call Answer) (z : Sizin
   GoesBy (Size w h ∷ parts) old s new next plays events =
       (others : List Event) × (events ≡ Sized w h ∷ others) × GoesBy parts plays.0 (sized w h (target_of old) s) new next plays.4 others
 
-  -- of a terminal whose first n rows are safe: they last to the script's end. What is said of runs holds of each of its runs; and the
-  -- rows that a run added to those above last too, from its end on
+  -- of a terminal whose first n rows are safe: they last to the script's end. What is said of runs holds of each of its runs; and as
+  -- many rows as a run has more above at its end than at its start last too, from there on
   abbrev pub RowsLastIn : (parts : List (Part Call Answer)) (old : Option TermView) (s : State) (new : Option TermView) (next : State) → Plays parts old s new next →
       ℕ → Terminal → List Event → Type 0
   RowsLastIn [] old s new next plays n t events = events ≡ []
@@ -118,7 +118,7 @@ module _ {State Call Answer : Type 0} (m : Machine State Call Answer) (z : Sizin
       × RowsLastIn parts plays.0 (sized w h (target_of old) s) new next plays.4 (length (rows_then w h n t.screen)) (resized_terminal w h t) others
 
   -- these events, one for each part, led from the one to the other. Of a terminal that rests with the lists of the start after an
-  -- opening: the untouched rows and those above last, and those that calls add. And unless a call was broken off it rests then with
+  -- opening: the untouched rows and those above last, and those that runs add. And unless a call was broken off it rests then with
   -- the lists of the end, after the opening that got the sizes too, and rows above were cut by the sizes, and only added
   pub record Carries (parts : List (Part Call Answer)) (v v' : TermView) (s : State) (new : Option TermView) (next : State) (plays : Plays parts (Some v) s new next) : Type 0 where
     pub events : List Event
@@ -139,7 +139,7 @@ module _ {State Call Answer : Type 0} (m : Machine State Call Answer) (z : Sizin
       (v' : TermView) × (new ≡ Some v') × Carries parts v v' s new next plays
 
   -- a script that begins after a failure, wherever the terminal broke off: of any whose first n rows are safe they last, and those that
-  -- calls add. Each size comes before anything is drawn since the last failure
+  -- runs add. Each size comes where nothing was drawn since the last failure
   abbrev pub SafeRowsLast : Type 0
   SafeRowsLast =
       (parts : List (Part Call Answer)) (v : TermView) (s : State) (new : Option TermView) (next : State) (plays : Plays parts (Some v) s new next) →
