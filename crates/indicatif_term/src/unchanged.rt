@@ -7,7 +7,7 @@ ghost use Rattle.indicatif_term.specs.Standing.{AreLines};
 ghost use Rattle.indicatif_term.specs.Inside.Plans.{IsSummed, IsLaidOut, frame_lines};
 ghost use Rattle.indicatif_term.specs.Inside.Unchanged.{AreCompared, IsSettled, IsUnchanged};
 
-use crate::beside::is_same;
+use crate::beside::{ends_alike, is_same};
 use crate::counts::Counts;
 use crate::layout::{Plan, RowCount, push_rows};
 use crate::lines::Segment;
@@ -58,7 +58,33 @@ pub fn is_unchanged<T: TermLike>(
     if !last.may_stay || !is_settled(last, window) {
         return false;
     }
-    is_compared(spare, last, frame, window)
+    may_stand(&last.shown.lines, frame) && is_compared(spare, last, frame, window)
+}
+
+/// Whether the lines of a frame may be those that stand, by their ends: one number that went on is found at once.
+fn may_stand(standing: &[StandingLine], frame: &[Segment]) -> bool {
+    let mut rest = standing;
+    for member in frame {
+        let Some(more) = behind(rest, member) else {
+            return false;
+        };
+        rest = more;
+    }
+    rest.is_empty()
+}
+
+/// The lines behind those of a member, where they may be its own.
+fn behind<'a>(standing: &'a [StandingLine], member: &Segment) -> Option<&'a [StandingLine]> {
+    if member.lines.len() > standing.len() {
+        return None;
+    }
+    let (own, more) = standing.split_at(member.lines.len());
+    for (line, stands) in member.lines.iter().zip(own.iter()) {
+        if !ends_alike(line.as_str().as_bytes(), stands.text.as_str().as_bytes()) {
+            return None;
+        }
+    }
+    Some(more)
 }
 
 /// The same, of a terminal of this size on which the last drawing may stay.

@@ -204,12 +204,17 @@ fn repeats_at(bytes: &[u8], at: usize, unit: &[u8]) -> bool
     are_same(&bytes[at + 3..at + 51], &bytes[at..at + 48])
 }
 
-/// Whether bytes are the same.
+/// Whether as many bytes are the same. It looks at each, so that many are compared at once.
 #[inline(always)]
 fn are_same(a: &[u8], b: &[u8]) -> bool
+    requires { length a.now ≡ length b.now }
     ensures { IsTrue result → a.now ≡ b.now }
 {
-    a == b
+    let mut same = true;
+    for at in 0..a.len() {
+        same = same & (a[at] == b[at]);
+    }
+    same
 }
 
 /// Whether three bytes stand at a place.

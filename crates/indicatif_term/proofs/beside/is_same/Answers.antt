@@ -4,10 +4,10 @@ use Rattle.std.proofs.lemmas.Bool.Decides.{Decides-eqb}
 use Rattle.std.proofs.lemmas.Slice.Eq.{slice_eq-Decides}
 use Rattle.indicatif_term.proofs.beside.is_same.Goals as goal
 
-pub returns-then-not-may_be_same : goal.returns-then-not-may_be_same
-returns-then-not-may_be_same c = (
+pub returns-then-not-ends_alike : goal.returns-then-not-ends_alike
+returns-then-not-ends_alike c = (
   λ e. absurd (false≢true e),
-  λ same. sym c.if-not-may_be_same.true ∙ c.may_be_same.ensures (c.as_bytes.ensures.value ∙ same ∙ sym c.as_bytes-2.ensures.value),
+  λ same. sym c.if-not-ends_alike.true ∙ c.ends_alike.ensures (c.as_bytes.ensures.value ∙ same ∙ sym c.as_bytes-2.ensures.value),
 )
 
 pub returns : goal.returns

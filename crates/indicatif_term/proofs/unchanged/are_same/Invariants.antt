@@ -1,4 +1,4 @@
-use Rattle.std.proofs.Common.{◌≡◌, take, length}
+use Rattle.std.proofs.Common.{◌≡◌, take}
 use Rattle.indicatif_term.proofs.unchanged.are_same.Given as goal
 
 abbrev pub invariant-loop-at : goal.invariant-loop-at

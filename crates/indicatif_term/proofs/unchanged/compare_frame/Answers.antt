@@ -1,6 +1,5 @@
-use Rattle.std.proofs.Common.{arith, ◌≡◌, refl, sym, subst, take, map, []}
+use Rattle.std.proofs.Common.{arith, ◌≡◌, refl, sym, subst, take, []}
 use Rattle.std.proofs.lemmas.List.{take_all}
-use Rattle.indicatif_term.specs.Frames.{bar_lines}
 use Rattle.indicatif_term.specs.Inside.Unchanged.{AreCompared}
 use Rattle.indicatif_term.proofs.LayoutLemmas.{nothing_of, lines_step, narrow_step}
 use Rattle.indicatif_term.proofs.MemberLineLemmas.{frame_step}

@@ -1,4 +1,4 @@
-use Rattle.std.proofs.Common.{arith, ◌≡◌, ◌<◌, [], length, sym, ap, subst, ◌∙◌}
+use Rattle.std.proofs.Common.{arith, ◌<◌, [], length, sym, ap, subst, ◌∙◌}
 use Rattle.indicatif_term.specs.Standing.{AreLines}
 use Rattle.indicatif_term.specs.Inside.Plans.{frame_lines}
 use Rattle.indicatif_term.specs.Inside.Unchanged.{AreCompared}
