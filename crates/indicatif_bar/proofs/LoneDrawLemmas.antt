@@ -24,6 +24,8 @@ use Rattle.indicatif_term.specs.declared.lines.Segment.{Segment}
 use Rattle.indicatif_bar.specs.Inside.Writings.{IsLaidOut}
 use Rattle.indicatif_bar.specs.Inside.Obeying.{IsTold, IsToldOrNot}
 use Rattle.indicatif_bar.specs.Shown.{ShownAs}
+use Rattle.indicatif_bar.specs.Stages.{FitsOn}
+use Rattle.indicatif_bar.specs.declared.stage.Stage.{Stage}
 use Rattle.indicatif_bar.specs.declared.shown.ShownBar.{ShownBar}
 use Rattle.indicatif_bar.specs.declared.state.Ask.{Ask}
 use Rattle.indicatif_bar.specs.declared.state.Ask.TheVariants.{Forced}
@@ -42,24 +44,24 @@ either_way : (r : Result Unit Refusal) (A B : Type 0) → A → B → MatchResul
 either_way (Ok u) A B a b = a
 either_way (Err e) A B a b = b
 
-module _ {K T : Type 0} (m : Tracking K) (view : T → TermView) (takes : Bool) (ask : Ask) (now : ℕ) (writing : Writing) (s : LoneState (BarRecord K)) (old : Engine T) (shown after : ShownBar K) where
+module _ {K T : Type 0} (m : Tracking K) (view : T → TermView) (takes : Bool) (ask : Ask) (now : ℕ) (writing : Writing) (s : LoneState (BarRecord K)) (old : Engine T) (shown after : ShownBar K) (limiter next : Option Limiter) where
   abbrev d : Draw (LoneState (BarRecord K))
   d = draw_asked (bar_kind m) (target_of (Some (view (engine_term old)))) takes ask now writing s
 
   -- the limiter says what the draw's says
-  pub asked_same : ShownAs shown s → (asked_of ask now shown.limiter).0 ≡ d.allowed
-  asked_same holds = ap (λ limiter. (asked_of ask now limiter).0) holds.limiter_is
+  pub asked_same : ShownAs shown limiter s → (asked_of ask now limiter).0 ≡ d.allowed
+  asked_same holds = ap (λ l. (asked_of ask now l).0) holds.limiter_is
 
   -- the bar with its limiter asked
-  pub holds_ready : ShownAs shown s → after.bar ≡ shown.bar → after.limiter ≡ (asked_of ask now shown.limiter).1 → ShownAs after d.ready
-  holds_ready holds bar limiter = record { bar_is = bar ∙ holds.bar_is; limiter_is = limiter ∙ ap (λ limiter. (asked_of ask now limiter).1) holds.limiter_is }
+  pub holds_ready : ShownAs shown limiter s → after.bar ≡ shown.bar → next ≡ (asked_of ask now limiter).1 → ShownAs after next d.ready
+  holds_ready holds bar next_is = record { bar_is = bar ∙ holds.bar_is; limiter_is = next_is ∙ ap (λ l. (asked_of ask now l).1) holds.limiter_is }
 
   pub drew_so : (new : Engine T) (r : Result Unit Refusal) → is_no ask ≡ false → 0 < (view (engine_term old)).columns → d.allowed ≡ true → Fits old s.lists →
-      ShownAs after d.ready → PutsFrame view writing false 0 (lone_frame (bar_kind m) (target_of (Some (view (engine_term old)))) now s.bar) old new r →
-      DrewBy (lone_bar m) (ShownAs after) view old new d s.lists (drawn_answer r)
+      ShownAs after next d.ready → PutsFrame view writing false 0 (lone_frame (bar_kind m) (target_of (Some (view (engine_term old)))) now s.bar) old new r →
+      DrewBy (lone_bar m) (ShownAs after next) view old new d s.lists (drawn_answer r)
   drew_so new r asked some allowed fits ready q =
-      drew (lone_bar m) (ShownAs after) view old new d s.lists (record { asked = asked; some = some; allowed = allowed; fits = fits; lists_stay = refl; lists_go = refl }) r
-      (either_way r (ShownAs after d.written) (ShownAs after d.ready × ShownAs after d.broken)
+      drew (lone_bar m) (ShownAs after next) view old new d s.lists (record { asked = asked; some = some; allowed = allowed; fits = fits; lists_stay = refl; lists_go = refl }) r
+      (either_way r (ShownAs after next d.written) (ShownAs after next d.ready × ShownAs after next d.broken)
       (record { bar_is = ready.bar_is; limiter_is = ready.limiter_is })
       (ready, record { bar_is = ready.bar_is; limiter_is = ready.limiter_is }))
       (record { answers = q.answers; memory = q.memory; counted = q.counted; unchanged = q.unchanged; lists = q.lists s.lists fits; paints = q.paints s.lists fits })
@@ -214,19 +216,13 @@ module _ {K T : Type 0} (m : Tracking K) (view : T → TermView) (old : LoneBar 
         leads = subst (λ b. LoneLeadsBy m view old b (Obey command) now (Err e)) (sym same) (refused_leads e told.as_told.0);
       }
 
--- a bar whose engine was replaced by one that has drawn nothing, and its limiter
-pub in_anew : {K T : Type 0} (old : LoneBar K T) (shown : ShownBar K) (engine opened : Option (Engine T)) (limiter given : Option Limiter) →
-    shown ≡ record old.shown { limiter = given } → given ≡ limiter → engine ≡ opened →
-    MatchOption opened (Unit {0}) (λ e. Fits e opening_lists) →
-    (s : LoneState (BarRecord K)) → LoneIsIn old s → LoneIsIn (record { shown = shown; engine = engine }) (record s { limiter = limiter; lists = opening_lists })
+-- a bar on a stage on which nothing was drawn
+pub in_anew : {K T : Type 0} (old : LoneBar K T) (stage : Stage T) (limiter : Option Limiter) → stage.limiter ≡ limiter → FitsOn stage.engine opening_lists →
+    (s : LoneState (BarRecord K)) → LoneIsIn old s → LoneIsIn (record { shown = old.shown; stage = stage }) (record s { limiter = limiter; lists = opening_lists })
 unfolding LoneIsIn
-in_anew {K} {T} old shown engine opened limiter given same given_is engine_is fits s inside =
-    let next : LoneState (BarRecord K) = record s { limiter = limiter; lists = opening_lists } in (
-      subst (λ x. ShownAs x next) (sym same) (record { bar_is = inside.0.bar_is; limiter_is = given_is }),
-      subst (λ (o : Option (Engine T)). MatchOption o (Unit {0}) (λ e. Fits e opening_lists)) (sym engine_is) fits,
-    )
+in_anew old stage limiter limiter_is fits s inside = (record { bar_is = inside.0.bar_is; limiter_is = limiter_is }, fits)
 
 -- the limiter of a bar that is in a state is the state's
-pub limiter_in : {K T : Type 0} (b : LoneBar K T) (s : LoneState (BarRecord K)) → LoneIsIn b s → b.shown.limiter ≡ s.limiter
+pub limiter_in : {K T : Type 0} (b : LoneBar K T) (s : LoneState (BarRecord K)) → LoneIsIn b s → b.stage.limiter ≡ s.limiter
 unfolding LoneIsIn
 limiter_in b s inside = inside.0.limiter_is

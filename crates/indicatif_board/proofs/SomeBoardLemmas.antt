@@ -43,12 +43,12 @@ unfolding IsIn
 some_board b =
     let shown = b.shown in
     let even : length shown.members.items ≡ length shown.frame.items = omega (arith, shown.members.ok, shown.frame.ok, shown.even) in
-    let lists = board_lists b.engine in (
+    let lists = board_lists b.stage.engine in (
       record {
         members = members_from shown.members.items shown.frame.items;
         made = shown.table.made;
         bottom = is_bottom shown.alignment;
-        limiter = shown.limiter;
+        limiter = b.stage.limiter;
         lists = lists.0;
       },
       (

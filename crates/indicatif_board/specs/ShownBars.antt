@@ -22,9 +22,9 @@ pub record Holds {K : Type 0} (frame : List Segment) (members : List (MemberValu
   pub bottom_is : bottom ≡ s.bottom
   pub limiter_is : limiter ≡ s.limiter
 
--- they are shown as this state says
-abbrev pub AreShownAs : {K : Type 0} → ShownBars K → BoardState (BarRecord K) → Type 0
-AreShownAs b s = Holds b.frame.items b.members.items b.table.made (is_bottom b.alignment) b.limiter s
+-- they are shown, and drawn as often, as this state says
+abbrev pub AreShownAs : {K : Type 0} → ShownBars K → Option Limiter → BoardState (BarRecord K) → Type 0
+AreShownAs b limiter s = Holds b.frame.items b.members.items b.table.made (is_bottom b.alignment) limiter s
 
 -- ---- records by their numbers
 

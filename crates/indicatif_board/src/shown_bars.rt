@@ -7,16 +7,18 @@ ghost use Rattle.indicatif_bar.specs.Commands.{BarRecord};
 ghost use Rattle.indicatif_bar.specs.Machines.{Target, is_no, target_of};
 ghost use Rattle.indicatif_bar.specs.Kinds.{asked_of};
 ghost use Rattle.indicatif_bar.specs.Runs.{wrote};
-ghost use Rattle.indicatif_bar.specs.Shown.{PutsFrame, DrewBy};
+ghost use Rattle.indicatif_bar.specs.Shown.{DrewBy};
 ghost use Rattle.indicatif_board.specs.BoardBars.{board_bars};
 ghost use Rattle.indicatif_board.specs.Boards.{BoardState, Location, opening_board, draw_of, index_of, taken_in, marked_on, board};
 ghost use Rattle.indicatif_board.specs.Members.{place_of, without, is_head, said_of};
 ghost use Rattle.indicatif_board.specs.Slots.{next_slot, slot_of};
 ghost use Rattle.indicatif_board.specs.Inside.Named.{HasPlace, named_laid_out, named_layout_takes};
-ghost use Rattle.indicatif_board.specs.Inside.Writings.{writing_by};
+ghost use Rattle.indicatif_bar.specs.Stages.{writing_as};
+ghost use Rattle.indicatif_term.specs.Limiters.{Limiter};
 
 use crate::members::{Seated, drop_front, leading, place_of_bar, put_at};
 use crate::slots::MultiState;
+use indicatif_bar::stage::{Writing, put};
 use indicatif_bar::state::{Ask, BarState, SpareLines};
 use indicatif_bar::style::Tracks;
 use indicatif_term::draw_target::{Engine, LineType, MultiProgressAlignment, RateLimiter, Segment};
@@ -25,18 +27,7 @@ use indicatif_text::columns::{Drawn, Moment, Refusal};
 use std::alloc::Global;
 use std::mem::replace;
 
-/// What a draw writes.
-#[derive(Clone, Copy)]
-pub enum BoardWriting<'a> {
-    /// The bars' lines.
-    Frame,
-    /// A text, which stays, and the bars' lines below it.
-    TextAndFrame(&'a str),
-    /// Nothing, in the place of what stood.
-    NoFrame,
-}
-
-/// Bars in their order, the lines that were laid out last, and how often they may be drawn.
+/// Bars in their order, and the lines that were laid out last.
 #[derive(Drop)]
 pub struct ShownBars<K> {
     pub alloc: Global,
@@ -49,7 +40,6 @@ pub struct ShownBars<K> {
     /// The same numbers with their slots.
     pub table: MultiState,
     pub alignment: MultiProgressAlignment,
-    pub limiter: Option<RateLimiter>,
     ghost even: { vec_len members ≡ vec_len frame },
     ghost seated: { map (λ s. s.bar) frame.items ≡ table.order },
 }
@@ -58,9 +48,9 @@ impl<K: Tracks> ShownBars<K> {
     ghost use Rattle.indicatif_board.specs.ShownBars.{AreShownAs, record_on};
     ghost use Rattle.indicatif_board.specs.Inside.Standing.{is_of_draw, seat_of, StandsAt, AllStay, AllOthersStay};
 
-    /// No bars, at the top, drawn as often as this says. Takes no memory.
-    pub fn new(alloc: Global, limiter: Option<RateLimiter>) -> Self
-        ensures state { AreShownAs result (opening_board limiter) }
+    /// No bars, at the top. Takes no memory.
+    pub fn new(alloc: Global) -> Self
+        ensures state { (limiter : Option Limiter) → AreShownAs result limiter (opening_board limiter) }
         ensures records { (number : ℕ) → record_on number result ≡ None }
     {
         ShownBars {
@@ -70,7 +60,6 @@ impl<K: Tracks> ShownBars<K> {
             spare: SpareLines::new(alloc),
             table: MultiState::new(alloc),
             alignment: MultiProgressAlignment::Top,
-            limiter,
         }
     }
 
@@ -78,8 +67,8 @@ impl<K: Tracks> ShownBars<K> {
     /// no number; the others stay as they are then.
     pub fn take_in(&mut self, at: usize, bar: BarState<K>) -> Result<u64, BarState<K>>
         requires within { at ≤ vec_len self.old.members }
-        ensures taken { (s : BoardState (BarRecord K)) (spot : Location) → AreShownAs self.old s → at ≡ index_of spot s.members →
-            MatchResult result (λ n. (s.made ≡ n) × (n < 2 ^ 64) × AreShownAs self.new (taken_in spot bar s)) (λ b. (b ≡ bar) × AreShownAs self.new s) }
+        ensures taken { (limiter : Option Limiter) (s : BoardState (BarRecord K)) (spot : Location) → AreShownAs self.old limiter s → at ≡ index_of spot s.members →
+            MatchResult result (λ n. (s.made ≡ n) × (n < 2 ^ 64) × AreShownAs self.new limiter (taken_in spot bar s)) (λ b. (b ≡ bar) × AreShownAs self.new limiter s) }
         ensures bar { IfErr result (λ b. b ≡ bar) }
         ensures records { MatchResult result (λ n. (record_on n self.old ≡ None) × (record_on n self.new ≡ Some bar) × AllOthersStay n self.old self.new) (λ _. AllStay self.old self.new) }
         ensures slot { MatchResult result (λ n. slot_of n self.new.table ≡ Some (next_slot self.old.table)) (λ _. self.new.table ≡ self.old.table) }
@@ -107,9 +96,9 @@ impl<K: Tracks> ShownBars<K> {
     /// Takes the bar at a place out.
     pub fn take_out(&mut self, at: usize) -> BarState<K>
         requires within { at < vec_len self.old.members }
-        ensures out { (s : BoardState (BarRecord K)) (number : ℕ) → AreShownAs self.old s → at ≡ place_of number s.members →
-            AreShownAs self.new (record s { members = without number s.members }) }
-        ensures bar { (s : BoardState (BarRecord K)) (number : ℕ) (other : BarRecord K) → AreShownAs self.old s → at ≡ place_of number s.members →
+        ensures out { (limiter : Option Limiter) (s : BoardState (BarRecord K)) (number : ℕ) → AreShownAs self.old limiter s → at ≡ place_of number s.members →
+            AreShownAs self.new limiter (record s { members = without number s.members }) }
+        ensures bar { (limiter : Option Limiter) (s : BoardState (BarRecord K)) (number : ℕ) (other : BarRecord K) → AreShownAs self.old limiter s → at ≡ place_of number s.members →
             result ≡ said_of other (λ bar. bar) number s.members }
         ensures record { (number : ℕ) → StandsAt number at self.old → record_on number self.old ≡ Some result }
         ensures gone { (number : ℕ) → at ≡ seat_of number self.old.table.order → record_on number self.new ≡ None }
@@ -123,7 +112,7 @@ impl<K: Tracks> ShownBars<K> {
 
     /// Whether a bar is the first.
     pub fn is_first(&self, number: u64) -> bool
-        ensures first { (s : BoardState (BarRecord K)) → AreShownAs self.now s → result ≡ is_head number s.members }
+        ensures first { (limiter : Option Limiter) (s : BoardState (BarRecord K)) → AreShownAs self.now limiter s → result ≡ is_head number s.members }
         ensures some { IsTrue result → 0 < vec_len self.now.members }
         ensures seat { IsTrue result → 0 ≡ seat_of number self.now.table.order }
     {
@@ -135,7 +124,7 @@ impl<K: Tracks> ShownBars<K> {
 
     /// Marks a bar, if it is there: its owner is gone.
     pub fn mark(&mut self, number: u64)
-        ensures marked { (s : BoardState (BarRecord K)) → AreShownAs self.old s → AreShownAs self.new (marked_on number s) }
+        ensures marked { (limiter : Option Limiter) (s : BoardState (BarRecord K)) → AreShownAs self.old limiter s → AreShownAs self.new limiter (marked_on number s) }
         ensures record { record_on number self.new ≡ None }
         ensures others { AllOthersStay number self.old self.new }
     {
@@ -150,9 +139,10 @@ impl<K: Tracks> ShownBars<K> {
     pub fn draw_on<T: TermLike + Drop>(
         &mut self,
         engine: &mut Engine<T>,
+        limiter: &mut Option<RateLimiter>,
         ask: Ask,
         bar: Option<usize>,
-        writing: BoardWriting<'_>,
+        writing: Writing<'_>,
         now: Moment,
     ) -> Result<Drawn, Refusal>
         requires placed { IfSome bar (λ at. at < vec_len self.old.members) }
@@ -161,10 +151,10 @@ impl<K: Tracks> ShownBars<K> {
         ensures records { AllStay self.old self.new }
         ensures refusal { IfErr result (λ e. IsTrue (is_of_draw e)) }
         ensures drew { (mark : ℕ) (takes : Bool) (s : BoardState (BarRecord K)) (number : Option ℕ) → is_no ask ≡ false →
-            AreShownAs self.old s → HasPlace number bar s.members → Fits engine.old s.lists →
+            AreShownAs self.old limiter.old s → HasPlace number bar s.members → Fits engine.old s.lists →
             let target = target_of (Some (T.view (engine_term engine.old))) in
-            DrewBy (board (board_bars K.means) mark) (AreShownAs self.new) T.view engine.old engine.new
-            (draw_of target takes ask now (writing_by writing.entry) s (named_laid_out K.means target now number s) (named_layout_takes K.means number s))
+            DrewBy (board (board_bars K.means) mark) (AreShownAs self.new limiter.new) T.view engine.old engine.new
+            (draw_of target takes ask now (writing_as writing.entry) s (named_laid_out K.means target now number s) (named_layout_takes K.means number s))
             s.lists result }
     {
         let width = engine.term().width();
@@ -172,7 +162,7 @@ impl<K: Tracks> ShownBars<K> {
             return Err(Refusal::NoColumns);
         }
         self.lay_out(bar, width, now)?;
-        if !ask.allows(&mut self.limiter, now) {
+        if !ask.allows(limiter, now) {
             return Ok(Drawn::Limited);
         }
         self.write(engine, writing)
@@ -181,13 +171,13 @@ impl<K: Tracks> ShownBars<K> {
     /// Lays a bar's lines out and stores them, if one is named, in the room of those before.
     fn lay_out(&mut self, bar: Option<usize>, width: u16, now: Moment) -> Result<(), Refusal>
         requires placed { IfSome bar (λ at. at < vec_len self.old.members) }
-        ensures memory { IfErr result (λ e. (e ≡ Refusal.Memory) × ((s : BoardState (BarRecord K)) (number : Option ℕ) →
-            HasPlace number bar s.members → AreShownAs self.old s → IsTrue (named_layout_takes K.means number s))) }
+        ensures memory { IfErr result (λ e. (e ≡ Refusal.Memory) × ((limiter : Option Limiter) (s : BoardState (BarRecord K)) (number : Option ℕ) →
+            HasPlace number bar s.members → AreShownAs self.old limiter s → IsTrue (named_layout_takes K.means number s))) }
         ensures unchanged { OnErr result (self.new ≡ self.old) }
         ensures records { AllStay self.old self.new }
-        ensures laid { IfOk result (λ _. (target : Target) (s : BoardState (BarRecord K)) (number : Option ℕ) →
-            target.columns ≡ width → HasPlace number bar s.members → AreShownAs self.old s →
-            AreShownAs self.new (named_laid_out K.means target now number s)) }
+        ensures laid { IfOk result (λ _. (limiter : Option Limiter) (target : Target) (s : BoardState (BarRecord K)) (number : Option ℕ) →
+            target.columns ≡ width → HasPlace number bar s.members → AreShownAs self.old limiter s →
+            AreShownAs self.new limiter (named_laid_out K.means target now number s)) }
     {
         match bar {
             Some(at) => {
@@ -202,16 +192,16 @@ impl<K: Tracks> ShownBars<K> {
     fn write<T: TermLike + Drop>(
         &mut self,
         engine: &mut Engine<T>,
-        writing: BoardWriting<'_>,
+        writing: Writing<'_>,
     ) -> Result<Drawn, Refusal>
         ensures silent { IsFalse (wrote result) → engine.new ≡ engine.old }
         ensures records { AllStay self.old self.new }
         ensures refusal { IfErr result (λ e. IsTrue (is_of_draw e)) }
-        ensures drew { (mark now : ℕ) (takes lays : Bool) (ask : Ask) (s laid : BoardState (BarRecord K)) → is_no ask ≡ false →
-            0 < (T.view (engine_term engine.old)).columns → asked_of ask now laid.limiter ≡ (true, self.old.limiter) →
-            AreShownAs self.old (record laid { limiter = self.old.limiter }) → laid.lists ≡ s.lists → Fits engine.old s.lists →
-            DrewBy (board (board_bars K.means) mark) (AreShownAs self.new) T.view engine.old engine.new
-            (draw_of (target_of (Some (T.view (engine_term engine.old)))) takes ask now (writing_by writing.entry) s laid lays) s.lists result }
+        ensures drew { (mark now : ℕ) (takes lays : Bool) (ask : Ask) (limiter : Option Limiter) (s laid : BoardState (BarRecord K)) → is_no ask ≡ false →
+            0 < (T.view (engine_term engine.old)).columns → asked_of ask now laid.limiter ≡ (true, limiter) →
+            AreShownAs self.old limiter (record laid { limiter = limiter }) → laid.lists ≡ s.lists → Fits engine.old s.lists →
+            DrewBy (board (board_bars K.means) mark) (AreShownAs self.new limiter) T.view engine.old engine.new
+            (draw_of (target_of (Some (T.view (engine_term engine.old)))) takes ask now (writing_as writing.entry) s laid lays) s.lists result }
     {
         let gone = leading(&self.members);
         put(engine, &self.frame, gone, self.alignment, writing)?;
@@ -237,22 +227,4 @@ fn relay<K: Tracks>(
     let lines = bar.lines_in(spare, now, width)?;
     spare.keep(replace(stored, lines));
     Ok(())
-}
-
-/// Writes on the engine's terminal; the first `gone` bars are those that are dropped.
-fn put<T: TermLike + Drop>(
-    engine: &mut Engine<T>,
-    frame: &[Segment],
-    gone: usize,
-    alignment: MultiProgressAlignment,
-    writing: BoardWriting<'_>,
-) -> Result<(), Refusal>
-    requires { gone ≤ length frame.now }
-    ensures { PutsFrame T.view (writing_by writing.entry) (is_bottom alignment) gone (map bar_lines frame.now) engine.old engine.new result }
-{
-    match writing {
-        BoardWriting::Frame => engine.draw(frame, gone, alignment),
-        BoardWriting::TextAndFrame(text) => engine.log(text, &frame[gone..], alignment),
-        BoardWriting::NoFrame => engine.clear(),
-    }
 }

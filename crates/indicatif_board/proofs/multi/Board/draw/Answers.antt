@@ -9,7 +9,7 @@ use Rattle.indicatif_bar.proofs.OutcomeLemmas.{drew_none, outcome-unasked, outco
 use Rattle.indicatif_board.specs.BoardBars.{board_bars}
 use Rattle.indicatif_board.specs.Boards.{draw_of, board}
 use Rattle.indicatif_board.specs.Inside.Named.{named_laid_out, named_layout_takes}
-use Rattle.indicatif_board.specs.Inside.Writings.{writing_by}
+use Rattle.indicatif_bar.specs.Stages.{writing_as}
 use Rattle.indicatif_board.specs.Multi.{IsIn, known}
 use Rattle.indicatif_board.proofs.multi.Board.draw.Goals as goal
 
@@ -19,7 +19,7 @@ returns-then-is_no-clause-drew g c = λ mark takes s number inside placed.
     let tracks = g.K.Tracks.means in
     let old = known g.T.TermLike.view c.args.self.now in
     let target = target_of old in
-    let d = draw_of target takes c.args.ask c.args.now (writing_by c.args.writing) s (named_laid_out tracks target c.args.now number s) (named_layout_takes tracks number s) in
+    let d = draw_of target takes c.args.ask c.args.now (writing_as c.args.writing) s (named_laid_out tracks target c.args.now number s) (named_layout_takes tracks number s) in
     (s, inside, drew_none (board (board_bars tracks) mark) old d s.lists (Ok Limited) s refl refl (outcome-unasked target d (sym c.is_no.ensures ∙ c.if-is_no.true)))
 
 pub returns-in-Some-clause-drew : goal.returns-in-Some-clause-drew
@@ -33,7 +33,7 @@ returns-in-Some-clause-drew g c = λ mark takes s number inside placed.
       d.next,
       (inside.0, d.holds, d.fits),
       subst (λ o. DrewOn (board (board_bars tracks) mark) o (Some (view (engine_term c.draw_on.new.engine)))
-          (draw_of (target_of o) takes c.args.ask c.args.now (writing_by c.args.writing) s (named_laid_out tracks (target_of o) c.args.now number s)
+          (draw_of (target_of o) takes c.args.ask c.args.now (writing_as c.args.writing) s (named_laid_out tracks (target_of o) c.args.now number s)
           (named_layout_takes tracks number s)) s.lists c.draw_on.result d.next) (sym known_is)
           (record { leads = d.leads; writes = (view (engine_term c.draw_on.new.engine), refl, d.writes) }),
     )
@@ -45,7 +45,7 @@ returns-in-None-clause-drew g c = λ mark takes s number inside placed.
     let view = g.T.TermLike.view in
     let known_is = ap (λ o. option_map view (option_map engine_term o)) c.in-None.is in
     let target = target_of None in
-    let d = draw_of target takes c.args.ask c.args.now (writing_by c.args.writing) s (named_laid_out tracks target c.args.now number s) (named_layout_takes tracks number s) in (
+    let d = draw_of target takes c.args.ask c.args.now (writing_as c.args.writing) s (named_laid_out tracks target c.args.now number s) (named_layout_takes tracks number s) in (
       s,
       (
         inside.0,
@@ -53,7 +53,7 @@ returns-in-None-clause-drew g c = λ mark takes s number inside placed.
         subst (λ o. MatchOption o (s.lists ≡ opening_lists) (λ e. Fits e s.lists)) (sym c.in-None.is) (subst (λ o. MatchOption o (s.lists ≡ opening_lists)
             (λ e. Fits e s.lists)) c.in-None.is inside.2),
       ),
-      subst (λ o. DrewOn (board (board_bars tracks) mark) o o (draw_of (target_of o) takes c.args.ask c.args.now (writing_by c.args.writing) s (named_laid_out tracks
+      subst (λ o. DrewOn (board (board_bars tracks) mark) o o (draw_of (target_of o) takes c.args.ask c.args.now (writing_as c.args.writing) s (named_laid_out tracks
           (target_of o) c.args.now number s) (named_layout_takes tracks number s)) s.lists (Ok Hidden) s) (sym known_is)
           (drew_none (board (board_bars tracks) mark) None d s.lists (Ok Hidden) s refl refl (outcome-hidden target d (sym c.is_no.ensures ∙ c.if-is_no.false) refl)),
     )

@@ -31,7 +31,7 @@ unfolding IsIn
 returns-then-at-len-clause-found g c = λ mark s inside.
     let b = c.args.self.now.shown in
     let at_is = c.place_of_bar-at.ensures ∙ ap (position_or_len (λ x. x.bar == c.args.id.number)) c.deref.ensures.value in
-    found_none b.frame.items b.members.items b.table.made (is_bottom b.alignment) b.limiter mark (id_of c.args.id) s c.place_of_bar-at.result (c.if-id-self.false ∙ inside.0) inside.1 at_is
+    found_none b.frame.items b.members.items b.table.made (is_bottom b.alignment) c.args.self.now.stage.limiter mark (id_of c.args.id) s c.place_of_bar-at.result (c.if-id-self.false ∙ inside.0) inside.1 at_is
     (c.if-at-len.true ∙ c.len.ensures ∙ sym c.deref.ensures.len ∙ ap length c.deref.ensures.value)
 
 pub returns-then-is_dropped-clause-found : goal.returns-then-is_dropped-clause-found
@@ -52,7 +52,7 @@ returns-then-is_dropped-clause-found g c = λ mark s inside.
       c.len.ensures,
       c.if-at-len.false,
     ) in
-    found_gone b.frame.items b.members.items b.table.made (is_bottom b.alignment) b.limiter mark (id_of c.args.id) s c.place_of_bar-at.result (c.if-id-self.false ∙ inside.0) inside.1 at_is
+    found_gone b.frame.items b.members.items b.table.made (is_bottom b.alignment) c.args.self.now.stage.limiter mark (id_of c.args.id) s c.place_of_bar-at.result (c.if-id-self.false ∙ inside.0) inside.1 at_is
     c.index.result.now within c.index.ensures (sym c.is_dropped.ensures ∙ c.if-is_dropped.true)
 
 pub returns-clause-found : goal.returns-clause-found
@@ -73,9 +73,9 @@ returns-clause-found g c = λ mark s inside.
       c.len.ensures,
       c.if-at-len.false,
     ) in (
-      found_there b.frame.items b.members.items b.table.made (is_bottom b.alignment) b.limiter mark (id_of c.args.id) s c.place_of_bar-at.result (c.if-id-self.false ∙ inside.0) inside.1 at_is
+      found_there b.frame.items b.members.items b.table.made (is_bottom b.alignment) c.args.self.now.stage.limiter mark (id_of c.args.id) s c.place_of_bar-at.result (c.if-id-self.false ∙ inside.0) inside.1 at_is
           c.index.result.now within c.index.ensures (sym c.is_dropped.ensures ∙ c.if-is_dropped.false),
-      (placed_at b.frame.items b.members.items b.table.made (is_bottom b.alignment) b.limiter mark (id_of c.args.id) s c.place_of_bar-at.result (c.if-id-self.false ∙ inside.0) inside.1 at_is, within),
+      (placed_at b.frame.items b.members.items b.table.made (is_bottom b.alignment) c.args.self.now.stage.limiter mark (id_of c.args.id) s c.place_of_bar-at.result (c.if-id-self.false ∙ inside.0) inside.1 at_is, within),
     )
 
 pub returns-clause-within : goal.returns-clause-within

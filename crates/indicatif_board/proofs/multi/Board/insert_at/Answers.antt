@@ -14,7 +14,7 @@ pub returns-in-Ok-take_in-clause-inserted : goal.returns-in-Ok-take_in-clause-in
 unfolding IsIn
 returns-in-Ok-take_in-clause-inserted g c = λ mark s spot inside here.
     let tracks = g.K.Tracks.means in
-    let t = c.in-Ok-take_in.ensures.taken s spot inside.1 here in (
+    let t = c.in-Ok-take_in.ensures.taken c.args.self.now.stage.limiter s spot inside.1 here in (
       taken_in spot c.in-New.bar s,
       (inside.0, t.2, inside.2),
       refl,
@@ -28,7 +28,7 @@ pub returns-in-Err-take_in-clause-inserted : goal.returns-in-Err-take_in-clause-
 unfolding IsIn
 returns-in-Err-take_in-clause-inserted g c = λ mark s spot inside here.
     let tracks = g.K.Tracks.means in
-    let t = c.in-Err-take_in.ensures.taken s spot inside.1 here in
+    let t = c.in-Err-take_in.ensures.taken c.args.self.now.stage.limiter s spot inside.1 here in
     (s, (inside.0, t.1, inside.2), refl, λ target. rw c.in-New.is (new_refused tracks mark s spot c.in-New.bar target))
 
 pub returns-in-Ok-take_in-clause-records : goal.returns-in-Ok-take_in-clause-records

@@ -24,7 +24,7 @@ returns-in-Ok-clause-leads g c = λ now mark s inside.
     let f = c.in-Ok.ensures.found mark s inside in
     let next = record s { members = without id.number s.members } in (
       next,
-      (inside.0, c.take_out.ensures.out s id.number inside.1 f.1.0, inside.2),
+      (inside.0, c.take_out.ensures.out c.args.self.now.stage.limiter s id.number inside.1 f.1.0, inside.2),
       made_at_once tracks mark old old (Remove id) now s false Done next (removed_deed mark id s true (c.if-id-self.false ∙ inside.0) (there_is_member mark id s f.0)) refl refl,
     )
 
@@ -43,7 +43,7 @@ unfolding IsIn
 returns-in-Ok-clause-bar g c = λ mark s other inside.
     let id = id_of c.args.id in
     let f = c.in-Ok.ensures.found mark s inside in
-    rw (there_is_member mark id s f.0) (ap (λ b. Some b) (c.take_out.ensures.bar s id.number other inside.1 f.1.0))
+    rw (there_is_member mark id s f.0) (ap (λ b. Some b) (c.take_out.ensures.bar c.args.self.now.stage.limiter s id.number other inside.1 f.1.0))
 
 pub returns-in-Err-clause-bar : goal.returns-in-Err-clause-bar
 unfolding IsIn

@@ -24,9 +24,9 @@ pub returns-in-Some-clause-laid : goal.returns-in-Some-clause-laid
 returns-in-Some-clause-laid g c =
     let tracks = g.K.Tracks.means in
     let b = c.args.self.now in
-    when_ok c.relay.result c.relay.ensures.lines (λ lines target s number columns placed holds.
+    when_ok c.relay.result c.relay.ensures.lines (λ lines limiter target s number columns placed holds.
     laid_at tracks b.frame.items b.members.items b.table.made
-    (is_bottom b.alignment) b.limiter s target c.args.now c.args.width c.in-Some.at c.index.result.now c.index_mut.result.now c.relay.new.stored
+    (is_bottom b.alignment) limiter s target c.args.now c.args.width c.in-Some.at c.index.result.now c.index_mut.result.now c.relay.new.stored
     columns holds c.index.ensures c.index_mut.ensures.value (lines ∙ ap (λ x. lines_of_bar tracks x c.args.now c.args.width) c.bar.ensures) number c.args.bar c.in-Some.is placed)
 
 pub returns-in-Some-clause-memory : goal.returns-in-Some-clause-memory
@@ -36,7 +36,7 @@ returns-in-Some-clause-memory g c =
     let within : c.in-Some.at < length b.members.items = omega (arith, placed, b.members.ok) in
     when_err c.relay.result c.relay.ensures.memory (λ e short. (
       short.0,
-      λ s number named holds.
+      λ limiter s number named holds.
           lays_at g.K.Tracks.means b.members.items s number c.args.bar c.in-Some.at c.index.result.now holds.members_are c.in-Some.is named within c.index.ensures
           (ap lines_take_memory (sym c.bar.ensures) ∙ short.1),
     ))

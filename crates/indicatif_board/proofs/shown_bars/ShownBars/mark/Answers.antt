@@ -12,17 +12,17 @@ use Rattle.indicatif_board.specs.Inside.Standing.{seat_of}
 use Rattle.indicatif_board.proofs.shown_bars.ShownBars.mark.Goals as goal
 
 pub returns-then-at-len-clause-marked : goal.returns-then-at-len-clause-marked
-returns-then-at-len-clause-marked g c = λ s holds.
+returns-then-at-len-clause-marked g c = λ limiter s holds.
     let b = c.args.self.now in
     let here = c.place_of_bar-at.ensures ∙ ap (position_or_len (λ x. x.bar == c.args.number)) c.deref.ensures.value ∙ place_is b.frame.items s.members c.args.number holds.frame_is in
     let size = frame_length b.frame.items s.members holds.frame_is in
     let within : c.place_of_bar-at.result < length s.members = omega (arith, size, c.len.ensures, c.if-at-len.true, b.even, b.members.ok, b.frame.ok) in
-    subst (λ m. Holds b.frame.items (set b.members.items c.place_of_bar-at.result m) b.table.made (is_bottom b.alignment) b.limiter (marked_on c.args.number s)) (sym c.mark.ensures)
-    (marked_there b.frame.items b.members.items b.table.made (is_bottom b.alignment) b.limiter s c.args.number
+    subst (λ m. Holds b.frame.items (set b.members.items c.place_of_bar-at.result m) b.table.made (is_bottom b.alignment) limiter (marked_on c.args.number s)) (sym c.mark.ensures)
+    (marked_there b.frame.items b.members.items b.table.made (is_bottom b.alignment) limiter s c.args.number
     c.place_of_bar-at.result holds here c.index_mut.result.now within c.index_mut.ensures.value)
 
 pub returns-else-at-len-clause-marked : goal.returns-else-at-len-clause-marked
-returns-else-at-len-clause-marked g c = λ s holds.
+returns-else-at-len-clause-marked g c = λ limiter s holds.
     let b = c.args.self.now in
     let here = c.place_of_bar-at.ensures ∙ ap (position_or_len (λ x. x.bar == c.args.number)) c.deref.ensures.value ∙ place_is b.frame.items s.members c.args.number holds.frame_is in
     let size = frame_length b.frame.items s.members holds.frame_is in
@@ -39,7 +39,7 @@ returns-else-at-len-clause-marked g c = λ s holds.
       b.members.ok,
       b.frame.ok,
     ) in
-    marked_nowhere b.frame.items b.members.items b.table.made (is_bottom b.alignment) b.limiter s c.args.number c.place_of_bar-at.result holds here none
+    marked_nowhere b.frame.items b.members.items b.table.made (is_bottom b.alignment) limiter s c.args.number c.place_of_bar-at.result holds here none
 
 pub returns-then-at-len-clause-record : goal.returns-then-at-len-clause-record
 returns-then-at-len-clause-record g c =

@@ -21,14 +21,14 @@ invariant_of-self-2-clause-seated g c =
     ∙ sym (ap (λ (t : SlotTable). t.order) c.in-Ok-insert.ensures.inserted)
 
 pub returns-clause-taken : goal.returns-clause-taken
-returns-clause-taken g c = λ s spot holds here.
+returns-clause-taken g c = λ limiter s spot holds here.
     let b = c.args.self.now in
     let number = c.in-Ok-insert.number in (
       sym holds.made_is ∙ sym c.in-Ok-insert.ensures.number,
       c.in-Ok-insert.ensures.fits,
       taken_holds b.frame.items c.put_at-2.new.items.items b.members.items c.put_at.new.items.items number c.insert.new.self.made
-          (is_bottom b.alignment) b.limiter s spot c.args.at c.args.bar c.new-lines.result
-          (subst (λ n. Holds b.frame.items b.members.items n (is_bottom b.alignment) b.limiter s) (sym c.in-Ok-insert.ensures.number) holds) here c.new-lines.ensures.items
+          (is_bottom b.alignment) limiter s spot c.args.at c.args.bar c.new-lines.result
+          (subst (λ n. Holds b.frame.items b.members.items n (is_bottom b.alignment) limiter s) (sym c.in-Ok-insert.ensures.number) holds) here c.new-lines.ensures.items
           (c.put_at-2.ensures ∙ ap (λ xs. insert xs c.args.at (record { bar = number; lines = c.new-lines.result })) c.reserve-2.ensures.items)
           (c.put_at.ensures ∙ ap (λ xs. insert xs c.args.at c.in-Ok.member) c.reserve.ensures.items ∙ ap (insert b.members.items c.args.at) c.in-Ok.ensures)
           (ap (λ (t : SlotTable). t.made) c.in-Ok-insert.ensures.inserted ∙ ap (λ n. n + 1) (sym c.in-Ok-insert.ensures.number)),
