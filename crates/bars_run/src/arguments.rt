@@ -1,4 +1,9 @@
 //! What the arguments of `bars run` ask for.
+ghost use Rattle.std.specs.Prelude.{◌≡◌, map, option_map, string_bytes};
+ghost use Rattle.std.specs.Char.{is_ascii_digit};
+ghost use Rattle.std.specs.List.{list_all};
+ghost use Rattle.bars_run.specs.Arguments.{is_number, size_of as size_spelled, wanted_by, wanted_of, sized as sized_as};
+
 use indicatif_term::draw_target::MultiProgressAlignment;
 
 /// A terminal's size, and where bars stand in what is taken back.
@@ -11,7 +16,9 @@ pub struct Asked {
 
 impl Asked {
     /// What `run ROWS COLS` or `run ROWS COLS bottom` asks for; `None` of other words.
-    pub fn by(args: &[String]) -> Option<Asked> {
+    pub fn by(args: &[String]) -> Option<Asked>
+        ensures { option_map wanted_of result ≡ wanted_by (map (λ word. string_bytes word) args.now) }
+    {
         match args {
             [run, rows, columns] => sized(run, rows, columns, MultiProgressAlignment::Top),
             [run, rows, columns, bottom] => {
@@ -45,7 +52,9 @@ fn sized(
 }
 
 /// The number of at most 65,535 that one or more decimal digits spell.
-fn size_of(text: &str) -> Option<u16> {
+fn size_of(text: &str) -> Option<u16>
+    ensures { result ≡ size_spelled text.now }
+{
     if !is_digits(text) {
         return None;
     }
@@ -53,6 +62,15 @@ fn size_of(text: &str) -> Option<u16> {
 }
 
 /// Whether a text is one or more decimal digits.
-pub fn is_digits(text: &str) -> bool {
-    !text.is_empty() && text.as_bytes().iter().all(|b| b.is_ascii_digit())
+pub fn is_digits(text: &str) -> bool
+    ensures { result ≡ is_number text.now }
+{
+    !text.is_empty() && are_digits(text)
+}
+
+/// Whether each byte is a decimal digit.
+fn are_digits(text: &str) -> bool
+    ensures { result ≡ list_all is_ascii_digit text.now }
+{
+    text.as_bytes().iter().all(|b| b.is_ascii_digit())
 }

@@ -1,4 +1,15 @@
 //! A board in memory, and what a command does on it.
+ghost use Rattle.std.specs.Prelude.{◌≡◌, ℕ, suc, [], map, Some, IfOk, IfSome, OnOk, string_bytes};
+ghost use Rattle.indicatif_term.specs.Pictures.{picture_text};
+ghost use Rattle.indicatif_board.specs.BoardValues.{id_of};
+ghost use Rattle.indicatif_board.specs.Bridge.{bridge_bytes};
+ghost use Rattle.indicatif_board.specs.Calls.{call_of as call_as};
+ghost use Rattle.indicatif_board.specs.Multi.{terminal_of};
+ghost use Rattle.bars_run.specs.Arguments.{wanted_of};
+ghost use Rattle.bars_run.specs.Commands.{command_of, action_of};
+ghost use Rattle.bars_run.specs.Plays.{bar_at, bar_saying as saying, call_of as call_spelled, call_on};
+ghost use Rattle.bars_run.specs.Inside.Players.{Obeys, Makes, HasPlayed};
+
 use crate::arguments::Asked;
 use crate::commands::{BarAction, Command};
 use indicatif_bar::state::{BarCommand, BarState, ProgressFinish};
@@ -8,6 +19,7 @@ use indicatif_board::multi::{Answer, BarId, Board, Call, Candidate, InsertLocati
 use indicatif_term::draw_target::ProgressDrawTarget;
 use indicatif_term::in_memory::InMemoryTerm;
 use indicatif_text::columns::{Moment, Refusal};
+use indicatif_text::laws::template_or_refused;
 use log::Level;
 use std::alloc::Global;
 
@@ -29,7 +41,9 @@ impl Player {
     /// A board without bars on an empty terminal.
     ///
     /// Refused: `ZeroSize` where the terminal would have no cells, or `Memory`.
-    pub fn new(alloc: Global, asked: Asked) -> Result<Player, Refusal> {
+    pub fn new(alloc: Global, asked: Asked) -> Result<Player, Refusal>
+        ensures { IfOk result (λ player. HasPlayed (wanted_of asked) [] player.board) }
+    {
         let term = InMemoryTerm::new(alloc, asked.rows, asked.columns)?;
         let board = Board::new(alloc, ProgressDrawTarget::term_like(term), MARK);
         let mut player = Player {
@@ -44,13 +58,17 @@ impl Player {
     /// Does what a command says.
     ///
     /// Refused: what the board refuses, `NotMember` also for a number that was never given, and `Memory`.
-    pub fn obey(&mut self, command: Command<'_>) -> Result<(), Refusal> {
+    pub fn obey(&mut self, command: Command<'_>) -> Result<(), Refusal>
+        ensures { OnOk result (Obeys (command_of command.entry) self.old.board self.new.board) }
+    {
         let call = self.call_of(command)?;
         self.make(call)
     }
 
     /// The rows that scrolled away, then those of the window, each without the blanks at its end.
-    pub fn picture(&self) -> Result<Vec<String>, Refusal> {
+    pub fn picture(&self) -> Result<Vec<String>, Refusal>
+        ensures { IfOk result (λ rows. IfSome (terminal_of self.now.board) (λ term. map (λ row. string_bytes row) rows.items ≡ picture_text term.terminal.screen)) }
+    {
         match self.board.term() {
             Some(term) => term.picture(),
             None => Ok(Vec::new(self.alloc)),
@@ -58,20 +76,23 @@ impl Player {
     }
 
     /// Makes a call of the board.
-    fn make(&mut self, call: Call<NoTracker>) -> Result<(), Refusal> {
-        let calls = vec![in self.alloc; (call, NOW)]?;
-        for answer in self.board.run(calls)? {
-            match answer {
-                Answer::Refused(refusal) => return Err(refusal),
-                Answer::Id(_) => self.given = self.given.saturating_add(1),
-                Answer::Done | Answer::Drawn(_) => (),
+    fn make(&mut self, call: Call<NoTracker>) -> Result<(), Refusal>
+        ensures { OnOk result (Makes (call_as call) self.old.board self.new.board) }
+    {
+        match self.board.call(call, NOW) {
+            Answer::Refused(refusal) => Err(refusal),
+            Answer::Id(_) => {
+                self.given = self.given.saturating_add(1);
+                Ok(())
             }
+            Answer::Done | Answer::Drawn(_) => Ok(()),
         }
-        Ok(())
     }
 
     /// The board's call for a command.
-    fn call_of(&self, command: Command<'_>) -> Result<Call<NoTracker>, Refusal> {
+    fn call_of(&self, command: Command<'_>) -> Result<Call<NoTracker>, Refusal>
+        ensures { IfOk result (λ call. call_spelled (command_of command.entry) ≡ Some (call_as call)) }
+    {
         match command {
             Command::Add(text) => {
                 let bar = bar_saying(self.alloc, text)?;
@@ -88,7 +109,9 @@ impl Player {
     }
 
     /// The bar of this number, counted from 1.
-    fn id_of(&self, number: Option<u64>) -> Result<BarId, Refusal> {
+    fn id_of(&self, number: Option<u64>) -> Result<BarId, Refusal>
+        ensures { IfOk result (λ id. (n : ℕ) × (number ≡ Some (suc n)) × (id_of id ≡ bar_at n)) }
+    {
         match number {
             Some(number) if 0 < number && number <= self.given => Ok(BarId {
                 mark: MARK,
@@ -100,14 +123,18 @@ impl Player {
 }
 
 /// The line of a log that warns.
-fn warning(alloc: Global, text: &str) -> Result<String, Refusal> {
+fn warning(alloc: Global, text: &str) -> Result<String, Refusal>
+    ensures { IfOk result (λ line. string_bytes line ≡ bridge_bytes Level.Warn text.now) }
+{
     let mut line = String::new(alloc);
     bridge_line(Level::Warn, text, &mut line)?;
     Ok(line)
 }
 
 /// The board's call for what is done to a bar.
-fn bar_call(alloc: Global, id: BarId, action: BarAction<'_>) -> Result<Call<NoTracker>, Refusal> {
+fn bar_call(alloc: Global, id: BarId, action: BarAction<'_>) -> Result<Call<NoTracker>, Refusal>
+    ensures { IfOk result (λ call. call_as call ≡ call_on (id_of id) (action_of action.entry)) }
+{
     let command = match action {
         BarAction::Drop => return Ok(Call::Drop(id)),
         BarAction::Remove => return Ok(Call::Remove(id)),
@@ -121,9 +148,12 @@ fn bar_call(alloc: Global, id: BarId, action: BarAction<'_>) -> Result<Call<NoTr
 }
 
 /// A bar that shows its message, which is this.
-fn bar_saying(alloc: Global, text: &str) -> Result<BarState<NoTracker>, Refusal> {
+fn bar_saying(alloc: Global, text: &str) -> Result<BarState<NoTracker>, Refusal>
+    ensures { IfOk result (λ bar. bar ≡ saying text.now) }
+{
     let style = ProgressStyle::with_template(alloc, "{msg}")?;
     let mut bar = BarState::styled(alloc, style, None, NOW)?;
     bar.with_message(text, NOW)?;
+    template_or_refused();
     Ok(bar)
 }

@@ -1,0 +1,14 @@
+use Rattle.std.proofs.Common.{◌∙◌, ap, subst, inl, None, Some, option_map}
+use Rattle.indicatif_term.specs.Memory.{view_of}
+use Rattle.indicatif_term.specs.Targets.{term_of, limiter_of}
+use Rattle.indicatif_board.specs.Boards.{opening_board}
+use Rattle.indicatif_board.specs.Multi.{IsIn}
+use Rattle.bars_run.specs.Arguments.{wanted_of}
+use Rattle.bars_run.proofs.PlayLemmas.{begun, some_if}
+use Rattle.bars_run.proofs.player.Player.new.Goals as goal
+
+pub returns : goal.returns
+returns c =
+    let opened = subst (λ target. IsIn 0 c.new-board.result (opening_board (limiter_of target))) c.term_like.ensures c.new-board.ensures.state in
+    let at = ap (option_map view_of) (c.new-board.ensures.terminal ∙ ap term_of c.term_like.ensures) ∙ ap (λ t. Some (view_of t)) c.in_ok-term.ensures.blank in
+    begun (wanted_of c.args.asked) c.new-board.result c.make.new.self.board (some_if c.args.asked.rows (λ e. let q = c.in_ok-term.ensures.zero_size.1 (inl e) in cc q)) opened at c.in_ok-make.ensures
