@@ -45,10 +45,8 @@ built() {
 }
 pages=("$@")
 built example_readme
-built example_logs
-built example_threads
+built example_threads spinner
 built examples fine
-built ported
 built bars demo
 built meter --help
 

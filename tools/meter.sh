@@ -6,9 +6,9 @@
 #           columns, and in one of 20 with `--columns 20`; then the same with `pv`
 #   rows    three meters in one pipeline, each on its row
 #   wrong   a pane of 200 columns and one of 40 where 80 are told, with a row above that is to stay
-#   race    2 GiB of zeros through `meter`, `pv` and `cat`, in turn, nine times each (or $TURNS times): the times in milliseconds, the
-#           least of each, and the speed of `meter` by the least times, where that of `pv` is 1. Its bar is hidden: standard error is
-#           no terminal
+#   race    2 GiB of zeros through `meter`, `pv` and `cat`, in turn, nine times each (or $TURNS times): how long they took and how much
+#           time of a processor each took itself, in milliseconds, the middle and the least, and the speed of `meter` by these, where
+#           that of the other is 1. Its bar is hidden: standard error is no terminal
 #   shown   the same race in a pane of 80 columns, where the bars are shown, and what stands there at last
 # Without a word all of them, one after another.
 #
@@ -75,30 +75,44 @@ wrong() {
   mux kill-session -t look
 }
 
-# the milliseconds that 2 GiB of zeros take through a program
-race() { local from=$EPOCHREALTIME; head -c 2G /dev/zero | "$@" 2> "$folder/errors" | cat > /dev/null; echo $(((${EPOCHREALTIME/./} - ${from/./}) / 1000)); }
+# race FILE PROGRAM: appends to the file the milliseconds that 2 GiB of zeros take through a program, and those of a processor
+race() {
+  local from=$EPOCHREALTIME to
+  head -c 2G /dev/zero | { TIMEFORMAT='%U %S'; time $2 2> "$folder/errors"; } 2> "$folder/processor" | cat > /dev/null
+  to=$EPOCHREALTIME
+  took "$from" "$to" >> "$1"
+}
+
+# took FROM TO: the milliseconds between, and those in the file `processor`
+took() { awk -v from="$1" -v to="$2" '{ printf "%d %d\n", (to - from) * 1000, ($1 + $2) * 1000 }' "$folder/processor"; }
 
 # the same in a pane of 80 columns, which is kept as it stands at the end
 shown() {
-  printf '%s\n' 'from=$EPOCHREALTIME' "head -c 2G /dev/zero | $1 | cat > /dev/null" \
-    "echo \$(((\${EPOCHREALTIME/./} - \${from/./}) / 1000)) > $folder/took" "tmux wait-for -S raced" 'exec sleep 1000' > "$folder/shown"
+  printf '%s\n' "TIMEFORMAT='%U %S'" 'from=$EPOCHREALTIME' \
+    "head -c 2G /dev/zero | { time $2 2> /dev/tty; } 2> $folder/processor | cat > /dev/null" \
+    "echo \$from \$EPOCHREALTIME > $folder/moments" "tmux wait-for -S raced" 'exec sleep 1000' > "$folder/shown"
   mux new-session -d -s race -x 80 -y 8 "bash $folder/shown" || exit 2
   mux wait-for raced
   mux capture-pane -p -t race | sed '/^$/d' > "$folder/pane"
   mux kill-session -t race
-  cat "$folder/took"
+  took $(cat "$folder/moments") >> "$1"
 }
 
-# told NAME FILE: the times in a file, and the least of them
-told() { echo "$1: $(paste -sd ' ' "$2"), the least $(least "$2") ms"; }
+# middle FILE FIELD, least FILE FIELD: of the numbers in a field of a file
+middle() { cut -d ' ' -f "$2" "$1" | sort -n | sed -n "$((($(wc -l < "$1") + 1) / 2))p"; }
+least() { cut -d ' ' -f "$2" "$1" | sort -n | head -n 1; }
 
-# the least number in a file
-least() { sort -n "$1" | head -n 1; }
+# told NAME: the times in a file of this name
+told() {
+  printf '%-14s middle %6d, least %6d, processor %6d; all: %s\n' "$1" "$(middle "$folder/$1" 1)" "$(least "$folder/$1" 1)" \
+    "$(middle "$folder/$1" 2)" "$(cut -d ' ' -f 1 "$folder/$1" | paste -sd ' ')"
+}
 
-# compared METERS PVS CATS: the speed of `meter` by the least times, where that of the others is 1
+# compared METER OTHER: the speed of the first, where that of the other is 1
 compared() {
-  awk -v meter="$(least "$1")" -v pv="$(least "$2")" -v cat="$(least "$3")" \
-    'BEGIN { printf "speed of meter: %.2f of that of pv, %.2f of that of cat\n", pv / meter, cat / meter }'
+  awk -v middle="$(middle "$folder/$1" 1)" -v least="$(least "$folder/$1" 1)" -v other="$(middle "$folder/$2" 1)" \
+    -v others="$(least "$folder/$2" 1)" -v name="$2" \
+    'BEGIN { printf "speed of meter, where that of %s is 1: %.2f by the middle, %.2f by the least\n", name, other / middle, others / least }'
 }
 
 ln -s "$meter" "$folder/meter"
@@ -118,28 +132,25 @@ if [ "$wanted" = wrong ] || [ "$wanted" = all ]; then
   wrong 40
 fi
 turns=$(seq "${TURNS:-9}")
+uptime
 if [ "$wanted" = race ] || [ "$wanted" = all ]; then
   for turn in $turns; do
-    race "$meter" >> "$folder/meters"
-    race pv >> "$folder/pvs"
-    race cat >> "$folder/cats"
+    race "$folder/meter-hidden" meter
+    race "$folder/pv-hidden" pv
+    race "$folder/cat-hidden" cat
   done
-  told "meter, its bar hidden" "$folder/meters"
-  told pv "$folder/pvs"
-  told cat "$folder/cats"
-  compared "$folder/meters" "$folder/pvs" "$folder/cats"
+  for name in meter-hidden pv-hidden cat-hidden; do told $name; done
+  for name in pv-hidden cat-hidden; do compared meter-hidden $name; done
 fi
 if [ "$wanted" = shown ] || [ "$wanted" = all ]; then
   for turn in $turns; do
-    shown "$folder/meter --size 2GiB" >> "$folder/shown_meters"
+    shown "$folder/meter-shown" "meter --size 2GiB"
     cp "$folder/pane" "$folder/last"
-    shown "pv --size 2G" >> "$folder/shown_pvs"
-    shown cat >> "$folder/shown_cats"
+    shown "$folder/pv-shown" "pv --size 2G"
+    shown "$folder/cat-shown" cat
   done
-  told "meter in a pane" "$folder/shown_meters"
   cat "$folder/last"
-  told "pv there" "$folder/shown_pvs"
-  told "cat there" "$folder/shown_cats"
-  compared "$folder/shown_meters" "$folder/shown_pvs" "$folder/shown_cats"
+  for name in meter-shown pv-shown cat-shown; do told $name; done
+  for name in pv-shown cat-shown; do compared meter-shown $name; done
 fi
 uptime

@@ -11,14 +11,16 @@ usage: tools/pages.py [--write]   (at the root of the repository)
 - The table of refusals in docs/USING.md has the numbers and texts of crates/rows/data/refusals.txt, and all of them. Other pages that
   name a refusal with its number name it so.
 - The options and statuses of docs/METER.md are those of crates/meter/src.
-- docs/MAP.md names each crate of crates.txt and each tool. Each link leads to a file, and each path that a page names is there.
+- docs/MAP.md names each crate of crates.txt and each tool. Each link leads to a file, and each path that a page names is there. Each
+  name between backquotes that has an underscore, or a capital behind a small letter, is a word of the sources, the data or the tools.
+- Each call on the right side of docs/PORTING.md's table stands in code that the gate runs. README.md has at most 90 lines.
 - Each fenced block of the pages below and of the heads of the libraries stands in the sources, line for line: code without comments
   in crates/*/src, `antt` in crates/*/specs, `text` in what a program of the gate prints or plays, or as what a row gives. A line
   `// ..` stands for lines that are left out. Definitions may have other line ends.
 - A block of `contract FILE CALL` is the head and the clauses of that call in crates/FILE.
 - An indented block is one of these, lines of crates.txt, or commands. A line `$ printf 'LINES' | .. run ROWS COLS` is a row of
   crates/rows/data/program.txt, which gives the lines below it.
-- The lines of each example in a documentation comment of the four lower libraries stand in one file of a program or a test that the gate runs: an
+- The lines of each example in a documentation comment of the libraries stand in one file of a program or a test that the gate runs: an
   `assert_eq!(a, b)` as that or as `a == b`, an `assert!(a)` as that or as `a`; `{ .. }` stands for any block.
 - What isn't compared here: blocks of `rust` (the Rust crate's code) and of `diagram`, other commands, and those of `gallery`, which
   have a picture that tools/gallery.sh compares.
@@ -77,6 +79,8 @@ def row(section, template, shown):
     fields = list(BAR)
     fields[1] = template
     fields[3] = "1" if section.startswith("Styles") else "0"
+    if section == "Without a length":
+        fields[6] = "-"
     return "laid " + "\t".join(fields) + " -> " + spelled(shown + "\\n")
 
 
@@ -360,6 +364,51 @@ def faults_of_names():
                 yield f"{path}: no file {word}"
 
 
+# Names of the Rust crate, of its tests that are left out, and of others.
+FOREIGN = set(
+    """WithStyle WithElapsed read_vectored write_vectored AsRef contents_formatted on_bright on_123 blink_fast AsyncSeek AsyncBufRead
+    par_iter FROM_RUST Grapheme_Extend clock_gettime is_stderr_for_multi test_duration_stuff human_float_count_negative""".split()
+)
+
+
+def words_of_sources():
+    """The words of sources, data and tools, and the names of their files."""
+    found = set()
+    for pattern in ("*/src/**/*.rt", "*/specs/**/*.antt", "*/proofs/*.antt", "*/data/*.txt"):
+        for path in pathlib.Path("crates").glob(pattern):
+            found |= {path.stem, *re.findall(r"\w+", path.read_text(encoding="utf-8", errors="replace"))}
+    for path in [*filter(pathlib.Path.is_file, pathlib.Path("tools").iterdir()), pathlib.Path("crates.txt")]:
+        found |= set(re.findall(r"\w+", read(path)))
+    return found
+
+
+def without_blocks(text):
+    return re.sub(r"^```.*?^```$", "", text, flags=re.M | re.S)
+
+
+def faults_of_words():
+    known = words_of_sources() | FOREIGN
+    for path, text in pages():
+        for span in re.findall(r"`([^`\n]+)`", without_blocks(text) if path.endswith(".md") else ""):
+            for word in re.findall(r"[A-Za-z]\w*\b(?!\*)", span):
+                if re.search(r"_|[a-z][A-Z]", word) and word not in known:
+                    yield f"{path}: nothing is named {word}"
+
+
+# docs/PORTING.md
+
+
+def faults_of_porting():
+    files = [path for path in pathlib.Path("crates").glob("*/src/**/*.rt") if path.parts[1] not in LIBRARIES]
+    called = set(re.findall(r"\b(\w+)(?:::<[^(]*>)?\(", "\n".join(map(read, files))))
+    section = read("docs/PORTING.md").partition("\n## Calls\n")[2].partition("\n## ")[0]
+    for line in section.splitlines():
+        cells = re.split(r"(?<!\\)\|", line)
+        for name in re.findall(r"\b([A-Za-z]\w*)\(", " ".join(re.findall(r"`([^`]*)`", cells[2]))) if len(cells) == 4 else []:
+            if name not in called:
+                yield f"docs/PORTING.md: no program and no test calls {name}"
+
+
 # Fenced blocks
 
 
@@ -628,8 +677,7 @@ def is_in(statement, code):
 def faults_of_examples():
     files = [path for path in pathlib.Path("crates").glob("*/src/**/*.rt") if path.parts[1] not in LIBRARIES]
     code = [without_space(read(path)) for path in files]
-    # (of `indicatif` itself no program with all examples is proved yet)
-    for crate in LIBRARIES[:4]:
+    for crate in LIBRARIES:
         for path in sorted(pathlib.Path(f"crates/{crate}/src").rglob("*.rt")):
             for block in examples(read(path)):
                 wanted = list(statements(block))
@@ -651,11 +699,15 @@ def main():
     texts = [read(it) for it in ("README.md", "crates/example_readme/src/main.rt")]
     if len({tuple(program(it, "use anyhow::Result;")) for it in texts}) != 1:
         faults.append("README.md has another program than crates/example_readme")
+    if len(texts[0].splitlines()) > 90:
+        faults.append("README.md has more than 90 lines")
     faults += faults_of_proved()
     faults += faults_of_refused()
     faults += faults_of_refusals()
     faults += faults_of_meter()
     faults += faults_of_names()
+    faults += faults_of_words()
+    faults += faults_of_porting()
     faults += faults_of_blocks()
     faults += faults_of_examples()
     print("\n".join(faults) or "the pages have what the gate compares")

@@ -2,12 +2,17 @@
 """Compares a real terminal, tmux, with the rows that crate `rows` plays on the cell terminal.
 
 usage: tools/real_terminal.py [FILE ..]
+       tools/real_terminal.py lists SEED COUNT
   FILE   files of crates/rows/data, by their names; `real_terminals.txt` and those of bars and boards if none is named
+  lists  so many random lists of calls: what the engine writes, what one writes whose cursor only moves, and what one writes that
+         writes whole frames (program `whole_frames`) is played to three panes. All rows, with those that scrolled away and with
+         colours, and the cursor have to be the same
 
 A row that tells what stands on the screen at last (`shows`, or `contents` of `cells`) is a case: the bytes that led there are
 written to a pane of its size, and what the pane shows is compared with what the row says, up to the last written row, without
 the blanks at the ends of rows. The bytes of bars and boards are asked of the program `rows` (`written`), which it builds first.
-Rows are passed over whose terminal fails, is written to by others, or changes on the way.
+Rows are passed over whose terminal fails, is written to by others, or changes on the way. A program that stands in the folder
+$PROGRAMS is taken from there.
 
 The exit status is 1 if a case differs. It wants Debian's package tmux.
 """
@@ -16,7 +21,6 @@ import re
 import subprocess
 import sys
 import tempfile
-import time
 
 TOP = os.path.dirname(os.path.dirname(os.path.abspath(__file__)))
 CRATE = os.path.join(TOP, "crates", "rows")
@@ -104,12 +108,22 @@ def case_of(place, script, wanted):
     return Case(place, begun[1:3], contents, steps="; ".join(script))
 
 
+def built(name):
+    """The program of this name."""
+    there = os.path.join(os.environ.get("PROGRAMS", ""), name)
+    if os.access(there, os.X_OK):
+        return os.path.abspath(there)
+    crate = os.path.join(TOP, "crates", name)
+    ran = subprocess.run(["rt", "run"], cwd=crate, capture_output=True, text=True)
+    program = os.path.join(crate, "out", name)
+    if not os.path.exists(program):
+        sys.exit(f"no program {name}:\n" + ran.stdout[-500:] + ran.stderr[-500:])
+    return program
+
+
 def with_bytes(cases):
     """The cases, with the bytes that the program `rows` tells of those that are steps."""
-    built = subprocess.run(["rt", "run"], cwd=CRATE, capture_output=True, text=True)
-    program = os.path.join(CRATE, "out", "rows")
-    if not os.path.exists(program):
-        sys.exit("no program rows:\n" + built.stdout[-500:] + built.stderr[-500:])
+    program = built("rows")
     asked = [case for case in cases if case.steps]
     with tempfile.TemporaryDirectory() as folder:
         with open(os.path.join(folder, "asked"), "w", encoding="utf-8") as file:
@@ -135,25 +149,70 @@ class Tmux:
     def run(self, *words):
         return subprocess.run(self.command + list(words), capture_output=True, text=True, env={**os.environ, "LC_ALL": "C.UTF-8"})
 
+    def opened(self, size, bytes_, name):
+        """The words that open a pane of this size and name, and wait until it has read these bytes, as its answer to ESC [6n shows."""
+        path = os.path.join(self.folder, name)
+        with open(path, "wb") as file:
+            file.write(bytes_)
+        with open(path + ".sh", "w", encoding="utf-8") as file:
+            file.write(f"stty raw -echo\ncat '{path}'\nprintf '\\033[6n'\nIFS= read -rd R answer\n")
+            file.write(f"{' '.join(self.command)} wait-for -S {name}\nexec sleep 1000\n")
+        rows, columns = size
+        return ["new-session", "-d", "-s", name, "-x", columns, "-y", rows, f"bash '{path}.sh'", ";", "wait-for", name, ";"]
+
     def shown(self, case):
         """What a pane of the case's size shows after its bytes."""
-        path = os.path.join(self.folder, "bytes")
-        with open(path, "wb") as file:
-            file.write(case.bytes)
-        rows, columns = case.size
-        writes = f"stty raw -echo; cat '{path}'; {' '.join(self.command)} wait-for -S written; exec sleep 1000"
-        self.run("new-session", "-d", "-s", "case", "-x", columns, "-y", rows, writes)
-        self.run("wait-for", "written")
-        for _ in range(60):
-            got = trimmed(self.run("capture-pane", "-p", "-t", "case").stdout)
-            if got == case.wanted:
-                break
-            time.sleep(0.05)
-        self.run("kill-session", "-t", "case")
-        return got
+        words = self.opened(case.size, case.bytes, "case")
+        return trimmed(self.run(*words, "capture-pane", "-p", "-t", "case", ";", "kill-session", "-t", "case").stdout)
+
+    def all_shown(self, size, several):
+        """What panes of this size show, each after its bytes: all rows, and the cursor."""
+        words = []
+        for index, bytes_ in enumerate(several):
+            name = f"case{index}"
+            words += self.opened(size, bytes_, name)
+            words += ["capture-pane", "-p", "-e", "-S", "-", "-t", name, ";"]
+            words += ["display-message", "-p", "-t", name, "cursor at row #{cursor_y}, column #{cursor_x}", ";"]
+            words += ["kill-session", "-t", name, ";"]
+        return [coloured(rows) + at for rows, at in re.findall(r"(.*?)^(cursor at [^\n]*)\n", self.run(*words).stdout, re.M | re.S)]
+
+
+def coloured(text):
+    """Rows with the colour of each character between braces, where it isn't that of the one before. A blank has none."""
+    out, now, said = "", "", ""
+    for colour, char in re.findall(r"\x1b\[([\d;]*)m|(.)", text, re.S):
+        if not char:
+            now = "" if colour in ("", "0", "39") else colour
+        elif char in " \n" or now == said:
+            out += char
+        else:
+            said = now
+            out += "{" + now + "}" + char
+    return "\n".join(row.rstrip(" ") for row in out.split("\n"))
+
+
+def lists(seed, count):
+    """Whether the panes of each list are the same."""
+    told = subprocess.run([built("whole_frames"), seed, count, "bytes"], capture_output=True, text=True, check=True).stdout.split("\n")
+    differ = 0
+    with tempfile.TemporaryDirectory() as folder:
+        tmux = Tmux(folder)
+        try:
+            for at in range(int(count)):
+                size, *several = told[4 * at : 4 * at + 4]
+                got = tmux.all_shown(size.split(" "), [unescaped(text[1:-1]) for text in several])
+                if len(got) != 3 or len(set(got)) > 1:
+                    differ += 1
+                    print(f"list {at} of seed {seed}, rows and columns {size}", *got, sep="\n--\n")
+        finally:
+            tmux.run("kill-server")
+    print(f"{int(count) - differ} lists agree, {differ} differ")
+    return differ
 
 
 def main():
+    if sys.argv[1:2] == ["lists"]:
+        sys.exit(1 if lists(*sys.argv[2:4]) else 0)
     cases = with_bytes([case for name in sys.argv[1:] or FILES for case in cases_of(name)])
     differ = 0
     with tempfile.TemporaryDirectory() as folder:

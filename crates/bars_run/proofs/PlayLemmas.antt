@@ -46,8 +46,8 @@ use Rattle.bars_run.specs.Arguments.{Wanted, wanted_by}
 use Rattle.bars_run.specs.Fault.{status_of}
 use Rattle.bars_run.specs.Printing.{Prints, printed}
 use Rattle.bars_run.proofs.PrintLemmas.{ended, none_behind}
-use Rattle.bars_run.specs.Commands.{Action, Message, Tick, Finish, Hide, Abandon, Drop, Remove, Spelled, Add, Log, Warn, Clear, OfBar, and_then, each, spelled, lines_of}
-use Rattle.bars_run.specs.Inside.Players.{Played, empty_memory, Makes, Obeys, HasPlayed, Stands}
+use Rattle.bars_run.specs.Commands.{Action, Message, Tick, Finish, Hide, Abandon, Drop, Remove, Spelled, Add, Log, Warn, Clear, Size, OfBar, is_size, and_then, each, spelled, lines_of}
+use Rattle.bars_run.specs.Inside.Players.{Played, empty_memory, Makes, Obeys, HasObeyed, HasPlayed, StandsPlayed, Stands}
 use Rattle.bars_run.proofs.LineLemmas.{next_line}
 use Rattle.bars_run.specs.Plays.{Bar, BarCall, machine, bar_at, bar_saying, call_on, call_of, timed, played, rows_after, is_refused, IsPlain, IsPlainAction}
 
@@ -86,27 +86,26 @@ begun wanted new made some opened at call =
       some_rows = some;
       commands = [];
       commands_are = refl;
-      calls = [];
-      calls_are = refl;
-      answers = call.0 ∷ [];
-      done = (let e : is_refused call.0 ≡ false = call.1 in rw e refl);
-      next = next.0;
-      holds = next.1;
-      run = (known view_of made, next.0, subst (λ o. CallMade machine o (known view_of made) (on.Align wanted.bottom, 0) (opening_board None) call.0 next.0) at next.2, (refl, refl));
+      obeyed = λ none. record {
+        calls = [];
+        calls_are = refl;
+        answers = call.0 ∷ [];
+        done = (let e : is_refused call.0 ≡ false = call.1 in rw e refl);
+        next = next.0;
+        holds = next.1;
+        run = (known view_of made, next.0, subst (λ o. CallMade machine o (known view_of made) (on.Align wanted.bottom, 0) (opening_board None) call.0 next.0) at next.2, (refl, refl));
+      };
     }
 
-pub one_more : (wanted : Wanted) (lines : List (List ℕ)) (line : List ℕ) (command : Spelled) (old new : Played) → HasPlayed wanted lines old → spelled line ≡ Some command → Obeys command old new →
-    HasPlayed wanted (lines ++ line ∷ []) new
-one_more wanted lines line command old new p is (call, called, answer, fine, leads) =
+obeyed_more : (wanted : Wanted) (commands : List Spelled) (command : Spelled) (old new : Played) → HasObeyed wanted commands old →
+    (call : BarCall) × (call_of command ≡ Some call) × Makes call old new → HasObeyed wanted (commands ++ command ∷ []) new
+obeyed_more wanted commands command old new p (call, called, answer, fine, leads) =
     let next = leads 0 p.next p.holds in
     let at : BarCall → BarCall × ℕ = λ c. (c, 0) in
     let last : timed wanted (p.calls ++ call ∷ []) ≡ timed wanted p.calls ++ (call, 0) ∷ [] = map-append at (on.Align wanted.bottom ∷ p.calls) (call ∷ []) in
     record {
-      some_rows = p.some_rows;
-      commands = p.commands ++ command ∷ [];
-      commands_are = each-push spelled lines line p.commands command p.commands_are is;
       calls = p.calls ++ call ∷ [];
-      calls_are = each-push call_of p.commands command p.calls call p.calls_are called;
+      calls_are = each-push call_of commands command p.calls call p.calls_are called;
       answers = p.answers ++ answer ∷ [];
       done = (let e : is_refused answer ≡ false = fine in let d : list_any is_refused p.answers ≡ false = p.done in any-push is_refused p.answers answer ∙ rw (d, e) refl);
       next = next.0;
@@ -115,6 +114,17 @@ one_more wanted lines line command old new p is (call, called, answer, fine, lea
           (runs-push machine (timed wanted p.calls) p.answers (Some (view_of (empty_memory wanted))) (opening_board None) (known view_of old) p.next (known view_of new) next.0 (call, 0) answer
           p.run next.2);
     }
+
+pub one_more : (wanted : Wanted) (lines : List (List ℕ)) (line : List ℕ) (command : Spelled) (old new : Played) → HasPlayed wanted lines old → spelled line ≡ Some command → Obeys command old new →
+    HasPlayed wanted (lines ++ line ∷ []) new
+one_more wanted lines line command old new p is obeys = record {
+  some_rows = p.some_rows;
+  commands = p.commands ++ command ∷ [];
+  commands_are = each-push spelled lines line p.commands command p.commands_are is;
+  obeyed = λ none.
+      let parts = or_parts (list_any is_size p.commands) (is_size command) (sym (any-push is_size p.commands command) ∙ none) in
+      obeyed_more wanted p.commands command old new (p.obeyed parts.0) (obeys parts.1);
+}
 
 -- ---- plain texts
 
@@ -168,6 +178,7 @@ plain_call : (command : Spelled) (call : BarCall) → call_of command ≡ Some c
 plain_call (Add text) call e h = let q : on.Insert on.End (on.New (bar_saying text)) ≡ call = cc in subst IsPlainCall q (saying_plain text h)
 plain_call (Log text) call e h = let q : on.Log text ≡ call = cc in subst IsPlainCall q h
 plain_call (Warn text) call e h = let q : on.Log (bridge_bytes WarnLevel text) ≡ call = cc in subst IsPlainCall q h
+plain_call (Size rows columns) call e h = absurd (cc)
 plain_call Clear call e h = let q : on.Clear ≡ call = cc in subst IsPlainCall q tt
 plain_call (OfBar None action) call e h = absurd (cc)
 plain_call (OfBar (Some zero) action) call e h = absurd (cc)
@@ -216,9 +227,9 @@ some_term (Some term) v e = (term, refl)
 abbrev pub NewShows : Type 0
 NewShows = (rows columns : ℕ) → 0 < rows → Shows columns rows (blank_screen rows columns) opening_lists (blank_terminal rows columns)
 
-stands : (wanted : Wanted) (input : List ℕ) (b : Played) (term : MemoryTerm) (texts : List (List ℕ)) → NewShows → HasPlayed wanted (lines_of input) b → terminal_of b ≡ Some term →
-    texts ≡ picture_text term.terminal.screen → Stands wanted input texts
-stands wanted input b term texts shows p at read =
+stands : (wanted : Wanted) (commands : List Spelled) (b : Played) (term : MemoryTerm) (texts : List (List ℕ)) → NewShows → 0 < wanted.rows → HasObeyed wanted commands b → terminal_of b ≡ Some term →
+    texts ≡ picture_text term.terminal.screen → StandsPlayed wanted commands texts
+stands wanted commands b term texts shows some p at read =
     let v = view_of (empty_memory wanted) in
     let start = opening_board None in
     let calls = timed wanted p.calls in
@@ -227,16 +238,14 @@ stands wanted input b term texts shows p at read =
     let once : played wanted p.calls ≡ (p.answers, p.next) =
     one_outcome machine calls p.answers (Some v) start new p.next p.run (All-from_recursion (λ answer. is_undisturbed (machine.tells answer) ≡ true) p.answers answered.0) in
     record {
-      commands = p.commands;
-      commands_are = p.commands_are;
       calls = p.calls;
       calls_are = p.calls_are;
       done = ap (λ o. list_any is_refused o.0) once ∙ p.done;
       shown = λ all.
           let plain = board_runs_are_plain writes_nothing no_trackers 0 calls p.answers (Some v) start new p.next p.run (All-from_recursion IsPlainMember [] tt)
-          (All-from_recursion (λ c. IsPlainCall c.0) calls (tt, plain_calls p.commands p.calls p.calls_are (recursion_from_All IsPlain p.commands all))) in
+          (All-from_recursion (λ c. IsPlainCall c.0) calls (tt, plain_calls commands p.calls p.calls_are (recursion_from_All IsPlain commands all))) in
           let r = board_read_after (board_bars writes_nothing) 0 calls p.answers v start new p.next refl p.run answered.1 plain (blank_screen wanted.rows wanted.columns)
-          (blank_terminal wanted.rows wanted.columns, refl, shows wanted.rows wanted.columns p.some_rows) in
+          (blank_terminal wanted.rows wanted.columns, refl, shows wanted.rows wanted.columns some) in
           let t = told_state term r.0 r.2.0 (ap (option_map view_of) (sym at) ∙ r.1) r.2.1 in (
             r.2.2,
             read ∙ ap (λ u. picture_text u.screen) t ∙ r.2.3 ∙ ap (λ s. map row_text (all_rows wanted.columns s.lists) ++ replicate r.2.2 []) (sym (ap (λ o. o.1) once)),
@@ -294,10 +303,15 @@ pub stands_read : (wanted : Wanted) (o left : Option (List ℕ)) (b : Played) (t
     IfSome (terminal_of b) (λ term. texts ≡ picture_text term.terminal.screen) → IfSome o (λ bytes. Stands wanted bytes texts)
 stands_read wanted o left b texts shows same played read = elim o as (λ y. IfSome y (λ bytes. HasPlayed wanted (lines_of bytes) b) → IfSome y (λ bytes. Stands wanted bytes texts)) [
   | None ↦ λ p. tt
-  | Some bytes ↦ λ p.
-      let shown = stays_shown (timed wanted p.calls) p.answers (view_of (empty_memory wanted)) (opening_board None) (known view_of b) p.next p.run in
-      let there = some_term (terminal_of b) shown.0 shown.1 in
-      stands wanted bytes b there.0 texts shows p there.1 (subst (λ t. IfSome t (λ term. texts ≡ picture_text term.terminal.screen)) there.1 read)
+  | Some bytes ↦ λ p. record {
+      commands = p.commands;
+      commands_are = p.commands_are;
+      played_them = λ none.
+          let o = p.obeyed none in
+          let shown = stays_shown (timed wanted o.calls) o.answers (view_of (empty_memory wanted)) (opening_board None) (known view_of b) o.next o.run in
+          let there = some_term (terminal_of b) shown.0 shown.1 in
+          stands wanted p.commands b there.0 texts shows p.some_rows o there.1 (subst (λ t. IfSome t (λ term. texts ≡ picture_text term.terminal.screen)) there.1 read);
+    }
 ] (subst (λ y. IfSome y (λ bytes. HasPlayed wanted (lines_of bytes) b)) same played)
 
 -- what stands is printed
@@ -310,12 +324,16 @@ prints words o wanted texts old new asked stood appended = elim o as (λ y. IfSo
       wanted_is = asked;
       commands = p.commands;
       commands_are = p.commands_are;
-      calls = p.calls;
-      calls_are = p.calls_are;
-      done = p.done;
-      shown = λ all.
-          let t = p.shown all in
-          subst (Appends old new) (ap printed t.1 ∙ ap ended (none_behind (map row_text (rows_after wanted p.calls)) t.0)) appended;
+      played_them = λ none.
+          let q = p.played_them none in
+          record {
+            calls = q.calls;
+            calls_are = q.calls_are;
+            done = q.done;
+            shown = λ all.
+                let t = q.shown all in
+                subst (Appends old new) (ap printed t.1 ∙ ap ended (none_behind (map row_text (rows_after wanted q.calls)) t.0)) appended;
+          };
     }
 ] stood
 

@@ -1,8 +1,8 @@
 -- What a line of the input spells. Texts are lists of bytes.
-use Rattle.std.specs.Prelude.{ℕ, ◌^◌, Bool, ◌==◌, nat_lt, List, [], ◌∷◌, ◌++◌, Option, Some, None, if◌then◌else◌, codes, bytes_eq}
+use Rattle.std.specs.Prelude.{ℕ, ◌^◌, Bool, true, false, ◌==◌, nat_lt, List, [], ◌∷◌, ◌++◌, Option, Some, None, option_map, if◌then◌else◌, codes, bytes_eq}
 use Rattle.std.specs.List.{before_first, after_first}
 use Rattle.std.specs.Str.{is_utf8}
-use Rattle.bars_run.specs.Arguments.{is_number, number_of}
+use Rattle.bars_run.specs.Arguments.{is_number, number_of, sizes_of}
 use Rattle.bars_run.specs.declared.commands.BarAction.{BarAction}
 use Rattle.bars_run.specs.declared.commands.BarAction.TheVariants as told
 use Rattle.bars_run.specs.declared.commands.Command.{Command}
@@ -27,6 +27,8 @@ pub data Spelled : Type 0 where
   Log : (text : List ℕ) → Spelled
   Warn : (text : List ℕ) → Spelled
   Clear : Spelled
+  -- another size of the terminal
+  Size : (rows columns : ℕ) → Spelled
   OfBar : (number : Option ℕ) → (action : Action) → Spelled
 
 -- ---- lines
@@ -71,12 +73,17 @@ abbrev pub on_bar : List ℕ → Option Action → Option Spelled
 on_bar digits None = None
 on_bar digits (Some action) = if is_number digits then Some (OfBar (bar_number digits) action) else None
 
+-- another size
+abbrev pub sizing : ℕ × ℕ → Spelled
+sizing size = Size size.0 size.1
+
 -- what a word asks for, with the text behind it
 abbrev pub worded : List ℕ → List ℕ → Option Spelled
 worded word rest =
     if bytes_eq word (codes "add") then Some (Add rest)
     else if bytes_eq word (codes "log") then Some (Log rest)
     else if bytes_eq word (codes "warn") then Some (Warn rest)
+    else if bytes_eq word (codes "size") then option_map sizing (sizes_of (word_of rest) (rest_of rest))
     else if bytes_eq word (codes "msg") then on_bar (word_of rest) (Some (Message (rest_of rest)))
     else on_bar rest (action_named word)
 
@@ -96,6 +103,11 @@ and_then _ _ = None
 abbrev pub each : {X Y : Type 0} → (X → Option Y) → List X → Option (List Y)
 each f [] = Some []
 each f (x ∷ xs) = and_then (f x) (each f xs)
+
+-- whether it asks for another size of the terminal
+abbrev pub is_size : Spelled → Bool
+is_size (Size rows columns) = true
+is_size _ = false
 
 -- what all of these lines spell
 abbrev pub all_spelled : List (List ℕ) → Option (List Spelled)
@@ -118,4 +130,5 @@ command_of (given.Add text) = Add text.now
 command_of (given.Log text) = Log text.now
 command_of (given.Warn text) = Warn text.now
 command_of given.Clear = Clear
+command_of (given.Size size) = Size size.rows size.columns
 command_of (given.Bar number action) = OfBar number (action_of action)

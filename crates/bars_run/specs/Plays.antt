@@ -21,7 +21,7 @@ use Rattle.indicatif_board.specs.Boards.{BoardState, Id, End, New, Call, Answer,
 use Rattle.indicatif_board.specs.BoardBars.{board_bars}
 use Rattle.indicatif_board.specs.Bridge.{bridge_bytes}
 use Rattle.bars_run.specs.Arguments.{Wanted}
-use Rattle.bars_run.specs.Commands.{Action, Message, Tick, Finish, Hide, Abandon, Drop, Remove, Spelled, Add, Log, Warn, Clear, OfBar, each}
+use Rattle.bars_run.specs.Commands.{Action, Message, Tick, Finish, Hide, Abandon, Drop, Remove, Spelled, Add, Log, Warn, Clear, Size, OfBar, each}
 
 -- ---- calls
 
@@ -52,12 +52,14 @@ call_on id Abandon = on.Tell id (bar.FinishBy AbandonFinish)
 call_on id Drop = on.Drop id
 call_on id Remove = on.Remove id
 
--- the call that a command stands for; none where it names bar 0 or one past 2 ^ 64 - 1, which there never are
+-- the call that a command stands for; none where it names bar 0 or one past 2 ^ 64 - 1, which there never are, or asks for
+-- another size
 abbrev pub call_of : Spelled → Option BarCall
 call_of (Add text) = Some (on.Insert End (New (bar_saying text)))
 call_of (Log text) = Some (on.Log text)
 call_of (Warn text) = Some (on.Log (bridge_bytes WarnLevel text))
 call_of Clear = Some on.Clear
+call_of (Size rows columns) = None
 call_of (OfBar None action) = None
 call_of (OfBar (Some zero) action) = None
 call_of (OfBar (Some (suc number)) action) = Some (call_on (bar_at number) action)
@@ -103,4 +105,5 @@ IsPlain (Add text) = IsPlainWithTabs text
 IsPlain (Log text) = All IsPlainText (logged_lines text)
 IsPlain (Warn text) = All IsPlainText (logged_lines (bridge_bytes WarnLevel text))
 IsPlain Clear = Unit {0}
+IsPlain (Size rows columns) = Unit {0}
 IsPlain (OfBar number action) = IsPlainAction action

@@ -1,16 +1,34 @@
 //! What the arguments of `bars run` ask for.
-ghost use Rattle.std.specs.Prelude.{◌≡◌, map, option_map, string_bytes};
+ghost use Rattle.std.specs.Prelude.{◌≡◌, None, map, option_map, if◌then◌else◌, bytes_eq, codes, string_bytes};
 ghost use Rattle.std.specs.Char.{is_ascii_digit};
 ghost use Rattle.std.specs.List.{list_all};
-ghost use Rattle.bars_run.specs.Arguments.{is_number, size_of as size_spelled, wanted_by, wanted_of, sized as sized_as};
+ghost use Rattle.indicatif_term.specs.Engines.{is_bottom};
+ghost use Rattle.bars_run.specs.Arguments.{is_number, size_of as size_spelled, size_as, sizes_of, wanted_by, wanted_of, wanting};
 
 use indicatif_term::draw_target::MultiProgressAlignment;
+
+/// A terminal's size.
+#[derive(Clone, Copy, Debug, Drop, PartialEq, Eq)]
+pub struct Size {
+    pub rows: u16,
+    pub columns: u16,
+}
+
+impl Size {
+    /// The size of these rows and columns, each one or more decimal digits, and at most 65,535; `None` of other words.
+    pub fn spelt(rows: &str, columns: &str) -> Option<Size>
+        ensures { option_map size_as result ≡ sizes_of rows.now columns.now }
+    {
+        let rows = size_of(rows)?;
+        let columns = size_of(columns)?;
+        Some(Size { rows, columns })
+    }
+}
 
 /// A terminal's size, and where bars stand in what is taken back.
 #[derive(Clone, Copy, Debug, Drop, PartialEq, Eq)]
 pub struct Asked {
-    pub rows: u16,
-    pub columns: u16,
+    pub size: Size,
     pub alignment: MultiProgressAlignment,
 }
 
@@ -38,17 +56,14 @@ fn sized(
     rows: &String,
     columns: &String,
     alignment: MultiProgressAlignment,
-) -> Option<Asked> {
+) -> Option<Asked>
+    ensures { option_map wanted_of result ≡ (if bytes_eq (string_bytes run.now) (codes "run") then option_map (wanting (is_bottom alignment)) (sizes_of (string_bytes rows.now) (string_bytes columns.now)) else None) }
+{
     if run.as_str() != "run" {
         return None;
     }
-    let rows = size_of(rows.as_str())?;
-    let columns = size_of(columns.as_str())?;
-    Some(Asked {
-        rows,
-        columns,
-        alignment,
-    })
+    let size = Size::spelt(rows.as_str(), columns.as_str())?;
+    Some(Asked { size, alignment })
 }
 
 /// The number of at most 65,535 that one or more decimal digits spell.

@@ -1,8 +1,9 @@
 //! What a line spells.
 ghost use Rattle.std.specs.Prelude.{◌≡◌, Some, option_map};
-ghost use Rattle.bars_run.specs.Commands.{command_of, action_of as action_as, spelled, spelled_text, worded, word_of, rest_of, on_bar, action_named};
+ghost use Rattle.bars_run.specs.Commands.{command_of, action_of as action_as, spelled, spelled_text, worded, word_of, rest_of, on_bar, action_named, sizing as sizing_as};
+ghost use Rattle.bars_run.specs.Arguments.{sizes_of};
 
-use crate::arguments::is_digits;
+use crate::arguments::{Size, is_digits};
 use std::str;
 
 /// A command of a line.
@@ -16,6 +17,8 @@ pub enum Command<'a> {
     Warn(&'a str),
     /// The bars' rows taken back.
     Clear,
+    /// Another size of the terminal.
+    Size(Size),
     /// Something done to the bar of a number; `None` where that is past 2^64 - 1, which is no bar's.
     Bar(Option<u64>, BarAction<'a>),
 }
@@ -83,11 +86,23 @@ fn with_rest<'a>(word: &str, rest: &'a str) -> Option<Command<'a>>
         "add" => Some(Command::Add(rest)),
         "log" => Some(Command::Log(rest)),
         "warn" => Some(Command::Warn(rest)),
+        "size" => sizing(rest),
         "msg" => {
             let (number, text) = parted(rest);
             numbered(number, BarAction::Message(text))
         }
         _ => numbered(rest, action_of(word)?),
+    }
+}
+
+/// Another size of the terminal, which a text spells.
+fn sizing(text: &str) -> Option<Command<'static>>
+    ensures { option_map command_of result ≡ option_map sizing_as (sizes_of (word_of text.now) (rest_of text.now)) }
+{
+    let (rows, columns) = parted(text);
+    match Size::spelt(rows, columns) {
+        Some(size) => Some(Command::Size(size)),
+        None => None,
     }
 }
 

@@ -42,8 +42,9 @@ use std::io::{BufRead, BufReader, ErrorKind, Read, Write};
 /// each ended by a newline.
 ///
 /// The commands are `add TEXT` (a bar that says so), `msg I TEXT`, `tick I`, `finish I`, `abandon I`, `hide I` (finished and
-/// hidden), `drop I`, `remove I`, `log TEXT` and `clear`. Bars are numbered from 1 as they are added. `TEXT` is the rest of the line, behind
-/// one space; it may be empty, and lacks its space then at will. A line ends at a newline, which the last one may lack.
+/// hidden), `drop I`, `remove I`, `log TEXT`, `warn TEXT` (logged as a warning), `clear` and `size ROWS COLS` (another size of the
+/// terminal, its numbers as in the arguments). Bars are numbered from 1 as they are added. `TEXT` is the rest of the line, behind one
+/// space; it may be empty, and lacks its space then at will. A line ends at a newline, which the last one may lack.
 ///
 /// The answer is the program's exit status. It is 0 where all was printed. Else what was wrong stands in `err`, as `Fault` says,
 /// with the status that it has, and the commands behind it aren't played. At status 0 nothing is written to `err`, at status 1

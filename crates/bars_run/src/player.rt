@@ -6,8 +6,8 @@ ghost use Rattle.indicatif_board.specs.Bridge.{bridge_bytes};
 ghost use Rattle.indicatif_board.specs.Calls.{call_of as call_as};
 ghost use Rattle.indicatif_board.specs.Multi.{terminal_of};
 ghost use Rattle.bars_run.specs.Arguments.{wanted_of};
-ghost use Rattle.bars_run.specs.Commands.{command_of, action_of};
-ghost use Rattle.bars_run.specs.Plays.{bar_at, bar_saying as saying, call_of as call_spelled, call_on};
+ghost use Rattle.bars_run.specs.Commands.{Add, Log, Warn, OfBar, command_of, action_of};
+ghost use Rattle.bars_run.specs.Plays.{bar_at, bar_saying as saying, call_on};
 ghost use Rattle.bars_run.specs.Inside.Players.{Obeys, Makes, HasPlayed};
 
 use crate::arguments::Asked;
@@ -44,7 +44,7 @@ impl Player {
     pub fn new(alloc: Global, asked: Asked) -> Result<Player, Refusal>
         ensures { IfOk result (λ player. HasPlayed (wanted_of asked) [] player.board) }
     {
-        let term = InMemoryTerm::new(alloc, asked.rows, asked.columns)?;
+        let term = InMemoryTerm::new(alloc, asked.size.rows, asked.size.columns)?;
         let board = Board::new(alloc, ProgressDrawTarget::term_like(term), MARK);
         let mut player = Player {
             alloc,
@@ -61,8 +61,14 @@ impl Player {
     pub fn obey(&mut self, command: Command<'_>) -> Result<(), Refusal>
         ensures { OnOk result (Obeys (command_of command.entry) self.old.board self.new.board) }
     {
-        let call = self.call_of(command)?;
-        self.make(call)
+        match command {
+            Command::Size(size) => self.board.resize(size.rows, size.columns),
+            Command::Add(text) => self.add(text),
+            Command::Log(text) => self.log(text),
+            Command::Warn(text) => self.warn(text),
+            Command::Clear => self.make(Call::Clear),
+            Command::Bar(number, action) => self.tell(number, action),
+        }
     }
 
     /// The rows that scrolled away, then those of the window, each without the blanks at its end.
@@ -89,23 +95,40 @@ impl Player {
         }
     }
 
-    /// The board's call for a command.
-    fn call_of(&self, command: Command<'_>) -> Result<Call<NoTracker>, Refusal>
-        ensures { IfOk result (λ call. call_spelled (command_of command.entry) ≡ Some (call_as call)) }
+    /// A bar that says this.
+    fn add(&mut self, text: &str) -> Result<(), Refusal>
+        ensures { OnOk result (Obeys (Add text.now) self.old.board self.new.board) }
     {
-        match command {
-            Command::Add(text) => {
-                let bar = bar_saying(self.alloc, text)?;
-                Ok(Call::Insert {
-                    at: InsertLocation::End,
-                    candidate: Candidate::New(bar),
-                })
-            }
-            Command::Log(text) => Ok(Call::Log(String::from_str(self.alloc, text)?)),
-            Command::Warn(text) => Ok(Call::Log(warning(self.alloc, text)?)),
-            Command::Clear => Ok(Call::Clear),
-            Command::Bar(number, action) => bar_call(self.alloc, self.id_of(number)?, action),
-        }
+        let bar = bar_saying(self.alloc, text)?;
+        self.make(Call::Insert {
+            at: InsertLocation::End,
+            candidate: Candidate::New(bar),
+        })
+    }
+
+    /// This text above the bars.
+    fn log(&mut self, text: &str) -> Result<(), Refusal>
+        ensures { OnOk result (Obeys (Log text.now) self.old.board self.new.board) }
+    {
+        let line = String::from_str(self.alloc, text)?;
+        self.make(Call::Log(line))
+    }
+
+    /// The same as a warning.
+    fn warn(&mut self, text: &str) -> Result<(), Refusal>
+        ensures { OnOk result (Obeys (Warn text.now) self.old.board self.new.board) }
+    {
+        let line = warning(self.alloc, text)?;
+        self.make(Call::Log(line))
+    }
+
+    /// An action on the bar of a number.
+    fn tell(&mut self, number: Option<u64>, action: BarAction<'_>) -> Result<(), Refusal>
+        ensures { OnOk result (Obeys (OfBar number (action_of action.entry)) self.old.board self.new.board) }
+    {
+        let id = self.id_of(number)?;
+        let call = bar_call(self.alloc, id, action)?;
+        self.make(call)
     }
 
     /// The bar of this number, counted from 1.

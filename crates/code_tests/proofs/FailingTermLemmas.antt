@@ -1,59 +1,64 @@
 -- That a terminal in memory of which one call fails keeps the promises of `TermLike`.
-use Rattle.std.proofs.Common.{◌≡◌, ℕ, ◌+◌, ◌%◌, ◌^◌, List, [], Result, Ok, Err, refl, sym, ap, subst, if◌then◌else◌}
-use Rattle.std.specs.Prelude.{IsErr}
+use Rattle.std.proofs.Common.{◌≡◌, ℕ, ◌+◌, ◌%◌, ◌^◌, List, [], Result, Ok, Err, refl, sym, ◌∙◌, ap, subst, if◌then◌else◌}
+use Rattle.std.specs.Prelude.{IsErrAnd, MatchResult}
 use Rattle.std.specs.Result.{is_err}
+use Rattle.std.specs.IoError.{error_kind}
+use Rattle.std.specs.declared.io.Error.{Error}
+use Rattle.std.specs.declared.io.ErrorKind.{ErrorKind}
 use Rattle.indicatif_term.specs.Terminal.{Terminal, after}
 use Rattle.indicatif_term.specs.Calls.{TermView, State, Writes}
 use Rattle.indicatif_term.specs.Memory.{MemoryTerm, view_of}
 
--- what it is seen as, with this count of faults
-abbrev seen : MemoryTerm → ℕ → TermView
-seen m faults = record (view_of m) { faults = faults }
+-- what it is seen as, with this count of faults, of which the last was of this kind
+abbrev seen : MemoryTerm → ℕ → ErrorKind → TermView
+seen m faults kind = record (view_of m) { faults = faults; kind = kind }
 
 -- the count after a call
-abbrev counted : {E : Type 0} → Result Unit E → ℕ → ℕ
+abbrev counted : Result Unit Error → ℕ → ℕ
 counted r faults = if is_err r then (faults + 1) % 2 ^ 64 else faults
+
+-- the kind after a call
+abbrev Remembers : Result Unit Error → ErrorKind → ErrorKind → Type 0
+Remembers r kind kind' = MatchResult r (λ _. kind' ≡ kind) (λ e. kind' ≡ error_kind e)
 
 none_read : (t : Terminal) → t ≡ after t []
 unfolding after
 none_read t = refl
 
-fails_unread : {E : Type 0} (bytes : List ℕ) (m : MemoryTerm) (faults : ℕ) (r : Result Unit E) → IsErr r → Writes bytes (seen m faults) (seen m ((faults + 1) % 2 ^ 64)) r
-fails_unread bytes m faults (Ok u) h = cc
-fails_unread bytes m faults (Err e) h = record {
+-- the call that fails: the terminal stays, and one fault more
+pub denied : (bytes : List ℕ) (m m' : MemoryTerm) (faults faults' : ℕ) (kind kind' : ErrorKind) (e : Error) (r : Result Unit Error) → IsErrAnd r (λ x. x ≡ e) → m' ≡ m →
+    faults' ≡ (faults + 1) % 2 ^ 64 → kind' ≡ error_kind e → Writes bytes (seen m faults kind) (seen m' faults' kind') r
+denied bytes m m' faults faults' kind kind' e (Ok u) h same f k = absurd h
+denied bytes m m' faults faults' kind kind' e (Err x) h same f k = record {
   front = [];
   rest = bytes;
   whole = refl;
-  told_is = λ _. ap State (none_read m.terminal);
-  columns_are = refl;
-  rows_are = refl;
-  faults_are = refl;
+  told_is = λ _. ap State (ap (λ t. t.terminal) same ∙ none_read m.terminal);
+  columns_are = ap (λ t. t.terminal.screen.columns) same;
+  rows_are = ap (λ t. t.terminal.screen.height) same;
+  faults_are = f;
+  kind_is = k ∙ ap error_kind (sym h);
 }
 
-passes_on : {E : Type 0} (bytes : List ℕ) (m m' : MemoryTerm) (faults : ℕ) (r : Result Unit E) → Writes bytes (view_of m) (view_of m') r → Writes bytes (seen m faults) (seen m' (counted r faults)) r
-passes_on bytes m m' faults (Ok u) w = record { told_is = w.told_is; columns_are = w.columns_are; rows_are = w.rows_are; faults_are = refl }
-passes_on bytes m m' faults (Err e) w = record {
+passes_on : (bytes : List ℕ) (m m' : MemoryTerm) (faults faults' : ℕ) (kind kind' : ErrorKind) (r : Result Unit Error) → Writes bytes (view_of m) (view_of m') r → faults' ≡ counted r faults →
+    Remembers r kind kind' → Writes bytes (seen m faults kind) (seen m' faults' kind') r
+passes_on bytes m m' faults faults' kind kind' (Ok u) w f k = record { told_is = w.told_is; columns_are = w.columns_are; rows_are = w.rows_are; faults_are = f; kind_is = k }
+passes_on bytes m m' faults faults' kind kind' (Err e) w f k = record {
   front = w.front;
   rest = w.rest;
   whole = w.whole;
   told_is = w.told_is;
   columns_are = w.columns_are;
   rows_are = w.rows_are;
-  faults_are = refl;
+  faults_are = f;
+  kind_is = k;
 }
 
--- the call that fails: the terminal stays, and one fault more
-pub denied : {E : Type 0} (bytes : List ℕ) (m m' : MemoryTerm) (faults faults' : ℕ) (r : Result Unit E) → IsErr r → m' ≡ m → faults' ≡ (faults + 1) % 2 ^ 64 →
-    Writes bytes (seen m faults) (seen m' faults') r
-denied bytes m m' faults faults' r h e f =
-    subst (λ x. Writes bytes (seen m faults) (seen x faults') r) (sym e) (subst (λ x. Writes bytes (seen m faults) (seen m x) r) (sym f) (fails_unread bytes m faults r h))
-
 -- any other call: first admitted, then made, then counted
-pub passed : {E : Type 0} (bytes : List ℕ) (m admitted made last : MemoryTerm) (faults faults1 faults2 : ℕ) (r r' : Result Unit E) → admitted ≡ m → faults1 ≡ faults →
-    Writes bytes (view_of admitted) (view_of made) r → r' ≡ r → last ≡ made → faults2 ≡ counted r faults1 → Writes bytes (seen m faults) (seen last faults2) r'
-passed bytes m admitted made last faults faults1 faults2 r r' e f w same g h =
-    subst (λ x. Writes bytes (seen x faults) (seen last faults2) r') e
-    (subst (λ x. Writes bytes (seen admitted x) (seen last faults2) r') f
-    (subst (λ x. Writes bytes (seen admitted faults1) (seen x faults2) r') (sym g)
-    (subst (λ x. Writes bytes (seen admitted faults1) (seen made x) r') (sym h)
-    (subst (λ x. Writes bytes (seen admitted faults1) (seen made (counted r faults1)) x) (sym same) (passes_on bytes admitted made faults1 r w)))))
+pub passed : (bytes : List ℕ) (m admitted made last : MemoryTerm) (faults faults1 faults2 : ℕ) (kind kind1 kind2 : ErrorKind) (r r' : Result Unit Error) →
+    admitted ≡ m → faults1 ≡ faults → kind1 ≡ kind → Writes bytes (view_of admitted) (view_of made) r → r' ≡ r → last ≡ made → faults2 ≡ counted r faults1 → Remembers r kind1 kind2 → Writes bytes (seen m faults kind) (seen last faults2 kind2) r'
+passed bytes m admitted made last faults faults1 faults2 kind kind1 kind2 r r' e f k w same g h j =
+    subst (λ x. Writes bytes (seen x faults kind) (seen last faults2 kind2) r') e
+    (subst (λ x. Writes bytes (seen admitted faults kind) (seen x faults2 kind2) r') (sym g)
+    (subst (λ x. Writes bytes (seen admitted faults kind) (seen made faults2 kind2) x) (sym same)
+    (passes_on bytes admitted made faults faults2 kind kind2 r w (h ∙ ap (counted r) f) (subst (λ y. Remembers r y kind2) k j))))

@@ -1,6 +1,7 @@
 //! A terminal in memory of which one call fails.
-ghost use Rattle.std.specs.Prelude.{◌≡◌, ◌+◌, ◌%◌, ◌^◌, if◌then◌else◌};
+ghost use Rattle.std.specs.Prelude.{◌≡◌, ◌+◌, ◌%◌, ◌^◌, if◌then◌else◌, MatchResult};
 ghost use Rattle.std.specs.Result.{is_err};
+ghost use Rattle.std.specs.IoError.{error_kind};
 ghost use Rattle.indicatif_term.specs.Memory.{view_of};
 
 use indicatif_term::in_memory::InMemoryTerm;
@@ -16,6 +17,7 @@ pub struct FailsOnce {
     failing: u64,
     calls: u64,
     faults: u64,
+    kind: ErrorKind,
 }
 
 impl FailsOnce {
@@ -27,6 +29,7 @@ impl FailsOnce {
             failing,
             calls: 0,
             faults,
+            kind: ErrorKind::OutOfMemory,
         }
     }
 
@@ -44,6 +47,7 @@ impl FailsOnce {
     fn admit(&mut self) -> io::Result<()>
         ensures inner { self.new.inner ≡ self.old.inner }
         ensures counts { self.new.faults ≡ (if is_err result then (self.old.faults + 1) % 2 ^ 64 else self.old.faults) }
+        ensures kind { MatchResult result (λ _. self.new.kind ≡ self.old.kind) (λ e. self.new.kind ≡ error_kind e) }
     {
         self.calls = self.calls.saturating_add(1);
         let done = if self.calls == self.failing {
@@ -59,16 +63,18 @@ impl FailsOnce {
         ensures same { result ≡ done }
         ensures inner { self.new.inner ≡ self.old.inner }
         ensures counts { self.new.faults ≡ (if is_err done then (self.old.faults + 1) % 2 ^ 64 else self.old.faults) }
+        ensures kind { MatchResult done (λ _. self.new.kind ≡ self.old.kind) (λ e. self.new.kind ≡ error_kind e) }
     {
-        if done.is_err() {
+        if let Err(e) = &done {
             self.faults = self.faults.wrapping_add(1);
+            self.kind = e.kind();
         }
         done
     }
 }
 
 impl TermLike for FailsOnce {
-    ghost view = { λ t. record (view_of t.inner) { faults = t.faults } };
+    ghost view = { λ t. record (view_of t.inner) { faults = t.faults; kind = t.kind } };
 
     fn width(&self) -> u16 {
         self.inner.width()

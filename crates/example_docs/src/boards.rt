@@ -15,6 +15,7 @@ type Bars = Board<NoTracker, InMemoryTerm>;
 
 pub fn main(rt: &HostRuntime) -> Result<()> {
     print_text(rt, "Board", logged(rt.alloc()))?;
+    print_text(rt, "resize", resized(rt.alloc()))?;
     on_board(rt)?;
     copies(rt)?;
     print_text(rt, "emit", emitted(rt.alloc()))?;
@@ -64,6 +65,15 @@ fn text_of(board: &Bars) -> Result<String, Refusal> {
         Some(term) => term.contents(),
         None => Err(Refusal::NotMember),
     }
+}
+
+/// A text above a board's bars, on fewer columns.
+fn resized(alloc: Global) -> Result<String, Refusal> {
+    let now = 0;
+    let mut board = board_of(alloc)?;
+    board.println("hello", now)?;
+    board.resize(4, 3)?; // it stands on two rows from now on: `hel`, `lo`
+    text_of(&board)
 }
 
 fn logged(alloc: Global) -> Result<String, Refusal> {

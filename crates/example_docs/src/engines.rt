@@ -8,6 +8,7 @@ use std::alloc::Global;
 
 pub fn main(rt: &HostRuntime) -> Result<()> {
     drawn(rt)?;
+    resized(rt)?;
     aligned(rt)?;
     opened(rt)?;
     limited(rt)
@@ -42,6 +43,16 @@ fn drawn(rt: &HostRuntime) -> Result<()> {
     engine.log("done", &frame, MultiProgressAlignment::Top)?;
     println!(rt; "Engine {:?}", engine.term().contents()?.as_str())?;
     println!(rt; "Keep {}", matches!(engine.keep(1), Keep::Passed))?;
+    Ok(())
+}
+
+fn resized(rt: &HostRuntime) -> Result<()> {
+    let alloc = rt.alloc();
+    let frame = frame_of(alloc)?;
+    let mut engine = Engine::new(alloc, InMemoryTerm::new(alloc, 4, 10)?);
+    engine.draw(&frame, 0, MultiProgressAlignment::Top)?;
+    engine.resize(4, 5)?;
+    println!(rt; "Engine::resize {:?}", engine.term().contents()?.as_str())?;
     Ok(())
 }
 

@@ -38,7 +38,8 @@ fn on_terminal(rt: &HostRuntime) -> Result<()> {
     print_shown(rt, "with_style", bar)?;
     print_drawn(rt, "Tracks", step(bar, 6_000_000_000))?;
     println!(rt; "LoneCall {}", run_three(rt.alloc(), bar)?)?;
-    print_shown(rt, "LoneCall", bar)
+    print_shown(rt, "LoneCall", bar)?;
+    print_shown(rt, "resize", &*resized(rt.alloc())?)
 }
 
 /// Prints what became of a draw.
@@ -58,6 +59,20 @@ fn print_shown(rt: &HostRuntime, name: &str, bar: &Bar) -> Result<()> {
 fn bar_on(alloc: Global, target: ProgressDrawTarget<InMemoryTerm>) -> Result<Box<Bar>, Refusal> {
     let bar = BarState::new(alloc, Some(10), 0)?;
     Ok(Box::new(alloc, LoneBar::new(bar, target))?)
+}
+
+/// A bar that shows a text of 13 columns, drawn on 10 of them, then on 5 and on 20.
+fn resized(alloc: Global) -> Result<Box<Bar>, Refusal> {
+    let now = 0;
+    let style = ProgressStyle::with_template(alloc, "progress bars")?;
+    let target = ProgressDrawTarget::term_like(InMemoryTerm::new(alloc, 4, 10)?);
+    let bar = BarState::styled(alloc, style, None, now)?;
+    let mut bar = Box::new(alloc, LoneBar::new(bar, target))?;
+    bar.tick(now)?;
+    bar.resize(4, 5)?; // `progress bars` stands on three rows: `progr`, `ess b`, `ars`
+    bar.resize(4, 20)?; // and still does
+    bar.tick(now)?; // stands on one row again
+    Ok(bar)
 }
 
 /// Whether a hidden bar says so.

@@ -1,28 +1,28 @@
 //! Shows the programs of the guide at the head of crate `indicatif`: a first bar, templates and keys of one's own, a board, a wrapper,
 //! and what goes wrong beside what goes right. Each prints what stands on a terminal in memory in the end.
-use crate::key::Left;
+use crate::guide_key;
 use anyhow::{Result, anyhow};
 use indicatif::style::Tracks;
 use indicatif::{
-    FnTracker, InMemoryTerm, MultiProgress, NoTracker, ProgressBar, ProgressDrawTarget,
-    ProgressFinish, ProgressStyle, Setup, StepClock,
+    InMemoryTerm, MultiProgress, NoTracker, ProgressBar, ProgressDrawTarget, ProgressFinish,
+    ProgressStyle, Setup, StepClock,
 };
 use std::alloc::Global;
 use std::sync::Wait;
 
-type Bar<R, K = NoTracker> = ProgressBar<InMemoryTerm, StepClock, R, K>;
+pub type Bar<R, K = NoTracker> = ProgressBar<InMemoryTerm, StepClock, R, K>;
 
 type Several<R> = MultiProgress<InMemoryTerm, StepClock, R>;
 
 /// A terminal in memory of 5 rows and 30 columns, and a clock.
-fn setup(alloc: Global) -> Result<Setup<InMemoryTerm, StepClock>> {
+pub fn setup(alloc: Global) -> Result<Setup<InMemoryTerm, StepClock>> {
     let target = ProgressDrawTarget::term_like(InMemoryTerm::new(alloc, 5, 30)?);
     let clock = StepClock { next: 0, step: 1 };
     Ok(Setup { target, clock })
 }
 
 /// Prints what stands on a bar's terminal.
-fn show<R: Print + Wait + Copy + Drop, K: Tracks>(
+pub fn show<R: Print + Wait + Copy + Drop, K: Tracks>(
     rt: R,
     name: &str,
     bar: &Bar<R, K>,
@@ -57,16 +57,6 @@ fn template<R: AllocGlobal + Print + Wait + Copy + Drop>(rt: R) -> Result<()> {
         .with_message("a.txt")?;
     bar.set_position(75)?;
     show(rt, "a template", &bar)
-}
-
-fn key<R: AllocGlobal + Print + Wait + Copy + Drop>(rt: R) -> Result<()> {
-    let alloc = rt.alloc();
-    let setup = setup(alloc)?;
-    let left = FnTracker::new(alloc, Left { alloc, of: 10 })?;
-    let style = ProgressStyle::with_template(alloc, "{wide_bar} {left} left")?;
-    let bar = ProgressBar::styled(rt, alloc, style.with_key("left", left)?, Some(10), setup)?;
-    bar.set_position(3)?;
-    show(rt, "a key of one's own", &bar)
 }
 
 fn board<R: AllocGlobal + Print + Wait + Copy + Drop>(rt: R) -> Result<()> {
@@ -133,11 +123,13 @@ fn dropped_early<R: AllocGlobal + Print + Wait + Copy + Drop>(rt: R) -> Result<(
 fn finished<R: AllocGlobal + Print + Wait + Copy + Drop>(rt: R) -> Result<()> {
     let setup = setup(rt.alloc())?;
     let board = MultiProgress::new(rt, rt.alloc(), setup, 1)?;
+    let mut bars = Vec::new(rt.alloc());
     for name in ["a.txt", "b.txt"] {
         let bar = board.new_bar(3)?;
         bar.set_position(3)?;
         board.println(name)?;
-        bar.finish()?; // stays, whoever drops it
+        bar.finish()?;
+        bars.push(bar)?; // both bars have an owner to the end
     }
     show_all(rt, "bars that were finished", &board)
 }
@@ -163,7 +155,7 @@ fn run_traps<R: AllocGlobal + Print + Wait + Copy + Drop>(rt: R) -> Result<()> {
 pub fn main<R: AllocGlobal + Print + Wait + Copy + Drop>(rt: R) -> Result<()> {
     first_bar(rt)?;
     template(rt)?;
-    key(rt)?;
+    guide_key::main(rt)?;
     board(rt)?;
     wrapper(rt)?;
     run_traps(rt)

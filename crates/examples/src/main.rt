@@ -3,8 +3,9 @@
 //! - `first`: a first program. `wrapped`: a loop with a bar of its own. `download`: bytes, rate and time left.
 //! - `fine`: a bar of fine characters. `log`: lines above a bar. `refusal`: a call that is refused.
 //! - `formatters`: numbers as texts. `template`: the parts of a template. `terminal`: a bar on standard error.
-//! - `key`: a key of one's own in a template, on standard error.
-//! - `guide`: the programs of the guide at the head of crate `indicatif`.
+//! - `key`: a key of one's own in a template, on standard error. `still`: ten bars there, of which one goes on.
+//! - `reader`: standard input through a reader with a bar.
+//! - `guide`: the programs of the guide at the head of crate `indicatif`. `guide_key`: the one with a key of one's own.
 #![tactic(auto)]
 
 mod download;
@@ -12,15 +13,18 @@ mod fine;
 mod first;
 mod formatters;
 mod guide;
+mod guide_key;
 mod key;
 mod log;
+mod reader;
+mod reader;
 mod refusal;
+mod still;
 mod template;
 mod terminal;
 mod wrapped;
 
 use anyhow::Result;
-use indicatif::machine::{on_stderr, style_on_stderr};
 use std::env;
 
 fn main(rt: HostRuntime) -> Result<()> {
@@ -29,13 +33,19 @@ fn main(rt: HostRuntime) -> Result<()> {
         first::main(rt)?;
         run_others(&rt)?;
         print_name(&rt, "key")?;
-        key::run(rt, on_stderr(&rt)?, style_on_stderr(&rt, key::TEMPLATE)?)?;
+        key::main(rt, &rt)?;
+        print_name(&rt, "still")?;
+        still::main(rt, &rt)?;
+        print_name(&rt, "reader")?;
+        reader::main(rt, &rt)?;
         print_name(&rt, "guide")?;
         return guide::main(rt);
     };
     match name.as_str() {
         "first" => first::main(rt),
-        "key" => key::run(rt, on_stderr(&rt)?, style_on_stderr(&rt, key::TEMPLATE)?),
+        "key" => key::main(rt, &rt),
+        "still" => still::main(rt, &rt),
+        "reader" => reader::main(rt, &rt),
         "guide" => guide::main(rt),
         name => run(&rt, name),
     }
@@ -46,7 +56,7 @@ fn print_name(rt: &HostRuntime, name: &str) -> Result<()> {
     Ok(())
 }
 
-/// Runs all but the first, the key's and the guide's.
+/// Runs those that are lent the runtime.
 fn run_others(rt: &HostRuntime) -> Result<()> {
     for name in [
         "wrapped",

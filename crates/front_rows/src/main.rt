@@ -11,7 +11,8 @@
 //! - `counted`: a bar that counts its moves. `scripted`: a reader, a writer and a stream that do what a row says. `bytes`: steps of
 //!   these where they are wrapped. `polls`: those that are polled.
 //! - `lists`: lists that are wrapped. `loops`: loops with a bar of their own. `places`: the place that moves and seeks show.
-//! - `environment`: what an environment says of a terminal.
+//! - `environment`: what an environment says of a terminal. `on_pane`: a board on a terminal of another size than it was told. `pane`:
+//!   that terminal.
 #![tactic(auto)]
 
 mod bars;
@@ -25,6 +26,8 @@ mod fronts;
 mod history;
 mod lists;
 mod loops;
+mod on_pane;
+mod pane;
 mod places;
 mod playing;
 mod polls;

@@ -6,6 +6,7 @@ use crate::environment;
 use crate::fronts::Fronts;
 use crate::lists::{self, List};
 use crate::loops::Looped;
+use crate::on_pane::OnPane;
 use crate::places::Places;
 use scripts::got::{Bad, Got};
 use std::alloc::Global;
@@ -24,6 +25,7 @@ enum On<R: Wait + Copy + Clone + Drop> {
     List(Box<List>),
     Loop(Box<Looped>),
     Places(Box<Places>),
+    Pane(Box<OnPane>),
 }
 
 /// What is played on, and the machine.
@@ -55,6 +57,7 @@ impl<R: AllocGlobal + RandomSource + Wait + Copy + Clone + Drop> Stage<R> {
             "list" => On::List(lists::begin(self.alloc, rest)?),
             "loop" => On::Loop(Looped::begin(self.alloc, rest)?),
             "places" => On::Places(Places::begin(self.alloc, rest)?),
+            "told" | "trusted" => On::Pane(OnPane::begin(self.alloc, name, rest)?),
             _ => return Ok(None),
         }))
     }
@@ -73,6 +76,7 @@ impl<
             On::List(world) => lists::step(world, step, got),
             On::Loop(world) => world.step(step, got),
             On::Places(world) => world.step(step, got),
+            On::Pane(world) => world.step(step, got),
         }
     }
 }

@@ -36,10 +36,10 @@
 //! `rt` is the runtime that `main` is given, `rt.alloc()` its allocator. The setup is a target and a clock: in a program
 //! `machine::on_stderr(&rt)?`, which is hidden where standard error is no terminal.
 //!
-//! - **When a bar draws.** `new` draws nothing. `inc`, `set_position`, `tick`, `set_length`, `set_message` and `set_prefix` ask a draw; a
-//!   target with a rate makes 20 of these at once, and then one each 50 ms. `finish`, `abandon`, `println`, `suspend` and
-//!   `force_draw` draw whatever the rate says. The builders `with_..` and `set_style` ask no draw.
-//! - **What a call answers.** `Ok(Drawn::Yes)` where it was drawn, `Limited` where no draw was asked or the rate allowed none, `Hidden`
+//! - **When a bar draws.** `new` draws nothing. `inc`, `set_position`, `tick`, `set_length`, `set_message` and `set_prefix` ask for a draw;
+//!   a target with a rate makes 20 of these at once, and then one each 50 ms. `finish`, `abandon`, `println`, `suspend` and
+//!   `force_draw` draw whatever the rate says. The builders `with_..` and `set_style` ask for none.
+//! - **What a call answers.** `Ok(Drawn::Yes)` where it was drawn, `Limited` where it asked for no draw or the rate allowed none, `Hidden`
 //!   where the target is. Else a `Refusal`, with a stated state after it (docs/USING.md has them in a table).
 //! - **How a bar ends.** `finish` leaves it at its length, `abandon` where it stands, `finish_and_clear` takes it away. A bar whose last
 //!   owner is gone is finished by its stored finish (`with_finish`), which is `AndClear` at first.
@@ -99,10 +99,15 @@
 //! ██████░░░░░░░░░░░░░░░░░ 7 left
 //! ```
 //!
-//! What a key says is stated beside it, in `told_text`: a function of the teller, of `p` and of the moment. `p` is the bar's record:
-//! `position`, `len`, `ticks`, `message` and what else it has (docs/DEFINITIONS.md, `Progress`). `decimal` gives a number's digits. A
-//! type that changes when the bar ticks is a `style::ProgressTracker`. `MultiProgress::keyed` makes a board for such bars; a function
-//! over bars of any keys asks for `K: style::Tracks`.
+//! `told_text` states which text `tell` writes, and the prover holds `tell` to it. Where they differ, the crate isn't proved. It is a
+//! function of the teller, of the bar's record `p` and of the moment. `p` has `position`, `len`, `start`, `ticks`, `message`, `prefix`
+//! and more (`crates/indicatif_bar/specs/Progress.antt`). The language of such statements has its operators and functions by `ghost use`,
+//! with `◌` where the operands stand. Its numbers have no end, and its `-` stops at 0, as `saturating_sub` does. `decimal n` is a
+//! number's digits, `codes "left"` a text, and `++` joins two texts: `crates/examples/src/key.rt` says `12 left` so.
+//!
+//! A type that changes when the bar ticks is a `style::ProgressTracker`. All keys of a style are of one type: for several, take an enum.
+//! `MultiProgress::keyed` makes a board for bars with such keys, which come by `new_bar(len)?.with_style(style)?`. A function over bars of
+//! any keys asks for `K: style::Tracks`.
 //!
 //! # Several bars
 //!
@@ -163,7 +168,7 @@
 //! ░░░░░░░░░░░░░░░░░░░░░░░░ a.txt
 //! ```
 //!
-//! **A draw that wasn't meant.** What is set before the bar is to be seen belongs into builders. Bad, where other work comes first:
+//! **A draw that wasn't meant.** Set by builders what you set before the bar is to be seen. Bad, where other work comes first:
 //!
 //! ```
 //! let spinner = ProgressBar::new_spinner(rt, rt.alloc(), setup)?;
@@ -195,19 +200,28 @@
 //! b.txt
 //! ```
 //!
-//! Better: finish it, or keep an owner as long as the bar is to be seen.
+//! A bar that was finished stays without an owner, but only until the next text is logged: that takes its row away. Better: keep the
+//! owners as long as the bars are to be seen.
 //!
 //! ```
-//!     bar.finish()?; // stays, whoever drops it
+//! let mut bars = Vec::new(rt.alloc());
+//! for name in ["a.txt", "b.txt"] {
+//!     let bar = board.new_bar(3)?;
+//!     bar.set_position(3)?;
+//!     board.println(name)?;
+//!     bar.finish()?;
+//!     bars.push(bar)?; // both bars have an owner to the end
+//! }
 //! ```
 //!
 //! ```text
 //! a.txt
 //! b.txt
 //! ██████████████████████████ 3/3
+//! ██████████████████████████ 3/3
 //! ```
 //!
-//! **Printing beside a bar.** `println!` writes where the last draw left the cursor, and the next draw erases rows that it takes for
+//! **Printing beside a bar.** `println!(rt; ..)` writes where the last draw left the cursor, and the next draw erases rows that it takes for
 //! its own. Better:
 //!
 //! ```

@@ -1,5 +1,5 @@
 //! What may stand for the progress of something else.
-ghost use Rattle.std.specs.Prelude.{◌≡◌, Option, None, IfSome, Result, ⊤};
+ghost use Rattle.std.specs.Prelude.{◌≡◌, Option, None, IfSome, Result, false, ⊤};
 ghost use Rattle.indicatif.specs.Moves.{Standing, Move, Advance, PlaceAt, FinishAsStored, Goes, PlacedAfter};
 ghost use Rattle.indicatif_text.specs.declared.refusal.Drawn.{Drawn};
 ghost use Rattle.indicatif_text.specs.declared.refusal.Refusal.{Refusal};
@@ -50,8 +50,11 @@ pub trait Moves: Drop {
         ensures goes { Goes (stands self.old) FinishAsStored result (stands self.new) };
 
     /// Whether threads that work on a list (`map_collect`, `for_each`) may move it within a block, by smaller steps; how many these are
-    /// is told nobody, since it depends on how the threads go on. Where they may not, it moves behind each block alone.
-    fn stops_within_blocks(&self) -> bool {
+    /// is told nobody, since it depends on how the threads go on. Where they may not, it moves behind each block alone. A bar that tells
+    /// where it stands doesn't let them: so its moves are as many as its list has blocks.
+    fn stops_within_blocks(&self) -> bool
+        ensures { IfSome (stands self.now) (λ _. result ≡ false) }
+    {
         false
     }
 

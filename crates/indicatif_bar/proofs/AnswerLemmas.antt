@@ -3,6 +3,7 @@ use Rattle.std.proofs.Common.{◌≡◌, ℕ, ◌+◌, ◌%◌, ◌^◌, List, B
 use Rattle.std.specs.Prelude.{◌↔◌, ◌==◌, not}
 use Rattle.std.proofs.lemmas.Bool.{cond_both, false≢true, eqb-true, eq-eqb}
 use Rattle.std.proofs.Math.Bool.{or-true}
+use Rattle.std.specs.declared.io.ErrorKind.{ErrorKind}
 use Rattle.indicatif_text.specs.declared.refusal.Refusal.{Refusal}
 use Rattle.indicatif_text.specs.declared.refusal.Refusal.TheVariants.{NoColumns, TooWide, Memory, Terminal as Failure}
 use Rattle.indicatif_text.specs.declared.refusal.Drawn.{Drawn}
@@ -10,7 +11,7 @@ use Rattle.indicatif_text.specs.declared.refusal.Drawn.TheVariants.{Yes, Limited
 use Rattle.indicatif_term.specs.Calls.{TermView}
 use Rattle.indicatif_term.specs.Lists.{Lists}
 use Rattle.indicatif_term.specs.Frames.{some_wide}
-use Rattle.indicatif_term.specs.Engines.{is_failure}
+use Rattle.indicatif_term.specs.Engines.{is_failure, failure_kind}
 use Rattle.indicatif_bar.specs.Machines.{Target, target_of, Machine, Draw, Deed, AtOnce, Draws, Leads, is_no, comes_to_lines, drawn_by}
 use Rattle.indicatif_bar.specs.Shown.{WritesLinesOn}
 use Rattle.indicatif_bar.specs.Runs.{wrote, deed_on, lines_by}
@@ -181,6 +182,12 @@ module _ (lines : List (List ℕ)) (l l' : Lists) (answer : Result Drawn Refusal
       faults_tell v.faults v'.faults (is_failure answer)
       (ap (λ y. y.faults) (sym after) ∙ w.2.counted.faults_are ∙ ap (λ y. if is_failure answer then ((y.faults + 1) % 2 ^ 64) else y.faults) before)
 
+  kind_said : (old new : Option TermView) → WritesLinesOn old new lines l l' answer → (k : ErrorKind) (v' : TermView) → answer ≡ Err (Failure k) → new ≡ Some v' → v'.kind ≡ k
+  kind_said None new w k v' e f = absurd (let q : None ≡ Some v' = sym w ∙ f in cc)
+  kind_said (Some x) new w k v' e f =
+      let after : w.0 ≡ v' = same_view w.0 v' (sym w.1 ∙ f) in
+      ap (λ y. y.kind) (sym after) ∙ w.2.counted.kind_is ∙ ap (λ a. if is_failure a then failure_kind a else x.kind) e
+
   silence_said : (old new : Option TermView) → WritesLinesOn old new lines l l' answer → wrote answer ≡ false → new ≡ old
   silence_said None new w quiet = w
   silence_said (Some x) new w quiet = w.1 ∙ ap Some (w.2.silent quiet)
@@ -192,5 +199,6 @@ each_says m old new call s answer next made =
       decided = call_decided m (target_of old) s answer next deed made.leads;
       memory = short_takes m (target_of old) s answer next deed made.leads;
       failed = fault_said (lines_by deed) (m.lists s) (m.lists next) (m.tells answer) old new made.writes;
+      kind = kind_said (lines_by deed) (m.lists s) (m.lists next) (m.tells answer) old new made.writes;
       silent = silence_said (lines_by deed) (m.lists s) (m.lists next) (m.tells answer) old new made.writes;
     }

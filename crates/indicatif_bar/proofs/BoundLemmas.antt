@@ -25,7 +25,7 @@ and-false false b e = refl
 
 module _ {S C A : Type 0} (m : Machine S C A) (limiter : S → Option Limiter) (l : Limiter) (now : ℕ) where
   -- what a call made of the limiter: nothing, and no unforced draw was made; or it was asked and allowed one
-  abbrev LimiterStep : S → Bool → Type 0
+  abbrev pub LimiterStep : S → Bool → Type 0
   LimiterStep next drew = ((limiter next ≡ Some l) × (drew ≡ false)) ⊎ (((allow l now).0 ≡ true) × (limiter next ≡ Some (allow l now).1))
 
   -- a state after the limiter was asked
@@ -73,7 +73,7 @@ module _ {S C A : Type 0} (m : Machine S C A) (limiter : S → Option Limiter) (
         (λ f. asked_step d.ask (ends d.written) (drew (Ok Yes)) (keeps d.written ∙ asks.written ∙ ready_is)
         (λ off. let not_allowed : d.allowed ≡ false = decides ∙ off in absurd (false≢true (sym e ∙ ap not not_allowed))) (λ g. unforced_no (Ok Yes) g))))))
 
-  call_step : (target : Target) (s : S) (deed : Deed S A) (answer : A) (next : S) → limiter s ≡ Some l → DeedAsks limiter now s deed → Leads m target s deed answer next →
+  pub call_step : (target : Target) (s : S) (deed : Deed S A) (answer : A) (next : S) → limiter s ≡ Some l → DeedAsks limiter now s deed → Leads m target s deed answer next →
       LimiterStep next (drew_unforced deed (m.tells answer))
   call_step target s (AtOnce takes said after) answer next is asks (inl made) = inl (ap (λ o. limiter o.1) made ∙ asks ∙ is, refl)
   call_step target s (AtOnce takes said after) answer next is asks (inr (inl short)) = inl (ap limiter short.1.1 ∙ is, refl)
@@ -98,7 +98,7 @@ module _ {S C A : Type 0} (m : Machine S C A) (limiter : S → Option Limiter) (
 
 module _ {S C A : Type 0} (m : Machine S C A) (limiter : S → Option Limiter) (limited : IsLimited m limiter) where
   -- one call more at the front
-  with_step : (l : Limiter) (now : ℕ) (next : S) (drew : Bool) (others : List ℕ) → 0 < l.interval → LimiterStep m limiter l now next drew →
+  pub with_step : (l : Limiter) (now : ℕ) (next : S) (drew : Bool) (others : List ℕ) → 0 < l.interval → LimiterStep m limiter l now next drew →
       ((k : Limiter) → 0 < k.interval → limiter next ≡ Some k → Claim k others) →
       Claim l (if drew then now ∷ others else others)
   with_step l now next drew others positive (inl same) claims = rw same.1 (claims l positive same.0)

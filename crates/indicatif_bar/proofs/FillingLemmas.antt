@@ -1,11 +1,12 @@
 -- Texts with something in the place of each mark, part by part; the first line with a mark.
-use Rattle.std.proofs.Common.{◌≡◌, ℕ, ◌<◌, Bool, true, false, List, [], ◌∷◌, ◌++◌, length, refl, ◌∙◌, ap, arith, append_assoc, eqb, if◌then◌else◌, inl, inr, Option, Some, None}
-use Rattle.std.specs.Prelude.{flat_map, find, option_map, is_none, ◌&&◌, ◌||◌, unwrap_or}
+use Rattle.std.proofs.Common.{◌≡◌, ℕ, ◌<◌, Bool, true, false, List, [], ◌∷◌, ◌++◌, length, refl, ◌∙◌, ap, arith, append_assoc, append-nil, sym, eqb, if◌then◌else◌, inl, inr}
+use Rattle.std.specs.Prelude.{flat_map, find, ◌||◌}
 use Rattle.std.specs.Option.{option_map_or}
 use Rattle.std.specs.List.{slice_split, onto_first}
 use Rattle.std.proofs.lemmas.List.Splits.{length-slice_split}
 use Rattle.std.proofs.lemmas.Bool.{cases_Bool}
 use Rattle.std.specs.List.{list_any}
+use Rattle.indicatif_bar.specs.Layout.{text_columns}
 use Rattle.indicatif_bar.specs.BarStyles.{with_marks_as, is_wide_mark}
 
 -- parts with a text between them
@@ -32,24 +33,26 @@ parted_split s (b ∷ text) = elim (cases_Bool (eqb b 0)) [
   | inr other ↦ rw other (parted_onto s b (slice_split (λ b. eqb b 0) text) (some_parts text) ∙ ap (λ x. b ∷ x) (parted_split s text))
 ]
 
--- the first that passes of one more
-by_test : {X Y : Type 0} (f : X → Y) (b : Bool) (y : X) → option_map f (if b then Some y else None) ≡ (if b then Some (f y) else None)
-by_test f true y = refl
-by_test f false y = refl
+-- the first mark of a text
+pub one_mark : (s text part behind : List ℕ) → slice_split (λ b. eqb b 0) text ≡ part ∷ slice_split (λ b. eqb b 0) behind → with_marks_as s text ≡ part ++ (s ++ with_marks_as s behind)
+one_mark s text part behind e = sym (parted_split s text) ∙ ap (parted_by s) e
+    ∙ ap (λ x. part ++ x) (parted_some s (slice_split (λ b. eqb b 0) behind) (some_parts behind) ∙ ap (λ x. s ++ x) (parted_split s behind))
 
-behind : {X Y : Type 0} (f : X → Y) (b passes : Bool) (x y : X) (rest more : Option X) → option_map f more ≡ (if is_none (option_map f rest) && passes then Some (f y) else option_map f rest)
-    → option_map f (if b then Some x else more) ≡ (if is_none (option_map f (if b then Some x else rest)) && passes then Some (f y) else option_map f (if b then Some x else rest))
-behind f true passes x y rest more e = refl
-behind f false passes x y rest more e = e
+pub last_part : (s text : List ℕ) → slice_split (λ b. eqb b 0) text ≡ text ∷ [] → with_marks_as s text ≡ text
+last_part s text e = sym (parted_split s text) ∙ ap (parted_by s) e ∙ append-nil text
 
-pub find_push : {X Y : Type 0} (p : X → Bool) (f : X → Y) (xs : List X) (y : X) →
-    option_map f (find p (xs ++ y ∷ [])) ≡ (if is_none (option_map f (find p xs)) && p y then Some (f y) else option_map f (find p xs))
-find_push p f [] y = by_test f (p y) y
-find_push p f (x ∷ xs) y = behind f (p x) (p y) x y (find p xs) (find p (xs ++ y ∷ [])) (find_push p f xs y)
+pub regrouped : (a b c d : List ℕ) → ((a ++ b) ++ c) ++ d ≡ a ++ (b ++ (c ++ d))
+regrouped a b c d = append_assoc (a ++ b) c d ∙ append_assoc a b (c ++ d)
 
-pub or_none : {X : Type 0} (f : X → ℕ) (o : Option X) → unwrap_or (option_map f o) 0 ≡ option_map_or f o 0
-or_none f None = refl
-or_none f (Some x) = refl
+-- the columns of the first line with a mark
+abbrev pub first_marked : List (List ℕ) → ℕ
+first_marked lines = option_map_or text_columns (find (list_any is_wide_mark) lines) 0
+
+pub marked_here : (line : List ℕ) (lines : List (List ℕ)) → list_any is_wide_mark line ≡ true → first_marked (line ∷ lines) ≡ text_columns line
+marked_here line lines e = rw e refl
+
+pub marked_behind : (line : List ℕ) (lines : List (List ℕ)) → list_any is_wide_mark line ≡ false → first_marked (line ∷ lines) ≡ first_marked lines
+marked_behind line lines e = rw e refl
 
 none_more : (b : Bool) (s : List ℕ) (c : ℕ) (cs : List ℕ) → (b || list_any is_wide_mark cs) ≡ false → (list_any is_wide_mark cs ≡ false → with_marks_as s cs ≡ cs)
     → (if b then s else c ∷ []) ++ with_marks_as s cs ≡ c ∷ cs

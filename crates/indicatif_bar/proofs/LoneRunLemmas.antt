@@ -33,9 +33,12 @@ module _ {B C : Type 0} (kind : Kind B C) where
   deed_soundly None target call now s =
       (record { numbers = λ sound. sound; ready = λ sound. sound; written = λ sound. written_soundly _ target _ _ _ s.lists }, (λ x sound. sound), λ x sound. sound)
 
+  pub lone_goes : (target : Target) (call : LoneCall C) (now : ℕ) (s : LoneState B) → GoesSoundly (lone kind) s ((lone kind).deed target call now s)
+  lone_goes target call now s = deed_soundly (refused_at_once kind call now s.bar) target call now s
+
   pub lone_read_after : (calls : List (LoneCall C × ℕ)) (answers : List (Result Drawn Refusal)) (v : TermView) (s : LoneState B) (new : Option TermView) (next : LoneState B) →
       IsFalse s.lists.failed → ReadsAfter (lone kind) calls answers v s new next
-  lone_read_after = sound_read_after (lone kind) (λ target call now s. deed_soundly (refused_at_once kind call now s.bar) target call now s)
+  lone_read_after = sound_read_after (lone kind) lone_goes
 
 -- ---- what becomes of a record
 

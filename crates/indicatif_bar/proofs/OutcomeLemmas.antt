@@ -56,7 +56,7 @@ wrote-fine (Err e) quiet = quiet
 
 pub wrote_nothing : (v : TermView) (lines : List (List ℕ)) (l l' : Lists) (answer : Result Drawn Refusal) → wrote answer ≡ false → l' ≡ l → WritesLines v v lines l l' answer
 wrote_nothing v lines l l' answer quiet e = record {
-  counted = let fine = wrote-fine answer quiet in record { columns_stay = refl; rows_stay = refl; faults_are = rw fine refl };
+  counted = let fine = wrote-fine answer quiet in record { columns_stay = refl; rows_stay = refl; faults_are = rw fine refl; kind_is = rw fine refl };
   silent = λ a. refl;
   paints = λ a. subst (Paints v v (is_failure answer) l) (sym e) (paints_nothing v (is_failure answer) l);
 }
@@ -112,7 +112,7 @@ module _ {S C A T : Type 0} (m : Machine S C A) (P : S → Type 0) (view : T →
       fits = e.lists;
       leads = λ s. leads_made target d m s (Ok Yes) d.written (outcome-yes target d ready.asked refl ready.some ready.allowed e.answers.1);
       writes = record {
-        counted = record { columns_stay = e.counted.columns_stay; rows_stay = e.counted.rows_stay; faults_are = e.counted.faults_are };
+        counted = record { columns_stay = e.counted.columns_stay; rows_stay = e.counted.rows_stay; faults_are = e.counted.faults_are; kind_is = e.counted.kind_is };
         silent = λ quiet. absurd (false≢true (sym quiet));
         paints = λ plain. e.paints (plain refl);
       };
@@ -140,7 +140,7 @@ module _ {S C A T : Type 0} (m : Machine S C A) (P : S → Type 0) (view : T →
       fits = subst (Fits new) (sym ready.lists_go) e.lists;
       leads = λ s. inr (inr (kind, refl, (ap (λ o. o.0) (outcome-yes target d ready.asked refl ready.some ready.allowed e.answers.1), refl)));
       writes = record {
-        counted = record { columns_stay = e.counted.columns_stay; rows_stay = e.counted.rows_stay; faults_are = e.counted.faults_are };
+        counted = record { columns_stay = e.counted.columns_stay; rows_stay = e.counted.rows_stay; faults_are = e.counted.faults_are; kind_is = e.counted.kind_is };
         silent = λ quiet. absurd (false≢true (sym quiet));
         paints = λ plain. subst (Paints v v' true l) (sym ready.lists_go) (e.paints (plain refl));
       };

@@ -59,7 +59,7 @@ module _ {S C A : Type 0} (m : Machine S C A) where
       absurd (false≢true (sym fine ∙ ap (λ a. is_failure (m.tells a)) broken.1 ∙ ap is_failure (m.tells_said (Err (Failure broken.0)))))
 
   module _ (goes : (target : Target) (call : C) (now : ℕ) (s : S) → GoesSoundly s (m.deed target call now s)) where
-    runs_soundly : (calls : List (C × ℕ)) (answers : List A) (old : Option TermView) (s : S) (new : Option TermView) (next : S) →
+    pub runs_soundly : (calls : List (C × ℕ)) (answers : List A) (old : Option TermView) (s : S) (new : Option TermView) (next : S) →
         Runs m calls answers old s new next → list_any (broke m) answers ≡ false → Sound s → Sound next
     runs_soundly [] [] old s new next run fine sound = ap (λ x. (m.lists x).failed) run.1 ∙ sound
     runs_soundly (call ∷ calls) (answer ∷ answers) old s new next run fine sound =

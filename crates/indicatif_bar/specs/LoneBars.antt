@@ -1,5 +1,5 @@
 -- What contracts see of a lone bar: its record, its terminal, whether it is in a given state, and what a call leads to.
-use Rattle.std.specs.Prelude.{◌≡◌, ◌⊎◌, ℕ, IsTrue, IsFalse, string_bytes, Option, MatchOption, option_map, List, [], ◌∷◌, Result, Ok, Err}
+use Rattle.std.specs.Prelude.{◌≡◌, ◌⊎◌, ℕ, IsTrue, IsFalse, string_bytes, Option, MatchOption, option_map, List, [], ◌∷◌, Result, Ok, Err, refl}
 use Rattle.indicatif_text.specs.declared.refusal.Refusal.{Refusal}
 use Rattle.indicatif_text.specs.declared.refusal.Refusal.TheVariants.{Memory, ElapsedBeyondClock}
 use Rattle.indicatif_text.specs.declared.refusal.Drawn.{Drawn}
@@ -11,6 +11,7 @@ use Rattle.indicatif_bar.specs.Bars.{bar_kind}
 use Rattle.indicatif_bar.specs.Machines.{Machine, target_of}
 use Rattle.indicatif_bar.specs.Runs.{CallMade, Runs, wrote}
 use Rattle.indicatif_bar.specs.Lone.{LoneState, LoneCall, Obey, Log, Clear, lone}
+use Rattle.indicatif_bar.specs.Scripts.{Sizing}
 use Rattle.indicatif_bar.specs.Shown.{ShownAs}
 use Rattle.indicatif_bar.specs.declared.lone.LoneBar.{LoneBar}
 use Rattle.indicatif_bar.specs.declared.lone.LoneCall.{LoneCall as LoneCallValue}
@@ -40,6 +41,10 @@ module _ {K T : Type 0} where
 -- a lone bar whose trackers mean this
 abbrev pub lone_bar : {K : Type 0} → Tracking K → Machine (LoneState (BarRecord K)) (LoneCall (Command K)) (Result Drawn Refusal)
 lone_bar m = lone (bar_kind m)
+
+-- a lone bar with other rows, as its terminal gets another size
+abbrev pub lone_sizing : {K : Type 0} → (m : Tracking K) → Sizing (lone_bar m)
+lone_sizing m = record { put = λ l s. record s { lists = l }; lists_are = λ l s. refl }
 
 -- a command is refused: it finds no memory for a text, or its elapsed time is beyond the moment
 abbrev pub RefusesCommand : {K : Type 0} → Command K → BarRecord K → ℕ → Refusal → Type 0

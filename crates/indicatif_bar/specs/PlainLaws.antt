@@ -1,5 +1,5 @@
 -- Runs whose texts are plain: of characters with a width and colour sequences. Texts are lists of bytes in UTF-8.
-use Rattle.std.specs.Prelude.{ℕ, IsTrue, List, All, Option, Result, encode_utf8_all}
+use Rattle.std.specs.Prelude.{ℕ, List, All, Option, Result, encode_utf8_all}
 use Rattle.indicatif_text.specs.declared.refusal.Refusal.{Refusal}
 use Rattle.indicatif_text.specs.declared.refusal.Drawn.{Drawn}
 use Rattle.indicatif_text.specs.Template.{TemplatePart, LiteralText}

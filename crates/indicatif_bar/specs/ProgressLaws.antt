@@ -1,5 +1,5 @@
 -- What a user would ask of the measures, the texts and the commands of a bar.
-use Rattle.std.specs.Prelude.{◌≡◌, ◌≢◌, ◌<◌, ◌≤◌, ℕ, suc, ◌*◌, Option, Some, IsTrue}
+use Rattle.std.specs.Prelude.{◌≡◌, ◌≢◌, ◌↔◌, ◌<◌, ◌≤◌, ℕ, suc, ◌*◌, Option, Some, IsTrue}
 use Rattle.indicatif_bar.specs.declared.state.Ask.TheVariants.{Unforced}
 use Rattle.indicatif_bar.specs.declared.measures.Rate.{Rate}
 use Rattle.indicatif_bar.specs.Measures.{greatest_u64, fraction_of, time_for, steps_a_second}
@@ -14,7 +14,7 @@ FractionsAreProper = (p : Progress) → (0 < (fraction p).den) × ((fraction p).
 
 -- a bar is whole exactly from its length on
 abbrev pub WholeAtTheEnd : Type 0
-WholeAtTheEnd = (position n : ℕ) → n ≤ position → (fraction_of position (Some n)).num ≡ (fraction_of position (Some n)).den
+WholeAtTheEnd = (position n : ℕ) → (n ≤ position) ↔ ((fraction_of position (Some n)).num ≡ (fraction_of position (Some n)).den)
 
 -- a rate is over some time
 abbrev pub RatesHaveTime : Type 0

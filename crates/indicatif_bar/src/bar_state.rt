@@ -1,5 +1,6 @@
 //! A bar's record, and every command of a bar.
 ghost use Rattle.indicatif_text.specs.Template.{Parses};
+ghost use Rattle.indicatif_bar.specs.StyleLaws.{AreTaken};
 ghost use Rattle.indicatif_bar.specs.Builders.{first_style};
 ghost use Rattle.std.specs.Prelude.{codes, ◌≡◌, ◌<◌, ◌↔◌, ◌⊎◌, ◌==◌, OnErr, IfOk, IfErr, IsTrue, IsFalse};
 ghost use Rattle.std.specs.Fn.{FnOnceReturnsAt};
@@ -95,15 +96,16 @@ impl<K: Tracks> BarState<K> {
         })
     }
 
-    /// How it looks.
+    /// How it looks. The characters of its bar are such as `ProgressStyle::progress_chars` takes.
     ///
     /// ```
     /// let style = bar.style().try_clone()?.template("{pos}")?; // the bar's stays as it is
     /// ```
     pub fn style(&self) -> &ProgressStyle<K>
-        ensures { result.now ≡ self.now.style }
+        ensures style { result.now ≡ self.now.style }
+        ensures taken { AreTaken self.now.style.clusters }
     {
-        &self.style
+        self.style.itself()
     }
 
     /// What the bar has reached.

@@ -2,6 +2,7 @@
 ghost use Rattle.std.specs.Prelude.{◌≡◌, ◌%◌, ◌-◌, ◌==◌, length, OnOk, OnErr, IfErr, IsFalse};
 ghost use Rattle.indicatif_bar.specs.Trackers.{changed_trackers};
 ghost use Rattle.indicatif_bar.specs.BarStyles.{tick_string, final_tick_string};
+ghost use Rattle.indicatif_bar.specs.StyleLaws.{AreTaken};
 
 mod builders;
 mod drawing;
@@ -46,6 +47,7 @@ impl<K> Model for ProgressStyle<K> {
     ghost use Rattle.indicatif_bar.specs.Trackers.{entries};
     ghost use Rattle.indicatif_bar.specs.Layout.{text_columns, cluster};
     ghost use Rattle.indicatif_bar.specs.BarStyles.{BarStyle};
+    ghost use Rattle.indicatif_bar.specs.StyleLaws.{AreTaken};
     ghost use Rattle.indicatif_bar.specs.Inside.Texts.{texts_in};
     ghost use Rattle.indicatif_bar.specs.Inside.Steps.{effect_of, effect_of_part, names_of};
 
@@ -63,7 +65,8 @@ impl<K> Model for ProgressStyle<K> {
     ghost invariant = { λ s. (map (effect_of (arc_value s.template)) s.steps.items ≡ map (effect_of_part (names_of s.keys.items) s.tab) (arc_value s.template))
         × (2 ≤ length (texts_in s.clusters))
         × (0 < text_columns (cluster (texts_in s.clusters) 0))
-        × (2 ≤ length (texts_in s.tick_strings)) };
+        × (2 ≤ length (texts_in s.tick_strings))
+        × AreTaken (texts_in s.clusters) };
 }
 
 impl<K: Tracks> ProgressStyle<K> {
@@ -80,6 +83,15 @@ impl<K: Tracks> ProgressStyle<K> {
         ensures { result.now ≡ final_tick_string self.now.tick_strings }
     {
         self.tick_strings.at(self.tick_strings.len() - 1)
+    }
+
+    /// The style itself: the characters of its bar are such as `progress_chars` takes.
+    pub(crate) fn itself(&self) -> &ProgressStyle<K>
+        ensures same { result.now ≡ self.now }
+        ensures taken { AreTaken self.now.clusters }
+    {
+        let _read = self.tab;
+        self
     }
 
     /// So many spaces for a tab.

@@ -3,6 +3,7 @@ ghost use Rattle.std.specs.Prelude.{ℕ};
 ghost use Rattle.indicatif_bar.specs.BarStyles.{BarStyle};
 ghost use Rattle.indicatif_bar.specs.CommandCases.{Fractions, Greatest, Rates, TwelveSteps, RateAndEta, Asks, ResetRates, Ends, ElapsedTimes, TabWidths, Finishes, Resets};
 ghost use Rattle.indicatif_bar.specs.StyleCases.{TrackersCases, WideBarCases, PercentCases, MessageCases, BarCases, TickCases, RateCases, LineCases, FaultCases};
+ghost use Rattle.indicatif_bar.specs.ScriptCases.{Dragged, ScrolledAway, LogsCut, HiddenSize, Standing};
 ghost use Rattle.indicatif_bar.specs.Cases.{Lines, ShorterMessage, EmptyMessage, WideCharacter, NoColumn, Nowhere, LogsAbove, WideLog, Cleared, LateElapsed, BrokenOff, LimitedDraws};
 
 /// The lines of messages.
@@ -21,6 +22,15 @@ pub fn runs()
     ensures wide_log { WideLog }
     ensures cleared { Cleared }
     ensures late_elapsed { LateElapsed }
+{}
+
+/// What scripts are answered, that is calls with sizes of the terminal between them, and the rows that stand then.
+pub fn scripts()
+    ensures dragged { Dragged }
+    ensures scrolled_away { ScrolledAway }
+    ensures logs_cut { LogsCut }
+    ensures hidden_size { HiddenSize }
+    ensures standing { Standing }
 {}
 
 /// What a call that the terminal broke off leaves, and the next one.

@@ -68,10 +68,10 @@ module _ {B C : Type 0} (kind : BoardKind B C) (mark : ℕ) where
       BoardGoes s (draws (draw_of target takes ask now writing after laid lays))
   only_draws target takes ask now writing s after laid lays numbers ready = (draw_soundly target takes ask now writing s after laid lays numbers ready, (λ x sound. sound), λ x sound. sound)
 
-  deed_soundly : (target : Target) (call : Call B C) (now : ℕ) (s : BoardState B) → BoardGoes s ((board kind mark).deed target call now s)
-  deed_soundly target (Insert at entrant) now s = unless_refused s (anchor_turned_away mark at s) _ (inserted_soundly s at entrant)
-  deed_soundly target (Remove id) now s = either s (not (id.mark == mark)) _ _ (λ sound. sound) (taken_out_soundly s id.number)
-  deed_soundly target (Drop id) now s =
+  pub board_goes : (target : Target) (call : Call B C) (now : ℕ) (s : BoardState B) → BoardGoes s ((board kind mark).deed target call now s)
+  board_goes target (Insert at entrant) now s = unless_refused s (anchor_turned_away mark at s) _ (inserted_soundly s at entrant)
+  board_goes target (Remove id) now s = either s (not (id.mark == mark)) _ _ (λ sound. sound) (taken_out_soundly s id.number)
+  board_goes target (Drop id) now s =
       let after = bar_changed id.number (kind.left now) s in
       unless_refused s (turned_away mark id s) _ (
         draw_soundly target (said_of false (kind.left_takes now) id.number s.members) (said_of No (kind.left_asked now) id.number s.members) now Frame s after
@@ -79,14 +79,14 @@ module _ {B C : Type 0} (kind : BoardKind B C) (mark : ℕ) where
         left_soundly target id.number,
         λ x sound. sound,
       )
-  deed_soundly target (Log text) now s = only_draws target false Forced now (TextAndFrame (text_lines (logged_lines text))) s s s false (λ sound. sound) (λ sound. sound)
-  deed_soundly target (BarLog id text) now s =
+  board_goes target (Log text) now s = only_draws target false Forced now (TextAndFrame (text_lines (logged_lines text))) s s s false (λ sound. sound) (λ sound. sound)
+  board_goes target (BarLog id text) now s =
       unless_refused s (turned_away mark id s) _
       (only_draws target false Forced now (TextAndFrame (text_lines (logged_lines text))) s s (laid_out kind target now id.number s) (layout_takes kind id.number s) (λ sound. sound) (λ sound. sound))
-  deed_soundly target Clear now s = only_draws target false Forced now NoFrame s s s false (λ sound. sound) (λ sound. sound)
-  deed_soundly target Redraw now s = only_draws target false Forced now Frame s s s false (λ sound. sound) (λ sound. sound)
-  deed_soundly target (Align bottom) now s = λ sound. sound
-  deed_soundly target (Tell id command) now s =
+  board_goes target Clear now s = only_draws target false Forced now NoFrame s s s false (λ sound. sound) (λ sound. sound)
+  board_goes target Redraw now s = only_draws target false Forced now Frame s s s false (λ sound. sound) (λ sound. sound)
+  board_goes target (Align bottom) now s = λ sound. sound
+  board_goes target (Tell id command) now s =
       let after = bar_changed id.number (λ bar. (kind.bars.after command bar now).0) s in
       unless_refused s (turned_away mark id s) _
       (unless_refused s (said_of None (λ bar. kind.bars.refused command bar now) id.number s.members) _
@@ -95,4 +95,4 @@ module _ {B C : Type 0} (kind : BoardKind B C) (mark : ℕ) where
 
   pub board_read_after : (calls : List (Call B C × ℕ)) (answers : List Answer) (v : TermView) (s : BoardState B) (new : Option TermView) (next : BoardState B) →
       IsFalse s.lists.failed → ReadsAfter (board kind mark) calls answers v s new next
-  board_read_after = sound_read_after (board kind mark) deed_soundly
+  board_read_after = sound_read_after (board kind mark) board_goes

@@ -12,6 +12,7 @@ pub mod BoardRunLemmas
 pub mod RunInvariantLemmas
 pub mod OrderLemmas
 pub mod SeatLemmas
+pub mod LeavingLemmas
 pub mod RecordLemmas
 pub mod BarRecordLemmas
 pub mod RunRecordLemmas

@@ -3,17 +3,16 @@ use Rattle.std.proofs.Common.{◌≡◌, ℕ, Bool, true, false, refl, sym, ◌�
 use Rattle.std.specs.Prelude.{◌==◌, not, chars}
 use Rattle.std.proofs.lemmas.Bool.{eq-eqb}
 use Rattle.indicatif_text.specs.declared.refusal.Refusal.{Refusal}
-use Rattle.indicatif_text.specs.declared.refusal.Refusal.TheVariants.{NoColumns, TooWide, Memory}
+use Rattle.indicatif_text.specs.declared.refusal.Refusal.TheVariants.{NoColumns, TooWide}
 use Rattle.indicatif_text.specs.declared.refusal.Drawn.{Drawn}
 use Rattle.indicatif_text.specs.declared.refusal.Drawn.TheVariants.{Yes, Limited, Hidden}
 use Rattle.indicatif_term.specs.Calls.{TermView}
 use Rattle.indicatif_term.specs.Frames.{some_wide}
-use Rattle.indicatif_term.specs.Limiters.{Limiter}
-use Rattle.indicatif_bar.specs.Machines.{Target, target_of, Draw, Deed, AtOnce, Draws, Leads, is_no, drawn_by}
-use Rattle.indicatif_bar.specs.Runs.{Runs, CallMade, lines_by}
+use Rattle.indicatif_bar.specs.Machines.{Target, target_of, Draw, Draws, Leads, is_no, drawn_by}
+use Rattle.indicatif_bar.specs.Runs.{CallMade, lines_by}
 use Rattle.indicatif_bar.specs.Shown.{WritesLinesOn}
-use Rattle.indicatif_bar.specs.Lone.{LoneState, LoneCall, Obey, Log, Clear, opening_state, draw_of_call, deed_unless, refused_at_once, lone}
-use Rattle.indicatif_board.specs.Boards.{BoardKind, BoardState, Call, Answer, says, drawn_of_said, turned_away, or_refused, draws, board}
+use Rattle.indicatif_bar.specs.Lone.{LoneState, LoneCall, Obey, Log, Clear, draw_of_call, deed_unless, refused_at_once, lone}
+use Rattle.indicatif_board.specs.Boards.{BoardKind, BoardState, says, drawn_of_said, turned_away, or_refused, draws, board}
 use Rattle.indicatif_board.specs.LoneLaws.{first_bar, with_one, call_on_board, on_board, OneIsTakenIn, LoneRunsAreBoardRuns}
 
 pub one_taken_in : {B : Type 0} → OneIsTakenIn B

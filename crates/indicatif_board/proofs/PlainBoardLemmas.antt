@@ -1,5 +1,5 @@
 -- Where the texts of a board's bars and calls are plain, the lines of each draw are, so that every run is plain.
-use Rattle.std.proofs.Common.{◌≡◌, ℕ, zero, suc, ◌+◌, ◌^◌, Bool, true, false, not, List, [], ◌∷◌, ◌++◌, map, chars, take, drop, refl, subst, sym, Option, Some, None, if◌then◌else◌}
+use Rattle.std.proofs.Common.{ℕ, zero, suc, ◌^◌, Bool, true, false, not, List, [], ◌∷◌, ◌++◌, map, chars, take, drop, refl, Option, Some, None, if◌then◌else◌}
 use Rattle.std.specs.Prelude.{IsTrue, ◌==◌}
 use Rattle.std.specs.List.{AllByRecursion, insert}
 use Rattle.std.proofs.lemmas.Bool.{cond_both}
@@ -10,12 +10,11 @@ use Rattle.indicatif_term.specs.Frames.{are_plain, text_lines, logged_lines}
 use Rattle.indicatif_term.specs.Lists.{fate}
 use Rattle.indicatif_term.specs.declared.draw_target.Keep.{Keep}
 use Rattle.indicatif_term.specs.declared.draw_target.Keep.TheVariants.{Absent, Passed, Behind}
-use Rattle.indicatif_bar.specs.Machines.{Target, Deed, AtOnce, Draws}
+use Rattle.indicatif_bar.specs.Machines.{Target, Deed, Draws}
 use Rattle.indicatif_bar.specs.Runs.{Runs, AllPlain, lines_by}
 use Rattle.indicatif_bar.specs.Kinds.{Writing, Frame, TextAndFrame, NoFrame}
 use Rattle.indicatif_bar.specs.Progress.{is_finished}
 use Rattle.indicatif_bar.specs.Trackers.{Tracking}
-use Rattle.indicatif_bar.specs.Bars.{bar_kind}
 use Rattle.indicatif_bar.specs.Commands.{BarRecord, Command, finish, after_drop}
 use Rattle.indicatif_bar.specs.PlainLaws.{ArePlainTrackers, IsPlainBar, IsPlainCommand}
 use Rattle.indicatif_bar.specs.declared.state.Ask.{Ask}
@@ -24,9 +23,9 @@ use Rattle.indicatif_bar.proofs.PlainTextLemmas.{plain_lines_are_asked}
 use Rattle.indicatif_bar.proofs.KeptStateLemmas.{IsKept}
 use Rattle.indicatif_bar.proofs.PlainRunLemmas.{runs_plain, ArePlainFrames, IsPlainWriting, written_plain, dropped_all, KeepsPlain, bars_keep_plain, finished_plain}
 use Rattle.indicatif_board.specs.Members.{Member, new_member, is_member, is_head, place_of, without, changed_at, said_of, leaders, frame_of}
-use Rattle.indicatif_board.specs.Boards.{BoardState, BoardKind, Call, Insert, Remove, Drop, Log, BarLog, Clear, Redraw, Align, Tell, Answer, Location, Entrant, New, Old, turned_away, anchor_turned_away, or_refused, index_of, inserted, taken_in, taken_out, draws, draw_of, bar_changed, laid_out, layout_takes, left_by, left_on, marked_on, board}
+use Rattle.indicatif_board.specs.Boards.{BoardState, BoardKind, Call, Insert, Remove, Drop, Log, BarLog, Clear, Redraw, Align, Tell, Answer, Location, Entrant, New, Old, turned_away, anchor_turned_away, or_refused, index_of, inserted, taken_out, draws, draw_of, bar_changed, laid_out, layout_takes, left_by, left_on, marked_on, board}
 use Rattle.indicatif_board.specs.BoardBars.{board_bars}
-use Rattle.indicatif_board.specs.PlainBoardLaws.{IsPlainEntrant, IsPlainCall, IsPlainMember, IsPlainBoard, BoardRunsArePlain}
+use Rattle.indicatif_board.specs.PlainBoardLaws.{IsPlainCall, IsPlainMember, BoardRunsArePlain}
 
 -- ---- lists
 

@@ -7,7 +7,7 @@ use Rattle.indicatif_board.specs.Slots.{SlotTable, IsSeated, slot_in, slot_of, n
 use Rattle.indicatif_board.proofs.SlotLemmas.{ones_same, ones_other, occurrences-front}
 
 -- the bar at the front has this slot, or one of the others
-found : (b : Bool) (x slot : ℕ) (rest : Option ℕ) → (if b then Some x else rest) ≡ Some slot → ((b ≡ true) × (x ≡ slot)) ⊎ ((b ≡ false) × (rest ≡ Some slot))
+pub found : (b : Bool) (x slot : ℕ) (rest : Option ℕ) → (if b then Some x else rest) ≡ Some slot → ((b ≡ true) × (x ≡ slot)) ⊎ ((b ≡ false) × (rest ≡ Some slot))
 found true x slot rest e = inl (refl, cc e)
 found false x slot rest e = inr (refl, e)
 
@@ -53,7 +53,7 @@ out_of_order number (n ∷ order) (x ∷ slots) none even =
     let rest = nowhere (n == number) x (slot_in number order slots) none in
     omega (arith, occurrences-front number n order, ones_other number n (eqb-false n number rest.0), out_of_order number order slots rest.1 (omega (arith, even)))
 
-without_slot : (number : ℕ) (order slots : List ℕ) → occurrences number order ≡ 0 → slot_in number order slots ≡ None
+pub without_slot : (number : ℕ) (order slots : List ℕ) → occurrences number order ≡ 0 → slot_in number order slots ≡ None
 without_slot number [] slots out = refl
 without_slot number (n ∷ order) [] out = refl
 without_slot number (n ∷ order) (x ∷ slots) out = elim (cases_Bool (n == number)) [

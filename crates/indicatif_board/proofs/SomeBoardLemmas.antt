@@ -1,5 +1,5 @@
 -- Every board is in some state.
-use Rattle.std.proofs.Common.{◌≡◌, ℕ, List, [], ◌∷◌, map, length, refl, ap, arith, Option, Some, None}
+use Rattle.std.proofs.Common.{◌≡◌, List, [], ◌∷◌, map, length, refl, ap, arith, Option, Some, None}
 use Rattle.std.specs.Prelude.{MatchOption}
 use Rattle.indicatif_term.specs.Lists.{Lists, opening_lists}
 use Rattle.indicatif_term.specs.Frames.{bar_lines}

@@ -4,7 +4,7 @@ use Rattle.indicatif_text.specs.declared.refusal.Refusal.{Refusal}
 use Rattle.indicatif_text.specs.declared.refusal.Drawn.{Drawn}
 use Rattle.indicatif_term.specs.Calls.{TermView}
 use Rattle.indicatif_term.specs.Limiters.{Limiter}
-use Rattle.indicatif_bar.specs.Machines.{Deed, AtOnce}
+use Rattle.indicatif_bar.specs.Machines.{AtOnce}
 use Rattle.indicatif_bar.specs.Runs.{Runs}
 use Rattle.indicatif_bar.specs.Lone.{LoneState, LoneCall, Obey, Log, Clear as ClearLone, opening_state, lone}
 use Rattle.indicatif_board.specs.Boards.{BoardKind, BoardState, Id, End, New, Call, Tell, BarLog, Clear, Given, says, opening_board, inserted, board}

@@ -1,5 +1,5 @@
 -- What contracts see of a board: its terminal, whether it is in a given state, and what a call leads to.
-use Rattle.std.specs.Prelude.{◌≡◌, ◌≢◌, ◌⊎◌, ℕ, IsTrue, List, [], ◌∷◌, Option, Some, None, MatchOption, option_map, Result, Err}
+use Rattle.std.specs.Prelude.{◌≡◌, ◌≢◌, ◌⊎◌, ℕ, IsTrue, List, [], ◌∷◌, Option, Some, None, MatchOption, option_map, Result, Err, refl}
 use Rattle.std.specs.List.{list_any}
 use Rattle.indicatif_text.specs.declared.refusal.Refusal.{Refusal}
 use Rattle.indicatif_text.specs.declared.refusal.Drawn.{Drawn}
@@ -12,10 +12,11 @@ use Rattle.indicatif_bar.specs.Lone.{Obey}
 use Rattle.indicatif_bar.specs.LoneBars.{RecordGoes}
 use Rattle.indicatif_bar.specs.Machines.{target_of}
 use Rattle.indicatif_bar.specs.Runs.{CallMade, Runs}
+use Rattle.indicatif_bar.specs.Scripts.{Sizing}
 use Rattle.indicatif_board.specs.BoardBars.{board_bars}
 use Rattle.indicatif_board.specs.Boards.{BoardState, Id, Entrant, New, Old, Call, Insert, Remove, Drop, Clear, Redraw, Tell, Answer, Given, Drew, Refused, says, drawn_of, board}
 use Rattle.indicatif_board.specs.Calls.{answer_of, gives}
-use Rattle.indicatif_board.specs.Slots.{SlotTable, next_slot, slot_of}
+use Rattle.indicatif_board.specs.Slots.{SlotTable, LeavesHead, LeavesFrom, next_slot, seated, slot_of}
 use Rattle.indicatif_board.specs.ShownBars.{AreShownAs, record_on}
 use Rattle.indicatif_board.specs.declared.calls.Answer.{Answer as AnswerValue}
 use Rattle.indicatif_board.specs.declared.multi.Board.{Board}
@@ -83,8 +84,23 @@ module _ {K T : Type 0} where
   -- one was to be taken in: a new bar has the slot that was freed last, or where none was free the first that was never used; where
   -- it was turned away, or was there already, each bar has the slot that it had
   abbrev pub SlotsTake : Entrant (BarRecord K) → Answer → Board K T → Board K T → Type 0
-  SlotsTake (New bar) (Given id) old new = slot_of id.number (slots_of new) ≡ Some (next_slot (slots_of old))
+  SlotsTake (New bar) (Given id) old new =
+      (slot_of id.number (slots_of new) ≡ Some (next_slot (slots_of old))) × (at : ℕ) × (slots_of new ≡ seated at (slots_of old))
   SlotsTake _ _ old new = slots_of new ≡ slots_of old
+
+  -- one was to be taken out: it left its slot, or it wasn't there
+  abbrev pub SlotsGive : Option (BarRecord K) → Board K T → Board K T → Type 0
+  SlotsGive out old new = MatchOption out (slots_of new ≡ slots_of old) (λ bar. LeavesFrom (slots_of old) (slots_of new))
+
+  -- only bars at the head of the order left, each its slot
+  abbrev pub SlotsLeft : Board K T → Board K T → Type 0
+  SlotsLeft old new = LeavesHead (slots_of old) (slots_of new)
+
+  -- what a call with this answer made of the slots
+  abbrev pub SlotsChange : Call (BarRecord K) (Command K) → Answer → Board K T → Board K T → Type 0
+  SlotsChange (Insert at entrant) answer old new = SlotsTake entrant answer old new
+  SlotsChange (Remove id) answer old new = (slots_of new ≡ slots_of old) ⊎ LeavesFrom (slots_of old) (slots_of new)
+  SlotsChange _ answer old new = SlotsLeft old new
 
   -- a call named a bar: of a bar of this board it made what is said, and others stay; of another board's, all stay
   abbrev pub NamedGoes : Id → Type 0 → Board K T → Board K T → Type 0
@@ -117,3 +133,7 @@ module _ {K T : Type 0} where
       (next : BoardState (BarRecord K)) × IsIn mark new next
       × (((cleared : Drawn) × Runs machine ((Clear, now) ∷ (Redraw, now) ∷ []) (Drew cleared ∷ says answer ∷ []) (known view old) s (known view new) next)
       ⊎ ((e : Refusal) × (answer ≡ Err e) × Runs machine ((Clear, now) ∷ []) (Refused e ∷ []) (known view old) s (known view new) next))
+
+-- a board with other rows, as its terminal gets another size
+abbrev pub board_sizing : {K : Type 0} → (m : Tracking K) (mark : ℕ) → Sizing (board (board_bars m) mark)
+board_sizing m mark = record { put = λ l s. record s { lists = l }; lists_are = λ l s. refl }

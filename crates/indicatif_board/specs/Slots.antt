@@ -51,6 +51,14 @@ head_unseated count t = record t {
   free = t.free ++ take count t.slots;
 }
 
+-- bars at the head left, one after another, or none did
+abbrev pub LeavesHead : SlotTable → SlotTable → Type 0
+LeavesHead old new = (count : ℕ) × (new ≡ head_unseated count old)
+
+-- the bar at some place left
+abbrev pub LeavesFrom : SlotTable → SlotTable → Type 0
+LeavesFrom old new = (at : ℕ) × (new ≡ unseated at old)
+
 -- the slot of a bar, if that stands in the order
 abbrev pub slot_in : ℕ → List ℕ → List ℕ → Option ℕ
 slot_in number (n ∷ order) (slot ∷ slots) = if n == number then Some slot else slot_in number order slots

@@ -1,5 +1,5 @@
 //! Laws of the definitions: functions that do nothing, each with a law as its contract.
-ghost use Rattle.std.specs.Prelude.{◌≡◌, ◌≤◌, ◌↔◌, ℕ, List, Option, Some, None, IsFalse};
+ghost use Rattle.std.specs.Prelude.{◌≡◌, ◌≢◌, ◌≤◌, ◌↔◌, ℕ, List, Option, Some, None, IsFalse};
 ghost use Rattle.indicatif_term.specs.Calls.{TermView};
 ghost use Rattle.indicatif_bar.specs.Commands.{BarRecord, Command};
 ghost use Rattle.indicatif_bar.specs.Machines.{Target};
@@ -8,14 +8,16 @@ ghost use Rattle.indicatif_bar.specs.Says.{EachSays};
 ghost use Rattle.indicatif_bar.specs.Bounds.{IsLimited, RunsAreBounded, RunsAreBoundedFrom};
 ghost use Rattle.indicatif_term.specs.Limiters.{Limiter};
 ghost use Rattle.indicatif_board.specs.Boards.{BoardKind, BoardState, Call, Answer, opening_board, board};
+ghost use Rattle.indicatif_bar.specs.Scripts.{UnbrokenScriptsAreRead, ScriptsAreBounded, ScriptsAreBoundedFrom};
 ghost use Rattle.indicatif_board.specs.BoardBars.{board_bars};
+ghost use Rattle.indicatif_board.specs.Multi.{board_sizing};
 ghost use Rattle.indicatif_board.specs.Done.{account_of_both, kept_half, given_half};
 ghost use Rattle.indicatif_board.specs.declared.done.Account.{Account};
 ghost use Rattle.indicatif_board.specs.LimitLaws.{IsAllowed};
 ghost use Rattle.indicatif_board.specs.LoneLaws.{OneIsTakenIn, LoneRunsAreBoardRuns};
 ghost use Rattle.indicatif_board.specs.PlainBoardLaws.{BoardRunsArePlain};
 ghost use Rattle.indicatif_board.specs.OrderLaws.{RunsKeep, StandsOnce, IsGone, NumbersCount, NumbersAreNew};
-ghost use Rattle.indicatif_board.specs.Slots.{SlotTable, IsSeated, slot_of, occurrences};
+ghost use Rattle.indicatif_board.specs.Slots.{SlotTable, IsSeated, slot_of, seated, unseated, head_unseated, occurrences};
 
 use indicatif_bar::style::Tracks;
 
@@ -100,6 +102,14 @@ pub fn a_board_is_limited<B, C>()
         IsAllowed ((board kind mark).deed target call now s) }
 {}
 
+/// Scripts of a board, that is runs with sizes between them: where the terminal broke no call off, they are read, whenever the sizes
+/// come; and sizes count for nothing in how often it draws. What else is said of scripts holds of any that draws by calls.
+pub fn scripts_of_a_board<K: Tracks>()
+    ensures read { (mark : ℕ) → UnbrokenScriptsAreRead (board (board_bars K.means) mark) (board_sizing K.means mark) }
+    ensures bounded { (mark : ℕ) → ScriptsAreBounded (board (board_bars K.means) mark) (board_sizing K.means mark) (λ s. s.limiter) }
+    ensures joins { (mark : ℕ) → ScriptsAreBoundedFrom (board (board_bars K.means) mark) (board_sizing K.means mark) (λ s. s.limiter) }
+{}
+
 /// No bar stands in a board's order twice, and none that was not taken in: so it is at first, and after each call of any run.
 pub fn each_bar_stands_once<B, C>()
     ensures first { (limiter : Option Limiter) → StandsOnce {B = B} (opening_board limiter) }
@@ -118,4 +128,12 @@ pub fn numbers_are_never_used_again<B, C>()
 pub fn each_bar_has_its_slot()
     ensures some { (t : SlotTable) (number : ℕ) → IsSeated t → (slot_of number t ≡ None) ↔ (occurrences number t.order ≡ 0) }
     ensures apart { (t : SlotTable) (one other slot : ℕ) → IsSeated t → slot_of one t ≡ Some slot → slot_of other t ≡ Some slot → one ≡ other }
+{}
+
+/// A bar keeps its slot as others come and go: what it has after bars at the head left, after one left from anywhere, or after a new
+/// one was taken in, it had before.
+pub fn each_bar_keeps_its_slot()
+    ensures head { (t : SlotTable) (count number slot : ℕ) → IsSeated t → slot_of number (head_unseated count t) ≡ Some slot → slot_of number t ≡ Some slot }
+    ensures out { (t : SlotTable) (at number slot : ℕ) → IsSeated t → slot_of number (unseated at t) ≡ Some slot → slot_of number t ≡ Some slot }
+    ensures new { (t : SlotTable) (at number : ℕ) → IsSeated t → t.made ≢ number → slot_of number (seated at t) ≡ slot_of number t }
 {}

@@ -1,5 +1,5 @@
 //! A board: several bars on one target, in an order.
-ghost use Rattle.std.specs.Prelude.{◌≡◌, ◌≢◌, ◌==◌, ◌↔◌, ◌<◌, ◌≤◌, ℕ, Bool, Option, Some, None, Ok, Err, is_some, true, option_map, IsTrue, IsFalse, IfOk, IfErr, IfSome, MatchResult, MatchOption, map, OnErr, is_ok, vec_len, if◌then◌else◌};
+ghost use Rattle.std.specs.Prelude.{◌≡◌, ◌≢◌, ◌==◌, ◌↔◌, ◌⊎◌, ◌<◌, ◌≤◌, ◌∷◌, [], ℕ, Bool, Option, Some, None, Ok, Err, is_some, true, option_map, IsTrue, IsFalse, IfOk, IfErr, IfSome, MatchResult, MatchOption, map, OnErr, is_ok, vec_len, if◌then◌else◌};
 ghost use Rattle.std.specs.List.{list_any};
 ghost use Rattle.indicatif_term.specs.Engines.{is_bottom, engine_term, Fits};
 ghost use Rattle.indicatif_term.specs.Lists.{fate, kept_of, opening_lists};
@@ -31,7 +31,7 @@ use indicatif_bar::style::Tracks;
 use indicatif_term::draw_target::{
     Engine, Keep, MultiProgressAlignment, ProgressDrawTarget, RateLimiter,
 };
-use indicatif_term::term_like::TermLike;
+use indicatif_term::term_like::{Resize, TermLike};
 use indicatif_text::columns::{Drawn, Moment, Refusal};
 use std::alloc::Global;
 use std::mem::replace;
@@ -63,7 +63,7 @@ pub struct Board<K, T: Drop> {
 
 impl<K: Tracks, T: TermLike + Drop> Board<K, T> {
     ghost use Rattle.indicatif_board.specs.Calls.{entrant_of, given, removal, answer_of, place_at, call_of, timed, IsForeign, NamesForeign, AreTurnedAway, acts_on};
-    ghost use Rattle.indicatif_board.specs.Multi.{IsIn, IsNowhere, IsAbsent, EntersAbsent, mark_of, record_at, RecordsStay, OtherRecordsStay, RecordObeys, RecordsTake, SlotsTake, RecordsChange, StaysOrComes, LeadsBy, Suspends, known, slots_of, terminal_of};
+    ghost use Rattle.indicatif_board.specs.Multi.{IsIn, IsNowhere, IsAbsent, EntersAbsent, mark_of, record_at, RecordsStay, OtherRecordsStay, RecordObeys, RecordsTake, SlotsTake, SlotsGive, SlotsLeft, SlotsChange, RecordsChange, StaysOrComes, LeadsBy, Suspends, known, slots_of, terminal_of};
 
     /// A board without bars on this target, of this mark. It takes no memory and writes nothing.
     pub fn new(alloc: Global, target: ProgressDrawTarget<T>, mark: u64) -> Self
@@ -124,8 +124,9 @@ impl<K: Tracks, T: TermLike + Drop> Board<K, T> {
         self.shown.table.order()
     }
 
-    /// A bar's slot; `None` where it isn't in the order, or has another board's mark. No two bars in the order have the same. A board
-    /// takes its slots from a `MultiState`, which says which one a new bar gets: the one that was freed last.
+    /// A bar's slot; `None` where it isn't in the order, or has another board's mark. No two bars in the order have the same, and
+    /// a bar keeps its own as long as it stands there (law `each_bar_keeps_its_slot`). A new bar gets the one that was freed last, or
+    /// the first that was never used.
     pub fn slot(&self, id: BarId) -> Option<usize>
         ensures { result ≡ (if id.mark == mark_of self.now then slot_of id.number (slots_of self.now) else None) }
     {
@@ -142,6 +143,7 @@ impl<K: Tracks, T: TermLike + Drop> Board<K, T> {
         ensures old_limiter { (mark : ℕ) (s : BoardState (BarRecord K)) → IsIn mark self.old s → IfSome result (λ t. t.1 ≡ s.limiter) }
         ensures new { terminal_of self.new ≡ term_of target }
         ensures mark { mark_of self.new ≡ mark_of self.old }
+        ensures slots { slots_of self.new ≡ slots_of self.old }
         ensures records { RecordsStay self.old self.new }
         ensures state { (mark : ℕ) (s : BoardState (BarRecord K)) → IsIn mark self.old s →
             IsIn mark self.new (record s { limiter = limiter_of target; lists = opening_lists }) }
@@ -165,6 +167,7 @@ impl<K: Tracks, T: TermLike + Drop> Board<K, T> {
     pub fn set_move_cursor(&mut self, on: bool)
         ensures terminal { terminal_of self.new ≡ terminal_of self.old }
         ensures mark { mark_of self.new ≡ mark_of self.old }
+        ensures slots { slots_of self.new ≡ slots_of self.old }
         ensures records { RecordsStay self.old self.new }
         ensures state { (mark : ℕ) (s : BoardState (BarRecord K)) → IsIn mark self.old s → IsIn mark self.new s }
     {
@@ -178,6 +181,7 @@ impl<K: Tracks, T: TermLike + Drop> Board<K, T> {
         ensures terminal { terminal_of self.new ≡ terminal_of self.old }
         ensures mark { mark_of self.new ≡ mark_of self.old }
         ensures leads { (now : ℕ) → LeadsBy K.means T.view self.old self.new (Align (is_bottom alignment)) now Done }
+        ensures slots { slots_of self.new ≡ slots_of self.old }
         ensures records { RecordsStay self.old self.new }
     {
         self.shown.alignment = alignment;
@@ -308,6 +312,7 @@ impl<K: Tracks, T: TermLike + Drop> Board<K, T> {
             IfOk result (λ bar. bar ≡ (if is_member id.number s.members then Some (said_of other (λ b. b) id.number s.members) else None)) }
         ensures record { id.mark ≡ mark_of self.old → result ≡ Ok (record_at id.number self.old) }
         ensures gone { id.mark ≡ mark_of self.old → record_at id.number self.new ≡ None }
+        ensures slots { IfOk result (λ bar. SlotsGive bar self.old self.new) }
         ensures others { OtherRecordsStay id.number self.old self.new }
     {
         if id.mark != self.mark {
@@ -335,6 +340,7 @@ impl<K: Tracks, T: TermLike + Drop> Board<K, T> {
         ensures foreign { id.mark ≢ mark_of self.old → (result ≡ Err Refusal.ForeignBar) × (self.new ≡ self.old) }
         ensures not_member { id.mark ≡ mark_of self.old → (result ≡ Err Refusal.NotMember) ↔ (record_at id.number self.old ≡ None) }
         ensures gone { id.mark ≡ mark_of self.old → record_at id.number self.new ≡ None }
+        ensures slots { SlotsLeft self.old self.new }
         ensures others { OtherRecordsStay id.number self.old self.new }
     {
         let at = self.find(id)?;
@@ -371,6 +377,7 @@ impl<K: Tracks, T: TermLike + Drop> Board<K, T> {
         ensures beyond { id.mark ≡ mark_of self.old → IsTrue (is_some (record_at id.number self.old)) →
             (result ≡ Err Refusal.ElapsedBeyondClock) ↔ IsTrue (is_beyond_clock (command_of command) now) }
         ensures record { id.mark ≡ mark_of self.old → RecordObeys K.means id.number (command_of command) now result self.old self.new }
+        ensures slots { SlotsLeft self.old self.new }
         ensures others { OtherRecordsStay id.number self.old self.new }
     {
         let at = self.find(id)?;
@@ -388,6 +395,7 @@ impl<K: Tracks, T: TermLike + Drop> Board<K, T> {
         ensures nowhere { IsNowhere T.view self.old → IsFalse (wrote result) }
         ensures mark { mark_of self.new ≡ mark_of self.old }
         ensures leads { LeadsBy K.means T.view self.old self.new (Log text.now) now (says result) }
+        ensures slots { SlotsLeft self.old self.new }
         ensures records { RecordsStay self.old self.new }
     {
         self.draw(Ask::Forced, None, BoardWriting::TextAndFrame(text), now)
@@ -403,6 +411,7 @@ impl<K: Tracks, T: TermLike + Drop> Board<K, T> {
         ensures leads { LeadsBy K.means T.view self.old self.new (BarLog (id_of id) text.now) now (says result) }
         ensures foreign { id.mark ≢ mark_of self.old → (result ≡ Err Refusal.ForeignBar) × (self.new ≡ self.old) }
         ensures not_member { id.mark ≡ mark_of self.old → (result ≡ Err Refusal.NotMember) ↔ (record_at id.number self.old ≡ None) }
+        ensures slots { SlotsLeft self.old self.new }
         ensures records { RecordsStay self.old self.new }
     {
         let at = self.find(id)?;
@@ -418,6 +427,7 @@ impl<K: Tracks, T: TermLike + Drop> Board<K, T> {
         ensures nowhere { IsNowhere T.view self.old → IsFalse (wrote result) }
         ensures mark { mark_of self.new ≡ mark_of self.old }
         ensures leads { LeadsBy K.means T.view self.old self.new Clear now (says result) }
+        ensures slots { SlotsLeft self.old self.new }
         ensures records { RecordsStay self.old self.new }
     {
         self.draw(Ask::Forced, None, BoardWriting::NoFrame, now)
@@ -431,6 +441,7 @@ impl<K: Tracks, T: TermLike + Drop> Board<K, T> {
         ensures nowhere { IsNowhere T.view self.old → IsFalse (wrote result) }
         ensures mark { mark_of self.new ≡ mark_of self.old }
         ensures leads { LeadsBy K.means T.view self.old self.new Redraw now (says result) }
+        ensures slots { SlotsLeft self.old self.new }
         ensures records { RecordsStay self.old self.new }
     {
         self.draw(Ask::Forced, None, BoardWriting::Frame, now)
@@ -445,6 +456,7 @@ impl<K: Tracks, T: TermLike + Drop> Board<K, T> {
         ensures silent { IsNowhere T.view self.old → terminal_of self.new ≡ terminal_of self.old }
         ensures mark { mark_of self.new ≡ mark_of self.old }
         ensures leads { Suspends K.means T.view self.old self.new now result.1 }
+        ensures slots { SlotsLeft self.old self.new }
         ensures records { RecordsStay self.old self.new }
     {
         let cleared = self.clear(now);
@@ -471,6 +483,7 @@ impl<K: Tracks, T: TermLike + Drop> Board<K, T> {
         ensures mark { mark_of self.new ≡ mark_of self.old }
         ensures leads { LeadsBy K.means T.view self.old self.new (call_of call) now (answer_of result.0) }
         ensures foreign { NamesForeign (mark_of self.old) (call_of call) → (answer_of result.0 ≡ Refused Refusal.ForeignBar) × (self.new ≡ self.old) }
+        ensures slots { SlotsChange (call_of call) (answer_of result.0) self.old self.new }
         ensures records { RecordsChange K.means (call_of call) now (answer_of result.0) self.old self.new }
         ensures back { (mark : ℕ) (s : BoardState (BarRecord K)) (other : BarRecord K) → IsIn mark self.old s →
             result.1 ≡ handed_back (call_of call) (answer_of result.0) other s.members }
@@ -498,6 +511,7 @@ impl<K: Tracks, T: TermLike + Drop> Board<K, T> {
         ensures mark { mark_of self.new ≡ mark_of self.old }
         ensures leads { LeadsBy K.means T.view self.old self.new (call_of call) now (answer_of result) }
         ensures foreign { NamesForeign (mark_of self.old) (call_of call) → (answer_of result ≡ Refused Refusal.ForeignBar) × (self.new ≡ self.old) }
+        ensures slots { SlotsChange (call_of call) (answer_of result) self.old self.new }
         ensures records { RecordsChange K.means (call_of call) now (answer_of result) self.old self.new }
     {
         self.apply(call, now).0
@@ -546,6 +560,7 @@ impl<K: Tracks, T: TermLike + Drop> Board<K, T> {
         ensures turned { IfErr result (λ t. t.candidate ≡ candidate) }
         ensures leads { (now : ℕ) → LeadsBy K.means T.view self.old self.new (Insert (place_at at) (entrant_of candidate)) now (given result) }
         ensures foreign { NamesForeign (mark_of self.old) (Insert (place_at at) (entrant_of candidate)) → (given result ≡ Refused Refusal.ForeignBar) × (self.new ≡ self.old) }
+        ensures slot { SlotsTake (entrant_of candidate) (given result) self.old self.new }
         ensures records { RecordsTake (entrant_of candidate) (given result) self.old self.new }
     {
         match at {
@@ -602,6 +617,7 @@ impl<K: Tracks, T: TermLike + Drop> Board<K, T> {
             let target = target_of (known T.view self.old) in
             let next = parted target number drawn.now s in
             IsIn mark self.new next × RestsOn target.columns s.lists next.lists }
+        ensures slots { SlotsLeft self.old self.new }
         ensures gone { record_at number self.new ≡ None }
         ensures others { OtherRecordsStay number self.old self.new }
     {
@@ -672,6 +688,7 @@ impl<K: Tracks, T: TermLike + Drop> Board<K, T> {
         ensures silent { IsFalse (wrote result) → terminal_of self.new ≡ terminal_of self.old }
         ensures nowhere { IsNowhere T.view self.old → IsFalse (wrote result) }
         ensures mark { mark_of self.new ≡ mark_of self.old }
+        ensures slots { SlotsLeft self.old self.new }
         ensures records { RecordsStay self.old self.new }
         ensures refusal { IfErr result (λ e. IsTrue (is_of_draw e)) }
         ensures drew { (mark : ℕ) (takes : Bool) (s : BoardState (BarRecord K)) (number : Option ℕ) → IsIn mark self.old s → HasPlace number bar s.members →
@@ -686,6 +703,44 @@ impl<K: Tracks, T: TermLike + Drop> Board<K, T> {
         match &mut self.engine {
             Some(engine) => self.shown.draw_on(engine, ask, bar, writing, now),
             None => Ok(Drawn::Hidden),
+        }
+    }
+}
+
+impl<K: Tracks, T: Resize + Drop> Board<K, T> {
+    ghost use Rattle.indicatif_bar.specs.Scripts.{Size as NewSize, SizedOn, sized, Plays};
+    ghost use Rattle.indicatif_board.specs.Multi.{IsIn, RecordsStay, board_sizing, known, mark_of, slots_of, terminal_of};
+
+    /// The terminal gets `rows` rows and `cols` columns, and what stands there is cut anew: each row by itself, never joined with
+    /// another. Nothing is written now; the next draw takes back the bars' rows as they are then. On a hidden target this does nothing.
+    ///
+    /// ```
+    /// board.println("hello", now)?;
+    /// board.resize(4, 3)?; // it stands on two rows from now on: `hel`, `lo`
+    /// ```
+    ///
+    /// Refused: `ZeroSize` where `rows` or `cols` is 0, also on a hidden target; `Memory`. All is unchanged then.
+    pub fn resize(&mut self, rows: u16, cols: u16) -> Result<(), Refusal>
+        ensures plays { (mark : ℕ) (s : BoardState (BarRecord K)) → IsIn mark self.old s →
+            let machine = board (board_bars K.means) mark in
+            let next = sized machine (board_sizing K.means mark) cols rows (target_of (known T.view self.old)) s in
+            IfOk result (λ _. IsIn mark self.new next
+            × Plays machine (board_sizing K.means mark) (NewSize cols rows ∷ []) (known T.view self.old) s (known T.view self.new) next) }
+        ensures sized { IfOk result (λ _. SizedOn cols rows (known T.view self.old) (known T.view self.new)) }
+        ensures mark { mark_of self.new ≡ mark_of self.old }
+        ensures records { RecordsStay self.old self.new }
+        ensures slots { slots_of self.new ≡ slots_of self.old }
+        ensures hidden { terminal_of self.old ≡ None → (self.new ≡ self.old) × (result ≢ Err Refusal.Memory) }
+        ensures unchanged { OnErr result (self.new ≡ self.old) }
+        ensures zero_size { (result ≡ Err Refusal.ZeroSize) ↔ ((rows ≡ 0) ⊎ (cols ≡ 0)) }
+        ensures no_other { IfErr result (λ e. (e ≡ Refusal.ZeroSize) ⊎ (e ≡ Refusal.Memory)) }
+    {
+        if rows == 0 || cols == 0 {
+            return Err(Refusal::ZeroSize);
+        }
+        match &mut self.engine {
+            Some(engine) => engine.resize(rows, cols),
+            None => Ok(()),
         }
     }
 }

@@ -11,7 +11,7 @@ ghost use Rattle.indicatif_bar.specs.Shown.{PutsFrame, DrewBy};
 ghost use Rattle.indicatif_board.specs.BoardBars.{board_bars};
 ghost use Rattle.indicatif_board.specs.Boards.{BoardState, Location, opening_board, draw_of, index_of, taken_in, marked_on, board};
 ghost use Rattle.indicatif_board.specs.Members.{place_of, without, is_head, said_of};
-ghost use Rattle.indicatif_board.specs.Slots.{next_slot, slot_of};
+ghost use Rattle.indicatif_board.specs.Slots.{LeavesHead, next_slot, seated, slot_of, unseated};
 ghost use Rattle.indicatif_board.specs.Inside.Named.{HasPlace, named_laid_out, named_layout_takes};
 ghost use Rattle.indicatif_board.specs.Inside.Writings.{writing_by};
 
@@ -82,7 +82,8 @@ impl<K: Tracks> ShownBars<K> {
             MatchResult result (λ n. (s.made ≡ n) × (n < 2 ^ 64) × AreShownAs self.new (taken_in spot bar s)) (λ b. (b ≡ bar) × AreShownAs self.new s) }
         ensures bar { IfErr result (λ b. b ≡ bar) }
         ensures records { MatchResult result (λ n. (record_on n self.old ≡ None) × (record_on n self.new ≡ Some bar) × AllOthersStay n self.old self.new) (λ _. AllStay self.old self.new) }
-        ensures slot { MatchResult result (λ n. slot_of n self.new.table ≡ Some (next_slot self.old.table)) (λ _. self.new.table ≡ self.old.table) }
+        ensures slot { MatchResult result (λ n. (slot_of n self.new.table ≡ Some (next_slot self.old.table)) × (self.new.table ≡ seated at self.old.table))
+            (λ _. self.new.table ≡ self.old.table) }
     {
         if self.members.reserve(1).is_err() {
             return Err(bar);
@@ -111,6 +112,7 @@ impl<K: Tracks> ShownBars<K> {
             AreShownAs self.new (record s { members = without number s.members }) }
         ensures bar { (s : BoardState (BarRecord K)) (number : ℕ) (other : BarRecord K) → AreShownAs self.old s → at ≡ place_of number s.members →
             result ≡ said_of other (λ bar. bar) number s.members }
+        ensures slots { self.new.table ≡ unseated at self.old.table }
         ensures record { (number : ℕ) → StandsAt number at self.old → record_on number self.old ≡ Some result }
         ensures gone { (number : ℕ) → at ≡ seat_of number self.old.table.order → record_on number self.new ≡ None }
         ensures others { (number : ℕ) → at ≡ seat_of number self.old.table.order → AllOthersStay number self.old self.new }
@@ -136,6 +138,7 @@ impl<K: Tracks> ShownBars<K> {
     /// Marks a bar, if it is there: its owner is gone.
     pub fn mark(&mut self, number: u64)
         ensures marked { (s : BoardState (BarRecord K)) → AreShownAs self.old s → AreShownAs self.new (marked_on number s) }
+        ensures slots { self.new.table ≡ self.old.table }
         ensures record { record_on number self.new ≡ None }
         ensures others { AllOthersStay number self.old self.new }
     {
@@ -158,6 +161,7 @@ impl<K: Tracks> ShownBars<K> {
         requires placed { IfSome bar (λ at. at < vec_len self.old.members) }
         ensures silent { IsFalse (wrote result) → engine.new ≡ engine.old }
         ensures nowhere { (T.view (engine_term engine.old)).columns ≡ 0 → IsFalse (wrote result) }
+        ensures slots { LeavesHead self.old.table self.new.table }
         ensures records { AllStay self.old self.new }
         ensures refusal { IfErr result (λ e. IsTrue (is_of_draw e)) }
         ensures drew { (mark : ℕ) (takes : Bool) (s : BoardState (BarRecord K)) (number : Option ℕ) → is_no ask ≡ false →
@@ -184,6 +188,7 @@ impl<K: Tracks> ShownBars<K> {
         ensures memory { IfErr result (λ e. (e ≡ Refusal.Memory) × ((s : BoardState (BarRecord K)) (number : Option ℕ) →
             HasPlace number bar s.members → AreShownAs self.old s → IsTrue (named_layout_takes K.means number s))) }
         ensures unchanged { OnErr result (self.new ≡ self.old) }
+        ensures slots { self.new.table ≡ self.old.table }
         ensures records { AllStay self.old self.new }
         ensures laid { IfOk result (λ _. (target : Target) (s : BoardState (BarRecord K)) (number : Option ℕ) →
             target.columns ≡ width → HasPlace number bar s.members → AreShownAs self.old s →
@@ -205,6 +210,7 @@ impl<K: Tracks> ShownBars<K> {
         writing: BoardWriting<'_>,
     ) -> Result<Drawn, Refusal>
         ensures silent { IsFalse (wrote result) → engine.new ≡ engine.old }
+        ensures slots { LeavesHead self.old.table self.new.table }
         ensures records { AllStay self.old self.new }
         ensures refusal { IfErr result (λ e. IsTrue (is_of_draw e)) }
         ensures drew { (mark now : ℕ) (takes lays : Bool) (ask : Ask) (s laid : BoardState (BarRecord K)) → is_no ask ≡ false →

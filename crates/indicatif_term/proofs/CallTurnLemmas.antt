@@ -1,6 +1,9 @@
 -- The bytes of calls one after another are those of the whole drawing, also where one of them fails.
 use Rattle.std.proofs.Common.{◌≡◌, ℕ, zero, suc, ◌+◌, ◌<◌, Bool, true, false, ◌||◌, List, [], ◌∷◌, ◌++◌, length, Result, Ok, Err, refl, sym, ◌∙◌, ap, append_assoc, append-nil, arith, subst, ◌-◌, if◌then◌else◌}
-use Rattle.std.specs.Prelude.{nat_lt, IsErr, IsTrue}
+use Rattle.std.specs.Prelude.{nat_lt, IsErrAnd, IsTrue}
+use Rattle.std.specs.IoError.{error_kind}
+use Rattle.std.specs.declared.io.Error.{Error}
+use Rattle.std.specs.declared.io.ErrorKind.{ErrorKind}
 use Rattle.std.proofs.Math.Bool.{or-false}
 use Rattle.std.proofs.lemmas.Bool.Decides.{nat_tests}
 use Rattle.indicatif_term.specs.Terminal.{after}
@@ -35,7 +38,7 @@ told_then a b s t u p q h =
     q (subst (λ x. IsTrue (is_told x)) (sym e) (still_tells s a h)) ∙ ap (λ x. led_on x b) e ∙ led_on-append s a b
 
 pub reaches_none : (s : TermView) → LeadsOn [] s s
-reaches_none s = record { told_is = λ h. sym (led_on-nil s.told); columns_are = refl; rows_are = refl; faults_are = refl }
+reaches_none s = record { told_is = λ h. sym (led_on-nil s.told); columns_are = refl; rows_are = refl; faults_are = refl; kind_is = refl }
 
 pub reaches_then : {a b : List ℕ} {s t u : TermView} → LeadsOn a s t → LeadsOn b t u → LeadsOn (a ++ b) s u
 reaches_then {a} {b} {s} {t} {u} p q = record {
@@ -43,10 +46,11 @@ reaches_then {a} {b} {s} {t} {u} p q = record {
   columns_are = q.columns_are ∙ p.columns_are;
   rows_are = q.rows_are ∙ p.rows_are;
   faults_are = q.faults_are ∙ p.faults_are;
+  kind_is = q.kind_is ∙ p.kind_is;
 }
 
-pub breaks_then : {a b : List ℕ} {s t u : TermView} → LeadsOn a s t → BreaksOff b t u → BreaksOff (a ++ b) s u
-breaks_then {a} {b} {s} {t} {u} p q = record {
+pub breaks_then : {a b : List ℕ} {kind : ErrorKind} {s t u : TermView} → LeadsOn a s t → BreaksOff b kind t u → BreaksOff (a ++ b) kind s u
+breaks_then {a} {b} {kind} {s} {t} {u} p q = record {
   front = a ++ q.front;
   rest = q.rest;
   whole = append_assoc a q.front q.rest ∙ ap (λ x. a ++ x) q.whole;
@@ -54,10 +58,11 @@ breaks_then {a} {b} {s} {t} {u} p q = record {
   columns_are = q.columns_are ∙ p.columns_are;
   rows_are = q.rows_are ∙ p.rows_are;
   faults_are = rw (← p.faults_are) q.faults_are;
+  kind_is = q.kind_is;
 }
 
-pub breaks_early : {a : List ℕ} (b : List ℕ) {s t : TermView} → BreaksOff a s t → BreaksOff (a ++ b) s t
-breaks_early {a} b {s} {t} q = record {
+pub breaks_early : {a : List ℕ} (b : List ℕ) {kind : ErrorKind} {s t : TermView} → BreaksOff a kind s t → BreaksOff (a ++ b) kind s t
+breaks_early {a} b {kind} {s} {t} q = record {
   front = q.front;
   rest = q.rest ++ b;
   whole = sym (append_assoc q.front q.rest b) ∙ ap (λ x. x ++ b) q.whole;
@@ -65,17 +70,18 @@ breaks_early {a} b {s} {t} q = record {
   columns_are = q.columns_are;
   rows_are = q.rows_are;
   faults_are = q.faults_are;
+  kind_is = q.kind_is;
 }
 
 -- a call after bytes that were written
-pub writes_then : {E : Type 0} {a : List ℕ} (b : List ℕ) {s t : TermView} (u : TermView) (r : Result Unit E) → LeadsOn a s t → Writes b t u r → Writes (a ++ b) s u r
+pub writes_then : {a : List ℕ} (b : List ℕ) {s t : TermView} (u : TermView) (r : Result Unit Error) → LeadsOn a s t → Writes b t u r → Writes (a ++ b) s u r
 writes_then b u (Ok x) p q = reaches_then p q
 writes_then b u (Err e) p q = breaks_then p q
 
--- a failure is handed on, under any error
-pub writes_fail : {E : Type 0} {a : List ℕ} (b : List ℕ) {s t : TermView} (r : Result Unit E) → IsErr r → BreaksOff a s t → Writes (a ++ b) s t r
-writes_fail b (Ok x) h q = cc
-writes_fail b (Err e) h q = breaks_early b q
+-- a failure is handed on
+pub writes_fail : {a : List ℕ} (b : List ℕ) {s t : TermView} (e : Error) (r : Result Unit Error) → IsErrAnd r (λ x. x ≡ e) → BreaksOff a (error_kind e) s t → Writes (a ++ b) s t r
+writes_fail b e (Ok x) h q = absurd h
+writes_fail {a} b {s} {t} e (Err x) h q = breaks_early b (subst (λ y. BreaksOff a (error_kind y) s t) (sym h) q)
 
 -- ---- lines
 
@@ -116,13 +122,14 @@ down_reaches a i {s} {t} {u} p q =
     subst (λ x. LeadsOn x s u) (append_assoc a (rows_down i) row_down ∙ ap (λ x. a ++ x) (sym (rows_down-add i 1))) r
 
 -- or it fails
-pub down_fails : {E : Type 0} (a : List ℕ) (i n : ℕ) {s t : TermView} (u : TermView) (r : Result Unit E) → i < n → IsErr r → LeadsOn (a ++ rows_down i) s t → BreaksOff row_down t u →
+pub down_fails : (a : List ℕ) (i n : ℕ) {s t : TermView} (u : TermView) (x : Error) (r : Result Unit Error) → i < n → IsErrAnd r (λ y. y ≡ x) → LeadsOn (a ++ rows_down i) s t →
+    BreaksOff row_down (error_kind x) t u →
     Writes (a ++ rows_down n) s u r
-down_fails a i n {s} {t} u r k e p q =
+down_fails a i n {s} {t} u x r k e p q =
     let rest = rows_down (n - 1 - i) in
     let f : n ≡ i + (1 + (n - 1 - i)) = omega arith in
     let g : rows_down n ≡ rows_down i ++ (row_down ++ rest) = ap rows_down f ∙ rows_down-add i (1 + (n - 1 - i)) ∙ ap (λ x. rows_down i ++ x) (rows_down-add 1 (n - 1 - i)) in
-    let w : Writes (((a ++ rows_down i) ++ row_down) ++ rest) s u r = writes_fail rest r e (breaks_then p q) in
+    let w : Writes (((a ++ rows_down i) ++ row_down) ++ rest) s u r = writes_fail rest x r e (breaks_then p q) in
     rw g (subst (λ x. Writes x s u r) (append_assoc (a ++ rows_down i) row_down rest ∙ append_assoc a (rows_down i) (row_down ++ rest)) w)
 
 -- ---- a whole drawing

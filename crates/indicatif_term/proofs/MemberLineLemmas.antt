@@ -1,6 +1,6 @@
 -- The first lines of a frame's first members, and of the next one, are those of one member more.
 use Rattle.std.proofs.Common.{◌≡◌, ℕ, zero, suc, ◌+◌, ◌-◌, ◌<◌, min, List, [], ◌∷◌, ◌++◌, length, map, take, drop, get_or, refl, sym, ◌∙◌, ap, subst, arith, append-nil, length-append, Result, Ok, Err}
-use Rattle.std.specs.Prelude.{IsErr}
+use Rattle.std.specs.Prelude.{IsErrAnd}
 use Rattle.std.proofs.lemmas.Grind.{flat_map-append}
 use Rattle.std.proofs.lemmas.List.{take_more, take-append-drop, take_min, take-map, length-map}
 use Rattle.std.specs.declared.io.Error.{Error}
@@ -50,7 +50,7 @@ module _ (count : ℕ) (frame : List Segment) (i left n : ℕ) (s : Segment) (h 
     pub now_put : ArePut view (map line_text (take n s.lines.items)) q r → ArePut view (take count (frame_lines (take (i + 1) frame))) p r
     now_put g = rw now_lines (puts_then view (take count before) (map line_text (take n s.lines.items)) p q r (Ok tt) f g)
 
-    pub now_fails : {e : Error} (result : Result Unit Error) → IsErr result → Puts view (map line_text (take n s.lines.items)) q r (Err e) → Puts view (take count (frame_lines frame)) p r result
+    pub now_fails : {e : Error} (result : Result Unit Error) → IsErrAnd result (λ x. x ≡ e) → Puts view (map line_text (take n s.lines.items)) q r (Err e) → Puts view (take count (frame_lines frame)) p r result
     now_fails {e} result k g =
         let begun = frame_lines (take (i + 1) frame) in
         let rest = take (count - length begun) (frame_lines (drop (i + 1) frame)) in

@@ -5,6 +5,7 @@ use Rattle.std.proofs.lemmas.List.{take-append-drop}
 use Rattle.unicode_width.specs.Width.{char_width}
 use Rattle.indicatif_term.specs.Screen.{Screen, Op, Put, Return, LineFeed, Up, Down, Right, Left, EmptyRow, performed, performed_all, put_sized, put_wide, put_mark, put_here, line_feed}
 use Rattle.indicatif_term.specs.Terminal.{Terminal, after, ops_of}
+use Rattle.std.specs.declared.io.ErrorKind.TheVariants.{OutOfMemory}
 use Rattle.indicatif_term.specs.Calls.{LeadsOn, BreaksOff, State, move_bytes}
 use Rattle.indicatif_term.specs.Memory.{MemoryTerm, view_of}
 use Rattle.indicatif_term.specs.Inside.Feeding.{ReadsBeginning}
@@ -92,9 +93,11 @@ leads_on old new bytes e f =
       columns_are = ap (λ t. t.screen.columns) e ∙ size.columns;
       rows_are = ap (λ t. t.screen.height) e ∙ size.height;
       faults_are = f;
+      kind_is = refl;
     }
 
-pub breaks_off : (old new : MemoryTerm) (bytes : List ℕ) → ReadsBeginning bytes old.terminal new.terminal → new.faults ≡ (old.faults + 1) % 2 ^ 64 → BreaksOff bytes (view_of old) (view_of new)
+pub breaks_off : (old new : MemoryTerm) (bytes : List ℕ) → ReadsBeginning bytes old.terminal new.terminal → new.faults ≡ (old.faults + 1) % 2 ^ 64 →
+    BreaksOff bytes OutOfMemory (view_of old) (view_of new)
 breaks_off old new bytes r f =
     let size = after_size old.terminal r.front in
     record {
@@ -105,6 +108,7 @@ breaks_off old new bytes r f =
       columns_are = ap (λ t. t.screen.columns) r.is ∙ size.columns;
       rows_are = ap (λ t. t.screen.height) r.is ∙ size.height;
       faults_are = f;
+      kind_is = refl;
     }
 
 -- a move by 0

@@ -1,6 +1,7 @@
 -- The bytes of lines written one behind another, and the first visible character of a text.
 use Rattle.std.proofs.Common.{chars, None, Some, ◌≡◌, ℕ, ◌+◌, ◌<◌, List, [], ◌∷◌, ◌++◌, length, take, drop, get_or, sym, ◌∙◌, ap, subst, append-nil}
 use Rattle.std.specs.Prelude.{MatchOption, Option}
+use Rattle.std.specs.declared.io.ErrorKind.{ErrorKind}
 use Rattle.std.proofs.Math.Utf8.{encode}
 use Rattle.std.specs.Str.{IsUtf8}
 use Rattle.std.proofs.lemmas.List.{take_more, map-append, take-append-drop}
@@ -25,13 +26,13 @@ module _ (w : ℕ) (lines : List StandingLine) (i : ℕ) (x : StandingLine) (h :
       ∙ flat_map-append (filled_bytes w) (placed (take i lines)) (placed_of x ∷ []) ∙ ap (λ b. run_bytes w (placed (take i lines)) ++ b) (append-nil (filled_bytes w (placed_of x)))
 
   -- a failure within a line is one of the whole
-  pub run_breaks : (s t u : TermView) → LeadsOn (run_bytes w (placed (take i lines))) s t → BreaksOff (filled_bytes w (placed_of x)) t u → BreaksOff (run_bytes w (placed lines)) s u
-  run_breaks s t u p q =
+  pub run_breaks : {kind : ErrorKind} (s t u : TermView) → LeadsOn (run_bytes w (placed (take i lines))) s t → BreaksOff (filled_bytes w (placed_of x)) kind t u → BreaksOff (run_bytes w (placed lines)) kind s u
+  run_breaks {kind} s t u p q =
       let front = placed (take (i + 1) lines) in
       let back = placed (drop (i + 1) lines) in
       let whole : front ++ back ≡ placed lines = sym (map-append placed_of (take (i + 1) lines) (drop (i + 1) lines)) ∙ ap placed (take-append-drop (i + 1) lines) in
-      let b : BreaksOff (run_bytes w front ++ run_bytes w back) s u = breaks_early (run_bytes w back) (subst (λ y. BreaksOff y s u) (sym run_next) (breaks_then p q)) in
-      subst (λ y. BreaksOff y s u) (sym (flat_map-append (filled_bytes w) front back) ∙ ap (run_bytes w) whole) b
+      let b : BreaksOff (run_bytes w front ++ run_bytes w back) kind s u = breaks_early (run_bytes w back) (subst (λ y. BreaksOff y kind s u) (sym run_next) (breaks_then p q)) in
+      subst (λ y. BreaksOff y kind s u) (sym (flat_map-append (filled_bytes w) front back) ∙ ap (run_bytes w) whole) b
 
   pub even_next : AreEven w (take i lines) → IsEven w x → AreEven w (take (i + 1) lines)
   even_next all is = subst (AreEven w) (sym one_more) (all_append (IsEven w) (take i lines) (x ∷ []) all (is, tt))

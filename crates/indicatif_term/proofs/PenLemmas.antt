@@ -1,10 +1,11 @@
 -- Lines that a pen puts one after another are put as one list, and a failure is one of the whole.
 use Rattle.std.proofs.Common.{◌≡◌, ℕ, ◌<◌, ◌+◌, Bool, List, [], ◌∷◌, ◌++◌, ◌||◌, length, take, drop, get_or, Result, Ok, Err, refl, sym, ◌∙◌, ap, subst, length-append}
-use Rattle.std.specs.Prelude.{nat_lt, IsErr}
+use Rattle.std.specs.Prelude.{nat_lt, IsErr, IsErrAnd}
+use Rattle.std.specs.IoError.{error_kind}
 use Rattle.std.specs.declared.io.Error.{Error}
 use Rattle.std.proofs.Math.Bool.{or-false}
 use Rattle.std.proofs.lemmas.List.{take_more, take-append-drop}
-use Rattle.indicatif_term.specs.Calls.{TermView, Writes}
+use Rattle.indicatif_term.specs.Calls.{TermView, Writes, BreaksOff}
 use Rattle.indicatif_term.specs.Inside.Bytes.{lines_bytes}
 use Rattle.indicatif_term.specs.Inside.Pens.{Pens, Puts}
 use Rattle.indicatif_term.specs.declared.painting.Pen.{Pen}
@@ -18,7 +19,7 @@ err e = Err e
 
 -- the lines were put
 abbrev pub ArePut : {T : Type 0} → (T → TermView) → List (List ℕ) → Pen T → Pen T → Type 0
-ArePut view lines old new = Puts {E = Error} view lines old new (Ok tt)
+ArePut view lines old new = Puts view lines old new (Ok tt)
 
 module _ {T : Type 0} (view : T → TermView) where
   pub pens_done : (bytes : List ℕ) (x : Bool) (old new : Pen T) (r : Result Unit Error) → new.term.ghost_name ≡ old.term.ghost_name → Writes bytes (view old.term.now) (view new.term.now) r →
@@ -49,11 +50,12 @@ module _ {T : Type 0} (view : T → TermView) where
     place = tt;
   }
 
-  pub puts_fail : (a b : List (List ℕ)) (p q : Pen T) {e : Error} (result : Result Unit Error) → IsErr result → Puts view a p q (Err e) → Puts view (a ++ b) p q result
-  puts_fail a b p q (Ok u) h g = cc
+  pub puts_fail : (a b : List (List ℕ)) (p q : Pen T) {e : Error} (result : Result Unit Error) → IsErrAnd result (λ x. x ≡ e) → Puts view a p q (Err e) → Puts view (a ++ b) p q result
+  puts_fail a b p q (Ok u) h g = absurd h
   puts_fail a b p q (Err x) h g = record {
     same = g.same;
-    writes = rw (lines-append p.at_end a b) (breaks_early (lines_bytes (p.at_end || nat_lt 0 (length a)) b) g.writes);
+    writes = rw (lines-append p.at_end a b) (breaks_early (lines_bytes (p.at_end || nat_lt 0 (length a)) b)
+        (subst (λ y. BreaksOff (lines_bytes p.at_end a) (error_kind y) (view p.term.now) (view q.term.now)) (sym h) g.writes));
     place = tt;
   }
 
@@ -64,7 +66,7 @@ module _ {T : Type 0} (view : T → TermView) where
       let s : take (i + 1) ys ≡ take i ys ++ y ∷ [] = take_more ys i y h ∙ ap (λ x. take i ys ++ x ∷ []) e in
       rw s (puts_then (take i ys) (y ∷ []) p q r (ok tt) f g)
 
-  pub put_fails : (ys : List (List ℕ)) (i : ℕ) (y : List ℕ) (p q r : Pen T) {e : Error} (result : Result Unit Error) → i < length ys → get_or ys i y ≡ y → IsErr result →
+  pub put_fails : (ys : List (List ℕ)) (i : ℕ) (y : List ℕ) (p q r : Pen T) {e : Error} (result : Result Unit Error) → i < length ys → get_or ys i y ≡ y → IsErrAnd result (λ x. x ≡ e) →
       ArePut view (take i ys) p q → Puts view (y ∷ []) q r (Err e) → Puts view ys p r result
   put_fails ys i y p q r {e} result h at k f g =
       let s : (take i ys ++ y ∷ []) ++ drop (i + 1) ys ≡ ys = ap (λ x. x ++ drop (i + 1) ys) (sym (take_more ys i y h ∙ ap (λ x. take i ys ++ x ∷ []) at)) ∙ take-append-drop (i + 1) ys in
@@ -74,6 +76,6 @@ module _ {T : Type 0} (view : T → TermView) where
   pub put_came : (came : List (List ℕ)) (y : List ℕ) (p q r : Pen T) → ArePut view came p q → ArePut view (y ∷ []) q r → ArePut view (came ++ y ∷ []) p r
   put_came came y p q r f g = puts_then came (y ∷ []) p q r (ok tt) f g
 
-  pub came_fails : (ys came : List (List ℕ)) (y : List ℕ) (rest : List (List ℕ)) (p q r : Pen T) {e : Error} (result : Result Unit Error) → ys ≡ (came ++ y ∷ []) ++ rest → IsErr result →
+  pub came_fails : (ys came : List (List ℕ)) (y : List ℕ) (rest : List (List ℕ)) (p q r : Pen T) {e : Error} (result : Result Unit Error) → ys ≡ (came ++ y ∷ []) ++ rest → IsErrAnd result (λ x. x ≡ e) →
       ArePut view came p q → Puts view (y ∷ []) q r (Err e) → Puts view ys p r result
   came_fails ys came y rest p q r {e} result s k f g = rw s (puts_fail (came ++ y ∷ []) rest p r result k (puts_then came (y ∷ []) p q r (err e) f g))

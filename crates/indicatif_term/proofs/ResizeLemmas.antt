@@ -21,7 +21,7 @@ use Rattle.indicatif_term.proofs.DrawingLemmas.{all-height}
 
 -- ---- the lists
 
-segments_recut : (w : ℕ) (segments : List BarRows) → flat_map (λ (s : BarRows). s.rows) (map (recut_bar w) segments) ≡ recut_all w (flat_map (λ (s : BarRows). s.rows) segments)
+pub segments_recut : (w : ℕ) (segments : List BarRows) → flat_map (λ (s : BarRows). s.rows) (map (recut_bar w) segments) ≡ recut_all w (flat_map (λ (s : BarRows). s.rows) segments)
 segments_recut w [] = refl
 segments_recut w (s ∷ segments) = ap (λ x. recut_all w s.rows ++ x) (segments_recut w segments) ∙ sym (flat_map-append (recut w) s.rows (flat_map (λ (s : BarRows). s.rows) segments))
 
@@ -105,7 +105,7 @@ module _ (w h : ℕ) (l : Lists) (some : 0 < h) where
   pub whole-rows : (n : ℕ) → all_rows w whole ≡ recut_all w (all_rows n l)
   whole-rows n = settled-rows w h passing ∙ rows_passed-rows w more cut ∙ recut_lists-rows w n l
 
-  passing-height : lists_height passing ≡ lists_height cut
+  pub passing-height : lists_height passing ≡ lists_height cut
   passing-height = sym (all-height w passing) ∙ ap length (rows_passed-rows w more cut) ∙ all-height w cut
 
   whole-same : lists_height whole ≡ lists_height cut

@@ -24,11 +24,11 @@ use Rattle.indicatif_term.specs.declared.lines.Segment.{Segment}
 use Rattle.std.proofs.Common.{Result, Ok, Err}
 use Rattle.std.specs.Prelude.{fold}
 use Rattle.indicatif_text.specs.declared.refusal.Refusal.{Refusal}
-use Rattle.indicatif_term.specs.Calls.{TermView, Writes}
+use Rattle.indicatif_term.specs.Calls.{TermView}
 use Rattle.indicatif_term.specs.Lists.{grouped, onto_segments}
 use Rattle.indicatif_term.specs.Frames.{is_fault}
-use Rattle.indicatif_term.specs.Engines.{Counted}
-use Rattle.indicatif_term.specs.Inside.Remembering.{Remembers}
+use Rattle.indicatif_term.specs.Engines.{Counted, failure_kind}
+use Rattle.indicatif_term.specs.Inside.Remembering.{Draws, Remembers}
 use Rattle.indicatif_term.specs.declared.draw_target.Engine.{Engine}
 use Rattle.indicatif_term.proofs.ShownRowLemmas.{lines_rows, frame_rows, frame_lines_le, frame_chars}
 use Rattle.indicatif_term.proofs.CountLemmas.{length-live, live_of, settled-rows, passed-rows, same_blanks_log}
@@ -215,12 +215,14 @@ sits_live v w r on l c ps same p e f a o m low s =
 
 -- ---- what is written, counted
 
-pub counted_by : {T : Type 0} (bytes : List ℕ) (v v' : TermView) (next : Counts) (shown : Remembered) (r : Result Unit Refusal) (new : Engine T) → Remembers next shown r new → Writes bytes v v' r →
+pub counted_by : {T : Type 0} (bytes : List ℕ) (v v' : TermView) (next : Counts) (shown : Remembered) (r : Result Unit Refusal) (new : Engine T) → Remembers next shown r new → Draws bytes v v' r →
     Counted v v' r
-counted_by bytes v v' next shown (Ok u) new g q = record { columns_stay = q.columns_are; rows_stay = q.rows_are; faults_are = q.faults_are }
+counted_by bytes v v' next shown (Ok u) new g q = record { columns_stay = q.columns_are; rows_stay = q.rows_are; faults_are = q.faults_are; kind_is = q.kind_is }
 counted_by bytes v v' next shown (Err x) new g q =
     let broke : is_fault x ≡ true = ap is_fault g.0.1 in
-    record { columns_stay = q.columns_are; rows_stay = q.rows_are; faults_are = rw broke q.faults_are }
+    let b = q.2 in
+    let kind : q.0 ≡ failure_kind {A = Unit} (Err x) = sym (ap (λ e. failure_kind {A = Unit} (Err e)) q.1) in
+    record { columns_stay = b.columns_are; rows_stay = b.rows_are; faults_are = rw broke b.faults_are; kind_is = rw broke (b.kind_is ∙ kind) }
 
 -- ---- lines of which there are some
 

@@ -1,6 +1,7 @@
 -- The bytes of a walk through lines, line by line.
 use Rattle.std.proofs.Common.{inl, inr, ◌≡◌, ℕ, ◌+◌, ◌<◌, ◌≤◌, Bool, true, false, List, [], ◌∷◌, ◌++◌, length, take, drop, get_or, Result, Ok, Err, refl, sym, ◌∙◌, ap, subst, arith, append_assoc}
-use Rattle.std.specs.Prelude.{◌&&◌, IsErr, MatchResult}
+use Rattle.std.specs.Prelude.{◌&&◌, IsErrAnd, MatchResult}
+use Rattle.std.specs.declared.io.ErrorKind.{ErrorKind}
 use Rattle.std.proofs.lemmas.Bool.{cases_Bool}
 use Rattle.std.proofs.lemmas.List.{take_more, map-append, take-append-drop}
 use Rattle.indicatif_term.specs.Calls.{TermView, LeadsOn, BreaksOff, DOWN, move_bytes}
@@ -69,14 +70,14 @@ module _ (lines : List StandingLine) (i : ℕ) (x : StandingLine) (h : i < lengt
       omega (arith, height_push lines i x h e, ap placed_height whole, height-append (placed (take (i + 1) lines)) (placed (drop (i + 1) lines)))
 
   -- a failure within a line is one of the whole walk
-  pub walk_breaks : (s t u : TermView) → LeadsOn (walk_bytes 0 (placed (take i lines))) s t → BreaksOff (walk_bytes (walk_down 0 (placed (take i lines))) (placed_of x ∷ [])) t u →
-      BreaksOff (walk_bytes 0 (placed lines)) s u
-  walk_breaks s t u p q =
+  pub walk_breaks : {kind : ErrorKind} (s t u : TermView) → LeadsOn (walk_bytes 0 (placed (take i lines))) s t → BreaksOff (walk_bytes (walk_down 0 (placed (take i lines))) (placed_of x ∷ [])) kind t u →
+      BreaksOff (walk_bytes 0 (placed lines)) kind s u
+  walk_breaks {kind} s t u p q =
       let whole : placed (take (i + 1) lines) ++ placed (drop (i + 1) lines) ≡ placed lines =
       sym (map-append placed_of (take (i + 1) lines) (drop (i + 1) lines)) ∙ ap placed (take-append-drop (i + 1) lines) in
       let rest = walk_bytes (walk_down 0 (placed (take (i + 1) lines))) (placed (drop (i + 1) lines)) in
-      let b : BreaksOff (walk_bytes 0 (placed (take (i + 1) lines)) ++ rest) s u = breaks_early rest (subst (λ x. BreaksOff x s u) (sym bytes_next) (breaks_then p q)) in
-      subst (λ x. BreaksOff x s u) (sym (walk-append 0 (placed (take (i + 1) lines)) (placed (drop (i + 1) lines))) ∙ ap (walk_bytes 0) whole) b
+      let b : BreaksOff (walk_bytes 0 (placed (take (i + 1) lines)) ++ rest) kind s u = breaks_early rest (subst (λ x. BreaksOff x kind s u) (sym bytes_next) (breaks_then p q)) in
+      subst (λ x. BreaksOff x kind s u) (sym (walk-append 0 (placed (take (i + 1) lines)) (placed (drop (i + 1) lines))) ∙ ap (walk_bytes 0) whole) b
 
   pub stays_more : x.stays ≡ true → all_stay (placed (take (i + 1) lines)) ≡ all_stay (placed (take i lines))
   stays_more is = ap all_stay split ∙ stay-append (placed (take i lines)) (placed_of x ∷ []) ∙ ap (λ b. all_stay (placed (take i lines)) && (b && true)) is
@@ -102,9 +103,9 @@ four a b c d = append_assoc (a ++ b) c d ∙ four_two a b c d
 
 -- ---- failures, and tests
 
-pub broken : {E : Type 0} (r : Result ℕ E) (P : ℕ → Type 0) (B : Type 0) → IsErr r → B → MatchResult r P (λ _. B)
-broken (Ok x) P B h b = cc
-broken (Err e) P B h b = b
+pub broken : {E : Type 0} {e : E} (r : Result ℕ E) (P : ℕ → Type 0) (B : E → Type 0) → IsErrAnd r (λ x. x ≡ e) → B e → MatchResult r P B
+broken (Ok x) P B h b = absurd h
+broken (Err x) P B h b = subst B (sym h) b
 
 pub stay_with : (ps : List PlacedLine) (p : PlacedLine) → all_stay (ps ++ p ∷ []) ≡ (all_stay ps && p.stays)
 stay_with ps p = stay-append ps (p ∷ []) ∙ ap (λ b. all_stay ps && b) (and-true p.stays)

@@ -1,12 +1,12 @@
 -- A terminal behind a writer tells the bytes that were sent to the writer.
-use Rattle.std.proofs.Common.{◌≡◌, ℕ, ◌+◌, ◌-◌, ◌%◌, ◌^◌, length, if◌then◌else◌, List, [], ◌++◌, Option, Some, None, Result, Ok, Err, refl, sym, ◌∙◌, ap, subst, append_assoc, append-nil, take, drop, take-append-drop}
+use Rattle.std.proofs.Common.{◌≡◌, ℕ, ◌+◌, ◌-◌, length, List, [], ◌++◌, Option, Some, None, Result, Ok, Err, refl, sym, ◌∙◌, ap, subst, append_assoc, append-nil, take, drop, take-append-drop}
 use Rattle.std.specs.Prelude.{IsTrue}
-use Rattle.std.specs.Result.{is_err}
+use Rattle.std.specs.declared.io.Error.{Error}
 use Rattle.std.specs.Io.KnownBytes.{Appends, Keeps}
 use Rattle.std.proofs.lemmas.Bool.{false≢true}
 use Rattle.std.proofs.lemmas.List.{take_rest}
-use Rattle.indicatif_term.specs.Calls.{Bytes, is_told, led_on, TermView, Writes}
-use Rattle.indicatif_term.specs.Writers.{WriterTerm, told_by, view_behind, AppendsAllOrFront}
+use Rattle.indicatif_term.specs.Calls.{Bytes, is_told, led_on, Writes}
+use Rattle.indicatif_term.specs.Writers.{WriterTerm, told_by, view_behind, counted_as, AppendsAllOrFront}
 
 -- ---- what a writer holds
 
@@ -41,29 +41,27 @@ kept_all a b (Err e) k = record { front = []; rest = []; whole = refl; appended 
 
 -- ---- what the terminal tells
 
-module _ {W : Type 0} (contents : W → Option (List ℕ)) (w w' : W) (columns rows faults : ℕ) (bytes : List ℕ) where
-  abbrev before : TermView
-  before = view_behind contents (record { writer = w; columns = columns; rows = rows; faults = faults })
+module _ {W : Type 0} (contents : W → Option (List ℕ)) (t : WriterTerm W) (w' : W) (bytes : List ℕ) where
+  -- the terminal with this writer, and then after a call that came to this
+  abbrev went : Result Unit Error → WriterTerm W
+  went r = counted_as r (record t { writer = w' })
 
-  abbrev after : ℕ → TermView
-  after n = view_behind contents (record { writer = w'; columns = columns; rows = rows; faults = n })
-
-  written : {E : Type 0} (r : Result Unit E) → AppendsAllOrFront (contents w) (contents w') bytes r → Writes bytes before (after (if is_err r then (faults + 1) % 2 ^ 64 else faults)) r
-  written (Ok u) p = record { told_is = told_appended (contents w) (contents w') bytes p; columns_are = refl; rows_are = refl; faults_are = refl }
+  written : (r : Result Unit Error) → AppendsAllOrFront (contents t.writer) (contents w') bytes r → Writes bytes (view_behind contents t) (view_behind contents (went r)) r
+  written (Ok u) p = record { told_is = told_appended (contents t.writer) (contents w') bytes p; columns_are = refl; rows_are = refl; faults_are = refl; kind_is = refl }
   written (Err x) p = record {
     front = p.front;
     rest = p.rest;
     whole = p.whole;
-    told_is = told_appended (contents w) (contents w') p.front p.appended;
+    told_is = told_appended (contents t.writer) (contents w') p.front p.appended;
     columns_are = refl;
     rows_are = refl;
     faults_are = refl;
+    kind_is = refl;
   }
 
-  pub sent : {E : Type 0} (old new : WriterTerm W) (done r : Result Unit E) → record { writer = w; columns = columns; rows = rows; faults = faults } ≡ old
-      → new ≡ record { writer = w'; columns = columns; rows = rows; faults = if is_err done then (faults + 1) % 2 ^ 64 else faults }
-      → AppendsAllOrFront (contents w) (contents w') bytes done → r ≡ done → Writes bytes (view_behind contents old) (view_behind contents new) r
+  pub sent : (old new : WriterTerm W) (done r : Result Unit Error) → t ≡ old → new ≡ went done → AppendsAllOrFront (contents t.writer) (contents w') bytes done → r ≡ done →
+      Writes bytes (view_behind contents old) (view_behind contents new) r
   sent old new done r at to p same =
       subst (λ x. Writes bytes (view_behind contents old) (view_behind contents new) x) (sym same)
       (subst (λ x. Writes bytes (view_behind contents old) (view_behind contents x) done) (sym to)
-      (subst (λ x. Writes bytes (view_behind contents x) (after (if is_err done then (faults + 1) % 2 ^ 64 else faults)) done) at (written done p)))
+      (subst (λ x. Writes bytes (view_behind contents x) (view_behind contents (went done)) done) at (written done p)))

@@ -1,5 +1,8 @@
 -- The calls of a terminal as bytes, by ECMA-48, and what is known of a terminal.
 use Rattle.std.specs.Prelude.{◌≡◌, ℕ, ◌+◌, ◌%◌, ◌^◌, ◌==◌, Bool, true, false, IsTrue, List, [], ◌∷◌, ◌++◌, if◌then◌else◌, decimal, Result, MatchResult}
+use Rattle.std.specs.IoError.{error_kind}
+use Rattle.std.specs.declared.io.Error.{Error}
+use Rattle.std.specs.declared.io.ErrorKind.{ErrorKind}
 use Rattle.indicatif_term.specs.Terminal.{Terminal, after}
 
 -- ---- the bytes of the calls
@@ -56,12 +59,14 @@ led_on (State t) bytes = State (after t bytes)
 led_on (Bytes old) bytes = Bytes (old ++ bytes)
 led_on Nothing bytes = Nothing
 
--- what contracts see of a terminal: what it tells, its size, and how often a call has failed, modulo 2^64
+-- what contracts see of a terminal: what it tells, its size, how often a call has failed, modulo 2^64, and of what kind the last
+-- failure was
 pub record TermView : Type 0 where
   pub told : Told
   pub columns : ℕ
   pub rows : ℕ
   pub faults : ℕ
+  pub kind : ErrorKind
 
 -- these bytes led from the one to the other, where the one tells anything, and nothing else changed
 pub record LeadsOn (bytes : List ℕ) (old new : TermView) : Type 0 where
@@ -69,9 +74,10 @@ pub record LeadsOn (bytes : List ℕ) (old new : TermView) : Type 0 where
   pub columns_are : new.columns ≡ old.columns
   pub rows_are : new.rows ≡ old.rows
   pub faults_are : new.faults ≡ old.faults
+  pub kind_is : new.kind ≡ old.kind
 
--- a beginning of these bytes did, and one more fault
-pub record BreaksOff (bytes : List ℕ) (old new : TermView) : Type 0 where
+-- a beginning of these bytes did, and one more fault, of this kind
+pub record BreaksOff (bytes : List ℕ) (kind : ErrorKind) (old new : TermView) : Type 0 where
   pub front : List ℕ
   pub rest : List ℕ
   pub whole : front ++ rest ≡ bytes
@@ -79,7 +85,8 @@ pub record BreaksOff (bytes : List ℕ) (old new : TermView) : Type 0 where
   pub columns_are : new.columns ≡ old.columns
   pub rows_are : new.rows ≡ old.rows
   pub faults_are : new.faults ≡ (old.faults + 1) % 2 ^ 64
+  pub kind_is : new.kind ≡ kind
 
 -- a call that writes these bytes: all of them, or a beginning of them where it fails
-abbrev pub Writes : {E : Type 0} → List ℕ → TermView → TermView → Result Unit E → Type 0
-Writes bytes old new result = MatchResult result (λ _. LeadsOn bytes old new) (λ _. BreaksOff bytes old new)
+abbrev pub Writes : List ℕ → TermView → TermView → Result Unit Error → Type 0
+Writes bytes old new result = MatchResult result (λ _. LeadsOn bytes old new) (λ e. BreaksOff bytes (error_kind e) old new)

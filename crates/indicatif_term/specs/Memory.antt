@@ -2,6 +2,7 @@
 use Rattle.std.specs.Prelude.{◌≡◌, ◌⊎◌, ℕ, ◌+◌, ◌/◌, ◌%◌, ◌==◌, ◌||◌, nat_lt, List, [], ◌∷◌, ◌++◌, flat_map, decimal, codes, chars, encode_utf8_all, if◌then◌else◌, Result, MatchResult}
 use Rattle.indicatif_term.specs.Terminal.{Terminal}
 use Rattle.indicatif_term.specs.Calls.{TermView, State}
+use Rattle.std.specs.declared.io.ErrorKind.TheVariants.{OutOfMemory}
 
 -- what contracts see of a terminal in memory
 pub record MemoryTerm : Type 0 where
@@ -11,9 +12,9 @@ pub record MemoryTerm : Type 0 where
   -- the text of the calls since the last check, one a line
   pub moves : List ℕ
 
--- what contracts see of it as of any terminal
+-- what contracts see of it as of any terminal; only want of memory makes a call of it fail
 abbrev pub view_of : MemoryTerm → TermView
-view_of m = record { told = State m.terminal; columns = m.terminal.screen.columns; rows = m.terminal.screen.height; faults = m.faults }
+view_of m = record { told = State m.terminal; columns = m.terminal.screen.columns; rows = m.terminal.screen.height; faults = m.faults; kind = OutOfMemory }
 
 -- what becomes of the calls' text: this one's is put at its end; where the call fails, that is so too, or all stays as it was
 abbrev pub Records : {E : Type 0} → List ℕ → MemoryTerm → MemoryTerm → Result Unit E → Type 0

@@ -126,3 +126,4 @@ pub record Resized (w h : ℕ) (old new : TermView) : Type 0 where
   pub columns_are : new.columns ≡ w
   pub rows_are : new.rows ≡ h
   pub faults_are : new.faults ≡ old.faults
+  pub kind_is : new.kind ≡ old.kind

@@ -1,5 +1,6 @@
 -- Where bars are drawn: a terminal, with how often it may be drawn there; or nowhere.
 use Rattle.std.specs.Prelude.{ℕ, Bool, true, not, ◌||◌, List, Option, Some, None, option_map, string_bytes, codes, bytes_eq}
+use Rattle.std.specs.declared.io.ErrorKind.TheVariants.{Other}
 use Rattle.indicatif_term.specs.Limiters.{Limiter}
 use Rattle.indicatif_term.specs.Writers.{WriterTerm}
 use Rattle.indicatif_term.specs.declared.target.Facts.{Facts}
@@ -25,4 +26,4 @@ hides facts = not facts.attended || is_dumb (option_map string_bytes facts.term)
 
 -- a new terminal of the size that is told, behind a writer
 abbrev pub term_behind : {W : Type 0} → W → Facts → WriterTerm W
-term_behind w facts = record { writer = w; columns = facts.cols; rows = facts.rows; faults = 0 }
+term_behind w facts = record { writer = w; columns = facts.cols; rows = facts.rows; faults = 0; kind = Other }

@@ -176,8 +176,32 @@ fn passed_over(standing: &[StandingLine], place: Place, start: usize) -> Place
     at
 }
 
-/// Whether two texts are the same.
-fn is_same(a: &str, b: &str) -> bool
+/// Whether two texts are the same. Their ends are compared first, since numbers that change mostly stand there.
+pub fn is_same(a: &str, b: &str) -> bool
+    ensures { IsTrue result ↔ (a.now ≡ b.now) }
+{
+    if !may_be_same(a.as_bytes(), b.as_bytes()) {
+        return false;
+    }
+    a == b
+}
+
+/// Whether bytes may be the same, by how many they are and by the last of them.
+fn may_be_same(a: &[u8], b: &[u8]) -> bool
+    ensures { a.now ≡ b.now → IsTrue result }
+{
+    let count = a.len();
+    if count != b.len() {
+        return false;
+    }
+    if count < 16 {
+        return true;
+    }
+    are_same(&a[count - 16..], &b[count - 16..])
+}
+
+/// Whether bytes are the same.
+fn are_same(a: &[u8], b: &[u8]) -> bool
     ensures { IsTrue result ↔ (a.now ≡ b.now) }
 {
     a == b

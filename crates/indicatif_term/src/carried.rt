@@ -1,5 +1,5 @@
 //! The lines of kept rows, which go on being remembered while other lines are drawn below them.
-ghost use Rattle.std.specs.Prelude.{◌≡◌, ◌≤◌, ◌++◌, ℕ, List, take, drop, length, string_bytes, IfOk, IfSome};
+ghost use Rattle.std.specs.Prelude.{◌≡◌, ◌≤◌, ◌++◌, ℕ, List, take, drop, length, string_bytes, IsTrue, IfOk, IfErr, IfSome};
 ghost use Rattle.indicatif_text.specs.Columns.{Cell};
 ghost use Rattle.indicatif_term.specs.Lists.{Lists};
 ghost use Rattle.indicatif_term.specs.Counts.{CountsOf};
@@ -17,6 +17,7 @@ use indicatif_text::columns::Refusal;
 impl StandingLine {
     /// The same line, its text in spare room.
     fn copied(&self, spare: &mut Spare) -> Result<StandingLine, Refusal>
+        ensures memory { IfErr result (λ e. e ≡ Refusal.Memory) }
         ensures text { IfOk result (λ l. string_bytes l.text ≡ string_bytes self.now.text) }
         ensures right { (w : ℕ) → IsLine w self.now → IfOk result (λ l. IsLine w l) }
     {
@@ -32,41 +33,53 @@ impl StandingLine {
     }
 }
 
-/// The lines that stand above so many live rows, as far as those of the kept rows are remembered; none where they aren't, or memory
-/// is refused. Those that have wholly joined the rows above are left out.
+/// The lines that stand above so many live rows, as far as those of the kept rows are remembered; none where they aren't. Those that
+/// have wholly joined the rows above are left out. Refused: `Memory`, where they are needed; else there are none then.
 pub fn carried(
     spare: &mut Spare,
     shown: &Remembered,
     counts: &Counts,
     window: Window,
-) -> Vec<StandingLine>
-    ensures right { AreLines window.columns result.items }
+    needed: bool,
+) -> Result<Vec<StandingLine>, Refusal>
+    ensures memory { IfErr result (λ e. (e ≡ Refusal.Memory) × IsTrue needed) }
+    ensures right { IfOk result (λ ls. AreLines window.columns ls.items) }
     ensures rows { (l : Lists) → AreRemembered shown.now l → CountsOf counts.now l →
-        (front : List (List Cell)) × (front ++ standing_rows window.columns result.items ≡ l.above ++ l.kept) }
+        IfOk result (λ ls. (front : List (List Cell)) × (front ++ standing_rows window.columns ls.items ≡ l.above ++ l.kept)) }
 {
     if counts.kept == 0 || shown.width != window.columns {
-        return spare.no_lines();
+        return Ok(spare.no_lines());
     }
-    match copied_above(spare, shown, counts) {
-        Some(lines) => lines,
-        None => spare.no_lines(),
+    let Some(cut) = first_of_rows(&shown.lines, counts.live) else {
+        return Ok(spare.no_lines());
+    };
+    match copied_above(spare, shown, counts.kept, cut) {
+        Ok(lines) => Ok(lines),
+        Err(e) => {
+            if needed {
+                return Err(e);
+            }
+            Ok(spare.no_lines())
+        }
     }
 }
 
-/// Copies of the lines above the live rows, down to the first of those that are needed for the kept rows.
-fn copied_above(spare: &mut Spare, shown: &Remembered, counts: &Counts) -> Option<Vec<StandingLine>>
-    ensures { IfSome result (λ ls. (at : ℕ) × (cut : ℕ)
-        × (texts ls.items ≡ texts (drop at shown.now.kept.items) ++ texts (take cut shown.now.lines.items))
-        × (cut ≤ length shown.now.lines.items) × (placed_height (placed (drop cut shown.now.lines.items)) ≡ counts.now.live)
-        × ((w : ℕ) → AreLines w shown.now.kept.items → AreLines w shown.now.lines.items → AreLines w ls.items)) }
+/// Copies of the lines above that one of the last drawing, down to the first of those that are needed for the kept rows. Refused:
+/// `Memory`.
+fn copied_above(
+    spare: &mut Spare,
+    shown: &Remembered,
+    kept: usize,
+    cut: usize,
+) -> Result<Vec<StandingLine>, Refusal>
+    requires { cut ≤ length shown.now.lines.items }
+    ensures memory { IfErr result (λ e. e ≡ Refusal.Memory) }
+    ensures texts { IfOk result (λ ls. (at : ℕ) × (texts ls.items ≡ texts (drop at shown.now.kept.items) ++ texts (take cut shown.now.lines.items))) }
+    ensures right { (w : ℕ) → AreLines w shown.now.kept.items → AreLines w shown.now.lines.items → IfOk result (λ ls. AreLines w ls.items) }
 {
-    let cut = first_of_rows(&shown.lines, counts.live)?;
     let above = &shown.lines[..cut];
-    let at = first_of_last(&shown.kept, counts.kept.saturating_sub(height_of(above)));
-    match copies(spare, &shown.kept[at..], above) {
-        Ok(lines) => Some(lines),
-        Err(_) => None,
-    }
+    let at = first_of_last(&shown.kept, kept.saturating_sub(height_of(above)));
+    copies(spare, &shown.kept[at..], above)
 }
 
 /// Copies of these lines and those below them.
@@ -75,6 +88,7 @@ fn copies(
     above: &[StandingLine],
     below: &[StandingLine],
 ) -> Result<Vec<StandingLine>, Refusal>
+    ensures memory { IfErr result (λ e. e ≡ Refusal.Memory) }
     ensures texts { IfOk result (λ ls. texts ls.items ≡ texts above.now ++ texts below.now) }
     ensures right { (w : ℕ) → AreLines w above.now → AreLines w below.now → IfOk result (λ ls. AreLines w ls.items) }
 {
@@ -90,6 +104,7 @@ fn copy_lines(
     lines: &mut Vec<StandingLine>,
     more: &[StandingLine],
 ) -> Result<(), Refusal>
+    ensures memory { IfErr result (λ e. e ≡ Refusal.Memory) }
     ensures texts { IfOk result (λ _. texts lines.new.items ≡ texts lines.old.items ++ texts more.now) }
     ensures right { (w : ℕ) → AreLines w lines.old.items → AreLines w more.now → IfOk result (λ _. AreLines w lines.new.items) }
 {

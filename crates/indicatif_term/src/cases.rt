@@ -11,6 +11,7 @@ ghost use Rattle.indicatif_term.specs.CellCases.{contents_after, cursor_after, p
 ghost use Rattle.indicatif_term.specs.Cases.{LongLine, ThreeOnTwo, LogAbove, AtTheBottom, KeptScrollsAway, ClearLeavesAbove, FatesOfBars, LogScrolls};
 ghost use Rattle.indicatif_term.specs.Resizes.{resized_terminal};
 ghost use Rattle.indicatif_term.specs.ResizeCases.{fed, picture_at, cursor_at, NotJoined, LiveRowsScrollAway, LogIsCut, RowsBelowDropped, ReachedBelow, KeptRowsScrollAway};
+ghost use Rattle.indicatif_term.specs.Inside.Recutting.{piece_text, texts_then, cut_counts, counts_after};
 ghost use Rattle.indicatif_term.specs.Targets.{is_dumb};
 ghost use Rattle.indicatif_term.specs.LimiterCases.{TwentyAtOnce, WholeMilliseconds, NoMoreInHand, NoneBefore};
 
@@ -142,6 +143,19 @@ pub fn cut_lists()
     ensures rows_below_dropped { RowsBelowDropped }
     ensures reached_below { ReachedBelow }
     ensures kept_rows_scroll_away { KeptRowsScrollAway }
+{}
+
+/// The lines of one row that the rows of a line become, by their texts; and counts of rows that were cut.
+fn cut_lines()
+    ensures each_row { texts_then 10 5 (codes "progress bars") ≡ (codes "progr" ∷ codes "ess b" ∷ []) ∷ (codes "ars" ∷ []) ∷ [] }
+    ensures not_joined { texts_then 3 9 (codes "abcd") ≡ (codes "abc" ∷ []) ∷ (codes "d" ∷ []) ∷ [] }
+    ensures spaces { texts_then 9 2 (codes " a b  ") ≡ (codes " a" ∷ codes " b" ∷ []) ∷ [] }
+    ensures empty { texts_then 4 2 [] ≡ ([] ∷ []) ∷ [] }
+    ensures colours { texts_then 4 3 (ESC ++ codes "[1mabc" ++ ESC ++ codes "[0md") ≡ (codes "abc" ∷ codes "d" ∷ []) ∷ [] }
+    ensures escape { piece_text (record { base = 0x61; marks = 0x1B ∷ [] } ∷ record { base = 0x5B; marks = [] } ∷ []) ≡ codes "a" ++ ESC ++ ESC ++ codes "[m[" }
+    ensures too_wide { texts_then 4 1 (codes "a" ++ 0xE5 ∷ 0x9B ∷ 0xBD ∷ codes "b") ≡ (codes "a" ∷ codes "b" ∷ []) ∷ [] }
+    ensures counts { cut_counts (2 ∷ 1 ∷ 3 ∷ []) (record { bar = 8; rows = 2 } ∷ record { bar = 9; rows = 1 } ∷ []) ≡ record { bar = 8; rows = 3 } ∷ record { bar = 9; rows = 3 } ∷ [] }
+    ensures scrolled { counts_after 4 (record { bar = 8; rows = 3 } ∷ record { bar = 9; rows = 3 } ∷ []) ≡ record { bar = 9; rows = 2 } ∷ [] }
 {}
 
 /// Sequences that are no moves, and bytes that spell no character.

@@ -1,5 +1,6 @@
 //! Lines written among those that stay.
 ghost use Rattle.std.specs.Prelude.{◌≡◌, ◌==◌, ◌&&◌, IsTrue, ◌+◌, ◌-◌, ◌≤◌, ◌++◌, ◌∷◌, [], ℕ, List, replicate, MatchResult};
+ghost use Rattle.std.specs.IoError.{error_kind};
 ghost use Rattle.indicatif_term.specs.Calls.{Writes, LeadsOn, BreaksOff, DOWN, RIGHT, move_bytes};
 ghost use Rattle.indicatif_term.specs.Inside.Skips.{PlacedLine, placed_height, changed_bytes, walk_bytes, walk_down, column_bytes, end_bytes, last_bytes, skip_bytes, all_stay, has_end, filled_anew, rows_below, rewrite_bytes, free_behind, change_bytes};
 ghost use Rattle.indicatif_term.specs.Inside.Fills.{last_of};
@@ -109,7 +110,7 @@ fn walk<T: TermLike>(term: &mut T, lines: &[StandingLine]) -> io::Result<usize>
     requires small { placed_height (placed lines.now) ≤ 65535 }
     ensures { MatchResult result
         (λ down. LeadsOn (walk_bytes 0 (placed lines.now)) (T.view term.old) (T.view term.new) × (down ≡ walk_down 0 (placed lines.now)))
-        (λ _. BreaksOff (walk_bytes 0 (placed lines.now)) (T.view term.old) (T.view term.new)) }
+        (λ e. BreaksOff (walk_bytes 0 (placed lines.now)) (error_kind e) (T.view term.old) (T.view term.new)) }
 {
     let mut down = 0;
     for line in lines {
@@ -123,7 +124,7 @@ fn pass<T: TermLike>(term: &mut T, down: usize, line: &StandingLine) -> io::Resu
     requires small { down + line.now.rows ≤ 65536 }
     ensures { MatchResult result
         (λ more. LeadsOn (walk_bytes down (placed_of line.now ∷ [])) (T.view term.old) (T.view term.new) × (more ≡ walk_down down (placed_of line.now ∷ [])))
-        (λ _. BreaksOff (walk_bytes down (placed_of line.now ∷ [])) (T.view term.old) (T.view term.new)) }
+        (λ e. BreaksOff (walk_bytes down (placed_of line.now ∷ [])) (error_kind e) (T.view term.old) (T.view term.new)) }
 {
     if line.stays {
         return Ok(down + line.rows);

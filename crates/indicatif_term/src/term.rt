@@ -1,9 +1,8 @@
 //! A terminal behind a writer of bytes.
-ghost use Rattle.std.specs.Prelude.{◌≡◌, ◌+◌, ◌%◌, ◌^◌, ◌⊎◌, ◌↔◌, if◌then◌else◌, IsOk, IfErr, OnOk, OnErr};
-ghost use Rattle.std.specs.Result.{is_err};
+ghost use Rattle.std.specs.Prelude.{◌≡◌, ◌⊎◌, ◌↔◌, IsOk, IfErr, OnOk, OnErr};
 ghost use Rattle.indicatif_term.specs.Calls.{Writes, move_bytes, UP, DOWN, RIGHT, LEFT};
 ghost use Rattle.indicatif_term.specs.Resizes.{Resized};
-ghost use Rattle.indicatif_term.specs.Writers.{WriterTerm, view_behind, AppendsAllOrFront};
+ghost use Rattle.indicatif_term.specs.Writers.{WriterTerm, view_behind, counted_as, AppendsAllOrFront};
 
 use crate::move_bytes::MoveBytes;
 use crate::term_like::{Resize, TermLike};
@@ -14,7 +13,7 @@ use std::marker::Model;
 
 /// A terminal whose calls write their bytes to a writer. Its size is what it was made with, or what `resize` told it since.
 ///
-/// A call that fails has written a beginning of its bytes, and adds 1 modulo 2^64 to `faults`. A move by 0 writes nothing and
+/// A call that fails has written a beginning of its bytes, adds 1 modulo 2^64 to `faults`, and answers with the writer's own kind. A move by 0 writes nothing and
 /// never fails.
 ///
 /// ```
@@ -27,6 +26,7 @@ pub struct Term<W: Write> {
     columns: u16,
     rows: u16,
     faults: u64,
+    kind: ErrorKind,
 }
 
 impl<W: Write> Model for Term<W> {
@@ -34,19 +34,20 @@ impl<W: Write> Model for Term<W> {
 
     ghost Value = { WriterTerm W };
 
-    ghost view = { λ t. record { writer = t.writer; columns = t.columns; rows = t.rows; faults = t.faults } };
+    ghost view = { λ t. record { writer = t.writer; columns = t.columns; rows = t.rows; faults = t.faults; kind = t.kind } };
 }
 
 impl<W: Write> Term<W> {
     /// A terminal of `rows` rows and `cols` columns behind `w`, of which no call has failed.
     pub fn new(w: W, rows: u16, cols: u16) -> Term<W>
-        ensures { result ≡ record { writer = w; columns = cols; rows = rows; faults = 0 } }
+        ensures { result ≡ record { writer = w; columns = cols; rows = rows; faults = 0; kind = ErrorKind.Other } }
     {
         Term {
             writer: w,
             columns: cols,
             rows,
             faults: 0,
+            kind: ErrorKind::Other,
         }
     }
 
@@ -76,14 +77,14 @@ impl<W: Write> Term<W> {
         self.send(MoveBytes::new(letter, n).as_slice())
     }
 
-    /// Hands on what became of a call, and counts a failure.
+    /// Hands on what became of a call; counts a failure, and remembers its kind.
     fn counted(&mut self, done: io::Result<()>) -> io::Result<()>
         ensures same { result ≡ done }
-        ensures counts { self.new
-            ≡ record self.old { faults = if is_err done then (self.old.faults + 1) % 2 ^ 64 else self.old.faults } }
+        ensures counts { self.new ≡ counted_as done self.old }
     {
-        if done.is_err() {
+        if let Err(e) = &done {
             self.faults = self.faults.wrapping_add(1);
+            self.kind = e.kind();
         }
         done
     }
@@ -158,6 +159,7 @@ impl<W: Write> Resize for Term<W> {
         ensures zero_size { (result ≡ Err Refusal.ZeroSize) ↔ ((rows ≡ 0) ⊎ (cols ≡ 0)) }
         ensures no_other { IfErr result (λ e. (e ≡ Refusal.ZeroSize) ⊎ (e ≡ Refusal.Memory)) }
         ensures alone { OnOk result (self.new ≡ record self.old { columns = cols; rows = rows }) }
+        ensures no_memory { IfErr result (λ e. e ≡ Refusal.ZeroSize) }
     {
         if rows == 0 || cols == 0 {
             return Err(Refusal::ZeroSize);

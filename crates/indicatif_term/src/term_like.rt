@@ -11,8 +11,9 @@ use std::io;
 ///
 /// Each call that answers an `io::Result` writes the bytes of ECMA-48 that stand beside it. One that succeeds leads the
 /// terminal on by exactly these bytes and changes nothing else, the size included. One that fails has written a
-/// beginning of them, and adds 1 modulo 2^64 to `faults`; no other call changes it. Of the bytes of a terminal that tells
-/// nothing, nothing is claimed.
+/// beginning of them, and adds 1 modulo 2^64 to `faults`; no other call changes it. Contracts know the kind of the last failure,
+/// so that a drawing that fails answers with the kind of the call that failed. Of the bytes of a terminal that tells nothing,
+/// nothing is claimed.
 ///
 /// ```
 /// term.write_line("ab")?;
@@ -20,7 +21,8 @@ use std::io;
 /// term.clear_line()?; // the row of `ab` is empty again
 /// ```
 pub trait TermLike {
-    /// What contracts see of it: what it tells of itself, its size, and how often a call has failed.
+    /// What contracts see of it: what it tells of itself, its size, how often a call has failed, and of what kind the last failure
+    /// was.
     ghost view: { Self → TermView };
 
     /// Columns.
@@ -120,8 +122,7 @@ impl TermLike for Box<dyn TermLike + Drop> {
 /// A terminal whose size can be changed between its calls.
 ///
 /// A `Term` takes the new size for the drawings to come, and nothing else: what stands on the screen behind its writer is that
-/// screen's own. An engine has its terminal for itself and isn't told: take the terminal back (`Engine::into_term`), and begin a new
-/// engine below the rows that stand.
+/// screen's own. An engine has its terminal for itself: `Engine::resize` gives both the new size.
 pub trait Resize: TermLike {
     /// Gets `rows` rows and `cols` columns; no byte is written, and no failure counted. A terminal that tells its state has cut
     /// each of its rows anew then. One that tells its bytes tells the same ones.

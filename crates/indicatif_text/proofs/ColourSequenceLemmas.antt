@@ -5,7 +5,7 @@ use Rattle.std.specs.Str.{IsUtf8, IsAscii, IsCharBoundary}
 use Rattle.std.proofs.Math.Utf8.{encode, encodes}
 use Rattle.std.proofs.Math.Seq.{drop-append-add, drop-append_seam, take-append_seam}
 use Rattle.std.proofs.lemmas.Str.{inside_one, length-encode, len_utf8_bounds, encodes-chars, chars_past_char, chars-nil, chars-append, chars-IsAscii, IsUtf8-from_ascii, IsUtf8-past_char, encode_ascii, IsCharBoundary-at_seam}
-use Rattle.std.proofs.lemmas.List.{nil_from_length, length-take-le, drop_all, length-replicate}
+use Rattle.std.proofs.lemmas.List.{nil_from_length, length-take-le, drop_all, length-replicate, take-append-le}
 use Rattle.std.proofs.lemmas.Bool.{cond_both, cases_lt, ne_eqb}
 use Rattle.std.proofs.lemmas.Bool.Decides.{nat_tests}
 use Rattle.std.specs.Iterator.{YieldsFirst, YieldsFirstBy, MakesProgress, item_count}
@@ -288,6 +288,43 @@ times_more zero unit rest = refl
 times_more (suc n) unit rest =
     let same : suc (n + 1) ≡ suc n + 1 = omega arith in
     ap (λ x. unit ++ x) (times_more n unit rest) ∙ ap (λ k. times_then k unit rest) same
+
+-- so many times, and so many more
+pub times_both : (n m : ℕ) (unit rest : List ℕ) → times_then n unit (times_then m unit rest) ≡ times_then (n + m) unit rest
+times_both zero m unit rest = ap (λ k. times_then k unit rest) (let same : m ≡ zero + m = omega arith in same)
+times_both (suc n) m unit rest =
+    let same : suc (n + m) ≡ suc n + m = omega arith in
+    ap (λ x. unit ++ x) (times_both n m unit rest) ∙ ap (λ k. times_then k unit rest) same
+
+times_append : (n : ℕ) (unit a b : List ℕ) → times_then n unit a ++ b ≡ times_then n unit (a ++ b)
+times_append zero unit a b = refl
+times_append (suc n) unit a b = append_assoc unit (times_then n unit a) b ∙ ap (λ x. unit ++ x) (times_append n unit a b)
+
+take_past : (m : ℕ) (xs ys : List ℕ) → take (length xs + m) (xs ++ ys) ≡ xs ++ take m ys
+take_past m [] ys = ap (λ k. take k ys) (let same : 0 + m ≡ m = omega arith in same)
+take_past m (x ∷ xs) ys = ap (λ k. take k (x ∷ (xs ++ ys))) (let same : suc (length xs) + m ≡ suc (length xs + m) = omega arith in same) ∙ ap (λ zs. x ∷ zs) (take_past m xs ys)
+
+-- bytes that are those from three before them on are these three so many times
+periodic : (n : ℕ) (unit bytes : List ℕ) → length unit ≡ 3 → bytes ≡ take (3 * n) (unit ++ bytes) → bytes ≡ times_then n unit []
+periodic zero unit bytes three e = e
+periodic (suc n) unit bytes three e =
+    let front = take (3 * n) bytes in
+    let size : 3 * suc n ≡ length unit + 3 * n = omega arith in
+    let step : bytes ≡ unit ++ front = e ∙ ap (λ k. take k (unit ++ bytes)) size ∙ take_past (3 * n) unit bytes in
+    step ∙ ap (λ x. unit ++ x) (periodic n unit front three (ap (take (3 * n)) step))
+
+-- three bytes and the 48 behind them, which are those from the three on
+pub seventeen : (unit bytes rest : List ℕ) → length unit ≡ 3 → bytes ≡ unit ++ rest → 48 ≤ length rest → take 48 rest ≡ take 48 bytes → bytes ≡ times_then 17 unit (drop 48 rest)
+seventeen unit bytes rest three e fits same =
+    let front = take 48 rest in
+    let back = drop 48 rest in
+    let whole : front ++ back ≡ rest = take-append-drop 48 rest in
+    let size : length front ≡ 48 = length-take-le 48 rest fits in
+    let begins : front ≡ take 48 (unit ++ front) =
+    same ∙ ap (take 48) (e ∙ ap (λ x. unit ++ x) (sym whole) ∙ sym (append_assoc unit front back))
+    ∙ take-append-le 48 (unit ++ front) back (omega (arith, length-append unit front, size)) in
+    let times : front ≡ times_then 16 unit [] = periodic 16 unit front three begins in
+    e ∙ ap (λ x. unit ++ x) (sym whole ∙ ap (λ x. x ++ back) times ∙ times_append 16 unit [] back)
 
 -- what follows three bytes so many times
 pub times_rest : (n : ℕ) (unit rest : List ℕ) → length unit ≡ 3 → drop (3 * n) (times_then n unit rest) ≡ rest

@@ -165,13 +165,51 @@ fn triples(bytes: &[u8], unit: &[u8]) -> usize
     ensures repeats { bytes.now ≡ times_then result unit.now (drop (3 * result) bytes.now) }
     ensures fits { 3 * result ≤ length bytes.now }
 {
-    let mut at: usize = 0;
-    let mut count: usize = 0;
+    let mut count = blocks_of_triples(bytes, unit);
+    let mut at = 3 * count;
     'bytes: while stands_at(bytes, at, unit) {
         at += 3;
         count += 1;
     }
     count
+}
+
+/// How many times three bytes stand at the front in blocks of seventeen.
+#[inline(always)]
+fn blocks_of_triples(bytes: &[u8], unit: &[u8]) -> usize
+    requires { length unit.now ≡ 3 }
+    ensures repeats { bytes.now ≡ times_then result unit.now (drop (3 * result) bytes.now) }
+    ensures fits { 3 * result ≤ length bytes.now }
+{
+    let mut at: usize = 0;
+    let mut count: usize = 0;
+    'bytes: while repeats_at(bytes, at, unit) {
+        at += 51;
+        count += 17;
+    }
+    count
+}
+
+/// Whether three bytes stand at a place seventeen times: then the 48 bytes behind them are those from them on.
+#[inline(always)]
+fn repeats_at(bytes: &[u8], at: usize, unit: &[u8]) -> bool
+    requires three { length unit.now ≡ 3 }
+    requires within { at ≤ length bytes.now }
+    ensures stands { IsTrue result → drop at bytes.now ≡ times_then 17 unit.now (drop (at + 51) bytes.now) }
+    ensures fits { IsTrue result → at + 51 ≤ length bytes.now }
+{
+    if bytes.len() - at < 51 || !stands_at(bytes, at, unit) {
+        return false;
+    }
+    are_same(&bytes[at + 3..at + 51], &bytes[at..at + 48])
+}
+
+/// Whether bytes are the same.
+#[inline(always)]
+fn are_same(a: &[u8], b: &[u8]) -> bool
+    ensures { IsTrue result → a.now ≡ b.now }
+{
+    a == b
 }
 
 /// Whether three bytes stand at a place.

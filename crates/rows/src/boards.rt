@@ -48,6 +48,7 @@ impl OnScreen {
         match headed(step) {
             ("target", rest) => self.go_on(rest, at, got)?,
             ("move", word) => self.board.set_move_cursor(flag(word)?),
+            ("size", words) => self.resize(words)?,
             ("suspend", "") => suspend(&mut self.board, &self.screen, at.now, got)?,
             ("suspend", text) => outside::suspend(&mut self.board, &self.screen, (text, at), got)?,
             ("run", calls) => run(&mut self.board, calls, at, got)?,
@@ -64,6 +65,16 @@ impl OnScreen {
         drop(self.board.set_draw_target(Box::into_inner(target)));
         got.text(self.screen.contents()?.as_str());
         self.screen = screen;
+        Ok(())
+    }
+
+    /// `size ROWS COLS`: the board's terminal gets another size, and the screen with it; on a hidden target nothing happens.
+    fn resize(&mut self, words: &str) -> Result<(), Bad> {
+        let (rows, cols) = screen::size(words)?;
+        self.board.resize(rows, cols)?;
+        if !self.board.is_hidden() {
+            self.screen.resize(rows, cols)?;
+        }
         Ok(())
     }
 }

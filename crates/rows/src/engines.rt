@@ -30,8 +30,7 @@ impl Drawing {
     }
 
     /// `draw FRAME`; `pass N FRAME`, of which the first N bars pass; `log TEXT` and, behind a tab each, the frame's bars; `keep BAR`;
-    /// `clear`; `move yes` or `move no`; `faults`; or a look at
-    /// the screen.
+    /// `clear`; `move yes` or `move no`; `size ROWS COLS`, also of the screen; `faults`; or a look at the screen.
     pub fn step(&mut self, step: &str, at: At, got: &mut Got) -> Result<(), Bad> {
         if screen::look_at(&self.screen, step, at, got)? {
             return Ok(());
@@ -43,6 +42,7 @@ impl Drawing {
             ("keep", rest) => keep(&mut self.engine, number(rest)?, got),
             ("clear", "") => clear(&mut self.engine),
             ("move", word) => self.set_move_cursor(flag(word)?),
+            ("size", rest) => self.resize(rest),
             ("faults", "") => {
                 got.number(self.engine.term().faults());
                 Ok(())
@@ -54,6 +54,12 @@ impl Drawing {
     fn set_move_cursor(&mut self, on: bool) -> Result<(), Bad> {
         self.engine.set_move_cursor(on);
         Ok(())
+    }
+
+    fn resize(&mut self, rest: &str) -> Result<(), Bad> {
+        let (rows, cols) = screen::size(rest)?;
+        self.engine.resize(rows, cols)?;
+        Ok(self.screen.resize(rows, cols)?)
     }
 
     fn draw(&mut self, frame: &[Segment], pass: usize) -> Result<(), Bad> {

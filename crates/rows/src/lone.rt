@@ -50,6 +50,7 @@ impl OnScreen {
             ("faults", "") => push_faults(&self.bar, got),
             ("target", rest) => self.go_on(rest, at, got)?,
             ("move", word) => self.bar.set_move_cursor(flag(word)?),
+            ("size", words) => self.resize(words)?,
             ("suspend", "") => suspend(&mut self.bar, &self.screen, at.now, got)?,
             ("suspend_bytes", "") => suspend_bytes(&mut self.bar, &self.screen, at.now, got),
             ("run", calls) => run(&mut self.bar, calls, at, got)?,
@@ -65,6 +66,16 @@ impl OnScreen {
         drop(self.bar.set_draw_target(Box::into_inner(target)));
         got.text(self.screen.contents()?.as_str());
         self.screen = screen;
+        Ok(())
+    }
+
+    /// `size ROWS COLS`: the bar's terminal gets another size, and the screen with it; on a hidden target nothing happens.
+    fn resize(&mut self, words: &str) -> Result<(), Bad> {
+        let (rows, cols) = screen::size(words)?;
+        self.bar.resize(rows, cols)?;
+        if !self.bar.is_hidden() {
+            self.screen.resize(rows, cols)?;
+        }
         Ok(())
     }
 

@@ -1,6 +1,7 @@
 //! A board on a terminal in memory whose calls are read while it draws.
-ghost use Rattle.std.specs.Prelude.{◌≡◌, ◌+◌, ◌%◌, ◌^◌, List, ℕ, if◌then◌else◌};
+ghost use Rattle.std.specs.Prelude.{◌≡◌, ◌+◌, ◌%◌, ◌^◌, List, ℕ, if◌then◌else◌, MatchResult};
 ghost use Rattle.std.specs.Result.{is_err};
+ghost use Rattle.std.specs.IoError.{error_kind};
 ghost use Rattle.indicatif_term.specs.Calls.{Writes};
 ghost use Rattle.rows.specs.Noted.{noted_view};
 
@@ -27,6 +28,7 @@ pub struct Noted {
     rows: u16,
     cols: u16,
     faults: u64,
+    kind: ErrorKind,
 }
 
 /// A call of a terminal.
@@ -56,9 +58,11 @@ impl Noted {
         ensures same { result ≡ done }
         ensures size { (self.new.rows ≡ self.old.rows) × (self.new.cols ≡ self.old.cols) }
         ensures counts { self.new.faults ≡ (if is_err done then (self.old.faults + 1) % 2 ^ 64 else self.old.faults) }
+        ensures kind { MatchResult done (λ _. self.new.kind ≡ self.old.kind) (λ e. self.new.kind ≡ error_kind e) }
     {
-        if done.is_err() {
+        if let Err(e) = &done {
             self.faults = self.faults.wrapping_add(1);
+            self.kind = e.kind();
         }
         done
     }
@@ -147,6 +151,7 @@ impl OnNoted {
             rows,
             cols,
             faults: 0,
+            kind: ErrorKind::Other,
         };
         let target = ProgressDrawTarget::term_like(term);
         let board = at.boxed(Board::new(at.alloc, target, MARK))?;

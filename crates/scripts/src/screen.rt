@@ -163,6 +163,14 @@ impl Screen {
         }
     }
 
+    /// Gets another size, as the terminal before it does.
+    pub fn resize(&self, rows: u16, cols: u16) -> Result<(), Refusal> {
+        match self.cells.try_borrow_mut() {
+            Ok(mut cells) => cells.resize(rows, cols),
+            Err(_) => Err(Refusal::Memory),
+        }
+    }
+
     /// Takes these bytes.
     fn take(&self, bytes: &[u8]) -> io::Result<()> {
         self.feed(bytes)?;
@@ -217,6 +225,13 @@ pub fn terminal(words: &mut &str, at: At) -> Result<(Rc<Screen>, Behind), Bad> {
     let screen = Screen::new(at.alloc, rows.max(1), cols.max(1))?;
     let wire = Wire(screen.clone()?);
     Ok((screen, Term::new(wire, rows, cols)))
+}
+
+/// The size that the words spell: `ROWS COLS`.
+pub fn size(words: &str) -> Result<(u16, u16), Bad> {
+    let mut words = words;
+    let rows = number(next(&mut words))?;
+    Ok((rows, number(words)?))
 }
 
 /// A new screen of the next words, `ROWS COLS RATE`, and the target that draws on it; a rate of 0 is none. `hidden`: a target that

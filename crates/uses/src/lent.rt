@@ -7,12 +7,14 @@ ghost use Rattle.indicatif_board.specs.Calls.{acts_on, call_of};
 ghost use Rattle.indicatif_board.specs.Multi.{mark_of, record_at, terminal_of, OtherRecordsStay};
 ghost use Rattle.indicatif_term.specs.Engines.{is_failure};
 
+use indicatif_bar::laws::what_a_lone_bar_answers;
 use indicatif_bar::lone::{LoneBar, LoneCall};
 use indicatif_bar::state::{BarCommand, BarState};
 use indicatif_bar::style::ProgressTracker;
 use indicatif_board::multi::{BarId, Board, Call, Candidate};
 use indicatif_term::term_like::TermLike;
 use indicatif_text::columns::{Drawn, Moment, Refusal};
+use std::io::ErrorKind;
 
 /// One more step, of a bar that may be limited, hidden or behind a terminal that fails.
 pub fn step<K: ProgressTracker, T: TermLike + Drop>(
@@ -36,7 +38,7 @@ pub fn say<K: ProgressTracker, T: TermLike + Drop>(
 }
 
 /// Draws a bar that was lent by force. Whatever was done with it before: where there is nothing to draw on the answer says why, and
-/// the terminal's faults grow exactly by its failure.
+/// the terminal's faults grow exactly by its failure, which has the kind of the call that failed.
 pub fn draw_lent<K: ProgressTracker, T: TermLike + Drop>(
     bar: &mut LoneBar<K, T>,
     now: Moment,
@@ -45,7 +47,9 @@ pub fn draw_lent<K: ProgressTracker, T: TermLike + Drop>(
     ensures no_columns { (term : T) → lone_terminal bar.old ≡ Some term → (T.view term).columns ≡ 0 → result ≡ Err Refusal.NoColumns }
     ensures failed { (term : T) → lone_terminal bar.old ≡ Some term → (next : T) × (lone_terminal bar.new ≡ Some next)
         × ((T.view next).faults ≡ (if is_failure result then ((T.view term).faults + 1) % 2 ^ 64 else (T.view term).faults)) }
+    ensures kind { (kind : ErrorKind) (next : T) → result ≡ Err (Refusal.Terminal kind) → lone_terminal bar.new ≡ Some next → (T.view next).kind ≡ kind }
 {
+    what_a_lone_bar_answers::<K>();
     let _in_some_state = bar.bar();
     bar.force_draw(now)
 }

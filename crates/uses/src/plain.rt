@@ -1,21 +1,33 @@
 //! What stands where the texts are plain, with no premise on what the calls lead to.
-ghost use Rattle.std.specs.Prelude.{◌≡◌, ◌∷◌, [], ℕ, map, replicate, IfOk, string_bytes, codes};
+ghost use Rattle.std.specs.Prelude.{◌≡◌, ◌∷◌, [], ℕ, Some, map, replicate, All, IfOk, string_bytes, codes};
+ghost use Rattle.indicatif_term.specs.Calls.{TermView};
+ghost use Rattle.indicatif_term.specs.Engines.{Paints, is_failure};
+ghost use Rattle.indicatif_term.specs.Frames.{logged_lines};
 ghost use Rattle.indicatif_term.specs.Memory.{view_of};
+ghost use Rattle.indicatif_bar.specs.Commands.{BarRecord};
+ghost use Rattle.indicatif_bar.specs.Lone.{LoneState};
+ghost use Rattle.indicatif_bar.specs.LoneBars.{LoneIsIn, lone_known, record_of};
+ghost use Rattle.indicatif_bar.specs.PlainLaws.{ArePlainTrackers};
+ghost use Rattle.indicatif_bar.specs.StyleLaws.{IsPlainText};
 ghost use Rattle.indicatif_bar.specs.Trackers.{writes_nothing};
 ghost use Rattle.indicatif_board.specs.Boards.{End, Given, Insert, New};
 ghost use Rattle.indicatif_board.specs.BoardValues.{id_of};
 ghost use Rattle.indicatif_board.specs.Multi.{LeadsBy};
+ghost use Rattle.uses.specs.Plain.{HasPlainTexts};
 
-use indicatif_bar::laws::what_a_lone_run_reads;
+use indicatif_bar::laws::{
+    plain_texts_give_plain_runs as plain_texts_give_plain_lone_runs, what_a_lone_run_reads,
+};
 use indicatif_bar::lone::LoneBar;
 use indicatif_bar::state::{BarCommand, BarState};
-use indicatif_bar::style::{NoTracker, ProgressStyle};
+use indicatif_bar::style::{NoTracker, ProgressStyle, ProgressTracker};
 use indicatif_board::laws::{plain_texts_give_plain_runs, what_a_board_run_reads};
 use indicatif_board::multi::{BarId, Board, Candidate};
 use indicatif_term::draw_target::ProgressDrawTarget;
 use indicatif_term::in_memory::InMemoryTerm;
 use indicatif_term::laws::a_new_terminal_is_an_opening;
-use indicatif_text::columns::Refusal;
+use indicatif_term::term_like::TermLike;
+use indicatif_text::columns::{Drawn, Moment, Refusal};
 use indicatif_text::laws::template_or_refused;
 use std::alloc::Global;
 
@@ -98,6 +110,24 @@ pub fn name_above_a_board(alloc: Global) -> Result<Vec<String>, Refusal>
         }
         None => Err(Refusal::Memory),
     }
+}
+
+/// Logs a text above a bar that is lent. Whatever was done with the bar before: where its texts, its trackers' and this one are plain,
+/// the call paints what the bar's rows come to.
+pub fn log_above_lent<K: ProgressTracker, T: TermLike + Drop>(
+    bar: &mut LoneBar<K, T>,
+    text: &str,
+    now: Moment,
+) -> Result<Drawn, Refusal>
+    ensures { ArePlainTrackers K.means → HasPlainTexts (record_of bar.old) → All IsPlainText (logged_lines text.now) →
+        (v : TermView) → lone_known T.view bar.old ≡ Some v →
+        (s : LoneState (BarRecord K)) × (next : LoneState (BarRecord K)) × LoneIsIn bar.old s × LoneIsIn bar.new next
+        × (v' : TermView) × (lone_known T.view bar.new ≡ Some v') × Paints v v' (is_failure result) s.lists next.lists }
+{
+    plain_texts_give_plain_lone_runs::<K>();
+    let record = bar.bar();
+    let _style = record.style();
+    bar.println(text, now)
 }
 
 /// Takes a bar in behind all others.

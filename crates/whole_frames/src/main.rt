@@ -3,7 +3,8 @@
 //!
 //! - `whole`: the engine that writes whole frames. `calls`: random calls. `chance`: random numbers.
 //!
-//! `whole_frames` plays a thousand lists; `whole_frames SEED COUNT` so many by that seed.
+//! `whole_frames` plays a thousand lists; `whole_frames SEED COUNT` so many by that seed. `whole_frames SEED COUNT bytes` prints, of each
+//! list, the terminal's rows and columns, and then what each of the three engines writes, in hexadecimal digits, a line each.
 #![tactic(auto)]
 
 mod calls;
@@ -16,6 +17,7 @@ use crate::whole::WholeFrames;
 use anyhow::Result;
 use indicatif_term::draw_target::{Engine, MultiProgressAlignment};
 use indicatif_term::in_memory::InMemoryTerm;
+use indicatif_term::term_like::{Term, TermLike};
 use indicatif_text::columns::Refusal;
 use std::alloc::Global;
 use std::env::{self, Env};
@@ -25,21 +27,21 @@ const CALLS: u32 = 16;
 
 /// The engines, each on a terminal of its own.
 #[derive(Drop)]
-struct Three {
-    engine: Engine<InMemoryTerm>,
-    moving: Engine<InMemoryTerm>,
-    whole: WholeFrames,
+struct Three<T: TermLike + Drop> {
+    engine: Engine<T>,
+    moving: Engine<T>,
+    whole: WholeFrames<T>,
 }
 
-impl Three {
-    fn new(alloc: Global, rows: u16, cols: u16) -> Result<Three, Refusal> {
-        let mut moving = Engine::new(alloc, InMemoryTerm::new(alloc, rows, cols)?);
+impl<T: TermLike + Drop> Three<T> {
+    fn new(alloc: Global, term: T, moved: T, written: T) -> Three<T> {
+        let mut moving = Engine::new(alloc, moved);
         moving.set_move_cursor(true);
-        Ok(Three {
-            engine: Engine::new(alloc, InMemoryTerm::new(alloc, rows, cols)?),
+        Three {
+            engine: Engine::new(alloc, term),
             moving,
-            whole: WholeFrames::new(alloc, InMemoryTerm::new(alloc, rows, cols)?),
-        })
+            whole: WholeFrames::new(alloc, written),
+        }
     }
 
     /// Whether all answer the same to a call.
@@ -67,12 +69,12 @@ impl Three {
             }
         }
     }
+}
 
-    /// Whether all terminals show the same, and their cursors stand in the same place.
-    fn is_same(&self) -> Result<bool, Refusal> {
-        let whole = self.whole.term();
-        Ok(is_as(self.engine.term(), whole)? && is_as(self.moving.term(), whole)?)
-    }
+/// Whether all terminals show the same, and their cursors stand in the same place.
+fn is_same(three: &Three<InMemoryTerm>) -> Result<bool, Refusal> {
+    let whole = three.whole.term();
+    Ok(is_as(three.engine.term(), whole)? && is_as(three.moving.term(), whole)?)
 }
 
 /// Whether two terminals show the same, and their cursors stand in the same place.
@@ -80,22 +82,78 @@ fn is_as(here: &InMemoryTerm, there: &InMemoryTerm) -> Result<bool, Refusal> {
     Ok(here.cursor() == there.cursor() && here.picture()? == there.picture()?)
 }
 
-/// Plays one list of calls; the number of the first one behind which the two differ, from 1.
-fn played(alloc: Global, chance: &mut Chance) -> Result<Option<u32>, Refusal> {
+/// A terminal's size.
+#[derive(Clone, Copy, Drop)]
+struct Size {
+    rows: u16,
+    cols: u16,
+}
+
+fn size_by(chance: &mut Chance) -> Size {
     let rows = 1 + chance.below(5) as u16;
     let cols = 1 + chance.below(7) as u16;
-    let mut three = Three::new(alloc, rows, cols)?;
+    Size { rows, cols }
+}
+
+/// Plays one call more; whether all answer the same.
+fn step<T: TermLike + Drop>(
+    three: &mut Three<T>,
+    frame: &mut Frame,
+    chance: &mut Chance,
+) -> Result<bool, Refusal> {
+    frame.change(chance)?;
+    let alignment = chance.alignment();
+    let call = frame.call(chance)?;
+    let agreed = three.agree(&call, frame, alignment);
+    frame.follow(&call);
+    Ok(agreed)
+}
+
+/// Three engines on terminals in memory.
+fn in_memory(alloc: Global, size: Size) -> Result<Three<InMemoryTerm>, Refusal> {
+    let Size { rows, cols } = size;
+    let term = InMemoryTerm::new(alloc, rows, cols)?;
+    let moved = InMemoryTerm::new(alloc, rows, cols)?;
+    Ok(Three::new(alloc, term, moved, InMemoryTerm::new(alloc, rows, cols)?))
+}
+
+/// Plays one list of calls; the number of the first one behind which they differ, from 1.
+fn played(alloc: Global, chance: &mut Chance) -> Result<Option<u32>, Refusal> {
+    let mut three = in_memory(alloc, size_by(chance))?;
     let mut frame = Frame::new(alloc);
     for at in 0..CALLS {
-        frame.change(chance)?;
-        let alignment = chance.alignment();
-        let call = frame.call(chance)?;
-        if !three.agree(&call, &frame, alignment) || !three.is_same()? {
+        if !step(&mut three, &mut frame, chance)? || !is_same(&three)? {
             return Ok(Some(at + 1));
         }
-        frame.follow(&call);
     }
     Ok(None)
+}
+
+/// A terminal behind a list of bytes.
+fn behind(alloc: Global, size: Size) -> Term<Vec<u8>> {
+    Term::new(Vec::new(alloc), size.rows, size.cols)
+}
+
+/// Plays one list of calls, and prints what each engine writes.
+fn print_written<R: AllocGlobal + Print>(rt: &R, chance: &mut Chance) -> Result<()> {
+    let alloc = rt.alloc();
+    let size = size_by(chance);
+    println!(rt; "{} {}", size.rows, size.cols)?;
+    let term = behind(alloc, size);
+    let mut three = Three::new(alloc, term, behind(alloc, size), behind(alloc, size));
+    let mut frame = Frame::new(alloc);
+    for _ in 0..CALLS {
+        step(&mut three, &mut frame, chance)?;
+    }
+    print_bytes(rt, three.engine.term())?;
+    print_bytes(rt, three.moving.term())?;
+    print_bytes(rt, three.whole.term())
+}
+
+/// Prints what a terminal's writer was given, as a text between quotes.
+fn print_bytes<R: Print>(rt: &R, term: &Term<Vec<u8>>) -> Result<()> {
+    println!(rt; "{:?}", str::from_utf8(term.writer())?)?;
+    Ok(())
 }
 
 /// A number that an argument says, or another one.
@@ -112,9 +170,25 @@ fn main(rt: HostRuntime) -> Result<()> {
     let seed = number_or(words.next().as_ref(), 1);
     let count = number_or(words.next().as_ref(), 1000);
     let mut chance = Chance::new(seed);
+    match words.next() {
+        Some(word) if word.as_str() == "bytes" => print_all(&rt, &mut chance, count),
+        _ => compare(&rt, &mut chance, count),
+    }
+}
+
+/// Prints what so many lists write.
+fn print_all<R: AllocGlobal + Print>(rt: &R, chance: &mut Chance, count: u64) -> Result<()> {
+    for _ in 0..count {
+        print_written(rt, chance)?;
+    }
+    Ok(())
+}
+
+/// Plays so many lists, up to the first one in which the engines differ.
+fn compare<R: AllocGlobal + Print>(rt: &R, chance: &mut Chance, count: u64) -> Result<()> {
     for at in 0..count {
-        if let Some(call) = played(rt.alloc(), &mut chance)? {
-            println!(rt; "list {at} of seed {seed}: they differ behind call {call}")?;
+        if let Some(call) = played(rt.alloc(), chance)? {
+            println!(rt; "list {at}: they differ behind call {call}")?;
             return Ok(());
         }
     }

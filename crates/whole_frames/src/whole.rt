@@ -1,6 +1,5 @@
 //! An engine that writes whole frames: it takes all rows back, and writes all lines anew.
 use indicatif_term::draw_target::{Keep, LineType, MultiProgressAlignment, Segment};
-use indicatif_term::in_memory::InMemoryTerm;
 use indicatif_term::term_like::TermLike;
 use indicatif_text::columns::{Refusal, wrapped};
 use std::alloc::Global;
@@ -23,9 +22,9 @@ struct Shown {
 
 /// An engine that writes whole frames. Rows are counted from the first one that may still change.
 #[derive(Drop)]
-pub struct WholeFrames {
+pub struct WholeFrames<T: TermLike + Drop> {
     alloc: Global,
-    term: InMemoryTerm,
+    term: T,
     kept: usize,
     blanks: usize,
     bars: Vec<BarRows>,
@@ -35,8 +34,8 @@ pub struct WholeFrames {
     below: bool,
 }
 
-impl WholeFrames {
-    pub fn new(alloc: Global, term: InMemoryTerm) -> WholeFrames {
+impl<T: TermLike + Drop> WholeFrames<T> {
+    pub fn new(alloc: Global, term: T) -> WholeFrames<T> {
         WholeFrames {
             alloc,
             term,
@@ -48,7 +47,7 @@ impl WholeFrames {
         }
     }
 
-    pub fn term(&self) -> &InMemoryTerm {
+    pub fn term(&self) -> &T {
         &self.term
     }
 

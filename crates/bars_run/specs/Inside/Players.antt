@@ -11,7 +11,7 @@ use Rattle.indicatif_board.specs.Boards.{BoardState, Answer, opening_board}
 use Rattle.indicatif_board.specs.Multi.{IsIn, LeadsBy, known}
 use Rattle.indicatif_board.specs.declared.multi.Board.{Board}
 use Rattle.bars_run.specs.Arguments.{Wanted}
-use Rattle.bars_run.specs.Commands.{Spelled, lines_of, all_spelled}
+use Rattle.bars_run.specs.Commands.{Spelled, is_size, lines_of, all_spelled}
 use Rattle.bars_run.specs.Plays.{Bar, BarCall, machine, call_of, calls_of, timed, played, rows_after, is_refused, IsPlain}
 
 -- a board in memory
@@ -26,15 +26,12 @@ empty_memory wanted = record { terminal = blank_terminal wanted.rows wanted.colu
 abbrev pub Makes : BarCall → Played → Played → Type 0
 Makes call old new = (answer : Answer) × IsFalse (is_refused answer) × LeadsBy writes_nothing view_of old new call 0 answer
 
--- a command stands for a call, and that was made
+-- a command that asks for no other size stands for a call, and that was made
 abbrev pub Obeys : Spelled → Played → Played → Type 0
-Obeys command old new = (call : BarCall) × (call_of command ≡ Some call) × Makes call old new
+Obeys command old new = IsFalse (is_size command) → (call : BarCall) × (call_of command ≡ Some call) × Makes call old new
 
--- these lines were played on a new board, and no call was refused
-pub record HasPlayed (wanted : Wanted) (lines : List (List ℕ)) (b : Played) : Type 0 where
-  pub some_rows : 0 < wanted.rows
-  pub commands : List Spelled
-  pub commands_are : all_spelled lines ≡ Some commands
+-- these commands were played on a new board, and no call was refused
+pub record HasObeyed (wanted : Wanted) (commands : List Spelled) (b : Played) : Type 0 where
   pub calls : List BarCall
   pub calls_are : calls_of commands ≡ Some calls
   pub answers : List Answer
@@ -43,11 +40,22 @@ pub record HasPlayed (wanted : Wanted) (lines : List (List ℕ)) (b : Played) : 
   pub holds : IsIn 0 b next
   pub run : Runs machine (timed wanted calls) answers (Some (view_of (empty_memory wanted))) (opening_board None) (known view_of b) next
 
--- the texts that stand once the lines of an input were played on a new board, where no call was refused
-pub record Stands (wanted : Wanted) (input : List ℕ) (texts : List (List ℕ)) : Type 0 where
+-- these lines were played, of a terminal that has rows
+pub record HasPlayed (wanted : Wanted) (lines : List (List ℕ)) (b : Played) : Type 0 where
+  pub some_rows : 0 < wanted.rows
   pub commands : List Spelled
-  pub commands_are : all_spelled (lines_of input) ≡ Some commands
+  pub commands_are : all_spelled lines ≡ Some commands
+  pub obeyed : IsFalse (list_any is_size commands) → HasObeyed wanted commands b
+
+-- the texts that stand once commands were played on a new board, where no call was refused
+pub record StandsPlayed (wanted : Wanted) (commands : List Spelled) (texts : List (List ℕ)) : Type 0 where
   pub calls : List BarCall
   pub calls_are : calls_of commands ≡ Some calls
   pub done : IsFalse (list_any is_refused (played wanted calls).0)
   pub shown : All IsPlain commands → (blank : ℕ) × (texts ≡ map row_text (rows_after wanted calls) ++ replicate blank [])
+
+-- the same of the lines of an input
+pub record Stands (wanted : Wanted) (input : List ℕ) (texts : List (List ℕ)) : Type 0 where
+  pub commands : List Spelled
+  pub commands_are : all_spelled (lines_of input) ≡ Some commands
+  pub played_them : IsFalse (list_any is_size commands) → StandsPlayed wanted commands texts

@@ -8,14 +8,15 @@ ghost use Rattle.indicatif_term.specs.Frames.{line_text};
 ghost use Rattle.indicatif_bar.specs.Tabs.{expanded};
 ghost use Rattle.indicatif_bar.specs.Progress.{fraction, is_finished, shown_message};
 ghost use Rattle.indicatif_bar.specs.Layout.{bar_text, padded};
-ghost use Rattle.indicatif_bar.specs.BarStyles.{key_text, tick_string, final_tick_string, wide_text, lines_with, lines, columns_left, ends_in_mark};
+ghost use Rattle.indicatif_bar.specs.BarStyles.{key_text, tick_string, final_tick_string, wide_text, with_marks_as, lines_with, lines, columns_left, ends_in_mark};
 ghost use Rattle.indicatif_bar.specs.Inside.Steps.{PutsSource, placeholder_layout, source_text, effect_text, wide_found};
 
 use crate::bar_style::ProgressStyle;
 use crate::progress::ProgressState;
+use crate::scan::cut_at;
 use crate::spare::SpareLines;
 use crate::style::bar::{RestLook, push_bar};
-use crate::style::filling::{Gap, has_mark, push_filled, push_lines};
+use crate::style::filling::{Gap, has_mark, push_lines};
 use crate::style::key_texts::{
     push_count, push_percent, push_percent_precise, push_rate, push_text, push_time,
     push_whole_rate,
@@ -243,6 +244,31 @@ impl<K: Tracks> ProgressStyle<K> {
         Ok(())
     }
 
+    /// Appends a text with what stands in the place of each of its marks.
+    fn push_filled(
+        &self,
+        text: &str,
+        wide: WideKey,
+        state: &ProgressState,
+        width: u16,
+        spare: &mut SpareLines,
+        out: &mut String,
+    ) -> Result<(), Refusal>
+        ensures text { OnOk result (string_bytes out.new ≡ string_bytes out.old
+            ++ with_marks_as (wide_text self.now state.now width text.now (wide_found wide)) text.now) }
+        ensures memory { IfErr result (λ e. e ≡ Refusal.Memory) }
+    {
+        let gap = Gap::of(text, width);
+        let mut rest = text;
+        'marks: while let Some((part, behind)) = cut_at(0, rest) {
+            out.push_str(part)?;
+            self.push_wide(wide, gap, state, spare, out)?;
+            rest = behind;
+        }
+        out.push_str(rest)?;
+        Ok(())
+    }
+
     /// Appends the lines of a text, where a wide key has stood so far.
     fn push_lines(
         &self,
@@ -266,13 +292,9 @@ impl<K: Tracks> ProgressStyle<K> {
             push_lines(text, spare, lines)?;
             return Ok(());
         }
-        let gap = Gap::of(text.as_str(), width);
-        let mut shown = spare.text();
-        self.push_wide(wide, gap, state, spare, &mut shown)?;
         let mut filled = spare.text();
-        push_filled(text.as_str(), shown.as_str(), &mut filled)?;
+        self.push_filled(text.as_str(), wide, state, width, spare, &mut filled)?;
         push_lines(filled, spare, lines)?;
-        spare.keep_text(shown);
         spare.keep_text(text);
         Ok(())
     }

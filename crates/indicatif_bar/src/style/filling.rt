@@ -1,10 +1,11 @@
 //! Lines of a text, and what stands in the place of a wide key's marks.
-ghost use Rattle.std.specs.Prelude.{◌≡◌, ◌++◌, ◌∷◌, [], ◌&&◌, if◌then◌else◌, is_none, map, string_bytes, OnOk, IfErr, IsTrue};
+ghost use Rattle.std.specs.Prelude.{◌≡◌, ◌++◌, ◌∷◌, [], find, map, string_bytes, OnOk, IfErr, IsTrue};
+ghost use Rattle.std.specs.Option.{option_map_or};
 ghost use Rattle.std.specs.List.{list_all, list_any, slice_split};
 ghost use Rattle.indicatif_bar.specs.Bars.{is_bar_line};
 ghost use Rattle.indicatif_term.specs.Frames.{line_text};
 ghost use Rattle.indicatif_bar.specs.Layout.{text_columns};
-ghost use Rattle.indicatif_bar.specs.BarStyles.{is_wide_mark, is_newline, ends_in_mark, columns_left, with_marks_as};
+ghost use Rattle.indicatif_bar.specs.BarStyles.{is_wide_mark, is_newline, ends_in_mark, columns_left};
 
 use crate::scan::{cut_at, has_byte};
 use crate::spare::SpareLines;
@@ -52,38 +53,21 @@ fn ends_in_mark(text: &str) -> bool
 fn columns_left(text: &str, width: u16) -> usize
     ensures { result ≡ columns_left width text.now }
 {
-    let mut taken: Option<usize> = None;
-    for line in text.split('\n') {
-        taken = taken_behind(taken, line);
-    }
-    usize::from(width).saturating_sub(taken.unwrap_or(0))
+    usize::from(width).saturating_sub(marked_columns(text))
 }
 
-/// The columns of the first line with a mark, where this one follows.
-fn taken_behind(taken: Option<usize>, line: &str) -> Option<usize>
-    ensures { result ≡ (if is_none taken && list_any is_wide_mark line.now then Some (text_columns line.now) else taken) }
+/// The columns of the first line with a mark, or 0.
+fn marked_columns(text: &str) -> usize
+    ensures { result ≡ option_map_or text_columns (find (list_any is_wide_mark) (slice_split is_newline text.now)) 0 }
 {
-    if taken.is_none() && has_mark(line) {
-        return Some(columns(line));
-    }
-    taken
-}
-
-/// Appends a text with `shown` in the place of each mark.
-pub(crate) fn push_filled(text: &str, shown: &str, out: &mut String) -> Result<(), Refusal>
-    ensures text { OnOk result (string_bytes out.new
-        ≡ string_bytes out.old ++ with_marks_as shown.now text.now) }
-    ensures memory { IfErr result (λ e. e ≡ Refusal.Memory) }
-{
-    let mut started = false;
-    for part in text.split('\0') {
-        if started {
-            out.push_str(shown)?;
+    let mut rest = text;
+    'lines: while let Some((line, behind)) = cut_at(b'\n', rest) {
+        if has_mark(line) {
+            return columns(line);
         }
-        out.push_str(part)?;
-        started = true;
+        rest = behind;
     }
-    Ok(())
+    if has_mark(rest) { columns(rest) } else { 0 }
 }
 
 /// Appends the lines of a text, in room of `spare`. A text of one line is itself that line.

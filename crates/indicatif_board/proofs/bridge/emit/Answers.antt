@@ -1,4 +1,4 @@
-use Rattle.std.proofs.Common.{◌≡◌, ◌++◌, ◌∙◌, ap, subst, inl}
+use Rattle.std.proofs.Common.{◌++◌, ◌∙◌, ap, subst, inl}
 use Rattle.indicatif_board.specs.Boards.{Log, says}
 use Rattle.indicatif_board.specs.Bridge.{bridge_bytes}
 use Rattle.indicatif_board.specs.Multi.{LeadsBy}

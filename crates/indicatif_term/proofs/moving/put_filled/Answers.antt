@@ -5,7 +5,7 @@ use Rattle.indicatif_term.proofs.moving.put_filled.Goals as goal
 pub returns-in_err-write_str : goal.returns-in_err-write_str
 returns-in_err-write_str g c =
     let spaces : List ℕ = replicate (c.args.width - c.args.line.now.last) 0x20 in
-    writes_fail spaces c.from_residual.result c.from_residual.ensures.0 (rw c.deref.ensures at c.in_err-write_str.ensures)
+    writes_fail spaces _ c.from_residual.result c.from_residual.ensures.1 (rw c.deref.ensures at c.in_err-write_str.ensures)
 
 pub returns : goal.returns
 returns g c =

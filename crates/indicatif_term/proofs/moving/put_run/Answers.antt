@@ -9,7 +9,7 @@ loop-line-init g c = reaches_none _
 pub returns-in_err-put_filled : goal.returns-in_err-put_filled
 returns-in_err-put_filled g c =
     let none : List ℕ = [] in
-    rw append-nil at (writes_fail none c.from_residual.result c.from_residual.ensures.0
+    rw append-nil at (writes_fail none _ c.from_residual.result c.from_residual.ensures.1
     (run_breaks c.args.width c.args.lines.now c.loop-line.line-index c.line-item.result (omega arith) (sym c.line-item.is) _ _ _ c.loop-line.invariant c.in_err-put_filled.ensures))
 
 pub loop-line-preserved : goal.loop-line-preserved

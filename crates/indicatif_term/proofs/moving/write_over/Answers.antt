@@ -9,14 +9,14 @@ use Rattle.indicatif_term.proofs.moving.write_over.Goals as goal
 pub returns-in_err-go_up : goal.returns-in_err-go_up
 returns-in_err-go_up g c =
     let run = run_bytes c.args.width (placed c.args.lines.now) in
-    writes_fail ((0x0D ∷ []) ++ run) c.from_residual.result c.from_residual.ensures.0 (rw c.saturating_sub.ensures at c.in_err-go_up.ensures)
+    writes_fail ((0x0D ∷ []) ++ run) _ c.from_residual.result c.from_residual.ensures.1 (rw c.saturating_sub.ensures at c.in_err-go_up.ensures)
 
 pub returns-in_err-write_str : goal.returns-in_err-write_str
 returns-in_err-write_str g c =
     let front : List ℕ = 0x0D ∷ [] in
     let run = run_bytes c.args.width (placed c.args.lines.now) in
     rw (← three (move_bytes 0x41 (c.args.taken - 1)) front run)
-    (writes_fail run c.from_residual-in_err-write_str.result c.from_residual-in_err-write_str.ensures.0 (breaks_then (rw c.saturating_sub.ensures at c.in_ok-go_up.ensures) c.in_err-write_str.ensures))
+    (writes_fail run _ c.from_residual-in_err-write_str.result c.from_residual-in_err-write_str.ensures.1 (breaks_then (rw c.saturating_sub.ensures at c.in_ok-go_up.ensures) c.in_err-write_str.ensures))
 
 pub returns-in_err-put_run : goal.returns-in_err-put_run
 returns-in_err-put_run g c =
@@ -24,7 +24,7 @@ returns-in_err-put_run g c =
     let front : List ℕ = 0x0D ∷ [] in
     let run = run_bytes c.args.width (placed c.args.lines.now) in
     rw (← three (move_bytes 0x41 (c.args.taken - 1)) front run)
-    (rw append-nil at (writes_fail none c.from_residual-in_err-put_run.result c.from_residual-in_err-put_run.ensures.0
+    (rw append-nil at (writes_fail none _ c.from_residual-in_err-put_run.result c.from_residual-in_err-put_run.ensures.1
     (breaks_then (reaches_then (rw c.saturating_sub.ensures at c.in_ok-go_up.ensures) c.in_ok-write_str.ensures) c.in_err-put_run.ensures)))
 
 pub returns : goal.returns

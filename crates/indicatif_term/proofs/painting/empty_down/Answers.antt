@@ -5,13 +5,13 @@ use Rattle.indicatif_term.proofs.CallTurnLemmas.{writes_fail, down_reaches, down
 use Rattle.indicatif_term.proofs.painting.empty_down.Goals as goal
 
 pub returns-in_err-clear_line : goal.returns-in_err-clear_line
-returns-in_err-clear_line g c = writes_fail (rows_down c.args.more) c.from_residual.result c.from_residual.ensures.0 c.in_err-clear_line.ensures
+returns-in_err-clear_line g c = writes_fail (rows_down c.args.more) _ c.from_residual.result c.from_residual.ensures.1 c.in_err-clear_line.ensures
 
 pub loop-init : goal.loop-init
 loop-init g c = c.in_ok-clear_line.ensures
 
 pub returns-in_err-empty_next : goal.returns-in_err-empty_next
-returns-in_err-empty_next g c = down_fails clear_bytes c.loop.counter c.args.more _ c.from_residual-in_err-empty_next.result (omega arith) c.from_residual-in_err-empty_next.ensures.0
+returns-in_err-empty_next g c = down_fails clear_bytes c.loop.counter c.args.more _ _ c.from_residual-in_err-empty_next.result (omega arith) c.from_residual-in_err-empty_next.ensures.1
     c.loop.invariant c.in_err-empty_next.ensures
 
 pub loop-preserved : goal.loop-preserved

@@ -18,7 +18,7 @@ returns-in_err-write_str g c =
     let space : ℕ = 0x20 in
     let whole : (replicate done space ++ replicate n space) ++ replicate rest space ≡ replicate c.args.count 0x20 =
     ap (λ xs. xs ++ replicate rest space) (replicate-append-replicate done n 0x20) ∙ replicate-append-replicate (done + n) rest 0x20 ∙ ap (λ k. replicate k 0x20) (sym all) in
-    rw (← whole) (writes_fail (replicate rest space) c.from_residual.result c.from_residual.ensures.0 (breaks_then c.loop-left.invariant.reached (rw c.spaces.ensures at c.in_err-write_str.ensures)))
+    rw (← whole) (writes_fail (replicate rest space) _ c.from_residual.result c.from_residual.ensures.1 (breaks_then c.loop-left.invariant.reached (rw c.spaces.ensures at c.in_err-write_str.ensures)))
 
 pub loop-left-preserved : goal.loop-left-preserved
 loop-left-preserved g c =

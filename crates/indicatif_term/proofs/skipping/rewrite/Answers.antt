@@ -11,7 +11,7 @@ pub returns-in_err-take_back_rows : goal.returns-in_err-take_back_rows
 returns-in_err-take_back_rows g c =
     let x = c.args.changes.now in
     rw (sym c.is_nothing.ensures ∙ c.if-is_nothing.false)
-    (writes_fail (skip_bytes c.args.width (rows_below x.free) (placed x.front.now) (filled_anew c.args.width (placed_of x.last.now))) c.from_residual.result c.from_residual.ensures.0
+    (writes_fail (skip_bytes c.args.width (rows_below x.free) (placed x.front.now) (filled_anew c.args.width (placed_of x.last.now))) _ c.from_residual.result c.from_residual.ensures.1
     c.in_err-take_back_rows.ensures)
 
 pub returns : goal.returns

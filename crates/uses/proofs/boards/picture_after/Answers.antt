@@ -1,6 +1,7 @@
 use Rattle.std.proofs.Common.{◌≡◌, refl, sym, ◌∙◌, ap, subst, map, take, ◌++◌, Some, None, option_map, replicate, []}
 use Rattle.std.specs.Prelude.{IsFalse}
 use Rattle.std.specs.List.{list_any}
+use Rattle.std.specs.declared.io.ErrorKind.TheVariants.{OutOfMemory}
 use Rattle.indicatif_term.specs.Calls.{State}
 use Rattle.indicatif_term.specs.Lists.{opening_lists, all_rows}
 use Rattle.indicatif_term.specs.Shows.{resting}
@@ -35,7 +36,7 @@ returns-in-Some g c = λ opening starts.
       run,
       λ plain.
           let read = c.what_a_board_run_reads.ensures 0 (map timed c.args.calls.items) answers (view_of c.args.term) start after made.0 refl run unbroken plain opening
-          (subst (λ t. Starts (record { told = State t; columns = t.screen.columns; rows = t.screen.height; faults = c.args.term.faults }) opening opening_lists) (sym starts.0)
+          (subst (λ t. Starts (record { told = State t; columns = t.screen.columns; rows = t.screen.height; faults = c.args.term.faults; kind = OutOfMemory }) opening opening_lists) (sym starts.0)
           (resting opening, refl, shows)) in
           let left = ap (option_map (λ t. t.now)) (sym c.in-Some.is) ∙ c.term.ensures in
           let t = state_told c.in-Some.term.now read.0 read.2.0 (ap (option_map view_of) left ∙ read.1) read.2.1 in

@@ -29,3 +29,12 @@ returns-clause-failed g c =
     let s = c.bar-in_some_state.ensures.some in
     let made = c.force_draw.ensures.leads s.0 s.1 in
     lent_faults g.K.ProgressTracker.means g.T.TermLike.view (lone_terminal c.args.bar.now) (lone_terminal c.force_draw.new.self) (Obey ForceDraw, c.args.now) s.0 made.0 c.force_draw.result made.2
+
+pub returns-clause-kind : goal.returns-clause-kind
+returns-clause-kind g c = λ kind next answered there.
+    let view = g.T.TermLike.view in
+    let s = c.bar-in_some_state.ensures.some in
+    let made = c.force_draw.ensures.leads s.0 s.1 in
+    let says = c.what_a_lone_bar_answers.ensures (option_map view (lone_terminal c.args.bar.now)) (option_map view (lone_terminal c.force_draw.new.self)) (Obey ForceDraw, c.args.now) s.0
+    c.force_draw.result made.0 made.2 in
+    says.kind kind (view next) answered (ap (option_map view) there)

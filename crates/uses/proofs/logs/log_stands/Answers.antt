@@ -2,6 +2,7 @@ use Rattle.std.proofs.Common.{◌≡◌, false, refl, sym, ◌∙◌, ap, subst,
 use Rattle.std.specs.Prelude.{IsFalse}
 use Rattle.std.specs.List.{list_any}
 use Rattle.indicatif_text.specs.Columns.{rows_of}
+use Rattle.std.specs.declared.io.ErrorKind.TheVariants.{OutOfMemory}
 use Rattle.indicatif_term.specs.Calls.{State}
 use Rattle.indicatif_term.specs.Frames.{text_lines, logged_lines}
 use Rattle.indicatif_term.specs.Lists.{opening_lists, all_rows}
@@ -49,7 +50,7 @@ returns-in-Some g c = λ opening starts.
       (between, log.0, made, later.2),
       λ plain.
           let read = c.what_a_lone_run_reads.ensures ((Log c.args.line.now, 0) ∷ calls) (Ok drawn ∷ answers) v start after later.0 refl (between, log.0, made, later.2) unbroken plain opening
-          (subst (λ t. Starts (record { told = State t; columns = t.screen.columns; rows = t.screen.height; faults = c.args.term.faults }) opening opening_lists) (sym starts.0)
+          (subst (λ t. Starts (record { told = State t; columns = t.screen.columns; rows = t.screen.height; faults = c.args.term.faults; kind = OutOfMemory }) opening opening_lists) (sym starts.0)
           (resting opening, refl, shows)) in
           let t = state_told c.in-Some.term read.0 read.2.0 (ap (option_map view_of) (sym c.in-Some.is ∙ c.into_term.ensures) ∙ read.1) read.2.1 in
           let columns = ap (λ u. map row_text (take opening.row opening.rows ++ all_rows u.screen.columns later.0.lists) ++ replicate read.2.2 []) starts.0 in

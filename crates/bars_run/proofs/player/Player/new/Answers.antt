@@ -11,4 +11,4 @@ pub returns : goal.returns
 returns c =
     let opened = subst (λ target. IsIn 0 c.new-board.result (opening_board (limiter_of target))) c.term_like.ensures c.new-board.ensures.state in
     let at = ap (option_map view_of) (c.new-board.ensures.terminal ∙ ap term_of c.term_like.ensures) ∙ ap (λ t. Some (view_of t)) c.in_ok-term.ensures.blank in
-    begun (wanted_of c.args.asked) c.new-board.result c.make.new.self.board (some_if c.args.asked.rows (λ e. let q = c.in_ok-term.ensures.zero_size.1 (inl e) in cc q)) opened at c.in_ok-make.ensures
+    begun (wanted_of c.args.asked) c.new-board.result c.make.new.self.board (some_if c.args.asked.size.rows (λ e. let q = c.in_ok-term.ensures.zero_size.1 (inl e) in cc q)) opened at c.in_ok-make.ensures

@@ -6,3 +6,4 @@ invariant-loop-piece g l =
     ((g.T.TermLike.view l.self.term).columns ≡ (g.T.TermLike.view l.initial.self.term).columns)
     × ((g.T.TermLike.view l.self.term).rows ≡ (g.T.TermLike.view l.initial.self.term).rows)
     × ((g.T.TermLike.view l.self.term).faults ≡ (g.T.TermLike.view l.initial.self.term).faults)
+    × ((g.T.TermLike.view l.self.term).kind ≡ (g.T.TermLike.view l.initial.self.term).kind)

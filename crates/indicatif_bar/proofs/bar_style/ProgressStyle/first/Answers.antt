@@ -1,7 +1,9 @@
-use Rattle.std.proofs.Common.{◌∙◌, sym, ap, map}
+use Rattle.std.proofs.Common.{◌∙◌, sym, ap, subst, map}
 use Rattle.indicatif_text.specs.Template.{part_of}
 use Rattle.indicatif_bar.specs.Inside.Steps.{effect_of, effect_of_part, names_of}
 use Rattle.indicatif_bar.specs.Trackers.{entries}
+use Rattle.indicatif_bar.specs.StyleLaws.{AreTaken}
+use Rattle.indicatif_bar.proofs.ClusterLemmas.{first_are_taken}
 use Rattle.indicatif_bar.proofs.BuilderLemmas.{many_clusters, many_ticks, wide_cluster, clusters_are, ticks_are}
 use Rattle.indicatif_bar.proofs.bar_style.ProgressStyle.first.Goals as goal
 
@@ -13,6 +15,7 @@ invariant_of-result g c = (
   many_clusters,
   wide_cluster,
   many_ticks,
+  subst AreTaken (sym clusters_are) first_are_taken,
 )
 
 pub returns-clause-style : goal.returns-clause-style

@@ -5,6 +5,7 @@ use Rattle.indicatif_board.specs.Multi.{record_at, RecordObeys}
 use Rattle.indicatif_bar.specs.Commands.{command_of}
 use Rattle.indicatif_board.specs.BoardValues.{id_of}
 use Rattle.indicatif_board.proofs.RecordLemmas.{removed_is_back}
+use Rattle.indicatif_board.proofs.LeavingLemmas.{same_left}
 use Rattle.indicatif_board.proofs.multi.Board.apply.Goals as goal
 
 pub returns-in-Insert-clause-leads : goal.returns-in-Insert-clause-leads
@@ -69,3 +70,27 @@ returns-in-Bar-clause-records g c =
       λ foreign number. ap (record_at number) (c.command.ensures.foreign foreign).1,
       c.command.ensures.others,
     )
+
+pub returns-in-Drop-clause-slots : goal.returns-in-Drop-clause-slots
+returns-in-Drop-clause-slots g c = rw c.in-Drop.is c.drop_bar.ensures.slots
+
+pub returns-in-Log-clause-slots : goal.returns-in-Log-clause-slots
+returns-in-Log-clause-slots g c = rw c.in-Log.is c.println.ensures.slots
+
+pub returns-in-BarLog-clause-slots : goal.returns-in-BarLog-clause-slots
+returns-in-BarLog-clause-slots g c = rw c.in-BarLog.is c.bar_println.ensures.slots
+
+pub returns-in-Clear-clause-slots : goal.returns-in-Clear-clause-slots
+returns-in-Clear-clause-slots g c = rw c.in-Clear.is c.clear.ensures.slots
+
+pub returns-in-Redraw-clause-slots : goal.returns-in-Redraw-clause-slots
+returns-in-Redraw-clause-slots g c = rw c.in-Redraw.is c.redraw.ensures.slots
+
+pub returns-in-Bar-clause-slots : goal.returns-in-Bar-clause-slots
+returns-in-Bar-clause-slots g c = rw c.in-Bar.is c.command.ensures.slots
+
+pub returns-in-Insert-clause-slots : goal.returns-in-Insert-clause-slots
+returns-in-Insert-clause-slots g c = rw (c.in-Insert.is, c.insertion_answer.ensures.answer) c.insert_by.ensures.slot
+
+pub returns-in-Align-clause-slots : goal.returns-in-Align-clause-slots
+returns-in-Align-clause-slots g c = rw c.in-Align.is (same_left c.args.self.now.shown.table c.set_alignment.new.self.shown.table c.set_alignment.ensures.slots)

@@ -8,6 +8,7 @@ use Rattle.indicatif_board.specs.Multi.{known}
 use Rattle.indicatif_board.proofs.BoardCallLemmas.{made_by_draw, made_turned_away, turned_quietly}
 use Rattle.indicatif_text.specs.declared.refusal.Refusal.TheVariants.{NotMember}
 use Rattle.indicatif_board.proofs.BarRecordLemmas.{not_of_draw, has_record}
+use Rattle.indicatif_board.proofs.LeavingLemmas.{none_left}
 use Rattle.indicatif_board.proofs.multi.Board.bar_println.Goals as goal
 
 pub returns-in_err-at-clause-leads : goal.returns-in_err-at-clause-leads
@@ -52,3 +53,6 @@ returns-clause-not_member g c = λ own. (
   λ e. absurd (not_of_draw c.draw.result NotMember c.draw.ensures.refusal refl e),
   λ none. absurd (has_record c.args.self.now.shown c.args.id.number c.in_ok-at.at c.in_ok-at.ensures.own none),
 )
+
+pub returns-in_err-at-clause-slots : goal.returns-in_err-at-clause-slots
+returns-in_err-at-clause-slots g c = none_left c.args.self.now.shown.table

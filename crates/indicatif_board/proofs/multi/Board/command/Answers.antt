@@ -15,6 +15,7 @@ use Rattle.indicatif_board.specs.Multi.{IsIn, known, record_at}
 use Rattle.indicatif_board.proofs.MemberLemmas.{told_at, told_placed, same_at, said_of_place, members_length}
 use Rattle.indicatif_board.proofs.BoardCallLemmas.{made_by_draw, made_at_once, made_short, made_turned_away, turned_quietly, command_deed, late_deed, in_time_of}
 use Rattle.indicatif_board.proofs.BarRecordLemmas.{is_there, same_error, not_of_draw, record_stands, has_record, told_on, told_apart}
+use Rattle.indicatif_board.proofs.LeavingLemmas.{none_left}
 use Rattle.indicatif_board.proofs.multi.Board.command.Goals as goal
 
 pub returns-in_err-at-clause-leads : goal.returns-in_err-at-clause-leads
@@ -178,3 +179,9 @@ pub returns-clause-others : goal.returns-clause-others
 returns-clause-others g c = λ other apart.
     c.draw.ensures.records other
     ∙ told_apart c.args.self.now.shown c.args.id.number c.in_ok-at.at c.in_ok-at.ensures.own c.obey.new.self other apart
+
+pub returns-in_err-at-clause-slots : goal.returns-in_err-at-clause-slots
+returns-in_err-at-clause-slots g c = none_left c.args.self.now.shown.table
+
+pub returns-in_err-ask-clause-slots : goal.returns-in_err-ask-clause-slots
+returns-in_err-ask-clause-slots g c = none_left c.args.self.now.shown.table

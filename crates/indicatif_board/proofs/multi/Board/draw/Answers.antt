@@ -11,6 +11,7 @@ use Rattle.indicatif_board.specs.Boards.{draw_of, board}
 use Rattle.indicatif_board.specs.Inside.Named.{named_laid_out, named_layout_takes}
 use Rattle.indicatif_board.specs.Inside.Writings.{writing_by}
 use Rattle.indicatif_board.specs.Multi.{IsIn, known}
+use Rattle.indicatif_board.proofs.LeavingLemmas.{none_left}
 use Rattle.indicatif_board.proofs.multi.Board.draw.Goals as goal
 
 pub returns-then-is_no-clause-drew : goal.returns-then-is_no-clause-drew
@@ -57,3 +58,9 @@ returns-in-None-clause-drew g c = λ mark takes s number inside placed.
           (target_of o) c.args.now number s) (named_layout_takes tracks number s)) s.lists (Ok Hidden) s) (sym known_is)
           (drew_none (board (board_bars tracks) mark) None d s.lists (Ok Hidden) s refl refl (outcome-hidden target d (sym c.is_no.ensures ∙ c.if-is_no.false) refl)),
     )
+
+pub returns-then-is_no-clause-slots : goal.returns-then-is_no-clause-slots
+returns-then-is_no-clause-slots g c = none_left c.args.self.now.shown.table
+
+pub returns-in-None-clause-slots : goal.returns-in-None-clause-slots
+returns-in-None-clause-slots g c = none_left c.args.self.now.shown.table

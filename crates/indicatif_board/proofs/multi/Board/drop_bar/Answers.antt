@@ -18,6 +18,7 @@ use Rattle.indicatif_board.proofs.BoardCallLemmas.{made_turned_away, turned_quie
 use Rattle.indicatif_board.proofs.DropLemmas.{made_by_drop, drop_short}
 use Rattle.indicatif_text.specs.declared.refusal.Refusal.TheVariants.{NotMember}
 use Rattle.indicatif_board.proofs.BarRecordLemmas.{not_of_draw, has_record, told_apart}
+use Rattle.indicatif_board.proofs.LeavingLemmas.{none_left, more_left, same_left}
 use Rattle.indicatif_board.proofs.multi.Board.drop_bar.Goals as goal
 
 pub returns-in_err-at-clause-leads : goal.returns-in_err-at-clause-leads
@@ -119,3 +120,13 @@ pub returns-in-Err-clause-others : goal.returns-in-Err-clause-others
 returns-in-Err-clause-others g c = λ other apart.
     c.mark.ensures.others other apart
     ∙ told_apart c.args.self.now.shown c.args.id.number c.in_ok-at.at c.in_ok-at.ensures.own c.lose_owner.new.self other apart
+
+pub returns-in_err-at-clause-slots : goal.returns-in_err-at-clause-slots
+returns-in_err-at-clause-slots g c = none_left c.args.self.now.shown.table
+
+pub returns-in-Ok-clause-slots : goal.returns-in-Ok-clause-slots
+returns-in-Ok-clause-slots g c =
+    more_left c.args.self.now.shown.table c.draw-drawn.new.self.shown.table c.part.new.self.shown.table c.draw-drawn.ensures.slots c.part.ensures.slots
+
+pub returns-in-Err-clause-slots : goal.returns-in-Err-clause-slots
+returns-in-Err-clause-slots g c = same_left c.args.self.now.shown.table c.mark.new.self.table c.mark.ensures.slots

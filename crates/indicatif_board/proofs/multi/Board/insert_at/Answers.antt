@@ -37,7 +37,9 @@ returns-in-Ok-take_in-clause-records g c =
     rw c.in-New.is (refl, r.0, r.1, r.2)
 
 pub returns-in-Ok-take_in-clause-slot : goal.returns-in-Ok-take_in-clause-slot
-returns-in-Ok-take_in-clause-slot g c = rw c.in-New.is c.in-Ok-take_in.ensures.slot
+returns-in-Ok-take_in-clause-slot g c =
+    let taken = c.in-Ok-take_in.ensures.slot in
+    rw c.in-New.is (taken.0, c.args.at, taken.1)
 
 pub returns-in-Err-take_in-clause-slot : goal.returns-in-Err-take_in-clause-slot
 returns-in-Err-take_in-clause-slot g c = rw c.in-New.is c.in-Err-take_in.ensures.slot

@@ -1,5 +1,6 @@
 use Rattle.std.proofs.Common.{refl, inl, inr, ◌∙◌}
 use Rattle.indicatif_board.specs.Multi.{known}
+use Rattle.indicatif_board.proofs.LeavingLemmas.{more_left}
 use Rattle.indicatif_board.proofs.multi.Board.suspend.Goals as goal
 
 pub returns-in-Ok-clause-leads : goal.returns-in-Ok-clause-leads
@@ -19,3 +20,7 @@ returns-in-Err-clause-leads g c = λ mark s inside.
 
 pub returns-in-Ok-clause-records : goal.returns-in-Ok-clause-records
 returns-in-Ok-clause-records g c = λ number. c.redraw-drawn.ensures.records number ∙ c.clear-cleared.ensures.records number
+
+pub returns-in-Ok-clause-slots : goal.returns-in-Ok-clause-slots
+returns-in-Ok-clause-slots g c =
+    more_left c.args.self.now.shown.table c.clear-cleared.new.self.shown.table c.redraw-drawn.new.self.shown.table c.clear-cleared.ensures.slots c.redraw-drawn.ensures.slots

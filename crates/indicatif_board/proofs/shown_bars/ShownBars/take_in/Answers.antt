@@ -53,5 +53,7 @@ pub returns-clause-slot : goal.returns-clause-slot
 returns-clause-slot g c =
     let b = c.args.self.now in
     let even = evenly b.frame.items b.table.order b.members.items (omega (arith, b.even, b.members.ok, b.frame.ok)) b.seated in
-    let within : c.args.at ≤ length b.table.order = omega (arith, c.requires.within, even, b.members.ok) in
-    slot_taken b.table c.insert.new.self c.in-Ok-insert.number c.args.at c.in-Ok-insert.ensures.seated c.in-Ok-insert.ensures.inserted c.in-Ok-insert.ensures.number within
+    let within : c.args.at ≤ length b.table.order = omega (arith, c.requires.within, even, b.members.ok) in (
+      slot_taken b.table c.insert.new.self c.in-Ok-insert.number c.args.at c.in-Ok-insert.ensures.seated c.in-Ok-insert.ensures.inserted c.in-Ok-insert.ensures.number within,
+      c.in-Ok-insert.ensures.inserted,
+    )

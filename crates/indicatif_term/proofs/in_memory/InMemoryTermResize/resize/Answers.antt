@@ -19,4 +19,5 @@ returns-clause-resized c =
       columns_are = ap (λ t. t.screen.columns) e ∙ resized-columns cols rows old.cells.screen;
       rows_are = ap (λ t. t.screen.height) e ∙ resized-height cols rows old.cells.screen;
       faults_are = refl;
+      kind_is = refl;
     }) c.resize.ensures.resized)

@@ -8,7 +8,7 @@ use Rattle.indicatif_term.proofs.painting.Pen.put.Goals.{then-self+in_ok-write_l
 pub returns-in_err-write_line : goal.returns-in_err-write_line
 returns-in_err-write_line g c = rw (c.if-self.true, append-nil)
     (pens_fail g.T.TermLike.view _ _ _ _ c.from_residual.result c.from_residual.ensures.0 refl
-    (writes_fail c.args.line.now c.from_residual.result c.from_residual.ensures.0 c.in_err-write_line.ensures))
+    (writes_fail c.args.line.now _ c.from_residual.result c.from_residual.ensures.1 c.in_err-write_line.ensures))
 
 pub returns : goal.returns
 returns g c = rw append-nil (elim c.if-self.branch [

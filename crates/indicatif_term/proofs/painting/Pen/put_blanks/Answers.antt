@@ -8,7 +8,7 @@ loop-init g c = puts_none g.T.TermLike.view c.args.self.now
 
 pub returns-in_err-put : goal.returns-in_err-put
 returns-in_err-put g c = put_fails g.T.TermLike.view (replicate c.args.count []) c.loop.counter [] _ _ _ c.from_residual.result (simp length-replicate (omega arith))
-    (get_or-replicate c.args.count c.loop.counter [] [] (omega arith)) c.from_residual.ensures.0 c.loop.invariant c.in_err-put.ensures
+    (get_or-replicate c.args.count c.loop.counter [] [] (omega arith)) c.from_residual.ensures.1 c.loop.invariant c.in_err-put.ensures
 
 pub loop-preserved : goal.loop-preserved
 loop-preserved g c = put_next g.T.TermLike.view (replicate c.args.count []) c.loop.counter [] _ _ _ (simp length-replicate (omega arith))

@@ -12,7 +12,7 @@ pub returns-in_err-put_lines : goal.returns-in_err-put_lines
 returns-in_err-put_lines g c =
     now_fails c.args.count c.args.frame.now c.loop-member.member-index c.loop-member.left c.min-n.result c.member-item.result
     (omega arith) (sym c.member-item.is) c.loop-member.invariant.left_is (omega (arith, c.min-n.ensures, c.len.ensures, c.deref.ensures.len, ap length c.deref.ensures.value))
-    g.T.TermLike.view _ _ _ c.loop-member.invariant.put c.from_residual.result c.from_residual.ensures.0 (rw c.deref.ensures.value at c.in_err-put_lines.ensures)
+    g.T.TermLike.view _ _ _ c.loop-member.invariant.put c.from_residual.result c.from_residual.ensures.1 (rw c.deref.ensures.value at c.in_err-put_lines.ensures)
 
 pub loop-member-preserved : goal.loop-member-preserved
 loop-member-preserved g c = record {

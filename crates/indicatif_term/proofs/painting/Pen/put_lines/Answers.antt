@@ -11,7 +11,7 @@ pub returns-in_err-put : goal.returns-in_err-put
 returns-in_err-put g c =
     put_fails g.T.TermLike.view (map line_text c.args.lines.now) c.loop-line.line-index (line_text c.line-item.result) _ _ _ c.from_residual.result (simp length-map (omega arith))
     (get_or-map line_text c.args.lines.now c.loop-line.line-index c.line-item.result ∙ ap line_text (sym c.line-item.is))
-    c.from_residual.ensures.0 c.loop-line.invariant (rw c.as_str.ensures at c.in_err-put.ensures)
+    c.from_residual.ensures.1 c.loop-line.invariant (rw c.as_str.ensures at c.in_err-put.ensures)
 
 pub loop-line-preserved : goal.loop-line-preserved
 loop-line-preserved g c =

@@ -16,7 +16,7 @@ pub returns-in_err-put : goal.returns-in_err-put
 returns-in_err-put g c =
     put_fails g.T.TermLike.view (texts c.args.lines.now) c.loop-line.line-index (text_of c.line-item.result) _ _ _ c.from_residual.result (simp length-map (omega arith))
     (get_or-map text_of c.args.lines.now c.loop-line.line-index c.line-item.result ∙ ap text_of (sym c.line-item.is))
-    c.from_residual.ensures.0 c.loop-line.invariant (rw c.deref.ensures at c.in_err-put.ensures)
+    c.from_residual.ensures.1 c.loop-line.invariant (rw c.deref.ensures at c.in_err-put.ensures)
 
 pub loop-line-preserved : goal.loop-line-preserved
 loop-line-preserved g c =

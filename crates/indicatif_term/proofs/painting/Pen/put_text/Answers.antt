@@ -21,7 +21,7 @@ returns-in_err-put g c =
     rw (logged_some text (sym c.is_empty.ensures ∙ c.if-is_empty.false))
     (came_fails g.T.TermLike.view (lines text) (map now c.loop-line.yielded) c.in-Some.line.now n.0 _ _ _ c.from_residual.result
     (n.1 ∙ ap (λ ys. ys ++ n.0) (map-append now c.loop-line.yielded (c.in-Some.line ∷ [])))
-    c.from_residual.ensures.0 c.loop-line.invariant c.in_err-put.ensures)
+    c.from_residual.ensures.1 c.loop-line.invariant c.in_err-put.ensures)
 
 pub loop-line-preserved : goal.loop-line-preserved
 loop-line-preserved g c =

@@ -1,0 +1,32 @@
+//! The examples of the documentation comments of crate `indicatif`, each in a function. What is printed is what the comments say;
+//! `tools/pages.py` finds each example's lines in code that runs.
+//!
+//! - `bars`: shared bars. `keys`: bars with a key of one's own. `several`: boards, their histories and logs. `wrappers`: what a bar wraps.
+//! - `lists`: lists in threads. `machine`: what is asked of the machine. `places`: where wrapped readers stand.
+#![tactic(auto)]
+
+mod bars;
+mod keys;
+mod lists;
+mod machine;
+mod places;
+mod several;
+mod wrappers;
+
+use anyhow::Result;
+use indicatif::ProgressBar;
+use indicatif::machine::on_stderr;
+
+fn main(rt: HostRuntime) -> Result<()> {
+    bars::main(rt)?;
+    keys::main(rt)?;
+    several::main(rt)?;
+    wrappers::main(rt)?;
+    lists::main(rt)?;
+    machine::main(rt)?;
+    let bar = ProgressBar::new(rt, rt.alloc(), 3, on_stderr(&rt)?)?;
+    println!(rt; "StderrBar {}", machine::copy(&bar).is_ok())?;
+    machine::work(&rt, &bar, 2)?;
+    println!(rt; "Shares {}", bar.position())?;
+    places::main(rt)
+}

@@ -1,0 +1,28 @@
+//! Logs above two bars: the macros of `log` write through a bridge, while a thread ticks one of the bars. On standard error; where
+//! that is no terminal, the bars are hidden and the lines are dropped.
+use anyhow::Result;
+use indicatif::MultiProgress;
+use indicatif::bridge::LogBridge;
+use indicatif::machine::{Shares, on_stderr};
+use log::{Level, Logged, info, warn};
+use std::thread::sleep;
+use std::time::Duration;
+
+pub fn main<R: Shares>(rt: R, host: &HostRuntime) -> Result<()> {
+    let board = MultiProgress::new(rt, rt.alloc(), on_stderr(host)?, 1)?;
+    let files = board.new_bar(3)?;
+    let work = board.new_spinner()?;
+    work.set_message("copying")?;
+    work.enable_steady_tick(50_000_000)?;
+    let log = Logged::new(rt, Level::Info, LogBridge::new(board.clone()?));
+    for name in ["a.txt", "b.txt", "c.txt"] {
+        sleep(&rt, Duration::from_millis(200));
+        files.inc(1)?;
+        info!(log; "copied {name}");
+    }
+    warn!(log; "low disk");
+    work.disable_steady_tick()?;
+    work.finish_with_message("copied")?;
+    files.finish()?;
+    Ok(())
+}

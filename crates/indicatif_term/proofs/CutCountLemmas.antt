@@ -1,0 +1,225 @@
+-- The counts of rows that are cut anew go on as the lists do.
+use Rattle.std.proofs.Common.{◌≡◌, ℕ, zero, suc, ◌+◌, ◌-◌, ◌<◌, ◌≤◌, min, max, Bool, true, false, List, [], ◌∷◌, ◌++◌, length, get_or, map, take, drop, replicate, refl, sym, ◌∙◌, ap, subst, arith, append_assoc, length-append, length-take, length-drop}
+use Rattle.std.specs.Prelude.{flat_map, sum, sum_by, nat_le}
+use Rattle.std.proofs.lemmas.Bool.{cond_both, leb-true, leb-false, le-leb, lt-leb}
+use Rattle.std.proofs.lemmas.List.{length-replicate, length-map, map-append, take_at, drop_at, drop-drop, nil_from_length}
+use Rattle.std.proofs.lemmas.List.Concat.{length-flat_map}
+use Rattle.std.proofs.lemmas.List.Sums.{sum-map, sum_by-cons, sum_by-take-drop}
+use Rattle.indicatif_text.specs.Columns.{Cell, blank_row}
+use Rattle.indicatif_term.specs.Counts.{CountsOf, row_count}
+use Rattle.indicatif_term.specs.Lists.{Lists, BarRows, live_rows, live_height, lists_height, segments_height}
+use Rattle.indicatif_term.specs.Resizes.{recut, recut_all, recut_bar, recut_lists, segments_after, settled_whole}
+use Rattle.indicatif_term.specs.Inside.Recutting.{row_heights, end_row, cut_counts, counts_after, IsSettledWhole}
+use Rattle.indicatif_term.specs.declared.counts.Counts.{Counts}
+use Rattle.indicatif_term.specs.declared.layout.RowCount.{RowCount}
+use Rattle.indicatif_term.proofs.CountLemmas.{length-flat, length-live}
+use Rattle.indicatif_term.proofs.ResizeLemmas.{segments_recut, passing, passing-height}
+
+abbrev pub rows_by : RowCount → ℕ
+rows_by s = s.rows
+
+-- ---- how many rows there are then
+
+pub sum_heights : (w : ℕ) (rows : List (List Cell)) → sum (row_heights w rows) ≡ length (recut_all w rows)
+sum_heights w rows = sum-map (λ row. length (recut w row)) rows ∙ sym (length-flat_map (recut w) rows)
+
+length-heights : (w : ℕ) (rows : List (List Cell)) → length (row_heights w rows) ≡ length rows
+length-heights w rows = length-map rows (λ row. length (recut w row))
+
+heights-append : (w : ℕ) (xs ys : List (List Cell)) → row_heights w (xs ++ ys) ≡ row_heights w xs ++ row_heights w ys
+heights-append w xs ys = map-append (λ row. length (recut w row)) xs ys
+
+-- ---- segments
+
+abbrev pub counted : ℕ → ℕ → RowCount
+counted bar rows = record { bar = bar; rows = rows }
+
+pub segments_cut : (w : ℕ) (ss : List BarRows) → cut_counts (row_heights w (flat_map (λ (s : BarRows). s.rows) ss)) (map row_count ss) ≡ map row_count (map (recut_bar w) ss)
+segments_cut w [] = refl
+segments_cut w (s ∷ ss) =
+    let hs = row_heights w s.rows in
+    let gs = row_heights w (flat_map (λ (s : BarRows). s.rows) ss) in
+    let n = length s.rows in
+    let at : length hs ≡ n = length-heights w s.rows in
+    ap (λ xs. cut_counts xs (map row_count (s ∷ ss))) (heights-append w s.rows (flat_map (λ (s : BarRows). s.rows) ss))
+    ∙ ap (λ xs. counted s.bar (sum xs) ∷ cut_counts (drop n (hs ++ gs)) (map row_count ss)) (take_at hs gs n at)
+    ∙ ap (λ xs. counted s.bar (sum hs) ∷ cut_counts xs (map row_count ss)) (drop_at hs gs n at)
+    ∙ ap (λ k. counted s.bar k ∷ cut_counts gs (map row_count ss)) (sum_heights w s.rows)
+    ∙ ap (λ xs. row_count (recut_bar w s) ∷ xs) (segments_cut w ss)
+
+pub total_cut : (hs : List ℕ) (ss : List RowCount) → length hs ≡ sum_by rows_by ss → sum_by rows_by (cut_counts hs ss) ≡ sum hs
+total_cut hs [] e = ap sum (sym (nil_from_length hs e))
+total_cut hs (s ∷ ss) e =
+    let rest = drop s.rows hs in
+    let sum_is : sum_by rows_by (s ∷ ss) ≡ s.rows + sum_by rows_by ss = sum_by-cons rows_by s ss in
+    let left : length rest ≡ sum_by rows_by ss = omega (arith, e, sum_is, length-drop s.rows hs) in
+    let first : RowCount = counted s.bar (sum (take s.rows hs)) in
+    let parts : sum (take s.rows hs) + sum rest ≡ sum hs = sum_by-take-drop (λ x. x) hs s.rows in
+    let more : sum_by rows_by (cut_counts rest ss) ≡ sum rest = total_cut rest ss left in
+    omega (arith, sum_by-cons rows_by first (cut_counts rest ss), parts, more)
+
+pub after_cut : (n : ℕ) (ss : List BarRows) → counts_after n (map row_count ss) ≡ map row_count (segments_after n ss)
+after_cut n [] = refl
+after_cut n (s ∷ ss) =
+    cond_both (nat_le (length s.rows) n) (segments_after (n - length s.rows) ss) (record s { rows = drop n s.rows } ∷ ss)
+    (λ x. counts_after n (map row_count (s ∷ ss)) ≡ map row_count x)
+    (λ e. rw e (after_cut (n - length s.rows) ss))
+    (λ e. rw e (ap (λ k. counted s.bar k ∷ map row_count ss) (sym (length-drop n s.rows))))
+
+pub after_sum : (n : ℕ) (ss : List RowCount) → sum_by rows_by (counts_after n ss) ≡ sum_by rows_by ss - n
+after_sum n [] = omega arith
+after_sum n (s ∷ ss) =
+    cond_both (nat_le s.rows n) (counts_after (n - s.rows) ss) (record s { rows = s.rows - n } ∷ ss) (λ x. sum_by rows_by x ≡ sum_by rows_by (s ∷ ss) - n)
+    (λ e. let more : sum_by rows_by (counts_after (n - s.rows) ss) ≡ sum_by rows_by ss - (n - s.rows) = after_sum (n - s.rows) ss in
+    omega (arith, more, sum_by-cons rows_by s ss, leb-true s.rows n e))
+    (λ e. omega (arith, sum_by-cons rows_by (record s { rows = s.rows - n }) ss, sum_by-cons rows_by s ss, leb-false s.rows n e))
+
+-- one segment from an index on
+pub drop_one : (ss : List RowCount) (i : ℕ) (s : RowCount) → i < length ss → get_or ss i s ≡ s → drop i ss ≡ s ∷ drop (i + 1) ss
+drop_one [] i s h at = absurd (omega arith)
+drop_one (x ∷ ss) zero s h at = ap (λ y. y ∷ ss) at
+drop_one (x ∷ ss) (suc i) s h at = drop_one ss i s (omega arith) at ∙ ap (λ k. s ∷ drop k (x ∷ ss)) (let k : suc (i + 1) ≡ suc i + 1 = omega arith in k)
+
+-- the counts of one segment more
+pub next_cut : (hs : List ℕ) (ss : List RowCount) (i at rows : ℕ) (s : RowCount) (before now all : List RowCount) → i < length ss → get_or ss i s ≡ s →
+    rows ≡ sum (take s.rows (drop at hs)) → now ≡ before ++ counted s.bar rows ∷ [] → before ++ cut_counts (drop at hs) (drop i ss) ≡ all →
+    now ++ cut_counts (drop (at + s.rows) hs) (drop (i + 1) ss) ≡ all
+next_cut hs ss i at rows s before now all h e r n f =
+    let rest = drop (i + 1) ss in
+    let more = cut_counts (drop (at + s.rows) hs) rest in
+    ap (λ xs. xs ++ more) n ∙ append_assoc before (counted s.bar rows ∷ []) more ∙ ap (λ k. before ++ counted s.bar k ∷ more) r
+    ∙ ap (λ ys. before ++ counted s.bar (sum (take s.rows (drop at hs))) ∷ cut_counts ys rest) (sym (drop-drop s.rows at hs))
+    ∙ ap (λ zs. before ++ cut_counts (drop at hs) zs) (sym (drop_one ss i s h e)) ∙ f
+
+pub next_left : (ss : List RowCount) (i at all : ℕ) (s : RowCount) → i < length ss → get_or ss i s ≡ s → at + sum_by rows_by (drop i ss) ≤ all →
+    (at + s.rows) + sum_by rows_by (drop (i + 1) ss) ≤ all
+next_left ss i at all s h e le = omega (arith, le, ap (sum_by rows_by) (drop_one ss i s h e), sum_by-cons rows_by s (drop (i + 1) ss))
+
+pub after_passed : (left : ℕ) (ss : List RowCount) (i : ℕ) (s : RowCount) → i < length ss → get_or ss i s ≡ s → s.rows ≤ left →
+    counts_after left (drop i ss) ≡ counts_after (left - s.rows) (drop (i + 1) ss)
+after_passed left ss i s h at le = ap (counts_after left) (drop_one ss i s h at) ∙ rw (le-leb s.rows left le) refl
+
+pub after_part : (left : ℕ) (ss : List RowCount) (i : ℕ) (s : RowCount) → i < length ss → get_or ss i s ≡ s → left < s.rows →
+    counts_after left (drop i ss) ≡ record s { rows = s.rows - left } ∷ drop (i + 1) ss
+after_part left ss i s h at lt = ap (counts_after left) (drop_one ss i s h at) ∙ rw (lt-leb s.rows left lt) refl
+
+-- ---- all counts
+
+module _ (w w' h : ℕ) (l : Lists) (c c' : Counts) (o : CountsOf c l) (some : 0 < h) (heights : List ℕ) (e : heights ≡ row_heights w' (l.kept ++ live_rows w l.live)) where
+  abbrev cut : Lists
+  cut = recut_lists w' l
+
+  abbrev bars : List (List Cell)
+  bars = flat_map (λ (s : BarRows). s.rows) l.live.segments
+
+  abbrev blanks : List (List Cell)
+  blanks = replicate l.live.blanks (blank_row w)
+
+  pub kept_then : sum (take c.kept heights) ≡ length cut.kept
+  kept_then =
+      ap (λ n. sum (take n heights)) o.kept_is ∙ ap (λ hs. sum (take (length l.kept) hs)) (e ∙ heights-append w' l.kept (live_rows w l.live))
+      ∙ ap sum (take_at (row_heights w' l.kept) (row_heights w' (live_rows w l.live)) (length l.kept) (length-heights w' l.kept)) ∙ sum_heights w' l.kept
+
+  pub bars_then : drop (c.kept + c.blanks) heights ≡ row_heights w' bars
+  bars_then =
+      let front = row_heights w' (l.kept ++ blanks) in
+      let parts : heights ≡ front ++ row_heights w' bars = e ∙ ap (row_heights w') (sym (append_assoc l.kept blanks bars)) ∙ heights-append w' (l.kept ++ blanks) bars in
+      let n : length front ≡ c.kept + c.blanks =
+      omega (arith, length-heights w' (l.kept ++ blanks), length-append l.kept blanks, length-replicate l.live.blanks (blank_row w), o.kept_is, o.blanks_are) in
+      ap (drop (c.kept + c.blanks)) parts ∙ drop_at front (row_heights w' bars) (c.kept + c.blanks) n
+
+  segments_then : cut_counts (drop (c.kept + c.blanks) heights) (drop c.passed c.segments.items) ≡ map row_count cut.live.segments
+  segments_then = ap (λ hs. cut_counts hs (drop c.passed c.segments.items)) bars_then ∙ ap (cut_counts (row_heights w' bars)) o.segments_are ∙ segments_cut w' l.live.segments
+
+  live_then : c.blanks + sum (drop (c.kept + c.blanks) heights) ≡ live_height cut.live
+  live_then =
+      let rows : sum (drop (c.kept + c.blanks) heights) ≡ segments_height cut.live.segments =
+      ap sum bars_then ∙ sum_heights w' bars ∙ ap length (sym (segments_recut w' l.live.segments)) ∙ length-flat cut.live.segments in
+      omega (arith, rows, o.blanks_are)
+
+  module _ (s : IsSettledWhole h (sum (take c.kept heights)) c.blanks (c.blanks + sum (drop (c.kept + c.blanks) heights))
+      (cut_counts (drop (c.kept + c.blanks) heights) (drop c.passed c.segments.items)) c.below c') where
+    abbrev now : Lists
+    now = passing w' h l some
+
+    abbrev n : ℕ
+    n = (live_height cut.live + end_row l.below) - h
+
+    gone_is : ((c.blanks + sum (drop (c.kept + c.blanks) heights)) + end_row c.below) - h ≡ n
+    gone_is = ap (λ b. ((c.blanks + sum (drop (c.kept + c.blanks) heights)) + end_row b) - h) o.below_is ∙ ap (λ v. (v + end_row l.below) - h) live_then
+
+    end_small : (b : Bool) → end_row b ≤ 1
+    end_small true = omega arith
+    end_small false = omega arith
+
+    more_is : (cut.reach - h) - (length cut.above + length cut.kept) ≡ n
+    more_is =
+        let r : cut.reach ≡ lists_height cut + end_row l.below = refl in
+        let t : lists_height cut ≡ length cut.above + length cut.kept + live_height cut.live = refl in
+        omega (arith, r, t)
+
+    kept_now : length now.kept ≡ length cut.kept + n
+    kept_now =
+        let some_end : end_row l.below ≤ 1 = end_small l.below in
+        let m = (cut.reach - h) - (length cut.above + length cut.kept) in
+        let t : length (take m (live_rows w' cut.live)) ≡ min m (length (live_rows w' cut.live)) = length-take m (live_rows w' cut.live) in
+        let v : length (live_rows w' cut.live) ≡ live_height cut.live = length-live w' cut.live in
+        let all : length now.kept ≡ length cut.kept + length (take m (live_rows w' cut.live)) = length-append cut.kept (take m (live_rows w' cut.live)) in
+        omega (arith, all, t, v, more_is, some_end, some)
+
+    abbrev whole : Lists
+    whole = settled_whole w' h cut
+
+    abbrev gone : ℕ
+    gone = (max now.reach (lists_height now) - h) - length now.above
+
+    gone_now : gone ≡ (length cut.kept + live_height cut.live + end_row l.below) - h
+    gone_now =
+        let a : lists_height now ≡ lists_height cut = passing-height w' h l some in
+        let r : now.reach ≡ lists_height cut + end_row l.below = refl in
+        let t : lists_height cut ≡ length cut.above + length cut.kept + live_height cut.live = refl in
+        let x : length now.above ≡ length cut.above = refl in
+        omega (arith, a, r, t, x)
+
+    reach_now : whole.reach ≡ length cut.above + length cut.kept + live_height cut.live + end_row l.below
+    reach_now =
+        let a : lists_height now ≡ lists_height cut = passing-height w' h l some in
+        let r : now.reach ≡ lists_height cut + end_row l.below = refl in
+        let t : lists_height cut ≡ length cut.above + length cut.kept + live_height cut.live = refl in
+        let x : whole.reach ≡ max now.reach (lists_height now) = refl in
+        omega (arith, a, r, t, x)
+
+    reached_then : (sum (take c.kept heights) + (c.blanks + sum (drop (c.kept + c.blanks) heights)) + end_row c.below) ≡ length cut.kept + live_height cut.live + end_row l.below
+    reached_then = ap (λ b. sum (take c.kept heights) + (c.blanks + sum (drop (c.kept + c.blanks) heights)) + end_row b) o.below_is ∙ omega (arith, kept_then, live_then)
+
+    pub recut_counts_of : CountsOf c' whole
+    recut_counts_of =
+        let k : length cut.kept ≡ sum (take c.kept heights) = sym kept_then in
+        let kn : length now.kept ≡ length cut.kept + n = kept_now in
+        let g : gone ≡ (length cut.kept + live_height cut.live + end_row l.below) - h = gone_now in
+        let d : length whole.kept ≡ length now.kept - gone = length-drop gone now.kept in
+        let u : length whole.above ≡ length cut.above + min gone (length now.kept) =
+        length-append cut.above (take gone now.kept) ∙ ap (λ i. length cut.above + i) (length-take gone now.kept) in
+        let q = gone_is in
+        let r = reached_then in
+        record {
+          kept_is = omega (arith, s.kept_is, k, kn, g, d, q, r);
+          blanks_are = s.blanks_are ∙ ap (λ i. c.blanks - i) q ∙ ap (λ i. c.blanks - i) (sym more_is) ∙ ap (λ i. i - ((cut.reach - h) - (length cut.above + length cut.kept))) o.blanks_are;
+          segments_are = s.segments_are ∙ ap (λ i. counts_after (i - c.blanks) (cut_counts (drop (c.kept + c.blanks) heights) (drop c.passed c.segments.items))) (q ∙ sym more_is)
+              ∙ ap (λ i. counts_after (((cut.reach - h) - (length cut.above + length cut.kept)) - i) (cut_counts (drop (c.kept + c.blanks) heights) (drop c.passed c.segments.items))) o.blanks_are
+              ∙ ap (counts_after (((cut.reach - h) - (length cut.above + length cut.kept)) - l.live.blanks)) segments_then
+              ∙ after_cut (((cut.reach - h) - (length cut.above + length cut.kept)) - l.live.blanks) cut.live.segments;
+          reached_is = omega (arith, s.reached_is, k, kn, g, u, q, r, reach_now);
+          below_is = s.below_is ∙ o.below_is;
+        }
+
+-- the same counts by other names
+pub settled_same : (h kept kept' blanks live live' : ℕ) (segments segments' : List RowCount) (below : Bool) (c : Counts) → kept ≡ kept' → live ≡ live' → segments ≡ segments' →
+    IsSettledWhole h kept blanks live segments below c → IsSettledWhole h kept' blanks live' segments' below c
+settled_same h kept kept' blanks live live' segments segments' below c a b e s =
+    subst (λ n. IsSettledWhole h n blanks live' segments' below c) a
+    (subst (λ n. IsSettledWhole h kept blanks n segments' below c) b (subst (λ ss. IsSettledWhole h kept blanks live ss below c) e s))
+
+pub end_at_most_one : (b : Bool) → end_row b ≤ 1
+end_at_most_one true = omega arith
+end_at_most_one false = omega arith

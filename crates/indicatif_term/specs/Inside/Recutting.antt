@@ -1,0 +1,127 @@
+-- Lines that are cut anew: each of their rows becomes lines of one row.
+use Rattle.std.specs.Prelude.{◌≡◌, ◌<◌, ℕ, ◌+◌, ◌-◌, Bool, ◌&&◌, ◌==◌, nat_le, List, [], ◌∷◌, ◌++◌, map, filter, flat_map, length, suc, chars, string_bytes, sum, min, take, drop, if◌then◌else◌}
+use Rattle.std.specs.List.{list_all}
+use Rattle.indicatif_text.specs.Columns.{Cell, Glyph, glyph_width, columns_in, glyphs_of, pieces_of, visible}
+use Rattle.indicatif_term.specs.Pictures.{is_empty}
+use Rattle.indicatif_term.specs.Lists.{Lists, all_rows}
+use Rattle.indicatif_term.specs.Resizes.{has_place, recut, recut_all}
+use Rattle.indicatif_term.specs.Standing.{standing_rows}
+use Rattle.indicatif_term.specs.Remembered.{AreRemembered, known_lines}
+use Rattle.indicatif_term.specs.declared.remembered.Remembered.{Remembered}
+use Rattle.indicatif_term.specs.declared.counts.Counts.{Counts}
+use Rattle.indicatif_term.specs.declared.remembered.StandingLine.{StandingLine}
+use Rattle.indicatif_term.specs.declared.layout.RowCount.{RowCount}
+use Rattle.indicatif_term.specs.declared.recutting.CutLines.{CutLines}
+
+-- ---- the text of a row
+
+-- the characters of a glyph
+abbrev pub glyph_text : Glyph → List ℕ
+glyph_text g = g.base ∷ g.marks
+
+-- a character so that it begins no colour sequence: behind an escape character stands an empty one
+abbrev pub guarded_char : ℕ → List ℕ
+guarded_char c = if c == 0x1B then 0x1B ∷ 0x1B ∷ 0x5B ∷ 0x6D ∷ [] else c ∷ []
+
+abbrev pub guarded : List ℕ → List ℕ
+guarded cs = flat_map guarded_char cs
+
+-- a text of which these glyphs are visible
+abbrev pub piece_text : List Glyph → List ℕ
+piece_text gs = guarded (flat_map glyph_text gs)
+
+-- ---- a row cut anew
+
+-- a space without a mark
+abbrev pub is_space : Glyph → Bool
+is_space g = (g.base == 0x20) && is_empty g.marks
+
+-- the glyphs up to the last one that is no space
+abbrev pub without_spaces : List Glyph → List Glyph
+without_spaces [] = []
+without_spaces (g ∷ gs) = if list_all is_space (g ∷ gs) then [] else g ∷ without_spaces gs
+
+-- how many glyphs from the front go into a row of w columns of which c are taken; those that no row has place for go along
+abbrev pub fitting_count : ℕ → ℕ → List Glyph → ℕ
+fitting_count w c [] = 0
+fitting_count w c (g ∷ gs) =
+    if has_place w g then (if nat_le (c + glyph_width g) w then suc (fitting_count w (c + glyph_width g) gs) else 0) else suc (fitting_count w c gs)
+
+-- the pieces that a row of these glyphs becomes
+abbrev pub new_pieces : ℕ → List Glyph → List (List Glyph)
+new_pieces w row = pieces_of w (filter (has_place w) (without_spaces row))
+
+-- the pieces that the rows of a line become, row by row
+abbrev pub cut_pieces : ℕ → ℕ → List Glyph → List (List (List Glyph))
+cut_pieces w w' gs = map (new_pieces w') (pieces_of w gs)
+
+abbrev pub cut_line : ℕ → ℕ → List ℕ → List (List (List Glyph))
+cut_line w w' text = cut_pieces w w' (glyphs_of (visible (chars text)))
+
+abbrev pub cut_lines : ℕ → ℕ → List (List ℕ) → List (List (List Glyph))
+cut_lines w w' texts = flat_map (cut_line w w') texts
+
+-- their texts
+abbrev pub texts_then : ℕ → ℕ → List ℕ → List (List (List ℕ))
+texts_then w w' text = map (map piece_text) (cut_line w w' text)
+
+-- ---- lines
+
+-- a line by its characters
+pub record LineShown : Type 0 where
+  pub text : List ℕ
+  pub rows : ℕ
+  pub last : ℕ
+
+abbrev pub shown_line : StandingLine → LineShown
+shown_line l = record { text = chars (string_bytes l.text); rows = l.rows; last = l.last }
+
+abbrev pub shown_lines : List StandingLine → List LineShown
+shown_lines ls = map shown_line ls
+
+-- the line of one row that has these glyphs
+abbrev pub row_line : List Glyph → LineShown
+row_line gs = record { text = piece_text gs; rows = 1; last = columns_in gs }
+
+-- lines to which those of more rows were added, and how many each of these rows became
+pub record HasMore (old new : CutLines) (pieces : List (List (List Glyph))) : Type 0 where
+  pub lines_are : shown_lines new.lines.items ≡ shown_lines old.lines.items ++ flat_map (map row_line) pieces
+  pub heights_are : new.heights.items ≡ old.heights.items ++ map length pieces
+
+-- ---- what is remembered
+
+-- how many rows each of these rows becomes
+abbrev pub row_heights : ℕ → List (List Cell) → List ℕ
+row_heights w rows = map (λ row. length (recut w row)) rows
+
+-- what is remembered of a terminal of w columns, cut anew for w' columns: of the last rows of lists it is known what they become,
+-- and how many rows each of them becomes
+pub record IsShownCut (w w' : ℕ) (old new : Remembered) (heights : List ℕ) : Type 0 where
+  pub rows : List (List Cell)
+  pub known : (l : Lists) → AreRemembered old l → (front : List (List Cell)) × (front ++ rows ≡ all_rows w l)
+  pub heights_are : heights ≡ row_heights w' rows
+  pub remembered : 0 < new.width → (new.width ≡ w') × (standing_rows w' (known_lines new) ≡ recut_all w' rows)
+
+-- ---- counts
+
+-- one row where the cursor rests below the lists
+abbrev pub end_row : Bool → ℕ
+end_row below = if below then 1 else 0
+
+-- the counts of segments of which each row became so many
+abbrev pub cut_counts : List ℕ → List RowCount → List RowCount
+cut_counts heights [] = []
+cut_counts heights (s ∷ ss) = record s { rows = sum (take s.rows heights) } ∷ cut_counts (drop s.rows heights) ss
+
+-- segments without their first n rows
+abbrev pub counts_after : ℕ → List RowCount → List RowCount
+counts_after n [] = []
+counts_after n (s ∷ ss) = if nat_le s.rows n then counts_after (n - s.rows) ss else record s { rows = s.rows - n } ∷ ss
+
+-- the counts of rows that were cut, where kept and live ones that have scrolled away on a terminal of h rows join those above
+pub record IsSettledWhole (h kept blanks live : ℕ) (segments : List RowCount) (below : Bool) (c : Counts) : Type 0 where
+  pub kept_is : c.kept ≡ (kept + ((live + end_row below) - h)) - min ((kept + live + end_row below) - h) (kept + ((live + end_row below) - h))
+  pub blanks_are : c.blanks ≡ blanks - ((live + end_row below) - h)
+  pub segments_are : drop c.passed c.segments.items ≡ counts_after (((live + end_row below) - h) - blanks) segments
+  pub reached_is : c.reached ≡ (kept + live + end_row below) - min ((kept + live + end_row below) - h) (kept + ((live + end_row below) - h))
+  pub below_is : c.below ≡ below
