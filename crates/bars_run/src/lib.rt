@@ -50,9 +50,9 @@ use std::io::{BufRead, BufReader, ErrorKind, Read, Write};
 /// with the status that it has, and the commands behind it aren't played. At status 0 nothing is written to `err`, at status 1
 /// nothing to `out`.
 ///
-/// Where the input tells its bytes, as a slice does, contracts know more at status 0 (`Prints`): each line spells a command, the
-/// board refused none of them, and, if their texts consist of characters with a width and colour sequences, exactly the rows of
-/// the run of these calls were printed.
+/// Where the input tells its bytes, as a slice does, contracts know more at status 0 (`Prints`): each line spells a command. Where
+/// none asks for another size, the board refused none of them, and, if their texts consist of characters with a width and colour
+/// sequences, exactly the rows of the run of these calls were printed.
 ///
 /// ```
 /// let mut out = Vec::new(alloc);
