@@ -1,7 +1,8 @@
 #!/bin/sh
-# Refuses memory to the scripts of crate `sweeps`: each allocation of a script in turn, one in each run. Each run judges itself, and says
-# that it is as it is defined, and where memory was refused. Printed are, for each script, how many runs said what; a run that says
-# anything else is printed with the number of its allocation, and the status is 1 then.
+# Refuses memory to the scripts of crate `sweeps`: each allocation of a script in turn, one in each run, on terminals of 1 to 4 rows and
+# 1 to 6 columns, and of `bars run` on one. Each run judges itself, and says that it is as it is defined, and where memory was refused.
+# Printed are, for each script, how many runs said what; a run that says anything else is printed with the number of its allocation, and
+# the status is 1 then.
 #
 # By hand. It proves and builds the program once (`rt run`), as LLVM builds it; a small library in C (refuse_one.c) stands between it and
 # the C library's `malloc`. It needs a C compiler, `cc`.
@@ -22,25 +23,42 @@ refusing() {
 
 status=0
 all=0
-for words in 'board stays' 'board grows' 'lone stays' 'lone grows' 'shared stays' 'shared grows' 'loop stays' 'loop grows' 'run stays'; do
-    # shellcheck disable=SC2086
-    count=$(refusing 0 $words unjudged 2>&1 >/dev/null)
-    : >"$work/said"
+
+# WORD..: refuses each allocation of this script in turn.
+refused_each() {
+    count=$(refusing 0 "$@" 2>&1 >/dev/null)
     for number in $(seq 1 "$count"); do
-        # shellcheck disable=SC2086
-        said=$(refusing "$number" $words count 2>&1) || said="status $?: $said"
+        said=$(refusing "$number" $(echo "$*" | sed s/unjudged/count/) 2>&1) || said="status $?: $said"
         echo "$said" >>"$work/said"
         case $said in
         'as defined: '*) ;;
         *)
-            echo "$words, allocation $number: $said"
+            echo "$*, allocation $number: $said"
             status=1
             ;;
         esac
     done
-    all=$((all + count))
-    echo "$words: $count allocations"
+    runs=$((runs + count))
+}
+
+for words in 'board stays' 'board grows' 'lone stays' 'lone grows' 'shared stays' 'shared grows' 'loop stays' 'loop grows'; do
+    : >"$work/said"
+    runs=0
+    for rows in 1 2 3 4; do
+        for cols in 1 2 3 4 5 6; do
+            # shellcheck disable=SC2086
+            refused_each $words unjudged $rows $cols
+        done
+    done
+    all=$((all + runs))
+    echo "$words: $runs allocations"
     sort "$work/said" | uniq -c
 done
+: >"$work/said"
+runs=0
+refused_each run stays unjudged
+all=$((all + runs))
+echo "run: $runs allocations"
+sort "$work/said" | uniq -c
 echo "$all runs"
 exit $status

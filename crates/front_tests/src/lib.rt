@@ -11,6 +11,7 @@
 //! - `carried`: tests of the crate `indicatif` that need code. `carried_tickers`: those of tickers. `carried_trackers`: those of trackers.
 //! - `counted`: threads that count for a bar.
 //! - `ticking`: a bar's ticker, looked at from outside. `intervals`: how often it ticks. `keyed`: shared bars with a key of the tests' own.
+//!   `odd_keys`: keys that write what no line holds.
 //! - `lists`, `own_bars`, `pieces`: lists, block by block, lists with a bar of their own, and pieces in threads of their own; with the
 //!   bar `stepped` and the `gates`.
 #![tactic(auto)]
@@ -45,6 +46,8 @@ mod lists;
 mod machines;
 #[cfg(test)]
 mod made;
+#[cfg(test)]
+mod odd_keys;
 #[cfg(test)]
 mod own_bars;
 #[cfg(test)]

@@ -17,7 +17,9 @@ type OnWire = Box<Board<NoTracker, Behind>>;
 
 fn board_on(alloc: Global, record: &Rc<Record>, setting: Setting) -> Result<OnWire, Law> {
     let board = Board::new(alloc, setting.target(record)?, MARK);
-    Ok(Box::new(alloc, board)?)
+    let mut board = Box::new(alloc, board)?;
+    board.set_move_cursor(setting.moves_cursor());
+    Ok(board)
 }
 
 fn random_calls(alloc: Global, numbers: &mut Numbers) -> Result<Calls, Law> {

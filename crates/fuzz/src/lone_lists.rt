@@ -22,7 +22,9 @@ fn lone_on(
     bar: &BarState<NoTracker>,
 ) -> Result<Lone, Law> {
     let lone = LoneBar::new(bar.try_clone()?, setting.target(record)?);
-    Ok(Box::new(alloc, lone)?)
+    let mut lone = Box::new(alloc, lone)?;
+    lone.set_move_cursor(setting.moves_cursor());
+    Ok(lone)
 }
 
 fn random_calls(alloc: Global, numbers: &mut Numbers) -> Result<Calls, Law> {

@@ -9,12 +9,13 @@ use std::alloc::Global;
 use std::io::ErrorKind;
 use std::rc::Rc;
 
-/// A terminal of this size that fails so, how often it is drawn, and how closely its bytes are looked at.
+/// A terminal of this size that fails so, how often it is drawn, whether by moves of the cursor alone, and how closely its bytes are looked at.
 #[derive(Clone, Copy, Drop)]
 pub struct Setting {
     size: Size,
     plan: Plan,
     is_limited: bool,
+    moves_cursor: bool,
     look: Look,
 }
 
@@ -52,12 +53,18 @@ impl Setting {
             size: random_size(numbers),
             plan: random_plan(numbers),
             is_limited: numbers.one_in(3),
+            moves_cursor: numbers.one_in(3),
             look: if numbers.one_in(8) {
                 Look::EachByte
             } else {
                 Look::EachCall
             },
         }
+    }
+
+    /// Whether draws write over what stands, by moves of the cursor alone.
+    pub fn moves_cursor(self) -> bool {
+        self.moves_cursor
     }
 
     /// What the terminal is given.

@@ -12,3 +12,4 @@ mod WaveLemmas
 mod PlacedLemmas
 mod SharedLemmas
 mod FrontLemmas
+mod OwnRowsLemmas

@@ -315,13 +315,21 @@ impl<T: TermLike> OwnRows<T> {
         if wide > self.term.width() as usize {
             return Ok(());
         }
-        if wide > self.room() {
-            self.go_to_next_row()?;
-        }
+        self.make_room(wide)?;
         self.column = self.column.saturating_add(wide);
         let mut bytes = [0u8; 4];
         let text = c.encode_utf8(&mut bytes);
         self.send(text)
+    }
+
+    /// To the next row, where this one hasn't so many columns left.
+    fn make_room(&mut self, wide: usize) -> io::Result<()>
+        ensures { Quietly (T.view self.old.term) (T.view self.new.term) result }
+    {
+        if wide > self.room() {
+            return self.go_to_next_row();
+        }
+        Ok(())
     }
 
     /// How many columns are left of the row.

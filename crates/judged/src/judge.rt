@@ -46,8 +46,10 @@ impl<V: Drop> From<AllocFailed<V>> for Finding {
 pub enum Look {
     /// Behind each of them.
     EachByte,
-    /// Behind each of a call that fails and of the first drawing after it, and behind the last one of any other call.
-    AtFailures,
+    /// Behind each from the first call that fails on, and behind the last one of each call before it.
+    FromFailure,
+    /// Behind each of a call that fails and of the first drawing behind it, and behind the last one of each other call.
+    AtFailure,
     /// Behind the last byte of a call.
     EachCall,
 }
@@ -111,7 +113,8 @@ impl Judge {
         }
         match self.look {
             Look::EachByte => self.reads_each(bytes)?,
-            Look::AtFailures if has_failed || self.has_failed => self.reads_each(bytes)?,
+            Look::FromFailure if has_failed || self.is_littered => self.reads_each(bytes)?,
+            Look::AtFailure if has_failed || self.has_failed => self.reads_each(bytes)?,
             _ => self.reads_all(bytes)?,
         }
         self.has_failed = has_failed || self.has_failed && bytes.is_empty();
@@ -139,6 +142,19 @@ impl Judge {
         }
     }
 
+    /// Reads bytes of which nothing has to hold.
+    pub fn takes(&mut self, bytes: &[u8]) -> Result<(), Finding> {
+        self.feed(bytes)
+    }
+
+    /// The rows that stand, those among them that left the window, down to the last one that isn't empty.
+    pub fn rows(&self) -> Result<Vec<String>, Finding> {
+        let mut rows = self.cells.picture()?;
+        let last = rows.iter().rposition(|row| !row.is_empty());
+        rows.truncate(last.map_or(0, |at| at.saturating_add(1)));
+        Ok(rows)
+    }
+
     /// How many rows there are down to the cursor's.
     fn rows_to_the_cursor(&self) -> Result<usize, Finding> {
         let rows = self.cells.picture()?.len();
@@ -157,17 +173,6 @@ impl Judge {
             None => Err(Finding::Lost),
         }
     }
-}
-
-/// The rows that stand once a terminal of this size was given these bytes, those among them that left its window, down to the last one that
-/// isn't empty.
-pub fn shown(alloc: Global, size: Size, bytes: &[u8]) -> Result<Vec<String>, Finding> {
-    let mut judge = Judge::new(alloc, size, Look::EachCall)?;
-    judge.feed(bytes)?;
-    let mut picture = judge.cells.picture()?;
-    let last = picture.iter().rposition(|row| !row.is_empty());
-    picture.truncate(last.map_or(0, |at| at.saturating_add(1)));
-    Ok(picture)
 }
 
 /// Whether the first drawing after a failure begins on a new row; one that fails too, or writes nothing, needn't.

@@ -39,6 +39,13 @@ impl<T: TermLike + Drop> OnBoard<T> {
         Ok(OnBoard { alloc, board })
     }
 
+    /// The same, whose draws write over what stands by moves of the cursor alone.
+    pub fn moving(alloc: Global, term: T) -> Result<OnBoard<T>, Refusal> {
+        let mut stage = OnBoard::new(alloc, term)?;
+        stage.board.set_move_cursor(true);
+        Ok(stage)
+    }
+
     /// Its terminal.
     pub fn term(&self) -> Option<&T> {
         self.board.term()

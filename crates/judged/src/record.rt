@@ -178,7 +178,7 @@ impl Write for Wire {
 pub type Behind = Term<Wire>;
 
 /// How large a terminal is.
-#[derive(Clone, Copy, Debug, Drop)]
+#[derive(Clone, Copy, Debug, Drop, PartialEq, Eq)]
 pub struct Size {
     /// Rows.
     pub rows: u16,

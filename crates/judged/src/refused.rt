@@ -2,7 +2,7 @@
 //!
 //! While a script is played, what its calls do is noted in room that was taken before. It is judged behind the last call, where memory is
 //! there again.
-use crate::judge::{Finding, Judge, Look, shown};
+use crate::judge::{Finding, Judge, Look};
 use crate::played::Stage;
 use crate::record::{Mark, Plan, Record, Size};
 use crate::script::{Said, Step};
@@ -136,8 +136,8 @@ impl<M: Stages> Run<'_, M> {
     ///
     /// Each call answers what it does where nothing is refused, or `Memory`, or `Terminal` with the kind `OutOfMemory` where the
     /// terminal's own growth was refused; the first of these leaves the order. A call with `Memory` writes nothing. Rows above stand behind
-    /// each byte. What comes behind is what a new stage does that makes the same calls with ample memory: without the refused call, or with
-    /// what that call did before its draw; or on a terminal that fails at that very call of the writer.
+    /// each byte. What comes behind, by the answers and by what each drawing shows, is what a new stage does that makes the same calls with
+    /// ample memory: without the refused call, or with what that call had begun; or on a terminal that fails at that very call of the writer.
     pub fn judged(&self) -> Result<Where, Finding> {
         let found = self.looked_at()?;
         let follows = match found {
@@ -209,12 +209,20 @@ impl<M: Stages> Run<'_, M> {
         if self.is_like(&without, (behind, at))? {
             return Ok(true);
         }
-        let step = self.stages.script().get(at).and_then(|step| step.begun());
+        let Some(step) = self.stages.script().get(at) else {
+            return Ok(false);
+        };
+        let [first, second] = step.begun();
+        Ok(self.follows(at, first)? || self.follows(at, second)?)
+    }
+
+    /// Whether what comes behind this call is what comes behind that one, if there is one, in its place.
+    fn follows(&self, at: usize, step: Option<Step>) -> Result<bool, Finding> {
         if step.is_none() {
             return Ok(false);
         }
-        let begun = self.edited(at, step)?;
-        self.is_like(&begun, (behind, behind))
+        let behind = at.saturating_add(1);
+        self.is_like(&self.edited(at, step)?, (behind, behind))
     }
 
     /// The script with another call in this place, or with none.
@@ -230,14 +238,29 @@ impl<M: Stages> Run<'_, M> {
         Ok(script)
     }
 
-    /// Whether a new stage that makes these calls answers the same behind the first calls, so many here and so many there, and has the same
-    /// order and shows the same at the end.
+    /// Whether a new stage that makes these calls answers the same and shows the same behind the first calls, so many here and so many there,
+    /// and has the same order at the end.
     fn is_like(&self, script: &[Step], (here, there): (usize, usize)) -> Result<bool, Finding> {
         let fresh = self.fresh(script, Plan::Never)?;
         let same = are_same(self.notes.answers(here), fresh.notes.answers(there));
         let all = self.notes.calls.len();
         let order = self.notes.order(all) == fresh.notes.order(fresh.notes.calls.len());
-        Ok(same && order && self.shows()? == fresh.shows(self.alloc, self.size)?)
+        Ok(same && order && self.shows_as(&fresh, (here, script, there))?)
+    }
+
+    /// Whether the same stands behind the calls that drew, from some on here and from some on there, where that script was played.
+    fn shows_as(
+        &self,
+        fresh: &Fresh,
+        (here, script, there): (usize, &[Step], usize),
+    ) -> Result<bool, Finding> {
+        let mut mine = Judge::new(self.alloc, self.size, Look::EachCall)?;
+        let calls = (self.stages.script(), here);
+        let shown = pictures(&mut mine, (self.record, self.notes), calls)?;
+        let mut other = Judge::new(self.alloc, self.size, Look::EachCall)?;
+        let calls = (script, there);
+        let wanted = pictures(&mut other, (&fresh.record, &fresh.notes), calls)?;
+        Ok(shown == wanted)
     }
 
     /// Whether a new stage on a terminal that fails at the same call of its writer writes the same bytes, and answers the same but for the
@@ -263,10 +286,6 @@ impl<M: Stages> Run<'_, M> {
     fn bytes(&self) -> Result<Vec<u8>, Finding> {
         bytes_of(self.alloc, self.record, self.notes)
     }
-
-    fn shows(&self) -> Result<Vec<String>, Finding> {
-        shown(self.alloc, self.size, &self.bytes()?)
-    }
 }
 
 /// A script that a new stage has made.
@@ -280,10 +299,29 @@ impl Fresh {
     fn bytes(&self, alloc: Global) -> Result<Vec<u8>, Finding> {
         bytes_of(alloc, &self.record, &self.notes)
     }
+}
 
-    fn shows(&self, alloc: Global, size: Size) -> Result<Vec<String>, Finding> {
-        shown(alloc, size, &self.bytes(alloc)?)
+/// Rows that stand, one picture behind another.
+type Pictures = Vec<Vec<String>>;
+
+/// What stands behind each call of a script from this one on that drew, and behind the last one. What a bar's drop draws may be lost: the
+/// next draw shows it.
+fn pictures(
+    judge: &mut Judge,
+    (record, notes): (&Record, &Notes),
+    (script, from): (&[Step], usize),
+) -> Result<Pictures, Finding> {
+    let mut pictures = Vec::new(judge.alloc());
+    for (at, (note, step)) in notes.calls.iter().zip(script.iter()).enumerate() {
+        let bytes = record.between(judge.alloc(), notes.before(at), note.mark)?;
+        judge.takes(&bytes)?;
+        let has_drawn = note.said == Ok(Drawn::Yes) && !matches!(step, Step::Drop(_));
+        if at >= from && has_drawn {
+            pictures.push(judge.rows()?)?;
+        }
     }
+    pictures.push(judge.rows()?)?;
+    Ok(pictures)
 }
 
 /// The bytes of the calls that were noted.

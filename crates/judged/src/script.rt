@@ -56,13 +56,14 @@ impl Step {
         }
     }
 
-    /// What it may have done where memory was refused to its draw alone.
-    pub fn begun(self) -> Option<Step> {
+    /// What it may have done where memory was refused to it behind its beginning: what it does before its draw; or all of it but that its
+    /// bar's new lines are drawn by the next call.
+    pub fn begun(self) -> [Option<Step>; 2] {
         match self {
-            Step::Message(bar, text) => Some(Step::Told(bar, text)),
-            Step::Suspend => Some(Step::Clear),
-            Step::Tick(_) | Step::Finish(_) | Step::Drop(_) => Some(self),
-            _ => None,
+            Step::Message(bar, text) => [Some(Step::Told(bar, text)), Some(self)],
+            Step::Suspend => [Some(Step::Clear), None],
+            Step::Tick(_) | Step::Finish(_) | Step::Drop(_) => [Some(self), None],
+            _ => [None, None],
         }
     }
 

@@ -1,2 +1,3 @@
 mod PassingLemmas
 mod PlainLemmas
+mod ScreenLemmas

@@ -100,6 +100,13 @@ impl<T: TermLike> Screen<T> {
         }
         self.is_drawing = true;
         self.send("\u{1b}[?7l")?;
+        self.go_to_row()
+    }
+
+    /// Down to the row, if it draws on one.
+    fn go_to_row(&mut self) -> io::Result<()>
+        ensures { Quietly (T.view self.old.term) (T.view self.new.term) result }
+    {
         match self.row {
             Some(row) => self.go_down(row.above()),
             None => Ok(()),
@@ -114,11 +121,26 @@ impl<T: TermLike> Screen<T> {
             return Ok(());
         }
         self.is_drawing = false;
-        if let Some(row) = self.row {
-            self.send("\r")?;
-            self.go_up(row.above())?;
-        }
+        self.leave_row()?;
         self.send("\u{1b}[?7h")
+    }
+
+    /// Back from the row, if it draws on one.
+    fn leave_row(&mut self) -> io::Result<()>
+        ensures { Quietly (T.view self.old.term) (T.view self.new.term) result }
+    {
+        match self.row {
+            Some(row) => self.go_back(row.above()),
+            None => Ok(()),
+        }
+    }
+
+    /// To the front of the row, and up `n` rows.
+    fn go_back(&mut self, n: usize) -> io::Result<()>
+        ensures { Quietly (T.view self.old.term) (T.view self.new.term) result }
+    {
+        self.send("\r")?;
+        self.go_up(n)
     }
 
     /// Up `n` rows.
@@ -209,13 +231,21 @@ impl<T: TermLike> Screen<T> {
         ensures { Quietly (T.view self.old.term) (T.view self.new.term) result }
     {
         let wide = width(c);
-        if wide > self.room() {
-            self.next_row()?;
-        }
+        self.make_room(wide)?;
         self.column = self.column.saturating_add(wide);
         let mut bytes = [0u8; 4];
         let text = c.encode_utf8(&mut bytes);
         self.send(text)
+    }
+
+    /// To the next row, where this one hasn't so many columns left.
+    fn make_room(&mut self, wide: usize) -> io::Result<()>
+        ensures { Quietly (T.view self.old.term) (T.view self.new.term) result }
+    {
+        if wide > self.room() {
+            return self.next_row();
+        }
+        Ok(())
     }
 
     /// Goes to the front of the next row.

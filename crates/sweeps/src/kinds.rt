@@ -15,10 +15,21 @@ use std::sync::Wait;
 #[derive(Clone, Copy, Debug, Drop)]
 pub enum Kind {
     Board,
+    /// A board whose cursor only moves.
+    Moving,
     Lone,
     Shared,
     Loop,
 }
+
+/// All of them.
+pub const KINDS: [Kind; 5] = [
+    Kind::Board,
+    Kind::Moving,
+    Kind::Lone,
+    Kind::Shared,
+    Kind::Loop,
+];
 
 /// The calls of a loop over five items, the last of which finds its end.
 pub const LOOP: [Step; 6] = [Step::Tick(0); 6];
@@ -28,6 +39,7 @@ impl Kind {
     pub fn name(self) -> &'static str {
         match self {
             Kind::Board => "board",
+            Kind::Moving => "board whose cursor moves",
             Kind::Lone => "lone bar",
             Kind::Shared => "shared board",
             Kind::Loop => "loop",
@@ -37,7 +49,7 @@ impl Kind {
     /// Its script.
     fn script(self) -> &'static [Step] {
         match self {
-            Kind::Board => &BOARD,
+            Kind::Board | Kind::Moving => &BOARD,
             Kind::Shared => &SHARED,
             Kind::Lone => &LONE,
             Kind::Loop => &LOOP,
@@ -47,7 +59,7 @@ impl Kind {
     /// The draw behind it.
     fn last(self) -> &'static [Step] {
         match self {
-            Kind::Board | Kind::Shared => &[Step::Tick(2)],
+            Kind::Board | Kind::Moving | Kind::Shared => &[Step::Tick(2)],
             Kind::Lone => &[Step::Tick(0)],
             Kind::Loop => &[],
         }
@@ -74,6 +86,10 @@ pub fn run<R: AllocGlobal + Wait + Copy + Clone + Drop>(
     match case.kind {
         Kind::Board => {
             let stage = OnBoard::new(rt.alloc(), term)?;
+            judged(rt.alloc(), stage, &record, case)
+        }
+        Kind::Moving => {
+            let stage = OnBoard::moving(rt.alloc(), term)?;
             judged(rt.alloc(), stage, &record, case)
         }
         Kind::Lone => {

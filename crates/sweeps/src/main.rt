@@ -1,34 +1,36 @@
 //! Plays scripts of calls on terminals that fail, at each place where they can, and has them judged.
 //!
-//! `sweeps` says of each sweep whether all of its runs are as they should be, and `sweeps count` how many runs there are, too.
+//! `sweeps` says of each sweep whether all of its runs are as they should be, and `sweeps count` how many runs there are, too. `sweeps pairs`
+//! makes those of two calls at each size, which take longer.
+//!
 //! `sweeps memory SCRIPT` plays one of the scripts `board`, `lone`, `shared`, `loop` and `run` once, for `tools/refusals.sh`, which refuses it an
 //! allocation, and says whether it is as it is defined; so it does behind the sweeps of each of them, where nothing is refused. With
 //! `grows` the terminal takes memory too. With `grows count` or `stays count` it says where memory was refused; with `unjudged` in the place
-//! of `count` the script is played alone.
+//! of `count` the script is played alone. Rows and columns behind that are the terminal's.
 //!
 //! - `sweep`: the runs of a script. `kinds`: what plays a script. `on_shared`, `in_loop`: a shared board and a wrapped loop that do.
-//! - `printing`: `bars run` before an output that fails. `memory`: want of memory.
+//! - `printing`: `bars run` before an output that fails. `memory`: want of memory. `planted`: wrong bodies that its judge finds.
 #![tactic(auto)]
 
 mod in_loop;
 mod kinds;
 mod memory;
 mod on_shared;
+mod planted;
 mod printing;
 mod sweep;
 
-use crate::kinds::Kind;
+use crate::kinds::{KINDS, Kind};
 use crate::memory::{Growing, Judging, NAMES, Playing};
-use crate::sweep::{Case, Runs, Tally, all_sizes, each_byte, each_call, each_pair, from_each_call};
+use crate::planted::PLANTED;
+use crate::printing::Printed;
+use crate::sweep::{LARGEST, Runs, Sweep, Tally};
 use anyhow::{Result, anyhow};
-use judged::judge::{Finding, Look};
-use judged::record::{Plan, Size};
+use judged::judge::Finding;
+use judged::record::Size;
 use judged::refused::Where;
 use std::env::{self, Env};
 use std::io;
-
-/// The size of most runs.
-const SIZE: Size = Size { rows: 4, cols: 6 };
 
 /// What is said of sweeps.
 #[derive(Clone, Copy, Drop)]
@@ -40,49 +42,65 @@ enum Telling {
 }
 
 /// Says what came of a sweep.
-fn say<R: Print>(rt: &R, telling: Telling, kind: Kind, name: &str, tally: Tally) -> Result<()> {
+fn say<R: Print>(rt: &R, telling: Telling, name: (&str, &str, &str), tally: Tally) -> Result<()> {
     let runs = tally.runs;
-    let kind = kind.name();
+    let (kind, sweep, sizes) = name;
     if let Some(finding) = tally.first {
-        println!(rt; "{kind}, {name}: {} of {runs} runs differ", tally.differ)?;
+        println!(rt;
+            "{kind}, {sweep}{sizes}: {} of {runs} runs differ",
+            tally.differ
+        )?;
         println!(rt; "  {finding:?}")?;
         return Ok(());
     }
     match telling {
-        _ if runs == 0 => println!(rt; "{kind}, {name}: no run")?,
-        Telling::Verdicts => println!(rt; "{kind}, {name}: as it should be")?,
-        Telling::Counts => println!(rt; "{kind}, {name}: {runs} runs, all as they should be")?,
+        Telling::Verdicts => println!(rt; "{kind}, {sweep}{sizes}: as it should be")?,
+        Telling::Counts => {
+            println!(rt; "{kind}, {sweep}{sizes}: {runs} runs, all as they should be")?
+        }
     }
     Ok(())
 }
 
-/// All sweeps of a script. Where two calls fail, bytes are looked at behind each call.
+/// What is said of sweeps on terminals of each size.
+const EACH_SIZE: &str = " at each size";
+
+/// The sweeps of a script: at each size, and those of two calls on the largest terminal alone.
 fn swept<R: Runs + Print>(rt: &R, telling: Telling, kind: Kind) -> Result<()> {
-    let case = Case {
-        kind,
-        size: SIZE,
-        plan: Plan::Never,
-        look: Look::AtFailures,
-    };
-    say(rt, telling, kind, "each call fails", each_call(*rt, case))?;
-    say(rt, telling, kind, "each byte fails", each_byte(*rt, case))?;
-    let tally = from_each_call(*rt, case);
-    say(rt, telling, kind, "from each call on all fail", tally)?;
-    let tally = all_sizes(*rt, case);
-    say(rt, telling, kind, "each call fails at each size", tally)?;
-    let look = Look::EachCall;
-    let tally = each_pair(*rt, Case { look, ..case });
-    say(rt, telling, kind, "each two calls fail", tally)
+    for sweep in [Sweep::EachCall, Sweep::EachByte, Sweep::FromEachCall] {
+        let tally = sweep.at_each_size(*rt, kind);
+        say(rt, telling, (kind.name(), sweep.name(), EACH_SIZE), tally)?;
+    }
+    let sweep = Sweep::EachPair;
+    let tally = sweep.at(*rt, kind, LARGEST);
+    say(rt, telling, (kind.name(), sweep.name(), ""), tally)
 }
 
-/// The sweep of `bars run`.
-fn printed<R: AllocGlobal + Print>(rt: &R) -> Result<()> {
-    let (runs, differ) = printing::each_room(rt.alloc())?;
-    match differ {
-        0 => println!(rt; "bars run, each byte of its output fails: as it should be")?,
-        _ => println!(rt;
-            "bars run, each byte of its output fails: {differ} of {runs} runs differ"
-        )?,
+/// The sweeps of two calls at each size.
+fn paired<R: Runs + Print>(rt: &R) -> Result<()> {
+    let sweep = Sweep::EachPair;
+    for kind in KINDS {
+        let tally = sweep.at_each_size(*rt, kind);
+        say(
+            rt,
+            Telling::Counts,
+            (kind.name(), sweep.name(), EACH_SIZE),
+            tally,
+        )?;
+    }
+    Ok(())
+}
+
+/// The sweeps of `bars run`.
+fn printed<R: AllocGlobal + Print>(rt: &R, telling: Telling) -> Result<()> {
+    let name = "bars run, each byte and each call of its output fail";
+    let Printed { runs, differ } = printing::each_failure(rt.alloc())?;
+    match telling {
+        _ if differ > 0 => println!(rt; "{name}{EACH_SIZE}: {differ} of {runs} runs differ")?,
+        Telling::Verdicts => println!(rt; "{name}{EACH_SIZE}: as it should be")?,
+        Telling::Counts => {
+            println!(rt; "{name}{EACH_SIZE}: {runs} runs, all as they should be")?
+        }
     }
     Ok(())
 }
@@ -90,8 +108,10 @@ fn printed<R: AllocGlobal + Print>(rt: &R) -> Result<()> {
 /// What is asked for.
 #[derive(Clone, Copy, Drop)]
 enum Asked {
-    /// All sweeps.
+    /// All sweeps but the longest.
     Sweeps(Telling),
+    /// Those of two calls at each size.
+    Pairs,
     /// The script of this number, once.
     Memory(usize, Playing, Telling),
     /// Nothing that there is.
@@ -101,6 +121,16 @@ enum Asked {
 /// The number of the script of this name.
 fn number_of(name: &str) -> Option<usize> {
     NAMES.iter().position(|other| *other == name)
+}
+
+/// The size that is asked for; the largest where none is.
+fn size_of(rows: Option<&str>, cols: Option<&str>) -> Size {
+    let rows = rows.and_then(|rows| rows.parse().ok());
+    let cols = cols.and_then(|cols| cols.parse().ok());
+    match (rows, cols) {
+        (Some(rows), Some(cols)) => Size { rows, cols },
+        _ => LARGEST,
+    }
 }
 
 /// What the arguments ask for.
@@ -118,10 +148,15 @@ fn request<R: AllocGlobal + Env>(rt: &R) -> io::Result<Asked> {
         Some("unjudged") => (Judging::Unjudged, Telling::Verdicts),
         _ => (Judging::Judged, Telling::Verdicts),
     };
-    let playing = Playing { growing, judging };
+    let playing = Playing {
+        size: size_of(words.next(), words.next()),
+        growing,
+        judging,
+    };
     Ok(match (first, script) {
         (None, _) => Asked::Sweeps(Telling::Verdicts),
         (Some("count"), _) => Asked::Sweeps(Telling::Counts),
+        (Some("pairs"), _) => Asked::Pairs,
         (Some("memory"), Some(script)) => Asked::Memory(script, playing, telling),
         _ => Asked::Nothing,
     })
@@ -140,6 +175,7 @@ fn say_found<R: Print>(rt: &R, telling: Telling, found: Result<Where, Finding>) 
 /// Plays each script where memory is refused, once where nothing is.
 fn unrefused<R: Runs + Print>(rt: &R) -> Result<()> {
     let playing = Playing {
+        size: LARGEST,
         growing: Growing::Terminal,
         judging: Judging::Judged,
     };
@@ -152,13 +188,23 @@ fn unrefused<R: Runs + Print>(rt: &R) -> Result<()> {
     Ok(())
 }
 
+/// Says what the judge of refused memory finds of wrong bodies.
+fn wrong_bodies<R: AllocGlobal + Print>(rt: &R) -> Result<()> {
+    for planted in PLANTED {
+        print!(rt; "planted, {}: ", planted.name)?;
+        say_found(rt, Telling::Counts, planted::found(rt.alloc(), planted))?;
+    }
+    Ok(())
+}
+
 /// Makes all sweeps.
 fn all_swept<R: Runs + Print>(rt: &R, telling: Telling) -> Result<()> {
-    for kind in [Kind::Board, Kind::Lone, Kind::Shared, Kind::Loop] {
+    for kind in KINDS {
         swept(rt, telling, kind)?;
     }
-    printed(rt)?;
-    unrefused(rt)
+    printed(rt, telling)?;
+    unrefused(rt)?;
+    wrong_bodies(rt)
 }
 
 fn main(rt: HostRuntime) -> Result<()> {
@@ -168,6 +214,7 @@ fn main(rt: HostRuntime) -> Result<()> {
     };
     match asked {
         Asked::Sweeps(telling) => all_swept(&rt, telling),
+        Asked::Pairs => paired(&rt),
         Asked::Memory(script, playing, telling) => {
             let name = NAMES.get(script).copied().unwrap_or("");
             match memory::found(rt, name, playing) {
@@ -176,7 +223,7 @@ fn main(rt: HostRuntime) -> Result<()> {
             }
         }
         Asked::Nothing => Err(anyhow!(
-            "usage: sweeps [count | memory SCRIPT [grows | stays] [count | unjudged]]"
+            "usage: sweeps [count | pairs | memory SCRIPT [grows | stays] [count | unjudged] [ROWS COLS]]"
         )),
     }
 }

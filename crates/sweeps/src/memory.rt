@@ -14,20 +14,21 @@ use judged::script::{BOARD, LONE, SHARED, Step};
 use std::alloc::Global;
 use std::rc::Rc;
 
-const SIZE: Size = Size { rows: 4, cols: 6 };
-
 /// How many bytes the terminal's writer has room for from the first, where it takes no memory.
 const ROOM: usize = 4096;
 
-/// Boards.
+/// Boards on terminals of a size.
 #[derive(Drop)]
-struct Boards(Global);
+pub struct Boards {
+    pub alloc: Global,
+    pub size: Size,
+}
 
 impl Stages for Boards {
     type Made = OnBoard<Behind>;
 
     fn on(&self, record: &Rc<Record>) -> Result<OnBoard<Behind>, Refusal> {
-        OnBoard::new(self.0, SIZE.terminal(record)?)
+        OnBoard::new(self.alloc, self.size.terminal(record)?)
     }
 
     fn script(&self) -> &'static [Step] {
@@ -35,15 +36,18 @@ impl Stages for Boards {
     }
 }
 
-/// Lone bars.
+/// Lone bars on terminals of a size.
 #[derive(Drop)]
-struct Bars(Global);
+struct Bars {
+    alloc: Global,
+    size: Size,
+}
 
 impl Stages for Bars {
     type Made = OnBar<Behind>;
 
     fn on(&self, record: &Rc<Record>) -> Result<OnBar<Behind>, Refusal> {
-        OnBar::new(self.0, SIZE.terminal(record)?)
+        OnBar::new(self.alloc, self.size.terminal(record)?)
     }
 
     fn script(&self) -> &'static [Step] {
@@ -51,15 +55,18 @@ impl Stages for Bars {
     }
 }
 
-/// Loops with a bar.
+/// Loops with a bar on terminals of a size.
 #[derive(Drop)]
-struct Loops(Global);
+struct Loops {
+    alloc: Global,
+    size: Size,
+}
 
 impl Stages for Loops {
     type Made = InLoop;
 
     fn on(&self, record: &Rc<Record>) -> Result<InLoop, Refusal> {
-        InLoop::new(self.0, SIZE.terminal(record)?)
+        InLoop::new(self.alloc, self.size.terminal(record)?)
     }
 
     fn script(&self) -> &'static [Step] {
@@ -67,15 +74,18 @@ impl Stages for Loops {
     }
 }
 
-/// Shared boards.
+/// Shared boards on terminals of a size.
 #[derive(Drop)]
-struct Shared<R: Drop>(R);
+struct Shared<R: Drop> {
+    rt: R,
+    size: Size,
+}
 
 impl<R: Runs> Stages for Shared<R> {
     type Made = OnShared<R>;
 
     fn on(&self, record: &Rc<Record>) -> Result<OnShared<R>, Refusal> {
-        OnShared::new(self.0, SIZE.terminal(record)?, record.clone()?)
+        OnShared::new(self.rt, self.size.terminal(record)?, record.clone()?)
     }
 
     fn script(&self) -> &'static [Step] {
@@ -101,9 +111,10 @@ pub enum Judging {
     Unjudged,
 }
 
-/// How a script is played.
+/// How a script is played. The terminal of `bars run` has a size of its own.
 #[derive(Clone, Copy, Drop)]
 pub struct Playing {
+    pub size: Size,
     pub growing: Growing,
     pub judging: Judging,
 }
@@ -145,7 +156,7 @@ fn told<M: Stages>(alloc: Global, stages: &M, playing: Playing) -> Result<Where,
     }
     let run = Run {
         alloc,
-        size: SIZE,
+        size: playing.size,
         stages,
         record: &record,
         notes: &notes,
@@ -162,11 +173,12 @@ pub const NAMES: [&str; 5] = ["board", "lone", "shared", "loop", "run"];
 /// Where memory was refused in the script of a name; nothing where there is no such script.
 pub fn found<R: Runs>(rt: R, name: &str, playing: Playing) -> Option<Result<Where, Finding>> {
     let alloc = rt.alloc();
+    let size = playing.size;
     Some(match name {
-        "board" => told(alloc, &Boards(alloc), playing),
-        "lone" => told(alloc, &Bars(alloc), playing),
-        "shared" => told(alloc, &Shared(rt), playing),
-        "loop" => told(alloc, &Loops(alloc), playing),
+        "board" => told(alloc, &Boards { alloc, size }, playing),
+        "lone" => told(alloc, &Bars { alloc, size }, playing),
+        "shared" => told(alloc, &Shared { rt, size }, playing),
+        "loop" => told(alloc, &Loops { alloc, size }, playing),
         "run" => printing::refused(alloc),
         _ => return None,
     })

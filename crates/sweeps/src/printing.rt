@@ -1,34 +1,11 @@
-//! `bars run` before an output that fails at each of its bytes.
+//! `bars run` before an output that fails.
+use crate::sweep::LARGEST;
 use anyhow::Result;
 use bars_run::run_bars;
 use judged::judge::Finding;
+use judged::record::{Mark, Plan, Record, Size, Wire};
 use judged::refused::Where;
 use std::alloc::{AllocError, Global};
-use std::io;
-use std::io::{Error, ErrorKind, Write};
-
-/// Takes so many bytes, and fails when it is full.
-#[derive(Drop)]
-struct Output {
-    taken: Vec<u8>,
-    room: usize,
-}
-
-impl Write for Output {
-    fn write(&mut self, buf: &[u8]) -> io::Result<usize> {
-        let room = self.room.saturating_sub(self.taken.len());
-        if room == 0 {
-            return Err(Error::from(ErrorKind::BrokenPipe));
-        }
-        let taken = buf.len().min(room);
-        self.taken.extend_from_slice(&buf[..taken])?;
-        Ok(taken)
-    }
-
-    fn flush(&mut self) -> io::Result<()> {
-        Ok(())
-    }
-}
 
 /// What is played, and what it prints on four rows and ten columns: `b` is finished and cleared when it is dropped, and the row of `c` stays
 /// until the next draw.
@@ -37,49 +14,139 @@ const COMMANDS: &[u8] =
 
 const PRINTED: &[u8] = b"one\ntwo\nc\n";
 
-/// Whether it prints a beginning of that, as much as there is room for, and says so: status 0 where there is room for all, else 2.
-fn is_as_it_should(alloc: Global, args: &[String], room: usize) -> bool {
-    let mut output = Output {
-        taken: Vec::new(alloc),
-        room,
-    };
-    let mut said: Vec<u8> = Vec::new(alloc);
-    let status = run_bars(alloc, args, COMMANDS, &mut output, &mut said);
-    let wanted = PRINTED.get(..room).unwrap_or(PRINTED);
-    let fine = room >= PRINTED.len();
-    output.taken.as_slice() == wanted
-        && status == if fine { 0 } else { 2 }
-        && said.as_slice()
-            == if fine {
-                b"".as_slice()
-            } else {
-                b"bars: output failed\n"
-            }
+/// The size on which it prints that.
+const WIDE: Size = Size { rows: 4, cols: 10 };
+
+/// How many bytes the output has room for from the first.
+const ROOM: usize = 64;
+
+/// The program's words, for a terminal of this size.
+fn words(alloc: Global, size: Size) -> Result<Vec<String>> {
+    let Size { rows, cols } = size;
+    let mut args = Vec::new(alloc);
+    args.push(String::from_str(alloc, "run")?)?;
+    args.push(format!(in alloc; "{rows}")?)?;
+    args.push(format!(in alloc; "{cols}")?)?;
+    Ok(args)
 }
 
-fn words(alloc: Global) -> Result<Vec<String>> {
-    let mut args = Vec::new(alloc);
-    for word in ["run", "4", "10"] {
-        args.push(String::from_str(alloc, word)?)?;
+/// What a run of the program did: its status, what its output was given, what it printed and what it said.
+#[derive(Drop)]
+struct Ran {
+    status: u8,
+    mark: Mark,
+    printed: Vec<u8>,
+    said: Vec<u8>,
+}
+
+impl Ran {
+    /// Runs the program with these words before an output that fails so.
+    fn new(alloc: Global, args: &[String], plan: Plan) -> Result<Ran> {
+        let record = Record::new(alloc, plan, ROOM)?;
+        let mut output = Wire(record.clone()?);
+        let mut said: Vec<u8> = Vec::new(alloc);
+        let status = run_bars(alloc, args, COMMANDS, &mut output, &mut said);
+        let mark = record.mark();
+        Ok(Ran {
+            status,
+            mark,
+            printed: record.between(alloc, Mark::default(), mark)?,
+            said,
+        })
     }
-    Ok(args)
+
+    /// Whether it printed all, and said nothing.
+    fn is_whole(&self) -> bool {
+        self.status == 0 && self.mark.failures == 0 && self.said.is_empty()
+    }
+
+    /// Whether it printed a beginning of what the other one did, said that its output failed, and asked no more of it.
+    fn is_beginning_of(&self, whole: &Ran) -> bool {
+        self.status == 2
+            && self.mark.failures == 1
+            && self.said.as_slice() == b"bars: output failed\n".as_slice()
+            && whole.printed.starts_with(&self.printed)
+    }
+}
+
+/// How many runs there were, and how many of them weren't as they should be.
+#[derive(Clone, Copy, Default, Drop)]
+pub struct Printed {
+    pub runs: u64,
+    pub differ: u64,
+}
+
+impl Printed {
+    fn count(&mut self, is_right: bool) {
+        self.runs = self.runs.saturating_add(1);
+        if !is_right {
+            self.differ = self.differ.saturating_add(1);
+        }
+    }
+
+    /// The runs on a terminal of this size: one where nothing fails, and those where the output fails at each byte, at each call, and from
+    /// each call on.
+    fn at(&mut self, alloc: Global, size: Size) -> Result<Ran> {
+        let args = words(alloc, size)?;
+        let whole = Ran::new(alloc, &args, Plan::Never)?;
+        self.count(whole.is_whole());
+        for byte in 0..whole.mark.bytes {
+            let ran = Ran::new(alloc, &args, Plan::Byte(byte))?;
+            self.count(ran.is_beginning_of(&whole) && ran.printed.len() == byte);
+        }
+        self.with_calls(alloc, &args, &whole)?;
+        Ok(whole)
+    }
+
+    fn with_calls(&mut self, alloc: Global, args: &[String], whole: &Ran) -> Result<()> {
+        for call in 1..=whole.mark.calls {
+            let once = Ran::new(alloc, args, Plan::Call(call))?;
+            self.count(once.is_beginning_of(whole));
+            let always = Ran::new(alloc, args, Plan::From(call))?;
+            self.count(always.is_beginning_of(whole));
+        }
+        Ok(())
+    }
+
+    fn at_each_width(&mut self, alloc: Global, rows: u16) -> Result<()> {
+        for cols in 1..=LARGEST.cols {
+            self.at(alloc, Size { rows, cols })?;
+        }
+        Ok(())
+    }
+}
+
+/// All runs, on terminals of one to four rows and one to six columns, and on the wide one, where it prints what it should.
+pub fn each_failure(alloc: Global) -> Result<Printed> {
+    let mut printed = Printed::default();
+    for rows in 1..=LARGEST.rows {
+        printed.at_each_width(alloc, rows)?;
+    }
+    let whole = printed.at(alloc, WIDE)?;
+    printed.count(whole.printed.as_slice() == PRINTED);
+    Ok(printed)
 }
 
 /// Where memory was refused in a run, in which the output has room for all: it prints that, or says which line it was, or that it was none.
 pub fn refused(alloc: Global) -> Result<Where, Finding> {
-    let args = match words(alloc) {
+    let args = match words(alloc, WIDE) {
         Ok(args) => args,
-        Err(_) => words(alloc).map_err(|_| Finding::Memory)?,
+        Err(_) => words(alloc, WIDE).map_err(|_| Finding::Memory)?,
     };
-    let mut output = Output {
-        taken: again(Vec::with_capacity(alloc, 64), alloc)?,
-        room: usize::MAX,
+    let record = match Record::new(alloc, Plan::Never, ROOM) {
+        Ok(record) => record,
+        Err(_) => Record::new(alloc, Plan::Never, ROOM)?,
     };
-    let mut said = again(Vec::with_capacity(alloc, 64), alloc)?;
+    let mut said = again(Vec::with_capacity(alloc, ROOM), alloc)?;
+    let mut output = Wire(record.clone()?);
     let status = run_bars(alloc, &args, COMMANDS, &mut output, &mut said);
+    let printed = match record.between(alloc, Mark::default(), record.mark()) {
+        Ok(printed) => printed,
+        Err(_) => record.between(alloc, Mark::default(), record.mark())?,
+    };
     match status {
-        0 if output.taken.as_slice() == PRINTED && said.is_empty() => Ok(Where::Nowhere),
-        1 if output.taken.is_empty() => named(&said),
+        0 if printed.as_slice() == PRINTED && said.is_empty() => Ok(Where::Nowhere),
+        1 if printed.is_empty() => named(&said),
         _ => Err(Finding::Answer),
     }
 }
@@ -88,7 +155,7 @@ pub fn refused(alloc: Global) -> Result<Where, Finding> {
 fn again(room: Result<Vec<u8>, AllocError>, alloc: Global) -> Result<Vec<u8>, Finding> {
     match room {
         Ok(room) => Ok(room),
-        Err(_) => Ok(Vec::with_capacity(alloc, 64)?),
+        Err(_) => Ok(Vec::with_capacity(alloc, ROOM)?),
     }
 }
 
@@ -108,18 +175,4 @@ fn named(said: &[u8]) -> Result<Where, Finding> {
         b"E13\n" if line <= 9 => Ok(Where::Terminal(line)),
         _ => Err(Finding::Answer),
     }
-}
-
-/// How many runs there are, one for each room up to that for all, and how many of them aren't as they should be.
-pub fn each_room(alloc: Global) -> Result<(u64, u64)> {
-    let args = words(alloc)?;
-    let mut runs: u64 = 0;
-    let mut differ: u64 = 0;
-    for room in 0..=PRINTED.len() {
-        runs = runs.saturating_add(1);
-        if !is_as_it_should(alloc, &args, room) {
-            differ = differ.saturating_add(1);
-        }
-    }
-    Ok((runs, differ))
 }

@@ -18,6 +18,16 @@ impl Case {
     fn by(self, plan: Plan) -> Case {
         Case { plan, ..self }
     }
+
+    /// Whether so many of its calls may fail.
+    fn admits(self, failed: u64) -> bool {
+        match self.plan {
+            Plan::Never => failed == 0,
+            Plan::Call(_) | Plan::Byte(_) => failed == 1,
+            Plan::Both(..) => failed == 1 || failed == 2,
+            Plan::From(_) => failed > 0,
+        }
+    }
 }
 
 /// How many runs there were, how many weren't as they should be, and what the first of these was found to be.
@@ -43,21 +53,30 @@ pub trait Runs: AllocGlobal + Wait + Copy + Clone + Drop {}
 impl<R: AllocGlobal + Wait + Copy + Clone + Drop> Runs for R {}
 
 impl Tally {
-    /// Counts a run of which at least one and at most so many calls may fail.
-    fn count(&mut self, case: Case, outcome: Result<Outcome, Finding>, most: u64) {
+    /// Plays this case, and counts it; what the writer was given, nothing where the run isn't as it should be.
+    fn plays<R: Runs>(&mut self, rt: R, case: Case) -> Mark {
+        let outcome = run(rt, case);
         self.runs = self.runs.saturating_add(1);
         let found = match outcome {
-            Ok(outcome) if outcome.failed > 0 && outcome.failed <= most => return,
+            Ok(outcome) if case.admits(outcome.failed) => return outcome.mark,
             Ok(outcome) => Found::Failed(outcome.failed),
             Err(finding) => Found::Wrong(finding),
         };
         self.differ = self.differ.saturating_add(1);
         self.first = Some(self.first.unwrap_or((case, found)));
+        Mark::default()
     }
 
-    /// Plays this case, of which at least one and at most so many calls may fail.
-    fn plays<R: Runs>(&mut self, rt: R, case: Case, most: u64) {
-        self.count(case, run(rt, case), most);
+    /// Plays this case where nothing fails, and looks behind each byte; what the writer was given.
+    fn unfailed<R: Runs>(&mut self, rt: R, case: Case) -> Mark {
+        let look = Look::EachByte;
+        self.plays(
+            rt,
+            Case {
+                look,
+                ..case.by(Plan::Never)
+            },
+        )
     }
 
     fn and(self, other: Tally) -> Tally {
@@ -72,83 +91,115 @@ impl Tally {
     }
 }
 
-/// What the writer is given where nothing fails; nothing where that run isn't as it should be.
-fn whole<R: Runs>(rt: R, case: Case) -> Mark {
-    let case = Case {
-        plan: Plan::Never,
-        look: Look::EachByte,
-        ..case
-    };
-    match run(rt, case) {
-        Ok(outcome) => outcome.mark,
-        Err(_) => Mark {
-            bytes: 0,
-            calls: 0,
-            failures: 0,
-        },
+/// Where a terminal fails in the runs of a script. Before them the script is played once where nothing fails.
+#[derive(Clone, Copy, Drop)]
+pub enum Sweep {
+    /// At each call, once; it takes nothing.
+    EachCall,
+    /// At each byte, once; what stands before it in its call is taken.
+    EachByte,
+    /// From each call on at all.
+    FromEachCall,
+    /// At each two calls.
+    EachPair,
+}
+
+/// The size of the largest terminal.
+pub const LARGEST: Size = Size { rows: 4, cols: 6 };
+
+impl Sweep {
+    /// Its name.
+    pub fn name(self) -> &'static str {
+        match self {
+            Sweep::EachCall => "each call fails",
+            Sweep::EachByte => "each byte fails",
+            Sweep::FromEachCall => "from each call on all fail",
+            Sweep::EachPair => "each two calls fail",
+        }
+    }
+
+    /// How closely bytes are looked at. Where two calls fail, behind each call; else behind each byte from the first failure on, but on
+    /// smaller terminals only while a failure isn't drawn over.
+    fn look(self, size: Size) -> Look {
+        match self {
+            Sweep::EachPair => Look::EachCall,
+            _ if size == LARGEST => Look::FromFailure,
+            _ => Look::AtFailure,
+        }
+    }
+
+    /// Makes the runs on terminals of one to four rows and of one to six columns.
+    pub fn at_each_size<R: Runs>(self, rt: R, kind: Kind) -> Tally {
+        let mut tally = Tally::default();
+        for rows in 1..=LARGEST.rows {
+            tally = tally.and(self.at_each_width(rt, kind, rows));
+        }
+        tally
+    }
+
+    fn at_each_width<R: Runs>(self, rt: R, kind: Kind, rows: u16) -> Tally {
+        let mut tally = Tally::default();
+        for cols in 1..=LARGEST.cols {
+            tally = tally.and(self.at(rt, kind, Size { rows, cols }));
+        }
+        tally
+    }
+
+    /// Makes the runs at one size.
+    pub fn at<R: Runs>(self, rt: R, kind: Kind, size: Size) -> Tally {
+        let case = Case {
+            kind,
+            size,
+            plan: Plan::Never,
+            look: self.look(size),
+        };
+        match self {
+            Sweep::EachCall => each_call(rt, case),
+            Sweep::EachByte => each_byte(rt, case),
+            Sweep::FromEachCall => from_each_call(rt, case),
+            Sweep::EachPair => each_pair(rt, case),
+        }
     }
 }
 
-/// Each call fails once, and takes nothing.
-pub fn each_call<R: Runs>(rt: R, case: Case) -> Tally {
+fn each_call<R: Runs>(rt: R, case: Case) -> Tally {
     let mut tally = Tally::default();
-    for call in 1..=whole(rt, case).calls {
-        tally.plays(rt, case.by(Plan::Call(call)), 1);
+    for call in 1..=tally.unfailed(rt, case).calls {
+        tally.plays(rt, case.by(Plan::Call(call)));
     }
     tally
 }
 
-/// Each byte fails once: what stands before it in its call is taken.
-pub fn each_byte<R: Runs>(rt: R, case: Case) -> Tally {
+fn each_byte<R: Runs>(rt: R, case: Case) -> Tally {
     let mut tally = Tally::default();
-    for byte in 0..whole(rt, case).bytes {
-        tally.plays(rt, case.by(Plan::Byte(byte)), 1);
+    for byte in 0..tally.unfailed(rt, case).bytes {
+        tally.plays(rt, case.by(Plan::Byte(byte)));
     }
     tally
 }
 
-/// From each call on all fail.
-pub fn from_each_call<R: Runs>(rt: R, case: Case) -> Tally {
+fn from_each_call<R: Runs>(rt: R, case: Case) -> Tally {
     let mut tally = Tally::default();
-    for call in 1..=whole(rt, case).calls {
-        tally.plays(rt, case.by(Plan::From(call)), u64::MAX);
+    for call in 1..=tally.unfailed(rt, case).calls {
+        tally.plays(rt, case.by(Plan::From(call)));
     }
     tally
 }
 
-/// Each two calls fail.
-pub fn each_pair<R: Runs>(rt: R, case: Case) -> Tally {
+fn each_pair<R: Runs>(rt: R, case: Case) -> Tally {
     let mut tally = Tally::default();
-    let calls = whole(rt, case).calls;
+    let calls = tally.unfailed(rt, case).calls;
     for first in 1..=calls {
-        tally = tally.and(with_each_later(rt, case, first, calls));
+        tally = tally.and(with_each_later(rt, case, (first, calls)));
     }
     tally
 }
 
-/// This call fails, and each one behind it.
-fn with_each_later<R: Runs>(rt: R, case: Case, first: u64, calls: u64) -> Tally {
+/// This call fails, and each one behind it up to the last.
+fn with_each_later<R: Runs>(rt: R, case: Case, (first, last): (u64, u64)) -> Tally {
     let mut tally = Tally::default();
-    for second in first.saturating_add(1)..=calls {
-        tally.plays(rt, case.by(Plan::Both(first, second)), 2);
-    }
-    tally
-}
-
-/// Each call fails once, on terminals of one to four rows and of one to six columns.
-pub fn all_sizes<R: Runs>(rt: R, case: Case) -> Tally {
-    let mut tally = Tally::default();
-    for rows in 1..=4u16 {
-        tally = tally.and(all_widths(rt, case, rows));
-    }
-    tally
-}
-
-fn all_widths<R: Runs>(rt: R, case: Case, rows: u16) -> Tally {
-    let mut tally = Tally::default();
-    for cols in 1..=6u16 {
-        let size = Size { rows, cols };
-        tally = tally.and(each_call(rt, Case { size, ..case }));
+    for second in first.saturating_add(1)..=last {
+        tally.plays(rt, case.by(Plan::Both(first, second)));
     }
     tally
 }
