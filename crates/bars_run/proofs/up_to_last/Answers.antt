@@ -36,4 +36,4 @@ returns c =
     let all : take c.loop-row.row-index rows ≡ rows = take_all c.loop-row.row-index rows (omega arith) in
     let texts = map (λ row. string_bytes row) rows in
     let count : c.loop-row.count ≡ length (up_to_last texts) = c.loop-row.invariant.count ∙ ap (λ xs. length (up_to_last (map (λ row. string_bytes row) xs))) all in
-    ?
+    sym (take-map (λ row. string_bytes row) c.loop-row.count rows) ∙ ap (λ n. take n texts) count ∙ sym (front_of texts)
