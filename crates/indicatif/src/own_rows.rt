@@ -112,12 +112,29 @@ impl<T: TermLike> OwnRows<T> {
             return Ok(());
         }
         self.forget_failed();
-        match self.place {
-            Place::Drawing | Place::Edge => return Ok(()),
-            Place::Resting => self.place = Place::Drawing,
-            Place::Waiting => self.place = Place::Edge,
+        if self.is_drawing() {
+            return Ok(());
         }
+        self.start();
         self.send("\u{1b}[?7l")
+    }
+
+    /// Whether a drawing was begun.
+    fn is_drawing(&self) -> bool {
+        match self.place {
+            Place::Drawing | Place::Edge => true,
+            Place::Resting | Place::Waiting => false,
+        }
+    }
+
+    /// A drawing begins where the last one ended.
+    fn start(&mut self)
+        ensures { self.new.term ≡ self.old.term }
+    {
+        self.place = match self.place {
+            Place::Drawing | Place::Resting => Place::Drawing,
+            Place::Edge | Place::Waiting => Place::Edge,
+        };
     }
 
     /// Where a call has failed nobody knows where the cursor is: the next drawing begins there.

@@ -30,6 +30,11 @@ module _ {u v : TermView} where
     kind_is = q.kind_is;
   }
 
+  -- what a call of the terminal itself tells
+  pub heard : (bytes : List ℕ) (r : Result Unit Error) → Writes bytes u v r → Quietly u v r
+  heard bytes (Ok x) w = record { columns_are = w.columns_are; rows_are = w.rows_are; faults_are = w.faults_are; kind_is = w.kind_is }
+  heard bytes (Err x) w = record { columns_are = w.columns_are; rows_are = w.rows_are; faults_are = w.faults_are; kind_is = w.kind_is }
+
   -- whatever the bytes are, since nothing is told of them
   pub writes_quietly : (bytes : List ℕ) (r : Result Unit Error) → Quietly u v r → Writes bytes (quiet u) (quiet v) r
   writes_quietly bytes (Ok x) q = record { told_is = λ h. absurd (false≢true h); columns_are = q.columns_are; rows_are = q.rows_are; faults_are = q.faults_are; kind_is = q.kind_is }

@@ -1,0 +1,5 @@
+use Rattle.meter_parts.proofs.ScreenLemmas.{heard}
+use Rattle.meter_parts.proofs.screen.Screen.go_right.Goals as goal
+
+pub returns : goal.returns
+returns g c = heard _ c.move_cursor_right.result c.move_cursor_right.ensures
