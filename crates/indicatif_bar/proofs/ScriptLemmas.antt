@@ -25,46 +25,44 @@ use Rattle.indicatif_bar.proofs.RunLemmas.{headline, run_target_stays, runs_once
 
 -- ---- what is known of a terminal between two parts
 
--- where n rows are safe: its place, and unless a call was broken off, that it rests after an opening
-abbrev Known : Bool → ℕ → ℕ → ℕ → Lists → Terminal → Type 0
-Known true w h n l t = Placed w h n l t
-Known false w h n l t = Placed w h n l t × (opening : Screen) × Rests w h opening l t × (n ≤ opening.row + length l.above)
-
-placed_known : (broken : Bool) (w h n : ℕ) (l : Lists) (t : Terminal) → Known broken w h n l t → Placed w h n l t
+placed_known : (broken : Bool) (w h n : ℕ) (l : Lists) (t : Terminal) → IsKnown broken w h n l t → Placed w h n l t
 placed_known true w h n l t k = k
 placed_known false w h n l t k = k.0
 
-known_at_rest : (w h : ℕ) (opening : Screen) (l : Lists) (t : Terminal) → IsFalse l.failed → Rests w h opening l t → Known false w h (opening.row + length l.above) l t
-known_at_rest w h opening l t sound r = (shows_placed w h opening l t sound (r.shows sound), opening, r, omega arith)
-
 -- a painting
 module _ (v v' : TermView) (b : Bool) (l l' : Lists) (p : Paints v v' b l l') (n : ℕ) (t : Terminal) where
-  still_placed : Placed v.columns v.rows n l t → Placed v'.columns v'.rows n l' (after t p.bytes)
-  still_placed z = placed_fewer v'.columns v'.rows n (n + (length l'.above - length l.above)) l' (after t p.bytes) (omega arith) (p.places n t z)
+  -- with the rows that were added
+  abbrev more : ℕ
+  more = n + (length l'.above - length l.above)
 
-  known_painted : (broken : Bool) → b ≡ false → Known broken v.columns v.rows n l t → Known broken v'.columns v'.rows n l' (after t p.bytes)
-  known_painted true fine k = still_placed k
+  known_painted : (broken : Bool) → b ≡ false → IsKnown broken v.columns v.rows n l t → IsKnown broken v'.columns v'.rows more l' (after t p.bytes)
+  known_painted true fine k = p.places n t k
   known_painted false fine k =
-      let more = p.added fine in
-      let count : length l'.above ≡ length l.above + length more.0 = ap length more.1 ∙ length-append l.above more.0 in
-      (still_placed k.0, k.1, p.rests fine k.1 t k.2, omega (arith, k.3, count))
+      let added = p.added fine in
+      let count : length l'.above ≡ length l.above + length added.0 = ap length added.1 ∙ length-append l.above added.0 in
+      (p.places n t k.0, k.1, p.rests fine k.1 t k.2, omega (arith, k.3, count))
 
-  known_then : (broken : Bool) → Known broken v.columns v.rows n l t → Known (broken || b) v'.columns v'.rows n l' (after t p.bytes)
-  known_then true k = still_placed k
-  known_then false k = elim b as (λ x. b ≡ x → Known x v'.columns v'.rows n l' (after t p.bytes)) [
-    | true ↦ λ e. still_placed k.0
+  known_then : (broken : Bool) → IsKnown broken v.columns v.rows n l t → IsKnown (broken || b) v'.columns v'.rows more l' (after t p.bytes)
+  known_then true k = p.places n t k
+  known_then false k = elim b as (λ x. b ≡ x → IsKnown x v'.columns v'.rows more l' (after t p.bytes)) [
+    | true ↦ λ e. p.places n t k.0
     | false ↦ λ e. known_painted false e k
   ] refl
 
-at_size : (broken : Bool) (a b c d n : ℕ) (l : Lists) (t : Terminal) → a ≡ c → b ≡ d → Known broken a b n l t → Known broken c d n l t
-at_size broken a b c d n l t e f k = subst (λ x. Known broken x d n l t) e (subst (λ x. Known broken a x n l t) f k)
+-- fewer rows
+known_fewer : (broken : Bool) (w h m n : ℕ) (l : Lists) (t : Terminal) → m ≤ n → IsKnown broken w h n l t → IsKnown broken w h m l t
+known_fewer true w h m n l t e k = placed_fewer w h m n l t e k
+known_fewer false w h m n l t e k = (placed_fewer w h m n l t e k.0, k.1, k.2, omega (arith, e, k.3))
+
+at_size : (broken : Bool) (a b c d n : ℕ) (l : Lists) (t : Terminal) → a ≡ c → b ≡ d → IsKnown broken a b n l t → IsKnown broken c d n l t
+at_size broken a b c d n l t e f k = subst (λ x. IsKnown broken x d n l t) e (subst (λ x. IsKnown broken a x n l t) f k)
 
 rests_at_size : (a b c d : ℕ) (opening : Screen) (l : Lists) (t : Terminal) → a ≡ c → b ≡ d → Rests a b opening l t → Rests c d opening l t
 rests_at_size a b c d opening l t e f r = subst (λ x. Rests x d opening l t) e (subst (λ x. Rests a x opening l t) f r)
 
 -- a size
-known_sized : (broken : Bool) (w h w' h' n : ℕ) (l : Lists) (t : Terminal) → 0 < w → 0 < h' → MaySize broken l → Known broken w h n l t →
-    Known broken w' h' (length (rows_then w' h' n t.screen)) (resized_lists w h w' h' l) (resized_terminal w' h' t)
+known_sized : (broken : Bool) (w h w' h' n : ℕ) (l : Lists) (t : Terminal) → 0 < w → 0 < h' → MaySize broken l → IsKnown broken w h n l t →
+    IsKnown broken w' h' (length (rows_then w' h' n t.screen)) (resized_lists w h w' h' l) (resized_terminal w' h' t)
 known_sized true w h w' h' n l t some some' may k =
     subst (λ q. Placed w' h' (length (rows_then w' h' n t.screen)) q (resized_terminal w' h' t)) (sym (ap (resized_lists w h w' h') may ∙ forgotten_stay w h w' h' some'))
     (rows_placed w h w' h' n t some' (subst (λ q. Placed w h n q t) may k))
@@ -88,32 +86,27 @@ still_sized w h Nothing e = e
 
 -- ---- a script
 
+-- of a script the rows that are safe at its start last through all of it
+through : {S C A : Type 0} (m : Machine S C A) (z : Sizing m) (parts : List (Part C A)) (old : Option TermView) (s : S) (new : Option TermView) (next : S) (plays : Plays m z parts old s new next)
+    (n : ℕ) (t : Terminal) (events : List Event) → RowsLastFrom m z parts old s new next plays n t events → RowsLastThrough n t events
+through m z [] old s new next plays n t events l = subst (RowsLastThrough n t) (sym l) tt
+through m z (Called calls answers ∷ parts) old s new next plays n t events l = l.0
+through m z (Size w h ∷ parts) old s new next plays n t events l = l.0
+
 module _ {S C A : Type 0} (m : Machine S C A) (z : Sizing m) where
-  -- what a script carries, from a terminal of which so much is known
-  record CarriesFrom (broken : Bool) (parts : List (Part C A)) (v v' : TermView) (l l' : Lists) : Type 0 where
-    events : List Event
-    told_is : IsTrue (is_told v.told) → v'.told ≡ told_after v.told events
-    lasts : (n : ℕ) (t : Terminal) → Known broken v.columns v.rows n l t → RowsLastThrough n t events
-    rests : IsFalse broken → IsFalse (script_broke m z parts) → (opening : Screen) (t : Terminal) → Rests v.columns v.rows opening l t →
-        Rests v'.columns v'.rows (opening_then parts opening) l' (terminal_after t events)
-
   -- what is claimed of the rest of a script
-  abbrev Left : Bool → (parts : List (Part C A)) (v : TermView) (s : S) (new : Option TermView) (next : S) → Option TermView → Type 0
-  Left broken parts v s new next old =
-      (plays : Plays m z parts old s new next) → AllRunsPlain m z parts old s new next plays → AllSizesKnown m z broken parts old s new next plays →
-      (v' : TermView) × (new ≡ Some v') × CarriesFrom broken parts v v' (m.lists s) (m.lists next)
+  abbrev Left : Bool → (parts : List (Part C A)) (v : TermView) (s : S) (new : Option TermView) (next : S) (old : Option TermView) → Plays m z parts old s new next → Type 0
+  Left broken parts v s new next old plays =
+      AllRunsPlain m z parts old s new next plays → AllSizesKnown m z broken parts old s new next plays →
+      (v' : TermView) × (new ≡ Some v') × (events : List Event) × (IsTrue (is_told v.told) → v'.told ≡ told_after v.told events)
+      × ((n : ℕ) (t : Terminal) → IsKnown broken v.columns v.rows n (m.lists s) t → RowsLastFrom m z parts old s new next plays n t events)
+      × (IsFalse broken → IsFalse (script_broke m z parts) → (opening : Screen) (t : Terminal) → Rests v.columns v.rows opening (m.lists s) t →
+      Rests v'.columns v'.rows (opening_then parts opening) (m.lists next) (terminal_after t events))
 
-  carried : (broken : Bool) (parts : List (Part C A)) (v : TermView) (s : S) (new : Option TermView) (next : S) → 0 < v.columns → Left broken parts v s new next (Some v)
-  carried broken [] v s new next some plays plain known = (
-    v,
-    plays.0,
-    record {
-      events = [];
-      told_is = λ h. refl;
-      lasts = λ n t k. tt;
-      rests = λ fine whole opening t r. subst (λ x. Rests v.columns v.rows opening (m.lists x) t) (sym plays.1) r;
-    },
-  )
+  carried : (broken : Bool) (parts : List (Part C A)) (v : TermView) (s : S) (new : Option TermView) (next : S) → 0 < v.columns → (plays : Plays m z parts (Some v) s new next) →
+      Left broken parts v s new next (Some v) plays
+  carried broken [] v s new next some plays plain known =
+      (v, plays.0, [], (λ h. refl), (λ n t k. refl), λ fine whole opening t r. subst (λ x. Rests v.columns v.rows opening (m.lists x) t) (sym plays.1) r)
   carried broken (Called calls answers ∷ parts) v s new next some plays plain known =
       let x = plays.1 in
       let b = list_any (broke m) answers in
@@ -121,21 +114,34 @@ module _ {S C A : Type 0} (m : Machine S C A) (z : Sizing m) where
       let u = first.0 in
       let p = first.2 in
       let columns : u.columns ≡ v.columns = ap (λ o. (target_of o).columns) (sym first.1) ∙ ap (λ o. o.columns) (run_target_stays m calls answers (Some v) s plays.0 x plays.2) in
-      let later : Left (broken || b) parts u x new next (Some u) = λ q r k. carried (broken || b) parts u x new next (omega (arith, some, columns)) q r k in
-      let rest = subst (Left (broken || b) parts u x new next) (sym first.1) later plays.3 plain.1 known in
-      let c = rest.2 in (
+      let later : (q : Plays m z parts (Some u) x new next) → Left (broken || b) parts u x new next (Some u) q = λ q. carried (broken || b) parts u x new next (omega (arith, some, columns)) q in
+      let rest = subst (λ old. (q : Plays m z parts old x new next) → Left (broken || b) parts u x new next old q) (sym first.1) later plays.3 plain.1 known in
+      let others = rest.2 in
+      let l = m.lists s in
+      let l' = m.lists x in (
         rest.0,
         rest.1,
-        record {
-          events = Given p.bytes ∷ c.events;
-          told_is = λ h.
-              let e = p.told_is h in
-              c.told_is (subst (λ q. IsTrue (is_told q)) (sym e) (still_tells v.told p.bytes h)) ∙ ap (λ q. told_after q c.events) e;
-          lasts = λ n t k. (p.keeps n t (placed_known broken v.columns v.rows n (m.lists s) t k), c.lasts n (after t p.bytes) (known_then v u b (m.lists s) (m.lists x) p n t broken k));
-          rests = λ fine whole opening t r.
-              let parted = or_parts b (script_broke m z parts) whole in
-              c.rests (ap (λ q. q || b) fine ∙ parted.0) parted.1 opening (after t p.bytes) (p.rests parted.0 opening t r);
-        },
+        Given p.bytes ∷ others,
+        (λ h.
+            let e = p.told_is h in
+            rest.3 (subst (λ q. IsTrue (is_told q)) (sym e) (still_tells v.told p.bytes h)) ∙ ap (λ q. told_after q others) e),
+        (λ n t k.
+            let then = after t p.bytes in
+            let added = n + (length l'.above - length l.above) in
+            let after_it = known_then v u b l l' p n t broken k in (
+              (
+                p.keeps n t (placed_known broken v.columns v.rows n l t k),
+                through m z parts plays.0 x new next plays.3 n then others (rest.4 n then (known_fewer (broken || b) u.columns u.rows n added l' then (omega arith) after_it)),
+              ),
+              p.bytes,
+              others,
+              refl,
+              (u, first.1, p.told_is),
+              rest.4 added then after_it,
+            )),
+        λ fine whole opening t r.
+            let parted = or_parts b (script_broke m z parts) whole in
+            rest.5 (ap (λ q. q || b) fine ∙ parted.0) parted.1 opening (after t p.bytes) (p.rests parted.0 opening t r),
       )
   carried broken (Size w h ∷ parts) v s new next some plays plain known =
       let target = target_of (Some v) in
@@ -143,49 +149,41 @@ module _ {S C A : Type 0} (m : Machine S C A) (z : Sizing m) where
       let y = plays.1 in
       let u = y.0 in
       let is = y.2 in
-      let later : Left broken parts u x new next (Some u) = λ q r k. carried broken parts u x new next (omega (arith, plays.2, is.columns_are)) q r k in
-      let rest = subst (Left broken parts u x new next) (sym y.1) later plays.4 plain known.1 in
-      let c = rest.2 in
+      let later : (q : Plays m z parts (Some u) x new next) → Left broken parts u x new next (Some u) q = λ q. carried broken parts u x new next (omega (arith, plays.2, is.columns_are)) q in
+      let rest = subst (λ old. (q : Plays m z parts old x new next) → Left broken parts u x new next old q) (sym y.1) later plays.4 plain known.1 in
+      let others = rest.2 in
       let l = m.lists s in
       let l' = resized_lists v.columns v.rows w h l in
       let lists : m.lists x ≡ l' = z.lists_are l' s in (
         rest.0,
         rest.1,
-        record {
-          events = Sized w h ∷ c.events;
-          told_is = λ q.
-              let e = is.told_is q in
-              c.told_is (subst (λ k. IsTrue (is_told k)) (sym e) (still_sized w h v.told q)) ∙ ap (λ k. told_after k c.events) e;
-          lasts = λ n t k. (
-            rows_taken w h n t (sized_place (placed_known broken v.columns v.rows n l t k)).inside.in_rows,
-            c.lasts (length (rows_then w h n t.screen)) (resized_terminal w h t)
-                (subst (λ q. Known broken u.columns u.rows (length (rows_then w h n t.screen)) q (resized_terminal w h t)) (sym lists)
-                (at_size broken w h u.columns u.rows (length (rows_then w h n t.screen)) l' (resized_terminal w h t) (sym is.columns_are) (sym is.rows_are)
-                (known_sized broken v.columns v.rows w h n l t some plays.3 known.0 k))),
-          );
-          rests = λ fine whole opening t r.
-              let may = subst (λ q. MaySize q l) fine known.0 in
-              c.rests fine whole (resized w h opening) (resized_terminal w h t)
-              (subst (λ q. Rests u.columns u.rows (resized w h opening) q (resized_terminal w h t)) (sym lists)
-              (rests_at_size w h u.columns u.rows (resized w h opening) l' (resized_terminal w h t) (sym is.columns_are) (sym is.rows_are)
-              (resized_rests v.columns v.rows w h opening l t r may some plays.3)));
-        },
+        Sized w h ∷ others,
+        (λ q.
+            let e = is.told_is q in
+            rest.3 (subst (λ k. IsTrue (is_told k)) (sym e) (still_sized w h v.told q)) ∙ ap (λ k. told_after k others) e),
+        (λ n t k.
+            let then = resized_terminal w h t in
+            let left = length (rows_then w h n t.screen) in
+            let after_it = subst (λ q. IsKnown broken u.columns u.rows left q then) (sym lists)
+            (at_size broken w h u.columns u.rows left l' then (sym is.columns_are) (sym is.rows_are) (known_sized broken v.columns v.rows w h n l t some plays.3 known.0 k)) in
+            let last = rest.4 left then after_it in (
+              (rows_taken w h n t (sized_place (placed_known broken v.columns v.rows n l t k)).inside.in_rows, through m z parts plays.0 x new next plays.4 left then others last),
+              others,
+              refl,
+              last,
+            )),
+        λ fine whole opening t r.
+            let may = subst (λ q. MaySize q l) fine known.0 in
+            rest.5 fine whole (resized w h opening) (resized_terminal w h t)
+            (subst (λ q. Rests u.columns u.rows (resized w h opening) q (resized_terminal w h t)) (sym lists)
+            (rests_at_size w h u.columns u.rows (resized w h opening) l' (resized_terminal w h t) (sym is.columns_are) (sym is.rows_are)
+            (resized_rests v.columns v.rows w h opening l t r may some plays.3))),
       )
 
   pub scripts_carry : ScriptsCarry m z
-  scripts_carry parts v s new next plays some sound plain known =
-      let l = m.lists s in
-      let r = carried false parts v s new next some plays plain known in
-      let c = r.2 in (
-        r.0,
-        r.1,
-        record {
-          events = c.events;
-          told_is = c.told_is;
-          lasts = λ opening t k. c.lasts (opening.row + length l.above) t (known_at_rest v.columns v.rows opening l t sound k);
-          rests = λ whole opening t k. c.rests refl whole opening t k;
-        },
-      )
+  scripts_carry broken parts v s new next plays some plain known =
+      let r = carried broken parts v s new next some plays plain known in
+      (r.0, r.1, record { events = r.2; told_is = r.3; lasts = r.4; rests = r.5 })
 
   -- a terminal that tells its state tells it after events
   told_state : (t : Terminal) (events : List Event) → told_after (Holding t) events ≡ Holding (terminal_after t events)
@@ -195,7 +193,7 @@ module _ {S C A : Type 0} (m : Machine S C A) (z : Sizing m) where
 
   pub scripts_read : ScriptsAreRead m z
   scripts_read parts v s new next plays some sound sound' whole plain known = λ opening starts.
-      let r = carried false parts v s new next some plays plain known in
+      let r = scripts_carry false parts v s new next plays some plain known in
       let v' = r.0 in
       let c = r.2 in
       let t = starts.0 in

@@ -2,15 +2,15 @@
 use Rattle.std.specs.Prelude.{◌≡◌, ℕ, ◌+◌, ◌-◌, ◌*◌, ◌/◌, ◌<◌, ◌≤◌, Bool, true, false, ◌||◌, IsTrue, IsFalse, List, [], ◌∷◌, ◌++◌, length, take, Option, Some, None, MatchOption, if◌then◌else◌}
 use Rattle.std.specs.List.{All, list_any, last_or}
 use Rattle.indicatif_term.specs.Screen.{Screen}
-use Rattle.indicatif_term.specs.Terminal.{Terminal}
+use Rattle.indicatif_term.specs.Terminal.{Terminal, after}
 use Rattle.indicatif_term.specs.Calls.{TermView, is_told}
 use Rattle.indicatif_term.specs.Lists.{Lists, forgotten_lists, all_rows}
 use Rattle.indicatif_term.specs.Limiters.{Limiter, draw_limiter}
-use Rattle.indicatif_term.specs.Shows.{Rests}
-use Rattle.indicatif_term.specs.Resizes.{resized, resized_lists, Resized}
-use Rattle.indicatif_term.specs.Events.{Event, terminal_after, told_after, RowsLastThrough}
+use Rattle.indicatif_term.specs.Shows.{Rests, Placed}
+use Rattle.indicatif_term.specs.Resizes.{resized, resized_lists, resized_terminal, Resized}
+use Rattle.indicatif_term.specs.Events.{Event, Given, Sized, terminal_after, told_after, rows_then, RowsLastThrough}
 use Rattle.indicatif_bar.specs.Machines.{Target, target_of, Machine, outcomes}
-use Rattle.indicatif_bar.specs.Runs.{Runs, AllPlain, broke, ReadsAs, Starts, is_undisturbed}
+use Rattle.indicatif_bar.specs.Runs.{IsLedOn, Runs, AllPlain, broke, ReadsAs, Starts, is_undisturbed}
 use Rattle.indicatif_bar.specs.Bounds.{unforced_draws}
 
 -- ---- a size
@@ -50,6 +50,12 @@ abbrev pub MaySize : Bool → Lists → Type 0
 MaySize false l = IsFalse l.failed
 MaySize true l = l ≡ forgotten_lists
 
+-- what is known of a terminal of which the first n rows are safe: its place; and that it rests after an opening, unless a call was
+-- broken off before
+abbrev pub IsKnown : Bool → ℕ → ℕ → ℕ → Lists → Terminal → Type 0
+IsKnown true w h n l t = Placed w h n l t
+IsKnown false w h n l t = Placed w h n l t × (opening : Screen) × Rests w h opening l t × (n ≤ opening.row + length l.above)
+
 module _ {State Call Answer : Type 0} (m : Machine State Call Answer) (z : Sizing m) where
   -- the state after a size
   abbrev pub sized : ℕ → ℕ → Target → State → State
@@ -86,21 +92,34 @@ module _ {State Call Answer : Type 0} (m : Machine State Call Answer) (z : Sizin
 
   -- ---- what it leaves
 
-  -- these events led from the one to the other. Of a terminal that rests with the lists l after an opening: the untouched rows and
-  -- those above last; and unless a call was broken off it rests then with the lists l', after the opening that got the sizes too
-  pub record Carries (parts : List (Part Call Answer)) (v v' : TermView) (l l' : Lists) : Type 0 where
+  -- a script from a terminal of which the first n rows are safe, on by these events: the rows last through all of them. Its first part
+  -- is the first event, the bytes by which the run led the terminal on, or the size; and from there the rows that the run added to those
+  -- above are safe too, or those that the size left
+  abbrev pub RowsLastFrom : (parts : List (Part Call Answer)) (old : Option TermView) (s : State) (new : Option TermView) (next : State) → Plays parts old s new next → ℕ → Terminal → List Event → Type 0
+  RowsLastFrom [] old s new next plays n t events = events ≡ []
+  RowsLastFrom (Called calls answers ∷ parts) old s new next plays n t events =
+      RowsLastThrough n t events × (bytes : List ℕ) × (others : List Event) × (events ≡ Given bytes ∷ others) × IsLedOn old plays.0 bytes
+      × RowsLastFrom parts plays.0 plays.1 new next plays.3 (n + (length (m.lists plays.1).above - length (m.lists s).above)) (after t bytes) others
+  RowsLastFrom (Size w h ∷ parts) old s new next plays n t events =
+      RowsLastThrough n t events × (others : List Event) × (events ≡ Sized w h ∷ others)
+      × RowsLastFrom parts plays.0 (sized w h (target_of old) s) new next plays.4 (length (rows_then w h n t.screen)) (resized_terminal w h t) others
+
+  -- these events led from the one to the other, one for each part. Of a terminal of which so much is known, the safe rows last, at each
+  -- part's end those that were added too; and unless a call was broken off, before or here, one that rests after an opening rests at the
+  -- end after that opening, which got the sizes too
+  pub record Carries (broken : Bool) (parts : List (Part Call Answer)) (v : TermView) (s : State) (new : Option TermView) (next : State) (plays : Plays parts (Some v) s new next) (v' : TermView) : Type 0 where
     pub events : List Event
     pub told_is : IsTrue (is_told v.told) → v'.told ≡ told_after v.told events
-    pub lasts : (opening : Screen) (t : Terminal) → Rests v.columns v.rows opening l t → RowsLastThrough (opening.row + length l.above) t events
-    pub rests : IsFalse (script_broke parts) → (opening : Screen) (t : Terminal) → Rests v.columns v.rows opening l t →
-        Rests v'.columns v'.rows (opening_then parts opening) l' (terminal_after t events)
+    pub lasts : (n : ℕ) (t : Terminal) → IsKnown broken v.columns v.rows n (m.lists s) t → RowsLastFrom parts (Some v) s new next plays n t events
+    pub rests : IsFalse broken → IsFalse (script_broke parts) → (opening : Screen) (t : Terminal) → Rests v.columns v.rows opening (m.lists s) t →
+        Rests v'.columns v'.rows (opening_then parts opening) (m.lists next) (terminal_after t events)
 
-  -- the headline of scripts. A rest of a script is one, so it says what stands at each part's end, and from then on
+  -- the headline of scripts, also of those that begin where a call was broken off
   abbrev pub ScriptsCarry : Type 0
   ScriptsCarry =
-      (parts : List (Part Call Answer)) (v : TermView) (s : State) (new : Option TermView) (next : State) (plays : Plays parts (Some v) s new next) →
-      0 < v.columns → IsFalse (m.lists s).failed → AllRunsPlain parts (Some v) s new next plays → AllSizesKnown false parts (Some v) s new next plays →
-      (v' : TermView) × (new ≡ Some v') × Carries parts v v' (m.lists s) (m.lists next)
+      (broken : Bool) (parts : List (Part Call Answer)) (v : TermView) (s : State) (new : Option TermView) (next : State) (plays : Plays parts (Some v) s new next) →
+      0 < v.columns → AllRunsPlain parts (Some v) s new next plays → AllSizesKnown broken parts (Some v) s new next plays →
+      (v' : TermView) × (new ≡ Some v') × Carries broken parts v s new next plays v'
 
   -- after a script that the terminal didn't break off, on one that tells its state, the untouched rows and those of the lists are read
   abbrev pub ScriptsAreRead : Type 0
