@@ -48,9 +48,6 @@ regrouped a b c d = append_assoc (a ++ b) c d ∙ append_assoc a b (c ++ d)
 abbrev pub first_marked : List (List ℕ) → ℕ
 first_marked lines = option_map_or text_columns (find (list_any is_wide_mark) lines) 0
 
-pub marked_here : (line : List ℕ) (lines : List (List ℕ)) → list_any is_wide_mark line ≡ true → first_marked (line ∷ lines) ≡ text_columns line
-marked_here line lines e = rw e refl
-
 pub marked_behind : (line : List ℕ) (lines : List (List ℕ)) → list_any is_wide_mark line ≡ false → first_marked (line ∷ lines) ≡ first_marked lines
 marked_behind line lines e = rw e refl
 

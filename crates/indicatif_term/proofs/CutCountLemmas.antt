@@ -80,25 +80,6 @@ drop_one [] i s h at = absurd (omega arith)
 drop_one (x ∷ ss) zero s h at = ap (λ y. y ∷ ss) at
 drop_one (x ∷ ss) (suc i) s h at = drop_one ss i s (omega arith) at ∙ ap (λ k. s ∷ drop k (x ∷ ss)) (let k : suc (i + 1) ≡ suc i + 1 = omega arith in k)
 
--- the counts of one segment more
-pub next_cut : (hs : List ℕ) (ss : List RowCount) (i at rows : ℕ) (s : RowCount) (before now all : List RowCount) → i < length ss → get_or ss i s ≡ s →
-    rows ≡ sum (take s.rows (drop at hs)) → now ≡ before ++ counted s.bar rows ∷ [] → before ++ cut_counts (drop at hs) (drop i ss) ≡ all →
-    now ++ cut_counts (drop (at + s.rows) hs) (drop (i + 1) ss) ≡ all
-next_cut hs ss i at rows s before now all h e r n f =
-    let rest = drop (i + 1) ss in
-    let more = cut_counts (drop (at + s.rows) hs) rest in
-    ap (λ xs. xs ++ more) n ∙ append_assoc before (counted s.bar rows ∷ []) more ∙ ap (λ k. before ++ counted s.bar k ∷ more) r
-    ∙ ap (λ ys. before ++ counted s.bar (sum (take s.rows (drop at hs))) ∷ cut_counts ys rest) (sym (drop-drop s.rows at hs))
-    ∙ ap (λ zs. before ++ cut_counts (drop at hs) zs) (sym (drop_one ss i s h e)) ∙ f
-
-pub next_left : (ss : List RowCount) (i at all : ℕ) (s : RowCount) → i < length ss → get_or ss i s ≡ s → at + sum_by rows_by (drop i ss) ≤ all →
-    (at + s.rows) + sum_by rows_by (drop (i + 1) ss) ≤ all
-next_left ss i at all s h e le = omega (arith, le, ap (sum_by rows_by) (drop_one ss i s h e), sum_by-cons rows_by s (drop (i + 1) ss))
-
-pub after_passed : (left : ℕ) (ss : List RowCount) (i : ℕ) (s : RowCount) → i < length ss → get_or ss i s ≡ s → s.rows ≤ left →
-    counts_after left (drop i ss) ≡ counts_after (left - s.rows) (drop (i + 1) ss)
-after_passed left ss i s h at le = ap (counts_after left) (drop_one ss i s h at) ∙ rw (le-leb s.rows left le) refl
-
 pub after_part : (left : ℕ) (ss : List RowCount) (i : ℕ) (s : RowCount) → i < length ss → get_or ss i s ≡ s → left < s.rows →
     counts_after left (drop i ss) ≡ record s { rows = s.rows - left } ∷ drop (i + 1) ss
 after_part left ss i s h at lt = ap (counts_after left) (drop_one ss i s h at) ∙ rw (lt-leb s.rows left lt) refl

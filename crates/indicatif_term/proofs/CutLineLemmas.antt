@@ -169,9 +169,6 @@ more_added a b c ps qs rs x y e =
           ∙ ap (λ xs. a.heights.items ++ xs) (sym (map-append length ps qs));
     })
 
-pub none_added : (a : CutLines) (ps : List (List (List Glyph))) → ps ≡ [] → HasMore a a ps
-none_added a ps e = subst (HasMore a a) (sym e) (record { lines_are = sym (append-nil (shown_lines a.lines.items)); heights_are = sym (append-nil a.heights.items) })
-
 -- the rows that are left to be cut of glyphs
 abbrev pub rows_left : ℕ → ℕ → List Glyph → List (List (List Glyph))
 rows_left w w' gs = map (new_pieces w') (more_pieces w gs)

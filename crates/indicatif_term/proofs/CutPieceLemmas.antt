@@ -51,16 +51,6 @@ pieces_split w piece (g ∷ gs) = elim (cases_Bool (has_place w g)) [
 pub first_piece : (w : ℕ) (gs : List Glyph) → pieces_of w (filter (has_place w) gs) ≡ filter (has_place w) (take (fitting_count w 0 gs) gs) ∷ more_pieces w (drop (fitting_count w 0 gs) gs)
 first_piece w gs = pieces_split w [] gs
 
--- some glyph goes into an empty row
-pub some_fits : (w : ℕ) (gs : List Glyph) → 0 < length gs → 0 < fitting_count w 0 gs
-some_fits w [] h = absurd (omega arith)
-some_fits w (g ∷ gs) h = elim (cases_Bool (has_place w g)) [
-  | inl e ↦
-      let fits : nat_le (0 + glyph_width g) w ≡ true = le-leb (0 + glyph_width g) w (omega (arith, (place_is w g e).1)) in
-      rw (e, fits) (omega arith)
-  | inr e ↦ rw e (omega arith)
-]
-
 pub fitting_within : (w c : ℕ) (gs : List Glyph) → fitting_count w c gs ≤ length gs
 fitting_within w c [] = omega arith
 fitting_within w c (g ∷ gs) = elim (cases_Bool (has_place w g)) [
@@ -98,12 +88,6 @@ pub count_more : (w taken n : ℕ) (gs : List Glyph) (i : ℕ) (g : Glyph) → i
 count_more w taken n gs i g h at e room is =
     let test : nat_le (taken + glyph_width g) w ≡ true = le-leb (taken + glyph_width g) w room in
     let one : fitting_count w taken (g ∷ drop (i + 1) gs) ≡ suc (fitting_count w (taken + glyph_width g) (drop (i + 1) gs)) = rw (e, test) refl in
-    omega (arith, is, ap (fitting_count w taken) (drop_next gs i g h at), one)
-
-pub count_other : (w taken n : ℕ) (gs : List Glyph) (i : ℕ) (g : Glyph) → i < length gs → get_or gs i g ≡ g → has_place w g ≡ false →
-    n ≡ i + fitting_count w taken (drop i gs) → n ≡ (i + 1) + fitting_count w taken (drop (i + 1) gs)
-count_other w taken n gs i g h at e is =
-    let one : fitting_count w taken (g ∷ drop (i + 1) gs) ≡ suc (fitting_count w taken (drop (i + 1) gs)) = rw e refl in
     omega (arith, is, ap (fitting_count w taken) (drop_next gs i g h at), one)
 
 pub count_ends : (w taken n : ℕ) (gs : List Glyph) (i : ℕ) (g : Glyph) → i < length gs → get_or gs i g ≡ g → has_place w g ≡ true → w < taken + glyph_width g →

@@ -60,9 +60,6 @@ module _ (w : ℕ) (on : List StandingLine) (at : ℕ) (x : StandingLine) (text 
         passes_none = d ∙ c.passes_none;
       }
 
-pub compared_none : (on : List StandingLine) (before : List (List ℕ)) (p : Plan) → AreCompared on before p → AreCompared on (before ++ []) p
-compared_none on before p c = subst (λ xs. AreCompared on xs p) (sym (append-nil before)) c
-
 -- ---- segments by their counts and rows
 
 cons_parts : {A : Type 0} (x y : A) (xs ys : List A) → x ∷ xs ≡ y ∷ ys → (x ≡ y) × (xs ≡ ys)
