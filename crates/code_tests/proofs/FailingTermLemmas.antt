@@ -56,7 +56,8 @@ passes_on bytes m m' faults faults' kind kind' (Err e) w f k = record {
 
 -- any other call: first admitted, then made, then counted
 pub passed : (bytes : List ℕ) (m admitted made last : MemoryTerm) (faults faults1 faults2 : ℕ) (kind kind1 kind2 : ErrorKind) (r r' : Result Unit Error) →
-    admitted ≡ m → faults1 ≡ faults → kind1 ≡ kind → Writes bytes (view_of admitted) (view_of made) r → r' ≡ r → last ≡ made → faults2 ≡ counted r faults1 → Remembers r kind1 kind2 → Writes bytes (seen m faults kind) (seen last faults2 kind2) r'
+    admitted ≡ m → faults1 ≡ faults → kind1 ≡ kind → Writes bytes (view_of admitted) (view_of made) r → r' ≡ r →
+    last ≡ made → faults2 ≡ counted r faults1 → Remembers r kind1 kind2 → Writes bytes (seen m faults kind) (seen last faults2 kind2) r'
 passed bytes m admitted made last faults faults1 faults2 kind kind1 kind2 r r' e f k w same g h j =
     subst (λ x. Writes bytes (seen x faults kind) (seen last faults2 kind2) r') e
     (subst (λ x. Writes bytes (seen admitted faults kind) (seen x faults2 kind2) r') (sym g)

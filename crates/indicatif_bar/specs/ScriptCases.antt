@@ -23,7 +23,8 @@ abbrev pub asked : LoneCall (Command (Unit {0})) → Part (LoneCall (Command (Un
 asked call = Called ((call, 0) ∷ []) []
 
 -- what a script of a bar with this message is answered, and its state then
-abbrev pub scripted : Target → List ℕ → List (Part (LoneCall (Command (Unit {0}))) (Result Drawn Refusal)) → List (Part (LoneCall (Command (Unit {0}))) (Result Drawn Refusal)) × LoneState (BarRecord (Unit {0}))
+abbrev pub scripted : Target → List ℕ → List (Part (LoneCall (Command (Unit {0}))) (Result Drawn Refusal)) →
+    List (Part (LoneCall (Command (Unit {0}))) (Result Drawn Refusal)) × LoneState (BarRecord (Unit {0}))
 scripted target message parts = played (lone_bar untracked) (lone_sizing untracked) target parts (opening_state (bar_saying message) None)
 
 -- 4 rows, 10 columns: 13 columns on two rows become three rows on 5 columns, and the next draw has as many; on 20 columns they stay

@@ -50,7 +50,8 @@ module _ (count : ℕ) (frame : List Segment) (i left n : ℕ) (s : Segment) (h 
     pub now_put : ArePut view (map line_text (take n s.lines.items)) q r → ArePut view (take count (frame_lines (take (i + 1) frame))) p r
     now_put g = rw now_lines (puts_then view (take count before) (map line_text (take n s.lines.items)) p q r (Ok tt) f g)
 
-    pub now_fails : {e : Error} (result : Result Unit Error) → IsErrAnd result (λ x. x ≡ e) → Puts view (map line_text (take n s.lines.items)) q r (Err e) → Puts view (take count (frame_lines frame)) p r result
+    pub now_fails : {e : Error} (result : Result Unit Error) → IsErrAnd result (λ x. x ≡ e) → Puts view (map line_text (take n s.lines.items)) q r (Err e) →
+        Puts view (take count (frame_lines frame)) p r result
     now_fails {e} result k g =
         let begun = frame_lines (take (i + 1) frame) in
         let rest = take (count - length begun) (frame_lines (drop (i + 1) frame)) in

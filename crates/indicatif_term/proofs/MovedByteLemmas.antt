@@ -26,7 +26,8 @@ module _ (w : ℕ) (lines : List StandingLine) (i : ℕ) (x : StandingLine) (h :
       ∙ flat_map-append (filled_bytes w) (placed (take i lines)) (placed_of x ∷ []) ∙ ap (λ b. run_bytes w (placed (take i lines)) ++ b) (append-nil (filled_bytes w (placed_of x)))
 
   -- a failure within a line is one of the whole
-  pub run_breaks : {kind : ErrorKind} (s t u : TermView) → LeadsOn (run_bytes w (placed (take i lines))) s t → BreaksOff (filled_bytes w (placed_of x)) kind t u → BreaksOff (run_bytes w (placed lines)) kind s u
+  pub run_breaks : {kind : ErrorKind} (s t u : TermView) → LeadsOn (run_bytes w (placed (take i lines))) s t → BreaksOff (filled_bytes w (placed_of x)) kind t u →
+      BreaksOff (run_bytes w (placed lines)) kind s u
   run_breaks {kind} s t u p q =
       let front = placed (take (i + 1) lines) in
       let back = placed (drop (i + 1) lines) in

@@ -76,6 +76,7 @@ module _ {T : Type 0} (view : T → TermView) where
   pub put_came : (came : List (List ℕ)) (y : List ℕ) (p q r : Pen T) → ArePut view came p q → ArePut view (y ∷ []) q r → ArePut view (came ++ y ∷ []) p r
   put_came came y p q r f g = puts_then came (y ∷ []) p q r (ok tt) f g
 
-  pub came_fails : (ys came : List (List ℕ)) (y : List ℕ) (rest : List (List ℕ)) (p q r : Pen T) {e : Error} (result : Result Unit Error) → ys ≡ (came ++ y ∷ []) ++ rest → IsErrAnd result (λ x. x ≡ e) →
+  pub came_fails : (ys came : List (List ℕ)) (y : List ℕ) (rest : List (List ℕ)) (p q r : Pen T) {e : Error} (result : Result Unit Error) → ys ≡ (came ++ y ∷ []) ++ rest →
+      IsErrAnd result (λ x. x ≡ e) →
       ArePut view came p q → Puts view (y ∷ []) q r (Err e) → Puts view ys p r result
   came_fails ys came y rest p q r {e} result s k f g = rw s (puts_fail (came ++ y ∷ []) rest p r result k (puts_then came (y ∷ []) p q r (err e) f g))

@@ -111,7 +111,8 @@ rests_still : (h : ℕ) (l : Lists) → lists_height l ≤ l.reach → (l.kept �
 rests_still h l fits low some on =
     let gone = (max l.reach (lists_height l) - h) - length l.above in
     let none = none_gone gone l.kept (elim low [ inl none ↦ inl none | inr here ↦ inr (omega arith) ]) in
-    same_lists (record l { failed = false }) (l.above ++ take gone l.kept) (drop gone l.kept) (max l.reach (lists_height l)) ((live_height l.live == 0) && nat_lt (lists_height (settled h l)) (max l.reach (lists_height l))) false
+    same_lists (record l { failed = false }) (l.above ++ take gone l.kept) (drop gone l.kept) (max l.reach (lists_height l))
+    ((live_height l.live == 0) && nat_lt (lists_height (settled h l)) (max l.reach (lists_height l))) false
     (ap (λ xs. l.above ++ xs) none.0 ∙ append-nil l.above) none.1 (omega arith) (not_below (live_height l.live) (lists_height (settled h l)) (max l.reach (lists_height l)) some ∙ sym on) refl
 
 no_room : (bottom : Bool) (taken bars : ℕ) → taken ≡ bars → blanks_for bottom taken 0 bars ≡ 0

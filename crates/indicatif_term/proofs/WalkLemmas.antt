@@ -70,7 +70,8 @@ module _ (lines : List StandingLine) (i : ℕ) (x : StandingLine) (h : i < lengt
       omega (arith, height_push lines i x h e, ap placed_height whole, height-append (placed (take (i + 1) lines)) (placed (drop (i + 1) lines)))
 
   -- a failure within a line is one of the whole walk
-  pub walk_breaks : {kind : ErrorKind} (s t u : TermView) → LeadsOn (walk_bytes 0 (placed (take i lines))) s t → BreaksOff (walk_bytes (walk_down 0 (placed (take i lines))) (placed_of x ∷ [])) kind t u →
+  pub walk_breaks : {kind : ErrorKind} (s t u : TermView) → LeadsOn (walk_bytes 0 (placed (take i lines))) s t →
+      BreaksOff (walk_bytes (walk_down 0 (placed (take i lines))) (placed_of x ∷ [])) kind t u →
       BreaksOff (walk_bytes 0 (placed lines)) kind s u
   walk_breaks {kind} s t u p q =
       let whole : placed (take (i + 1) lines) ++ placed (drop (i + 1) lines) ≡ placed lines =

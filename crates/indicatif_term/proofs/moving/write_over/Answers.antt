@@ -16,7 +16,8 @@ returns-in_err-write_str g c =
     let front : List ℕ = 0x0D ∷ [] in
     let run = run_bytes c.args.width (placed c.args.lines.now) in
     rw (← three (move_bytes 0x41 (c.args.taken - 1)) front run)
-    (writes_fail run _ c.from_residual-in_err-write_str.result c.from_residual-in_err-write_str.ensures.1 (breaks_then (rw c.saturating_sub.ensures at c.in_ok-go_up.ensures) c.in_err-write_str.ensures))
+    (writes_fail run _ c.from_residual-in_err-write_str.result c.from_residual-in_err-write_str.ensures.1
+    (breaks_then (rw c.saturating_sub.ensures at c.in_ok-go_up.ensures) c.in_err-write_str.ensures))
 
 pub returns-in_err-put_run : goal.returns-in_err-put_run
 returns-in_err-put_run g c =
