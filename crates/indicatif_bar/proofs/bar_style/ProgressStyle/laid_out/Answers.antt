@@ -7,7 +7,7 @@ use Rattle.indicatif_bar.specs.BarStyles.{lines_with}
 use Rattle.indicatif_bar.specs.Inside.Steps.{effect_of, wide_found}
 use Rattle.indicatif_bar.proofs.LinesLemmas.{lines_from}
 use Rattle.indicatif_bar.proofs.LinesLemmas.{lines_by_steps, deeds_are, ended}
-use Rattle.indicatif_bar.proofs.bar_style.ProgressStyle.lines_in.Goals as goal
+use Rattle.indicatif_bar.proofs.bar_style.ProgressStyle.laid_out.Goals as goal
 
 pub returns-then-is_empty-clause-lines : goal.returns-then-is_empty-clause-lines
 returns-then-is_empty-clause-lines g c =
