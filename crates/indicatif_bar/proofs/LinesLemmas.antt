@@ -97,16 +97,24 @@ module _ {K : Type 0} (m : Tracking K) (style : BarStyle K) (p : Progress) (now 
   known_wide layout None = refl
   known_wide layout (Some key) = refl
 
+  abbrev text_at : Layout → List ℕ → Option K → List ℕ
+  text_at layout name o = elim o [ Some k ↦ expanded style.tab (m.text k p now) | None ↦ option_map_or (key_text m style p now layout) (key_named name) [] ]
+
   pub text_of_name : (layout : Layout) (name : List ℕ) → named_text m style p now name layout ≡ source_text m style p now layout (source_of (names style.keys) name)
   text_of_name layout name = elim (source_cases style.keys name) [
-    | ByTracker k entry at named_is source_is ↦ rw (named_is, source_is, at) refl
-    | ByKey named_is source_is ↦ rw (named_is, source_is) (known_text layout (key_named name))
+    | ByTracker k entry at named_is source_is ↦
+        ap (text_at layout name) named_is ∙ ap (λ o. option_map_or (λ entry. expanded style.tab (m.text entry.1 p now)) o []) (sym at) ∙ ap (source_text m style p now layout) (sym source_is)
+    | ByKey named_is source_is ↦ ap (text_at layout name) named_is ∙ known_text layout (key_named name) ∙ ap (source_text m style p now layout) (sym source_is)
   ]
+
+  abbrev wide_at : Layout → List ℕ → Option K → Option Wide
+  wide_at layout name o = elim o [ Some k ↦ None | None ↦ option_and_then (wide_of layout) (key_named name) ]
 
   pub wide_of_name : (layout : Layout) (key : List ℕ) → wide_part m style p now (KeyText key layout) ≡ wide_source layout (source_of (names style.keys) (encode_utf8_all key))
   wide_of_name layout key = elim (source_cases style.keys (encode_utf8_all key)) [
-    | ByTracker k entry at named_is source_is ↦ rw (named_is, source_is) refl
-    | ByKey named_is source_is ↦ rw (named_is, source_is) (known_wide layout (key_named (encode_utf8_all key)))
+    | ByTracker k entry at named_is source_is ↦ ap (wide_at layout (encode_utf8_all key)) named_is ∙ ap (wide_source layout) (sym source_is)
+    | ByKey named_is source_is ↦
+        ap (wide_at layout (encode_utf8_all key)) named_is ∙ known_wide layout (key_named (encode_utf8_all key)) ∙ ap (wide_source layout) (sym source_is)
   ]
 
   -- ---- groups
