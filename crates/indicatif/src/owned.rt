@@ -1,5 +1,5 @@
 //! A bar with its clock.
-ghost use Rattle.std.specs.Prelude.{◌≡◌, ℕ, IfOk, IfErr};
+ghost use Rattle.std.specs.Prelude.{◌≡◌, ◌==◌, ℕ, IfOk, IfErr, IsFalse};
 ghost use Rattle.indicatif_bar.specs.Commands.{new_bar};
 ghost use Rattle.indicatif.specs.Owned.{lone_of, Begins, BeginsPlain};
 
@@ -61,7 +61,7 @@ impl<K: Tracks, T: TermLike + Drop, C: Clock + Drop> OwnedBar<K, T, C> {
     /// A bar of this length or of none, in this style, on the setup's target, made at the moment that its clock tells. Nothing
     /// is drawn.
     ///
-    /// Refused: `Memory`; nothing is made, and what was handed in is given up.
+    /// Refused: `Memory`, only where the style has another width of tabs than 8; nothing is made, and what was handed in is given up.
     pub fn styled(
         alloc: Global,
         style: ProgressStyle<K>,
@@ -69,7 +69,7 @@ impl<K: Tracks, T: TermLike + Drop, C: Clock + Drop> OwnedBar<K, T, C> {
         setup: Setup<T, C>,
     ) -> Result<Self, Refusal>
         ensures bar { IfOk result (λ owned. (now : ℕ) × Begins owned (new_bar style len now) setup.target) }
-        ensures memory { IfErr result (λ e. e ≡ Refusal.Memory) }
+        ensures memory { IfErr result (λ e. (e ≡ Refusal.Memory) × IsFalse (8 == style.tab)) }
     {
         let Setup { target, mut clock } = setup;
         let now = clock.now();

@@ -2,7 +2,7 @@
 //!
 //! - `claims`: what threads take of a list, and how far they are; `course`: how far the bar is (private).
 //! - `piece`: answers at a part of a list; `answers`: what threads answer at all its items; `visits`: the same without answers (private).
-ghost use Rattle.std.specs.Prelude.{◌≡◌, ◌≤◌, ℕ, Some, Ok, IfOk, IfErr, OnOk, length};
+ghost use Rattle.std.specs.Prelude.{◌≡◌, ◌==◌, ◌≤◌, ℕ, Some, Ok, IfOk, IfErr, OnOk, IsFalse, length};
 ghost use Rattle.std.specs.List.{AllZip};
 ghost use Rattle.std.specs.Fn.{FnReturnsAt};
 ghost use Rattle.indicatif_bar.specs.Commands.{new_bar};
@@ -71,7 +71,7 @@ pub trait ParallelProgressIterator: Sized {
 
     /// A bar of as many as there are items, in this style.
     ///
-    /// Refused: `Memory`; nothing is made, and what was handed in is given up.
+    /// Refused: `Memory`, only where the style has another width of tabs than 8; nothing is made, and what was handed in is given up.
     fn progress_with_style<K: Tracks, W: TermLike + Drop, C: Clock + Drop>(
         self,
         alloc: Global,
@@ -80,7 +80,7 @@ pub trait ParallelProgressIterator: Sized {
     ) -> Result<ProgressBarIter<Self, OwnedBar<K, W, C>>, Refusal>
         ensures wraps { IfOk result (λ w. Wraps w self) }
         ensures bar { IfOk result (λ w. (now : ℕ) × Begins w.progress (new_bar style (Some (count self)) now) setup.target) }
-        ensures memory { IfErr result (λ e. e ≡ Refusal.Memory) };
+        ensures memory { IfErr result (λ e. (e ≡ Refusal.Memory) × IsFalse (8 == style.tab)) };
 }
 
 /// Every slice.

@@ -1,5 +1,5 @@
 //! Iterators with a bar of their own.
-ghost use Rattle.std.specs.Prelude.{◌≡◌, ℕ, Some, None, Ok, IfOk, IfErr, IfSome, IfNone, IsSome};
+ghost use Rattle.std.specs.Prelude.{◌≡◌, ◌==◌, ℕ, IsFalse, Some, None, Ok, IfOk, IfErr, IfSome, IfNone, IsSome};
 ghost use Rattle.std.specs.Iterator.{size, UpTo};
 ghost use Rattle.indicatif_bar.specs.Commands.{new_bar};
 ghost use Rattle.indicatif.specs.Wrap.{Wraps};
@@ -57,7 +57,7 @@ pub trait ProgressIterator: Iterator + Sized {
 
     /// A bar of as many as are left, in this style.
     ///
-    /// Refused: `Memory`; the iterator and the setup are given up.
+    /// Refused: `Memory`, only where the style has another width of tabs than 8; the iterator and the setup are given up.
     fn progress_with_style<K: Tracks, W: TermLike + Drop, C: Clock + Drop>(
         self,
         alloc: Global,
@@ -68,7 +68,7 @@ pub trait ProgressIterator: Iterator + Sized {
         Self: ExactSizeIterator,
         ensures wraps { IfOk result (λ w. Wraps w self) }
         ensures bar { IfOk result (λ w. (now : ℕ) × Begins w.progress (new_bar style (Some (size (Self.remaining self))) now) setup.target) }
-        ensures memory { IfErr result (λ e. e ≡ Refusal.Memory) };
+        ensures memory { IfErr result (λ e. (e ≡ Refusal.Memory) × IsFalse (8 == style.tab)) };
 
     /// A bar of the most that may be left, by the upper bound of the iterator's `size_hint`; where
     /// that says no such number, `None`: nothing is made, and the iterator is given up. So the bar's length is never below the

@@ -3,7 +3,7 @@ use Rattle.std.proofs.Common.{◌≡◌, ℕ, zero, suc, ◌-◌, ◌*◌, ◌/�
 use Rattle.std.specs.Prelude.{nat_lt, ◌&&◌, option_to_list, min}
 use Rattle.std.specs.List.{concat}
 use Rattle.std.proofs.lemmas.Bool.Decides.{nat_tests}
-use Rattle.std.proofs.Math.Nat.{mul-div_cancel_left, div-eq_of_eq-mul_left, div-mul-le_self, div-le_of_le-mul, mul-le-mul_right, le-div_iff_mul-le}
+use Rattle.std.proofs.Math.Nat.{zero-div, mul-div_cancel_left, div-eq_of_eq-mul_left, div-mul-le_self, div-le_of_le-mul, mul-le-mul_right, le-div_iff_mul-le}
 use Rattle.indicatif_text.specs.StyleWords.{styled}
 use Rattle.indicatif_bar.specs.declared.measures.Fraction.{Fraction}
 use Rattle.indicatif_bar.specs.Layout.{text_columns, cluster, times, bar_text}
@@ -72,6 +72,19 @@ empty_at_its_start clusters colours alternative (suc len) width h =
     ap (λ k. bar_text clusters colours alternative (record { num = k; den = suc len }) width) zero_num
     ∙ unshaded clusters colours alternative f width 0 none shade
     ∙ ap (λ k. styled colours alternative (times k (cluster clusters (length clusters - 1)))) all
+
+-- a bar without room for a cell is what its rest's style writes
+pub without_cells : (clusters : List (List ℕ)) (colours : Bool) (alternative : List ℕ) (f : Fraction) (width : ℕ) → cells_in clusters width ≡ 0
+    → bar_text clusters colours alternative f width ≡ styled colours alternative []
+without_cells clusters colours alternative f width none =
+    let n = cells_in clusters width in
+    let times_none : f.num * 0 ≡ 0 = omega arith in
+    let fill : f.num * n ≡ 0 = ap (λ k. f.num * k) none ∙ times_none in
+    let filled : f.num * n / f.den ≡ 0 = ap (λ k. k / f.den) fill ∙ zero-div f.den in
+    let shade = no_first (nat_lt 0 (f.num * n)) (nat_lt (f.num * n / f.den) n) (nat_lt 0 (length clusters - 2)) _ (ap (λ k. nat_lt 0 k) fill) in
+    let left : n - 0 - 0 ≡ 0 = omega (arith, none) in
+    unshaded clusters colours alternative f width 0 filled shade
+    ∙ ap (λ k. styled colours alternative (times k (cluster clusters (length clusters - 1)))) left
 
 pub cells_fit : CellsFit
 cells_fit clusters width = div-mul-le_self width (text_columns (cluster clusters 0))

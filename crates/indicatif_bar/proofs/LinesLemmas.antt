@@ -18,7 +18,7 @@ use Rattle.indicatif_bar.specs.Keys.{named, key_named}
 use Rattle.indicatif_bar.specs.declared.style.keys.Key.{Key}
 use Rattle.indicatif_bar.specs.BarStyles.{BarStyle, Wide, wide_of, key_text, named_text, in_layout, part_text, wide_part, latest_wide, lines_with, lines_of_groups, lines, is_line_break}
 use Rattle.indicatif_bar.specs.Inside.Steps.{Effect, WritesText, Breaks, PutsSource, source_at, source_of, names_of, effect_of_part, wide_source, source_text, effect_text}
-use Rattle.indicatif_bar.specs.declared.style.steps.Source.TheVariants.{Known, Nothing}
+use Rattle.indicatif_bar.specs.declared.style.steps.Source.TheVariants.{Tracker, Known, Nothing}
 
 -- ---- the lines of deeds, one after another
 
@@ -69,6 +69,25 @@ module _ {K : Type 0} where
       found_by (bytes_eq name e.0) e es (position_or_len (bytes_eq name) (names es)) (named name es) (found name es)
       ∙ ap (λ k. option_map (λ x. x.1) (slice_get (e ∷ es) k)) (not_not (bytes_eq name e.0) (position_or_len (bytes_eq name) (names es)))
 
+-- where a name's text comes from: its first tracker, or else its key
+pub data Named {K : Type 0} (keys : List (List ℕ × K)) (name : List ℕ) : Type 0 where
+  ByTracker : (k : ℕ) → (entry : List ℕ × K) → (at : slice_get keys k ≡ Some entry) → (named_is : named name keys ≡ Some entry.1) → (source_is : source_of (names keys) name ≡ Tracker k) → Named keys name
+  ByKey : (named_is : named name keys ≡ None) → (source_is : source_of (names keys) name ≡ option_map_or Known (key_named name) Nothing) → Named keys name
+
+module _ {K : Type 0} (keys : List (List ℕ × K)) (name : List ℕ) where
+  cases_by : (n : ℕ) (o : Option (List ℕ × K)) (b : Bool) → slice_get keys n ≡ o → nat_lt n (length (names keys)) ≡ b
+      → named name keys ≡ option_map (λ x. x.1) o → source_of (names keys) name ≡ source_at name (if b then Some n else None) → Named keys name
+  cases_by n (Some e) true at within named_is source_is = ByTracker n e at named_is source_is
+  cases_by n (Some e) false at within named_is source_is = absurd (false≢true (sym within
+      ∙ lt-ltb n (length (names keys)) (omega (arith, slice_get_within keys n e at, length-map keys (λ x. x.0)))))
+  cases_by n None true at within named_is source_is = absurd (past keys n at (omega (arith, ltb-true n (length (names keys)) within, length-map keys (λ x. x.0))))
+  cases_by n None false at within named_is source_is = ByKey named_is source_is
+
+  pub source_cases : Named keys name
+  source_cases =
+      let n = position_or_len (bytes_eq name) (names keys) in
+      cases_by n (slice_get keys n) (nat_lt n (length (names keys))) refl refl (found name keys) refl
+
 module _ {K : Type 0} (m : Tracking K) (style : BarStyle K) (p : Progress) (now : ℕ) where
   known_text : (layout : Layout) (o : Option Key) → option_map_or (key_text m style p now layout) o [] ≡ source_text m style p now layout (option_map_or Known o Nothing)
   known_text layout None = refl
@@ -78,37 +97,25 @@ module _ {K : Type 0} (m : Tracking K) (style : BarStyle K) (p : Progress) (now 
   known_wide layout None = refl
   known_wide layout (Some key) = refl
 
-  -- the text of a name, once its place is found
-  text_by : (layout : Layout) (name : List ℕ) (n : ℕ) (o : Option (List ℕ × K)) (b : Bool) → slice_get style.keys n ≡ o → nat_lt n (length (names style.keys)) ≡ b
-      → (elim (option_map (λ x. x.1) o) as (λ _. List ℕ) [ Some k ↦ expanded style.tab (m.text k p now) | None ↦ option_map_or (key_text m style p now layout) (key_named name) [] ])
-      ≡ source_text m style p now layout (source_at name (if b then Some n else None))
-  text_by layout name n (Some e) true at within = ap (λ o. option_map_or (λ entry. expanded style.tab (m.text entry.1 p now)) o []) (sym at)
-  text_by layout name n (Some e) false at within = absurd (false≢true (sym within
-      ∙ lt-ltb n (length (names style.keys)) (omega (arith, slice_get_within style.keys n e at, length-map style.keys (λ x. x.0)))))
-  text_by layout name n None true at within = absurd (past style.keys n at (omega (arith, ltb-true n (length (names style.keys)) within, length-map style.keys (λ x. x.0))))
-  text_by layout name n None false at within = known_text layout (key_named name)
-
-  wide_by : (layout : Layout) (name : List ℕ) (n : ℕ) (o : Option (List ℕ × K)) (b : Bool) → slice_get style.keys n ≡ o → nat_lt n (length (names style.keys)) ≡ b
-      → (elim (option_map (λ x. x.1) o) as (λ _. Option Wide) [ Some k ↦ None | None ↦ option_and_then (wide_of layout) (key_named name) ])
-      ≡ wide_source layout (source_at name (if b then Some n else None))
-  wide_by layout name n (Some e) true at within = refl
-  wide_by layout name n (Some e) false at within = absurd (false≢true (sym within
-      ∙ lt-ltb n (length (names style.keys)) (omega (arith, slice_get_within style.keys n e at, length-map style.keys (λ x. x.0)))))
-  wide_by layout name n None true at within = absurd (past style.keys n at (omega (arith, ltb-true n (length (names style.keys)) within, length-map style.keys (λ x. x.0))))
-  wide_by layout name n None false at within = known_wide layout (key_named name)
+  abbrev text_at : Layout → List ℕ → Option K → List ℕ
+  text_at layout name o = elim o [ Some k ↦ expanded style.tab (m.text k p now) | None ↦ option_map_or (key_text m style p now layout) (key_named name) [] ]
 
   pub text_of_name : (layout : Layout) (name : List ℕ) → named_text m style p now name layout ≡ source_text m style p now layout (source_of (names style.keys) name)
-  text_of_name layout name =
-      let n = position_or_len (bytes_eq name) (names style.keys) in
-      ap (λ o. elim o as (λ _. List ℕ) [ Some k ↦ expanded style.tab (m.text k p now) | None ↦ option_map_or (key_text m style p now layout) (key_named name) [] ]) (found name style.keys)
-      ∙ text_by layout name n (slice_get style.keys n) (nat_lt n (length (names style.keys))) refl refl
+  text_of_name layout name = elim (source_cases style.keys name) [
+    | ByTracker k entry at named_is source_is ↦
+        ap (text_at layout name) named_is ∙ ap (λ o. option_map_or (λ entry. expanded style.tab (m.text entry.1 p now)) o []) (sym at) ∙ ap (source_text m style p now layout) (sym source_is)
+    | ByKey named_is source_is ↦ ap (text_at layout name) named_is ∙ known_text layout (key_named name) ∙ ap (source_text m style p now layout) (sym source_is)
+  ]
+
+  abbrev wide_at : Layout → List ℕ → Option K → Option Wide
+  wide_at layout name o = elim o [ Some k ↦ None | None ↦ option_and_then (wide_of layout) (key_named name) ]
 
   pub wide_of_name : (layout : Layout) (key : List ℕ) → wide_part m style p now (KeyText key layout) ≡ wide_source layout (source_of (names style.keys) (encode_utf8_all key))
-  wide_of_name layout key =
-      let name = encode_utf8_all key in
-      let n = position_or_len (bytes_eq name) (names style.keys) in
-      ap (λ o. elim o as (λ _. Option Wide) [ Some k ↦ None | None ↦ option_and_then (wide_of layout) (key_named name) ]) (found name style.keys)
-      ∙ wide_by layout name n (slice_get style.keys n) (nat_lt n (length (names style.keys))) refl refl
+  wide_of_name layout key = elim (source_cases style.keys (encode_utf8_all key)) [
+    | ByTracker k entry at named_is source_is ↦ ap (wide_at layout (encode_utf8_all key)) named_is ∙ ap (wide_source layout) (sym source_is)
+    | ByKey named_is source_is ↦
+        ap (wide_at layout (encode_utf8_all key)) named_is ∙ known_wide layout (key_named (encode_utf8_all key)) ∙ ap (wide_source layout) (sym source_is)
+  ]
 
   -- ---- groups
 

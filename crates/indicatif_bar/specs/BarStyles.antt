@@ -1,7 +1,7 @@
 -- The lines of a bar. Texts are lists of bytes in UTF-8; those in the parts of a template are characters.
-use Rattle.std.specs.Prelude.{ℕ, ◌-◌, ◌%◌, Bool, true, false, ◌==◌, List, [], ◌∷◌, ◌++◌, length, Option, Some, None, if◌then◌else◌, unwrap_or, flat_map, filter_map, find, option_and_then, encode_utf8_all}
+use Rattle.std.specs.Prelude.{ℕ, ◌-◌, ◌%◌, Bool, true, false, not, ◌&&◌, ◌==◌, is_some, List, [], ◌∷◌, ◌++◌, length, Option, Some, None, if◌then◌else◌, unwrap_or, flat_map, filter_map, find, option_and_then, encode_utf8_all}
 use Rattle.std.specs.Str.{chars, drop_trailing_whitespace}
-use Rattle.std.specs.List.{slice_split, slice_index_or, slice_get, last_or, list_any}
+use Rattle.std.specs.List.{slice_split, slice_index_or, slice_get, last_or, list_any, list_all}
 use Rattle.std.specs.Option.{option_map_or}
 use Rattle.indicatif_text.specs.StyleWords.{styled}
 use Rattle.indicatif_text.specs.Template.{Layout, TemplatePart, LiteralText, LineBreak, KeyText}
@@ -153,3 +153,35 @@ module _ {K : Type 0} (m : Tracking K) (style : BarStyle K) (p : Progress) (now 
   -- the lines of a bar on a terminal of so many columns
   unfoldable pub lines : ℕ → List (List ℕ)
   lines columns = lines_of_groups columns None (slice_split is_line_break style.parts)
+
+-- ---- styles that show nothing
+
+-- a layout that adds nothing to an empty text: no columns, and no colours
+abbrev pub is_bare_layout : Bool → Layout → Bool
+is_bare_layout colours layout = (unwrap_or layout.width 0 == 0) && not (colours && is_some layout.style)
+
+module _ {K : Type 0} (style : BarStyle K) (p : Progress) where
+  -- a key whose text is empty at each moment: a bar of no columns, or a spinner, a prefix or a message that is empty
+  abbrev pub is_empty_key : Layout → Key → Bool
+  is_empty_key layout Bar = (unwrap_or layout.width 20 == 0) && not (style.colours && is_some layout.alternative)
+  is_empty_key layout Spinner = length (if is_finished p then final_tick_string style.tick_strings else tick_string style.tick_strings p.ticks) == 0
+  is_empty_key layout Prefix = length (shown_prefix p) == 0
+  is_empty_key layout Message = length (shown_message p) == 0
+  is_empty_key layout _ = false
+
+  -- a name that has no tracker, and such a key or none
+  abbrev pub is_empty_name : List ℕ → Layout → Bool
+  is_empty_name name layout = elim (named name style.keys) [
+    | Some k ↦ false
+    | None ↦ option_map_or (is_empty_key layout) (key_named name) true
+  ]
+
+  -- a part of a template that shows nothing
+  abbrev pub is_empty_part : TemplatePart → Bool
+  is_empty_part (LiteralText text) = length (expanded style.tab (encode_utf8_all text)) == 0
+  is_empty_part LineBreak = false
+  is_empty_part (KeyText key layout) = is_bare_layout style.colours layout && is_empty_name (encode_utf8_all key) layout
+
+  -- a style that shows nothing: no part of its template does
+  unfoldable pub is_empty_style : Bool
+  is_empty_style = list_all is_empty_part style.parts

@@ -1,5 +1,5 @@
 -- Laws of a bar's lines, and of tabs in them. Texts are lists of bytes in UTF-8.
-use Rattle.std.specs.Prelude.{◌≡◌, ℕ, ◌≤◌, IsTrue, map, false, List, [], ◌∷◌, ◌++◌, length, None, All, flat_map, filter_map, codes, encode_utf8_all}
+use Rattle.std.specs.Prelude.{◌≡◌, ℕ, ◌≤◌, IsTrue, map, true, false, List, [], ◌∷◌, ◌++◌, length, None, All, flat_map, filter_map, codes, encode_utf8_all}
 use Rattle.std.specs.Str.{chars}
 use Rattle.indicatif_text.specs.Columns.{rows_of}
 use Rattle.indicatif_text.specs.Template.{Layout, TemplatePart, LiteralText, LineBreak, KeyText}
@@ -9,7 +9,7 @@ use Rattle.indicatif_bar.specs.Progress.{Progress, shown_message, shown_prefix}
 use Rattle.indicatif_bar.specs.Trackers.{Tracking}
 use Rattle.indicatif_bar.specs.Layout.{text_columns, cluster}
 use Rattle.indicatif_bar.specs.Keys.{named}
-use Rattle.indicatif_bar.specs.BarStyles.{BarStyle, WideBarOf, wide_part, part_text, is_line_break, lines}
+use Rattle.indicatif_bar.specs.BarStyles.{BarStyle, WideBarOf, wide_part, part_text, is_line_break, lines, is_empty_style}
 use Rattle.indicatif_bar.specs.Commands.{BarRecord, SetTabWidth, obeyed}
 use Rattle.indicatif_bar.specs.StyleLaws.{IsPlainText, AreTaken}
 
@@ -87,6 +87,12 @@ PlainTextsGivePlainLines K = (m : Tracking K) (style : BarStyle K) (p : Progress
 -- and such lines are plain as the headline asks it, which has them in characters
 abbrev pub PlainLinesAreAsked : Type 0
 PlainLinesAreAsked = (ls : List (List ℕ)) → All IsPlainText ls → IsTrue (are_plain (map chars ls))
+
+-- ---- no lines
+
+-- a style that shows nothing gives no lines, at any moment, however wide the terminal is
+abbrev pub EmptyStylesHaveNoLines : Type 0 → Type 0
+EmptyStylesHaveNoLines K = (m : Tracking K) (style : BarStyle K) (p : Progress) (now columns : ℕ) → is_empty_style style p ≡ true → lines m style p now columns ≡ []
 
 -- ---- tabs
 

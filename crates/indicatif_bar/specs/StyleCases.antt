@@ -1,5 +1,5 @@
 -- The worked cases of a bar's lines. Texts are lists of bytes in UTF-8; all of ASCII are written as they stand.
-use Rattle.std.specs.Prelude.{◌≡◌, ℕ, true, false, [], ◌∷◌, ◌++◌, List, Option, Some, None, codes, encode_utf8, encode_utf8_all}
+use Rattle.std.specs.Prelude.{◌≡◌, ℕ, Bool, true, false, [], ◌∷◌, ◌++◌, List, Option, Some, None, codes, encode_utf8, encode_utf8_all}
 use Rattle.indicatif_text.specs.declared.template.Alignment.TheVariants.{Center}
 use Rattle.indicatif_text.specs.declared.refusal.Refusal.TheVariants.{FewTicks, FewProgressChars, UnequalWidths, ZeroWidthChars}
 use Rattle.indicatif_text.specs.Template.{TemplatePart, LiteralText, LineBreak, KeyText}
@@ -9,7 +9,7 @@ use Rattle.indicatif_text.specs.StyleWords.{style_of}
 use Rattle.indicatif_bar.specs.Measures.{greatest_u64, first_marks, recorded}
 use Rattle.indicatif_bar.specs.Progress.{Progress, new_progress}
 use Rattle.indicatif_bar.specs.Trackers.{Tracking, telling}
-use Rattle.indicatif_bar.specs.BarStyles.{BarStyle, lines, tick_string, final_tick_string}
+use Rattle.indicatif_bar.specs.BarStyles.{BarStyle, lines, tick_string, final_tick_string, is_empty_style}
 use Rattle.indicatif_bar.specs.Builders.{tick_fault, progress_fault, clusters_of, characters_of}
 
 -- a tracker that writes the text that it is
@@ -98,6 +98,21 @@ LineCases = (shows (style_with (LiteralText (codes "a") ∷ LineBreak ∷ Litera
     × (shows (style_with (LineBreak ∷ LiteralText (codes "b") ∷ [])) (reached 0 None) 80 ≡ [] ∷ codes "b" ∷ [])
     × (shows (one (key (codes "no_such_key"))) (reached 0 None) 80 ≡ [])
     × (shows (one (key (codes "msg"))) (saying (codes "a" ++ (10 ∷ []) ++ codes "b")) 80 ≡ codes "a" ∷ codes "b" ∷ [])
+
+-- nothing is shown of it where neither the prefix nor the message has been set
+abbrev pub is_empty : BarStyle (List ℕ) → Bool
+is_empty style = is_empty_style style (reached 1 (Some 8))
+
+abbrev pub red : BarStyle (List ℕ)
+red = one (KeyText (codes "msg") (record plain_layout { style = Some (style_of (codes "red")) }))
+
+-- a message that is empty, an unknown key, a bar of no columns; and what shows all the same: colours, blanks, a line break, a tracker
+abbrev pub EmptyCases : Type 0
+EmptyCases = (is_empty (style_with (key (codes "msg") ∷ key (codes "prefix") ∷ key (codes "no_such_key") ∷ [])) ≡ true) × (is_empty (one (key_wide (codes "bar") 0)) ≡ true)
+    × (is_empty (one (key (codes "bar"))) ≡ false) × (is_empty red ≡ true) × (is_empty (record red { colours = true }) ≡ false)
+    × (shows (record red { colours = true }) (reached 1 (Some 8)) 80 ≡ (escape ++ codes "[31m" ++ escape ++ codes "[0m") ∷ [])
+    × (is_empty (one (key_wide (codes "msg") 1)) ≡ false) × (is_empty (one LineBreak) ≡ false)
+    × (is_empty (record (one (key (codes "msg"))) { keys = (codes "msg", []) ∷ [] }) ≡ false)
 
 -- what builders refuse
 abbrev pub FaultCases : Type 0

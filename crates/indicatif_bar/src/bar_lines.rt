@@ -15,7 +15,7 @@ impl<K: Tracks> BarState<K> {
     /// The lines that the bar shows on a terminal of `width` columns at this moment: those of its style, and none once it
     /// finished hidden.
     ///
-    /// Refused: `Memory`, and never once it finished hidden.
+    /// Refused: `Memory`, never once it finished hidden, and never where no part of its template shows anything.
     pub fn lines(&self, now: Moment, width: u16) -> Result<Vec<LineType>, Refusal>
         ensures lines { IfOk result (λ v. map line_text v.items ≡ lines_of_bar K.means self.now now width) }
         ensures kind { IfOk result (λ v. IsTrue (list_all is_bar_line v.items)) }
@@ -28,7 +28,7 @@ impl<K: Tracks> BarState<K> {
     /// The same, in room of `spare`, whatever that holds: the lines are those of `lines`. A bar that is laid out again and again,
     /// each time with the lines of before kept there, takes no memory once all have room.
     ///
-    /// Refused: `Memory`, and never once it finished hidden.
+    /// Refused: as `lines`.
     ///
     /// ```
     /// let lines = bar.lines_in(&mut spare, now, 80)?;

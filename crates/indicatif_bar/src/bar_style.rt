@@ -6,6 +6,7 @@ ghost use Rattle.indicatif_bar.specs.StyleLaws.{AreTaken};
 
 mod builders;
 mod drawing;
+mod emptiness;
 
 use crate::progress::ProgressState;
 use crate::style::steps::{Step, steps_of};

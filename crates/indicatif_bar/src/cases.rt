@@ -2,7 +2,7 @@
 ghost use Rattle.std.specs.Prelude.{ℕ};
 ghost use Rattle.indicatif_bar.specs.BarStyles.{BarStyle};
 ghost use Rattle.indicatif_bar.specs.CommandCases.{Fractions, Greatest, Rates, TwelveSteps, RateAndEta, Asks, ResetRates, Ends, ElapsedTimes, TabWidths, Finishes, Resets};
-ghost use Rattle.indicatif_bar.specs.StyleCases.{TrackersCases, WideBarCases, PercentCases, MessageCases, BarCases, TickCases, RateCases, LineCases, FaultCases};
+ghost use Rattle.indicatif_bar.specs.StyleCases.{TrackersCases, WideBarCases, PercentCases, MessageCases, BarCases, TickCases, RateCases, LineCases, EmptyCases, FaultCases};
 ghost use Rattle.indicatif_bar.specs.ScriptCases.{Dragged, ScrolledAway, LogsCut, HiddenSize, Standing};
 ghost use Rattle.indicatif_bar.specs.Cases.{Lines, ShorterMessage, EmptyMessage, WideCharacter, NoColumn, Nowhere, LogsAbove, WideLog, Cleared, LateElapsed, BrokenOff, LimitedDraws};
 
@@ -73,5 +73,6 @@ pub fn lines()
     ensures ticks { TickCases }
     ensures rates { RateCases }
     ensures lines { LineCases }
+    ensures empty { EmptyCases }
     ensures faults { FaultCases }
 {}

@@ -1,8 +1,9 @@
 -- What a board was asked, and what it answered, as their definitions.
-use Rattle.std.specs.Prelude.{◌≡◌, ◌≢◌, ◌==◌, ◌&&◌, ℕ, Bool, false, List, [], ◌∷◌, Option, Result, Ok, Err, string_bytes}
+use Rattle.std.specs.Prelude.{◌≡◌, ◌≢◌, ◌==◌, ◌&&◌, ℕ, Bool, true, false, List, [], ◌∷◌, Option, Result, Ok, Err, string_bytes}
 use Rattle.indicatif_text.specs.declared.refusal.Refusal.{Refusal}
 use Rattle.indicatif_text.specs.declared.refusal.Refusal.TheVariants.{ForeignBar}
-use Rattle.indicatif_bar.specs.Commands.{BarRecord, Command, command_of}
+use Rattle.indicatif_bar.specs.Tabs.{is_some_text}
+use Rattle.indicatif_bar.specs.Commands.{BarRecord, Command, command_of, copy_takes_memory}
 use Rattle.indicatif_term.specs.Engines.{is_bottom}
 use Rattle.indicatif_board.specs.Boards.{Entrant, New, Old, Location, End, Index, FromBack, Before, After, Id, Call, Insert, Remove, Drop, Log, BarLog, Clear, Redraw, Align, Tell, Answer, Given, Done, Drew, Refused}
 use Rattle.indicatif_board.specs.BoardValues.{id_of}
@@ -57,6 +58,19 @@ call_of (call.Bar id command) = Tell (id_of id) (command_of command)
 -- the same with its moment
 abbrev pub timed : {K : Type 0} → CallValue K × ℕ → Call (BarRecord K) (Command K) × ℕ
 timed c = (call_of c.0, c.1)
+
+-- a copy of what is to be taken in takes memory: of a new bar
+abbrev pub entrant_copy_takes : {K : Type 0} → Entrant (BarRecord K) → Bool
+entrant_copy_takes (New bar) = true
+entrant_copy_takes (Old id) = false
+
+-- a copy of a call takes memory: of one with a new bar, with a text that isn't empty, or with a bar's command of which a copy does
+abbrev pub call_copy_takes : {K : Type 0} → Call (BarRecord K) (Command K) → Bool
+call_copy_takes (Insert at entrant) = entrant_copy_takes entrant
+call_copy_takes (Log text) = is_some_text text
+call_copy_takes (BarLog id text) = is_some_text text
+call_copy_takes (Tell id command) = copy_takes_memory command
+call_copy_takes _ = false
 
 -- an answer that is a value, as its definition
 abbrev pub answer_of : AnswerValue → Answer

@@ -1,6 +1,7 @@
 //! Calls and answers equal to others.
-ghost use Rattle.std.specs.Prelude.{◌≡◌, string_bytes, IfOk, IfErr};
-ghost use Rattle.indicatif_board.specs.Calls.{call_of, entrant_of};
+ghost use Rattle.std.specs.Prelude.{◌≡◌, string_bytes, IfOk, IfErr, IsTrue};
+ghost use Rattle.indicatif_bar.specs.Tabs.{is_some_text};
+ghost use Rattle.indicatif_board.specs.Calls.{call_of, entrant_of, call_copy_takes, entrant_copy_takes};
 
 use crate::calls::{Answer, Call, Candidate};
 use indicatif_bar::style::Tracks;
@@ -14,10 +15,10 @@ impl<K: Tracks> Call<K> {
     /// let again = call.try_clone(alloc)?;
     /// ```
     ///
-    /// Refused: `Memory`, where it has a text, a style or a bar.
+    /// Refused: `Memory`, only where it has a new bar, a style, or a text that isn't empty.
     pub fn try_clone(&self, alloc: Global) -> Result<Call<K>, Refusal>
         ensures same { IfOk result (λ other. call_of other ≡ call_of self.now) }
-        ensures memory { IfErr result (λ e. e ≡ Refusal.Memory) }
+        ensures memory { IfErr result (λ e. (e ≡ Refusal.Memory) × IsTrue (call_copy_takes (call_of self.now))) }
     {
         Ok(match self {
             Call::Insert { at, candidate } => Call::Insert {
@@ -26,8 +27,8 @@ impl<K: Tracks> Call<K> {
             },
             Call::Remove(id) => Call::Remove(*id),
             Call::Drop(id) => Call::Drop(*id),
-            Call::Log(text) => Call::Log(String::from_str(alloc, text.as_str())?),
-            Call::BarLog(id, text) => Call::BarLog(*id, String::from_str(alloc, text.as_str())?),
+            Call::Log(text) => Call::Log(same_text(alloc, text)?),
+            Call::BarLog(id, text) => Call::BarLog(*id, same_text(alloc, text)?),
             Call::Clear => Call::Clear,
             Call::Redraw => Call::Redraw,
             Call::Align(alignment) => Call::Align(*alignment),
@@ -43,10 +44,10 @@ impl<K: Tracks> Candidate<K> {
     /// let again = candidate.try_clone()?;
     /// ```
     ///
-    /// Refused: `Memory`, where it is a new bar.
+    /// Refused: `Memory`, only where it is a new bar.
     pub fn try_clone(&self) -> Result<Candidate<K>, Refusal>
         ensures same { IfOk result (λ other. entrant_of other ≡ entrant_of self.now) }
-        ensures memory { IfErr result (λ e. e ≡ Refusal.Memory) }
+        ensures memory { IfErr result (λ e. (e ≡ Refusal.Memory) × IsTrue (entrant_copy_takes (entrant_of self.now))) }
     {
         Ok(match self {
             Candidate::New(bar) => Candidate::New(bar.try_clone()?),
@@ -71,4 +72,15 @@ impl Answer {
             Answer::Refused(refusal) => Answer::Refused(*refusal),
         }
     }
+}
+
+/// The same text. An empty one takes no memory.
+fn same_text(alloc: Global, text: &String) -> Result<String, Refusal>
+    ensures same { IfOk result (λ other. string_bytes other ≡ string_bytes text.now) }
+    ensures memory { IfErr result (λ e. (e ≡ Refusal.Memory) × IsTrue (is_some_text (string_bytes text.now))) }
+{
+    if text.is_empty() {
+        return Ok(String::new(alloc));
+    }
+    Ok(String::from_str(alloc, text.as_str())?)
 }

@@ -20,7 +20,7 @@ use Rattle.indicatif_bar.specs.Says.{Decided, Says}
 use Rattle.indicatif_bar.specs.Trackers.{Tracking}
 use Rattle.indicatif_bar.specs.Progress.{is_finished, is_hidden}
 use Rattle.indicatif_bar.specs.Commands.{BarRecord, TickerTick, obeyed}
-use Rattle.indicatif_bar.specs.BarStyles.{lines}
+use Rattle.indicatif_bar.specs.BarStyles.{lines, is_empty_style}
 use Rattle.indicatif_bar.specs.Bars.{bar_kind}
 use Rattle.indicatif_bar.specs.Lone.{LoneState, Obey, Log, Clear, draw_of_call, lone_frame}
 use Rattle.indicatif_bar.specs.LoneBars.{lone_bar}
@@ -66,10 +66,10 @@ module _ {K : Type 0} (m : Tracking K) (now : ℕ) (s : LoneState (BarRecord K))
       (w.decided ample).too_wide.1 (comes v d refl wide, refl, too)
 
 -- a bar that has no lines takes no memory for them
-no_lines_take : (gone : Bool) (shown : List (List ℕ)) → gone ≡ true →
-    (not gone || (has_line (drop 0 (record { bar = 0; lines = map chars (if gone then [] else shown) } ∷ [])) && true)) ≡ false
-no_lines_take true shown e = refl
-no_lines_take false shown e = absurd (false≢true e)
+no_lines_take : (gone empty : Bool) (shown : List (List ℕ)) → gone ≡ true →
+    ((not gone && not empty) || (has_line (drop 0 (record { bar = 0; lines = map chars (if gone then [] else shown) } ∷ [])) && true)) ≡ false
+no_lines_take true empty shown e = refl
+no_lines_take false empty shown e = absurd (false≢true e)
 
 -- a tick asks for a draw
 is_asked : (finished : Bool) → is_no (if finished then Forced else Unforced) ≡ false
@@ -82,7 +82,7 @@ module _ {K : Type 0} (m : Tracking K) (now : ℕ) (s : LoneState (BarRecord K))
     | inl gone ↦
         let target = target_of old in
         absurd (never_both (comes_to_lines target (draw_of_call (bar_kind m) target (Log text) now s)) _
-        (no_lines_take (is_hidden s.bar.progress) (lines m s.bar.style s.bar.progress now target.columns) gone) (w.memory e))
+        (no_lines_take (is_hidden s.bar.progress) (is_empty_style s.bar.style s.bar.progress) (lines m s.bar.style s.bar.progress now target.columns) gone) (w.memory e))
     | inr there ↦ there
   ]
 

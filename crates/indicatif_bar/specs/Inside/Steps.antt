@@ -1,7 +1,7 @@
 -- What the parts of a style do, found out once. Texts are lists of bytes in UTF-8.
 use Rattle.std.specs.declared.string.String.{String}
 use Rattle.std.specs.declared.alloc.Global.{Global}
-use Rattle.std.specs.Prelude.{map, ℕ, List, [], Option, Some, None, encode_utf8_all, bytes_eq, position, option_map, string_bytes}
+use Rattle.std.specs.Prelude.{map, ℕ, Bool, true, false, ◌&&◌, ◌==◌, length, List, [], Option, Some, None, encode_utf8_all, bytes_eq, position, option_map, string_bytes}
 use Rattle.std.specs.Option.{option_map_or}
 use Rattle.std.specs.List.{slice_get}
 use Rattle.indicatif_text.specs.Template.{Layout, TemplatePart, LiteralText, LineBreak, KeyText}
@@ -10,7 +10,7 @@ use Rattle.indicatif_bar.specs.Tabs.{expanded}
 use Rattle.indicatif_bar.specs.Progress.{Progress}
 use Rattle.indicatif_bar.specs.Trackers.{Tracking}
 use Rattle.indicatif_bar.specs.Keys.{key_named}
-use Rattle.indicatif_bar.specs.BarStyles.{BarStyle, Wide, WideBarOf, WideMessageOf, wide_of, key_text, in_layout}
+use Rattle.indicatif_bar.specs.BarStyles.{BarStyle, Wide, WideBarOf, WideMessageOf, wide_of, key_text, in_layout, is_bare_layout, is_empty_key}
 use Rattle.indicatif_bar.specs.declared.style.steps.Source.{Source}
 use Rattle.indicatif_bar.specs.declared.style.steps.Source.TheVariants.{Tracker, Known, Nothing}
 use Rattle.indicatif_bar.specs.declared.style.steps.Placeholder.{Placeholder}
@@ -82,3 +82,16 @@ module _ {K : Type 0} (m : Tracking K) (style : BarStyle K) (p : Progress) (now 
   effect_text (WritesText text) = text
   effect_text Breaks = []
   effect_text (PutsSource source layout) = in_layout m style p now layout (source_text layout source)
+
+module _ {K : Type 0} (style : BarStyle K) (p : Progress) where
+  -- a source of no text
+  abbrev pub is_empty_source : Layout → Source → Bool
+  is_empty_source layout (Tracker k) = false
+  is_empty_source layout (Known key) = is_empty_key style p layout key
+  is_empty_source layout Nothing = true
+
+  -- what writes nothing
+  abbrev pub is_empty_effect : Effect → Bool
+  is_empty_effect (WritesText text) = length text == 0
+  is_empty_effect Breaks = false
+  is_empty_effect (PutsSource source layout) = is_bare_layout style.colours layout && is_empty_source layout source

@@ -1,5 +1,5 @@
 //! How a style is made.
-ghost use Rattle.std.specs.Prelude.{◌≡◌, ◌⊎◌, None, Some, map, codes, chars, string_bytes, IfOk, IfErr, IsTrue};
+ghost use Rattle.std.specs.Prelude.{◌≡◌, ◌⊎◌, None, Some, map, codes, chars, string_bytes, IfOk, IfErr, IsTrue, IsFalse};
 ghost use Rattle.std.specs.List.{list_all};
 ghost use Rattle.indicatif_bar.specs.Bars.{is_bar_line};
 ghost use Rattle.indicatif_text.specs.declared.template.TemplateError.{TemplateError};
@@ -7,7 +7,7 @@ ghost use Rattle.indicatif_text.specs.Template.{Parses, IsRefused};
 ghost use Rattle.indicatif_text.specs.Template.{refusal_of};
 ghost use Rattle.indicatif_term.specs.Frames.{line_text};
 ghost use Rattle.indicatif_bar.specs.Trackers.{entries};
-ghost use Rattle.indicatif_bar.specs.BarStyles.{lines};
+ghost use Rattle.indicatif_bar.specs.BarStyles.{lines, is_empty_style};
 ghost use Rattle.indicatif_bar.specs.Inside.Cells.{bytes_of_strings};
 ghost use Rattle.indicatif_bar.specs.Builders.{characters_of, clusters_of, tick_fault, progress_fault, with_key, first_style};
 
@@ -220,7 +220,8 @@ impl<K: Tracks> ProgressStyle<K> {
 
     /// The lines of a bar in this state at this moment, on a terminal of `width` columns.
     ///
-    /// Refused: `Memory`.
+    /// Refused: `Memory`, and never where no part of the template shows anything: it has no line break, no key with a tracker, and
+    /// all its texts are empty.
     pub fn lines(
         &self,
         state: &ProgressState,
@@ -229,7 +230,7 @@ impl<K: Tracks> ProgressStyle<K> {
     ) -> Result<Vec<LineType>, Refusal>
         ensures lines { IfOk result (λ v. map line_text v.items ≡ lines K.means self.now state.now now width) }
         ensures kind { IfOk result (λ v. IsTrue (list_all is_bar_line v.items)) }
-        ensures memory { IfErr result (λ e. e ≡ Refusal.Memory) }
+        ensures memory { IfErr result (λ e. (e ≡ Refusal.Memory) × IsFalse (is_empty_style self.now state.now)) }
     {
         let mut spare = SpareLines::new(self.alloc);
         self.lines_in(&mut spare, state, now, width)

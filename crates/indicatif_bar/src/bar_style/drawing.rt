@@ -1,5 +1,5 @@
 //! The lines of a style, laid out into one growing text.
-ghost use Rattle.std.specs.Prelude.{◌≡◌, ◌++◌, ℕ, List, [], map, string_bytes, true, if◌then◌else◌, OnOk, IfOk, IfErr, IsTrue, option_map, unwrap_or};
+ghost use Rattle.std.specs.Prelude.{◌≡◌, ◌++◌, ℕ, List, [], map, string_bytes, true, if◌then◌else◌, OnOk, IfOk, IfErr, IsTrue, IsFalse, option_map, unwrap_or};
 ghost use Rattle.std.specs.Option.{option_map_or};
 ghost use Rattle.std.specs.List.{list_all, slice_get};
 ghost use Rattle.indicatif_bar.specs.Bars.{is_bar_line};
@@ -8,7 +8,7 @@ ghost use Rattle.indicatif_term.specs.Frames.{line_text};
 ghost use Rattle.indicatif_bar.specs.Tabs.{expanded};
 ghost use Rattle.indicatif_bar.specs.Progress.{fraction, is_finished, shown_message};
 ghost use Rattle.indicatif_bar.specs.Layout.{bar_text, padded};
-ghost use Rattle.indicatif_bar.specs.BarStyles.{key_text, tick_string, final_tick_string, wide_text, with_marks_as, lines_with, lines, columns_left, ends_in_mark};
+ghost use Rattle.indicatif_bar.specs.BarStyles.{key_text, tick_string, final_tick_string, wide_text, with_marks_as, lines_with, lines, columns_left, ends_in_mark, is_empty_style};
 ghost use Rattle.indicatif_bar.specs.Inside.Steps.{PutsSource, placeholder_layout, source_text, effect_text, wide_found};
 
 use crate::bar_style::ProgressStyle;
@@ -88,7 +88,7 @@ impl<K: Tracks> ProgressStyle<K> {
     }
 
     /// The spinner's text.
-    fn spinner_text(&self, state: &ProgressState) -> &str
+    pub(crate) fn spinner_text(&self, state: &ProgressState) -> &str
         ensures { result.now ≡ (if is_finished state.now then final_tick_string self.now.tick_strings
             else tick_string self.now.tick_strings state.now.ticks) }
     {
@@ -299,8 +299,27 @@ impl<K: Tracks> ProgressStyle<K> {
         Ok(())
     }
 
-    /// The lines, in room of `spare`.
+    /// The lines, in room of `spare`. Where the style shows nothing, there are none at once.
     pub(crate) fn lines_in(
+        &self,
+        spare: &mut SpareLines,
+        state: &ProgressState,
+        now: Moment,
+        width: u16,
+    ) -> Result<Vec<LineType>, Refusal>
+        ensures lines { IfOk result (λ v. map line_text v.items
+            ≡ lines K.means self.now state.now now width) }
+        ensures kind { IfOk result (λ v. IsTrue (list_all is_bar_line v.items)) }
+        ensures memory { IfErr result (λ e. (e ≡ Refusal.Memory) × IsFalse (is_empty_style self.now state.now)) }
+    {
+        if self.is_empty(state) {
+            return Ok(spare.lines());
+        }
+        self.laid_out(spare, state, now, width)
+    }
+
+    /// The lines, laid out step by step.
+    fn laid_out(
         &self,
         spare: &mut SpareLines,
         state: &ProgressState,

@@ -1,8 +1,9 @@
 //! What the parts of a template do, found out once.
-ghost use Rattle.std.specs.Prelude.{◌≡◌, [], List, Some, map, option_map, unwrap_or, IfOk, IfErr, bytes_eq, position, string_bytes};
+ghost use Rattle.std.specs.Prelude.{◌≡◌, ◌==◌, ◌&&◌, not, is_some, [], List, Some, map, option_map, unwrap_or, IfOk, IfErr, bytes_eq, position, string_bytes};
 ghost use Rattle.std.specs.List.{slice_get};
 ghost use Rattle.indicatif_text.specs.StyleWords.{numbers_of};
 ghost use Rattle.indicatif_text.specs.Template.{TemplatePart, part_of};
+ghost use Rattle.indicatif_bar.specs.BarStyles.{is_bare_layout};
 ghost use Rattle.indicatif_bar.specs.Inside.Steps.{wide_found, wide_source, placeholder_layout, names_of, literal_text, effect_of, effect_of_part, source_of};
 
 use crate::style::keys::{Key, key_named};
@@ -66,6 +67,20 @@ impl Placeholder {
         ensures { numbers_of result ≡ unwrap_or (placeholder_layout self.now).style [] }
     {
         self.style.unwrap_or(Style::new())
+    }
+
+    /// Whether nothing is written round an empty text.
+    pub(crate) fn is_bare(&self, colours: bool) -> bool
+        ensures { result ≡ is_bare_layout colours (placeholder_layout self.now) }
+    {
+        self.width.unwrap_or(0) == 0 && !(colours && self.style.is_some())
+    }
+
+    /// Whether a bar in its place has no columns, and its rest no colours.
+    pub(crate) fn is_bare_bar(&self, colours: bool) -> bool
+        ensures { result ≡ ((unwrap_or self.now.width 20 == 0) && not (colours && is_some (placeholder_layout self.now).alternative)) }
+    {
+        self.width.unwrap_or(20) == 0 && !(colours && self.alternative.is_some())
     }
 }
 

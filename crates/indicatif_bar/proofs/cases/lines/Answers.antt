@@ -9,7 +9,7 @@ use Rattle.indicatif_text.specs.Format.{round, human_count, human_float_count, f
 use Rattle.indicatif_text.specs.Range.{ansi_range}
 use Rattle.indicatif_text.specs.StyleWords.{style_of}
 use Rattle.indicatif_bar.specs.Layout.{padded, bar_text}
-use Rattle.indicatif_bar.specs.BarStyles.{lines}
+use Rattle.indicatif_bar.specs.BarStyles.{lines, is_empty_style}
 use Rattle.indicatif_bar.proofs.cases.lines.Goals as goal
 
 pub returns-clause-trackers : goal.returns-clause-trackers
@@ -43,6 +43,10 @@ returns-clause-rates c = (refl, refl)
 pub returns-clause-lines : goal.returns-clause-lines
 unfolding unicode_width visible chars padded bar_text lines ansi_range pieces_of_text style_of human_count human_float_count fixed_point bytes_text formatted_duration short_duration digits round
 returns-clause-lines c = (refl, refl, refl, refl, refl)
+
+pub returns-clause-empty : goal.returns-clause-empty
+unfolding unicode_width visible chars padded bar_text lines is_empty_style ansi_range pieces_of_text style_of digits round
+returns-clause-empty c = (refl, refl, refl, refl, refl, refl, refl, refl, refl)
 
 pub returns-clause-faults : goal.returns-clause-faults
 unfolding unicode_width unicode_segmentation visible chars

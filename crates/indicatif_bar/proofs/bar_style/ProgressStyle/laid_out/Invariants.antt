@@ -6,7 +6,7 @@ use Rattle.indicatif_text.specs.Template.{part_of}
 use Rattle.indicatif_term.specs.Frames.{line_text}
 use Rattle.indicatif_bar.specs.Inside.Steps.{effect_of, wide_found}
 use Rattle.indicatif_bar.proofs.LinesLemmas.{lines_from}
-use Rattle.indicatif_bar.proofs.bar_style.ProgressStyle.lines_in.Given as goal
+use Rattle.indicatif_bar.proofs.bar_style.ProgressStyle.laid_out.Given as goal
 
 abbrev pub invariant-loop-step : goal.invariant-loop-step
 invariant-loop-step g l = record {
