@@ -56,12 +56,7 @@ impl<R: time::Clock> MachineClock<R> {
 #[inline(always)]
 fn nanos_told<R: time::Clock>(machine: &R) -> Option<u64> {
     let told = machine.monotonic().ok()?;
-    let nanos = u64::from(told.subsec_nanos());
-    Some(
-        told.as_secs()
-            .saturating_mul(1_000_000_000)
-            .saturating_add(nanos),
-    )
+    Some(u64::try_from(told.as_nanos()).unwrap_or(u64::MAX))
 }
 
 /// It never goes back.
