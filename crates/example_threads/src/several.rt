@@ -9,7 +9,6 @@ use std::thread::{Threads, join};
 type Bar<R> = ProgressBar<InMemoryTerm, StepClock, R>;
 
 fn copy<R: Wait + Copy + Drop>(bar: &Bar<R>, parts: u32) -> Result<Drawn, Refusal> {
-    bar.set_length(u64::from(parts))?;
     for _ in bar.wrap_iter(0..parts)? {}
     bar.finish()
 }
@@ -18,9 +17,7 @@ pub fn main<R: AllocGlobal + Print + Threads + Wait + Sync + Copy + Drop>(rt: R)
     let clock = StepClock { next: 0, step: 1 };
     let target = ProgressDrawTarget::term_like(InMemoryTerm::new(rt.alloc(), 4, 20)?);
     let board = MultiProgress::new(rt, rt.alloc(), Setup { target, clock }, 1)?;
-    let a = board.add(ProgressBar::hidden(rt, rt.alloc(), clock)?)?;
-    let b = board.add(ProgressBar::hidden(rt, rt.alloc(), clock)?)?;
-    let c = board.add(ProgressBar::hidden(rt, rt.alloc(), clock)?)?;
+    let (a, b, c) = (board.new_bar(8)?, board.new_bar(250)?, board.new_bar(4000)?);
     let others = || join(&rt, || copy(&b, 250), || copy(&c, 4000));
     let (first, (second, third)) = join(&rt, || copy(&a, 8), others);
     first.and(second).and(third)?;

@@ -1,13 +1,11 @@
 //! Shows a spinner that a thread ticks, until five ticks are seen, or for 10,000 turns of a millisecond.
 use anyhow::{Result, anyhow};
+use indicatif::machine::Shares;
 use indicatif::{InMemoryTerm, ProgressBar, ProgressDrawTarget, ProgressStyle, Setup, StepClock};
-use std::sync::Wait;
-use std::thread::{Threads, sleep};
-use std::time::{Clock, Duration};
+use std::thread::sleep;
+use std::time::Duration;
 
-pub fn main<R: AllocGlobal + Print + Threads + Wait + Clock + Copy + Send + Drop + 'static>(
-    rt: R,
-) -> Result<()> {
+pub fn main<R: Shares + Print>(rt: R) -> Result<()> {
     let setup = Setup {
         target: ProgressDrawTarget::term_like(InMemoryTerm::new(rt.alloc(), 2, 20)?),
         clock: StepClock { next: 0, step: 1 },

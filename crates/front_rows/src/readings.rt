@@ -1,8 +1,10 @@
 //! What a bar tells of itself: `shows`, `message`, `prefix`, `pos`, `len`, `ticks`, `finished`, `hidden`, `tab_width`, `eta`, `duration`,
-//! `elapsed`; `changed_style`, the last text of a style that was made of the bar's; and `readings`, all that is only read.
+//! `elapsed`; `per_sec`, steps and the nanoseconds in which they came; `changed_style`, the last text of a style that was made of the
+//! bar's; and `readings`, all that is only read.
 use crate::bars::{Bar, push_bar};
 use indicatif::Refusal;
 use scripts::got::{Bad, Got};
+use scripts::lone::push_rate;
 use std::sync::Wait;
 
 /// Reads something of a bar; whether the text asks for that.
@@ -47,6 +49,7 @@ fn read_time<R: Wait + Copy + Clone + Drop>(bar: &Bar<R>, text: &str, got: &mut 
         "eta" => got.number(bar.eta()),
         "duration" => got.number(bar.duration()),
         "elapsed" => got.number(bar.elapsed()),
+        "per_sec" => push_rate(bar.per_sec(), got),
         _ => return false,
     }
     true

@@ -1,4 +1,4 @@
-//! What is handed on by pauses, what crosses threads, a terminal in a box, and a record's style.
+//! What is handed on by pauses, what crosses threads, a terminal in a box, a record's style, and what programmers are shown of a bar.
 use crate::fronts::{Bar, alone, bar_on, recorded, shows};
 use indicatif::{
     BarState, Drawn, InMemoryTerm, NoTracker, ProgressBar, ProgressDrawTarget, ProgressStyle,
@@ -84,5 +84,19 @@ fn a_style_of_a_record(rt: HostRuntime) -> Result<(), Fail> {
     let other = changed(rt.alloc(), bar.style())?;
     assert!(rt; other.get_final_tick_str() == "2");
     assert!(rt; bar.style().get_final_tick_str() == "ok");
+    Ok(())
+}
+
+/// What programmers are shown of a bar, as the crate shows it; of a wrapper its fields as well.
+#[test]
+fn debug_texts(rt: HostRuntime) -> Result<(), Fail> {
+    let board = recorded(rt, rt.alloc())?;
+    assert!(rt; format!(in rt.alloc(); "{:?}", *board)?.as_str() == "MultiProgress");
+    let bar = alone(rt, rt.alloc(), "{pos}")?;
+    assert!(rt; format!(in rt.alloc(); "{bar:?}")?.as_str() == "ProgressBar");
+    let wrapped = bar.wrap_read("ab".as_bytes())?;
+    let text = format!(in rt.alloc(); "{wrapped:?}")?;
+    let beginning = "ProgressBarIter { it: [97, 98], progress: ProgressBar, ";
+    assert!(rt; text.as_str().starts_with(beginning));
     Ok(())
 }

@@ -5,7 +5,9 @@
 //! - `shown`: a terminal that others see. `owners`: what the last owner of a bar leaves there. `watched`: boards there, while a closure
 //!   runs, and where the cursor only moves. `bars`: bars in threads, pauses and bounds.
 //! - `boards`: boards that threads share. `records`: a board with its history that nobody shares.
-//! - `shared`: clocks of different openings, boards that make their bars, and threads at one bar.
+//! - `shared`: clocks of different openings, boards that make their bars, and threads at one bar. `ways`: each way to make a bar.
+//! - `closures`: what is done under a lock. `given_up`: what threads of tickers give up, and calls that find no memory, over a runtime
+//!   that is counted (`lent`).
 //! - `machines`: what is asked of the machine. `made`: iterators that get a bar when they are wrapped.
 //! - `bridges`: lines of a log above a board's bars.
 //! - `carried`: tests of the crate `indicatif` that need code. `carried_tickers`: those of tickers. `carried_trackers`: those of trackers.
@@ -29,17 +31,23 @@ mod carried_tickers;
 #[cfg(test)]
 mod carried_trackers;
 #[cfg(test)]
+mod closures;
+#[cfg(test)]
 mod counted;
 #[cfg(test)]
 mod fronts;
 #[cfg(test)]
 mod gates;
 #[cfg(test)]
+mod given_up;
+#[cfg(test)]
 mod intervals;
 #[cfg(test)]
 mod kept;
 #[cfg(test)]
 mod keyed;
+#[cfg(test)]
+mod lent;
 #[cfg(test)]
 mod lists;
 #[cfg(test)]
@@ -66,3 +74,5 @@ mod stepped;
 mod ticking;
 #[cfg(test)]
 mod watched;
+#[cfg(test)]
+mod ways;

@@ -210,6 +210,35 @@ fn a_clock_of_a_machine(rt: HostRuntime) {
     assert!(rt; tells(&mut clock, moments.as_slice()));
 }
 
+/// A machine that runs for so many seconds.
+#[derive(Drop)]
+struct Aged {
+    secs: u64,
+}
+
+impl time::Clock for Aged {
+    fn monotonic(&self) -> io::Result<Duration> {
+        Ok(Duration::from_secs(self.secs))
+    }
+
+    fn since_1970(&self) -> io::Result<Duration> {
+        self.monotonic()
+    }
+}
+
+/// What the clock of a machine tells that runs for so many seconds.
+fn told_at(secs: u64) -> Moment {
+    MachineClock::new(Aged { secs }).now()
+}
+
+/// After 584 years the nanoseconds are more than 64 bits hold, and the clock stands at the greatest number.
+#[test]
+fn a_clock_of_an_old_machine(rt: HostRuntime) {
+    assert_eq!(rt; told_at(18_446_744_072), 18_446_744_072_000_000_000);
+    assert_eq!(rt; told_at(18_446_744_074), u64::MAX);
+    assert_eq!(rt; told_at(u64::MAX), u64::MAX);
+}
+
 /// Whether the clock goes on within so many readings.
 fn goes_on_within<R: time::Clock>(clock: &mut MachineClock<R>, readings: u32) -> bool {
     let opened = clock.now();

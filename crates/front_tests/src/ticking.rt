@@ -12,8 +12,8 @@ pub fn tick_off<T: TermLike + Drop, C: Clock + Drop, R: Wait + Clone + Drop>(
 }
 
 /// Whether the bar has ticked more often than so, by the last of 10,000 readings a millisecond apart.
-pub fn ticks_on<T: TermLike + Drop, C: Clock + Drop, R: Wait + time::Clock + Clone + Drop>(
-    rt: &R,
+pub fn ticks_on<T: TermLike + Drop, C: Clock + Drop, R: Wait + Clone + Drop, S: time::Clock>(
+    rt: &S,
     bar: &ProgressBar<T, C, R>,
     before: u64,
 ) -> bool {

@@ -52,16 +52,18 @@ impl<R: time::Clock> MachineClock<R> {
     }
 }
 
+/// A second in nanoseconds.
+const SECOND: u64 = 1_000_000_000;
+
 /// The nanoseconds of the machine's monotonic time, where it tells that; 2^64 - 1 after 584 years.
 #[inline(always)]
 fn nanos_told<R: time::Clock>(machine: &R) -> Option<u64> {
     let told = machine.monotonic().ok()?;
-    let nanos = u64::from(told.subsec_nanos());
-    Some(
-        told.as_secs()
-            .saturating_mul(1_000_000_000)
-            .saturating_add(nanos),
-    )
+    let secs = told.as_secs();
+    if secs >= u64::MAX / SECOND {
+        return Some(u64::MAX);
+    }
+    Some(secs * SECOND + u64::from(told.subsec_nanos()))
 }
 
 /// It never goes back.
@@ -71,10 +73,12 @@ impl<R: time::Clock> Clock for MachineClock<R> {
         ensures told { self.new ≡ result }
         ensures forward { self.old ≤ result }
     {
-        if let Some(now) = nanos_told(&self.machine) {
-            self.told = self.told.max(now);
-        }
-        self.told
+        let now = match nanos_told(&self.machine) {
+            Some(now) => self.told.max(now),
+            None => self.told,
+        };
+        self.told = now;
+        now
     }
 }
 

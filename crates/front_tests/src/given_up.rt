@@ -1,0 +1,87 @@
+//! What is given up: by threads of tickers that are told to end, and by calls that find no memory for another owner.
+use crate::lent::{Count, Lent, first};
+use crate::ticking::{tick_off, ticks_on};
+use indicatif::{InMemoryTerm, ProgressBar, ProgressDrawTarget, Refusal, Setup, StepClock};
+use std::alloc::Global;
+use std::sync::Wait;
+use std::test::Fail;
+use std::thread::Threads;
+use std::time::Duration;
+use std::{thread, time};
+
+type Bar<R> = ProgressBar<InMemoryTerm, StepClock, Lent<R>>;
+
+/// A bar with a runtime that is counted.
+fn bar_by<R: Wait + Copy + Drop>(lent: Lent<R>, alloc: Global) -> Result<Bar<R>, Refusal> {
+    let setup = Setup {
+        target: ProgressDrawTarget::term_like(InMemoryTerm::new(alloc, 4, 10)?),
+        clock: StepClock { next: 0, step: 1 },
+    };
+    ProgressBar::no_length(lent, alloc, setup)
+}
+
+// ---- threads of tickers
+
+/// An hour.
+const HOUR: u64 = 3_600_000_000_000;
+
+/// Tells a ticker of an hour on; whether it has ticked. Its thread waits then.
+fn waits_for_an_hour<R: Wait + Threads + time::Clock + Copy + Drop + Send + 'static>(
+    rt: &R,
+    bar: &Bar<R>,
+) -> Result<bool, Refusal> {
+    let before = bar.ticks();
+    bar.enable_steady_tick(HOUR)?;
+    Ok(ticks_on(rt, bar, before))
+}
+
+/// Whether so many runtimes are left, by the last of 10,000 looks a millisecond apart. The thread of a ticker has one.
+fn comes_to<R: time::Clock>(rt: &R, count: &Count, left: u64) -> bool {
+    for _ in 0..10_000u32 {
+        if count.living() == left {
+            return true;
+        }
+        thread::sleep(rt, Duration::from_millis(1));
+    }
+    false
+}
+
+/// The thread of a ticker of an hour gives its runtime up long before the hour is over: where the ticker is told off, where another
+/// takes its place, and where the bar's last owner is gone.
+#[test]
+fn threads_of_tickers_end(rt: HostRuntime) -> Result<(), Fail> {
+    let (lent, count) = first(rt, rt.alloc())?;
+    let bar = bar_by(lent, rt.alloc())?;
+    assert!(rt; waits_for_an_hour(&rt, &bar)?);
+    assert_eq!(rt; count.living(), 2);
+    tick_off(&bar)?;
+    assert!(rt; comes_to(&rt, &count, 1));
+    assert!(rt; waits_for_an_hour(&rt, &bar)?);
+    assert!(rt; waits_for_an_hour(&rt, &bar)?);
+    assert!(rt; comes_to(&rt, &count, 2));
+    drop(bar);
+    assert!(rt; comes_to(&rt, &count, 0));
+    Ok(())
+}
+
+// ---- another owner
+
+/// Where there is no memory for another owner, a weak bar says so, which isn't that no owner is left; so does a bar that is to be cloned.
+/// Nothing has changed then: the owner that is left is the last.
+#[test]
+fn no_memory_for_another_owner(rt: HostRuntime) -> Result<(), Fail> {
+    let (lent, count) = first(rt, rt.alloc())?;
+    let bar = bar_by(lent, rt.alloc())?;
+    let weak = bar.downgrade()?;
+    count.refuse(true);
+    assert!(rt; weak.upgrade().is_err());
+    assert!(rt; bar.clone().is_err());
+    assert!(rt; bar.downgrade().is_err());
+    count.refuse(false);
+    assert!(rt; weak.upgrade()?.is_some());
+    bar.release();
+    assert!(rt; weak.upgrade()?.is_none());
+    drop(weak);
+    assert_eq!(rt; count.living(), 0);
+    Ok(())
+}

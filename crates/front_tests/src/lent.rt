@@ -1,0 +1,82 @@
+//! A runtime of the tests' own, which passes everything on to the machine's. It counts how many of it there are, and refuses another
+//! one where it is told to.
+use indicatif::Refusal;
+use std::alloc::{AllocError, Global};
+use std::io;
+use std::sync::atomic::{AtomicU64, Ordering};
+use std::sync::{Arc, Wait};
+use std::thread::Threads;
+use std::time::{Clock, Duration};
+
+/// How many there are, and whether another is refused.
+#[derive(Drop)]
+pub struct Count {
+    living: AtomicU64,
+    refusing: AtomicU64,
+}
+
+impl Count {
+    /// How many there are.
+    pub fn living(&self) -> u64 {
+        self.living.load(Ordering::SeqCst)
+    }
+
+    /// From now on another one is refused, or none is.
+    pub fn refuse(&self, refusing: bool) {
+        self.refusing.store(u64::from(refusing), Ordering::SeqCst);
+    }
+}
+
+/// One of them.
+pub struct Lent<R: Drop> {
+    rt: R,
+    count: Arc<Count, Global>,
+}
+
+/// The first one, and its count.
+pub fn first<R: Drop>(rt: R, alloc: Global) -> Result<(Lent<R>, Arc<Count, Global>), Refusal> {
+    let count = Count {
+        living: AtomicU64::new(1),
+        refusing: AtomicU64::new(0),
+    };
+    let count = Arc::new(alloc, count)?;
+    let own = Arc::try_clone(&count)?;
+    Ok((Lent { rt, count: own }, count))
+}
+
+impl<R: Copy + Drop> Clone for Lent<R> {
+    fn clone(&self) -> Result<Lent<R>, AllocError> {
+        if self.count.refusing.load(Ordering::SeqCst) != 0 {
+            return Err(AllocError);
+        }
+        let count = Arc::try_clone(&self.count)?;
+        count.living.fetch_add(1, Ordering::SeqCst);
+        Ok(Lent { rt: self.rt, count })
+    }
+}
+
+impl<R: Drop> Drop for Lent<R> {
+    fn drop(self) {
+        let Lent { rt, count } = self;
+        drop(rt);
+        count.living.fetch_sub(1, Ordering::SeqCst);
+    }
+}
+
+impl<R: Wait + Drop> Wait for Lent<R> {}
+
+impl<R: Threads + Drop> Threads for Lent<R> {}
+
+impl<R: Clock + Drop> Clock for Lent<R> {
+    fn monotonic(&self) -> io::Result<Duration> {
+        self.rt.monotonic()
+    }
+
+    fn since_1970(&self) -> io::Result<Duration> {
+        self.rt.since_1970()
+    }
+
+    fn sleep(&self, duration: Duration) {
+        self.rt.sleep(duration)
+    }
+}
