@@ -426,7 +426,10 @@ impl<T: TermLike> TermLike for OwnRows<T> {
 }
 
 /// The terminal behind it gets the size, and nothing is written. From then on rows are cut at the new columns: tell it one column less
-/// than there are now, as at first. A cursor that waited behind a full row goes on waiting.
+/// than there are now, as at first.
+///
+/// What stands is then counted as rows that these columns cut. A terminal that cut it at others, or not at all, may have fewer: the
+/// next drawing takes back rows above then. `machine::sized_target` behind a clear counts what was drawn.
 ///
 /// ```
 /// own.resize(50, 131)?; // for a terminal that has 132 columns now
