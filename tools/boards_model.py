@@ -4,7 +4,9 @@ the commands, and prints them as rows that crates/rows plays, with the pictures 
 
 usage: tools/boards_model.py SEED COUNT > FILE   (then the program `rows` with that file's name)
 
-A script is one that meets no refusal: a line that the model refuses is left out.
+A script is one that meets no refusal: a line that the model refuses is left out. One that is even has sizes only where terminals that join
+rows agree with those that don't: other columns come only where no line has taken two rows so far, and fewer of them only where nothing was
+written.
 """
 import copy
 import random
@@ -73,8 +75,9 @@ class Bar:
 
 
 class Board:
-    def __init__(self, rows, columns, bottom):
+    def __init__(self, rows, columns, bottom, is_even=False):
         self.height, self.columns, self.bottom = rows, columns, bottom
+        self.is_even, self.is_written, self.is_wrapped = is_even, False, False
         self.above, self.kept, self.blanks, self.segments = [], [], 0, []
         self.reach, self.below = 1, True
         self.order, self.made = [], {}
@@ -105,6 +108,7 @@ class Board:
             rows = cut(self.columns, glyphs(line))
             if len(rows) > room:
                 break
+            self.note(rows)
             room -= len(rows)
             if shown and shown[-1][0] == bar.number:
                 shown[-1][1].extend(rows)
@@ -141,6 +145,7 @@ class Board:
         taken = len(self.kept) + len(self.live())
         self.take_back()
         rows = cut(self.columns, glyphs(text))
+        self.note(rows)
         self.above = self.above + rows
         self.show(taken, len(rows))
         self.rest()
@@ -163,9 +168,16 @@ class Board:
         else:
             bar.dropped = True
 
+    def note(self, rows):
+        """These rows are written, of one line."""
+        self.is_written = True
+        self.is_wrapped = self.is_wrapped or len(rows) > 1
+
     def resize(self, rows, columns):
         if (rows, columns) == (self.height, self.columns):
             return
+        if self.is_even and (columns < self.columns and self.is_written or columns != self.columns and self.is_wrapped):
+            raise Refused("uneven")
         self.above, self.kept = recut(columns, self.above), recut(columns, self.kept)
         self.segments = [(number, recut(columns, it)) for number, it in self.segments]
         self.height, self.columns = rows, columns
@@ -237,10 +249,10 @@ def command(chance, board):
     return word if word == "clear" else f"{word} {number}"
 
 
-def row(chance):
-    board = Board(chance.randint(1, 6), chance.choice([1, *range(2, 13), *range(2, 13)]), chance.random() < 0.4)
-    head = f"bars run {board.height} {board.columns}{' bottom' if board.bottom else ''}:"
-    lines = []
+def script(chance, is_even=False):
+    """A board as it begins, the lines of a script, and the board as it is then."""
+    first = Board(chance.randint(1, 6), chance.choice([1, *range(2, 13), *range(2, 13)]), chance.random() < 0.4, is_even)
+    board, lines = copy.deepcopy(first), []
     for _ in range(chance.randint(2, 24)):
         line, tried = command(chance, board), copy.deepcopy(board)
         try:
@@ -249,6 +261,12 @@ def row(chance):
             continue
         board = tried
         lines.append(line)
+    return first, lines, board
+
+
+def row(chance):
+    first, lines, board = script(chance)
+    head = f"bars run {first.height} {first.columns}{' bottom' if first.bottom else ''}:"
     spelled = "".join(line + "\\n" for line in lines).replace("\x1b", "\\e")
     return f"{head} {spelled} -> 0 {''.join(it + chr(92) + 'n' for it in board.picture())}".rstrip(" ")
 

@@ -3,10 +3,13 @@
 
 usage: tools/real_terminal.py [FILE ..]
        tools/real_terminal.py lists SEED COUNT
+       tools/real_terminal.py sizes SEED COUNT
   FILE   files of crates/rows/data, by their names; `real_terminals.txt` and those of bars and boards if none is named
   lists  so many random lists of calls: what the engine writes, what one writes whose cursor only moves, and what one writes that
          writes whole frames (program `whole_frames`) is played to three panes. All rows, with those that scrolled away and with
          colours, and the cursor have to be the same
+  sizes  so many random scripts of boards_model.py, with sizes at which tmux has no rows to join: what a board writes is played to a
+         pane that gets these sizes between the calls. All rows have to be the model's
 
 A row that tells what stands on the screen at last (`shows`, or `contents` of `cells`) is a case: the bytes that led there are
 written to a pane of its size, and what the pane shows is compared with what the row says, up to the last written row, without
@@ -18,9 +21,12 @@ The exit status is 1 if a case differs. It wants Debian's package tmux.
 """
 import os
 import re
+import random
 import subprocess
 import sys
 import tempfile
+
+import boards_model
 
 TOP = os.path.dirname(os.path.dirname(os.path.abspath(__file__)))
 CRATE = os.path.join(TOP, "crates", "rows")
@@ -165,6 +171,26 @@ class Tmux:
         words = self.opened(case.size, case.bytes, "case")
         return trimmed(self.run(*words, "capture-pane", "-p", "-t", "case", ";", "kill-session", "-t", "case").stdout)
 
+    def shown_through(self, parts):
+        """All rows of a pane that gets these sizes, and behind each the bytes beside it."""
+        path = os.path.join(self.folder, "sized")
+        os.path.exists(path + ".go") or os.mkfifo(path + ".go")
+        with open(path + ".sh", "w", encoding="utf-8") as file:
+            file.write("stty raw -echo\n")
+            for at, (_, bytes_) in enumerate(parts):
+                with open(f"{path}{at}", "wb") as part:
+                    part.write(bytes_)
+                file.write(f"cat '{path}{at}'\nprintf '\\033[6n'\nIFS= read -rd R answer\n")
+                file.write(f"{' '.join(self.command)} wait-for -S sized{at}\nread -r go < '{path}.go'\n")
+        (rows, columns), _ = parts[0]
+        self.run("new-session", "-d", "-s", "sized", "-x", columns, "-y", rows, f"bash '{path}.sh'", ";", "wait-for", "sized0")
+        for at, ((rows, columns), _) in list(enumerate(parts))[1:]:
+            self.run("resize-window", "-t", "sized", "-x", columns, "-y", rows)
+            with open(path + ".go", "w", encoding="utf-8") as go:
+                go.write("\n")
+            self.run("wait-for", f"sized{at}")
+        return trimmed(self.run("capture-pane", "-p", "-S", "-", "-t", "sized", ";", "kill-session", "-t", "sized").stdout)
+
     def all_shown(self, size, several):
         """What panes of this size show, each after its bytes: all rows, and the cursor."""
         words = []
@@ -210,9 +236,79 @@ def lists(seed, count):
     return differ
 
 
+# what a line of `bars run` is among the steps of a board
+STEPS = {"msg": "set_message", "hide": "finish_and_clear"}
+
+
+def step_of(line):
+    """The step of a board that a line of `bars run` is."""
+    word, _, rest = line.partition(" ")
+    if word in ("add", "log", "warn"):
+        text = ("WARN  " if word == "warn" else "") + rest
+        return ("add '" if word == "add" else "log ") + text.replace("\x1b", "\\e").replace(" ", "\\s")
+    if word in ("clear", "size"):
+        return line
+    number, _, text = rest.partition(" ")
+    spelled = text.replace("\x1b", "\\e").replace(" ", "\\s")
+    return f"{int(number) - 1}: {STEPS.get(word, word)} {spelled}".rstrip(" ")
+
+
+def parts_of(first, lines, told):
+    """What a board writes before its first size, and behind each, with the sizes."""
+    steps = [step_of(line) for line in lines]
+    counts = [int(word) for step, word in zip([s for s in looked(steps) if not s.startswith("size ")], told) if step == "bytes"]
+    written = unescaped(told[-1])
+    ends = counts + [len(written)]
+    sizes = [(str(first.height), str(first.columns))] + [tuple(step.split(" ")[1:]) for step in steps if step.startswith("size ")]
+    return [(size, written[start:end]) for size, start, end in zip(sizes, [0] + counts, ends)]
+
+
+def looked(steps):
+    """The steps, with a look at how many bytes were written before each size, and at all bytes behind them."""
+    return [step for line in steps for step in (["bytes", line] if line.startswith("size ") else [line])] + ["written"]
+
+
+def sized_scripts(seed, count):
+    """So many random scripts with a size: how each begins, its parts, and the picture at its end."""
+    program, chance, scripts = built("rows"), random.Random(int(seed)), []
+    while len(scripts) < int(count):
+        first, lines, board = boards_model.script(chance, is_even=True)
+        if any(line.startswith("size ") for line in lines):
+            scripts.append((first, lines, board))
+    with tempfile.TemporaryDirectory() as folder:
+        with open(os.path.join(folder, "asked"), "w", encoding="utf-8") as file:
+            for first, lines, _ in scripts:
+                head = f"board {first.height} {first.columns} 0{' bottom' if first.bottom else ''}"
+                file.write("; ".join([head, *looked([step_of(line) for line in lines])]) + " -> ?\n")
+        told = subprocess.run([program, "asked"], cwd=folder, capture_output=True, text=True).stdout
+    got = dict(re.findall(r"^asked, line (\d+): .*\n  wanted \?\n  got (.*)$", told, re.M))
+    for at, (first, lines, board) in enumerate(scripts, 1):
+        yield first, lines, parts_of(first, lines, got[str(at)].split("; ")), "\n".join(board.picture())
+
+
+def sizes(seed, count):
+    """Whether panes that get other sizes have the model's rows at the end."""
+    differ = total = 0
+    with tempfile.TemporaryDirectory() as folder:
+        tmux = Tmux(folder)
+        try:
+            for first, lines, parts, wanted in sized_scripts(seed, count):
+                total += 1
+                got = tmux.shown_through(parts)
+                if got != trimmed(wanted):
+                    differ += 1
+                    print(f"{first.height} rows, {first.columns} columns: {lines}\n-- the model\n{wanted}\n-- tmux\n{got}")
+        finally:
+            tmux.run("kill-server")
+    print(f"{total - differ} scripts agree, {differ} differ")
+    return differ
+
+
 def main():
     if sys.argv[1:2] == ["lists"]:
         sys.exit(1 if lists(*sys.argv[2:4]) else 0)
+    if sys.argv[1:2] == ["sizes"]:
+        sys.exit(1 if sizes(*sys.argv[2:4]) else 0)
     cases = with_bytes([case for name in sys.argv[1:] or FILES for case in cases_of(name)])
     differ = 0
     with tempfile.TemporaryDirectory() as folder:

@@ -1,12 +1,12 @@
 //! What is asked of the machine.
 use anyhow::Result;
 use indicatif::machine::{
-    MachineClock, Shares, StderrBar, StreamSetup, StreamTerm, TerminalSetup, facts_of, on_stderr,
-    style_on_stderr, told_setup, wants_colors,
+    MachineClock, Shares, StderrBar, StderrBoard, StreamSetup, StreamTerm, TerminalSetup,
+    facts_of, on_stderr, sized_target, style_on_stderr, told_setup, wants_colors,
 };
 use indicatif::{
     BarState, Clock, Drawn, Facts, LoneBar, Moment, NoTracker, OwnRows, ProgressBar,
-    ProgressDrawTarget, ProgressIterator, ProgressStyle, Refusal, Term, TermLike,
+    ProgressDrawTarget, ProgressIterator, ProgressStyle, Refusal, Resize, Term, TermLike,
 };
 use std::io::{self, Stderr, Stdout};
 use std::thread::sleep;
@@ -21,6 +21,7 @@ pub fn main(rt: HostRuntime) -> Result<()> {
         is_own_hidden(Vec::new(rt.alloc()), unnamed(), 0)?
     )?;
     println!(rt; "left_to_terminal {}", left_rows(Vec::new(rt.alloc()))?)?;
+    println!(rt; "resize {}", told_anew(Vec::new(rt.alloc()))?)?;
     println!(rt; "wants_colors {}", coloured(rt)?)?;
     println!(rt; "style_on_stderr {}", styled(rt)?)?;
     println!(rt; "TerminalSetup {}", set_up(rt)?)?;
@@ -119,6 +120,20 @@ fn is_own_hidden(writer: Vec<u8>, facts: Facts, now: Moment) -> Result<bool, Ref
     let term = OwnRows::new(Term::new(writer, 24, 79));
     let target = ProgressDrawTarget::term(term, facts, 20, now)?;
     Ok(target.is_hidden())
+}
+
+/// The columns of a terminal that is told another size.
+fn told_anew(writer: Vec<u8>) -> Result<u16, Refusal> {
+    let mut own = OwnRows::new(Term::new(writer, 24, 79));
+    own.resize(50, 131)?; // for a terminal that has 132 columns now
+    Ok(own.width())
+}
+
+/// Whether a board on standard error is hidden that goes on there at another size.
+pub fn goes_on_at<R: Shares>(rt: HostRuntime, board: &StderrBoard<R>) -> Result<bool, Refusal> {
+    board.clear()?; // its rows are taken back
+    board.set_draw_target(sized_target(&rt, rt.stderr(), 50, 132)?)?; // and stand on 132 columns from the next draw on
+    Ok(board.is_hidden())
 }
 
 /// How many bytes a line takes where the terminal ends full rows.

@@ -14,8 +14,8 @@ mod several;
 mod wrappers;
 
 use anyhow::Result;
-use indicatif::ProgressBar;
 use indicatif::machine::on_stderr;
+use indicatif::{MultiProgress, ProgressBar};
 
 fn main(rt: HostRuntime) -> Result<()> {
     bars::main(rt)?;
@@ -28,5 +28,7 @@ fn main(rt: HostRuntime) -> Result<()> {
     println!(rt; "StderrBar {}", machine::copy(&bar).is_ok())?;
     machine::work(&rt, &bar, 2)?;
     println!(rt; "Shares {}", bar.position())?;
+    let board = MultiProgress::new(rt, rt.alloc(), on_stderr(&rt)?, 1)?;
+    println!(rt; "sized_target {}", machine::goes_on_at(rt, &board)?)?;
     places::main(rt)
 }

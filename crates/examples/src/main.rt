@@ -2,7 +2,8 @@
 //!
 //! - `first`: a first program. `wrapped`: a loop with a bar of its own. `download`: bytes, rate and time left.
 //! - `fine`: a bar of fine characters. `log`: lines above a bar. `refusal`: a call that is refused.
-//! - `formatters`: numbers as texts. `template`: the parts of a template. `terminal`: a bar on standard error.
+//! - `formatters`: numbers as texts. `template`: the parts of a template. `terminal`: a bar on standard error. `sizes`: new sizes of a
+//!   terminal, passed on.
 //! - `key`: a key of one's own in a template, on standard error. `still`: ten bars there, of which one goes on.
 //! - `reader`: standard input through a reader with a bar.
 //! - `guide`: the programs of the guide at the head of crate `indicatif`. `guide_key`: the one with a key of one's own.
@@ -18,6 +19,7 @@ mod key;
 mod log;
 mod reader;
 mod refusal;
+mod sizes;
 mod still;
 mod template;
 mod terminal;
@@ -66,6 +68,7 @@ fn run_others(rt: &HostRuntime) -> Result<()> {
         "formatters",
         "template",
         "terminal",
+        "sizes",
     ] {
         print_name(rt, name)?;
         run(rt, name)?;
@@ -84,6 +87,7 @@ fn run(rt: &HostRuntime, name: &str) -> Result<()> {
         "formatters" => formatters::main(rt),
         "template" => template::main(rt),
         "terminal" => terminal::main(rt),
+        "sizes" => sizes::main(rt),
         _ => Ok(()),
     }
 }

@@ -1,11 +1,12 @@
 //! What an environment says of a terminal: `environment VARIABLE=TEXT ..` gives rows, columns, whether the stream is a terminal, and the
 //! kind, in quotes, or `none`; `colours VARIABLE=TEXT ..` whether colours are wanted; `stream VARIABLE=TEXT ..` rows and columns of what
-//! bars are made with there, and who ends a full row, the `program` or the `terminal`, or `hidden`. A stream that is no terminal has
-//! `not` in front.
-use indicatif::machine::{StreamTerm, facts_of, on_stream, wants_colors};
-use indicatif::{Facts, TermLike};
+//! bars are made with there, and who ends a full row, the `program` or the `terminal`, or `hidden`; `sized ROWS COLS VARIABLE=TEXT ..` the
+//! same of a target of this size there. A stream that is no terminal has `not` in front of its variables.
+use indicatif::machine::{StreamTerm, facts_of, on_stream, sized_target, wants_colors};
+use indicatif::{Facts, ProgressDrawTarget, TermLike};
 use scripts::got::{Bad, Got};
-use scripts::spelling::unescaped_bytes;
+use scripts::row::next;
+use scripts::spelling::{number, unescaped_bytes};
 use std::alloc::Global;
 use std::env::{Env, FillError};
 use std::io::{self, ErrorKind, IsTerminal, Write};
@@ -124,11 +125,27 @@ pub fn wants(alloc: Global, rest: &str, got: &mut Got) -> Result<(), Bad> {
 pub fn opens(alloc: Global, rest: &str, got: &mut Got) -> Result<(), Bad> {
     let told = Told { words: rest, alloc };
     let setup = on_stream(&(told, alloc), Stream::of(alloc, rest))?;
-    match setup.target.into_term() {
+    push_target(setup.target, got);
+    Ok(())
+}
+
+/// Appends what a target is on a stream that is told its size.
+pub fn sizes(alloc: Global, rest: &str, got: &mut Got) -> Result<(), Bad> {
+    let mut words = rest;
+    let rows = number(next(&mut words))?;
+    let cols = number(next(&mut words))?;
+    let told = Told { words, alloc };
+    let stream = Stream::of(alloc, words);
+    push_target(sized_target(&(told, alloc), stream, rows, cols)?, got);
+    Ok(())
+}
+
+/// Appends a target's size, and who ends full rows there.
+fn push_target(target: ProgressDrawTarget<StreamTerm<Stream>>, got: &mut Got) {
+    match target.into_term() {
         Some(term) => push_term(term, got),
         None => got.text("hidden"),
     }
-    Ok(())
 }
 
 /// Appends a terminal's size, and who ends its full rows.

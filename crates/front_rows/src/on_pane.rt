@@ -3,6 +3,8 @@
 //! `told ROWS COLS on ROWS COLS` begins with a board that is told the first size, on a pane of the second one; `trusted ROWS COLS on ROWS
 //! COLS` with one whose rows are left to the terminal. Then
 //!
+//! - `size ROWS COLS`: the board is told another size. `pane ROWS COLS`: the pane gets another one. `target ROWS COLS`: the board goes on
+//!   there on a target of this size, whose rows are left to the terminal.
 //! - `others TEXT`: what another program writes. `fails N`: the write of this number fails, counted from now on.
 //! - `rows`: what stands there, up to the last row that isn't empty. `wraps`: whether the wrap is on.
 //! - Any other step is a call of the board or of a bar.
@@ -11,6 +13,7 @@ use indicatif::{Board, NoTracker, OwnRows, ProgressDrawTarget, Term};
 use scripts::boards::{MARK, board_call, push_answer};
 use scripts::got::{Bad, Got};
 use scripts::row::{At, headed, next};
+use scripts::screen::size;
 use scripts::spelling::{number, unescaped};
 use std::alloc::Global;
 use std::rc::Rc;
@@ -41,8 +44,7 @@ impl OnPane {
         } else {
             OwnRows::new(term)
         };
-        let target = ProgressDrawTarget::term_like(term);
-        let board = at.boxed(Board::new(alloc, target, MARK))?;
+        let board = board_on(at, term)?;
         at.boxed(OnPane { at, board, pane })
     }
 
@@ -53,11 +55,32 @@ impl OnPane {
                 let shown = self.pane.show(unescaped(self.at.alloc, text)?.as_str());
                 shown.map_err(|_| Bad::Step)?;
             }
+            ("size", words) => self.resize(words)?,
+            ("target", words) => self.go_on(words)?,
+            ("pane", words) => {
+                let (rows, columns) = size(words)?;
+                self.pane.resize(rows, columns)?;
+            }
             ("fails", writes) => self.pane.fail(number(writes)?),
             ("wraps", "") => got.flag(self.pane.wraps()),
             ("rows", "") => got.rows(filled(&self.pane.picture()?)),
             _ => self.call(step, got)?,
         }
+        Ok(())
+    }
+
+    /// Tells the board another size.
+    fn resize(&mut self, words: &str) -> Result<(), Bad> {
+        let (rows, columns) = size(words)?;
+        Ok(self.board.resize(rows, columns)?)
+    }
+
+    /// Gives the board a target of this size.
+    fn go_on(&mut self, words: &str) -> Result<(), Bad> {
+        let (rows, columns) = size(words)?;
+        let term = Term::new(Wire(self.pane.clone()?), rows, columns);
+        let target = ProgressDrawTarget::term_like(OwnRows::left_to_terminal(term));
+        drop(self.board.set_draw_target(target));
         Ok(())
     }
 
@@ -70,6 +93,12 @@ impl OnPane {
         }
         Ok(())
     }
+}
+
+/// A board without bars on this terminal.
+fn board_on(at: At, term: OwnRows<Term<Wire>>) -> Result<Box<Shown>, Bad> {
+    let target = ProgressDrawTarget::term_like(term);
+    at.boxed(Board::new(at.alloc, target, MARK))
 }
 
 /// The rows up to the last one that isn't empty.

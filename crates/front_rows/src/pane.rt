@@ -13,7 +13,7 @@ use std::str;
 #[derive(Drop)]
 pub struct Pane {
     cells: RefCell<Cells>,
-    columns: u16,
+    columns: Cell<u16>,
     wraps: Cell<bool>,
     /// How many writes from now on the one is that fails; none where it is 0.
     fails: Cell<u64>,
@@ -24,11 +24,21 @@ impl Pane {
     pub fn new(alloc: Global, rows: u16, columns: u16) -> Result<Rc<Pane>, Refusal> {
         let pane = Pane {
             cells: RefCell::new(Cells::new(alloc, rows, columns)?),
-            columns,
+            columns: Cell::new(columns),
             wraps: Cell::new(true),
             fails: Cell::new(0),
         };
         Ok(Rc::new(alloc, pane)?)
+    }
+
+    /// Gets another size.
+    pub fn resize(&self, rows: u16, columns: u16) -> Result<(), Refusal> {
+        let Ok(mut cells) = self.cells.try_borrow_mut() else {
+            return Err(Refusal::Memory);
+        };
+        cells.resize(rows, columns)?;
+        self.columns.set(columns);
+        Ok(())
     }
 
     /// The rows, also those scrolled away.
@@ -112,7 +122,7 @@ impl Pane {
             return self.feed(c);
         }
         self.stay_within()?;
-        let left = usize::from(self.columns.saturating_sub(self.column()));
+        let left = usize::from(self.columns.get().saturating_sub(self.column()));
         if width(c) > left {
             return Ok(());
         }
@@ -122,7 +132,7 @@ impl Pane {
 
     /// Brings the cursor back from behind a full row.
     fn stay_within(&self) -> io::Result<()> {
-        if self.column() < self.columns {
+        if self.column() < self.columns.get() {
             return Ok(());
         }
         self.feed_bytes(b"\x1b[1D")

@@ -91,6 +91,7 @@ impl<
             "environment" => return environment::said(self.alloc, rest, got),
             "colours" => return environment::wants(self.alloc, rest, got),
             "stream" => return environment::opens(self.alloc, rest, got),
+            "sized" => return environment::sizes(self.alloc, rest, got),
             _ => (),
         }
         match self.begun(name, rest)? {

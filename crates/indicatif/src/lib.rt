@@ -11,8 +11,8 @@
 //! - Looks: `ProgressStyle` from a template, `style::ProgressTracker` for keys of your own, `ProgressFinish` for a bar's end.
 //! - Wrappers: `ProgressBar::wrap_iter`, `wrap_read`, `wrap_write` and their polled kin move a bar. `ProgressIterator` makes the bar too,
 //!   `ParallelProgressIterator` for slices, and `run_workers` for pieces in threads. A bar of your own has to offer `Moves`.
-//! - Targets: `machine::on_stderr` and `machine::on_stdout`; `ProgressDrawTarget` over a `Term` behind any writer, over an `InMemoryTerm` in tests,
-//!   or over your own `TermLike`.
+//! - Targets: `machine::on_stderr` and `machine::on_stdout`, `machine::sized_target` where another size is told; `ProgressDrawTarget` over a
+//!   `Term` behind any writer, over an `InMemoryTerm` in tests, or over your own `TermLike`.
 //! - Numbers as texts: `HumanBytes`, `DecimalBytes`, `BinaryBytes`, `HumanDuration`, `FormattedDuration`, `HumanCount`, `HumanFloatCount`.
 //! - Logs: `bridge::LogBridge`, a sink of the crate `log` that writes above the bars.
 //! - `laws`: what follows from the definitions, each as a function whose contract is the law.

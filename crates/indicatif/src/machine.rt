@@ -1,6 +1,6 @@
 //! What bars ask of the machine: the time, and whether and how wide a terminal stands behind a stream. Nothing else in this
 //! library asks it anything, so a program that finds these itself needs nothing of this module.
-ghost use Rattle.std.specs.Prelude.{◌≡◌, ◌⊎◌, ◌≤◌, ◌<◌, ℕ, Bool, Option, chars, IfOk, IfErr, IfSome};
+ghost use Rattle.std.specs.Prelude.{◌≡◌, ◌⊎◌, ◌↔◌, ◌≤◌, ◌<◌, ℕ, Bool, Option, chars, IfOk, IfErr, IfSome};
 ghost use Rattle.indicatif_text.specs.declared.template.TemplateError.{TemplateError};
 ghost use Rattle.indicatif_text.specs.Template.{Parses, IsRefused, refusal_of};
 ghost use Rattle.indicatif_bar.specs.Builders.{first_style};
@@ -296,14 +296,60 @@ pub fn on_stream<R: Env + AllocGlobal + time::Clock + Copy, W: Write + IsTermina
     ensures target { IfOk result (λ setup. (told : Option ℕ) × (facts : Facts) × IsOnStream setup.target told facts) }
     ensures memory { IfErr result (λ e. e ≡ Refusal.Memory) }
 {
-    let mut facts = facts_of(rt, &stream)?;
+    let facts = facts_of(rt, &stream)?;
     let told = number_said(rt, "COLUMNS")?;
-    facts.cols = columns_by(told);
-    let term = Term::new(buffered(rt, stream)?, facts.rows, facts.cols);
-    let term = rows_by(told, term);
     let mut clock = MachineClock::new(*rt);
-    let target = ProgressDrawTarget::term(term, facts, HZ, clock.now())?;
+    let target = target_on(rt, stream, (told, facts), clock.now())?;
     Ok(Setup { target, clock })
+}
+
+/// A target on a stream of which it is told now that its terminal has this size. So a program that hears of another size passes it on to
+/// a shared bar or board: nothing here asks the terminal, and `LINES` and `COLUMNS` say what they said when the program began.
+///
+/// The size is believed: bars have all `cols` columns. The target is hidden where that of `on_stream` is, and is drawn as often. Bars
+/// begin there with their next draw, and that has to be at the front of an empty row. So take their rows back before, or end the line.
+///
+/// ```
+/// board.clear()?; // its rows are taken back
+/// board.set_draw_target(sized_target(&rt, rt.stderr(), 50, 132)?)?; // and stand on 132 columns from the next draw on
+/// ```
+///
+/// Refused: `ZeroSize` where `rows` or `cols` is 0; `Memory`. The stream is given up.
+pub fn sized_target<R: Env + AllocGlobal + time::Clock + Copy, W: Write + IsTerminal + Drop>(
+    rt: &R,
+    stream: W,
+    rows: u16,
+    cols: u16,
+) -> Result<ProgressDrawTarget<StreamTerm<W>>, Refusal>
+    ensures target { IfOk result (λ target. (facts : Facts) × (facts.rows ≡ rows) × IsOnStream target (Some cols) facts) }
+    ensures zero_size { (result ≡ Err Refusal.ZeroSize) ↔ ((rows ≡ 0) ⊎ (cols ≡ 0)) }
+    ensures no_other { IfErr result (λ e. (e ≡ Refusal.ZeroSize) ⊎ (e ≡ Refusal.Memory)) }
+{
+    if rows == 0 || cols == 0 {
+        return Err(Refusal::ZeroSize);
+    }
+    let facts = Facts {
+        rows,
+        ..facts_of(rt, &stream)?
+    };
+    let mut clock = MachineClock::new(*rt);
+    target_on(rt, stream, (Some(cols), facts), clock.now())
+}
+
+/// A target on a stream of which this is told, but for its columns, which are told apart, if they are.
+fn target_on<R: AllocGlobal, W: Write + Drop>(
+    rt: &R,
+    stream: W,
+    (told, facts): (Option<u16>, Facts),
+    now: Moment,
+) -> Result<ProgressDrawTarget<StreamTerm<W>>, Refusal>
+    ensures target { IfOk result (λ target. IsOnStream target told (record facts { cols = columns_by told })) }
+    ensures memory { IfErr result (λ e. e ≡ Refusal.Memory) }
+{
+    let cols = columns_by(told);
+    let term = Term::new(buffered(rt, stream)?, facts.rows, cols);
+    let facts = Facts { cols, ..facts };
+    ProgressDrawTarget::term(rows_by(told, term), facts, HZ, now)
 }
 
 /// What a bar is made with behind any writer, on a terminal of which this is told.

@@ -1,10 +1,11 @@
 //! Rows that the program cuts and ends by itself: a terminal of which nobody knows how wide it is.
-ghost use Rattle.std.specs.Prelude.{◌≡◌};
+ghost use Rattle.std.specs.Prelude.{◌≡◌, ◌⊎◌, ◌↔◌, IfErr, OnOk, OnErr};
 ghost use Rattle.indicatif_term.specs.Calls.{TermView};
+ghost use Rattle.indicatif_term.specs.Resizes.{Resized};
 ghost use Rattle.indicatif.specs.OwnRows.{quiet, Quietly, new_rows};
 
-use indicatif_term::term_like::TermLike;
-use indicatif_text::columns::{Piece, columns, pieces, width};
+use indicatif_term::term_like::{Resize, TermLike};
+use indicatif_text::columns::{Piece, Refusal, columns, pieces, width};
 use std::io;
 
 /// A terminal of which nobody knows how wide it is: no drawing on it erases a row that isn't the bars' own, whatever was told.
@@ -421,5 +422,32 @@ impl<T: TermLike> TermLike for OwnRows<T> {
     fn flush(&mut self) -> io::Result<()> {
         self.end()?;
         self.hand_on()
+    }
+}
+
+/// The terminal behind it gets the size, and nothing is written. From then on rows are cut at the new columns: tell it one column less
+/// than there are now, as at first.
+///
+/// What stands is then counted as rows that these columns cut. A terminal that cut it at others, or not at all, may have fewer: the
+/// next drawing takes back rows above then. `machine::sized_target` behind a clear counts what was drawn.
+///
+/// ```
+/// own.resize(50, 131)?; // for a terminal that has 132 columns now
+/// ```
+impl<T: Resize> Resize for OwnRows<T> {
+    fn resize(&mut self, rows: u16, cols: u16) -> Result<(), Refusal> {
+        let before = self.term.width() as usize;
+        self.term.resize(rows, cols)?;
+        self.column = column_then(self.column, before, cols as usize);
+        Ok(())
+    }
+}
+
+/// The cursor's column at another width: it stays, but for one that waits behind a full row, or that isn't there any more.
+fn column_then(column: usize, before: usize, now: usize) -> usize {
+    if 0 < column && before <= column {
+        now
+    } else {
+        column.min(now)
     }
 }

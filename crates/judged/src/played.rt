@@ -45,11 +45,12 @@ fn is_failing<S: Stage>(
     let order = copied(judge.alloc(), stage.order())?;
     let said = stage.make(step);
     let has_failed = record.mark().failures != before.failures;
-    judge.reads(&record.since(judge.alloc(), before)?, has_failed)?;
+    let bytes = record.since(judge.alloc(), before)?;
+    judge.reads(&bytes, has_failed)?;
     if has_failed {
         failed(said, &order, stage.order())?;
     } else {
-        succeeded(said, step, judge)?;
+        succeeded(said, (step, &bytes), judge)?;
     }
     Ok(has_failed)
 }
@@ -69,12 +70,30 @@ fn failed(said: Said, before: &[u64], after: &[u64]) -> Result<(), Finding> {
     }
 }
 
-fn succeeded(said: Said, step: Step, judge: &mut Judge) -> Result<(), Finding> {
+fn succeeded(
+    said: Said,
+    (step, bytes): (Step, &[u8]),
+    judge: &mut Judge,
+) -> Result<(), Finding> {
     if said != step.wanted() {
         return Err(Finding::Answer);
     }
+    resized(said, (step, bytes), judge)?;
     match step.logged() {
         Some(text) => judge.logged(text),
         None => Ok(()),
+    }
+}
+
+/// A size is written nowhere, and the terminal has it from then on, if it isn't refused.
+pub fn resized(
+    said: Said,
+    (step, bytes): (Step, &[u8]),
+    judge: &mut Judge,
+) -> Result<(), Finding> {
+    match (step.resized(), said) {
+        (Some(_), _) if !bytes.is_empty() => Err(Finding::Written),
+        (Some(size), Ok(_)) => judge.resizes(size),
+        _ => Ok(()),
     }
 }
