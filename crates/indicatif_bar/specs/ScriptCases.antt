@@ -11,7 +11,7 @@ use Rattle.indicatif_bar.specs.Commands.{BarRecord, Command, Tick, SetMessage}
 use Rattle.indicatif_bar.specs.LoneBars.{lone_bar, lone_sizing}
 use Rattle.indicatif_bar.specs.Machines.{Target}
 use Rattle.indicatif_bar.specs.Lone.{LoneState, LoneCall, Obey, Log, opening_state}
-use Rattle.indicatif_bar.specs.Scripts.{Part, Called, Size, played}
+use Rattle.indicatif_bar.specs.Scripts.{Part, Called, Size, rows_cut, played}
 use Rattle.indicatif_bar.specs.Cases.{terminal_of_size, nowhere, untracked, bar_saying, rows_of_lines}
 
 -- a call with its answer
@@ -23,7 +23,8 @@ abbrev pub asked : LoneCall (Command (Unit {0})) → Part (LoneCall (Command (Un
 asked call = Called ((call, 0) ∷ []) []
 
 -- what a script of a bar with this message is answered, and its state then
-abbrev pub scripted : Target → List ℕ → List (Part (LoneCall (Command (Unit {0}))) (Result Drawn Refusal)) → List (Part (LoneCall (Command (Unit {0}))) (Result Drawn Refusal)) × LoneState (BarRecord (Unit {0}))
+abbrev pub scripted : Target → List ℕ → List (Part (LoneCall (Command (Unit {0}))) (Result Drawn Refusal)) →
+    List (Part (LoneCall (Command (Unit {0}))) (Result Drawn Refusal)) × LoneState (BarRecord (Unit {0}))
 scripted target message parts = played (lone_bar untracked) (lone_sizing untracked) target parts (opening_state (bar_saying message) None)
 
 -- 4 rows, 10 columns: 13 columns on two rows become three rows on 5 columns, and the next draw has as many; on 20 columns they stay
@@ -54,12 +55,13 @@ ScrolledAway =
     × (all_rows 5 drawn.1.lists ≡ rows_of_lines 5 (codes "progr" ∷ []))
     × (all_rows 5 short.1.lists ≡ rows_of_lines 5 (codes "progr" ∷ codes "ok" ∷ []))
 
--- rows above are cut, and stay so on more columns
+-- rows above are cut, and stay so on more columns; sizes alone cut a row so
 abbrev pub LogsCut : Type 0
 LogsCut =
     let on = scripted (terminal_of_size 4 10) (codes "x") in
     let wide = on (asked (Log (codes "abcdef")) ∷ Size 4 4 ∷ Size 9 4 ∷ asked (Obey Tick) ∷ []) in
     (wide.1.lists.above ≡ rows_of_lines 9 (codes "abcd" ∷ codes "ef" ∷ [])) × (all_rows 9 wide.1.lists ≡ rows_of_lines 9 (codes "abcd" ∷ codes "ef" ∷ codes "x" ∷ []))
+    × (rows_cut (Size 4 4 ∷ answered (Obey Tick) (Ok Yes) ∷ Size 4 4 ∷ Size 9 4 ∷ []) 10 4 (rows_of_lines 10 (codes "abcdef" ∷ [])) ≡ rows_of_lines 9 (codes "abcd" ∷ codes "ef" ∷ []))
 
 -- a hidden target gets no size
 abbrev pub HiddenSize : Type 0
