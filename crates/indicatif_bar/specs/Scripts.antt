@@ -8,7 +8,7 @@ use Rattle.indicatif_term.specs.Calls.{TermView, is_told}
 use Rattle.indicatif_term.specs.Lists.{Lists, forgotten_lists, all_rows}
 use Rattle.indicatif_term.specs.Limiters.{Limiter, draw_limiter}
 use Rattle.indicatif_term.specs.Shows.{Rests, Placed}
-use Rattle.indicatif_term.specs.Resizes.{resized, resized_terminal, resized_lists, recut_all, Resized}
+use Rattle.indicatif_term.specs.Resizes.{resized, resized_terminal, resized_lists, recut_all, has_size, Resized}
 use Rattle.indicatif_term.specs.Events.{Event, Given, Sized, terminal_after, told_after, rows_then, RowsLastThrough}
 use Rattle.indicatif_bar.specs.Machines.{Target, target_of, Machine, outcomes}
 use Rattle.indicatif_bar.specs.Runs.{Runs, AllPlain, broke, IsLedOn, RowsLast, ReadsAs, Starts, is_undisturbed}
@@ -27,6 +27,10 @@ sized_lists w h target l = if target.hidden then l else resized_lists target.col
 -- what became of a target of which this is known
 abbrev pub SizedOn : ℕ → ℕ → Option TermView → Option TermView → Type 0
 SizedOn w h old new = MatchOption old (new ≡ None) (λ v. (v' : TermView) × (new ≡ Some v') × Resized w h v v')
+
+-- this is another size than that of a target of which this is known; a hidden one has none that could change
+abbrev pub IsAnotherSize : ℕ → ℕ → Option TermView → Type 0
+IsAnotherSize w h old = MatchOption old ⊥ (λ v. IsFalse (has_size w h v))
 
 -- a state of a machine with other lists in the place of its own
 pub record Sizing {State Call Answer : Type 0} (m : Machine State Call Answer) : Type 0 where
