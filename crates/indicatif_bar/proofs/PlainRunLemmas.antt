@@ -38,13 +38,12 @@ module _ {S C A : Type 0} (m : Machine S C A) (P : S → Type 0) (Q : C → Type
     (plain : (target : Target) (call : C) (now : ℕ) (s : S) → Q call → P s → IsTrue (are_plain (lines_by (m.deed target call now s)))) where
   -- a run of plain calls from a plain state
   pub runs_plain : (calls : List (C × ℕ)) (answers : List A) (old : Option TermView) (s : S) (new : Option TermView) (next : S) (run : Runs m calls answers old s new next) →
-      P s → AllByRecursion (λ call. Q call.0) calls → AllPlain m calls answers old s new next run
-  runs_plain [] [] old s new next run is all = tt
-  runs_plain (call ∷ calls) (answer ∷ answers) old s new next run is all = (
-    λ _. plain (target_of old) call.0 call.1 s all.0 is,
-    runs_plain calls answers run.0 run.1 new next run.3
-        (leads_keep m P (target_of old) s run.1 (m.deed (target_of old) call.0 call.1 s) answer (keeps (target_of old) call.0 call.1 s all.0 is) run.2.leads is) all.1,
-  )
+      P s → AllByRecursion (λ call. Q call.0) calls → AllPlain m calls answers old s new next run × P next
+  runs_plain [] [] old s new next run is all = (tt, subst P (sym run.1) is)
+  runs_plain (call ∷ calls) (answer ∷ answers) old s new next run is all =
+      let others = runs_plain calls answers run.0 run.1 new next run.3
+      (leads_keep m P (target_of old) s run.1 (m.deed (target_of old) call.0 call.1 s) answer (keeps (target_of old) call.0 call.1 s all.0 is) run.2.leads is) all.1 in
+      ((λ _. plain (target_of old) call.0 call.1 s all.0 is, others.0), others.1)
   runs_plain [] (answer ∷ answers) old s new next run is all = absurd run
   runs_plain (call ∷ calls) [] old s new next run is all = absurd run
 
@@ -122,7 +121,8 @@ module _ {B C : Type 0} (kind : Kind B C) (IsBar : B → Type 0) (IsCommand : C 
       written_plain (writing_of call) 0 (lone_frame kind target now bar) (call_writing call c) (k.lines bar (told_plain call now s.bar c p) now target.columns, tt)
 
   pub lone_plain : (calls : List (LoneCall C × ℕ)) (answers : List (Result Drawn Refusal)) (old : Option TermView) (s : LoneState B) (new : Option TermView) (next : LoneState B)
-      (run : Runs (lone kind) calls answers old s new next) → IsState s → AllByRecursion (λ call. IsCall call.0) calls → AllPlain (lone kind) calls answers old s new next run
+      (run : Runs (lone kind) calls answers old s new next) → IsState s → AllByRecursion (λ call. IsCall call.0) calls →
+      AllPlain (lone kind) calls answers old s new next run × IsState next
   lone_plain = runs_plain (lone kind) IsState IsCall (λ target call now s c p. deed_keeps (refused_at_once kind call now s.bar) target call now s c p)
       (λ target call now s c p. deed_plain (refused_at_once kind call now s.bar) target call now s c p)
 

@@ -1,27 +1,29 @@
 -- What a script leaves on the terminal, of whatever draws.
-use Rattle.std.proofs.Common.{◌≡◌, ℕ, ◌+◌, ◌-◌, ◌<◌, ◌≤◌, Bool, true, false, ◌||◌, List, [], ◌∷◌, length, refl, sym, ◌∙◌, ap, subst, arith, length-append, Option, Some, None}
-use Rattle.std.specs.Prelude.{IsTrue, IsFalse}
+use Rattle.std.proofs.Common.{◌≡◌, ℕ, ◌+◌, ◌-◌, ◌<◌, ◌≤◌, Bool, true, false, ◌||◌, ◌&&◌, List, [], ◌∷◌, ◌++◌, length, refl, sym, ◌∙◌, ap, subst, arith, append_assoc, append-nil, length-append, Option, Some, None, if◌then◌else◌}
+use Rattle.std.specs.Prelude.{IsTrue, IsFalse, ◌==◌}
 use Rattle.std.specs.List.{list_any}
 use Rattle.std.proofs.lemmas.Bool.{cond_both, false≢true, or_parts}
+use Rattle.std.proofs.lemmas.List.Concat.{flat_map-append}
 use Rattle.std.proofs.lemmas.List.Elements.{recursion_from_All}
+use Rattle.indicatif_text.specs.Columns.{Cell}
 use Rattle.indicatif_term.specs.Screen.{Screen}
 use Rattle.indicatif_term.specs.Terminal.{Terminal, after}
 use Rattle.indicatif_term.specs.Calls.{Told, State as Holding, Bytes, Nothing, is_told, TermView}
 use Rattle.indicatif_term.specs.Lists.{Lists}
 use Rattle.indicatif_term.specs.Shows.{Rests, Placed}
-use Rattle.indicatif_term.specs.Resizes.{resized, resized_terminal, resized_lists, told_resized}
+use Rattle.indicatif_term.specs.Resizes.{resized, resized_terminal, resized_lists, recut, recut_all, told_resized}
 use Rattle.indicatif_term.specs.Events.{Event, Given, Sized, terminal_after, told_after, RowsLastThrough, rows_then}
 use Rattle.indicatif_term.specs.Engines.{Paints}
 use Rattle.indicatif_term.proofs.CallTurnLemmas.{still_tells}
-use Rattle.indicatif_term.proofs.ResizeLemmas.{resized_rests, still_failed, forgotten_stay}
+use Rattle.indicatif_term.proofs.ResizeLemmas.{resized_rests, above_resized, still_failed, forgotten_stay}
 use Rattle.indicatif_term.proofs.StandLemmas.{placed_fewer, shows_placed, sized_place}
 use Rattle.indicatif_term.proofs.StandingRowLemmas.{rows_taken, rows_placed, rows_safe}
 use Rattle.indicatif_term.proofs.RowReadingLemmas.{shown_is_read}
 use Rattle.indicatif_bar.specs.Machines.{Target, target_of, Machine}
 use Rattle.indicatif_bar.specs.Runs.{broke, is_undisturbed}
-use Rattle.indicatif_bar.specs.Scripts.{SizedOn, sized_target, sized_lists, Sizing, Part, Called, Size, opening_then, MaySize, sized, Plays, script_broke, AllRunsPlain, AllSizesKnown, ScriptsCarry, ScriptsAreRead, UnbrokenScriptsAreRead, played, OneScriptOutcome}
+use Rattle.indicatif_bar.specs.Scripts.{SizedOn, sized_target, sized_lists, Sizing, Part, Called, Size, opening_then, rows_sized, rows_cut, MaySize, sized, Plays, script_broke, AllRunsPlain, AllSizesKnown, GoesBy, RowsLastIn, ScriptsCarry, SafeRowsLast, ScriptsAreRead, UnbrokenScriptsAreRead, played, OneScriptOutcome}
 use Rattle.indicatif_bar.proofs.SoundRunLemmas.{Sound, GoesSoundly, runs_soundly}
-use Rattle.indicatif_bar.proofs.RunLemmas.{headline, run_target_stays, runs_once}
+use Rattle.indicatif_bar.proofs.RunLemmas.{lasts, run_target_stays, runs_once}
 
 -- ---- what is known of a terminal between two parts
 
@@ -37,24 +39,31 @@ placed_known false w h n l t k = k.0
 known_at_rest : (w h : ℕ) (opening : Screen) (l : Lists) (t : Terminal) → IsFalse l.failed → Rests w h opening l t → Known false w h (opening.row + length l.above) l t
 known_at_rest w h opening l t sound r = (shows_placed w h opening l t sound (r.shows sound), opening, r, omega arith)
 
+known_fewer : (broken : Bool) (w h n more : ℕ) (l : Lists) (t : Terminal) → n ≤ more → Known broken w h more l t → Known broken w h n l t
+known_fewer true w h n more l t few k = placed_fewer w h n more l t few k
+known_fewer false w h n more l t few k = (placed_fewer w h n more l t few k.0, k.1, k.2, omega (arith, k.3, few))
+
 -- a painting
 module _ (v v' : TermView) (b : Bool) (l l' : Lists) (p : Paints v v' b l l') (n : ℕ) (t : Terminal) where
-  still_placed : Placed v.columns v.rows n l t → Placed v'.columns v'.rows n l' (after t p.bytes)
-  still_placed z = placed_fewer v'.columns v'.rows n (n + (length l'.above - length l.above)) l' (after t p.bytes) (omega arith) (p.places n t z)
+  -- the rows safe then, with those that it added
+  abbrev safe_then : ℕ
+  safe_then = n + (length l'.above - length l.above)
 
-  known_painted : (broken : Bool) → b ≡ false → Known broken v.columns v.rows n l t → Known broken v'.columns v'.rows n l' (after t p.bytes)
-  known_painted true fine k = still_placed k
-  known_painted false fine k =
+  known_painted : b ≡ false → Known false v.columns v.rows n l t → Known false v'.columns v'.rows safe_then l' (after t p.bytes)
+  known_painted fine k =
       let more = p.added fine in
       let count : length l'.above ≡ length l.above + length more.0 = ap length more.1 ∙ length-append l.above more.0 in
-      (still_placed k.0, k.1, p.rests fine k.1 t k.2, omega (arith, k.3, count))
+      (p.places n t k.0, k.1, p.rests fine k.1 t k.2, omega (arith, k.3, count))
+
+  known_more : (broken : Bool) → Known broken v.columns v.rows n l t → Known (broken || b) v'.columns v'.rows safe_then l' (after t p.bytes)
+  known_more true k = p.places n t k
+  known_more false k = elim b as (λ x. b ≡ x → Known x v'.columns v'.rows safe_then l' (after t p.bytes)) [
+    | true ↦ λ e. p.places n t k.0
+    | false ↦ λ e. known_painted e k
+  ] refl
 
   known_then : (broken : Bool) → Known broken v.columns v.rows n l t → Known (broken || b) v'.columns v'.rows n l' (after t p.bytes)
-  known_then true k = still_placed k
-  known_then false k = elim b as (λ x. b ≡ x → Known x v'.columns v'.rows n l' (after t p.bytes)) [
-    | true ↦ λ e. still_placed k.0
-    | false ↦ λ e. known_painted false e k
-  ] refl
+  known_then broken k = known_fewer (broken || b) v'.columns v'.rows n safe_then l' (after t p.bytes) (omega arith) (known_more broken k)
 
 at_size : (broken : Bool) (a b c d n : ℕ) (l : Lists) (t : Terminal) → a ≡ c → b ≡ d → Known broken a b n l t → Known broken c d n l t
 at_size broken a b c d n l t e f k = subst (λ x. Known broken x d n l t) e (subst (λ x. Known broken a x n l t) f k)
@@ -86,22 +95,63 @@ still_sized w h (Holding t) e = refl
 still_sized w h (Bytes old) e = refl
 still_sized w h Nothing e = e
 
+-- ---- rows above
+
+sized_append : (w h w' h' : ℕ) (xs ys : List (List Cell)) → rows_sized w h w' h' (xs ++ ys) ≡ rows_sized w h w' h' xs ++ rows_sized w h w' h' ys
+sized_append w h w' h' xs ys =
+    elim ((w == w') && (h == h')) as (λ b. (if b then xs ++ ys else recut_all w' (xs ++ ys)) ≡ (if b then xs else recut_all w' xs) ++ (if b then ys else recut_all w' ys)) [
+      | true ↦ refl
+      | false ↦ flat_map-append (recut w') xs ys
+    ]
+
+-- a size cuts the rows above, and may add more
+above_sized : (w h w' h' : ℕ) (l : Lists) → 0 < h' → (rows : List (List Cell)) × ((resized_lists w h w' h' l).above ≡ rows_sized w h w' h' l.above ++ rows)
+unfolding resized_lists
+above_sized w h w' h' l some =
+    elim ((w == w') && (h == h')) as (λ b. ((w == w') && (h == h')) ≡ b →
+    (rows : List (List Cell)) × ((resized_lists w h w' h' l).above ≡ (if b then l.above else recut_all w' l.above) ++ rows)) [
+      | true ↦ λ e. ([], rw e (sym (append-nil l.above)))
+      | false ↦ λ e. above_resized w h w' h' l e some
+    ] refl
+
+module _ {C A : Type 0} where
+  cut_append : (parts : List (Part C A)) (w h : ℕ) (xs ys : List (List Cell)) → rows_cut parts w h (xs ++ ys) ≡ rows_cut parts w h xs ++ rows_cut parts w h ys
+  cut_append [] w h xs ys = refl
+  cut_append (Called calls answers ∷ parts) w h xs ys = cut_append parts w h xs ys
+  cut_append (Size w' h' ∷ parts) w h xs ys =
+      ap (rows_cut parts w' h') (sized_append w h w' h' xs ys) ∙ cut_append parts w' h' (rows_sized w h w' h' xs) (rows_sized w h w' h' ys)
+
+  -- rows added by one part, and by those after it
+  added_then : (parts : List (Part C A)) (a b w h : ℕ) (old mid new more others : List (List Cell)) → a ≡ w → b ≡ h → mid ≡ old ++ more → new ≡ rows_cut parts a b mid ++ others →
+      new ≡ rows_cut parts w h old ++ (rows_cut parts w h more ++ others)
+  added_then parts a b w h old mid new more others e f g i =
+      i
+      ∙ ap (λ q. rows_cut parts q b mid ++ others) e
+      ∙ ap (λ q. rows_cut parts w q mid ++ others) f
+      ∙ ap (λ q. rows_cut parts w h q ++ others) g
+      ∙ ap (λ q. q ++ others) (cut_append parts w h old more)
+      ∙ append_assoc (rows_cut parts w h old) (rows_cut parts w h more) others
+
 -- ---- a script
 
 module _ {S C A : Type 0} (m : Machine S C A) (z : Sizing m) where
   -- what a script carries, from a terminal of which so much is known
-  record CarriesFrom (broken : Bool) (parts : List (Part C A)) (v v' : TermView) (l l' : Lists) : Type 0 where
+  record CarriesFrom (broken : Bool) (parts : List (Part C A)) (v v' : TermView) (s : S) (new : Option TermView) (next : S) (old : Option TermView)
+      (plays : Plays m z parts old s new next) : Type 0 where
     events : List Event
     told_is : IsTrue (is_told v.told) → v'.told ≡ told_after v.told events
-    lasts : (n : ℕ) (t : Terminal) → Known broken v.columns v.rows n l t → RowsLastThrough n t events
-    rests : IsFalse broken → IsFalse (script_broke m z parts) → (opening : Screen) (t : Terminal) → Rests v.columns v.rows opening l t →
-        Rests v'.columns v'.rows (opening_then parts opening) l' (terminal_after t events)
+    goes_by : GoesBy m z parts old s new next plays events
+    lasts : (n : ℕ) (t : Terminal) → Known broken v.columns v.rows n (m.lists s) t → RowsLastThrough n t events
+    added_last : (n : ℕ) (t : Terminal) → Known broken v.columns v.rows n (m.lists s) t → RowsLastIn m z parts old s new next plays n t events
+    rests : IsFalse broken → IsFalse (script_broke m z parts) → (opening : Screen) (t : Terminal) → Rests v.columns v.rows opening (m.lists s) t →
+        Rests v'.columns v'.rows (opening_then parts opening) (m.lists next) (terminal_after t events)
+    added : IsFalse (script_broke m z parts) → (rows : List (List Cell)) × ((m.lists next).above ≡ rows_cut parts v.columns v.rows (m.lists s).above ++ rows)
 
   -- what is claimed of the rest of a script
   abbrev Left : Bool → (parts : List (Part C A)) (v : TermView) (s : S) (new : Option TermView) (next : S) → Option TermView → Type 0
   Left broken parts v s new next old =
       (plays : Plays m z parts old s new next) → AllRunsPlain m z parts old s new next plays → AllSizesKnown m z broken parts old s new next plays →
-      (v' : TermView) × (new ≡ Some v') × CarriesFrom broken parts v v' (m.lists s) (m.lists next)
+      (v' : TermView) × (new ≡ Some v') × CarriesFrom broken parts v v' s new next old plays
 
   carried : (broken : Bool) (parts : List (Part C A)) (v : TermView) (s : S) (new : Option TermView) (next : S) → 0 < v.columns → Left broken parts v s new next (Some v)
   carried broken [] v s new next some plays plain known = (
@@ -110,20 +160,30 @@ module _ {S C A : Type 0} (m : Machine S C A) (z : Sizing m) where
     record {
       events = [];
       told_is = λ h. refl;
+      goes_by = refl;
       lasts = λ n t k. tt;
+      added_last = λ n t k. refl;
       rests = λ fine whole opening t r. subst (λ x. Rests v.columns v.rows opening (m.lists x) t) (sym plays.1) r;
+      added = λ whole. ([], ap (λ x. (m.lists x).above) plays.1 ∙ sym (append-nil (m.lists s).above));
     },
   )
   carried broken (Called calls answers ∷ parts) v s new next some plays plain known =
+      let l = m.lists s in
       let x = plays.1 in
       let b = list_any (broke m) answers in
-      let first = headline m calls answers (Some v) s plays.0 x plays.2 plain.0 in
+      let first = lasts m calls answers v s plays.0 x plays.2 plain.0 in
       let u = first.0 in
       let p = first.2 in
-      let columns : u.columns ≡ v.columns = ap (λ o. (target_of o).columns) (sym first.1) ∙ ap (λ o. o.columns) (run_target_stays m calls answers (Some v) s plays.0 x plays.2) in
+      let target : target_of (Some u) ≡ target_of (Some v) = ap target_of (sym first.1) ∙ run_target_stays m calls answers (Some v) s plays.0 x plays.2 in
+      let columns : u.columns ≡ v.columns = ap (λ o. o.columns) target in
+      let rows : u.rows ≡ v.rows = ap (λ o. o.rows) target in
       let later : Left (broken || b) parts u x new next (Some u) = λ q r k. carried (broken || b) parts u x new next (omega (arith, some, columns)) q r k in
       let rest = subst (Left (broken || b) parts u x new next) (sym first.1) later plays.3 plain.1 known in
-      let c = rest.2 in (
+      let c = rest.2 in
+      let last : (n : ℕ) (t : Terminal) → Known broken v.columns v.rows n l t → RowsLastThrough n t (Given p.bytes ∷ c.events) = λ n t k. (
+        p.keeps n t (placed_known broken v.columns v.rows n l t k),
+        c.lasts n (after t p.bytes) (known_then v u b l (m.lists x) p n t broken k),
+      ) in (
         rest.0,
         rest.1,
         record {
@@ -131,10 +191,26 @@ module _ {S C A : Type 0} (m : Machine S C A) (z : Sizing m) where
           told_is = λ h.
               let e = p.told_is h in
               c.told_is (subst (λ q. IsTrue (is_told q)) (sym e) (still_tells v.told p.bytes h)) ∙ ap (λ q. told_after q c.events) e;
-          lasts = λ n t k. (p.keeps n t (placed_known broken v.columns v.rows n (m.lists s) t k), c.lasts n (after t p.bytes) (known_then v u b (m.lists s) (m.lists x) p n t broken k));
+          goes_by = (p.bytes, c.events, refl, (u, first.1, p.told_is), c.goes_by);
+          lasts = last;
+          added_last = λ n t k. (
+            last n t k,
+            p.bytes,
+            c.events,
+            refl,
+            first.3 n t (placed_known broken v.columns v.rows n l t k),
+            c.added_last (n + (length (m.lists x).above - length l.above)) (after t p.bytes) (known_more v u b l (m.lists x) p n t broken k),
+          );
           rests = λ fine whole opening t r.
               let parted = or_parts b (script_broke m z parts) whole in
               c.rests (ap (λ q. q || b) fine ∙ parted.0) parted.1 opening (after t p.bytes) (p.rests parted.0 opening t r);
+          added = λ whole.
+              let parted = or_parts b (script_broke m z parts) whole in
+              let now = p.added parted.0 in
+              let more = c.added parted.1 in (
+                rows_cut parts v.columns v.rows now.0 ++ more.0,
+                added_then parts u.columns u.rows v.columns v.rows l.above (m.lists x).above (m.lists next).above now.0 more.0 columns rows now.1 more.1,
+              );
         },
       )
   carried broken (Size w h ∷ parts) v s new next some plays plain known =
@@ -148,7 +224,15 @@ module _ {S C A : Type 0} (m : Machine S C A) (z : Sizing m) where
       let c = rest.2 in
       let l = m.lists s in
       let l' = resized_lists v.columns v.rows w h l in
-      let lists : m.lists x ≡ l' = z.lists_are l' s in (
+      let lists : m.lists x ≡ l' = z.lists_are l' s in
+      let at_it : (n : ℕ) (t : Terminal) → Known broken v.columns v.rows n l t → Known broken u.columns u.rows (length (rows_then w h n t.screen)) (m.lists x) (resized_terminal w h t) =
+      λ n t k. subst (λ q. Known broken u.columns u.rows (length (rows_then w h n t.screen)) q (resized_terminal w h t)) (sym lists)
+      (at_size broken w h u.columns u.rows (length (rows_then w h n t.screen)) l' (resized_terminal w h t) (sym is.columns_are) (sym is.rows_are)
+      (known_sized broken v.columns v.rows w h n l t some plays.3 known.0 k)) in
+      let last : (n : ℕ) (t : Terminal) → Known broken v.columns v.rows n l t → RowsLastThrough n t (Sized w h ∷ c.events) = λ n t k. (
+        rows_taken w h n t (sized_place (placed_known broken v.columns v.rows n l t k)).inside.in_rows,
+        c.lasts (length (rows_then w h n t.screen)) (resized_terminal w h t) (at_it n t k),
+      ) in (
         rest.0,
         rest.1,
         record {
@@ -156,12 +240,13 @@ module _ {S C A : Type 0} (m : Machine S C A) (z : Sizing m) where
           told_is = λ q.
               let e = is.told_is q in
               c.told_is (subst (λ k. IsTrue (is_told k)) (sym e) (still_sized w h v.told q)) ∙ ap (λ k. told_after k c.events) e;
-          lasts = λ n t k. (
-            rows_taken w h n t (sized_place (placed_known broken v.columns v.rows n l t k)).inside.in_rows,
-            c.lasts (length (rows_then w h n t.screen)) (resized_terminal w h t)
-                (subst (λ q. Known broken u.columns u.rows (length (rows_then w h n t.screen)) q (resized_terminal w h t)) (sym lists)
-                (at_size broken w h u.columns u.rows (length (rows_then w h n t.screen)) l' (resized_terminal w h t) (sym is.columns_are) (sym is.rows_are)
-                (known_sized broken v.columns v.rows w h n l t some plays.3 known.0 k))),
+          goes_by = (c.events, refl, c.goes_by);
+          lasts = last;
+          added_last = λ n t k. (
+            last n t k,
+            c.events,
+            refl,
+            c.added_last (length (rows_then w h n t.screen)) (resized_terminal w h t) (at_it n t k),
           );
           rests = λ fine whole opening t r.
               let may = subst (λ q. MaySize q l) fine known.0 in
@@ -169,6 +254,13 @@ module _ {S C A : Type 0} (m : Machine S C A) (z : Sizing m) where
               (subst (λ q. Rests u.columns u.rows (resized w h opening) q (resized_terminal w h t)) (sym lists)
               (rests_at_size w h u.columns u.rows (resized w h opening) l' (resized_terminal w h t) (sym is.columns_are) (sym is.rows_are)
               (resized_rests v.columns v.rows w h opening l t r may some plays.3)));
+          added = λ whole.
+              let now = above_sized v.columns v.rows w h l plays.3 in
+              let more = c.added whole in (
+                rows_cut parts w h now.0 ++ more.0,
+                added_then parts u.columns u.rows w h (rows_sized v.columns v.rows w h l.above) (m.lists x).above (m.lists next).above now.0 more.0 is.columns_are is.rows_are
+                    (ap (λ q. q.above) lists ∙ now.1) more.1,
+              );
         },
       )
 
@@ -182,10 +274,20 @@ module _ {S C A : Type 0} (m : Machine S C A) (z : Sizing m) where
         record {
           events = c.events;
           told_is = c.told_is;
+          goes_by = c.goes_by;
           lasts = λ opening t k. c.lasts (opening.row + length l.above) t (known_at_rest v.columns v.rows opening l t sound k);
+          added_last = λ opening t k. c.added_last (opening.row + length l.above) t (known_at_rest v.columns v.rows opening l t sound k);
           rests = λ whole opening t k. c.rests refl whole opening t k;
+          added = c.added;
         },
       )
+
+  -- a script that begins after a failure
+  pub safe_rows_last : SafeRowsLast m z
+  safe_rows_last parts v s new next plays some plain known =
+      let r = carried true parts v s new next some plays plain known in
+      let c = r.2 in
+      (r.0, r.1, c.events, c.told_is, c.goes_by, λ n t k. (c.lasts n t k, c.added_last n t k))
 
   -- a terminal that tells its state tells it after events
   told_state : (t : Terminal) (events : List Event) → told_after (Holding t) events ≡ Holding (terminal_after t events)
@@ -199,12 +301,12 @@ module _ {S C A : Type 0} (m : Machine S C A) (z : Sizing m) where
       let v' = r.0 in
       let c = r.2 in
       let t = starts.0 in
-      let then = terminal_after t c.events in
+      let last = terminal_after t c.events in
       let rest = c.rests refl whole opening t (record { shows = λ _. starts.2; leads = λ e. absurd (false≢true (sym sound ∙ e)) }) in
-      let read = shown_is_read v'.columns v'.rows (opening_then parts opening) (m.lists next) then (rest.shows sound') in (
+      let read = shown_is_read v'.columns v'.rows (opening_then parts opening) (m.lists next) last (rest.shows sound') in (
         v',
         r.1,
-        (then, c.told_is (rw starts.1 refl) ∙ ap (λ x. told_after x c.events) starts.1 ∙ told_state t c.events, read.0, read.1),
+        (last, c.told_is (rw starts.1 refl) ∙ ap (λ x. told_after x c.events) starts.1 ∙ told_state t c.events, read.0, read.1),
       )
 
   -- where rows are forgotten only as a call is broken off

@@ -66,9 +66,10 @@ module _ {K : Type 0} where
   IsPlainLoneCall (Log text) = All IsPlainText (logged_lines text)
   IsPlainLoneCall Clear = Unit {0}
 
--- where all these texts are plain, so is every run, and the headline holds of it
+-- where all these texts are plain, so is every run, and the headline holds of it; and the bar's texts are plain at its end, so that what
+-- comes after it is plain too
 abbrev pub LoneRunsArePlain : {K : Type 0} → Tracking K → Type 0
 LoneRunsArePlain {K} m = ArePlainTrackers m →
     (calls : List (LoneCall (Command K) × ℕ)) (answers : List (Result Drawn Refusal)) (old : Option TermView) (s : LoneState (BarRecord K)) (new : Option TermView) (next : LoneState (BarRecord K))
     (run : Runs (lone_bar m) calls answers old s new next) →
-    IsPlainBar s.bar → All (λ call. IsPlainLoneCall call.0) calls → AllPlain (lone_bar m) calls answers old s new next run
+    IsPlainBar s.bar → All (λ call. IsPlainLoneCall call.0) calls → AllPlain (lone_bar m) calls answers old s new next run × IsPlainBar next.bar

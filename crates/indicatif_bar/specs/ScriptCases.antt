@@ -11,7 +11,7 @@ use Rattle.indicatif_bar.specs.Commands.{BarRecord, Command, Tick, SetMessage}
 use Rattle.indicatif_bar.specs.LoneBars.{lone_bar, lone_sizing}
 use Rattle.indicatif_bar.specs.Machines.{Target}
 use Rattle.indicatif_bar.specs.Lone.{LoneState, LoneCall, Obey, Log, opening_state}
-use Rattle.indicatif_bar.specs.Scripts.{Part, Called, Size, played}
+use Rattle.indicatif_bar.specs.Scripts.{Part, Called, Size, rows_cut, played}
 use Rattle.indicatif_bar.specs.Cases.{terminal_of_size, nowhere, untracked, bar_saying, rows_of_lines}
 
 -- a call with its answer
@@ -55,12 +55,13 @@ ScrolledAway =
     × (all_rows 5 drawn.1.lists ≡ rows_of_lines 5 (codes "progr" ∷ []))
     × (all_rows 5 short.1.lists ≡ rows_of_lines 5 (codes "progr" ∷ codes "ok" ∷ []))
 
--- rows above are cut, and stay so on more columns
+-- rows above are cut, and stay so on more columns; sizes alone cut a row so
 abbrev pub LogsCut : Type 0
 LogsCut =
     let on = scripted (terminal_of_size 4 10) (codes "x") in
     let wide = on (asked (Log (codes "abcdef")) ∷ Size 4 4 ∷ Size 9 4 ∷ asked (Obey Tick) ∷ []) in
     (wide.1.lists.above ≡ rows_of_lines 9 (codes "abcd" ∷ codes "ef" ∷ [])) × (all_rows 9 wide.1.lists ≡ rows_of_lines 9 (codes "abcd" ∷ codes "ef" ∷ codes "x" ∷ []))
+    × (rows_cut (Size 4 4 ∷ answered (Obey Tick) (Ok Yes) ∷ Size 4 4 ∷ Size 9 4 ∷ []) 10 4 (rows_of_lines 10 (codes "abcdef" ∷ [])) ≡ rows_of_lines 9 (codes "abcd" ∷ codes "ef" ∷ []))
 
 -- a hidden target gets no size
 abbrev pub HiddenSize : Type 0

@@ -1,16 +1,17 @@
 -- Scripts, of whatever draws: runs of calls, with sizes that the terminal gets between them; what they leave on the terminal.
-use Rattle.std.specs.Prelude.{◌≡◌, ℕ, ◌+◌, ◌-◌, ◌*◌, ◌/◌, ◌<◌, ◌≤◌, Bool, true, false, ◌||◌, IsTrue, IsFalse, List, [], ◌∷◌, ◌++◌, length, take, Option, Some, None, MatchOption, if◌then◌else◌}
+use Rattle.std.specs.Prelude.{◌≡◌, ℕ, ◌+◌, ◌-◌, ◌*◌, ◌/◌, ◌<◌, ◌≤◌, Bool, true, false, ◌||◌, ◌&&◌, ◌==◌, IsTrue, IsFalse, List, [], ◌∷◌, ◌++◌, length, take, Option, Some, None, MatchOption, if◌then◌else◌}
 use Rattle.std.specs.List.{All, list_any, last_or}
+use Rattle.indicatif_text.specs.Columns.{Cell}
 use Rattle.indicatif_term.specs.Screen.{Screen}
-use Rattle.indicatif_term.specs.Terminal.{Terminal}
+use Rattle.indicatif_term.specs.Terminal.{Terminal, after}
 use Rattle.indicatif_term.specs.Calls.{TermView, is_told}
 use Rattle.indicatif_term.specs.Lists.{Lists, forgotten_lists, all_rows}
 use Rattle.indicatif_term.specs.Limiters.{Limiter, draw_limiter}
-use Rattle.indicatif_term.specs.Shows.{Rests}
-use Rattle.indicatif_term.specs.Resizes.{resized, resized_lists, Resized}
-use Rattle.indicatif_term.specs.Events.{Event, terminal_after, told_after, RowsLastThrough}
+use Rattle.indicatif_term.specs.Shows.{Rests, Placed}
+use Rattle.indicatif_term.specs.Resizes.{resized, resized_terminal, resized_lists, recut_all, has_size, Resized}
+use Rattle.indicatif_term.specs.Events.{Event, Given, Sized, terminal_after, told_after, rows_then, RowsLastThrough}
 use Rattle.indicatif_bar.specs.Machines.{Target, target_of, Machine, outcomes}
-use Rattle.indicatif_bar.specs.Runs.{Runs, AllPlain, broke, ReadsAs, Starts, is_undisturbed}
+use Rattle.indicatif_bar.specs.Runs.{Runs, AllPlain, broke, IsLedOn, RowsLast, ReadsAs, Starts, is_undisturbed}
 use Rattle.indicatif_bar.specs.Bounds.{unforced_draws}
 
 -- ---- a size
@@ -26,6 +27,10 @@ sized_lists w h target l = if target.hidden then l else resized_lists target.col
 -- what became of a target of which this is known
 abbrev pub SizedOn : ℕ → ℕ → Option TermView → Option TermView → Type 0
 SizedOn w h old new = MatchOption old (new ≡ None) (λ v. (v' : TermView) × (new ≡ Some v') × Resized w h v v')
+
+-- this is another size than that of a target of which this is known; a hidden one has none that could change
+abbrev pub IsAnotherSize : ℕ → ℕ → Option TermView → Type 0
+IsAnotherSize w h old = MatchOption old ⊥ (λ v. IsFalse (has_size w h v))
 
 -- a state of a machine with other lists in the place of its own
 pub record Sizing {State Call Answer : Type 0} (m : Machine State Call Answer) : Type 0 where
@@ -44,6 +49,16 @@ abbrev pub opening_then : {Call Answer : Type 0} → List (Part Call Answer) →
 opening_then [] s = s
 opening_then (Called calls answers ∷ parts) s = opening_then parts s
 opening_then (Size w h ∷ parts) s = opening_then parts (resized w h s)
+
+-- rows on a terminal of w columns and h rows that gets another size: each is cut; a size that it has leaves them
+abbrev pub rows_sized : ℕ → ℕ → ℕ → ℕ → List (List Cell) → List (List Cell)
+rows_sized w h w' h' rows = if (w == w') && (h == h') then rows else recut_all w' rows
+
+-- rows after a script on a terminal of w columns and h rows: sizes alone change them
+abbrev pub rows_cut : {Call Answer : Type 0} → List (Part Call Answer) → ℕ → ℕ → List (List Cell) → List (List Cell)
+rows_cut [] w h rows = rows
+rows_cut (Called calls answers ∷ parts) w h rows = rows_cut parts w h rows
+rows_cut (Size w' h' ∷ parts) w h rows = rows_cut parts w' h' (rows_sized w h w' h' rows)
 
 -- as a size comes, the rows are known; or, where a call was broken off before, they are forgotten: nothing was drawn since
 abbrev pub MaySize : Bool → Lists → Type 0
@@ -86,21 +101,55 @@ module _ {State Call Answer : Type 0} (m : Machine State Call Answer) (z : Sizin
 
   -- ---- what it leaves
 
-  -- these events led from the one to the other. Of a terminal that rests with the lists l after an opening: the untouched rows and
-  -- those above last; and unless a call was broken off it rests then with the lists l', after the opening that got the sizes too
-  pub record Carries (parts : List (Part Call Answer)) (v v' : TermView) (l l' : Lists) : Type 0 where
+  -- one event for each part, in their order: the bytes by which its calls led the terminal on, or its size
+  abbrev pub GoesBy : (parts : List (Part Call Answer)) (old : Option TermView) (s : State) (new : Option TermView) (next : State) → Plays parts old s new next → List Event → Type 0
+  GoesBy [] old s new next plays events = events ≡ []
+  GoesBy (Called calls answers ∷ parts) old s new next plays events =
+      (bytes : List ℕ) × (others : List Event) × (events ≡ Given bytes ∷ others) × IsLedOn old plays.0 bytes × GoesBy parts plays.0 plays.1 new next plays.3 others
+  GoesBy (Size w h ∷ parts) old s new next plays events =
+      (others : List Event) × (events ≡ Sized w h ∷ others) × GoesBy parts plays.0 (sized w h (target_of old) s) new next plays.4 others
+
+  -- of a terminal whose first n rows are safe: they last to the script's end. What is said of runs holds of each of its runs; and as
+  -- many rows as a run has more above at its end than at its start last too, from there on
+  abbrev pub RowsLastIn : (parts : List (Part Call Answer)) (old : Option TermView) (s : State) (new : Option TermView) (next : State) → Plays parts old s new next →
+      ℕ → Terminal → List Event → Type 0
+  RowsLastIn [] old s new next plays n t events = events ≡ []
+  RowsLastIn (Called calls answers ∷ parts) old s new next plays n t events =
+      RowsLastThrough n t events × (bytes : List ℕ) × (others : List Event) × (events ≡ Given bytes ∷ others) × RowsLast m calls answers old s plays.0 plays.1 plays.2 n t bytes
+      × RowsLastIn parts plays.0 plays.1 new next plays.3 (n + (length (m.lists plays.1).above - length (m.lists s).above)) (after t bytes) others
+  RowsLastIn (Size w h ∷ parts) old s new next plays n t events =
+      RowsLastThrough n t events × (others : List Event) × (events ≡ Sized w h ∷ others)
+      × RowsLastIn parts plays.0 (sized w h (target_of old) s) new next plays.4 (length (rows_then w h n t.screen)) (resized_terminal w h t) others
+
+  -- these events, one for each part, led from the one to the other. Of a terminal that rests with the lists of the start after an
+  -- opening: the untouched rows and those above last, and those that runs add. And unless a call was broken off it rests then with
+  -- the lists of the end, after the opening that got the sizes too, and rows above were cut by the sizes, and only added
+  pub record Carries (parts : List (Part Call Answer)) (v v' : TermView) (s : State) (new : Option TermView) (next : State) (plays : Plays parts (Some v) s new next) : Type 0 where
     pub events : List Event
     pub told_is : IsTrue (is_told v.told) → v'.told ≡ told_after v.told events
-    pub lasts : (opening : Screen) (t : Terminal) → Rests v.columns v.rows opening l t → RowsLastThrough (opening.row + length l.above) t events
-    pub rests : IsFalse (script_broke parts) → (opening : Screen) (t : Terminal) → Rests v.columns v.rows opening l t →
-        Rests v'.columns v'.rows (opening_then parts opening) l' (terminal_after t events)
+    pub goes_by : GoesBy parts (Some v) s new next plays events
+    pub lasts : (opening : Screen) (t : Terminal) → Rests v.columns v.rows opening (m.lists s) t → RowsLastThrough (opening.row + length (m.lists s).above) t events
+    pub added_last : (opening : Screen) (t : Terminal) → Rests v.columns v.rows opening (m.lists s) t →
+        RowsLastIn parts (Some v) s new next plays (opening.row + length (m.lists s).above) t events
+    pub rests : IsFalse (script_broke parts) → (opening : Screen) (t : Terminal) → Rests v.columns v.rows opening (m.lists s) t →
+        Rests v'.columns v'.rows (opening_then parts opening) (m.lists next) (terminal_after t events)
+    pub added : IsFalse (script_broke parts) → (rows : List (List Cell)) × ((m.lists next).above ≡ rows_cut parts v.columns v.rows (m.lists s).above ++ rows)
 
-  -- the headline of scripts. A rest of a script is one, so it says what stands at each part's end, and from then on
+  -- the headline of scripts
   abbrev pub ScriptsCarry : Type 0
   ScriptsCarry =
       (parts : List (Part Call Answer)) (v : TermView) (s : State) (new : Option TermView) (next : State) (plays : Plays parts (Some v) s new next) →
       0 < v.columns → IsFalse (m.lists s).failed → AllRunsPlain parts (Some v) s new next plays → AllSizesKnown false parts (Some v) s new next plays →
-      (v' : TermView) × (new ≡ Some v') × Carries parts v v' (m.lists s) (m.lists next)
+      (v' : TermView) × (new ≡ Some v') × Carries parts v v' s new next plays
+
+  -- a script that begins after a failure, wherever the terminal broke off: of any whose first n rows are safe they last, and those that
+  -- runs add. Each size comes where nothing was drawn since the last failure
+  abbrev pub SafeRowsLast : Type 0
+  SafeRowsLast =
+      (parts : List (Part Call Answer)) (v : TermView) (s : State) (new : Option TermView) (next : State) (plays : Plays parts (Some v) s new next) →
+      0 < v.columns → AllRunsPlain parts (Some v) s new next plays → AllSizesKnown true parts (Some v) s new next plays →
+      (v' : TermView) × (new ≡ Some v') × (events : List Event) × (IsTrue (is_told v.told) → v'.told ≡ told_after v.told events) × GoesBy parts (Some v) s new next plays events
+      × ((n : ℕ) (t : Terminal) → Placed v.columns v.rows n (m.lists s) t → RowsLastThrough n t events × RowsLastIn parts (Some v) s new next plays n t events)
 
   -- after a script that the terminal didn't break off, on one that tells its state, the untouched rows and those of the lists are read
   abbrev pub ScriptsAreRead : Type 0

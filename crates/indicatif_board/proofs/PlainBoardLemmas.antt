@@ -3,7 +3,7 @@ use Rattle.std.proofs.Common.{ℕ, zero, suc, ◌^◌, Bool, true, false, not, L
 use Rattle.std.specs.Prelude.{IsTrue, ◌==◌}
 use Rattle.std.specs.List.{AllByRecursion, insert}
 use Rattle.std.proofs.lemmas.Bool.{cond_both}
-use Rattle.std.proofs.lemmas.List.Elements.{recursion_from_All}
+use Rattle.std.proofs.lemmas.List.Elements.{All-from_recursion, recursion_from_All}
 use Rattle.indicatif_text.specs.declared.refusal.Refusal.{Refusal}
 use Rattle.indicatif_term.specs.Calls.{TermView}
 use Rattle.indicatif_term.specs.Frames.{are_plain, text_lines, logged_lines}
@@ -162,7 +162,8 @@ module _ {B C : Type 0} (kind : BoardKind B C) (mark : ℕ) (IsBar : B → Type 
       (laid_out kind target now id.number after) (layout_takes kind id.number after) tt told (laid_plain target now id.number after told)))
 
   pub board_plain : (calls : List (Call B C × ℕ)) (answers : List Answer) (old : Option TermView) (s : BoardState B) (new : Option TermView) (next : BoardState B)
-      (run : Runs (board kind mark) calls answers old s new next) → IsState s → AllByRecursion (λ call. IsCall call.0) calls → AllPlain (board kind mark) calls answers old s new next run
+      (run : Runs (board kind mark) calls answers old s new next) → IsState s → AllByRecursion (λ call. IsCall call.0) calls →
+      AllPlain (board kind mark) calls answers old s new next run × IsState next
   board_plain = runs_plain (board kind mark) IsState IsCall (λ target call now s c p. (deed_goes target call now s c p).0) (λ target call now s c p. (deed_goes target call now s c p).1)
 
 -- ---- bars with a style
@@ -194,7 +195,12 @@ module _ {K : Type 0} (m : Tracking K) (trackers : ArePlainTrackers m) (mark : �
   members_asked [] all = tt
   members_asked (x ∷ xs) all = ((all.0.bar, all.0.stored), members_asked xs all.1)
 
+  members_left : (ms : List (Member (BarRecord K))) → AreMembers (board_bars m) mark IsPlainBar IsPlainCommand (bars_keep_plain m trackers) left_plainly ms → AllByRecursion IsPlainMember ms
+  members_left [] all = tt
+  members_left (x ∷ xs) all = (record { bar = all.0.0; stored = all.0.1 }, members_left xs all.1)
+
 pub board_runs_are_plain : {K : Type 0} (m : Tracking K) → BoardRunsArePlain m
 board_runs_are_plain m trackers mark calls answers old s new next run h all =
-    board_plain (board_bars m) mark IsPlainBar IsPlainCommand (bars_keep_plain m trackers) (left_plainly m trackers mark) calls answers old s new next run
-    (members_asked m trackers mark s.members (recursion_from_All IsPlainMember s.members h)) (calls_asked m trackers mark calls (recursion_from_All (λ call. IsPlainCall call.0) calls all))
+    let r = board_plain (board_bars m) mark IsPlainBar IsPlainCommand (bars_keep_plain m trackers) (left_plainly m trackers mark) calls answers old s new next run
+    (members_asked m trackers mark s.members (recursion_from_All IsPlainMember s.members h)) (calls_asked m trackers mark calls (recursion_from_All (λ call. IsPlainCall call.0) calls all)) in
+    (r.0, All-from_recursion IsPlainMember next.members (members_left m trackers mark next.members r.1))

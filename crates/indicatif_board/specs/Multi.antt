@@ -1,10 +1,10 @@
 -- What contracts see of a board: its terminal, whether it is in a given state, and what a call leads to.
-use Rattle.std.specs.Prelude.{◌≡◌, ◌≢◌, ◌⊎◌, ℕ, IsTrue, List, [], ◌∷◌, Option, Some, None, MatchOption, option_map, Result, Err, refl}
+use Rattle.std.specs.Prelude.{◌≡◌, ◌≢◌, ◌⊎◌, ℕ, Bool, IsTrue, List, [], ◌∷◌, Option, Some, None, MatchOption, option_map, Result, Err, refl}
 use Rattle.std.specs.List.{list_any}
 use Rattle.indicatif_text.specs.declared.refusal.Refusal.{Refusal}
 use Rattle.indicatif_text.specs.declared.refusal.Drawn.{Drawn}
 use Rattle.indicatif_term.specs.Calls.{TermView}
-use Rattle.indicatif_term.specs.Engines.{engine_term, Fits}
+use Rattle.indicatif_term.specs.Engines.{engine_moves, engine_term, Fits}
 use Rattle.indicatif_term.specs.Lists.{opening_lists}
 use Rattle.indicatif_bar.specs.Trackers.{Tracking}
 use Rattle.indicatif_bar.specs.Commands.{BarRecord, Command}
@@ -25,6 +25,10 @@ module _ {K T : Type 0} where
   -- its terminal; none where the target is hidden
   abbrev pub terminal_of : Board K T → Option T
   terminal_of b = option_map engine_term b.engine
+
+  -- whether its draws go by moves of the cursor alone, where that shows the same; nothing where the target is hidden
+  abbrev pub moves_of : Board K T → Option Bool
+  moves_of b = option_map engine_moves b.engine
 
   -- the slots of its bars
   abbrev pub slots_of : Board K T → SlotTable

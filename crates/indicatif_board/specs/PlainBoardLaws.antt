@@ -34,10 +34,11 @@ module _ {K : Type 0} where
   abbrev pub IsPlainBoard : BoardState (BarRecord K) → Type 0
   IsPlainBoard s = All IsPlainMember s.members
 
--- where all these texts are plain, so is every run, and the headline holds of it
+-- where all these texts are plain, so is every run, and the headline holds of it; and the board's texts are plain at its end, so that
+-- what comes after it is plain too
 abbrev pub BoardRunsArePlain : {K : Type 0} → Tracking K → Type 0
 BoardRunsArePlain {K} m = ArePlainTrackers m →
     (mark : ℕ) (calls : List (Call (BarRecord K) (Command K) × ℕ)) (answers : List Answer) (old : Option TermView)
     (s : BoardState (BarRecord K)) (new : Option TermView) (next : BoardState (BarRecord K))
     (run : Runs (board (board_bars m) mark) calls answers old s new next) →
-    IsPlainBoard s → All (λ call. IsPlainCall call.0) calls → AllPlain (board (board_bars m) mark) calls answers old s new next run
+    IsPlainBoard s → All (λ call. IsPlainCall call.0) calls → AllPlain (board (board_bars m) mark) calls answers old s new next run × IsPlainBoard next

@@ -63,7 +63,8 @@ pub fn what_a_board_run_reads<K: Tracks>()
 {}
 
 /// Where the texts of bars, commands and logs consist of characters with a width and colour sequences, every run of a board is
-/// plain, so that what is said of plain runs holds of it.
+/// plain, so that what is said of plain runs holds of it; and the board's texts are plain at its end, so that this holds of the next
+/// run too, whatever sizes come between.
 pub fn plain_texts_give_plain_runs<K: Tracks>()
     ensures { BoardRunsArePlain K.means }
 {}

@@ -1,5 +1,5 @@
 //! A board: several bars on one target, in an order.
-ghost use Rattle.std.specs.Prelude.{◌≡◌, ◌≢◌, ◌==◌, ◌↔◌, ◌⊎◌, ◌<◌, ◌≤◌, ◌∷◌, [], ℕ, Bool, Option, Some, None, Ok, Err, is_some, true, option_map, IsTrue, IsFalse, IfOk, IfErr, IfSome, MatchResult, MatchOption, map, OnErr, is_ok, vec_len, if◌then◌else◌};
+ghost use Rattle.std.specs.Prelude.{◌≡◌, ◌≢◌, ◌==◌, ◌↔◌, ◌⊎◌, ◌<◌, ◌≤◌, ◌∷◌, [], ℕ, Bool, Option, Some, None, Ok, Err, is_some, true, false, option_map, IsTrue, IsFalse, IfOk, IfErr, IfSome, MatchResult, MatchOption, map, OnErr, is_ok, vec_len, if◌then◌else◌};
 ghost use Rattle.std.specs.List.{list_any};
 ghost use Rattle.indicatif_term.specs.Engines.{is_bottom, engine_term, Fits};
 ghost use Rattle.indicatif_term.specs.Lists.{fate, kept_of, opening_lists};
@@ -64,7 +64,7 @@ pub struct Board<K, T: Drop> {
 impl<K: Tracks, T: TermLike + Drop> Board<K, T> {
     ghost use Rattle.indicatif_board.specs.Calls.{entrant_of, given, removal, answer_of, place_at, call_of, timed, IsForeign, NamesForeign, AreTurnedAway, acts_on};
     ghost use Rattle.indicatif_board.specs.Multi.{IsIn, IsNowhere, IsAbsent, EntersAbsent, mark_of, record_at, RecordsStay, OtherRecordsStay, RecordObeys, RecordsTake, SlotsTake, SlotsGive, SlotsLeft, SlotsChange};
-    ghost use Rattle.indicatif_board.specs.Multi.{RecordsChange, StaysOrComes, LeadsBy, Suspends, known, slots_of, terminal_of};
+    ghost use Rattle.indicatif_board.specs.Multi.{RecordsChange, StaysOrComes, LeadsBy, Suspends, known, moves_of, slots_of, terminal_of};
 
     /// A board without bars on this target, of this mark. It takes no memory and writes nothing.
     pub fn new(alloc: Global, target: ProgressDrawTarget<T>, mark: u64) -> Self
@@ -72,6 +72,7 @@ impl<K: Tracks, T: TermLike + Drop> Board<K, T> {
         ensures mark { mark_of result ≡ mark }
         ensures records { (number : ℕ) → record_at number result ≡ None }
         ensures terminal { terminal_of result ≡ term_of target }
+        ensures moves { IfSome (moves_of result) (λ moves. moves ≡ false) }
     {
         let (engine, limiter) = Engine::opened_on(alloc, target);
         Board {
@@ -143,6 +144,7 @@ impl<K: Tracks, T: TermLike + Drop> Board<K, T> {
         ensures old { term_of result ≡ terminal_of self.old }
         ensures old_limiter { (mark : ℕ) (s : BoardState (BarRecord K)) → IsIn mark self.old s → IfSome result (λ t. t.1 ≡ s.limiter) }
         ensures new { terminal_of self.new ≡ term_of target }
+        ensures moves { IfSome (moves_of self.new) (λ moves. moves ≡ false) }
         ensures mark { mark_of self.new ≡ mark_of self.old }
         ensures slots { slots_of self.new ≡ slots_of self.old }
         ensures records { RecordsStay self.old self.new }
@@ -167,6 +169,7 @@ impl<K: Tracks, T: TermLike + Drop> Board<K, T> {
     /// ```
     pub fn set_move_cursor(&mut self, on: bool)
         ensures terminal { terminal_of self.new ≡ terminal_of self.old }
+        ensures moves { IfSome (moves_of self.new) (λ moves. moves ≡ on) }
         ensures mark { mark_of self.new ≡ mark_of self.old }
         ensures slots { slots_of self.new ≡ slots_of self.old }
         ensures records { RecordsStay self.old self.new }
@@ -709,18 +712,20 @@ impl<K: Tracks, T: TermLike + Drop> Board<K, T> {
 }
 
 impl<K: Tracks, T: Resize + Drop> Board<K, T> {
-    ghost use Rattle.indicatif_bar.specs.Scripts.{Size as NewSize, SizedOn, sized, Plays};
-    ghost use Rattle.indicatif_board.specs.Multi.{IsIn, RecordsStay, board_sizing, known, mark_of, slots_of, terminal_of};
+    ghost use Rattle.indicatif_bar.specs.Scripts.{IsAnotherSize, Size as NewSize, SizedOn, sized, Plays};
+    ghost use Rattle.indicatif_board.specs.Multi.{IsIn, RecordsStay, board_sizing, known, mark_of, moves_of, slots_of, terminal_of};
 
     /// The terminal gets `rows` rows and `cols` columns, and what stands there is cut anew: each row by itself, never joined with
     /// another. Nothing is written now; the next draw takes back the bars' rows as they are then. On a hidden target this does nothing.
+    /// What `set_move_cursor` was told last stays.
     ///
     /// ```
     /// board.println("hello", now)?;
     /// board.resize(4, 3)?; // it stands on two rows from now on: `hel`, `lo`
     /// ```
     ///
-    /// Refused: `ZeroSize` where `rows` or `cols` is 0, also on a hidden target; `Memory`. All is unchanged then.
+    /// Refused: `ZeroSize` where `rows` or `cols` is 0, also on a hidden target; `Memory`, never there, nor at the size that the terminal
+    /// has. All is unchanged then.
     pub fn resize(&mut self, rows: u16, cols: u16) -> Result<(), Refusal>
         ensures plays { (mark : ℕ) (s : BoardState (BarRecord K)) → IsIn mark self.old s →
             let machine = board (board_bars K.means) mark in
@@ -731,10 +736,12 @@ impl<K: Tracks, T: Resize + Drop> Board<K, T> {
         ensures mark { mark_of self.new ≡ mark_of self.old }
         ensures records { RecordsStay self.old self.new }
         ensures slots { slots_of self.new ≡ slots_of self.old }
-        ensures hidden { terminal_of self.old ≡ None → (self.new ≡ self.old) × (result ≢ Err Refusal.Memory) }
+        ensures moves { moves_of self.new ≡ moves_of self.old }
+        ensures hidden { terminal_of self.old ≡ None → self.new ≡ self.old }
         ensures unchanged { OnErr result (self.new ≡ self.old) }
         ensures zero_size { (result ≡ Err Refusal.ZeroSize) ↔ ((rows ≡ 0) ⊎ (cols ≡ 0)) }
         ensures no_other { IfErr result (λ e. (e ≡ Refusal.ZeroSize) ⊎ (e ≡ Refusal.Memory)) }
+        ensures memory { result ≡ Err Refusal.Memory → IsAnotherSize cols rows (known T.view self.old) }
     {
         if rows == 0 || cols == 0 {
             return Err(Refusal::ZeroSize);

@@ -114,6 +114,10 @@ resized_lists w h w' h' l = if (w == w') && (h == h') then l else settled_whole 
 
 -- ---- what is known of a terminal
 
+-- whether it has w columns and h rows
+abbrev pub has_size : ℕ → ℕ → TermView → Bool
+has_size w h v = (v.columns == w) && (v.rows == h)
+
 -- what a terminal tells when it gets w columns and h rows: bytes that it was given stay
 abbrev pub told_resized : ℕ → ℕ → Told → Told
 told_resized w h (State t) = State (resized_terminal w h t)

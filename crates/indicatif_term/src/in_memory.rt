@@ -13,13 +13,13 @@
 //! - `call_log`: the calls as text.
 //!
 //! `InMemoryTerm` is that terminal as a bar's target.
-ghost use Rattle.std.specs.Prelude.{◌≡◌, ◌-◌, ◌++◌, ◌==◌, ◌⊎◌, ◌↔◌, [], if◌then◌else◌, map, codes, IfOk, IsOk, IsOkAnd, IfErr, OnOk, OnErr, string_bytes};
+ghost use Rattle.std.specs.Prelude.{◌≡◌, ◌-◌, ◌++◌, ◌==◌, ◌⊎◌, ◌↔◌, [], if◌then◌else◌, map, codes, Err, IfOk, IsOk, IsOkAnd, IfErr, IsFalse, OnOk, OnErr, string_bytes};
 ghost use Rattle.std.specs.IoError.{error_kind};
 ghost use Rattle.indicatif_term.specs.Screen.{top};
 ghost use Rattle.indicatif_term.specs.Terminal.{after, blank_terminal};
 ghost use Rattle.indicatif_term.specs.Pictures.{contents_text, picture_text};
 ghost use Rattle.indicatif_term.specs.Calls.{Writes, move_bytes, line_bytes, clear_bytes, UP, DOWN, RIGHT, LEFT};
-ghost use Rattle.indicatif_term.specs.Resizes.{Resized, resized_terminal};
+ghost use Rattle.indicatif_term.specs.Resizes.{Resized, has_size, resized_terminal};
 ghost use Rattle.indicatif_term.specs.Memory.{view_of, Records, move_text, written_text};
 ghost use Rattle.indicatif_term.specs.Inside.Feeding.{ReadsBeginning};
 
@@ -349,6 +349,7 @@ impl Resize for InMemoryTerm {
         ensures unchanged { OnErr result (self.new ≡ self.old) }
         ensures zero_size { (result ≡ Err Refusal.ZeroSize) ↔ ((rows ≡ 0) ⊎ (cols ≡ 0)) }
         ensures no_other { IfErr result (λ e. (e ≡ Refusal.ZeroSize) ⊎ (e ≡ Refusal.Memory)) }
+        ensures memory { result ≡ Err Refusal.Memory → IsFalse (has_size cols rows (view_of self.old)) }
         ensures alone { OnOk result (self.new
             ≡ record self.old { terminal = resized_terminal cols rows self.old.terminal }) }
     {

@@ -157,9 +157,8 @@ impl<W: Write> Resize for Term<W> {
         ensures resized { OnOk result (Resized cols rows (view_behind W.contents self.old) (view_behind W.contents self.new)) }
         ensures unchanged { OnErr result (self.new ≡ self.old) }
         ensures zero_size { (result ≡ Err Refusal.ZeroSize) ↔ ((rows ≡ 0) ⊎ (cols ≡ 0)) }
-        ensures no_other { IfErr result (λ e. (e ≡ Refusal.ZeroSize) ⊎ (e ≡ Refusal.Memory)) }
+        ensures no_other { IfErr result (λ e. e ≡ Refusal.ZeroSize) }
         ensures alone { OnOk result (self.new ≡ record self.old { columns = cols; rows = rows }) }
-        ensures no_memory { IfErr result (λ e. e ≡ Refusal.ZeroSize) }
     {
         if rows == 0 || cols == 0 {
             return Err(Refusal::ZeroSize);

@@ -1,7 +1,7 @@
 //! What a terminal has to offer: its size, its faults, and eight calls, each by the bytes that it writes. And what changes its size.
-ghost use Rattle.std.specs.Prelude.{◌≡◌, ◌^◌, ◌<◌, ◌⊎◌, ◌↔◌, [], IfErr, OnOk, OnErr};
+ghost use Rattle.std.specs.Prelude.{◌≡◌, ◌^◌, ◌<◌, ◌⊎◌, ◌↔◌, [], Err, IfErr, IsFalse, OnOk, OnErr};
 ghost use Rattle.indicatif_term.specs.Calls.{TermView, Writes, move_bytes, line_bytes, clear_bytes, UP, DOWN, RIGHT, LEFT};
-ghost use Rattle.indicatif_term.specs.Resizes.{Resized};
+ghost use Rattle.indicatif_term.specs.Resizes.{Resized, has_size};
 
 pub use crate::term::{Term, write_whole};
 use indicatif_text::columns::Refusal;
@@ -134,10 +134,11 @@ pub trait Resize: TermLike {
     /// // contents: "progr\ness", cursor: (0, 5)
     /// ```
     ///
-    /// Refused: `ZeroSize` where `rows` or `cols` is 0; `Memory`. All is unchanged then.
+    /// Refused: `ZeroSize` where `rows` or `cols` is 0; `Memory`, never at the size that it has. All is unchanged then.
     fn resize(&mut self, rows: u16, cols: u16) -> Result<(), Refusal>
         ensures resized { OnOk result (Resized cols rows (Self.view self.old) (Self.view self.new)) }
         ensures unchanged { OnErr result (self.new ≡ self.old) }
         ensures zero_size { (result ≡ Err Refusal.ZeroSize) ↔ ((rows ≡ 0) ⊎ (cols ≡ 0)) }
-        ensures no_other { IfErr result (λ e. (e ≡ Refusal.ZeroSize) ⊎ (e ≡ Refusal.Memory)) };
+        ensures no_other { IfErr result (λ e. (e ≡ Refusal.ZeroSize) ⊎ (e ≡ Refusal.Memory)) }
+        ensures memory { result ≡ Err Refusal.Memory → IsFalse (has_size cols rows (Self.view self.old)) };
 }

@@ -1,5 +1,5 @@
 //! The cell terminal: a machine over bytes.
-ghost use Rattle.std.specs.Prelude.{◌≡◌, ◌∷◌, [], ◌⊎◌, ◌↔◌, ◌-◌, ◌<◌, ◌≤◌, take, map, length, IfOk, IfErr, OnOk, OnErr, string_bytes};
+ghost use Rattle.std.specs.Prelude.{◌≡◌, ◌∷◌, [], ◌⊎◌, ◌↔◌, ◌-◌, ◌<◌, ◌≤◌, ◌==◌, ◌&&◌, take, map, length, Err, IfOk, IfErr, IsFalse, OnOk, OnErr, string_bytes};
 ghost use Rattle.indicatif_term.specs.Screen.{top};
 ghost use Rattle.indicatif_term.specs.Terminal.{after, blank_terminal};
 ghost use Rattle.indicatif_term.specs.Pictures.{contents_text, picture_text};
@@ -183,12 +183,14 @@ impl Cells {
     /// row. A character wider than `cols` is left out.
     ///
     /// Refused: `ZeroSize` where `rows` or `cols` is 0, which is tested before memory is taken; `Memory`, which is taken for all
-    /// rows, those that scrolled away too, before anything changes.
+    /// rows, those that scrolled away too, before anything changes, and not at the size that it has.
     pub fn resize(&mut self, rows: u16, cols: u16) -> Result<(), Refusal>
         ensures resized { OnOk result (self.new ≡ resized_terminal cols rows self.old) }
         ensures unchanged { OnErr result (self.new ≡ self.old) }
         ensures zero_size { (result ≡ Err Refusal.ZeroSize) ↔ ((rows ≡ 0) ⊎ (cols ≡ 0)) }
         ensures no_other { IfErr result (λ e. (e ≡ Refusal.ZeroSize) ⊎ (e ≡ Refusal.Memory)) }
+        ensures memory { result ≡ Err Refusal.Memory →
+            IsFalse ((self.old.screen.columns == cols) && (self.old.screen.height == rows)) }
     {
         if cols == 0 || rows == 0 {
             return Err(Refusal::ZeroSize);

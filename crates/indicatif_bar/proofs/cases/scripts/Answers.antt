@@ -20,7 +20,7 @@ returns-clause-scrolled_away c = (refl, refl, refl, refl)
 
 pub returns-clause-logs_cut : goal.returns-clause-logs_cut
 unfolding char_width unicode_width rows_of visible has_wide drawn logged shown_rows lines_of fitting grouped chars lines encode drawn_by resized_lists recut
-returns-clause-logs_cut c = (refl, refl)
+returns-clause-logs_cut c = (refl, refl, refl)
 
 pub returns-clause-hidden_size : goal.returns-clause-hidden_size
 unfolding char_width unicode_width rows_of visible has_wide drawn logged shown_rows lines_of fitting grouped chars lines encode drawn_by resized_lists recut

@@ -1,5 +1,5 @@
 //! A grid that gets another size: its rows are put on a new one, each cut anew.
-ghost use Rattle.std.specs.Prelude.{◌≡◌, ◌==◌, ◌&&◌, ◌+◌, ◌<◌, ◌≤◌, IfOk, IfErr, OnOk, OnErr, length, max, reverse, take};
+ghost use Rattle.std.specs.Prelude.{◌≡◌, ◌==◌, ◌&&◌, ◌+◌, ◌<◌, ◌≤◌, IfOk, IfErr, IsFalse, OnOk, OnErr, length, max, reverse, take};
 ghost use Rattle.indicatif_text.specs.Columns.{width_of};
 ghost use Rattle.std.specs.Int.{is_in_range};
 ghost use Rattle.indicatif_term.specs.Screen.{blank_screen, top};
@@ -26,6 +26,7 @@ impl Grid {
         ensures resized { OnOk result (self.new ≡ resized columns height self.old) }
         ensures err { OnErr result (self.new ≡ self.old) }
         ensures refused { IfErr result (λ e. e ≡ Refusal.Memory) }
+        ensures another { IfErr result (λ e. IsFalse ((self.old.columns == columns) && (self.old.height == height))) }
     {
         if self.has_size(height, columns) {
             return Ok(());

@@ -27,4 +27,4 @@ returns g c = λ trackers texts logged v known.
     } in
     let all = c.plain_texts_give_plain_runs.ensures trackers (call ∷ []) (c.println.result ∷ []) (Some v) s.0 new made.0 run
     (subst IsPlainBar (sym c.bar-record.ensures.bar ∙ c.bar-record.ensures.state s.0 s.1) plain) (All-from_recursion (λ call. IsPlainLoneCall call.0) (call ∷ []) (logged, tt)) in
-    (s.0, made.0, s.1, made.1, step.writes.0, step.writes.1, step.writes.2.paints all.0)
+    (s.0, made.0, s.1, made.1, step.writes.0, step.writes.1, step.writes.2.paints all.0.0)
