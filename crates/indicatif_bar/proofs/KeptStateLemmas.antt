@@ -1,6 +1,6 @@
 -- What holds in each state that a call may lead to holds after it.
 use Rattle.std.proofs.Common.{sym, ap, subst, inl, inr}
-use Rattle.indicatif_bar.specs.Machines.{Target, Machine, Draw, Deed, AtOnce, Draws, Leads, drawn_by}
+use Rattle.indicatif_bar.specs.Machines.{Target, Machine, Deed, AtOnce, Draws, Leads, drawn_by}
 use Rattle.indicatif_bar.proofs.SoundRunLemmas.{drawn_keeps}
 
 module _ {S C A : Type 0} (m : Machine S C A) (P : S → Type 0) where

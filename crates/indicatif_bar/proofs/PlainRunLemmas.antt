@@ -1,7 +1,7 @@
 -- Where the texts of bars and calls are plain, the lines of each draw are, so that every run is plain.
-use Rattle.std.proofs.Common.{◌≡◌, ℕ, zero, suc, ◌-◌, Bool, true, false, List, [], ◌∷◌, ◌++◌, map, drop, chars, refl, sym, ◌∙◌, ap, subst, Option, Some, None, Result, inl, inr}
+use Rattle.std.proofs.Common.{◌≡◌, ℕ, zero, suc, ◌-◌, Bool, true, List, [], ◌∷◌, ◌++◌, map, drop, chars, refl, sym, ◌∙◌, subst, Option, Some, None, Result}
 use Rattle.std.specs.Prelude.{IsTrue, ◌&&◌, nat_lt, unwrap_or}
-use Rattle.std.specs.List.{AllByRecursion, list_all}
+use Rattle.std.specs.List.{AllByRecursion}
 use Rattle.std.proofs.lemmas.Bool.{cond_both}
 use Rattle.std.proofs.lemmas.List.Folds.{list_all-append}
 use Rattle.std.proofs.lemmas.List.Elements.{All-from_recursion, recursion_from_All}
@@ -18,17 +18,17 @@ use Rattle.indicatif_bar.specs.Kinds.{Kind, Writing, Frame, TextAndFrame, NoFram
 use Rattle.indicatif_bar.specs.Lone.{LoneState, LoneCall, Obey, Log, Clear, lone, lone_frame, writing_of, bar_after, refused_at_once, deed_unless, draw_of_call}
 use Rattle.indicatif_bar.specs.declared.state.Ask.{Ask}
 use Rattle.indicatif_bar.specs.declared.state.Ask.TheVariants.{No}
-use Rattle.indicatif_bar.specs.Progress.{Progress, is_hidden}
+use Rattle.indicatif_bar.specs.Progress.{is_hidden}
 use Rattle.indicatif_bar.specs.PositionLimiters.{allow_position}
 use Rattle.indicatif_bar.specs.Tabs.{expanded}
 use Rattle.indicatif_bar.specs.Trackers.{Tracking}
 use Rattle.indicatif_bar.specs.BarStyles.{BarStyle, lines}
 use Rattle.indicatif_bar.specs.Bars.{bar_kind, lines_of_bar}
 use Rattle.indicatif_bar.specs.Finishes.{BarFinish, AndLeave, WithMessage, AndClear, Abandon, AbandonWithMessage}
-use Rattle.indicatif_bar.specs.Commands.{BarRecord, Command, Tick, TickerTick, SetTicker, Inc, Dec, SetPosition, Update, SetLength, UnsetLength, IncLength, DecLength, SetMessage, SetPrefix, SetStyle, PutPosition, PutMessage, PutPrefix, PutFinish, PutTabWidth, SetTabWidth, SetElapsed, ResetEta, ResetElapsed, Reset, FinishBy, FinishUsingStyle, ForceDraw, obeyed, update, tick, ticker_tick, moved_to, finish, with_progress, some_or}
+use Rattle.indicatif_bar.specs.Commands.{BarRecord, Command, Tick, TickerTick, SetTicker, Inc, Dec, SetPosition, Update, SetLength, UnsetLength, IncLength, DecLength, SetMessage, SetPrefix, SetStyle, PutPosition, PutMessage, PutPrefix, PutFinish, PutTabWidth, SetTabWidth, SetElapsed, ResetEta, ResetElapsed, Reset, FinishBy, FinishUsingStyle, ForceDraw, obeyed, tick, ticker_tick, moved_to, finish, with_progress, some_or}
 use Rattle.indicatif_bar.specs.StyleLaws.{IsPlainText}
 use Rattle.indicatif_bar.specs.LineLaws.{IsPlainLiteral, HasPlainTexts}
-use Rattle.indicatif_bar.specs.PlainLaws.{IsPlainWithTabs, ArePlainTrackers, HasPlainLiteral, IsPlainStyle, IsPlainFinish, IsPlainBar, IsPlainCommand, IsPlainLoneCall, LoneRunsArePlain}
+use Rattle.indicatif_bar.specs.PlainLaws.{IsPlainWithTabs, ArePlainTrackers, HasPlainLiteral, IsPlainFinish, IsPlainBar, IsPlainCommand, IsPlainLoneCall, LoneRunsArePlain}
 use Rattle.indicatif_bar.proofs.KeptStateLemmas.{IsKept, leads_keep}
 use Rattle.indicatif_bar.proofs.PlainTextLemmas.{plain_texts_give_plain_lines, plain_lines_are_asked}
 
