@@ -1,9 +1,9 @@
 #!/usr/bin/env python3
 """What one operation of a measurement of `bench` costs, function by function, and instruction by instruction.
 
-usage: tools/parts.py [--each] PROGRAM NAME N
+usage: tools/parts.py [--each] PROGRAM [WORD ..] NAME N
 
-Runs `PROGRAM NAME N` and `PROGRAM NAME 2N` under callgrind, and prints for each function what the longer run has more, divided by N; with
+Runs `PROGRAM [WORD ..] NAME N` and the same with 2 N under callgrind, and prints for each function what the longer run has more, divided by N; with
 --each also each instruction of the program that is run half a time or more in an operation, as objdump writes it. It is run where the
 measurements' data lies (crates/bench/data), and wants valgrind and objdump.
 """
@@ -13,11 +13,11 @@ import sys
 import tempfile
 
 
-def counted(program, name, count):
+def counted(words, count):
     """The instructions of a run: by function, and by address."""
     with tempfile.NamedTemporaryFile() as out:
-        words = ["valgrind", "--tool=callgrind", "--dump-instr=yes", f"--callgrind-out-file={out.name}"]
-        subprocess.run([*words, program, name, str(count)], check=True, capture_output=True)
+        counts = ["valgrind", "--tool=callgrind", "--dump-instr=yes", f"--callgrind-out-file={out.name}"]
+        subprocess.run([*counts, *words, str(count)], check=True, capture_output=True)
         with open(out.name, encoding="utf-8", errors="replace") as file:
             return read(file)
 
@@ -86,18 +86,18 @@ def print_each(program, places):
 def main(words):
     each = "--each" in words
     words = [word for word in words if word != "--each"]
-    if len(words) != 3:
+    if len(words) < 3:
         print(__doc__, file=sys.stderr)
         return 2
-    program, name, count = words[0], words[1], int(words[2])
-    less, greater = counted(program, name, count), counted(program, name, 2 * count)
+    count = int(words.pop())
+    less, greater = counted(words, count), counted(words, 2 * count)
     functions = more(less[0], greater[0], count)
     print(f"{sum(functions.values()):8.2f}  in all")
     for of, cost in sorted(functions.items(), key=lambda item: -item[1]):
         if cost >= 0.5:
             print(f"{cost:8.2f}  {of}")
     if each:
-        print_each(program, more(less[1], greater[1], count))
+        print_each(words[0], more(less[1], greater[1], count))
     return 0
 
 
