@@ -299,7 +299,7 @@ pub fn on_stream<R: Env + AllocGlobal + time::Clock + Copy, W: Write + IsTermina
     let facts = facts_of(rt, &stream)?;
     let told = number_said(rt, "COLUMNS")?;
     let mut clock = MachineClock::new(*rt);
-    let target = target_on(rt, stream, (told, facts), clock.now())?;
+    let target = target_on(rt, stream, told, facts, clock.now())?;
     Ok(Setup { target, clock })
 }
 
@@ -333,14 +333,15 @@ pub fn sized_target<R: Env + AllocGlobal + time::Clock + Copy, W: Write + IsTerm
         ..facts_of(rt, &stream)?
     };
     let mut clock = MachineClock::new(*rt);
-    target_on(rt, stream, (Some(cols), facts), clock.now())
+    target_on(rt, stream, Some(cols), facts, clock.now())
 }
 
 /// A target on a stream of which this is told, but for its columns, which are told apart, if they are.
 fn target_on<R: AllocGlobal, W: Write + Drop>(
     rt: &R,
     stream: W,
-    (told, facts): (Option<u16>, Facts),
+    told: Option<u16>,
+    facts: Facts,
     now: Moment,
 ) -> Result<ProgressDrawTarget<StreamTerm<W>>, Refusal>
     ensures target { IfOk result (λ target. IsOnStream target told (record facts { cols = columns_by told })) }
