@@ -536,7 +536,7 @@ def results():
 
 
 # The first words of a line of commands. One that ends with `{`, `(`, `,` or `;` is code all the same.
-COMMANDS = "rt (cd cd git mkdir for cp done echo grep rm export shopt meter producer apt-get".split()
+COMMANDS = "rt .ci/run (cd cd git mkdir for cp done echo grep rm export shopt meter producer apt-get".split()
 
 
 def are_commands(lines):
