@@ -3,7 +3,8 @@
 
 usage: tools/pages.py [--write]   (at the root of the repository)
 
-- Each row of a table of docs/TEMPLATES.md is one row of crates/rows/data/templates_page.txt, which `crates/rows` plays.
+- Each row of a table of docs/TEMPLATES.md is one row of crates/rows/data/templates_page.txt, which `crates/rows` plays. Each key of
+  crates/indicatif_bar/specs/Keys.antt has a row there, and each word of crates/indicatif_text/specs/StyleWords.antt stands on the page.
 - The README's program is that of crates/example_readme.
 - Each call, clause, law and file that a table of docs/PROVED.md names is there.
 - The same of docs/REFUSALS.md, which names each public call of the libraries: those of public types and traits, and free ones that a
@@ -82,6 +83,19 @@ def row(section, template, shown):
     if section == "Without a length":
         fields[6] = "-"
     return "laid " + "\t".join(fields) + " -> " + spelled(shown + "\\n")
+
+
+def faults_of_templates():
+    page = read(PAGE)
+    shown = "\n".join(template for _, template, _ in tables(page))
+    for key in re.findall(r'\(codes "(\w+)", key\.', read("crates/indicatif_bar/specs/Keys.antt")):
+        if not re.search(rf"\{{{key}[:}}]", shown):
+            yield f"{PAGE} has no row with the key {key}"
+    words = read("crates/indicatif_text/specs/StyleWords.antt")
+    for line in re.findall(r"^(?:colour_words|attribute_words) = .*", words, re.M):
+        for word in re.findall(r'codes "(\w+)"', line):
+            if f"`{word}`" not in page:
+                yield f"{PAGE} lacks the style word {word}"
 
 
 # README.md
@@ -701,6 +715,7 @@ def main():
         faults.append("README.md has another program than crates/example_readme")
     if len(texts[0].splitlines()) > 90:
         faults.append("README.md has more than 90 lines")
+    faults += faults_of_templates()
     faults += faults_of_proved()
     faults += faults_of_refused()
     faults += faults_of_refusals()
