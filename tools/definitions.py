@@ -24,20 +24,20 @@ LAWS = "what follows from the definitions that they name, with no source of thei
 
 HEAD = f"""# Definitions
 
-Each definition that a contract may cite, beside the plain words that stand above it in its file. Texts are lists of
-characters (`chars` of UTF-8 bytes) or of bytes, as each file says; numbers are whole and have no upper limit. This page is
-written by `tools/definitions.py` from the files themselves, and the sources from the table in it.
+This page lists each definition that a contract may cite, with the plain words above it in its file. Texts are lists of
+characters (`chars` of UTF-8 bytes) or of bytes, as each file says. Numbers are whole and have no upper limit.
+`tools/definitions.py` writes the page from the files, and the sources from a table of its own.
 
-Below a file's name stands the source of its definitions; one that comes from another has that behind its name.
+Below a file's name is the source of its definitions. A definition from another source has that source after its name.
 
 - {WIDTHS}: Unicode's East Asian Width, character by character, as the kit's crate `unicode_width` states it.
-- {SEQUENCES}: colour sequences, moves, erasing and the ends of lines, as far as they are used here.
+- {SEQUENCES}: colour sequences, moves, erasing and line ends, as far as they are used here.
 - {UNICODE}: the encoding form of The Unicode Standard.
-- {CRATE}: the documentation of the crate `indicatif` 0.18.6 and of what it sends its reader to, and the crate's answers
-  where these are silent.
+- {CRATE}: the documentation of the crate `indicatif` 0.18.6 and the pages that it links to, and the crate's answers
+  where these say nothing.
 - {OWN}: this project's own, or its own words for what the crate promises.
 
-Files under `Inside/` and those whose first words say so are cited by private functions alone.
+Files under `Inside/`, and those whose first words say so, are cited only by private functions.
 """
 
 # For each file the source of its definitions, and of those that come from another. A file of a folder `Inside/` that isn't

@@ -7,7 +7,7 @@
 #   rows    three meters in one pipeline, each on its row
 #   wrong   a pane of 200 columns and one of 40 where 80 are told, with a row above that is to stay
 #   race    2 GiB of zeros through `meter`, `pv` and `cat`, in turn, nine times each (or $TURNS times): how long they took and how much
-#           time of a processor each took itself, in milliseconds, the middle and the least, and the speed of `meter` by these, where
+#           time of a processor each took itself, in milliseconds, the median and the least, and the speed of `meter` by these, where
 #           that of the other is 1. Its bar is hidden: standard error is no terminal
 #   shown   the same race in a pane of 80 columns, where the bars are shown, and what stands there at last
 # Without a word all of them, one after another.
@@ -98,21 +98,21 @@ shown() {
   took $(cat "$folder/moments") >> "$1"
 }
 
-# middle FILE FIELD, least FILE FIELD: of the numbers in a field of a file
-middle() { cut -d ' ' -f "$2" "$1" | sort -n | sed -n "$((($(wc -l < "$1") + 1) / 2))p"; }
+# median FILE FIELD, least FILE FIELD: of the numbers in a field of a file
+median() { cut -d ' ' -f "$2" "$1" | sort -n | sed -n "$((($(wc -l < "$1") + 1) / 2))p"; }
 least() { cut -d ' ' -f "$2" "$1" | sort -n | head -n 1; }
 
 # told NAME: the times in a file of this name
 told() {
-  printf '%-14s middle %6d, least %6d, processor %6d; all: %s\n' "$1" "$(middle "$folder/$1" 1)" "$(least "$folder/$1" 1)" \
-    "$(middle "$folder/$1" 2)" "$(cut -d ' ' -f 1 "$folder/$1" | paste -sd ' ')"
+  printf '%-14s median %6d, least %6d, processor %6d; all: %s\n' "$1" "$(median "$folder/$1" 1)" "$(least "$folder/$1" 1)" \
+    "$(median "$folder/$1" 2)" "$(cut -d ' ' -f 1 "$folder/$1" | paste -sd ' ')"
 }
 
 # compared METER OTHER: the speed of the first, where that of the other is 1
 compared() {
-  awk -v middle="$(middle "$folder/$1" 1)" -v least="$(least "$folder/$1" 1)" -v other="$(middle "$folder/$2" 1)" \
+  awk -v median="$(median "$folder/$1" 1)" -v least="$(least "$folder/$1" 1)" -v other="$(median "$folder/$2" 1)" \
     -v others="$(least "$folder/$2" 1)" -v name="$2" \
-    'BEGIN { printf "speed of meter, where that of %s is 1: %.2f by the middle, %.2f by the least\n", name, other / middle, others / least }'
+    'BEGIN { printf "speed of meter, where that of %s is 1: %.2f by the medians, %.2f by the least times\n", name, other / median, others / least }'
 }
 
 ln -s "$meter" "$folder/meter"

@@ -3,13 +3,17 @@
 
 usage: tools/pages.py [--write]   (at the root of the repository)
 
-- Each row of a table of docs/TEMPLATES.md is one row of crates/rows/data/templates_page.txt, which `crates/rows` plays.
+- Each row of a table of docs/TEMPLATES.md is one row of crates/rows/data/templates_page.txt, which `crates/rows` plays. Each key of
+  crates/indicatif_bar/specs/Keys.antt has a row there, and each word of crates/indicatif_text/specs/StyleWords.antt stands on the page.
 - The README's program is that of crates/example_readme.
 - Each call, clause, law and file that a table of docs/PROVED.md names is there.
 - The same of docs/REFUSALS.md, which names each public call of the libraries: those of public types and traits, and free ones that a
   public path has. Of a trait's calls that a type makes it names those that answer a Result or an Option, with the trait or the type.
 - The table of refusals in docs/USING.md has the numbers and texts of crates/rows/data/refusals.txt, and all of them. Other pages that
   name a refusal with its number name it so.
+- docs/DIFFERENCES.md: each value of the table of formatters, each text of that of templates and each list of commands of `bars run` in
+  the table of boards is a row of crates/rows/data. Each test of the Rust crate stands where the table says, and the numbers of tests
+  above it are those of its rows.
 - The options and statuses of docs/METER.md are those of crates/meter/src.
 - docs/MAP.md names each crate of crates.txt and each tool. Each link leads to a file, and each path that a page names is there. Each
   name between backquotes that has an underscore, or a capital behind a small letter, is a word of the sources, the data or the tools.
@@ -82,6 +86,19 @@ def row(section, template, shown):
     if section == "Without a length":
         fields[6] = "-"
     return "laid " + "\t".join(fields) + " -> " + spelled(shown + "\\n")
+
+
+def faults_of_templates():
+    page = read(PAGE)
+    shown = "\n".join(template for _, template, _ in tables(page))
+    for key in re.findall(r'\(codes "(\w+)", key\.', read("crates/indicatif_bar/specs/Keys.antt")):
+        if not re.search(rf"\{{{key}[:}}]", shown):
+            yield f"{PAGE} has no row with the key {key}"
+    words = read("crates/indicatif_text/specs/StyleWords.antt")
+    for line in re.findall(r"^(?:colour_words|attribute_words) = .*", words, re.M):
+        for word in re.findall(r'codes "(\w+)"', line):
+            if f"`{word}`" not in page:
+                yield f"{PAGE} lacks the style word {word}"
 
 
 # README.md
@@ -313,6 +330,79 @@ def faults_of_refusals():
                 yield f"{path}: {number} isn't `{name}`"
 
 
+# docs/DIFFERENCES.md
+
+
+def section(page, name):
+    return page.partition(f"\n## {name}\n")[2].partition("\n## ")[0]
+
+
+def cells_of(text):
+    """The cells of each row of a text's tables, but for heads."""
+    for line in text.splitlines():
+        if line.startswith("| ") and not line.startswith(("| What |", "| The crate", "| Commands |")):
+            yield [cell.strip() for cell in re.split(r"(?<!\\)\|", line)[1:-1]]
+
+
+def rows_of_data():
+    return {line for path in pathlib.Path("crates/rows/data").glob("*.txt") for line in read(path).splitlines()}
+
+
+def formatted(cell):
+    """The input of a formatter, as rows spell it."""
+    call = re.fullmatch(r"`(\w+)\((\d+)\)`", cell)
+    quotient = re.fullmatch(r"(\d+/\d+) at (\d+) decimals", cell)
+    return f"{call[1]} {call[2]}" if call else f"HumanFloatCount:{quotient[2]} {quotient[1]}" if quotient else ""
+
+
+def faults_of_values(page, rows):
+    for cells in cells_of(section(page, "Formatters")):
+        if f"format {formatted(cells[1])} -> {cells[2].strip('`')}" not in rows:
+            yield f"no row has {cells[1]}, {cells[2]}"
+    for cells in cells_of(section(page, "Templates and styles").partition("\nBoth ")[0]):
+        text = re.search(r"`(.*)`", cells[1])[1]
+        literal = re.fullmatch(r"the literal `(.*)`", cells[2])
+        wanted = f"parse {text} -> " + (f"L {spelled(literal[1])}" if literal else "E7")
+        words = re.findall(r"[.](\w+)}", text)
+        if wanted not in rows and not (words and all(f"no_style {word} -> yes" in rows for word in words)):
+            yield f"no row has {cells[1]}, {cells[2]}"
+    for cells in cells_of(section(page, "Boards")):
+        played = re.match(r"`bars run (\d+ \d+)`: (.*)", cells[1])
+        commands = "".join(command + "\\n" for command in re.findall(r"`([^`]*)`", played[2])) if played else ""
+        shown = "".join(text + "\\n" for text in re.findall(r"`([^`]*)`", cells[2]))
+        if played and f"bars run {played[1]}: {commands} -> 0 {shown}" not in rows:
+            yield f"no row has {cells[1]}"
+
+
+def stands_at(name, place):
+    """Whether a test stands in a file of rows, below its name, or in a module of front_tests."""
+    if place.endswith(".txt"):
+        return re.search(rf"^# {name}\b", read(f"crates/rows/data/{place}"), re.M)
+    return re.search(rf"\bfn {name}\b", read(f"crates/front_tests/src/{place}.rt"))
+
+
+def faults_of_carried(page):
+    rows = list(cells_of(section(page, "The tests of the crate")))
+    for cells in rows:
+        name = cells[1].strip("`")
+        for place in re.findall(r"`([^`]*)`", cells[2]):
+            if not stands_at(name, place):
+                yield f"{name} isn't in {place}"
+    out = sum(cells[3].startswith("left out") for cells in rows)
+    part = sum(cells[3].startswith("in part") for cells in rows)
+    drawn = sum(cells[0] == "`render.rs`" for cells in rows)
+    for number in (f"has {len(rows)} tests", f": {len(rows) - drawn} of its units, and {drawn} of",
+                   f" {len(rows) - part - out} of them are here", f" {part} are here in part, and {out} are left out"):
+        if number not in " ".join(page.split()):
+            yield f"the table has other numbers than the text: {number}"
+
+
+def faults_of_differences():
+    page = read("docs/DIFFERENCES.md")
+    for fault in [*faults_of_values(page, rows_of_data()), *faults_of_carried(page)]:
+        yield f"docs/DIFFERENCES.md: {fault}"
+
+
 # docs/METER.md
 
 
@@ -536,7 +626,7 @@ def results():
 
 
 # The first words of a line of commands. One that ends with `{`, `(`, `,` or `;` is code all the same.
-COMMANDS = "rt (cd cd git mkdir for cp done echo grep rm export shopt meter producer apt-get".split()
+COMMANDS = "rt .ci/run (cd cd git mkdir for cp done echo grep rm export shopt meter producer apt-get".split()
 
 
 def are_commands(lines):
@@ -701,9 +791,11 @@ def main():
         faults.append("README.md has another program than crates/example_readme")
     if len(texts[0].splitlines()) > 90:
         faults.append("README.md has more than 90 lines")
+    faults += faults_of_templates()
     faults += faults_of_proved()
     faults += faults_of_refused()
     faults += faults_of_refusals()
+    faults += faults_of_differences()
     faults += faults_of_meter()
     faults += faults_of_names()
     faults += faults_of_words()

@@ -210,7 +210,7 @@ fn timing_in(matches: &ArgMatches<'_>) -> Result<Timing, Unasked> {
 /// What is found in these words.
 fn found<'a>(alloc: Global, words: &'a [String]) -> Result<ArgMatches<'a>, Error> {
     let command = Command::new(alloc, "meter").about(
-        "Hands files or standard input on to standard output, and shows on standard error how far it is",
+        "Copies files or standard input to standard output, and shows the progress on standard error",
     );
     let command = with_inputs(alloc, command)?;
     let command = with_looks(alloc, command)?;
@@ -239,26 +239,28 @@ fn with_inputs<'a>(alloc: Global, command: Command<'a>) -> Result<Command<'a>, E
     let files = Arg::new(alloc, "file")
         .value_name("FILE")
         .num_args(0..)
-        .help("What is handed on, in turn; - is standard input, and so is none");
+        .help("The inputs, copied in turn; - or no file is standard input");
     let size = valued(alloc, "size", 's', "N").help(
-        "How many bytes will come: 700, 10M or 10MiB (1024 x 1024 each), 10MB (a million each)",
+        "How many bytes will come: 700, 10M or 10MiB (1024 x 1024 bytes each), 10MB (a million each)",
     );
-    let limit = valued(alloc, "rate-limit", 'L', "N").help("At most so many bytes a second");
+    let limit = valued(alloc, "rate-limit", 'L', "N").help("Copies at most N bytes a second");
     Ok(command.arg(files)?.arg(size)?.arg(limit)?)
 }
 
 /// With the options of the look.
 fn with_looks<'a>(alloc: Global, command: Command<'a>) -> Result<Command<'a>, Error> {
-    let name = valued(alloc, "name", 'N', "TEXT").help("What stands before the numbers");
-    let format = valued(alloc, "format", 'F', "TEMPLATE").help("A template of indicatif's");
+    let name = valued(alloc, "name", 'N', "TEXT").help("A text before the numbers");
+    let format = valued(alloc, "format", 'F', "TEMPLATE").help(
+        "The look, as a template of indicatif",
+    );
     let interval = valued(alloc, "interval", 'i', "SEC").help(
-        "The seconds from one drawing to the next (0.1)",
+        "The seconds between two drawings (0.1)",
     );
     let columns = valued(alloc, "columns", 'w', "N")
         .value_parser(value_parser!(u16).range(1..))
-        .help("The terminal's columns, where COLUMNS doesn't tell them");
+        .help("The terminal's columns, if COLUMNS isn't exported");
     let row = Arg::new(alloc, "row").long("row").value_name("K/N").help(
-        "Draws on the Kth of N rows, of which other meters of the pipeline have the others",
+        "Draws on row K of N; other meters of the pipeline draw on the other rows",
     );
     Ok(
         command
@@ -274,12 +276,12 @@ fn with_looks<'a>(alloc: Global, command: Command<'a>) -> Result<Command<'a>, Er
 fn with_flags<'a>(alloc: Global, command: Command<'a>) -> Result<Command<'a>, Error> {
     let lines = flag(alloc, "lines", 'l').help("Counts lines, not bytes");
     let numeric = flag(alloc, "numeric", 'n').help(
-        "A number a line: percent, or without a size how much",
+        "Prints numbers, one on a line: the percent, or the count if no size is known",
     );
     let quiet = flag(alloc, "quiet", 'q').help("Shows nothing");
-    let wait = flag(alloc, "wait", 'W').help("The time begins with the first byte");
+    let wait = flag(alloc, "wait", 'W').help("Counts the time from the first byte");
     let force = flag(alloc, "force", 'f').help(
-        "Shows the bar also where standard error is no terminal",
+        "Shows the bar even if standard error isn't a terminal",
     );
     Ok(
         command
