@@ -1,16 +1,16 @@
-//! Progress bars for the terminal: the Rust crate `indicatif` 0.18.6 in Rattle, with its names and its templates. What stands on the
-//! screen after any list of calls of a bar or a board without a lock is a theorem: docs/THEOREM.md has it. Of bars and boards that
-//! threads share it is proved which answers come. docs/PROVED.md says of each call what is proved and what is tested.
+//! Progress bars for the terminal: the Rust crate `indicatif` 0.18.6 in Rattle, with its names and its templates. For a bar or a board
+//! without a lock, a theorem says what is on the screen after any list of calls (docs/THEOREM.md). For bars and boards that threads
+//! share, it is proved which answers come. docs/PROVED.md says for each call what is proved and what is tested.
 //!
 //! # What is here
 //!
 //! - Bars that threads share: `ProgressBar` for bars and spinners, `MultiProgress` for several on one terminal. A `WeakProgressBar`
-//!   owns nothing.
-//! - Bars without a lock, of which contracts say more: `LoneBar` and `Board`, over a bar's record `BarState`. `BarCommand`, `LoneCall`
-//!   and `Call` are their calls as values; a `Recorded` board keeps its history.
+//!   refers to a bar without owning it.
+//! - Bars without a lock, about which contracts say more: `LoneBar` and `Board`. Both use `BarState`, a bar's record. `BarCommand`,
+//!   `LoneCall` and `Call` are their calls as values. A `Recorded` board keeps its history.
 //! - Looks: `ProgressStyle` from a template, `style::ProgressTracker` for keys of your own, `ProgressFinish` for a bar's end.
-//! - Wrappers: `ProgressBar::wrap_iter`, `wrap_read`, `wrap_write` and their polled kin move a bar. `ProgressIterator` makes the bar too,
-//!   `ParallelProgressIterator` for slices, and `run_workers` for pieces in threads. A bar of your own has to offer `Moves`.
+//! - Wrappers: `ProgressBar::wrap_iter`, `wrap_read`, `wrap_write` and the polled ones move a bar. `ProgressIterator` also makes the bar.
+//!   `ParallelProgressIterator` is for slices, and `run_workers` for pieces in threads. Your own type of bar has to implement `Moves`.
 //! - Targets: `machine::on_stderr` and `machine::on_stdout`, `machine::sized_target` where another size is told; `ProgressDrawTarget` over a
 //!   `Term` behind any writer, over an `InMemoryTerm` in tests, or over your own `TermLike`.
 //! - Numbers as texts: `HumanBytes`, `DecimalBytes`, `BinaryBytes`, `HumanDuration`, `FormattedDuration`, `HumanCount`, `HumanFloatCount`.
@@ -36,13 +36,13 @@
 //! `rt` is the runtime that `main` is given, `rt.alloc()` its allocator. The setup is a target and a clock: in a program
 //! `machine::on_stderr(&rt)?`, which is hidden where standard error is no terminal.
 //!
-//! - **When a bar draws.** `new` draws nothing. `inc`, `set_position`, `tick`, `set_length`, `set_message` and `set_prefix` ask for a draw;
-//!   a target with a rate makes 20 of these at once, and then one each 50 ms. `finish`, `abandon`, `println`, `suspend` and
-//!   `force_draw` draw whatever the rate says. The builders `with_..` and `set_style` ask for none.
-//! - **What a call answers.** `Ok(Drawn::Yes)` where it was drawn, `Limited` where it asked for no draw or the rate allowed none, `Hidden`
-//!   where the target is. Else a `Refusal`, with a stated state after it (docs/USING.md has them in a table).
-//! - **How a bar ends.** `finish` leaves it at its length, `abandon` where it stands, `finish_and_clear` takes it away. A bar whose last
-//!   owner is gone is finished by its stored finish (`with_finish`), which is `AndClear` at first.
+//! - **When a bar draws.** `new` draws nothing. `inc`, `set_position`, `tick`, `set_length`, `set_message` and `set_prefix` ask for a draw.
+//!   A target with a rate makes 20 of these draws at once, and then one each 50 ms. `finish`, `abandon`, `println`, `suspend` and
+//!   `force_draw` draw whatever the rate says. `set_style` and the builders `with_..` ask for no draw.
+//! - **What a call returns.** `Ok(Drawn::Yes)` means that it drew. `Limited` means that it asked for no draw, or that the rate allowed none.
+//!   `Hidden` means that the target is hidden. Otherwise the call returns a `Refusal`: docs/USING.md lists them, with the state after each.
+//! - **How a bar ends.** `finish` leaves it at its length, `abandon` where it is, and `finish_and_clear` takes it away. When the last owner is
+//!   gone, the stored finish ends the bar (`with_finish`). The default is `AndClear`.
 //! - **Spinners.** `new_spinner` makes a bar without a length. `enable_steady_tick(100_000_000)` ticks it ten times a second: times are
 //!   nanoseconds.
 //!
@@ -60,9 +60,9 @@
 //! [===>      ]  75/200 a.txt
 //! ```
 //!
-//! A key stands in braces. Behind a colon follow the alignment `<`, `^` or `>`, a width, `!` where a longer text is cut, and behind a
-//! dot the style: `{msg:>20!.green}`. docs/TEMPLATES.md has all keys, each with what it shows. Colours are off until
-//! `with_colors(true)`; `machine::style_on_stderr` turns them on where they are wanted.
+//! A key is in braces. After a colon come the alignment `<`, `^` or `>`, a width, `!` to cut a longer text, and after a dot the style:
+//! `{msg:>20!.green}`. docs/TEMPLATES.md has all keys, each with what it shows. Colours are off until `with_colors(true)`.
+//! `machine::style_on_stderr` turns them on where they are wanted.
 //!
 //! # Keys of your own
 //!
@@ -99,15 +99,15 @@
 //! ██████░░░░░░░░░░░░░░░░░ 7 left
 //! ```
 //!
-//! `told_text` states which text `tell` writes, and the prover holds `tell` to it. Where they differ, the crate isn't proved. It is a
+//! `told_text` states which text `tell` returns, and the prover checks that. If they differ, the crate isn't proved. `told_text` is a
 //! function of the teller, of the bar's record `p` and of the moment. `p` has `position`, `len`, `start`, `ticks`, `message`, `prefix`
-//! and more (`crates/indicatif_bar/specs/Progress.antt`). The language of such statements has its operators and functions by `ghost use`,
-//! with `◌` where the operands stand. Its numbers have no end, and its `-` stops at 0, as `saturating_sub` does. `decimal n` is a
-//! number's digits, `codes "left"` a text, and `++` joins two texts: `crates/examples/src/key.rt` says `12 left` so.
+//! and more (`crates/indicatif_bar/specs/Progress.antt`). Operators and functions of such statements come by `ghost use`, where `◌` stands
+//! for an operand. Numbers are unbounded, and `-` stops at 0, as `saturating_sub` does. `decimal n` is a number's digits, `codes "left"` a
+//! text, and `++` joins two texts: `crates/examples/src/key.rt` writes `12 left` this way.
 //!
-//! A type that changes when the bar ticks is a `style::ProgressTracker`. All keys of a style are of one type: for several, take an enum.
-//! `MultiProgress::keyed` makes a board for bars with such keys, which come by `new_bar(len)?.with_style(style)?`. A function over bars of
-//! any keys asks for `K: style::Tracks`.
+//! If your type changes when the bar ticks, implement `style::ProgressTracker`. All keys of a style have one type: for several, use an enum.
+//! `MultiProgress::keyed` makes a board for bars with such keys: make each bar by `new_bar(len)?.with_style(style)?`. A function for bars
+//! with any keys is generic over `K: style::Tracks`.
 //!
 //! # Several bars
 //!
@@ -126,8 +126,8 @@
 //! █████░░░░░░░░░░░░░░░ 1500/6000
 //! ```
 //!
-//! Each bar may be moved by a thread of its own: a clone is another owner of the same bar. The last argument of `new` is the board's
-//! mark, by which boards are told apart.
+//! Each bar may be moved by its own thread: a clone is another owner of the same bar. The last argument of `new` is the board's mark, a
+//! number that tells boards apart.
 //!
 //! # Wrappers
 //!
@@ -146,8 +146,7 @@
 //!
 //! # Traps
 //!
-//! **A message without `{msg}`.** The template of `new` is `{wide_bar} {pos}/{len}`: a message or a prefix is kept, and shows
-//! nowhere. Bad:
+//! **A message without `{msg}`.** The template of `new` is `{wide_bar} {pos}/{len}`: a message or a prefix is kept, but not shown. Bad:
 //!
 //! ```
 //! bar.set_message("a.txt")?; // draws, but `{wide_bar} {pos}/{len}` has no `{msg}`
@@ -168,7 +167,7 @@
 //! ░░░░░░░░░░░░░░░░░░░░░░░░ a.txt
 //! ```
 //!
-//! **A draw that wasn't meant.** Set by builders what you set before the bar is to be seen. Bad, where other work comes first:
+//! **A draw that you didn't mean.** Use builders before the bar should be visible. Bad, if other work comes first:
 //!
 //! ```
 //! let spinner = ProgressBar::new_spinner(rt, rt.alloc(), setup)?;
@@ -185,7 +184,7 @@
 //! let spinner = ProgressBar::new_spinner(rt, rt.alloc(), setup)?.with_message("searching")?;
 //! ```
 //!
-//! **A bar dropped too early.** At the end of a block the last owner goes, and the stored finish clears the bar. Bad:
+//! **A bar dropped too early.** At the end of a block the last owner is dropped, and the stored finish clears the bar. Bad:
 //!
 //! ```
 //! for name in ["a.txt", "b.txt"] {
@@ -200,8 +199,8 @@
 //! b.txt
 //! ```
 //!
-//! A bar that was finished stays without an owner, but only until the next text is logged: that takes its row away. Better: keep the
-//! owners as long as the bars are to be seen.
+//! A finished bar stays without an owner, but only until the next text is logged, which takes its row away. Better: keep the owners as
+//! long as the bars should be visible.
 //!
 //! ```
 //! let mut bars = Vec::new(rt.alloc());
@@ -233,14 +232,14 @@
 //! ████████░░░░░░░░░░░░░░░░░░ 1/3
 //! ```
 //!
-//! On a hidden target `println` writes nothing: print the line yourself where `is_hidden` says so. For other output there is `suspend`,
+//! On a hidden target `println` writes nothing: if `is_hidden` says so, print the line yourself. For other output there is `suspend`,
 //! which takes the rows back, calls a closure and draws again.
 //!
-//! **A call inside a closure.** `suspend`, `update` and `with_term` hold the lock while the closure runs: a call of the same bar, or of
-//! its board, in there waits for ever.
+//! **A call inside a closure.** `suspend`, `update` and `with_term` hold the lock while the closure runs. In it, a call of the same bar or
+//! of its board waits for ever.
 //!
-//! **A bar that was drawn before it joins a board.** What it drew on its own target stays there. Make it by `MultiProgress::new_bar`, or
-//! by `ProgressBar::hidden` and `MultiProgress::add`.
+//! **A bar that was drawn before it joins a board.** Its old rows stay on its old target. Make it by `MultiProgress::new_bar`, or by
+//! `ProgressBar::hidden` and `MultiProgress::add`.
 #![tactic(auto)]
 
 pub mod bridge;

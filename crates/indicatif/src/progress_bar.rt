@@ -245,8 +245,8 @@ impl<T: TermLike + Drop, C: Clock + Drop, R: Wait + Clone + Drop, K: Tracks> Pro
         self.tell(BarCommand::Tick)
     }
 
-    /// The position goes up by `delta`, modulo 2^64; and a tick, as often as the position's limiter allows: 10 times at once, and once
-    /// more each millisecond, so that a loop may call it at each of its steps.
+    /// Adds `delta` to the position, modulo 2^64. Also ticks, as often as the position's limiter allows: 10 times at once, and once more
+    /// each millisecond. So a loop may call it at each of its steps.
     #[inline(always)]
     pub fn inc(&self, delta: u64) -> Result<Drawn, Refusal>
         ensures { CanAnswer K.means T.view (Lone.Obey (Command.Inc delta)) result }
@@ -254,7 +254,7 @@ impl<T: TermLike + Drop, C: Clock + Drop, R: Wait + Clone + Drop, K: Tracks> Pro
         self.step(Step::Up(delta))
     }
 
-    /// The position goes down by `delta`, modulo 2^64; else as `inc`.
+    /// Subtracts `delta` from the position, modulo 2^64; otherwise as `inc`.
     #[inline(always)]
     pub fn dec(&self, delta: u64) -> Result<Drawn, Refusal>
         ensures { CanAnswer K.means T.view (Lone.Obey (Command.Dec delta)) result }
@@ -262,7 +262,7 @@ impl<T: TermLike + Drop, C: Clock + Drop, R: Wait + Clone + Drop, K: Tracks> Pro
         self.step(Step::Down(delta))
     }
 
-    /// Another position; else as `inc`. A lower one begins the rate anew.
+    /// Sets the position; otherwise as `inc`. A lower position restarts the rate.
     #[inline(always)]
     pub fn set_position(&self, position: u64) -> Result<Drawn, Refusal>
         ensures { CanAnswer K.means T.view (Lone.Obey (Command.SetPosition position)) result }
@@ -270,49 +270,50 @@ impl<T: TermLike + Drop, C: Clock + Drop, R: Wait + Clone + Drop, K: Tracks> Pro
         self.step(Step::To(position))
     }
 
-    /// Another length, and a draw: `{bar}`, `{percent}` and `{eta}` follow it.
+    /// Sets the length, and asks for a draw: `{bar}`, `{percent}` and `{eta}` follow it.
     pub fn set_length(&self, len: u64) -> Result<Drawn, Refusal>
         ensures { CanAnswer K.means T.view (Lone.Obey (Command.SetLength len)) result }
     {
         self.tell(BarCommand::SetLength(len))
     }
 
-    /// No length, and a draw: the bar is empty, `{len}` shows the position, and `{eta}` is 0.
+    /// Removes the length, and asks for a draw: the bar is empty, `{len}` shows the position, and `{eta}` is 0.
     pub fn unset_length(&self) -> Result<Drawn, Refusal>
         ensures { CanAnswer K.means T.view (Lone.Obey Command.UnsetLength) result }
     {
         self.tell(BarCommand::UnsetLength)
     }
 
-    /// A length that is longer by `delta`, up to 2^64 - 1, where there is one; and a draw.
+    /// Adds `delta` to the length, up to 2^64 - 1, if there is one; and asks for a draw.
     pub fn inc_length(&self, delta: u64) -> Result<Drawn, Refusal>
         ensures { CanAnswer K.means T.view (Lone.Obey (Command.IncLength delta)) result }
     {
         self.tell(BarCommand::IncLength(delta))
     }
 
-    /// A length that is shorter by `delta`, down to 0, where there is one; and a draw.
+    /// Subtracts `delta` from the length, down to 0, if there is one; and asks for a draw.
     pub fn dec_length(&self, delta: u64) -> Result<Drawn, Refusal>
         ensures { CanAnswer K.means T.view (Lone.Obey (Command.DecLength delta)) result }
     {
         self.tell(BarCommand::DecLength(delta))
     }
 
-    /// Another message, and a draw. It shows only where the template has `{msg}` or `{wide_msg}`: that of `new` hasn't.
+    /// Sets the message, and asks for a draw. It shows only where the template has `{msg}` or `{wide_msg}`: the template of `new` has
+    /// neither.
     pub fn set_message(&self, text: &str) -> Result<Drawn, Refusal>
         ensures { CanAnswer K.means T.view (Lone.Obey (Command.SetMessage text.now)) result }
     {
         self.tell_text(Worded::Message, text)
     }
 
-    /// Another prefix, and a draw. It shows only where the template has `{prefix}`.
+    /// Sets the prefix, and asks for a draw. It shows only where the template has `{prefix}`.
     pub fn set_prefix(&self, text: &str) -> Result<Drawn, Refusal>
         ensures { CanAnswer K.means T.view (Lone.Obey (Command.SetPrefix text.now)) result }
     {
         self.tell_text(Worded::Prefix, text)
     }
 
-    /// Another style, with the bar's width of tabs. No draw is asked: the next one is in this style.
+    /// Sets the style, and gives it the bar's width of tabs. Asks for no draw: the next one is in this style.
     ///
     /// Refused: `Memory`; the style is given up.
     pub fn set_style(&self, style: ProgressStyle<K>) -> Result<Drawn, Refusal>
@@ -321,44 +322,44 @@ impl<T: TermLike + Drop, C: Clock + Drop, R: Wait + Clone + Drop, K: Tracks> Pro
         self.tell(BarCommand::SetStyle(style))
     }
 
-    /// As many spaces for a tab, in the message, the prefix and the style; and a draw by force.
+    /// Sets how many spaces a tab has in the message, the prefix and the style, and forces a draw.
     pub fn set_tab_width(&self, tab: usize) -> Result<Drawn, Refusal>
         ensures { CanAnswer K.means T.view (Lone.Obey (Command.SetTabWidth tab)) result }
     {
         self.tell(BarCommand::SetTabWidth(tab))
     }
 
-    /// So many nanoseconds have passed since the start, as `{elapsed}` shows: for work that began before the bar. No draw is asked.
+    /// Sets the time since the start, in nanoseconds, as `{elapsed}` shows it: for work that began before the bar. Asks for no draw.
     ///
-    /// Refused: `ElapsedBeyondClock`, where they are more than the moment.
+    /// Refused: `ElapsedBeyondClock`, if that is more than the moment.
     pub fn set_elapsed(&self, nanos: u64) -> Result<Drawn, Refusal>
         ensures { CanAnswer K.means T.view (Lone.Obey (Command.SetElapsed nanos)) result }
     {
         self.tell(BarCommand::SetElapsed(nanos))
     }
 
-    /// The rate, and the time that is left by it, are counted from now on, as after a pause. No draw is asked.
+    /// Counts the rate, and the time that is left, from now on: for instance after a pause. Asks for no draw.
     pub fn reset_eta(&self) -> Result<Drawn, Refusal>
         ensures { CanAnswer K.means T.view (Lone.Obey Command.ResetEta) result }
     {
         self.tell(BarCommand::ResetEta)
     }
 
-    /// The rate and the time are counted from now on. No draw is asked.
+    /// Counts the rate and the elapsed time from now on. Asks for no draw.
     pub fn reset_elapsed(&self) -> Result<Drawn, Refusal>
         ensures { CanAnswer K.means T.view (Lone.Obey Command.ResetElapsed) result }
     {
         self.tell(BarCommand::ResetElapsed)
     }
 
-    /// The bar goes on from position 0, its rate and its time from now on; and a draw.
+    /// Sets the position to 0, counts rate and time from now on, and asks for a draw.
     pub fn reset(&self) -> Result<Drawn, Refusal>
         ensures { CanAnswer K.means T.view (Lone.Obey Command.Reset) result }
     {
         self.tell(BarCommand::Reset)
     }
 
-    /// The bar is finished at its length, where it has one, and stays on the screen. A draw by force.
+    /// Finishes the bar at its length, if it has one, and forces a draw. The bar stays on the screen.
     pub fn finish(&self) -> Result<Drawn, Refusal>
         ensures { CanAnswer K.means T.view (Lone.Obey (Command.FinishBy Finish.AndLeave)) result }
     {
@@ -372,14 +373,14 @@ impl<T: TermLike + Drop, C: Clock + Drop, R: Wait + Clone + Drop, K: Tracks> Pro
         self.tell_text(Worded::Finish, text)
     }
 
-    /// The bar is finished at its length, where it has one, and goes from the screen: it has no lines any more. A draw by force.
+    /// Finishes the bar at its length, if it has one, and forces a draw. The bar leaves the screen: it has no more lines.
     pub fn finish_and_clear(&self) -> Result<Drawn, Refusal>
         ensures { CanAnswer K.means T.view (Lone.Obey (Command.FinishBy Finish.AndClear)) result }
     {
         self.tell(BarCommand::Finish(ProgressFinish::AndClear))
     }
 
-    /// The bar is finished where it stands, as where work is given up, and stays on the screen. A draw by force.
+    /// Finishes the bar where it is, for work that is given up, and forces a draw. The bar stays on the screen.
     pub fn abandon(&self) -> Result<Drawn, Refusal>
         ensures { CanAnswer K.means T.view (Lone.Obey (Command.FinishBy Finish.Abandon)) result }
     {
@@ -393,22 +394,22 @@ impl<T: TermLike + Drop, C: Clock + Drop, R: Wait + Clone + Drop, K: Tracks> Pro
         self.tell_text(Worded::Abandon, text)
     }
 
-    /// The bar is finished by its stored finish: that of `with_finish`, at first `AndClear`. A draw by force.
+    /// Finishes the bar by its stored finish (`with_finish`; the default is `AndClear`), and forces a draw.
     pub fn finish_using_style(&self) -> Result<Drawn, Refusal>
         ensures { CanAnswer K.means T.view (Lone.Obey Command.FinishUsingStyle) result }
     {
         self.tell(BarCommand::FinishUsingStyle)
     }
 
-    /// A draw by force. Nothing of the bar changes.
+    /// Forces a draw. The bar doesn't change.
     pub fn force_draw(&self) -> Result<Drawn, Refusal>
         ensures { CanAnswer K.means T.view (Lone.Obey Command.ForceDraw) result }
     {
         self.tell(BarCommand::ForceDraw)
     }
 
-    /// Sets what the closure answers of the state that it is shown, under the lock; then as `tick`. Where its board hasn't the bar,
-    /// the closure isn't called.
+    /// Calls the closure with the bar's state, under the lock, and sets what it returns; then as `tick`. If its board hasn't the bar, the
+    /// closure isn't called.
     pub fn update<F: FnOnce(&ProgressState) -> Change>(&self, f: F) -> Result<Drawn, Refusal>
         requires { F.IsAlwaysCallable f }
         ensures { (change : Changed) × CanAnswer K.means T.view (Lone.Obey (Command.Update change.pos change.len)) result
@@ -417,17 +418,17 @@ impl<T: TermLike + Drop, C: Clock + Drop, R: Wait + Clone + Drop, K: Tracks> Pro
         self.state.lock.lock(&self.rt).update(&self.rt, f)
     }
 
-    /// Writes the text's lines above the bar, by force; the bar goes on below them. On a hidden target the text is dropped: print it
-    /// yourself where `is_hidden` says so.
+    /// Writes the text's lines above the bar, whatever the rate says; the bar goes on below them. On a hidden target the text is dropped:
+    /// if `is_hidden` says so, print it yourself.
     pub fn println(&self, text: &str) -> Result<Drawn, Refusal>
         ensures { CanAnswer K.means T.view (Lone.Log text.now) result }
     {
         self.tell_text(Worded::Log, text)
     }
 
-    /// Takes the bar's rows back, of a bar on a board those of all its bars, calls `f` once, and draws them again by force; the lock
-    /// is held meanwhile. Answers what `f` gave, and what the draw answered; where the clear was refused, `f` is called all the
-    /// same, no draw is made, and the answer is that refusal.
+    /// Takes the bar's rows back (on a board the rows of all bars), calls `f` once, and forces a draw. It holds the lock meanwhile. It returns
+    /// what `f` returned, and the answer of the draw. If the clear was refused, `f` is still called, no draw is made, and the answer is that
+    /// refusal.
     #[tactic(auto, using(crate::proofs::FrontLemmas::place_suspends))]
     pub fn suspend<F: FnOnce() -> A, A>(&self, f: F) -> (A, Result<Drawn, Refusal>)
         requires { F.pre f }
@@ -437,12 +438,11 @@ impl<T: TermLike + Drop, C: Clock + Drop, R: Wait + Clone + Drop, K: Tracks> Pro
         self.state.lock.lock(&self.rt).suspend(&self.rt, f)
     }
 
-    /// Another target, on which the bar begins anew with its next draw; the old one is given up. Of a bar that stands alone nothing is
-    /// written to either, and the answer is `Limited`. A board's bar leaves its board, whose others are drawn by force, and stands alone
-    /// from now on; the answer is that draw's.
+    /// Sets the target. The bar begins there with its next draw, and the old target is given up. If the bar stands alone, nothing is written
+    /// to either target, and the answer is `Limited`. A board's bar leaves its board and stands alone from now on. The board's other bars
+    /// are drawn, by force, and the answer is that of this draw.
     ///
-    /// Refused: what a removal is, and `NotMember` where the board hasn't the bar: it stays there then, and the new
-    /// target is given up.
+    /// Refused: as a removal, and `NotMember` if the board hasn't the bar. Then the bar stays there, and the new target is given up.
     #[tactic(auto, using(crate::proofs::FrontLemmas::place_turns))]
     pub fn set_draw_target(&self, target: ProgressDrawTarget<T>) -> Result<Drawn, Refusal>
         ensures { CanTurn K.means T.view result }
@@ -558,9 +558,9 @@ impl<T: TermLike + Drop, C: Clock + Drop, R: Wait + Clone + Drop, K: Tracks> Pro
         self.state.lock.lock(&self.rt).elapsed(&self.rt)
     }
 
-    /// No thread ticks the bar from now on, but one that is enabled later. A thread that did ends by itself; this doesn't wait for it.
+    /// Stops the steady ticker. Its thread ends by itself; this doesn't wait for it.
     ///
-    /// Refused: `Memory`, where the history of the bar's board finds none: the ticker that was installed goes on then.
+    /// Refused: `Memory`, if the history of the bar's board finds none. Then the installed ticker goes on.
     #[tactic(auto, using(crate::proofs::FrontLemmas::place_answers))]
     pub fn disable_steady_tick(&self) -> Result<(), Refusal>
         ensures { IfErr result (λ e. CanAnswer K.means T.view (Lone.Obey (Command.SetTicker false)) (Err e)) }
@@ -574,7 +574,7 @@ impl<T: TermLike + Drop, C: Clock + Drop, R: Wait + Clone + Drop, K: Tracks> Pro
         Ok(())
     }
 
-    /// A weak one of this bar: it owns nothing.
+    /// A weak reference to this bar, which isn't an owner.
     ///
     /// Refused: want of memory; the bar stays as it is.
     pub fn downgrade(&self) -> Result<WeakProgressBar<T, C, R, K>, AllocError> {
@@ -583,7 +583,7 @@ impl<T: TermLike + Drop, C: Clock + Drop, R: Wait + Clone + Drop, K: Tracks> Pro
         Ok(WeakProgressBar::of(state, self.alloc, rt))
     }
 
-    /// Gives this owner up. The last one finishes a bar that isn't finished, by its stored finish.
+    /// Drops this owner. If it is the last one and the bar isn't finished, the stored finish ends the bar.
     pub fn release(self) {
         drop(self);
     }
@@ -623,7 +623,7 @@ impl<T: TermLike + Drop, C: Clock + Drop, R: Wait + Clone + Drop, K: Tracks> Pro
     R,
     K,
 > {
-    /// In another style, with which it is drawn next. No draw is asked.
+    /// With this style, in which it is drawn next. Asks for no draw.
     ///
     /// Refused: `Memory`; this owner is given up.
     pub fn with_style(self, style: ProgressStyle<K>) -> Result<Self, Refusal>
@@ -671,7 +671,7 @@ impl<T: TermLike + Drop, C: Clock + Drop, R: Wait + Clone + Drop, K: Tracks> Pro
         }
     }
 
-    /// At this position, which the rate doesn't count: where work goes on that was begun before. No draw is asked.
+    /// At this position, which doesn't count for the rate: for work that was begun before. Asks for no draw.
     ///
     /// Refused: on a board alone, as each command there; this owner is given up.
     pub fn with_position(self, position: u64) -> Result<Self, Refusal>
@@ -695,8 +695,8 @@ impl<T: TermLike + Drop, C: Clock + Drop, R: Wait + Clone + Drop, K: Tracks> Pro
         }
     }
 
-    /// With this stored finish, by which the bar ends once its last owner is gone, a wrapped loop is over, or `finish_using_style` is
-    /// called. At first it is `AndClear`.
+    /// With this stored finish. It ends the bar when the last owner is gone, when a wrapped loop is over, or by `finish_using_style`. The
+    /// default is `AndClear`.
     ///
     /// Refused: on a board alone, as each command there; this owner is given up.
     pub fn with_finish(self, finish: ProgressFinish) -> Result<Self, Refusal>

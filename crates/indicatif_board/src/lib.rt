@@ -1,9 +1,9 @@
-//! Several bars on one terminal in an order, with text above them; and a sum that many threads add to.
+//! Several bars on one terminal, in an order, with text above them. Also a sum that many threads add to.
 //!
-//! - A board: `multi::Board`. `multi::BarId` names its bars, `multi::Candidate` is a bar that is to be taken in, `multi::InsertLocation` says
-//!   where; `multi::Call` is a call as a value and `multi::Answer` what is answered. `Board::run` makes a list of calls, of which the
-//!   headline theorem speaks.
-//! - A board with its history: `multi::Recorded`, whose entries a fresh board can make again.
+//! - A board: `multi::Board`. `multi::BarId` names a bar, `multi::Candidate` is a bar to insert, and `multi::InsertLocation` says where.
+//!   `multi::Call` is a call as a value, and `multi::Answer` its answer. `Board::run` makes a list of calls: the headline theorem is about
+//!   such runs.
+//! - A board with its history: `multi::Recorded`, whose entries a new board can make again.
 //! - The order alone: `multi::MultiState`.
 //! - Logs: `bridge::emit` writes a line with its level above the bars, `bridge::bridge_line` makes that line.
 //! - Sums without a lock: `done::Done` and `done::BarWorker`.

@@ -139,8 +139,8 @@ impl<T: TermLike + Drop, C: Clock + Drop, R: Wait + Clone + Drop, K: Tracks> Mul
         }
     }
 
-    /// Takes a bar in behind all others, and hands its owner back. A bar that stood alone leaves its target, where what it drew
-    /// stays; one that is on this board already stays where it is.
+    /// Adds a bar after all others, and hands its owner back. A bar that stood alone leaves its target, and what it drew there stays. A
+    /// bar that is already on this board stays where it is.
     ///
     /// Refused: `ForeignBar` for a bar of another board; `Memory`. The board is as before then, and this owner is given up as by
     /// `ProgressBar::release`: if it was the only one, its bar is finished by its stored finish, and leaves the board that has it.
@@ -279,10 +279,10 @@ impl<T: TermLike + Drop, C: Clock + Drop, R: Wait + Clone + Drop, K: Tracks> Mul
         self.board.lock(&self.rt).kept.set_draw_target(target)
     }
 
-    /// Whether draws write the bars' lines over those that stand there, by moves of the cursor alone: up to the first row, to its
-    /// front, and each line with the spaces that fill its last row. It is off at first, and off again on another target. A draw that
-    /// would show anything else that way (it has fewer rows than stand, or a row that ends early for a wide character) goes as with it
-    /// off, and so do logs and clears. On a hidden target this does nothing.
+    /// Whether draws write the bars' lines over the old ones, by moves of the cursor alone: up to the first row, to its front, and each
+    /// line with the spaces that fill its last row. It is off at first, and off again on another target. A draw ignores it if it would
+    /// show anything else that way: if it has fewer rows than before, or a row that ends early for a wide character. Logs and clears ignore
+    /// it, too. On a hidden target this does nothing.
     ///
     /// ```
     /// board.set_move_cursor(true)?; // for a terminal that flickers where rows are emptied
@@ -324,8 +324,8 @@ impl<T: TermLike + Drop, C: Clock + Clone + Drop, R: Wait + Clone + Drop, K: Tra
     R,
     K,
 > {
-    /// A bar of this length behind all others, in the style `{wide_bar} {pos}/{len}`, which draws nothing yet. Keep the owner as long as
-    /// the bar is to be seen: the last one that goes clears a bar that wasn't finished.
+    /// A bar of this length after all others, in the style `{wide_bar} {pos}/{len}`, which draws nothing yet. Keep the owner as long as the
+    /// bar should be visible: dropping the last one clears a bar that wasn't finished.
     ///
     /// ```
     /// let bar = board.new_bar(100)?;
