@@ -20,7 +20,8 @@ returns-then-is_empty g c =
       x.1,
       x.2,
       λ front last s. subst (λ b. Draws b v v' c.stay.result) (x.3 front last s) c.stay.ensures.writes,
+      c.stay.ensures.moves,
     )
 
 pub returns : goal.returns
-returns g c = let d = c.write_new.ensures in (d.0, d.0.lines.items, d.1, d.2, d.1.in_place, refl, d.3)
+returns g c = let d = c.write_new.ensures in (d.0, d.0.lines.items, d.1, d.2, d.1.in_place, refl, d.3, d.4)

@@ -78,6 +78,7 @@ returns-in-Ok g c =
       record { width_is = refl; kept_are = refl; texts_are = c.put_new.ensures.texts; in_place = place },
       (refl, c.requires.sound, refl),
       λ front last s. subst (λ b. LeadsOn b v v') (renewed_by shown.width ls c.deref.result.now x front last c.deref.ensures.value some here s) (rw count at c.in-Ok.ensures),
+      refl,
     )
 
 pub returns-in-Err : goal.returns-in-Err
@@ -107,4 +108,5 @@ returns-in-Err g c =
           (subst (λ b. BreaksOff b kind v (g.T.TermLike.view c.write_changes.new.term))
           (renewed_by shown.width ls c.deref.result.now x front last c.deref.ensures.value some here s) (rw count at c.in-Err.ensures)) in
           (kind, ap Terminal c.kind.ensures, breaks),
+      c.forget.ensures.moves,
     )
