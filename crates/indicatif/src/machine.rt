@@ -295,7 +295,7 @@ pub fn on_stream<R: Env + AllocGlobal + time::Clock + Copy, W: Write + IsTermina
     let facts = facts_of(rt, &stream)?;
     let told = number_said(rt, "COLUMNS")?;
     let mut clock = MachineClock::new(*rt);
-    let target = target_on(rt, stream, (told, facts), clock.now())?;
+    let target = target_behind(buffered(rt, stream)?, told, facts, clock.now())?;
     Ok(Setup { target, clock })
 }
 
@@ -329,23 +329,23 @@ pub fn sized_target<R: Env + AllocGlobal + time::Clock + Copy, W: Write + IsTerm
         ..facts_of(rt, &stream)?
     };
     let mut clock = MachineClock::new(*rt);
-    target_on(rt, stream, (Some(cols), facts), clock.now())
+    target_behind(buffered(rt, stream)?, Some(cols), facts, clock.now())
 }
 
-/// A target on a stream of which this is told, but for its columns, which are told apart, if they are.
-fn target_on<R: AllocGlobal, W: Write + Drop>(
-    rt: &R,
-    stream: W,
-    (told, facts): (Option<u16>, Facts),
+/// A target behind a writer to a stream of which this is told, but for its columns, which are told apart, if they are.
+fn target_behind<W: Write + Drop>(
+    writer: BufWriter<W>,
+    told: Option<u16>,
+    facts: Facts,
     now: Moment,
 ) -> Result<ProgressDrawTarget<StreamTerm<W>>, Refusal>
     ensures target { IfOk result (λ target. IsOnStream target told (record facts { cols = columns_by told })) }
     ensures memory { IfErr result (λ e. e ≡ Refusal.Memory) }
 {
     let cols = columns_by(told);
-    let term = Term::new(buffered(rt, stream)?, facts.rows, cols);
+    let term = rows_by(told, Term::new(writer, facts.rows, cols));
     let facts = Facts { cols, ..facts };
-    ProgressDrawTarget::term(rows_by(told, term), facts, HZ, now)
+    ProgressDrawTarget::term(term, facts, HZ, now)
 }
 
 /// What a bar is made with behind any writer, on a terminal of which this is told.
