@@ -18,7 +18,7 @@ use std::io::{BufWriter, IsTerminal, Stderr, Stdout, Write};
 use std::marker::Model;
 use std::sync::Wait;
 use std::thread::Threads;
-use std::time;
+use std::time::{self, Duration};
 
 /// The machine's clock: the nanoseconds of its monotonic time, from a start that all clocks of the machine share, mostly when it was
 /// booted. So a bar that is made after its board counts from no later start, and may begin with as much elapsed time as the machine
@@ -55,15 +55,14 @@ impl<R: time::Clock> MachineClock<R> {
 /// A second in nanoseconds.
 const SECOND: u64 = 1_000_000_000;
 
-/// The nanoseconds of the machine's monotonic time, where it tells that; 2^64 - 1 after 584 years.
+/// A time in nanoseconds; 2^64 - 1 after 584 years.
 #[inline(always)]
-fn nanos_told<R: time::Clock>(machine: &R) -> Option<u64> {
-    let told = machine.monotonic().ok()?;
-    let secs = told.as_secs();
+fn nanos_of(time: Duration) -> u64 {
+    let secs = time.as_secs();
     if secs >= u64::MAX / SECOND {
-        return Some(u64::MAX);
+        return u64::MAX;
     }
-    Some(secs * SECOND + u64::from(told.subsec_nanos()))
+    secs * SECOND + u64::from(time.subsec_nanos())
 }
 
 /// It never goes back.
@@ -73,12 +72,10 @@ impl<R: time::Clock> Clock for MachineClock<R> {
         ensures told { self.new ≡ result }
         ensures forward { self.old ≤ result }
     {
-        let now = match nanos_told(&self.machine) {
-            Some(now) => self.told.max(now),
-            None => self.told,
-        };
-        self.told = now;
-        now
+        if let Ok(time) = self.machine.monotonic() {
+            self.told = self.told.max(nanos_of(time));
+        }
+        self.told
     }
 }
 
