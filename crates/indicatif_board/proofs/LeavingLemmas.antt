@@ -1,11 +1,11 @@
 -- Bars that leave the order give their slots up, and each other bar keeps the one that it has.
-use Rattle.std.proofs.Common.{◌≡◌, ℕ, zero, suc, ◌+◌, ◌≤◌, List, [], ◌∷◌, ◌++◌, take, drop, length, Option, Some, None, refl, sym, ◌∙◌, ap, subst, arith, append_assoc, inl, inr, if◌then◌else◌}
+use Rattle.std.proofs.Common.{◌≡◌, ℕ, zero, suc, ◌+◌, ◌≤◌, List, [], ◌∷◌, ◌++◌, take, drop, length, Some, refl, sym, ◌∙◌, ap, subst, arith, append_assoc, inl, inr, if◌then◌else◌}
 use Rattle.std.specs.Prelude.{◌==◌, ◌≢◌}
 use Rattle.std.specs.List.{insert, remove}
 use Rattle.std.proofs.lemmas.Bool.{cases_Bool, eqb-true, ne_eqb}
 use Rattle.std.proofs.lemmas.List.{append-nil, drop-drop}
 use Rattle.indicatif_board.specs.Slots.{SlotTable, IsSeated, LeavesHead, next_slot, seated, unseated, head_unseated, slot_in, slot_of, occurrences}
-use Rattle.indicatif_board.proofs.SlotLemmas.{ones, ones_same, occurrences-front, occurrences-cut}
+use Rattle.indicatif_board.proofs.SlotLemmas.{ones_same, occurrences-front, occurrences-cut}
 use Rattle.indicatif_board.proofs.SeatLemmas.{found, without_slot}
 
 -- ---- none, some and then more

@@ -1,3 +1,4 @@
+mod CutLemmas
 mod ExactLemmas
 mod LentLemmas
 mod LogLemmas

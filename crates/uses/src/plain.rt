@@ -21,7 +21,9 @@ use indicatif_bar::laws::{
 use indicatif_bar::lone::LoneBar;
 use indicatif_bar::state::{BarCommand, BarState};
 use indicatif_bar::style::{NoTracker, ProgressStyle, ProgressTracker};
-use indicatif_board::laws::{plain_texts_give_plain_runs, what_a_board_run_reads};
+use indicatif_board::laws::{
+    plain_texts_give_plain_runs, scripts_of_a_board, what_a_board_run_reads,
+};
 use indicatif_board::multi::{BarId, Board, Candidate};
 use indicatif_term::draw_target::ProgressDrawTarget;
 use indicatif_term::in_memory::InMemoryTerm;
@@ -48,6 +50,35 @@ pub fn names_logged(alloc: Global) -> Result<Vec<String>, Refusal>
     let _other = board.println("b.txt", 0)?;
     a_new_terminal_is_an_opening();
     what_a_board_run_reads::<NoTracker>();
+    plain_texts_give_plain_runs::<NoTracker>();
+    match board.term() {
+        Some(term) => {
+            let texts = term.picture()?;
+            Ok(texts)
+        }
+        None => Err(Refusal::Memory),
+    }
+}
+
+/// A name logged on a new terminal of 4 rows and 10 columns, which has 3 columns then, and another name; and the texts of the rows
+/// that stand: the first name, cut, the other one, and empty ones.
+///
+/// Refused: `Memory`.
+pub fn names_cut(alloc: Global) -> Result<Vec<String>, Refusal>
+    ensures { IfOk result (λ texts. (blank : ℕ) × (map (λ text. string_bytes text) texts.items
+        ≡ codes "a.t" ∷ codes "xt" ∷ codes "b" ∷ replicate blank [])) }
+{
+    let term = InMemoryTerm::new(alloc, 4, 10)?;
+    let mut board: Board<NoTracker, InMemoryTerm> = Board::new(
+        alloc,
+        ProgressDrawTarget::term_like(term),
+        0,
+    );
+    let _one = board.println("a.txt", 0)?;
+    board.resize(4, 3)?;
+    let _other = board.println("b", 0)?;
+    a_new_terminal_is_an_opening();
+    scripts_of_a_board::<NoTracker>();
     plain_texts_give_plain_runs::<NoTracker>();
     match board.term() {
         Some(term) => {
