@@ -1,18 +1,19 @@
 -- Characters of one column one after another: the bytes that spell them, and the row that they are written into.
 use Rattle.std.proofs.Common.{◌≡◌, ℕ, zero, suc, ◌+◌, ◌-◌, ◌*◌, ◌<◌, ◌≤◌, Bool, true, false, List, [], ◌∷◌, ◌++◌, Some, length, get_or, set, take, drop, replicate, map, refl, sym, ◌∙◌, ap, subst, arith, append_assoc, append-nil, length-append}
-use Rattle.std.specs.Prelude.{if◌then◌else◌, nat_lt, nat_le}
+use Rattle.std.specs.Prelude.{All, if◌then◌else◌, nat_lt, nat_le}
 use Rattle.std.specs.List.{repeat, AllByRecursion}
 use Rattle.std.specs.Int.{IsInRange}
 use Rattle.std.proofs.Math.Seq.{take-add, take-append-add, drop-append-add}
 use Rattle.std.proofs.Math.Utf8.{scalar, scalars, encode, encodes}
 use Rattle.std.proofs.lemmas.Bool.{le-ltb, le-leb}
-use Rattle.std.proofs.lemmas.List.{take-take, take_at, drop-drop, get_or-set_same, get_or_at, length-set}
+use Rattle.std.proofs.lemmas.List.Elements.{recursion_from_All, All-take}
+use Rattle.std.proofs.lemmas.List.{take-take, take_at, drop-drop, get_or-set_same, get_or_at, length-set, length-map, length-take-le, get_or_read}
 use Rattle.unicode_width.specs.Width.{char_width}
 use Rattle.indicatif_text.specs.Columns.{Cell, Blank, Written, Continued, glyph_cells}
-use Rattle.indicatif_term.specs.Screen.{Screen, Put, performed, performed_all, is_continued, emptied_front, cut_before, written_at, cursor_row, with_row}
+use Rattle.indicatif_term.specs.Screen.{Screen, IsWhole, Put, performed, performed_all, is_continued, emptied_front, cut_before, written_at, cursor_row, with_row}
 use Rattle.indicatif_term.specs.Inside.Runs.{TakesOneColumn, narrow_cells, puts}
 use Rattle.indicatif_term.proofs.RowEditLemmas.{length-cut_before}
-use Rattle.indicatif_term.proofs.WholeScreenLemmas.{length-written_at}
+use Rattle.indicatif_term.proofs.WholeScreenLemmas.{length-written_at, row_written, cursor_full}
 
 -- ---- bytes
 
@@ -80,12 +81,12 @@ written_next n x cells row h =
     ∙ ap emptied_front (drop-drop (length cells) (n + 1) row ∙ ap (λ k. drop k row) (let e : (n + 1) + length cells ≡ n + length (x ∷ cells) = omega arith in e)) in
     ap (λ xs. (xs ++ cells) ++ emptied_front (drop ((n + 1) + length cells) (front ++ back))) before ∙ ap (λ xs. (front ++ cells) ++ xs) after
     ∙ ap (λ xs. xs ++ emptied_front (drop (n + length (x ∷ cells)) row)) (append_assoc cut (x ∷ []) cells)
-    where
-      seam : (xs ys : List Cell) (k : ℕ) → length xs ≡ k → get_or (xs ++ ys) k Blank ≡ get_or ys 0 Blank
-      seam [] ys zero e = refl
-      seam [] ys (suc k) e = absurd (omega arith)
-      seam (x ∷ xs) ys zero e = absurd (omega arith)
-      seam (x ∷ xs) ys (suc k) e = seam xs ys k (omega arith)
+  where
+    seam : (xs ys : List Cell) (k : ℕ) → length xs ≡ k → get_or (xs ++ ys) k Blank ≡ get_or ys 0 Blank
+    seam [] ys zero e = refl
+    seam [] ys (suc k) e = absurd (omega arith)
+    seam (x ∷ xs) ys zero e = absurd (omega arith)
+    seam (x ∷ xs) ys (suc k) e = seam xs ys k (omega arith)
 
 -- ---- a screen
 
@@ -130,3 +131,24 @@ pub put_all : (cs : List ℕ) (s : Screen) → 0 < length cs → AllByRecursion 
     performed_all (puts cs) s ≡ record (with_row s (written_at s.column (narrow_cells cs) (cursor_row s))) { column = s.column + length cs }
 put_all [] s some all in_rows full h = absurd (omega arith)
 put_all (c ∷ cs) s some all in_rows full h = put_run c cs s all in_rows full h
+
+-- a row that characters of a run were written into, in the place of the cursor's
+module _ (s : Screen) (run : List ℕ) (n : ℕ) (row new : List Cell) (is : IsWhole s) (some : 0 < n) (few : n ≤ length run) (narrow : All TakesOneColumn run)
+    (fits : s.column + length run ≤ s.columns) (at : row ≡ get_or s.rows s.row row) (e : new ≡ written_at s.column (narrow_cells (take n run)) row) where
+  size : length (take n run) ≡ n
+  size = length-take-le n run few
+
+  pub run_keeps_whole : IsWhole (record s { rows = set s.rows s.row new; column = s.column + n })
+  run_keeps_whole =
+      let cells = narrow_cells (take n run) in
+      let wide : length cells ≡ n = length-map (take n run) cell_of ∙ size in
+      row_written s _ new (s.column + n) is refl
+      (ap length e ∙ length-written_at s.column cells row (omega (arith, cursor_full s row is at)) ∙ cursor_full s row is at) (omega arith)
+
+  pub run_is_put : ◌≡◌ {A = Screen} (record s { rows = set s.rows s.row new; column = s.column + n }) (performed_all (puts (take n run)) s)
+  run_is_put =
+      let full : length (cursor_row s) ≡ s.columns = is.full_rows s.row is.in_rows in
+      let all = recursion_from_All TakesOneColumn (take n run) (All-take TakesOneColumn n run narrow) in
+      let here : row ≡ cursor_row s = get_or_read s.rows s.row row is.in_rows at [] in
+      same_put s _ _ _ _ (ap (set s.rows s.row) (e ∙ ap (written_at s.column (narrow_cells (take n run))) here)) (ap (λ k. s.column + k) (sym size))
+      ∙ sym (put_all (take n run) s (omega (arith, size)) all is.in_rows full (omega (arith, size)))

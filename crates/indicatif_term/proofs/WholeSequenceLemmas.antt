@@ -34,7 +34,7 @@ sequence_begins bytes h e e' =
       within = h;
       asks = ap (ops_of idle) front ∙ ops_of-append idle (0x1B ∷ []) (0x5B ∷ []) ∙ ap (λ ops. ops ++ ops_of next (0x5B ∷ [])) first.ops ∙ second.ops ∙ ap (λ p. char_ops p 0x5B) place;
       goes_on = ap (reader_after idle) front ∙ reader_after-append idle (0x1B ∷ []) (0x5B ∷ []) ∙ second.reader
-        ∙ ap (λ p. let r : Reader = record { place = char_place p 0x5B; spelling = [] } in r) place;
+          ∙ ap (λ p. let r : Reader = record { place = char_place p 0x5B; spelling = [] } in r) place;
     }
 
 module _ (bytes : List ℕ) (number : Option ℕ) (len b : ℕ) (front : IsSequenceFront bytes number len) (h : len < length bytes) (e : get_or bytes len 0 ≡ b) (low : b < 128) where

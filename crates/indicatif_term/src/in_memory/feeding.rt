@@ -116,7 +116,8 @@ impl Cells {
     {
         let ascii = printable_len(bytes, self.grid.room());
         if ascii > 0 {
-            return self.grid.put_run(Run::Ascii(&bytes[..ascii]));
+            let put = self.grid.put_run(Run::Ascii(&bytes[..ascii]))?;
+            return Ok(put);
         }
         if let Some(whole) = whole_char_of(bytes) {
             return self.feed_whole(bytes, whole);
@@ -144,7 +145,8 @@ impl Cells {
             return Ok(whole.len);
         }
         let count = repeats_of_three(bytes, room);
-        let put = self.grid.put_run(Run::Repeated(whole.character, count))?;
+        let character = whole.character;
+        let put = self.grid.put_run(Run::Repeated(character, count))?;
         Ok(3 * put)
     }
 
@@ -158,10 +160,13 @@ impl Cells {
         ensures err { OnErr result (self.new ≡ self.old) }
         ensures refused { IfErr result (λ e. e ≡ Refusal.Memory) }
     {
-        if let Some(op) = sequence.op() {
-            self.grid.perform(op)?;
+        match sequence.op() {
+            None => Ok(sequence.len),
+            Some(op) => {
+                self.grid.perform(op)?;
+                Ok(sequence.len)
+            }
         }
-        Ok(sequence.len)
     }
 
     /// Reads a byte. Refused: `Memory`; all is unchanged then.
