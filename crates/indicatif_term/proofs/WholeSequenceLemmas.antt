@@ -1,10 +1,8 @@
 -- A whole escape sequence at the front of bytes does the same as its bytes one after another.
-use Rattle.std.proofs.Common.{◌≡◌, ℕ, suc, ◌+◌, ◌<◌, ◌≤◌, true, false, List, [], ◌∷◌, ◌++◌, length, get_or, take, Option, Some, refl, sym, ◌∙◌, ap, subst, arith, eqb}
-use Rattle.std.specs.Prelude.{◌&&◌, ◌||◌}
+use Rattle.std.proofs.Common.{◌≡◌, ℕ, suc, ◌+◌, ◌<◌, ◌≤◌, true, false, List, [], ◌∷◌, ◌++◌, length, get_or, take, Option, Some, refl, sym, ◌∙◌, ap, subst, arith}
 use Rattle.std.proofs.Math.Utf8.{encode, low_scalar}
 use Rattle.std.proofs.lemmas.Str.{encode_ascii}
 use Rattle.std.proofs.lemmas.List.{take_more}
-use Rattle.std.proofs.lemmas.Bool.{or_parts, and_parts, leb-true, eqb-true}
 use Rattle.indicatif_text.specs.Columns.{is_parameter}
 use Rattle.indicatif_term.specs.Screen.{Screen, Op, performed_all}
 use Rattle.indicatif_term.specs.Terminal.{SequencePlace, OutsideSequence, Sequence, Reader, Terminal, idle, number_with, sequence_ops, char_ops, char_place, ops_of, reader_after, after}
@@ -67,12 +65,6 @@ module _ (bytes : List ℕ) (number : Option ℕ) (len b : ℕ) (front : IsSeque
     asks = asked ∙ rw not refl;
     ends = goes ∙ rw not refl;
   }
-
-pub parameter_low : (b : ℕ) → is_parameter b ≡ true → b < 128
-parameter_low b is = elim (or_parts _ _ is) [
-  | inl digit ↦ let high : b ≤ 0x39 = leb-true b 0x39 (and_parts _ _ digit).1 in omega arith
-  | inr semicolon ↦ let same : b ≡ 0x3B = eqb-true b 0x3B semicolon in omega arith
-]
 
 pub fed_sequence : (t : Terminal) (new : Screen) (bytes : List ℕ) (number : Option ℕ) (last len : ℕ) → IsWholeSequence bytes number last len → t.reader ≡ idle →
     new ≡ performed_all (sequence_ops number last) t.screen → ◌≡◌ {A = Terminal} (record { screen = new; reader = t.reader }) (after t (take len bytes))

@@ -246,10 +246,6 @@ visible_first bs rest (Some c) A u front m empty =
     let past = chars_past_char bs rest c u m in
     ap visible past ∙ seen c (chars rest) (ap colour_length (sym past) ∙ front)
 
--- a character that stands at the front of a text, and is no ESC
-pub known_first : (text rest : List ℕ) (c : ℕ) → IsUtf8 text → text ≡ encode c ++ rest → (c ≡ 0x1B → ⊥) → visible (chars text) ≡ c ∷ visible (chars rest)
-known_first text rest c u e not = ap visible (chars_past_char text rest c u e) ∙ seen c (chars rest) (no_escape_front c (chars rest) (ne_eqb c 0x1B not))
-
 -- ---- characters of one column at the front of a text
 
 narrow_seen : (c : ℕ) (cs : List ℕ) → IsNarrow c → visible (c ∷ cs) ≡ c ∷ visible cs

@@ -121,7 +121,7 @@ fn measured(line: &str, width: usize) -> Option<Metrics>
         let (rows, place) = RowSoFar { width, column }.after_narrow(narrow);
         height += rows;
         column = place;
-        let Some(c) = rest.next_known(last.known()) else {
+        let Some(c) = rest.next() else {
             return Some(Metrics {
                 height,
                 last_line_width: column,
@@ -192,12 +192,6 @@ impl LastWidth {
             self.of = c;
         }
         self.columns
-    }
-
-    /// The character.
-    #[inline(always)]
-    fn known(&self) -> char {
-        self.of
     }
 
     /// The character if it takes one column, or else another that does.

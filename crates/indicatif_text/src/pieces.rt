@@ -1,5 +1,5 @@
 //! A text as colour sequences and what stands between them.
-ghost use Rattle.std.specs.Prelude.{IsTrue, ◌≢◌, ◌+◌, ◌++◌, encode_utf8, ◌*◌, ◌≡◌, ◌≤◌, ◌<◌, ◌∷◌, List, ℕ, take, drop, length, chars, unwrap_or, None, All};
+ghost use Rattle.std.specs.Prelude.{IsTrue, ◌+◌, ◌++◌, encode_utf8, ◌*◌, ◌≡◌, ◌≤◌, ◌<◌, ◌∷◌, List, ℕ, take, drop, length, chars, unwrap_or, None, All};
 ghost use Rattle.std.specs.Str.{IsAscii, IsCharBoundary};
 ghost use Rattle.std.specs.Iterator.{YieldsFirst, YieldsFirstBy, item_count};
 ghost use Rattle.indicatif_text.specs.Columns.{colour_length, is_parameter, visible, width_of};
@@ -105,19 +105,6 @@ impl<'a> Visible<'a> {
     }
 }
 
-impl Visible<'_> {
-    /// The first character, as `next` gives it. One of three bytes that is known is looked for before any other: it often stands
-    /// there many times.
-    #[inline(always)]
-    pub(crate) fn next_known(&mut self, known: char) -> Option<char>
-        ensures steps { YieldsFirst (λ left. left) self.old result self.new }
-    {
-        let (c, rest) = first_known(self.rest, known);
-        self.rest = rest;
-        c
-    }
-}
-
 impl Iterator for Visible<'_> {
     type Item = char;
 
@@ -141,32 +128,6 @@ fn first_visible(text: &str) -> (Option<char>, &str)
     let mut rest = after_colours(text).chars();
     let c = rest.next();
     (c, rest.as_str())
-}
-
-/// The same, where one of three bytes is looked for before any other.
-#[inline(always)]
-fn first_known(text: &str, known: char) -> (Option<char>, &str)
-    ensures { YieldsFirst (λ left. left) (visible (chars text.now)) result.0 (visible (chars result.1.now)) }
-{
-    if begins_with(text, known) {
-        return (Some(known), &text[3..]);
-    }
-    first_visible(text)
-}
-
-/// Whether a character of three bytes stands at the front of a text; no for one of fewer or more bytes.
-#[inline(always)]
-fn begins_with(text: &str, c: char) -> bool
-    ensures front { IsTrue result → text.now ≡ encode_utf8 c ++ drop 3 text.now }
-    ensures shown { IsTrue result → c ≢ 0x1B }
-    ensures boundary { IsTrue result → IsCharBoundary text.now 3 }
-{
-    if c == '\u{1B}' || c.len_utf8() != 3 {
-        return false;
-    }
-    let mut buffer = [0u8; 4];
-    let unit = c.encode_utf8(&mut buffer).as_bytes();
-    stands_at(text.as_bytes(), 0, unit)
 }
 
 /// How many characters of one column, first those that are `repeated` and then printable ASCII, stand at the front of a
@@ -298,17 +259,13 @@ fn block_stands_at(bytes: &[u8], at: usize) -> bool
     all_printable(&bytes[at..at + BLOCK])
 }
 
-/// How many bytes the blocks of printable ASCII have that stand at the front. No block is looked at where the first byte begins
-/// none.
+/// How many bytes the blocks of printable ASCII have that stand at the front.
 #[inline(always)]
 fn blocks_len(bytes: &[u8]) -> usize
     ensures printable { All IsPrintable (take result bytes.now) }
     ensures fits { result ≤ length bytes.now }
 {
     let mut count: usize = 0;
-    if bytes.is_empty() || bytes[0] < 0x20 || bytes[0] > 0x7E {
-        return count;
-    }
     'whole: while block_stands_at(bytes, count) {
         count += BLOCK;
     }

@@ -1,5 +1,6 @@
 //! What bytes ask of a terminal: characters first, escape sequences next.
 ghost use Rattle.std.specs.Prelude.{◌≡◌, ◌<◌, ◌≤◌, map, length, slice_index, IsTrue, IfSome, option_to_list};
+ghost use Rattle.indicatif_text.specs.Columns.{is_parameter};
 ghost use Rattle.indicatif_term.specs.Terminal.{idle, byte_ops, byte_reader, char_ops, char_place, plain_ops, plain_place, sequence_ops, number_with};
 ghost use Rattle.indicatif_term.specs.Inside.Grids.{op_of};
 ghost use Rattle.indicatif_term.specs.Inside.Scanners.{stage_place, IsWholeSequence, IsSequenceFront};
@@ -131,13 +132,17 @@ impl WholeSequence {
             return None;
         }
         let (number, len) = sequence_front(bytes);
-        let last = *bytes.get(len)?;
-        if last >= 0x80 || is_parameter(char::from(last)) {
+        if len == bytes.len() {
             return None;
         }
+        let byte = bytes[len];
+        if byte >= 0x80 || is_parameter_byte(byte) {
+            return None;
+        }
+        let last = char::from(byte);
         Some(WholeSequence {
             number,
-            last: char::from(last),
+            last,
             len: len + 1,
         })
     }
@@ -159,11 +164,19 @@ fn sequence_front(bytes: &[u8]) -> (Option<u16>, usize)
 {
     let mut number = Some(0);
     let mut len: usize = 2;
-    'bytes: while len < bytes.len() && is_parameter(char::from(bytes[len])) {
-        number = number_with(number, char::from(bytes[len]));
+    'bytes: while len < bytes.len() && is_parameter_byte(bytes[len]) {
+        let digit = char::from(bytes[len]);
+        number = number_with(number, digit);
         len += 1;
     }
     (number, len)
+}
+
+/// The same as `is_parameter`, of a byte.
+fn is_parameter_byte(byte: u8) -> bool
+    ensures { result ≡ is_parameter byte }
+{
+    is_parameter(char::from(byte))
 }
 
 /// What a byte asks for, and the scanner after it.

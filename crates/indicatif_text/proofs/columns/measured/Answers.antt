@@ -30,9 +30,9 @@ rest-preserved-then-columns-width-2 c =
     e.no_empty_row e.place in
     let at = subst (MeasuredTo c.args.width (c.rest.height + c.after_narrow-rows.result.0) c.after_narrow-rows.result.1 line) c.in-Some.ensures.steps here in
     let p = c.pass_narrow-narrow.ensures in
-    let next = reads_next_row c.args.width _ _ line c.in-Some.c c.next_known.new.self at e.within (omega (arith, c.width-columns.ensures)) (omega (arith, c.width-columns.ensures)) in
+    let next = reads_next_row c.args.width _ _ line c.in-Some.c c.next.new.self at e.within (omega (arith, c.width-columns.ensures)) (omega (arith, c.width-columns.ensures)) in
     record {
-      reads = subst (λ k. MeasuredTo c.args.width (c.rest.height + c.after_narrow-rows.result.0 + 1) k line c.next_known.new.self) (sym c.width-columns.ensures) next;
+      reads = subst (λ k. MeasuredTo c.args.width (c.rest.height + c.after_narrow-rows.result.0 + 1) k line c.next.new.self) (sym c.width-columns.ensures) next;
       fits = omega arith;
       small = omega (arith, c.rest.invariant.small, e.few, p.many, ap length p.whole, length-append p.run c.pass_narrow-narrow.new.self, ap length c.in-Some.ensures.steps);
     }
@@ -45,9 +45,9 @@ rest-preserved c =
     e.no_empty_row e.place in
     let at = subst (MeasuredTo c.args.width (c.rest.height + c.after_narrow-rows.result.0) c.after_narrow-rows.result.1 line) c.in-Some.ensures.steps here in
     let p = c.pass_narrow-narrow.ensures in
-    let next = reads_narrow c.args.width _ _ line c.in-Some.c c.next_known.new.self at (omega (arith, c.width-columns.ensures, e.within)) in
+    let next = reads_narrow c.args.width _ _ line c.in-Some.c c.next.new.self at (omega (arith, c.width-columns.ensures, e.within)) in
     record {
-      reads = subst (λ k. MeasuredTo c.args.width (c.rest.height + c.after_narrow-rows.result.0) (c.after_narrow-rows.result.1 + k) line c.next_known.new.self) (sym c.width-columns.ensures) next;
+      reads = subst (λ k. MeasuredTo c.args.width (c.rest.height + c.after_narrow-rows.result.0) (c.after_narrow-rows.result.1 + k) line c.next.new.self) (sym c.width-columns.ensures) next;
       fits = omega arith;
       small = omega (arith, c.rest.invariant.small, e.few, p.many, ap length p.whole, length-append p.run c.pass_narrow-narrow.new.self, ap length c.in-Some.ensures.steps);
     }

@@ -5,10 +5,10 @@ use Rattle.indicatif_term.specs.Inside.Runs.{run_chars, narrow_cells, puts}
 use Rattle.indicatif_term.proofs.RunLemmas.{run_keeps_whole, run_is_put}
 use Rattle.indicatif_term.proofs.in_memory.grid.Grid.put_run.Goals as goal
 
-fits : (c : goal.In_ok-written) → c.self.inside.column + length (run_chars c.args.run) ≤ c.self.inside.columns
+fits : (c : goal.After-self-2-1) → c.self.inside.column + length (run_chars c.args.run) ≤ c.self.inside.columns
 fits c = omega (arith, c.requires.fits, ap (λ s. s.column) c.self.view_is, ap (λ s. s.columns) c.self.view_is)
 
-written : (c : goal.In_ok-written) → c.write_run.new.self ≡ written_at c.self.inside.column (narrow_cells (take c.in_ok-written.written (run_chars c.args.run))) c.index_mut-row.result.now
+written : (c : goal.After-self-2-1) → c.write_run.new.self ≡ written_at c.self.inside.column (narrow_cells (take c.in_ok-written.written (run_chars c.args.run))) c.index_mut-row.result.now
 written c = c.in_ok-written.ensures.written ∙ ap (λ n. written_at n (narrow_cells (take c.in_ok-written.written (run_chars c.args.run))) c.index_mut-row.result.now) c.from-at.ensures
 
 pub invariant_of-self-2 : goal.invariant_of-self-2

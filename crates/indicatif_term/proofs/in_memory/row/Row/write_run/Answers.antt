@@ -14,7 +14,7 @@ invariant_of-self c = record {
   keeps = keeps_again c.self.inside.marks.items _ c.self.inside.cells.items _ c.self.invariant.keeps refl c.in_err-append_to.ensures.err;
 }
 
-appended : (c : goal.In_ok-append_to) → whole_row c.self.inside.columns c.append_to.new.cells.items
+appended : (c : goal.After-len-then-at-len) → whole_row c.self.inside.columns c.append_to.new.cells.items
     ≡ written_at c.args.at (narrow_cells (run_chars c.args.run)) (whole_row c.self.inside.columns c.self.inside.cells.items)
 appended c =
     let w = c.self.inside.columns in
