@@ -1,10 +1,10 @@
 -- A run of characters of one column at the front of bytes does the same as its bytes one after another.
-use Rattle.std.proofs.Common.{◌≡◌, ℕ, ◌+◌, ◌*◌, ◌≤◌, ◌<◌, true, false, List, [], ◌∷◌, length, take, replicate, refl, sym, ◌∙◌, ap, subst, arith}
+use Rattle.std.proofs.Common.{◌≡◌, ℕ, ◌*◌, ◌≤◌, ◌<◌, true, false, List, [], ◌∷◌, length, take, replicate, refl, sym, ◌∙◌, ap, subst, arith}
 use Rattle.std.specs.Prelude.{All}
 use Rattle.std.specs.Int.{IsInRange}
 use Rattle.std.specs.List.{repeat, AllByRecursion}
 use Rattle.std.specs.Str.{IsAscii}
-use Rattle.std.proofs.Math.Utf8.{scalar, scalars, encode, encodes, low_scalar}
+use Rattle.std.proofs.Math.Utf8.{scalar, scalars, encodes, low_scalar}
 use Rattle.std.proofs.lemmas.Bool.{and_parts}
 use Rattle.std.proofs.lemmas.Str.{encodes-IsAscii}
 use Rattle.std.proofs.lemmas.Str.Ascii.{IsAscii-from_all}

@@ -1,14 +1,12 @@
 -- Characters of one column one after another: the bytes that spell them, and the row that they are written into.
-use Rattle.std.proofs.Common.{◌≡◌, ℕ, zero, suc, ◌+◌, ◌-◌, ◌*◌, ◌<◌, ◌≤◌, Bool, true, false, List, [], ◌∷◌, ◌++◌, Some, length, get_or, set, take, drop, replicate, map, refl, sym, ◌∙◌, ap, subst, arith, append_assoc, append-nil, length-append}
-use Rattle.std.specs.Prelude.{All, if◌then◌else◌, nat_lt, nat_le}
+use Rattle.std.proofs.Common.{◌≡◌, ℕ, zero, suc, ◌+◌, ◌*◌, ◌<◌, ◌≤◌, true, false, List, [], ◌∷◌, ◌++◌, length, get_or, set, take, drop, replicate, refl, sym, ◌∙◌, ap, arith, append_assoc, append-nil, length-append}
+use Rattle.std.specs.Prelude.{All, nat_lt, nat_le}
 use Rattle.std.specs.List.{repeat, AllByRecursion}
-use Rattle.std.specs.Int.{IsInRange}
 use Rattle.std.proofs.Math.Seq.{take-add, take-append-add, drop-append-add}
 use Rattle.std.proofs.Math.Utf8.{scalar, scalars, encode, encodes}
 use Rattle.std.proofs.lemmas.Bool.{le-ltb, le-leb}
 use Rattle.std.proofs.lemmas.List.Elements.{recursion_from_All, All-take}
-use Rattle.std.proofs.lemmas.List.{take-take, take_at, drop-drop, get_or-set_same, get_or_at, length-set, length-map, length-take-le, get_or_read}
-use Rattle.unicode_width.specs.Width.{char_width}
+use Rattle.std.proofs.lemmas.List.{take-take, take_at, drop-drop, get_or-set_same, length-set, length-map, length-take-le, get_or_read}
 use Rattle.indicatif_text.specs.Columns.{Cell, Blank, Written, Continued, glyph_cells}
 use Rattle.indicatif_term.specs.Screen.{Screen, IsWhole, Put, performed, performed_all, is_continued, emptied_front, cut_before, written_at, cursor_row, with_row}
 use Rattle.indicatif_term.specs.Inside.Runs.{TakesOneColumn, narrow_cells, puts}

@@ -1,11 +1,11 @@
 -- A whole escape sequence at the front of bytes does the same as its bytes one after another.
-use Rattle.std.proofs.Common.{◌≡◌, ℕ, suc, ◌+◌, ◌<◌, ◌≤◌, true, false, List, [], ◌∷◌, ◌++◌, length, get_or, take, Option, Some, refl, sym, ◌∙◌, ap, subst, arith}
-use Rattle.std.proofs.Math.Utf8.{encode, low_scalar}
+use Rattle.std.proofs.Common.{◌≡◌, ℕ, ◌+◌, ◌<◌, ◌≤◌, true, false, List, [], ◌∷◌, ◌++◌, length, get_or, take, Option, Some, refl, sym, ◌∙◌, ap, subst, arith}
+use Rattle.std.proofs.Math.Utf8.{low_scalar}
 use Rattle.std.proofs.lemmas.Str.{encode_ascii}
 use Rattle.std.proofs.lemmas.List.{take_more}
 use Rattle.indicatif_text.specs.Columns.{is_parameter}
-use Rattle.indicatif_term.specs.Screen.{Screen, Op, performed_all}
-use Rattle.indicatif_term.specs.Terminal.{SequencePlace, OutsideSequence, Sequence, Reader, Terminal, idle, number_with, sequence_ops, char_ops, char_place, ops_of, reader_after, after}
+use Rattle.indicatif_term.specs.Screen.{Screen, performed_all}
+use Rattle.indicatif_term.specs.Terminal.{OutsideSequence, Sequence, Reader, Terminal, idle, number_with, sequence_ops, char_ops, char_place, ops_of, reader_after, after}
 use Rattle.indicatif_term.specs.Inside.Scanners.{IsWholeSequence, IsSequenceFront}
 use Rattle.indicatif_term.proofs.FeedLemmas.{ops_of-append, reader_after-append, same_terminal}
 use Rattle.indicatif_term.proofs.ReaderLemmas.{Spells, char_read}

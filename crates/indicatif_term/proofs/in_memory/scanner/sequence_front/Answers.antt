@@ -1,4 +1,4 @@
-use Rattle.std.proofs.Common.{◌≡◌, ◌∙◌, ◌+◌, ◌<◌, true, get_or, sym, ap, subst, refl, arith}
+use Rattle.std.proofs.Common.{◌≡◌, ◌∙◌, ◌+◌, true, get_or, sym, ap, subst, refl}
 use Rattle.indicatif_text.specs.Columns.{is_parameter}
 use Rattle.indicatif_text.proofs.ColourSequenceLemmas.{parameter_small}
 use Rattle.indicatif_term.specs.Terminal.{number_with}

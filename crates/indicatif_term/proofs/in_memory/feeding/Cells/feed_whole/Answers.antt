@@ -1,4 +1,4 @@
-use Rattle.std.proofs.Common.{◌≡◌, ◌∙◌, ◌≤◌, ◌*◌, ap, subst, take, replicate, arith}
+use Rattle.std.proofs.Common.{◌∙◌, ◌≤◌, ◌*◌, ap, subst, take, replicate, arith}
 use Rattle.std.proofs.lemmas.List.{length-replicate}
 use Rattle.indicatif_term.specs.Screen.{Put, performed, performed_all}
 use Rattle.indicatif_term.specs.Terminal.{Terminal, after}
