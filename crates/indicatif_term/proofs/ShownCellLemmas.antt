@@ -9,6 +9,7 @@ use Rattle.indicatif_term.specs.Screen.{is_continued, emptied_front, emptied_gly
 use Rattle.indicatif_term.specs.Pictures.{is_written, trimmed}
 use Rattle.indicatif_term.specs.declared.in_memory.marks.CombiningMark.{CombiningMark}
 use Rattle.indicatif_term.specs.Inside.Rows.{cell_shown, whole_row, character_cells, KeepsMarks, JoinsMark, with_mark_at}
+use Rattle.indicatif_term.specs.Inside.Runs.{narrow_cells}
 use Rattle.indicatif_term.proofs.RowEditLemmas.{join_last}
 use Rattle.indicatif_term.proofs.KeptRowLemmas.{none_kept, length-whole_row, whole_joined, nothing_joined, written_kept, text_kept}
 
@@ -73,6 +74,11 @@ module _ (marks : List CombiningMark) where
   pub character_shown : (c w : ℕ) → shown (character_cells c w) ≡ character_cells c w
   character_shown c w = ap (λ xs. Written (record { base = c; marks = [] }) ∷ xs) (continued_all (w - 1))
 
+  -- the cells of characters of one column
+  pub narrow_shown : (cs : List ℕ) → shown (narrow_cells cs) ≡ narrow_cells cs
+  narrow_shown [] = refl
+  narrow_shown (c ∷ cs) = ap (λ xs. Written (record { base = c; marks = [] }) ∷ xs) (narrow_shown cs)
+
   pub whole_shown : (w : ℕ) (cells : List Cell) → shown (whole_row w cells) ≡ whole_row w (shown cells)
   whole_shown w cells =
       map-append (cell_shown marks) cells (replicate (w - length cells) Blank) ∙ ap (λ xs. shown cells ++ xs) (blanks_shown (w - length cells))
@@ -90,11 +96,15 @@ blank_shown w marks cells e = ap (map (cell_shown marks)) (none_kept w cells e) 
 pub length_shown : (w : ℕ) (marks : List CombiningMark) (cells : List Cell) → length cells ≤ w → length (map (cell_shown marks) (whole_row w cells)) ≡ w
 length_shown w marks cells h = length-map (whole_row w cells) (cell_shown marks) ∙ length-whole_row w cells h
 
+pub cells_written_shown : (w n : ℕ) (marks : List CombiningMark) (cells old new row : List Cell) → map (cell_shown marks) cells ≡ cells → map (cell_shown marks) (whole_row w old) ≡ row →
+    whole_row w new ≡ written_at n cells (whole_row w old) → map (cell_shown marks) (whole_row w new) ≡ written_at n cells row
+cells_written_shown w n marks cells old new row same is e =
+    ap (map (cell_shown marks)) e ∙ written_shown marks n cells (whole_row w old)
+    ∙ ap (λ xs. written_at n xs (map (cell_shown marks) (whole_row w old))) same ∙ ap (written_at n cells) is
+
 pub row_written_shown : (w n c columns : ℕ) (marks : List CombiningMark) (old new row : List Cell) → map (cell_shown marks) (whole_row w old) ≡ row →
     whole_row w new ≡ written_at n (character_cells c columns) (whole_row w old) → map (cell_shown marks) (whole_row w new) ≡ written_at n (character_cells c columns) row
-row_written_shown w n c columns marks old new row is e =
-    ap (map (cell_shown marks)) e ∙ written_shown marks n (character_cells c columns) (whole_row w old)
-    ∙ ap (λ xs. written_at n xs (map (cell_shown marks) (whole_row w old))) (character_shown marks c columns) ∙ ap (written_at n (character_cells c columns)) is
+row_written_shown w n c columns marks old new row is e = cells_written_shown w n marks (character_cells c columns) old new row (character_shown marks c columns) is e
 
 pub row_joined_shown : (w n c : ℕ) (marks marks' : List CombiningMark) (old new row : List Cell) → n ≤ length old → map (cell_shown marks) (whole_row w old) ≡ row →
     map (cell_shown marks') new ≡ joined_at n c (map (cell_shown marks) old) → map (cell_shown marks') (whole_row w new) ≡ joined_at n c row
@@ -139,13 +149,16 @@ pub keeps_same : (w : ℕ) (marks : List CombiningMark) (old new : List Cell) �
 keeps_same w marks old new keeps e = λ more.
     cells_of_whole w (marks ++ more) marks new (ap (map (cell_shown (marks ++ more))) e ∙ keeps_whole w marks old keeps more ∙ sym (ap (map (cell_shown marks)) e))
 
+pub keeps_cells : (w n : ℕ) (marks : List CombiningMark) (cells old new : List Cell) → ((m : List CombiningMark) → map (cell_shown m) cells ≡ cells) → KeepsMarks marks old →
+    whole_row w new ≡ written_at n cells (whole_row w old) → KeepsMarks marks new
+keeps_cells w n marks cells old new same keeps e = λ more.
+    let row = whole_row w old in
+    let by = λ (m : List CombiningMark). ap (map (cell_shown m)) e ∙ written_shown m n cells row ∙ ap (λ xs. written_at n xs (map (cell_shown m) row)) (same m) in
+    cells_of_whole w (marks ++ more) marks new (by (marks ++ more) ∙ ap (written_at n cells) (keeps_whole w marks old keeps more) ∙ sym (by marks))
+
 pub keeps_written : (w n c columns : ℕ) (marks : List CombiningMark) (old new : List Cell) → KeepsMarks marks old →
     whole_row w new ≡ written_at n (character_cells c columns) (whole_row w old) → KeepsMarks marks new
-keeps_written w n c columns marks old new keeps e = λ more.
-    let cells = character_cells c columns in
-    let row = whole_row w old in
-    let by = λ (m : List CombiningMark). ap (map (cell_shown m)) e ∙ written_shown m n cells row ∙ ap (λ xs. written_at n xs (map (cell_shown m) row)) (character_shown m c columns) in
-    cells_of_whole w (marks ++ more) marks new (by (marks ++ more) ∙ ap (written_at n cells) (keeps_whole w marks old keeps more) ∙ sym (by marks))
+keeps_written w n c columns marks old new keeps e = keeps_cells w n marks (character_cells c columns) old new (λ m. character_shown m c columns) keeps e
 
 -- ---- joining a mark
 

@@ -1,14 +1,16 @@
 -- A whole character at the front of bytes does the same as its bytes one after another.
 use Rattle.std.proofs.Common.{◌≡◌, ℕ, ◌+◌, ◌-◌, ◌*◌, ◌/◌, ◌≤◌, true, false, List, [], ◌∷◌, length, take, drop, refl, sym, ◌∙◌, ap, arith, eqb, ltb, length-drop}
-use Rattle.std.proofs.Math.Utf8.{scalar, encode, next}
+use Rattle.std.specs.List.{AllByRecursion}
+use Rattle.std.proofs.Math.Utf8.{scalar, scalars, encode, encodes, next}
 use Rattle.std.proofs.Math.Seq.{take-add}
 use Rattle.std.proofs.lemmas.List.{take_all}
 use Rattle.std.proofs.lemmas.Bool.{and_parts, ne_eqb, le-ltb, lt-ltb}
 use Rattle.indicatif_term.specs.Screen.{Screen, Put, performed, performed_all}
-use Rattle.indicatif_term.specs.Terminal.{OutsideSequence, Reader, Terminal, idle, plain_ops, plain_place, after}
+use Rattle.indicatif_term.specs.Terminal.{OutsideSequence, Reader, Terminal, idle, plain_ops, plain_place, ops_of, reader_after, after}
 use Rattle.indicatif_term.specs.Inside.Scanners.{IsWholeChar}
+use Rattle.indicatif_term.specs.Inside.Runs.{puts}
 use Rattle.indicatif_term.proofs.FeedLemmas.{after-append, same_terminal}
-use Rattle.indicatif_term.proofs.ReaderLemmas.{Spells, char_read}
+use Rattle.indicatif_term.proofs.ReaderLemmas.{Spells, char_read, char_list_ops, place_after, chars_read}
 
 -- three bytes
 three : (c f s t : ℕ) → c ≡ (f - 224) * 4096 + (s - 128) * 64 + (t - 128) → 225 ≤ f → f ≤ 239 → 128 ≤ s → s ≤ 191 → 128 ≤ t → t ≤ 191 →
@@ -65,3 +67,21 @@ after_some t now new bytes k n e e' =
     let rest : take (length bytes - k) (drop k bytes) ≡ drop k bytes = take_all (length bytes - k) (drop k bytes) (omega (arith, length-drop k bytes)) in
     e' ∙ ap (λ xs. after now (take n xs)) rest ∙ ap (λ u. after u (take n (drop k bytes))) e
     ∙ sym (after-append t (take k bytes) (take n (drop k bytes))) ∙ ap (after t) (sym (take-add k n bytes))
+
+-- ---- characters one after another
+
+all_asked : (cs : List ℕ) → AllByRecursion (λ c. 0x20 ≤ c) cs → (char_list_ops OutsideSequence cs ≡ puts cs) × (place_after OutsideSequence cs ≡ OutsideSequence)
+all_asked [] all = (refl, refl)
+all_asked (c ∷ cs) all =
+    let a = asked c all.0 in
+    let rest = all_asked cs all.1 in
+    (rw (a.0, a.1) (ap (λ ops. Put c ∷ ops) rest.0), rw a.1 rest.1)
+
+pub fed_characters : (t : Terminal) (new : Screen) (bytes cs : List ℕ) → t.reader ≡ idle → bytes ≡ encodes cs → scalars cs ≡ true → AllByRecursion (λ c. 0x20 ≤ c) cs →
+    new ≡ performed_all (puts cs) t.screen → ◌≡◌ {A = Terminal} (record { screen = new; reader = t.reader }) (after t bytes)
+unfolding after
+fed_characters t new bytes cs rests spelled are printable e =
+    let read = chars_read OutsideSequence cs are in
+    let ask = all_asked cs printable in
+    same_terminal _ _ _ _ (e ∙ ap (λ ops. performed_all ops t.screen) (sym (ap (λ r. ops_of r bytes) rests ∙ ap (ops_of idle) spelled ∙ read.0 ∙ ask.0)))
+    (rests ∙ sym (ap (λ r. reader_after r bytes) rests ∙ ap (reader_after idle) spelled ∙ read.1 ∙ ap (λ p. let r : Reader = record { place = p; spelling = [] } in r) ask.1))

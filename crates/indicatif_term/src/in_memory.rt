@@ -6,6 +6,7 @@
 //! - `spelling`: the bytes of a character that isn't whole.
 //! - `grid`: the rows and the cursor, what each operation does to them, and what another size does.
 //! - `row`: a row of cells, and what writing into it does to its wide characters.
+//! - `run`: characters of one column, which are written into a row at once.
 //! - `cell`: a cell of a row.
 //! - `glyph`: a character and its marks, as they are taken out of a row.
 //! - `marks`: the marks of a row, which are joined to its characters.
@@ -31,6 +32,7 @@ mod grid;
 mod known_width;
 mod marks;
 mod row;
+mod run;
 mod scanner;
 mod spelling;
 mod whole_char;

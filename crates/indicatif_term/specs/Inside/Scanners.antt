@@ -1,7 +1,7 @@
 -- The reader of bytes as it is kept.
-use Rattle.std.specs.Prelude.{◌≡◌, ℕ, ◌<◌, ◌≤◌, true, List, [], ◌∷◌, length, take, encode_utf8}
+use Rattle.std.specs.Prelude.{◌≡◌, ℕ, ◌<◌, ◌≤◌, true, List, [], ◌∷◌, length, take, encode_utf8, Option}
 use Rattle.std.specs.Str.{all_scalars}
-use Rattle.indicatif_term.specs.Terminal.{SequencePlace, OutsideSequence, Escaped, Sequence}
+use Rattle.indicatif_term.specs.Terminal.{SequencePlace, OutsideSequence, Escaped, Sequence, idle, ops_of, reader_after, sequence_ops}
 use Rattle.indicatif_term.specs.declared.in_memory.scanner.Stage.{Stage}
 use Rattle.indicatif_term.specs.declared.in_memory.scanner.Stage.TheVariants.{Outside, AfterEscape, InSequence}
 
@@ -18,3 +18,16 @@ pub record IsWholeChar (bytes : List ℕ) (c len : ℕ) : Type 0 where
   pub spelled : take len bytes ≡ encode_utf8 c
   pub scalar : all_scalars (c ∷ []) ≡ true
   pub printable : 0x20 ≤ c
+
+-- so many bytes at the front are a whole escape sequence with this number and this last character
+pub record IsWholeSequence (bytes : List ℕ) (number : Option ℕ) (last len : ℕ) : Type 0 where
+  pub some : 0 < len
+  pub within : len ≤ length bytes
+  pub asks : ops_of idle (take len bytes) ≡ sequence_ops number last
+  pub ends : reader_after idle (take len bytes) ≡ idle
+
+-- so many bytes at the front are a beginning of an escape sequence, up to the digits of this number
+pub record IsSequenceFront (bytes : List ℕ) (number : Option ℕ) (len : ℕ) : Type 0 where
+  pub within : len ≤ length bytes
+  pub asks : ops_of idle (take len bytes) ≡ []
+  pub goes_on : reader_after idle (take len bytes) ≡ record { place = Sequence number; spelling = [] }

@@ -1,13 +1,15 @@
 //! The cell terminal: a machine over bytes.
 ghost use Rattle.std.specs.Prelude.{◌≡◌, ◌∷◌, [], ◌⊎◌, ◌↔◌, ◌-◌, ◌<◌, ◌≤◌, ◌==◌, ◌&&◌, take, map, length, Err, IfOk, IfErr, IsFalse, OnOk, OnErr, string_bytes};
 ghost use Rattle.indicatif_term.specs.Screen.{top};
-ghost use Rattle.indicatif_term.specs.Terminal.{after, blank_terminal};
+ghost use Rattle.indicatif_term.specs.Terminal.{after, blank_terminal, idle};
+ghost use Rattle.indicatif_term.specs.Inside.Scanners.{IsWholeChar, IsWholeSequence};
 ghost use Rattle.indicatif_term.specs.Pictures.{contents_text, picture_text};
 ghost use Rattle.indicatif_term.specs.Resizes.{resized_terminal};
 
 use crate::in_memory::grid::Grid;
-use crate::in_memory::scanner::Scanner;
-use crate::in_memory::whole_char::whole_char_of;
+use crate::in_memory::run::{Run, printable_len, repeats_of_three};
+use crate::in_memory::scanner::{Scanner, WholeSequence};
+use crate::in_memory::whole_char::{WholeChar, whole_char_of};
 use indicatif_text::columns::Refusal;
 use std::alloc::Global;
 use std::marker::Model;
@@ -96,13 +98,75 @@ impl Cells {
         ensures refused { IfErr result (λ e. e ≡ Refusal.Memory) }
     {
         if self.scanner.is_idle() {
-            if let Some(whole) = whole_char_of(bytes) {
-                self.grid.put(whole.character)?;
-                return Ok(whole.len);
-            }
+            return self.feed_idle(bytes);
         }
         self.feed_byte(bytes[0])?;
         Ok(1)
+    }
+
+    /// The same between two characters, outside a sequence: characters, a sequence or a byte.
+    fn feed_idle(&mut self, bytes: &[u8]) -> Result<usize, Refusal>
+        requires some { 0 < length bytes.now }
+        requires idle { self.old.reader ≡ idle }
+        ensures fed { IfOk result (λ n. self.new ≡ after self.old (take n bytes.now)) }
+        ensures some { IfOk result (λ n. 0 < n) }
+        ensures within { IfOk result (λ n. n ≤ length bytes.now) }
+        ensures err { OnErr result (self.new ≡ self.old) }
+        ensures refused { IfErr result (λ e. e ≡ Refusal.Memory) }
+    {
+        let ascii = printable_len(bytes, self.grid.room());
+        if ascii > 0 {
+            let put = self.grid.put_run(Run::Ascii(&bytes[..ascii]))?;
+            return Ok(put);
+        }
+        if let Some(whole) = whole_char_of(bytes) {
+            return self.feed_whole(bytes, whole);
+        }
+        if let Some(sequence) = WholeSequence::of(bytes) {
+            return self.feed_sequence(bytes, sequence);
+        }
+        self.feed_byte(bytes[0])?;
+        Ok(1)
+    }
+
+    /// Reads a character that stands at the front, as often as it stands there and fits into the row.
+    fn feed_whole(&mut self, bytes: &[u8], whole: WholeChar) -> Result<usize, Refusal>
+        requires whole { IsWholeChar bytes.now whole.character whole.len }
+        requires idle { self.old.reader ≡ idle }
+        ensures fed { IfOk result (λ n. self.new ≡ after self.old (take n bytes.now)) }
+        ensures some { IfOk result (λ n. 0 < n) }
+        ensures within { IfOk result (λ n. n ≤ length bytes.now) }
+        ensures err { OnErr result (self.new ≡ self.old) }
+        ensures refused { IfErr result (λ e. e ≡ Refusal.Memory) }
+    {
+        let room = self.grid.room_for(whole.character);
+        if whole.len != 3 || room == 0 {
+            self.grid.put(whole.character)?;
+            return Ok(whole.len);
+        }
+        let count = repeats_of_three(bytes, room);
+        let character = whole.character;
+        let put = self.grid.put_run(Run::Repeated(character, count))?;
+        Ok(3 * put)
+    }
+
+    /// Reads an escape sequence that stands at the front.
+    fn feed_sequence(&mut self, bytes: &[u8], sequence: WholeSequence) -> Result<usize, Refusal>
+        requires whole { IsWholeSequence bytes.now sequence.number sequence.last sequence.len }
+        requires idle { self.old.reader ≡ idle }
+        ensures fed { IfOk result (λ n. self.new ≡ after self.old (take n bytes.now)) }
+        ensures some { IfOk result (λ n. 0 < n) }
+        ensures within { IfOk result (λ n. n ≤ length bytes.now) }
+        ensures err { OnErr result (self.new ≡ self.old) }
+        ensures refused { IfErr result (λ e. e ≡ Refusal.Memory) }
+    {
+        match sequence.op() {
+            None => Ok(sequence.len),
+            Some(op) => {
+                self.grid.perform(op)?;
+                Ok(sequence.len)
+            }
+        }
     }
 
     /// Reads a byte. Refused: `Memory`; all is unchanged then.

@@ -1,16 +1,18 @@
 //! The rows of a terminal, and its cursor: what each operation does to them.
-ghost use Rattle.std.specs.Prelude.{◌≡◌, ℕ, ◌+◌, ◌-◌, ◌<◌, ◌≤◌, [], false, IfOk, IfErr, OnOk, OnErr, length, take, replicate, slice_index_or, string_bytes, map};
+ghost use Rattle.std.specs.Prelude.{All, ◌≡◌, ℕ, ◌+◌, ◌-◌, ◌<◌, ◌≤◌, [], false, IfOk, IfErr, OnOk, OnErr, length, take, replicate, slice_index_or, string_bytes, map};
 ghost use Rattle.std.specs.List.{join_with_byte};
 ghost use Rattle.indicatif_text.specs.Columns.{blank_row};
-ghost use Rattle.indicatif_term.specs.Screen.{Put, Return, Up, Down, Right, Left, EmptyRow, performed, blank_screen, line_feed, put_wide, put_mark, put_here, top};
+ghost use Rattle.indicatif_term.specs.Screen.{Put, Return, Up, Down, Right, Left, EmptyRow, performed, performed_all, blank_screen, line_feed, put_wide, put_mark, put_here, top};
 ghost use Rattle.indicatif_term.specs.Pictures.{contents_text, picture_text, row_text, written_rows};
 ghost use Rattle.indicatif_term.specs.Inside.Grids.{op_of};
+ghost use Rattle.indicatif_term.specs.Inside.Runs.{run_chars, puts, TakesOneColumn};
 ghost use Rattle.unicode_width.specs.Width.{char_width};
 
 mod resizing;
 
 use crate::in_memory::known_width::KnownWidth;
 use crate::in_memory::row::Row;
+use crate::in_memory::run::Run;
 use indicatif_text::columns::Refusal;
 use std::alloc::Global;
 use std::marker::Model;
@@ -229,6 +231,44 @@ impl Grid {
             Some(0) => self.put_mark(c),
             Some(columns) => self.put_wide(c, columns),
         }
+    }
+
+    /// The columns from the cursor to the row's end.
+    pub(crate) fn room(&self) -> usize
+        ensures { self.now.column + result ≡ self.now.columns }
+    {
+        usize::from(self.columns - self.column)
+    }
+
+    /// The same where a character takes one column, else none.
+    pub(crate) fn room_for(&mut self, c: char) -> usize
+        ensures same { self.new ≡ self.old }
+        ensures narrow { 0 < result → TakesOneColumn c }
+        ensures room { self.old.column + result ≤ self.old.columns }
+    {
+        match self.width.columns(c) {
+            Some(1) => self.room(),
+            _ => 0,
+        }
+    }
+
+    /// Shows characters of one column from the cursor on: all of them, or the first alone. Says how many. Refused: `Memory`;
+    /// all is unchanged then.
+    pub(crate) fn put_run(&mut self, run: Run<'_>) -> Result<usize, Refusal>
+        requires some { 0 < length (run_chars run) }
+        requires narrow { All TakesOneColumn (run_chars run) }
+        requires fits { self.old.column + length (run_chars run) ≤ self.old.columns }
+        ensures ok { IfOk result (λ n. self.new ≡ performed_all (puts (take n (run_chars run.entry))) self.old) }
+        ensures some { IfOk result (λ n. 0 < n) }
+        ensures within { IfOk result (λ n. n ≤ length (run_chars run.entry)) }
+        ensures err { OnErr result (self.new ≡ self.old) }
+        ensures refused { IfErr result (λ e. e ≡ Refusal.Memory) }
+    {
+        let at = usize::from(self.column);
+        let row = &mut self.rows[self.row];
+        let written = row.write_run(at, run)?;
+        self.column += written as u16;
+        Ok(written)
     }
 
     /// Joins a mark to the character before the cursor, if there is one. Refused: `Memory`; all is unchanged then.

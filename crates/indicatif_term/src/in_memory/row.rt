@@ -5,11 +5,13 @@ ghost use Rattle.indicatif_text.specs.Columns.{blank_row};
 ghost use Rattle.indicatif_term.specs.Screen.{cut_before, written_at, joined_at};
 ghost use Rattle.indicatif_term.specs.Pictures.{cell_text, is_blank, is_written, has_written, row_text, trimmed};
 ghost use Rattle.indicatif_term.specs.Resizes.{glyph_at, glyphs_in};
+ghost use Rattle.indicatif_term.specs.Inside.Runs.{run_chars, narrow_cells};
 ghost use Rattle.indicatif_term.specs.Inside.Rows.{cell_shown, KeepsMarks, BeginTheSame, emptied_back, emptied_on, overwritten, character_cells};
 
 use crate::in_memory::cell::Cell;
 use crate::in_memory::glyph::Glyph;
 use crate::in_memory::marks::CombiningMark;
+use crate::in_memory::run::Run;
 use indicatif_text::columns::Refusal;
 use std::alloc::Global;
 use std::marker::Model;
@@ -76,6 +78,25 @@ impl Row {
         empty_on(cells, at + columns);
         overwrite(cells, at, c, columns);
         Ok(())
+    }
+
+    /// Writes characters of one column from column `at` on: all where no cell is kept from there on, else the first. Says how
+    /// many. Refused: `Memory`; all is unchanged then.
+    pub(crate) fn write_run(&mut self, at: usize, run: Run<'_>) -> Result<usize, Refusal>
+        requires some { 0 < length (run_chars run) }
+        requires fits { at + length (run_chars run) ≤ length self.old }
+        ensures written { IfOk result (λ n. self.new ≡ written_at at (narrow_cells (take n (run_chars run.entry))) self.old) }
+        ensures some { IfOk result (λ n. 0 < n) }
+        ensures within { IfOk result (λ n. n ≤ length (run_chars run.entry)) }
+        ensures err { OnErr result (self.new ≡ self.old) }
+        ensures refused { IfErr result (λ e. e ≡ Refusal.Memory) }
+    {
+        if at == self.cells.len() {
+            run.append_to(&mut self.cells)?;
+            return Ok(run.len());
+        }
+        self.write(at, run.first(), 1)?;
+        Ok(1)
     }
 
     /// Joins a mark to the character that ends just before column `at`, if one does. Refused: `Memory`; all is

@@ -1,8 +1,9 @@
 //! What bytes ask of a terminal: characters first, escape sequences next.
-ghost use Rattle.std.specs.Prelude.{◌≡◌, ◌<◌, map, length, IsTrue, option_to_list};
+ghost use Rattle.std.specs.Prelude.{◌≡◌, ◌<◌, ◌≤◌, map, length, slice_index, IsTrue, IfSome, option_to_list};
+ghost use Rattle.indicatif_text.specs.Columns.{is_parameter};
 ghost use Rattle.indicatif_term.specs.Terminal.{idle, byte_ops, byte_reader, char_ops, char_place, plain_ops, plain_place, sequence_ops, number_with};
 ghost use Rattle.indicatif_term.specs.Inside.Grids.{op_of};
-ghost use Rattle.indicatif_term.specs.Inside.Scanners.{stage_place};
+ghost use Rattle.indicatif_term.specs.Inside.Scanners.{stage_place, IsWholeSequence, IsSequenceFront};
 
 use crate::in_memory::grid::Op;
 use crate::in_memory::spelling::Spelling;
@@ -112,6 +113,70 @@ fn sequence_op(number: Option<u16>, c: char) -> Option<Op>
         'K' if n == 2 => Some(Op::EmptyRow),
         _ => None,
     }
+}
+
+/// A whole escape sequence at the front of bytes: its number, its last character, and how many bytes it has.
+#[derive(Clone, Copy, Drop)]
+pub(crate) struct WholeSequence {
+    number: Option<u16>,
+    last: char,
+    pub(crate) len: usize,
+}
+
+impl WholeSequence {
+    /// The one at the front, if there is one whose last character is ASCII.
+    pub(crate) fn of(bytes: &[u8]) -> Option<WholeSequence>
+        ensures { IfSome result (λ s. IsWholeSequence bytes.now s.number s.last s.len) }
+    {
+        if bytes.len() < 3 || bytes[0] != 0x1B || bytes[1] != b'[' {
+            return None;
+        }
+        let (number, len) = sequence_front(bytes);
+        if len == bytes.len() {
+            return None;
+        }
+        let byte = bytes[len];
+        if byte >= 0x80 || is_parameter_byte(byte) {
+            return None;
+        }
+        let last = char::from(byte);
+        Some(WholeSequence {
+            number,
+            last,
+            len: len + 1,
+        })
+    }
+
+    /// What it asks for.
+    pub(crate) fn op(self) -> Option<Op>
+        ensures { map op_of (option_to_list result) ≡ sequence_ops self.number self.last }
+    {
+        sequence_op(self.number, self.last)
+    }
+}
+
+/// The number of the escape sequence that begins at the front, and how many bytes stand before its last character.
+fn sequence_front(bytes: &[u8]) -> (Option<u16>, usize)
+    requires some { 2 ≤ length bytes.now }
+    requires escape { slice_index bytes.now 0 ≡ 0x1B }
+    requires bracket { slice_index bytes.now 1 ≡ 0x5B }
+    ensures { IsSequenceFront bytes.now result.0 result.1 }
+{
+    let mut number = Some(0);
+    let mut len: usize = 2;
+    'bytes: while len < bytes.len() && is_parameter_byte(bytes[len]) {
+        let digit = char::from(bytes[len]);
+        number = number_with(number, digit);
+        len += 1;
+    }
+    (number, len)
+}
+
+/// The same as `is_parameter`, of a byte.
+fn is_parameter_byte(byte: u8) -> bool
+    ensures { result ≡ is_parameter byte }
+{
+    is_parameter(char::from(byte))
 }
 
 /// What a byte asks for, and the scanner after it.

@@ -1,0 +1,23 @@
+use Rattle.std.proofs.Common.{◌≡◌, ◌∙◌, ◌∷◌, [], ap, sym, take}
+use Rattle.std.specs.Prelude.{map, option_to_list}
+use Rattle.indicatif_term.specs.Screen.{performed_all}
+use Rattle.indicatif_term.specs.Terminal.{Terminal, sequence_ops, after}
+use Rattle.indicatif_term.specs.Inside.Grids.{op_of}
+use Rattle.indicatif_term.proofs.WholeSequenceLemmas.{fed_sequence}
+use Rattle.indicatif_term.proofs.in_memory.feeding.Cells.feed_sequence.Goals as goal
+
+pub returns-in_ok-perform-in-Some-clause-fed : goal.returns-in_ok-perform-in-Some-clause-fed
+returns-in_ok-perform-in-Some-clause-fed c =
+    let t : Terminal = record { screen = c.self.inside.grid; reader = c.self.inside.scanner } in
+    let s = c.args.sequence in
+    let asked : op_of c.in-Some.op ∷ [] ≡ sequence_ops s.number s.last = sym (ap (λ o. map op_of (option_to_list o)) c.in-Some.is) ∙ c.op.ensures in
+    fed_sequence t c.perform.new.self c.args.bytes.now s.number s.last s.len c.requires.whole (ap (λ u. u.reader) c.self.view_is ∙ c.requires.idle)
+    (c.in_ok-perform-in-Some.ensures.ok ∙ ap (λ ops. performed_all ops t.screen) asked)
+    ∙ ap (λ u. after u (take s.len c.args.bytes.now)) c.self.view_is
+
+pub returns-in-None-clause-fed : goal.returns-in-None-clause-fed
+returns-in-None-clause-fed c =
+    let t = c.args.self.now in
+    let s = c.args.sequence in
+    let asked : [] ≡ sequence_ops s.number s.last = sym (ap (λ o. map op_of (option_to_list o)) c.in-None.is) ∙ c.op.ensures in
+    fed_sequence t t.screen c.args.bytes.now s.number s.last s.len c.requires.whole c.requires.idle (ap (λ ops. performed_all ops t.screen) asked)
