@@ -71,7 +71,8 @@ module _ {K : Type 0} where
 
 -- where a name's text comes from: its first tracker, or else its key
 pub data Named {K : Type 0} (keys : List (List ℕ × K)) (name : List ℕ) : Type 0 where
-  ByTracker : (k : ℕ) → (entry : List ℕ × K) → (at : slice_get keys k ≡ Some entry) → (named_is : named name keys ≡ Some entry.1) → (source_is : source_of (names keys) name ≡ Tracker k) → Named keys name
+  ByTracker : (k : ℕ) → (entry : List ℕ × K) → (at : slice_get keys k ≡ Some entry) → (named_is : named name keys ≡ Some entry.1) →
+      (source_is : source_of (names keys) name ≡ Tracker k) → Named keys name
   ByKey : (named_is : named name keys ≡ None) → (source_is : source_of (names keys) name ≡ option_map_or Known (key_named name) Nothing) → Named keys name
 
 module _ {K : Type 0} (keys : List (List ℕ × K)) (name : List ℕ) where

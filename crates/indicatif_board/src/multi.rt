@@ -63,8 +63,8 @@ pub struct Board<K, T: Drop> {
 
 impl<K: Tracks, T: TermLike + Drop> Board<K, T> {
     ghost use Rattle.indicatif_board.specs.Calls.{entrant_of, given, removal, answer_of, place_at, call_of, timed, IsForeign, NamesForeign, AreTurnedAway, acts_on};
-    ghost use Rattle.indicatif_board.specs.Multi.{IsIn, IsNowhere, IsAbsent, EntersAbsent, mark_of, record_at, RecordsStay, OtherRecordsStay, RecordObeys, RecordsTake, SlotsTake, SlotsGive, SlotsLeft, SlotsChange};
-    ghost use Rattle.indicatif_board.specs.Multi.{RecordsChange, StaysOrComes, LeadsBy, Suspends, known, moves_of, slots_of, terminal_of};
+    ghost use Rattle.indicatif_board.specs.Multi.{IsIn, IsNowhere, IsAbsent, EntersAbsent, mark_of, record_at, RecordsStay, OtherRecordsStay, RecordObeys, RecordsTake, SlotsTake, SlotsGive};
+    ghost use Rattle.indicatif_board.specs.Multi.{SlotsLeft, SlotsChange, RecordsChange, StaysOrComes, LeadsBy, Suspends, known, moves_of, slots_of, terminal_of};
 
     /// A board without bars on this target, of this mark. It takes no memory and writes nothing.
     pub fn new(alloc: Global, target: ProgressDrawTarget<T>, mark: u64) -> Self

@@ -68,7 +68,8 @@ module _ (text : List ℕ) (plain : All IsPrintable text) where
   plain_ascii : chars text ≡ text
   plain_ascii = chars-IsAscii text (IsAscii-from_all text (All-weaker IsPrintable (λ b. b < 128) (λ b h. omega (arith, h.1)) text plain))
 
-seen_behind : (front own : List ℕ) → IsUtf8 front → (plain : All IsPrintable (0x20 ∷ own)) → map width_of (visible (chars (front ++ 0x20 ∷ own))) ≡ map width_of (visible (chars front)) ++ replicate (length own + 1) 1
+seen_behind : (front own : List ℕ) → IsUtf8 front → (plain : All IsPrintable (0x20 ∷ own)) →
+    map width_of (visible (chars (front ++ 0x20 ∷ own))) ≡ map width_of (visible (chars front)) ++ replicate (length own + 1) 1
 seen_behind front own u plain =
     let same : chars (0x20 ∷ own) ≡ 0x20 ∷ own = plain_ascii (0x20 ∷ own) plain in
     let count : length (0x20 ∷ own) ≡ length own + 1 = omega arith in

@@ -149,7 +149,8 @@ module _ (w : ℕ) (on : List StandingLine) (at : ℕ) (x : StandingLine) (text 
   pub came_some : 0 < x.rows
   came_some = omega (arith, came_rows, rows_some w (chars text))
 
-  pub came_compared : (before : List (List ℕ)) (p p' : Plan) → at ≡ p.lines → p'.lines ≡ p.lines + 1 → p'.passing ≡ p.passing → AreCompared w on new before p → AreCompared w on new' (before ++ text ∷ []) p'
+  pub came_compared : (before : List (List ℕ)) (p p' : Plan) → at ≡ p.lines → p'.lines ≡ p.lines + 1 → p'.passing ≡ p.passing → AreCompared w on new before p →
+      AreCompared w on new' (before ++ text ∷ []) p'
   came_compared before p p' i b d c =
       let h' : p.lines < length on = omega (arith, h, i) in
       let e' : get_or on p.lines x ≡ x = ap (λ n. get_or on n x) (sym i) ∙ e in
@@ -263,7 +264,8 @@ rests_still : (h : ℕ) (l : Lists) → lists_height l ≤ l.reach → (l.kept �
 rests_still h l fits low some on =
     let gone = (max l.reach (lists_height l) - h) - length l.above in
     let none = none_gone gone l.kept (elim low [ inl none ↦ inl none | inr here ↦ inr (omega arith) ]) in
-    same_lists (record l { failed = false }) (l.above ++ take gone l.kept) (drop gone l.kept) (max l.reach (lists_height l)) ((live_height l.live == 0) && nat_lt (lists_height (settled h l)) (max l.reach (lists_height l))) false
+    same_lists (record l { failed = false }) (l.above ++ take gone l.kept) (drop gone l.kept) (max l.reach (lists_height l))
+    ((live_height l.live == 0) && nat_lt (lists_height (settled h l)) (max l.reach (lists_height l))) false
     (ap (λ xs. l.above ++ xs) none.0 ∙ append-nil l.above) none.1 (omega arith) (not_below (live_height l.live) (lists_height (settled h l)) (max l.reach (lists_height l)) some ∙ sym on) refl
 
 no_room : (bottom : Bool) (taken bars : ℕ) → taken ≡ bars → blanks_for bottom taken 0 bars ≡ 0
@@ -460,7 +462,8 @@ renewed_by w ls a x front last e p i s =
     ap (λ xs. change_bytes w 0 (placed (take (length ls - 1) xs)) (placed_of x) []) e ∙ ap (λ xs. change_bytes w 0 (placed (take (length ls - 1) ls)) (placed_of x) (placed xs)) (sym none)
     ∙ changed_in w 0 ls (length ls) x front last [] p (omega arith) i s count
 
-pub renewed_height : (ls a : List StandingLine) (x : StandingLine) → a ≡ ls → 0 < length ls → get_or ls (length ls - 1) x ≡ x → placed_height (placed (take (length ls - 1) a)) + x.rows ≡ placed_height (placed ls)
+pub renewed_height : (ls a : List StandingLine) (x : StandingLine) → a ≡ ls → 0 < length ls → get_or ls (length ls - 1) x ≡ x →
+    placed_height (placed (take (length ls - 1) a)) + x.rows ≡ placed_height (placed ls)
 renewed_height ls a x e p i =
     ap (λ xs. placed_height (placed (take (length ls - 1) xs)) + x.rows) e ∙ height_to ls (length ls) x p (omega arith) i ∙ ap (λ xs. placed_height (placed xs)) (take_all (length ls) ls (omega arith))
 

@@ -30,7 +30,8 @@ loop-member-preserved c =
       summed = c.compare_member.ensures.summed yes;
       narrow = narrow_step wide high frame i s (omega arith) (sym c.member-item.is) old.narrow (c.compare_member.ensures.narrow yes);
       laid = lines_step wide high frame i s (omega arith) (sym c.member-item.is) [] made.plan (c.compare_member.ensures.laid yes _ old.laid);
-      compared = subst (λ xs. AreCompared wide c.args.standing.now made.changed.items xs made.plan) (sym (frame_step frame i s (omega arith) (sym c.member-item.is))) (c.compare_member.ensures.compared yes _ old.compared);
+      compared = subst (λ xs. AreCompared wide c.args.standing.now made.changed.items xs made.plan) (sym (frame_step frame i s (omega arith) (sym c.member-item.is)))
+          (c.compare_member.ensures.compared yes _ old.compared);
     }
 
 pub returns : goal.returns

@@ -29,7 +29,8 @@ returns-in-Ok-clause-summed c = λ yes.
 pub returns-in-Ok-clause-narrow : goal.returns-in-Ok-clause-narrow
 returns-in-Ok-clause-narrow c = λ yes.
     let made = c.args.made.now in
-    came_narrow c.args.window.columns c.args.standing.now made.plan.lines c.index-standing-at.result c.args.own.text.now made.changed.items c.comes_in.new.changed.items c.requires.standing (omega arith)
+    came_narrow c.args.window.columns c.args.standing.now made.plan.lines
+    c.index-standing-at.result c.args.own.text.now made.changed.items c.comes_in.new.changed.items c.requires.standing (omega arith)
     (sym c.index-standing-at.is) (c.comes_in.ensures c.if-not-comes_in.false)
 
 pub returns-in-Ok-clause-laid : goal.returns-in-Ok-clause-laid
@@ -46,5 +47,6 @@ returns-in-Ok-clause-laid c = λ yes before o.
 pub returns-in-Ok-clause-compared : goal.returns-in-Ok-clause-compared
 returns-in-Ok-clause-compared c = λ yes before e.
     let made = c.args.made.now in
-    came_compared c.args.window.columns c.args.standing.now made.plan.lines c.index-standing-at.result c.args.own.text.now made.changed.items c.comes_in.new.changed.items c.requires.standing (omega arith)
+    came_compared c.args.window.columns c.args.standing.now made.plan.lines
+    c.index-standing-at.result c.args.own.text.now made.changed.items c.comes_in.new.changed.items c.requires.standing (omega arith)
     (sym c.index-standing-at.is) (c.comes_in.ensures c.if-not-comes_in.false) before made.plan _ refl refl refl e

@@ -37,7 +37,8 @@ loop-line-preserved c =
           (laid _ (c.loop-line.invariant.laid before o));
       compared = λ before e.
           let texts_before = map line_text (take c.loop-line.line-index items) in
-          subst (λ xs. AreCompared c.args.window.columns c.args.standing.now c.compare_line.new.made.changed.items xs c.compare_line.new.made.plan) (append_assoc before texts_before (line_text c.line-item.result ∷ [])
+          subst (λ xs. AreCompared c.args.window.columns c.args.standing.now c.compare_line.new.made.changed.items xs c.compare_line.new.made.plan)
+          (append_assoc before texts_before (line_text c.line-item.result ∷ [])
           ∙ ap (λ xs. before ++ xs) (sym (line_texts_step items c.loop-line.line-index c.line-item.result h here))) (compared _ (c.loop-line.invariant.compared before e));
     }
 

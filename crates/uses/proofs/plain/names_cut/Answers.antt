@@ -55,7 +55,8 @@ returns-in-Some c =
     let view_is : read.0 ≡ second.writes.0 = same_Some read.0 second.writes.0 (sym read.1 ∙ second.writes.1) in
     let columns : read.0.columns ≡ 3 = ap (λ v. v.columns) view_is ∙ second.writes.2.counted.columns_stay ∙ size.2.columns_are in
     let names = cut_names_read writes_nothing one.0 other.0 c.in_ok-_one._one c.in_ok-_other._other first.leads
-    (subst (λ s. Leads (machine writes_nothing) narrow s ((machine writes_nothing).deed narrow (Log short_name) 0 s) (Drew c.in_ok-_other._other) other.0) (ap (λ t. cut writes_nothing t one.0) target_is)
+    (subst (λ s. Leads (machine writes_nothing) narrow s ((machine writes_nothing).deed narrow (Log short_name) 0 s) (Drew c.in_ok-_other._other) other.0)
+    (ap (λ t. cut writes_nothing t one.0) target_is)
     (subst (λ t. Leads (machine writes_nothing) t x ((machine writes_nothing).deed t (Log short_name) 0 x) (Drew c.in_ok-_other._other) other.0) narrow_is other.2.leads)) in
     let left = ap (option_map (λ t. t.now)) (sym c.in-Some.is) ∙ c.term.ensures in
     let t = state_told c.in-Some.term.now read.0 read.2.0 (ap (option_map view_of) left ∙ read.1) read.2.1 in (
