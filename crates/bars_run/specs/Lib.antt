@@ -1,1 +1,6 @@
+pub mod Arguments
+pub mod Commands
 pub mod Fault
+pub mod Inside
+pub mod Plays
+pub mod Printing

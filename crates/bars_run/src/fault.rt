@@ -44,6 +44,14 @@ impl Fault {
     }
 }
 
+impl From<Refusal> for Fault {
+    ghost from_gives = { λ refusal fault. fault ≡ Fault.Refused refusal };
+
+    fn from(refusal: Refusal) -> Fault {
+        Fault::Refused(refusal)
+    }
+}
+
 impl fmt::Display for Fault {
     fn fmt<W: fmt::Write>(&self, f: &mut fmt::Formatter<W>) -> fmt::Result {
         match self {
