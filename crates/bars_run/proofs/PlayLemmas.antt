@@ -47,6 +47,11 @@ pub resized : {X E : Type 0} (r : Result X E) (w h : ℕ) (old new : Played) →
 resized (Ok done) w h old new plays = λ s is. let r = plays s is in (Size w h, refl, refl, sized machine sizing w h (target_of (known view_of old)) s, r.0, r.1)
 resized (Err e) w h old new plays = tt
 
+-- a command whose step was made
+pub obeyed : {X E : Type 0} (r : Result X E) (command : Spelled) (step : Step) (old new : Played) → step_of command ≡ Some step → OnOk r (Makes step old new) → OnOk r (Obeys command old new)
+obeyed (Ok done) command step old new is made = (step, is, made)
+obeyed (Err e) command step old new is made = tt
+
 -- ---- one line more
 
 module _ {S C A : Type 0} (m : Machine S C A) (z : Sizing m) where

@@ -1,12 +1,18 @@
 -- Texts up to the last one that isn't empty.
-use Rattle.std.proofs.Common.{append-nil, flat_map, ◌≡◌, ℕ, zero, suc, true, false, List, [], ◌∷◌, ◌++◌, replicate, refl, sym, ◌∙◌, ap, if◌then◌else◌}
-use Rattle.std.specs.Prelude.{◌&&◌}
+use Rattle.std.proofs.Common.{append-nil, flat_map, ◌≡◌, ℕ, zero, suc, true, false, List, [], ◌∷◌, ◌++◌, length, replicate, refl, sym, ◌∙◌, ap, arith, if◌then◌else◌}
+use Rattle.std.specs.Prelude.{◌&&◌, ◌==◌}
 use Rattle.std.specs.List.{list_all}
+use Rattle.std.proofs.lemmas.Bool.{ne_eqb}
 use Rattle.std.proofs.lemmas.List.Folds.{list_all-append}
 use Rattle.std.proofs.lemmas.Grind.{flat_map-append}
 use Rattle.std.proofs.Math.Bool.{and-true, and-false}
 use Rattle.indicatif_term.specs.Pictures.{is_empty}
 use Rattle.bars_run.specs.Printing.{up_to_last}
+
+-- a text that has no bytes
+pub empty_is : (text : List ℕ) → is_empty text ≡ (length text == 0)
+empty_is [] = refl
+empty_is (c ∷ cs) = sym (ne_eqb (suc (length cs)) 0 (λ e. omega (arith, e)))
 
 all_empty : (n : ℕ) → list_all is_empty (replicate n []) ≡ true
 all_empty zero = refl

@@ -158,9 +158,9 @@ module _ (asked : Asked) (lines : List (List ℕ)) (b : Played) (p : HasPlayed a
       let columns = ap (λ x. x.columns) (same_view new r.0 u.0 r.1 u.1) ∙ u.2 ∙ wide in (
         r.2.2,
         ap (λ x. picture_text x.screen) t ∙ r.2.3
-        ∙ ap (λ n. map row_text (take n opening.rows ++ all_rows r.0.columns p.next.lists) ++ replicate r.2.2 []) none
-        ∙ ap (λ n. map row_text (all_rows n p.next.lists) ++ replicate r.2.2 []) columns
-        ∙ ap (λ o. map row_text (all_rows (columns_after asked.size.columns p.steps) o.1.lists) ++ replicate r.2.2 []) (sym once),
+            ∙ ap (λ n. map row_text (take n opening.rows ++ all_rows r.0.columns p.next.lists) ++ replicate r.2.2 []) none
+            ∙ ap (λ n. map row_text (all_rows n p.next.lists) ++ replicate r.2.2 []) columns
+            ∙ ap (λ o. map row_text (all_rows (columns_after asked.size.columns p.steps) o.1.lists) ++ replicate r.2.2 []) (sym once),
       )
 
 -- the same where the input's bytes are known
@@ -191,17 +191,17 @@ pub prints : (words : List (List ℕ)) (o : Option (List ℕ)) (asked : Asked) (
 prints words o asked texts old new is stood appended = elim o as (λ y. IfSome y (λ bytes. Stands asked bytes texts) → IfSome y (λ bytes. Prints words bytes old new)) [
   | None ↦ λ p. tt
   | Some bytes ↦ λ p. record {
-      asked = asked;
-      asked_is = is;
-      commands = p.commands;
-      commands_are = p.commands_are;
-      steps = p.steps;
-      steps_are = p.steps_are;
-      done = p.done;
-      shown = λ all.
-          let t = p.shown all in
-          subst (Appends old new) (ap printed t.1 ∙ ap ended (none_behind (map row_text (rows_after asked p.steps)) t.0)) appended;
-    }
+    asked = asked;
+    asked_is = is;
+    commands = p.commands;
+    commands_are = p.commands_are;
+    steps = p.steps;
+    steps_are = p.steps_are;
+    done = p.done;
+    shown = λ all.
+        let t = p.shown all in
+        subst (Appends old new) (ap printed t.1 ∙ ap ended (none_behind (map row_text (rows_after asked p.steps)) t.0)) appended;
+  }
 ] stood
 
 pub some_fault : (fault : Fault) → status_of fault ≡ 0 → ⊥

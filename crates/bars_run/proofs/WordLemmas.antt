@@ -36,7 +36,7 @@ own = numerals_by_value (λ ds. all_ascii_digits ds ≡ true) tells_all_ascii_di
 parsed_by : {E : Type 0} (most v : ℕ) (text : List ℕ) (r : Result ℕ E) → 0 < length text → OkIff r ((0 < length text) × (v < most)) v → result_ok r ≡ (if nat_lt v most then Some v else None)
 parsed_by most v text (Ok x) some q = ap Some q.1 ∙ sym (ap (λ b. if b then Some v else None) (lt-ltb v most q.0.1))
 parsed_by most v text (Err e) some q =
-    elim (cases_Bool (nat_lt v most)) [ inl is ↦ absurd (q (some, ltb-true v most is)) | inr no ↦ sym (ap (λ b. if b then Some v else None) no) ]
+    elim (cases_Bool (nat_lt v most)) [ inl is ↦ absurd (q (some, ltb-true v most is)) | inr not_less ↦ sym (ap (λ b. if b then Some v else None) not_less) ]
 
 some_of : (n : ℕ) → not (n == 0) ≡ true → 0 < n
 some_of n e = grind arith

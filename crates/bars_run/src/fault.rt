@@ -45,7 +45,9 @@ impl Fault {
 }
 
 impl From<Refusal> for Fault {
-    ghost from_gives = { λ refusal fault. fault ≡ Fault.Refused refusal };
+    ghost use Rattle.bars_run.specs.declared.fault.Fault.TheVariants.{Refused};
+
+    ghost from_gives = { λ refusal fault. fault ≡ Refused refusal };
 
     fn from(refusal: Refusal) -> Fault {
         Fault::Refused(refusal)
@@ -53,6 +55,10 @@ impl From<Refusal> for Fault {
 }
 
 impl fmt::Display for Fault {
+    ghost use Rattle.bars_run.specs.Fault.{fault_text};
+
+    ghost output = { fault_text };
+
     fn fmt<W: fmt::Write>(&self, f: &mut fmt::Formatter<W>) -> fmt::Result {
         match self {
             Fault::Usage => f.write_str(USAGE),

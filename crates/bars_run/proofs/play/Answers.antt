@@ -8,7 +8,7 @@ pub loop-line-init : goal.loop-line-init
 loop-line-init g c = λ asked p.
     let known = g.R.Read.remaining in
     let same = c.into_iter-line-iterator.ensures.into_iter_gives in
-    reads_first asked (known c.args.input) _ _ c.args.player.now.board (ap (split_known_bytes known) same ∙ c.split.ensures.bytes) (ap split_byte same ∙ c.split.ensures.byte) p
+    reads_first asked (known c.args.input) _ _ c.args.player.now.board (ap (split_known_bytes known) same ∙ c.split-line-items.ensures.bytes) (ap split_byte same ∙ c.split-line-items.ensures.byte) p
 
 pub loop-line-preserved : goal.loop-line-preserved
 loop-line-preserved g c = λ asked p.
@@ -18,4 +18,4 @@ loop-line-preserved g c = λ asked p.
     (c.in-Some.is ∙ ap Some c.in-Ok.is) c.next.ensures.steps.1 spells told.2
 
 pub returns : goal.returns
-returns g c = λ asked p. reads_last _ asked _ _ _ _ _ c.next.result c.next.ensures.steps.2 c.loop-line.player.board (c.loop-line.invariant asked p) c.in-None.is
+returns g c = λ asked p. reads_last _ asked _ _ _ _ 0 c.next.result c.next.ensures.steps.2 c.loop-line.player.board (c.loop-line.invariant asked p) c.in-None.is
