@@ -1,4 +1,5 @@
 pub mod Arguments
+pub mod Cases
 pub mod Commands
 pub mod Fault
 pub mod Inside

@@ -1,6 +1,7 @@
 //! The program `bars run` over any reader and two writers: a board in memory, played by commands, one a line.
 //!
 //! - `arguments`: what the arguments ask for.
+//! - `cases`: worked cases of the definitions.
 //! - `commands`: what a line spells.
 //! - `input`: what is read, so that its failures are told apart from want of memory.
 //! - `player`: the board, and what a command does on it.
@@ -9,6 +10,7 @@
 #![tactic(auto)]
 
 mod arguments;
+pub mod cases;
 mod commands;
 pub mod fault;
 mod input;
