@@ -1,24 +1,15 @@
 -- The words of a line, and the numbers that digits spell.
-use Rattle.std.proofs.Common.{inl, inr, ◌≡◌, ℕ, ◌+◌, ◌<◌, ◌^◌, Bool, true, false, not, List, [], ◌∷◌, length, take, drop, refl, sym, ◌∙◌, ap, subst, arith, take_all, Result, Ok, Err, Some, None, eqb, if◌then◌else◌}
+use Rattle.std.proofs.Common.{inl, inr, ◌≡◌, ℕ, ◌+◌, ◌<◌, ◌^◌, Bool, true, false, not, List, [], ◌∷◌, length, refl, sym, ◌∙◌, ap, subst, arith, Result, Ok, Err, Some, None, eqb, if◌then◌else◌}
 use Rattle.std.specs.Prelude.{◌&&◌, ◌==◌, nat_lt}
 use Rattle.std.specs.Char.{is_ascii_digit}
-use Rattle.std.specs.List.{list_all, position_or_len}
+use Rattle.std.specs.List.{list_all}
 use Rattle.std.specs.Result.{OkIff, result_ok}
 use Rattle.std.specs.Str.{all_ascii_digits, is_utf8, IsUtf8}
 use Rattle.std.specs.Str.Parse.{digits_value, ParsesUnsigned}
 use Rattle.std.proofs.lemmas.Bool.{and_parts, cases_Bool, ltb-true, lt-ltb, ne_eqb}
-use Rattle.std.proofs.lemmas.List.{drop_all}
 use Rattle.std.proofs.lemmas.Str.{IsUtf8-from_is_utf8}
 use Rattle.std.proofs.lemmas.Str.Parse.{IsNumeralModel, numerals_by_value, tells_all_ascii_digits, parse_digits}
 use Rattle.bars_run.specs.Arguments.{is_number, number_below}
-use Rattle.bars_run.specs.Commands.{is_space, word_of, rest_of}
-
--- a text without a space is all word
-pub all_word : (text : List ℕ) → position_or_len is_space text ≡ length text → text ≡ word_of text
-all_word text e = sym (ap (λ n. take n text) e ∙ take_all (length text) text (omega arith))
-
-pub no_rest : (text : List ℕ) → position_or_len is_space text ≡ length text → [] ≡ rest_of text
-no_rest text e = sym (ap (λ n. drop (n + 1) text) e ∙ drop_all (length text + 1) text (omega arith))
 
 -- bytes that are no text
 pub no_text : (bs : List ℕ) → (IsUtf8 bs → ⊥) → is_utf8 bs ≡ false
@@ -47,7 +38,3 @@ parsed k text r h is =
     let p = and_parts (not (length text == 0)) (list_all is_ascii_digit text) is in
     let v = digits_value 10 text in
     parsed_by (2 ^ k) v text r (some_of (length text) p.0) (parse_digits own k text r h (sym (listed text) ∙ p.1)) ∙ sym (ap (λ b. if b && nat_lt v (2 ^ k) then Some v else None) is)
-
--- and no number otherwise
-pub no_number : (bound : ℕ) (text : List ℕ) → is_number text ≡ false → None ≡ number_below bound text
-no_number bound text e = let v = digits_value 10 text in sym (ap (λ b. if b && nat_lt v bound then Some v else None) e)

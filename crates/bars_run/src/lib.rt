@@ -4,6 +4,7 @@
 //! - `cases`: worked cases of the definitions.
 //! - `commands`: what a line spells.
 //! - `input`: what is read, so that its failures are told apart from want of memory.
+//! - `laws`: what follows from the definitions.
 //! - `player`: the board, and what a command does on it.
 //! - `words`: the words of a command line.
 //! - `fault`: why a run ends before all of it is printed.
@@ -14,6 +15,7 @@ pub mod cases;
 mod commands;
 pub mod fault;
 mod input;
+pub mod laws;
 mod player;
 pub mod words;
 
