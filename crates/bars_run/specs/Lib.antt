@@ -1,1 +1,7 @@
+pub mod Arguments
+pub mod Cases
+pub mod Commands
 pub mod Fault
+pub mod Inside
+pub mod Plays
+pub mod Printing

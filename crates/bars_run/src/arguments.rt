@@ -1,4 +1,9 @@
 //! What the arguments of `bars run` ask for.
+ghost use Rattle.std.specs.Prelude.{◌≡◌, ◌^◌, map, option_map, string_bytes};
+ghost use Rattle.std.specs.Char.{is_ascii_digit};
+ghost use Rattle.std.specs.List.{list_all};
+ghost use Rattle.bars_run.specs.Arguments.{is_number, number_below, size_spelled, asking, asked_behind, asked_by};
+
 use indicatif_term::draw_target::MultiProgressAlignment;
 
 /// A terminal's size.
@@ -10,7 +15,9 @@ pub struct Size {
 
 impl Size {
     /// The size of these rows and columns, each one or more decimal digits, and at most 65,535; `None` of other words.
-    pub fn spelt(rows: &str, columns: &str) -> Option<Size> {
+    pub fn spelt(rows: &str, columns: &str) -> Option<Size>
+        ensures { result ≡ size_spelled rows.now columns.now }
+    {
         let rows = size_of(rows)?;
         let columns = size_of(columns)?;
         Some(Size { rows, columns })
@@ -26,7 +33,9 @@ pub struct Asked {
 
 impl Asked {
     /// What `run ROWS COLS` or `run ROWS COLS bottom` asks for; `None` of other words.
-    pub fn by(args: &[String]) -> Option<Asked> {
+    pub fn by(args: &[String]) -> Option<Asked>
+        ensures { result ≡ asked_by (map (λ word. string_bytes word) args.now) }
+    {
         match args {
             [run, rows, columns] => sized(run, rows, columns, MultiProgressAlignment::Top),
             [run, rows, columns, bottom] => {
@@ -46,7 +55,9 @@ fn sized(
     rows: &String,
     columns: &String,
     alignment: MultiProgressAlignment,
-) -> Option<Asked> {
+) -> Option<Asked>
+    ensures { result ≡ asked_behind (string_bytes run.now) (option_map (asking alignment) (size_spelled (string_bytes rows.now) (string_bytes columns.now))) }
+{
     if run.as_str() != "run" {
         return None;
     }
@@ -55,7 +66,9 @@ fn sized(
 }
 
 /// The number of at most 65,535 that one or more decimal digits spell.
-fn size_of(text: &str) -> Option<u16> {
+fn size_of(text: &str) -> Option<u16>
+    ensures { result ≡ number_below (2 ^ 16) text.now }
+{
     if !is_digits(text) {
         return None;
     }
@@ -63,6 +76,15 @@ fn size_of(text: &str) -> Option<u16> {
 }
 
 /// Whether a text is one or more decimal digits.
-pub fn is_digits(text: &str) -> bool {
-    !text.is_empty() && text.as_bytes().iter().all(|b| b.is_ascii_digit())
+pub fn is_digits(text: &str) -> bool
+    ensures { result ≡ is_number text.now }
+{
+    !text.is_empty() && are_digits(text)
+}
+
+/// Whether each byte is a decimal digit.
+fn are_digits(text: &str) -> bool
+    ensures { result ≡ list_all is_ascii_digit text.now }
+{
+    text.as_bytes().iter().all(|b| b.is_ascii_digit())
 }

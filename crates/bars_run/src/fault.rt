@@ -44,7 +44,21 @@ impl Fault {
     }
 }
 
+impl From<Refusal> for Fault {
+    ghost use Rattle.bars_run.specs.declared.fault.Fault.TheVariants.{Refused};
+
+    ghost from_gives = { λ refusal fault. fault ≡ Refused refusal };
+
+    fn from(refusal: Refusal) -> Fault {
+        Fault::Refused(refusal)
+    }
+}
+
 impl fmt::Display for Fault {
+    ghost use Rattle.bars_run.specs.Fault.{fault_text};
+
+    ghost output = { fault_text };
+
     fn fmt<W: fmt::Write>(&self, f: &mut fmt::Formatter<W>) -> fmt::Result {
         match self {
             Fault::Usage => f.write_str(USAGE),

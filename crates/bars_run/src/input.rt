@@ -8,6 +8,8 @@ use std::io::{ErrorKind, Read};
 pub struct Input<R: Drop>(pub R);
 
 impl<R: Read + Drop> Read for Input<R> {
+    ghost remaining = { λ input. R.remaining input.0 };
+
     fn read(&mut self, buf: &mut [u8]) -> io::Result<usize> {
         match self.0.read(buf) {
             Err(e) if e.kind() == ErrorKind::OutOfMemory => Err(io::Error::from(ErrorKind::Other)),

@@ -1,28 +1,39 @@
 //! The program `bars run` over any reader and two writers: a board in memory, played by commands, one a line.
 //!
 //! - `arguments`: what the arguments ask for.
+//! - `cases`: worked cases of the definitions.
 //! - `commands`: what a line spells.
 //! - `input`: what is read, so that its failures are told apart from want of memory.
+//! - `laws`: what follows from the definitions.
 //! - `player`: the board, and what a command does on it.
 //! - `words`: the words of a command line.
 //! - `fault`: why a run ends before all of it is printed.
 #![tactic(auto)]
 
 mod arguments;
+pub mod cases;
 mod commands;
 pub mod fault;
 mod input;
+pub mod laws;
 mod player;
 pub mod words;
 
-ghost use Rattle.std.specs.Prelude.{◌≡◌, ◌⊎◌, IfErr};
+ghost use Rattle.std.specs.Prelude.{◌≡◌, ◌⊎◌, ℕ, [], map, Some, IfErr, IfOk, IfSome, OnOk, string_bytes};
+ghost use Rattle.std.specs.Io.Buffered.{reader_remaining};
+ghost use Rattle.std.specs.Io.KnownBytes.{Appends};
+ghost use Rattle.bars_run.specs.declared.arguments.Asked.{Asked as AskedFor};
+ghost use Rattle.bars_run.specs.Commands.{command_of, lines_of, spelled, Spelled};
 ghost use Rattle.bars_run.specs.Fault.{status_of};
+ghost use Rattle.bars_run.specs.Inside.Players.{HasPlayed, Obeys, Stands};
+ghost use Rattle.bars_run.specs.Printing.{Prints, printed, up_to_last as trimmed};
 
 use crate::arguments::Asked;
 use crate::commands::Command;
 use crate::fault::Fault;
 use crate::input::Input;
 use crate::player::Player;
+use indicatif_term::laws::a_new_terminal_is_an_opening;
 use indicatif_text::columns::Refusal;
 use std::alloc::Global;
 use std::io;
@@ -42,6 +53,10 @@ use std::io::{BufRead, BufReader, ErrorKind, Read, Write};
 /// with the status that it has, and the commands behind it aren't played. At status 0 nothing is written to `err`, at status 1
 /// nothing to `out`.
 ///
+/// Where the input tells its bytes, as a slice does, contracts know more at status 0 (`Prints`): each line spells a command, a board
+/// that plays them one after another refuses none, and, if their texts consist of characters with a width and colour sequences,
+/// exactly the texts of the rows that stand at the end were printed.
+///
 /// ```
 /// let mut out = Vec::new(alloc);
 /// let mut err = Vec::new(alloc);
@@ -59,6 +74,7 @@ pub fn run_bars<R: Read + Drop, O: Write, E: Write>(
     ensures status { (result ≡ 0) ⊎ (result ≡ 1) ⊎ (result ≡ 2) }
     ensures fine { result ≡ 0 → err.new ≡ err.old }
     ensures refused { result ≡ 1 → out.new ≡ out.old }
+    ensures printed { result ≡ 0 → IfSome (R.remaining input) (λ bytes. Prints (map (λ word. string_bytes word) args.now) bytes (O.contents out.old) (O.contents out.new)) }
 {
     match shown(alloc, args, input, out) {
         Ok(()) => 0,
@@ -77,8 +93,11 @@ fn shown<R: Read + Drop, O: Write>(
     out: &mut O,
 ) -> Result<(), Fault>
     ensures unprinted { IfErr result (λ fault. (fault ≡ Fault.Output) ⊎ (out.new ≡ out.old)) }
+    ensures printed { OnOk result (IfSome (R.remaining input) (λ bytes. Prints (map (λ word. string_bytes word) args.now) bytes (O.contents out.old) (O.contents out.new))) }
 {
-    let asked = Asked::by(args).ok_or(Fault::Usage)?;
+    let Some(asked) = Asked::by(args) else {
+        return Err(Fault::Usage);
+    };
     let picture = played(alloc, asked, input)?;
     match print(&picture, out) {
         Ok(()) => Ok(()),
@@ -87,30 +106,55 @@ fn shown<R: Read + Drop, O: Write>(
 }
 
 /// The rows that stand after all commands.
-fn played<R: Read + Drop>(alloc: Global, asked: Asked, input: R) -> Result<Vec<String>, Fault> {
-    let mut player = Player::new(alloc, asked).map_err(Fault::Refused)?;
-    let input = BufReader::new(alloc, Input(input)).map_err(|_| Fault::Refused(Refusal::Memory))?;
+fn played<R: Read + Drop>(alloc: Global, asked: Asked, input: R) -> Result<Vec<String>, Fault>
+    ensures { IfOk result (λ rows. IfSome (R.remaining input) (λ bytes. Stands asked bytes (map (λ row. string_bytes row) rows.items))) }
+{
+    let mut player = Player::new(alloc, asked)?;
+    let input = buffered(alloc, input)?;
     play(alloc, &mut player, input)?;
-    player.picture().map_err(Fault::Refused)
+    a_new_terminal_is_an_opening();
+    let rows = player.picture()?;
+    Ok(rows)
+}
+
+/// The input, with room for what is read ahead of it.
+fn buffered<R: Read + Drop>(alloc: Global, input: R) -> Result<BufReader<Input<R>>, Fault>
+    ensures { IfOk result (λ reader. reader_remaining (λ given. R.remaining given.0) reader ≡ R.remaining input) }
+{
+    match BufReader::new(alloc, Input(input)) {
+        Ok(reader) => Ok(reader),
+        Err(_) => Err(Fault::Refused(Refusal::Memory)),
+    }
 }
 
 /// Plays each line.
-fn play<R: BufRead + Drop>(alloc: Global, player: &mut Player, input: R) -> Result<(), Fault> {
+fn play<R: BufRead + Drop>(alloc: Global, player: &mut Player, input: R) -> Result<(), Fault>
+    ensures { (asked : AskedFor) → HasPlayed asked [] player.old.board →
+        OnOk result (IfSome (R.remaining input) (λ bytes. HasPlayed asked (lines_of bytes) player.new.board)) }
+{
     let mut number: u64 = 0;
     for line in input.split(alloc, b'\n') {
         number = number.saturating_add(1);
-        let line = line.map_err(|e| unread(number, &e))?;
-        play_line(player, number, &line)?;
+        let line = match line {
+            Ok(line) => line,
+            Err(e) => return Err(unread(number, &e)),
+        };
+        play_line(player, number, line.as_slice())?;
     }
     Ok(())
 }
 
 /// Plays one line, of this number.
-fn play_line(player: &mut Player, number: u64, line: &[u8]) -> Result<(), Fault> {
-    let command = Command::spelt(line).ok_or(Fault::BadCommand(number))?;
-    player
-        .obey(command)
-        .map_err(|refusal| Fault::Line(number, refusal))
+fn play_line(player: &mut Player, number: u64, line: &[u8]) -> Result<(), Fault>
+    ensures { OnOk result ((command : Spelled) × (spelled line.now ≡ Some command) × Obeys command player.old.board player.new.board) }
+{
+    let Some(command) = Command::spelt(line) else {
+        return Err(Fault::BadCommand(number));
+    };
+    match player.obey(command) {
+        Ok(()) => Ok(()),
+        Err(refusal) => Err(Fault::Line(number, refusal)),
+    }
 }
 
 /// Why the line of this number couldn't be read: it found no room, or the input failed.
@@ -122,11 +166,26 @@ fn unread(number: u64, e: &io::Error) -> Fault {
 }
 
 /// Prints rows up to the last one that isn't empty, each ended by a newline.
-fn print<O: Write>(rows: &[String], out: &mut O) -> io::Result<()> {
-    let last = rows.iter().rposition(|row| !row.is_empty());
-    let count = last.map_or(0, |at| at.saturating_add(1));
-    for row in rows.iter().take(count) {
+fn print<O: Write>(rows: &[String], out: &mut O) -> io::Result<()>
+    ensures { OnOk result (Appends (O.contents out.old) (O.contents out.new) (printed (map (λ row. string_bytes row) rows.now))) }
+{
+    let shown = up_to_last(rows);
+    for row in shown {
         writeln!(out, "{row}")?;
     }
     out.flush()
+}
+
+/// Rows up to the last one that isn't empty.
+fn up_to_last(rows: &[String]) -> &[String]
+    ensures { map (λ row. string_bytes row) result.now ≡ trimmed (map (λ row. string_bytes row) rows.now) }
+{
+    let mut shown = rows;
+    while let Some((last, front)) = shown.split_last() {
+        if !last.is_empty() {
+            break;
+        }
+        shown = front;
+    }
+    shown
 }

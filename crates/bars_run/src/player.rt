@@ -1,5 +1,16 @@
 //! A board in memory, and what a command does on it.
-use crate::arguments::Asked;
+ghost use Rattle.std.specs.Prelude.{◌≡◌, ℕ, suc, [], map, Some, IfOk, IfSome, OnOk, string_bytes};
+ghost use Rattle.indicatif_term.specs.Pictures.{picture_text};
+ghost use Rattle.indicatif_bar.specs.Scripts.{Size as NewSize};
+ghost use Rattle.indicatif_board.specs.BoardValues.{id_of};
+ghost use Rattle.indicatif_board.specs.Bridge.{bridge_bytes};
+ghost use Rattle.indicatif_board.specs.Calls.{call_of as call_as};
+ghost use Rattle.indicatif_board.specs.Multi.{terminal_of};
+ghost use Rattle.bars_run.specs.Commands.{Add, Log, Warn, OfBar, command_of, action_of};
+ghost use Rattle.bars_run.specs.Plays.{bar_at, bar_saying as saying, call_on, calling};
+ghost use Rattle.bars_run.specs.Inside.Players.{Obeys, Makes, HasPlayed};
+
+use crate::arguments::{Asked, Size};
 use crate::commands::{BarAction, Command};
 use indicatif_bar::state::{BarCommand, BarState, ProgressFinish};
 use indicatif_bar::style::{NoTracker, ProgressStyle};
@@ -8,6 +19,7 @@ use indicatif_board::multi::{Answer, BarId, Board, Call, Candidate, InsertLocati
 use indicatif_term::draw_target::ProgressDrawTarget;
 use indicatif_term::in_memory::InMemoryTerm;
 use indicatif_text::columns::{Moment, Refusal};
+use indicatif_text::laws::template_or_refused;
 use log::Level;
 use std::alloc::Global;
 
@@ -29,7 +41,9 @@ impl Player {
     /// A board without bars on an empty terminal.
     ///
     /// Refused: `ZeroSize` where the terminal would have no cells, or `Memory`.
-    pub fn new(alloc: Global, asked: Asked) -> Result<Player, Refusal> {
+    pub fn new(alloc: Global, asked: Asked) -> Result<Player, Refusal>
+        ensures { IfOk result (λ player. HasPlayed asked [] player.board) }
+    {
         let term = InMemoryTerm::new(alloc, asked.size.rows, asked.size.columns)?;
         let board = Board::new(alloc, ProgressDrawTarget::term_like(term), MARK);
         let mut player = Player {
@@ -44,23 +58,23 @@ impl Player {
     /// Does what a command says.
     ///
     /// Refused: what the board refuses, `NotMember` also for a number that was never given, and `Memory`.
-    pub fn obey(&mut self, command: Command<'_>) -> Result<(), Refusal> {
-        let call = match command {
-            Command::Size(size) => return self.board.resize(size.rows, size.columns),
-            Command::Add(text) => Call::Insert {
-                at: InsertLocation::End,
-                candidate: Candidate::New(bar_saying(self.alloc, text)?),
-            },
-            Command::Log(text) => Call::Log(String::from_str(self.alloc, text)?),
-            Command::Warn(text) => Call::Log(warning(self.alloc, text)?),
-            Command::Clear => Call::Clear,
-            Command::Bar(number, action) => bar_call(self.alloc, self.id_of(number)?, action)?,
-        };
-        self.make(call)
+    pub fn obey(&mut self, command: Command<'_>) -> Result<(), Refusal>
+        ensures { OnOk result (Obeys (command_of command.entry) self.old.board self.new.board) }
+    {
+        match command {
+            Command::Size(size) => self.resize(size),
+            Command::Add(text) => self.add(text),
+            Command::Log(text) => self.log(text),
+            Command::Warn(text) => self.warn(text),
+            Command::Clear => self.make(Call::Clear),
+            Command::Bar(number, action) => self.tell(number, action),
+        }
     }
 
     /// The rows that scrolled away, then those of the window, each without the blanks at its end.
-    pub fn picture(&self) -> Result<Vec<String>, Refusal> {
+    pub fn picture(&self) -> Result<Vec<String>, Refusal>
+        ensures { IfOk result (λ rows. IfSome (terminal_of self.now.board) (λ term. map (λ row. string_bytes row) rows.items ≡ picture_text term.terminal.screen)) }
+    {
         match self.board.term() {
             Some(term) => term.picture(),
             None => Ok(Vec::new(self.alloc)),
@@ -68,20 +82,66 @@ impl Player {
     }
 
     /// Makes a call of the board.
-    fn make(&mut self, call: Call<NoTracker>) -> Result<(), Refusal> {
-        let calls = vec![in self.alloc; (call, NOW)]?;
-        for answer in self.board.run(calls)? {
-            match answer {
-                Answer::Refused(refusal) => return Err(refusal),
-                Answer::Id(_) => self.given = self.given.saturating_add(1),
-                Answer::Done | Answer::Drawn(_) => (),
+    fn make(&mut self, call: Call<NoTracker>) -> Result<(), Refusal>
+        ensures { OnOk result (Makes (calling (call_as call)) self.old.board self.new.board) }
+    {
+        match self.board.call(call, NOW) {
+            Answer::Refused(refusal) => Err(refusal),
+            Answer::Id(_) => {
+                self.given = self.given.saturating_add(1);
+                Ok(())
             }
+            Answer::Done | Answer::Drawn(_) => Ok(()),
         }
-        Ok(())
+    }
+
+    /// Another size of the terminal.
+    fn resize(&mut self, size: Size) -> Result<(), Refusal>
+        ensures { OnOk result (Makes (NewSize size.columns size.rows) self.old.board self.new.board) }
+    {
+        self.board.resize(size.rows, size.columns)
+    }
+
+    /// A bar that says this.
+    fn add(&mut self, text: &str) -> Result<(), Refusal>
+        ensures { OnOk result (Obeys (Add text.now) self.old.board self.new.board) }
+    {
+        let bar = bar_saying(self.alloc, text)?;
+        self.make(Call::Insert {
+            at: InsertLocation::End,
+            candidate: Candidate::New(bar),
+        })
+    }
+
+    /// This text above the bars.
+    fn log(&mut self, text: &str) -> Result<(), Refusal>
+        ensures { OnOk result (Obeys (Log text.now) self.old.board self.new.board) }
+    {
+        let line = String::from_str(self.alloc, text)?;
+        self.make(Call::Log(line))
+    }
+
+    /// The same as a warning.
+    fn warn(&mut self, text: &str) -> Result<(), Refusal>
+        ensures { OnOk result (Obeys (Warn text.now) self.old.board self.new.board) }
+    {
+        let line = warning(self.alloc, text)?;
+        self.make(Call::Log(line))
+    }
+
+    /// An action on the bar of a number.
+    fn tell(&mut self, number: Option<u64>, action: BarAction<'_>) -> Result<(), Refusal>
+        ensures { OnOk result (Obeys (OfBar number (action_of action.entry)) self.old.board self.new.board) }
+    {
+        let id = self.id_of(number)?;
+        let call = bar_call(self.alloc, id, action)?;
+        self.make(call)
     }
 
     /// The bar of this number, counted from 1.
-    fn id_of(&self, number: Option<u64>) -> Result<BarId, Refusal> {
+    fn id_of(&self, number: Option<u64>) -> Result<BarId, Refusal>
+        ensures { IfOk result (λ id. (n : ℕ) × (number ≡ Some (suc n)) × (id_of id ≡ bar_at n)) }
+    {
         match number {
             Some(number) if 0 < number && number <= self.given => Ok(BarId {
                 mark: MARK,
@@ -93,14 +153,18 @@ impl Player {
 }
 
 /// The line of a log that warns.
-fn warning(alloc: Global, text: &str) -> Result<String, Refusal> {
+fn warning(alloc: Global, text: &str) -> Result<String, Refusal>
+    ensures { IfOk result (λ line. string_bytes line ≡ bridge_bytes Level.Warn text.now) }
+{
     let mut line = String::new(alloc);
     bridge_line(Level::Warn, text, &mut line)?;
     Ok(line)
 }
 
 /// The board's call for what is done to a bar.
-fn bar_call(alloc: Global, id: BarId, action: BarAction<'_>) -> Result<Call<NoTracker>, Refusal> {
+fn bar_call(alloc: Global, id: BarId, action: BarAction<'_>) -> Result<Call<NoTracker>, Refusal>
+    ensures { IfOk result (λ call. call_as call ≡ call_on (id_of id) (action_of action.entry)) }
+{
     let command = match action {
         BarAction::Drop => return Ok(Call::Drop(id)),
         BarAction::Remove => return Ok(Call::Remove(id)),
@@ -114,9 +178,12 @@ fn bar_call(alloc: Global, id: BarId, action: BarAction<'_>) -> Result<Call<NoTr
 }
 
 /// A bar that shows its message, which is this.
-fn bar_saying(alloc: Global, text: &str) -> Result<BarState<NoTracker>, Refusal> {
+fn bar_saying(alloc: Global, text: &str) -> Result<BarState<NoTracker>, Refusal>
+    ensures { IfOk result (λ bar. bar ≡ saying text.now) }
+{
     let style = ProgressStyle::with_template(alloc, "{msg}")?;
     let mut bar = BarState::styled(alloc, style, None, NOW)?;
     bar.with_message(text, NOW)?;
+    template_or_refused();
     Ok(bar)
 }

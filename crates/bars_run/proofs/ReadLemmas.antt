@@ -1,0 +1,59 @@
+-- Lines as they are read of an input, and played.
+use Rattle.std.proofs.Common.{◌≡◌, ℕ, ◌<◌, List, [], ◌∷◌, ◌++◌, length, refl, sym, ◌∙◌, ap, subst, append_assoc, append-nil, Option, Some, None, Result, Ok}
+use Rattle.std.specs.Prelude.{IfSome}
+use Rattle.std.specs.Io.BufRead.{DropsThrough, drop_through, first_piece}
+use Rattle.std.specs.Io.Iter.{YieldsKnownPiece}
+use Rattle.std.specs.Io.KnownBytes.{IsAtEnd, prepend_known}
+use Rattle.bars_run.specs.declared.arguments.Asked.{Asked}
+use Rattle.bars_run.specs.Commands.{Spelled, lines_of, spelled}
+use Rattle.bars_run.specs.Inside.Players.{Played, Obeys, HasPlayed}
+use Rattle.bars_run.proofs.LineLemmas.{next_line}
+use Rattle.bars_run.proofs.PlayLemmas.{one_more}
+
+-- a front of the lines was played, and these bytes are known to be left of the input
+pub record Reads (asked : Asked) (bytes : List ℕ) (known : Option (List ℕ)) (byte : ℕ) (b : Played) : Type 0 where
+  pub left : List ℕ
+  pub known_is : known ≡ Some left
+  pub byte_is : byte ≡ 0x0A
+  pub lines : List (List ℕ)
+  pub all : lines_of bytes ≡ lines ++ lines_of left
+  pub played : HasPlayed asked lines b
+
+pub reads_first : (asked : Asked) (o known : Option (List ℕ)) (byte : ℕ) (b : Played) → known ≡ o → byte ≡ 0x0A → HasPlayed asked [] b → IfSome o (λ bytes. Reads asked bytes known byte b)
+reads_first asked None known byte b e f p = tt
+reads_first asked (Some bytes) known byte b e f p = record { left = bytes; known_is = e; byte_is = f; lines = []; all = refl; played = p }
+
+module _ {X E : Type 0} (f : X → List ℕ) (asked : Asked) (o known known' : Option (List ℕ)) (byte byte' : ℕ) (r : Option (Result X E)) (gives : YieldsKnownPiece f (first_piece byte) byte known r known') where
+  pub reads_next : (old new : Played) (x : X) (command : Spelled) → IfSome o (λ bytes. Reads asked bytes known byte old) → r ≡ Some (Ok x) → byte' ≡ byte → spelled (f x) ≡ Some command → Obeys command old new →
+      IfSome o (λ bytes. Reads asked bytes known' byte' new)
+  reads_next old new x command reads is same spells obeys = elim o as (λ y. IfSome y (λ bytes. Reads asked bytes known byte old) → IfSome y (λ bytes. Reads asked bytes known' byte' new)) [
+    | None ↦ λ p. tt
+    | Some bytes ↦ λ p.
+        let given = subst (λ y. YieldsKnownPiece f (first_piece byte) byte known y known') is gives in
+        let some = subst (λ k. IfSome k (λ xs. (0 < length xs) × (f x ≡ first_piece byte xs))) p.known_is given.0 in
+        let drops = subst (λ k. DropsThrough k known' byte) p.known_is given.1 in
+        let line : f x ≡ first_piece 0x0A p.left = some.1 ∙ ap (λ n. first_piece n p.left) p.byte_is in
+        let rest = drop_through 0x0A p.left in
+        record {
+          left = rest;
+          known_is = drops ∙ ap (λ n. Some (drop_through n p.left)) p.byte_is;
+          byte_is = same ∙ p.byte_is;
+          lines = p.lines ++ f x ∷ [];
+          all = p.all ∙ ap (λ ls. p.lines ++ ls) (next_line p.left some.0 ∙ ap (λ l. l ∷ lines_of rest) (sym line)) ∙ sym (append_assoc p.lines (f x ∷ []) (lines_of rest));
+          played = one_more asked p.lines (f x) command old new p.played spells obeys;
+        }
+  ] reads
+
+  pub reads_last : (b : Played) → IfSome o (λ bytes. Reads asked bytes known byte b) → r ≡ None → IfSome o (λ bytes. HasPlayed asked (lines_of bytes) b)
+  reads_last b reads is = elim o as (λ y. IfSome y (λ bytes. Reads asked bytes known byte b) → IfSome y (λ bytes. HasPlayed asked (lines_of bytes) b)) [
+    | None ↦ λ p. tt
+    | Some bytes ↦ λ p.
+        let at_end = subst (λ y. YieldsKnownPiece f (first_piece byte) byte known y known') is gives in
+        let none : p.left ≡ [] = subst IsAtEnd p.known_is at_end in
+        let all : lines_of bytes ≡ p.lines = p.all ∙ ap (λ xs. p.lines ++ lines_of xs) none ∙ append-nil p.lines in
+        subst (λ ls. HasPlayed asked ls b) (sym all) p.played
+  ] reads
+
+pub nothing_ahead : (o : Option (List ℕ)) → prepend_known [] o ≡ o
+nothing_ahead None = refl
+nothing_ahead (Some xs) = refl

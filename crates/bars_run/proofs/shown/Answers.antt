@@ -1,0 +1,18 @@
+use Rattle.std.proofs.Common.{◌≡◌, ◌∙◌, sym, subst, map, Some}
+use Rattle.std.specs.Prelude.{string_bytes}
+use Rattle.std.specs.Io.KnownBytes.{Appends}
+use Rattle.bars_run.specs.Arguments.{asked_by}
+use Rattle.bars_run.specs.Printing.{printed}
+use Rattle.bars_run.proofs.StandLemmas.{prints}
+use Rattle.bars_run.proofs.shown.Goals as goal
+
+pub returns-in-Ok-clause-printed : goal.returns-in-Ok-clause-printed
+returns-in-Ok-clause-printed g c =
+    let words = map (λ word. string_bytes word) c.args.args.now in
+    let asked = c.in-Some.asked in
+    let is : asked_by words ≡ Some asked = sym c.by.ensures ∙ c.in-Some.is in
+    let old = g.O.Write.contents c.args.out.now in
+    let new = g.O.Write.contents c.print.new.out in
+    let texts = map (λ row. string_bytes row) c.in_ok-picture.picture.items in
+    let appended = subst (λ rows. Appends old new (printed (map (λ row. string_bytes row) rows))) c.deref.ensures.value c.in-Ok.ensures in
+    prints words (g.R.Read.remaining c.args.input) asked texts old new is c.in_ok-picture.ensures appended

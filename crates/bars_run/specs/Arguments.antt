@@ -1,0 +1,41 @@
+-- What the words of a command line ask for. Texts are lists of bytes.
+use Rattle.std.specs.Prelude.{ℕ, ◌^◌, Bool, not, ◌&&◌, ◌==◌, nat_lt, List, [], ◌∷◌, length, Option, Some, None, option_map, if◌then◌else◌, codes, bytes_eq}
+use Rattle.std.specs.Char.{is_ascii_digit}
+use Rattle.std.specs.List.{list_all}
+use Rattle.std.specs.Str.Parse.{digits_value}
+use Rattle.indicatif_term.specs.declared.draw_target.MultiProgressAlignment.{MultiProgressAlignment}
+use Rattle.indicatif_term.specs.declared.draw_target.MultiProgressAlignment.TheVariants.{Top, Bottom}
+use Rattle.bars_run.specs.declared.arguments.Asked.{Asked}
+use Rattle.bars_run.specs.declared.arguments.Size.{Size}
+
+-- one or more decimal digits
+abbrev pub is_number : List ℕ → Bool
+is_number text = not (length text == 0) && list_all is_ascii_digit text
+
+-- the number that they spell, where it is below a bound
+abbrev pub number_below : ℕ → List ℕ → Option ℕ
+number_below bound text = if is_number text && nat_lt (digits_value 10 text) bound then Some (digits_value 10 text) else None
+
+-- a size of so many rows and columns, where there are both numbers
+abbrev pub size_of : Option ℕ → Option ℕ → Option Size
+size_of (Some rows) (Some columns) = Some (record { rows = rows; columns = columns })
+size_of _ _ = None
+
+-- the size that two texts spell: each a number of at most 65,535
+abbrev pub size_spelled : List ℕ → List ℕ → Option Size
+size_spelled rows columns = size_of (number_below (2 ^ 16) rows) (number_below (2 ^ 16) columns)
+
+-- a terminal of this size, whose bars stand so in what is taken back
+abbrev pub asking : MultiProgressAlignment → Size → Asked
+asking alignment size = record { size = size; alignment = alignment }
+
+-- the word `run`, and what is asked behind it
+abbrev pub asked_behind : List ℕ → Option Asked → Option Asked
+asked_behind word asked = if bytes_eq word (codes "run") then asked else None
+
+-- `run ROWS COLS`, or `run ROWS COLS bottom`; none of other words
+abbrev pub asked_by : List (List ℕ) → Option Asked
+asked_by (word ∷ rows ∷ columns ∷ []) = asked_behind word (option_map (asking Top) (size_spelled rows columns))
+asked_by (word ∷ rows ∷ columns ∷ place ∷ []) =
+    if bytes_eq place (codes "bottom") then asked_behind word (option_map (asking Bottom) (size_spelled rows columns)) else None
+asked_by _ = None

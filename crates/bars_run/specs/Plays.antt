@@ -1,0 +1,128 @@
+-- The script of a board that commands stand for, and the rows that stand after it.
+use Rattle.std.specs.Prelude.{ℕ, zero, suc, Bool, true, false, ◌||◌, List, [], ◌∷◌, Option, Some, None, All, codes}
+use Rattle.std.specs.List.{list_any}
+use Rattle.log.specs.declared.level.Level.TheVariants.{Warn as WarnLevel}
+use Rattle.indicatif_text.specs.Columns.{Cell}
+use Rattle.indicatif_text.specs.Template.{KeyText, plain_layout}
+use Rattle.indicatif_term.specs.Engines.{is_bottom}
+use Rattle.indicatif_term.specs.Frames.{logged_lines}
+use Rattle.indicatif_term.specs.Lists.{all_rows}
+use Rattle.indicatif_bar.specs.declared.bar_style.builders.TheConstants.{TICKS}
+use Rattle.indicatif_bar.specs.declared.tracker.NoTracker.{NoTracker}
+use Rattle.indicatif_bar.specs.Builders.{first_style}
+use Rattle.indicatif_bar.specs.Commands as bar
+use Rattle.indicatif_bar.specs.Commands.{BarRecord, Command, new_bar}
+use Rattle.indicatif_bar.specs.Finishes.{AndLeave, AndClear, Abandon as AbandonFinish}
+use Rattle.indicatif_bar.specs.Machines.{Target, Machine}
+use Rattle.indicatif_bar.specs.PlainLaws.{IsPlainWithTabs}
+use Rattle.indicatif_bar.specs.Scripts as script
+use Rattle.indicatif_bar.specs.Scripts.{Part, Called, Sizing}
+use Rattle.indicatif_bar.specs.StyleLaws.{IsPlainText}
+use Rattle.indicatif_bar.specs.Trackers.{writes_nothing}
+use Rattle.indicatif_board.specs.Boards as on
+use Rattle.indicatif_board.specs.Boards.{BoardState, Id, End, New, Call, Answer, Refused, opening_board, board}
+use Rattle.indicatif_board.specs.BoardBars.{board_bars}
+use Rattle.indicatif_board.specs.Bridge.{bridge_bytes}
+use Rattle.indicatif_board.specs.Multi.{board_sizing}
+use Rattle.bars_run.specs.declared.arguments.Asked.{Asked}
+use Rattle.bars_run.specs.Commands.{Action, Message, Tick, Finish, Hide, Abandon, Drop, Remove, Spelled, Add, Log, Warn, Clear, Resize, OfBar}
+
+-- ---- steps
+
+-- a bar, a call of its board, and a step of a script: one call at the moment 0, or a size
+abbrev pub Bar : Type 0
+Bar = BarRecord NoTracker
+
+abbrev pub BarCall : Type 0
+BarCall = Call Bar (Command NoTracker)
+
+abbrev pub Step : Type 0
+Step = Part BarCall Answer
+
+-- a call whose answer is left open
+abbrev pub calling : BarCall → Step
+calling call = Called ((call, 0) ∷ []) []
+
+-- a bar whose template is `{msg}`, and which says this
+abbrev pub bar_saying : List ℕ → Bar
+bar_saying text =
+    let made = new_bar (first_style TICKS.now (KeyText (codes "msg") plain_layout ∷ [])) None 0 in
+    record made { progress = record made.progress { message = text } }
+
+-- the board's bar of a number, counted from 0
+abbrev pub bar_at : ℕ → Id
+bar_at number = record { mark = 0; number = number }
+
+-- an action on a bar, as a call
+abbrev pub call_on : Id → Action → BarCall
+call_on id (Message text) = on.Tell id (bar.SetMessage text)
+call_on id Tick = on.Tell id bar.Tick
+call_on id Finish = on.Tell id (bar.FinishBy AndLeave)
+call_on id Hide = on.Tell id (bar.FinishBy AndClear)
+call_on id Abandon = on.Tell id (bar.FinishBy AbandonFinish)
+call_on id Drop = on.Drop id
+call_on id Remove = on.Remove id
+
+-- the step that a command stands for; none where it names bar 0 or one past 2 ^ 64 - 1, which there never are
+abbrev pub step_of : Spelled → Option Step
+step_of (Add text) = Some (calling (on.Insert End (New (bar_saying text))))
+step_of (Log text) = Some (calling (on.Log text))
+step_of (Warn text) = Some (calling (on.Log (bridge_bytes WarnLevel text)))
+step_of Clear = Some (calling on.Clear)
+step_of (Resize size) = Some (script.Size size.columns size.rows)
+step_of (OfBar (Some (suc number)) action) = Some (calling (call_on (bar_at number) action))
+step_of (OfBar _ action) = None
+
+-- ---- a script
+
+abbrev pub machine : Machine (BoardState Bar) BarCall Answer
+machine = board (board_bars writes_nothing) 0
+
+abbrev pub sizing : Sizing machine
+sizing = board_sizing writes_nothing 0
+
+-- the terminal at first
+abbrev pub target_of : Asked → Target
+target_of asked = record { hidden = false; columns = asked.size.columns; rows = asked.size.rows }
+
+-- the steps from the first on, which says where bars stand
+abbrev pub script_of : Asked → List Step → List Step
+script_of asked steps = calling (on.Align (is_bottom asked.alignment)) ∷ steps
+
+-- what they come to on a new board where nothing fails: the steps with their answers, and the board then
+abbrev pub played : Asked → List Step → List Step × BoardState Bar
+played asked steps = script.played machine sizing (target_of asked) (script_of asked steps) (opening_board None)
+
+-- whether a call was refused
+abbrev pub is_refused : Answer → Bool
+is_refused (Refused e) = true
+is_refused _ = false
+
+abbrev pub any_refused : List Step → Bool
+any_refused [] = false
+any_refused (Called calls answers ∷ steps) = list_any is_refused answers || any_refused steps
+any_refused (script.Size columns rows ∷ steps) = any_refused steps
+
+-- how many columns there are after steps, from so many
+abbrev pub columns_after : ℕ → List Step → ℕ
+columns_after w [] = w
+columns_after w (Called calls answers ∷ steps) = columns_after w steps
+columns_after w (script.Size columns rows ∷ steps) = columns_after columns steps
+
+-- the rows that stand then
+abbrev pub rows_after : Asked → List Step → List (List Cell)
+rows_after asked steps = all_rows (columns_after asked.size.columns steps) (played asked steps).1.lists
+
+-- ---- texts
+
+-- the texts that a command gives consist of characters with a width and colour sequences
+abbrev pub IsPlainAction : Action → Type 0
+IsPlainAction (Message text) = IsPlainWithTabs text
+IsPlainAction _ = Unit {0}
+
+abbrev pub IsPlain : Spelled → Type 0
+IsPlain (Add text) = IsPlainWithTabs text
+IsPlain (Log text) = All IsPlainText (logged_lines text)
+IsPlain (Warn text) = All IsPlainText (logged_lines (bridge_bytes WarnLevel text))
+IsPlain (OfBar number action) = IsPlainAction action
+IsPlain _ = Unit {0}
