@@ -182,7 +182,7 @@ module _ {K : Type 0} (m : Tracking K) (trackers : ArePlainTrackers m) (mark : �
       AllByRecursion IsPlainMember s.members → ArePlainParts parts → AllRunsPlain machine sizing parts old s new next plays
   scripts_plain [] old s new next plays is all = tt
   scripts_plain (Called calls answers ∷ parts) old s new next plays is all = (
-    board_runs_are_plain m trackers mark calls answers old s plays.0 plays.1 plays.2 (All-from_recursion IsPlainMember s.members is) (All-from_recursion (λ call. IsPlainCall call.0) calls all.0),
+    (board_runs_are_plain m trackers mark calls answers old s plays.0 plays.1 plays.2 (All-from_recursion IsPlainMember s.members is) (All-from_recursion (λ call. IsPlainCall call.0) calls all.0)).0,
     scripts_plain parts plays.0 plays.1 new next plays.3 (run_keeps calls answers old s plays.0 plays.1 plays.2 is all.0) all.1,
   )
   scripts_plain (Size w h ∷ parts) old s new next plays is all = scripts_plain parts plays.0 (sized machine sizing w h (target_of old) s) new next plays.4 is all
