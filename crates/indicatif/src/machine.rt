@@ -55,7 +55,7 @@ impl<R: time::Clock> MachineClock<R> {
 /// A second in nanoseconds.
 const SECOND: u64 = 1_000_000_000;
 
-/// A time in nanoseconds; 2^64 - 1 after 584 years.
+/// A time in nanoseconds; 2^64 - 1 from second 18,446,744,073 on, after 584 years.
 #[inline(always)]
 fn nanos_of(time: Duration) -> u64 {
     let secs = time.as_secs();
@@ -304,7 +304,8 @@ pub fn on_stream<R: Env + AllocGlobal + time::Clock + Copy, W: Write + IsTermina
 /// a shared bar or board: nothing here asks the terminal, and `LINES` and `COLUMNS` say what they said when the program began.
 ///
 /// The size is believed: bars have all `cols` columns. The target is hidden where that of `on_stream` is, and is drawn as often. Bars
-/// begin there with their next draw, and that has to be at the front of an empty row. So take their rows back before, or end the line.
+/// begin there with their next draw, and that has to be at the front of an empty row. If bars have rows, `clear` takes them back and leaves
+/// the cursor there. If only logged lines stand, or nothing is to be taken back, end the line instead.
 ///
 /// ```
 /// board.clear()?; // its rows are taken back

@@ -338,6 +338,11 @@ impl<T: TermLike> OwnRows<T> {
         (self.term.width() as usize).saturating_sub(self.column)
     }
 
+    /// Whether the cursor waits behind a full row.
+    fn waits(&self) -> bool {
+        0 < self.column && self.term.width() as usize <= self.column
+    }
+
     /// The column after a move to the right: the last one at most. A cursor that waits behind a full row stays.
     fn right_of(&self, n: usize) -> usize {
         let last = (self.term.width() as usize).saturating_sub(1);
@@ -436,18 +441,14 @@ impl<T: TermLike> TermLike for OwnRows<T> {
 /// ```
 impl<T: Resize> Resize for OwnRows<T> {
     fn resize(&mut self, rows: u16, cols: u16) -> Result<(), Refusal> {
-        let before = self.term.width() as usize;
+        let waits = self.waits();
         self.term.resize(rows, cols)?;
-        self.column = column_then(self.column, before, cols as usize);
+        let columns = cols as usize;
+        self.column = if waits {
+            columns
+        } else {
+            self.column.min(columns)
+        };
         Ok(())
-    }
-}
-
-/// The cursor's column at another width: it stays, but for one that waits behind a full row, or that isn't there any more.
-fn column_then(column: usize, before: usize, now: usize) -> usize {
-    if 0 < column && before <= column {
-        now
-    } else {
-        column.min(now)
     }
 }

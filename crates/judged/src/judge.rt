@@ -220,11 +220,17 @@ fn fronts_are(rows: &[String], fronts: &[String]) -> bool {
 fn cut_rows(alloc: Global, rows: &[String], cols: usize) -> Result<Vec<String>, Finding> {
     let mut all = Vec::new(alloc);
     for row in rows {
-        for piece in &rows_of(alloc, row.as_str(), cols)? {
-            all.push(String::from_str(alloc, piece.as_str().trim_end_matches(' '))?)?;
-        }
+        push_cut(&mut all, alloc, &rows_of(alloc, row.as_str(), cols)?)?;
     }
     Ok(all)
+}
+
+/// The pieces of a row behind others, without the blanks at their ends.
+fn push_cut(all: &mut Vec<String>, alloc: Global, pieces: &[String]) -> Result<(), Finding> {
+    for piece in pieces {
+        all.push(String::from_str(alloc, piece.as_str().trim_end_matches(' '))?)?;
+    }
+    Ok(())
 }
 
 /// The rows of a text of letters; a newline at its end ends its last line.

@@ -70,11 +70,7 @@ fn failed(said: Said, before: &[u64], after: &[u64]) -> Result<(), Finding> {
     }
 }
 
-fn succeeded(
-    said: Said,
-    (step, bytes): (Step, &[u8]),
-    judge: &mut Judge,
-) -> Result<(), Finding> {
+fn succeeded(said: Said, (step, bytes): (Step, &[u8]), judge: &mut Judge) -> Result<(), Finding> {
     if said != step.wanted() {
         return Err(Finding::Answer);
     }
@@ -86,11 +82,7 @@ fn succeeded(
 }
 
 /// A size is written nowhere, and the terminal has it from then on, if it isn't refused.
-pub fn resized(
-    said: Said,
-    (step, bytes): (Step, &[u8]),
-    judge: &mut Judge,
-) -> Result<(), Finding> {
+pub fn resized(said: Said, (step, bytes): (Step, &[u8]), judge: &mut Judge) -> Result<(), Finding> {
     match (step.resized(), said) {
         (Some(_), _) if !bytes.is_empty() => Err(Finding::Written),
         (Some(size), Ok(_)) => judge.resizes(size),
