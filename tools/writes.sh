@@ -1,6 +1,7 @@
 #!/usr/bin/env bash
 # Counts by strace how often a program writes to a terminal (tmux). `examples still` draws ten bars once each, goes on with one of them
-# ten times, and draws five times more, when nothing has changed: twenty writes are wanted, one for each draw that changes something.
+# ten times, and draws five times more, when nothing has changed. At its end the ten bars are dropped one by one, which takes each off the
+# screen. So thirty writes are wanted: one for each draw that changes something, and none for the five.
 #
 # usage: tools/writes.sh
 #
@@ -21,6 +22,7 @@ mux new-session -d -s shown -x 80 -y 24 "$traced; tmux -S '$folder/tmux' wait-fo
 mux wait-for drawn
 sizes=$(sed -nE 's/.*write(v)?\(2, .* = ([0-9]+)$/\2/p' "$folder/calls")
 echo "first drawings, bytes: $(head -n 10 <<< "$sizes" | paste -sd ' ')"
-echo "steps of one bar, bytes: $(tail -n +11 <<< "$sizes" | paste -sd ' ')"
-echo "writes: $(wc -l <<< "$sizes"), wanted 20"
-[ "$(wc -l <<< "$sizes")" = 20 ]
+echo "steps of one bar, bytes: $(sed -n 11,20p <<< "$sizes" | paste -sd ' ')"
+echo "dropped bars, bytes: $(tail -n +21 <<< "$sizes" | paste -sd ' ')"
+echo "writes: $(wc -l <<< "$sizes"), wanted 30"
+[ "$(wc -l <<< "$sizes")" = 30 ]
