@@ -178,8 +178,8 @@ module _ {K : Type 0} (m : Tracking K) (trackers : ArePlainTrackers m) (mark : �
   ArePlainParts (Called calls answers ∷ parts) = AllByRecursion (λ call. IsPlainCall call.0) calls × ArePlainParts parts
   ArePlainParts (Size w h ∷ parts) = ArePlainParts parts
 
-  pub scripts_plain : (parts : List (Part BarCall Answer)) (old : Option TermView) (s : BoardState Bar) (new : Option TermView) (next : BoardState Bar) (plays : Plays machine sizing parts old s new next) →
-      AllByRecursion IsPlainMember s.members → ArePlainParts parts → AllRunsPlain machine sizing parts old s new next plays
+  pub scripts_plain : (parts : List (Part BarCall Answer)) (old : Option TermView) (s : BoardState Bar) (new : Option TermView) (next : BoardState Bar)
+      (plays : Plays machine sizing parts old s new next) → AllByRecursion IsPlainMember s.members → ArePlainParts parts → AllRunsPlain machine sizing parts old s new next plays
   scripts_plain [] old s new next plays is all = tt
   scripts_plain (Called calls answers ∷ parts) old s new next plays is all = (
     (board_runs_are_plain m trackers mark calls answers old s plays.0 plays.1 plays.2 (All-from_recursion IsPlainMember s.members is) (All-from_recursion (λ call. IsPlainCall call.0) calls all.0)).0,

@@ -23,9 +23,10 @@ pub reads_first : (asked : Asked) (o known : Option (List ℕ)) (byte : ℕ) (b 
 reads_first asked None known byte b e f p = tt
 reads_first asked (Some bytes) known byte b e f p = record { left = bytes; known_is = e; byte_is = f; lines = []; all = refl; played = p }
 
-module _ {X E : Type 0} (f : X → List ℕ) (asked : Asked) (o known known' : Option (List ℕ)) (byte byte' : ℕ) (r : Option (Result X E)) (gives : YieldsKnownPiece f (first_piece byte) byte known r known') where
-  pub reads_next : (old new : Played) (x : X) (command : Spelled) → IfSome o (λ bytes. Reads asked bytes known byte old) → r ≡ Some (Ok x) → byte' ≡ byte → spelled (f x) ≡ Some command → Obeys command old new →
-      IfSome o (λ bytes. Reads asked bytes known' byte' new)
+module _ {X E : Type 0} (f : X → List ℕ) (asked : Asked) (o known known' : Option (List ℕ)) (byte byte' : ℕ) (r : Option (Result X E))
+    (gives : YieldsKnownPiece f (first_piece byte) byte known r known') where
+  pub reads_next : (old new : Played) (x : X) (command : Spelled) → IfSome o (λ bytes. Reads asked bytes known byte old) → r ≡ Some (Ok x) → byte' ≡ byte → spelled (f x) ≡ Some command →
+      Obeys command old new → IfSome o (λ bytes. Reads asked bytes known' byte' new)
   reads_next old new x command reads is same spells obeys = elim o as (λ y. IfSome y (λ bytes. Reads asked bytes known byte old) → IfSome y (λ bytes. Reads asked bytes known' byte' new)) [
     | None ↦ λ p. tt
     | Some bytes ↦ λ p.

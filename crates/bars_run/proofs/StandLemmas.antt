@@ -33,7 +33,7 @@ use Rattle.bars_run.specs.Commands.{lines_of}
 use Rattle.bars_run.specs.Fault.{status_of}
 use Rattle.bars_run.specs.Inside.Players.{Played, empty_memory, unanswered, HasPlayed, Stands}
 use Rattle.bars_run.specs.Plays as plays
-use Rattle.bars_run.specs.Plays.{Bar, Step, machine, sizing, script_of, played, rows_after, columns_after, is_refused, any_refused, IsPlain}
+use Rattle.bars_run.specs.Plays.{Bar, Step, machine, sizing, script_of, played, rows_after, columns_after, is_refused, any_refused, SizesHaveCells, IsPlain}
 use Rattle.bars_run.specs.Printing.{Prints, printed}
 use Rattle.bars_run.proofs.PlainLemmas.{no_trackers, plain_made}
 use Rattle.bars_run.proofs.PlainScriptLemmas.{scripts_plain}
@@ -47,7 +47,8 @@ fine_answer Done e = (refl, refl)
 fine_answer (Drew d) e = (refl, refl)
 fine_answer (Refused x) e = absurd (let q : true ≡ false = e in cc)
 
-fine_answers : (answers : List Answer) → list_any is_refused answers ≡ false → AllByRecursion (λ answer. is_undisturbed (machine.tells answer) ≡ true) answers × (list_any (broke machine) answers ≡ false)
+fine_answers : (answers : List Answer) → list_any is_refused answers ≡ false →
+    AllByRecursion (λ answer. is_undisturbed (machine.tells answer) ≡ true) answers × (list_any (broke machine) answers ≡ false)
 fine_answers [] e = (tt, refl)
 fine_answers (a ∷ answers) e =
     let p = or_parts (is_refused a) (list_any is_refused answers) e in
@@ -95,6 +96,13 @@ columns_unanswered [] w = refl
 columns_unanswered (Called calls answers ∷ made) w = columns_unanswered made w
 columns_unanswered (Size columns rows ∷ made) w = columns_unanswered made columns
 
+-- sizes that were taken have rows and columns, whatever the answers
+sizes_taken : (made : List Step) (old : Option TermView) (s : BoardState Bar) (new : Option TermView) (next : BoardState Bar) → Plays machine sizing made old s new next →
+    SizesHaveCells (map unanswered made)
+sizes_taken [] old s new next plays = tt
+sizes_taken (Called calls answers ∷ made) old s new next plays = sizes_taken made plays.0 plays.1 new next plays.3
+sizes_taken (Size w h ∷ made) old s new next plays = (plays.2, plays.3, sizes_taken made plays.0 (sized machine sizing w h (target_of old) s) new next plays.4)
+
 -- an opening on the first row stays there
 first_row : (w h w' h' : ℕ) (opening : Screen) (l : Lists) (t : Terminal) → Shows w h opening l t → 0 < w → 0 < h' → opening.row ≡ 0 → (resized w' h' opening).row ≡ 0
 unfolding resized
@@ -140,6 +148,10 @@ module _ (asked : Asked) (lines : List (List ℕ)) (b : Played) (p : HasPlayed a
   wide : columns_after asked.size.columns p.made ≡ columns_after asked.size.columns p.steps
   wide = sym (columns_unanswered p.made asked.size.columns) ∙ ap (columns_after asked.size.columns) p.made_are
 
+  -- each size was taken
+  taken : SizesHaveCells p.steps
+  taken = subst SizesHaveCells p.made_are (sizes_taken p.made (Some v) (opening_board None) (known view_of b) p.next p.plays)
+
   -- the texts of the rows that stand are those of the picture, but for empty ones behind
   stood : NewShows → (term : MemoryTerm) → terminal_of b ≡ Some term → AllByRecursion IsPlain p.commands →
       (blank : ℕ) × (picture_text term.terminal.screen ≡ map row_text (rows_after asked p.steps) ++ replicate blank [])
@@ -150,7 +162,8 @@ module _ (asked : Asked) (lines : List (List ℕ)) (b : Played) (p : HasPlayed a
       let there = blank_terminal asked.size.rows asked.size.columns in
       let begins = shows asked.size.rows asked.size.columns p.some_rows in
       let plain = scripts_plain writes_nothing no_trackers 0 p.made (Some v) start new p.next p.plays tt (plain_made p.commands p.steps p.made _ p.steps_are p.made_are all) in
-      let r = unbroken_read machine sizing (board_goes (board_bars writes_nothing) 0) p.made v start new p.next p.plays p.some_columns refl (fine_steps p.made p.done).1 plain screen (there, refl, begins) in
+      let goes = board_goes (board_bars writes_nothing) 0 in
+      let r = unbroken_read machine sizing goes p.made v start new p.next p.plays p.some_columns refl (fine_steps p.made p.done).1 plain screen (there, refl, begins) in
       let u = shown_after p.made v start new p.next p.plays in
       let opening = opening_then p.made screen in
       let none = none_above p.made (Some v) start new p.next p.plays asked.size.columns asked.size.rows screen opening_lists there begins p.some_columns refl in
@@ -175,6 +188,8 @@ stands_read asked o left b texts shows same played read = elim o as (λ y. IfSom
         commands_are = p.commands_are;
         steps = p.steps;
         steps_are = p.steps_are;
+        cells = (p.some_rows, p.some_columns);
+        sizes = taken asked lines b p;
         done = ap (λ o. any_refused o.0) (once asked lines b p) ∙ p.done;
         shown = λ all.
             let u = shown_after p.made (view_of (empty_memory asked)) (opening_board None) (known view_of b) p.next p.plays in
@@ -197,6 +212,8 @@ prints words o asked texts old new is stood appended = elim o as (λ y. IfSome y
     commands_are = p.commands_are;
     steps = p.steps;
     steps_are = p.steps_are;
+    cells = p.cells;
+    sizes = p.sizes;
     done = p.done;
     shown = λ all.
         let t = p.shown all in

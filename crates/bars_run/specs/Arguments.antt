@@ -1,5 +1,5 @@
 -- What the words of a command line ask for. Texts are lists of bytes.
-use Rattle.std.specs.Prelude.{ℕ, ◌^◌, Bool, not, ◌&&◌, ◌==◌, nat_lt, List, [], ◌∷◌, length, Option, Some, None, option_map, if◌then◌else◌, codes, bytes_eq}
+use Rattle.std.specs.Prelude.{ℕ, ◌<◌, ◌^◌, Bool, not, ◌&&◌, ◌==◌, nat_lt, List, [], ◌∷◌, length, Option, Some, None, option_map, if◌then◌else◌, codes, bytes_eq}
 use Rattle.std.specs.Char.{is_ascii_digit}
 use Rattle.std.specs.List.{list_all}
 use Rattle.std.specs.Str.Parse.{digits_value}
@@ -24,6 +24,10 @@ size_of _ _ = None
 -- the size that two texts spell: each a number of at most 65,535
 abbrev pub size_spelled : List ℕ → List ℕ → Option Size
 size_spelled rows columns = size_of (number_below (2 ^ 16) rows) (number_below (2 ^ 16) columns)
+
+-- a terminal of this size has rows and columns
+abbrev pub HasCells : Size → Type 0
+HasCells size = (0 < size.rows) × (0 < size.columns)
 
 -- a terminal of this size, whose bars stand so in what is taken back
 abbrev pub asking : MultiProgressAlignment → Size → Asked

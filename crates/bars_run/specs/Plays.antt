@@ -1,5 +1,5 @@
 -- The script of a board that commands stand for, and the rows that stand after it.
-use Rattle.std.specs.Prelude.{ℕ, zero, suc, Bool, true, false, ◌||◌, List, [], ◌∷◌, Option, Some, None, All, codes}
+use Rattle.std.specs.Prelude.{ℕ, zero, suc, ◌<◌, Bool, true, false, ◌||◌, List, [], ◌∷◌, Option, Some, None, All, codes}
 use Rattle.std.specs.List.{list_any}
 use Rattle.log.specs.declared.level.Level.TheVariants.{Warn as WarnLevel}
 use Rattle.indicatif_text.specs.Columns.{Cell}
@@ -102,6 +102,12 @@ abbrev pub any_refused : List Step → Bool
 any_refused [] = false
 any_refused (Called calls answers ∷ steps) = list_any is_refused answers || any_refused steps
 any_refused (script.Size columns rows ∷ steps) = any_refused steps
+
+-- the terminal has rows and columns after each size among steps
+abbrev pub SizesHaveCells : List Step → Type 0
+SizesHaveCells [] = Unit {0}
+SizesHaveCells (Called calls answers ∷ steps) = SizesHaveCells steps
+SizesHaveCells (script.Size columns rows ∷ steps) = (0 < columns) × (0 < rows) × SizesHaveCells steps
 
 -- how many columns there are after steps, from so many
 abbrev pub columns_after : ℕ → List Step → ℕ

@@ -4,9 +4,9 @@ use Rattle.std.specs.List.{list_all}
 use Rattle.std.specs.Io.KnownBytes.{Appends}
 use Rattle.indicatif_term.specs.Pictures.{is_empty, row_text}
 use Rattle.bars_run.specs.declared.arguments.Asked.{Asked}
-use Rattle.bars_run.specs.Arguments.{asked_by}
+use Rattle.bars_run.specs.Arguments.{HasCells, asked_by}
 use Rattle.bars_run.specs.Commands.{Spelled, lines_of, spelled, each}
-use Rattle.bars_run.specs.Plays.{Step, step_of, played, any_refused, rows_after, IsPlain}
+use Rattle.bars_run.specs.Plays.{Step, step_of, played, any_refused, SizesHaveCells, rows_after, IsPlain}
 
 -- texts up to the last one that isn't empty
 abbrev pub up_to_last : List (List ℕ) → List (List ℕ)
@@ -27,7 +27,10 @@ pub record Prints (words : List (List ℕ)) (input : List ℕ) (old new : Option
   pub commands_are : each spelled (lines_of input) ≡ Some commands
   pub steps : List Step
   pub steps_are : each step_of commands ≡ Some steps
-  -- a board on that terminal refuses none of them
+  -- the terminal has rows and columns, at first and after each size
+  pub cells : HasCells asked.size
+  pub sizes : SizesHaveCells steps
+  -- and a board on it refuses none of the calls
   pub done : IsFalse (any_refused (played asked steps).0)
   -- and where all texts are plain, exactly the texts of the rows that stand then were printed
   pub shown : All IsPlain commands → Appends old new (printed (map row_text (rows_after asked steps)))

@@ -53,9 +53,9 @@ use std::io::{BufRead, BufReader, ErrorKind, Read, Write};
 /// with the status that it has, and the commands behind it aren't played. At status 0 nothing is written to `err`, at status 1
 /// nothing to `out`.
 ///
-/// Where the input tells its bytes, as a slice does, contracts know more at status 0 (`Prints`): each line spells a command, a board
-/// that plays them one after another refuses none, and, if their texts consist of characters with a width and colour sequences,
-/// exactly the texts of the rows that stand at the end were printed.
+/// Where the input tells its bytes, as a slice does, contracts know more at status 0 (`Prints`): the terminal has rows and columns,
+/// at first and after each size, each line spells a command, a board that plays them one after another refuses none, and, if their
+/// texts consist of characters with a width and colour sequences, exactly the texts of the rows that stand at the end were printed.
 ///
 /// ```
 /// let mut out = Vec::new(alloc);

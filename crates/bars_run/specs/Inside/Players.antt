@@ -10,8 +10,9 @@ use Rattle.indicatif_board.specs.Boards.{BoardState, Align, opening_board}
 use Rattle.indicatif_board.specs.Multi.{IsIn, known}
 use Rattle.indicatif_board.specs.declared.multi.Board.{Board}
 use Rattle.bars_run.specs.declared.arguments.Asked.{Asked}
+use Rattle.bars_run.specs.Arguments.{HasCells}
 use Rattle.bars_run.specs.Commands.{Spelled, lines_of, spelled, each}
-use Rattle.bars_run.specs.Plays.{Bar, Step, machine, sizing, step_of, script_of, played, rows_after, any_refused, IsPlain}
+use Rattle.bars_run.specs.Plays.{Bar, Step, machine, sizing, step_of, script_of, played, rows_after, any_refused, SizesHaveCells, IsPlain}
 
 -- a board in memory
 abbrev pub Played : Type 0
@@ -58,5 +59,7 @@ pub record Stands (asked : Asked) (input : List ℕ) (texts : List (List ℕ)) :
   pub commands_are : each spelled (lines_of input) ≡ Some commands
   pub steps : List Step
   pub steps_are : each step_of commands ≡ Some steps
+  pub cells : HasCells asked.size
+  pub sizes : SizesHaveCells steps
   pub done : IsFalse (any_refused (played asked steps).0)
   pub shown : All IsPlain commands → (blank : ℕ) × (texts ≡ map row_text (rows_after asked steps) ++ replicate blank [])

@@ -9,7 +9,8 @@ use Rattle.bars_run.proofs.player.Player.obey.Goals as goal
 pub returns-in-Size : goal.returns-in-Size
 returns-in-Size c =
     let size = c.in-Size.size in
-    obeyed c.resize.result (command_of c.args.command) (Size size.columns size.rows) c.args.self.now.board c.resize.new.self.board (ap (λ command. step_of (command_of command)) c.in-Size.is) c.resize.ensures
+    obeyed c.resize.result (command_of c.args.command) (Size size.columns size.rows) c.args.self.now.board c.resize.new.self.board
+    (ap (λ command. step_of (command_of command)) c.in-Size.is) c.resize.ensures
 
 pub returns-in-Clear : goal.returns-in-Clear
 returns-in-Clear c =
