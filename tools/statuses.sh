@@ -69,6 +69,8 @@ wants 0 '' meter < /dev/null
 wants 2 'meter: a size is a number as 700, 10M, 10MB or 1GiB' meter --size 10X
 wants 2 "error: unexpected argument '--bytes' found
 
+  tip: to pass '--bytes' as a value, use '-- --bytes'
+
 Usage: meter [OPTIONS] [FILE]...
 
 For more information, try '--help'." meter --bytes
