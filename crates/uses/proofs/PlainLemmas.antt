@@ -69,7 +69,7 @@ module _ {K : Type 0} (m : Tracking K) where
 printed_plain : (text : List ℕ) → AllByRecursion (IsInRange 0x20 0x7E) text → IsPlainText text
 printed_plain text all = printed_is_plain text (All-from_recursion (IsInRange 0x20 0x7E) text all)
 
-first_plain : IsPlainText first_name
+pub first_plain : IsPlainText first_name
 first_plain = printed_plain first_name ((omega arith, omega arith), ((omega arith, omega arith), ((omega arith, omega arith), ((omega arith, omega arith), ((omega arith, omega arith), tt)))))
 
 second_plain : IsPlainText second_name
