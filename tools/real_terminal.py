@@ -174,19 +174,21 @@ class Tmux:
     def shown_through(self, parts):
         """All rows of a pane that gets these sizes, and behind each the bytes beside it."""
         path = os.path.join(self.folder, "sized")
-        os.path.exists(path + ".go") or os.mkfifo(path + ".go")
         with open(path + ".sh", "w", encoding="utf-8") as file:
-            file.write("stty raw -echo\n")
+            file.write("trap '' WINCH\nstty raw -echo\n")
             for at, (_, bytes_) in enumerate(parts):
                 with open(f"{path}{at}", "wb") as part:
                     part.write(bytes_)
+                os.path.exists(f"{path}{at}.go") or os.mkfifo(f"{path}{at}.go")
+                file.write("" if at == 0 else f"read -r go < '{path}{at}.go'\n")
                 file.write(f"cat '{path}{at}'\nprintf '\\033[6n'\nIFS= read -rd R answer\n")
-                file.write(f"{' '.join(self.command)} wait-for -S sized{at}\nread -r go < '{path}.go'\n")
+                file.write(f"{' '.join(self.command)} wait-for -S sized{at}\n")
+            file.write("exec sleep 1000\n")
         (rows, columns), _ = parts[0]
         self.run("new-session", "-d", "-s", "sized", "-x", columns, "-y", rows, f"bash '{path}.sh'", ";", "wait-for", "sized0")
         for at, ((rows, columns), _) in list(enumerate(parts))[1:]:
             self.run("resize-window", "-t", "sized", "-x", columns, "-y", rows)
-            with open(path + ".go", "w", encoding="utf-8") as go:
+            with open(f"{path}{at}.go", "w", encoding="utf-8") as go:
                 go.write("\n")
             self.run("wait-for", f"sized{at}")
         return trimmed(self.run("capture-pane", "-p", "-S", "-", "-t", "sized", ";", "kill-session", "-t", "sized").stdout)
@@ -250,14 +252,15 @@ def step_of(line):
         return line
     number, _, text = rest.partition(" ")
     spelled = text.replace("\x1b", "\\e").replace(" ", "\\s")
-    return f"{int(number) - 1}: {STEPS.get(word, word)} {spelled}".rstrip(" ")
+    return f"{int(number) - 1}: {STEPS.get(word, word)}" + (f" {spelled}" if word == "msg" else "")
 
 
 def parts_of(first, lines, told):
     """What a board writes before its first size, and behind each, with the sizes."""
     steps = [step_of(line) for line in lines]
-    counts = [int(word) for step, word in zip([s for s in looked(steps) if not s.startswith("size ")], told) if step == "bytes"]
-    written = unescaped(told[-1])
+    telling = [step for step in looked(steps) if not step.startswith("size ")]
+    counts = [int(word) for step, word in zip(telling, told) if step == "bytes"]
+    written = unescaped(told[-1]) if len(told) == len(telling) else b""
     ends = counts + [len(written)]
     sizes = [(str(first.height), str(first.columns))] + [tuple(step.split(" ")[1:]) for step in steps if step.startswith("size ")]
     return [(size, written[start:end]) for size, start, end in zip(sizes, [0] + counts, ends)]
