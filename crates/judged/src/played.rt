@@ -50,7 +50,8 @@ fn is_failing<S: Stage>(
     if has_failed {
         failed(said, &order, stage.order())?;
     } else {
-        succeeded(said, (step, &bytes), judge)?;
+        is_silent(step, &bytes)?;
+        succeeded(said, step, judge)?;
     }
     Ok(has_failed)
 }
@@ -70,29 +71,28 @@ fn failed(said: Said, before: &[u64], after: &[u64]) -> Result<(), Finding> {
     }
 }
 
-fn succeeded(
-    said: Said,
-    (step, bytes): (Step, &[u8]),
-    judge: &mut Judge,
-) -> Result<(), Finding> {
+fn succeeded(said: Said, step: Step, judge: &mut Judge) -> Result<(), Finding> {
     if said != step.wanted() {
         return Err(Finding::Answer);
     }
-    resized(said, (step, bytes), judge)?;
+    resized(said, step, judge)?;
     match step.logged() {
         Some(text) => judge.logged(text),
         None => Ok(()),
     }
 }
 
-/// A size is written nowhere, and the terminal has it from then on, if it isn't refused.
-pub fn resized(
-    said: Said,
-    (step, bytes): (Step, &[u8]),
-    judge: &mut Judge,
-) -> Result<(), Finding> {
+/// Nothing is written where the terminal gets a size.
+pub fn is_silent(step: Step, bytes: &[u8]) -> Result<(), Finding> {
+    match step.resized().is_some() && !bytes.is_empty() {
+        true => Err(Finding::Written),
+        false => Ok(()),
+    }
+}
+
+/// The terminal has a size from then on that wasn't refused.
+pub fn resized(said: Said, step: Step, judge: &mut Judge) -> Result<(), Finding> {
     match (step.resized(), said) {
-        (Some(_), _) if !bytes.is_empty() => Err(Finding::Written),
         (Some(size), Ok(_)) => judge.resizes(size),
         _ => Ok(()),
     }
