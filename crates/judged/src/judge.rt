@@ -142,20 +142,6 @@ impl Judge {
         }
     }
 
-    /// The terminal gets another size: each row above is cut into rows, which stand from now on. Where nothing was drawn since a call
-    /// failed, the cursor may be within its row: of the rows that this one becomes those below the cursor needn't stand.
-    pub fn resizes(&mut self, size: Size) -> Result<(), Finding> {
-        let above = cut_rows(self.alloc, &self.above, usize::from(size.cols))?;
-        self.cells.resize(size.rows, size.cols)?;
-        self.size = size;
-        self.above = above;
-        self.reads_all(&[])?;
-        if self.has_failed {
-            self.keeps(self.rows_to_the_cursor()?)?;
-        }
-        Ok(())
-    }
-
     /// Reads bytes of which nothing has to hold.
     pub fn takes(&mut self, bytes: &[u8]) -> Result<(), Finding> {
         self.feed(bytes)
@@ -214,17 +200,6 @@ fn end_of(picture: &[String], rows: &[String], from: usize, is_littered: bool) -
 fn fronts_are(rows: &[String], fronts: &[String]) -> bool {
     let mut pairs = fronts.iter().zip(rows);
     fronts.len() <= rows.len() && pairs.all(|(front, row)| row.as_str().starts_with(front.as_str()))
-}
-
-/// Rows of letters and blanks, each cut into rows of so many columns, without the blanks at their ends.
-fn cut_rows(alloc: Global, rows: &[String], cols: usize) -> Result<Vec<String>, Finding> {
-    let mut all = Vec::new(alloc);
-    for row in rows {
-        for piece in &rows_of(alloc, row.as_str(), cols)? {
-            all.push(String::from_str(alloc, piece.as_str().trim_end_matches(' '))?)?;
-        }
-    }
-    Ok(all)
 }
 
 /// The rows of a text of letters; a newline at its end ends its last line.

@@ -1,12 +1,11 @@
 //! A lone bar that makes the calls of a script.
-use crate::on_board::{done, saying};
+use crate::on_board::saying;
 use crate::played::Stage;
-use crate::record::Size;
 use crate::script::{Said, Step};
 use indicatif_bar::lone::LoneBar;
 use indicatif_bar::style::NoTracker;
 use indicatif_term::draw_target::ProgressDrawTarget;
-use indicatif_term::term_like::Resize;
+use indicatif_term::term_like::TermLike;
 use indicatif_text::columns::Refusal;
 use std::alloc::Global;
 
@@ -16,7 +15,7 @@ pub struct OnBar<T: Drop> {
     bar: Box<LoneBar<NoTracker, T>>,
 }
 
-impl<T: Resize + Drop> OnBar<T> {
+impl<T: TermLike + Drop> OnBar<T> {
     /// A bar that says `a` on this terminal.
     pub fn new(alloc: Global, term: T) -> Result<OnBar<T>, Refusal> {
         let target = ProgressDrawTarget::term_like(term);
@@ -29,7 +28,7 @@ impl<T: Resize + Drop> OnBar<T> {
     }
 }
 
-impl<T: Resize + Drop> Stage for OnBar<T> {
+impl<T: TermLike + Drop> Stage for OnBar<T> {
     fn make(&mut self, step: Step) -> Said {
         match step {
             Step::Tick(_) => self.bar.tick(0),
@@ -39,7 +38,6 @@ impl<T: Resize + Drop> Stage for OnBar<T> {
             Step::Log(text) | Step::BarLog(_, text) => self.bar.println(text, 0),
             Step::Clear => self.bar.clear(0),
             Step::Suspend => self.suspend(),
-            Step::Size(Size { rows, cols }) => done(self.bar.resize(rows, cols)),
             _ => Err(Refusal::NotMember),
         }
     }

@@ -1,12 +1,11 @@
 //! A board that makes the calls of a script.
 use crate::played::Stage;
-use crate::record::Size;
 use crate::script::{Said, Step};
 use indicatif_bar::state::{BarCommand, BarState, ProgressFinish};
 use indicatif_bar::style::{NoTracker, ProgressStyle};
 use indicatif_board::multi::{BarId, Board, Candidate};
 use indicatif_term::draw_target::{MultiProgressAlignment, ProgressDrawTarget};
-use indicatif_term::term_like::Resize;
+use indicatif_term::term_like::TermLike;
 use indicatif_text::columns::{Drawn, Refusal};
 use std::alloc::Global;
 
@@ -24,14 +23,6 @@ fn id(number: u64) -> BarId {
     BarId { mark: MARK, number }
 }
 
-/// What a call answers that draws nothing.
-pub fn done(answer: Result<(), Refusal>) -> Said {
-    match answer {
-        Ok(()) => Ok(Drawn::Limited),
-        Err(refusal) => Err(refusal),
-    }
-}
-
 /// A bar that says this.
 pub fn saying(alloc: Global, text: &str) -> Result<BarState<NoTracker>, Refusal> {
     let style = ProgressStyle::with_template(alloc, "{msg}")?;
@@ -40,7 +31,7 @@ pub fn saying(alloc: Global, text: &str) -> Result<BarState<NoTracker>, Refusal>
     Ok(bar)
 }
 
-impl<T: Resize + Drop> OnBoard<T> {
+impl<T: TermLike + Drop> OnBoard<T> {
     /// A board without bars on this terminal.
     pub fn new(alloc: Global, term: T) -> Result<OnBoard<T>, Refusal> {
         let target = ProgressDrawTarget::term_like(term);
@@ -120,13 +111,12 @@ impl<T: Resize + Drop> OnBoard<T> {
             Step::Suspend => self.suspend(),
             Step::Bottom => self.align(MultiProgressAlignment::Bottom),
             Step::Top => self.align(MultiProgressAlignment::Top),
-            Step::Size(Size { rows, cols }) => done(self.board.resize(rows, cols)),
             _ => Err(Refusal::NotMember),
         }
     }
 }
 
-impl<T: Resize + Drop> Stage for OnBoard<T> {
+impl<T: TermLike + Drop> Stage for OnBoard<T> {
     fn make(&mut self, step: Step) -> Said {
         match step {
             Step::Tick(bar) => self.command(bar, BarCommand::Tick),

@@ -45,12 +45,10 @@ fn is_failing<S: Stage>(
     let order = copied(judge.alloc(), stage.order())?;
     let said = stage.make(step);
     let has_failed = record.mark().failures != before.failures;
-    let bytes = record.since(judge.alloc(), before)?;
-    judge.reads(&bytes, has_failed)?;
+    judge.reads(&record.since(judge.alloc(), before)?, has_failed)?;
     if has_failed {
         failed(said, &order, stage.order())?;
     } else {
-        is_silent(step, &bytes)?;
         succeeded(said, step, judge)?;
     }
     Ok(has_failed)
@@ -75,25 +73,8 @@ fn succeeded(said: Said, step: Step, judge: &mut Judge) -> Result<(), Finding> {
     if said != step.wanted() {
         return Err(Finding::Answer);
     }
-    resized(said, step, judge)?;
     match step.logged() {
         Some(text) => judge.logged(text),
         None => Ok(()),
-    }
-}
-
-/// Nothing is written where the terminal gets a size.
-pub fn is_silent(step: Step, bytes: &[u8]) -> Result<(), Finding> {
-    match step.resized().is_some() && !bytes.is_empty() {
-        true => Err(Finding::Written),
-        false => Ok(()),
-    }
-}
-
-/// The terminal has a size from then on that wasn't refused.
-pub fn resized(said: Said, step: Step, judge: &mut Judge) -> Result<(), Finding> {
-    match (step.resized(), said) {
-        (Some(size), Ok(_)) => judge.resizes(size),
-        _ => Ok(()),
     }
 }

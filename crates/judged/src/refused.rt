@@ -3,7 +3,7 @@
 //! While a script is played, what its calls do is noted in room that was taken before. It is judged behind the last call, where memory is
 //! there again.
 use crate::judge::{Finding, Judge, Look};
-use crate::played::{Stage, is_silent, resized};
+use crate::played::Stage;
 use crate::record::{Mark, Plan, Record, Size};
 use crate::script::{Said, Step};
 use indicatif_text::columns::{Drawn, Refusal};
@@ -182,8 +182,6 @@ impl<M: Stages> Run<'_, M> {
             }
             (_, _) if has_failed => Err(Finding::Answer),
             (said, _) if said == step.wanted() => {
-                is_silent(step, &bytes)?;
-                resized(said, step, judge)?;
                 log(judge, step, said)?;
                 Ok(found)
             }
@@ -317,7 +315,6 @@ fn pictures(
     for (at, (note, step)) in notes.calls.iter().zip(script.iter()).enumerate() {
         let bytes = record.between(judge.alloc(), notes.before(at), note.mark)?;
         judge.takes(&bytes)?;
-        resized(note.said, *step, judge)?;
         let has_drawn = note.said == Ok(Drawn::Yes) && !matches!(step, Step::Drop(_));
         if at >= from && has_drawn {
             pictures.push(judge.rows()?)?;

@@ -1,5 +1,4 @@
 //! Calls, and what each answers where nothing fails.
-use crate::record::Size;
 use indicatif_text::columns::{Drawn, Refusal};
 
 /// What a call answers; one that draws nothing counts as `Limited`.
@@ -40,16 +39,6 @@ pub enum Step {
     Bottom,
     /// Bars stand in the first.
     Top,
-    /// The terminal gets another size.
-    Size(Size),
-}
-
-/// What a size answers: one of nothing is refused.
-fn sized(size: Size) -> Said {
-    match size.rows == 0 || size.cols == 0 {
-        true => Err(Refusal::ZeroSize),
-        false => Ok(Drawn::Limited),
-    }
 }
 
 impl Step {
@@ -63,7 +52,6 @@ impl Step {
             | Step::Remove(_)
             | Step::Bottom
             | Step::Top => Ok(Drawn::Limited),
-            Step::Size(size) => sized(size),
             _ => Ok(Drawn::Yes),
         }
     }
@@ -83,14 +71,6 @@ impl Step {
     pub fn logged(self) -> Option<&'static str> {
         match self {
             Step::Log(text) | Step::BarLog(_, text) => Some(text),
-            _ => None,
-        }
-    }
-
-    /// The size that the terminal has from then on.
-    pub fn resized(self) -> Option<Size> {
-        match self {
-            Step::Size(size) => Some(size),
             _ => None,
         }
     }
@@ -158,53 +138,4 @@ pub const LONE: [Step; 12] = [
     Step::Tick(0),
     Step::Finish(0),
     Step::Log("F"),
-];
-
-/// Twenty-four calls of a board whose terminal is resized between them: before and after a draw, a text and a clear, where rows of a bar that is
-/// gone stand, and where rows scroll away or come back.
-pub const SIZED_BOARD: [Step; 24] = [
-    Step::Add("abcd"),
-    Step::Tick(0),
-    Step::Size(Size { rows: 4, cols: 2 }),
-    Step::Tick(0),
-    Step::Add("e\nf"),
-    Step::Tick(1),
-    Step::Log("AB"),
-    Step::Size(Size { rows: 2, cols: 5 }),
-    Step::Message(0, "g"),
-    Step::Keep(1),
-    Step::Drop(1),
-    Step::Size(Size { rows: 0, cols: 3 }),
-    Step::Size(Size { rows: 3, cols: 1 }),
-    Step::BarLog(0, "CD\nE"),
-    Step::Bottom,
-    Step::Remove(0),
-    Step::Redraw,
-    Step::Size(Size { rows: 4, cols: 3 }),
-    Step::Add("hi"),
-    Step::Tick(2),
-    Step::Size(Size { rows: 1, cols: 6 }),
-    Step::Clear,
-    Step::Size(Size { rows: 3, cols: 2 }),
-    Step::Log("FGH"),
-];
-
-/// Sixteen of a lone bar.
-pub const SIZED_LONE: [Step; 16] = [
-    Step::Size(Size { rows: 3, cols: 4 }),
-    Step::Message(0, "abc\nde"),
-    Step::Size(Size { rows: 2, cols: 2 }),
-    Step::Tick(0),
-    Step::Log("AB"),
-    Step::Size(Size { rows: 3, cols: 0 }),
-    Step::Size(Size { rows: 4, cols: 5 }),
-    Step::Suspend,
-    Step::BarLog(0, "CD\nE"),
-    Step::Size(Size { rows: 1, cols: 3 }),
-    Step::Message(0, "f"),
-    Step::Clear,
-    Step::Size(Size { rows: 2, cols: 6 }),
-    Step::Finish(0),
-    Step::Size(Size { rows: 4, cols: 1 }),
-    Step::Log("FGH"),
 ];

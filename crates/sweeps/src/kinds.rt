@@ -7,7 +7,7 @@ use judged::on_bar::OnBar;
 use judged::on_board::OnBoard;
 use judged::played::{Stage, played};
 use judged::record::{Mark, Record};
-use judged::script::{BOARD, LONE, SHARED, SIZED_BOARD, SIZED_LONE, Step};
+use judged::script::{BOARD, LONE, SHARED, Step};
 use std::alloc::Global;
 use std::sync::Wait;
 
@@ -17,22 +17,16 @@ pub enum Kind {
     Board,
     /// A board whose cursor only moves.
     Moving,
-    /// A board whose terminal is resized.
-    Sized,
     Lone,
-    /// A lone bar whose terminal is resized.
-    SizedLone,
     Shared,
     Loop,
 }
 
 /// All of them.
-pub const KINDS: [Kind; 7] = [
+pub const KINDS: [Kind; 5] = [
     Kind::Board,
     Kind::Moving,
-    Kind::Sized,
     Kind::Lone,
-    Kind::SizedLone,
     Kind::Shared,
     Kind::Loop,
 ];
@@ -46,9 +40,7 @@ impl Kind {
         match self {
             Kind::Board => "board",
             Kind::Moving => "board whose cursor moves",
-            Kind::Sized => "board that is resized",
             Kind::Lone => "lone bar",
-            Kind::SizedLone => "lone bar that is resized",
             Kind::Shared => "shared board",
             Kind::Loop => "loop",
         }
@@ -60,8 +52,6 @@ impl Kind {
             Kind::Board | Kind::Moving => &BOARD,
             Kind::Shared => &SHARED,
             Kind::Lone => &LONE,
-            Kind::Sized => &SIZED_BOARD,
-            Kind::SizedLone => &SIZED_LONE,
             Kind::Loop => &LOOP,
         }
     }
@@ -69,8 +59,8 @@ impl Kind {
     /// The draw behind it.
     fn last(self) -> &'static [Step] {
         match self {
-            Kind::Board | Kind::Moving | Kind::Sized | Kind::Shared => &[Step::Tick(2)],
-            Kind::Lone | Kind::SizedLone => &[Step::Tick(0)],
+            Kind::Board | Kind::Moving | Kind::Shared => &[Step::Tick(2)],
+            Kind::Lone => &[Step::Tick(0)],
             Kind::Loop => &[],
         }
     }
@@ -94,7 +84,7 @@ pub fn run<R: AllocGlobal + Wait + Copy + Clone + Drop>(
     let record = Record::new(rt.alloc(), case.plan, ROOM)?;
     let term = case.size.terminal(&record)?;
     match case.kind {
-        Kind::Board | Kind::Sized => {
+        Kind::Board => {
             let stage = OnBoard::new(rt.alloc(), term)?;
             judged(rt.alloc(), stage, &record, case)
         }
@@ -102,7 +92,7 @@ pub fn run<R: AllocGlobal + Wait + Copy + Clone + Drop>(
             let stage = OnBoard::moving(rt.alloc(), term)?;
             judged(rt.alloc(), stage, &record, case)
         }
-        Kind::Lone | Kind::SizedLone => {
+        Kind::Lone => {
             let stage = OnBar::new(rt.alloc(), term)?;
             judged(rt.alloc(), stage, &record, case)
         }

@@ -3,9 +3,8 @@
 //! `sweeps` says of each sweep whether all of its runs are as they should be, and `sweeps count` how many runs there are, too. `sweeps pairs`
 //! makes those of two calls at each size, which take longer.
 //!
-//! `sweeps memory SCRIPT` plays one of the scripts `board`, `sized-board`, `lone`, `sized-lone`, `shared`, `loop` and `run` once, for
-//! `tools/refusals.sh`, which refuses it an allocation, and says whether it is as it is defined; so it does behind the sweeps of each of them,
-//! where nothing is refused. With
+//! `sweeps memory SCRIPT` plays one of the scripts `board`, `lone`, `shared`, `loop` and `run` once, for `tools/refusals.sh`, which refuses it an
+//! allocation, and says whether it is as it is defined; so it does behind the sweeps of each of them, where nothing is refused. With
 //! `grows` the terminal takes memory too. With `grows count` or `stays count` it says where memory was refused; with `unjudged` in the place
 //! of `count` the script is played alone. Rows and columns behind that are the terminal's.
 //!

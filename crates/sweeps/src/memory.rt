@@ -10,19 +10,18 @@ use judged::on_bar::OnBar;
 use judged::on_board::OnBoard;
 use judged::record::{Behind, Plan, Record, Size};
 use judged::refused::{Notes, Run, Stages, Where, noted};
-use judged::script::{BOARD, LONE, SHARED, SIZED_BOARD, SIZED_LONE, Step};
+use judged::script::{BOARD, LONE, SHARED, Step};
 use std::alloc::Global;
 use std::rc::Rc;
 
 /// How many bytes the terminal's writer has room for from the first, where it takes no memory.
 const ROOM: usize = 4096;
 
-/// Boards on terminals of a size, and what they play.
+/// Boards on terminals of a size.
 #[derive(Drop)]
 pub struct Boards {
     pub alloc: Global,
     pub size: Size,
-    pub script: &'static [Step],
 }
 
 impl Stages for Boards {
@@ -33,16 +32,15 @@ impl Stages for Boards {
     }
 
     fn script(&self) -> &'static [Step] {
-        self.script
+        &BOARD
     }
 }
 
-/// Lone bars on terminals of a size, and what they play.
+/// Lone bars on terminals of a size.
 #[derive(Drop)]
 struct Bars {
     alloc: Global,
     size: Size,
-    script: &'static [Step],
 }
 
 impl Stages for Bars {
@@ -53,7 +51,7 @@ impl Stages for Bars {
     }
 
     fn script(&self) -> &'static [Step] {
-        self.script
+        &LONE
     }
 }
 
@@ -170,47 +168,15 @@ fn told<M: Stages>(alloc: Global, stages: &M, playing: Playing) -> Result<Where,
 }
 
 /// What plays a script, by its name.
-pub const NAMES: [&str; 7] = [
-    "board",
-    "sized-board",
-    "lone",
-    "sized-lone",
-    "shared",
-    "loop",
-    "run",
-];
-
-/// The script of a name.
-fn script_of(name: &str) -> &'static [Step] {
-    match name {
-        "board" => &BOARD,
-        "sized-board" => &SIZED_BOARD,
-        "lone" => &LONE,
-        _ => &SIZED_LONE,
-    }
-}
+pub const NAMES: [&str; 5] = ["board", "lone", "shared", "loop", "run"];
 
 /// Where memory was refused in the script of a name; nothing where there is no such script.
 pub fn found<R: Runs>(rt: R, name: &str, playing: Playing) -> Option<Result<Where, Finding>> {
     let alloc = rt.alloc();
     let size = playing.size;
-    let script = script_of(name);
-    let boards = Boards {
-        alloc,
-        size,
-        script,
-    };
     Some(match name {
-        "board" | "sized-board" => told(alloc, &boards, playing),
-        "lone" | "sized-lone" => told(
-            alloc,
-            &Bars {
-                alloc,
-                size,
-                script,
-            },
-            playing,
-        ),
+        "board" => told(alloc, &Boards { alloc, size }, playing),
+        "lone" => told(alloc, &Bars { alloc, size }, playing),
         "shared" => told(alloc, &Shared { rt, size }, playing),
         "loop" => told(alloc, &Loops { alloc, size }, playing),
         "run" => printing::refused(alloc),

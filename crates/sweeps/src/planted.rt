@@ -5,9 +5,9 @@ use indicatif_text::columns::{Drawn, Refusal};
 use judged::judge::Finding;
 use judged::on_board::OnBoard;
 use judged::played::Stage;
-use judged::record::{Behind, Plan, Record, Size, Wire};
+use judged::record::{Behind, Plan, Record, Wire};
 use judged::refused::{Notes, Run, Where, noted};
-use judged::script::{BOARD, SIZED_BOARD, Said, Step};
+use judged::script::{BOARD, Said, Step};
 use std::alloc::Global;
 use std::io::Write;
 use std::rc::Rc;
@@ -23,11 +23,10 @@ enum Body {
     Makes(Step),
 }
 
-/// A wrong body of one call of a board's script: which call that is, what it does, and what it answers.
+/// A wrong body of one call of the board's script: which call that is, what it does, and what it answers.
 #[derive(Clone, Copy, Drop)]
 pub struct Planted {
     pub name: &'static str,
-    script: &'static [Step],
     at: usize,
     body: Body,
     said: Said,
@@ -37,88 +36,62 @@ pub struct Planted {
 const REFUSED: Said = Err(Refusal::Memory);
 
 /// The first two do what a call may that finds no memory: nothing, or what it does before its draw.
-pub const PLANTED: [Planted; 11] = [
+pub const PLANTED: [Planted; 9] = [
     Planted {
         name: "a draw does nothing",
-        script: &BOARD,
         at: 4,
         body: Body::Nothing,
         said: REFUSED,
     },
     Planted {
         name: "a message is set",
-        script: &BOARD,
         at: 8,
         body: Body::Makes(Step::Told(2, "c")),
         said: REFUSED,
     },
     Planted {
         name: "a draw writes a byte first",
-        script: &BOARD,
         at: 4,
         body: Body::Writes("\r"),
         said: REFUSED,
     },
     Planted {
         name: "a draw empties a row above",
-        script: &BOARD,
         at: 4,
         body: Body::Writes("\x1B[9A\r\x1B[2K"),
         said: REFUSED,
     },
     Planted {
         name: "a bar is taken in",
-        script: &BOARD,
         at: 2,
         body: Body::Makes(Step::Add("bb")),
         said: REFUSED,
     },
     Planted {
         name: "a bar is taken out",
-        script: &BOARD,
         at: 13,
         body: Body::Makes(Step::Remove(0)),
         said: REFUSED,
     },
     Planted {
         name: "a bar is told to keep its rows",
-        script: &BOARD,
         at: 10,
         body: Body::Makes(Step::Keep(1)),
         said: REFUSED,
     },
     Planted {
         name: "another message is set",
-        script: &BOARD,
         at: 8,
         body: Body::Makes(Step::Told(2, "z")),
         said: REFUSED,
     },
     Planted {
         name: "a log does nothing and says that it drew",
-        script: &BOARD,
         at: 6,
         body: Body::Nothing,
         said: Ok(Drawn::Yes),
     },
-    Planted {
-        name: "a size does nothing",
-        script: &SIZED_BOARD,
-        at: 2,
-        body: Body::Nothing,
-        said: REFUSED,
-    },
-    Planted {
-        name: "a size is taken",
-        script: &SIZED_BOARD,
-        at: 2,
-        body: Body::Makes(WIDE),
-        said: REFUSED,
-    },
 ];
-
-/// A size on which the bars' rows are as many as on the largest terminal, and filled with more blanks.
-const WIDE: Step = Step::Size(Size { rows: 4, cols: 20 });
 
 /// A board with a wrong body, what its terminal is given, and how many calls it made.
 #[derive(Drop)]
@@ -161,7 +134,7 @@ impl Stage for OnPlanted {
     }
 }
 
-/// What the judge of refused memory finds of a board's script with this body.
+/// What the judge of refused memory finds of the board's script with this body.
 pub fn found(alloc: Global, planted: Planted) -> Result<Where, Finding> {
     let record = Record::new(alloc, Plan::Never, 4096)?;
     let board = OnBoard::new(alloc, LARGEST.terminal(&record)?)?;
@@ -172,14 +145,13 @@ pub fn found(alloc: Global, planted: Planted) -> Result<Where, Finding> {
         made: 0,
     };
     let mut notes = Notes::new(alloc)?;
-    noted(&mut stage, &record, planted.script, &mut notes)?;
+    noted(&mut stage, &record, &BOARD, &mut notes)?;
     let run = Run {
         alloc,
         size: LARGEST,
         stages: &Boards {
             alloc,
             size: LARGEST,
-            script: planted.script,
         },
         record: &record,
         notes: &notes,
