@@ -1,8 +1,8 @@
 //! What is asked of the machine.
 use anyhow::Result;
 use indicatif::machine::{
-    MachineClock, Shares, StderrBar, StderrBoard, StreamSetup, StreamTerm, TerminalSetup,
-    facts_of, on_stderr, sized_target, style_on_stderr, told_setup, wants_colors,
+    MachineClock, Shares, StderrBar, StderrBoard, StreamSetup, StreamTerm, TerminalSetup, facts_of,
+    on_stderr, sized_target, style_on_stderr, told_setup, wants_colors,
 };
 use indicatif::{
     BarState, Clock, Drawn, Facts, LoneBar, Moment, NoTracker, OwnRows, ProgressBar,
