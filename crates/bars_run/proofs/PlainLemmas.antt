@@ -1,5 +1,5 @@
 -- Where the texts of commands are plain, so are those of the steps that they stand for.
-use Rattle.std.proofs.Common.{◌≡◌, ℕ, zero, suc, Bool, true, List, [], ◌∷◌, map, refl, sym, subst, Option, Some, None}
+use Rattle.std.proofs.Common.{◌≡◌, ℕ, zero, suc, Bool, true, List, [], ◌∷◌, map, refl, sym, subst, Some, None}
 use Rattle.std.specs.Prelude.{◌&&◌}
 use Rattle.std.specs.List.{AllByRecursion, list_all}
 use Rattle.std.specs.Str.{chars, is_utf8}
@@ -23,7 +23,7 @@ use Rattle.indicatif_board.specs.Boards as on
 use Rattle.indicatif_board.specs.Boards.{Id, Answer}
 use Rattle.indicatif_board.specs.Bridge.{bridge_bytes}
 use Rattle.indicatif_board.specs.PlainBoardLaws.{IsPlainCall}
-use Rattle.bars_run.specs.Commands.{Action, Message, Tick, Finish, Hide, Abandon, Drop, Remove, Spelled, Add, Log, Warn, Clear, Resize, OfBar, and_then, each}
+use Rattle.bars_run.specs.Commands.{Action, Message, Tick, Finish, Hide, Abandon, Drop, Remove, Spelled, Add, Log, Warn, Clear, Resize, OfBar, each}
 use Rattle.bars_run.specs.Inside.Players.{unanswered}
 use Rattle.bars_run.specs.Plays.{Step, calling, bar_at, bar_saying, call_on, step_of, IsPlain, IsPlainAction}
 use Rattle.bars_run.proofs.PlainScriptLemmas.{ArePlainParts}

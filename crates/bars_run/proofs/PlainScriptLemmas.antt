@@ -1,6 +1,6 @@
 -- Where the texts of a board's bars and calls are plain, those of each board on the way of a script are, so that the script is plain.
 use Rattle.std.proofs.Common.{ℕ, zero, suc, ◌^◌, Bool, true, false, not, List, [], ◌∷◌, ◌++◌, map, chars, take, drop, refl, sym, subst, Option, Some, None, if◌then◌else◌}
-use Rattle.std.specs.Prelude.{IsTrue, ◌==◌}
+use Rattle.std.specs.Prelude.{◌==◌}
 use Rattle.std.specs.List.{AllByRecursion, insert}
 use Rattle.std.proofs.lemmas.Bool.{cond_both}
 use Rattle.std.proofs.lemmas.List.Elements.{All-from_recursion}

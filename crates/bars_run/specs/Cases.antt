@@ -1,5 +1,5 @@
 -- Worked cases of what lines spell, and of what is printed. Texts are lists of bytes.
-use Rattle.std.specs.Prelude.{◌≡◌, ℕ, false, List, [], ◌∷◌, ◌++◌, map, Option, Some, None, codes}
+use Rattle.std.specs.Prelude.{◌≡◌, ℕ, false, List, [], ◌∷◌, ◌++◌, map, Some, None, codes}
 use Rattle.indicatif_term.specs.Pictures.{row_text}
 use Rattle.indicatif_term.specs.declared.draw_target.MultiProgressAlignment.TheVariants.{Top, Bottom}
 use Rattle.bars_run.specs.declared.arguments.Asked.{Asked}

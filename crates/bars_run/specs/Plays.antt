@@ -1,5 +1,5 @@
 -- The script of a board that commands stand for, and the rows that stand after it.
-use Rattle.std.specs.Prelude.{ℕ, zero, suc, Bool, true, false, ◌||◌, List, [], ◌∷◌, Option, Some, None, All, codes}
+use Rattle.std.specs.Prelude.{ℕ, suc, Bool, true, false, ◌||◌, List, [], ◌∷◌, Option, Some, None, All, codes}
 use Rattle.std.specs.List.{list_any}
 use Rattle.log.specs.declared.level.Level.TheVariants.{Warn as WarnLevel}
 use Rattle.indicatif_text.specs.Columns.{Cell}

@@ -1,4 +1,4 @@
-use Rattle.std.proofs.Common.{◌∙◌, ◌≡◌, ap, [], None, eqb, false, if◌then◌else◌}
+use Rattle.std.proofs.Common.{◌∙◌, ◌≡◌, ap, None, false, if◌then◌else◌}
 use Rattle.std.specs.Prelude.{◌==◌}
 use Rattle.std.specs.Io.Buffered.{reader_inner, reader_buffer, reader_capacity}
 use Rattle.std.specs.Io.KnownBytes.{prepend_known}

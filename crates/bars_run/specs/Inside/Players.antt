@@ -1,12 +1,11 @@
 -- A board on which lines were played.
-use Rattle.std.specs.Prelude.{◌≡◌, ℕ, ◌<◌, IsFalse, List, [], ◌∷◌, ◌++◌, map, replicate, Option, Some, None, All}
+use Rattle.std.specs.Prelude.{◌≡◌, ℕ, ◌<◌, IsFalse, List, [], ◌∷◌, ◌++◌, map, replicate, Some, None, All}
 use Rattle.indicatif_term.specs.Terminal.{blank_terminal}
-use Rattle.indicatif_term.specs.Engines.{is_bottom}
 use Rattle.indicatif_term.specs.Memory.{MemoryTerm, view_of}
 use Rattle.indicatif_term.specs.Pictures.{row_text}
 use Rattle.indicatif_bar.specs.declared.tracker.NoTracker.{NoTracker}
 use Rattle.indicatif_bar.specs.Scripts.{Called, Size, Plays}
-use Rattle.indicatif_board.specs.Boards.{BoardState, Align, opening_board}
+use Rattle.indicatif_board.specs.Boards.{BoardState, opening_board}
 use Rattle.indicatif_board.specs.Multi.{IsIn, known}
 use Rattle.indicatif_board.specs.declared.multi.Board.{Board}
 use Rattle.bars_run.specs.declared.arguments.Asked.{Asked}

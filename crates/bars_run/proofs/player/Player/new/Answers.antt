@@ -1,4 +1,4 @@
-use Rattle.std.proofs.Common.{◌∙◌, ap, subst, inl, inr, None, Some, option_map}
+use Rattle.std.proofs.Common.{◌∙◌, ap, subst, inl, inr, Some, option_map}
 use Rattle.indicatif_term.specs.Memory.{view_of}
 use Rattle.indicatif_term.specs.Targets.{term_of, limiter_of}
 use Rattle.indicatif_board.specs.Boards.{opening_board}
