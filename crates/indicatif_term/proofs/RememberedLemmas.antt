@@ -109,7 +109,7 @@ parts_same (p ∷ ps) (q ∷ qs) a b xs ys e k =
     (ap (λ z. z ∷ ps) h ∙ ap (λ zs. q ∷ zs) r.0, r.1, r.2)
 
 -- lines split around one of them in whatever way, so many up to it
-changed_in : (w free : ℕ) (ls : List StandingLine) (n : ℕ) (x : StandingLine) (front : List PlacedLine) (last : PlacedLine) (more : List PlacedLine) → 0 < n → n ≤ length ls → get_or ls (n - 1) x ≡ x →
+pub changed_in : (w free : ℕ) (ls : List StandingLine) (n : ℕ) (x : StandingLine) (front : List PlacedLine) (last : PlacedLine) (more : List PlacedLine) → 0 < n → n ≤ length ls → get_or ls (n - 1) x ≡ x →
     placed ls ≡ front ++ last ∷ more → length front + 1 ≡ n → change_bytes w free (placed (take (n - 1) ls)) (placed_of x) (placed (drop n ls)) ≡ change_bytes w free front last more
 changed_in w free ls n x front last more p h e s k =
     let next : n ≡ n - 1 + 1 = omega arith in

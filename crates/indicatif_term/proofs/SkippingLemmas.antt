@@ -226,7 +226,7 @@ counted_by bytes v v' next shown (Err x) new g q =
 
 -- ---- lines of which there are some
 
-no_rows : (w h : ℕ) (frame : List BarLines) → length (fitting h (lines_of w frame)) ≡ 0 → segments_height (shown_rows w h frame) ≡ 0
+pub no_rows : (w h : ℕ) (frame : List BarLines) → length (fitting h (lines_of w frame)) ≡ 0 → segments_height (shown_rows w h frame) ≡ 0
 unfolding shown_rows grouped
 no_rows w h frame e = ap (λ ss. segments_height (fold onto_segments [] ss)) (nil_from_length (fitting h (lines_of w frame)) e)
 

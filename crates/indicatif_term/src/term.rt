@@ -62,8 +62,10 @@ impl<W: Write> Term<W> {
     fn send(&mut self, bytes: &[u8]) -> io::Result<()>
         ensures { Writes bytes.now (view_behind W.contents self.old) (view_behind W.contents self.new) result }
     {
-        let sent = write_whole(&mut self.writer, bytes);
-        self.counted(sent)
+        match write_whole(&mut self.writer, bytes) {
+            Ok(()) => Ok(()),
+            Err(e) => self.counted(Err(e)),
+        }
     }
 
     /// Writes what moves the cursor by `n`, where `letter` says which way.

@@ -1,15 +1,15 @@
 use Rattle.std.proofs.Common.{arith, ◌≡◌, refl, sym, subst, take, []}
 use Rattle.std.proofs.lemmas.List.{take_all}
-use Rattle.indicatif_term.specs.Inside.Unchanged.{AreCompared}
+use Rattle.indicatif_term.specs.Inside.Renewed.{AreCompared}
 use Rattle.indicatif_term.proofs.LayoutLemmas.{nothing_of, lines_step, narrow_step}
 use Rattle.indicatif_term.proofs.MemberLineLemmas.{frame_step}
-use Rattle.indicatif_term.proofs.unchanged.compare_frame.Goals as goal
+use Rattle.indicatif_term.proofs.renewed.compare_frame.Goals as goal
 
 pub loop-member-init : goal.loop-member-init
 loop-member-init c = record {
   summed = c.requires.summed;
   narrow = refl;
-  laid = nothing_of c.args.window.columns c.args.window.rows [] c.args.plan.now c.requires.laid;
+  laid = nothing_of c.args.window.columns c.args.window.rows [] c.args.made.now.plan c.requires.laid;
   compared = c.requires.compared;
 }
 
@@ -23,14 +23,14 @@ loop-member-preserved c =
     let frame = c.args.frame.now in
     let i = c.loop-member.member-index in
     let s = c.member-item.result in
-    let p = c.compare_member.new.plan in
+    let made = c.compare_member.new.made in
     let old = c.loop-member.invariant in
     let yes = c.if-not-compare_member.false in
     record {
       summed = c.compare_member.ensures.summed yes;
       narrow = narrow_step wide high frame i s (omega arith) (sym c.member-item.is) old.narrow (c.compare_member.ensures.narrow yes);
-      laid = lines_step wide high frame i s (omega arith) (sym c.member-item.is) [] p (c.compare_member.ensures.laid yes _ old.laid);
-      compared = subst (λ xs. AreCompared c.args.standing.now xs p) (sym (frame_step frame i s (omega arith) (sym c.member-item.is))) (c.compare_member.ensures.compared yes _ old.compared);
+      laid = lines_step wide high frame i s (omega arith) (sym c.member-item.is) [] made.plan (c.compare_member.ensures.laid yes _ old.laid);
+      compared = subst (λ xs. AreCompared wide c.args.standing.now made.changed.items xs made.plan) (sym (frame_step frame i s (omega arith) (sym c.member-item.is))) (c.compare_member.ensures.compared yes _ old.compared);
     }
 
 pub returns : goal.returns

@@ -2,18 +2,18 @@ use Rattle.std.proofs.Common.{arith, get_or, ◌≡◌, ◌<◌, ◌≤◌, ◌�
 use Rattle.std.proofs.lemmas.List.{length-map, take_all}
 use Rattle.indicatif_term.specs.Frames.{bar_lines, line_text}
 use Rattle.indicatif_term.specs.Inside.Plans.{IsLaidOut}
-use Rattle.indicatif_term.specs.Inside.Unchanged.{AreCompared}
+use Rattle.indicatif_term.specs.Inside.Renewed.{AreCompared}
 use Rattle.indicatif_term.proofs.MeasureLemmas.{narrow_more}
 use Rattle.indicatif_term.proofs.BesideLemmas.{line_texts_step}
 use Rattle.indicatif_term.proofs.LayoutLemmas.{line_placed, member_placed, string_at}
-use Rattle.indicatif_term.proofs.unchanged.compare_member.Goals as goal
+use Rattle.indicatif_term.proofs.renewed.compare_member.Goals as goal
 
 pub loop-line-init : goal.loop-line-init
 loop-line-init c = record {
   summed = c.requires.summed;
   narrow = refl;
-  laid = λ before o. subst (λ ls. IsLaidOut c.args.window.rows ls c.args.plan.now) (sym (append-nil before)) o;
-  compared = λ before e. subst (λ xs. AreCompared c.args.standing.now xs c.args.plan.now) (sym (append-nil before)) e;
+  laid = λ before o. subst (λ ls. IsLaidOut c.args.window.rows ls c.args.made.now.plan) (sym (append-nil before)) o;
+  compared = λ before e. subst (λ xs. AreCompared c.args.window.columns c.args.standing.now c.args.made.now.changed.items xs c.args.made.now.plan) (sym (append-nil before)) e;
 }
 
 pub compare_line-requires-clause-summed : goal.compare_line-requires-clause-summed
@@ -33,11 +33,11 @@ loop-line-preserved c =
     record {
       summed = c.compare_line.ensures.summed yes;
       narrow = narrow_more c.args.window.columns (bar_lines c.args.member.now).lines c.loop-line.line-index line at.0 at.1 c.loop-line.invariant.narrow narrow;
-      laid = λ before o. line_placed c.args.window.columns c.args.window.rows c.args.member.now c.loop-line.line-index line at.0 at.1 before c.compare_line.new.plan
+      laid = λ before o. line_placed c.args.window.columns c.args.window.rows c.args.member.now c.loop-line.line-index line at.0 at.1 before c.compare_line.new.made.plan
           (laid _ (c.loop-line.invariant.laid before o));
       compared = λ before e.
           let texts_before = map line_text (take c.loop-line.line-index items) in
-          subst (λ xs. AreCompared c.args.standing.now xs c.compare_line.new.plan) (append_assoc before texts_before (line_text c.line-item.result ∷ [])
+          subst (λ xs. AreCompared c.args.window.columns c.args.standing.now c.compare_line.new.made.changed.items xs c.compare_line.new.made.plan) (append_assoc before texts_before (line_text c.line-item.result ∷ [])
           ∙ ap (λ xs. before ++ xs) (sym (line_texts_step items c.loop-line.line-index c.line-item.result h here))) (compared _ (c.loop-line.invariant.compared before e));
     }
 
@@ -51,10 +51,10 @@ pub returns-clause-laid : goal.returns-clause-laid
 returns-clause-laid c = λ yes before o.
     let all : length (bar_lines c.args.member.now).lines ≤ c.loop-line.line-index =
     omega (arith, length-map c.args.member.now.lines.items (λ x. chars (line_text x)), ap length c.deref-line-items.ensures.value) in
-    member_placed c.args.window.columns c.args.window.rows c.loop-line.line-index c.args.member.now before c.loop-line.plan all (c.loop-line.invariant.laid before o)
+    member_placed c.args.window.columns c.args.window.rows c.loop-line.line-index c.args.member.now before c.loop-line.made.plan all (c.loop-line.invariant.laid before o)
 
 pub returns-clause-compared : goal.returns-clause-compared
 returns-clause-compared c = λ yes before e.
     let items = c.args.member.now.lines.items in
     let all : take c.loop-line.line-index items ≡ items = take_all c.loop-line.line-index items (omega (arith, ap length c.deref-line-items.ensures.value)) in
-    subst (λ xs. AreCompared c.args.standing.now (before ++ map line_text xs) c.loop-line.plan) all (c.loop-line.invariant.compared before e)
+    subst (λ xs. AreCompared c.args.window.columns c.args.standing.now c.loop-line.made.changed.items (before ++ map line_text xs) c.loop-line.made.plan) all (c.loop-line.invariant.compared before e)

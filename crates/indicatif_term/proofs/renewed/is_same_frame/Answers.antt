@@ -1,10 +1,10 @@
 use Rattle.std.proofs.Common.{arith, ◌<◌, [], length, sym, ap, subst, ◌∙◌}
 use Rattle.indicatif_term.specs.Standing.{AreLines}
 use Rattle.indicatif_term.specs.Inside.Plans.{frame_lines}
-use Rattle.indicatif_term.specs.Inside.Unchanged.{AreCompared}
+use Rattle.indicatif_term.specs.Inside.Renewed.{AreCompared}
 use Rattle.indicatif_term.proofs.RememberedLemmas.{lines_right}
-use Rattle.indicatif_term.proofs.UnchangedLemmas.{unchanged_frame}
-use Rattle.indicatif_term.proofs.unchanged.is_same_frame.Goals as goal
+use Rattle.indicatif_term.proofs.RenewedLemmas.{renewed_frame}
+use Rattle.indicatif_term.proofs.renewed.is_same_frame.Goals as goal
 
 pub compare_frame-requires : goal.compare_frame-requires
 compare_frame-requires c =
@@ -16,14 +16,15 @@ compare_frame-requires c =
       standing = subst (AreLines c.args.window.columns) (sym c.as_slice-standing.ensures.value) lines;
       summed = c.requires.summed;
       laid = c.requires.laid;
-      compared = subst (λ xs. AreCompared xs [] c.args.plan.now) (sym c.as_slice-standing.ensures.value) c.requires.compared;
+      compared = subst (λ xs. AreCompared c.args.window.columns xs c.args.made.now.changed.items [] c.args.made.now.plan) (sym c.as_slice-standing.ensures.value) c.requires.compared;
     }
 
 pub returns : goal.returns
 returns c = λ yes.
-    let p = c.compare_frame.new.plan in
+    let made = c.compare_frame.new.made in
     let all = c.if-not-compare_frame.false in
     let standing = c.as_slice-standing.ensures.value in
-    unchanged_frame c.args.window.columns c.args.window.rows c.args.frame.now c.args.last.counts.now p c.args.last.shown.now c.args.window.some c.requires.settled
-    (c.compare_frame.ensures.narrow all) (c.compare_frame.ensures.laid all) (subst (λ xs. AreCompared xs (frame_lines c.args.frame.now) p) standing (c.compare_frame.ensures.compared all))
-    (c.if-plan-standing.false ∙ ap length standing) (sym c.deref.ensures.value ∙ c.are_same.ensures yes ∙ c.deref-2.ensures.value)
+    renewed_frame c.args.window.columns c.args.window.rows c.args.frame.now c.args.last.counts.now made.plan c.args.last.shown.now made.changed.items c.requires.settled
+    (c.compare_frame.ensures.narrow all) (c.compare_frame.ensures.laid all)
+    (subst (λ xs. AreCompared c.args.window.columns xs made.changed.items (frame_lines c.args.frame.now) made.plan) standing (c.compare_frame.ensures.compared all))
+    (c.if-made-standing.false ∙ ap length standing) (sym c.deref.ensures.value ∙ c.are_same.ensures yes ∙ c.deref-2.ensures.value)

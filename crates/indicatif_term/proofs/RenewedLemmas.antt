@@ -1,0 +1,504 @@
+-- A frame whose lines stand in as many rows as those of the last drawing leads from the lists to the next ones by its new lines.
+use Rattle.std.proofs.Common.{inl, inr, ◌≡◌, ◌≢◌, ◌⊎◌, ℕ, zero, suc, ◌+◌, ◌-◌, ◌<◌, ◌≤◌, ◌^◌, min, max, Bool, true, false, List, [], ◌∷◌, ◌++◌, length, take, drop, map, set, refl, sym, ◌∙◌, ap, subst, arith, append-nil, length-append, chars, get_or, if◌then◌else◌, Result, Ok, Err, is_ok, is_err}
+use Rattle.std.specs.Prelude.{IsTrue, IsFalse, string_bytes, nat_lt, ◌==◌, ◌&&◌, sum_by, slice_set}
+use Rattle.std.specs.List.{AllByRecursion}
+use Rattle.std.proofs.lemmas.Bool.{cond_both}
+use Rattle.std.proofs.lemmas.Bool.Decides.{nat_tests}
+use Rattle.std.proofs.lemmas.List.{take_at, drop_at, nil_from_length, take_more, take_all, take_more_set, length-map, length-set, get_or-set_other, get_or-map, set_comm, take-map, drop-map, length-drop}
+use Rattle.indicatif_text.specs.Columns.{Cell, rows_of, has_wide, last_columns}
+use Rattle.indicatif_term.specs.Terminal.{GREATEST}
+use Rattle.indicatif_term.specs.Shows.{look, looks_of}
+use Rattle.indicatif_term.specs.Lists.{Lists, Live, BarRows, BarLines, lists_height, live_height, live_rows, segments_height, blanks_for, live_of_frame, shown_rows, lines_of, fitting, grouped, settled, rested, drawn, all_rows}
+use Rattle.indicatif_term.specs.Frames.{bar_lines, all_lines, are_plain, some_wide}
+use Rattle.indicatif_term.specs.Counts.{CountsOf, row_count}
+use Rattle.indicatif_term.specs.Standing.{placed_of, placed, texts, standing_rows, IsLine, AreLines}
+use Rattle.indicatif_term.specs.Remembered.{AreRemembered, known_lines, Suits}
+use Rattle.indicatif_term.specs.Inside.Plans.{IsPlan, IsLaidOut, frame_lines}
+use Rattle.indicatif_term.specs.Inside.Skips.{PlacedLine, placed_height, Sits, AreSitting, all_stay, change_bytes}
+use Rattle.indicatif_term.specs.Inside.Places.{IsWithin}
+use Rattle.indicatif_term.specs.Inside.Renewed.{IsNew, ComesIn, heights, FitsIn, AreFitting, renewed, IsInPlace, AreInPlace, Renews, AreCompared, IsSettled, IsRenewed}
+use Rattle.indicatif_term.specs.declared.beside.Room.{Room}
+use Rattle.indicatif_term.specs.declared.counts.Counts.{Counts}
+use Rattle.indicatif_term.specs.declared.layout.Plan.{Plan}
+use Rattle.indicatif_term.specs.declared.layout.RowCount.{RowCount}
+use Rattle.indicatif_term.specs.declared.lines.Segment.{Segment}
+use Rattle.indicatif_term.specs.declared.remembered.Remembered.{Remembered}
+use Rattle.indicatif_term.specs.declared.remembered.StandingLine.{StandingLine}
+use Rattle.indicatif_term.specs.declared.renewed.NewLine.{NewLine}
+use Rattle.indicatif_term.proofs.ShownRowLemmas.{rows_in, lines_rows, frame_rows}
+use Rattle.indicatif_term.proofs.CountLemmas.{segments_height-map, length-live, length-flat, live_of}
+use Rattle.indicatif_term.proofs.TerminalStepLemmas.{rows_some}
+use Rattle.indicatif_term.proofs.BesideLemmas.{all_at}
+use Rattle.indicatif_term.proofs.LayoutLemmas.{planned}
+use Rattle.indicatif_term.proofs.EngineLemmas.{Redraws, suits_made}
+use Rattle.indicatif_term.proofs.DrawingLemmas.{drawn-sound}
+use Rattle.indicatif_term.proofs.RememberedLemmas.{lines_right, known_rows, changed_in, height_to}
+use Rattle.indicatif_term.proofs.SkippingLemmas.{no_rows, lines_height, standing_live, StandAbove, drawn_shown, draw_changes}
+
+-- ---- one more line that stands
+
+module _ (w : ℕ) (on : List StandingLine) (at : ℕ) (x : StandingLine) (text : List ℕ) (all : AreLines w on) (h : at < length on) (e : get_or on at x ≡ x) (t : string_bytes x.text ≡ text) where
+  line : IsLine w x
+  line = all_at (IsLine w) on at x h e all
+
+  pub rows_at : x.rows ≡ length (rows_of w (chars text))
+  rows_at = line.rows_are ∙ ap (λ y. length (rows_of w (chars y))) t
+
+  pub narrow_at : has_wide w (chars text) ≡ false
+  narrow_at = ap (λ y. has_wide w (chars y)) (sym t) ∙ line.narrow
+
+-- ---- new lines in the place of others
+
+pub went : {A E : Type 0} (r : Result A E) → is_err r ≡ false → is_ok r ≡ true
+went (Ok x) e = refl
+went (Err x) e = let no : true ≡ false = e in cc
+
+pub fits_more : (w : ℕ) (on : List StandingLine) (m n : ℕ) (new : List NewLine) → m ≤ n → AreFitting w on m new → AreFitting w on n new
+fits_more w on m n [] h f = tt
+fits_more w on m n (x ∷ new) h f = ((omega (arith, f.0.0, h), f.0.1), fits_more w on m n new h f.1)
+
+pub fits_push : (w : ℕ) (on : List StandingLine) (n : ℕ) (new : List NewLine) (x : NewLine) → AreFitting w on n new → FitsIn w on n x → AreFitting w on n (new ++ x ∷ [])
+fits_push w on n [] x f g = (g, tt)
+fits_push w on n (y ∷ new) x f g = (f.0, fits_push w on n new x f.1 g)
+
+pub fits_front : (w : ℕ) (on : List StandingLine) (n : ℕ) (new : List NewLine) (x : NewLine) → AreFitting w on n (new ++ x ∷ []) → AreFitting w on n new × FitsIn w on n x
+fits_front w on n [] x f = (tt, f.0)
+fits_front w on n (y ∷ new) x f = let r = fits_front w on n new x f.1 in ((f.0, r.0), r.1)
+
+pub renewed-length : (ts : List (List ℕ)) (new : List NewLine) → length (renewed ts new) ≡ length ts
+renewed-length ts [] = refl
+renewed-length ts (n ∷ new) = length-set (renewed ts new) n.at (string_bytes n.text) ∙ renewed-length ts new
+
+pub renewed-push : (ts : List (List ℕ)) (new : List NewLine) (x : NewLine) → renewed ts (new ++ x ∷ []) ≡ renewed (set ts x.at (string_bytes x.text)) new
+renewed-push ts [] x = refl
+renewed-push ts (n ∷ new) x = ap (λ ys. set ys n.at (string_bytes n.text)) (renewed-push ts new x)
+
+renewed-set : (w : ℕ) (on : List StandingLine) (k i : ℕ) (ts : List (List ℕ)) (t : List ℕ) (new : List NewLine) → AreFitting w on k new → k ≤ i → renewed (set ts i t) new ≡ set (renewed ts new) i t
+renewed-set w on k i ts t [] f h = refl
+renewed-set w on k i ts t (n ∷ new) f h =
+    let lower : n.at < k = f.0.0 in
+    let other : i ≢ n.at = λ e. absurd (omega (arith, lower, h, e)) in
+    ap (λ ys. set ys n.at (string_bytes n.text)) (renewed-set w on k i ts t new f.1 h) ∙ set_comm (renewed ts new) i n.at t (string_bytes n.text) other
+
+renewed-other : (w : ℕ) (on : List StandingLine) (k i : ℕ) (ts : List (List ℕ)) (d : List ℕ) (new : List NewLine) → AreFitting w on k new → k ≤ i → get_or (renewed ts new) i d ≡ get_or ts i d
+renewed-other w on k i ts d [] f h = refl
+renewed-other w on k i ts d (n ∷ new) f h =
+    let lower : n.at < k = f.0.0 in
+    let other : i ≢ n.at = λ e. absurd (omega (arith, lower, h, e)) in
+    get_or-set_other (renewed ts new) n.at i (string_bytes n.text) d other ∙ renewed-other w on k i ts d new f.1 h
+
+module _ (w : ℕ) (on : List StandingLine) (x : StandingLine) (new : List NewLine) (before : List (List ℕ)) (text : List ℕ) (p p' : Plan) (h : p.lines < length on) (e : get_or on p.lines x ≡ x)
+    (b : p'.lines ≡ p.lines + 1) (d : p'.passing ≡ p.passing) (c : AreCompared w on new before p) where
+  abbrev bytes : StandingLine → List ℕ
+  bytes = λ (l : StandingLine). string_bytes l.text
+
+  size : length (renewed (texts on) new) ≡ length on
+  size = renewed-length (texts on) new ∙ length-map on bytes
+
+  -- the line that stands is the same
+  pub compared_same : string_bytes x.text ≡ text → AreCompared w on new (before ++ text ∷ []) p'
+  compared_same t = record {
+    lines_in = omega (arith, h, b);
+    fit = fits_more w on p.lines p'.lines new (omega (arith, b)) c.fit;
+    texts_are = ap (λ n. take n (renewed (texts on) new)) b ∙ take_more (renewed (texts on) new) p.lines (bytes x) (omega (arith, h, size))
+        ∙ ap (λ y. take p.lines (renewed (texts on) new) ++ y ∷ []) (renewed-other w on p.lines p.lines (texts on) (bytes x) new c.fit (omega arith)
+        ∙ get_or-map bytes on p.lines x (bytes x) h ∙ ap bytes e ∙ t)
+        ∙ ap (λ ys. ys ++ text ∷ []) c.texts_are;
+    passes_none = d ∙ c.passes_none;
+  }
+
+  -- a new one comes in its place
+  pub compared_new : (n : NewLine) (new' : List NewLine) → new' ≡ new ++ n ∷ [] → IsNew w p.lines x.rows text n → AreCompared w on new' (before ++ text ∷ []) p'
+  compared_new n new' more is =
+      let rows : get_or (heights on) n.at 0 ≡ x.rows = ap (λ i. get_or (heights on) i 0) is.at_is ∙ get_or-map (λ (l : StandingLine). l.rows) on p.lines x 0 h ∙ ap (λ (l : StandingLine). l.rows) e in
+      let own : IsNew w n.at (get_or (heights on) n.at 0) (string_bytes n.text) n = record {
+        at_is = refl;
+        text_is = refl;
+        rows_are = rows ∙ is.rows_are ∙ ap (λ y. length (rows_of w (chars y))) (sym is.text_is);
+        last_is = is.last_is ∙ ap (λ y. last_columns w (chars y)) (sym is.text_is);
+        narrow = ap (λ y. has_wide w (chars y)) is.text_is ∙ is.narrow;
+      } in
+      let at : n.at ≡ p.lines = is.at_is in
+      record {
+        lines_in = omega (arith, h, b);
+        fit = subst (AreFitting w on p'.lines) (sym more) (fits_push w on p'.lines new n (fits_more w on p.lines p'.lines new (omega (arith, b)) c.fit) (omega (arith, at, b), own));
+        texts_are = ap (λ k. take k (renewed (texts on) new')) b ∙ ap (λ y. take (p.lines + 1) (renewed (texts on) y)) more
+            ∙ ap (take (p.lines + 1)) (renewed-push (texts on) new n ∙ ap (λ i. renewed (set (texts on) i (string_bytes n.text)) new) at
+            ∙ renewed-set w on p.lines p.lines (texts on) (string_bytes n.text) new c.fit (omega arith))
+            ∙ take_more_set (renewed (texts on) new) p.lines (string_bytes n.text) (omega (arith, h, size))
+            ∙ ap (λ y. take p.lines (renewed (texts on) new) ++ y ∷ []) is.text_is ∙ ap (λ ys. ys ++ text ∷ []) c.texts_are;
+        passes_none = d ∙ c.passes_none;
+      }
+
+pub nothing_compared : (w : ℕ) (on : List StandingLine) (new : List NewLine) (p : Plan) → new ≡ [] → p.lines ≡ 0 → p.passing ≡ 0 → AreCompared w on new [] p
+nothing_compared w on new p e a b = record {
+  lines_in = omega (arith, a);
+  fit = subst (AreFitting w on p.lines) (sym e) tt;
+  texts_are = ap (λ n. take n (renewed (texts on) new)) a;
+  passes_none = b;
+}
+
+module _ (w : ℕ) (on : List StandingLine) (at : ℕ) (x : StandingLine) (text : List ℕ) (new new' : List NewLine) (all : AreLines w on) (h : at < length on) (e : get_or on at x ≡ x)
+    (comes : ComesIn w at x text new new') where
+  pub came_rows : x.rows ≡ length (rows_of w (chars text))
+  came_rows = elim comes [ inl same ↦ rows_at w on at x text all h e same.0 | inr own ↦ own.2.rows_are ]
+
+  pub came_narrow : has_wide w (chars text) ≡ false
+  came_narrow = elim comes [ inl same ↦ narrow_at w on at x text all h e same.0 | inr own ↦ own.2.narrow ]
+
+  pub came_some : 0 < x.rows
+  came_some = omega (arith, came_rows, rows_some w (chars text))
+
+  pub came_compared : (before : List (List ℕ)) (p p' : Plan) → at ≡ p.lines → p'.lines ≡ p.lines + 1 → p'.passing ≡ p.passing → AreCompared w on new before p → AreCompared w on new' (before ++ text ∷ []) p'
+  came_compared before p p' i b d c =
+      let h' : p.lines < length on = omega (arith, h, i) in
+      let e' : get_or on p.lines x ≡ x = ap (λ n. get_or on n x) (sym i) ∙ e in
+      elim comes [
+        | inl same ↦ subst (λ ns. AreCompared w on ns (before ++ text ∷ []) p') (sym same.1) (compared_same w on x new before text p p' h' e' b d c same.0)
+        | inr own ↦ compared_new w on x new before text p p' h' e' b d c own.0 new' own.1 (subst (λ n. IsNew w n x.rows text own.0) i own.2)
+      ]
+
+-- ---- lines in the place of others
+
+pub in_place : (w : ℕ) (on ls : List StandingLine) → AreLines w on → AreLines w ls → texts ls ≡ texts on → AreInPlace w on ls
+in_place w [] [] a b t = tt
+in_place w [] (l ∷ ls) a b t = absurd (cc)
+in_place w (o ∷ on) [] a b t = absurd (cc)
+in_place w (o ∷ on) (l ∷ ls) a b t =
+    let here : string_bytes l.text ≡ string_bytes o.text = cc in
+    let rest : texts ls ≡ texts on = cc in (
+      record { rows_are = b.0.rows_are ∙ ap (λ y. length (rows_of w (chars y))) here ∙ sym a.0.rows_are; line = b.0; same = λ _. here },
+      in_place w on ls a.1 b.1 rest,
+    )
+
+pub place_right : (w : ℕ) (on ls : List StandingLine) → AreInPlace w on ls → AreLines w ls
+place_right w [] [] p = tt
+place_right w [] (l ∷ ls) p = absurd p
+place_right w (o ∷ on) [] p = absurd p
+place_right w (o ∷ on) (l ∷ ls) p = (p.0.line, place_right w on ls p.1)
+
+pub place_length : (w : ℕ) (on ls : List StandingLine) → AreInPlace w on ls → length ls ≡ length on
+place_length w [] [] p = refl
+place_length w [] (l ∷ ls) p = absurd p
+place_length w (o ∷ on) [] p = absurd p
+place_length w (o ∷ on) (l ∷ ls) p = ap (λ n. suc n) (place_length w on ls p.1)
+
+place_rows : (w : ℕ) (on ls : List StandingLine) (i : ℕ) (x : StandingLine) → AreInPlace w on ls → i < length on → get_or ls i x ≡ x → x.rows ≡ get_or (heights on) i 0
+place_rows w [] ls i x p h e = absurd (omega arith)
+place_rows w (o ∷ on) [] i x p h e = absurd p
+place_rows w (o ∷ on) (l ∷ ls) zero x p h e = ap (λ (y : StandingLine). y.rows) (sym e) ∙ p.0.rows_are
+place_rows w (o ∷ on) (l ∷ ls) (suc i) x p h e = place_rows w on ls i x p.1 (omega arith) e
+
+place_put : (w : ℕ) (on ls : List StandingLine) (i : ℕ) (y : StandingLine) → AreInPlace w on ls → y.rows ≡ get_or (heights on) i 0 → IsLine w y → y.stays ≡ false → AreInPlace w on (slice_set ls i y)
+place_put w [] [] i y p r l s = p
+place_put w [] (x ∷ ls) i y p r l s = absurd p
+place_put w (o ∷ on) [] i y p r l s = absurd p
+place_put w (o ∷ on) (x ∷ ls) zero y p r l s = (record { rows_are = r; line = l; same = λ yes. absurd (let no : true ≡ false = sym yes ∙ s in cc) }, p.1)
+place_put w (o ∷ on) (x ∷ ls) (suc i) y p r l s = (p.0, place_put w on ls i y p.1 r l s)
+
+-- a new line put in its place
+pub place_new : (w : ℕ) (on ls : List StandingLine) (x y : StandingLine) (n : NewLine) → AreInPlace w on ls → FitsIn w on (length on) n → get_or ls n.at x ≡ x → y.rows ≡ x.rows →
+    string_bytes y.text ≡ string_bytes n.text → y.last ≡ n.last → y.stays ≡ false → AreInPlace w on (slice_set ls n.at y)
+place_new w on ls x y n p f e r t c s =
+    let rows : y.rows ≡ get_or (heights on) n.at 0 = r ∙ place_rows w on ls n.at x p f.0 e in
+    let same : string_bytes n.text ≡ string_bytes y.text = sym t in
+    let line : IsLine w y = record {
+      rows_are = rows ∙ f.1.rows_are ∙ ap (λ z. length (rows_of w (chars z))) same;
+      last_is = c ∙ f.1.last_is ∙ ap (λ z. last_columns w (chars z)) same;
+      narrow = ap (λ z. has_wide w (chars z)) t ∙ f.1.narrow;
+    } in
+    place_put w on ls n.at y p rows line s
+
+place_height : (w : ℕ) (on ls : List StandingLine) → AreInPlace w on ls → placed_height (placed ls) ≡ placed_height (placed on)
+place_height w [] [] p = refl
+place_height w [] (l ∷ ls) p = absurd p
+place_height w (o ∷ on) [] p = absurd p
+place_height w (o ∷ on) (l ∷ ls) p =
+    let rest : placed_height (placed ls) ≡ placed_height (placed on) = place_height w on ls p.1 in
+    let one : l.rows ≡ o.rows = p.0.rows_are in omega arith
+
+-- they sit on the rows of those
+place_sits : (w : ℕ) (on ls : List StandingLine) → AreLines w on → AreInPlace w on ls → AreSitting w (looks_of (standing_rows w on)) (placed ls)
+place_sits w [] [] a p = tt
+place_sits w [] (l ∷ ls) a p = absurd p
+place_sits w (o ∷ on) [] a p = absurd p
+place_sits w (o ∷ on) (l ∷ ls) a p =
+    let own = rows_of w (chars (string_bytes o.text)) in
+    let rest = standing_rows w on in
+    let size : length own ≡ l.rows = sym a.0.rows_are ∙ sym p.0.rows_are in (
+      record {
+        rows_are = p.0.line.rows_are;
+        last_is = p.0.line.last_is;
+        same = λ stays. take-map (map look) l.rows (own ++ rest) ∙ ap looks_of (take_at own rest l.rows size) ∙ ap (λ y. looks_of (rows_of w (chars y))) (sym (p.0.same stays));
+      },
+      subst (λ x. AreSitting w x (placed ls)) (sym (drop-map (map look) l.rows (own ++ rest) ∙ ap looks_of (drop_at own rest l.rows size))) (place_sits w on ls a.1 p.1),
+    )
+
+-- ---- lists that a draw leaves as they are
+
+take_nothing : {A : Type 0} (n : ℕ) → take {A = A} n [] ≡ []
+take_nothing zero = refl
+take_nothing (suc n) = refl
+
+drop_nothing : {A : Type 0} (n : ℕ) → drop {A = A} n [] ≡ []
+drop_nothing zero = refl
+drop_nothing (suc n) = refl
+
+none_gone : (n : ℕ) (kept : List (List Cell)) → (kept ≡ []) ⊎ (n ≡ 0) → (take n kept ≡ []) × (drop n kept ≡ kept)
+none_gone n kept (inl none) = (ap (take n) none ∙ take_nothing n, ap (drop n) none ∙ drop_nothing n ∙ sym none)
+none_gone n kept (inr zeros) = (ap (λ k. take k kept) zeros, ap (λ k. drop k kept) zeros)
+
+not_below : (live height reach : ℕ) → 0 < live → ((live == 0) && nat_lt height reach) ≡ false
+not_below live height reach p = grind (arith, nat_tests)
+
+same_lists : (l : Lists) (above kept : List (List Cell)) (reach : ℕ) (below failed : Bool) → above ≡ l.above → kept ≡ l.kept → reach ≡ l.reach → below ≡ l.below → failed ≡ l.failed →
+    let x : Lists = record { above = above; kept = kept; live = l.live; reach = reach; below = below; failed = failed } in x ≡ l
+same_lists l above kept reach below failed a k r b f =
+    let x : Lists = record { above = above; kept = kept; live = l.live; reach = reach; below = below; failed = failed } in
+    let y : Lists = record { above = l.above; kept = l.kept; live = l.live; reach = l.reach; below = l.below; failed = l.failed } in
+    let e : x ≡ y = cc (a, k, r, b, f) in e
+
+rests_still : (h : ℕ) (l : Lists) → lists_height l ≤ l.reach → (l.kept ≡ []) ⊎ (l.reach ≤ length l.above + h) → 0 < live_height l.live → l.below ≡ false →
+    rested (settled h l) ≡ record l { failed = false }
+rests_still h l fits low some on =
+    let gone = (max l.reach (lists_height l) - h) - length l.above in
+    let none = none_gone gone l.kept (elim low [ inl none ↦ inl none | inr here ↦ inr (omega arith) ]) in
+    same_lists (record l { failed = false }) (l.above ++ take gone l.kept) (drop gone l.kept) (max l.reach (lists_height l)) ((live_height l.live == 0) && nat_lt (lists_height (settled h l)) (max l.reach (lists_height l))) false
+    (ap (λ xs. l.above ++ xs) none.0 ∙ append-nil l.above) none.1 (omega arith) (not_below (live_height l.live) (lists_height (settled h l)) (max l.reach (lists_height l)) some ∙ sym on) refl
+
+no_room : (bottom : Bool) (taken bars : ℕ) → taken ≡ bars → blanks_for bottom taken 0 bars ≡ 0
+no_room bottom taken bars e = cond_both (bottom && nat_lt 0 bars) (taken - (0 + bars)) 0 (λ n. n ≡ 0) (λ _. omega arith) (λ _. refl)
+
+shows_none : (w h : ℕ) → length (shown_rows w h []) ≡ 0
+unfolding shown_rows lines_of fitting grouped
+shows_none w h = refl
+
+drawn_by : (w h : ℕ) (bottom : Bool) (frame : List BarLines) (l : Lists) →
+    drawn w h bottom 0 frame l ≡ rested (settled h (record l { live = live_of_frame w h bottom (live_height l.live) 0 frame }))
+unfolding drawn
+drawn_by w h bottom frame l = rw (shows_none w h) refl
+
+-- ---- the frame
+
+front_same : (a b c : List (List Cell)) → a ++ c ≡ b ++ c → a ≡ b
+front_same a b c e =
+    let size : length a + length c ≡ length b + length c = sym (length-append a c) ∙ ap length e ∙ length-append b c in
+    let n : length b ≡ length a = omega arith in
+    sym (take_at a c (length a) refl) ∙ ap (take (length a)) e ∙ take_at b c (length a) n
+
+some_by : (k rows : ℕ) → (k ≡ 0 → rows ≡ 0) → 0 < rows → 0 < k
+some_by zero rows e p = absurd (omega (arith, e refl))
+some_by (suc k) rows e p = omega arith
+
+-- a frame whose lines were compared with those that stand
+pub renewed_frame : (w h : ℕ) (frame : List Segment) (c : Counts) (plan : Plan) (r : Remembered) (new : List NewLine) → IsSettled w h c r →
+    IsFalse (some_wide w (all_lines (map bar_lines frame))) → IsLaidOut h (lines_of w (map bar_lines frame)) plan → AreCompared w r.lines.items new (frame_lines frame) plan →
+    plan.lines ≡ length r.lines.items → plan.segments.items ≡ c.segments.items → IsRenewed w h frame c r new
+renewed_frame w h frame c plan r new s n laid cmp all same =
+    let bytes = λ (l : StandingLine). string_bytes l.text in
+    let on = renewed (texts r.lines.items) new in
+    let size : length on ≡ plan.lines = renewed-length (texts r.lines.items) new ∙ length-map r.lines.items bytes ∙ sym all in
+    let whole : on ≡ frame_lines frame = sym (take_all plan.lines on (omega (arith, size))) ∙ cmp.texts_are in
+    record {
+      narrow = n;
+      settled = s;
+      fit = subst (λ k. AreFitting w r.lines.items k new) all cmp.fit;
+      texts_are = whole;
+      plan = plan;
+      plan_is = planned w h 0 (map bar_lines frame) plan laid (cmp.passes_none ∙ sym (shows_none w h));
+      all_lines_are = sym size ∙ ap length whole;
+      segments_are = same;
+    }
+
+module _ (w h : ℕ) (frame : List Segment) (c : Counts) (r : Remembered) (new : List NewLine) (pos : 0 < w) (q : IsRenewed w h frame c r new) where
+  abbrev shows : List BarRows
+  shows = shown_rows w h (map bar_lines frame)
+
+  segments_are : c.segments.items ≡ map row_count shows
+  segments_are = sym q.segments_are ∙ q.plan_is.segments_are
+
+  live_rows_of : c.live ≡ segments_height shows
+  live_rows_of =
+      let a : c.live ≡ c.blanks + sum_by (λ (s : RowCount). s.rows) (drop c.passed c.segments.items) = c.live_is in
+      let b : sum_by (λ (s : RowCount). s.rows) (drop c.passed c.segments.items) ≡ sum_by (λ (s : RowCount). s.rows) (map row_count shows) =
+      ap (λ n. sum_by (λ (s : RowCount). s.rows) (drop n c.segments.items)) q.settled.none_passed ∙ ap (sum_by (λ (s : RowCount). s.rows)) segments_are in
+      omega (arith, a, b, q.settled.no_blanks, segments_height-map shows)
+
+  no_blanks : (bottom : Bool) → 0 ≡ blanks_for bottom c.live 0 q.plan.rows
+  no_blanks bottom = sym (no_room bottom c.live q.plan.rows (live_rows_of ∙ sym q.plan_is.rows_are))
+
+  -- the counts stay
+  pub counts_stay : (bottom : Bool) (x : Lists) → CountsOf c x → CountsOf c (drawn w h bottom 0 (map bar_lines frame) x)
+  counts_stay bottom x o =
+      let v : Live = live_of_frame w h bottom (live_height x.live) 0 (map bar_lines frame) in
+      let y : Lists = record x { live = v } in
+      let f : c.kept + c.live ≤ c.reached = c.fits in
+      let reach : c.reached + length x.above ≡ x.reach = o.reached_is in
+      let kept : c.kept ≡ length x.kept = o.kept_is in
+      let live : c.live ≡ live_height x.live = live_of c x o in
+      let none : v.blanks ≡ 0 = no_room bottom (live_height x.live) (segments_height shows) (sym live ∙ live_rows_of) in
+      let height : live_height v ≡ c.live = omega (arith, none, live_rows_of) in
+      let low : (y.kept ≡ []) ⊎ (y.reach ≤ length y.above + h) = elim q.settled.low [ inl e ↦ inl (nil_from_length x.kept (sym kept ∙ e)) | inr here ↦ inr (omega arith) ] in
+      let still : rested (settled h y) ≡ record y { failed = false } = rests_still h y (omega (arith, height)) low (omega (arith, height, q.settled.some)) (sym o.below_is ∙ q.settled.on_row) in
+      let counted : CountsOf c (record y { failed = false }) = record {
+        kept_is = o.kept_is;
+        blanks_are = q.settled.no_blanks ∙ sym none;
+        segments_are = ap (λ n. drop n c.segments.items) q.settled.none_passed ∙ segments_are;
+        reached_is = o.reached_is;
+        below_is = o.below_is;
+      } in
+      subst (CountsOf c) (sym (drawn_by w h bottom (map bar_lines frame) x ∙ still)) counted
+
+  -- some line stands
+  pub some_stand : 0 < length r.lines.items
+  some_stand =
+      let none = λ (e : length (fitting h (lines_of w (map bar_lines frame))) ≡ 0). no_rows w h (map bar_lines frame) e in
+      let count : length r.lines.items ≡ q.plan.lines = sym (length-map r.lines.items (λ (l : StandingLine). string_bytes l.text)) ∙ sym (renewed-length (texts r.lines.items) new)
+      ∙ ap length q.texts_are ∙ sym q.all_lines_are in
+      some_by (length r.lines.items) (segments_height shows) (λ e. none (sym q.plan_is.lines_are ∙ sym count ∙ e)) (omega (arith, live_rows_of, q.settled.some))
+
+  some : 0 < r.width
+  some = omega (arith, q.settled.same_width, pos)
+
+  right : AreLines w r.lines.items
+  right = subst (λ k. AreLines k r.lines.items) q.settled.same_width (lines_right r some)
+
+  -- the lines of the frame in their places
+  module _ (ls : List StandingLine) (t : texts ls ≡ renewed (texts r.lines.items) new) (p : AreInPlace r.width r.lines.items ls) where
+    place : AreInPlace w r.lines.items ls
+    place = subst (λ k. AreInPlace k r.lines.items ls) q.settled.same_width p
+
+    all_shown : texts ls ≡ take q.plan.lines (frame_lines frame)
+    all_shown = t ∙ q.texts_are ∙ sym (take_all q.plan.lines (frame_lines frame) (omega (arith, q.all_lines_are)))
+
+    stand : standing_rows w ls ≡ rows_in shows
+    stand = ap (lines_rows w) (all_shown ∙ ap (λ k. take k (frame_lines frame)) q.plan_is.lines_are) ∙ frame_rows w h frame 0
+
+    pub height : placed_height (placed ls) ≡ c.live
+    height = lines_height w ls (place_right w r.lines.items ls place) ∙ ap length stand ∙ length-flat shows ∙ sym live_rows_of
+
+    height_before : placed_height (placed r.lines.items) ≡ c.live
+    height_before = sym (place_height w r.lines.items ls place) ∙ height
+
+    stand_before : (l : Lists) → CountsOf c l → AreRemembered r l → standing_rows w r.lines.items ≡ live_rows w l.live
+    stand_before l o known =
+        let f : c.kept + c.live ≤ c.reached = c.fits in
+        let k : c.reached ≤ 65535 = c.small in
+        let e = standing_live w c.live r l pos q.settled.same_width known (length-live w l.live ∙ sym (live_of c l o)) (omega (arith, height_before)) (omega (arith, height_before)) in
+        let none : min (placed_height (placed r.lines.items)) (2 ^ 64 - 1) - c.live ≡ 0 = omega (arith, height_before) in
+        subst (λ k. drop k (standing_rows w r.lines.items) ≡ live_rows w l.live) none e
+
+    pub redraws_new : (bottom : Bool) (l x : Lists) (front : List PlacedLine) (last : PlacedLine) → CountsOf c l → AreRemembered r l → IsTrue (are_plain (all_lines (map bar_lines frame))) →
+        CountsOf c x → x.live ≡ l.live → placed ls ≡ front ++ last ∷ [] → Redraws w h x (drawn w h bottom 0 (map bar_lines frame) x) (change_bytes w 0 front last [])
+    redraws_new bottom l x front last o known plain ox live s =
+        let room : Room = record { lines = length ls; free = 0 } in
+        let count : length ls ≡ length front + 1 = sym (length-map ls placed_of) ∙ ap length s ∙ length-append front (last ∷ []) in
+        let sits : AreSitting w (looks_of (live_rows w x.live)) (placed ls) =
+        subst (λ y. AreSitting w (looks_of y) (placed ls)) (stand_before l o known ∙ ap (live_rows w) (sym live)) (place_sits w r.lines.items ls right place) in
+        let all : take (length ls) ls ≡ ls = take_all (length ls) ls (omega arith) in
+        let within : IsWithin ls c.live room = record {
+          some = omega (arith, count);
+          in_lines = omega arith;
+          rows_are = ap (λ ys. placed_height (placed ys) + 0) all ∙ omega (arith, height);
+        } in
+        draw_changes w h x c c 0 0 bottom frame q.plan ls room front last [] pos q.settled.narrow plain q.narrow ox q.plan_is (counts_stay bottom x ox) (no_blanks bottom)
+        q.settled.on_row q.settled.on_row all_shown s (sym count) sits within
+
+  module _ (l : Lists) (r' : Remembered) (o : CountsOf c l) (known : AreRemembered r l) (n : Renews r new r') where
+    above : StandAbove w r' l
+    above =
+        let x = known some in
+        let live = stand_before r'.lines.items n.texts_are n.in_place l o known in
+        let whole : (x.0 ++ standing_rows w r.kept.items) ++ live_rows w l.live ≡ (l.above ++ l.kept) ++ live_rows w l.live =
+        ap (λ y. (x.0 ++ standing_rows w r.kept.items) ++ y) (sym live) ∙ sym (known_rows w r x.0)
+        ∙ subst (λ k. x.0 ++ standing_rows k (known_lines r) ≡ all_rows k l) q.settled.same_width x.1 in (
+          x.0,
+          ap (λ ks. x.0 ++ standing_rows w ks) n.kept_are ∙ front_same (x.0 ++ standing_rows w r.kept.items) (l.above ++ l.kept) (live_rows w l.live) whole,
+        )
+
+    pub shown_next : (bottom : Bool) → AreRemembered r' (drawn w h bottom 0 (map bar_lines frame) l)
+    shown_next bottom = drawn_shown w w h 0 0 bottom frame l c q.plan r' refl (n.width_is ∙ q.settled.same_width) o q.plan_is (no_blanks bottom)
+        (all_shown r'.lines.items n.texts_are n.in_place) above
+
+-- ---- what a draw says of it
+
+module _ (w h : ℕ) (frame : List Segment) (c : Counts) (r : Remembered) (new : List NewLine) (pos : 0 < w) (q : IsRenewed w h frame c r new) where
+  pub fit_there : AreFitting r.width r.lines.items (length r.lines.items) new
+  fit_there = subst (λ n. AreFitting n r.lines.items (length r.lines.items) new) (sym q.settled.same_width) q.fit
+
+  pub some_width : 0 < r.width
+  some_width = omega (arith, q.settled.same_width, pos)
+
+  pub low_height : (r' : Remembered) → Renews r new r' → placed_height (placed r'.lines.items) ≤ 65535
+  low_height r' n =
+      let f : c.kept + c.live ≤ c.reached = c.fits in
+      let k : c.reached ≤ 65535 = c.small in
+      omega (arith, height w h frame c r new pos q r'.lines.items n.texts_are n.in_place)
+
+  -- some line is written
+  pub stands_again : (ls : List StandingLine) → AreInPlace r.width r.lines.items ls → 0 < length (placed ls)
+  stands_again ls p = omega (arith, length-map ls placed_of, place_length r.width r.lines.items ls p, some_stand w h frame c r new pos q)
+
+  pub new_suits : (bottom : Bool) (l : Lists) (r' : Remembered) → CountsOf c l → AreRemembered r l → Renews r new r' → Suits c false r' (drawn w h bottom 0 (map bar_lines frame) l)
+  new_suits bottom l r' o known n = suits_made c r' (drawn w h bottom 0 (map bar_lines frame) l) (counts_stay w h frame c r new pos q bottom l o) (drawn-sound w h bottom 0 (map bar_lines frame) l)
+      (shown_next w h frame c r new pos q l r' o known n bottom)
+
+-- ---- the last of some lines
+
+pub split_last : (ps : List PlacedLine) → 0 < length ps → (front : List PlacedLine) × (last : PlacedLine) × (ps ≡ front ++ last ∷ [])
+split_last [] h = absurd (omega arith)
+split_last (p ∷ []) h = ([], p, refl)
+split_last (p ∷ x ∷ ps) h = let r = split_last (x ∷ ps) (omega arith) in (p ∷ r.0, r.1, ap (λ y. p ∷ y) r.2)
+
+-- ---- what is written of lines, of which the last is this one
+
+pub renewed_by : (w : ℕ) (ls a : List StandingLine) (x : StandingLine) (front : List PlacedLine) (last : PlacedLine) → a ≡ ls → 0 < length ls → get_or ls (length ls - 1) x ≡ x →
+    placed ls ≡ front ++ last ∷ [] → change_bytes w 0 (placed (take (length ls - 1) a)) (placed_of x) [] ≡ change_bytes w 0 front last []
+renewed_by w ls a x front last e p i s =
+    let none : drop (length ls) ls ≡ [] = nil_from_length (drop (length ls) ls) (length-drop (length ls) ls ∙ omega arith) in
+    let count : length front + 1 ≡ length ls = sym (length-append front (last ∷ [])) ∙ ap length (sym s) ∙ length-map ls placed_of in
+    ap (λ xs. change_bytes w 0 (placed (take (length ls - 1) xs)) (placed_of x) []) e ∙ ap (λ xs. change_bytes w 0 (placed (take (length ls - 1) ls)) (placed_of x) (placed xs)) (sym none)
+    ∙ changed_in w 0 ls (length ls) x front last [] p (omega arith) i s count
+
+pub renewed_height : (ls a : List StandingLine) (x : StandingLine) → a ≡ ls → 0 < length ls → get_or ls (length ls - 1) x ≡ x → placed_height (placed (take (length ls - 1) a)) + x.rows ≡ placed_height (placed ls)
+renewed_height ls a x e p i =
+    ap (λ xs. placed_height (placed (take (length ls - 1) xs)) + x.rows) e ∙ height_to ls (length ls) x p (omega arith) i ∙ ap (λ xs. placed_height (placed xs)) (take_all (length ls) ls (omega arith))
+
+-- ---- lines that all stay
+
+abbrev all_left : List StandingLine → List StandingLine
+all_left ls = map (λ (l : StandingLine). record l { stays = true }) ls
+
+left_texts : (ls : List StandingLine) → texts (all_left ls) ≡ texts ls
+left_texts [] = refl
+left_texts (l ∷ ls) = ap (λ xs. string_bytes l.text ∷ xs) (left_texts ls)
+
+left_right : (w : ℕ) (ls : List StandingLine) → AreLines w ls → AreLines w (all_left ls)
+left_right w [] a = tt
+left_right w (l ∷ ls) a = (record { rows_are = a.0.rows_are; last_is = a.0.last_is; narrow = a.0.narrow }, left_right w ls a.1)
+
+left_stay : (ls : List StandingLine) → all_stay (placed (all_left ls)) ≡ true
+left_stay [] = refl
+left_stay (l ∷ ls) = left_stay ls
+
+nothing_changed : (w : ℕ) (front : List PlacedLine) (last : PlacedLine) → all_stay (front ++ last ∷ []) ≡ true → change_bytes w 0 front last [] ≡ []
+nothing_changed w front last e = rw e refl
+
+pub all_stay_there : (w : ℕ) (r : Remembered) → r.width ≡ w → 0 < w → (ls : List StandingLine) × AreInPlace w r.lines.items ls × (texts ls ≡ texts r.lines.items)
+    × ((front : List PlacedLine) (last : PlacedLine) → placed ls ≡ front ++ last ∷ [] → [] ≡ change_bytes w 0 front last [])
+all_stay_there w r e p =
+    let ls = all_left r.lines.items in
+    let right : AreLines w r.lines.items = subst (λ k. AreLines k r.lines.items) e (lines_right r (omega (arith, e, p))) in (
+      ls,
+      in_place w r.lines.items ls right (left_right w r.lines.items right) (left_texts r.lines.items),
+      left_texts r.lines.items,
+      λ front last s. sym (nothing_changed w front last (ap all_stay (sym s) ∙ left_stay r.lines.items)),
+    )
+
+pub renews_itself : (r : Remembered) (new : List NewLine) → 0 < r.width → new ≡ [] → Renews r new r
+renews_itself r new p e = record {
+  width_is = refl;
+  kept_are = refl;
+  texts_are = ap (renewed (texts r.lines.items)) (sym e);
+  in_place = in_place r.width r.lines.items r.lines.items (lines_right r p) (lines_right r p) refl;
+}

@@ -1,0 +1,31 @@
+use Rattle.std.proofs.Common.{arith, ◌<◌, refl, sym, ◌∙◌, ap, length, true}
+use Rattle.std.specs.Prelude.{string_bytes}
+use Rattle.std.proofs.lemmas.List.{length-map}
+use Rattle.indicatif_term.specs.Standing.{IsLine}
+use Rattle.indicatif_term.specs.declared.remembered.StandingLine.{StandingLine}
+use Rattle.indicatif_term.proofs.BesideLemmas.{all_at, all_set, marked_line, texts_marked}
+use Rattle.indicatif_term.proofs.RenewedLemmas.{in_place}
+use Rattle.indicatif_term.proofs.renewed.leave_all.Goals as goal
+
+pub loop-at-init : goal.loop-at-init
+loop-at-init c = record { texts_same = refl; right = λ w all. all }
+
+pub loop-at-preserved : goal.loop-at-preserved
+loop-at-preserved c =
+    let ys = c.loop-at.lines.items in
+    let i = c.loop-at.at in
+    let x = c.index_mut.result.now in
+    let old = c.loop-at.invariant in
+    let bytes = λ (l : StandingLine). string_bytes l.text in
+    let h : i < length ys = omega (arith, ap length old.texts_same, length-map ys bytes, length-map c.args.lines.now.items bytes, c.loop-at-test.true, c.len-at-end.ensures) in
+    let e = sym c.index_mut.ensures.value in
+    record {
+      texts_same = texts_marked ys i x true e ∙ old.texts_same;
+      right = λ w all. all_set (IsLine w) ys i _ (marked_line w x true (all_at (IsLine w) ys i x h e (old.right w all))) (old.right w all);
+    }
+
+pub returns : goal.returns
+returns c = record {
+  texts = c.loop-at.invariant.texts_same;
+  in_place = λ w all. in_place w c.args.lines.now.items c.loop-at.lines.items all (c.loop-at.invariant.right w all) c.loop-at.invariant.texts_same;
+}

@@ -1,0 +1,9 @@
+use Rattle.std.proofs.Common.{◌≡◌, ℕ}
+use Rattle.indicatif_term.specs.Standing.{texts, AreLines}
+use Rattle.indicatif_term.proofs.renewed.leave_all.Given as goal
+
+abbrev pub invariant-loop-at : goal.invariant-loop-at
+invariant-loop-at l = record {
+  texts_same : texts l.lines.items ≡ texts l.fn.lines.items;
+  right : (w : ℕ) → AreLines w l.fn.lines.items → AreLines w l.lines.items;
+}

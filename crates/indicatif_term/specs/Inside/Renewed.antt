@@ -1,0 +1,97 @@
+-- A frame whose lines stand in as many rows as those of the last drawing, and the lines of it that are others.
+use Rattle.std.specs.Prelude.{◌≡◌, ◌⊎◌, ℕ, ◌<◌, ◌≤◌, Bool, false, IsTrue, IsFalse, List, [], ◌∷◌, ◌++◌, map, length, take, set, get_or, chars, string_bytes}
+use Rattle.std.specs.List.{AllByRecursion}
+use Rattle.indicatif_text.specs.Columns.{has_wide, rows_of, last_columns}
+use Rattle.indicatif_term.specs.Lists.{Lists, drawn}
+use Rattle.indicatif_term.specs.Frames.{bar_lines, all_lines, some_wide}
+use Rattle.indicatif_term.specs.Standing.{texts, IsLine}
+use Rattle.indicatif_term.specs.Counts.{CountsOf}
+use Rattle.indicatif_term.specs.Remembered.{AreRemembered}
+use Rattle.indicatif_term.specs.Inside.Plans.{IsPlan, frame_lines}
+use Rattle.indicatif_term.specs.declared.counts.Counts.{Counts}
+use Rattle.indicatif_term.specs.declared.layout.Plan.{Plan}
+use Rattle.indicatif_term.specs.declared.lines.Segment.{Segment}
+use Rattle.indicatif_term.specs.declared.remembered.Remembered.{Remembered}
+use Rattle.indicatif_term.specs.declared.remembered.StandingLine.{StandingLine}
+use Rattle.indicatif_term.specs.declared.renewed.NewLine.{NewLine}
+
+-- ---- new lines in the place of others
+
+-- a line of this text is as it is measured, in so many rows, and comes in the place of that index
+pub record IsNew (w at rows : ℕ) (text : List ℕ) (n : NewLine) : Type 0 where
+  pub at_is : n.at ≡ at
+  pub text_is : string_bytes n.text ≡ text
+  pub rows_are : rows ≡ length (rows_of w (chars text))
+  pub last_is : n.last ≡ last_columns w (chars text)
+  pub narrow : IsFalse (has_wide w (chars text))
+
+-- a line of that index is of this text, or a new one of this text comes in its place
+abbrev pub ComesIn : ℕ → ℕ → StandingLine → List ℕ → List NewLine → List NewLine → Type 0
+ComesIn w at x text new new' =
+    ((string_bytes x.text ≡ text) × (new' ≡ new)) ⊎ ((n : NewLine) × (new' ≡ new ++ n ∷ []) × IsNew w at x.rows text n)
+
+-- how many rows lines have
+abbrev pub heights : List StandingLine → List ℕ
+heights ls = map (λ (l : StandingLine). l.rows) ls
+
+-- a new line has as many rows as the one in its place, one of the first of these
+abbrev pub FitsIn : ℕ → List StandingLine → ℕ → NewLine → Type 0
+FitsIn w on count n = (n.at < count) × IsNew w n.at (get_or (heights on) n.at 0) (string_bytes n.text) n
+
+abbrev pub AreFitting : ℕ → List StandingLine → ℕ → List NewLine → Type 0
+AreFitting w on count new = AllByRecursion (FitsIn w on count) new
+
+-- texts with those of new lines in their places
+abbrev pub renewed : List (List ℕ) → List NewLine → List (List ℕ)
+renewed ts [] = ts
+renewed ts (n ∷ new) = set (renewed ts new) n.at (string_bytes n.text)
+
+-- a line in the place of another, with as many rows; the same, where it stays
+pub record IsInPlace (w : ℕ) (o l : StandingLine) : Type 0 where
+  pub rows_are : l.rows ≡ o.rows
+  pub line : IsLine w l
+  pub same : IsTrue l.stays → string_bytes l.text ≡ string_bytes o.text
+
+-- lines in the place of others
+abbrev pub AreInPlace : ℕ → List StandingLine → List StandingLine → Type 0
+AreInPlace w [] [] = Unit {0}
+AreInPlace w (o ∷ on) (l ∷ ls) = IsInPlace w o l × AreInPlace w on ls
+AreInPlace w _ _ = ⊥
+
+-- what is remembered, with new lines in their places
+pub record Renews (r : Remembered) (new : List NewLine) (r' : Remembered) : Type 0 where
+  pub width_is : r'.width ≡ r.width
+  pub kept_are : r'.kept.items ≡ r.kept.items
+  pub texts_are : texts r'.lines.items ≡ renewed (texts r.lines.items) new
+  pub in_place : AreInPlace r.width r.lines.items r'.lines.items
+
+-- ---- a frame beside the lines that stand
+
+-- lines of these bytes are the first of those that stand, with new ones in their places, and a plan has them all
+pub record AreCompared (w : ℕ) (on : List StandingLine) (new : List NewLine) (before : List (List ℕ)) (p : Plan) : Type 0 where
+  pub lines_in : p.lines ≤ length on
+  pub fit : AreFitting w on p.lines new
+  pub texts_are : take p.lines (renewed (texts on) new) ≡ before
+  pub passes_none : p.passing ≡ 0
+
+-- rows stand below no blank ones, with the cursor on the last of them, on a terminal of w columns and h rows, and no kept row has
+-- scrolled away
+pub record IsSettled (w h : ℕ) (c : Counts) (r : Remembered) : Type 0 where
+  pub same_width : r.width ≡ w
+  pub narrow : w ≤ 65535
+  pub no_blanks : c.blanks ≡ 0
+  pub none_passed : c.passed ≡ 0
+  pub on_row : c.below ≡ false
+  pub some : 0 < c.live
+  pub low : (c.kept ≡ 0) ⊎ (c.reached ≤ h)
+
+-- a frame is as narrow as the terminal, has the rows that stand, of the same bars, and the lines that stand, with new ones in their places
+pub record IsRenewed (w h : ℕ) (frame : List Segment) (c : Counts) (r : Remembered) (new : List NewLine) : Type 0 where
+  pub narrow : IsFalse (some_wide w (all_lines (map bar_lines frame)))
+  pub settled : IsSettled w h c r
+  pub fit : AreFitting w r.lines.items (length r.lines.items) new
+  pub texts_are : renewed (texts r.lines.items) new ≡ frame_lines frame
+  pub plan : Plan
+  pub plan_is : IsPlan w h 0 (map bar_lines frame) plan
+  pub all_lines_are : plan.lines ≡ length (frame_lines frame)
+  pub segments_are : plan.segments.items ≡ c.segments.items
