@@ -1,4 +1,4 @@
-//! The program `bars run` over any reader and two writers: a board in memory, played by commands, one a line.
+//! The program `bars run` over any reader and two writers. It plays commands, one on a line, on a board in memory.
 //!
 //! - `arguments`: what the arguments ask for.
 //! - `cases`: worked cases of the definitions.

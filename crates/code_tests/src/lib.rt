@@ -1,8 +1,9 @@
-//! Tests that need code: trackers, closures and terminals of their own, options of holes, what a call hands out, sums of workers,
-//! histories, and memory that is refused. All others are rows of data (crate `rows`). Expected values come from outside.
+//! Tests that need code. They have trackers, closures and terminals of their own, formatters with options in their `{}`, references that
+//! calls return, sums of workers, histories, and memory that is refused. All other tests are rows of data (crate `rows`). Expected values
+//! come from outside.
 //!
-//! - `named`: each command of a bar by its name, beside the same as a value.
-//! - `values`: what bars and targets hand out, and closures that are handed to them.
+//! - `named`: each command of a bar as a call, compared with the same command as a value.
+//! - `values`: what bars and targets return, and closures that they take.
 //! - `faults`, `writers`: a terminal of which each call fails once, and a writer that fails at each byte; boxed terminals, buffers, want
 //!   of memory. `failing_term`: that terminal. `shown`: a bar on a terminal.
 //! - `histories`: boards that keep their history. `sums`: workers that add to one sum.

@@ -1,5 +1,5 @@
-//! Tests over crate `indicatif` that are code, with values from outside: threads, closures, and types of the tests' own. What is a mere
-//! list of calls stands as rows in `front_rows`.
+//! Tests of crate `indicatif` that need code: threads, closures, and types of their own. Expected values come from outside. A test that is
+//! only a list of calls is a row of `front_rows`.
 //!
 //! - `fronts`: bars and boards for tests, whose calls have no clauses. `kept`: what a board has kept.
 //! - `shown`: a terminal that others see. `owners`: what the last owner of a bar leaves there. `watched`: boards there, while a closure
@@ -14,8 +14,8 @@
 //! - `counted`: threads that count for a bar.
 //! - `ticking`: a bar's ticker, looked at from outside. `intervals`: how often it ticks. `keyed`: shared bars with a key of the tests' own.
 //!   `odd_keys`: keys that write what no line holds.
-//! - `lists`, `own_bars`, `pieces`: lists, block by block, lists with a bar of their own, and pieces in threads of their own; with the
-//!   bar `stepped` and the `gates`.
+//! - `lists`: lists, block by block. `own_bars`: lists with a bar of their own. `pieces`: pieces in threads of their own. They use the bar of
+//!   `stepped`, and `gates`.
 #![tactic(auto)]
 
 #[cfg(test)]

@@ -1,6 +1,6 @@
-//! Progress bars for the terminal: the Rust crate `indicatif` 0.18.6 in Rattle, with its names and its templates. For a bar or a board
-//! without a lock, a theorem says what is on the screen after any list of calls (docs/THEOREM.md). For bars and boards that threads
-//! share, it is proved which answers come. docs/PROVED.md says for each call what is proved and what is tested.
+//! Progress bars for the terminal: a port of the Rust crate `indicatif` 0.18.6 to Rattle, with its names and its templates. For a bar or a
+//! board without a lock, a theorem says what is on the screen after any list of calls (docs/THEOREM.md). For a bar or a board that threads
+//! share, it is proved which answers its calls may give. docs/PROVED.md says for each call what is proved and what is tested.
 //!
 //! # What is here
 //!
@@ -11,8 +11,8 @@
 //! - Looks: `ProgressStyle` from a template, `style::ProgressTracker` for keys of your own, `ProgressFinish` for a bar's end.
 //! - Wrappers: `ProgressBar::wrap_iter`, `wrap_read`, `wrap_write` and the polled ones move a bar. `ProgressIterator` also makes the bar.
 //!   `ParallelProgressIterator` is for slices, and `run_workers` for pieces in threads. Your own type of bar has to implement `Moves`.
-//! - Targets: `machine::on_stderr` and `machine::on_stdout`, `machine::sized_target` where another size is told; `ProgressDrawTarget` over a
-//!   `Term` behind any writer, over an `InMemoryTerm` in tests, or over your own `TermLike`.
+//! - Targets, where a bar draws: `machine::on_stderr` and `machine::on_stdout`; `machine::sized_target` for another size. You can also make
+//!   a `ProgressDrawTarget` over a `Term` behind any writer, over an `InMemoryTerm` in tests, or over your own `TermLike`.
 //! - Numbers as texts: `HumanBytes`, `DecimalBytes`, `BinaryBytes`, `HumanDuration`, `FormattedDuration`, `HumanCount`, `HumanFloatCount`.
 //! - Logs: `bridge::LogBridge`, a sink of the crate `log` that writes above the bars.
 //! - `laws`: what follows from the definitions, each as a function whose contract is the law.
@@ -27,22 +27,23 @@
 //! bar.finish()?;
 //! ```
 //!
-//! shows in the end, on 30 columns,
+//! On 30 columns this shows in the end:
 //!
 //! ```text
 //! ██████████████████████████ 3/3
 //! ```
 //!
-//! `rt` is the runtime that `main` is given, `rt.alloc()` its allocator. The setup is a target and a clock: in a program
-//! `machine::on_stderr(&rt)?`, which is hidden where standard error is no terminal.
+//! `rt` is the runtime that `main` is given, `rt.alloc()` its allocator. `setup` is a target with a clock. A program takes
+//! `machine::on_stderr(&rt)?`, whose target is hidden if standard error is no terminal.
 //!
 //! - **When a bar draws.** `new` draws nothing. `inc`, `set_position`, `tick`, `set_length`, `set_message` and `set_prefix` ask for a draw.
-//!   A target with a rate makes 20 of these draws at once, and then one each 50 ms. `finish`, `abandon`, `println`, `suspend` and
-//!   `force_draw` draw whatever the rate says. `set_style` and the builders `with_..` ask for no draw.
-//! - **What a call returns.** `Ok(Drawn::Yes)` means that it drew. `Limited` means that it asked for no draw, or that the rate allowed none.
-//!   `Hidden` means that the target is hidden. Otherwise the call returns a `Refusal`: docs/USING.md lists them, with the state after each.
-//! - **How a bar ends.** `finish` leaves it at its length, `abandon` where it is, and `finish_and_clear` takes it away. When the last owner is
-//!   gone, the stored finish ends the bar (`with_finish`). The default is `AndClear`.
+//!   The target of `on_stderr` makes at most 20 of these draws at once, and one more each 50 ms. `finish`, `abandon`, `println`, `suspend`
+//!   and `force_draw` draw whatever the rate says. `set_style` and the builders `with_..` ask for no draw.
+//! - **What a call returns.** `Ok(Drawn::Yes)` means that it drew. `Limited` means that it asked for no draw, or that the rate allowed
+//!   none. `Hidden` means that the target is hidden. Otherwise the call returns a `Refusal`: docs/USING.md lists them, with the state after
+//!   each.
+//! - **How a bar ends.** `finish` leaves it at its length, `abandon` where it is, and `finish_and_clear` takes it away. When the last owner
+//!   is gone, the stored finish ends the bar (`with_finish`). The default is `AndClear`.
 //! - **Spinners.** `new_spinner` makes a bar without a length. `enable_steady_tick(100_000_000)` ticks it ten times a second: times are
 //!   nanoseconds.
 //!
@@ -62,7 +63,7 @@
 //!
 //! A key is in braces. After a colon come the alignment `<`, `^` or `>`, a width, `!` to cut a longer text, and after a dot the style:
 //! `{msg:>20!.green}`. docs/TEMPLATES.md has all keys, each with what it shows. Colours are off until `with_colors(true)`.
-//! `machine::style_on_stderr` turns them on where they are wanted.
+//! `machine::style_on_stderr` turns them on if standard error is a terminal that wants them.
 //!
 //! # Keys of your own
 //!
@@ -100,14 +101,14 @@
 //! ```
 //!
 //! `told_text` states which text `tell` returns, and the prover checks that. If they differ, the crate isn't proved. `told_text` is a
-//! function of the teller, of the bar's record `p` and of the moment. `p` has `position`, `len`, `start`, `ticks`, `message`, `prefix`
-//! and more (`crates/indicatif_bar/specs/Progress.antt`). Operators and functions of such statements come by `ghost use`, where `◌` stands
-//! for an operand. Numbers are unbounded, and `-` stops at 0, as `saturating_sub` does. `decimal n` is a number's digits, `codes "left"` a
-//! text, and `++` joins two texts: `crates/examples/src/key.rt` writes `12 left` this way.
+//! function of the value (here a `Left`), of the bar's record `p` and of the moment. `p` has `position`, `len`, `start`, `ticks`,
+//! `message`, `prefix` and more (`crates/indicatif_bar/specs/Progress.antt`). Name the operators and functions of such a statement in a
+//! `ghost use`, where `◌` stands for an operand. Numbers are unbounded, and `-` stops at 0, as `saturating_sub` does. `decimal n` is a
+//! number's digits, `codes "left"` a text, and `++` joins two texts: `crates/examples/src/key.rt` writes `12 left` this way.
 //!
-//! If your type changes when the bar ticks, implement `style::ProgressTracker`. All keys of a style have one type: for several, use an enum.
-//! `MultiProgress::keyed` makes a board for bars with such keys: make each bar by `new_bar(len)?.with_style(style)?`. A function for bars
-//! with any keys is generic over `K: style::Tracks`.
+//! If your type changes when the bar ticks, implement `style::ProgressTracker`. All keys of a style have one type: for several, use an
+//! enum. `MultiProgress::keyed` makes a board for bars with such keys: make each bar by `new_bar(len)?.with_style(style)?`. A function for
+//! bars with any keys is generic over `K: style::Tracks`.
 //!
 //! # Several bars
 //!
@@ -220,8 +221,8 @@
 //! ██████████████████████████ 3/3
 //! ```
 //!
-//! **Printing beside a bar.** `println!(rt; ..)` writes where the last draw left the cursor, and the next draw erases rows that it takes for
-//! its own. Better:
+//! **Printing beside a bar.** `println!(rt; ..)` writes where the last draw left the cursor, and the next draw erases rows that it takes
+//! for its own. Better:
 //!
 //! ```
 //! bar.println("a.txt")?; // above the bar, which goes on below it
@@ -232,8 +233,8 @@
 //! ████████░░░░░░░░░░░░░░░░░░ 1/3
 //! ```
 //!
-//! On a hidden target `println` writes nothing: if `is_hidden` says so, print the line yourself. For other output there is `suspend`,
-//! which takes the rows back, calls a closure and draws again.
+//! On a hidden target `println` writes nothing: if `is_hidden()` returns true, print the line yourself. For other output there is
+//! `suspend`, which takes the rows back, calls a closure and draws again.
 //!
 //! **A call inside a closure.** `suspend`, `update` and `with_term` hold the lock while the closure runs. In it, a call of the same bar or
 //! of its board waits for ever.

@@ -1,8 +1,8 @@
 //! Several bars on one terminal, in an order, with text above them. Also a sum that many threads add to.
 //!
 //! - A board: `multi::Board`. `multi::BarId` names a bar, `multi::Candidate` is a bar to insert, and `multi::InsertLocation` says where.
-//!   `multi::Call` is a call as a value, and `multi::Answer` its answer. `Board::run` makes a list of calls: the headline theorem is about
-//!   such runs.
+//!   `multi::Call` is a call as a value, and `multi::Answer` its answer. `Board::run` makes a list of calls: the main theorem is about such
+//!   runs (docs/THEOREM.md).
 //! - A board with its history: `multi::Recorded`, whose entries a new board can make again.
 //! - The order alone: `multi::MultiState`.
 //! - Logs: `bridge::emit` writes a line with its level above the bars, `bridge::bridge_line` makes that line.

@@ -1,5 +1,5 @@
-//! Text as a terminal sees it, and numbers as people read them. It draws nothing and asks the machine for nothing, so any program can
-//! use it.
+//! Texts measured in the columns of a terminal, and numbers as people read them. The crate draws nothing and asks the machine for nothing,
+//! so any program can use it.
 //!
 //! - How wide is a text? `columns::columns` and `columns::width` count columns by Unicode's East Asian Width. `columns::wrapped` says how
 //!   many rows a line takes. `columns::pieces` splits a text at its colour sequences, and `columns::write_ansi_range` cuts it by columns.
@@ -7,8 +7,8 @@
 //!   `HumanFloatCount` are printed by `{}`.
 //! - Colours: `columns::Style` reads `red.on_blue.bold` and writes the sequences.
 //! - Templates: `template::Template::parse` reads `{bar:20.green} {msg}` into its parts.
-//! - What the crates above share: `columns::Refusal` (why a call was refused) and `columns::Drawn` (whether a call drew);
-//!   `columns::Moment`, `columns::Clock` and `columns::StepClock` (time, which the caller gives).
+//! - What the crates above share: `columns::Refusal` says why a call was refused, and `columns::Drawn` whether it drew. The caller gives
+//!   the time, by `columns::Moment`, `columns::Clock` and `columns::StepClock`.
 //! - `laws`: what follows from the definitions, each as a function whose contract is the law. `cases`: worked cases.
 #![tactic(auto)]
 

@@ -6,7 +6,7 @@
 //! - `played`: scripts that are played and judged. `refused`: the same where memory is refused.
 //! - `on_board`, `on_bar`: a board and a lone bar that make these calls.
 //!
-//! What a program judges so is a test: nothing here is proved but that it is safe and ends.
+//! Such a judgement is a test. Nothing is proved here, except that the functions are safe and return.
 #![tactic(auto)]
 
 pub mod judge;

@@ -1,8 +1,8 @@
-//! What the pipe viewer `meter` is made of, apart from its options and its bar.
+//! The parts of the pipe viewer `meter`, except for its options and its bar.
 //!
 //! - `passing`: bytes handed on from a reader to a writer (`pass_on`, `Gauge`).
 //! - `plain`: a text that a terminal can't take for a command (`plain_text`).
-//! - `screen`: a terminal of which it isn't sure how wide it is (`Screen`).
+//! - `screen`: a terminal whose width isn't known for sure (`Screen`).
 //! - `recent`: how fast it went lately (`Recent`).
 //! - `pace`: how fast bytes may go (`Pace`).
 //! - `said`: numbers that options say, and texts that are shown.

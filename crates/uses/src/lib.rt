@@ -1,4 +1,4 @@
-//! Small callers of the libraries, each proved from their public contracts alone: that these say enough.
+//! Small callers of the libraries. Each is proved from the public contracts alone, which shows that these say enough.
 //!
 //! - `answers`: exact answers of a bar or a board that was lent.
 //! - `texts`: a line's rows, and an amount as text.
