@@ -14,8 +14,8 @@
 //! - `counted`: threads that count for a bar.
 //! - `ticking`: a bar's ticker, looked at from outside. `intervals`: how often it ticks. `keyed`: shared bars with a key of the tests' own.
 //!   `odd_keys`: keys that write what no line holds.
-//! - `lists`: lists, block by block. `own_bars`: lists with a bar of their own. `pieces`: pieces in threads of their own. They use the bar of
-//!   `stepped`, and `gates`.
+//! - `lists`: lists, block by block. `own_bars`: lists with a bar of their own. `pieces`: pieces in threads of their own. They use the bar
+//!   of `stepped`, and `gates`.
 #![tactic(auto)]
 
 #[cfg(test)]
