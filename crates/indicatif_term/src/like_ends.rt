@@ -78,11 +78,11 @@ fn same_front(a: &str, b: &str, at: usize) -> bool
 {
     let (front, _) = a.split_at(at);
     let (other, _) = b.split_at(at);
-    are_same(front, other)
+    is_same_text(front, other)
 }
 
 /// Whether two texts are the same.
-fn are_same(a: &str, b: &str) -> bool
+fn is_same_text(a: &str, b: &str) -> bool
     ensures { IsTrue result → a.now ≡ b.now }
 {
     a == b

@@ -142,7 +142,7 @@ fn is_same_frame(
     if !compare_frame(made, spare, standing, frame, window) || made.plan.lines != standing.len() {
         return false;
     }
-    are_same(&made.plan.segments, &last.counts.segments)
+    are_same_counts(&made.plan.segments, &last.counts.segments)
 }
 
 /// Compares the lines of a frame with those that stand, as far as they have as many rows.
@@ -315,7 +315,7 @@ fn last_in(line: &StandingLine, text: &str, window: Window) -> Option<usize>
 }
 
 /// Whether counts are the same.
-fn are_same(a: &[RowCount], b: &[RowCount]) -> bool
+fn are_same_counts(a: &[RowCount], b: &[RowCount]) -> bool
     ensures { IsTrue result → a.now ≡ b.now }
 {
     if a.len() != b.len() {

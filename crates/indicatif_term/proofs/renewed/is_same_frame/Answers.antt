@@ -27,4 +27,4 @@ returns c = λ yes.
     renewed_frame c.args.window.columns c.args.window.rows c.args.frame.now c.args.last.counts.now made.plan c.args.last.shown.now made.changed.items c.requires.settled
     (c.compare_frame.ensures.narrow all) (c.compare_frame.ensures.laid all)
     (subst (λ xs. AreCompared c.args.window.columns xs made.changed.items (frame_lines c.args.frame.now) made.plan) standing (c.compare_frame.ensures.compared all))
-    (c.if-made-standing.false ∙ ap length standing) (sym c.deref.ensures.value ∙ c.are_same.ensures yes ∙ c.deref-2.ensures.value)
+    (c.if-made-standing.false ∙ ap length standing) (sym c.deref.ensures.value ∙ c.are_same_counts.ensures yes ∙ c.deref-2.ensures.value)
