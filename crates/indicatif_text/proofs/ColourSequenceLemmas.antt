@@ -101,8 +101,8 @@ found_none count cs some other is =
     let test : eqb (get_or cs count 0) 0x6D ≡ false = ne_eqb (get_or cs count 0) 0x6D other in
     ap (found count) first ∙ rw (test, is) refl
 
-pub found_cut : (count : ℕ) (cs : List ℕ) → count ≡ length cs → found count (drop count cs) ≡ 0
-found_cut count cs e = ap (found count) (drop_all count cs (omega (arith, e)))
+pub found_cut : (count : ℕ) (cs : List ℕ) → length cs ≤ count → found count (drop count cs) ≡ 0
+found_cut count cs past = ap (found count) (drop_all count cs past)
 
 -- ---- bytes of a text and its characters
 

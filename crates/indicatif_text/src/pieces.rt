@@ -138,7 +138,7 @@ fn colour_len(text: &str) -> usize
     'parameters: while count < bytes.len() && is_parameter_byte(bytes[count]) {
         count += 1;
     }
-    if count == bytes.len() || bytes[count] != b'm' {
+    if count >= bytes.len() || bytes[count] != b'm' {
         return 0;
     }
     count + 1
