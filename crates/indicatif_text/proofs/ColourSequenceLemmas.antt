@@ -1,15 +1,15 @@
 -- What stands at the front of a text: a colour sequence in bytes as in characters, and characters of as many columns that are passed at once.
 use Rattle.std.proofs.Common.{replicate, ◌*◌, ◌≡◌, ℕ, zero, suc, ◌+◌, ◌-◌, ◌<◌, ◌≤◌, Bool, true, false, List, [], ◌∷◌, ◌++◌, length, take, drop, refl, sym, ◌∙◌, ap, subst, arith, eqb, Option, Some, None, inl, inr, get_or, append-nil, ◌⊎◌, take-append-drop, length-append, append_assoc, if◌then◌else◌, ◌&&◌}
-use Rattle.std.specs.Prelude.{◌==◌, unwrap_or, option_map, chars, MatchOption, is_some}
+use Rattle.std.specs.Prelude.{◌==◌, unwrap_or, option_map, chars, is_some}
 use Rattle.std.specs.Str.{IsUtf8, IsAscii, IsCharBoundary}
 use Rattle.std.proofs.Math.Utf8.{encode, encodes}
 use Rattle.std.proofs.Math.Seq.{drop-append-add, drop-append_seam, take-append_seam}
-use Rattle.std.proofs.lemmas.Str.{inside_one, length-encode, len_utf8_bounds, encodes-chars, chars_past_char, chars-nil, chars-append, chars-IsAscii, IsUtf8-from_ascii, IsUtf8-past_char, encode_ascii, IsCharBoundary-at_seam}
-use Rattle.std.proofs.lemmas.List.{nil_from_length, length-take-le, drop_all, length-replicate, take-append-le}
+use Rattle.std.proofs.lemmas.Str.{inside_one, length-encode, len_utf8_bounds, encodes-chars, chars_past_char, chars-append, chars-IsAscii, IsUtf8-from_ascii, IsUtf8-past_char, encode_ascii, IsCharBoundary-at_seam}
+use Rattle.std.proofs.lemmas.List.{length-take-le, drop_all, length-replicate, take-append-le}
 use Rattle.std.proofs.lemmas.Bool.{cond_both, cases_lt, ne_eqb}
 use Rattle.std.proofs.lemmas.Bool.Decides.{nat_tests}
 use Rattle.std.specs.Prelude.{All}
-use Rattle.std.proofs.lemmas.List.Elements.{All-append, All-replicate, All-nil, All-cons, All-head, All-tail, All-weaker}
+use Rattle.std.proofs.lemmas.List.Elements.{All-replicate, All-nil, All-cons, All-head, All-tail, All-weaker}
 use Rattle.std.proofs.lemmas.Str.Ascii.{IsAscii-from_all}
 use Rattle.indicatif_text.specs.Inside.Runs.{IsPrintable, HasWidth, PassesRun, times_then}
 use Rattle.indicatif_text.proofs.WidthLemmas.{plain_width}

@@ -1,5 +1,5 @@
 -- That a text takes at most twice as many columns as bytes, and a run of characters of as many columns each the product of these numbers.
-use Rattle.std.proofs.Common.{◌≡◌, ◌++◌, ◌+◌, ℕ, zero, suc, ◌-◌, ◌*◌, ◌<◌, ◌≤◌, false, List, [], ◌∷◌, length, refl, ◌∙◌, ap, arith, rules, inl, inr, length-append}
+use Rattle.std.proofs.Common.{◌≡◌, ◌++◌, ◌+◌, ℕ, zero, suc, ◌-◌, ◌*◌, ◌<◌, ◌≤◌, false, List, [], ◌∷◌, length, ◌∙◌, ap, arith, rules, inl, inr, length-append}
 use Rattle.std.proofs.lemmas.List.Elements.{All-head, All-tail}
 use Rattle.indicatif_text.specs.Inside.Runs.{IsPrintable, HasWidth, PassesRun}
 use Rattle.std.specs.Prelude.{All, chars, sum_by, nat_lt, unwrap_or, is_some}

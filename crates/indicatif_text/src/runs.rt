@@ -38,7 +38,7 @@ impl<'a> Runs<'a> {
         Runs { rest: text }
     }
 
-    /// Takes a run off the front: printable ASCII, or a character as often as it comes again.
+    /// Takes a run off the front: printable ASCII, or another character; one of three bytes as often as it comes again.
     #[inline(always)]
     pub(crate) fn next_run(&mut self, last: &mut LastWidth) -> Option<Run>
         ensures { MatchOption result (self.old ≡ [])

@@ -1,4 +1,4 @@
-use Rattle.std.proofs.Common.{◌<◌, ◌^◌, arith, rules, length, chars}
+use Rattle.std.proofs.Common.{◌<◌, ◌^◌, arith, rules, length}
 use Rattle.indicatif_text.proofs.WidthLemmas.{columns_le, columns_pass}
 use Rattle.indicatif_text.proofs.columns.columns.Goals as goal
 

@@ -1,4 +1,4 @@
-use Rattle.std.proofs.Common.{◌≡◌, ◌+◌, ◌*◌, ◌∙◌, drop, sym, ap, subst, arith, chars}
+use Rattle.std.proofs.Common.{◌+◌, ◌∙◌, sym, ap, subst, arith, chars}
 use Rattle.std.specs.Str.{IsUtf8}
 use Rattle.indicatif_text.specs.Columns.{visible, width_of}
 use Rattle.indicatif_text.specs.Inside.Runs.{PassesRun}

@@ -1,4 +1,4 @@
-use Rattle.std.proofs.Common.{arith, ◌≡◌, ◌+◌, ◌-◌, ◌∙◌, ap, sym, subst, take, drop, length}
+use Rattle.std.proofs.Common.{arith, ◌≡◌, ◌+◌, ◌-◌, ◌∙◌, ap, subst, take, drop}
 use Rattle.std.proofs.lemmas.List.{drop-drop, length-drop}
 use Rattle.indicatif_text.specs.Inside.Runs.{times_then}
 use Rattle.indicatif_text.proofs.ColourSequenceLemmas.{seventeen}
