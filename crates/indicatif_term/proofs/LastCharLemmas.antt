@@ -13,7 +13,7 @@ use Rattle.std.proofs.lemmas.Bool.Decides.{nat_tests}
 use Rattle.std.proofs.lemmas.Str.{encode_ascii, encodes-chars, chars-append, chars-IsAscii, IsUtf8-take, IsCharBoundary-before_ascii}
 use Rattle.unicode_width.specs.Width.{char_width}
 use Rattle.indicatif_text.specs.Columns.{Cell, Blank, Written, Continued, Glyph, width_of, glyph_width, glyph_cells, columns_in, visible, glyphs_of, colour_length, pieces_after, pieces_of, row_of, rows_of, is_plain, has_wide, last_columns, columns_of_last}
-use Rattle.indicatif_text.specs.Inside.Pieces.{IsPrintable}
+use Rattle.indicatif_text.specs.Inside.Runs.{IsPrintable}
 use Rattle.indicatif_text.proofs.WidthLemmas.{plain_width}
 use Rattle.indicatif_text.proofs.PieceLawLemmas.{visible_past}
 use Rattle.indicatif_text.proofs.WrappingLemmas.{pieces_some, last_more}

@@ -8,7 +8,7 @@ use Rattle.std.proofs.lemmas.Str.{chars-append, chars-nil, chars-IsAscii, IsUtf8
 use Rattle.std.proofs.Math.Seq.{drop-cons}
 use Rattle.std.proofs.lemmas.Str.Ascii.{IsAscii-from_all}
 use Rattle.indicatif_text.specs.Columns.{width_of, visible, rows_of, last_columns, has_wide}
-use Rattle.indicatif_text.specs.Inside.Pieces.{IsNarrow, PassesNarrow}
+use Rattle.indicatif_text.specs.Inside.Runs.{HasWidth, PassesRun}
 use Rattle.indicatif_text.proofs.WrappingLemmas.{heights, lasts, some_wider, MeasuredTo, reads_whole}
 use Rattle.indicatif_text.proofs.SeamLemmas.{visible_apart}
 use Rattle.indicatif_text.proofs.ColourSequenceLemmas.{passes_printable, visible_none}
@@ -45,17 +45,17 @@ like_wider w (x ∷ xs) (y ∷ ys) e =
 
 -- ---- printable ASCII
 
-ones : (cs : List ℕ) → All IsNarrow cs → map width_of cs ≡ replicate (length cs) 1
+ones : (cs : List ℕ) → All (HasWidth 1) cs → map width_of cs ≡ replicate (length cs) 1
 ones [] n = refl
 ones (c ∷ cs) n =
-    let here : width_of c ≡ 1 = All-head IsNarrow c cs n in
-    ap (λ x. x ∷ map width_of cs) here ∙ ap (λ xs. 1 ∷ xs) (ones cs (All-tail IsNarrow c cs n))
+    let here : width_of c ≡ 1 = All-head (HasWidth 1) c cs n in
+    ap (λ x. x ∷ map width_of cs) here ∙ ap (λ xs. 1 ∷ xs) (ones cs (All-tail (HasWidth 1) c cs n))
 
 module _ (text : List ℕ) (plain : All IsPrintable text) where
   none_left : drop (length text) text ≡ []
   none_left = nil_from_length (drop (length text) text) (length-drop (length text) text ∙ omega arith)
 
-  passed : PassesNarrow (visible (chars text)) (length text) (visible (chars (drop (length text) text)))
+  passed : PassesRun 1 (visible (chars text)) (length text) (visible (chars (drop (length text) text)))
   passed = passes_printable text (length text) (subst IsUtf8 (sym none_left) IsUtf8-nil) (omega arith) (subst (All IsPrintable) (sym (take_all (length text) text (omega arith))) plain)
 
   plain_widths : map width_of (visible (chars text)) ≡ replicate (length text) 1
@@ -63,7 +63,7 @@ module _ (text : List ℕ) (plain : All IsPrintable text) where
       let p = passed in
       let rest : visible (chars (drop (length text) text)) ≡ [] = ap (λ x. visible (chars x)) none_left ∙ ap visible chars-nil ∙ visible_none in
       let whole : visible (chars text) ≡ p.run = p.whole ∙ ap (λ x. p.run ++ x) rest ∙ append-nil p.run in
-      ap (map width_of) whole ∙ ones p.run p.narrow ∙ ap (λ n. replicate n 1) p.many
+      ap (map width_of) whole ∙ ones p.run p.takes ∙ ap (λ n. replicate n 1) p.many
 
   plain_ascii : chars text ≡ text
   plain_ascii = chars-IsAscii text (IsAscii-from_all text (All-weaker IsPrintable (λ b. b < 128) (λ b h. omega (arith, h.1)) text plain))

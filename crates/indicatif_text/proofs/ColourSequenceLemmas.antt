@@ -1,20 +1,19 @@
--- What stands at the front of a text: a colour sequence in bytes as in characters, and characters of one column that are passed at once.
+-- What stands at the front of a text: a colour sequence in bytes as in characters, and characters of as many columns that are passed at once.
 use Rattle.std.proofs.Common.{replicate, ◌*◌, ◌≡◌, ℕ, zero, suc, ◌+◌, ◌-◌, ◌<◌, ◌≤◌, Bool, true, false, List, [], ◌∷◌, ◌++◌, length, take, drop, refl, sym, ◌∙◌, ap, subst, arith, eqb, Option, Some, None, inl, inr, get_or, append-nil, ◌⊎◌, take-append-drop, length-append, append_assoc, if◌then◌else◌, ◌&&◌}
-use Rattle.std.specs.Prelude.{◌==◌, unwrap_or, option_map, chars, MatchOption, is_some}
+use Rattle.std.specs.Prelude.{◌==◌, unwrap_or, option_map, chars, is_some}
 use Rattle.std.specs.Str.{IsUtf8, IsAscii, IsCharBoundary}
 use Rattle.std.proofs.Math.Utf8.{encode, encodes}
 use Rattle.std.proofs.Math.Seq.{drop-append-add, drop-append_seam, take-append_seam}
-use Rattle.std.proofs.lemmas.Str.{inside_one, length-encode, len_utf8_bounds, encodes-chars, chars_past_char, chars-nil, chars-append, chars-IsAscii, IsUtf8-from_ascii, IsUtf8-past_char, encode_ascii, IsCharBoundary-at_seam}
-use Rattle.std.proofs.lemmas.List.{nil_from_length, length-take-le, drop_all, length-replicate, take-append-le}
+use Rattle.std.proofs.lemmas.Str.{inside_one, length-encode, len_utf8_bounds, encodes-chars, chars_past_char, chars-append, chars-IsAscii, IsUtf8-from_ascii, IsUtf8-past_char, encode_ascii, IsCharBoundary-at_seam}
+use Rattle.std.proofs.lemmas.List.{length-take-le, drop_all, length-replicate, take-append-le}
 use Rattle.std.proofs.lemmas.Bool.{cond_both, cases_lt, ne_eqb}
 use Rattle.std.proofs.lemmas.Bool.Decides.{nat_tests}
-use Rattle.std.specs.Iterator.{YieldsFirst, YieldsFirstBy, MakesProgress, item_count}
 use Rattle.std.specs.Prelude.{All}
-use Rattle.std.proofs.lemmas.List.Elements.{All-append, All-replicate, All-nil, All-cons, All-head, All-tail, All-weaker}
+use Rattle.std.proofs.lemmas.List.Elements.{All-replicate, All-nil, All-cons, All-head, All-tail, All-weaker}
 use Rattle.std.proofs.lemmas.Str.Ascii.{IsAscii-from_all}
-use Rattle.indicatif_text.specs.Inside.Pieces.{IsPrintable, IsNarrow, PassesNarrow, times_then}
-use Rattle.indicatif_text.proofs.WidthLemmas.{plain_width, narrow_unescaped}
-use Rattle.indicatif_text.specs.Columns.{colour_length, parameters_length, is_parameter, visible, visible_from}
+use Rattle.indicatif_text.specs.Inside.Runs.{IsPrintable, HasWidth, PassesRun, times_then}
+use Rattle.indicatif_text.proofs.WidthLemmas.{plain_width}
+use Rattle.indicatif_text.specs.Columns.{colour_length, parameters_length, is_parameter, visible, visible_from, width_of}
 
 -- ---- a text that was read up to a place, with ASCII alone before it
 
@@ -102,8 +101,8 @@ found_none count cs some other is =
     let test : eqb (get_or cs count 0) 0x6D ≡ false = ne_eqb (get_or cs count 0) 0x6D other in
     ap (found count) first ∙ rw (test, is) refl
 
-pub found_cut : (count : ℕ) (cs : List ℕ) → count ≡ length cs → found count (drop count cs) ≡ 0
-found_cut count cs e = ap (found count) (drop_all count cs (omega (arith, e)))
+pub found_cut : (count : ℕ) (cs : List ℕ) → length cs ≤ count → found count (drop count cs) ≡ 0
+found_cut count cs past = ap (found count) (drop_all count cs past)
 
 -- ---- bytes of a text and its characters
 
@@ -236,49 +235,33 @@ pub visible_none : visible [] ≡ []
 unfolding visible
 visible_none = refl
 
--- the first visible character of a text that begins with no sequence
-pub visible_first : (bs rest : List ℕ) (o : Option ℕ) (A : Type 0) → IsUtf8 bs → colour_length (chars bs) ≡ None → MatchOption o A (λ c. bs ≡ encode c ++ rest) → (A → (length bs ≡ 0) × (rest ≡ bs))
-    → YieldsFirst (λ left. left) (visible (chars bs)) o (visible (chars rest))
-visible_first bs rest None A u front m empty =
-    let none : visible (chars bs) ≡ [] = ap (λ x. visible (chars x)) (nil_from_length bs (empty m).0) ∙ ap visible chars-nil ∙ visible_none in
-    (none, ap (λ x. visible (chars x)) (empty m).1 ∙ none)
-visible_first bs rest (Some c) A u front m empty =
-    let past = chars_past_char bs rest c u m in
-    ap visible past ∙ seen c (chars rest) (ap colour_length (sym past) ∙ front)
+-- ---- printable ASCII at the front of a text
 
--- ---- characters of one column at the front of a text
+plain_unescaped : (c : ℕ) → IsPrintable c → c ≡ 0x1B → ⊥
+plain_unescaped c plain e = omega (arith, plain.0, e)
 
-narrow_seen : (c : ℕ) (cs : List ℕ) → IsNarrow c → visible (c ∷ cs) ≡ c ∷ visible cs
-narrow_seen c cs narrow = seen c cs (no_escape_front c cs (ne_eqb c 0x1B (narrow_unescaped c narrow)))
+unescaped_seen : (c : ℕ) (cs : List ℕ) → (c ≡ 0x1B → ⊥) → visible (c ∷ cs) ≡ c ∷ visible cs
+unescaped_seen c cs other = seen c cs (no_escape_front c cs (ne_eqb c 0x1B other))
 
-visible_run : (run cs : List ℕ) → All IsNarrow run → visible (run ++ cs) ≡ run ++ visible cs
-visible_run [] cs narrow = refl
-visible_run (c ∷ run) cs narrow =
-    narrow_seen c (run ++ cs) (All-head IsNarrow c run narrow) ∙ ap (λ x. c ∷ x) (visible_run run cs (All-tail IsNarrow c run narrow))
-
-passes_run : (run before after : List ℕ) (count : ℕ) → before ≡ run ++ after → length run ≡ count → All IsNarrow run → PassesNarrow (visible before) count (visible after)
-passes_run run before after count whole many narrow = record { run = run; whole = ap visible whole ∙ visible_run run after narrow; many = many; narrow = narrow }
+visible_plain : (run cs : List ℕ) → All IsPrintable run → visible (run ++ cs) ≡ run ++ visible cs
+visible_plain [] cs plain = refl
+visible_plain (c ∷ run) cs plain =
+    unescaped_seen c (run ++ cs) (plain_unescaped c (All-head IsPrintable c run plain)) ∙ ap (λ x. c ∷ x) (visible_plain run cs (All-tail IsPrintable c run plain))
 
 printable_ascii : (bs : List ℕ) → All IsPrintable bs → IsAscii bs
 printable_ascii bs plain = IsAscii-from_all bs (All-weaker IsPrintable (λ b. b < 128) (λ b h. omega (arith, h.1)) bs plain)
 
--- printable ASCII
 pub passes_printable : (text : List ℕ) (count : ℕ) → IsUtf8 (drop count text) → count ≤ length text → All IsPrintable (take count text)
-    → PassesNarrow (visible (chars text)) count (visible (chars (drop count text)))
+    → PassesRun 1 (visible (chars text)) count (visible (chars (drop count text)))
 unfolding scanned_by
 passes_printable text count u fits plain =
     let s = scanned_by text count fits (printable_ascii (take count text) plain) u in
-    passes_run (take count text) (chars text) (chars (drop count text)) count (scanned_chars text (drop count text) count s) s.many
-    (All-weaker IsPrintable IsNarrow plain_width (take count text) plain)
-
--- two such runs
-pub passes_both : (a b c : List ℕ) (n m : ℕ) → PassesNarrow a n b → PassesNarrow b m c → PassesNarrow a (n + m) c
-passes_both a b c n m p q = record {
-  run = p.run ++ q.run;
-  whole = p.whole ∙ ap (λ x. p.run ++ x) q.whole ∙ sym (append_assoc p.run q.run c);
-  many = omega (arith, p.many, q.many, length-append p.run q.run);
-  narrow = All-append IsNarrow p.run q.run p.narrow q.narrow;
-}
+    record {
+      run = take count text;
+      whole = ap visible (scanned_chars text (drop count text) count s) ∙ visible_plain (take count text) (chars (drop count text)) plain;
+      many = s.many;
+      takes = All-weaker IsPrintable (HasWidth 1) plain_width (take count text) plain;
+    }
 
 -- ---- a character that is repeated
 
@@ -348,18 +331,20 @@ repeats_char (suc n) c bs rest u e =
     let more = repeats_char n c (times_then n (encode c) rest) rest (IsUtf8-past_char bs (times_then n (encode c) rest) c u e) refl in
     record { chars_are = chars_past_char bs (times_then n (encode c) rest) c u e ∙ ap (λ x. c ∷ x) more.chars_are; utf8 = more.utf8 }
 
-pub passes_repeats : (text : List ℕ) (c n : ℕ) → IsUtf8 text → text ≡ times_then n (encode c) (drop (3 * n) text) → IsNarrow c →
-    PassesNarrow (visible (chars text)) n (visible (chars (drop (3 * n) text)))
-passes_repeats text c n u e narrow =
-    let r = repeats_char n c text (drop (3 * n) text) u e in
-    passes_run (replicate n c) (chars text) (chars (drop (3 * n) text)) n r.chars_are (length-replicate n c) (All-replicate IsNarrow n c narrow)
+visible_times : (n c : ℕ) (cs : List ℕ) → (0 < n → c ≡ 0x1B → ⊥) → visible (replicate n c ++ cs) ≡ replicate n c ++ visible cs
+visible_times zero c cs other = refl
+visible_times (suc n) c cs other = unescaped_seen c (replicate n c ++ cs) (other (omega arith)) ∙ ap (λ x. c ∷ x) (visible_times n c cs (λ _. other (omega arith)))
 
--- what gives the first of a list of what is left makes progress
-pub goes_first : {A B : Type 0} (view : A → B) (can : List B → Type 0) → ((l : List B) → can l) → (s t : List B) (o : Option A) → YieldsFirstBy view (λ left. left) s o t
-    → MakesProgress can (item_count (λ left. left)) s o t
-goes_first view can always s t None e = record { on = λ _. tt; keeps = tt; rests = λ _. tt }
-goes_first view can always s t (Some x) e = record {
-  on = λ _. (always t, tt, subst (λ l. length t < length l) (sym e) (omega arith));
-  keeps = always t;
-  rests = λ _. tt;
-}
+-- a character that begins no colour sequence, and as often as it comes again
+pub passes_repeated : (text rest : List ℕ) (c n : ℕ) → chars text ≡ c ∷ chars rest → colour_length (chars text) ≡ None → IsUtf8 rest
+    → rest ≡ times_then n (encode c) (drop (3 * n) rest) → (0 < n → c ≡ 0x1B → ⊥)
+    → PassesRun (width_of c) (visible (chars text)) (1 + n) (visible (chars (drop (3 * n) rest)))
+passes_repeated text rest c n first front u e other =
+    let after = drop (3 * n) rest in
+    let r = repeats_char n c rest after u e in
+    record {
+      run = c ∷ replicate n c;
+      whole = ap visible first ∙ seen c (chars rest) (ap colour_length (sym first) ∙ front) ∙ ap (λ x. c ∷ x) (ap visible r.chars_are ∙ visible_times n c (chars after) other);
+      many = omega (arith, length-replicate n c);
+      takes = All-cons (HasWidth (width_of c)) c (replicate n c) refl (All-replicate (HasWidth (width_of c)) n c refl);
+    }

@@ -5,7 +5,7 @@ use Rattle.std.specs.Str.{IsCharBoundary, IsUtf8}
 use Rattle.std.proofs.lemmas.List.{get_or-take, length-take-le}
 use Rattle.std.proofs.lemmas.List.Elements.{All-get_or}
 use Rattle.std.proofs.lemmas.Str.{IsCharBoundary-start, IsCharBoundary-after_ascii}
-use Rattle.indicatif_text.specs.Inside.Pieces.{IsPrintable}
+use Rattle.indicatif_text.specs.Inside.Runs.{IsPrintable}
 
 low_at : (text : List ℕ) (n : ℕ) → n + 1 ≤ length text → All IsPrintable (take (n + 1) text) → get_or text n 0 < 128
 low_at text n fits all =
@@ -21,3 +21,6 @@ cut_behind text (suc n) utf8 fits all =
     let room : n + 1 ≤ length text = omega (arith, fits) in
     let within : n < length text = omega (arith, fits) in
     subst (IsCharBoundary text) (sym is) (IsCharBoundary-after_ascii text n utf8 within (low_at text n room (subst (λ m. All IsPrintable (take m text)) is all)))
+
+pub cut_first : (text : List ℕ) → IsUtf8 text → 0 < length text → IsPrintable (get_or text 0 0) → IsCharBoundary text 1
+cut_first text utf8 some printable = IsCharBoundary-after_ascii text 0 utf8 some (omega (arith, printable.1))

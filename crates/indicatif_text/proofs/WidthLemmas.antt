@@ -1,13 +1,14 @@
--- That a text takes at most twice as many columns as bytes, and as many columns as a run of narrow characters is long.
-use Rattle.std.proofs.Common.{◌≡◌, ◌++◌, ◌+◌, ℕ, zero, suc, ◌-◌, ◌*◌, ◌<◌, ◌≤◌, false, List, [], ◌∷◌, length, refl, ◌∙◌, ap, arith, rules, inl, inr, length-append}
+-- That a text takes at most twice as many columns as bytes, and a run of characters of as many columns each the product of these numbers.
+use Rattle.std.proofs.Common.{◌≡◌, ◌++◌, ◌+◌, ℕ, zero, suc, ◌-◌, ◌*◌, ◌<◌, ◌≤◌, false, List, [], ◌∷◌, length, ◌∙◌, ap, arith, rules, inl, inr, length-append}
 use Rattle.std.proofs.lemmas.List.Elements.{All-head, All-tail}
-use Rattle.indicatif_text.specs.Inside.Pieces.{IsPrintable, IsNarrow, PassesNarrow}
+use Rattle.indicatif_text.specs.Inside.Runs.{IsPrintable, HasWidth, PassesRun}
 use Rattle.std.specs.Prelude.{All, chars, sum_by, nat_lt, unwrap_or, is_some}
 use Rattle.std.specs.Str.{IsUtf8}
 use Rattle.std.specs.Char.{len_utf8}
 use Rattle.std.proofs.Math.Utf8.{encode, encodes}
 use Rattle.std.proofs.lemmas.Str.{encodes-chars, len_utf8_bounds, length-encode, length-le-encodes}
 use Rattle.std.proofs.lemmas.List.Sums.{sum_by-cons}
+use Rattle.std.proofs.Math.Nat.{mul-suc}
 use Rattle.std.proofs.lemmas.Bool.{cases_Bool, cond_both}
 use Rattle.std.proofs.lemmas.Bool.Decides.{nat_tests}
 use Rattle.unicode_width.specs.Width.{char_width}
@@ -62,23 +63,21 @@ pub plain_width : (c : ℕ) → IsPrintable c → width_of c ≡ 1
 unfolding char_width
 plain_width c (low, high) = grind (arith, nat_tests)
 
-escape_width : width_of 0x1B ≡ 0
-unfolding char_width
-escape_width = refl
+-- ---- runs
 
--- a character of one column is no ESC
-pub narrow_unescaped : (c : ℕ) → IsNarrow c → c ≡ 0x1B → ⊥
-narrow_unescaped c one e = let none : width_of c ≡ 0 = ap width_of e ∙ escape_width in omega (arith, one, none)
-
-pub columns_run : (run rest : List ℕ) → All IsNarrow run → sum_by width_of (run ++ rest) ≡ length run + sum_by width_of rest
-columns_run [] rest narrow = omega arith
-columns_run (c ∷ run) rest narrow =
+pub columns_run : (k : ℕ) (run rest : List ℕ) → All (HasWidth k) run → sum_by width_of (run ++ rest) ≡ k * length run + sum_by width_of rest
+columns_run k [] rest takes = omega arith
+columns_run k (c ∷ run) rest takes =
     omega (
       arith,
+      mul-suc k (length run),
       sum_by-cons width_of c (run ++ rest),
-      All-head IsNarrow c run narrow,
-      columns_run run rest (All-tail IsNarrow c run narrow),
+      All-head (HasWidth k) c run takes,
+      columns_run k run rest (All-tail (HasWidth k) c run takes),
     )
 
-pub columns_pass : (n columns : ℕ) (before after : List ℕ) → PassesNarrow before n after → columns + sum_by width_of before ≡ columns + n + sum_by width_of after
-columns_pass n columns before after p = omega (arith, p.many, columns_run p.run after p.narrow, ap (sum_by width_of) p.whole)
+pub columns_pass : (k n : ℕ) (before after : List ℕ) → PassesRun k before n after → sum_by width_of before ≡ k * n + sum_by width_of after
+columns_pass k n before after p = ap (sum_by width_of) p.whole ∙ columns_run k p.run after p.takes ∙ ap (λ m. k * m + sum_by width_of after) p.many
+
+pub pass_shorter : (k n : ℕ) (before after : List ℕ) → PassesRun k before n after → length before ≡ n + length after
+pass_shorter k n before after p = omega (arith, p.many, ap length p.whole, length-append p.run after)

@@ -1,4 +1,4 @@
--- That rows counted character by character, or by runs of narrow ones, are the rows of the line.
+-- That rows counted by runs of characters that take as many columns each are the rows of the line.
 use Rattle.std.proofs.Common.{◌≡◌, ℕ, zero, suc, ◌*◌, ◌+◌, ◌<◌, ◌≤◌, Bool, true, false, List, [], ◌∷◌, ◌++◌, ◌||◌, length, refl, sym, ◌∙◌, ap, subst, arith, eqb, length-append, inl, inr, if◌then◌else◌}
 use Rattle.std.specs.Prelude.{All, nat_le, nat_lt, take_while, ◌==◌, chars}
 use Rattle.std.specs.List.{list_any}
@@ -8,10 +8,9 @@ use Rattle.std.proofs.lemmas.Str.{chars_past_char, IsUtf8-past_char, chars-nil, 
 use Rattle.std.proofs.lemmas.List.{length-map, nil_from_length}
 use Rattle.std.proofs.lemmas.List.Sums.{sum_by_push}
 use Rattle.std.proofs.lemmas.Bool.{cases_Bool, eqb-true, cond_both, le-leb, lt-leb, ne_eqb, lt-ltb, le-ltb}
-use Rattle.std.proofs.Math.Nat.{mul-suc}
+use Rattle.std.proofs.Math.Nat.{mul-suc, mul-le-mul_left}
 use Rattle.std.proofs.lemmas.List.Elements.{All-head, All-tail}
-use Rattle.std.proofs.lemmas.Bool.{cases_lt}
-use Rattle.indicatif_text.specs.Inside.Pieces.{IsNarrow, PassesNarrow}
+use Rattle.indicatif_text.specs.Inside.Runs.{HasWidth, PassesRun, EndsAt, Here, Later}
 use Rattle.indicatif_text.specs.Columns.{Glyph, width_of, glyph_width, glyphs_of, columns_in, pieces_after, pieces_of, row_of, rows_of, visible, columns_of_last, last_columns, has_wide}
 
 -- ---- rows by columns
@@ -83,112 +82,109 @@ reads_whole w line =
     let p = pieces w [] (visible line) in
     record { rows_are = omega (arith, p.count, length-map (pieces_of w (glyphs_of (visible line))) (row_of w)); last_is = p.last; wide_is = refl }
 
-module _ (w height column : ℕ) (line : List ℕ) (c : ℕ) (rest : List ℕ) (r : MeasuredTo w height column line (c ∷ rest)) where
-  pub reads_narrow : column + width_of c ≤ w → MeasuredTo w height (column + width_of c) line rest
-  reads_narrow fits =
-      let same : nat_lt w (width_of c) ≡ false = le-ltb w (width_of c) (omega arith) in
-      let narrow : some_wider w (c ∷ rest) ≡ some_wider w rest = ap (λ b. b || some_wider w rest) same in
-      elim (cases_Bool (eqb (width_of c) 0)) [
-        | inl none ↦
-            let zero_wide : width_of c ≡ 0 = eqb-true (width_of c) 0 none in
-            let n : column ≡ column + width_of c = omega (arith, zero_wide) in
-            record {
-              rows_are = r.rows_are ∙ ap (λ k. height + k) (rw none (ap (λ k. heights w k rest) n));
-              last_is = r.last_is ∙ rw none (ap (λ k. lasts w k rest) n);
-              wide_is = r.wide_is ∙ narrow;
-            }
-        | inr some ↦
-            let test : nat_le (column + width_of c) w ≡ true = le-leb (column + width_of c) w fits in
-            record {
-              rows_are = r.rows_are ∙ ap (λ k. height + k) (rw (some, test) refl);
-              last_is = r.last_is ∙ rw (some, test) refl;
-              wide_is = r.wide_is ∙ narrow;
-            }
-      ]
-
-  pub reads_next_row : column ≤ w → width_of c ≤ w → w < column + width_of c → MeasuredTo w (height + 1) (width_of c) line rest
-  reads_next_row before fits over =
-      let some : eqb (width_of c) 0 ≡ false = ne_eqb (width_of c) 0 (λ e. omega (arith, e)) in
-      let test : nat_le (column + width_of c) w ≡ false = lt-leb (column + width_of c) w over in
-      let same : nat_lt w (width_of c) ≡ false = le-ltb w (width_of c) fits in
-      let more : heights w column (c ∷ rest) ≡ 1 + heights w (width_of c) rest = rw (some, test) refl in
-      record {
-        rows_are = omega (arith, r.rows_are, more);
-        last_is = r.last_is ∙ rw (some, test) refl;
-        wide_is = r.wide_is ∙ ap (λ b. b || some_wider w rest) same;
-      }
-
-  pub reads_wide : w < width_of c → has_wide w line ≡ true
-  reads_wide over = r.wide_is ∙ ap (λ b. b || some_wider w rest) (lt-ltb w (width_of c) over)
-
--- ---- printable ASCII, at once
+-- ---- a run, at once
 
 -- the same rows but for so many whole ones before
 record Ahead (w n rows m : ℕ) (before after : List ℕ) : Type 0 where
   taller : heights w n before ≡ rows + heights w m after
   same_last : lasts w n before ≡ lasts w m after
 
-one_more : (w n c : ℕ) (cs : List ℕ) → width_of c ≡ 1 → n + 1 ≤ w → Ahead w n 0 (n + 1) (c ∷ cs) cs
-one_more w n c cs one fits =
-    let some : eqb (width_of c) 0 ≡ false = ne_eqb (width_of c) 0 (λ e. omega (arith, e, one)) in
-    let test : nat_le (n + width_of c) w ≡ true = le-leb (n + width_of c) w (omega (arith, one)) in
-    let m : n + width_of c ≡ n + 1 = omega (arith, one) in
-    record {
-      taller = rw (some, test) (ap (λ k. heights w k cs) m ∙ omega arith);
-      same_last = rw (some, test) (ap (λ k. lasts w k cs) m);
-    }
+-- one character more in the row
+one_more : (w n k c : ℕ) (cs : List ℕ) → width_of c ≡ k → n + k ≤ w → Ahead w n 0 (n + k) (c ∷ cs) cs
+one_more w n k c cs takes fits = elim (cases_Bool (eqb (width_of c) 0)) [
+  | inl none ↦
+      let zero_wide : width_of c ≡ 0 = eqb-true (width_of c) 0 none in
+      let same : n ≡ n + k = omega (arith, zero_wide, takes) in
+      record { taller = rw none (ap (λ m. heights w m cs) same ∙ omega arith); same_last = rw none (ap (λ m. lasts w m cs) same) }
+  | inr some ↦
+      let test : nat_le (n + width_of c) w ≡ true = le-leb (n + width_of c) w (omega (arith, takes, fits)) in
+      let place : n + width_of c ≡ n + k = omega (arith, takes) in
+      record {
+        taller = rw (some, test) (ap (λ m. heights w m cs) place ∙ omega arith);
+        same_last = rw (some, test) (ap (λ m. lasts w m cs) place);
+      }
+]
 
-one_down : (w c : ℕ) (cs : List ℕ) → width_of c ≡ 1 → Ahead w w 1 1 (c ∷ cs) cs
-one_down w c cs one =
-    let some : eqb (width_of c) 0 ≡ false = ne_eqb (width_of c) 0 (λ e. omega (arith, e, one)) in
-    let test : nat_le (w + width_of c) w ≡ false = lt-leb (w + width_of c) w (omega (arith, one)) in
-    record { taller = rw (some, test) (ap (λ k. 1 + heights w k cs) one); same_last = rw (some, test) (ap (λ k. lasts w k cs) one) }
+-- one that begins the next row
+one_down : (w n k c : ℕ) (cs : List ℕ) → width_of c ≡ k → 0 < k → w < n + k → Ahead w n 1 k (c ∷ cs) cs
+one_down w n k c cs takes wide over =
+    let some : eqb (width_of c) 0 ≡ false = ne_eqb (width_of c) 0 (λ e. omega (arith, e, takes, wide)) in
+    let test : nat_le (n + width_of c) w ≡ false = lt-leb (n + width_of c) w (omega (arith, takes, over)) in
+    record { taller = rw (some, test) (ap (λ m. 1 + heights w m cs) takes); same_last = rw (some, test) (ap (λ m. lasts w m cs) takes) }
 
-ahead_both : (w n p m q k : ℕ) (before between after : List ℕ) → Ahead w n p m before between → Ahead w m q k between after → Ahead w n (p + q) k before after
-ahead_both w n p m q k before between after a b = record { taller = omega (arith, a.taller, b.taller); same_last = a.same_last ∙ b.same_last }
+ahead_both : (w n p m q r k : ℕ) (before between after : List ℕ) → p + q ≡ r → Ahead w n p m before between → Ahead w m q k between after → Ahead w n r k before after
+ahead_both w n p m q r k before between after e a b = record { taller = omega (arith, e, a.taller, b.taller); same_last = a.same_last ∙ b.same_last }
 
-run_ahead : (w n q r : ℕ) (run rest : List ℕ) → All IsNarrow run → n ≤ w → r ≤ w → (0 < q → 0 < r) → n + length run ≡ w * q + r → Ahead w n q r (run ++ rest) rest
-run_ahead w n zero r [] rest narrow low high turn e = let m : n ≡ r = omega (arith, e) in subst (λ k. Ahead w n 0 k rest rest) m (record { taller = omega arith; same_last = refl })
-run_ahead w n (suc q) r [] rest narrow low high turn e = absurd (omega (arith, e, mul-suc w q, turn (omega arith)))
-run_ahead w n q r (c ∷ run) rest narrow low high turn e =
-    let one = All-head IsNarrow c run narrow in
-    let tail = All-tail IsNarrow c run narrow in
-    elim (cases_lt n w) [
-      | inl room ↦
-          let same : 0 + q ≡ q = omega arith in
-          subst (λ k. Ahead w n k r (c ∷ run ++ rest) rest) same
-          (ahead_both w n 0 (n + 1) q r (c ∷ run ++ rest) (run ++ rest) rest (one_more w n c (run ++ rest) one (omega arith))
-          (run_ahead w (n + 1) q r run rest tail (omega arith) high turn (omega (arith, e))))
-      | inr full ↦
-          let at : w ≡ n = omega arith in
-          elim q as (λ k. (0 < k → 0 < r) → n + suc (length run) ≡ w * k + r → Ahead w n k r (c ∷ run ++ rest) rest) [
-            | zero ↦ λ turn e. absurd (omega (arith, e))
-            | suc k ↦ λ turn e.
-                let left : 1 + length run ≡ w * k + r = omega (arith, e, mul-suc w k) in
-                let more = run_ahead w 1 k r run rest tail (omega (arith, turn (omega arith))) high (λ _. turn (omega arith)) left in
-                let rows : 1 + k ≡ suc k = omega arith in
-                subst (λ m. Ahead w m (suc k) r (c ∷ run ++ rest) rest) at
-                (subst (λ m. Ahead w w m r (c ∷ run ++ rest) rest) rows (ahead_both w w 1 1 k r (c ∷ run ++ rest) (run ++ rest) rest (one_down w c (run ++ rest) one) more))
-          ] turn e
-    ]
+-- a run of any length, at any column, of characters of any columns that a row has
+run_ahead : (w n k q r : ℕ) (run rest : List ℕ) → All (HasWidth k) run → EndsAt w n k (length run) q r → Ahead w n q r (run ++ rest) rest
+run_ahead w n k q r [] rest takes (Here rows_is place_is fits) =
+    let place : n ≡ r = omega (arith, place_is) in
+    subst (λ m. Ahead w n q m rest rest) place (record { taller = omega (arith, rows_is); same_last = refl })
+run_ahead w n k q r [] rest takes (Later first each turns last room full row row_full some fits all rows_is place_is) = absurd (omega (arith, all, some))
+run_ahead w n k q r (c ∷ run) rest takes (Here rows_is place_is fits) =
+    let step : k * suc (length run) ≡ k + k * length run = omega (arith, mul-suc k (length run)) in
+    let here = one_more w n k c (run ++ rest) (All-head (HasWidth k) c run takes) (omega (arith, step, place_is, fits)) in
+    let more = run_ahead w (n + k) k q r run rest (All-tail (HasWidth k) c run takes) (Here rows_is (omega (arith, step, place_is)) fits) in
+    ahead_both w n 0 (n + k) q q r (c ∷ run ++ rest) (run ++ rest) rest (omega arith) here more
+run_ahead w n k q r (c ∷ run) rest takes (Later (suc first) each turns last room full row row_full some fits all rows_is place_is) =
+    let step : k * suc first ≡ k + k * first = omega (arith, mul-suc k first) in
+    let here = one_more w n k c (run ++ rest) (All-head (HasWidth k) c run takes) (omega (arith, step, room)) in
+    let more = run_ahead w (n + k) k q r run rest (All-tail (HasWidth k) c run takes)
+    (Later first each turns last (omega (arith, step, room)) (omega (arith, step, full)) row row_full some fits (omega (arith, all)) rows_is place_is) in
+    ahead_both w n 0 (n + k) q q r (c ∷ run ++ rest) (run ++ rest) rest (omega arith) here more
+run_ahead w n k q r (c ∷ run) rest takes (Later zero zero turns last room full row row_full some fits all rows_is place_is) = absurd (omega (arith, some, fits))
+run_ahead w n k q r (c ∷ run) rest takes (Later zero (suc each) zero last room full row row_full some fits all rows_is place_is) =
+    let down = one_down w n k c (run ++ rest) (All-head (HasWidth k) c run takes) (omega (arith, room, full)) (omega (arith, full)) in
+    let count : suc (length run) ≡ last = omega (arith, all) in
+    let place : k + k * length run ≡ r = omega (arith, mul-suc k (length run), ap (λ m. k * m) count, place_is) in
+    let within : r ≤ w = omega (arith, place_is, mul-le-mul_left k fits, row) in
+    let more = run_ahead w k k 0 r run rest (All-tail (HasWidth k) c run takes) (Here refl place within) in
+    ahead_both w n 1 k 0 q r (c ∷ run ++ rest) (run ++ rest) rest (omega (arith, rows_is)) down more
+run_ahead w n k q r (c ∷ run) rest takes (Later zero (suc each) (suc turns) last room full row row_full some fits all rows_is place_is) =
+    let down = one_down w n k c (run ++ rest) (All-head (HasWidth k) c run takes) (omega (arith, room, full)) (omega (arith, full)) in
+    let step : k * suc each ≡ k + k * each = omega (arith, mul-suc k each) in
+    let count : length run ≡ each + suc each * turns + last = omega (arith, all, mul-suc (suc each) turns) in
+    let more = run_ahead w k k (turns + 1) r run rest (All-tail (HasWidth k) c run takes)
+    (Later each (suc each) turns last (omega (arith, step, row)) (omega (arith, step, row_full)) row row_full some fits count refl place_is) in
+    ahead_both w n 1 k (turns + 1) q r (c ∷ run ++ rest) (run ++ rest) rest (omega (arith, rows_is)) down more
 
-none_wide : (w : ℕ) (run rest : List ℕ) → 0 < w → All IsNarrow run → some_wider w (run ++ rest) ≡ some_wider w rest
-none_wide w [] rest some narrow = refl
-none_wide w (c ∷ run) rest some narrow =
-    let one = All-head IsNarrow c run narrow in
-    let same : nat_lt w (width_of c) ≡ false = le-ltb w (width_of c) (omega (arith, one)) in
-    ap (λ b. b || some_wider w (run ++ rest)) same ∙ none_wide w run rest some (All-tail IsNarrow c run narrow)
+none_wider : (w k : ℕ) (run rest : List ℕ) → k ≤ w → All (HasWidth k) run → some_wider w (run ++ rest) ≡ some_wider w rest
+none_wider w k [] rest fits takes = refl
+none_wider w k (c ∷ run) rest fits takes =
+    let columns : width_of c ≡ k = All-head (HasWidth k) c run takes in
+    let same : nat_lt w (width_of c) ≡ false = le-ltb w (width_of c) (omega (arith, columns, fits)) in
+    ap (λ b. b || some_wider w (run ++ rest)) same ∙ none_wider w k run rest fits (All-tail (HasWidth k) c run takes)
 
-pub reads_pass : (w height column : ℕ) (line before after : List ℕ) (n q r : ℕ) → MeasuredTo w height column line before → PassesNarrow before n after → 0 < w → column ≤ w → r ≤ w
-    → (0 < q → 0 < r) → column + n ≡ w * q + r → MeasuredTo w (height + q) r line after
-reads_pass w height column line before after n q r reads p some low high turn e =
-    let place : column + length p.run ≡ w * q + r = omega (arith, e, p.many) in
-    let a = subst (λ cs. Ahead w column q r cs after) (sym p.whole) (run_ahead w column q r p.run after p.narrow low high turn place) in
-    record {
-      rows_are = omega (arith, reads.rows_are, a.taller);
-      last_is = reads.last_is ∙ a.same_last;
-      wide_is = reads.wide_is ∙ ap (some_wider w) p.whole ∙ none_wide w p.run after some p.narrow;
-    }
+one_wider : (w k : ℕ) (run rest : List ℕ) → w < k → 0 < length run → All (HasWidth k) run → some_wider w (run ++ rest) ≡ true
+one_wider w k [] rest over some takes = absurd (omega (arith, some))
+one_wider w k (c ∷ run) rest over some takes =
+    let columns : width_of c ≡ k = All-head (HasWidth k) c run takes in
+    let test : nat_lt w (width_of c) ≡ true = lt-ltb w (width_of c) (omega (arith, columns, over)) in
+    ap (λ b. b || some_wider w (run ++ rest)) test
+
+module _ (w height column k n : ℕ) (line before after : List ℕ) (reads : MeasuredTo w height column line before) (p : PassesRun k before n after) where
+  pub reads_run : (q r : ℕ) → k ≤ w → EndsAt w column k n q r → MeasuredTo w (height + q) r line after
+  reads_run q r fits ends =
+      let at = subst (λ m. EndsAt w column k m q r) (sym p.many) ends in
+      let a = subst (λ cs. Ahead w column q r cs after) (sym p.whole) (run_ahead w column k q r p.run after p.takes at) in
+      record {
+        rows_are = omega (arith, reads.rows_are, a.taller);
+        last_is = reads.last_is ∙ a.same_last;
+        wide_is = reads.wide_is ∙ ap (some_wider w) p.whole ∙ none_wider w k p.run after fits p.takes;
+      }
+
+  pub reads_wide : w < k → 0 < n → has_wide w line ≡ true
+  reads_wide over some = reads.wide_is ∙ ap (some_wider w) p.whole ∙ one_wider w k p.run after over (omega (arith, p.many, some)) p.takes
+
+-- a run ends within the row
+pub ends_within : (w column k count rows place : ℕ) → EndsAt w column k count rows place → place ≤ w
+ends_within w column k count rows place (Here rows_is place_is fits) = fits
+ends_within w column k count rows place (Later first each turns last room full row row_full some fits all rows_is place_is) = omega (arith, place_is, mul-le-mul_left k fits, row)
+
+-- a row has room for a character that is no wider
+pub has_room : (w k each : ℕ) → k ≤ w → w < k * each + k → 0 < each
+has_room w k zero fits full = absurd (omega (arith, fits, full))
+has_room w k (suc each) fits full = omega arith
 
 -- ---- the end of the line
 

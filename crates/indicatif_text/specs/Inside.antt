@@ -5,5 +5,6 @@ pub mod Growing
 pub mod Pieces
 pub mod Quotients
 pub mod Reading
+pub mod Runs
 pub mod Spans
 pub mod StyleWords

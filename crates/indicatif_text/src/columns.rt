@@ -2,12 +2,13 @@
 ghost use Rattle.std.specs.Prelude.{◌≡◌, ◌+◌, ◌*◌, ◌≤◌, ◌<◌, ◌⊎◌, ◌↔◌, chars, length, IsTrue, IfSome, IfOk, IfErr};
 ghost use Rattle.indicatif_text.specs.Columns.{width_of, columns_of, rows_of, last_columns, has_wide};
 ghost use Rattle.indicatif_text.specs.Pieces.{pieces_of_text};
+ghost use Rattle.indicatif_text.specs.Inside.Runs.{EndsAt};
 
 pub use crate::moment::{Clock, Moment, StepClock};
-use crate::pieces::Visible;
 pub use crate::pieces::{Piece, Pieces, is_parameter};
 pub use crate::range::write_ansi_range;
 pub use crate::refusal::{Drawn, Refusal, TemplateState};
+use crate::runs::{LastWidth, Run, Runs};
 pub use crate::style_words::Style;
 use unicode_width::UnicodeWidthChar;
 
@@ -51,12 +52,11 @@ pub fn pieces(text: &str) -> Pieces<'_>
 pub fn columns(text: &str) -> usize
     ensures { result ≡ columns_of (chars text.now) }
 {
-    let mut rest = Visible::of(text);
+    let mut rest = Runs::of(text);
     let mut last = LastWidth::new();
-    let mut columns: usize = rest.pass_narrow(last.narrow());
-    'rest: while let Some(c) = rest.next() {
-        columns += last.width(c);
-        columns += rest.pass_narrow(last.narrow());
+    let mut columns: usize = 0;
+    'rest: while let Some(run) = rest.next_run(&mut last) {
+        columns += run.columns * run.count;
     }
     columns
 }
@@ -115,28 +115,32 @@ fn measured(line: &str, width: usize) -> Option<Metrics>
     let mut height: usize = 1;
     let mut column: usize = 0;
     let mut last = LastWidth::new();
-    let mut rest = Visible::of(line);
-    'rest: loop {
-        let narrow = rest.pass_narrow(last.narrow());
-        let (rows, place) = RowSoFar { width, column }.after_narrow(narrow);
-        height += rows;
-        column = place;
-        let Some(c) = rest.next() else {
-            return Some(Metrics {
-                height,
-                last_line_width: column,
-            });
-        };
-        let columns = last.width(c);
-        if columns > width {
+    let mut rest = Runs::of(line);
+    'rest: while let Some(run) = rest.next_run(&mut last) {
+        if run.columns > width {
             return None;
         }
-        if columns > width - column {
-            height += 1;
-            column = columns;
-        } else {
-            column += columns;
-        }
+        let (rows, place) = RowSoFar { width, column }.after(run);
+        height += rows;
+        column = place;
+    }
+    Some(Metrics {
+        height,
+        last_line_width: column,
+    })
+}
+
+/// How many characters of so many columns a room has.
+#[inline(always)]
+fn fitting(room: usize, columns: usize) -> usize
+    requires { 0 < columns }
+    ensures fits { columns * result ≤ room }
+    ensures full { room < columns * result + columns }
+{
+    match columns {
+        1 => room,
+        2 => room / 2,
+        _ => room / columns,
     }
 }
 
@@ -148,57 +152,24 @@ struct RowSoFar {
 }
 
 impl RowSoFar {
-    /// How many rows further, and at which column, so many characters of one column end.
+    /// How many rows further, and at which column, a run ends.
     #[inline(always)]
-    fn after_narrow(self, count: usize) -> (usize, usize)
-        requires some { 0 < self.width }
+    fn after(self, run: Run) -> (usize, usize)
+        requires fits { run.columns ≤ self.width }
         requires within { self.column ≤ self.width }
-        ensures place { self.column + count ≡ self.width * result.0 + result.1 }
+        ensures ends { EndsAt self.width self.column run.columns run.count result.0 result.1 }
         ensures within { result.1 ≤ self.width }
-        ensures no_empty_row { 0 < result.0 → 0 < result.1 }
-        ensures few { result.0 ≤ count }
+        ensures few { result.0 ≤ run.count }
     {
-        let room = self.width - self.column;
-        if count <= room {
-            return (0, self.column + count);
+        if run.columns == 0 {
+            return (0, self.column);
         }
-        let over = count - room - 1;
-        (1 + over / self.width, over % self.width + 1)
-    }
-}
-
-/// A character and its columns, kept for when it comes again.
-#[derive(Drop)]
-struct LastWidth {
-    of: char,
-    columns: usize,
-    ghost known: { columns ≡ width_of of },
-}
-
-impl LastWidth {
-    fn new() -> LastWidth {
-        LastWidth {
-            of: ' ',
-            columns: width(' '),
+        let first = fitting(self.width - self.column, run.columns);
+        if run.count <= first {
+            return (0, self.column + run.columns * run.count);
         }
-    }
-
-    #[inline(always)]
-    fn width(&mut self, c: char) -> usize
-        ensures { result ≡ width_of c }
-    {
-        if c != self.of {
-            self.columns = width(c);
-            self.of = c;
-        }
-        self.columns
-    }
-
-    /// The character if it takes one column, or else another that does.
-    #[inline(always)]
-    fn narrow(&self) -> char
-        ensures { width_of result ≡ 1 }
-    {
-        if self.columns == 1 { self.of } else { ' ' }
+        let over = run.count - first - 1;
+        let each = fitting(self.width, run.columns);
+        (1 + over / each, run.columns * (over % each + 1))
     }
 }

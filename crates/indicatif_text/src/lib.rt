@@ -21,6 +21,7 @@ mod moment;
 mod pieces;
 mod range;
 mod refusal;
+mod runs;
 mod spans;
 mod style_words;
 pub mod template;

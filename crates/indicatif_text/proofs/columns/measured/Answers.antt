@@ -1,7 +1,7 @@
-use Rattle.std.proofs.Common.{◌+◌, length-append, ◌∙◌, sym, ap, subst, arith, chars, length}
+use Rattle.std.proofs.Common.{◌∙◌, refl, sym, subst, ap, arith, chars, length}
 use Rattle.std.proofs.lemmas.Bool.{false≢true}
-use Rattle.indicatif_text.proofs.WidthLemmas.{visible_few}
-use Rattle.indicatif_text.proofs.WrappingLemmas.{MeasuredTo, reads_whole, reads_pass, reads_narrow, reads_next_row, reads_end}
+use Rattle.indicatif_text.proofs.WidthLemmas.{visible_few, pass_shorter}
+use Rattle.indicatif_text.proofs.WrappingLemmas.{MeasuredTo, reads_whole, reads_run, reads_wide, reads_end}
 use Rattle.indicatif_text.proofs.columns.measured.Goals as goal
 
 pub rest-init : goal.rest-init
@@ -13,41 +13,23 @@ rest-init c =
       small = omega (arith, ap length at, visible_few c.args.line.now c.utf8.line);
     }
 
-pub returns-in_default : goal.returns-in_default
-returns-in_default c =
-    let e = c.after_narrow-rows.ensures in
-    let line = chars c.args.line.now in
-    let here = reads_pass c.args.width c.rest.height c.rest.column line _ _ _ _ _ c.rest.invariant.reads c.pass_narrow-narrow.ensures c.requires c.rest.invariant.fits e.within
-    e.no_empty_row e.place in
-    let whole = reads_end c.args.width _ _ line _ c.in_default.ensures.steps.0 here in
-    record { none = ((λ e. cc), (λ wide. absurd (false≢true (sym whole.narrow ∙ wide)))); height = whole.height_is; last = whole.last_is }
-
-pub rest-preserved-then-columns-width-2 : goal.rest-preserved-then-columns-width-2
-rest-preserved-then-columns-width-2 c =
-    let e = c.after_narrow-rows.ensures in
-    let line = chars c.args.line.now in
-    let here = reads_pass c.args.width c.rest.height c.rest.column line _ _ _ _ _ c.rest.invariant.reads c.pass_narrow-narrow.ensures c.requires c.rest.invariant.fits e.within
-    e.no_empty_row e.place in
-    let at = subst (MeasuredTo c.args.width (c.rest.height + c.after_narrow-rows.result.0) c.after_narrow-rows.result.1 line) c.in-Some.ensures.steps here in
-    let p = c.pass_narrow-narrow.ensures in
-    let next = reads_next_row c.args.width _ _ line c.in-Some.c c.next.new.self at e.within (omega (arith, c.width-columns.ensures)) (omega (arith, c.width-columns.ensures)) in
-    record {
-      reads = subst (λ k. MeasuredTo c.args.width (c.rest.height + c.after_narrow-rows.result.0 + 1) k line c.next.new.self) (sym c.width-columns.ensures) next;
-      fits = omega arith;
-      small = omega (arith, c.rest.invariant.small, e.few, p.many, ap length p.whole, length-append p.run c.pass_narrow-narrow.new.self, ap length c.in-Some.ensures.steps);
-    }
+pub returns-then-run-width : goal.returns-then-run-width
+returns-then-run-width c =
+    let pass = c.in-Some.ensures in
+    let wide = reads_wide c.args.width _ _ _ _ (chars c.args.line.now) _ _ c.rest.invariant.reads pass.1 c.if-run-width.true pass.0 in
+    record { none = ((λ e. wide), (λ e. refl)); height = tt; last = tt }
 
 pub rest-preserved : goal.rest-preserved
 rest-preserved c =
-    let e = c.after_narrow-rows.ensures in
-    let line = chars c.args.line.now in
-    let here = reads_pass c.args.width c.rest.height c.rest.column line _ _ _ _ _ c.rest.invariant.reads c.pass_narrow-narrow.ensures c.requires c.rest.invariant.fits e.within
-    e.no_empty_row e.place in
-    let at = subst (MeasuredTo c.args.width (c.rest.height + c.after_narrow-rows.result.0) c.after_narrow-rows.result.1 line) c.in-Some.ensures.steps here in
-    let p = c.pass_narrow-narrow.ensures in
-    let next = reads_narrow c.args.width _ _ line c.in-Some.c c.next.new.self at (omega (arith, c.width-columns.ensures, e.within)) in
+    let pass = c.in-Some.ensures in
+    let e = c.after-rows.ensures in
     record {
-      reads = subst (λ k. MeasuredTo c.args.width (c.rest.height + c.after_narrow-rows.result.0) (c.after_narrow-rows.result.1 + k) line c.next.new.self) (sym c.width-columns.ensures) next;
-      fits = omega arith;
-      small = omega (arith, c.rest.invariant.small, e.few, p.many, ap length p.whole, length-append p.run c.pass_narrow-narrow.new.self, ap length c.in-Some.ensures.steps);
+      reads = reads_run c.args.width _ _ _ _ (chars c.args.line.now) _ _ c.rest.invariant.reads pass.1 _ _ (omega (arith, c.if-run-width.false)) e.ends;
+      fits = e.within;
+      small = omega (arith, c.rest.invariant.small, e.few, pass_shorter _ _ _ _ pass.1);
     }
+
+pub returns : goal.returns
+returns c =
+    let whole = reads_end c.args.width _ _ (chars c.args.line.now) _ c.in_default.ensures c.rest.invariant.reads in
+    record { none = ((λ e. cc), (λ wide. absurd (false≢true (sym whole.narrow ∙ wide)))); height = whole.height_is; last = whole.last_is }
