@@ -50,7 +50,7 @@ drop_front-requires-2 g c =
 pub invariant_of-self-clause-seated : goal.invariant_of-self-clause-seated
 invariant_of-self-clause-seated g c =
     let b = c.args.self.now in
-    ap (map (λ (x : Segment). x.bar)) c.drop_front.ensures ∙ dropped_bars b.frame.items b.table.order c.leading-gone.result b.seated
+    ap (map (λ (x : Segment). x.bar)) c.take_front.ensures ∙ dropped_bars b.frame.items b.table.order c.leading-gone.result b.seated
     ∙ sym (ap (λ (t : SlotTable). t.order) c.remove_first.ensures.removed)
 
 pub returns-clause-drew : goal.returns-clause-drew
@@ -65,18 +65,18 @@ returns-clause-drew g c = λ mark now takes lays ask s laid asked some allows ho
     let puts = subst (λ f. PutsFrame view writing bottom gone (map bar_lines f) c.args.engine.now c.put.new.engine (Ok tt)) c.deref-2.ensures.value c.in_ok-put.ensures in
     let ready = kept_ready b.frame.items b.members.items b.table.made bottom b.limiter ask now laid allows holds in
     let made = sym (ap (λ (t : SlotTable). t.made) c.remove_first.ensures.removed) in
-    subst (λ n. DrewBy (board (board_bars tracks) mark) (Holds c.drop_front.new.items.items c.drop_front-2.new.items.items n bottom b.limiter) view c.args.engine.now c.put.new.engine
+    subst (λ n. DrewBy (board (board_bars tracks) mark) (Holds c.take_front.new.items.items c.take_front-2.new.items.items n bottom b.limiter) view c.args.engine.now c.put.new.engine
     (draw_of (target_of (Some (view (engine_term c.args.engine.now)))) takes ask now writing s laid lays) s.lists (Ok Yes)) made
     (frame_drew tracks view mark takes ask now writing s laid lays c.args.engine.now b.frame.items b.members.items b.table.made bottom b.limiter
-    (Holds c.drop_front.new.items.items c.drop_front-2.new.items.items b.table.made bottom b.limiter) c.put.new.engine (Ok tt) gone gone_is asked some (ap
+    (Holds c.take_front.new.items.items c.take_front-2.new.items.items b.table.made bottom b.limiter) c.put.new.engine (Ok tt) gone gone_is asked some (ap
     (λ a. a.0) allows) lists_stay fits ready puts
     (written_holds tracks view mark takes ask now writing s laid lays c.args.engine.now b.frame.items b.members.items
-    b.table.made bottom b.limiter gone c.drop_front.new.items.items c.drop_front-2.new.items.items c.drop_front.ensures c.drop_front-2.ensures gone_is ready))
+    b.table.made bottom b.limiter gone c.take_front.new.items.items c.take_front-2.new.items.items c.take_front.ensures c.take_front-2.ensures gone_is ready))
 
 pub returns-clause-records : goal.returns-clause-records
 returns-clause-records g c = λ number.
     let b = c.args.self.now in
     let even = evenly b.frame.items b.table.order b.members.items (omega (arith, b.even, b.members.ok, b.frame.ok)) b.seated in
-    left_record number c.leading-gone.result b.table.order b.members.items even c.remove_first.new.self.order c.drop_front-2.new.items.items
+    left_record number c.leading-gone.result b.table.order b.members.items even c.remove_first.new.self.order c.take_front-2.new.items.items
     (c.leading-gone.ensures ∙ ap (prefix_len (λ m. m.dropped)) c.deref.ensures.value) (ap (λ (t : SlotTable). t.order) c.remove_first.ensures.removed)
-    c.drop_front-2.ensures (c.remove_first.ensures.seated.apart number)
+    c.take_front-2.ensures (c.remove_first.ensures.seated.apart number)
