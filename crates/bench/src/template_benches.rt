@@ -15,7 +15,7 @@ pub fn template_parse(rt: &HostRuntime, count: u64) -> Result<Measured> {
     let start = Instant::now(rt)?;
     for _ in 0..count {
         let template = Template::parse(rt.alloc(), TEMPLATE)?;
-        parts = parts.wrapping_add(template.parts().len() as u64);
+        parts = parts.wrapping_add(template.part_count() as u64);
     }
     Ok(Measured::since(rt, start, count, Made::Parts(parts))?)
 }

@@ -11,7 +11,7 @@ use indicatif_text::format::{
     BinaryBytes, DecimalBytes, FormattedDuration, HumanBytes, HumanCount, HumanDuration,
     HumanFloatCount,
 };
-use indicatif_text::template::{Template, TemplateError};
+use indicatif_text::template::{Part, Template, TemplateError};
 use log::Level;
 use std::test::Fail;
 
@@ -148,9 +148,13 @@ fn refusals(rt: HostRuntime) -> Result<(), Fail> {
 fn templates(rt: HostRuntime) -> Result<(), Fail> {
     let alloc = rt.alloc();
     let template = Template::parse(alloc, "{foo:5!3}")?;
-    assert_eq!(rt; template.parts().len(), 1);
-    assert_eq!(rt; Template::parse(alloc, "{{x}}")?.parts().len(), 1);
-    assert_eq!(rt; Template::parse(alloc, "a\nb")?.parts().len(), 3);
+    assert_eq!(rt; template.part_count(), 1);
+    assert_eq!(rt; Template::parse(alloc, "{{x}}")?.part_count(), 1);
+    let lines = Template::parse(alloc, "a\nb")?;
+    assert_eq!(rt; lines.part_count(), 3);
+    assert_eq!(rt; lines.part(2), Some(Part::Literal("b")));
+    assert_eq!(rt; lines.parts().next(), Some(Part::Literal("a")));
+    assert_eq!(rt; lines.parts().count(), 3);
     assert_eq!(rt;
         Template::parse(alloc, "{k:65536}").err(),
         Some(TemplateError::WidthTooLarge)

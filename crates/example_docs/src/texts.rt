@@ -30,11 +30,8 @@ fn without_colours(alloc: Global, text: &str) -> Result<String> {
 
 /// Whether a template begins with a placeholder whose text stands at the right.
 fn is_right(template: &Template) -> bool {
-    match template.parts() {
-        [Part::Placeholder { align, .. }, ..] => {
-            let align = *align;
-            align == Alignment::Right
-        }
+    match template.part(0) {
+        Some(Part::Placeholder { align, .. }) => align == Alignment::Right,
         _ => false,
     }
 }
@@ -44,9 +41,9 @@ fn named(alloc: Global, template: &Template) -> Result<String> {
     let mut out = String::new(alloc);
     for part in template.parts() {
         match part {
-            Part::Literal(text) => out.push_str(text.as_str())?,
+            Part::Literal(text) => out.push_str(text)?,
             Part::NewLine => out.push('\n')?,
-            Part::Placeholder { key, .. } => out.push_str(key.as_str())?,
+            Part::Placeholder { key, .. } => out.push_str(key)?,
         }
     }
     Ok(out)

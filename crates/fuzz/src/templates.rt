@@ -236,10 +236,10 @@ enum Leave {
 }
 
 impl Leave {
-    /// What a template of these parts leaves open: it is the last line where no wide message is among them, or where each line ends in
+    /// What a template leaves open: it is the last line where no wide message is among them, or where each line ends in
     /// a character of its own.
-    fn of(parts: &[Part]) -> Leave {
-        if parts.iter().any(is_wide_message) && !parts.split(is_line_end).all(ends_in_text) {
+    fn of(template: &Template) -> Leave {
+        if template.parts().any(is_wide_message) && !lines_end_in_text(template) {
             return Leave::WhiteSpace;
         }
         Leave::LastLine
@@ -254,19 +254,25 @@ impl Leave {
     }
 }
 
-fn is_wide_message(part: &Part) -> bool {
+fn is_wide_message(part: Part<'_>) -> bool {
     match part {
-        Part::Placeholder { key, .. } => key.as_str() == "wide_msg",
+        Part::Placeholder { key, .. } => key == "wide_msg",
         _ => false,
     }
 }
 
-fn is_line_end(part: &Part) -> bool {
-    matches!(part, Part::NewLine)
-}
-
-fn ends_in_text(line: &[Part]) -> bool {
-    matches!(line.last(), Some(Part::Literal(_)))
+/// Whether each line of a template ends in a character of its own.
+fn lines_end_in_text(template: &Template) -> bool {
+    let mut ends_in_text = false;
+    for part in template.parts() {
+        match part {
+            Part::Literal(_) => ends_in_text = true,
+            Part::Placeholder { .. } => ends_in_text = false,
+            Part::NewLine if ends_in_text => ends_in_text = false,
+            Part::NewLine => return false,
+        }
+    }
+    ends_in_text
 }
 
 fn is_but_for_a_line(plain: &str, coloured: &str) -> bool {
@@ -324,7 +330,7 @@ fn is_laid_out_by(alloc: Global, numbers: &mut Numbers, bar: &mut Bar, text: &st
     };
     let style = bar.style().try_clone()?.template(text)?;
     bar.with_style(style, 0)?;
-    is_laid_out(alloc, numbers, bar, Leave::of(template.parts()))
+    is_laid_out(alloc, numbers, bar, Leave::of(&template))
 }
 
 /// A random text is a template or is refused, and a style says the same of it; the lines of a bar in this style are lines, and so are

@@ -1,14 +1,13 @@
 -- What the parts of a style do, and what their names mean.
-use Rattle.std.proofs.Common.{◌≡◌, ℕ, suc, ◌+◌, ◌<◌, arith, List, [], ◌∷◌, ◌++◌, refl, sym, ◌∙◌, ap, map, take, get_or, length, string_bytes, Some, None, Bool, if◌then◌else◌}
-use Rattle.std.specs.Prelude.{position, bytes_eq, nat_lt, not, option_map}
+use Rattle.std.proofs.Common.{◌≡◌, ℕ, suc, ◌+◌, ◌≤◌, inl, inr, arith, List, [], ◌∷◌, ◌++◌, refl, sym, ◌∙◌, ap, map, take, length, length-append, string_bytes, Some, None, Bool, if◌then◌else◌}
+use Rattle.std.specs.Prelude.{position, bytes_eq, nat_lt, not}
 use Rattle.std.specs.List.{prefix_len, position_or_len, slice_get}
 use Rattle.std.proofs.lemmas.List.{length-map, map-append}
-use Rattle.std.proofs.lemmas.Option.{slice_get-map, slice_get_read}
+use Rattle.std.proofs.lemmas.Option.{slice_get_cases, slice_get_within, get_or_from_slice_get, none-some}
 use Rattle.std.proofs.Math.Seq.{take-suc}
 use Rattle.std.specs.declared.string.String.{String}
 use Rattle.std.specs.declared.alloc.Global.{Global}
-use Rattle.indicatif_text.specs.declared.template.Part.{Part}
-use Rattle.indicatif_text.specs.Template.{TemplatePart, part_of}
+use Rattle.indicatif_text.specs.Template.{TemplatePart}
 use Rattle.indicatif_bar.specs.declared.style.steps.Step.{Step}
 use Rattle.indicatif_bar.specs.Inside.Steps.{Effect, names_of}
 
@@ -26,15 +25,22 @@ pub place_is : {K : Type 0} (name : List ℕ) (keys : List (String Global × K))
 place_is name keys = position_map (bytes_eq name) (λ entry. string_bytes entry.0) keys
 
 -- a step more, for the part at its place
-pub step_more : (does : Step → Effect) (wanted : TemplatePart → Effect) (parts : List Part) (before after : List Step) (place : ℕ) (part : Part) (step : Step)
-    → map does before ≡ map wanted (map part_of (take place parts)) → after ≡ before ++ step ∷ []
-    → place < length parts → part ≡ get_or parts place part
-    → (slice_get (map part_of parts) place ≡ Some (part_of part) → does step ≡ wanted (part_of part))
-    → map does after ≡ map wanted (map part_of (take (place + 1) parts))
-step_more does wanted parts before after place part step so is within at same =
-    let next : suc place ≡ place + 1 = omega arith in
-    let one = same (slice_get-map part_of parts place ∙ ap (option_map part_of) (slice_get_read parts (length parts) place part refl within at)) in
-    let whole : take (place + 1) parts ≡ take place parts ++ part ∷ [] =
-    ap (λ n. take n parts) (sym next) ∙ take-suc parts place part within ∙ ap (λ p. take place parts ++ p ∷ []) (sym at) in
+pub step_more : (does : Step → Effect) (wanted : TemplatePart → Effect) (parts : List TemplatePart) (before after : List Step) (part : TemplatePart) (step : Step)
+    → map does before ≡ map wanted (take (length before) parts) → after ≡ before ++ step ∷ []
+    → slice_get parts (length before) ≡ Some part → does step ≡ wanted part
+    → map does after ≡ map wanted (take (length after) parts)
+step_more does wanted parts before after part step so is at same =
+    let within = slice_get_within parts (length before) part at in
+    let count : length after ≡ suc (length before) = omega (arith, ap length is, length-append before (step ∷ [])) in
+    let whole : take (length after) parts ≡ take (length before) parts ++ part ∷ [] =
+    ap (λ n. take n parts) count ∙ take-suc parts (length before) part within
+    ∙ ap (λ p. take (length before) parts ++ p ∷ []) (get_or_from_slice_get parts (length before) part part at) in
     ap (map does) is ∙ map-append does before (step ∷ [])
-    ∙ cc (so, one, map-append part_of (take place parts) (part ∷ []), map-append wanted (map part_of (take place parts)) (part_of part ∷ []), ap (map part_of) whole)
+    ∙ cc (so, same, map-append wanted (take (length before) parts) (part ∷ []), ap (map wanted) whole)
+
+-- where no part is left, there are as many steps as parts
+pub past_parts : (parts : List TemplatePart) (n : ℕ) → slice_get parts n ≡ None → length parts ≤ n
+past_parts parts n none = elim (slice_get_cases parts n).1 [
+  | inl found ↦ absurd (none-some _ (sym none ∙ found.2))
+  | inr past ↦ past.0
+]

@@ -106,7 +106,7 @@ impl<K: Tracks> ProgressStyle<K> {
         if tab == self.tab {
             return Ok(());
         }
-        let steps = steps_of(self.alloc, self.template.parts(), &self.keys, tab)?;
+        let steps = steps_of(self.alloc, &self.template, &self.keys, tab)?;
         self.steps = steps;
         self.tab = tab;
         Ok(())

@@ -1,6 +1,6 @@
 -- That what a draft's literal text gains or loses is what its sketch does.
-use Rattle.std.proofs.Common.{◌≡◌, ◌<◌, inr, length-drop, ℕ, Bool, true, false, List, [], ◌∷◌, ◌++◌, length, take, drop, refl, sym, ◌∙◌, ap, subst, arith, append-nil, append_assoc, length-append}
-use Rattle.std.specs.Prelude.{String, ◌==◌, if◌then◌else◌, string_bytes, string_len, IsUtf8, IsCharBoundary}
+use Rattle.std.proofs.Common.{◌≡◌, ◌<◌, ◌≤◌, inr, length-drop, ℕ, ◌+◌, Bool, List, [], ◌∷◌, ◌++◌, length, take, drop, refl, sym, ◌∙◌, ap, subst, arith, append-nil, append_assoc, length-append, ne_eqb}
+use Rattle.std.specs.Prelude.{if◌then◌else◌, IsUtf8, IsCharBoundary}
 use Rattle.std.specs.Prelude.{◌⊎◌, Result, Ok, Err, IfErr, IsErrAnd, take_while}
 use Rattle.std.specs.Str.{chars}
 use Rattle.std.specs.List.{prefix_len}
@@ -8,18 +8,18 @@ use Rattle.std.specs.Char.{IsScalar}
 use Rattle.indicatif_text.specs.declared.template.TemplateError.{TemplateError}
 use Rattle.indicatif_text.specs.declared.template.TemplateError.TheVariants.{Memory}
 use Rattle.indicatif_text.specs.Template.{TemplatePart, LiteralText, TemplatePiece, Char, SpacedBrace, Takes, Stops, after_run, front, Refuses, here, IsRefused}
-use Rattle.indicatif_text.specs.Inside.Draft.{Sketch, literal_part, kept_sketch, with_run, added, GoesOn}
+use Rattle.indicatif_text.specs.declared.template.marks.Kind.TheVariants.{Literal}
+use Rattle.indicatif_text.specs.declared.template.marks.Mark.{Mark}
+use Rattle.indicatif_text.specs.Inside.Marks.{AreIn}
+use Rattle.indicatif_text.specs.Inside.Draft.{Sketch, literal_part, kept_sketch, closed_sketch, marked_sketch, with_run, added, GoesOn}
 use Rattle.indicatif_text.specs.Inside.Spans.{is_literal_char}
 use Rattle.indicatif_text.proofs.OptionLemmas.{some_text}
 use Rattle.indicatif_text.proofs.TemplateLemmas.{rest_shorter}
 use Rattle.indicatif_text.proofs.SketchLemmas.{leads_more, leads_piece, leads_run}
 use Rattle.std.proofs.Math.Utf8.{encode}
-use Rattle.std.proofs.lemmas.Bool.{eqb-true, cond_both}
-use Rattle.std.proofs.lemmas.List.{nil_from_length, take-append-drop, take-append-le, drop-append-le, take-take, take_all, drop_all, length-take}
-use Rattle.std.proofs.lemmas.Str.{chars-nil, chars-append, chars_past_char, IsUtf8-encode, IsUtf8-string_bytes, IsUtf8-take, IsUtf8-drop, IsUtf8-append, IsCharBoundary-from_drop}
-
-pub empty_string : {Z : Type 0} (s : String Z) → true ≡ (string_len s == 0) → string_bytes s ≡ []
-empty_string s e = nil_from_length (string_bytes s) (sym s.bytes.ok.0 ∙ eqb-true (string_len s) 0 (sym e))
+use Rattle.std.proofs.lemmas.Bool.{cond_both}
+use Rattle.std.proofs.lemmas.List.{drop-take, take-append-drop, take-append-le, drop-append-le, take-take, take_all, drop_all, length-take, length-take-le}
+use Rattle.std.proofs.lemmas.Str.{chars-nil, chars-append, chars_past_char, IsUtf8-encode, IsUtf8-take, IsUtf8-drop, IsUtf8-append, IsCharBoundary-end, IsCharBoundary-from_rest, IsCharBoundary-from_drop}
 
 pub same_sketch : (a b : Sketch) → a.done ≡ b.done → a.kept ≡ b.kept → a.run ≡ b.run → a ≡ b
 same_sketch a b d k r = λ i. record { done = d i; kept = k i; run = r i }
@@ -35,10 +35,10 @@ pub closed_none : (done : List TemplatePart) (text : List ℕ) → text ≡ [] �
 closed_none done text none = sym (append-nil done) ∙ ap (λ t. done ++ literal_part t) (sym none)
 
 -- a literal text gives one
-pub closed_some : {Z : Type 0} (s : String Z) → false ≡ (string_len s == 0) → LiteralText (chars (string_bytes s)) ∷ [] ≡ literal_part (chars (string_bytes s))
-closed_some s some =
-    some_text (List TemplatePart) (λ cs. LiteralText cs ∷ []) literal_part (λ c cs. refl) (string_bytes s) (chars (string_bytes s)) (IsUtf8-string_bytes s) refl
-    (some ∙ ap (λ n. n == 0) s.bytes.ok.0)
+pub marked_literal : (s : Sketch) (bs : List ℕ) → IsUtf8 bs → 0 < length bs → chars bs ≡ s.kept ++ s.run → marked_sketch s Literal ≡ closed_sketch s
+marked_literal s bs u some e =
+    let part = some_text (List TemplatePart) (λ cs. LiteralText cs ∷ []) literal_part (λ c cs. refl) bs (s.kept ++ s.run) u e (sym (ne_eqb (length bs) 0 (omega (arith, some)))) in
+    ap (λ parts. record { done = s.done ++ parts; kept = []; run = [] }) part
 
 -- ---- a literal text of which so many bytes in front are kept
 
@@ -71,12 +71,21 @@ cut_kept bs n = take-take n n bs (omega arith)
 pub cut_run : (bs : List ℕ) (n : ℕ) → drop n (take n bs) ≡ []
 cut_run bs n = drop_all n (take n bs) (omega (arith, length-take n bs))
 
--- all is kept
-pub all_kept : {Z : Type 0} (s : String Z) → take (string_len s) (string_bytes s) ≡ string_bytes s
-all_kept s = take_all (string_len s) (string_bytes s) (omega (arith, s.bytes.ok.0))
+pub cut_end : (bs : List ℕ) (n : ℕ) → n ≤ length bs → IsCharBoundary (take n bs) n
+cut_end bs n le = subst (IsCharBoundary (take n bs)) (length-take-le n bs le) (IsCharBoundary-end (take n bs))
 
-pub all_run : {Z : Type 0} (s : String Z) → drop (string_len s) (string_bytes s) ≡ []
-all_run s = drop_all (string_len s) (string_bytes s) (omega (arith, s.bytes.ok.0))
+-- and what stands before it stays a text
+pub cut_start : (bs : List ℕ) (start kept : ℕ) → IsUtf8 bs → IsCharBoundary bs start → IsCharBoundary (drop start bs) kept → IsCharBoundary (take (start + kept) bs) start
+cut_start bs start kept u b k =
+    IsCharBoundary-from_drop (take (start + kept) bs) start (omega (arith, length-take-le (start + kept) bs (IsCharBoundary-from_rest bs start kept b.0 k).0))
+    (subst IsUtf8 (sym (drop-take start kept bs)) (IsUtf8-take (drop start bs) kept (IsUtf8-drop bs start u b) k))
+
+-- all is kept
+pub all_kept : (bs : List ℕ) (n : ℕ) → n ≡ length bs → take n bs ≡ bs
+all_kept bs n e = take_all n bs (omega (arith, e))
+
+pub all_run : (bs : List ℕ) (n : ℕ) → n ≡ length bs → drop n bs ≡ []
+all_run bs n e = drop_all n bs (omega (arith, e))
 
 -- nothing is kept of no text
 pub none_kept : (bs : List ℕ) (n : ℕ) → bs ≡ [] → chars (take n bs) ≡ []
@@ -120,3 +129,42 @@ pub read_shorter : (text marked after rest : List ℕ) (c : ℕ) (p : TemplatePi
     → length rest < length text
 read_shorter text marked after rest c p a e f =
     omega (arith, rest_shorter c after f, ap length e, ap length a, length-drop (prefix_len is_literal_char text) text)
+
+-- ---- what a draft's bytes fulfil: those of its parts, and where the literal text begins
+
+module _ (bs : List ℕ) (start kept : ℕ) (u : IsUtf8 bs) (b : IsCharBoundary bs start) (k : IsCharBoundary (drop start bs) kept) (marks : List Mark) (all : AreIn (take start bs) marks) where
+  -- more text
+  pub pushed_front : (more : List ℕ) → take start (bs ++ more) ≡ take start bs
+  pushed_front more = take-append-le start bs more b.0
+
+  pub pushed_behind : (more : List ℕ) → drop start (bs ++ more) ≡ drop start bs ++ more
+  pushed_behind more = drop-append-le start bs more b.0
+
+  -- whether memory was refused or not
+  pub pushed_in : (ok : Bool) (after more : List ℕ) → after ≡ (if ok then bs ++ more else bs) → AreIn (take start after) marks
+  pushed_in ok after more e =
+      subst (λ xs. AreIn (take start xs) marks) (sym e)
+      (cond_both ok (bs ++ more) bs (λ xs. AreIn (take start xs) marks) (λ _. subst (λ x. AreIn x marks) (sym (pushed_front more)) all) (λ _. all))
+
+  pub pushed_whole : (ok : Bool) (after more : List ℕ) → after ≡ (if ok then bs ++ more else bs) → IsUtf8 more → IsCharBoundary (drop start after) kept
+  pushed_whole ok after more e w =
+      subst (λ xs. IsCharBoundary (drop start xs) kept) (sym e)
+      (cond_both ok (bs ++ more) bs (λ xs. IsCharBoundary (drop start xs) kept)
+      (λ _. subst (λ x. IsCharBoundary x kept) (sym (pushed_behind more)) (more_boundary (drop start bs) kept (IsUtf8-drop bs start u b) k more w)) (λ _. k))
+
+  pub pushed_kept : (more : List ℕ) → chars (take kept (drop start (bs ++ more))) ≡ chars (take kept (drop start bs))
+  pushed_kept more = ap (λ x. chars (take kept x)) (pushed_behind more) ∙ more_kept (drop start bs) kept (IsUtf8-drop bs start u b) k more
+
+  pub pushed_run : (more : List ℕ) → chars (drop kept (drop start (bs ++ more))) ≡ chars (drop kept (drop start bs)) ++ chars more
+  pushed_run more = ap (λ x. chars (drop kept x)) (pushed_behind more) ∙ more_run (drop start bs) kept (IsUtf8-drop bs start u b) k more
+
+  -- the run is cut off
+  pub cut_front : take start (take (start + kept) bs) ≡ take start bs
+  cut_front = take-take start (start + kept) bs (omega arith)
+
+  pub cut_behind : drop start (take (start + kept) bs) ≡ take kept (drop start bs)
+  cut_behind = drop-take start kept bs
+
+  -- what is kept and the run are what stands behind the parts
+  pub behind_parts : chars (drop start bs) ≡ chars (take kept (drop start bs)) ++ chars (drop kept (drop start bs))
+  behind_parts = kept_and_run (drop start bs) kept (IsUtf8-drop bs start u b) k

@@ -1,6 +1,6 @@
 -- The grammar of templates. A text is read from the front, a whole piece at a time; texts are lists of characters, and a style
 -- is the list of numbers that it writes.
-use Rattle.std.specs.Prelude.{◌≡◌, ℕ, Bool, true, false, not, ◌||◌, ◌==◌, nat_lt, List, [], ◌∷◌, ◌++◌, length, drop, take_while, filter, Option, Some, None, option_map, string_bytes, codes, if◌then◌else◌}
+use Rattle.std.specs.Prelude.{◌≡◌, ℕ, Bool, true, false, not, ◌||◌, ◌==◌, nat_lt, List, [], ◌∷◌, ◌++◌, length, drop, take_while, filter, Option, Some, None, option_map, codes, if◌then◌else◌}
 use Rattle.std.specs.List.{list_any, prefix_len}
 use Rattle.std.specs.Char.{is_ascii_digit, is_ascii_whitespace}
 use Rattle.std.specs.Fmt.{◌++?◌, debug_char}
@@ -37,10 +37,10 @@ pub data TemplatePart : Type 0 where
 
 -- what a part of a template is
 unfoldable pub part_of : Part → TemplatePart
-part_of (Literal text) = LiteralText (chars (string_bytes text))
+part_of (Literal text) = LiteralText (chars text.now)
 part_of NewLine = LineBreak
 part_of (Placeholder key align width truncate style alternative) =
-    KeyText (chars (string_bytes key)) (record { align = align; width = width; truncate = truncate; style = option_map numbers_of style; alternative = option_map numbers_of alternative })
+    KeyText (chars key.now) (record { align = align; width = width; truncate = truncate; style = option_map numbers_of style; alternative = option_map numbers_of alternative })
 
 -- ---- pieces
 

@@ -1,17 +1,21 @@
 //! Templates: a text with placeholders, read into its parts.
-ghost use Rattle.std.specs.Prelude.{◌≡◌, ◌≢◌, ◌↔◌, List, map, chars};
+ghost use Rattle.std.specs.Prelude.{◌≡◌, ◌≢◌, ◌↔◌, List, length, chars, option_map};
+ghost use Rattle.std.specs.List.{slice_get};
+ghost use Rattle.std.specs.Iterator.{YieldsFirstBy, item_count};
 ghost use Rattle.indicatif_text.specs.declared.template.TemplateError.{TemplateError};
 ghost use Rattle.indicatif_text.specs.Template.{TemplatePart, part_of, Parses, IsRefused};
 
 use crate::refusal::{Refusal, TemplateState};
 use crate::style_words::Style;
 use crate::template::draft::Draft;
+use crate::template::marks::Mark;
 use std::alloc::{AllocError, AllocFailed, Global};
 use std::error::Error;
 use std::fmt;
 use std::marker::Model;
 
 mod draft;
+mod marks;
 mod reading;
 
 /// Where a placeholder's text stands in its width.
@@ -30,27 +34,27 @@ pub enum Alignment {
     Right,
 }
 
-/// A part of a template.
+/// A part of a template. Its text stands in the template.
 ///
 /// ```
 /// for part in template.parts() {
 ///     match part {
-///         Part::Literal(text) => out.push_str(text.as_str())?,
+///         Part::Literal(text) => out.push_str(text)?,
 ///         Part::NewLine => out.push('\n')?,
-///         Part::Placeholder { key, .. } => out.push_str(key.as_str())?,
+///         Part::Placeholder { key, .. } => out.push_str(key)?,
 ///     }
 /// }
 /// ```
-#[derive(Debug, Drop)]
-pub enum Part {
+#[derive(Clone, Copy, Debug, Drop, PartialEq, Eq)]
+pub enum Part<'a> {
     /// A text that stands as it is.
-    Literal(String),
+    Literal(&'a str),
     /// The end of a line.
     NewLine,
     /// The text of a key, laid out.
     Placeholder {
         /// The key; never empty.
-        key: String,
+        key: &'a str,
         /// Where the text stands in its width.
         align: Alignment,
         /// The width in columns.
@@ -69,20 +73,25 @@ pub enum Part {
 ///
 /// ```
 /// let template = Template::parse(alloc, "{foo:5!3}")?;
-/// assert_eq!(template.parts().len(), 1);
+/// assert_eq!(template.part_count(), 1);
 /// ```
 #[derive(Debug, Drop)]
 pub struct Template {
-    parts: Vec<Part>,
+    /// The texts of the parts, one behind the other.
+    texts: String,
+    marks: Vec<Mark>,
 }
 
 impl Model for Template {
-    ghost use Rattle.std.specs.Prelude.{List, map};
-    ghost use Rattle.indicatif_text.specs.Template.{TemplatePart, part_of};
+    ghost use Rattle.std.specs.Prelude.{List, map, string_bytes};
+    ghost use Rattle.indicatif_text.specs.Template.{TemplatePart};
+    ghost use Rattle.indicatif_text.specs.Inside.Marks.{part_at, AreIn};
 
     ghost Value = { List TemplatePart };
 
-    ghost view = { λ t. map part_of t.parts.items };
+    ghost view = { λ t. map (part_at (string_bytes t.texts)) t.marks.items };
+
+    ghost invariant = { λ t. AreIn (string_bytes t.texts) t.marks.items };
 }
 
 impl Template {
@@ -99,7 +108,7 @@ impl Template {
     /// newline, placeholder or `{` with a white space. An unfinished key goes away alone. Behind the `:`, the
     /// placeholder has what was finished: a width, a style or an alternative style counts only where something ends it.
     ///
-    /// One pass; the memory is that of the parts.
+    /// One pass, with two blocks of memory: one for the texts of all parts, and one for the parts.
     ///
     /// Refused, at the first character in reading order: `Unexpected` where the character fits no case, with its state:
     /// `MaybeOpen` for a `}` or a `:` right behind a `{`, `DoubleClose` for another character behind a single `}`,
@@ -107,7 +116,7 @@ impl Template {
     /// a width past 65,535 ends. `Memory`: nothing is made.
     ///
     /// ```
-    /// assert_eq!(Template::parse(alloc, "{{x}}")?.parts().len(), 1);
+    /// assert_eq!(Template::parse(alloc, "{{x}}")?.part_count(), 1);
     /// assert_eq!(Template::parse(alloc, "{k:65536}").err(), Some(TemplateError::WidthTooLarge));
     /// ```
     pub fn parse(alloc: Global, text: &str) -> Result<Template, TemplateError>
@@ -121,19 +130,89 @@ impl Template {
         while !rest.is_empty() {
             rest = draft.read(rest)?;
         }
-        let parts = draft.finish()?;
-        Ok(Template { parts })
+        let template = draft.finish()?;
+        Ok(template)
+    }
+
+    /// How many parts there are.
+    ///
+    /// ```
+    /// let lines = Template::parse(alloc, "a\nb")?;
+    /// assert_eq!(lines.part_count(), 3);
+    /// ```
+    pub fn part_count(&self) -> usize
+        ensures { result ≡ length self.now }
+    {
+        self.marks.len()
+    }
+
+    /// The part at a place, counted from 0.
+    ///
+    /// ```
+    /// let lines = Template::parse(alloc, "a\nb")?;
+    /// assert_eq!(lines.part(2), Some(Part::Literal("b")));
+    /// ```
+    #[inline(always)]
+    pub fn part(&self, place: usize) -> Option<Part<'_>>
+        ensures { option_map part_of result ≡ slice_get self.now place }
+    {
+        match self.marks.get(place) {
+            Some(mark) => Some(mark.part(self.texts.as_str())),
+            None => None,
+        }
     }
 
     /// The parts, in order.
     ///
     /// ```
-    /// assert_eq!(Template::parse(alloc, "a\nb")?.parts().len(), 3);
+    /// let lines = Template::parse(alloc, "a\nb")?;
+    /// assert_eq!(lines.parts().next(), Some(Part::Literal("a")));
     /// ```
-    pub fn parts(&self) -> &[Part]
-        ensures { map part_of result.now ≡ self.now }
+    pub fn parts(&self) -> Parts<'_>
+        ensures { result ≡ self.now }
     {
-        self.parts.as_slice()
+        Parts {
+            texts: self.texts.as_str(),
+            marks: self.marks.as_slice(),
+        }
+    }
+}
+
+/// Parts of a template, in order.
+///
+/// ```
+/// let lines = Template::parse(alloc, "a\nb")?;
+/// assert_eq!(lines.parts().count(), 3);
+/// ```
+#[derive(Drop)]
+pub struct Parts<'a> {
+    texts: &'a str,
+    marks: &'a [Mark],
+}
+
+impl<'a> Model for Parts<'a> {
+    ghost use Rattle.std.specs.Prelude.{List, map};
+    ghost use Rattle.indicatif_text.specs.Template.{TemplatePart};
+    ghost use Rattle.indicatif_text.specs.Inside.Marks.{part_at, AreIn};
+
+    ghost Value = { List TemplatePart };
+
+    ghost view = { λ p. map (part_at p.texts.now) p.marks.now };
+
+    ghost invariant = { λ p. AreIn p.texts.now p.marks.now };
+}
+
+impl<'a> Iterator for Parts<'a> {
+    type Item = Part<'a>;
+
+    ghost next_gives = { YieldsFirstBy part_of (λ left. left) };
+
+    ghost remaining = { item_count (λ left. left) };
+
+    fn next(&mut self) -> Option<Part<'a>> {
+        let (mark, marks) = self.marks.split_first()?;
+        self.marks = marks;
+        Some(mark.part(self.texts))
     }
 }
 

@@ -10,14 +10,14 @@ use scripts::spelling::unescaped;
 pub fn parsed(rest: &str, at: At, got: &mut Got) -> Result<(), Bad> {
     let text = unescaped(at.alloc, rest)?;
     match Template::parse(at.alloc, text.as_str()) {
-        Ok(template) => push_parts(template.parts(), at, got),
+        Ok(template) => push_parts(&template, at, got),
         Err(error) => Err(Bad::Refused(error.into())),
     }
 }
 
-fn push_parts(parts: &[Part], at: At, got: &mut Got) -> Result<(), Bad> {
+fn push_parts(template: &Template, at: At, got: &mut Got) -> Result<(), Bad> {
     let mut parting = "";
-    for part in parts {
+    for part in template.parts() {
         got.text(parting);
         push_part(part, at, got)?;
         parting = " | ";
@@ -25,11 +25,11 @@ fn push_parts(parts: &[Part], at: At, got: &mut Got) -> Result<(), Bad> {
     Ok(())
 }
 
-fn push_part(part: &Part, at: At, got: &mut Got) -> Result<(), Bad> {
+fn push_part(part: Part<'_>, at: At, got: &mut Got) -> Result<(), Bad> {
     match part {
         Part::Literal(text) => {
             got.text("L ");
-            got.text(text.as_str());
+            got.text(text);
             Ok(())
         }
         Part::NewLine => {
@@ -45,11 +45,11 @@ fn push_part(part: &Part, at: At, got: &mut Got) -> Result<(), Bad> {
             alternative,
         } => {
             got.text("P ");
-            got.text(key.as_str());
-            push_layout(*align, *width, got);
-            got.text(if *truncate { " !" } else { " -" });
-            push_numbers(*style, at, got)?;
-            push_numbers(*alternative, at, got)
+            got.text(key);
+            push_layout(align, width, got);
+            got.text(if truncate { " !" } else { " -" });
+            push_numbers(style, at, got)?;
+            push_numbers(alternative, at, got)
         }
     }
 }

@@ -84,7 +84,7 @@ impl<K: Tracks> ProgressStyle<K> {
         ensures memory { IfErr result (λ e. e ≡ Refusal.Memory) }
     {
         let keys = Vec::new(alloc);
-        let steps = steps_of(alloc, template.parts(), keys.as_slice(), 8)?;
+        let steps = steps_of(alloc, &template, keys.as_slice(), 8)?;
         Ok(ProgressStyle {
             alloc,
             template: Arc::new(alloc, template)?,
@@ -107,7 +107,7 @@ impl<K: Tracks> ProgressStyle<K> {
             ⊎ ((error : TemplateError) × IsRefused (chars text.now) error × (e ≡ refusal_of error))) }
     {
         let template = parsed(self.alloc, text)?;
-        self.steps = steps_of(self.alloc, template.parts(), self.keys.as_slice(), self.tab)?;
+        self.steps = steps_of(self.alloc, &template, self.keys.as_slice(), self.tab)?;
         self.template = Arc::new(self.alloc, template)?;
         Ok(self)
     }
@@ -179,12 +179,7 @@ impl<K: Tracks> ProgressStyle<K> {
     {
         let own = String::from_str(self.alloc, name)?;
         self.keys.insert(0, (own, tracker))?;
-        self.steps = steps_of(
-            self.alloc,
-            self.template.parts(),
-            self.keys.as_slice(),
-            self.tab,
-        )?;
+        self.steps = steps_of(self.alloc, &self.template, self.keys.as_slice(), self.tab)?;
         Ok(self)
     }
 
@@ -205,7 +200,7 @@ impl<K: Tracks> ProgressStyle<K> {
         ensures memory { IfErr result (λ e. e ≡ Refusal.Memory) }
     {
         let keys = cloned_keys(self.alloc, self.keys.as_slice())?;
-        let steps = steps_of(self.alloc, self.template.parts(), keys.as_slice(), self.tab)?;
+        let steps = steps_of(self.alloc, &self.template, keys.as_slice(), self.tab)?;
         Ok(ProgressStyle {
             alloc: self.alloc,
             template: Arc::try_clone(&self.template)?,

@@ -28,7 +28,7 @@ use crate::tabs::push_expanded;
 use crate::tracker::Tracks;
 use indicatif_term::draw_target::LineType;
 use indicatif_text::columns::{Moment, Refusal};
-use indicatif_text::template::Alignment;
+use indicatif_text::template::{Alignment, Template};
 use std::mem::replace;
 
 impl<K: Tracks> ProgressStyle<K> {
@@ -336,11 +336,11 @@ impl<K: Tracks> ProgressStyle<K> {
             text: spare.text(),
             wide: None,
         };
-        let parts = self.template.parts();
+        let template: &Template = &self.template;
         for step in &self.steps {
             match step {
                 Step::Text(text) => line.text.push_str(text.as_str())?,
-                Step::Literal(place) => line.text.push_str(literal_at(parts, *place))?,
+                Step::Literal(place) => line.text.push_str(literal_at(template, *place))?,
                 Step::Break => {
                     let ended = line.end(spare.text());
                     self.push_lines(ended, state, width, spare, &mut lines)?;

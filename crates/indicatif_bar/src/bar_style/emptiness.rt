@@ -1,6 +1,5 @@
 //! Whether a style shows nothing.
-ghost use Rattle.std.specs.Prelude.{◌≡◌, ◌&&◌, map};
-ghost use Rattle.indicatif_text.specs.Template.{part_of};
+ghost use Rattle.std.specs.Prelude.{◌≡◌, ◌&&◌};
 ghost use Rattle.indicatif_bar.specs.BarStyles.{is_bare_layout, is_empty_key, is_empty_style};
 ghost use Rattle.indicatif_bar.specs.Inside.Steps.{effect_of, placeholder_layout, is_empty_source, is_empty_effect};
 
@@ -9,16 +8,16 @@ use crate::progress::ProgressState;
 use crate::style::keys::Key;
 use crate::style::steps::{Placeholder, Source, Step, literal_at};
 use crate::tracker::Tracks;
-use indicatif_text::template::Part;
+use indicatif_text::template::Template;
 
 impl<K: Tracks> ProgressStyle<K> {
     /// Whether no part of the template shows anything. Most templates tell by their first part.
     pub(crate) fn is_empty(&self, state: &ProgressState) -> bool
         ensures { result ≡ is_empty_style self.now state.now }
     {
-        let parts = self.template.parts();
+        let template: &Template = &self.template;
         for step in &self.steps {
-            if !self.is_empty_step(step, parts, state) {
+            if !self.is_empty_step(step, template, state) {
                 return false;
             }
         }
@@ -26,12 +25,12 @@ impl<K: Tracks> ProgressStyle<K> {
     }
 
     /// Whether a step writes nothing.
-    fn is_empty_step(&self, step: &Step, parts: &[Part], state: &ProgressState) -> bool
-        ensures { result ≡ is_empty_effect self.now state.now (effect_of (map part_of parts.now) step.now) }
+    fn is_empty_step(&self, step: &Step, template: &Template, state: &ProgressState) -> bool
+        ensures { result ≡ is_empty_effect self.now state.now (effect_of template.now step.now) }
     {
         match step {
             Step::Text(text) => text.as_str().is_empty(),
-            Step::Literal(place) => literal_at(parts, *place).is_empty(),
+            Step::Literal(place) => literal_at(template, *place).is_empty(),
             Step::Break => false,
             Step::Placeholder(placeholder) => self.is_empty_placeholder(placeholder, state),
         }

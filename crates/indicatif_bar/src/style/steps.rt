@@ -1,5 +1,5 @@
 //! What the parts of a template do, found out once.
-ghost use Rattle.std.specs.Prelude.{◌≡◌, ◌==◌, ◌&&◌, not, is_some, [], List, Some, map, option_map, unwrap_or, IfOk, IfErr, bytes_eq, position, string_bytes};
+ghost use Rattle.std.specs.Prelude.{◌≡◌, ◌==◌, ◌&&◌, not, is_some, [], List, Some, map, option_map, unwrap_or, length, IfOk, IfErr, bytes_eq, position, string_bytes, chars, encode_utf8_all};
 ghost use Rattle.std.specs.List.{slice_get};
 ghost use Rattle.indicatif_text.specs.StyleWords.{numbers_of};
 ghost use Rattle.indicatif_text.specs.Template.{TemplatePart, part_of};
@@ -9,7 +9,7 @@ ghost use Rattle.indicatif_bar.specs.Inside.Steps.{wide_found, wide_source, plac
 use crate::style::keys::{Key, key_named};
 use crate::tabs::{has_tab, push_expanded};
 use indicatif_text::columns::{Refusal, Style};
-use indicatif_text::template::{Alignment, Part};
+use indicatif_text::template::{Alignment, Part, Template};
 use std::alloc::Global;
 
 /// Where the text of a placeholder comes from.
@@ -97,20 +97,21 @@ pub(crate) enum Step {
     Placeholder(Placeholder),
 }
 
-/// What each part does, where trackers stand under these keys.
+/// What each part of a template does, where trackers stand under these keys.
 pub(crate) fn steps_of<K>(
     alloc: Global,
-    parts: &[Part],
+    template: &Template,
     keys: &[(String, K)],
     tab: usize,
 ) -> Result<Vec<Step>, Refusal>
     ensures steps { IfOk result (λ steps.
-        map (effect_of (map part_of parts.now)) steps.items ≡ map (effect_of_part (names_of keys.now) tab) (map part_of parts.now)) }
+        map (effect_of template.now) steps.items ≡ map (effect_of_part (names_of keys.now) tab) template.now) }
     ensures memory { IfErr result (λ e. e ≡ Refusal.Memory) }
 {
-    let mut steps = Vec::with_capacity(alloc, parts.len())?;
-    'parts: for (place, part) in parts.iter().enumerate() {
-        steps.push(step_of_part(alloc, part, place, keys, tab)?)?;
+    let mut steps = Vec::with_capacity(alloc, template.part_count())?;
+    'parts: while let Some(part) = template.part(steps.len()) {
+        let step = step_of_part(alloc, part, steps.len(), keys, tab)?;
+        steps.push(step)?;
     }
     Ok(steps)
 }
@@ -118,23 +119,24 @@ pub(crate) fn steps_of<K>(
 /// What the part at a place does.
 fn step_of_part<K>(
     alloc: Global,
-    part: &Part,
+    part: Part<'_>,
     place: usize,
     keys: &[(String, K)],
     tab: usize,
 ) -> Result<Step, Refusal>
-    ensures step { IfOk result (λ step. (parts : List TemplatePart) → slice_get parts place ≡ Some (part_of part.now) →
-        effect_of parts step ≡ effect_of_part (names_of keys.now) tab (part_of part.now)) }
+    ensures step { IfOk result (λ step. (parts : List TemplatePart) → slice_get parts place ≡ Some (part_of part.entry) →
+        effect_of parts step ≡ effect_of_part (names_of keys.now) tab (part_of part.entry)) }
     ensures memory { IfErr result (λ e. e ≡ Refusal.Memory) }
 {
     match part {
-        Part::Literal(literal) => {
-            if !has_tab(literal.as_str()) {
+        Part::Literal(text) => {
+            let literal = spelt(text);
+            if !has_tab(literal) {
                 return Ok(Step::Literal(place));
             }
-            let mut text = String::new(alloc);
-            push_expanded(literal.as_str(), tab, &mut text)?;
-            Ok(Step::Text(text))
+            let mut expanded = String::new(alloc);
+            push_expanded(literal, tab, &mut expanded)?;
+            Ok(Step::Text(expanded))
         }
         Part::NewLine => Ok(Step::Break),
         Part::Placeholder {
@@ -146,36 +148,47 @@ fn step_of_part<K>(
             alternative,
         } => {
             Ok(Step::Placeholder(Placeholder {
-                source: source_of(key.as_str(), keys),
-                align: *align,
-                width: *width,
-                truncate: *truncate,
-                style: *style,
-                alternative: *alternative,
+                source: source_of(spelt(key), keys),
+                align,
+                width,
+                truncate,
+                style,
+                alternative,
             }))
         }
     }
 }
 
-/// The literal text at a place of these parts; empty where there is none.
-pub(crate) fn literal_at(parts: &[Part], place: usize) -> &str
-    ensures { result.now ≡ literal_text (slice_get (map part_of parts.now) place) }
+/// The literal text at a place of a template; empty where there is none.
+#[inline(always)]
+pub(crate) fn literal_at(template: &Template, place: usize) -> &str
+    ensures { result.now ≡ literal_text (slice_get template.now place) }
 {
-    match parts.get(place) {
+    match template.part(place) {
         Some(part) => literal_of(part),
         None => "",
     }
 }
 
 /// The text of a literal part; empty where it is another part.
-fn literal_of(part: &Part) -> &str
-    ensures { result.now ≡ literal_text (Some (part_of part.now)) }
+#[inline(always)]
+fn literal_of(part: Part<'_>) -> &str
+    ensures { result.now ≡ literal_text (Some (part_of part.entry)) }
 {
     match part {
-        Part::Literal(text) => text.as_str(),
+        Part::Literal(text) => spelt(text),
         Part::NewLine => "",
         Part::Placeholder { .. } => "",
     }
+}
+
+/// The text itself: its bytes are those of its characters.
+#[inline(always)]
+fn spelt(text: &str) -> &str
+    ensures { result.now ≡ encode_utf8_all (chars text.now) }
+{
+    let _read = text.len();
+    text
 }
 
 /// Where the text of a name comes from.

@@ -3,7 +3,9 @@ use Rattle.std.specs.Prelude.{◌≡◌, ℕ, List, [], ◌∷◌, ◌++◌, map
 use Rattle.std.specs.Str.{chars}
 use Rattle.indicatif_text.specs.declared.template.TemplateError.{TemplateError}
 use Rattle.indicatif_text.specs.declared.template.draft.Draft.{Draft}
-use Rattle.indicatif_text.specs.Template.{TemplatePart, LiteralText, LineBreak, KeyText, part_of, TemplatePiece, Char, Break, SpacedBrace, Keyed, LastBrace, LastKey, Reads, Refuses, is_open_run, without_open_run, onto_literal, joined_parts}
+use Rattle.indicatif_text.specs.declared.template.marks.Kind.{Kind}
+use Rattle.indicatif_text.specs.Template.{TemplatePart, LiteralText, LineBreak, KeyText, TemplatePiece, Char, Break, SpacedBrace, Keyed, LastBrace, LastKey, Reads, Refuses, is_open_run, without_open_run, onto_literal, joined_parts}
+use Rattle.indicatif_text.specs.Inside.Marks.{part_with, part_at}
 
 -- a template that is half read: its parts so far, the literal text that stays whatever follows, and the literal run that an
 -- opening brace at the end would take away
@@ -12,13 +14,13 @@ pub record Sketch : Type 0 where
   pub kept : List ℕ
   pub run : List ℕ
 
--- what the code has drafted, in the words of the grammar: the first bytes of its literal text, as many as it keeps, stay
--- whatever follows; the others are the run
+-- what the code has drafted, in the words of the grammar: behind the texts of its parts, the first bytes of the literal text, as many
+-- as it keeps, stay whatever follows; the others are the run
 unfoldable pub sketch_of : Draft → Sketch
 sketch_of d = record {
-  done = map part_of d.parts.items;
-  kept = chars (take d.kept (string_bytes d.literal));
-  run = chars (drop d.kept (string_bytes d.literal));
+  done = map (part_at (take d.start (string_bytes d.texts))) d.marks.items;
+  kept = chars (take d.kept (drop d.start (string_bytes d.texts)));
+  run = chars (drop d.kept (drop d.start (string_bytes d.texts)));
 }
 
 -- nothing drafted yet
@@ -41,6 +43,10 @@ kept_sketch s = record s { kept = s.kept ++ s.run; run = [] }
 -- a sketch whose literal text was made a part
 abbrev pub closed_sketch : Sketch → Sketch
 closed_sketch s = record { done = sketched_parts s; kept = []; run = [] }
+
+-- a sketch whose text was made a part of this kind
+abbrev pub marked_sketch : Sketch → Kind → Sketch
+marked_sketch s kind = record { done = s.done ++ part_with kind (s.kept ++ s.run) ∷ []; kept = []; run = [] }
 
 -- a sketch with a further part
 abbrev pub with_part : Sketch → TemplatePart → Sketch

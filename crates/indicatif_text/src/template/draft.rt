@@ -1,40 +1,44 @@
 //! A template that is half read.
-ghost use Rattle.std.specs.Prelude.{◌≡◌, ◌∷◌, ◌++◌, [], ◌⊎◌, ◌<◌, map, chars, string_bytes, length, OnOk, IfOk, IfErr, IsCharBoundary};
+ghost use Rattle.std.specs.Prelude.{◌≡◌, ◌∷◌, ◌++◌, [], ◌⊎◌, ◌<◌, chars, string_bytes, take, drop, length, OnOk, IfOk, IfErr, IsCharBoundary};
+ghost use Rattle.indicatif_text.specs.Inside.Marks.{AreIn};
 
 use crate::spans::{Span, split_first, split_span};
+use crate::template::marks::{Kind, Mark};
 use crate::template::reading::{Options, Token, front};
-use crate::template::{Part, TemplateError};
+use crate::template::{Template, TemplateError};
 use std::alloc::{AllocError, Global};
-use std::mem;
 
 /// The most parts for which room is taken before they come.
 const FIRST_PARTS: usize = 16;
 
-/// The parts so far and the literal text behind them. The first `kept` bytes of the text stay whatever follows; the others
-/// are the literal run, which an opening brace at the end would take away.
+/// The parts so far, their texts up to the byte `start`, and behind them the literal text that comes next. Its first `kept` bytes stay
+/// whatever follows; the others are the literal run, which an opening brace at the end would take away.
 #[derive(Drop)]
 pub(super) struct Draft {
-    alloc: Global,
-    parts: Vec<Part>,
-    literal: String,
+    marks: Vec<Mark>,
+    texts: String,
+    start: usize,
     kept: usize,
-    ghost kept_whole: { IsCharBoundary (string_bytes literal) kept },
+    ghost marks_in: { AreIn (take start (string_bytes texts)) marks.items },
+    ghost start_whole: { IsCharBoundary (string_bytes texts) start },
+    ghost kept_whole: { IsCharBoundary (drop start (string_bytes texts)) kept },
 }
 
 impl Draft {
-    ghost use Rattle.indicatif_text.specs.Template.{part_of, Char, SpacedBrace, Keyed, LastBrace, IsRefused};
+    ghost use Rattle.indicatif_text.specs.Template.{LineBreak, Char, SpacedBrace, Keyed, LastBrace, IsRefused};
     ghost use Rattle.indicatif_text.specs.Inside.Reading.{piece_of, layout_of};
-    ghost use Rattle.indicatif_text.specs.Inside.Draft.{GoesOn, sketch_of, empty_sketch, sketched_parts, kept_sketch, closed_sketch, with_part, with_run, added};
+    ghost use Rattle.indicatif_text.specs.Inside.Draft.{GoesOn, sketch_of, empty_sketch, sketched_parts, kept_sketch, closed_sketch, marked_sketch, with_part, with_run, added};
 
-    /// Nothing so far, with room for a part to every eight bytes of a text of `len` bytes, but for a few alone.
+    /// Nothing so far, with room for the texts of a text of `len` bytes, and for a part to every four of them, but for a few alone.
     pub(super) fn new(alloc: Global, len: usize) -> Result<Draft, AllocError>
         ensures { IfOk result (λ draft. sketch_of draft ≡ empty_sketch) }
     {
-        let parts = Vec::with_capacity(alloc, (len / 8 + 1).min(FIRST_PARTS))?;
+        let marks = Vec::with_capacity(alloc, (len / 4 + 1).min(FIRST_PARTS))?;
+        let texts = String::with_capacity(alloc, len)?;
         Ok(Draft {
-            alloc,
-            parts,
-            literal: String::new(alloc),
+            marks,
+            texts,
+            start: 0,
             kept: 0,
         })
     }
@@ -43,36 +47,44 @@ impl Draft {
     fn keep_run(&mut self)
         ensures { sketch_of self.new ≡ kept_sketch (sketch_of self.old) }
     {
-        self.kept = self.literal.len();
+        self.kept = self.texts.len() - self.start;
+    }
+
+    /// Makes the text behind the parts the text of a further part.
+    fn close(&mut self, kind: Kind) -> Result<(), AllocError>
+        ensures { OnOk result (sketch_of self.new ≡ marked_sketch (sketch_of self.old) kind) }
+    {
+        let start = self.start;
+        let end = self.texts.len();
+        self.marks.push(Mark { kind, start, end })?;
+        self.start = end;
+        self.kept = 0;
+        Ok(())
     }
 
     /// Makes a part of the literal text, if there is one.
     fn close_literal(&mut self) -> Result<(), AllocError>
         ensures { OnOk result (sketch_of self.new ≡ closed_sketch (sketch_of self.old)) }
     {
-        if self.literal.is_empty() {
+        if self.texts.len() == self.start {
             return Ok(());
         }
-        let literal = mem::replace(&mut self.literal, String::new(self.alloc));
-        self.kept = 0;
-        self.parts.push(Part::Literal(literal))?;
-        Ok(())
+        self.close(Kind::Literal)
     }
 
-    /// Puts a part behind the literal text.
-    fn push_part(&mut self, part: Part) -> Result<(), AllocError>
-        ensures { OnOk result (sketch_of self.new ≡ with_part (sketch_of self.old) (part_of part)) }
+    /// Adds the end of a line.
+    fn push_new_line(&mut self) -> Result<(), AllocError>
+        ensures { OnOk result (sketch_of self.new ≡ with_part (sketch_of self.old) LineBreak) }
     {
         self.close_literal()?;
-        self.parts.push(part)?;
-        Ok(())
+        self.close(Kind::NewLine)
     }
 
     /// Adds characters that stand for themselves.
     fn push_run(&mut self, text: &str) -> Result<(), AllocError>
         ensures { OnOk result (sketch_of self.new ≡ with_run (sketch_of self.old) (chars text.now)) }
     {
-        self.literal.push_str(text)?;
+        self.texts.push_str(text)?;
         Ok(())
     }
 
@@ -80,7 +92,7 @@ impl Draft {
     fn push_literal(&mut self, c: char) -> Result<(), AllocError>
         ensures { OnOk result (sketch_of self.new ≡ added (sketch_of self.old) (Char c)) }
     {
-        self.literal.push(c)?;
+        self.texts.push(c)?;
         Ok(())
     }
 
@@ -88,7 +100,7 @@ impl Draft {
     fn drop_run(&mut self)
         ensures { sketch_of self.new ≡ added (sketch_of self.old) LastBrace }
     {
-        self.literal.truncate(self.kept);
+        self.texts.truncate(self.start + self.kept);
     }
 
     /// Adds an opening brace that a white space makes literal.
@@ -106,15 +118,9 @@ impl Draft {
     fn push_placeholder(&mut self, key: &str, options: Options) -> Result<(), AllocError>
         ensures { OnOk result (sketch_of self.new ≡ added (sketch_of self.old) (Keyed (chars key.now) (layout_of options))) }
     {
-        let key = String::from_str(self.alloc, key)?;
-        self.push_part(Part::Placeholder {
-            key,
-            align: options.align,
-            width: options.width,
-            truncate: options.truncate,
-            style: options.style,
-            alternative: options.alternative,
-        })
+        self.close_literal()?;
+        self.push_run(key)?;
+        self.close(Kind::Placeholder(options))
     }
 
     /// Adds a token.
@@ -123,7 +129,7 @@ impl Draft {
     {
         match token {
             Token::Literal(c) => self.push_literal(c),
-            Token::NewLine => self.push_part(Part::NewLine),
+            Token::NewLine => self.push_new_line(),
             Token::Spaced(key, space) => self.push_spaced(key, space),
             Token::Placeholder(key, options) => self.push_placeholder(key, options),
             Token::OpenBrace => {
@@ -152,11 +158,12 @@ impl Draft {
         Ok(rest)
     }
 
-    /// The parts of a text that was read to its end.
-    pub(super) fn finish(mut self) -> Result<Vec<Part>, AllocError>
-        ensures { IfOk result (λ parts. map part_of parts.items ≡ sketched_parts (sketch_of self)) }
+    /// The template of a text that was read to its end.
+    pub(super) fn finish(mut self) -> Result<Template, AllocError>
+        ensures { IfOk result (λ template. template ≡ sketched_parts (sketch_of self)) }
     {
         self.close_literal()?;
-        Ok(self.parts)
+        let (texts, marks) = (self.texts, self.marks);
+        Ok(Template { texts, marks })
     }
 }

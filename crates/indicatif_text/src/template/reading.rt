@@ -11,7 +11,7 @@ use crate::style_words::Style;
 use crate::template::{Alignment, TemplateError};
 
 /// How a placeholder's text is laid out.
-#[derive(Clone, Copy, Drop)]
+#[derive(Clone, Copy, Debug, Drop)]
 pub(super) struct Options {
     pub align: Alignment,
     pub width: Option<u16>,

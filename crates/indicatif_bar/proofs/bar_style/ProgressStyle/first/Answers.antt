@@ -1,5 +1,4 @@
 use Rattle.std.proofs.Common.{◌∙◌, sym, ap, subst, map}
-use Rattle.indicatif_text.specs.Template.{part_of}
 use Rattle.indicatif_bar.specs.Inside.Steps.{effect_of, effect_of_part, names_of}
 use Rattle.indicatif_bar.specs.Trackers.{entries}
 use Rattle.indicatif_bar.specs.StyleLaws.{AreTaken}
@@ -9,9 +8,9 @@ use Rattle.indicatif_bar.proofs.bar_style.ProgressStyle.first.Goals as goal
 
 pub invariant_of-result : goal.invariant_of-result
 invariant_of-result g c = (
-  ap (λ parts. map (effect_of parts) c.in_ok-steps.steps.items) (sym (c.parts.ensures ∙ sym c.in_ok-new.ensures.ok))
-      ∙ c.in_ok-steps.ensures.steps ∙ ap (λ keys. map (effect_of_part (names_of keys) 8) (map part_of c.parts.result.now)) c.as_slice.ensures.value
-      ∙ ap (map (effect_of_part (names_of c.new-keys.result.items) 8)) (c.parts.ensures ∙ sym c.in_ok-new.ensures.ok),
+  ap (λ parts. map (effect_of parts) c.in_ok-steps.steps.items) c.in_ok-new.ensures.ok
+      ∙ c.in_ok-steps.ensures.steps ∙ ap (λ keys. map (effect_of_part (names_of keys) 8) c.args.template) c.as_slice.ensures.value
+      ∙ ap (map (effect_of_part (names_of c.new-keys.result.items) 8)) (sym c.in_ok-new.ensures.ok),
   many_clusters,
   wide_cluster,
   many_ticks,

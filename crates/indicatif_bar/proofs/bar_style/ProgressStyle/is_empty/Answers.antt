@@ -1,6 +1,5 @@
 use Rattle.std.proofs.Common.{◌≡◌, ◌<◌, ◌≤◌, ◌∙◌, refl, sym, ap, arith, length, map, drop}
 use Rattle.std.specs.List.{list_all}
-use Rattle.indicatif_text.specs.Template.{part_of}
 use Rattle.indicatif_bar.specs.Inside.Steps.{effect_of, is_empty_effect}
 use Rattle.indicatif_bar.proofs.LinesLemmas.{deeds_are}
 use Rattle.indicatif_bar.proofs.EmptyStyleLemmas.{empty_by_steps, some_step, no_step}
@@ -12,8 +11,8 @@ returns-then-not-is_empty_step g c =
     let state = c.args.state.now in
     let items = c.self.inside.steps.items in
     let steps = c.deref-step-items.result.now in
-    let does = effect_of (map part_of c.parts-parts.result.now) in
-    let made = ap (λ parts. map (effect_of parts) items) (c.parts-parts.ensures ∙ c.deref.ensures) ∙ c.self.invariant.0 in
+    let does = effect_of c.deref-template.result.now in
+    let made = ap (λ parts. map (effect_of parts) items) c.deref-template.ensures ∙ c.self.invariant.0 in
     let deeds = deeds_are c.self.inside.keys.items _ style (map does items) refl made c.self.view_is in
     let whole = empty_by_steps style state ∙ ap (list_all (is_empty_effect style state)) (sym deeds) in
     let all = ap (λ xs. list_all (is_empty_effect style state) (map does xs)) c.deref-step-items.ensures.value in
@@ -28,8 +27,8 @@ returns g c =
     let state = c.args.state.now in
     let items = c.self.inside.steps.items in
     let steps = c.deref-step-items.result.now in
-    let does = effect_of (map part_of c.parts-parts.result.now) in
-    let made = ap (λ parts. map (effect_of parts) items) (c.parts-parts.ensures ∙ c.deref.ensures) ∙ c.self.invariant.0 in
+    let does = effect_of c.deref-template.result.now in
+    let made = ap (λ parts. map (effect_of parts) items) c.deref-template.ensures ∙ c.self.invariant.0 in
     let deeds = deeds_are c.self.inside.keys.items _ style (map does items) refl made c.self.view_is in
     let whole = empty_by_steps style state ∙ ap (list_all (is_empty_effect style state)) (sym deeds) in
     let all = ap (λ xs. list_all (is_empty_effect style state) (map does xs)) c.deref-step-items.ensures.value in

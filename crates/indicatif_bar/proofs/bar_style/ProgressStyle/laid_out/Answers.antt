@@ -1,7 +1,6 @@
 use Rattle.std.proofs.Common.{◌≡◌, ◌≤◌, ◌++◌, [], None, true, false, refl, length, arith, append-nil, ◌∙◌, sym, ap, map, drop, string_bytes}
 use Rattle.std.specs.Prelude.{option_map, ◌==◌}
 use Rattle.std.proofs.Math.ListN.{drop_of_length-le}
-use Rattle.indicatif_text.specs.Template.{part_of}
 use Rattle.indicatif_term.specs.Frames.{line_text}
 use Rattle.indicatif_bar.specs.BarStyles.{lines_with}
 use Rattle.indicatif_bar.specs.Inside.Steps.{effect_of, wide_found}
@@ -15,8 +14,8 @@ returns-then-is_empty-clause-lines g c =
     let style = c.args.self.now in
     let state = c.args.state.now in
     let items = c.self.inside.steps.items in
-    let does = effect_of (map part_of c.parts-parts.result.now) in
-    let made = ap (λ parts. map (effect_of parts) items) (c.parts-parts.ensures ∙ c.deref.ensures) ∙ c.self.invariant.0 in
+    let does = effect_of c.deref-template.result.now in
+    let made = ap (λ parts. map (effect_of parts) items) c.deref-template.ensures ∙ c.self.invariant.0 in
     let deeds = deeds_are c.self.inside.keys.items _ style (map does items) refl made c.self.view_is in
     let whole = ap (lines_from m style state c.args.now c.args.width None []) deeds ∙ sym (lines_by_steps m style state c.args.now c.args.width) in
     let steps = c.deref-step-items.result.now in
@@ -37,8 +36,8 @@ returns-clause-lines g c =
     let style = c.args.self.now in
     let state = c.args.state.now in
     let items = c.self.inside.steps.items in
-    let does = effect_of (map part_of c.parts-parts.result.now) in
-    let made = ap (λ parts. map (effect_of parts) items) (c.parts-parts.ensures ∙ c.deref.ensures) ∙ c.self.invariant.0 in
+    let does = effect_of c.deref-template.result.now in
+    let made = ap (λ parts. map (effect_of parts) items) c.deref-template.ensures ∙ c.self.invariant.0 in
     let deeds = deeds_are c.self.inside.keys.items _ style (map does items) refl made c.self.view_is in
     let whole = ap (lines_from m style state c.args.now c.args.width None []) deeds ∙ sym (lines_by_steps m style state c.args.now c.args.width) in
     let steps = c.deref-step-items.result.now in

@@ -1,5 +1,4 @@
-use Rattle.std.proofs.Common.{◌∙◌, Some, sym, ap, string_bytes}
-use Rattle.std.proofs.lemmas.Str.{encodes-chars, IsUtf8-string_bytes}
+use Rattle.std.proofs.Common.{◌∙◌, Some, sym, ap}
 use Rattle.indicatif_text.specs.Template.{part_of}
 use Rattle.indicatif_bar.specs.Inside.Steps.{literal_text}
 use Rattle.indicatif_bar.proofs.style.steps.literal_of.Goals as goal
@@ -7,7 +6,7 @@ use Rattle.indicatif_bar.proofs.style.steps.literal_of.Goals as goal
 pub returns-in-Literal : goal.returns-in-Literal
 unfolding part_of
 returns-in-Literal c =
-    c.as_str.ensures.value ∙ sym (encodes-chars (string_bytes c.in-Literal.text) (IsUtf8-string_bytes c.in-Literal.text))
+    c.spelt.ensures
     ∙ ap (λ part. literal_text (Some (part_of part))) (sym c.in-Literal.is)
 
 pub returns-in-NewLine : goal.returns-in-NewLine

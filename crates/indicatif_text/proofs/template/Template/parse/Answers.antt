@@ -1,6 +1,6 @@
 use Rattle.std.proofs.Common.{◌∙◌, sym, subst, refl}
-use Rattle.std.specs.Prelude.{chars, map}
-use Rattle.indicatif_text.specs.Template.{part_of, Parses}
+use Rattle.std.specs.Prelude.{chars}
+use Rattle.indicatif_text.specs.Template.{Parses}
 use Rattle.indicatif_text.specs.Inside.Draft.{sketch_of}
 use Rattle.indicatif_text.proofs.OptionLemmas.{is_no_text}
 use Rattle.indicatif_text.proofs.SketchLemmas.{leads_parse}
@@ -28,14 +28,14 @@ pub returns-clause-parses : goal.returns-clause-parses
 returns-clause-parses c =
     let text = chars c.args.text.now in
     let none = is_no_text c.loop-rest.rest.now (sym c.loop-rest-test.false ∙ c.is_empty.ensures) in
-    let made = map part_of c.in_ok-parts.parts.items in
+    let made = c.in_ok-template.template in
     let parsed = leads_parse text (chars c.loop-rest.rest.now) (sketch_of c.loop-rest.draft) none c.loop-rest.invariant.1 in
-    parsed_ok text made (subst (Parses text) (sym c.in_ok-parts.ensures) parsed) _ refl
+    parsed_ok text made (subst (Parses text) (sym c.in_ok-template.ensures) parsed) _ refl
 
 pub returns-clause-refused : goal.returns-clause-refused
 returns-clause-refused c =
     let text = chars c.args.text.now in
     let none = is_no_text c.loop-rest.rest.now (sym c.loop-rest-test.false ∙ c.is_empty.ensures) in
-    let made = map part_of c.in_ok-parts.parts.items in
+    let made = c.in_ok-template.template in
     let parsed = leads_parse text (chars c.loop-rest.rest.now) (sketch_of c.loop-rest.draft) none c.loop-rest.invariant.1 in
-    refused_ok text made (subst (Parses text) (sym c.in_ok-parts.ensures) parsed) _ refl
+    refused_ok text made (subst (Parses text) (sym c.in_ok-template.ensures) parsed) _ refl

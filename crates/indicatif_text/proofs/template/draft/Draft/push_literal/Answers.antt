@@ -1,24 +1,34 @@
-use Rattle.std.proofs.Common.{◌∙◌, ◌++◌, ap, refl}
-use Rattle.std.specs.Prelude.{chars, string_bytes, take, drop}
+use Rattle.std.proofs.Common.{◌∙◌, ◌++◌, ap}
+use Rattle.std.specs.Prelude.{chars, string_bytes, take, drop, map}
 use Rattle.std.proofs.lemmas.Str.{IsUtf8-string_bytes, IsUtf8-encode}
 use Rattle.indicatif_text.specs.Inside.Draft.{sketch_of, added}
+use Rattle.indicatif_text.specs.Inside.Marks.{part_at}
 use Rattle.indicatif_text.specs.Template.{Char}
-use Rattle.indicatif_text.proofs.DraftLemmas.{same_sketch, more_kept, more_run, pushed_boundary, chars_one}
+use Rattle.indicatif_text.proofs.DraftLemmas.{same_sketch, pushed_boundary, pushed_in, pushed_whole, pushed_front, pushed_kept, pushed_run, chars_one}
 use Rattle.indicatif_text.proofs.template.draft.Draft.push_literal.Goals as goal
 
 pub invariant_of-self : goal.invariant_of-self
 invariant_of-self c =
     let old = c.args.self.now in
     let char = IsUtf8-encode c.args.c c.ranges.c.0 in
-    record { kept_whole = pushed_boundary (string_bytes old.literal) old.kept (IsUtf8-string_bytes old.literal) old.kept_whole _ _ _ c.push.ensures.bytes char }
+    let bytes = string_bytes old.texts in
+    let utf8 = IsUtf8-string_bytes old.texts in
+    record {
+      marks_in = pushed_in bytes old.start old.kept utf8 old.start_whole old.kept_whole old.marks.items old.marks_in _ _ _ c.push.ensures.bytes;
+      start_whole = pushed_boundary bytes old.start utf8 old.start_whole _ _ _ c.push.ensures.bytes char;
+      kept_whole = pushed_whole bytes old.start old.kept utf8 old.start_whole old.kept_whole old.marks.items old.marks_in _ _ _ c.push.ensures.bytes char;
+    }
 
 pub returns : goal.returns
 unfolding sketch_of
 returns c =
     let old = c.args.self.now in
-    let bytes = string_bytes old.literal in
-    let utf8 = IsUtf8-string_bytes old.literal in
-    same_sketch _ (added (sketch_of old) (Char c.args.c)) refl
-    (ap (λ bs. chars (take old.kept bs)) c.in_ok-push.ensures.bytes ∙ more_kept bytes old.kept utf8 old.kept_whole _)
-    (ap (λ bs. chars (drop old.kept bs)) c.in_ok-push.ensures.bytes ∙ more_run bytes old.kept utf8 old.kept_whole _
-    ∙ ap (λ x. chars (drop old.kept bytes) ++ x) (chars_one c.args.c c.ranges.c.0))
+    let bytes = string_bytes old.texts in
+    let utf8 = IsUtf8-string_bytes old.texts in
+    let after = c.in_ok-push.ensures.bytes in
+    same_sketch _ (added (sketch_of old) (Char c.args.c))
+    (ap (λ bs. map (part_at (take old.start bs)) old.marks.items) after
+    ∙ ap (λ bs. map (part_at bs) old.marks.items) (pushed_front bytes old.start old.kept utf8 old.start_whole old.kept_whole old.marks.items old.marks_in _))
+    (ap (λ bs. chars (take old.kept (drop old.start bs))) after ∙ pushed_kept bytes old.start old.kept utf8 old.start_whole old.kept_whole old.marks.items old.marks_in _)
+    (ap (λ bs. chars (drop old.kept (drop old.start bs))) after ∙ pushed_run bytes old.start old.kept utf8 old.start_whole old.kept_whole old.marks.items old.marks_in _
+    ∙ ap (λ x. chars (drop old.kept (drop old.start bytes)) ++ x) (chars_one c.args.c c.ranges.c.0))

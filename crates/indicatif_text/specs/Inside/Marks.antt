@@ -1,0 +1,26 @@
+-- The parts of a template as they are stored: their texts are one list of bytes, and each part knows the place of its own.
+use Rattle.std.specs.Prelude.{◌≤◌, ℕ, List, slice_range, All, IsCharBoundary}
+use Rattle.std.specs.Str.{chars}
+use Rattle.indicatif_text.specs.declared.template.marks.Kind.{Kind}
+use Rattle.indicatif_text.specs.declared.template.marks.Kind.TheVariants.{Literal, NewLine, Placeholder}
+use Rattle.indicatif_text.specs.declared.template.marks.Mark.{Mark}
+use Rattle.indicatif_text.specs.Template.{TemplatePart, LiteralText, LineBreak, KeyText}
+use Rattle.indicatif_text.specs.Inside.Reading.{layout_of}
+
+-- a part of this kind and text
+abbrev pub part_with : Kind → List ℕ → TemplatePart
+part_with Literal text = LiteralText text
+part_with NewLine text = LineBreak
+part_with (Placeholder options) text = KeyText text (layout_of options)
+
+-- what a stored part is, by the bytes of all texts
+abbrev pub part_at : List ℕ → Mark → TemplatePart
+part_at texts mark = part_with mark.kind (chars (slice_range texts mark.start mark.end))
+
+-- the text of a stored part is a text of its own among all
+abbrev pub IsIn : List ℕ → Mark → Type 0
+IsIn texts mark = (mark.start ≤ mark.end) × IsCharBoundary texts mark.start × IsCharBoundary texts mark.end
+
+-- and that of each of these
+abbrev pub AreIn : List ℕ → List Mark → Type 0
+AreIn texts marks = All (IsIn texts) marks
