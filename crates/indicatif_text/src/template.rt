@@ -1,5 +1,5 @@
 //! Templates: a text with placeholders, read into its parts.
-ghost use Rattle.std.specs.Prelude.{◌≡◌, ◌≢◌, ◌↔◌, List, map, chars};
+ghost use Rattle.std.specs.Prelude.{◌≡◌, ◌≢◌, ◌↔◌, ◌<◌, List, map, chars, length};
 ghost use Rattle.indicatif_text.specs.declared.template.TemplateError.{TemplateError};
 ghost use Rattle.indicatif_text.specs.Template.{TemplatePart, part_of, Parses, IsRefused};
 
@@ -104,7 +104,7 @@ impl Template {
     /// Refused, at the first character in reading order: `Unexpected` where the character fits no case, with its state:
     /// `MaybeOpen` for a `}` or a `:` right behind a `{`, `DoubleClose` for another character behind a single `}`,
     /// `Align` right behind the `:` of a placeholder, `Width` later in its options before a `.`; `WidthTooLarge` where
-    /// a width past 65,535 ends. `Memory`: nothing is made.
+    /// a width past 65,535 ends. `Memory`, never of an empty text: nothing is made.
     ///
     /// ```
     /// assert_eq!(Template::parse(alloc, "{{x}}")?.parts().len(), 1);
@@ -115,7 +115,13 @@ impl Template {
             ((result ≡ Ok parts) ↔ Parses (chars text.now) parts) }
         ensures refused { (error : TemplateError) → result ≢ Err TemplateError.Memory →
             ((result ≡ Err error) ↔ IsRefused (chars text.now) error) }
+        ensures memory { result ≡ Err TemplateError.Memory → 0 < length text.now }
     {
+        if text.is_empty() {
+            return Ok(Template {
+                parts: Vec::new(alloc),
+            });
+        }
         let mut draft = Draft::new(alloc, text.len())?;
         let mut rest = text;
         while !rest.is_empty() {
