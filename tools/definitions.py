@@ -61,6 +61,7 @@ SOURCES = {
         "Counts": (OWN, {}),
         "Engines": (OWN, {}),
         "Events": (OWN, {}),
+        "Feeding": (OWN, {}),
         "Frames": (OWN, {CRATE: "line_text logged_lines"}),
         "Limiters": (CRATE, {}),
         "Lists": (OWN, {}),

@@ -36,7 +36,7 @@ whole_of_three c f s t is e f₁ f₂ s₁ s₂ t₁ t₂ = record {
 }
 
 -- what a character asks for that is no control character of ASCII
-asked : (c : ℕ) → 0x20 ≤ c → (plain_ops c ≡ Put c ∷ []) × (plain_place c ≡ OutsideSequence)
+pub asked : (c : ℕ) → 0x20 ≤ c → (plain_ops c ≡ Put c ∷ []) × (plain_place c ≡ OutsideSequence)
 asked c h =
     let escape : eqb c 0x1B ≡ false = ne_eqb c 0x1B (λ e. omega arith) in
     let return : eqb c 0x0D ≡ false = ne_eqb c 0x0D (λ e. omega arith) in

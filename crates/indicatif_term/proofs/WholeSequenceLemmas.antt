@@ -10,7 +10,7 @@ use Rattle.indicatif_term.specs.Inside.Scanners.{IsWholeSequence, IsSequenceFron
 use Rattle.indicatif_term.proofs.FeedLemmas.{ops_of-append, reader_after-append, same_terminal}
 use Rattle.indicatif_term.proofs.ReaderLemmas.{Spells, char_read}
 
-ascii_read : (r : Reader) (b : ℕ) → b < 128 → Spells r (b ∷ []) b
+pub ascii_read : (r : Reader) (b : ℕ) → b < 128 → Spells r (b ∷ []) b
 ascii_read r b h = subst (λ bytes. Spells r bytes b) (encode_ascii b h) (char_read r b (low_scalar b (omega arith)))
 
 abbrev inside : Option ℕ → Reader

@@ -1,9 +1,9 @@
 -- That what a template was read as decides both sides of its contract.
-use Rattle.std.proofs.Common.{◌≡◌, ℕ, ◌<◌, ◌⊎◌, inl, inr, false, List, length, sym, ◌∙◌, ap, subst}
+use Rattle.std.proofs.Common.{◌≡◌, ℕ, ◌<◌, ◌⊎◌, inl, inr, false, List, [], length, sym, ◌∙◌, ap, subst}
 use Rattle.std.specs.Prelude.{◌≢◌, ◌↔◌, ◌==◌, chars, IsUtf8, Result, Ok, Err, IsErrAnd}
 use Rattle.indicatif_text.specs.declared.template.TemplateError.{TemplateError}
 use Rattle.indicatif_text.specs.declared.template.TemplateError.TheVariants.{Memory}
-use Rattle.indicatif_text.specs.Template.{TemplatePart, Parses, IsRefused}
+use Rattle.indicatif_text.specs.Template.{TemplatePart, Parses, IsRefused, end, parts_of}
 use Rattle.std.proofs.Math.Nat.{pos_of_ne-zero}
 use Rattle.std.proofs.lemmas.Bool.{eqb-false}
 use Rattle.indicatif_text.specs.Inside.Draft.{Sketch, empty_sketch, GoesOn}
@@ -54,3 +54,10 @@ handed_back text rest s x leads h = elim h [ inl memory ↦ inl memory | inr t �
 
 pub some_length : (bs : List ℕ) → IsUtf8 bs → false ≡ (length bs == 0) → 0 < length (chars bs)
 some_length bs u some = pos_of_ne-zero (eqb-false (length (chars bs)) 0 (has_chars bs u some))
+
+-- ---- the empty text
+
+-- it is a template of no parts
+pub parses_none : (text : List ℕ) (parts : List TemplatePart) → text ≡ [] → parts ≡ [] → Parses text parts
+unfolding parts_of
+parses_none text parts e none = subst (λ t. Parses t parts) (sym e) (record { pieces = []; reads = end; makes = sym none })

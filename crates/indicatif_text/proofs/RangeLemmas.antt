@@ -55,6 +55,17 @@ leaves_none old out left whole l e = subst (Appends old out) (sym (l.parts ∙ a
 pub leaves_grown : (old out left whole new : List ℕ) → LeavesText old out left whole → Grows out new → Grows old new
 leaves_grown old out left whole new l g = (l.front ++ g.0, both old out new l.front g.0 l.is g.1)
 
+-- what comes next ends within the whole
+pub leaves_room : (old out left more rest whole : List ℕ) → LeavesText old out left whole → left ≡ more ++ rest
+    → length out + length (encode_utf8_all more) ≤ length old + length (encode_utf8_all whole)
+leaves_room old out left more rest whole l e =
+    let before = encode_utf8_all l.front in
+    let now = encode_utf8_all more in
+    let behind = encode_utf8_all rest in
+    let parts : encode_utf8_all whole ≡ before ++ (now ++ behind) =
+    ap encode_utf8_all (l.parts ∙ ap (λ x. l.front ++ x) e) ∙ encodes-append l.front (more ++ rest) ∙ ap (λ x. before ++ x) (encodes-append more rest) in
+    omega (arith, ap length parts, length-append before (now ++ behind), length-append now behind, ap length l.is, length-append old before)
+
 -- what it was before begins a character, or is all
 pub seam : (old new : List ℕ) (n : ℕ) → n ≡ length old → IsUtf8 old → IsUtf8 new → Grows old new → IsCharBoundary new n
 seam old new n at u v g =

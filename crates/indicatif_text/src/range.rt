@@ -1,5 +1,5 @@
 //! Text cut by columns.
-ghost use Rattle.std.specs.Prelude.{◌≡◌, ◌+◌, ◌<◌, ◌^◌, chars, sum_by, string_bytes, OnOk, OnErr, IfOk, IfErr};
+ghost use Rattle.std.specs.Prelude.{◌≡◌, ◌+◌, ◌<◌, ◌≤◌, ◌^◌, chars, length, sum_by, encode_utf8_all, string_bytes, string_len, string_capacity, OnOk, OnErr, IfOk, IfErr};
 ghost use Rattle.indicatif_text.specs.Columns.{width_of};
 ghost use Rattle.indicatif_text.specs.Range.{Appends, ansi_range, run_within};
 ghost use Rattle.indicatif_text.specs.Inside.Growing.{Grows};
@@ -14,7 +14,7 @@ use std::alloc::AllocError;
 /// that lies wholly within those columns, where the run between sequences that it belongs to begins before `end`. Columns
 /// are those of Unicode's East Asian Width (UAX #11), counted from 0 over the text without its sequences.
 ///
-/// Refused: `Memory`; `out` is as before then.
+/// Refused: `Memory`, only where `out` has no room for all of it; `out` is as before then.
 ///
 /// # Examples
 ///
@@ -29,6 +29,8 @@ pub fn write_ansi_range(
         (ansi_range (chars text.now) start end)) }
     ensures memory { IfErr result (λ e. e ≡ Refusal.Memory) }
     ensures unchanged { OnErr result (string_bytes out.new ≡ string_bytes out.old) }
+    ensures full { OnErr result (string_capacity out.old
+        < string_len out.old + length (encode_utf8_all (ansi_range (chars text.now) start end))) }
 {
     let before = out.as_str().len();
     if push_range(text, start, end, out).is_err() {
@@ -43,6 +45,8 @@ fn push_range(text: &str, start: usize, end: usize, out: &mut String) -> Result<
     ensures range { OnOk result (Appends (string_bytes out.old) (string_bytes out.new)
         (ansi_range (chars text.now) start end)) }
     ensures grown { Grows (string_bytes out.old) (string_bytes out.new) }
+    ensures full { OnErr result (string_capacity out.old
+        < string_len out.old + length (encode_utf8_all (ansi_range (chars text.now) start end))) }
 {
     let mut column: usize = 0;
     let mut rest = columns::pieces(text);
@@ -68,6 +72,9 @@ fn push_run(
     ensures text { OnOk result (Appends (string_bytes out.old) (string_bytes out.new)
         (run_within range.0 range.1 column (chars run.now))) }
     ensures grown { Grows (string_bytes out.old) (string_bytes out.new) }
+    ensures capacity { string_capacity out.old ≤ string_capacity out.new }
+    ensures full { OnErr result (string_capacity out.old
+        < string_len out.old + length (encode_utf8_all (run_within range.0 range.1 column (chars run.now)))) }
 {
     let (start, end) = range;
     let shown = column < end;
@@ -89,6 +96,9 @@ fn push_run(
 fn push_piece(text: &str, out: &mut String) -> Result<(), AllocError>
     ensures text { OnOk result (Appends (string_bytes out.old) (string_bytes out.new) (chars text.now)) }
     ensures grown { Grows (string_bytes out.old) (string_bytes out.new) }
+    ensures capacity { string_capacity out.old ≤ string_capacity out.new }
+    ensures full { OnErr result (string_capacity out.old
+        < string_len out.old + length (encode_utf8_all (chars text.now))) }
 {
     out.push_str(text)?;
     Ok(())

@@ -1,5 +1,5 @@
 //! Templates: a text with placeholders, read into its parts.
-ghost use Rattle.std.specs.Prelude.{◌≡◌, ◌≢◌, ◌↔◌, List, length, chars, option_map};
+ghost use Rattle.std.specs.Prelude.{◌≡◌, ◌≢◌, ◌↔◌, ◌<◌, List, [], length, chars, option_map};
 ghost use Rattle.std.specs.List.{slice_get};
 ghost use Rattle.std.specs.Iterator.{YieldsFirstBy, item_count};
 ghost use Rattle.indicatif_text.specs.declared.template.TemplateError.{TemplateError};
@@ -113,7 +113,7 @@ impl Template {
     /// Refused, at the first character in reading order: `Unexpected` where the character fits no case, with its state:
     /// `MaybeOpen` for a `}` or a `:` right behind a `{`, `DoubleClose` for another character behind a single `}`,
     /// `Align` right behind the `:` of a placeholder, `Width` later in its options before a `.`; `WidthTooLarge` where
-    /// a width past 65,535 ends. `Memory`: nothing is made.
+    /// a width past 65,535 ends. `Memory`, never of an empty text: nothing is made.
     ///
     /// ```
     /// assert_eq!(Template::parse(alloc, "{{x}}")?.part_count(), 1);
@@ -124,7 +124,11 @@ impl Template {
             ((result ≡ Ok parts) ↔ Parses (chars text.now) parts) }
         ensures refused { (error : TemplateError) → result ≢ Err TemplateError.Memory →
             ((result ≡ Err error) ↔ IsRefused (chars text.now) error) }
+        ensures memory { result ≡ Err TemplateError.Memory → 0 < length text.now }
     {
+        if text.is_empty() {
+            return Ok(Template::empty(alloc));
+        }
         let mut draft = Draft::new(alloc, text.len())?;
         let mut rest = text;
         while !rest.is_empty() {
@@ -132,6 +136,16 @@ impl Template {
         }
         let template = draft.finish()?;
         Ok(template)
+    }
+
+    /// No parts. Takes no memory.
+    fn empty(alloc: Global) -> Template
+        ensures { result ≡ [] }
+    {
+        Template {
+            texts: String::new(alloc),
+            marks: Vec::new(alloc),
+        }
     }
 
     /// How many parts there are.

@@ -1,7 +1,8 @@
 //! The cell terminal: a machine over bytes.
-ghost use Rattle.std.specs.Prelude.{◌≡◌, ◌∷◌, [], ◌⊎◌, ◌↔◌, ◌-◌, ◌<◌, ◌≤◌, ◌==◌, ◌&&◌, take, map, length, Err, IfOk, IfErr, IsFalse, OnOk, OnErr, string_bytes};
+ghost use Rattle.std.specs.Prelude.{◌≡◌, ◌∷◌, [], ◌⊎◌, ◌↔◌, ◌-◌, ◌<◌, ◌≤◌, ◌==◌, ◌&&◌, take, drop, map, length, Err, IfOk, IfErr, IsTrue, IsFalse, OnOk, OnErr, string_bytes};
 ghost use Rattle.indicatif_term.specs.Screen.{top};
-ghost use Rattle.indicatif_term.specs.Terminal.{after, blank_terminal, idle};
+ghost use Rattle.indicatif_term.specs.Terminal.{after, blank_terminal, idle, byte_ops};
+ghost use Rattle.indicatif_term.specs.Feeding.{first_takes_memory, feeding_takes_memory};
 ghost use Rattle.indicatif_term.specs.Inside.Scanners.{IsWholeChar, IsWholeSequence};
 ghost use Rattle.indicatif_term.specs.Pictures.{contents_text, picture_text};
 ghost use Rattle.indicatif_term.specs.Resizes.{resized_terminal};
@@ -71,12 +72,14 @@ impl Cells {
     /// // contents: "\u{56FD}", of two columns: cursor (0, 2)
     /// ```
     ///
-    /// Refused: `Memory`, with how many bytes were read; the terminal is the one after these.
+    /// Refused: `Memory`, with how many bytes were read; the terminal is the one after these. It comes only where the bytes that are
+    /// left first put a character, or feed a line on the last row.
     pub fn feed(&mut self, bytes: &[u8]) -> Result<(), (usize, Refusal)>
         ensures fed { OnOk result (self.new ≡ after self.old bytes.now) }
         ensures stopped { IfErr result (λ e. self.new ≡ after self.old (take e.0 bytes.now)) }
         ensures within { IfErr result (λ e. e.0 < length bytes.now) }
         ensures refused { IfErr result (λ e. e.1 ≡ Refusal.Memory) }
+        ensures memory { IfErr result (λ e. IsTrue (feeding_takes_memory self.new (drop e.0 bytes.now))) }
     {
         let mut read = 0;
         while read < bytes.len() {
@@ -95,6 +98,7 @@ impl Cells {
         ensures some { IfOk result (λ n. 0 < n) }
         ensures within { IfOk result (λ n. n ≤ length bytes.now) }
         ensures err { OnErr result (self.new ≡ self.old) }
+        ensures memory { OnErr result (IsTrue (feeding_takes_memory self.old bytes.now)) }
         ensures refused { IfErr result (λ e. e ≡ Refusal.Memory) }
     {
         if self.scanner.is_idle() {
@@ -112,6 +116,7 @@ impl Cells {
         ensures some { IfOk result (λ n. 0 < n) }
         ensures within { IfOk result (λ n. n ≤ length bytes.now) }
         ensures err { OnErr result (self.new ≡ self.old) }
+        ensures memory { OnErr result (IsTrue (feeding_takes_memory self.old bytes.now)) }
         ensures refused { IfErr result (λ e. e ≡ Refusal.Memory) }
     {
         let ascii = printable_len(bytes, self.grid.room());
@@ -137,6 +142,7 @@ impl Cells {
         ensures some { IfOk result (λ n. 0 < n) }
         ensures within { IfOk result (λ n. n ≤ length bytes.now) }
         ensures err { OnErr result (self.new ≡ self.old) }
+        ensures memory { OnErr result (IsTrue (feeding_takes_memory self.old bytes.now)) }
         ensures refused { IfErr result (λ e. e ≡ Refusal.Memory) }
     {
         let room = self.grid.room_for(whole.character);
@@ -158,6 +164,7 @@ impl Cells {
         ensures some { IfOk result (λ n. 0 < n) }
         ensures within { IfOk result (λ n. n ≤ length bytes.now) }
         ensures err { OnErr result (self.new ≡ self.old) }
+        ensures memory { OnErr result (IsTrue (feeding_takes_memory self.old bytes.now)) }
         ensures refused { IfErr result (λ e. e ≡ Refusal.Memory) }
     {
         match sequence.op() {
@@ -173,6 +180,7 @@ impl Cells {
     fn feed_byte(&mut self, byte: u8) -> Result<(), Refusal>
         ensures fed { OnOk result (self.new ≡ after self.old (byte ∷ [])) }
         ensures err { OnErr result (self.new ≡ self.old) }
+        ensures memory { OnErr result (IsTrue (first_takes_memory (byte_ops self.old.reader byte) self.old.screen)) }
         ensures refused { IfErr result (λ e. e ≡ Refusal.Memory) }
     {
         let reading = self.scanner.read(byte);

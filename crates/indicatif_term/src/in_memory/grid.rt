@@ -1,9 +1,10 @@
 //! The rows of a terminal, and its cursor: what each operation does to them.
-ghost use Rattle.std.specs.Prelude.{All, ◌≡◌, ℕ, ◌+◌, ◌-◌, ◌<◌, ◌≤◌, [], false, IfOk, IfErr, OnOk, OnErr, length, take, replicate, slice_index_or, string_bytes, map};
+ghost use Rattle.std.specs.Prelude.{All, ◌≡◌, ℕ, ◌+◌, ◌-◌, ◌<◌, ◌≤◌, [], false, IsTrue, IfOk, IfErr, OnOk, OnErr, length, take, replicate, slice_index_or, string_bytes, map};
 ghost use Rattle.std.specs.List.{join_with_byte};
 ghost use Rattle.indicatif_text.specs.Columns.{blank_row};
 ghost use Rattle.indicatif_term.specs.Screen.{Put, Return, Up, Down, Right, Left, EmptyRow, performed, performed_all, blank_screen, line_feed, put_wide, put_mark, put_here, top};
 ghost use Rattle.indicatif_term.specs.Pictures.{contents_text, picture_text, row_text, written_rows};
+ghost use Rattle.indicatif_term.specs.Feeding.{op_takes_memory};
 ghost use Rattle.indicatif_term.specs.Inside.Grids.{op_of};
 ghost use Rattle.indicatif_term.specs.Inside.Runs.{run_chars, puts, TakesOneColumn};
 ghost use Rattle.unicode_width.specs.Width.{char_width};
@@ -142,6 +143,7 @@ impl Grid {
     pub(crate) fn perform(&mut self, op: Op) -> Result<(), Refusal>
         ensures ok { OnOk result (self.new ≡ performed (op_of op) self.old) }
         ensures err { OnErr result (self.new ≡ self.old) }
+        ensures memory { OnErr result (IsTrue (op_takes_memory (op_of op) self.old)) }
         ensures refused { IfErr result (λ e. e ≡ Refusal.Memory) }
     {
         match op {
@@ -209,6 +211,7 @@ impl Grid {
     fn feed_line(&mut self) -> Result<(), Refusal>
         ensures ok { OnOk result (self.new ≡ line_feed self.old) }
         ensures err { OnErr result (self.new ≡ self.old) }
+        ensures last { OnErr result (length self.old.rows ≤ self.old.row + 1) }
         ensures refused { IfErr result (λ e. e ≡ Refusal.Memory) }
     {
         if self.row + 1 == self.rows.len() {
