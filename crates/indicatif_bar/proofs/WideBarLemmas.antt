@@ -171,7 +171,7 @@ mark_ascii : (All (λ b. b < 128) wide_mark)
 mark_ascii = All-from_recursion (λ b. b < 128) wide_mark (omega arith, tt)
 
 -- a mark takes no columns, and is seen
-mark_columns : (back : List ℕ) → text_columns (0 ∷ back) ≡ text_columns back
+pub mark_columns : (back : List ℕ) → text_columns (0 ∷ back) ≡ text_columns back
 mark_columns back =
     let ascii = IsAscii-from_all wide_mark mark_ascii in
     ap (λ cs. sum_by width_of (visible cs)) (chars-append wide_mark back (IsUtf8-from_ascii wide_mark ascii) ∙ ap (λ x. x ++ chars back) (chars-IsAscii wide_mark ascii))

@@ -1,14 +1,14 @@
 //! The lines of a style, laid out into one growing text.
-ghost use Rattle.std.specs.Prelude.{◌≡◌, ◌++◌, ℕ, List, [], map, string_bytes, true, if◌then◌else◌, OnOk, IfOk, IfErr, IsTrue, IsFalse, option_map, unwrap_or};
+ghost use Rattle.std.specs.Prelude.{◌≡◌, ◌++◌, ℕ, List, [], Some, map, string_bytes, true, if◌then◌else◌, OnOk, IfOk, IfErr, IsTrue, IsFalse, option_map, unwrap_or};
 ghost use Rattle.std.specs.Option.{option_map_or};
-ghost use Rattle.std.specs.List.{list_all, slice_get};
+ghost use Rattle.std.specs.List.{list_all, list_any, slice_get};
 ghost use Rattle.indicatif_bar.specs.Bars.{is_bar_line};
 ghost use Rattle.std.specs.Str.{trim_end};
 ghost use Rattle.indicatif_term.specs.Frames.{line_text};
 ghost use Rattle.indicatif_bar.specs.Tabs.{expanded};
 ghost use Rattle.indicatif_bar.specs.Progress.{fraction, is_finished, shown_message};
 ghost use Rattle.indicatif_bar.specs.Layout.{bar_text, padded};
-ghost use Rattle.indicatif_bar.specs.BarStyles.{key_text, tick_string, final_tick_string, wide_text, with_marks_as, lines_with, lines, columns_left, ends_in_mark, is_empty_style};
+ghost use Rattle.indicatif_bar.specs.BarStyles.{key_text, tick_string, final_tick_string, wide_text, with_marks_as, lines_with, lines, columns_left, ends_in_mark, is_newline, is_wide_mark, is_empty_style};
 ghost use Rattle.indicatif_bar.specs.Inside.Steps.{PutsSource, placeholder_layout, source_text, effect_text, wide_found};
 
 use crate::bar_style::ProgressStyle;
@@ -16,7 +16,7 @@ use crate::progress::ProgressState;
 use crate::scan::cut_at;
 use crate::spare::SpareLines;
 use crate::style::bar::{RestLook, push_bar};
-use crate::style::filling::{Gap, has_mark, push_lines};
+use crate::style::filling::{Gap, has_break, has_mark, push_line, push_lines};
 use crate::style::key_texts::{
     push_count, push_percent, push_percent_precise, push_rate, push_text, push_time,
     push_whole_rate,
@@ -202,8 +202,7 @@ impl<K: Tracks> ProgressStyle<K> {
             ++ effect_text K.means self.now state.now now (PutsSource placeholder.now.source (placeholder_layout placeholder.now))) }
         ensures memory { IfErr result (λ e. e ≡ Refusal.Memory) }
     {
-        let style = placeholder.text_style();
-        let some = style.open(self.colours, out)?;
+        let some = placeholder.open(self.colours, out)?;
         self.push_sized(placeholder, state, now, spare, out)?;
         if some {
             out.push_str("\x1b[0m")?;
@@ -244,21 +243,21 @@ impl<K: Tracks> ProgressStyle<K> {
         Ok(())
     }
 
-    /// Appends a text with what stands in the place of each of its marks.
+    /// Appends a text with what stands in the place of each of its marks, which have this gap.
     fn push_filled(
         &self,
         text: &str,
         wide: WideKey,
+        gap: Gap,
         state: &ProgressState,
-        width: u16,
         spare: &mut SpareLines,
         out: &mut String,
     ) -> Result<(), Refusal>
-        ensures text { OnOk result (string_bytes out.new ≡ string_bytes out.old
-            ++ with_marks_as (wide_text self.now state.now width text.now (wide_found wide)) text.now) }
+        ensures text { (columns : ℕ) → gap.columns ≡ columns_left columns text.now → gap.is_last ≡ ends_in_mark text.now →
+            OnOk result (string_bytes out.new ≡ string_bytes out.old
+            ++ with_marks_as (wide_text self.now state.now columns text.now (wide_found wide)) text.now) }
         ensures memory { IfErr result (λ e. e ≡ Refusal.Memory) }
     {
-        let gap = Gap::of(text, width);
         let mut rest = text;
         'marks: while let Some((part, behind)) = cut_at(0, rest) {
             out.push_str(part)?;
@@ -292,10 +291,63 @@ impl<K: Tracks> ProgressStyle<K> {
             push_lines(text, spare, lines)?;
             return Ok(());
         }
-        let mut filled = spare.text();
-        self.push_filled(text.as_str(), wide, state, width, spare, &mut filled)?;
-        push_lines(filled, spare, lines)?;
+        if has_break(text.as_str()) {
+            self.push_all_filled(text.as_str(), wide, state, width, spare, lines)?;
+            spare.keep_text(text);
+            return Ok(());
+        }
+        self.push_line_filled(text.as_str(), wide, state, width, spare, lines)?;
         spare.keep_text(text);
+        Ok(())
+    }
+
+    /// Appends the lines of a text with what stands in the place of its marks.
+    fn push_all_filled(
+        &self,
+        text: &str,
+        wide: WideKey,
+        state: &ProgressState,
+        width: u16,
+        spare: &mut SpareLines,
+        lines: &mut Vec<LineType>,
+    ) -> Result<(), Refusal>
+        ensures lines { OnOk result (map line_text lines.new.items ≡ map line_text lines.old.items
+            ++ lines_with self.now state.now width (Some (wide_found wide)) text.now) }
+        ensures kind { IsTrue (list_all is_bar_line lines.old.items) → IsTrue (list_all is_bar_line lines.new.items) }
+        ensures memory { IfErr result (λ e. e ≡ Refusal.Memory) }
+    {
+        let gap = Gap::of(text, width);
+        let mut filled = spare.text();
+        self.push_filled(text, wide, gap, state, spare, &mut filled)?;
+        push_lines(filled, spare, lines)?;
+        Ok(())
+    }
+
+    /// The same of one line that has a mark. A bar in its place leaves it one line.
+    fn push_line_filled(
+        &self,
+        text: &str,
+        wide: WideKey,
+        state: &ProgressState,
+        width: u16,
+        spare: &mut SpareLines,
+        lines: &mut Vec<LineType>,
+    ) -> Result<(), Refusal>
+        requires one_line { IsFalse (list_any is_newline text.now) }
+        requires marked { IsTrue (list_any is_wide_mark text.now) }
+        ensures lines { OnOk result (map line_text lines.new.items ≡ map line_text lines.old.items
+            ++ lines_with self.now state.now width (Some (wide_found wide)) text.now) }
+        ensures kind { IsTrue (list_all is_bar_line lines.old.items) → IsTrue (list_all is_bar_line lines.new.items) }
+        ensures memory { IfErr result (λ e. e ≡ Refusal.Memory) }
+    {
+        let gap = Gap::of_line(text, width);
+        let mut filled = spare.text();
+        self.push_filled(text, wide, gap, state, spare, &mut filled)?;
+        let _read = self.tab;
+        match wide {
+            WideKey::Bar(_) => push_line(filled, lines)?,
+            WideKey::Message(_) => push_lines(filled, spare, lines)?,
+        }
         Ok(())
     }
 

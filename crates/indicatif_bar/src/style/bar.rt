@@ -1,6 +1,6 @@
 //! A bar of clusters.
-ghost use Rattle.std.specs.Prelude.{◌≡◌, ◌<◌, ◌≤◌, ◌++◌, ◌*◌, ◌/◌, ◌%◌, string_bytes, length, OnOk, IfOk, IfErr, IfSome, [], MatchOption};
-ghost use Rattle.indicatif_text.specs.StyleWords.{numbers_of};
+ghost use Rattle.std.specs.Prelude.{◌≡◌, ◌<◌, ◌≤◌, ◌++◌, ◌*◌, ◌/◌, ◌%◌, nat_lt, string_bytes, length, OnOk, IfOk, IfErr, IfSome, [], MatchOption};
+ghost use Rattle.indicatif_text.specs.StyleWords.{numbers_of, opening_of};
 ghost use Rattle.indicatif_bar.specs.Layout.{text_columns, cluster, bar_text};
 ghost use Rattle.indicatif_bar.specs.Inside.Cells.{shade_of, begun_text, cells_left};
 ghost use Rattle.indicatif_bar.specs.Inside.Texts.{texts_in};
@@ -15,6 +15,21 @@ use indicatif_text::columns::{Refusal, Style, columns};
 pub(crate) struct RestLook {
     pub(crate) colours: bool,
     pub(crate) style: Style,
+}
+
+impl RestLook {
+    /// Appends the sequences that stand before the rest, and says whether any does. The style isn't asked where colours are off.
+    #[inline(always)]
+    fn open(self, out: &mut String) -> Result<bool, Refusal>
+        ensures bytes { OnOk result (string_bytes out.new ≡ string_bytes out.old ++ opening_of self.colours (numbers_of self.style)) }
+        ensures some { IfOk result (λ some. some ≡ nat_lt 0 (length (opening_of self.colours (numbers_of self.style)))) }
+        ensures memory { IfErr result (λ e. e ≡ Refusal.Memory) }
+    {
+        if !self.colours {
+            return Ok(false);
+        }
+        self.style.open(self.colours, out)
+    }
 }
 
 /// How many cells are whole, and how much of the next is left, of so many.
@@ -91,7 +106,7 @@ pub(crate) fn push_bar(
 {
     let cells = width / columns(clusters.at(0)) as u64;
     let left = push_begun(clusters, done, cells, out)?;
-    let some = rest.style.open(rest.colours, out)?;
+    let some = rest.open(out)?;
     push_times(clusters.at(clusters.len() - 1), left as usize, out)?;
     if some {
         out.push_str("\x1b[0m")?;

@@ -1,7 +1,7 @@
 //! Lines of a text, and what stands in the place of a wide key's marks.
-ghost use Rattle.std.specs.Prelude.{◌≡◌, ◌++◌, ◌∷◌, [], find, map, string_bytes, OnOk, IfErr, IsTrue};
+ghost use Rattle.std.specs.Prelude.{◌≡◌, ◌++◌, ◌∷◌, [], false, find, map, string_bytes, OnOk, IfErr, IsTrue, IsFalse};
 ghost use Rattle.std.specs.Option.{option_map_or};
-ghost use Rattle.std.specs.List.{list_all, list_any, slice_split};
+ghost use Rattle.std.specs.List.{list_all, list_any, slice_get, slice_split};
 ghost use Rattle.indicatif_bar.specs.Bars.{is_bar_line};
 ghost use Rattle.indicatif_term.specs.Frames.{line_text};
 ghost use Rattle.indicatif_bar.specs.Layout.{text_columns};
@@ -17,6 +17,13 @@ pub(crate) fn has_mark(text: &str) -> bool
     ensures { result ≡ list_any is_wide_mark text.now }
 {
     has_byte(0, text)
+}
+
+/// Whether a text has a line break.
+pub(crate) fn has_break(text: &str) -> bool
+    ensures { result ≡ list_any is_newline text.now }
+{
+    has_byte(b'\n', text)
 }
 
 /// Where a text's marks stand: how many columns their line leaves free, and whether one ends the text.
@@ -35,6 +42,19 @@ impl Gap {
         Gap {
             columns: columns_left(text, width),
             is_last: ends_in_mark(text),
+        }
+    }
+
+    /// The same of one line that has a mark.
+    pub(crate) fn of_line(line: &str, width: u16) -> Gap
+        requires one_line { IsFalse (list_any is_newline line.now) }
+        requires marked { IsTrue (list_any is_wide_mark line.now) }
+        ensures columns { result.columns ≡ columns_left width line.now }
+        ensures is_last { result.is_last ≡ ends_in_mark line.now }
+    {
+        Gap {
+            columns: usize::from(width).saturating_sub(columns_behind_mark(line)),
+            is_last: ends_in_mark(line),
         }
     }
 }
@@ -70,6 +90,27 @@ fn marked_columns(text: &str) -> usize
     if has_mark(rest) { columns(rest) } else { 0 }
 }
 
+/// The columns of a text. A mark at its front takes none, so it isn't measured.
+fn columns_behind_mark(text: &str) -> usize
+    ensures { result ≡ text_columns text.now }
+{
+    if begins_with_mark(text) {
+        let (_, behind) = text.split_at(1);
+        return columns(behind);
+    }
+    columns(text)
+}
+
+/// Whether a mark begins a text.
+fn begins_with_mark(text: &str) -> bool
+    ensures { result ≡ option_map_or is_wide_mark (slice_get text.now 0) false }
+{
+    match text.as_bytes().first() {
+        Some(b) => *b == 0,
+        None => false,
+    }
+}
+
 /// Appends the lines of a text, in room of `spare`. A text of one line is itself that line.
 pub(crate) fn push_lines(
     text: String,
@@ -81,7 +122,7 @@ pub(crate) fn push_lines(
     ensures kind { IsTrue (list_all is_bar_line lines.old.items) → IsTrue (list_all is_bar_line lines.new.items) }
     ensures memory { IfErr result (λ e. e ≡ Refusal.Memory) }
 {
-    if has_byte(b'\n', text.as_str()) {
+    if has_break(text.as_str()) {
         push_pieces(text.as_str(), spare, lines)?;
         spare.keep_text(text);
         return Ok(());
@@ -119,7 +160,7 @@ fn push_copied(text: &str, spare: &mut SpareLines, lines: &mut Vec<LineType>) ->
 }
 
 /// Appends a line.
-fn push_line(text: String, lines: &mut Vec<LineType>) -> Result<(), Refusal>
+pub(crate) fn push_line(text: String, lines: &mut Vec<LineType>) -> Result<(), Refusal>
     ensures lines { OnOk result (map line_text lines.new.items ≡ map line_text lines.old.items ++ string_bytes text ∷ []) }
     ensures kind { IsTrue (list_all is_bar_line lines.old.items) → IsTrue (list_all is_bar_line lines.new.items) }
     ensures memory { IfErr result (λ e. e ≡ Refusal.Memory) }

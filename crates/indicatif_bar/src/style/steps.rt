@@ -1,7 +1,7 @@
 //! What the parts of a template do, found out once.
-ghost use Rattle.std.specs.Prelude.{◌≡◌, ◌==◌, ◌&&◌, not, is_some, [], List, Some, map, option_map, unwrap_or, length, IfOk, IfErr, bytes_eq, position, string_bytes, chars, encode_utf8_all};
+ghost use Rattle.std.specs.Prelude.{◌≡◌, ◌==◌, ◌&&◌, ◌++◌, nat_lt, length, not, is_some, [], List, Some, map, option_map, unwrap_or, OnOk, IfOk, IfErr, bytes_eq, position, string_bytes, chars, encode_utf8_all};
 ghost use Rattle.std.specs.List.{slice_get};
-ghost use Rattle.indicatif_text.specs.StyleWords.{numbers_of};
+ghost use Rattle.indicatif_text.specs.StyleWords.{numbers_of, opening_of};
 ghost use Rattle.indicatif_text.specs.Template.{TemplatePart, part_of};
 ghost use Rattle.indicatif_bar.specs.BarStyles.{is_bare_layout};
 ghost use Rattle.indicatif_bar.specs.Inside.Steps.{wide_found, wide_source, placeholder_layout, names_of, literal_text, effect_of, effect_of_part, source_of};
@@ -63,10 +63,24 @@ impl Placeholder {
     }
 
     /// The style of the text.
-    pub(crate) fn text_style(&self) -> Style
+    fn text_style(&self) -> Style
         ensures { numbers_of result ≡ unwrap_or (placeholder_layout self.now).style [] }
     {
         self.style.unwrap_or(Style::new())
+    }
+
+    /// Appends the sequences that stand before the text, and says whether any does. The style isn't asked where colours are off.
+    #[inline(always)]
+    pub(crate) fn open(&self, colours: bool, out: &mut String) -> Result<bool, Refusal>
+        ensures bytes { OnOk result (string_bytes out.new ≡ string_bytes out.old
+            ++ opening_of colours (unwrap_or (placeholder_layout self.now).style [])) }
+        ensures some { IfOk result (λ some. some ≡ nat_lt 0 (length (opening_of colours (unwrap_or (placeholder_layout self.now).style [])))) }
+        ensures memory { IfErr result (λ e. e ≡ Refusal.Memory) }
+    {
+        if !colours {
+            return Ok(false);
+        }
+        self.text_style().open(colours, out)
     }
 
     /// Whether nothing is written round an empty text.

@@ -7,5 +7,5 @@ use Rattle.indicatif_bar.proofs.style.filling.push_lines.Goals as goal
 
 pub returns-clause-lines : goal.returns-clause-lines
 returns-clause-lines c =
-    let none : list_any is_newline (string_bytes c.args.text) ≡ false = ap (list_any is_newline) (sym c.as_str.ensures.value) ∙ sym c.has_byte.ensures ∙ c.if-has_byte.false in
+    let none : list_any is_newline (string_bytes c.args.text) ≡ false = ap (list_any is_newline) (sym c.as_str.ensures.value) ∙ sym c.has_break.ensures ∙ c.if-has_break.false in
     c.in_ok-push_line.ensures.lines ∙ ap (λ x. map line_text c.args.lines.now.items ++ x) (sym (whole 0x0A (string_bytes c.args.text) none))
