@@ -1,5 +1,5 @@
 //! How a style is made.
-ghost use Rattle.std.specs.Prelude.{◌≡◌, ◌⊎◌, None, Some, map, codes, chars, string_bytes, IfOk, IfErr, IsTrue, IsFalse};
+ghost use Rattle.std.specs.Prelude.{◌≡◌, ◌⊎◌, ◌≤◌, None, Some, Err, map, length, codes, chars, string_bytes, IfOk, IfErr, IsTrue, IsFalse};
 ghost use Rattle.std.specs.List.{list_all};
 ghost use Rattle.indicatif_bar.specs.Bars.{is_bar_line};
 ghost use Rattle.indicatif_text.specs.declared.template.TemplateError.{TemplateError};
@@ -8,7 +8,6 @@ ghost use Rattle.indicatif_text.specs.Template.{refusal_of};
 ghost use Rattle.indicatif_term.specs.Frames.{line_text};
 ghost use Rattle.indicatif_bar.specs.Trackers.{entries};
 ghost use Rattle.indicatif_bar.specs.BarStyles.{lines, is_empty_style};
-ghost use Rattle.indicatif_bar.specs.Inside.Cells.{bytes_of_strings};
 ghost use Rattle.indicatif_bar.specs.Builders.{characters_of, clusters_of, tick_fault, progress_fault, with_key, first_style};
 
 use crate::bar_style::ProgressStyle;
@@ -114,53 +113,52 @@ impl<K: Tracks> ProgressStyle<K> {
 
     /// The spinner's texts: each character of `chars` is one, the last one of a finished bar.
     ///
-    /// Refused: `FewTicks` where there are fewer than two; `Memory`. The style is given up then.
-    pub fn tick_chars(self, chars: &str) -> Result<ProgressStyle<K>, Refusal>
+    /// Refused: `FewTicks` where there are fewer than two, which is tested before memory is taken; `Memory`. The style is given up then.
+    pub fn tick_chars(mut self, chars: &str) -> Result<ProgressStyle<K>, Refusal>
         ensures style { IfOk result (λ style. style ≡ record self { tick_strings = characters_of chars.now }) }
         ensures taken { IfOk result (λ _. tick_fault (characters_of chars.now) ≡ None) }
         ensures refused { IfErr result (λ e. (e ≡ Refusal.Memory)
             ⊎ (tick_fault (characters_of chars.now) ≡ Some e)) }
+        ensures memory { result ≡ Err Refusal.Memory → tick_fault (characters_of chars.now) ≡ None }
     {
-        let strings = clusters::characters_of(self.alloc, chars)?;
-        self.with_ticks(strings)
+        if clusters::has_few_characters(chars) {
+            return Err(Refusal::FewTicks);
+        }
+        self.tick_strings = Texts::Own(clusters::characters_of(self.alloc, chars)?);
+        Ok(self)
     }
 
     /// The spinner's texts, the last one of a finished bar.
     ///
-    /// Refused: `FewTicks` where there are fewer than two; `Memory`. The style is given up then.
-    pub fn tick_strings(self, strings: &[&str]) -> Result<ProgressStyle<K>, Refusal>
+    /// Refused: `FewTicks` where there are fewer than two, which is tested before memory is taken; `Memory`. The style is given up then.
+    pub fn tick_strings(mut self, strings: &[&str]) -> Result<ProgressStyle<K>, Refusal>
         ensures style { IfOk result (λ style. style ≡ record self { tick_strings = map (λ text. text.now) strings.now }) }
         ensures taken { IfOk result (λ _. tick_fault (map (λ text. text.now) strings.now) ≡ None) }
         ensures refused { IfErr result (λ e. (e ≡ Refusal.Memory)
             ⊎ (tick_fault (map (λ text. text.now) strings.now) ≡ Some e)) }
+        ensures memory { result ≡ Err Refusal.Memory → tick_fault (map (λ text. text.now) strings.now) ≡ None }
     {
-        let strings = clusters::copied(self.alloc, strings)?;
-        self.with_ticks(strings)
-    }
-
-    /// The same of texts that stand in memory of their own, which takes no more.
-    fn with_ticks(mut self, strings: Vec<String>) -> Result<ProgressStyle<K>, Refusal>
-        ensures style { IfOk result (λ style. style ≡ record self { tick_strings = bytes_of_strings strings.items }) }
-        ensures taken { IfOk result (λ _. tick_fault (bytes_of_strings strings.items) ≡ None) }
-        ensures refused { IfErr result (λ e. tick_fault (bytes_of_strings strings.items) ≡ Some e) }
-    {
-        if let Some(refusal) = clusters::tick_fault(strings.as_slice()) {
-            return Err(refusal);
+        if clusters::are_few(strings) {
+            return Err(Refusal::FewTicks);
         }
-        self.tick_strings = Texts::Own(strings);
+        self.tick_strings = Texts::Own(clusters::copied(self.alloc, strings)?);
         Ok(self)
     }
 
     /// The characters of a bar, as grapheme clusters (Unicode, UAX #29): done, the shades of a cell partly done, not done.
     ///
-    /// Refused: `FewProgressChars` where there are fewer than two; else `UnequalWidths` where they take not all as many
-    /// columns; else `ZeroWidthChars` where they take none; `Memory`. The style is given up then.
+    /// Refused: `FewProgressChars` where there are fewer than two, which is tested before memory is taken; else `UnequalWidths` where they
+    /// take not all as many columns; else `ZeroWidthChars` where they take none; `Memory`. The style is given up then.
     pub fn progress_chars(mut self, chars: &str) -> Result<ProgressStyle<K>, Refusal>
         ensures style { IfOk result (λ style. style ≡ record self { clusters = clusters_of chars.now }) }
         ensures taken { IfOk result (λ _. progress_fault (clusters_of chars.now) ≡ None) }
         ensures refused { IfErr result (λ e. (e ≡ Refusal.Memory)
             ⊎ (progress_fault (clusters_of chars.now) ≡ Some e)) }
+        ensures memory { result ≡ Err Refusal.Memory → 2 ≤ length (clusters_of chars.now) }
     {
+        if clusters::has_few_clusters(chars) {
+            return Err(Refusal::FewProgressChars);
+        }
         let clusters = clusters::clusters_of(self.alloc, chars)?;
         if let Some(refusal) = clusters::progress_fault(clusters.as_slice()) {
             return Err(refusal);

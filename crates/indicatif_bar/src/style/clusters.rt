@@ -1,6 +1,6 @@
 //! Lists of texts: characters, grapheme clusters, copies.
-ghost use Rattle.std.specs.Prelude.{◌≡◌, List, ℕ, map, IfOk, IfErr};
-ghost use Rattle.indicatif_bar.specs.Builders.{characters_of, clusters_of, tick_fault, progress_fault};
+ghost use Rattle.std.specs.Prelude.{◌≡◌, List, ℕ, map, length, nat_lt, IfOk, IfErr};
+ghost use Rattle.indicatif_bar.specs.Builders.{characters_of, clusters_of, progress_fault};
 ghost use Rattle.std.specs.Prelude.{◌==◌};
 ghost use Rattle.std.specs.List.{list_all};
 ghost use Rattle.indicatif_bar.specs.Layout.{text_columns};
@@ -9,6 +9,27 @@ ghost use Rattle.indicatif_bar.specs.Inside.Cells.{bytes_of_strings};
 use indicatif_text::columns::{Refusal, columns};
 use std::alloc::Global;
 use unicode_segmentation::UnicodeSegmentation;
+
+/// Whether a text has no second character.
+pub(crate) fn has_few_characters(text: &str) -> bool
+    ensures { result ≡ nat_lt (length (characters_of text.now)) 2 }
+{
+    text.chars().nth(1).is_none()
+}
+
+/// Whether a text has no second grapheme cluster.
+pub(crate) fn has_few_clusters(text: &str) -> bool
+    ensures { result ≡ nat_lt (length (clusters_of text.now)) 2 }
+{
+    text.graphemes(true).nth(1).is_none()
+}
+
+/// Whether there is no second text.
+pub(crate) fn are_few(texts: &[&str]) -> bool
+    ensures { result ≡ nat_lt (length (map (λ text. text.now) texts.now)) 2 }
+{
+    texts.len() < 2
+}
 
 /// Each character of a text by itself.
 pub(crate) fn characters_of(alloc: Global, text: &str) -> Result<Vec<String>, Refusal>
@@ -58,16 +79,6 @@ pub(crate) fn cloned(alloc: Global, texts: &[String]) -> Result<Vec<String>, Ref
         all.push(String::from_str(alloc, text.as_str())?)?;
     }
     Ok(all)
-}
-
-/// Why these tick strings are refused, if they are.
-pub(crate) fn tick_fault(strings: &[String]) -> Option<Refusal>
-    ensures { result ≡ tick_fault (bytes_of_strings strings.now) }
-{
-    if strings.len() < 2 {
-        return Some(Refusal::FewTicks);
-    }
-    None
 }
 
 /// Why these clusters are refused, if they are.
