@@ -1,5 +1,5 @@
 //! Templates: a text with placeholders, read into its parts.
-ghost use Rattle.std.specs.Prelude.{◌≡◌, ◌≢◌, ◌↔◌, ◌<◌, List, [], length, chars, option_map};
+ghost use Rattle.std.specs.Prelude.{◌≡◌, ◌≢◌, ◌↔◌, ◌<◌, List, [], length, chars, codes, option_map, IfOk};
 ghost use Rattle.std.specs.List.{slice_get};
 ghost use Rattle.std.specs.Iterator.{YieldsFirstBy, item_count};
 ghost use Rattle.indicatif_text.specs.declared.template.TemplateError.{TemplateError};
@@ -9,6 +9,7 @@ use crate::refusal::{Refusal, TemplateState};
 use crate::style_words::Style;
 use crate::template::draft::Draft;
 use crate::template::marks::Mark;
+use crate::template::reading::Options;
 use std::alloc::{AllocError, AllocFailed, Global};
 use std::error::Error;
 use std::fmt;
@@ -146,6 +147,34 @@ impl Template {
             texts: String::new(alloc),
             marks: Vec::new(alloc),
         }
+    }
+
+    /// The template `{wide_bar} {pos}/{len}`, without its being read.
+    ///
+    /// Refused: memory.
+    pub fn of_bar(alloc: Global) -> Result<Template, AllocError>
+        ensures { IfOk result (λ template. Parses (codes "{wide_bar} {pos}/{len}") template) }
+    {
+        let mut draft = Draft::new(alloc, 16)?;
+        draft.push_placeholder("wide_bar", Options::NONE)?;
+        draft.push_run(" ")?;
+        draft.push_placeholder("pos", Options::NONE)?;
+        draft.push_run("/")?;
+        draft.push_placeholder("len", Options::NONE)?;
+        draft.finish()
+    }
+
+    /// The template `{spinner} {msg}`, without its being read.
+    ///
+    /// Refused: memory.
+    pub fn of_spinner(alloc: Global) -> Result<Template, AllocError>
+        ensures { IfOk result (λ template. Parses (codes "{spinner} {msg}") template) }
+    {
+        let mut draft = Draft::new(alloc, 11)?;
+        draft.push_placeholder("spinner", Options::NONE)?;
+        draft.push_run(" ")?;
+        draft.push_placeholder("msg", Options::NONE)?;
+        draft.finish()
     }
 
     /// How many parts there are.

@@ -63,7 +63,9 @@ impl<K: Tracks> ProgressStyle<K> {
         ensures style { IfOk result (λ style. style ≡ first_style TICKS.now style.parts) }
         ensures memory { IfErr result (λ e. e ≡ Refusal.Memory) }
     {
-        ProgressStyle::with_template(alloc, "{wide_bar} {pos}/{len}")
+        let template = Template::of_bar(alloc)?;
+        let style = ProgressStyle::first(alloc, template)?;
+        Ok(style)
     }
 
     /// The style of a spinner: `{spinner} {msg}`.
@@ -74,7 +76,9 @@ impl<K: Tracks> ProgressStyle<K> {
         ensures style { IfOk result (λ style. style ≡ first_style TICKS.now style.parts) }
         ensures memory { IfErr result (λ e. e ≡ Refusal.Memory) }
     {
-        ProgressStyle::with_template(alloc, "{spinner} {msg}")
+        let template = Template::of_spinner(alloc)?;
+        let style = ProgressStyle::first(alloc, template)?;
+        Ok(style)
     }
 
     /// The first style of a template.

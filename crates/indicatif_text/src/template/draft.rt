@@ -81,7 +81,7 @@ impl Draft {
     }
 
     /// Adds characters that stand for themselves.
-    fn push_run(&mut self, text: &str) -> Result<(), AllocError>
+    pub(super) fn push_run(&mut self, text: &str) -> Result<(), AllocError>
         ensures { OnOk result (sketch_of self.new ≡ with_run (sketch_of self.old) (chars text.now)) }
     {
         self.texts.push_str(text)?;
@@ -115,7 +115,7 @@ impl Draft {
     }
 
     /// Adds a placeholder.
-    fn push_placeholder(&mut self, key: &str, options: Options) -> Result<(), AllocError>
+    pub(super) fn push_placeholder(&mut self, key: &str, options: Options) -> Result<(), AllocError>
         ensures { OnOk result (sketch_of self.new ≡ added (sketch_of self.old) (Keyed (chars key.now) (layout_of options))) }
     {
         self.close_literal()?;
