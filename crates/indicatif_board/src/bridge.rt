@@ -1,5 +1,5 @@
 //! Lines of a log above the bars of a board.
-ghost use Rattle.std.specs.Prelude.{◌≡◌, ◌⊎◌, ◌++◌, ◌+◌, ◌≤◌, ◌∷◌, [], IfErr, OnOk, OnErr, Err, IsFalse, length, string_bytes, string_len, string_capacity};
+ghost use Rattle.std.specs.Prelude.{◌≡◌, ◌⊎◌, ◌++◌, ◌+◌, ◌<◌, ◌≤◌, ◌∷◌, [], IfErr, OnOk, OnErr, Err, IsFalse, length, string_bytes, string_len, string_capacity};
 ghost use Rattle.indicatif_bar.specs.Runs.{wrote};
 ghost use Rattle.indicatif_board.specs.Boards.{Log, says};
 ghost use Rattle.indicatif_board.specs.Bridge.{bridge_bytes, level_column};
@@ -14,7 +14,7 @@ use std::alloc::Global;
 
 /// Appends a record's line: its level in capitals, filled with spaces to five columns, a space, and the text.
 ///
-/// Refused: `Memory`; `out` is as before then.
+/// Refused: `Memory`, only where `out` has no room for all of it; `out` is as before then.
 ///
 /// ```
 /// bridge_line(Level::Warn, "low disk", &mut out)?;
@@ -24,6 +24,8 @@ pub fn bridge_line(level: Level, text: &str, out: &mut String) -> Result<(), Ref
     ensures line { OnOk result (string_bytes out.new ≡ string_bytes out.old ++ bridge_bytes level text.now) }
     ensures memory { IfErr result (λ e. e ≡ Refusal.Memory) }
     ensures unchanged { OnErr result (string_bytes out.new ≡ string_bytes out.old) }
+    ensures full { OnErr result (string_capacity out.old
+        < string_len out.old + length (bridge_bytes level text.now)) }
 {
     let front = front_of(level);
     out.reserve(text.len().saturating_add(front.len()))?;
