@@ -155,6 +155,8 @@ fn templates(rt: HostRuntime) -> Result<(), Fail> {
     assert_eq!(rt; lines.part(2), Some(Part::Literal("b")));
     assert_eq!(rt; lines.parts().next(), Some(Part::Literal("a")));
     assert_eq!(rt; lines.parts().count(), 3);
+    assert_eq!(rt; Template::of_bar(alloc)?.part_count(), 5);
+    assert_eq!(rt; Template::of_spinner(alloc)?.part_count(), 3);
     assert_eq!(rt;
         Template::parse(alloc, "{k:65536}").err(),
         Some(TemplateError::WidthTooLarge)

@@ -49,24 +49,3 @@ many_clusters = omega (arith, ap length clusters_are)
 
 pub wide_cluster : 0 < text_columns (cluster (map (λ text. text.now) CLUSTERS) 0)
 wide_cluster = omega (arith, ap (λ ts. text_columns (cluster ts 0)) clusters_are ∙ one_column)
-
--- ---- default templates
-
--- a key alone
-abbrev plain : List ℕ → TemplatePart
-plain key = KeyText key plain_layout
-
-pub bar_parses : Parses (codes "{wide_bar} {pos}/{len}") (plain (codes "wide_bar") ∷ LiteralText (codes " ") ∷ plain (codes "pos") ∷ LiteralText (codes "/") ∷ plain (codes "len") ∷ [])
-unfolding front parts_of
-bar_parses = parses_by (piece refl (piece refl (piece refl (piece refl (piece refl end))))) refl
-
-pub spinner_parses : Parses (codes "{spinner} {msg}") (plain (codes "spinner") ∷ LiteralText (codes " ") ∷ plain (codes "msg") ∷ [])
-unfolding front parts_of
-spinner_parses = parses_by (piece refl (piece refl (piece refl end))) refl
-
--- a text that is a template is refused for memory alone
-pub never_refused : {A : Type 0} (r : Result A Refusal) (text : List ℕ) (parts : List TemplatePart) → Parses text parts
-    → IfErr r (λ e. (e ≡ refusal.Memory) ⊎ ((x : TemplateError) × IsRefused text x × (e ≡ refusal_of x))) → IfErr r (λ e. e ≡ refusal.Memory)
-never_refused (Ok a) text parts p h = tt
-never_refused (Err e) text parts p (inl is) = is
-never_refused (Err e) text parts p (inr (error, (place, refused), is)) = absurd (never p.reads refused)

@@ -1,9 +1,9 @@
 -- That what stands at the front of bytes tells whether they may take memory.
 use Rattle.std.proofs.Common.{◌≡◌, ℕ, zero, suc, ◌+◌, ◌-◌, ◌<◌, ◌≤◌, true, false, List, [], ◌∷◌, ◌++◌, length, get_or, take, drop, Option, refl, sym, ◌∙◌, ap, subst, arith, length-drop}
-use Rattle.std.specs.Prelude.{All, IsTrue, nat_le}
+use Rattle.std.specs.Prelude.{All, IsTrue}
 use Rattle.std.specs.Int.{IsInRange}
 use Rattle.std.proofs.Math.Utf8.{scalar, encode}
-use Rattle.std.proofs.lemmas.Bool.{and_parts, le-leb}
+use Rattle.std.proofs.lemmas.Bool.{and_parts}
 use Rattle.std.proofs.lemmas.List.{take-append-drop, take_all}
 use Rattle.std.proofs.lemmas.List.Elements.{recursion_from_All}
 use Rattle.indicatif_term.specs.Screen.{Screen, Op, Put}
@@ -14,10 +14,6 @@ use Rattle.indicatif_term.proofs.FeedLemmas.{ops_of-append}
 use Rattle.indicatif_term.proofs.ReaderLemmas.{Spells, char_read}
 use Rattle.indicatif_term.proofs.WholeCharLemmas.{asked}
 use Rattle.indicatif_term.proofs.WholeSequenceLemmas.{ascii_read}
-
--- a line feed on the last row
-pub last_takes : (s : Screen) → length s.rows ≤ s.row + 1 → IsTrue (nat_le (length s.rows) (s.row + 1))
-last_takes s h = le-leb (length s.rows) (s.row + 1) h
 
 -- more behind it changes nothing
 with_more : (ops more : List Op) (s : Screen) → IsTrue (first_takes_memory ops s) → IsTrue (first_takes_memory (ops ++ more) s)

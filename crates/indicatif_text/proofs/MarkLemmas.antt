@@ -35,10 +35,7 @@ module _ (bs more : List ℕ) (u : IsUtf8 bs) (w : IsUtf8 more) where
   pub parts_stay : (marks : List Mark) → AreIn bs marks → map (part_at (bs ++ more)) marks ≡ map (part_at bs) marks
   parts_stay marks all = each_stays marks (recursion_from_All (IsIn bs) marks all)
 
--- the first, and those behind it
-pub first_in : (bs : List ℕ) (mark : Mark) (marks : List Mark) → AreIn bs (mark ∷ marks) → IsIn bs mark
-first_in bs mark marks all = all 0 mark (omega arith)
-
+-- those behind the first
 pub rest_in : (bs : List ℕ) (mark : Mark) (marks : List Mark) → AreIn bs (mark ∷ marks) → AreIn bs marks
 rest_in bs mark marks all = λ k d l. all (suc k) d (omega (arith, l))
 

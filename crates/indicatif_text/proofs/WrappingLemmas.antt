@@ -176,11 +176,6 @@ module _ (w height column k n : ℕ) (line before after : List ℕ) (reads : Mea
   pub reads_wide : w < k → 0 < n → has_wide w line ≡ true
   reads_wide over some = reads.wide_is ∙ ap (some_wider w) p.whole ∙ one_wider w k p.run after over (omega (arith, p.many, some)) p.takes
 
--- a run ends within the row
-pub ends_within : (w column k count rows place : ℕ) → EndsAt w column k count rows place → place ≤ w
-ends_within w column k count rows place (Here rows_is place_is fits) = fits
-ends_within w column k count rows place (Later first each turns last room full row row_full some fits all rows_is place_is) = omega (arith, place_is, mul-le-mul_left k fits, row)
-
 -- a row has room for a character that is no wider
 pub has_room : (w k each : ℕ) → k ≤ w → w < k * each + k → 0 < each
 has_room w k zero fits full = absurd (omega (arith, fits, full))

@@ -152,6 +152,10 @@ impl Template {
     /// The template `{wide_bar} {pos}/{len}`, without its being read.
     ///
     /// Refused: memory.
+    ///
+    /// ```
+    /// assert_eq!(Template::of_bar(alloc)?.part_count(), 5);
+    /// ```
     pub fn of_bar(alloc: Global) -> Result<Template, AllocError>
         ensures { IfOk result (λ template. Parses (codes "{wide_bar} {pos}/{len}") template) }
     {
@@ -167,6 +171,10 @@ impl Template {
     /// The template `{spinner} {msg}`, without its being read.
     ///
     /// Refused: memory.
+    ///
+    /// ```
+    /// assert_eq!(Template::of_spinner(alloc)?.part_count(), 3);
+    /// ```
     pub fn of_spinner(alloc: Global) -> Result<Template, AllocError>
         ensures { IfOk result (λ template. Parses (codes "{spinner} {msg}") template) }
     {

@@ -1,6 +1,6 @@
 //! The lines of a style, laid out into one growing text.
 ghost use Rattle.std.specs.Prelude.{◌≡◌, ◌++◌, ℕ, List, [], Some, map, string_bytes, true, if◌then◌else◌, OnOk, IfOk, IfErr, IsTrue, IsFalse, option_map, unwrap_or};
-ghost use Rattle.std.specs.Option.{option_map_or};
+ghost use Rattle.std.specs.Option.{option_map_or, option_or};
 ghost use Rattle.std.specs.List.{list_all, list_any, slice_get};
 ghost use Rattle.indicatif_bar.specs.Bars.{is_bar_line};
 ghost use Rattle.std.specs.Str.{trim_end};
@@ -398,7 +398,7 @@ impl<K: Tracks> ProgressStyle<K> {
                     self.push_lines(ended, state, width, spare, &mut lines)?;
                 }
                 Step::Placeholder(placeholder) => {
-                    line.wide = placeholder.wide().or(line.wide);
+                    line.remember(placeholder.wide());
                     self.push_styled(placeholder, state, now, spare, &mut line.text)?;
                 }
             }
@@ -420,6 +420,15 @@ struct Line {
 }
 
 impl Line {
+    /// Takes the wide key that a placeholder is, if it is one.
+    fn remember(&mut self, wide: Option<WideKey>)
+        ensures { self.new ≡ record self.old { wide = option_or wide self.old.wide } }
+    {
+        if let Some(wide) = wide {
+            self.wide = Some(wide);
+        }
+    }
+
     /// The line so far; the next one begins in this room.
     fn end(&mut self, room: String) -> Line
         ensures ended { result ≡ self.old }

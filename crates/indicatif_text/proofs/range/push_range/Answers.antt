@@ -61,9 +61,9 @@ returns-in_err-column-clause-grown c = leaves_grown _ _ _ _ _ c.pieces.invariant
 pub returns-in_err-push_piece-clause-full : goal.returns-in_err-push_piece-clause-full
 returns-in_err-push_piece-clause-full c =
     let at = shown_colour c.in-Some.piece c.pieces.rest c.next.new.self c.in-Some.ensures.steps c.if-piece.true in
-    let within = leaves_room _ _ _ (chars c.in-Some.piece.text.now) (pieces_within c.args.start c.args.end c.pieces.column c.next.new.self) _ c.pieces.invariant.out_is (ap (pieces_within c.args.start c.args.end c.pieces.column) at) in
-    at_err c.from_residual.result
-    (omega (arith, within, c.pieces.invariant.room, c.pieces.out.bytes.ok.0, c.args.out.now.bytes.ok.0, c.in_err-push_piece.ensures.full))
+    let rest = pieces_within c.args.start c.args.end c.pieces.column c.next.new.self in
+    let within = leaves_room _ _ _ (chars c.in-Some.piece.text.now) rest _ c.pieces.invariant.out_is (ap (pieces_within c.args.start c.args.end c.pieces.column) at) in
+    at_err c.from_residual.result (omega (arith, within, c.pieces.invariant.room, c.pieces.out.bytes.ok.0, c.args.out.now.bytes.ok.0, c.in_err-push_piece.ensures.full))
 
 pub returns-in_err-column-clause-full : goal.returns-in_err-column-clause-full
 returns-in_err-column-clause-full c =
