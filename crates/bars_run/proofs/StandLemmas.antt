@@ -162,7 +162,8 @@ module _ (asked : Asked) (lines : List (List ℕ)) (b : Played) (p : HasPlayed a
       let screen = blank_screen asked.size.rows asked.size.columns in
       let there = blank_terminal asked.size.rows asked.size.columns in
       let begins = shows asked.size.rows asked.size.columns p.some_rows in
-      let plain = scripts_plain writes_nothing no_trackers 0 p.made (Some v) start new p.next p.plays (All-from_recursion IsPlainMember start.members tt) (plain_made p.commands p.steps p.made _ p.steps_are p.made_are all) in
+      let texts = plain_made p.commands p.steps p.made _ p.steps_are p.made_are all in
+      let plain = scripts_plain writes_nothing no_trackers 0 p.made (Some v) start new p.next p.plays (All-from_recursion IsPlainMember start.members tt) texts in
       let goes = board_goes (board_bars writes_nothing) 0 in
       let r = unbroken_read machine sizing goes p.made v start new p.next p.plays p.some_columns refl (fine_steps p.made p.done).1 plain screen (there, refl, begins) in
       let u = shown_after p.made v start new p.next p.plays in
