@@ -1,8 +1,10 @@
 //! Boards that threads share and that keep their history: a fresh board that makes the calls that were kept gives the same answers and
 //! the same picture.
 use crate::fronts::{Bar, Shared, bar_on, recorded};
-use crate::kept::{Kind, counted, is_one_run};
-use indicatif::{Drawn, MultiProgressAlignment, Refusal};
+use crate::kept::{Kept, Kind, counted, is_one_run};
+use indicatif::{
+    Drawn, Entry, InMemoryTerm, MultiProgressAlignment, NoTracker, RecordReader, Refusal,
+};
 use std::alloc::Global;
 use std::sync::Wait;
 use std::test::Fail;
@@ -302,5 +304,50 @@ fn a_pause_beside_a_ticker(rt: HostRuntime) -> Result<(), Fail> {
     waits(&rt);
     assert_eq!(rt; of_tickers(&on.board), (ticked, 1, 1));
     assert!(rt; is_one_run(&on.board, rt.alloc()));
+    Ok(())
+}
+
+// ---- moments
+
+/// Whether a board's calls were made at these moments, one after another.
+#[derive(Drop)]
+struct MadeAt {
+    moments: &'static [u64],
+}
+
+impl RecordReader<InMemoryTerm, NoTracker> for MadeAt {
+    type Found = bool;
+
+    fn read(self, record: Option<&Kept>) -> bool {
+        match record {
+            Some(kept) => are_at(kept.entries(), self.moments),
+            None => false,
+        }
+    }
+}
+
+fn are_at(entries: &[Entry<NoTracker>], moments: &[u64]) -> bool {
+    for (entry, moment) in entries.iter().zip(moments.iter()) {
+        if entry.now != *moment {
+            return false;
+        }
+    }
+    entries.len() == moments.len()
+}
+
+/// A board's own calls are made at the moments of its clock, and those of a bar at the moments of the bar's. Each goes on by 1 with each
+/// reading, of which three of the bar's were made before it is taken in.
+#[test]
+fn moments_of_two_clocks(rt: HostRuntime) -> Result<(), Fail> {
+    let board = recorded(rt, rt.alloc())?;
+    let bar = bar_on(&board, rt, rt.alloc(), "a")?;
+    assert!(rt; bar.tick().is_ok() && board.println("l").is_ok());
+    assert!(rt; bar.println("m").is_ok() && board.clear().is_ok());
+    bar.release();
+    assert!(rt;
+        board.with_record(MadeAt {
+            moments: &[0, 3, 1, 4, 2, 5]
+        })
+    );
     Ok(())
 }

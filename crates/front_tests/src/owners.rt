@@ -1,6 +1,8 @@
-//! What the last owner of a bar leaves, and threads with owners of their own, on a terminal that others see.
+//! What the last owner of a bar leaves, what stays on another target, and threads with owners of their own, on a terminal that others see.
 use crate::shown::{Bytes, Shown, is_seen, no_bytes, setup_on};
-use indicatif::{Drawn, ProgressBar, ProgressFinish, ProgressStyle, Refusal, StepClock, Term};
+use indicatif::{
+    Drawn, MultiProgress, ProgressBar, ProgressFinish, ProgressStyle, Refusal, StepClock, Term,
+};
 use std::alloc::Global;
 use std::sync::Wait;
 use std::test::Fail;
@@ -75,6 +77,37 @@ fn the_last_drop_clears(rt: HostRuntime) -> Result<(), Fail> {
     assert!(rt; drawn == Ok(Drawn::Yes));
     assert!(rt; is_seen(&rt, rt.alloc(), &bytes, "") == Ok(true));
     assert!(rt; !bytes.lock(&rt).is_empty());
+    Ok(())
+}
+
+// ---- another target
+
+/// A board on that terminal.
+fn board_on<R: Wait + Copy + Clone + Drop>(
+    rt: R,
+    alloc: Global,
+    bytes: &Bytes,
+) -> Result<MultiProgress<Term<Shown<R>>, StepClock, R>, Refusal> {
+    MultiProgress::new(rt, alloc, setup_on(rt, bytes, 10)?, 1)
+}
+
+/// What a bar drew on its own target stays there: once it has another one, and once a board has taken it in.
+#[test]
+fn what_was_drawn_stays(rt: HostRuntime) -> Result<(), Fail> {
+    let first = no_bytes(rt.alloc())?;
+    let bar = bar_on(rt, rt.alloc(), &first, "{pos}")?;
+    assert!(rt; bar.set_position(1) == Ok(Drawn::Yes));
+    let second = no_bytes(rt.alloc())?;
+    let target = setup_on(rt, &second, 10)?.target;
+    assert!(rt; bar.set_draw_target(target) == Ok(Drawn::Limited));
+    assert!(rt; bar.set_position(2) == Ok(Drawn::Yes));
+    let third = no_bytes(rt.alloc())?;
+    let board = board_on(rt, rt.alloc(), &third)?;
+    let bar = board.add(bar)?;
+    assert!(rt; bar.set_position(3) == Ok(Drawn::Yes));
+    assert!(rt; is_seen(&rt, rt.alloc(), &first, "1") == Ok(true));
+    assert!(rt; is_seen(&rt, rt.alloc(), &second, "2") == Ok(true));
+    assert!(rt; is_seen(&rt, rt.alloc(), &third, "3") == Ok(true));
     Ok(())
 }
 

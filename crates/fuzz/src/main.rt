@@ -1,9 +1,9 @@
 //! Random input, and laws that have to hold whatever it is.
 //!
-//! `fuzz SEED BYTES TEMPLATES LONE BOARD THREADS` feeds so many random bytes to cell terminals, reads so many random templates, and
-//! plays so many random lists of calls: of a lone bar, of a board, and of a board in four threads with random delays. It prints how many
-//! runs of each kind there were and how many broke a law; of the first of these its number and the law. The same seed gives the same
-//! bytes, templates and lists.
+//! `fuzz SEED BYTES TEMPLATES LONE BOARD THREADS [STEPS]` feeds so many random bytes to cell terminals, reads so many random templates,
+//! and plays so many random lists of calls: of a lone bar, of a board, and of a board in four threads with random delays, each of which
+//! makes so many calls, 8 where none are said. It prints how many runs of each kind there were and how many broke a law; of the first of
+//! these its number and the law. The same seed gives the same bytes, templates and lists.
 //!
 //! - `numbers`: random numbers. `law`: what has to hold. `texts`, `calls`: random texts and calls.
 //! - `cells`: bytes. `templates`: templates and styles.
@@ -35,7 +35,7 @@ use std::env::{self, Env};
 use std::process::ExitCode;
 use std::thread::join;
 
-/// The seed, and how many runs of each kind are made.
+/// The seed, how many runs of each kind are made, and how many calls each of four threads makes.
 #[derive(Clone, Copy, Drop)]
 struct Asked {
     seed: u64,
@@ -44,7 +44,11 @@ struct Asked {
     lone: u64,
     board: u64,
     threads: u64,
+    steps: u64,
 }
+
+/// How many calls each of four threads makes, where the arguments don't say it.
+const STEPS: u64 = 8;
 
 /// What the arguments ask for.
 fn request<R: AllocGlobal + Env>(rt: &R) -> Result<Asked> {
@@ -53,15 +57,16 @@ fn request<R: AllocGlobal + Env>(rt: &R) -> Result<Asked> {
         numbers.push(word.as_str().parse()?)?;
     }
     match numbers.as_slice() {
-        [seed, bytes, templates, lone, board, threads] => Ok(Asked {
+        [seed, bytes, templates, lone, board, threads, rest @ ..] if rest.len() < 2 => Ok(Asked {
             seed: *seed,
             bytes: *bytes,
             templates: *templates,
             lone: *lone,
             board: *board,
             threads: *threads,
+            steps: rest.first().copied().unwrap_or(STEPS),
         }),
-        _ => Err(anyhow!("usage: fuzz SEED BYTES TEMPLATES LONE BOARD THREADS")),
+        _ => Err(anyhow!("usage: fuzz SEED BYTES TEMPLATES LONE BOARD THREADS [STEPS]")),
     }
 }
 
@@ -109,9 +114,6 @@ fn say<R: Print>(rt: &R, name: &str, tally: Tally) -> Result<bool> {
     Ok(broken == 0)
 }
 
-/// How many calls each of four threads makes on a board.
-const STEPS: u64 = 8;
-
 /// Makes all runs of one thread; whether none broke a law.
 fn all_alone<R: AllocGlobal + Print>(rt: &R, asked: Asked) -> Result<bool> {
     let Asked { seed, .. } = asked;
@@ -149,8 +151,9 @@ fn main(rt: HostRuntime) -> Result<ExitCode> {
         let two = Player::new(&rt, &board, bars.as_slice(), 2);
         let three = Player::new(&rt, &board, bars.as_slice(), 3);
         let four = Player::new(&rt, &board, bars.as_slice(), 4);
-        let front = || join(&rt, || one.plays(seed, STEPS), || two.plays(seed, STEPS));
-        let back = || join(&rt, || three.plays(seed, STEPS), || four.plays(seed, STEPS));
+        let steps = asked.steps;
+        let front = || join(&rt, || one.plays(seed, steps), || two.plays(seed, steps));
+        let back = || join(&rt, || three.plays(seed, steps), || four.plays(seed, steps));
         let ((first, second), (third, fourth)) = join(&rt, front, back);
         let logged = [first, second, third, fourth];
         tally.count(threads::judged(rt, &board, bars.as_slice(), logged));

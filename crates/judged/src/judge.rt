@@ -169,12 +169,31 @@ impl Judge {
         Ok(rows)
     }
 
+    /// How many rows have left the window.
+    fn rows_before(&self) -> Result<usize, Finding> {
+        let rows = self.cells.picture()?.len();
+        Ok(rows.saturating_sub(usize::from(self.size.rows)))
+    }
+
     /// How many rows there are down to the cursor's.
     fn rows_to_the_cursor(&self) -> Result<usize, Finding> {
-        let rows = self.cells.picture()?.len();
-        let before = rows.saturating_sub(usize::from(self.size.rows));
         let (row, _) = self.cells.cursor();
+        let before = self.rows_before()?;
         Ok(before.saturating_add(usize::from(row)).saturating_add(1))
+    }
+
+    /// How many rows there are down to the last one that isn't empty, if that stands below the rows above.
+    pub fn end_below(&self) -> Result<Option<usize>, Finding> {
+        let end = self.rows()?.len();
+        match self.above.len() < end {
+            true => Ok(Some(end)),
+            false => Ok(None),
+        }
+    }
+
+    /// Whether the window has the last of the first so many rows.
+    pub fn has_in_window(&self, rows: usize) -> Result<bool, Finding> {
+        Ok(self.rows_before()? < rows)
     }
 
     /// A text was logged: it stands somewhere below the rows above, and belongs to them from now on. Once a call has failed, what that call

@@ -32,6 +32,8 @@ pub enum Where {
     Unmade,
     /// This call answered `Memory`.
     Call(usize),
+    /// A draw of no line before this size, which answered `Memory`, as later ones did.
+    Draw(usize),
     /// The terminal's own memory in this call, which answered `Terminal`.
     Terminal(usize),
 }
@@ -43,6 +45,7 @@ impl Where {
             Where::Nowhere => "no call was refused",
             Where::Unmade => "nothing was made",
             Where::Call(_) => "a call answered Memory",
+            Where::Draw(_) => "sizes answered Memory while rows were kept",
             Where::Terminal(_) => "the terminal found no memory",
         }
     }
@@ -64,17 +67,25 @@ pub struct Notes {
 }
 
 impl Notes {
-    /// Nothing yet, with room for 32 calls.
+    /// Nothing yet, with room for 40 calls.
     pub fn new(alloc: Global) -> Result<Notes, Finding> {
         Ok(Notes {
-            calls: Vec::with_capacity(alloc, 32)?,
+            calls: Vec::with_capacity(alloc, 40)?,
             orders: Vec::with_capacity(alloc, 256)?,
         })
     }
 
-    fn take(&mut self, said: Said, mark: Mark, order: &[u64]) -> Result<(), Finding> {
-        self.orders.extend_from_slice(order)?;
+    /// Makes a call, and notes what it does.
+    fn take<S: Stage>(
+        &mut self,
+        stage: &mut S,
+        record: &Record,
+        step: Step,
+    ) -> Result<(), Finding> {
+        let said = stage.make(step);
+        self.orders.extend_from_slice(stage.order())?;
         let end = self.orders.len();
+        let mark = record.mark();
         Ok(self.calls.push(Note { said, mark, end })?)
     }
 
@@ -101,9 +112,23 @@ impl Notes {
         self.orders.get(start..note.end).unwrap_or(&[])
     }
 
-    /// The answers of all calls but the first so many.
-    fn answers(&self, from: usize) -> &[Note] {
-        self.calls.get(from..).unwrap_or(&[])
+    /// Whether this call answered `Memory`.
+    fn is_refused(&self, call: usize) -> bool {
+        match self.calls.get(call) {
+            Some(note) => note.said == Err(Refusal::Memory),
+            None => false,
+        }
+    }
+
+    /// The answers of those of these calls that are compared.
+    fn answers(&self, alloc: Global, calls: &[Turn]) -> Result<Vec<Said>, Finding> {
+        let mut answers = Vec::new(alloc);
+        for (note, call) in self.calls.iter().zip(calls.iter()) {
+            if call.is_compared {
+                answers.push(note.said)?;
+            }
+        }
+        Ok(answers)
     }
 }
 
@@ -115,10 +140,36 @@ pub fn noted<S: Stage>(
     notes: &mut Notes,
 ) -> Result<(), Finding> {
     for step in script {
-        let said = stage.make(*step);
-        notes.take(said, record.mark(), stage.order())?;
+        notes.take(stage, record, *step)?;
     }
     Ok(())
+}
+
+/// A call, and whether what it answers and shows is compared.
+#[derive(Clone, Copy, Drop)]
+struct Turn {
+    step: Step,
+    is_compared: bool,
+}
+
+/// What is seen of a run, call by call.
+#[derive(Drop)]
+struct Seen {
+    judge: Judge,
+    /// Where memory was refused by now.
+    found: Where,
+    /// Where those rows end that a draw of no line left below the rows above, if none of them was taken back since, or cut.
+    kept: Option<usize>,
+}
+
+impl Seen {
+    /// Whether any of these rows is still in the window.
+    fn has_kept_rows(&self) -> Result<bool, Finding> {
+        match self.kept {
+            Some(end) => self.judge.has_in_window(end),
+            None => Ok(false),
+        }
+    }
 }
 
 /// A script that was played, on a terminal of this size behind this record, and what its calls did.
@@ -138,12 +189,15 @@ impl<M: Stages> Run<'_, M> {
     /// terminal's own growth was refused; the first of these leaves the order. A call with `Memory` writes nothing. Rows above stand behind
     /// each byte. What comes behind, by the answers and by what each drawing shows, is what a new stage does that makes the same calls with
     /// ample memory: without the refused call, or with what that call had begun; or on a terminal that fails at that very call of the writer.
+    ///
+    /// Only one call answers `Memory`, but for sizes: a draw of no line may have had none to go on remembering the rows of bars that are
+    /// gone. Then sizes may answer `Memory`, and do nothing, as long as such rows stand in the window.
     pub fn judged(&self) -> Result<Where, Finding> {
         let found = self.looked_at()?;
         let follows = match found {
-            Where::Call(at) => self.follows_a_refusal(at)?,
+            Where::Call(at) | Where::Draw(at) => self.follows_a_refusal(at)?,
             Where::Terminal(at) => self.follows_a_failure(at)?,
-            _ => self.is_like(self.stages.script(), (0, 0))?,
+            _ => self.is_like(0, None)?,
         };
         match follows {
             true => Ok(found),
@@ -153,47 +207,46 @@ impl<M: Stages> Run<'_, M> {
 
     /// Looks at each call.
     fn looked_at(&self) -> Result<Where, Finding> {
-        let mut judge = Judge::new(self.alloc, self.size, Look::EachByte)?;
-        let mut found = Where::Nowhere;
+        let mut seen = Seen {
+            judge: Judge::new(self.alloc, self.size, Look::EachByte)?,
+            found: Where::Nowhere,
+            kept: None,
+        };
         for (at, step) in self.stages.script().iter().enumerate() {
-            found = self.look(&mut judge, (at, *step), found)?;
+            self.look(&mut seen, (at, *step))?;
         }
-        Ok(found)
+        Ok(seen.found)
     }
 
-    /// Looks at a call, before which memory was refused there; where it was refused by then.
-    fn look(
-        &self,
-        judge: &mut Judge,
-        (at, step): (usize, Step),
-        found: Where,
-    ) -> Result<Where, Finding> {
+    /// Looks at a call.
+    fn look(&self, seen: &mut Seen, (at, step): (usize, Step)) -> Result<(), Finding> {
         let Some(note) = self.notes.calls.get(at) else {
             return Err(Finding::Answer);
         };
         let before = self.notes.before(at);
         let bytes = self.record.between(self.alloc, before, note.mark)?;
         let has_failed = note.mark.failures != before.failures;
-        judge.reads(&bytes, has_failed)?;
-        match (note.said, found) {
+        seen.judge.reads(&bytes, has_failed)?;
+        match (note.said, seen.found) {
             (Err(Refusal::Terminal(ErrorKind::OutOfMemory)), Where::Nowhere) if has_failed => {
                 self.leaves_the_order(at)?;
-                Ok(Where::Terminal(at))
+                seen.found = Where::Terminal(at);
             }
-            (_, _) if has_failed => Err(Finding::Answer),
+            (_, _) if has_failed => return Err(Finding::Answer),
             (said, _) if said == step.wanted() => {
-                resized(said, (step, &bytes), judge)?;
-                log(judge, step, said)?;
-                Ok(found)
+                resized(said, (step, &bytes), &mut seen.judge)?;
+                log(&mut seen.judge, step, said)?;
+                self.keeps(seen, (at, step))?;
             }
-            (Err(Refusal::Memory), Where::Nowhere) => {
+            (Err(Refusal::Memory), _) => {
                 self.leaves_the_order(at)?;
                 is_unwritten(step, &bytes)?;
-                Ok(Where::Call(at))
+                seen.found = self.refused(seen, at)?;
             }
-            (_, Where::Call(_)) => Ok(found),
-            _ => Err(Finding::Answer),
+            (_, Where::Call(_)) => {}
+            _ => return Err(Finding::Answer),
         }
+        Ok(())
     }
 
     fn leaves_the_order(&self, at: usize) -> Result<(), Finding> {
@@ -203,64 +256,118 @@ impl<M: Stages> Run<'_, M> {
         }
     }
 
-    /// What comes behind a call with `Memory` is what comes without that call, or with what it did before its draw.
+    /// What a call that wasn't refused makes of the rows of bars that are gone: behind a draw of a board without bars they are all that
+    /// stands below the rows above. That draw may have been refused memory, if no call was by now.
+    fn keeps(&self, seen: &mut Seen, (at, step): (usize, Step)) -> Result<(), Finding> {
+        let has_no_line = matches!(step, Step::Redraw) && self.notes.order(at).is_empty();
+        if has_no_line && seen.found == Where::Nowhere {
+            seen.kept = seen.judge.end_below()?;
+        }
+        if step.takes_back() {
+            seen.kept = None;
+        }
+        Ok(())
+    }
+
+    /// Where memory was refused, now that this call answers `Memory`: in it, if it is the first; else both are sizes while rows are kept.
+    fn refused(&self, seen: &Seen, at: usize) -> Result<Where, Finding> {
+        let may_be_size = self.is_size(at) && seen.has_kept_rows()?;
+        match seen.found {
+            Where::Nowhere => Ok(Where::Call(at)),
+            Where::Call(first) | Where::Draw(first) if may_be_size && self.is_size(first) => {
+                Ok(Where::Draw(first))
+            }
+            _ => Err(Finding::Answer),
+        }
+    }
+
+    fn is_size(&self, at: usize) -> bool {
+        match self.stages.script().get(at) {
+            Some(step) => step.resized().is_some(),
+            None => false,
+        }
+    }
+
+    /// What comes behind a call with `Memory` is what comes without it; or with what it did before its draw; or with all of it right before
+    /// the next call that draws bars, where only that one shows the lines that it had stored.
     fn follows_a_refusal(&self, at: usize) -> Result<bool, Finding> {
-        let behind = at.saturating_add(1);
-        let without = self.edited(at, None)?;
-        if self.is_like(&without, (behind, at))? {
+        if self.is_like(at, None)? {
             return Ok(true);
         }
         let Some(step) = self.stages.script().get(at) else {
             return Ok(false);
         };
-        let [first, second] = step.begun();
-        Ok(self.follows(at, first)? || self.follows(at, second)?)
-    }
-
-    /// Whether what comes behind this call is what comes behind that one, if there is one, in its place.
-    fn follows(&self, at: usize, step: Option<Step>) -> Result<bool, Finding> {
-        if step.is_none() {
-            return Ok(false);
-        }
-        let behind = at.saturating_add(1);
-        self.is_like(&self.edited(at, step)?, (behind, behind))
-    }
-
-    /// The script with another call in this place, or with none.
-    fn edited(&self, at: usize, other: Option<Step>) -> Result<Vec<Step>, Finding> {
-        let mut script = Vec::new(self.alloc);
-        for (place, step) in self.stages.script().iter().enumerate() {
-            match other {
-                _ if place != at => script.push(*step)?,
-                Some(other) => script.push(other)?,
-                None => {}
+        if let Some(begun) = step.begun() {
+            if self.is_like(at, Some((at, begun)))? {
+                return Ok(true);
             }
         }
-        Ok(script)
+        match (step.storing(), self.next_draw(at)) {
+            (Some(storing), Some(next)) => self.is_like(at, Some((next, storing))),
+            _ => Ok(false),
+        }
     }
 
-    /// Whether a new stage that makes these calls answers the same and shows the same behind the first calls, so many here and so many there,
-    /// and has the same order at the end.
-    fn is_like(&self, script: &[Step], (here, there): (usize, usize)) -> Result<bool, Finding> {
-        let fresh = self.fresh(script, Plan::Never)?;
-        let same = are_same(self.notes.answers(here), fresh.notes.answers(there));
-        let all = self.notes.calls.len();
-        let order = self.notes.order(all) == fresh.notes.order(fresh.notes.calls.len());
-        Ok(same && order && self.shows_as(&fresh, (here, script, there))?)
+    /// The first call behind this one that draws bars.
+    fn next_draw(&self, at: usize) -> Option<usize> {
+        let script = self.stages.script();
+        let from = at.saturating_add(1);
+        (from..script.len()).find(|at| script.get(*at).is_some_and(|step| step.draws()))
     }
 
-    /// Whether the same stands behind the calls that drew, from some on here and from some on there, where that script was played.
-    fn shows_as(
-        &self,
-        fresh: &Fresh,
-        (here, script, there): (usize, &[Step], usize),
-    ) -> Result<bool, Finding> {
-        let mut mine = Judge::new(self.alloc, self.size, Look::EachCall)?;
-        let calls = (self.stages.script(), here);
-        let shown = pictures(&mut mine, (self.record, self.notes), calls)?;
-        let mut other = Judge::new(self.alloc, self.size, Look::EachCall)?;
-        let calls = (script, there);
-        let wanted = pictures(&mut other, (&fresh.record, &fresh.notes), calls)?;
+    /// Whether a new stage answers the same and shows the same from this call on, and has the same order at the end. It makes the calls that
+    /// weren't refused; and before one of them another, if one is given.
+    fn is_like(&self, from: usize, other: Option<(usize, Step)>) -> Result<bool, Finding> {
+        let mine = self.own_calls(from)?;
+        let calls = self.new_calls(from, other)?;
+        let fresh = self.fresh(&calls, Plan::Never)?;
+        let answers = self.notes.answers(self.alloc, &mine)?;
+        let wanted = fresh.notes.answers(self.alloc, &calls)?;
+        let order = self.notes.order(mine.len()) == fresh.notes.order(calls.len());
+        Ok(answers == wanted && order && self.shows_as(&fresh, &mine, &calls)?)
+    }
+
+    /// The calls of the run. Compared are those from this one on that weren't refused.
+    fn own_calls(&self, from: usize) -> Result<Vec<Turn>, Finding> {
+        let mut calls = Vec::new(self.alloc);
+        for (at, step) in self.stages.script().iter().enumerate() {
+            let is_compared = from <= at && !self.notes.is_refused(at);
+            calls.push(Turn {
+                step: *step,
+                is_compared,
+            })?;
+        }
+        Ok(calls)
+    }
+
+    /// The calls of the run that weren't refused, and before one of them another, if one is given. Compared are those from this one on.
+    fn new_calls(&self, from: usize, other: Option<(usize, Step)>) -> Result<Vec<Turn>, Finding> {
+        let mut calls = Vec::new(self.alloc);
+        for (at, step) in self.stages.script().iter().enumerate() {
+            if let Some((place, step)) = other {
+                if place == at {
+                    calls.push(Turn {
+                        step,
+                        is_compared: false,
+                    })?;
+                }
+            }
+            if !self.notes.is_refused(at) {
+                calls.push(Turn {
+                    step: *step,
+                    is_compared: from <= at,
+                })?;
+            }
+        }
+        Ok(calls)
+    }
+
+    /// Whether the same stands behind the compared calls that drew, and behind the last one.
+    fn shows_as(&self, fresh: &Fresh, mine: &[Turn], calls: &[Turn]) -> Result<bool, Finding> {
+        let mut judge = Judge::new(self.alloc, self.size, Look::EachCall)?;
+        let shown = pictures(&mut judge, (self.record, self.notes), mine)?;
+        let mut judge = Judge::new(self.alloc, self.size, Look::EachCall)?;
+        let wanted = pictures(&mut judge, (&fresh.record, &fresh.notes), calls)?;
         Ok(shown == wanted)
     }
 
@@ -268,18 +375,21 @@ impl<M: Stages> Run<'_, M> {
     /// kind of the failure.
     fn follows_a_failure(&self, at: usize) -> Result<bool, Finding> {
         let plan = Plan::Call(self.record.failed_call());
-        let fresh = self.fresh(self.stages.script(), plan)?;
-        let behind = at.saturating_add(1);
-        let same = are_same(self.notes.answers(behind), fresh.notes.answers(behind));
-        Ok(same && self.bytes()? == fresh.bytes(self.alloc)?)
+        let calls = self.own_calls(at.saturating_add(1))?;
+        let fresh = self.fresh(&calls, plan)?;
+        let answers = self.notes.answers(self.alloc, &calls)?;
+        let wanted = fresh.notes.answers(self.alloc, &calls)?;
+        Ok(answers == wanted && self.bytes()? == fresh.bytes(self.alloc)?)
     }
 
     /// What a new stage does that makes these calls.
-    fn fresh(&self, script: &[Step], plan: Plan) -> Result<Fresh, Finding> {
+    fn fresh(&self, calls: &[Turn], plan: Plan) -> Result<Fresh, Finding> {
         let record = Record::new(self.alloc, plan, 4096)?;
         let mut stage = self.stages.on(&record)?;
         let mut notes = Notes::new(self.alloc)?;
-        noted(&mut stage, &record, script, &mut notes)?;
+        for call in calls {
+            notes.take(&mut stage, &record, call.step)?;
+        }
         Ok(Fresh { record, notes })
     }
 
@@ -289,7 +399,7 @@ impl<M: Stages> Run<'_, M> {
     }
 }
 
-/// A script that a new stage has made.
+/// Calls that a new stage has made.
 #[derive(Drop)]
 struct Fresh {
     record: Rc<Record>,
@@ -305,20 +415,20 @@ impl Fresh {
 /// Rows that stand, one picture behind another.
 type Pictures = Vec<Vec<String>>;
 
-/// What stands behind each call of a script from this one on that drew, and behind the last one. What a bar's drop draws may be lost: the
-/// next draw shows it.
+/// What stands behind each of these calls that drew and is compared, and behind the last one. What a bar's drop draws may be lost: the next
+/// draw shows it.
 fn pictures(
     judge: &mut Judge,
     (record, notes): (&Record, &Notes),
-    (script, from): (&[Step], usize),
+    calls: &[Turn],
 ) -> Result<Pictures, Finding> {
     let mut pictures = Vec::new(judge.alloc());
-    for (at, (note, step)) in notes.calls.iter().zip(script.iter()).enumerate() {
+    for (at, (note, call)) in notes.calls.iter().zip(calls.iter()).enumerate() {
         let bytes = record.between(judge.alloc(), notes.before(at), note.mark)?;
         judge.takes(&bytes)?;
-        resized(note.said, (*step, &[]), judge)?;
-        let has_drawn = note.said == Ok(Drawn::Yes) && !matches!(step, Step::Drop(_));
-        if at >= from && has_drawn {
+        resized(note.said, (call.step, &[]), judge)?;
+        let has_drawn = note.said == Ok(Drawn::Yes) && !matches!(call.step, Step::Drop(_));
+        if call.is_compared && has_drawn {
             pictures.push(judge.rows()?)?;
         }
     }
@@ -330,11 +440,6 @@ fn pictures(
 fn bytes_of(alloc: Global, record: &Record, notes: &Notes) -> Result<Vec<u8>, Finding> {
     let end = notes.before(notes.calls.len());
     Ok(record.between(alloc, Mark::default(), end)?)
-}
-
-fn are_same(notes: &[Note], others: &[Note]) -> bool {
-    let mut pairs = notes.iter().zip(others.iter());
-    notes.len() == others.len() && pairs.all(|(one, other)| one.said == other.said)
 }
 
 /// A text that was logged stands above the bars.

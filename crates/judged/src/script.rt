@@ -68,14 +68,33 @@ impl Step {
         }
     }
 
-    /// What it may have done where memory was refused to it behind its beginning: what it does before its draw; or all of it but that its
-    /// bar's new lines are drawn by the next call.
-    pub fn begun(self) -> [Option<Step>; 2] {
+    /// What it does before its draw, so that it may have done it where that draw finds no memory.
+    pub fn begun(self) -> Option<Step> {
         match self {
-            Step::Message(bar, text) => [Some(Step::Told(bar, text)), Some(self)],
-            Step::Suspend => [Some(Step::Clear), None],
-            Step::Tick(_) | Step::Finish(_) | Step::Drop(_) => [Some(self), None],
-            _ => [None, None],
+            Step::Message(bar, text) => Some(Step::Told(bar, text)),
+            Step::Suspend => Some(Step::Clear),
+            _ => None,
+        }
+    }
+
+    /// Itself, if it stores a bar's new lines before it draws: where it finds no memory behind that, the next draw shows them.
+    pub fn storing(self) -> Option<Step> {
+        match self {
+            Step::Message(..) | Step::Tick(_) | Step::Finish(_) | Step::Drop(_) => Some(self),
+            _ => None,
+        }
+    }
+
+    /// Whether it draws bars.
+    pub fn draws(self) -> bool {
+        self.wanted() == Ok(Drawn::Yes) && !matches!(self, Step::Clear)
+    }
+
+    /// Whether it takes rows back that bars left which are gone, or cuts them.
+    pub fn takes_back(self) -> bool {
+        match self {
+            Step::Log(_) | Step::BarLog(..) | Step::Clear | Step::Suspend => true,
+            _ => self.resized().is_some() && self.wanted().is_ok(),
         }
     }
 
@@ -160,9 +179,9 @@ pub const LONE: [Step; 12] = [
     Step::Log("F"),
 ];
 
-/// Twenty-four calls of a board whose terminal is resized between them: before and after a draw, a text and a clear, where rows of a bar that is
-/// gone stand, and where rows scroll away or come back.
-pub const SIZED_BOARD: [Step; 24] = [
+/// Thirty-five calls of a board whose terminal is resized between them: before and after a draw, a text and a clear, where rows of a bar
+/// that is gone stand, also behind a draw of no line, and where rows scroll away or come back.
+pub const SIZED_BOARD: [Step; 35] = [
     Step::Add("abcd"),
     Step::Tick(0),
     Step::Size(Size { rows: 4, cols: 2 }),
@@ -187,6 +206,17 @@ pub const SIZED_BOARD: [Step; 24] = [
     Step::Clear,
     Step::Size(Size { rows: 3, cols: 2 }),
     Step::Log("FGH"),
+    Step::Size(Size { rows: 4, cols: 6 }),
+    Step::Message(2, "klmnopqrstuvwx"),
+    Step::Keep(2),
+    Step::Drop(2),
+    Step::Redraw,
+    Step::Size(Size { rows: 4, cols: 5 }),
+    Step::Size(Size { rows: 3, cols: 6 }),
+    Step::Add("o\np\nq\nr"),
+    Step::Tick(3),
+    Step::Size(Size { rows: 2, cols: 4 }),
+    Step::Log("IJ"),
 ];
 
 /// Sixteen of a lone bar.

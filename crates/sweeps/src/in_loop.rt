@@ -1,7 +1,6 @@
 //! A wrapped loop that makes the calls of a script: each is its next item, whose draw is what it answers.
 use indicatif::{
-    Drawn, NoTracker, OwnedBar, ProgressBarIter, ProgressDrawTarget, ProgressFinish, Refusal,
-    Setup, StepClock,
+    Drawn, NoTracker, OwnedBar, ProgressBarIter, ProgressDrawTarget, Refusal, Setup, StepClock,
 };
 use judged::played::Stage;
 use judged::record::Behind;

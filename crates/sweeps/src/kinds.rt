@@ -69,7 +69,8 @@ impl Kind {
     /// The draw behind it.
     fn last(self) -> &'static [Step] {
         match self {
-            Kind::Board | Kind::Moving | Kind::Sized | Kind::Shared => &[Step::Tick(2)],
+            Kind::Board | Kind::Moving | Kind::Shared => &[Step::Tick(2)],
+            Kind::Sized => &[Step::Tick(3)],
             Kind::Lone | Kind::SizedLone => &[Step::Tick(0)],
             Kind::Loop => &[],
         }

@@ -143,8 +143,8 @@ fn notes_of(alloc: Global) -> Result<Notes, Finding> {
     }
 }
 
-/// Plays a script, and judges it; twice where the judge finds no memory.
-fn told<M: Stages>(alloc: Global, stages: &M, playing: Playing) -> Result<Where, Finding> {
+/// Plays a script, and judges it; once more where the judge finds no memory.
+fn played_by<M: Stages>(alloc: Global, stages: &M, playing: Playing) -> Result<Where, Finding> {
     let record = record_of(alloc, playing.growing)?;
     let mut notes = notes_of(alloc)?;
     let mut stage = match stages.on(&record) {
@@ -180,39 +180,47 @@ pub const NAMES: [&str; 7] = [
     "run",
 ];
 
-/// The script of a name.
-fn script_of(name: &str) -> &'static [Step] {
-    match name {
-        "board" => &BOARD,
-        "sized-board" => &SIZED_BOARD,
-        "lone" => &LONE,
-        _ => &SIZED_LONE,
-    }
+/// What a board's script came to.
+fn found_on_board(
+    alloc: Global,
+    script: &'static [Step],
+    playing: Playing,
+) -> Result<Where, Finding> {
+    let size = playing.size;
+    let boards = Boards {
+        alloc,
+        size,
+        script,
+    };
+    played_by(alloc, &boards, playing)
+}
+
+/// What a lone bar's script came to.
+fn found_on_bar(
+    alloc: Global,
+    script: &'static [Step],
+    playing: Playing,
+) -> Result<Where, Finding> {
+    let size = playing.size;
+    let bars = Bars {
+        alloc,
+        size,
+        script,
+    };
+    played_by(alloc, &bars, playing)
 }
 
 /// Where memory was refused in the script of a name; nothing where there is no such script.
 pub fn found<R: Runs>(rt: R, name: &str, playing: Playing) -> Option<Result<Where, Finding>> {
     let alloc = rt.alloc();
     let size = playing.size;
-    let script = script_of(name);
-    let boards = Boards {
-        alloc,
-        size,
-        script,
-    };
     Some(match name {
-        "board" | "sized-board" => told(alloc, &boards, playing),
-        "lone" | "sized-lone" => told(
-            alloc,
-            &Bars {
-                alloc,
-                size,
-                script,
-            },
-            playing,
-        ),
-        "shared" => told(alloc, &Shared { rt, size }, playing),
-        "loop" => told(alloc, &Loops { alloc, size }, playing),
+        "board" => found_on_board(alloc, &BOARD, playing),
+        "sized-board" => found_on_board(alloc, &SIZED_BOARD, playing),
+        "lone" => found_on_bar(alloc, &LONE, playing),
+        "sized-lone" => found_on_bar(alloc, &SIZED_LONE, playing),
+        "shared" => played_by(alloc, &Shared { rt, size }, playing),
+        "loop" => played_by(alloc, &Loops { alloc, size }, playing),
         "run" => printing::refused(alloc),
         _ => return None,
     })

@@ -3,6 +3,7 @@ use indicatif::{
     Drawn, MultiProgress, MultiProgressAlignment, ProgressBar, ProgressDrawTarget, ProgressFinish,
     ProgressStyle, Refusal, Setup, StepClock,
 };
+use judged::on_board::done;
 use judged::played::Stage;
 use judged::record::{Behind, Record};
 use judged::script::{Said, Step};
@@ -23,14 +24,6 @@ pub struct OnShared<R: Wait + Copy + Clone + Drop> {
     board: MultiProgress<Behind, StepClock, R>,
     bars: Vec<Option<Bar<R>>>,
     record: Rc<Record>,
-}
-
-/// What a call answers that draws nothing.
-fn done(answer: Result<(), Refusal>) -> Said {
-    match answer {
-        Ok(()) => Ok(Drawn::Limited),
-        Err(refusal) => Err(refusal),
-    }
 }
 
 impl<R: AllocGlobal + Wait + Copy + Clone + Drop> OnShared<R> {

@@ -23,12 +23,12 @@ enum Body {
     Makes(Step),
 }
 
-/// A wrong body of one call of a board's script: which call that is, what it does, and what it answers.
+/// A wrong body of calls of a board's script: which calls these are, what each does, and what it answers.
 #[derive(Clone, Copy, Drop)]
 pub struct Planted {
     pub name: &'static str,
     script: &'static [Step],
-    at: usize,
+    at: &'static [usize],
     body: Body,
     said: Said,
 }
@@ -36,82 +36,111 @@ pub struct Planted {
 /// What a call answers that found no memory.
 const REFUSED: Said = Err(Refusal::Memory);
 
-/// The first two do what a call may that finds no memory: nothing, or what it does before its draw.
-pub const PLANTED: [Planted; 11] = [
+/// The first two do what a call may that finds no memory: nothing, or what it does before its draw. The last six are sizes: a draw of no line
+/// comes before those of the numbers 29 and 30, and before that of number 33 the kept rows have scrolled away.
+pub const PLANTED: [Planted; 15] = [
     Planted {
         name: "a draw does nothing",
         script: &BOARD,
-        at: 4,
+        at: &[4],
         body: Body::Nothing,
         said: REFUSED,
     },
     Planted {
         name: "a message is set",
         script: &BOARD,
-        at: 8,
+        at: &[8],
         body: Body::Makes(Step::Told(2, "c")),
         said: REFUSED,
     },
     Planted {
         name: "a draw writes a byte first",
         script: &BOARD,
-        at: 4,
+        at: &[4],
         body: Body::Writes("\r"),
         said: REFUSED,
     },
     Planted {
         name: "a draw empties a row above",
         script: &BOARD,
-        at: 4,
+        at: &[4],
         body: Body::Writes("\x1B[9A\r\x1B[2K"),
         said: REFUSED,
     },
     Planted {
         name: "a bar is taken in",
         script: &BOARD,
-        at: 2,
+        at: &[2],
         body: Body::Makes(Step::Add("bb")),
         said: REFUSED,
     },
     Planted {
         name: "a bar is taken out",
         script: &BOARD,
-        at: 13,
+        at: &[13],
         body: Body::Makes(Step::Remove(0)),
         said: REFUSED,
     },
     Planted {
         name: "a bar is told to keep its rows",
         script: &BOARD,
-        at: 10,
+        at: &[10],
         body: Body::Makes(Step::Keep(1)),
         said: REFUSED,
     },
     Planted {
         name: "another message is set",
         script: &BOARD,
-        at: 8,
+        at: &[8],
         body: Body::Makes(Step::Told(2, "z")),
         said: REFUSED,
     },
     Planted {
         name: "a log does nothing and says that it drew",
         script: &BOARD,
-        at: 6,
+        at: &[6],
         body: Body::Nothing,
         said: Ok(Drawn::Yes),
     },
     Planted {
         name: "a size does nothing",
         script: &SIZED_BOARD,
-        at: 2,
+        at: &[2],
         body: Body::Nothing,
         said: REFUSED,
     },
     Planted {
         name: "a size is taken",
         script: &SIZED_BOARD,
-        at: 2,
+        at: &[2],
+        body: Body::Makes(WIDE),
+        said: REFUSED,
+    },
+    Planted {
+        name: "two sizes do nothing",
+        script: &SIZED_BOARD,
+        at: &[2, 7],
+        body: Body::Nothing,
+        said: REFUSED,
+    },
+    Planted {
+        name: "sizes do nothing while rows are kept",
+        script: &SIZED_BOARD,
+        at: &[29, 30],
+        body: Body::Nothing,
+        said: REFUSED,
+    },
+    Planted {
+        name: "sizes do nothing, also once no row is kept",
+        script: &SIZED_BOARD,
+        at: &[29, 30, 33],
+        body: Body::Nothing,
+        said: REFUSED,
+    },
+    Planted {
+        name: "sizes are taken while rows are kept",
+        script: &SIZED_BOARD,
+        at: &[29, 30],
         body: Body::Makes(WIDE),
         said: REFUSED,
     },
@@ -149,7 +178,7 @@ impl Stage for OnPlanted {
     fn make(&mut self, step: Step) -> Said {
         let at = self.made;
         self.made = at.saturating_add(1);
-        if at != self.planted.at {
+        if !self.planted.at.contains(&at) {
             return self.board.make(step);
         }
         self.does(self.planted.body);

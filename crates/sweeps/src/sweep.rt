@@ -1,5 +1,5 @@
 //! The runs of a script, one for each place where its terminal can fail.
-use crate::kinds::{Kind, Outcome, run};
+use crate::kinds::{Kind, run};
 use judged::judge::{Finding, Look};
 use judged::record::{Mark, Plan, Size};
 use std::sync::Wait;
