@@ -165,6 +165,10 @@ pub fn queue_at<X: Drop>(items: &mut VecDeque<X>, at: usize, item: X)
     requires room { deque_len items.old < deque_capacity items.old }
     ensures { items.new.items ≡ insert items.old.items at item }
 {
+    if at == 0 {
+        items.push_front_reserved(item);
+        return;
+    }
     match items.insert(at, item) {
         Ok(()) | Err(_) => (),
     }
@@ -176,6 +180,9 @@ pub fn take_at<X: Drop>(items: &mut VecDeque<X>, at: usize) -> X
     ensures value { result ≡ slice_index_or items.old.items at result }
     ensures items { items.new.items ≡ remove items.old.items at }
 {
+    if at == 0 {
+        return items.pop_front().unwrap();
+    }
     items.remove(at).unwrap()
 }
 

@@ -1,4 +1,4 @@
-use Rattle.std.proofs.Common.{◌<◌, ◌≤◌, ◌∙◌, sym, ap, length, arith, refl}
+use Rattle.std.proofs.Common.{◌<◌, ◌≤◌, ◌∙◌, sym, length, arith, refl}
 use Rattle.indicatif_term.specs.Engines.{is_bottom}
 use Rattle.indicatif_board.specs.BoardValues.{id_of}
 use Rattle.indicatif_board.specs.Multi.{IsIn}

@@ -1,6 +1,5 @@
 use Rattle.std.proofs.Common.{◌∙◌, ap, arith}
 use Rattle.std.specs.Prelude.{not, ◌==◌}
-use Rattle.std.specs.List.{prefix_len}
 use Rattle.std.proofs.lemmas.List.Sums.{prefix_len-le-length}
 use Rattle.indicatif_board.specs.Inside.Standing.{seat_of}
 use Rattle.indicatif_board.proofs.BarRecordLemmas.{evenly}
