@@ -299,4 +299,4 @@ pub use indicatif_text::format::{
     BinaryBytes, DecimalBytes, FormattedDuration, HumanBytes, HumanCount, HumanDuration,
     HumanFloatCount,
 };
-pub use indicatif_text::template::{Alignment, Part, Template};
+pub use indicatif_text::template::{Alignment, Part, Parts, Template};
