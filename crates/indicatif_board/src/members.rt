@@ -1,14 +1,15 @@
 //! The members of a board: bars in their order, with their lines beside them.
-ghost use Rattle.std.specs.Prelude.{◌≡◌, ◌<◌, ◌≤◌, ◌+◌, ◌++◌, ◌⊎◌, ◌↔◌, true, false, drop, length, vec_len, vec_capacity, ◌==◌, Err, IfOk, IfErr, OnErr, IsTrue, IsFalse, MatchResult};
-ghost use Rattle.std.specs.List.{insert, prefix_len, position_or_len};
+ghost use Rattle.std.specs.Prelude.{◌≡◌, ◌<◌, ◌≤◌, ◌+◌, ◌++◌, ◌⊎◌, ◌↔◌, true, false, drop, length, vec_len, vec_capacity, slice_index_or, ◌==◌, Err, IfOk, IfErr, OnErr, IsTrue, IsFalse, MatchResult};
+ghost use Rattle.std.specs.List.{insert, remove, prefix_len, position_or_len};
+ghost use Rattle.std.specs.VecDeque.{deque_len, deque_capacity};
 ghost use Rattle.indicatif_bar.specs.Progress.{is_finished};
 ghost use Rattle.indicatif_bar.specs.Commands.{FinishUsingStyle, command_of, obeyed, after_drop, takes_memory, is_beyond_clock};
 
 use indicatif_bar::state::{Ask, BarCommand, BarState};
 use indicatif_bar::style::Tracks;
-use indicatif_term::draw_target::Segment;
 use indicatif_text::columns::{Moment, Refusal};
 use std::alloc::Global;
+use std::collections::VecDeque;
 use std::marker::Model;
 
 /// A bar on a board. Its number and its lines stand at the same place of the board's frame.
@@ -100,27 +101,27 @@ impl<K: Tracks> Seated<K> {
 }
 
 /// How many members at the head are dropped.
-pub fn leading<K: Tracks>(members: &[Seated<K>]) -> usize
-    ensures { result ≡ prefix_len (λ m. m.dropped) members.now }
+pub fn leading<K: Tracks>(members: &VecDeque<Seated<K>>) -> usize
+    ensures { result ≡ prefix_len (λ m. m.dropped) members.now.items }
 {
-    for (count, member) in members.iter().enumerate() {
-        if !member.is_dropped() {
+    for count in 0..members.len() {
+        if !members[count].is_dropped() {
             return count;
         }
     }
     members.len()
 }
 
-/// The place of a bar in the frame; past its end where it isn't there.
-pub fn place_of_bar(frame: &[Segment], bar: u64) -> usize
-    ensures { result ≡ position_or_len (λ s. s.bar == bar) frame.now }
+/// The place of a bar's number in an order; past its end where it isn't there.
+pub fn place_of_bar(order: &[u64], bar: u64) -> usize
+    ensures { result ≡ position_or_len (λ n. n == bar) order.now }
 {
-    for (count, segment) in frame.iter().enumerate() {
-        if segment.bar == bar {
+    for (count, number) in order.iter().enumerate() {
+        if *number == bar {
             return count;
         }
     }
-    frame.len()
+    order.len()
 }
 
 /// Takes the first ones away. Takes no memory.
@@ -128,6 +129,9 @@ pub fn drop_front<X: Drop>(items: &mut Vec<X>, count: usize)
     requires { count ≤ vec_len items.old }
     ensures { items.new.items ≡ drop count items.old.items }
 {
+    if count == 0 {
+        return;
+    }
     items.drain(..count);
 }
 
@@ -151,4 +155,44 @@ pub fn put_behind(items: &mut Vec<usize>, more: &[usize])
     match items.extend_from_slice(more) {
         Ok(()) | Err(_) => (),
     }
+}
+
+// ---- queues, whose shorter side moves where one is put in or taken out
+
+/// Puts one in where there is room for it.
+pub fn queue_at<X: Drop>(items: &mut VecDeque<X>, at: usize, item: X)
+    requires within { at ≤ deque_len items.old }
+    requires room { deque_len items.old < deque_capacity items.old }
+    ensures { items.new.items ≡ insert items.old.items at item }
+{
+    if at == 0 {
+        items.push_front_reserved(item);
+        return;
+    }
+    match items.insert(at, item) {
+        Ok(()) | Err(_) => (),
+    }
+}
+
+/// Takes the one at a place out.
+pub fn take_at<X: Drop>(items: &mut VecDeque<X>, at: usize) -> X
+    requires within { at < deque_len items.old }
+    ensures value { result ≡ slice_index_or items.old.items at result }
+    ensures items { items.new.items ≡ remove items.old.items at }
+{
+    if at == 0 {
+        return items.pop_front().unwrap();
+    }
+    items.remove(at).unwrap()
+}
+
+/// Takes the first ones away. Takes no memory.
+pub fn take_front<X: Drop>(items: &mut VecDeque<X>, count: usize)
+    requires { count ≤ deque_len items.old }
+    ensures { items.new.items ≡ drop count items.old.items }
+{
+    if count == 0 {
+        return;
+    }
+    items.drain(..count);
 }

@@ -1,6 +1,7 @@
 //! A board: several bars on one target, in an order.
 ghost use Rattle.std.specs.Prelude.{◌≡◌, ◌≢◌, ◌==◌, ◌↔◌, ◌⊎◌, ◌<◌, ◌≤◌, ◌∷◌, [], ℕ, Bool, Option, Some, None, Ok, Err, is_some, true, false, option_map, IsTrue, IsFalse, IfOk, IfErr, IfSome, MatchResult, MatchOption, map, OnErr, is_ok, vec_len, if◌then◌else◌};
 ghost use Rattle.std.specs.List.{list_any};
+ghost use Rattle.std.specs.VecDeque.{deque_len};
 ghost use Rattle.indicatif_term.specs.Engines.{is_bottom, engine_term, Fits};
 ghost use Rattle.indicatif_term.specs.Lists.{fate, kept_of, opening_lists};
 ghost use Rattle.indicatif_term.specs.Targets.{term_of, limiter_of};
@@ -22,7 +23,6 @@ ghost use Rattle.indicatif_board.specs.Inside.Writings.{writing_by};
 pub use crate::bar_id::BarId;
 pub use crate::calls::{Answer, Call, Candidate, InsertLocation, Turned};
 use crate::calls::{draw_answer, insertion_answer, is_undisturbed, removal_answer};
-use crate::members::place_of_bar;
 pub use crate::recorded::{Entry, Opening, Recorded, Size};
 use crate::shown_bars::{BoardWriting, ShownBars};
 pub use crate::slots::MultiState;
@@ -578,7 +578,7 @@ impl<K: Tracks, T: TermLike + Drop> Board<K, T> {
 
     /// Takes a bar in where so many bars stand before it.
     fn insert_at(&mut self, at: usize, candidate: Candidate<K>) -> Result<BarId, Turned<K>>
-        requires within { at ≤ vec_len self.old.shown.members }
+        requires within { at ≤ deque_len self.old.shown.members }
         ensures terminal { terminal_of self.new ≡ terminal_of self.old }
         ensures mark { mark_of self.new ≡ mark_of self.old }
         ensures turned { IfErr result (λ t. t.candidate ≡ candidate) }
@@ -662,7 +662,7 @@ impl<K: Tracks, T: TermLike + Drop> Board<K, T> {
         ensures foreign { id.mark ≢ mark_of self.now → result ≡ Err Refusal.ForeignBar }
         ensures found { (mark : ℕ) (s : BoardState (BarRecord K)) → IsIn mark self.now s →
             MatchResult result (λ p. (turned_away mark (id_of id) s ≡ None) × HasPlace (Some id.number) (Some p) s.members) (λ e. turned_away mark (id_of id) s ≡ Some e) }
-        ensures within { IfOk result (λ p. p < vec_len self.now.shown.members) }
+        ensures within { IfOk result (λ p. p < deque_len self.now.shown.members) }
         ensures quiet { IfErr result (λ e. IsFalse (wrote (Err e))) }
         ensures own { IfOk result (λ p. StandsAt id.number p self.now.shown) }
         ensures absent { id.mark ≡ mark_of self.now → IfErr result (λ e. (e ≡ Refusal.NotMember) × (record_at id.number self.now ≡ None)) }
@@ -670,8 +670,8 @@ impl<K: Tracks, T: TermLike + Drop> Board<K, T> {
         if id.mark != self.mark {
             return Err(Refusal::ForeignBar);
         }
-        let at = place_of_bar(&self.shown.frame, id.number);
-        if at == self.shown.frame.len() {
+        let at = self.shown.place(id.number);
+        if at == self.shown.members.len() {
             return Err(Refusal::NotMember);
         }
         if self.shown.members[at].is_dropped() {
@@ -688,7 +688,7 @@ impl<K: Tracks, T: TermLike + Drop> Board<K, T> {
         writing: BoardWriting<'_>,
         now: Moment,
     ) -> Result<Drawn, Refusal>
-        requires placed { IfSome bar (λ at. at < vec_len self.old.shown.members) }
+        requires placed { IfSome bar (λ at. at < deque_len self.old.shown.members) }
         ensures silent { IsFalse (wrote result) → terminal_of self.new ≡ terminal_of self.old }
         ensures nowhere { IsNowhere T.view self.old → IsFalse (wrote result) }
         ensures mark { mark_of self.new ≡ mark_of self.old }

@@ -1,5 +1,6 @@
 //! The bars of a board with the lines that they show, and how they are written.
-ghost use Rattle.std.specs.Prelude.{◌≡◌, ◌<◌, ◌≤◌, ◌^◌, MatchResult, ℕ, Bool, Option, Some, None, true, false, IsTrue, IsFalse, map, length, vec_len, IfSome, IfOk, IfErr, OnErr};
+ghost use Rattle.std.specs.Prelude.{◌≡◌, ◌<◌, ◌≤◌, ◌^◌, MatchResult, ℕ, Bool, Option, Some, None, true, false, IsTrue, IsFalse, map, length, IfSome, IfOk, IfErr, OnErr};
+ghost use Rattle.std.specs.VecDeque.{deque_len};
 ghost use Rattle.indicatif_term.specs.Frames.{bar_lines, line_text};
 ghost use Rattle.indicatif_term.specs.Engines.{engine_term, Fits, is_bottom};
 ghost use Rattle.indicatif_bar.specs.Bars.{lines_of_bar, lines_take_memory};
@@ -15,7 +16,7 @@ ghost use Rattle.indicatif_board.specs.Slots.{LeavesHead, next_slot, seated, slo
 ghost use Rattle.indicatif_board.specs.Inside.Named.{HasPlace, named_laid_out, named_layout_takes};
 ghost use Rattle.indicatif_board.specs.Inside.Writings.{writing_by};
 
-use crate::members::{Seated, drop_front, leading, place_of_bar, put_at};
+use crate::members::{Seated, leading, place_of_bar, queue_at, take_at, take_front};
 use crate::slots::MultiState;
 use indicatif_bar::state::{Ask, BarState, SpareLines};
 use indicatif_bar::style::Tracks;
@@ -23,6 +24,7 @@ use indicatif_term::draw_target::{Engine, LineType, MultiProgressAlignment, Rate
 use indicatif_term::term_like::TermLike;
 use indicatif_text::columns::{Drawn, Moment, Refusal};
 use std::alloc::Global;
+use std::collections::VecDeque;
 use std::mem::replace;
 
 /// What a draw writes.
@@ -40,17 +42,17 @@ pub enum BoardWriting<'a> {
 #[derive(Drop)]
 pub struct ShownBars<K> {
     pub alloc: Global,
-    /// The bars.
-    pub members: Vec<Seated<K>>,
+    /// The bars. A queue moves nothing where a bar is taken in at the head, or out there.
+    pub members: VecDeque<Seated<K>>,
     /// Their numbers and lines, at the same places.
-    pub frame: Vec<Segment>,
+    pub frame: VecDeque<Segment>,
     /// Room of lines that were laid out before.
     pub spare: SpareLines,
     /// The same numbers with their slots.
     pub table: MultiState,
     pub alignment: MultiProgressAlignment,
     pub limiter: Option<RateLimiter>,
-    ghost even: { vec_len members ≡ vec_len frame },
+    ghost even: { deque_len members ≡ deque_len frame },
     ghost seated: { map (λ s. s.bar) frame.items ≡ table.order },
 }
 
@@ -65,8 +67,8 @@ impl<K: Tracks> ShownBars<K> {
     {
         ShownBars {
             alloc,
-            members: Vec::new(alloc),
-            frame: Vec::new(alloc),
+            members: VecDeque::new(alloc),
+            frame: VecDeque::new(alloc),
             spare: SpareLines::new(alloc),
             table: MultiState::new(alloc),
             alignment: MultiProgressAlignment::Top,
@@ -77,7 +79,7 @@ impl<K: Tracks> ShownBars<K> {
     /// Takes a bar in where so many bars stand before it, and answers its number. The bar comes back where it finds no room or
     /// no number; the others stay as they are then.
     pub fn take_in(&mut self, at: usize, bar: BarState<K>) -> Result<u64, BarState<K>>
-        requires within { at ≤ vec_len self.old.members }
+        requires within { at ≤ deque_len self.old.members }
         ensures taken { (s : BoardState (BarRecord K)) (spot : Location) → AreShownAs self.old s → at ≡ index_of spot s.members →
             MatchResult result (λ n. (s.made ≡ n) × (n < 2 ^ 64) × AreShownAs self.new (taken_in spot bar s)) (λ b. (b ≡ bar) × AreShownAs self.new s) }
         ensures bar { IfErr result (λ b. b ≡ bar) }
@@ -99,15 +101,15 @@ impl<K: Tracks> ShownBars<K> {
             Ok(number) => number,
             Err(_) => return Err(member.into_bar()),
         };
-        put_at(&mut self.members, at, member);
+        queue_at(&mut self.members, at, member);
         let lines = Vec::new(self.alloc);
-        put_at(&mut self.frame, at, Segment { bar: number, lines });
+        queue_at(&mut self.frame, at, Segment { bar: number, lines });
         Ok(number)
     }
 
     /// Takes the bar at a place out.
     pub fn take_out(&mut self, at: usize) -> BarState<K>
-        requires within { at < vec_len self.old.members }
+        requires within { at < deque_len self.old.members }
         ensures out { (s : BoardState (BarRecord K)) (number : ℕ) → AreShownAs self.old s → at ≡ place_of number s.members →
             AreShownAs self.new (record s { members = without number s.members }) }
         ensures bar { (s : BoardState (BarRecord K)) (number : ℕ) (other : BarRecord K) → AreShownAs self.old s → at ≡ place_of number s.members →
@@ -117,8 +119,8 @@ impl<K: Tracks> ShownBars<K> {
         ensures gone { (number : ℕ) → at ≡ seat_of number self.old.table.order → record_on number self.new ≡ None }
         ensures others { (number : ℕ) → at ≡ seat_of number self.old.table.order → AllOthersStay number self.old self.new }
     {
-        let member = self.members.remove(at);
-        self.frame.remove(at);
+        let member = take_at(&mut self.members, at);
+        take_at(&mut self.frame, at);
         self.table.remove(at);
         member.into_bar()
     }
@@ -126,13 +128,21 @@ impl<K: Tracks> ShownBars<K> {
     /// Whether a bar is the first.
     pub fn is_first(&self, number: u64) -> bool
         ensures first { (s : BoardState (BarRecord K)) → AreShownAs self.now s → result ≡ is_head number s.members }
-        ensures some { IsTrue result → 0 < vec_len self.now.members }
+        ensures some { IsTrue result → 0 < deque_len self.now.members }
         ensures seat { IsTrue result → 0 ≡ seat_of number self.now.table.order }
     {
-        match self.frame.first() {
+        match self.frame.front() {
             Some(segment) => segment.bar == number,
             None => false,
         }
+    }
+
+    /// A bar's place; past the last one where it isn't there.
+    pub fn place(&self, number: u64) -> usize
+        ensures seat { result ≡ seat_of number self.now.table.order }
+        ensures most { result ≤ deque_len self.now.members }
+    {
+        place_of_bar(self.table.order(), number)
     }
 
     /// Marks a bar, if it is there: its owner is gone.
@@ -142,7 +152,7 @@ impl<K: Tracks> ShownBars<K> {
         ensures record { record_on number self.new ≡ None }
         ensures others { AllOthersStay number self.old self.new }
     {
-        let at = place_of_bar(&self.frame, number);
+        let at = self.place(number);
         if at < self.members.len() {
             self.members[at].mark();
         }
@@ -158,7 +168,7 @@ impl<K: Tracks> ShownBars<K> {
         writing: BoardWriting<'_>,
         now: Moment,
     ) -> Result<Drawn, Refusal>
-        requires placed { IfSome bar (λ at. at < vec_len self.old.members) }
+        requires placed { IfSome bar (λ at. at < deque_len self.old.members) }
         ensures silent { IsFalse (wrote result) → engine.new ≡ engine.old }
         ensures nowhere { (T.view (engine_term engine.old)).columns ≡ 0 → IsFalse (wrote result) }
         ensures slots { LeavesHead self.old.table self.new.table }
@@ -184,7 +194,7 @@ impl<K: Tracks> ShownBars<K> {
 
     /// Lays a bar's lines out and stores them, if one is named, in the room of those before.
     fn lay_out(&mut self, bar: Option<usize>, width: u16, now: Moment) -> Result<(), Refusal>
-        requires placed { IfSome bar (λ at. at < vec_len self.old.members) }
+        requires placed { IfSome bar (λ at. at < deque_len self.old.members) }
         ensures memory { IfErr result (λ e. (e ≡ Refusal.Memory) × ((s : BoardState (BarRecord K)) (number : Option ℕ) →
             HasPlace number bar s.members → AreShownAs self.old s → IsTrue (named_layout_takes K.means number s))) }
         ensures unchanged { OnErr result (self.new ≡ self.old) }
@@ -220,9 +230,10 @@ impl<K: Tracks> ShownBars<K> {
             (draw_of (target_of (Some (T.view (engine_term engine.old)))) takes ask now (writing_by writing.entry) s laid lays) s.lists result }
     {
         let gone = leading(&self.members);
-        put(engine, &self.frame, gone, self.alignment, writing)?;
-        drop_front(&mut self.frame, gone);
-        drop_front(&mut self.members, gone);
+        let frame = self.frame.make_contiguous();
+        put(engine, frame, gone, self.alignment, writing)?;
+        take_front(&mut self.frame, gone);
+        take_front(&mut self.members, gone);
         self.table.remove_first(gone);
         Ok(Drawn::Yes)
     }

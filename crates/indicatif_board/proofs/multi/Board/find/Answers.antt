@@ -1,7 +1,4 @@
-use Rattle.std.proofs.Common.{◌<◌, ◌≤◌, ◌∙◌, sym, ap, length, arith, refl}
-use Rattle.std.proofs.lemmas.List.Sums.{prefix_len-le-length}
-use Rattle.std.specs.Prelude.{not, ◌==◌}
-use Rattle.std.specs.List.{position_or_len}
+use Rattle.std.proofs.Common.{◌<◌, ◌≤◌, ◌∙◌, sym, length, arith, refl}
 use Rattle.indicatif_term.specs.Engines.{is_bottom}
 use Rattle.indicatif_board.specs.BoardValues.{id_of}
 use Rattle.indicatif_board.specs.Multi.{IsIn}
@@ -12,15 +9,7 @@ use Rattle.indicatif_board.proofs.multi.Board.find.Goals as goal
 
 pub index-requires : goal.index-requires
 index-requires g c =
-    omega (
-      arith,
-      prefix_len-le-length (λ s. not (s.bar == c.args.id.number)) c.deref.result.now,
-      c.place_of_bar-at.ensures,
-      c.deref.ensures.len,
-      c.len.ensures,
-      c.if-at-len.false,
-      c.args.self.now.shown.even,
-    )
+    omega (arith, c.place-at.ensures.most, c.len.ensures, c.if-at-len.false)
 
 pub returns-then-id-self-clause-found : goal.returns-then-id-self-clause-found
 unfolding IsIn
@@ -30,103 +19,57 @@ pub returns-then-at-len-clause-found : goal.returns-then-at-len-clause-found
 unfolding IsIn
 returns-then-at-len-clause-found g c = λ mark s inside.
     let b = c.args.self.now.shown in
-    let at_is = c.place_of_bar-at.ensures ∙ ap (position_or_len (λ x. x.bar == c.args.id.number)) c.deref.ensures.value in
-    found_none b.frame.items b.members.items b.table.made (is_bottom b.alignment) b.limiter mark (id_of c.args.id) s c.place_of_bar-at.result (c.if-id-self.false ∙ inside.0) inside.1 at_is
-    (c.if-at-len.true ∙ c.len.ensures ∙ sym c.deref.ensures.len ∙ ap length c.deref.ensures.value)
+    let at_is = c.place-at.ensures.seat ∙ sym (seat_is b.frame.items b.table.order c.args.id.number b.seated) in
+    found_none b.frame.items b.members.items b.table.made (is_bottom b.alignment) b.limiter mark (id_of c.args.id) s c.place-at.result (c.if-id-self.false ∙ inside.0) inside.1 at_is
+    (omega (arith, c.if-at-len.true, c.len.ensures, b.even, b.frame.ok))
 
 pub returns-then-is_dropped-clause-found : goal.returns-then-is_dropped-clause-found
 unfolding IsIn
 returns-then-is_dropped-clause-found g c = λ mark s inside.
     let b = c.args.self.now.shown in
-    let at_is = c.place_of_bar-at.ensures ∙ ap (position_or_len (λ x. x.bar == c.args.id.number)) c.deref.ensures.value in
+    let at_is = c.place-at.ensures.seat ∙ sym (seat_is b.frame.items b.table.order c.args.id.number b.seated) in
     let size = frame_length b.frame.items s.members inside.1.frame_is in
-    let within : c.place_of_bar-at.result < length s.members =
-    omega (
-      arith,
-      size,
-      ap length c.deref.ensures.value,
-      prefix_len-le-length (λ x. not
-          (x.bar == c.args.id.number)) c.deref.result.now,
-      c.place_of_bar-at.ensures,
-      c.deref.ensures.len,
-      c.len.ensures,
-      c.if-at-len.false,
-    ) in
-    found_gone b.frame.items b.members.items b.table.made (is_bottom b.alignment) b.limiter mark (id_of c.args.id) s c.place_of_bar-at.result (c.if-id-self.false ∙ inside.0) inside.1 at_is
+    let within : c.place-at.result < length s.members =
+    omega (arith, size, c.place-at.ensures.most, c.len.ensures, c.if-at-len.false, b.even, b.frame.ok) in
+    found_gone b.frame.items b.members.items b.table.made (is_bottom b.alignment) b.limiter mark (id_of c.args.id) s c.place-at.result (c.if-id-self.false ∙ inside.0) inside.1 at_is
     c.index.result.now within c.index.ensures (sym c.is_dropped.ensures ∙ c.if-is_dropped.true)
 
 pub returns-clause-found : goal.returns-clause-found
 unfolding IsIn
 returns-clause-found g c = λ mark s inside.
     let b = c.args.self.now.shown in
-    let at_is = c.place_of_bar-at.ensures ∙ ap (position_or_len (λ x. x.bar == c.args.id.number)) c.deref.ensures.value in
+    let at_is = c.place-at.ensures.seat ∙ sym (seat_is b.frame.items b.table.order c.args.id.number b.seated) in
     let size = frame_length b.frame.items s.members inside.1.frame_is in
-    let within : c.place_of_bar-at.result < length s.members =
-    omega (
-      arith,
-      size,
-      ap length c.deref.ensures.value,
-      prefix_len-le-length (λ x. not
-          (x.bar == c.args.id.number)) c.deref.result.now,
-      c.place_of_bar-at.ensures,
-      c.deref.ensures.len,
-      c.len.ensures,
-      c.if-at-len.false,
-    ) in (
-      found_there b.frame.items b.members.items b.table.made (is_bottom b.alignment) b.limiter mark (id_of c.args.id) s c.place_of_bar-at.result (c.if-id-self.false ∙ inside.0) inside.1 at_is
+    let within : c.place-at.result < length s.members =
+    omega (arith, size, c.place-at.ensures.most, c.len.ensures, c.if-at-len.false, b.even, b.frame.ok) in (
+      found_there b.frame.items b.members.items b.table.made (is_bottom b.alignment) b.limiter mark (id_of c.args.id) s c.place-at.result (c.if-id-self.false ∙ inside.0) inside.1 at_is
           c.index.result.now within c.index.ensures (sym c.is_dropped.ensures ∙ c.if-is_dropped.false),
-      (placed_at b.frame.items b.members.items b.table.made (is_bottom b.alignment) b.limiter mark (id_of c.args.id) s c.place_of_bar-at.result (c.if-id-self.false ∙ inside.0) inside.1 at_is, within),
+      (placed_at b.frame.items b.members.items b.table.made (is_bottom b.alignment) b.limiter mark (id_of c.args.id) s c.place-at.result (c.if-id-self.false ∙ inside.0) inside.1 at_is, within),
     )
 
 pub returns-clause-within : goal.returns-clause-within
 returns-clause-within g c =
-    omega (
-      arith,
-      prefix_len-le-length (λ s. not (s.bar == c.args.id.number)) c.deref.result.now,
-      c.place_of_bar-at.ensures,
-      c.deref.ensures.len,
-      c.len.ensures,
-      c.if-at-len.false,
-      c.args.self.now.shown.even,
-    )
+    omega (arith, c.place-at.ensures.most, c.len.ensures, c.if-at-len.false)
 
 pub returns-clause-own : goal.returns-clause-own
 returns-clause-own g c =
     let b = c.args.self.now.shown in
-    let here = c.place_of_bar-at.ensures ∙ ap (position_or_len (λ x. x.bar == c.args.id.number)) c.deref.ensures.value ∙ seat_is b.frame.items b.table.order c.args.id.number b.seated in
-    let within : c.place_of_bar-at.result < length b.members.items =
-    omega (
-      arith,
-      prefix_len-le-length (λ s. not (s.bar == c.args.id.number)) c.deref.result.now,
-      c.place_of_bar-at.ensures,
-      c.deref.ensures.len,
-      c.len.ensures,
-      c.if-at-len.false,
-      b.even,
-      b.members.ok,
-    ) in
-    stands b c.args.id.number c.place_of_bar-at.result c.index.result.now here within c.index.ensures (sym c.is_dropped.ensures ∙ c.if-is_dropped.false)
+    let here = c.place-at.ensures.seat in
+    let within : c.place-at.result < length b.members.items =
+    omega (arith, c.place-at.ensures.most, c.len.ensures, c.if-at-len.false, b.members.ok) in
+    stands b c.args.id.number c.place-at.result c.index.result.now here within c.index.ensures (sym c.is_dropped.ensures ∙ c.if-is_dropped.false)
 
 pub returns-then-is_dropped-clause-absent : goal.returns-then-is_dropped-clause-absent
 returns-then-is_dropped-clause-absent g c = λ own.
     let b = c.args.self.now.shown in
-    let here = c.place_of_bar-at.ensures ∙ ap (position_or_len (λ x. x.bar == c.args.id.number)) c.deref.ensures.value ∙ seat_is b.frame.items b.table.order c.args.id.number b.seated in
-    let within : c.place_of_bar-at.result < length b.members.items =
-    omega (
-      arith,
-      prefix_len-le-length (λ s. not (s.bar == c.args.id.number)) c.deref.result.now,
-      c.place_of_bar-at.ensures,
-      c.deref.ensures.len,
-      c.len.ensures,
-      c.if-at-len.false,
-      b.even,
-      b.members.ok,
-    ) in
-    (refl, dropped_on b c.args.id.number c.place_of_bar-at.result c.index.result.now here within c.index.ensures (sym c.is_dropped.ensures ∙ c.if-is_dropped.true))
+    let here = c.place-at.ensures.seat in
+    let within : c.place-at.result < length b.members.items =
+    omega (arith, c.place-at.ensures.most, c.len.ensures, c.if-at-len.false, b.members.ok) in
+    (refl, dropped_on b c.args.id.number c.place-at.result c.index.result.now here within c.index.ensures (sym c.is_dropped.ensures ∙ c.if-is_dropped.true))
 
 pub returns-then-at-len-clause-absent : goal.returns-then-at-len-clause-absent
 returns-then-at-len-clause-absent g c = λ own.
     let b = c.args.self.now.shown in
-    let here = c.place_of_bar-at.ensures ∙ ap (position_or_len (λ x. x.bar == c.args.id.number)) c.deref.ensures.value ∙ seat_is b.frame.items b.table.order c.args.id.number b.seated in
+    let here = c.place-at.ensures.seat in
     let past : length b.members.items ≤ seat_of c.args.id.number b.table.order = omega (arith, here, c.if-at-len.true, c.len.ensures, b.even, b.members.ok) in
     (refl, absent_on b c.args.id.number past)

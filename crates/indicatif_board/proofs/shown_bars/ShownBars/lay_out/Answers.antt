@@ -1,5 +1,6 @@
 use Rattle.std.proofs.Common.{◌∙◌, ◌<◌, ap, sym, arith, length, subst, Result, Ok, Err}
-use Rattle.std.specs.Prelude.{vec_len, IfSome, IfOk, IfErr}
+use Rattle.std.specs.Prelude.{IfSome, IfOk, IfErr}
+use Rattle.std.specs.VecDeque.{deque_len}
 use Rattle.indicatif_term.specs.Engines.{is_bottom}
 use Rattle.indicatif_bar.specs.Bars.{lines_of_bar, lines_take_memory}
 use Rattle.indicatif_board.proofs.MemberLemmas.{laid_at, lays_at, relaid_bars}
@@ -16,7 +17,7 @@ when_err (Err e) p f = f e p
 pub invariant_of-self-clause-seated : goal.invariant_of-self-clause-seated
 invariant_of-self-clause-seated g c =
     let b = c.args.self.now in
-    let placed : c.in-Some.at < vec_len b.members = subst (λ o. IfSome o (λ at. at < vec_len b.members)) c.in-Some.is c.requires.placed in
+    let placed : c.in-Some.at < deque_len b.members = subst (λ o. IfSome o (λ at. at < deque_len b.members)) c.in-Some.is c.requires.placed in
     let within : c.in-Some.at < length b.frame.items = omega (arith, placed, b.even, b.members.ok, b.frame.ok) in
     relaid_bars b.frame.items c.in-Some.at c.index_mut.result.now c.relay.new.stored within c.index_mut.ensures.value ∙ b.seated
 
@@ -32,7 +33,7 @@ returns-in-Some-clause-laid g c =
 pub returns-in-Some-clause-memory : goal.returns-in-Some-clause-memory
 returns-in-Some-clause-memory g c =
     let b = c.args.self.now in
-    let placed : c.in-Some.at < vec_len b.members = subst (λ o. IfSome o (λ at. at < vec_len b.members)) c.in-Some.is c.requires.placed in
+    let placed : c.in-Some.at < deque_len b.members = subst (λ o. IfSome o (λ at. at < deque_len b.members)) c.in-Some.is c.requires.placed in
     let within : c.in-Some.at < length b.members.items = omega (arith, placed, b.members.ok) in
     when_err c.relay.result c.relay.ensures.memory (λ e short. (
       short.0,

@@ -1,7 +1,4 @@
 use Rattle.std.proofs.Common.{◌≡◌, ◌<◌, ◌≤◌, ◌∙◌, ap, sym, subst, set, length, arith}
-use Rattle.std.specs.Prelude.{not, ◌==◌}
-use Rattle.std.specs.List.{position_or_len}
-use Rattle.std.proofs.lemmas.List.Sums.{prefix_len-le-length}
 use Rattle.indicatif_term.specs.Engines.{is_bottom}
 use Rattle.indicatif_board.specs.Boards.{marked_on}
 use Rattle.indicatif_board.specs.ShownBars.{Holds, owned_record}
@@ -14,52 +11,49 @@ use Rattle.indicatif_board.proofs.shown_bars.ShownBars.mark.Goals as goal
 pub returns-then-at-len-clause-marked : goal.returns-then-at-len-clause-marked
 returns-then-at-len-clause-marked g c = λ s holds.
     let b = c.args.self.now in
-    let here = c.place_of_bar-at.ensures ∙ ap (position_or_len (λ x. x.bar == c.args.number)) c.deref.ensures.value ∙ place_is b.frame.items s.members c.args.number holds.frame_is in
+    let here = c.place-at.ensures.seat ∙ sym (seat_is b.frame.items b.table.order c.args.number b.seated) ∙ place_is b.frame.items s.members c.args.number holds.frame_is in
     let size = frame_length b.frame.items s.members holds.frame_is in
-    let within : c.place_of_bar-at.result < length s.members = omega (arith, size, c.len.ensures, c.if-at-len.true, b.even, b.members.ok, b.frame.ok) in
-    subst (λ m. Holds b.frame.items (set b.members.items c.place_of_bar-at.result m) b.table.made (is_bottom b.alignment) b.limiter (marked_on c.args.number s)) (sym c.mark.ensures)
+    let within : c.place-at.result < length s.members = omega (arith, size, c.len.ensures, c.if-at-len.true, b.even, b.members.ok, b.frame.ok) in
+    subst (λ m. Holds b.frame.items (set b.members.items c.place-at.result m) b.table.made (is_bottom b.alignment) b.limiter (marked_on c.args.number s)) (sym c.mark.ensures)
     (marked_there b.frame.items b.members.items b.table.made (is_bottom b.alignment) b.limiter s c.args.number
-    c.place_of_bar-at.result holds here c.index_mut.result.now within c.index_mut.ensures.value)
+    c.place-at.result holds here c.index_mut.result.now within c.index_mut.ensures.value)
 
 pub returns-else-at-len-clause-marked : goal.returns-else-at-len-clause-marked
 returns-else-at-len-clause-marked g c = λ s holds.
     let b = c.args.self.now in
-    let here = c.place_of_bar-at.ensures ∙ ap (position_or_len (λ x. x.bar == c.args.number)) c.deref.ensures.value ∙ place_is b.frame.items s.members c.args.number holds.frame_is in
+    let here = c.place-at.ensures.seat ∙ sym (seat_is b.frame.items b.table.order c.args.number b.seated) ∙ place_is b.frame.items s.members c.args.number holds.frame_is in
     let size = frame_length b.frame.items s.members holds.frame_is in
-    let none : c.place_of_bar-at.result ≡ length s.members = omega (
+    let none : c.place-at.result ≡ length s.members = omega (
       arith,
       size,
-      c.place_of_bar-at.ensures,
-      prefix_len-le-length (λ x. not (x.bar == c.args.number)) c.deref.result.now,
-      ap length c.deref.ensures.value,
-      c.deref.ensures.len,
+      c.place-at.ensures.most,
       c.len.ensures,
       c.if-at-len.false,
       b.even,
       b.members.ok,
       b.frame.ok,
     ) in
-    marked_nowhere b.frame.items b.members.items b.table.made (is_bottom b.alignment) b.limiter s c.args.number c.place_of_bar-at.result holds here none
+    marked_nowhere b.frame.items b.members.items b.table.made (is_bottom b.alignment) b.limiter s c.args.number c.place-at.result holds here none
 
 pub returns-then-at-len-clause-record : goal.returns-then-at-len-clause-record
 returns-then-at-len-clause-record g c =
     let b = c.args.self.now in
-    let here = c.place_of_bar-at.ensures ∙ ap (position_or_len (λ x. x.bar == c.args.number)) c.deref.ensures.value ∙ seat_is b.frame.items b.table.order c.args.number b.seated in
+    let here = c.place-at.ensures.seat in
     let even = evenly b.frame.items b.table.order b.members.items (omega (arith, b.even, b.members.ok, b.frame.ok)) b.seated in
-    let within : c.place_of_bar-at.result < length b.members.items = omega (arith, c.len.ensures, c.if-at-len.true, b.members.ok) in
-    told_record c.args.number c.place_of_bar-at.result b.table.order b.members.items even c.mark.new.self here within ∙ ap owned_record c.mark.ensures
+    let within : c.place-at.result < length b.members.items = omega (arith, c.len.ensures, c.if-at-len.true, b.members.ok) in
+    told_record c.args.number c.place-at.result b.table.order b.members.items even c.mark.new.self here within ∙ ap owned_record c.mark.ensures
 
 pub returns-then-at-len-clause-others : goal.returns-then-at-len-clause-others
 returns-then-at-len-clause-others g c =
     let b = c.args.self.now in
-    let here = c.place_of_bar-at.ensures ∙ ap (position_or_len (λ x. x.bar == c.args.number)) c.deref.ensures.value ∙ seat_is b.frame.items b.table.order c.args.number b.seated in
+    let here = c.place-at.ensures.seat in
     let even = evenly b.frame.items b.table.order b.members.items (omega (arith, b.even, b.members.ok, b.frame.ok)) b.seated in
-    told_others c.args.number c.place_of_bar-at.result b.table.order b.members.items even c.mark.new.self here
+    told_others c.args.number c.place-at.result b.table.order b.members.items even c.mark.new.self here
 
 pub returns-else-at-len-clause-record : goal.returns-else-at-len-clause-record
 returns-else-at-len-clause-record g c =
     let b = c.args.self.now in
-    let here = c.place_of_bar-at.ensures ∙ ap (position_or_len (λ x. x.bar == c.args.number)) c.deref.ensures.value ∙ seat_is b.frame.items b.table.order c.args.number b.seated in
+    let here = c.place-at.ensures.seat in
     let even = evenly b.frame.items b.table.order b.members.items (omega (arith, b.even, b.members.ok, b.frame.ok)) b.seated in
     let past : length b.table.order ≤ seat_of c.args.number b.table.order = omega (arith, here, even, c.len.ensures, c.if-at-len.false, b.members.ok) in
     record_past c.args.number b.table.order b.members.items past

@@ -1,9 +1,10 @@
-use Rattle.std.proofs.Common.{◌≡◌, ◌∙◌, sym, ap, subst, map, arith, Ok, Err, Some}
+use Rattle.std.proofs.Common.{◌≡◌, ◌∙◌, sym, ap, subst, map, drop, arith, Result, Ok, Err, Some}
 use Rattle.std.proofs.lemmas.Result.{err_from_is_err_and}
-use Rattle.std.specs.List.{prefix_len}
 use Rattle.std.proofs.lemmas.List.Sums.{prefix_len-le-length}
 use Rattle.indicatif_term.specs.Frames.{bar_lines}
+use Rattle.indicatif_text.specs.declared.refusal.Drawn.{Drawn}
 use Rattle.indicatif_text.specs.declared.refusal.Drawn.TheVariants.{Yes}
+use Rattle.indicatif_text.specs.declared.refusal.Refusal.{Refusal}
 use Rattle.indicatif_term.specs.Engines.{is_bottom, engine_term}
 use Rattle.indicatif_term.specs.declared.lines.Segment.{Segment}
 use Rattle.indicatif_bar.specs.Machines.{target_of}
@@ -21,7 +22,8 @@ use Rattle.indicatif_board.proofs.shown_bars.ShownBars.write.Goals as goal
 
 pub put-requires : goal.put-requires
 put-requires g c =
-    omega (arith, prefix_len-le-length (λ m. m.dropped) c.deref.result.now, c.leading-gone.ensures, c.deref.ensures.len, c.deref-2.ensures.len, c.args.self.now.even)
+    let b = c.args.self.now in
+    omega (arith, prefix_len-le-length (λ m. m.dropped) b.members.items, c.leading-gone.ensures, c.make_contiguous-frame.ensures.len, b.even, b.members.ok)
 
 pub returns-in_err-put-clause-drew : goal.returns-in_err-put-clause-drew
 returns-in_err-put-clause-drew g c = λ mark now takes lays ask s laid asked some allows holds lists_stay fits.
@@ -31,26 +33,33 @@ returns-in_err-put-clause-drew g c = λ mark now takes lays ask s laid asked som
     let bottom = is_bottom b.alignment in
     let writing = writing_by c.args.writing in
     let gone = c.leading-gone.result in
-    let gone_is : gone ≡ leaders laid.members = c.leading-gone.ensures ∙ leaders_of c.deref.result.now laid.members (c.deref.ensures.value ∙ holds.members_are) in
-    let puts = subst (λ f. PutsFrame view writing bottom gone (map bar_lines f) c.args.engine.now c.put.new.engine (Err c.in_err-put.field-0.0)) c.deref-2.ensures.value c.in_err-put.ensures in
+    let gone_is : gone ≡ leaders laid.members = c.leading-gone.ensures ∙ leaders_of b.members.items laid.members holds.members_are in
+    let puts = subst (λ f. PutsFrame view writing bottom gone (map bar_lines f) c.args.engine.now c.put.new.engine (Err c.in_err-put.field-0.0)) c.make_contiguous-frame.ensures.value c.in_err-put.ensures in
     let ready = kept_ready b.frame.items b.members.items b.table.made bottom b.limiter ask now laid allows holds in
     let x = err_from_is_err_and c.from_residual.result c.from_residual.ensures.1 in
-    rw (x.1 ∙ ap Err x.2) (frame_drew tracks view mark takes ask now writing s laid lays c.args.engine.now b.frame.items b.members.items b.table.made bottom b.limiter
+    let same = c.make_contiguous-frame.ensures.writes_back c.make_contiguous-frame.result.now c.make_contiguous-frame.ensures.len ∙ c.make_contiguous-frame.ensures.value in
+    let failed : Result Drawn Refusal = Err c.in_err-put.field-0.0 in
+    rw (x.1 ∙ ap Err x.2) (subst (λ f. DrewBy (board (board_bars tracks) mark) (Holds f b.members.items b.table.made bottom b.limiter) view c.args.engine.now c.put.new.engine
+    (draw_of (target_of (Some (view (engine_term c.args.engine.now)))) takes ask now writing s laid lays) s.lists failed) (sym same)
+    (frame_drew tracks view mark takes ask now writing s laid lays c.args.engine.now b.frame.items b.members.items b.table.made bottom b.limiter
     (Holds b.frame.items b.members.items b.table.made bottom b.limiter) c.put.new.engine (Err c.in_err-put.field-0.0) gone gone_is asked some (ap (λ a. a.0) allows) lists_stay fits ready puts
-    (ready, record { members_are = ready.members_are; frame_is = ready.frame_is; made_is = ready.made_is; bottom_is = ready.bottom_is; limiter_is = ready.limiter_is }))
+    (ready, record { members_are = ready.members_are; frame_is = ready.frame_is; made_is = ready.made_is; bottom_is = ready.bottom_is; limiter_is = ready.limiter_is })))
 
-pub drop_front-requires : goal.drop_front-requires
-drop_front-requires g c =
-    omega (arith, prefix_len-le-length (λ m. m.dropped) c.deref.result.now, c.leading-gone.ensures, c.deref.ensures.len, c.args.self.now.even)
-
-pub drop_front-requires-2 : goal.drop_front-requires-2
-drop_front-requires-2 g c =
-    omega (arith, prefix_len-le-length (λ m. m.dropped) c.deref.result.now, c.leading-gone.ensures, c.deref.ensures.len)
-
-pub invariant_of-self-clause-seated : goal.invariant_of-self-clause-seated
-invariant_of-self-clause-seated g c =
+pub take_front-requires : goal.take_front-requires
+take_front-requires g c =
     let b = c.args.self.now in
-    ap (map (λ (x : Segment). x.bar)) c.drop_front.ensures ∙ dropped_bars b.frame.items b.table.order c.leading-gone.result b.seated
+    omega (arith, prefix_len-le-length (λ m. m.dropped) b.members.items, c.leading-gone.ensures, b.even, b.members.ok)
+
+pub take_front-requires-2 : goal.take_front-requires-2
+take_front-requires-2 g c =
+    let b = c.args.self.now in
+    omega (arith, prefix_len-le-length (λ m. m.dropped) b.members.items, c.leading-gone.ensures, b.members.ok)
+
+pub invariant_of-self-2-clause-seated : goal.invariant_of-self-2-clause-seated
+invariant_of-self-2-clause-seated g c =
+    let b = c.args.self.now in
+    let same = c.make_contiguous-frame.ensures.writes_back c.make_contiguous-frame.result.now c.make_contiguous-frame.ensures.len ∙ c.make_contiguous-frame.ensures.value in
+    ap (map (λ (x : Segment). x.bar)) (c.take_front.ensures ∙ ap (drop c.leading-gone.result) same) ∙ dropped_bars b.frame.items b.table.order c.leading-gone.result b.seated
     ∙ sym (ap (λ (t : SlotTable). t.order) c.remove_first.ensures.removed)
 
 pub returns-clause-drew : goal.returns-clause-drew
@@ -61,22 +70,23 @@ returns-clause-drew g c = λ mark now takes lays ask s laid asked some allows ho
     let bottom = is_bottom b.alignment in
     let writing = writing_by c.args.writing in
     let gone = c.leading-gone.result in
-    let gone_is : gone ≡ leaders laid.members = c.leading-gone.ensures ∙ leaders_of c.deref.result.now laid.members (c.deref.ensures.value ∙ holds.members_are) in
-    let puts = subst (λ f. PutsFrame view writing bottom gone (map bar_lines f) c.args.engine.now c.put.new.engine (Ok tt)) c.deref-2.ensures.value c.in_ok-put.ensures in
+    let gone_is : gone ≡ leaders laid.members = c.leading-gone.ensures ∙ leaders_of b.members.items laid.members holds.members_are in
+    let puts = subst (λ f. PutsFrame view writing bottom gone (map bar_lines f) c.args.engine.now c.put.new.engine (Ok tt)) c.make_contiguous-frame.ensures.value c.in_ok-put.ensures in
     let ready = kept_ready b.frame.items b.members.items b.table.made bottom b.limiter ask now laid allows holds in
     let made = sym (ap (λ (t : SlotTable). t.made) c.remove_first.ensures.removed) in
-    subst (λ n. DrewBy (board (board_bars tracks) mark) (Holds c.drop_front.new.items.items c.drop_front-2.new.items.items n bottom b.limiter) view c.args.engine.now c.put.new.engine
+    let same = c.make_contiguous-frame.ensures.writes_back c.make_contiguous-frame.result.now c.make_contiguous-frame.ensures.len ∙ c.make_contiguous-frame.ensures.value in
+    subst (λ n. DrewBy (board (board_bars tracks) mark) (Holds c.take_front.new.items.items c.take_front-2.new.items.items n bottom b.limiter) view c.args.engine.now c.put.new.engine
     (draw_of (target_of (Some (view (engine_term c.args.engine.now)))) takes ask now writing s laid lays) s.lists (Ok Yes)) made
     (frame_drew tracks view mark takes ask now writing s laid lays c.args.engine.now b.frame.items b.members.items b.table.made bottom b.limiter
-    (Holds c.drop_front.new.items.items c.drop_front-2.new.items.items b.table.made bottom b.limiter) c.put.new.engine (Ok tt) gone gone_is asked some (ap
+    (Holds c.take_front.new.items.items c.take_front-2.new.items.items b.table.made bottom b.limiter) c.put.new.engine (Ok tt) gone gone_is asked some (ap
     (λ a. a.0) allows) lists_stay fits ready puts
     (written_holds tracks view mark takes ask now writing s laid lays c.args.engine.now b.frame.items b.members.items
-    b.table.made bottom b.limiter gone c.drop_front.new.items.items c.drop_front-2.new.items.items c.drop_front.ensures c.drop_front-2.ensures gone_is ready))
+    b.table.made bottom b.limiter gone c.take_front.new.items.items c.take_front-2.new.items.items (c.take_front.ensures ∙ ap (drop gone) same) c.take_front-2.ensures gone_is ready))
 
 pub returns-clause-records : goal.returns-clause-records
 returns-clause-records g c = λ number.
     let b = c.args.self.now in
     let even = evenly b.frame.items b.table.order b.members.items (omega (arith, b.even, b.members.ok, b.frame.ok)) b.seated in
-    left_record number c.leading-gone.result b.table.order b.members.items even c.remove_first.new.self.order c.drop_front-2.new.items.items
-    (c.leading-gone.ensures ∙ ap (prefix_len (λ m. m.dropped)) c.deref.ensures.value) (ap (λ (t : SlotTable). t.order) c.remove_first.ensures.removed)
-    c.drop_front-2.ensures (c.remove_first.ensures.seated.apart number)
+    left_record number c.leading-gone.result b.table.order b.members.items even c.remove_first.new.self.order c.take_front-2.new.items.items
+    c.leading-gone.ensures (ap (λ (t : SlotTable). t.order) c.remove_first.ensures.removed)
+    c.take_front-2.ensures (c.remove_first.ensures.seated.apart number)
