@@ -41,7 +41,8 @@ refused_each() {
     runs=$((runs + count))
 }
 
-for words in 'board stays' 'board grows' 'sized-board stays' 'sized-board grows' 'lone stays' 'lone grows' 'sized-lone stays' 'sized-lone grows' 'shared stays' 'shared grows' 'loop stays' 'loop grows'; do
+for words in 'board stays' 'board grows' 'sized-board stays' 'sized-board grows' \
+    'lone stays' 'lone grows' 'sized-lone stays' 'sized-lone grows' 'shared stays' 'shared grows' 'loop stays' 'loop grows'; do
     : >"$work/said"
     runs=0
     for rows in 1 2 3 4; do

@@ -34,7 +34,8 @@ returns-in_err-put-clause-drew g c = λ mark now takes lays ask s laid asked som
     let writing = writing_by c.args.writing in
     let gone = c.leading-gone.result in
     let gone_is : gone ≡ leaders laid.members = c.leading-gone.ensures ∙ leaders_of b.members.items laid.members holds.members_are in
-    let puts = subst (λ f. PutsFrame view writing bottom gone (map bar_lines f) c.args.engine.now c.put.new.engine (Err c.in_err-put.field-0.0)) c.make_contiguous-frame.ensures.value c.in_err-put.ensures in
+    let puts = subst (λ f. PutsFrame view writing bottom gone (map bar_lines f) c.args.engine.now c.put.new.engine (Err c.in_err-put.field-0.0))
+    c.make_contiguous-frame.ensures.value c.in_err-put.ensures in
     let ready = kept_ready b.frame.items b.members.items b.table.made bottom b.limiter ask now laid allows holds in
     let x = err_from_is_err_and c.from_residual.result c.from_residual.ensures.1 in
     let same = c.make_contiguous-frame.ensures.writes_back c.make_contiguous-frame.result.now c.make_contiguous-frame.ensures.len ∙ c.make_contiguous-frame.ensures.value in
