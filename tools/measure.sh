@@ -59,6 +59,8 @@ board_step 1000
 insert_10 1000
 insert_1000 100
 insert_10000 20
+call_10 20000
+call_10000 20000
 inc_limited 20000
 inc_clock 20000
 tick_held 20000

@@ -1,4 +1,4 @@
-//! Drawings of bars on a board, on a terminal of 24 rows and 80 columns; and bars taken in.
+//! Drawings of bars on a board, on a terminal of 24 rows and 80 columns; bars taken in; and calls on a board that shows nothing.
 use crate::measured::{Made, Measured, Work, measure};
 use crate::shown::{Sink, drawn_on, terminal};
 use anyhow::Result;
@@ -33,6 +33,13 @@ impl ShownBoard {
     fn new(alloc: Global) -> ShownBoard {
         ShownBoard {
             board: Board::new(alloc, ProgressDrawTarget::term_like(terminal(alloc)), 1),
+        }
+    }
+
+    /// The same on a hidden target.
+    fn hidden(alloc: Global) -> ShownBoard {
+        ShownBoard {
+            board: Board::new(alloc, ProgressDrawTarget::hidden(), 1),
         }
     }
 
@@ -160,4 +167,32 @@ pub fn board_insert(rt: &HostRuntime, count: u64, bars: u64) -> Result<Measured>
     let mut entered = Box::new(alloc, Entered { alloc, shown })?;
     take_in(alloc, &mut entered.shown, bars)?;
     measure(rt, &mut *entered, count)
+}
+
+/// A board of so many bars.
+#[derive(Drop)]
+struct Crowd {
+    shown: ShownBoard,
+    bars: u64,
+}
+
+/// A tick of one of the bars, each in its turn.
+impl Work for Crowd {
+    #[inline(always)]
+    fn once(&mut self, turn: u64) -> Result<(), Refusal> {
+        self.shown.tick(turn.checked_rem(self.bars).unwrap_or(0))
+    }
+
+    fn made(&self) -> Made {
+        self.shown.made()
+    }
+}
+
+/// Ticks of the bars of a hidden board of so many.
+pub fn board_call(rt: &HostRuntime, count: u64, bars: u64) -> Result<Measured> {
+    let alloc = rt.alloc();
+    let shown = ShownBoard::hidden(alloc);
+    let mut crowd = Box::new(alloc, Crowd { shown, bars })?;
+    take_in(alloc, &mut crowd.shown, bars)?;
+    measure(rt, &mut *crowd, count)
 }

@@ -9,7 +9,7 @@
 //! - `terminal_benches`: the cell terminal.
 //! - `shown`: a bar on a terminal.
 //! - `draw_benches`: drawings of a bar and of a board's frame.
-//! - `board_benches`: drawings of bars on a board, and bars taken in.
+//! - `board_benches`: drawings of bars on a board, bars taken in, and calls.
 //! - `command_benches`: steps of a bar, and calls whose drawings are held back.
 //! - `wrap_benches`: a loop with a bar.
 //! - `thread_benches`: bars that are shared, and work in several threads.
@@ -79,6 +79,8 @@ fn drawn_by(rt: &HostRuntime, name: &str, count: u64) -> Result<Measured> {
         "insert_10" => board_benches::board_insert(rt, count, 10),
         "insert_1000" => board_benches::board_insert(rt, count, 1000),
         "insert_10000" => board_benches::board_insert(rt, count, 10_000),
+        "call_10" => board_benches::board_call(rt, count, 10),
+        "call_10000" => board_benches::board_call(rt, count, 10_000),
         "inc_limited" => command_benches::inc_limited(rt, count),
         "inc_clock" => command_benches::inc_clock(rt, count),
         "tick_held" => command_benches::tick_held(rt, count),

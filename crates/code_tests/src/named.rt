@@ -6,11 +6,12 @@ use indicatif_bar::style::NoTracker;
 use indicatif_term::draw_target::ProgressDrawTarget;
 use indicatif_term::in_memory::InMemoryTerm;
 use indicatif_text::columns::{Drawn, Refusal};
-use scripts::commands::command;
+use scripts::commands::{BARE, NUMBERED, Told, WORDED, command};
 use scripts::got::Bad;
 use scripts::lone::bar_of;
 use scripts::row::{At, headed};
 use scripts::spelling::{flag, optional};
+use scripts::{called_bare, called_with_number, called_with_text};
 use std::alloc::Global;
 use std::process::Abort;
 use std::test::Fail;
@@ -19,40 +20,17 @@ type Bar = BarState<NoTracker>;
 
 type Lone = LoneBar<NoTracker, InMemoryTerm>;
 
-/// The commands, as rows spell them.
-const COMMANDS: [&str; 32] = [
-    "tick",
-    "ticker_tick",
+/// What belongs with commands that have a number, or a text.
+const NUMBERS: [&str; 8] = ["0", "1", "2", "3", "4", "5", "20", "70"];
+
+const TEXTS: [&str; 1] = ["m"];
+
+/// Commands with what belongs to them alone.
+const OTHERS: [&str; 4] = [
     "set_ticker yes",
     "set_ticker no",
-    "inc 3",
-    "dec 2",
-    "set_position 70",
     "update 2 4",
     "update - -",
-    "set_length 20",
-    "unset_length",
-    "inc_length 5",
-    "dec_length 4",
-    "set_message m",
-    "set_prefix p",
-    "set_tab_width 2",
-    "with_position 1",
-    "with_message m",
-    "with_prefix p",
-    "with_tab_width 2",
-    "set_elapsed 0",
-    "set_elapsed 1",
-    "reset_eta",
-    "reset_elapsed",
-    "reset",
-    "finish",
-    "finish_with_message m",
-    "finish_and_clear",
-    "abandon",
-    "abandon_with_message m",
-    "finish_using_style",
-    "force_draw",
 ];
 
 /// A bar at 5 of 10, made at 0.
@@ -64,51 +42,38 @@ fn half(at: At) -> Result<Box<Bar>, Bad> {
 
 /// Makes a command by its name.
 fn obey(bar: &mut Bar, text: &str) -> Result<Ask, Bad> {
-    match headed(text) {
-        ("tick", "") => Ok(bar.tick(0)),
-        ("ticker_tick", "") => Ok(bar.ticker_tick(0)),
-        ("unset_length", "") => Ok(bar.unset_length(0)),
-        ("reset_eta", "") => Ok(bar.reset_eta(0)),
-        ("reset_elapsed", "") => Ok(bar.reset_elapsed(0)),
-        ("reset", "") => Ok(bar.reset(0)),
-        ("finish", "") => Ok(bar.finish(0)),
-        ("finish_and_clear", "") => Ok(bar.finish_and_clear(0)),
-        ("abandon", "") => Ok(bar.abandon(0)),
-        ("force_draw", "") => Ok(bar.force_draw(0)),
-        ("finish_using_style", "") => Ok(bar.finish_using_style(0)?),
-        ("set_ticker", rest) => Ok(bar.set_ticker(flag(rest)?, 0)),
-        ("update", rest) => Ok(bar.set_change(change(rest)?, 0)),
-        (name, rest) => match rest.parse::<u64>() {
-            Ok(number) => obey_number(bar, name, number),
+    let (name, rest) = headed(text);
+    match called_bare!(bar, name, 0) {
+        Some(asked) => Ok(asked?),
+        None => obey_other(bar, name, rest),
+    }
+}
+
+fn obey_other(bar: &mut Bar, name: &str, rest: &str) -> Result<Ask, Bad> {
+    match name {
+        "ticker_tick" => Ok(bar.ticker_tick(0)),
+        "set_ticker" => Ok(bar.set_ticker(flag(rest)?, 0)),
+        "update" => Ok(bar.set_change(change(rest)?, 0)),
+        name => match rest.parse::<u64>() {
+            Ok(number) => Ok(obey_number(bar, name, number)?),
             Err(_) => Ok(obey_text(bar, name, rest)?),
         },
     }
 }
 
-fn obey_number(bar: &mut Bar, name: &str, number: u64) -> Result<Ask, Bad> {
-    match name {
-        "inc" => Ok(bar.inc(number, 0)),
-        "dec" => Ok(bar.dec(number, 0)),
-        "set_position" => Ok(bar.set_position(number, 0)),
-        "with_position" => Ok(bar.with_position(number, 0)),
-        "set_length" => Ok(bar.set_length(number, 0)),
-        "inc_length" => Ok(bar.inc_length(number, 0)),
-        "dec_length" => Ok(bar.dec_length(number, 0)),
-        "set_elapsed" => Ok(bar.set_elapsed(number, 0)?),
-        "set_tab_width" => Ok(bar.set_tab_width(number as usize, 0)?),
-        "with_tab_width" => Ok(bar.with_tab_width(number as usize, 0)?),
-        _ => Err(Bad::Step),
+fn obey_number(bar: &mut Bar, name: &str, number: u64) -> Result<Ask, Refusal> {
+    match called_with_number!(bar, name, number, 0) {
+        Some(asked) => asked,
+        None if name == "with_position" => Ok(bar.with_position(number, 0)),
+        None => bar.with_tab_width(number as usize, 0),
     }
 }
 
 fn obey_text(bar: &mut Bar, name: &str, text: &str) -> Result<Ask, Refusal> {
-    match name {
-        "set_message" => bar.set_message(text, 0),
-        "set_prefix" => bar.set_prefix(text, 0),
-        "with_message" => bar.with_message(text, 0),
-        "with_prefix" => bar.with_prefix(text, 0),
-        "finish_with_message" => bar.finish_with_message(text, 0),
-        _ => bar.abandon_with_message(text, 0),
+    match called_with_text!(bar, name, text, 0) {
+        Some(asked) => asked,
+        None if name == "with_message" => bar.with_message(text, 0),
+        None => bar.with_prefix(text, 0),
     }
 }
 
@@ -158,8 +123,38 @@ fn leaves_the_same(at: At, text: &str) -> Result<bool, Bad> {
 
 /// All commands pass a check.
 fn all_pass(rt: &impl Abort, at: At, check: Check) {
-    for text in &COMMANDS {
+    these_pass(rt, at, check, &BARE);
+    these_pass(rt, at, check, &OTHERS);
+    each_passes(rt, at, check, (&NUMBERED, &NUMBERS));
+    each_passes(rt, at, check, (&WORDED, &TEXTS));
+}
+
+fn these_pass(rt: &impl Abort, at: At, check: Check, commands: &[&str]) {
+    for text in commands {
         assert!(rt; passes(at, check, text), "at {text}");
+    }
+}
+
+/// Each of these names passes with each of these arguments.
+fn each_passes(rt: &impl Abort, at: At, check: Check, (names, arguments): (&[&str], &[&str])) {
+    for name in names {
+        passes_with(rt, at, check, (name, arguments));
+    }
+}
+
+fn passes_with(rt: &impl Abort, at: At, check: Check, (name, arguments): (&str, &[&str])) {
+    for argument in arguments {
+        assert!(rt;
+            passes_so(at, check, name, argument),
+            "at {name} {argument}"
+        );
+    }
+}
+
+fn passes_so(at: At, check: Check, name: &str, argument: &str) -> bool {
+    match format!(in at.alloc; "{name} {argument}") {
+        Ok(text) => passes(at, check, text.as_str()),
+        Err(_) => false,
     }
 }
 
@@ -197,21 +192,19 @@ fn shown_half(at: At) -> Result<Box<Lone>, Bad> {
 
 /// Makes a call by its name.
 fn draw(bar: &mut Lone, text: &str) -> Result<Drawn, Bad> {
-    match headed(text) {
-        ("tick", "") => Ok(bar.tick(0)?),
-        ("ticker_tick", "") => Ok(bar.ticker_tick(0)?),
-        ("unset_length", "") => Ok(bar.unset_length(0)?),
-        ("reset_eta", "") => Ok(bar.reset_eta(0)?),
-        ("reset_elapsed", "") => Ok(bar.reset_elapsed(0)?),
-        ("reset", "") => Ok(bar.reset(0)?),
-        ("finish", "") => Ok(bar.finish(0)?),
-        ("finish_and_clear", "") => Ok(bar.finish_and_clear(0)?),
-        ("abandon", "") => Ok(bar.abandon(0)?),
-        ("force_draw", "") => Ok(bar.force_draw(0)?),
-        ("finish_using_style", "") => Ok(bar.finish_using_style(0)?),
-        ("set_ticker", rest) => Ok(bar.set_ticker(flag(rest)?, 0)?),
-        ("update", rest) => Ok(bar.set_change(change(rest)?, 0)?),
-        (name, rest) => match rest.parse::<u64>() {
+    let (name, rest) = headed(text);
+    match called_bare!(bar, name, 0) {
+        Some(drawn) => Ok(drawn?),
+        None => draw_other(bar, name, rest),
+    }
+}
+
+fn draw_other(bar: &mut Lone, name: &str, rest: &str) -> Result<Drawn, Bad> {
+    match name {
+        "ticker_tick" => Ok(bar.ticker_tick(0)?),
+        "set_ticker" => Ok(bar.set_ticker(flag(rest)?, 0)?),
+        "update" => Ok(bar.set_change(change(rest)?, 0)?),
+        name => match rest.parse::<u64>() {
             Ok(number) => Ok(draw_number(bar, name, number)?),
             Err(_) => Ok(draw_text(bar, name, rest)?),
         },
@@ -219,28 +212,18 @@ fn draw(bar: &mut Lone, text: &str) -> Result<Drawn, Bad> {
 }
 
 fn draw_number(bar: &mut Lone, name: &str, number: u64) -> Result<Drawn, Refusal> {
-    match name {
-        "inc" => bar.inc(number, 0),
-        "dec" => bar.dec(number, 0),
-        "set_position" => bar.set_position(number, 0),
-        "with_position" => bar.with_position(number, 0),
-        "set_length" => bar.set_length(number, 0),
-        "inc_length" => bar.inc_length(number, 0),
-        "dec_length" => bar.dec_length(number, 0),
-        "set_elapsed" => bar.set_elapsed(number, 0),
-        "set_tab_width" => bar.set_tab_width(number as usize, 0),
-        _ => bar.with_tab_width(number as usize, 0),
+    match called_with_number!(bar, name, number, 0) {
+        Some(drawn) => drawn,
+        None if name == "with_position" => bar.with_position(number, 0),
+        None => bar.with_tab_width(number as usize, 0),
     }
 }
 
 fn draw_text(bar: &mut Lone, name: &str, text: &str) -> Result<Drawn, Refusal> {
-    match name {
-        "set_message" => bar.set_message(text, 0),
-        "set_prefix" => bar.set_prefix(text, 0),
-        "with_message" => bar.with_message(text, 0),
-        "with_prefix" => bar.with_prefix(text, 0),
-        "finish_with_message" => bar.finish_with_message(text, 0),
-        _ => bar.abandon_with_message(text, 0),
+    match called_with_text!(bar, name, text, 0) {
+        Some(drawn) => drawn,
+        None if name == "with_message" => bar.with_message(text, 0),
+        None => bar.with_prefix(text, 0),
     }
 }
 

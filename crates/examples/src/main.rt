@@ -1,7 +1,7 @@
 //! Small programs, each a module with a `main` of its own. They run in turn, each under its name; `examples NAME` runs one of them.
 //!
 //! - `first`: a first program. `wrapped`: a loop with a bar of its own. `download`: bytes, rate and time left.
-//! - `fine`: a bar of fine characters. `log`: lines above a bar. `refusal`: a call that is refused.
+//! - `fine`: a bar of fine characters. `logging`: lines above a bar (`examples log`). `refusal`: a call that is refused.
 //! - `formatters`: numbers as texts. `template`: the parts of a template. `terminal`: a bar on standard error. `sizes`: new sizes of a
 //!   terminal, passed on.
 //! - `key`: a key of one's own in a template, on standard error. `still`: ten bars there, of which one goes on.
@@ -16,7 +16,7 @@ mod formatters;
 mod guide;
 mod guide_key;
 mod key;
-mod log;
+mod logging;
 mod reader;
 mod refusal;
 mod sizes;
@@ -82,7 +82,7 @@ fn run(rt: &HostRuntime, name: &str) -> Result<()> {
         "wrapped" => wrapped::main(rt),
         "download" => download::main(rt),
         "fine" => fine::main(rt),
-        "log" => log::main(rt),
+        "log" => logging::main(rt),
         "refusal" => refusal::main(rt),
         "formatters" => formatters::main(rt),
         "template" => template::main(rt),

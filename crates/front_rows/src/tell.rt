@@ -12,9 +12,10 @@
 //! What answers with the bar counts as `limited`, since it draws nothing.
 use crate::bars::{Bar, spinner};
 use indicatif::{Change, Drawn, Moves, ProgressFinish, ProgressState, Refusal};
-use scripts::commands::finish;
+use scripts::commands::{Told as _, WORDED, finish};
 use scripts::got::Bad;
 use scripts::spelling::{number, unescaped};
+use scripts::{called_bare, called_with_number, called_with_text};
 use std::alloc::Global;
 use std::sync::Wait;
 
@@ -40,39 +41,19 @@ pub fn tell<R: Wait + Copy + Clone + Drop>(
 
 /// Whether the call of this name takes a text.
 fn is_worded(name: &str) -> bool {
-    matches!(
-        name,
-        "set_message"
-            | "set_prefix"
-            | "finish_with_message"
-            | "abandon_with_message"
-            | "log"
-            | "with_message"
-            | "with_prefix"
-            | "set_style"
-            | "with_style"
-            | "template"
-    )
+    WORDED.iter().any(|it| *it == name)
+        || matches!(name, "log" | "set_style" | "with_style" | "template")
 }
 
 fn bare<R: Wait + Copy + Clone + Drop>(bar: &Bar<R>, name: &str) -> Result<Told, Bad> {
-    Ok(match name {
-        "tick" => bar.tick(),
-        "unset_length" => bar.unset_length(),
-        "reset_eta" => bar.reset_eta(),
-        "reset_elapsed" => bar.reset_elapsed(),
-        "reset" => bar.reset(),
-        "force_draw" => bar.force_draw(),
-        _ => return ending(bar, name),
-    })
+    match called_bare!(bar, name) {
+        Some(told) => Ok(told),
+        None => ending(bar, name),
+    }
 }
 
 fn ending<R: Wait + Copy + Clone + Drop>(bar: &Bar<R>, name: &str) -> Result<Told, Bad> {
     Ok(match name {
-        "finish" => bar.finish(),
-        "finish_and_clear" => bar.finish_and_clear(),
-        "abandon" => bar.abandon(),
-        "finish_using_style" => bar.finish_using_style(),
         "suspend" => bar.suspend(|| ()).1,
         "at_end" => at_end(bar.clone()?),
         _ => return Err(Bad::Step),
@@ -84,15 +65,14 @@ fn at_end<R: Wait + Copy + Clone + Drop>(mut bar: Bar<R>) -> Told {
 }
 
 fn numbered<R: Wait + Copy + Clone + Drop>(bar: &Bar<R>, name: &str, n: u64) -> Result<Told, Bad> {
+    match called_with_number!(bar, name, n) {
+        Some(told) => Ok(told),
+        None => counted(bar, name, n),
+    }
+}
+
+fn counted<R: Wait + Copy + Clone + Drop>(bar: &Bar<R>, name: &str, n: u64) -> Result<Told, Bad> {
     Ok(match name {
-        "inc" => bar.inc(n),
-        "dec" => bar.dec(n),
-        "set_position" => bar.set_position(n),
-        "set_length" => bar.set_length(n),
-        "inc_length" => bar.inc_length(n),
-        "dec_length" => bar.dec_length(n),
-        "set_elapsed" => bar.set_elapsed(n),
-        "set_tab_width" => bar.set_tab_width(n as usize),
         "further" => bar.update(|state| further(state, n)),
         "absorb" => absorb(bar, n),
         _ => return moved(bar.clone()?, name, n),
@@ -131,14 +111,11 @@ fn worded<R: Wait + Copy + Clone + Drop>(
     name: &str,
     text: &str,
 ) -> Result<Told, Bad> {
-    Ok(match name {
-        "set_message" => bar.set_message(text),
-        "set_prefix" => bar.set_prefix(text),
-        "finish_with_message" => bar.finish_with_message(text),
-        "abandon_with_message" => bar.abandon_with_message(text),
-        "log" => bar.println(text),
-        _ => return styled(bar, alloc, name, text),
-    })
+    match called_with_text!(bar, name, text) {
+        Some(told) => Ok(told),
+        None if name == "log" => Ok(bar.println(text)),
+        None => styled(bar, alloc, name, text),
+    }
 }
 
 fn styled<R: Wait + Copy + Clone + Drop>(

@@ -7,7 +7,7 @@ use indicatif_bar::state::BarCommand;
 use indicatif_bar::style::NoTracker;
 use indicatif_board::multi::{Answer, BarId, Board, Call, Candidate, InsertLocation};
 use indicatif_text::columns::{Drawn, Moment, Refusal};
-use judged::record::{Behind, Record};
+use scripts::judged::record::{Behind, Record};
 use std::alloc::Global;
 use std::rc::Rc;
 

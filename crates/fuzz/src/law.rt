@@ -1,6 +1,6 @@
 //! What has to hold of each run.
 use indicatif_text::columns::Refusal;
-use judged::judge::Finding;
+use scripts::judged::judge::Finding;
 use std::alloc::{AllocError, AllocFailed};
 
 /// What doesn't hold of a run.

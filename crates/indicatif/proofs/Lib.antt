@@ -11,5 +11,6 @@ mod WorkerLemmas
 mod WaveLemmas
 mod PlacedLemmas
 mod SharedLemmas
+mod AnswerLemmas
 mod FrontLemmas
 mod OwnRowsLemmas

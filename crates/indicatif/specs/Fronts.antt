@@ -1,19 +1,20 @@
--- Bars that are shared: what a call under their lock does, and which answers one can give.
-use Rattle.std.specs.Prelude.{◌≡◌, ◌⊎◌, ℕ, ◌-◌, None, Result, Ok, Err}
+-- Bars and boards that are shared: which answers their calls can have. Nothing is known of what stands under a lock, since another owner may
+-- have called meanwhile; so the call alone says which answers can come, and each of these does for some bar or board.
+use Rattle.std.specs.Prelude.{◌≡◌, ◌⊎◌, ℕ, Bool, true, false, IsTrue, ◌||◌, nat_lt, None, Result, Ok, Err}
 use Rattle.indicatif_text.specs.declared.refusal.Refusal.{Refusal}
-use Rattle.indicatif_text.specs.declared.refusal.Refusal.TheVariants.{Memory, ForeignBar, NotMember}
+use Rattle.indicatif_text.specs.declared.refusal.Refusal.TheVariants.{NoColumns, TooWide, Memory, Terminal as Failure, ForeignBar, NotMember, ElapsedBeyondClock}
 use Rattle.indicatif_text.specs.declared.refusal.Drawn.{Drawn}
-use Rattle.indicatif_text.specs.declared.refusal.Drawn.TheVariants.{Limited}
+use Rattle.indicatif_text.specs.declared.refusal.Drawn.TheVariants.{Yes, Limited, Hidden}
 use Rattle.indicatif_term.specs.Calls.{TermView}
 use Rattle.indicatif_bar.specs.Trackers.{Tracking}
-use Rattle.indicatif_bar.specs.Commands.{BarRecord, Command}
-use Rattle.indicatif_bar.specs.Runs.{CallMade}
+use Rattle.indicatif_bar.specs.declared.state.Ask.{Ask}
+use Rattle.indicatif_bar.specs.declared.state.Ask.TheVariants.{No, Unforced, Forced}
+use Rattle.indicatif_bar.specs.Commands.{BarRecord, Command, SetTicker, SetStyle, PutPosition, PutMessage, PutPrefix, PutFinish, PutTabWidth, SetElapsed, ResetEta, ResetElapsed, SetTabWidth, FinishBy, FinishUsingStyle, ForceDraw}
 use Rattle.indicatif_bar.specs.Lone.{LoneState, LoneCall, Obey, Log, Clear}
-use Rattle.indicatif_bar.specs.LoneBars.{LoneIsIn, LoneSuspends, CallDone, lone_bar, lone_known, record_of}
+use Rattle.indicatif_bar.specs.LoneBars.{LoneIsIn, LoneSuspends, record_of}
 use Rattle.indicatif_bar.specs.declared.command.Change.{Change}
 use Rattle.indicatif_bar.specs.declared.lone.LoneBar.{LoneBar}
-use Rattle.indicatif_board.specs.Boards.{Id, Tell, BarLog, Redraw, Clear as ClearBoard, Call as BoardCall}
-use Rattle.indicatif.specs.SharedBoards.{SharedDraws, SharedSuspends, SharedKeeps}
+use Rattle.indicatif_board.specs.Boards.{Id, Tell, BarLog, Clear as ClearBoard, Call as BoardCall}
 
 -- ---- bars that stand alone
 
@@ -28,17 +29,6 @@ module _ {K T : Type 0} (m : Tracking K) (view : T → TermView) where
     pub bar : record_of new ≡ record_of old
     pub leads : LoneSuspends m view old new now answer
 
-  -- there are a bar that stands alone, a state of it and a moment at which it answers so; and what became of it
-  abbrev pub CanAnswerAlone : LoneCall (Command K) → Result Drawn Refusal → Type 0
-  CanAnswerAlone call answer =
-      (now : ℕ) × (old : LoneBar K T) × (new : LoneBar K T) × (s : LoneState (BarRecord K)) × (next : LoneState (BarRecord K))
-      × LoneIsIn old s × LoneIsIn new next × CallDone m old new call now answer
-      × CallMade (lone_bar m) (lone_known view old) (lone_known view new) (call, now) s answer next
-
-  -- the same of one that is suspended
-  abbrev pub CanSuspendAlone : Result Drawn Refusal → Type 0
-  CanSuspendAlone answer = (now : ℕ) × (old : LoneBar K T) × (new : LoneBar K T) × SuspendedBy old new now answer
-
 -- ---- calls
 
 -- a change that sets nothing
@@ -51,18 +41,81 @@ on_board id (Obey command) = Tell id command
 on_board id (Log text) = BarLog id text
 on_board id Clear = ClearBoard
 
--- a bar that stands alone can answer so, or a board that is asked for one of its bars: the strongest that can be said of a bar under a lock
-abbrev pub CanAnswer : {K T : Type 0} → Tracking K → (T → TermView) → LoneCall (Command K) → Result Drawn Refusal → Type 0
-CanAnswer m view call answer = CanAnswerAlone m view call answer ⊎ ((id : Id) × SharedDraws m view (on_board id call) answer)
+-- ---- draws
 
--- the same of a bar that is suspended
-abbrev pub CanSuspend : {K T : Type 0} → Tracking K → (T → TermView) → Result Drawn Refusal → Type 0
-CanSuspend m view answer = CanSuspendAlone m view answer ⊎ SharedSuspends m view answer
+-- an answer where no draw was made: none was asked, or the limiter put it off; or there was no memory for a text, or for the history
+abbrev pub of_no_draw : Result Drawn Refusal → Bool
+of_no_draw (Ok Limited) = true
+of_no_draw (Err Memory) = true
+of_no_draw _ = false
 
--- the same of one that is to have another target: it stands alone; or the others of its board were drawn, or it stays there
-abbrev pub CanTurn : {K T : Type 0} → Tracking K → (T → TermView) → Result Drawn Refusal → Type 0
-CanTurn m view answer = (answer ≡ Ok Limited) ⊎ SharedDraws m view Redraw answer ⊎ ((id : Id) × (e : Refusal) × (answer ≡ Err e) × SharedKeeps m view id e)
+-- an answer of a draw that wasn't put off: it was written, its target is hidden, or it was refused
+abbrev pub of_a_draw : Result Drawn Refusal → Bool
+of_a_draw (Ok Yes) = true
+of_a_draw (Ok Hidden) = true
+of_a_draw (Err NoColumns) = true
+of_a_draw (Err TooWide) = true
+of_a_draw (Err (Failure kind)) = true
+of_a_draw (Err Memory) = true
+of_a_draw _ = false
 
--- why a bar's text isn't told: there is no memory for it, or its board hasn't the bar
-abbrev pub NoText : Refusal → Type 0
-NoText e = (e ≡ Memory) ⊎ (e ≡ ForeignBar) ⊎ (e ≡ NotMember)
+-- the same of a clear, which lays out no line that could be too wide
+abbrev pub of_a_clear : Result Drawn Refusal → Bool
+of_a_clear (Err TooWide) = false
+of_a_clear answer = of_a_draw answer
+
+-- an answer where such a draw is asked: none; one that the limiter may put off; or one by force, which it can't
+abbrev pub of_draw : Ask → Result Drawn Refusal → Bool
+of_draw No answer = of_no_draw answer
+of_draw Unforced answer = of_no_draw answer || of_a_draw answer
+of_draw Forced answer = of_a_draw answer
+
+-- ---- bars
+
+-- the draw that a command asks for; one that the limiter may put off is by force where the bar is finished
+abbrev pub asked_by : {K : Type 0} → Command K → Ask
+asked_by (SetTicker installed) = No
+asked_by (SetStyle style) = No
+asked_by (PutPosition position) = No
+asked_by (PutMessage text) = No
+asked_by (PutPrefix text) = No
+asked_by (PutFinish by) = No
+asked_by (PutTabWidth tab) = No
+asked_by (SetElapsed nanos) = No
+asked_by ResetEta = No
+asked_by ResetElapsed = No
+asked_by (SetTabWidth tab) = Forced
+asked_by (FinishBy by) = Forced
+asked_by FinishUsingStyle = Forced
+asked_by ForceDraw = Forced
+asked_by _ = Unforced
+
+-- a command's own refusal: an elapsed time beyond the clock, which 0 never is
+abbrev pub is_late : {K : Type 0} → Command K → Result Drawn Refusal → Bool
+is_late (SetElapsed nanos) (Err ElapsedBeyondClock) = nat_lt 0 nanos
+is_late _ _ = false
+
+-- the board that is asked hasn't the bar
+abbrev pub has_no_bar : Result Drawn Refusal → Bool
+has_no_bar (Err ForeignBar) = true
+has_no_bar (Err NotMember) = true
+has_no_bar _ = false
+
+-- an answer of a bar's call, wherever the bar stands
+abbrev pub bar_answers : {K : Type 0} → LoneCall (Command K) → Result Drawn Refusal → Bool
+bar_answers (Obey command) answer = of_draw (asked_by command) answer || (is_late command answer || has_no_bar answer)
+bar_answers (Log text) answer = of_a_draw answer || has_no_bar answer
+bar_answers Clear answer = of_a_clear answer
+
+-- a bar, wherever it stands, can answer a call so
+unfoldable pub CanAnswer : (K : Type 0) → LoneCall (Command K) → Result Drawn Refusal → Type 0
+CanAnswer K call answer = IsTrue (bar_answers call answer)
+
+-- a bar that is to have another target can answer so: it stood alone, and nothing was drawn; or the others of its board were drawn by
+-- force; or it stays there
+unfoldable pub CanTurn : Result Drawn Refusal → Type 0
+CanTurn answer = IsTrue (of_no_draw answer || (of_a_draw answer || has_no_bar answer))
+
+-- why a bar's text isn't told, or a bar isn't taken in: there is no memory, or the board that is asked hasn't the bar
+abbrev pub IsMissing : Refusal → Type 0
+IsMissing e = (e ≡ Memory) ⊎ (e ≡ ForeignBar) ⊎ (e ≡ NotMember)

@@ -1,11 +1,9 @@
 -- What only the contracts of private functions cite.
+pub mod AnyBar
+pub mod AnyBoard
 pub mod Courses
-pub mod Kept
 pub mod ListPieces
-pub mod Owners
+pub mod LockedBar
 pub mod Pieces
-pub mod Places
-pub mod Single
-pub mod Steps
-pub mod Unrecorded
-pub mod Worded
+pub mod PositionChange
+pub mod TextCommand

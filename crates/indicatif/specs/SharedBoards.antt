@@ -1,16 +1,14 @@
--- Boards that are shared: which answers one can give, of which nothing is known but that it is a board.
-use Rattle.std.specs.Prelude.{◌≡◌, ◌⊎◌, ℕ, Result, Ok, Err}
+-- Boards that are shared: which answers a call can have, by the call alone.
+use Rattle.std.specs.Prelude.{Bool, true, false, IsTrue, ◌||◌, IfErr, Result, Ok, Err}
 use Rattle.indicatif_text.specs.declared.refusal.Refusal.{Refusal}
-use Rattle.indicatif_text.specs.declared.refusal.Refusal.TheVariants.{Memory, NotMember}
+use Rattle.indicatif_text.specs.declared.refusal.Refusal.TheVariants.{ForeignBar, NotMember}
 use Rattle.indicatif_text.specs.declared.refusal.Drawn.{Drawn}
 use Rattle.indicatif_term.specs.Calls.{TermView}
 use Rattle.indicatif_bar.specs.Trackers.{Tracking}
 use Rattle.indicatif_bar.specs.Commands.{BarRecord, Command}
-use Rattle.indicatif_bar.specs.Runs.{CallMade}
-use Rattle.indicatif_board.specs.BoardBars.{board_bars}
-use Rattle.indicatif_board.specs.Boards.{BoardState, Call, Clear, Redraw, Insert, Remove, Location, Entrant, Id, Answer, Given, Done, Drew, Refused, drawn_of, board}
-use Rattle.indicatif_board.specs.Multi.{IsIn, known}
-use Rattle.indicatif_board.specs.declared.multi.Board.{Board}
+use Rattle.indicatif_bar.specs.Lone.{Obey}
+use Rattle.indicatif_board.specs.Boards.{BoardState, Call, Insert, Remove, Drop, Log, BarLog, Clear, Redraw, Align, Tell, Location, Id, Answer, Given, Done, Drew, Refused, drawn_of}
+use Rattle.indicatif.specs.Fronts.{of_no_draw, of_a_draw, of_a_clear, has_no_bar, bar_answers, IsMissing}
 
 -- a call of a board whose bars have trackers of this type; a state of one
 abbrev pub SharedCall : Type 0 → Type 0
@@ -26,29 +24,40 @@ given_by (Refused e) = Err e
 given_by Done = Err NotMember
 given_by (Drew drawn) = Err NotMember
 
+-- a bar of another board was to be taken out; one that isn't there is no refusal
+abbrev pub is_foreign : Result Drawn Refusal → Bool
+is_foreign (Err ForeignBar) = true
+is_foreign _ = false
+
+-- an answer of a board's call, by what it tells of a draw
+abbrev pub board_answers : {K : Type 0} → SharedCall K → Result Drawn Refusal → Bool
+board_answers (Insert at entrant) drawn = of_no_draw drawn || has_no_bar drawn
+board_answers (Remove id) drawn = of_no_draw drawn || is_foreign drawn
+board_answers (Drop id) drawn = of_no_draw drawn || (of_a_draw drawn || has_no_bar drawn)
+board_answers (Log text) drawn = of_a_draw drawn
+board_answers (BarLog id text) drawn = of_a_draw drawn || has_no_bar drawn
+board_answers Clear drawn = of_a_clear drawn
+board_answers Redraw drawn = of_a_draw drawn
+board_answers (Align bottom) drawn = of_no_draw drawn
+board_answers (Tell id command) drawn = bar_answers (Obey command) drawn
+
 module _ {K T : Type 0} (m : Tracking K) (view : T → TermView) where
-  -- there are a board, a state of it and a moment at which it answers so
-  abbrev pub BoardCan : SharedCall K → Answer → Type 0
-  BoardCan call answer =
-      (mark : ℕ) × (now : ℕ) × (old : Board K T) × (new : Board K T) × (s : SharedState K) × (next : SharedState K)
-      × IsIn mark old s × IsIn mark new next × CallMade (board (board_bars m) mark) (known view old) (known view new) (call, now) s answer next
+  -- a board can answer a call so, whatever its bars' trackers mean and its terminal is
+  unfoldable pub SharedDraws : SharedCall K → Result Drawn Refusal → Type 0
+  SharedDraws call drawn = IsTrue (board_answers call drawn)
 
-  -- a board under a lock answers as some board does; or its history, or a text that it is handed, finds no memory
+  -- the same of its answer
   abbrev pub SharedAnswers : SharedCall K → Answer → Type 0
-  SharedAnswers call answer = BoardCan call answer ⊎ (answer ≡ Refused Memory)
-
-  -- what such an answer tells of a draw
-  abbrev pub SharedDraws : SharedCall K → Result Drawn Refusal → Type 0
-  SharedDraws call drawn = (told : Answer) × (drawn ≡ drawn_of told) × SharedAnswers call told
+  SharedAnswers call answer = SharedDraws call (drawn_of answer)
 
   -- one that was suspended was cleared and drawn again; or the clear was refused
   abbrev pub SharedSuspends : Result Drawn Refusal → Type 0
-  SharedSuspends drawn = SharedDraws Redraw drawn ⊎ ((e : Refusal) × (drawn ≡ Err e) × SharedDraws Clear drawn)
+  SharedSuspends drawn = IsTrue (of_a_draw drawn)
 
-  -- a bar stays on its board: that hasn't it, or its removal was refused
+  -- a bar stays on its board: that hasn't it, or there is no memory for its removal
   abbrev pub SharedKeeps : Id → Refusal → Type 0
-  SharedKeeps id e = (e ≡ NotMember) ⊎ SharedAnswers (Remove id) (Refused e)
+  SharedKeeps id e = IsMissing e
 
   -- what one gives that is to take a bar in at a place
   abbrev pub SharedTakes : Location → Result Id Refusal → Type 0
-  SharedTakes at taken = (entrant : Entrant (BarRecord K)) × (told : Answer) × (taken ≡ given_by told) × SharedAnswers (Insert at entrant) told
+  SharedTakes at taken = IfErr taken IsMissing

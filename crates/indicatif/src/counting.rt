@@ -44,7 +44,7 @@ impl<T: TermLike + Drop, C: Clock + Drop, R: Wait + Clone + Drop, K: Tracks> Pro
     pub fn absorb(&self, done: Done, worker: BarWorker) -> Result<Drawn, Refusal>
         requires of { worker.adds_to ≡ done }
         requires whole { worker.account.parts ≡ whole_share }
-        ensures { CanAnswer K.means T.view (Lone.Obey (Command.Inc (worker.account.added % 2 ^ 64))) result }
+        ensures { CanAnswer K (Lone.Obey (Command.Inc (worker.account.added % 2 ^ 64))) result }
     {
         self.inc(done.close(worker))
     }

@@ -440,6 +440,8 @@ impl<T: TermLike> TermLike for OwnRows<T> {
 /// own.resize(50, 131)?; // for a terminal that has 132 columns now
 /// ```
 impl<T: Resize> Resize for OwnRows<T> {
+    ghost takes_memory = { T.takes_memory };
+
     fn resize(&mut self, rows: u16, cols: u16) -> Result<(), Refusal> {
         let waits = self.waits();
         self.term.resize(rows, cols)?;

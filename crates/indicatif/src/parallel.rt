@@ -2,7 +2,7 @@
 //!
 //! - `claims`: what threads take of a list, and how far they are; `course`: how far the bar is (private).
 //! - `piece`: answers at a part of a list; `answers`: what threads answer at all its items; `visits`: the same without answers (private).
-ghost use Rattle.std.specs.Prelude.{◌≡◌, ◌==◌, ◌≤◌, ℕ, Some, Ok, IfOk, IfErr, OnOk, IsFalse, length};
+ghost use Rattle.std.specs.Prelude.{◌≡◌, ◌==◌, ◌<◌, ◌≤◌, ℕ, Some, Ok, Err, IfOk, IfErr, OnOk, IsFalse, length};
 ghost use Rattle.std.specs.List.{AllZip};
 ghost use Rattle.std.specs.Fn.{FnReturnsAt};
 ghost use Rattle.indicatif_bar.specs.Commands.{new_bar};
@@ -138,7 +138,7 @@ impl<'a, T: Sync, P: Moves> ProgressBarIter<&'a [T], P> {
     /// let (squares, bar) = numbers.progress_with(bar).map_collect(&rt, alloc, |n: &u32| n.wrapping_mul(*n));
     /// ```
     ///
-    /// Refused: `Memory`; the bar was advanced by blocks of items that were met before.
+    /// Refused: `Memory`, never for an empty list; the bar was advanced by blocks of items that were met before.
     pub fn map_collect<R: Threads + Sync, A: Send + Drop, F: Fn(&T) -> A + Sync + Drop>(
         self,
         rt: &R,
@@ -149,6 +149,7 @@ impl<'a, T: Sync, P: Moves> ProgressBarIter<&'a [T], P> {
         ensures list { IfOk result.0 (λ made. AllZip (FnReturnsAt F.Fn f) (inner_of self.entry).now made.items) }
         ensures bar { OnOk result.0 (Blocks P.stands P.leads self.entry.progress (length (inner_of self.entry).now) result.1) }
         ensures memory { IfErr result.0 (λ e. (e ≡ Refusal.Memory) × ((n : ℕ) × (n ≤ length (inner_of self.entry).now) × Blocks P.stands P.leads self.entry.progress n result.1)) }
+        ensures some { result.0 ≡ Err Refusal.Memory → 0 < length (inner_of self.entry).now }
     {
         let (items, bar) = self.into_inner();
         map_in_threads(rt, alloc, items, bar, &f)

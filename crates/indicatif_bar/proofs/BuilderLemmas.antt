@@ -1,5 +1,5 @@
 -- What a style is made of at first, and what its builders refuse.
-use Rattle.std.proofs.Common.{map, ◌∷◌, [], Result, Ok, Err, IfErr, ◌≡◌, ◌≢◌, ◌⊎◌, inl, inr, ℕ, ◌≤◌, ◌<◌, List, refl, ◌∙◌, ap, length, arith}
+use Rattle.std.proofs.Common.{map, ◌≡◌, ◌≢◌, ◌⊎◌, inl, inr, ℕ, ◌≤◌, ◌<◌, List, refl, ◌∙◌, ap, length, arith}
 use Rattle.std.specs.Str.{chars}
 use Rattle.indicatif_text.specs.Columns.{visible}
 use Rattle.unicode_width.proofs.Computing.{unicode_width}
@@ -8,10 +8,7 @@ use Rattle.indicatif_text.specs.declared.refusal.Refusal.TheVariants as refusal
 use Rattle.indicatif_text.specs.declared.template.TemplateError.{TemplateError}
 use Rattle.indicatif_text.specs.declared.template.TemplateError.TheVariants as error
 use Rattle.indicatif_text.specs.Template.{refusal_of}
-use Rattle.std.specs.Prelude.{codes}
-use Rattle.indicatif_text.specs.Template.{TemplatePart, LiteralText, KeyText}
-use Rattle.indicatif_text.specs.Template.{IsRefused, front, end, piece, Parses, parts_of, plain_layout}
-use Rattle.indicatif_text.proofs.TemplateLemmas.{parses_by, never}
+use Rattle.indicatif_text.specs.Template.{IsRefused}
 use Rattle.indicatif_bar.specs.Layout.{text_columns, cluster}
 use Rattle.indicatif_bar.specs.Builders.{characters_of, first_clusters}
 use Rattle.indicatif_bar.specs.declared.bar_style.builders.TheConstants.{CLUSTERS, TICKS, TICK_STRINGS}

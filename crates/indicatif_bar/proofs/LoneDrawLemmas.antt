@@ -1,12 +1,11 @@
 -- What the answer of a lone bar's engine makes of a draw, and what a draw makes of a call.
 use Rattle.std.proofs.Common.{◌≡◌, ℕ, ◌<◌, Bool, true, false, List, [], ◌∷◌, map, chars, refl, sym, ◌∙◌, ap, subst, Result, Ok, Err, Option, Some, None, inl, inr}
-use Rattle.std.specs.Prelude.{MatchResult, MatchOption, IsFalse}
+use Rattle.std.specs.Prelude.{MatchResult, IsFalse}
 use Rattle.std.proofs.lemmas.Bool.{false≢true}
 use Rattle.indicatif_text.specs.declared.refusal.Refusal.{Refusal}
 use Rattle.indicatif_text.specs.declared.refusal.Refusal.TheVariants.{Memory, ElapsedBeyondClock}
 use Rattle.indicatif_text.specs.declared.refusal.Drawn.{Drawn}
 use Rattle.indicatif_term.specs.Calls.{TermView}
-use Rattle.indicatif_term.specs.Lists.{opening_lists}
 use Rattle.indicatif_term.specs.Limiters.{Limiter}
 use Rattle.indicatif_term.specs.Frames.{text_lines, logged_lines, bar_lines}
 use Rattle.indicatif_term.specs.Engines.{engine_term, Fits}
@@ -23,8 +22,6 @@ use Rattle.indicatif_bar.specs.Shown.{PutsFrame, DrewBy, DrewOn, WritesLinesOn}
 use Rattle.indicatif_term.specs.declared.lines.Segment.{Segment}
 use Rattle.indicatif_bar.specs.Inside.Writings.{IsLaidOut}
 use Rattle.indicatif_bar.specs.Inside.Obeying.{IsTold, IsToldOrNot}
-use Rattle.indicatif_bar.specs.Shown.{ShownAs}
-use Rattle.indicatif_bar.specs.declared.shown.ShownBar.{ShownBar}
 use Rattle.indicatif_bar.specs.declared.state.Ask.{Ask}
 use Rattle.indicatif_bar.specs.declared.state.Ask.TheVariants.{Forced}
 use Rattle.indicatif_bar.specs.declared.lone.LoneBar.{LoneBar}
@@ -42,26 +39,29 @@ either_way : (r : Result Unit Refusal) (A B : Type 0) → A → B → MatchResul
 either_way (Ok u) A B a b = a
 either_way (Err e) A B a b = b
 
-module _ {K T : Type 0} (m : Tracking K) (view : T → TermView) (takes : Bool) (ask : Ask) (now : ℕ) (writing : Writing) (s : LoneState (BarRecord K)) (old : Engine T) (shown after : ShownBar K) where
+module _ {K T : Type 0} (m : Tracking K) (view : T → TermView) (takes : Bool) (ask : Ask) (now : ℕ) (writing : Writing) (s : LoneState (BarRecord K))
+    (old : Engine T) (bar : BarRecord K) (limiter next : Option Limiter) where
   abbrev d : Draw (LoneState (BarRecord K))
   d = draw_asked (bar_kind m) (target_of (Some (view (engine_term old)))) takes ask now writing s
 
+  -- the bar and the limiter after the draw are those of a state
+  abbrev Holds : LoneState (BarRecord K) → Type 0
+  Holds x = (bar ≡ x.bar) × (next ≡ x.limiter)
+
   -- the limiter says what the draw's says
-  pub asked_same : ShownAs shown s → (asked_of ask now shown.limiter).0 ≡ d.allowed
-  asked_same holds = ap (λ limiter. (asked_of ask now limiter).0) holds.limiter_is
+  pub asked_same : limiter ≡ s.limiter → (asked_of ask now limiter).0 ≡ d.allowed
+  asked_same limiter_is = ap (λ l. (asked_of ask now l).0) limiter_is
 
   -- the bar with its limiter asked
-  pub holds_ready : ShownAs shown s → after.bar ≡ shown.bar → after.limiter ≡ (asked_of ask now shown.limiter).1 → ShownAs after d.ready
-  holds_ready holds bar limiter = record { bar_is = bar ∙ holds.bar_is; limiter_is = limiter ∙ ap (λ limiter. (asked_of ask now limiter).1) holds.limiter_is }
+  pub holds_ready : bar ≡ s.bar → limiter ≡ s.limiter → next ≡ (asked_of ask now limiter).1 → Holds d.ready
+  holds_ready bar_is limiter_is next_is = (bar_is, next_is ∙ ap (λ l. (asked_of ask now l).1) limiter_is)
 
   pub drew_so : (new : Engine T) (r : Result Unit Refusal) → is_no ask ≡ false → 0 < (view (engine_term old)).columns → d.allowed ≡ true → Fits old s.lists →
-      ShownAs after d.ready → PutsFrame view writing false 0 (lone_frame (bar_kind m) (target_of (Some (view (engine_term old)))) now s.bar) old new r →
-      DrewBy (lone_bar m) (ShownAs after) view old new d s.lists (drawn_answer r)
+      Holds d.ready → PutsFrame view writing false 0 (lone_frame (bar_kind m) (target_of (Some (view (engine_term old)))) now s.bar) old new r →
+      DrewBy (lone_bar m) Holds view old new d s.lists (drawn_answer r)
   drew_so new r asked some allowed fits ready q =
-      drew (lone_bar m) (ShownAs after) view old new d s.lists (record { asked = asked; some = some; allowed = allowed; fits = fits; lists_stay = refl; lists_go = refl }) r
-      (either_way r (ShownAs after d.written) (ShownAs after d.ready × ShownAs after d.broken)
-      (record { bar_is = ready.bar_is; limiter_is = ready.limiter_is })
-      (ready, record { bar_is = ready.bar_is; limiter_is = ready.limiter_is }))
+      drew (lone_bar m) Holds view old new d s.lists (record { asked = asked; some = some; allowed = allowed; fits = fits; lists_stay = refl; lists_go = refl }) r
+      (either_way r (Holds d.written) (Holds d.ready × Holds d.broken) ready (ready, ready))
       (record { answers = q.answers; memory = q.memory; counted = q.counted; unchanged = q.unchanged; lists = q.lists s.lists fits; paints = q.paints s.lists fits })
 
 -- ---- calls, of any kind of bars
@@ -144,14 +144,14 @@ module _ {K T : Type 0} (m : Tracking K) (view : T → TermView) (old mid new : 
   told_in command s told rest inside =
       let next : LoneState (BarRecord K) = record s { bar = (obeyed m command s.bar now).0 } in
       subst (λ b. LoneIsIn b next) (sym rest) (
-        record { bar_is = told ∙ ap (λ bar. (obeyed m command bar now).0) inside.0.bar_is; limiter_is = inside.0.limiter_is },
+        told ∙ ap (λ bar. (obeyed m command bar now).0) inside.0,
         inside.1,
       )
 
   -- the record of the bar is that of its state
   bar_in : (s : LoneState (BarRecord K)) → LoneIsIn old s → old.shown.bar ≡ s.bar
   unfolding LoneIsIn
-  bar_in s inside = inside.0.bar_is
+  bar_in s inside = inside.0
 
   command_leads : (command : Command K) (ask : Ask) → IsTold m old mid command now ask → Draws ask Frame → LoneLeadsBy m view old new (Obey command) now answer
   command_leads command ask told draws = λ s inside.
@@ -213,20 +213,3 @@ module _ {K T : Type 0} (m : Tracking K) (view : T → TermView) (old : LoneBar 
         nowhere = λ none. refused_quietly e told.as_told.0;
         leads = subst (λ b. LoneLeadsBy m view old b (Obey command) now (Err e)) (sym same) (refused_leads e told.as_told.0);
       }
-
--- a bar whose engine was replaced by one that has drawn nothing, and its limiter
-pub in_anew : {K T : Type 0} (old : LoneBar K T) (shown : ShownBar K) (engine opened : Option (Engine T)) (limiter given : Option Limiter) →
-    shown ≡ record old.shown { limiter = given } → given ≡ limiter → engine ≡ opened →
-    MatchOption opened (Unit {0}) (λ e. Fits e opening_lists) →
-    (s : LoneState (BarRecord K)) → LoneIsIn old s → LoneIsIn (record { shown = shown; engine = engine }) (record s { limiter = limiter; lists = opening_lists })
-unfolding LoneIsIn
-in_anew {K} {T} old shown engine opened limiter given same given_is engine_is fits s inside =
-    let next : LoneState (BarRecord K) = record s { limiter = limiter; lists = opening_lists } in (
-      subst (λ x. ShownAs x next) (sym same) (record { bar_is = inside.0.bar_is; limiter_is = given_is }),
-      subst (λ (o : Option (Engine T)). MatchOption o (Unit {0}) (λ e. Fits e opening_lists)) (sym engine_is) fits,
-    )
-
--- the limiter of a bar that is in a state is the state's
-pub limiter_in : {K T : Type 0} (b : LoneBar K T) (s : LoneState (BarRecord K)) → LoneIsIn b s → b.shown.limiter ≡ s.limiter
-unfolding LoneIsIn
-limiter_in b s inside = inside.0.limiter_is

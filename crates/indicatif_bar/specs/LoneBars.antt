@@ -1,10 +1,10 @@
 -- What contracts see of a lone bar: its record, its terminal, whether it is in a given state, and what a call leads to.
-use Rattle.std.specs.Prelude.{◌≡◌, ◌⊎◌, ℕ, Bool, IsTrue, IsFalse, string_bytes, Option, MatchOption, option_map, List, [], ◌∷◌, Result, Ok, Err, refl}
+use Rattle.std.specs.Prelude.{◌≡◌, ◌⊎◌, ℕ, Bool, IsTrue, IsFalse, string_bytes, Option, option_map, List, [], ◌∷◌, Result, Ok, Err, refl}
 use Rattle.indicatif_text.specs.declared.refusal.Refusal.{Refusal}
 use Rattle.indicatif_text.specs.declared.refusal.Refusal.TheVariants.{Memory, ElapsedBeyondClock}
 use Rattle.indicatif_text.specs.declared.refusal.Drawn.{Drawn}
 use Rattle.indicatif_term.specs.Calls.{TermView}
-use Rattle.indicatif_term.specs.Engines.{engine_moves, engine_term, Fits}
+use Rattle.indicatif_term.specs.Engines.{engine_moves, engine_term}
 use Rattle.indicatif_bar.specs.Trackers.{Tracking}
 use Rattle.indicatif_bar.specs.Commands.{BarRecord, Command, ForceDraw, obeyed, command_of, is_beyond_clock, takes_memory}
 use Rattle.indicatif_bar.specs.Bars.{bar_kind}
@@ -12,7 +12,7 @@ use Rattle.indicatif_bar.specs.Machines.{Machine, target_of}
 use Rattle.indicatif_bar.specs.Runs.{CallMade, Runs, wrote}
 use Rattle.indicatif_bar.specs.Lone.{LoneState, LoneCall, Obey, Log, Clear, lone}
 use Rattle.indicatif_bar.specs.Scripts.{Sizing}
-use Rattle.indicatif_bar.specs.Shown.{ShownAs}
+use Rattle.indicatif_bar.specs.Stages.{IsStaged}
 use Rattle.indicatif_bar.specs.declared.lone.LoneBar.{LoneBar}
 use Rattle.indicatif_bar.specs.declared.lone.LoneCall.{LoneCall as LoneCallValue}
 use Rattle.indicatif_bar.specs.declared.lone.LoneCall.TheVariants.{Bar as BarCall, Log as LogCall, Clear as ClearCall}
@@ -24,15 +24,15 @@ module _ {K T : Type 0} where
 
   -- its terminal; none where the target is hidden
   abbrev pub lone_terminal : LoneBar K T → Option T
-  lone_terminal b = option_map engine_term b.engine
+  lone_terminal b = option_map engine_term b.stage.engine
 
   -- whether its draws go by moves of the cursor alone, where that shows the same; nothing where the target is hidden
   abbrev pub lone_moves : LoneBar K T → Option Bool
-  lone_moves b = option_map engine_moves b.engine
+  lone_moves b = option_map engine_moves b.stage.engine
 
   -- the bar may be in this state. Of the rows only the numbers are kept, so many states fit one bar; what is claimed holds of each
   unfoldable pub LoneIsIn : LoneBar K T → LoneState (BarRecord K) → Type 0
-  LoneIsIn b s = ShownAs b.shown s × MatchOption b.engine (Unit {0}) (λ e. Fits e s.lists)
+  LoneIsIn b s = (b.shown.bar ≡ s.bar) × IsStaged b.stage s.limiter s.lists
 
   -- what is known of its terminal
   abbrev pub lone_known : (T → TermView) → LoneBar K T → Option TermView

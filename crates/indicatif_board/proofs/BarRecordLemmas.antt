@@ -28,6 +28,31 @@ seat_is frame order number e = sym (prefix-map (λ (x : Segment). x.bar) (λ k. 
 seat_next : (number n : ℕ) (order : List ℕ) → (n == number) ≡ false → seat_of number (n ∷ order) ≡ suc (seat_of number order)
 seat_next number n order there = let step : 1 + seat_of number order ≡ suc (seat_of number order) = omega arith in rw there step
 
+-- a bar that stands in an order stands there at least once
+stands_in : (number at d : ℕ) (order : List ℕ) → at < length order → get_or order at d ≡ number → 1 ≤ occurrences number order
+stands_in number at d [] within here = absurd (omega (arith, within))
+stands_in number zero d (n ∷ order) within here = omega (arith, occurrences-front number n order, ones_same number n here)
+stands_in number (suc at) d (n ∷ order) within here = omega (arith, occurrences-front number n order, stands_in number at d order (omega (arith, within)) here)
+
+-- where it stands once, that is its place
+pub only_seat : (number at d : ℕ) (order : List ℕ) → occurrences number order ≤ 1 → at < length order → get_or order at d ≡ number → at ≡ seat_of number order
+only_seat number at d [] once within here = absurd (omega (arith, within))
+only_seat number zero d (n ∷ order) once within here = rw (eq-eqb n number here) refl
+only_seat number (suc at) d (n ∷ order) once within here = elim (cases_Bool (n == number)) [
+  | inl first ↦ absurd (omega (
+    arith,
+    once,
+    occurrences-front number n order,
+    ones_same number n (eqb-true n number first),
+    stands_in number at d order (omega (arith, within)) here,
+  ))
+  | inr later ↦ omega (
+    arith,
+    seat_next number n order later,
+    only_seat number at d order (omega (arith, once, occurrences-front number n order)) (omega (arith, within)) here,
+  )
+]
+
 module _ {K : Type 0} where
   -- a number that isn't in the order has no record
   pub record_none : (number : ℕ) (order : List ℕ) (members : List (Member K)) → occurrences number order ≡ 0 → record_in number order members ≡ None

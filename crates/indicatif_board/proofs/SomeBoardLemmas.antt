@@ -1,19 +1,16 @@
 -- Every board is in some state.
-use Rattle.std.proofs.Common.{◌≡◌, List, [], ◌∷◌, map, length, refl, ap, arith, Option, Some, None}
-use Rattle.std.specs.Prelude.{MatchOption}
-use Rattle.indicatif_term.specs.Lists.{Lists, opening_lists}
+use Rattle.std.proofs.Common.{◌≡◌, List, [], ◌∷◌, map, length, refl, ap, arith}
 use Rattle.indicatif_term.specs.Frames.{bar_lines}
-use Rattle.indicatif_term.specs.Engines.{Fits, is_bottom}
-use Rattle.indicatif_term.specs.declared.draw_target.Engine.{Engine}
+use Rattle.indicatif_term.specs.Engines.{is_bottom}
 use Rattle.indicatif_term.specs.declared.lines.Segment.{Segment}
-use Rattle.indicatif_term.proofs.SomeListsLemmas.{some_fit}
+use Rattle.indicatif_bar.proofs.StageLemmas.{some_staged}
 use Rattle.indicatif_bar.specs.Commands.{BarRecord}
 use Rattle.indicatif_board.specs.Boards.{BoardState}
 use Rattle.indicatif_board.specs.Members.{Member, frame_of}
-use Rattle.indicatif_board.specs.ShownBars.{member_of}
 use Rattle.indicatif_board.specs.Multi.{IsIn}
 use Rattle.indicatif_board.specs.declared.members.Member.{Member as MemberValue}
 use Rattle.indicatif_board.specs.declared.multi.Board.{Board}
+use Rattle.indicatif_board.proofs.MemberLemmas.{member_of}
 
 module _ {K : Type 0} where
   -- members with the numbers and lines at their places
@@ -33,23 +30,18 @@ module _ {K : Type 0} where
   frame_again (m ∷ ms) [] e = absurd (omega (arith, e))
   frame_again (m ∷ ms) (s ∷ segments) e = ap (λ xs. bar_lines s ∷ xs) (frame_again ms segments (omega (arith, e)))
 
--- lists that fit an engine, or none where there is no engine
-board_lists : {T : Type 0} (e : Option (Engine T)) → (l : Lists) × MatchOption e (l ≡ opening_lists) (λ x. Fits x l)
-board_lists None = (opening_lists, refl)
-board_lists (Some x) = let f = some_fit x x.some in (f.0, f.1)
-
 pub some_board : {K T : Type 0} (b : Board K T) → (s : BoardState (BarRecord K)) × IsIn b.mark b s
 unfolding IsIn
 some_board b =
     let shown = b.shown in
     let even : length shown.members.items ≡ length shown.frame.items = omega (arith, shown.members.ok, shown.frame.ok, shown.even) in
-    let lists = board_lists b.engine in (
+    let staged = some_staged b.stage in (
       record {
         members = members_from shown.members.items shown.frame.items;
         made = shown.table.made;
         bottom = is_bottom shown.alignment;
-        limiter = shown.limiter;
-        lists = lists.0;
+        limiter = b.stage.limiter;
+        lists = staged.0;
       },
       (
         refl,
@@ -58,8 +50,7 @@ some_board b =
           frame_is = frame_again shown.members.items shown.frame.items even;
           made_is = refl;
           bottom_is = refl;
-          limiter_is = refl;
         },
-        lists.1,
+        staged.1,
       ),
     )

@@ -4,8 +4,7 @@ use Rattle.std.specs.List.{list_any}
 use Rattle.indicatif_text.specs.declared.refusal.Refusal.{Refusal}
 use Rattle.indicatif_text.specs.declared.refusal.Drawn.{Drawn}
 use Rattle.indicatif_term.specs.Calls.{TermView}
-use Rattle.indicatif_term.specs.Engines.{engine_moves, engine_term, Fits}
-use Rattle.indicatif_term.specs.Lists.{opening_lists}
+use Rattle.indicatif_term.specs.Engines.{engine_moves, engine_term}
 use Rattle.indicatif_bar.specs.Trackers.{Tracking}
 use Rattle.indicatif_bar.specs.Commands.{BarRecord, Command}
 use Rattle.indicatif_bar.specs.Lone.{Obey}
@@ -13,6 +12,7 @@ use Rattle.indicatif_bar.specs.LoneBars.{RecordGoes}
 use Rattle.indicatif_bar.specs.Machines.{target_of}
 use Rattle.indicatif_bar.specs.Runs.{CallMade, Runs}
 use Rattle.indicatif_bar.specs.Scripts.{Sizing}
+use Rattle.indicatif_bar.specs.Stages.{IsStaged}
 use Rattle.indicatif_board.specs.BoardBars.{board_bars}
 use Rattle.indicatif_board.specs.Boards.{BoardState, Id, Entrant, New, Old, Call, Insert, Remove, Drop, Clear, Redraw, Tell, Answer, Given, Drew, Refused, says, drawn_of, board}
 use Rattle.indicatif_board.specs.Calls.{answer_of, gives}
@@ -24,11 +24,11 @@ use Rattle.indicatif_board.specs.declared.multi.Board.{Board}
 module _ {K T : Type 0} where
   -- its terminal; none where the target is hidden
   abbrev pub terminal_of : Board K T → Option T
-  terminal_of b = option_map engine_term b.engine
+  terminal_of b = option_map engine_term b.stage.engine
 
   -- whether its draws go by moves of the cursor alone, where that shows the same; nothing where the target is hidden
   abbrev pub moves_of : Board K T → Option Bool
-  moves_of b = option_map engine_moves b.engine
+  moves_of b = option_map engine_moves b.stage.engine
 
   -- the slots of its bars
   abbrev pub slots_of : Board K T → SlotTable
@@ -37,7 +37,7 @@ module _ {K T : Type 0} where
   -- the board of this mark may be in this state; on a hidden target it has no rows. Of the rows only the numbers are kept, so many
   -- states fit one board; what is claimed holds of each
   unfoldable pub IsIn : ℕ → Board K T → BoardState (BarRecord K) → Type 0
-  IsIn mark b s = (b.mark ≡ mark) × AreShownAs b.shown s × MatchOption b.engine (s.lists ≡ opening_lists) (λ e. Fits e s.lists)
+  IsIn mark b s = (b.mark ≡ mark) × AreShownAs b.shown s × IsStaged b.stage s.limiter s.lists
 
   -- what is known of its terminal
   abbrev pub known : (T → TermView) → Board K T → Option TermView

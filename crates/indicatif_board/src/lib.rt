@@ -19,6 +19,7 @@ pub mod done;
 pub mod laws;
 mod members;
 pub mod multi;
+mod places;
 mod recorded;
 mod shown_bars;
 mod slots;

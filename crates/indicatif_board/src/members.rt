@@ -1,5 +1,5 @@
 //! The members of a board: bars in their order, with their lines beside them.
-ghost use Rattle.std.specs.Prelude.{◌≡◌, ◌<◌, ◌≤◌, ◌+◌, ◌++◌, ◌⊎◌, ◌↔◌, true, false, drop, length, vec_len, vec_capacity, slice_index_or, ◌==◌, Err, IfOk, IfErr, OnErr, IsTrue, IsFalse, MatchResult};
+ghost use Rattle.std.specs.Prelude.{◌≡◌, ◌<◌, ◌≤◌, ◌+◌, ◌++◌, ◌⊎◌, ◌↔◌, true, false, drop, take, length, vec_len, vec_capacity, slice_index_or, ◌==◌, Err, IfOk, IfErr, OnErr, IsTrue, IsFalse, MatchResult};
 ghost use Rattle.std.specs.List.{insert, remove, prefix_len, position_or_len};
 ghost use Rattle.std.specs.VecDeque.{deque_len, deque_capacity};
 ghost use Rattle.indicatif_bar.specs.Progress.{is_finished};
@@ -147,7 +147,7 @@ pub fn put_at<X: Drop>(items: &mut Vec<X>, at: usize, item: X)
 }
 
 /// Puts these behind all others, where there is room for them.
-pub fn put_behind(items: &mut Vec<usize>, more: &[usize])
+fn put_behind(items: &mut Vec<usize>, more: &[usize])
     requires room { vec_len items.old + length more.now ≤ vec_capacity items.old }
     ensures items { items.new.items ≡ items.old.items ++ more.now }
     ensures room { vec_capacity items.old ≤ vec_capacity items.new }
@@ -195,4 +195,17 @@ pub fn take_front<X: Drop>(items: &mut VecDeque<X>, count: usize)
         return;
     }
     items.drain(..count);
+}
+
+/// Moves the first ones away, behind others, where there is room for them. Takes no memory.
+pub fn move_front(items: &mut VecDeque<usize>, count: usize, others: &mut Vec<usize>)
+    requires within { count ≤ deque_len items.old }
+    requires room { vec_len others.old + count ≤ vec_capacity others.old }
+    ensures items { items.new.items ≡ drop count items.old.items }
+    ensures others { others.new.items ≡ others.old.items ++ take count items.old.items }
+    ensures room { vec_capacity others.old ≤ vec_capacity others.new }
+{
+    let all: &[usize] = items.make_contiguous();
+    put_behind(others, &all[..count]);
+    take_front(items, count);
 }

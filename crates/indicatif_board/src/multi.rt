@@ -9,6 +9,7 @@ ghost use Rattle.indicatif_bar.specs.Commands.{BarRecord, command_of, is_beyond_
 ghost use Rattle.indicatif_bar.specs.Machines.{Target, Leads, is_no, target_of};
 ghost use Rattle.indicatif_bar.specs.Runs.{wrote, Runs, Headline};
 ghost use Rattle.indicatif_bar.specs.Shown.{DrewOn};
+ghost use Rattle.indicatif_bar.specs.Stages.{writing_as};
 ghost use Rattle.indicatif_board.specs.BoardBars.{board_bars};
 ghost use Rattle.indicatif_board.specs.Boards.{BoardState, Tell, Log, BarLog, Clear, Redraw, Align, Insert, Remove, Drop, Location, End, Index, FromBack, Before, After, Done, Refused, opening_board, says, drawn_of, index_of, inserted, turned_away, draw_of, board};
 ghost use Rattle.indicatif_board.specs.BoardValues.{id_of};
@@ -18,23 +19,20 @@ ghost use Rattle.indicatif_board.specs.Recorded.{handed_back};
 ghost use Rattle.indicatif_board.specs.Inside.Named.{HasPlace, named_laid_out, named_layout_takes};
 ghost use Rattle.indicatif_board.specs.Inside.Parting.{parted, RestsOn};
 ghost use Rattle.indicatif_board.specs.Inside.Standing.{is_of_draw, StandsAt};
-ghost use Rattle.indicatif_board.specs.Inside.Writings.{writing_by};
 
 pub use crate::bar_id::BarId;
 pub use crate::calls::{Answer, Call, Candidate, InsertLocation, Turned};
 use crate::calls::{draw_answer, insertion_answer, is_undisturbed, removal_answer};
 pub use crate::recorded::{Entry, Opening, Recorded, Size};
-use crate::shown_bars::{BoardWriting, ShownBars};
+use crate::shown_bars::ShownBars;
 pub use crate::slots::MultiState;
+use indicatif_bar::stage::{Stage, Writing};
 use indicatif_bar::state::{Ask, BarCommand, BarState};
 use indicatif_bar::style::Tracks;
-use indicatif_term::draw_target::{
-    Engine, Keep, MultiProgressAlignment, ProgressDrawTarget, RateLimiter,
-};
+use indicatif_term::draw_target::{Keep, MultiProgressAlignment, ProgressDrawTarget};
 use indicatif_term::term_like::{Resize, TermLike};
 use indicatif_text::columns::{Drawn, Moment, Refusal};
 use std::alloc::Global;
-use std::mem::replace;
 
 /// Several bars on one target, a terminal or none, in an order, with text above them.
 ///
@@ -58,7 +56,7 @@ use std::mem::replace;
 pub struct Board<K, T: Drop> {
     mark: u64,
     shown: ShownBars<K>,
-    engine: Option<Engine<T>>,
+    stage: Stage<T>,
 }
 
 impl<K: Tracks, T: TermLike + Drop> Board<K, T> {
@@ -74,11 +72,10 @@ impl<K: Tracks, T: TermLike + Drop> Board<K, T> {
         ensures terminal { terminal_of result ≡ term_of target }
         ensures moves { IfSome (moves_of result) (λ moves. moves ≡ false) }
     {
-        let (engine, limiter) = Engine::opened_on(alloc, target);
         Board {
             mark,
-            shown: ShownBars::new(alloc, limiter),
-            engine,
+            shown: ShownBars::new(alloc),
+            stage: Stage::new(alloc, target),
         }
     }
 
@@ -86,17 +83,14 @@ impl<K: Tracks, T: TermLike + Drop> Board<K, T> {
     pub fn term(&self) -> Option<&T>
         ensures { option_map (λ t. t.now) result ≡ terminal_of self.now }
     {
-        match &self.engine {
-            Some(engine) => Some(engine.term()),
-            None => None,
-        }
+        self.stage.term()
     }
 
     /// Whether the target is hidden: nothing is drawn until another is set.
     pub fn is_hidden(&self) -> bool
         ensures { IsTrue result ↔ (terminal_of self.now ≡ None) }
     {
-        self.engine.is_none()
+        self.stage.is_hidden()
     }
 
     /// A bar's record.
@@ -151,13 +145,8 @@ impl<K: Tracks, T: TermLike + Drop> Board<K, T> {
         ensures state { (mark : ℕ) (s : BoardState (BarRecord K)) → IsIn mark self.old s →
             IsIn mark self.new (record s { limiter = limiter_of target; lists = opening_lists }) }
     {
-        let (engine, limiter) = Engine::opened_on(self.shown.alloc, target);
-        let shown = &mut self.shown;
-        let limiter = replace(&mut shown.limiter, limiter);
-        match replace(&mut self.engine, engine) {
-            Some(engine) => ProgressDrawTarget::from_parts(Some((engine.into_term(), limiter))),
-            None => ProgressDrawTarget::hidden(),
-        }
+        let alloc = self.shown.alloc;
+        self.stage.set_draw_target(alloc, target)
     }
 
     /// Whether draws write their lines over those that stand there, by moves of the cursor alone, where that shows the same:
@@ -175,9 +164,7 @@ impl<K: Tracks, T: TermLike + Drop> Board<K, T> {
         ensures records { RecordsStay self.old self.new }
         ensures state { (mark : ℕ) (s : BoardState (BarRecord K)) → IsIn mark self.old s → IsIn mark self.new s }
     {
-        if let Some(engine) = &mut self.engine {
-            engine.set_move_cursor(on);
-        }
+        self.stage.set_move_cursor(on);
     }
 
     /// Whether bars stand at the top of what is taken back, or at its bottom, from the next draw on.
@@ -351,7 +338,7 @@ impl<K: Tracks, T: TermLike + Drop> Board<K, T> {
         let shown = &mut self.shown;
         match shown.members[at].lose_owner(now) {
             Ok(ask) => {
-                let drawn = self.draw(ask, Some(at), BoardWriting::Frame, now);
+                let drawn = self.draw(ask, Some(at), Writing::Frame, now);
                 self.part(id.number, &drawn);
                 drawn
             }
@@ -387,7 +374,7 @@ impl<K: Tracks, T: TermLike + Drop> Board<K, T> {
         let at = self.find(id)?;
         let shown = &mut self.shown;
         let ask = shown.members[at].obey(command, now)?;
-        self.draw(ask, Some(at), BoardWriting::Frame, now)
+        self.draw(ask, Some(at), Writing::Frame, now)
     }
 
     /// Writes the text's lines above the bars, by force; the bars go on below them. A line is ended by `\n` or `\r\n`; an empty text is one empty line;
@@ -402,7 +389,7 @@ impl<K: Tracks, T: TermLike + Drop> Board<K, T> {
         ensures slots { SlotsLeft self.old self.new }
         ensures records { RecordsStay self.old self.new }
     {
-        self.draw(Ask::Forced, None, BoardWriting::TextAndFrame(text), now)
+        self.draw(Ask::Forced, None, Writing::TextAndFrame(text), now)
     }
 
     /// The same, with one bar's lines laid out anew.
@@ -419,7 +406,7 @@ impl<K: Tracks, T: TermLike + Drop> Board<K, T> {
         ensures records { RecordsStay self.old self.new }
     {
         let at = self.find(id)?;
-        self.draw(Ask::Forced, Some(at), BoardWriting::TextAndFrame(text), now)
+        self.draw(Ask::Forced, Some(at), Writing::TextAndFrame(text), now)
     }
 
     /// Takes the bars' rows back, by force. The next draw shows the bars again, but for what was dropped: rows that such bars left go
@@ -434,7 +421,7 @@ impl<K: Tracks, T: TermLike + Drop> Board<K, T> {
         ensures slots { SlotsLeft self.old self.new }
         ensures records { RecordsStay self.old self.new }
     {
-        self.draw(Ask::Forced, None, BoardWriting::NoFrame, now)
+        self.draw(Ask::Forced, None, Writing::NoFrame, now)
     }
 
     /// Draws the bars as they were laid out, by force: what was set since without a draw, as a style, isn't shown by this.
@@ -448,7 +435,7 @@ impl<K: Tracks, T: TermLike + Drop> Board<K, T> {
         ensures slots { SlotsLeft self.old self.new }
         ensures records { RecordsStay self.old self.new }
     {
-        self.draw(Ask::Forced, None, BoardWriting::Frame, now)
+        self.draw(Ask::Forced, None, Writing::Frame, now)
     }
 
     /// Takes the bars' rows back, calls `f` once, which may write to the terminal's place by other ways, and draws the bars again
@@ -651,7 +638,7 @@ impl<K: Tracks, T: TermLike + Drop> Board<K, T> {
             let lists = kept_of columns number s.lists in
             (result ≡ fate number s.lists) × IsIn mark self.new (record s { lists = lists }) × RestsOn columns s.lists lists }
     {
-        match &mut self.engine {
+        match &mut self.stage.engine {
             Some(engine) => engine.keep(number),
             None => Keep::Absent,
         }
@@ -685,7 +672,7 @@ impl<K: Tracks, T: TermLike + Drop> Board<K, T> {
         &mut self,
         ask: Ask,
         bar: Option<usize>,
-        writing: BoardWriting<'_>,
+        writing: Writing<'_>,
         now: Moment,
     ) -> Result<Drawn, Refusal>
         requires placed { IfSome bar (λ at. at < deque_len self.old.shown.members) }
@@ -698,21 +685,20 @@ impl<K: Tracks, T: TermLike + Drop> Board<K, T> {
         ensures drew { (mark : ℕ) (takes : Bool) (s : BoardState (BarRecord K)) (number : Option ℕ) → IsIn mark self.old s → HasPlace number bar s.members →
             let old = known T.view self.old in
             (next : BoardState (BarRecord K)) × IsIn mark self.new next × DrewOn (board (board_bars K.means) mark) old (known T.view self.new)
-            (draw_of (target_of old) takes ask now (writing_by writing.entry) s (named_laid_out K.means (target_of old) now number s)
+            (draw_of (target_of old) takes ask now (writing_as writing.entry) s (named_laid_out K.means (target_of old) now number s)
             (named_layout_takes K.means number s)) s.lists result next }
     {
+        self.shown.keep_place(bar);
         if ask.is_no() {
             return Ok(Drawn::Limited);
         }
-        match &mut self.engine {
-            Some(engine) => self.shown.draw_on(engine, ask, bar, writing, now),
-            None => Ok(Drawn::Hidden),
-        }
+        self.shown.draw_on(&mut self.stage, ask, bar, writing, now)
     }
 }
 
 impl<K: Tracks, T: Resize + Drop> Board<K, T> {
     ghost use Rattle.indicatif_bar.specs.Scripts.{IsAnotherSize, Size as NewSize, SizedOn, sized, Plays};
+    ghost use Rattle.indicatif_term.specs.Resizes.{SizeTakes};
     ghost use Rattle.indicatif_board.specs.Multi.{IsIn, RecordsStay, board_sizing, known, mark_of, moves_of, slots_of, terminal_of};
 
     /// The terminal gets `rows` rows and `cols` columns, and what stands there is cut anew: each row by itself, never joined with
@@ -725,7 +711,8 @@ impl<K: Tracks, T: Resize + Drop> Board<K, T> {
     /// ```
     ///
     /// Refused: `ZeroSize` where `rows` or `cols` is 0, also on a hidden target; `Memory`, never there, nor at the size that the terminal
-    /// has. All is unchanged then.
+    /// has. All is unchanged then. On a terminal that takes no memory for a size, such as a `Term`, it comes only where kept rows or rows of
+    /// the bars stand: not before the first draw, nor behind a clear or a failure. A terminal in memory may be refused it at any other size.
     pub fn resize(&mut self, rows: u16, cols: u16) -> Result<(), Refusal>
         ensures plays { (mark : ℕ) (s : BoardState (BarRecord K)) → IsIn mark self.old s →
             let machine = board (board_bars K.means) mark in
@@ -742,13 +729,8 @@ impl<K: Tracks, T: Resize + Drop> Board<K, T> {
         ensures zero_size { (result ≡ Err Refusal.ZeroSize) ↔ ((rows ≡ 0) ⊎ (cols ≡ 0)) }
         ensures no_other { IfErr result (λ e. (e ≡ Refusal.ZeroSize) ⊎ (e ≡ Refusal.Memory)) }
         ensures memory { result ≡ Err Refusal.Memory → IsAnotherSize cols rows (known T.view self.old) }
+        ensures takes { result ≡ Err Refusal.Memory → (mark : ℕ) (s : BoardState (BarRecord K)) → IsIn mark self.old s → SizeTakes T.takes_memory s.lists }
     {
-        if rows == 0 || cols == 0 {
-            return Err(Refusal::ZeroSize);
-        }
-        match &mut self.engine {
-            Some(engine) => engine.resize(rows, cols),
-            None => Ok(()),
-        }
+        self.stage.resize(rows, cols)
     }
 }

@@ -1,44 +1,35 @@
-//! The bars of a board with the lines that they show, and how they are written.
+//! The bars of a board with the lines that they show, and how they are drawn.
 ghost use Rattle.std.specs.Prelude.{◌≡◌, ◌<◌, ◌≤◌, ◌^◌, MatchResult, ℕ, Bool, Option, Some, None, true, false, IsTrue, IsFalse, map, length, IfSome, IfOk, IfErr, OnErr};
 ghost use Rattle.std.specs.VecDeque.{deque_len};
-ghost use Rattle.indicatif_term.specs.Frames.{bar_lines, line_text};
-ghost use Rattle.indicatif_term.specs.Engines.{engine_term, Fits, is_bottom};
+ghost use Rattle.indicatif_term.specs.Frames.{line_text};
+ghost use Rattle.indicatif_term.specs.Engines.{engine_term, Fits};
+ghost use Rattle.indicatif_term.specs.Limiters.{Limiter};
 ghost use Rattle.indicatif_bar.specs.Bars.{lines_of_bar, lines_take_memory};
 ghost use Rattle.indicatif_bar.specs.Commands.{BarRecord};
 ghost use Rattle.indicatif_bar.specs.Machines.{Target, is_no, target_of};
 ghost use Rattle.indicatif_bar.specs.Kinds.{asked_of};
 ghost use Rattle.indicatif_bar.specs.Runs.{wrote};
-ghost use Rattle.indicatif_bar.specs.Shown.{PutsFrame, DrewBy};
+ghost use Rattle.indicatif_bar.specs.Shown.{DrewBy, DrewOn};
+ghost use Rattle.indicatif_bar.specs.Stages.{stage_terminal, stage_known, IsStaged, writing_as};
 ghost use Rattle.indicatif_board.specs.BoardBars.{board_bars};
 ghost use Rattle.indicatif_board.specs.Boards.{BoardState, Location, opening_board, draw_of, index_of, taken_in, marked_on, board};
 ghost use Rattle.indicatif_board.specs.Members.{place_of, without, is_head, said_of};
 ghost use Rattle.indicatif_board.specs.Slots.{LeavesHead, next_slot, seated, slot_of, unseated};
 ghost use Rattle.indicatif_board.specs.Inside.Named.{HasPlace, named_laid_out, named_layout_takes};
-ghost use Rattle.indicatif_board.specs.Inside.Writings.{writing_by};
 
-use crate::members::{Seated, leading, place_of_bar, queue_at, take_at, take_front};
+use crate::members::{Seated, leading, queue_at, take_at, take_front};
 use crate::slots::MultiState;
+use indicatif_bar::stage::{Stage, Writing, put};
 use indicatif_bar::state::{Ask, BarState, SpareLines};
 use indicatif_bar::style::Tracks;
-use indicatif_term::draw_target::{Engine, LineType, MultiProgressAlignment, RateLimiter, Segment};
+use indicatif_term::draw_target::{Engine, LineType, MultiProgressAlignment, Segment};
 use indicatif_term::term_like::TermLike;
 use indicatif_text::columns::{Drawn, Moment, Refusal};
 use std::alloc::Global;
 use std::collections::VecDeque;
 use std::mem::replace;
 
-/// What a draw writes.
-#[derive(Clone, Copy)]
-pub enum BoardWriting<'a> {
-    /// The bars' lines.
-    Frame,
-    /// A text, which stays, and the bars' lines below it.
-    TextAndFrame(&'a str),
-    /// Nothing, in the place of what stood.
-    NoFrame,
-}
-
-/// Bars in their order, the lines that were laid out last, and how often they may be drawn.
+/// Bars in their order, and the lines that were laid out last.
 #[derive(Drop)]
 pub struct ShownBars<K> {
     pub alloc: Global,
@@ -51,7 +42,6 @@ pub struct ShownBars<K> {
     /// The same numbers with their slots.
     pub table: MultiState,
     pub alignment: MultiProgressAlignment,
-    pub limiter: Option<RateLimiter>,
     ghost even: { deque_len members ≡ deque_len frame },
     ghost seated: { map (λ s. s.bar) frame.items ≡ table.order },
 }
@@ -60,9 +50,9 @@ impl<K: Tracks> ShownBars<K> {
     ghost use Rattle.indicatif_board.specs.ShownBars.{AreShownAs, record_on};
     ghost use Rattle.indicatif_board.specs.Inside.Standing.{is_of_draw, seat_of, StandsAt, AllStay, AllOthersStay};
 
-    /// No bars, at the top, drawn as often as this says. Takes no memory.
-    pub fn new(alloc: Global, limiter: Option<RateLimiter>) -> Self
-        ensures state { AreShownAs result (opening_board limiter) }
+    /// No bars, at the top. Takes no memory.
+    pub fn new(alloc: Global) -> Self
+        ensures state { (limiter : Option Limiter) → AreShownAs result (opening_board limiter) }
         ensures records { (number : ℕ) → record_on number result ≡ None }
     {
         ShownBars {
@@ -72,7 +62,6 @@ impl<K: Tracks> ShownBars<K> {
             spare: SpareLines::new(alloc),
             table: MultiState::new(alloc),
             alignment: MultiProgressAlignment::Top,
-            limiter,
         }
     }
 
@@ -142,7 +131,17 @@ impl<K: Tracks> ShownBars<K> {
         ensures seat { result ≡ seat_of number self.now.table.order }
         ensures most { result ≤ deque_len self.now.members }
     {
-        place_of_bar(self.table.order(), number)
+        self.table.place(number)
+    }
+
+    /// Keeps where this bar stands, if one is named: it is looked for there first.
+    pub fn keep_place(&mut self, bar: Option<usize>)
+        requires placed { IfSome bar (λ at. at < deque_len self.old.members) }
+        ensures { self.new ≡ self.old }
+    {
+        if let Some(at) = bar {
+            self.table.keep_place(self.frame[at].bar, at);
+        }
     }
 
     /// Marks a bar, if it is there: its owner is gone.
@@ -158,35 +157,39 @@ impl<K: Tracks> ShownBars<K> {
         }
     }
 
-    /// Lays a bar out anew, if one is named, and draws on the engine's terminal, where that has columns and the limiter
+    /// Lays a bar out anew, if one is named, and draws on the stage, where its target isn't hidden and has columns and its limiter
     /// allows it.
     pub fn draw_on<T: TermLike + Drop>(
         &mut self,
-        engine: &mut Engine<T>,
+        stage: &mut Stage<T>,
         ask: Ask,
         bar: Option<usize>,
-        writing: BoardWriting<'_>,
+        writing: Writing<'_>,
         now: Moment,
     ) -> Result<Drawn, Refusal>
         requires placed { IfSome bar (λ at. at < deque_len self.old.members) }
-        ensures silent { IsFalse (wrote result) → engine.new ≡ engine.old }
-        ensures nowhere { (T.view (engine_term engine.old)).columns ≡ 0 → IsFalse (wrote result) }
+        ensures silent { IsFalse (wrote result) → stage_terminal stage.new ≡ stage_terminal stage.old }
+        ensures nowhere { (target_of (stage_known T.view stage.old)).columns ≡ 0 → IsFalse (wrote result) }
         ensures slots { LeavesHead self.old.table self.new.table }
         ensures records { AllStay self.old self.new }
         ensures refusal { IfErr result (λ e. IsTrue (is_of_draw e)) }
         ensures drew { (mark : ℕ) (takes : Bool) (s : BoardState (BarRecord K)) (number : Option ℕ) → is_no ask ≡ false →
-            AreShownAs self.old s → HasPlace number bar s.members → Fits engine.old s.lists →
-            let target = target_of (Some (T.view (engine_term engine.old))) in
-            DrewBy (board (board_bars K.means) mark) (AreShownAs self.new) T.view engine.old engine.new
-            (draw_of target takes ask now (writing_by writing.entry) s (named_laid_out K.means target now number s) (named_layout_takes K.means number s))
-            s.lists result }
+            AreShownAs self.old s → HasPlace number bar s.members → IsStaged stage.old s.limiter s.lists →
+            let old = stage_known T.view stage.old in let target = target_of old in
+            (next : BoardState (BarRecord K)) × AreShownAs self.new next × IsStaged stage.new next.limiter next.lists
+            × DrewOn (board (board_bars K.means) mark) old (stage_known T.view stage.new)
+            (draw_of target takes ask now (writing_as writing.entry) s (named_laid_out K.means target now number s) (named_layout_takes K.means number s))
+            s.lists result next }
     {
+        let Some(engine) = &mut stage.engine else {
+            return Ok(Drawn::Hidden);
+        };
         let width = engine.term().width();
         if width == 0 {
             return Err(Refusal::NoColumns);
         }
         self.lay_out(bar, width, now)?;
-        if !ask.allows(&mut self.limiter, now) {
+        if !ask.allows(&mut stage.limiter, now) {
             return Ok(Drawn::Limited);
         }
         self.write(engine, writing)
@@ -217,17 +220,17 @@ impl<K: Tracks> ShownBars<K> {
     fn write<T: TermLike + Drop>(
         &mut self,
         engine: &mut Engine<T>,
-        writing: BoardWriting<'_>,
+        writing: Writing<'_>,
     ) -> Result<Drawn, Refusal>
         ensures silent { IsFalse (wrote result) → engine.new ≡ engine.old }
         ensures slots { LeavesHead self.old.table self.new.table }
         ensures records { AllStay self.old self.new }
         ensures refusal { IfErr result (λ e. IsTrue (is_of_draw e)) }
-        ensures drew { (mark now : ℕ) (takes lays : Bool) (ask : Ask) (s laid : BoardState (BarRecord K)) → is_no ask ≡ false →
-            0 < (T.view (engine_term engine.old)).columns → asked_of ask now laid.limiter ≡ (true, self.old.limiter) →
-            AreShownAs self.old (record laid { limiter = self.old.limiter }) → laid.lists ≡ s.lists → Fits engine.old s.lists →
-            DrewBy (board (board_bars K.means) mark) (AreShownAs self.new) T.view engine.old engine.new
-            (draw_of (target_of (Some (T.view (engine_term engine.old)))) takes ask now (writing_by writing.entry) s laid lays) s.lists result }
+        ensures drew { (mark now : ℕ) (takes lays : Bool) (ask : Ask) (limiter : Option Limiter) (s laid : BoardState (BarRecord K)) → is_no ask ≡ false →
+            0 < (T.view (engine_term engine.old)).columns → asked_of ask now laid.limiter ≡ (true, limiter) →
+            AreShownAs self.old laid → laid.lists ≡ s.lists → Fits engine.old s.lists →
+            DrewBy (board (board_bars K.means) mark) (λ next. AreShownAs self.new next × (limiter ≡ next.limiter)) T.view engine.old engine.new
+            (draw_of (target_of (Some (T.view (engine_term engine.old)))) takes ask now (writing_as writing.entry) s laid lays) s.lists result }
     {
         let gone = leading(&self.members);
         let frame = self.frame.make_contiguous();
@@ -254,22 +257,4 @@ fn relay<K: Tracks>(
     let lines = bar.lines_in(spare, now, width)?;
     spare.keep(replace(stored, lines));
     Ok(())
-}
-
-/// Writes on the engine's terminal; the first `gone` bars are those that are dropped.
-fn put<T: TermLike + Drop>(
-    engine: &mut Engine<T>,
-    frame: &[Segment],
-    gone: usize,
-    alignment: MultiProgressAlignment,
-    writing: BoardWriting<'_>,
-) -> Result<(), Refusal>
-    requires { gone ≤ length frame.now }
-    ensures { PutsFrame T.view (writing_by writing.entry) (is_bottom alignment) gone (map bar_lines frame.now) engine.old engine.new result }
-{
-    match writing {
-        BoardWriting::Frame => engine.draw(frame, gone, alignment),
-        BoardWriting::TextAndFrame(text) => engine.log(text, &frame[gone..], alignment),
-        BoardWriting::NoFrame => engine.clear(),
-    }
 }

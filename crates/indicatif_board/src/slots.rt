@@ -2,9 +2,11 @@
 ghost use Rattle.std.specs.Prelude.{◌≡◌, ◌<◌, ◌^◌, IfOk, IfErr, OnErr};
 ghost use Rattle.indicatif_board.specs.Slots.{opening_slots, seated, unseated, head_unseated, slot_of, IsSeated};
 
-use crate::members::{drop_front, put_at, put_behind};
+use crate::members::{drop_front, move_front, place_of_bar, put_at, queue_at, take_at};
+use crate::places::Places;
 use indicatif_text::columns::Refusal;
 use std::alloc::Global;
+use std::collections::VecDeque;
 use std::marker::Model;
 
 /// The order of a board's bars by their numbers, and a slot for each.
@@ -23,36 +25,43 @@ use std::marker::Model;
 #[derive(Drop)]
 pub struct MultiState {
     order: Vec<u64>,
-    slots: Vec<usize>,
+    /// A queue moves nothing where a bar is taken in at the head, or out there.
+    slots: VecDeque<usize>,
     /// With room for all slots, so that none is lost.
     free: Vec<usize>,
     /// The number of the next bar; none where numbers ran out.
     next: Option<u64>,
+    /// Where bars are looked for first.
+    places: Places,
 }
 
 /// Contracts see the bars' numbers in their order, their slots, the free slots, and how many bars were ever taken in.
 impl Model for MultiState {
     ghost use Rattle.std.specs.Prelude.{◌≤◌, ◌+◌, vec_len, vec_capacity};
     ghost use Rattle.indicatif_board.specs.Slots.{SlotTable, IsSeated, made_by};
+    ghost use Rattle.std.specs.VecDeque.{deque_len};
 
     ghost Value = { SlotTable };
 
     ghost view = { λ s. record { order = s.order.items; slots = s.slots.items; free = s.free.items; made = made_by s.next } };
 
     ghost invariant = { λ s. IsSeated (record { order = s.order.items; slots = s.slots.items; free = s.free.items; made = made_by s.next })
-        × (vec_len s.slots + vec_len s.free ≤ vec_capacity s.free) };
+        × (deque_len s.slots + vec_len s.free ≤ vec_capacity s.free) };
 }
 
 impl MultiState {
+    ghost use Rattle.indicatif_board.specs.Inside.Standing.{seat_of};
+
     /// No bars and no slots. Takes no memory.
     pub fn new(alloc: Global) -> MultiState
         ensures { result ≡ opening_slots }
     {
         MultiState {
             order: Vec::new(alloc),
-            slots: Vec::new(alloc),
+            slots: VecDeque::new(alloc),
             free: Vec::new(alloc),
             next: Some(0),
+            places: Places::new(alloc),
         }
     }
 
@@ -62,6 +71,24 @@ impl MultiState {
         ensures seated { IsSeated self.now }
     {
         &self.order
+    }
+
+    /// A bar's place in the order; past its end where it isn't there. It is looked for first where it stood last.
+    pub(crate) fn place(&self, number: u64) -> usize
+        ensures { result ≡ seat_of number self.now.order }
+    {
+        let at = self.places.last(number);
+        if at < self.order.len() && self.order[at] == number {
+            return at;
+        }
+        place_of_bar(&self.order, number)
+    }
+
+    /// Keeps a bar's place, where it is looked for first from now on.
+    pub(crate) fn keep_place(&mut self, number: u64, at: usize)
+        ensures { self.new ≡ self.old }
+    {
+        self.places.keep(number, at);
     }
 
     /// A bar's slot; `None` where it isn't in the order.
@@ -108,8 +135,10 @@ impl MultiState {
         let slot = self.free.pop().unwrap_or(self.slots.len());
         let at = at.min(self.order.len());
         put_at(&mut self.order, at, number);
-        put_at(&mut self.slots, at, slot);
+        queue_at(&mut self.slots, at, slot);
         self.next = number.checked_add(1);
+        self.places.fit(self.order.len());
+        self.places.inserted(number, at);
         Ok(number)
     }
 
@@ -120,7 +149,8 @@ impl MultiState {
     {
         if at < self.order.len() {
             self.order.remove(at);
-            self.free.push_reserved(self.slots.remove(at));
+            self.free.push_reserved(take_at(&mut self.slots, at));
+            self.places.removed(at);
         }
     }
 
@@ -130,8 +160,8 @@ impl MultiState {
         ensures seated { IsSeated self.old }
     {
         let count = count.min(self.order.len());
-        put_behind(&mut self.free, &self.slots[..count]);
+        move_front(&mut self.slots, count, &mut self.free);
         drop_front(&mut self.order, count);
-        drop_front(&mut self.slots, count);
+        self.places.removed_first(count);
     }
 }

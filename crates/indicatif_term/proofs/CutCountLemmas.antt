@@ -12,7 +12,7 @@ use Rattle.indicatif_term.specs.Resizes.{recut, recut_all, recut_bar, recut_list
 use Rattle.indicatif_term.specs.Inside.Recutting.{row_heights, end_row, cut_counts, counts_after, IsSettledWhole}
 use Rattle.indicatif_term.specs.declared.counts.Counts.{Counts}
 use Rattle.indicatif_term.specs.declared.layout.RowCount.{RowCount}
-use Rattle.indicatif_term.proofs.CountLemmas.{length-flat, length-live}
+use Rattle.indicatif_term.proofs.CountLemmas.{length-flat, length-live, live_of}
 use Rattle.indicatif_term.proofs.ResizeLemmas.{segments_recut, passing, passing-height}
 
 abbrev pub rows_by : RowCount → ℕ
@@ -204,3 +204,49 @@ settled_same h kept kept' blanks live live' segments segments' below c a b e s =
 pub end_at_most_one : (b : Bool) → end_row b ≤ 1
 end_at_most_one true = omega arith
 end_at_most_one false = omega arith
+
+-- ---- no row
+
+abbrev no_heights : List ℕ
+no_heights = []
+
+take_none : (n : ℕ) → take n no_heights ≡ no_heights
+take_none zero = refl
+take_none (suc n) = refl
+
+drop_none : {A : Type 0} (n : ℕ) (xs : List A) → xs ≡ [] → drop n xs ≡ []
+drop_none zero xs e = e
+drop_none (suc n) [] e = refl
+drop_none (suc n) (x ∷ xs) e = absurd (omega (arith, ap length e))
+
+first_counted : (bar n : ℕ) (ss : List RowCount) → counts_after n (counted bar 0 ∷ ss) ≡ counts_after (n - 0) ss
+first_counted bar n ss = rw (le-leb 0 n (omega arith)) refl
+
+-- segments of no rows are all behind the first ones
+none_counted : (n : ℕ) (ss : List RowCount) → counts_after n (cut_counts no_heights ss) ≡ []
+none_counted n [] = refl
+none_counted n (s ∷ ss) =
+    ap (λ xs. counts_after n (counted s.bar (sum xs) ∷ cut_counts (drop s.rows no_heights) ss)) (take_none s.rows)
+    ∙ ap (λ xs. counts_after n (counted s.bar 0 ∷ cut_counts xs ss)) (drop_none s.rows no_heights refl)
+    ∙ first_counted s.bar n (cut_counts no_heights ss) ∙ none_counted (n - 0) ss
+
+-- where no row stands, none stands then
+pub none_recut : (w w' h : ℕ) (l : Lists) (c c' : Counts) → CountsOf c l → 0 < h → c.kept + c.live ≡ 0 →
+    c'.kept ≡ 0 → c'.blanks ≡ 0 → c'.segments.items ≡ [] → c'.reached ≡ end_row c.below → c'.below ≡ c.below → CountsOf c' (settled_whole w' h (recut_lists w' l))
+none_recut w w' h l c c' o some none kept blanks segments reached below =
+    let low = l.kept ++ live_rows w l.live in
+    let height : length low ≡ 0 = omega (arith, length-append l.kept (live_rows w l.live), length-live w l.live, o.kept_is, live_of c l o, none) in
+    let no_blanks : c.blanks ≡ 0 = omega (arith, c.live_is, none) in
+    let no_kept : sum (take c.kept no_heights) ≡ 0 = ap sum (take_none c.kept) in
+    let bars : drop (c.kept + c.blanks) no_heights ≡ no_heights = drop_none (c.kept + c.blanks) no_heights refl in
+    let no_bars : sum (drop (c.kept + c.blanks) no_heights) ≡ 0 = ap sum bars in
+    let end : end_row c.below ≤ 1 = end_at_most_one c.below in
+    let gone = ((c.blanks + sum (drop (c.kept + c.blanks) no_heights) + end_row c.below) - h) - c.blanks in
+    let old = drop c.passed c.segments.items in
+    recut_counts_of w w' h l c c' o some no_heights (sym (ap (row_heights w') (nil_from_length low height))) (record {
+      kept_is = omega (arith, kept, no_blanks, no_kept, no_bars, end, some);
+      blanks_are = omega (arith, blanks, no_blanks);
+      segments_are = drop_none c'.passed c'.segments.items segments ∙ sym (ap (λ hs. counts_after gone (cut_counts hs old)) bars ∙ none_counted gone old);
+      reached_is = omega (arith, reached, no_blanks, no_kept, no_bars, end, some);
+      below_is = below;
+    })

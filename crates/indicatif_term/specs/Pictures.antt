@@ -44,6 +44,10 @@ is_written Continued = true
 abbrev pub has_written : List Cell → Bool
 has_written row = list_any is_written row
 
+-- whether a cell of the window was written
+abbrev pub has_contents : Screen → Bool
+has_contents s = list_any has_written (drop (top s) s.rows)
+
 -- the rows up to the last one with a written cell
 abbrev pub written_rows : List (List Cell) → List (List Cell)
 written_rows [] = []

@@ -1,5 +1,5 @@
 -- A terminal that changes its size, and the lists that it shows: each row is cut anew. Rows aren't joined again.
-use Rattle.std.specs.Prelude.{◌≡◌, ℕ, ◌+◌, ◌-◌, min, max, Bool, ◌&&◌, ◌==◌, nat_le, IsTrue, List, [], ◌∷◌, ◌++◌, map, filter, flat_map, length, take, drop, replicate, if◌then◌else◌}
+use Rattle.std.specs.Prelude.{◌≡◌, ◌⊎◌, ℕ, ◌+◌, ◌-◌, ◌<◌, min, max, Bool, ◌&&◌, ◌==◌, nat_le, IsTrue, List, [], ◌∷◌, ◌++◌, map, filter, flat_map, length, take, drop, replicate, if◌then◌else◌}
 use Rattle.std.specs.Int.{is_in_range}
 use Rattle.std.specs.List.{list_all}
 use Rattle.indicatif_text.specs.Columns.{Cell, Blank, Written, Continued, Glyph, glyph_width, pieces_of, row_of, blank_row}
@@ -7,7 +7,7 @@ use Rattle.indicatif_term.specs.Screen.{Screen, cursor_row}
 use Rattle.indicatif_term.specs.Terminal.{Terminal}
 use Rattle.indicatif_term.specs.Pictures.{is_blank, trimmed}
 use Rattle.indicatif_term.specs.Calls.{Told, State, Bytes, Nothing, is_told, TermView}
-use Rattle.indicatif_term.specs.Lists.{Lists, BarRows, lists_height, live_rows, settled}
+use Rattle.indicatif_term.specs.Lists.{Lists, BarRows, live_height, lists_height, live_rows, settled}
 
 -- ---- a row
 
@@ -111,6 +111,10 @@ settled_whole w h l = settled h (rows_passed w ((l.reach - h) - (length l.above 
 -- the lists of a terminal of w columns and h rows that gets w' columns and h' rows
 unfoldable pub resized_lists : ℕ → ℕ → ℕ → ℕ → Lists → Lists
 resized_lists w h w' h' l = if (w == w') && (h == h') then l else settled_whole w' h' (recut_lists w' l)
+
+-- where a size may take memory: the terminal itself takes some, or a kept or a live row stands there, which is cut
+abbrev pub SizeTakes : Bool → Lists → Type 0
+SizeTakes own l = IsTrue own ⊎ (0 < length l.kept + live_height l.live)
 
 -- ---- what is known of a terminal
 

@@ -14,11 +14,11 @@
 //! - `call_log`: the calls as text.
 //!
 //! `InMemoryTerm` is that terminal as a bar's target.
-ghost use Rattle.std.specs.Prelude.{◌≡◌, ◌-◌, ◌++◌, ◌==◌, ◌⊎◌, ◌↔◌, [], if◌then◌else◌, map, codes, Err, IfOk, IsOk, IsOkAnd, IfErr, IsFalse, OnOk, OnErr, string_bytes};
+ghost use Rattle.std.specs.Prelude.{◌≡◌, true, ◌-◌, ◌++◌, ◌==◌, ◌⊎◌, ◌↔◌, [], if◌then◌else◌, map, codes, Err, IfOk, IsOk, IsOkAnd, IfErr, IsTrue, IsFalse, OnOk, OnErr, string_bytes};
 ghost use Rattle.std.specs.IoError.{error_kind};
 ghost use Rattle.indicatif_term.specs.Screen.{top};
 ghost use Rattle.indicatif_term.specs.Terminal.{after, blank_terminal};
-ghost use Rattle.indicatif_term.specs.Pictures.{contents_text, picture_text};
+ghost use Rattle.indicatif_term.specs.Pictures.{contents_text, has_contents, picture_text};
 ghost use Rattle.indicatif_term.specs.Calls.{Writes, move_bytes, line_bytes, clear_bytes, UP, DOWN, RIGHT, LEFT};
 ghost use Rattle.indicatif_term.specs.Resizes.{Resized, has_size, resized_terminal};
 ghost use Rattle.indicatif_term.specs.Memory.{view_of, Records, move_text, written_text};
@@ -126,7 +126,8 @@ impl InMemoryTerm {
     }
 
     /// The window's rows as text, up to the last one with a written cell, each without the blanks at its end (empty
-    /// cells and spaces), joined by line feeds. A space that was written is a written cell. Refused: `Memory`.
+    /// cells and spaces), joined by line feeds. A space that was written is a written cell. Refused: `Memory`, never where
+    /// the window has no written cell.
     ///
     /// It doesn't say which of a row's last cells are empty and which are spaces, how many rows without a written cell
     /// follow, what scrolled away, where the cursor is, nor which colours were asked for: a terminal in memory has none,
@@ -138,7 +139,7 @@ impl InMemoryTerm {
     /// ```
     pub fn contents(&self) -> Result<String, Refusal>
         ensures contents { IfOk result (λ t. string_bytes t ≡ contents_text self.now.terminal.screen) }
-        ensures refused { IfErr result (λ e. e ≡ Refusal.Memory) }
+        ensures refused { IfErr result (λ e. (e ≡ Refusal.Memory) × IsTrue (has_contents self.now.terminal.screen)) }
     {
         self.cells.contents()
     }
@@ -345,7 +346,10 @@ impl TermLike for InMemoryTerm {
     }
 }
 
+/// Memory for all its rows is taken at each other size, also where nothing stands on them.
 impl Resize for InMemoryTerm {
+    ghost takes_memory = { true };
+
     fn resize(&mut self, rows: u16, cols: u16) -> Result<(), Refusal>
         ensures resized { OnOk result (Resized cols rows (view_of self.old) (view_of self.new)) }
         ensures unchanged { OnErr result (self.new ≡ self.old) }

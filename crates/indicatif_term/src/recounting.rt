@@ -11,6 +11,22 @@ use indicatif_text::columns::Refusal;
 use std::alloc::Global;
 
 impl Counts {
+    /// The counts where no row stands, on a terminal of any number of rows.
+    pub fn recut_none(&self, alloc: Global) -> Counts
+        requires none { self.now.kept + self.now.live ≡ 0 }
+        ensures { (w w' height : ℕ) (l : Lists) → 0 < height → CountsOf self.now l → CountsOf result (settled_whole w' height (recut_lists w' l)) }
+    {
+        Counts {
+            kept: 0,
+            blanks: 0,
+            segments: Vec::new(alloc),
+            passed: 0,
+            live: 0,
+            reached: rows_below(self.below),
+            below: self.below,
+        }
+    }
+
     /// The counts where each kept and each live row became so many, on a terminal of so many rows. Those that have scrolled away
     /// join the rows above. Refused: `Memory`.
     pub fn recut(&self, alloc: Global, heights: &[usize], height: usize) -> Result<Counts, Refusal>

@@ -1,5 +1,5 @@
 //! A terminal behind a writer of bytes.
-ghost use Rattle.std.specs.Prelude.{◌≡◌, ◌⊎◌, ◌↔◌, IsOk, IfErr, OnOk, OnErr};
+ghost use Rattle.std.specs.Prelude.{◌≡◌, false, ◌⊎◌, ◌↔◌, IsOk, IfErr, OnOk, OnErr};
 ghost use Rattle.indicatif_term.specs.Calls.{Writes, move_bytes, UP, DOWN, RIGHT, LEFT};
 ghost use Rattle.indicatif_term.specs.Resizes.{Resized};
 ghost use Rattle.indicatif_term.specs.Writers.{WriterTerm, view_behind, counted_as, AppendsAllOrFront};
@@ -155,6 +155,8 @@ impl<W: Write> TermLike for Term<W> {
 }
 
 impl<W: Write> Resize for Term<W> {
+    ghost takes_memory = { false };
+
     fn resize(&mut self, rows: u16, cols: u16) -> Result<(), Refusal>
         ensures resized { OnOk result (Resized cols rows (view_behind W.contents self.old) (view_behind W.contents self.new)) }
         ensures unchanged { OnErr result (self.new ≡ self.old) }

@@ -1,5 +1,5 @@
 //! What a terminal has to offer: its size, its faults, and eight calls, each by the bytes that it writes. And what changes its size.
-ghost use Rattle.std.specs.Prelude.{◌≡◌, ◌^◌, ◌<◌, ◌⊎◌, ◌↔◌, [], Err, IfErr, IsFalse, OnOk, OnErr};
+ghost use Rattle.std.specs.Prelude.{◌≡◌, ◌^◌, ◌<◌, ◌⊎◌, ◌↔◌, [], Bool, Err, IfErr, IsTrue, IsFalse, OnOk, OnErr};
 ghost use Rattle.indicatif_term.specs.Calls.{TermView, Writes, move_bytes, line_bytes, clear_bytes, UP, DOWN, RIGHT, LEFT};
 ghost use Rattle.indicatif_term.specs.Resizes.{Resized, has_size};
 
@@ -124,6 +124,9 @@ impl TermLike for Box<dyn TermLike + Drop> {
 /// A `Term` takes the new size for the drawings to come, and nothing else: what stands on the screen behind its writer is that
 /// screen's own. An engine has its terminal for itself: `Engine::resize` gives both the new size.
 pub trait Resize: TermLike {
+    /// Whether its `resize` may take memory: a `Term` takes none.
+    ghost takes_memory: { Bool };
+
     /// Gets `rows` rows and `cols` columns; no byte is written, and no failure counted. A terminal that tells its state has cut
     /// each of its rows anew then. One that tells its bytes tells the same ones.
     ///
@@ -134,11 +137,13 @@ pub trait Resize: TermLike {
     /// // contents: "progr\ness", cursor: (0, 5)
     /// ```
     ///
-    /// Refused: `ZeroSize` where `rows` or `cols` is 0; `Memory`, never at the size that it has. All is unchanged then.
+    /// Refused: `ZeroSize` where `rows` or `cols` is 0; `Memory`, never at the size that it has, nor of a terminal that takes none for
+    /// this. All is unchanged then.
     fn resize(&mut self, rows: u16, cols: u16) -> Result<(), Refusal>
         ensures resized { OnOk result (Resized cols rows (Self.view self.old) (Self.view self.new)) }
         ensures unchanged { OnErr result (self.new ≡ self.old) }
         ensures zero_size { (result ≡ Err Refusal.ZeroSize) ↔ ((rows ≡ 0) ⊎ (cols ≡ 0)) }
         ensures no_other { IfErr result (λ e. (e ≡ Refusal.ZeroSize) ⊎ (e ≡ Refusal.Memory)) }
-        ensures memory { result ≡ Err Refusal.Memory → IsFalse (has_size cols rows (Self.view self.old)) };
+        ensures memory { result ≡ Err Refusal.Memory → IsFalse (has_size cols rows (Self.view self.old)) }
+        ensures takes { result ≡ Err Refusal.Memory → IsTrue takes_memory };
 }

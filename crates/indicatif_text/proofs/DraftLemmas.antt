@@ -1,23 +1,26 @@
 -- That what a draft's literal text gains or loses is what its sketch does.
-use Rattle.std.proofs.Common.{◌≡◌, ◌<◌, ◌≤◌, inr, length-drop, ℕ, ◌+◌, Bool, List, [], ◌∷◌, ◌++◌, length, take, drop, refl, sym, ◌∙◌, ap, subst, arith, append-nil, append_assoc, length-append, ne_eqb}
+use Rattle.std.proofs.Common.{◌≡◌, ◌<◌, ◌≤◌, inl, inr, false, length-drop, ℕ, ◌+◌, Bool, List, [], ◌∷◌, ◌++◌, length, take, drop, refl, sym, ◌∙◌, ap, subst, arith, append-nil, append_assoc, length-append, ne_eqb}
 use Rattle.std.specs.Prelude.{if◌then◌else◌, IsUtf8, IsCharBoundary}
-use Rattle.std.specs.Prelude.{◌⊎◌, Result, Ok, Err, IfErr, IsErrAnd, take_while}
+use Rattle.std.specs.Prelude.{◌⊎◌, Result, Ok, Err, IfOk, IfErr, take_while}
+use denote.Ref.{Bor}
 use Rattle.std.specs.Str.{chars}
 use Rattle.std.specs.List.{prefix_len}
 use Rattle.std.specs.Char.{IsScalar}
 use Rattle.indicatif_text.specs.declared.template.TemplateError.{TemplateError}
 use Rattle.indicatif_text.specs.declared.template.TemplateError.TheVariants.{Memory}
-use Rattle.indicatif_text.specs.Template.{TemplatePart, LiteralText, TemplatePiece, Char, SpacedBrace, Takes, Stops, after_run, front, Refuses, here, IsRefused}
+use Rattle.indicatif_text.specs.Template.{TemplatePart, LiteralText, TemplatePiece, Char, SpacedBrace, Front, Takes, Stops, after_run, front, Refuses, here, IsRefused}
 use Rattle.indicatif_text.specs.declared.template.marks.Kind.TheVariants.{Literal}
 use Rattle.indicatif_text.specs.declared.template.marks.Mark.{Mark}
 use Rattle.indicatif_text.specs.Inside.Marks.{AreIn}
-use Rattle.indicatif_text.specs.Inside.Draft.{Sketch, literal_part, kept_sketch, closed_sketch, marked_sketch, with_run, added, GoesOn}
+use Rattle.indicatif_text.specs.Inside.Draft.{Sketch, TakesIn, literal_part, kept_sketch, closed_sketch, marked_sketch, with_run, added, GoesOn}
 use Rattle.indicatif_text.specs.Inside.Spans.{is_literal_char}
 use Rattle.indicatif_text.proofs.OptionLemmas.{some_text}
+use Rattle.indicatif_text.proofs.PrefixLemmas.{left_fails}
 use Rattle.indicatif_text.proofs.TemplateLemmas.{rest_shorter}
 use Rattle.indicatif_text.proofs.SketchLemmas.{leads_more, leads_piece, leads_run}
 use Rattle.std.proofs.Math.Utf8.{encode}
 use Rattle.std.proofs.lemmas.Bool.{cond_both}
+use Rattle.std.proofs.lemmas.Bool.Decides.{nat_tests}
 use Rattle.std.proofs.lemmas.List.{drop-take, take-append-drop, take-append-le, drop-append-le, take-take, take_all, drop_all, length-take, length-take-le}
 use Rattle.std.proofs.lemmas.Str.{chars-nil, chars-append, chars_past_char, IsUtf8-encode, IsUtf8-take, IsUtf8-drop, IsUtf8-append, IsCharBoundary-end, IsCharBoundary-from_rest, IsCharBoundary-from_drop}
 
@@ -121,14 +124,36 @@ reads_piece s t u text marked after rest c p led e f is =
 pub refused_here : (s t : Sketch) (text marked after place : List ℕ) (c : ℕ) (x : TemplateError) → GoesOn s text t marked → marked ≡ c ∷ after → front c after ≡ Stops place x → IsRefused text x
 refused_here s t text marked after place c x led e f = (place, led.refuses place x (subst (λ m. Refuses m place x) (sym e) (here f)))
 
-pub refused_error : {A : Type 0} (text : List ℕ) (x : TemplateError) → IsRefused text x → (r : Result A TemplateError) → IsErrAnd r (λ e. e ≡ x) → IfErr r (λ e. (e ≡ Memory) ⊎ IsRefused text e)
-refused_error text x is (Ok y) h = absurd h
-refused_error text x is (Err y) h = inr (subst (IsRefused text) (sym h) is)
-
 pub read_shorter : (text marked after rest : List ℕ) (c : ℕ) (p : TemplatePiece) → marked ≡ after_run is_literal_char text → marked ≡ c ∷ after → front c after ≡ Takes rest p
     → length rest < length text
 read_shorter text marked after rest c p a e f =
     omega (arith, rest_shorter c after f, ap length e, ap length a, length-drop (prefix_len is_literal_char text) text)
+
+-- what was taken up leads on
+module _ (s t u : Sketch) (text marked after : List ℕ) (c : ℕ) (f : Front TemplatePiece) (same : front c after ≡ f) (led : GoesOn s text t marked) (e : marked ≡ c ∷ after) where
+  pub taken_leads : (r : Result (Bor (List ℕ)) TemplateError) → TakesIn f t u r → IfOk r (λ rest. GoesOn s text u (chars rest.now))
+  taken_leads (Ok rest) h = reads_piece s t u text marked after (chars rest.now) c h.0 led e (same ∙ h.1) h.2
+  taken_leads (Err x) h = tt
+
+  pub taken_refused : (r : Result (Bor (List ℕ)) TemplateError) → TakesIn f t u r → IfErr r (λ x. (x ≡ Memory) ⊎ IsRefused text x)
+  taken_refused (Ok rest) h = tt
+  taken_refused (Err x) h = elim h [ inl memory ↦ inl memory | inr stops ↦ inr (refused_here s t text marked after stops.0 c x led e (same ∙ stops.1)) ]
+
+  pub taken_shorter : marked ≡ after_run is_literal_char text → (r : Result (Bor (List ℕ)) TemplateError) → TakesIn f t u r →
+      IfOk r (λ rest. 0 < length text → length (chars rest.now) < length text)
+  taken_shorter a (Ok rest) h = λ _. read_shorter text marked after (chars rest.now) c h.0 a e (same ∙ h.1)
+  taken_shorter a (Err x) h = tt
+
+-- what is taken up of a front is taken up of another that is the same
+pub taken_same : (f g : Front TemplatePiece) (s t : Sketch) (r : Result (Bor (List ℕ)) TemplateError) → f ≡ g → TakesIn f s t r → TakesIn g s t r
+taken_same f g s t r e h = subst (λ x. TakesIn x s t r) e h
+
+-- behind literal characters stands a brace or a newline
+only_line : (c : ℕ) → is_literal_char c ≡ false → (c ≡ 0x7B → ⊥) → (c ≡ 0x7D → ⊥) → c ≡ 0x0A
+only_line c fails no_open no_close = grind (arith, nat_tests)
+
+pub is_line : (text after : List ℕ) (c : ℕ) → c ∷ after ≡ after_run is_literal_char text → (c ≡ 0x7B → ⊥) → (c ≡ 0x7D → ⊥) → c ≡ 0x0A
+is_line text after c e no_open no_close = only_line c (left_fails is_literal_char text c after (sym e)) no_open no_close
 
 -- ---- what a draft's bytes fulfil: those of its parts, and where the literal text begins
 

@@ -4,7 +4,7 @@ use Rattle.std.specs.Prelude.{◌==◌, chars, filter, IsUtf8, take_while, unwra
 use Rattle.std.specs.List.{list_any}
 use Rattle.std.specs.Char.{is_ascii_digit, digit_value}
 use Rattle.std.specs.Str.Parse.{digits_value_after}
-use Rattle.std.specs.Prelude.{Result, MatchResult}
+use Rattle.std.specs.Prelude.{Result}
 use denote.Ref.{Bor}
 use Rattle.std.proofs.Math.Utf8.{encodes}
 use Rattle.std.proofs.lemmas.Bool.{eqb-true, eq-eqb, ne_eqb, lt-ltb, le-ltb, false≢true}
@@ -14,13 +14,12 @@ use Rattle.indicatif_text.specs.declared.refusal.TemplateState.{TemplateState}
 use Rattle.indicatif_text.specs.declared.refusal.TemplateState.TheVariants.{Align, Width}
 use Rattle.indicatif_text.specs.declared.template.Alignment.{Alignment}
 use Rattle.indicatif_text.specs.declared.template.reading.Mix.{Mix}
-use Rattle.indicatif_text.specs.declared.template.reading.Options.{Options}
 use Rattle.indicatif_text.specs.declared.template.TemplateError.{TemplateError}
 use Rattle.indicatif_text.specs.declared.template.TemplateError.TheVariants.{Unexpected, WidthTooLarge}
 use Rattle.indicatif_text.proofs.WrappingLemmas.{chars_none}
 use Rattle.indicatif_text.specs.StyleWords.{style_of}
-use Rattle.indicatif_text.specs.Template.{Layout, with_options, plain_layout, alignment_of, aligned, Front, Takes, Stops, after_run, is_alternative_char, alternative_ends, with_alternative, is_style_char, style_ends, with_style, is_width_char, width_ends, with_width, style_named, number_of, is_too_wide, state_after}
-use Rattle.indicatif_text.specs.Inside.Reading.{layout_of, number_after, IsMix}
+use Rattle.indicatif_text.specs.Template.{Layout, with_options, plain_layout, alignment_of, aligned, Takes, Stops, after_run, is_alternative_char, alternative_ends, with_alternative, is_style_char, style_ends, with_style, is_width_char, width_ends, with_width, style_named, number_of, is_too_wide, state_after}
+use Rattle.indicatif_text.specs.Inside.Reading.{IsRead, number_after, IsMix}
 
 -- a text with no characters has no bytes
 pub some_chars : (bs : List ℕ) → IsUtf8 bs → chars bs ≡ [] → length bs ≡ 0
@@ -184,24 +183,25 @@ below_wide n h = le-ltb 65535 n h
 
 -- ---- options
 
--- what a reading of options gives: these options and this rest, or this error at some place
-abbrev pub Gives : Front Layout → Result (Options × Bor (List ℕ)) TemplateError → Type 0
-Gives f r = MatchResult r (λ r. f ≡ Takes (chars r.1.now) (layout_of r.0)) (λ e. (place : List ℕ) × (f ≡ Stops place e))
-
 pub options_none : (text : List ℕ) → text ≡ [] → with_options text ≡ Takes text plain_layout
 unfolding with_options
 options_none text none = ap with_options none ∙ ap (λ r. Takes r plain_layout) (sym none)
 
-pub options_plain : (text : List ℕ) (c : ℕ) (cs : List ℕ) → text ≡ c ∷ cs → alignment_of c ≡ None → (r : Result (Options × Bor (List ℕ)) TemplateError) →
-    Gives (with_width plain_layout Align text) r → Gives (with_options text) r
+pub options_plain : (text : List ℕ) (c : ℕ) (cs : List ℕ) → text ≡ c ∷ cs → alignment_of c ≡ None → (layout : Layout) (r : Result (Bor (List ℕ)) TemplateError) →
+    IsRead (with_width plain_layout Align text) layout r → IsRead (with_options text) layout r
 unfolding with_options
-options_plain text c cs e none r g =
+options_plain text c cs e none layout r g =
     let same : with_width plain_layout Align text ≡ with_options text = ap (with_width plain_layout Align) e ∙ ap (aligned c cs) (sym none) ∙ ap with_options (sym e) in
-    subst (λ f. Gives f r) same g
+    subst (λ f. IsRead f layout r) same g
 
-pub options_aligned : (text : List ℕ) (c : ℕ) (cs : List ℕ) → text ≡ c ∷ cs → (align : Alignment) → alignment_of c ≡ Some align → (r : Result (Options × Bor (List ℕ)) TemplateError) →
-    Gives (with_width (record plain_layout { align = align }) Width cs) r → Gives (with_options text) r
+pub options_aligned : (text : List ℕ) (c : ℕ) (cs : List ℕ) → text ≡ c ∷ cs → (align : Alignment) → alignment_of c ≡ Some align → (layout : Layout) (r : Result (Bor (List ℕ)) TemplateError) →
+    IsRead (with_width (record plain_layout { align = align }) Width cs) layout r → IsRead (with_options text) layout r
 unfolding with_options
-options_aligned text c cs e align is r g =
+options_aligned text c cs e align is layout r g =
     let same : with_width (record plain_layout { align = align }) Width cs ≡ with_options text = ap (aligned c cs) (sym is) ∙ ap with_options (sym e) in
-    subst (λ f. Gives f r) same g
+    subst (λ f. IsRead f layout r) same g
+
+-- a dot alone begins a style
+pub options_styled : (text : List ℕ) (c : ℕ) (cs : List ℕ) → text ≡ c ∷ cs → c ≡ 0x2E → with_options text ≡ with_style plain_layout cs
+unfolding with_options with_width
+options_styled text c cs e dot = ap with_options e ∙ ap (λ d. with_options (d ∷ cs)) dot

@@ -1,21 +1,24 @@
 -- That words gathered one by one are the style of the text, and that what is written for it is put together so.
-use Rattle.std.proofs.Common.{true≢false, ◌≡◌, ℕ, zero, suc, ◌+◌, ◌<◌, inl, inr, Bool, true, false, List, [], ◌∷◌, ◌++◌, length, refl, sym, ◌∙◌, ap, subst, arith, eqb, Option, Some, None, append-nil, append_assoc, length-append}
+use Rattle.std.proofs.Common.{true≢false, ◌≡◌, ℕ, zero, suc, ◌+◌, ◌<◌, inl, inr, Bool, true, false, List, [], ◌∷◌, ◌++◌, length, get_or, refl, sym, ◌∙◌, ap, subst, arith, eqb, Option, Some, None, append-nil, append_assoc, length-append}
 use Rattle.std.specs.Fmt.{digits}
 use Rattle.std.proofs.lemmas.Grind.{flat_map-append}
-use Rattle.std.specs.Prelude.{Result, Ok, Err, OnErr, ◌==◌, ◌||◌, ◌&&◌, not, nat_lt, chars, bytes_eq, codes, IsUtf8, IsAscii, option_to_list, filter_map, take_while, flat_map}
-use Rattle.std.specs.List.{position, last_or, cons_option, list_all, onto_first, prefix_len}
+use Rattle.std.specs.Prelude.{Result, Ok, Err, OnErr, ◌==◌, ◌||◌, ◌&&◌, not, nat_lt, chars, bytes_eq, codes, IsUtf8, IsAscii, option_to_list, option_map, filter_map, take_while, flat_map}
+use Rattle.std.specs.List.{AllByRecursion, position, last_or, cons_option, list_all, onto_first, prefix_len}
 use Rattle.std.proofs.Math.Utf8.{encodes}
 use Rattle.std.proofs.Math.Bool.{or-false, and-true}
 use Rattle.std.proofs.lemmas.Bool.{cases_Bool, ltb-true, ne_eqb, and_parts}
 use Rattle.std.proofs.lemmas.Bool.Decides.{same_from_decides}
+use Rattle.std.proofs.lemmas.List.Elements.{All-get_or, All-from_recursion}
+use Rattle.std.proofs.lemmas.List.Quantifiers.{position-Some}
 use Rattle.std.proofs.lemmas.Slice.Eq.{bytes_eq-Decides}
 use Rattle.std.proofs.lemmas.Str.{chars-append, IsUtf8-from_ascii, encodes-chars, encodes-IsAscii, chars-IsAscii}
+use Rattle.indicatif_text.specs.declared.style_words.BasicColour.{BasicColour}
 use Rattle.indicatif_text.specs.declared.style_words.Style.{Style}
-use Rattle.indicatif_text.specs.StyleWords.{opening_of, colour_words, background_words, style_of, style_words, has_word, number_if, numbers_of, sequence_of, styled, foreground_number, background_number, colour_number}
+use Rattle.indicatif_text.specs.StyleWords.{opening_of, colour_place, colour_words, background_words, style_of, style_words, has_word, number_if, numbers_of, sequence_of, styled, foreground_number, background_number, colour_number}
 use Rattle.indicatif_text.specs.declared.spans.Words.{Words}
 use Rattle.indicatif_text.specs.declared.spans.Words.TheVariants as words
 use Rattle.indicatif_text.specs.Inside.Spans.{in_words}
-use Rattle.indicatif_text.specs.Inside.StyleWords.{closing_of, is_word_char}
+use Rattle.indicatif_text.specs.Inside.StyleWords.{Adds, foreground_after, closing_of, is_word_char}
 use Rattle.indicatif_text.specs.Template.{after_run}
 use Rattle.indicatif_text.proofs.PrefixLemmas.{run_more, run_ends, left_more, left_ends, left_fails, both, word_within, left_within, left_past}
 
@@ -76,16 +79,67 @@ no_background bs u lacks =
 
 -- ---- words gathered one by one
 
--- a style with a further word
-pub record Adds (s : Style) (word : List ℕ) (t : Style) : Type 0 where
-  pub foreground : foreground_number t ≡ last_or (foreground_number s) (option_to_list (colour_number 30 colour_words word))
-  pub background : background_number t ≡ last_or (background_number s) (option_to_list (colour_number 40 background_words word))
-  pub bold : t.bold ≡ (s.bold || bytes_eq word (codes "bold"))
-  pub dim : t.dim ≡ (s.dim || bytes_eq word (codes "dim"))
-  pub underlined : t.underlined ≡ (s.underlined || bytes_eq word (codes "underlined"))
-  pub blink : t.blink ≡ (s.blink || bytes_eq word (codes "blink"))
-  pub reverse : t.reverse ≡ (s.reverse || bytes_eq word (codes "reverse"))
-  pub hidden : t.hidden ≡ (s.hidden || bytes_eq word (codes "hidden"))
+-- what a colour's word isn't: a background's, or an attribute's
+record Alone (word : List ℕ) : Type 0 where
+  background : position (bytes_eq word) background_words ≡ None
+  bold : bytes_eq word (codes "bold") ≡ false
+  dim : bytes_eq word (codes "dim") ≡ false
+  underlined : bytes_eq word (codes "underlined") ≡ false
+  blink : bytes_eq word (codes "blink") ≡ false
+  reverse : bytes_eq word (codes "reverse") ≡ false
+  hidden : bytes_eq word (codes "hidden") ≡ false
+
+each_alone : AllByRecursion Alone colour_words
+each_alone = (
+  record { background = refl; bold = refl; dim = refl; underlined = refl; blink = refl; reverse = refl; hidden = refl },
+  (
+    record { background = refl; bold = refl; dim = refl; underlined = refl; blink = refl; reverse = refl; hidden = refl },
+    (
+      record { background = refl; bold = refl; dim = refl; underlined = refl; blink = refl; reverse = refl; hidden = refl },
+      (
+        record { background = refl; bold = refl; dim = refl; underlined = refl; blink = refl; reverse = refl; hidden = refl },
+        (
+          record { background = refl; bold = refl; dim = refl; underlined = refl; blink = refl; reverse = refl; hidden = refl },
+          (
+            record { background = refl; bold = refl; dim = refl; underlined = refl; blink = refl; reverse = refl; hidden = refl },
+            (
+              record { background = refl; bold = refl; dim = refl; underlined = refl; blink = refl; reverse = refl; hidden = refl },
+              (record { background = refl; bold = refl; dim = refl; underlined = refl; blink = refl; reverse = refl; hidden = refl }, tt),
+            ),
+          ),
+        ),
+      ),
+    ),
+  ),
+)
+
+alone : (word : List ℕ) (k : ℕ) → position (bytes_eq word) colour_words ≡ Some k → Alone word
+alone word k e =
+    let found = position-Some (bytes_eq word) colour_words k [] e in
+    let same : word ≡ get_or colour_words k [] = (bytes_eq-Decides word (get_or colour_words k [])).0 found.1 in
+    subst Alone (sym same) (All-get_or Alone colour_words k [] found.0 (All-from_recursion Alone colour_words each_alone))
+
+unset : (s b : Bool) → b ≡ false → s ≡ (s || b)
+unset s b e = sym (ap (λ x. s || x) e ∙ or-false s)
+
+-- the word of a colour is the foreground, and no more
+pub adds_colour : (s : Style) (colour : BasicColour) (word : List ℕ) → Some (colour_place colour) ≡ position (bytes_eq word) colour_words → Adds s word (record s { foreground = Some colour })
+adds_colour s colour word e =
+    let a = alone word (colour_place colour) (sym e) in
+    record {
+      foreground = ap (λ p. last_or (foreground_number s) (option_to_list (option_map (λ k. 30 + k) p))) e;
+      background = sym (ap (λ p. last_or (background_number s) (option_to_list (option_map (λ k. 40 + k) p))) a.background);
+      bold = unset s.bold _ a.bold;
+      dim = unset s.dim _ a.dim;
+      underlined = unset s.underlined _ a.underlined;
+      blink = unset s.blink _ a.blink;
+      reverse = unset s.reverse _ a.reverse;
+      hidden = unset s.hidden _ a.hidden;
+    }
+
+-- another word is no foreground
+pub same_foreground : (before after : Option ℕ) (word : List ℕ) → after ≡ before → None ≡ position (bytes_eq word) colour_words → after ≡ foreground_after before word
+same_foreground before after word same none = same ∙ ap (λ p. last_or before (option_to_list (option_map (λ k. 30 + k) p))) none
 
 -- a style of some words, where the others are left
 pub record Gathers (all : List (List ℕ)) (s : Style) (left : List (List ℕ)) : Type 0 where

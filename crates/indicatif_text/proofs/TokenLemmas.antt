@@ -1,29 +1,13 @@
--- That tokens in front of a text are its pieces.
-use Rattle.std.proofs.Common.{◌≡◌, ℕ, inl, inr, true, false, List, ◌∷◌, length, refl, sym, ◌∙◌, ap, subst, arith, eqb}
-use Rattle.std.specs.Prelude.{◌==◌, Result, Ok, Err, MatchResult, IsErrAnd, chars, IsUtf8, take_while}
-use denote.Ref.{Bor}
+-- What stands in front of a text, case by case.
+use Rattle.std.proofs.Common.{◌≡◌, ℕ, inl, inr, true, false, List, [], ◌∷◌, ◌++◌, length, refl, sym, ◌∙◌, ap, arith, eqb}
+use Rattle.std.specs.Prelude.{◌==◌, chars, IsUtf8, take_while}
 use Rattle.std.specs.Char.{is_ascii_whitespace}
 use Rattle.std.proofs.lemmas.Bool.{cases_Bool, eqb-true, eq-eqb, ne_eqb, false≢true}
 use Rattle.std.proofs.lemmas.List.{nil_from_length}
 use Rattle.indicatif_text.proofs.OptionLemmas.{is_no_text, some_chars}
 use Rattle.indicatif_text.specs.declared.refusal.TemplateState.TheVariants.{MaybeOpen, DoubleClose}
-use Rattle.indicatif_text.specs.declared.template.TemplateError.{TemplateError}
 use Rattle.indicatif_text.specs.declared.template.TemplateError.TheVariants.{Unexpected}
-use Rattle.indicatif_text.specs.declared.template.reading.Token.{Token}
-use Rattle.indicatif_text.specs.Inside.Reading.{piece_of}
-use Rattle.indicatif_text.specs.Template.{TemplatePiece, Char, Break, Keyed, Front, Takes, Stops, after_run, plain_layout, with_options, keyed, key_ends, is_key_char, opened, closed, front}
-
--- what a reading of a piece gives: this piece and this rest, or this error at some place
-abbrev pub GivesPiece : Front TemplatePiece → Result (Token × Bor (List ℕ)) TemplateError → Type 0
-GivesPiece f r = MatchResult r (λ r. f ≡ Takes (chars r.1.now) (piece_of r.0)) (λ e. (place : List ℕ) × (f ≡ Stops place e))
-
--- an error that is handed on
-pub gives_handed : (f : Front TemplatePiece) (place : List ℕ) (x : TemplateError) → f ≡ Stops place x → (r : Result (Token × Bor (List ℕ)) TemplateError) → IsErrAnd r (λ e. e ≡ x) → GivesPiece f r
-gives_handed f place x e (Ok y) h = absurd h
-gives_handed f place x e (Err y) h = (place, e ∙ ap (λ z. Stops place z) (sym h))
-
-pub gives_same : (f g : Front TemplatePiece) (r : Result (Token × Bor (List ℕ)) TemplateError) → f ≡ g → GivesPiece f r → GivesPiece g r
-gives_same f g r e h = subst (λ x. GivesPiece x r) e h
+use Rattle.indicatif_text.specs.Template.{Char, Break, SpacedBrace, Keyed, LastBrace, Takes, Stops, after_run, plain_layout, with_options, keyed, unfinished, key_ends, is_key_char, opened, closed, front}
 
 pub no_chars : (bs : List ℕ) → true ≡ (length bs == 0) → (length (chars bs) == 0) ≡ true
 no_chars bs e = ap (λ cs. length cs == 0) (is_no_text bs e)
@@ -33,6 +17,12 @@ has_chars bs u e = elim (cases_Bool (eqb (length (chars bs)) 0)) [
   | inl none ↦ absurd (false≢true (e ∙ eq-eqb (length bs) 0 (some_chars bs u (nil_from_length (chars bs) (eqb-true (length (chars bs)) 0 none)))))
   | inr some ↦ some
 ]
+
+pub key_open : (key after : List ℕ) → after ≡ [] → key_ends key after ≡ Takes after (unfinished key)
+key_open key after e = ap (key_ends key) e ∙ ap (λ r. Takes r (unfinished key)) (sym e)
+
+pub key_spaced : (key after : List ℕ) (c : ℕ) (cs : List ℕ) → after ≡ c ∷ cs → is_ascii_whitespace c ≡ true → key_ends key after ≡ Takes cs (SpacedBrace ((0x7B ∷ key) ++ c ∷ []))
+key_spaced key after c cs e space = ap (key_ends key) e ∙ rw space refl
 
 module _ (key after : List ℕ) (c : ℕ) (cs : List ℕ) (e : after ≡ c ∷ cs) (other : is_ascii_whitespace c ≡ false) where
   pub key_missing : (length key == 0) ≡ true → key_ends key after ≡ Stops (c ∷ cs) (Unexpected c MaybeOpen)
@@ -59,31 +49,34 @@ opened_key text key after c cs e other k a =
 pub closed_wrong : (text : List ℕ) (c : ℕ) (cs : List ℕ) → text ≡ c ∷ cs → (c ≡ 0x7D → ⊥) → closed text ≡ Stops (c ∷ cs) (Unexpected c DoubleClose)
 closed_wrong text c cs e other = let test : eqb c 0x7D ≡ false = ne_eqb c 0x7D other in ap closed e ∙ rw test refl
 
+pub closed_end : (text : List ℕ) → text ≡ [] → closed text ≡ Takes text (Char 0x7D)
+closed_end text e = ap closed e ∙ ap (λ r. Takes r (Char 0x7D)) (sym e)
+
+pub closed_doubled : (text : List ℕ) (c : ℕ) (cs : List ℕ) → text ≡ c ∷ cs → c ≡ 0x7D → closed text ≡ Takes cs (Char 0x7D)
+closed_doubled text c cs e brace = let test : eqb c 0x7D ≡ true = eq-eqb c 0x7D brace in ap closed e ∙ rw test refl
+
+pub opened_end : (text : List ℕ) → text ≡ [] → opened text ≡ Takes text LastBrace
+opened_end text e = ap opened e ∙ ap (λ r. Takes r LastBrace) (sym e)
+
+pub opened_doubled : (text : List ℕ) (c : ℕ) (cs : List ℕ) → text ≡ c ∷ cs → c ≡ 0x7B → opened text ≡ Takes cs (Char 0x7B)
+opened_doubled text c cs e brace = let test : eqb c 0x7B ≡ true = eq-eqb c 0x7B brace in ap opened e ∙ rw test refl
+
 module _ (c : ℕ) (cs : List ℕ) where
   pub front_break : c ≡ 0x0A → front c cs ≡ Takes cs Break
   unfolding front
   front_break e = let test : eqb c 0x0A ≡ true = eq-eqb c 0x0A e in rw test refl
 
-  module _ (line : c ≡ 0x0A → ⊥) where
-    pub front_opened : c ≡ 0x7B → opened cs ≡ front c cs
-    unfolding front
-    front_opened e =
-        let first : eqb c 0x0A ≡ false = ne_eqb c 0x0A line in
-        let test : eqb c 0x7B ≡ true = eq-eqb c 0x7B e in
-        rw (first, test) refl
+  pub front_opened : c ≡ 0x7B → front c cs ≡ opened cs
+  unfolding front
+  front_opened e =
+      let first : eqb c 0x0A ≡ false = ne_eqb c 0x0A (λ h. absurd (omega (arith, e, h))) in
+      let test : eqb c 0x7B ≡ true = eq-eqb c 0x7B e in
+      rw (first, test) refl
 
-    pub front_closed : c ≡ 0x7D → closed cs ≡ front c cs
-    unfolding front
-    front_closed e =
-        let first : eqb c 0x0A ≡ false = ne_eqb c 0x0A line in
-        let second : eqb c 0x7B ≡ false = ne_eqb c 0x7B (λ h. absurd (omega (arith, e, h))) in
-        let test : eqb c 0x7D ≡ true = eq-eqb c 0x7D e in
-        rw (first, second, test) refl
-
-    pub front_literal : (c ≡ 0x7B → ⊥) → (c ≡ 0x7D → ⊥) → front c cs ≡ Takes cs (Char c)
-    unfolding front
-    front_literal no_open no_close =
-        let first : eqb c 0x0A ≡ false = ne_eqb c 0x0A line in
-        let second : eqb c 0x7B ≡ false = ne_eqb c 0x7B no_open in
-        let third : eqb c 0x7D ≡ false = ne_eqb c 0x7D no_close in
-        rw (first, second, third) refl
+  pub front_closed : c ≡ 0x7D → front c cs ≡ closed cs
+  unfolding front
+  front_closed e =
+      let first : eqb c 0x0A ≡ false = ne_eqb c 0x0A (λ h. absurd (omega (arith, e, h))) in
+      let second : eqb c 0x7B ≡ false = ne_eqb c 0x7B (λ h. absurd (omega (arith, e, h))) in
+      let test : eqb c 0x7D ≡ true = eq-eqb c 0x7D e in
+      rw (first, second, test) refl

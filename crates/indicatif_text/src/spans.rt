@@ -1,7 +1,7 @@
 //! Cutting a text at the first character that doesn't belong to a run.
 ghost use Rattle.std.specs.Prelude.{◌≡◌, ◌∷◌, [], chars, take_while, MatchOption, IfSome, IsUtf8};
 ghost use Rattle.std.specs.List.{prefix_len};
-ghost use Rattle.indicatif_text.specs.Inside.Spans.{belongs, in_words};
+ghost use Rattle.indicatif_text.specs.Inside.Spans.{belongs, mark_of};
 ghost use Rattle.indicatif_text.specs.Template.{after_run};
 
 /// How far the words of a style go. What ends them is always ASCII.
@@ -26,15 +26,31 @@ pub(crate) enum Span {
     Word(Words),
 }
 
-/// Whether a byte of a text stands in the words or between them.
+/// Which runs each byte ends, as a sum: 1 a literal run, 2 a key, 4 words that go to the end, 8 those of a style, 16 those of an
+/// alternative one. Bytes of characters past ASCII end none.
+const ENDS: &[u8; 256] = &[
+    0, 0, 0, 0, 0, 0, 0, 0, 0, 2, 3, 0, 2, 2, 0, 0, 0, 0, 0, 0, 0, 0, 0, 0, 0, 0, 0, 0, 0, 0, 0, 0,
+    2, 0, 0, 0, 0, 0, 0, 0, 0, 0, 0, 0, 0, 0, 28, 8, 0, 0, 0, 0, 0, 0, 0, 0, 0, 0, 2, 0, 0, 0, 0,
+    0, 0, 0, 0, 0, 0, 0, 0, 0, 0, 0, 0, 0, 0, 0, 0, 0, 0, 0, 0, 0, 0, 0, 0, 0, 0, 0, 0, 0, 0, 0, 0,
+    0, 0, 0, 0, 0, 0, 0, 0, 0, 0, 0, 0, 0, 0, 0, 0, 0, 0, 0, 0, 0, 0, 0, 0, 0, 0, 0, 0, 1, 0, 27,
+    0, 0, 0, 0, 0, 0, 0, 0, 0, 0, 0, 0, 0, 0, 0, 0, 0, 0, 0, 0, 0, 0, 0, 0, 0, 0, 0, 0, 0, 0, 0, 0,
+    0, 0, 0, 0, 0, 0, 0, 0, 0, 0, 0, 0, 0, 0, 0, 0, 0, 0, 0, 0, 0, 0, 0, 0, 0, 0, 0, 0, 0, 0, 0, 0,
+    0, 0, 0, 0, 0, 0, 0, 0, 0, 0, 0, 0, 0, 0, 0, 0, 0, 0, 0, 0, 0, 0, 0, 0, 0, 0, 0, 0, 0, 0, 0, 0,
+    0, 0, 0, 0, 0, 0, 0, 0, 0, 0, 0, 0, 0, 0, 0, 0, 0, 0, 0, 0, 0, 0, 0, 0, 0, 0, 0, 0, 0, 0, 0, 0,
+    0, 0,
+];
+
+/// What the bytes that end this run have in the table.
 #[inline(always)]
-fn in_words(words: Words, byte: u8) -> bool
-    ensures { result ≡ in_words words byte }
+fn mark_of(run: Span) -> u8
+    ensures { result ≡ mark_of run }
 {
-    match words {
-        Words::All => true,
-        Words::Style => !(byte == b'/' || byte == b'}'),
-        Words::Alternative => byte != b'}',
+    match run {
+        Span::Literal => 1,
+        Span::Key => 2,
+        Span::Word(Words::All) => 4,
+        Span::Word(Words::Style) => 8,
+        Span::Word(Words::Alternative) => 16,
     }
 }
 
@@ -43,11 +59,7 @@ fn in_words(words: Words, byte: u8) -> bool
 fn belongs(run: Span, byte: u8) -> bool
     ensures { result ≡ belongs run byte }
 {
-    match run {
-        Span::Literal => !(byte == b'\n' || byte == b'{' || byte == b'}'),
-        Span::Key => !(byte == b':' || byte == b'}' || byte.is_ascii_whitespace()),
-        Span::Word(words) => in_words(words, byte) && byte != b'.',
-    }
+    ENDS[usize::from(byte)] & mark_of(run) == 0
 }
 
 /// How many bytes in front belong to the run.
@@ -55,12 +67,11 @@ fn belongs(run: Span, byte: u8) -> bool
 fn span_len(bytes: &[u8], run: Span) -> usize
     ensures { result ≡ prefix_len (belongs run) bytes.now }
 {
-    for (i, byte) in bytes.iter().enumerate() {
-        if !belongs(run, *byte) {
-            return i;
-        }
+    let mut len: usize = 0;
+    'bytes: while len < bytes.len() && belongs(run, bytes[len]) {
+        len += 1;
     }
-    bytes.len()
+    len
 }
 
 /// The longest beginning of `text` that belongs to the run, and what follows it.

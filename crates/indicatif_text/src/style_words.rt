@@ -2,7 +2,7 @@
 ghost use Rattle.std.specs.Prelude.{◌≡◌, ℕ, ◌+◌, ◌≤◌, ◌<◌, ◌||◌, ◌++◌, [], chars, bytes_eq, position, option_map, flat_map, take_while, IsUtf8, string_bytes, string_len, string_capacity, length, codes, nat_lt, OnOk, OnErr, IfErr, IfOk, IsTrue};
 ghost use Rattle.std.specs.List.{list_all};
 ghost use Rattle.indicatif_text.specs.StyleWords.{style_of, styled, opening_of, sequence_of, numbers_of, number_if, foreground_number, background_number, colour_place, colour_words, background_words};
-ghost use Rattle.indicatif_text.specs.Inside.StyleWords.{closing_of, sequence_if, foreground_after, background_after};
+ghost use Rattle.indicatif_text.specs.Inside.StyleWords.{Adds, closing_of, sequence_if, background_after};
 ghost use Rattle.indicatif_text.specs.Inside.Spans.{in_words};
 ghost use Rattle.indicatif_text.specs.Template.{after_run};
 
@@ -104,6 +104,7 @@ impl Style {
     }
 
     /// The style that the words in front of `text` name, and what follows them.
+    #[inline(always)]
     pub(crate) fn read(text: &str, words: Words) -> (Style, &str)
         ensures style { numbers_of result.0
             ≡ style_of (take_while (in_words words) (chars text.now)) }
@@ -111,13 +112,14 @@ impl Style {
         ensures utf8 { IsUtf8 result.1.now }
     {
         let (word, mut rest) = split_span(text, Span::Word(words));
-        let mut style = Style::PLAIN.with_word(word);
+        let mut style = Style::PLAIN;
+        style.add_word(word);
         while let Some((end, left)) = split_first(rest) {
             if end != '.' {
                 break;
             }
             let (word, more) = split_span(left, Span::Word(words));
-            style = style.with_word(word);
+            style.add_word(word);
             rest = more;
         }
         (style, rest)
@@ -201,10 +203,22 @@ impl Style {
         text
     }
 
-    /// The style with a further word, where it is one.
-    fn with_word(self, word: &str) -> Style
-        ensures foreground { foreground_number result
-            ≡ foreground_after (foreground_number self) (chars word.now) }
+    /// Takes up a further word, where it is one.
+    #[inline(always)]
+    fn add_word(&mut self, word: &str)
+        ensures { Adds self.old (chars word.now) self.new }
+    {
+        if let Some(colour) = colour_of(word) {
+            self.foreground = Some(colour);
+            return;
+        }
+        *self = self.with_other_word(word);
+    }
+
+    /// The style with a further word that is no foreground, where it is one.
+    #[inline(never)]
+    fn with_other_word(self, word: &str) -> Style
+        ensures foreground { foreground_number result ≡ foreground_number self }
         ensures background { background_number result
             ≡ background_after (background_number self) (chars word.now) }
         ensures bold { result.bold ≡ (self.bold || bytes_eq (chars word.now) (codes "bold")) }
@@ -218,7 +232,7 @@ impl Style {
             ≡ (self.hidden || bytes_eq (chars word.now) (codes "hidden")) }
     {
         Style {
-            foreground: colour_of(word).or(self.foreground),
+            foreground: self.foreground,
             background: background_of(word).or(self.background),
             bold: self.bold || is_word(word, "bold"),
             dim: self.dim || is_word(word, "dim"),
@@ -231,6 +245,7 @@ impl Style {
 }
 
 /// The colour that a word names.
+#[inline(always)]
 fn colour_of(word: &str) -> Option<BasicColour>
     ensures { option_map colour_place result ≡ position (bytes_eq (chars word.now)) colour_words }
 {

@@ -9,7 +9,6 @@ use crate::refusal::{Refusal, TemplateState};
 use crate::style_words::Style;
 use crate::template::draft::Draft;
 use crate::template::marks::Mark;
-use crate::template::reading::Options;
 use std::alloc::{AllocError, AllocFailed, Global};
 use std::error::Error;
 use std::fmt;
@@ -160,11 +159,11 @@ impl Template {
         ensures { IfOk result (λ template. Parses (codes "{wide_bar} {pos}/{len}") template) }
     {
         let mut draft = Draft::new(alloc, 16)?;
-        draft.push_placeholder("wide_bar", Options::NONE)?;
+        draft.push_key("wide_bar")?;
         draft.push_run(" ")?;
-        draft.push_placeholder("pos", Options::NONE)?;
+        draft.push_key("pos")?;
         draft.push_run("/")?;
-        draft.push_placeholder("len", Options::NONE)?;
+        draft.push_key("len")?;
         draft.finish()
     }
 
@@ -179,9 +178,9 @@ impl Template {
         ensures { IfOk result (λ template. Parses (codes "{spinner} {msg}") template) }
     {
         let mut draft = Draft::new(alloc, 11)?;
-        draft.push_placeholder("spinner", Options::NONE)?;
+        draft.push_key("spinner")?;
         draft.push_run(" ")?;
-        draft.push_placeholder("msg", Options::NONE)?;
+        draft.push_key("msg")?;
         draft.finish()
     }
 

@@ -1,12 +1,68 @@
-//! Commands of a bar as rows spell them: a name and what belongs to it.
-use crate::got::Bad;
+//! Commands of a bar as rows spell them: a name and what belongs to it. A command stands here as a value, as the call of its name, and
+//! as the text of a value.
+use crate::got::{Bad, Got};
 use crate::row::headed;
 use crate::spelling::{flag, number, optional, unescaped};
-use indicatif_bar::state::{BarCommand, Change, ProgressFinish};
+use indicatif_bar::state::{Ask, BarCommand, Change, ProgressFinish};
 use indicatif_bar::style::{NoTracker, ProgressStyle};
+use indicatif_text::columns::{Drawn, Refusal};
 use std::alloc::Global;
 
 type Command = BarCommand<NoTracker>;
+
+/// The commands with which nothing belongs.
+pub const BARE: [&str; 11] = [
+    "tick",
+    "ticker_tick",
+    "unset_length",
+    "reset_eta",
+    "reset_elapsed",
+    "reset",
+    "finish",
+    "finish_and_clear",
+    "abandon",
+    "finish_using_style",
+    "force_draw",
+];
+
+/// Those with a number.
+pub const NUMBERED: [&str; 10] = [
+    "inc",
+    "dec",
+    "set_position",
+    "with_position",
+    "set_length",
+    "inc_length",
+    "dec_length",
+    "set_elapsed",
+    "set_tab_width",
+    "with_tab_width",
+];
+
+/// Those with a text.
+pub const WORDED: [&str; 6] = [
+    "set_message",
+    "set_prefix",
+    "with_message",
+    "with_prefix",
+    "finish_with_message",
+    "abandon_with_message",
+];
+
+/// Those that are about a bar's numbers and times; `update` has two numbers.
+pub const COUNTING: [&str; 11] = [
+    "dec",
+    "set_position",
+    "update",
+    "set_length",
+    "unset_length",
+    "inc_length",
+    "dec_length",
+    "with_position",
+    "reset_eta",
+    "reset_elapsed",
+    "reset",
+];
 
 /// The command that a step spells.
 pub fn command(alloc: Global, step: &str) -> Result<Command, Bad> {
@@ -16,7 +72,8 @@ pub fn command(alloc: Global, step: &str) -> Result<Command, Bad> {
     }
 }
 
-fn bare(name: &str) -> Result<Command, Bad> {
+/// The command of this name, with which nothing belongs.
+pub fn bare(name: &str) -> Result<Command, Bad> {
     match name {
         "tick" => Ok(BarCommand::Tick),
         "ticker_tick" => Ok(BarCommand::TickerTick),
@@ -102,7 +159,8 @@ fn saying(name: &str, text: String) -> Result<Command, Bad> {
     }
 }
 
-fn by_number(name: &str, number: u64) -> Result<Command, Bad> {
+/// That of this name with a number.
+pub fn by_number(name: &str, number: u64) -> Result<Command, Bad> {
     match name {
         "inc" => Ok(BarCommand::Inc(number)),
         "dec" => Ok(BarCommand::Dec(number)),
@@ -128,4 +186,174 @@ fn updating(text: &str) -> Result<Command, Bad> {
         len: optional(len)?,
     };
     Ok(BarCommand::Update(change))
+}
+
+// ---- calls by their names
+
+/// What a call of a bar answers: what a record asks for, or what became of a drawing.
+pub trait Told {
+    type Answer;
+
+    fn told(self) -> Result<Self::Answer, Refusal>;
+}
+
+impl Told for Ask {
+    type Answer = Ask;
+
+    fn told(self) -> Result<Ask, Refusal> {
+        Ok(self)
+    }
+}
+
+impl Told for Result<Ask, Refusal> {
+    type Answer = Ask;
+
+    fn told(self) -> Result<Ask, Refusal> {
+        self
+    }
+}
+
+impl Told for Result<Drawn, Refusal> {
+    type Answer = Drawn;
+
+    fn told(self) -> Result<Drawn, Refusal> {
+        self
+    }
+}
+
+/// Makes the call of this name, with which nothing belongs: of a record, a lone bar or a shared one, the first two of which are told a
+/// moment. `None` where there is none of that name here.
+#[macro_export]
+macro_rules! called_bare {
+    ($bar:expr, $name:expr $(, $now:expr)?) => {
+        match $name {
+            "tick" => Some($bar.tick($($now)?).told()),
+            "unset_length" => Some($bar.unset_length($($now)?).told()),
+            "reset_eta" => Some($bar.reset_eta($($now)?).told()),
+            "reset_elapsed" => Some($bar.reset_elapsed($($now)?).told()),
+            "reset" => Some($bar.reset($($now)?).told()),
+            "force_draw" => Some($bar.force_draw($($now)?).told()),
+            "finish" => Some($bar.finish($($now)?).told()),
+            "finish_and_clear" => Some($bar.finish_and_clear($($now)?).told()),
+            "abandon" => Some($bar.abandon($($now)?).told()),
+            "finish_using_style" => Some($bar.finish_using_style($($now)?).told()),
+            _ => None,
+        }
+    };
+}
+
+/// The same with a number.
+#[macro_export]
+macro_rules! called_with_number {
+    ($bar:expr, $name:expr, $number:expr $(, $now:expr)?) => {
+        match $name {
+            "inc" => Some($bar.inc($number $(, $now)?).told()),
+            "dec" => Some($bar.dec($number $(, $now)?).told()),
+            "set_position" => Some($bar.set_position($number $(, $now)?).told()),
+            "set_length" => Some($bar.set_length($number $(, $now)?).told()),
+            "inc_length" => Some($bar.inc_length($number $(, $now)?).told()),
+            "dec_length" => Some($bar.dec_length($number $(, $now)?).told()),
+            "set_elapsed" => Some($bar.set_elapsed($number $(, $now)?).told()),
+            "set_tab_width" => Some($bar.set_tab_width($number as usize $(, $now)?).told()),
+            _ => None,
+        }
+    };
+}
+
+/// The same with a text.
+#[macro_export]
+macro_rules! called_with_text {
+    ($bar:expr, $name:expr, $text:expr $(, $now:expr)?) => {
+        match $name {
+            "set_message" => Some($bar.set_message($text $(, $now)?).told()),
+            "set_prefix" => Some($bar.set_prefix($text $(, $now)?).told()),
+            "finish_with_message" => Some($bar.finish_with_message($text $(, $now)?).told()),
+            "abandon_with_message" => Some($bar.abandon_with_message($text $(, $now)?).told()),
+            _ => None,
+        }
+    };
+}
+
+// ---- values as texts: a style by its last text
+
+fn push_text(name: &str, text: &str, got: &mut Got) {
+    got.text(name);
+    got.text(" ");
+    got.text(text);
+}
+
+fn push_number(name: &str, number: u64, got: &mut Got) {
+    got.text(name);
+    got.text(" ");
+    got.number(number);
+}
+
+/// Appends a command.
+pub fn push_command(command: &Command, got: &mut Got) {
+    match command {
+        BarCommand::Inc(n) => push_number("inc", *n, got),
+        BarCommand::Dec(n) => push_number("dec", *n, got),
+        BarCommand::SetPosition(n) => push_number("set_position", *n, got),
+        BarCommand::WithPosition(n) => push_number("with_position", *n, got),
+        BarCommand::SetLength(n) => push_number("set_length", *n, got),
+        BarCommand::IncLength(n) => push_number("inc_length", *n, got),
+        BarCommand::DecLength(n) => push_number("dec_length", *n, got),
+        BarCommand::SetElapsed(n) => push_number("set_elapsed", *n, got),
+        BarCommand::WithTabWidth(n) => push_number("with_tab_width", *n as u64, got),
+        BarCommand::SetTabWidth(n) => push_number("set_tab_width", *n as u64, got),
+        BarCommand::Update(change) => push_change(*change, got),
+        _ => push_worded(command, got),
+    }
+}
+
+fn push_change(change: Change, got: &mut Got) {
+    got.text("update ");
+    got.optional(change.pos);
+    got.text(" ");
+    got.optional(change.len);
+}
+
+fn push_worded(command: &Command, got: &mut Got) {
+    match command {
+        BarCommand::SetMessage(text) => push_text("set_message", text.as_str(), got),
+        BarCommand::SetPrefix(text) => push_text("set_prefix", text.as_str(), got),
+        BarCommand::WithMessage(text) => push_text("with_message", text.as_str(), got),
+        BarCommand::WithPrefix(text) => push_text("with_prefix", text.as_str(), got),
+        BarCommand::SetStyle(style) => push_text("set_style", style.get_final_tick_str(), got),
+        BarCommand::Finish(finish) => push_finish(finish, got),
+        BarCommand::WithFinish(finish) => {
+            got.text("with_finish ");
+            push_finish(finish, got);
+        }
+        _ => got.text(name_of(command)),
+    }
+}
+
+fn push_finish(finish: &ProgressFinish, got: &mut Got) {
+    match finish {
+        ProgressFinish::AndLeave => got.text("finish"),
+        ProgressFinish::AndClear => got.text("finish_and_clear"),
+        ProgressFinish::Abandon => got.text("abandon"),
+        ProgressFinish::WithMessage(text) => push_text("finish_with_message", text.as_str(), got),
+        ProgressFinish::AbandonWithMessage(text) => {
+            push_text("abandon_with_message", text.as_str(), got);
+        }
+    }
+}
+
+/// The name of a command with which nothing belongs.
+fn name_of(command: &Command) -> &'static str {
+    match command {
+        BarCommand::Tick => "tick",
+        BarCommand::TickerTick => "ticker_tick",
+        BarCommand::SetTicker(true) => "set_ticker 1",
+        BarCommand::SetTicker(false) => "set_ticker 0",
+        BarCommand::UnsetLength => "unset_length",
+        BarCommand::ResetEta => "reset_eta",
+        BarCommand::ResetElapsed => "reset_elapsed",
+        BarCommand::Reset => "reset",
+        BarCommand::FinishUsingStyle => "finish_using_style",
+        BarCommand::ForceDraw => "force_draw",
+        _ => "another command",
+    }
 }

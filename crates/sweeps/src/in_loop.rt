@@ -2,9 +2,9 @@
 use indicatif::{
     Drawn, NoTracker, OwnedBar, ProgressBarIter, ProgressDrawTarget, Refusal, Setup, StepClock,
 };
-use judged::played::Stage;
-use judged::record::Behind;
-use judged::script::{Said, Step};
+use scripts::judged::played::Stage;
+use scripts::judged::record::Behind;
+use scripts::judged::script::{Said, Step};
 use std::alloc::Global;
 use std::ops::Range;
 

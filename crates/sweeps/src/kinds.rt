@@ -2,12 +2,12 @@
 use crate::in_loop::InLoop;
 use crate::on_shared::OnShared;
 use crate::sweep::Case;
-use judged::judge::{Finding, Judge};
-use judged::on_bar::OnBar;
-use judged::on_board::OnBoard;
-use judged::played::{Stage, played};
-use judged::record::{Mark, Record};
-use judged::script::{BOARD, LONE, SHARED, SIZED_BOARD, SIZED_LONE, Step};
+use scripts::judged::judge::{Finding, Judge};
+use scripts::judged::on_bar::OnBar;
+use scripts::judged::on_board::OnBoard;
+use scripts::judged::played::{Stage, played};
+use scripts::judged::record::{Mark, Record};
+use scripts::judged::script::{BOARD, LONE, SHARED, SIZED_BOARD, SIZED_LONE, Step};
 use std::alloc::Global;
 use std::sync::Wait;
 

@@ -27,9 +27,9 @@ use crate::planted::PLANTED;
 use crate::printing::Printed;
 use crate::sweep::{LARGEST, Runs, Sweep, Tally};
 use anyhow::{Result, anyhow};
-use judged::judge::Finding;
-use judged::record::Size;
-use judged::refused::Where;
+use scripts::judged::judge::Finding;
+use scripts::judged::record::Size;
+use scripts::judged::refused::Where;
 use std::env::{self, Env};
 use std::io;
 

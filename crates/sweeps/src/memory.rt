@@ -5,12 +5,12 @@ use crate::on_shared::OnShared;
 use crate::printing;
 use crate::sweep::Runs;
 use indicatif_text::columns::Refusal;
-use judged::judge::Finding;
-use judged::on_bar::OnBar;
-use judged::on_board::OnBoard;
-use judged::record::{Behind, Plan, Record, Size};
-use judged::refused::{Notes, Run, Stages, Where, noted};
-use judged::script::{BOARD, LONE, SHARED, SIZED_BOARD, SIZED_LONE, Step};
+use scripts::judged::judge::Finding;
+use scripts::judged::on_bar::OnBar;
+use scripts::judged::on_board::OnBoard;
+use scripts::judged::record::{Behind, Plan, Record, Size};
+use scripts::judged::refused::{Notes, Run, Stages, Where, noted};
+use scripts::judged::script::{BOARD, LONE, SHARED, SIZED_BOARD, SIZED_LONE, Step};
 use std::alloc::Global;
 use std::rc::Rc;
 

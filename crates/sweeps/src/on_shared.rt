@@ -3,10 +3,10 @@ use indicatif::{
     Drawn, MultiProgress, MultiProgressAlignment, ProgressBar, ProgressDrawTarget, ProgressFinish,
     ProgressStyle, Refusal, Setup, StepClock,
 };
-use judged::on_board::done;
-use judged::played::Stage;
-use judged::record::{Behind, Record};
-use judged::script::{Said, Step};
+use scripts::judged::on_board::done;
+use scripts::judged::played::Stage;
+use scripts::judged::record::{Behind, Record};
+use scripts::judged::script::{Said, Step};
 use std::alloc::Global;
 use std::rc::Rc;
 use std::sync::Wait;

@@ -2,12 +2,12 @@
 use crate::memory::Boards;
 use crate::sweep::LARGEST;
 use indicatif_text::columns::{Drawn, Refusal};
-use judged::judge::Finding;
-use judged::on_board::OnBoard;
-use judged::played::Stage;
-use judged::record::{Behind, Plan, Record, Size, Wire};
-use judged::refused::{Notes, Run, Where, noted};
-use judged::script::{BOARD, SIZED_BOARD, Said, Step};
+use scripts::judged::judge::Finding;
+use scripts::judged::on_board::OnBoard;
+use scripts::judged::played::Stage;
+use scripts::judged::record::{Behind, Plan, Record, Size, Wire};
+use scripts::judged::refused::{Notes, Run, Where, noted};
+use scripts::judged::script::{BOARD, SIZED_BOARD, Said, Step};
 use std::alloc::Global;
 use std::io::Write;
 use std::rc::Rc;

@@ -2,9 +2,9 @@
 use crate::sweep::LARGEST;
 use anyhow::Result;
 use bars_run::run_bars;
-use judged::judge::Finding;
-use judged::record::{Mark, Plan, Record, Size, Wire};
-use judged::refused::Where;
+use scripts::judged::judge::Finding;
+use scripts::judged::record::{Mark, Plan, Record, Size, Wire};
+use scripts::judged::refused::Where;
 use std::alloc::{AllocError, Global};
 
 /// What is played, and what it prints on four rows and ten columns: `b` is finished and cleared when it is dropped, and the row of `c` stays

@@ -1,7 +1,7 @@
 //! The runs of a script, one for each place where its terminal can fail.
 use crate::kinds::{Kind, run};
-use judged::judge::{Finding, Look};
-use judged::record::{Mark, Plan, Size};
+use scripts::judged::judge::{Finding, Look};
+use scripts::judged::record::{Mark, Plan, Size};
 use std::sync::Wait;
 
 /// A run: what plays its script, on a terminal of this size that fails so, and how closely it is looked at.

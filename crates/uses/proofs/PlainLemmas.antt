@@ -66,7 +66,7 @@ module _ {K : Type 0} (m : Tracking K) where
 
 -- ---- such names are plain
 
-printed_plain : (text : List ℕ) → AllByRecursion (IsInRange 0x20 0x7E) text → IsPlainText text
+pub printed_plain : (text : List ℕ) → AllByRecursion (IsInRange 0x20 0x7E) text → IsPlainText text
 printed_plain text all = printed_is_plain text (All-from_recursion (IsInRange 0x20 0x7E) text all)
 
 pub first_plain : IsPlainText first_name

@@ -1,6 +1,7 @@
 //! What is known of shared bars and boards, and of lists and pieces that threads work on.
-ghost use Rattle.std.specs.Prelude.{◌≡◌, ◌⊎◌, ◌<◌, ◌+◌, ◌*◌, ◌%◌, ◌^◌, IfOk, IfErr, IfSome, OnOk, Some, Err, length};
+ghost use Rattle.std.specs.Prelude.{◌≡◌, ◌≢◌, ◌⊎◌, ◌<◌, ◌+◌, ◌*◌, ◌%◌, ◌^◌, IfOk, IfErr, IfSome, OnOk, Some, Ok, Err, length};
 ghost use Rattle.std.specs.List.{AllZip};
+ghost use Rattle.indicatif_text.specs.declared.refusal.Drawn.TheVariants.{Limited};
 ghost use Rattle.indicatif_bar.specs.Commands.{Inc};
 ghost use Rattle.indicatif_bar.specs.Lone.{Obey};
 ghost use Rattle.indicatif.specs.Fronts.{CanAnswer};
@@ -10,12 +11,22 @@ ghost use Rattle.indicatif.specs.Wrap.{inner_of};
 use indicatif::laws::blocks_add_up;
 use indicatif::style::Tracks;
 use indicatif::{
-    Clock, Gate, Moves, MultiProgress, ParallelProgressIterator, ProgressBar, ProgressBarIter,
-    Refusal, TermLike, run_workers,
+    Clock, Drawn, Gate, Moves, MultiProgress, ParallelProgressIterator, ProgressBar,
+    ProgressBarIter, Refusal, TermLike, run_workers,
 };
 use std::alloc::Global;
 use std::sync::Wait;
 use std::thread::Threads;
+
+/// A draw by force, which no limiter puts off, wherever the bar stands.
+#[tactic(auto, unfolding(indicatif::specs::Fronts::CanAnswer))]
+pub fn drawn_now<T: TermLike + Drop, C: Clock + Drop, R: Wait + Clone + Drop, K: Tracks>(
+    bar: &ProgressBar<T, C, R, K>,
+) -> Result<Drawn, Refusal>
+    ensures { result ≢ Ok Limited }
+{
+    bar.force_draw()
+}
 
 /// The number after this one, found while the rows of a bar are taken back; where the bar's step is refused, a bar can refuse it so.
 pub fn next_beside<T: TermLike + Drop, C: Clock + Drop, R: Wait + Clone + Drop, K: Tracks>(
@@ -23,7 +34,7 @@ pub fn next_beside<T: TermLike + Drop, C: Clock + Drop, R: Wait + Clone + Drop, 
     number: u32,
 ) -> Result<u32, Refusal>
     ensures next { IfOk result (λ next. next ≡ (number + 1) % 2 ^ 32) }
-    ensures refused { IfErr result (λ e. CanAnswer K.means T.view (Obey (Inc 1)) (Err e)) }
+    ensures refused { IfErr result (λ e. CanAnswer K (Obey (Inc 1)) (Err e)) }
 {
     match bar.inc(1) {
         Ok(_) => {

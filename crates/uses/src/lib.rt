@@ -10,6 +10,8 @@
 //! - `loops`: what a loop makes of the bar that shows its progress.
 //! - `lent`: what is known of a bar or a board that was lent.
 //! - `plain`: what stands where the texts are plain, with no premise on states.
+//! - `sizes`: that another size takes no memory where nothing stands.
+//! - `programs`: what a program prints, where its words and its input are known.
 //! - `sums`: what threads add up to.
 //! - `warnings`: that a warning on a board is one log of its line.
 #![tactic(auto)]
@@ -22,7 +24,9 @@ pub mod lent;
 pub mod logs;
 pub mod loops;
 pub mod plain;
+pub mod programs;
 pub mod runs;
+pub mod sizes;
 pub mod sums;
 pub mod texts;
 pub mod warnings;

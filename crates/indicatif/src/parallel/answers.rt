@@ -1,5 +1,5 @@
 //! What threads answer at the items of a list.
-ghost use Rattle.std.specs.Prelude.{◌≡◌, ◌≤◌, ◌<◌, ◌++◌, [], ℕ, IfOk, IfErr, OnOk, IsOkAnd, length, All};
+ghost use Rattle.std.specs.Prelude.{◌≡◌, ◌≤◌, ◌<◌, ◌++◌, [], ℕ, Err, IfOk, IfErr, OnOk, IsOkAnd, length, All};
 ghost use Rattle.std.specs.List.{AllZip};
 ghost use Rattle.std.specs.Fn.{FnReturnsAt};
 ghost use Rattle.std.specs.Thread.{IsSync, IsSend};
@@ -28,7 +28,11 @@ pub fn map_in_threads<R: Threads + Sync, T: Sync, A: Send + Drop, F: Fn(&T) -> A
     ensures list { IfOk result.0 (λ made. AllZip (FnReturnsAt F.Fn f.now) items.now made.items) }
     ensures bar { OnOk result.0 (Blocks P.stands P.leads bar (length items.now) result.1) }
     ensures memory { IfErr result.0 (λ e. (e ≡ Refusal.Memory) × ((n : ℕ) × (n ≤ length items.now) × Blocks P.stands P.leads bar n result.1)) }
+    ensures some { result.0 ≡ Err Refusal.Memory → 0 < length items.now }
 {
+    if items.is_empty() {
+        return (Ok(Vec::new(alloc)), bar);
+    }
     let course = Course::new(rt, bar, items.len());
     let Ok(room) = Vec::with_capacity(alloc, items.len()) else {
         return (Err(Refusal::Memory), course.bar);

@@ -1,14 +1,12 @@
 //! Several bars on one target, which threads share.
-ghost use Rattle.std.specs.Prelude.{◌≡◌, ◌⊎◌, IfErr, Err};
-ghost use Rattle.indicatif_term.specs.Engines.{is_bottom};
-ghost use Rattle.indicatif_board.specs.Boards.{Id, End, Index, FromBack, Before, After, Log, Clear, Align, Remove, Refused};
-ghost use Rattle.indicatif_board.specs.Calls.{place_at};
-ghost use Rattle.indicatif.specs.SharedBoards.{SharedAnswers, SharedDraws, SharedSuspends, SharedTakes};
+ghost use Rattle.std.specs.Prelude.{◌≡◌, ◌⊎◌, IsTrue, IfErr};
+ghost use Rattle.indicatif.specs.Fronts.{of_a_draw, of_a_clear, IsMissing};
 
 use crate::progress_bar::ProgressBar;
-use crate::progress_bar::kept::{Kept, Shared, SharedBoard, Unrecorded};
+use crate::progress_bar::any_board::AnyBoard;
+use crate::progress_bar::locked_board::{LockedBoard, SharedBoard};
 use indicatif_bar::style::{NoTracker, Tracks};
-use indicatif_board::multi::{Call, InsertLocation, Recorded};
+use indicatif_board::multi::{Board, Call, InsertLocation, Recorded};
 use indicatif_term::draw_target::{MultiProgressAlignment, ProgressDrawTarget, Setup};
 use indicatif_term::term_like::TermLike;
 use indicatif_text::columns::{Clock, Drawn, Refusal};
@@ -24,8 +22,11 @@ use std::sync::{Arc, Mutex, Wait};
 ///
 /// Boards are told apart by their marks alone: give those that live at one time marks of their own.
 ///
-/// Its clauses say which answers come: for some board and some moment they are the board's; or `Memory`, where the history or a
-/// text that the board is handed finds none. That the board under the lock was changed so is what tests show.
+/// Only a board that keeps its history (`recorded`) takes memory for each call: one entry. Where its history has no room, the call
+/// answers `Memory`, and nothing has changed. On any other board a call takes what `Board` says, and for a text that isn't empty a copy.
+///
+/// Its clauses say which answers a call can have, whatever the board is. They don't see which boards keep a history, so they allow
+/// `Memory` of each. That the board under the lock was changed so is what tests show.
 ///
 /// ```
 /// let board = MultiProgress::new(rt, rt.alloc(), setup, 1)?;
@@ -39,7 +40,7 @@ pub struct MultiProgress<
     R: Wait + Clone + Drop,
     K: Tracks = NoTracker,
 > {
-    board: Shared<K, T, C>,
+    board: SharedBoard<K, T, C>,
     alloc: Global,
     rt: R,
 }
@@ -104,8 +105,8 @@ impl<T: TermLike + Drop, C: Clock + Drop, R: Wait + Clone + Drop, K: Tracks> Mul
         ensures { IfErr result (λ e. e ≡ Refusal.Memory) }
     {
         let Setup { target, clock } = setup;
-        let kept = Kept::Open(Unrecorded::new(alloc, target, mark));
-        MultiProgress::shared(rt, alloc, SharedBoard::new(kept, clock))
+        let board = AnyBoard::Open(Board::new(alloc, target, mark));
+        MultiProgress::shared(rt, alloc, LockedBoard::new(board, clock))
     }
 
     /// The same as `keyed`, and the board keeps its history; `with_record` lends it. It grows with each call.
@@ -120,8 +121,8 @@ impl<T: TermLike + Drop, C: Clock + Drop, R: Wait + Clone + Drop, K: Tracks> Mul
         ensures { IfErr result (λ e. e ≡ Refusal.Memory) }
     {
         let Setup { target, clock } = setup;
-        let kept = Kept::Recorded(Recorded::new(alloc, target, mark));
-        MultiProgress::shared(rt, alloc, SharedBoard::new(kept, clock))
+        let board = AnyBoard::Recorded(Recorded::new(alloc, target, mark));
+        MultiProgress::shared(rt, alloc, LockedBoard::new(board, clock))
     }
 
     /// What its texts are made by.
@@ -130,7 +131,7 @@ impl<T: TermLike + Drop, C: Clock + Drop, R: Wait + Clone + Drop, K: Tracks> Mul
     }
 
     /// A board under its lock.
-    fn shared(rt: R, alloc: Global, board: SharedBoard<K, T, C>) -> Result<Self, Refusal>
+    fn shared(rt: R, alloc: Global, board: LockedBoard<K, T, C>) -> Result<Self, Refusal>
         ensures { IfErr result (λ e. e ≡ Refusal.Memory) }
     {
         match Arc::new(alloc, Mutex::new(board)) {
@@ -149,7 +150,7 @@ impl<T: TermLike + Drop, C: Clock + Drop, R: Wait + Clone + Drop, K: Tracks> Mul
     /// let bar = board.add(bar)?; // it is drawn among the board's bars from now on
     /// ```
     pub fn add(&self, bar: ProgressBar<T, C, R, K>) -> Result<ProgressBar<T, C, R, K>, Refusal>
-        ensures { IfErr result (λ e. SharedTakes K.means T.view End (Err e)) }
+        ensures { IfErr result IsMissing }
     {
         self.take_in(InsertLocation::End, bar)
     }
@@ -160,7 +161,7 @@ impl<T: TermLike + Drop, C: Clock + Drop, R: Wait + Clone + Drop, K: Tracks> Mul
         index: usize,
         bar: ProgressBar<T, C, R, K>,
     ) -> Result<ProgressBar<T, C, R, K>, Refusal>
-        ensures { IfErr result (λ e. SharedTakes K.means T.view (Index index) (Err e)) }
+        ensures { IfErr result IsMissing }
     {
         self.take_in(InsertLocation::Index(index), bar)
     }
@@ -171,7 +172,7 @@ impl<T: TermLike + Drop, C: Clock + Drop, R: Wait + Clone + Drop, K: Tracks> Mul
         count: usize,
         bar: ProgressBar<T, C, R, K>,
     ) -> Result<ProgressBar<T, C, R, K>, Refusal>
-        ensures { IfErr result (λ e. SharedTakes K.means T.view (FromBack count) (Err e)) }
+        ensures { IfErr result IsMissing }
     {
         self.take_in(InsertLocation::FromBack(count), bar)
     }
@@ -184,7 +185,7 @@ impl<T: TermLike + Drop, C: Clock + Drop, R: Wait + Clone + Drop, K: Tracks> Mul
         anchor: &ProgressBar<T, C, R, K>,
         bar: ProgressBar<T, C, R, K>,
     ) -> Result<ProgressBar<T, C, R, K>, Refusal>
-        ensures { IfErr result (λ e. (e ≡ Refusal.NotMember) ⊎ ((id : Id) × SharedTakes K.means T.view (Before id) (Err e))) }
+        ensures { IfErr result IsMissing }
     {
         match anchor.id() {
             Some(id) => self.take_in(InsertLocation::Before(id), bar),
@@ -198,7 +199,7 @@ impl<T: TermLike + Drop, C: Clock + Drop, R: Wait + Clone + Drop, K: Tracks> Mul
         anchor: &ProgressBar<T, C, R, K>,
         bar: ProgressBar<T, C, R, K>,
     ) -> Result<ProgressBar<T, C, R, K>, Refusal>
-        ensures { IfErr result (λ e. (e ≡ Refusal.NotMember) ⊎ ((id : Id) × SharedTakes K.means T.view (After id) (Err e))) }
+        ensures { IfErr result IsMissing }
     {
         match anchor.id() {
             Some(id) => self.take_in(InsertLocation::After(id), bar),
@@ -213,7 +214,7 @@ impl<T: TermLike + Drop, C: Clock + Drop, R: Wait + Clone + Drop, K: Tracks> Mul
         at: InsertLocation,
         bar: ProgressBar<T, C, R, K>,
     ) -> Result<ProgressBar<T, C, R, K>, Refusal>
-        ensures { IfErr result (λ e. SharedTakes K.means T.view (place_at at) (Err e)) }
+        ensures { IfErr result IsMissing }
     {
         let Ok(board) = Arc::try_clone(&self.board) else {
             return Err(Refusal::Memory);
@@ -225,17 +226,22 @@ impl<T: TermLike + Drop, C: Clock + Drop, R: Wait + Clone + Drop, K: Tracks> Mul
     /// Takes a bar out of the order: it stands alone from now on, and is hidden. What it shows stays until the next draw. A bar that
     /// stands alone stays as it is.
     ///
-    /// Refused: `ForeignBar` for a bar of another board; `Memory`, where the history finds none. Nothing has changed then.
+    /// Refused: `ForeignBar` for a bar of another board; `Memory`, only of a board that keeps its history, where that has no room. Nothing
+    /// has changed then.
     pub fn remove(&self, bar: &ProgressBar<T, C, R, K>) -> Result<(), Refusal>
-        ensures { IfErr result (λ e. (id : Id) × SharedAnswers K.means T.view (Remove id) (Refused e)) }
+        ensures { IfErr result (λ e. (e ≡ Refusal.Memory) ⊎ (e ≡ Refusal.ForeignBar)) }
     {
         bar.take_out(&self.board)
     }
 
     /// Writes the text's lines above the bars, by force; the bars go on below them. On a hidden target the text is dropped: print it
     /// yourself where `is_hidden` says so.
+    ///
+    /// Refused: as `Board::println`; `Memory` also for a copy of the text, on a hidden target too, and where the history has no room. Nothing
+    /// has changed then.
+    #[tactic(auto, unfolding(crate::specs::SharedBoards::SharedDraws))]
     pub fn println(&self, text: &str) -> Result<Drawn, Refusal>
-        ensures { SharedDraws K.means T.view (Log text.now) result }
+        ensures { IsTrue (of_a_draw result) }
     {
         match String::from_str(self.alloc, text) {
             Ok(text) => self.board.lock(&self.rt).draw(Call::Log(text)),
@@ -244,8 +250,12 @@ impl<T: TermLike + Drop, C: Clock + Drop, R: Wait + Clone + Drop, K: Tracks> Mul
     }
 
     /// Takes the bars' rows back, by force. The next draw shows the bars again, but for those that were dropped.
+    ///
+    /// Refused: as `Board::clear`, which takes no memory; `Memory`, only of a board that keeps its history, where that has no room. Nothing
+    /// has changed then.
+    #[tactic(auto, unfolding(crate::specs::SharedBoards::SharedDraws))]
     pub fn clear(&self) -> Result<Drawn, Refusal>
-        ensures { SharedDraws K.means T.view Clear result }
+        ensures { IsTrue (of_a_clear result) }
     {
         self.board.lock(&self.rt).draw(Call::Clear)
     }
@@ -255,16 +265,17 @@ impl<T: TermLike + Drop, C: Clock + Drop, R: Wait + Clone + Drop, K: Tracks> Mul
     pub fn suspend<F: FnOnce() -> A, A>(&self, f: F) -> (A, Result<Drawn, Refusal>)
         requires { F.pre f }
         ensures value { F.post f result.0 }
-        ensures drawn { SharedSuspends K.means T.view result.1 }
+        ensures drawn { IsTrue (of_a_draw result.1) }
     {
         self.board.lock(&self.rt).suspend(f)
     }
 
     /// Whether bars stand at the top of what is taken back, or at its bottom, from the next draw on.
     ///
-    /// Refused: `Memory`, where the history finds none; nothing has changed then.
+    /// Refused: `Memory`, only of a board that keeps its history, where that has no room; nothing has changed then.
+    #[tactic(auto, using(crate::proofs::AnswerLemmas::aligned_so))]
     pub fn set_alignment(&self, alignment: MultiProgressAlignment) -> Result<(), Refusal>
-        ensures { IfErr result (λ e. SharedDraws K.means T.view (Align (is_bottom alignment)) (Err e)) }
+        ensures { IfErr result (λ e. e ≡ Refusal.Memory) }
     {
         self.board.lock(&self.rt).draw(Call::Align(alignment))?;
         Ok(())
@@ -276,7 +287,7 @@ impl<T: TermLike + Drop, C: Clock + Drop, R: Wait + Clone + Drop, K: Tracks> Mul
     pub fn set_draw_target(&self, target: ProgressDrawTarget<T>) -> Result<(), Refusal>
         ensures { IfErr result (λ e. e ≡ Refusal.RecordedTarget) }
     {
-        self.board.lock(&self.rt).kept.set_draw_target(target)
+        self.board.lock(&self.rt).board.set_draw_target(target)
     }
 
     /// Whether draws write the bars' lines over the old ones, by moves of the cursor alone: up to the first row, to its front, and each
@@ -292,12 +303,12 @@ impl<T: TermLike + Drop, C: Clock + Drop, R: Wait + Clone + Drop, K: Tracks> Mul
     pub fn set_move_cursor(&self, on: bool) -> Result<(), Refusal>
         ensures { IfErr result (λ e. e ≡ Refusal.RecordedTarget) }
     {
-        self.board.lock(&self.rt).kept.set_move_cursor(on)
+        self.board.lock(&self.rt).board.set_move_cursor(on)
     }
 
     /// Whether the target is hidden: nothing is drawn until another is set.
     pub fn is_hidden(&self) -> bool {
-        self.board.lock(&self.rt).kept.board().is_hidden()
+        self.board.lock(&self.rt).board.as_board().is_hidden()
     }
 
     /// Lends the terminal to `f` under the lock; `None` where the target is hidden.
@@ -305,15 +316,15 @@ impl<T: TermLike + Drop, C: Clock + Drop, R: Wait + Clone + Drop, K: Tracks> Mul
         requires { F.IsAlwaysCallable f }
         ensures { (shown : _) × F.post f shown result }
     {
-        let on = self.board.lock(&self.rt);
-        let shown = on.kept.board().term();
+        let locked = self.board.lock(&self.rt);
+        let shown = locked.board.as_board().term();
         f(shown)
     }
 
     /// Lends the board with its history to the reader under the lock; `None` where it keeps none.
     pub fn with_record<F: RecordReader<T, K>>(&self, reader: F) -> F::Found {
-        let on = self.board.lock(&self.rt);
-        reader.read(on.kept.record())
+        let locked = self.board.lock(&self.rt);
+        reader.read(locked.board.as_recorded())
     }
 }
 
@@ -334,7 +345,7 @@ impl<T: TermLike + Drop, C: Clock + Clone + Drop, R: Wait + Clone + Drop, K: Tra
     /// Refused: `Memory`; nothing has changed then.
     #[tactic(auto, using(crate::proofs::FrontLemmas::not_taken))]
     pub fn new_bar(&self, len: u64) -> Result<ProgressBar<T, C, R, K>, Refusal>
-        ensures { IfErr result (λ e. SharedTakes K.means T.view End (Err e)) }
+        ensures { IfErr result IsMissing }
     {
         let Ok((rt, setup)) = self.setup() else {
             return Err(Refusal::Memory);
@@ -350,7 +361,7 @@ impl<T: TermLike + Drop, C: Clock + Clone + Drop, R: Wait + Clone + Drop, K: Tra
     /// Refused: `Memory`; nothing has changed then.
     #[tactic(auto, using(crate::proofs::FrontLemmas::not_taken))]
     pub fn new_spinner(&self) -> Result<ProgressBar<T, C, R, K>, Refusal>
-        ensures { IfErr result (λ e. SharedTakes K.means T.view End (Err e)) }
+        ensures { IfErr result IsMissing }
     {
         let Ok((rt, setup)) = self.setup() else {
             return Err(Refusal::Memory);

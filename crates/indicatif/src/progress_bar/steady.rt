@@ -1,11 +1,12 @@
-//! A thread that ticks a bar.
-ghost use Rattle.std.specs.Prelude.{◌≡◌, ◌⊎◌, true, IsTrue, is_ok, IfErr, Err};
+//! The thread that ticks a bar, and its end.
+ghost use Rattle.std.specs.Prelude.{◌≡◌, ◌⊎◌, true, false, IsTrue, is_ok, IfErr, Err};
+ghost use Rattle.indicatif_bar.specs.Commands as Command;
 ghost use Rattle.indicatif_bar.specs.Commands.{SetTicker};
 ghost use Rattle.indicatif_bar.specs.Lone as Lone;
 ghost use Rattle.indicatif.specs.Fronts.{CanAnswer};
 
 use crate::progress_bar::ProgressBar;
-use crate::progress_bar::held::Locked;
+use crate::progress_bar::locked_bar::SharedBar;
 use indicatif_bar::state::BarCommand;
 use indicatif_bar::style::Tracks;
 use indicatif_term::term_like::TermLike;
@@ -19,20 +20,20 @@ use std::{thread, time};
 /// whole interval: what wakes it earlier without ending it, as the end of another ticker, makes it wait on.
 fn run_ticker<K: Tracks, T: TermLike + Drop, C: Clock + Drop, R: Wait + time::Clock>(
     rt: &R,
-    cell: &Locked<K, T, C>,
+    cell: &SharedBar<K, T, C>,
     number: u64,
     interval: Duration,
 ) {
     for _ in rt.forever() {
-        let mut held = cell.lock.lock(rt);
-        if !held.ticks_by(rt, number) {
+        let mut locked = cell.lock.lock(rt);
+        if !locked.ticks_by(rt, number) {
             break;
         }
-        let _ = held.tell(rt, BarCommand::TickerTick);
-        let (held, _) = cell
+        let _ = locked.tell(rt, BarCommand::TickerTick);
+        let (locked, _) = cell
             .changed
-            .wait_timeout_while(rt, held, interval, |held| held.awaits(number));
-        drop(held);
+            .wait_timeout_while(rt, locked, interval, |locked| locked.awaits(number));
+        drop(locked);
     }
 }
 
@@ -58,7 +59,7 @@ impl<
     #[tactic(auto, using(crate::proofs::FrontLemmas::place_answers))]
     pub fn enable_steady_tick(&self, nanos: u64) -> Result<(), Refusal>
         ensures idle { nanos ≡ 0 → IsTrue (is_ok result) }
-        ensures refused { IfErr result (λ e. (e ≡ Refusal.Memory) ⊎ CanAnswer K.means T.view (Lone.Obey (SetTicker true)) (Err e)) }
+        ensures refused { IfErr result (λ e. (e ≡ Refusal.Memory) ⊎ CanAnswer K (Lone.Obey (SetTicker true)) (Err e)) }
     {
         if nanos == 0 {
             return Ok(());
@@ -70,22 +71,45 @@ impl<
         let Ok(rt) = self.rt.clone() else {
             return Err(Refusal::Memory);
         };
-        let mut held = self.state.lock.lock(&self.rt);
-        let Some(number) = held.ticker.begin() else {
+        let mut locked = self.state.lock.lock(&self.rt);
+        let Some(number) = locked.ticker.begin() else {
             return Err(Refusal::Memory);
         };
         let run = move || run_ticker(&rt, &*cell, number, interval);
         match thread::spawn(&self.rt, run) {
             Ok(thread) => {
                 drop(thread);
-                if let Err(refusal) = held.install_ticker(&self.rt, number) {
+                if let Err(refusal) = locked.install_ticker(&self.rt, number) {
                     return Err(refusal);
                 }
-                drop(held);
+                drop(locked);
                 self.state.changed.notify_all();
                 Ok(())
             }
             Err(_) => Err(Refusal::Memory),
         }
+    }
+}
+
+impl<T: TermLike + Drop, C: Clock + Drop, R: Wait + Clone + Drop, K: Tracks> ProgressBar<
+    T,
+    C,
+    R,
+    K,
+> {
+    /// Stops the steady ticker. Its thread ends by itself; this doesn't wait for it.
+    ///
+    /// Refused: `Memory`, if the history of the bar's board finds none. Then the installed ticker goes on.
+    #[tactic(auto, using(crate::proofs::FrontLemmas::place_answers))]
+    pub fn disable_steady_tick(&self) -> Result<(), Refusal>
+        ensures { IfErr result (λ e. CanAnswer K (Lone.Obey (Command.SetTicker false)) (Err e)) }
+    {
+        let mut locked = self.state.lock.lock(&self.rt);
+        if let Err(refusal) = locked.disable_ticker(&self.rt) {
+            return Err(refusal);
+        }
+        drop(locked);
+        self.state.changed.notify_all();
+        Ok(())
     }
 }

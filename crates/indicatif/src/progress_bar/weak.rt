@@ -1,6 +1,6 @@
 //! A shared bar without an owner.
 use crate::progress_bar::ProgressBar;
-use crate::progress_bar::held::Locked;
+use crate::progress_bar::locked_bar::SharedBar;
 use indicatif_bar::style::{NoTracker, Tracks};
 use indicatif_term::term_like::TermLike;
 use indicatif_text::columns::Clock;
@@ -30,7 +30,7 @@ pub struct WeakProgressBar<
 /// A bar that was known.
 #[derive(Drop)]
 struct Known<T: TermLike + Drop, C: Clock + Drop, R: Wait + Clone + Drop, K: Tracks> {
-    state: Arc<Locked<K, T, C>, Global>,
+    state: Arc<SharedBar<K, T, C>, Global>,
     alloc: Global,
     rt: R,
 }
@@ -47,7 +47,7 @@ impl<T: TermLike + Drop, C: Clock + Drop, R: Wait + Clone + Drop, K: Tracks> Wea
     }
 
     /// Of this bar.
-    pub(crate) fn of(state: Arc<Locked<K, T, C>, Global>, alloc: Global, rt: R) -> Self {
+    pub(crate) fn of(state: Arc<SharedBar<K, T, C>, Global>, alloc: Global, rt: R) -> Self {
         WeakProgressBar {
             of: Some(Known { state, alloc, rt }),
         }
@@ -71,6 +71,22 @@ impl<T: TermLike + Drop, C: Clock + Drop, R: Wait + Clone + Drop, K: Tracks> Wea
         } else {
             Ok(None)
         }
+    }
+}
+
+impl<T: TermLike + Drop, C: Clock + Drop, R: Wait + Clone + Drop, K: Tracks> ProgressBar<
+    T,
+    C,
+    R,
+    K,
+> {
+    /// A weak reference to this bar, which isn't an owner.
+    ///
+    /// Refused: want of memory; the bar stays as it is.
+    pub fn downgrade(&self) -> Result<WeakProgressBar<T, C, R, K>, AllocError> {
+        let state = Arc::try_clone(&self.state)?;
+        let rt = self.rt.clone()?;
+        Ok(WeakProgressBar::of(state, self.alloc, rt))
     }
 }
 

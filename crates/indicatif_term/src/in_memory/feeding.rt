@@ -4,7 +4,7 @@ ghost use Rattle.indicatif_term.specs.Screen.{top};
 ghost use Rattle.indicatif_term.specs.Terminal.{after, blank_terminal, idle, byte_ops};
 ghost use Rattle.indicatif_term.specs.Feeding.{first_takes_memory, feeding_takes_memory};
 ghost use Rattle.indicatif_term.specs.Inside.Scanners.{IsWholeChar, IsWholeSequence};
-ghost use Rattle.indicatif_term.specs.Pictures.{contents_text, picture_text};
+ghost use Rattle.indicatif_term.specs.Pictures.{contents_text, has_contents, picture_text};
 ghost use Rattle.indicatif_term.specs.Resizes.{resized_terminal};
 
 use crate::in_memory::grid::Grid;
@@ -223,7 +223,7 @@ impl Cells {
     }
 
     /// The window's rows as text, up to the last one with a written cell, each without the blanks at its end, joined
-    /// by line feeds. Refused: `Memory`.
+    /// by line feeds. Refused: `Memory`, never where the window has no written cell.
     ///
     /// ```
     /// let mut cells = Cells::new(rt.alloc(), 3, 3)?;
@@ -232,7 +232,7 @@ impl Cells {
     /// ```
     pub fn contents(&self) -> Result<String, Refusal>
         ensures contents { IfOk result (λ t. string_bytes t ≡ contents_text self.now.screen) }
-        ensures refused { IfErr result (λ e. e ≡ Refusal.Memory) }
+        ensures refused { IfErr result (λ e. (e ≡ Refusal.Memory) × IsTrue (has_contents self.now.screen)) }
     {
         self.grid.contents()
     }

@@ -3,7 +3,7 @@ ghost use Rattle.std.specs.Prelude.{All, ◌≡◌, ℕ, ◌+◌, ◌-◌, ◌<�
 ghost use Rattle.std.specs.List.{join_with_byte};
 ghost use Rattle.indicatif_text.specs.Columns.{blank_row};
 ghost use Rattle.indicatif_term.specs.Screen.{Put, Return, Up, Down, Right, Left, EmptyRow, performed, performed_all, blank_screen, line_feed, put_wide, put_mark, put_here, top};
-ghost use Rattle.indicatif_term.specs.Pictures.{contents_text, picture_text, row_text, written_rows};
+ghost use Rattle.indicatif_term.specs.Pictures.{contents_text, has_contents, picture_text, row_text, written_rows};
 ghost use Rattle.indicatif_term.specs.Feeding.{op_takes_memory};
 ghost use Rattle.indicatif_term.specs.Inside.Grids.{op_of};
 ghost use Rattle.indicatif_term.specs.Inside.Runs.{run_chars, puts, TakesOneColumn};
@@ -117,10 +117,11 @@ impl Grid {
         texts_of(self.alloc, &self.rows)
     }
 
-    /// The texts of the window's rows up to the last one with a written cell, joined by line feeds. Refused: `Memory`.
+    /// The texts of the window's rows up to the last one with a written cell, joined by line feeds. Refused: `Memory`, only where there
+    /// is such a cell.
     pub(crate) fn contents(&self) -> Result<String, Refusal>
         ensures contents { IfOk result (λ t. string_bytes t ≡ contents_text self.now) }
-        ensures refused { IfErr result (λ e. e ≡ Refusal.Memory) }
+        ensures refused { IfErr result (λ e. (e ≡ Refusal.Memory) × IsTrue (has_contents self.now)) }
     {
         let top = self.rows.len() - usize::from(self.height);
         let window = &self.rows[top..];
@@ -406,11 +407,11 @@ fn written_length(rows: &[Row]) -> usize
     0
 }
 
-/// Appends the texts of rows to `out`, a line feed between each two. Refused: `Memory`.
+/// Appends the texts of rows to `out`, a line feed between each two. Refused: `Memory`, never for no rows.
 fn show_joined(alloc: Global, rows: &[Row], out: &mut String) -> Result<(), Refusal>
     requires { string_bytes out.old ≡ [] }
     ensures shown { OnOk result (string_bytes out.new ≡ join_with_byte 0x0A (map row_text rows.now)) }
-    ensures refused { IfErr result (λ e. e ≡ Refusal.Memory) }
+    ensures refused { IfErr result (λ e. (e ≡ Refusal.Memory) × (0 < length rows.now)) }
 {
     for (place, row) in rows.iter().enumerate() {
         if place > 0 {

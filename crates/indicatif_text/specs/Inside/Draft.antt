@@ -1,10 +1,12 @@
 -- A template that is half read, in the words of the grammar.
-use Rattle.std.specs.Prelude.{◌≡◌, ℕ, List, [], ◌∷◌, ◌++◌, map, take, drop, string_bytes, if◌then◌else◌}
+use Rattle.std.specs.Prelude.{◌≡◌, ◌⊎◌, ℕ, List, [], ◌∷◌, ◌++◌, map, take, drop, string_bytes, if◌then◌else◌, Result, MatchResult}
+use Rattle.std.specs.Borrow.{Bor}
 use Rattle.std.specs.Str.{chars}
 use Rattle.indicatif_text.specs.declared.template.TemplateError.{TemplateError}
+use Rattle.indicatif_text.specs.declared.template.TemplateError.TheVariants.{Memory}
 use Rattle.indicatif_text.specs.declared.template.draft.Draft.{Draft}
 use Rattle.indicatif_text.specs.declared.template.marks.Kind.{Kind}
-use Rattle.indicatif_text.specs.Template.{TemplatePart, LiteralText, LineBreak, KeyText, TemplatePiece, Char, Break, SpacedBrace, Keyed, LastBrace, LastKey, Reads, Refuses, is_open_run, without_open_run, onto_literal, joined_parts}
+use Rattle.indicatif_text.specs.Template.{TemplatePart, LiteralText, LineBreak, KeyText, TemplatePiece, Char, Break, SpacedBrace, Keyed, LastBrace, LastKey, Front, Takes, Stops, Reads, Refuses, is_open_run, without_open_run, onto_literal, joined_parts}
 use Rattle.indicatif_text.specs.Inside.Marks.{part_with, part_at}
 
 -- a template that is half read: its parts so far, the literal text that stays whatever follows, and the literal run that an
@@ -78,3 +80,8 @@ completed s ps = s.done ++ (if is_open_run ps then after_text s.kept [] else aft
 pub record GoesOn (before : Sketch) (text : List ℕ) (after : Sketch) (rest : List ℕ) : Type 0 where
   pub reads : (ps : List TemplatePiece) → Reads rest ps → (qs : List TemplatePiece) × Reads text qs × (completed before qs ≡ completed after ps)
   pub refuses : (place : List ℕ) (error : TemplateError) → Refuses rest place error → Refuses text place error
+
+-- a draft has taken up what stands in front of a text, and this text is left; or the error of the text, wherever its place, or of memory
+abbrev pub TakesIn : Front TemplatePiece → Sketch → Sketch → Result (Bor (List ℕ)) TemplateError → Type 0
+TakesIn front before after answer =
+    MatchResult answer (λ rest. (piece : TemplatePiece) × (front ≡ Takes (chars rest.now) piece) × (after ≡ added before piece)) (λ e. (e ≡ Memory) ⊎ ((place : List ℕ) × (front ≡ Stops place e)))

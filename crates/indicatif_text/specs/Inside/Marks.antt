@@ -2,15 +2,16 @@
 use Rattle.std.specs.Prelude.{◌≤◌, ℕ, List, slice_range, All, IsCharBoundary}
 use Rattle.std.specs.Str.{chars}
 use Rattle.indicatif_text.specs.declared.template.marks.Kind.{Kind}
-use Rattle.indicatif_text.specs.declared.template.marks.Kind.TheVariants.{Literal, NewLine, Placeholder}
+use Rattle.indicatif_text.specs.declared.template.marks.Kind.TheVariants.{Literal, NewLine, Key, Placeholder}
 use Rattle.indicatif_text.specs.declared.template.marks.Mark.{Mark}
-use Rattle.indicatif_text.specs.Template.{TemplatePart, LiteralText, LineBreak, KeyText}
+use Rattle.indicatif_text.specs.Template.{TemplatePart, LiteralText, LineBreak, KeyText, plain_layout}
 use Rattle.indicatif_text.specs.Inside.Reading.{layout_of}
 
 -- a part of this kind and text
 abbrev pub part_with : Kind → List ℕ → TemplatePart
 part_with Literal text = LiteralText text
 part_with NewLine text = LineBreak
+part_with Key text = KeyText text plain_layout
 part_with (Placeholder options) text = KeyText text (layout_of options)
 
 -- what a stored part is, by the bytes of all texts

@@ -1,5 +1,5 @@
 -- What the code of templates reads in front of a text, in the words of the grammar.
-use Rattle.std.specs.Prelude.{◌≡◌, ℕ, ◌+◌, ◌*◌, ◌==◌, ◌||◌, false, List, [], ◌∷◌, ◌++◌, filter, Option, Some, option_map, unwrap_or, Result, MatchResult}
+use Rattle.std.specs.Prelude.{◌≡◌, ℕ, ◌+◌, ◌*◌, ◌==◌, ◌||◌, false, List, [], ◌∷◌, filter, Option, Some, option_map, unwrap_or, Result, MatchResult}
 use Rattle.std.specs.Borrow.{Bor}
 use Rattle.std.specs.List.{list_any}
 use Rattle.std.specs.Char.{is_ascii_digit, digit_value}
@@ -8,23 +8,12 @@ use Rattle.indicatif_text.specs.declared.refusal.TemplateState.{TemplateState}
 use Rattle.indicatif_text.specs.declared.template.TemplateError.{TemplateError}
 use Rattle.indicatif_text.specs.declared.template.reading.Mix.{Mix}
 use Rattle.indicatif_text.specs.declared.template.reading.Options.{Options}
-use Rattle.indicatif_text.specs.declared.template.reading.Token.{Token}
-use Rattle.indicatif_text.specs.declared.template.reading.Token.TheVariants.{Literal, NewLine, Spaced, Placeholder, OpenBrace, OpenKey}
 use Rattle.indicatif_text.specs.StyleWords.{numbers_of}
-use Rattle.indicatif_text.specs.Template.{Layout, TemplatePiece, Char, Break, SpacedBrace, Keyed, LastBrace, LastKey, Front, Takes, Stops, number_of, is_too_wide, state_after}
+use Rattle.indicatif_text.specs.Template.{Layout, Front, Takes, Stops, number_of, is_too_wide, state_after}
 
 -- the layout of options
 abbrev pub layout_of : Options → Layout
 layout_of o = record { align = o.align; width = o.width; truncate = o.truncate; style = option_map numbers_of o.style; alternative = option_map numbers_of o.alternative }
-
--- the piece of a token
-abbrev pub piece_of : Token → TemplatePiece
-piece_of (Literal c) = Char c
-piece_of NewLine = Break
-piece_of (Spaced key c) = SpacedBrace ((0x7B ∷ chars key.now) ++ c ∷ [])
-piece_of (Placeholder key options) = Keyed (chars key.now) (layout_of options)
-piece_of OpenBrace = LastBrace
-piece_of OpenKey = LastKey
 
 -- what a mix holds of digits and exclamation marks whose first is met in this state
 pub record IsMix (state : TemplateState) (run : List ℕ) (mix : Mix) : Type 0 where
@@ -50,7 +39,6 @@ pub record IsMixBefore (state : TemplateState) (run : List ℕ) (mix : Mix) (lef
 abbrev pub TakesUp : Mix → ℕ → Mix → Type 0
 TakesUp mix c longer = (state : TemplateState) (run left : List ℕ) → IsMixBefore state run mix (c ∷ left) → IsMixBefore state run longer left
 
--- an answer is this front: what is taken and the text that is left, or the error, wherever its place
-abbrev pub IsFront : {A B : Type 0} → (B → A) → Front A → Result (B × Bor (List ℕ)) TemplateError → Type 0
-IsFront view front answer =
-    MatchResult answer (λ r. front ≡ Takes (chars r.1.now) (view r.0)) (λ e. (place : List ℕ) × (front ≡ Stops place e))
+-- an answer is this front, of which this was read: the text that is left, or the error, wherever its place
+abbrev pub IsRead : {A : Type 0} → Front A → A → Result (Bor (List ℕ)) TemplateError → Type 0
+IsRead front what answer = MatchResult answer (λ rest. front ≡ Takes (chars rest.now) what) (λ e. (place : List ℕ) × (front ≡ Stops place e))

@@ -1,10 +1,11 @@
 //! A template that is half read.
-ghost use Rattle.std.specs.Prelude.{◌≡◌, ◌∷◌, ◌++◌, [], ◌⊎◌, ◌<◌, chars, string_bytes, take, drop, length, OnOk, IfOk, IfErr, IsCharBoundary};
+ghost use Rattle.std.specs.Prelude.{◌≡◌, ℕ, List, ◌∷◌, ◌++◌, [], ◌⊎◌, ◌<◌, chars, string_bytes, take, drop, length, OnOk, IfOk, IfErr, IsCharBoundary};
 ghost use Rattle.indicatif_text.specs.Inside.Marks.{AreIn};
 
+use crate::refusal::TemplateState;
 use crate::spans::{Span, split_first, split_span};
 use crate::template::marks::{Kind, Mark};
-use crate::template::reading::{Options, Token, front};
+use crate::template::reading::{Options, with_options};
 use crate::template::{Template, TemplateError};
 use std::alloc::{AllocError, Global};
 
@@ -25,9 +26,9 @@ pub(super) struct Draft {
 }
 
 impl Draft {
-    ghost use Rattle.indicatif_text.specs.Template.{LineBreak, Char, SpacedBrace, Keyed, LastBrace, IsRefused};
-    ghost use Rattle.indicatif_text.specs.Inside.Reading.{piece_of, layout_of};
-    ghost use Rattle.indicatif_text.specs.Inside.Draft.{GoesOn, sketch_of, empty_sketch, sketched_parts, kept_sketch, closed_sketch, marked_sketch, with_part, with_run, added};
+    ghost use Rattle.indicatif_text.specs.Template.{LineBreak, Char, SpacedBrace, Keyed, LastBrace, plain_layout, with_options, keyed, unfinished, key_ends, opened, closed, IsRefused};
+    ghost use Rattle.indicatif_text.specs.Inside.Reading.{layout_of};
+    ghost use Rattle.indicatif_text.specs.Inside.Draft.{Sketch, GoesOn, TakesIn, sketch_of, empty_sketch, sketched_parts, kept_sketch, closed_sketch, marked_sketch, with_part, with_run, added};
 
     /// Nothing so far, with room for the texts of a text of `len` bytes, and for a part to every four of them, but for a few alone.
     pub(super) fn new(alloc: Global, len: usize) -> Result<Draft, AllocError>
@@ -51,6 +52,7 @@ impl Draft {
     }
 
     /// Makes the text behind the parts the text of a further part.
+    #[inline]
     fn close(&mut self, kind: Kind) -> Result<(), AllocError>
         ensures { OnOk result (sketch_of self.new ≡ marked_sketch (sketch_of self.old) kind) }
     {
@@ -63,6 +65,7 @@ impl Draft {
     }
 
     /// Makes a part of the literal text, if there is one.
+    #[inline]
     fn close_literal(&mut self) -> Result<(), AllocError>
         ensures { OnOk result (sketch_of self.new ≡ closed_sketch (sketch_of self.old)) }
     {
@@ -73,6 +76,7 @@ impl Draft {
     }
 
     /// Adds the end of a line.
+    #[inline(never)]
     fn push_new_line(&mut self) -> Result<(), AllocError>
         ensures { OnOk result (sketch_of self.new ≡ with_part (sketch_of self.old) LineBreak) }
     {
@@ -81,6 +85,7 @@ impl Draft {
     }
 
     /// Adds characters that stand for themselves.
+    #[inline]
     pub(super) fn push_run(&mut self, text: &str) -> Result<(), AllocError>
         ensures { OnOk result (sketch_of self.new ≡ with_run (sketch_of self.old) (chars text.now)) }
     {
@@ -89,6 +94,7 @@ impl Draft {
     }
 
     /// Adds a character that stands for itself.
+    #[inline(never)]
     fn push_literal(&mut self, c: char) -> Result<(), AllocError>
         ensures { OnOk result (sketch_of self.new ≡ added (sketch_of self.old) (Char c)) }
     {
@@ -97,6 +103,7 @@ impl Draft {
     }
 
     /// Drops the literal run.
+    #[inline(never)]
     fn drop_run(&mut self)
         ensures { sketch_of self.new ≡ added (sketch_of self.old) LastBrace }
     {
@@ -104,6 +111,7 @@ impl Draft {
     }
 
     /// Adds an opening brace that a white space makes literal.
+    #[inline(never)]
     fn push_spaced(&mut self, key: &str, space: char) -> Result<(), AllocError>
         ensures { OnOk result (sketch_of self.new ≡ added (sketch_of self.old) (SpacedBrace ((0x7B ∷ chars key.now) ++ space ∷ []))) }
     {
@@ -114,35 +122,117 @@ impl Draft {
         Ok(())
     }
 
-    /// Adds a placeholder.
-    pub(super) fn push_placeholder(&mut self, key: &str, options: Options) -> Result<(), AllocError>
-        ensures { OnOk result (sketch_of self.new ≡ added (sketch_of self.old) (Keyed (chars key.now) (layout_of options))) }
+    /// Ends the literal text and begins the text of a placeholder.
+    #[inline]
+    fn push_name(&mut self, key: &str) -> Result<(), AllocError>
+        ensures { OnOk result (sketch_of self.new ≡ with_run (closed_sketch (sketch_of self.old)) (chars key.now)) }
     {
         self.close_literal()?;
-        self.push_run(key)?;
-        self.close(Kind::Placeholder(options))
+        self.push_run(key)
     }
 
-    /// Adds a token.
-    fn push_token(&mut self, token: Token<'_>) -> Result<(), AllocError>
-        ensures { OnOk result (sketch_of self.new ≡ added (sketch_of self.old) (piece_of token.entry)) }
+    /// Adds a placeholder that has no options.
+    #[inline]
+    pub(super) fn push_key(&mut self, key: &str) -> Result<(), AllocError>
+        ensures { OnOk result (sketch_of self.new ≡ added (sketch_of self.old) (Keyed (chars key.now) plain_layout)) }
     {
-        match token {
-            Token::Literal(c) => self.push_literal(c),
-            Token::NewLine => self.push_new_line(),
-            Token::Spaced(key, space) => self.push_spaced(key, space),
-            Token::Placeholder(key, options) => self.push_placeholder(key, options),
-            Token::OpenBrace => {
-                self.drop_run();
-                Ok(())
-            }
-            Token::OpenKey => Ok(()),
+        self.push_name(key)?;
+        self.close(Kind::Key)
+    }
+
+    /// Reads the options of the placeholder that was begun, and adds it. Answers what is left of the text.
+    ///
+    /// Refused: what the options refuse; `Memory`.
+    #[inline(never)]
+    fn read_options<'a>(&mut self, text: &'a str) -> Result<&'a str, TemplateError>
+        ensures { (sketch : Sketch) (key : List ℕ) → sketch_of self.old ≡ with_run (closed_sketch sketch) key
+            → TakesIn (keyed key (with_options (chars text.now))) sketch (sketch_of self.new) result }
+    {
+        let mut options = Options::NONE;
+        let left = with_options(&mut options, text)?;
+        self.close(Kind::Placeholder(options))?;
+        Ok(left)
+    }
+
+    /// Takes up an opening brace and these key characters, behind which the text ends.
+    #[inline(never)]
+    fn push_unfinished(&mut self, key: &str)
+        ensures { sketch_of self.new ≡ added (sketch_of self.old) (unfinished (chars key.now)) }
+    {
+        if key.is_empty() {
+            self.drop_run();
         }
+    }
+
+    /// Reads what an opening brace begins, by the key characters behind it and the text after them, and answers what is left of it.
+    ///
+    /// Refused: `Unexpected` in `MaybeOpen` where there is no key; what the options refuse; `Memory`.
+    #[inline]
+    fn read_key<'a>(&mut self, key: &'a str, after: &'a str) -> Result<&'a str, TemplateError>
+        ensures { TakesIn (key_ends (chars key.now) (chars after.now)) (sketch_of self.old) (sketch_of self.new) result }
+    {
+        let Some((end, rest)) = split_first(after) else {
+            self.push_unfinished(key);
+            return Ok(after);
+        };
+        if end.is_ascii_whitespace() {
+            self.push_spaced(key, end)?;
+            return Ok(rest);
+        }
+        if key.is_empty() {
+            let state = TemplateState::MaybeOpen;
+            return Err(TemplateError::Unexpected { next: end, state });
+        }
+        self.push_name(key)?;
+        if end != '}' {
+            return self.read_options(rest);
+        }
+        self.close(Kind::Key)?;
+        Ok(rest)
+    }
+
+    /// Reads what an opening brace begins, before this text, and answers what is left of it.
+    ///
+    /// Refused: `Unexpected` in `MaybeOpen` where there is no key; what the options refuse; `Memory`.
+    #[inline]
+    fn read_open<'a>(&mut self, text: &'a str) -> Result<&'a str, TemplateError>
+        ensures { TakesIn (opened (chars text.now)) (sketch_of self.old) (sketch_of self.new) result }
+    {
+        let Some((first, rest)) = split_first(text) else {
+            self.drop_run();
+            return Ok(text);
+        };
+        if first == '{' {
+            self.push_literal('{')?;
+            return Ok(rest);
+        }
+        let (key, after) = split_span(text, Span::Key);
+        self.read_key(key, after)
+    }
+
+    /// Reads what a closing brace begins, before this text, and answers what is left of it.
+    ///
+    /// Refused: `Unexpected` in `DoubleClose` where another character follows; `Memory`.
+    #[inline(never)]
+    fn read_close<'a>(&mut self, text: &'a str) -> Result<&'a str, TemplateError>
+        ensures { TakesIn (closed (chars text.now)) (sketch_of self.old) (sketch_of self.new) result }
+    {
+        let Some((next, rest)) = split_first(text) else {
+            self.push_literal('}')?;
+            return Ok(text);
+        };
+        if next != '}' {
+            let state = TemplateState::DoubleClose;
+            return Err(TemplateError::Unexpected { next, state });
+        }
+        self.push_literal('}')?;
+        Ok(rest)
     }
 
     /// Reads a run of literal characters and the piece behind it, and answers what is left of the text.
     ///
     /// Refused: what the grammar refuses in this piece; `Memory`.
+    #[inline]
     pub(super) fn read<'a>(&mut self, text: &'a str) -> Result<&'a str, TemplateError>
         ensures leads { IfOk result (λ rest. GoesOn (sketch_of self.old) (chars text.now) (sketch_of self.new) (chars rest.now)) }
         ensures refused { IfErr result (λ e. (e ≡ TemplateError.Memory) ⊎ IsRefused (chars text.now) e) }
@@ -153,9 +243,14 @@ impl Draft {
         let Some((first, after)) = split_first(marked) else {
             return Ok(marked);
         };
-        let (token, rest) = front(first, after)?;
-        self.push_token(token)?;
-        Ok(rest)
+        if first == '{' {
+            return self.read_open(after);
+        }
+        if first == '}' {
+            return self.read_close(after);
+        }
+        self.push_new_line()?;
+        Ok(after)
     }
 
     /// The template of a text that was read to its end.

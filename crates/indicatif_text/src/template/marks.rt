@@ -3,8 +3,8 @@ ghost use Rattle.std.specs.Prelude.{◌≡◌};
 ghost use Rattle.indicatif_text.specs.Template.{part_of};
 ghost use Rattle.indicatif_text.specs.Inside.Marks.{IsIn, part_at};
 
-use crate::template::Part;
 use crate::template::reading::Options;
+use crate::template::{Alignment, Part};
 
 /// What a part of a template is, but for its text.
 #[derive(Clone, Copy, Debug, Drop)]
@@ -13,6 +13,8 @@ pub(super) enum Kind {
     Literal,
     /// The end of a line.
     NewLine,
+    /// The text of a key that has no options.
+    Key,
     /// The text of a key, laid out.
     Placeholder(Options),
 }
@@ -37,6 +39,14 @@ impl Mark {
         match self.kind {
             Kind::Literal => Part::Literal(text),
             Kind::NewLine => Part::NewLine,
+            Kind::Key => Part::Placeholder {
+                key: text,
+                align: Alignment::Left,
+                width: None,
+                truncate: false,
+                style: None,
+                alternative: None,
+            },
             Kind::Placeholder(options) => Part::Placeholder {
                 key: text,
                 align: options.align,

@@ -2,11 +2,11 @@
 ghost use Rattle.std.specs.Prelude.{◌≡◌, true, false, chars, option_map, take_while, MatchOption, IfOk, IsUtf8};
 ghost use Rattle.indicatif_text.specs.Inside.Spans.{in_words};
 ghost use Rattle.indicatif_text.specs.StyleWords.{numbers_of};
-ghost use Rattle.indicatif_text.specs.Template.{Takes, after_run, is_width_char, style_named, alignment_of, with_alternative, with_style, with_width, with_options, unfinished, key_ends, opened, closed, front};
-ghost use Rattle.indicatif_text.specs.Inside.Reading.{IsFront, layout_of, piece_of, IsMix, TakesUp};
+ghost use Rattle.indicatif_text.specs.Template.{Takes, after_run, is_width_char, style_named, alignment_of, with_alternative, with_style, with_width, with_options};
+ghost use Rattle.indicatif_text.specs.Inside.Reading.{IsRead, layout_of, IsMix, TakesUp};
 
 use crate::refusal::TemplateState;
-use crate::spans::{Span, Words, split_first, split_span};
+use crate::spans::{Words, split_first};
 use crate::style_words::Style;
 use crate::template::{Alignment, TemplateError};
 
@@ -31,6 +31,7 @@ impl Options {
 }
 
 /// The style that the words in front of a text name, and what follows them; no text is no style.
+#[inline(always)]
 fn style_named<'a>(text: &'a str, words: Words) -> (Option<Style>, &'a str)
     ensures style { option_map numbers_of result.0
         ≡ style_named (take_while (in_words words) (chars text.now)) }
@@ -123,64 +124,58 @@ fn alignment_of(c: char) -> Option<Alignment>
     }
 }
 
-/// An alternative style up to the closing brace, and what follows it.
-fn with_alternative<'a>(options: Options, text: &'a str) -> (Options, &'a str)
-    ensures value { with_alternative (layout_of options) (chars text.now)
-        ≡ Takes (chars result.1.now) (layout_of result.0) }
-    ensures utf8 { IsUtf8 result.1.now }
+/// An alternative style up to the closing brace goes to the options; answers what follows it.
+fn with_alternative<'a>(options: &mut Options, text: &'a str) -> &'a str
+    ensures value { with_alternative (layout_of options.old) (chars text.now)
+        ≡ Takes (chars result.now) (layout_of options.new) }
+    ensures utf8 { IsUtf8 result.now }
 {
     let (alternative, after) = style_named(text, Words::Alternative);
     match split_first(after) {
-        None => (options, after),
-        Some((_brace, rest)) => (
-            Options {
-                alternative,
-                ..options
-            },
-            rest,
-        ),
+        None => after,
+        Some((_brace, rest)) => {
+            options.alternative = alternative;
+            rest
+        }
     }
 }
 
-/// A style up to the closing brace, with an alternative one behind a slash, and what follows the brace.
-fn with_style<'a>(options: Options, text: &'a str) -> (Options, &'a str)
-    ensures value { with_style (layout_of options) (chars text.now)
-        ≡ Takes (chars result.1.now) (layout_of result.0) }
-    ensures utf8 { IsUtf8 result.1.now }
+/// A style up to the closing brace goes to the options, with an alternative one behind a slash; answers what follows the brace.
+#[inline(always)]
+fn with_style<'a>(options: &mut Options, text: &'a str) -> &'a str
+    ensures value { with_style (layout_of options.old) (chars text.now)
+        ≡ Takes (chars result.now) (layout_of options.new) }
+    ensures utf8 { IsUtf8 result.now }
 {
     let (style, after) = style_named(text, Words::Style);
     match split_first(after) {
-        None => (options, after),
+        None => after,
         Some((end, rest)) => {
-            let styled = Options { style, ..options };
+            options.style = style;
             if end == '}' {
-                (styled, rest)
+                rest
             } else {
-                with_alternative(styled, rest)
+                with_alternative(options, rest)
             }
         }
     }
 }
 
-/// Digits and exclamation marks, what may follow them up to the closing brace, and what follows the brace.
+/// Digits and exclamation marks go to the options, and what may follow them up to the closing brace; answers what follows the brace.
 ///
 /// Refused: `Unexpected` at a character that fits no case, in `state` where it's the first here; `WidthTooLarge`.
+#[inline(never)]
 fn with_width<'a>(
-    options: Options,
+    options: &mut Options,
     state: TemplateState,
     text: &'a str,
-) -> Result<(Options, &'a str), TemplateError>
-    ensures value { IsFront layout_of
-        (with_width (layout_of options) state (chars text.now)) result }
-    ensures utf8 { IfOk result (λ r. IsUtf8 r.1.now) }
+) -> Result<&'a str, TemplateError>
+    ensures { IsRead (with_width (layout_of options.old) state (chars text.now)) (layout_of options.new) result }
 {
     let (mix, after) = read_mix(state, text);
-    let marked = Options {
-        truncate: mix.truncate,
-        ..options
-    };
+    options.truncate = mix.truncate;
     let Some((next, rest)) = split_first(after) else {
-        return Ok((marked, after));
+        return Ok(after);
     };
     if next != '}' && next != '.' {
         let state = mix.state;
@@ -189,136 +184,32 @@ fn with_width<'a>(
     if mix.too_large {
         return Err(TemplateError::WidthTooLarge);
     }
-    let sized = Options {
-        width: mix.width,
-        ..marked
-    };
+    options.width = mix.width;
     if next == '}' {
-        return Ok((sized, rest));
+        return Ok(rest);
     }
-    Ok(with_style(sized, rest))
+    Ok(with_style(options, rest))
 }
 
-/// The options of a placeholder up to the closing brace, and what follows it.
+/// The options of a placeholder up to the closing brace, which take the place of these; answers what follows the brace.
 ///
 /// Refused: `Unexpected` at a character that fits no case; `WidthTooLarge`.
-pub(super) fn with_options(text: &str) -> Result<(Options, &str), TemplateError>
-    ensures value { IsFront layout_of (with_options (chars text.now)) result }
-    ensures utf8 { IfOk result (λ r. IsUtf8 r.1.now) }
+pub(super) fn with_options<'a>(
+    options: &mut Options,
+    text: &'a str,
+) -> Result<&'a str, TemplateError>
+    ensures { IsRead (with_options (chars text.now)) (layout_of options.new) result }
 {
+    *options = Options::NONE;
     match split_first(text) {
-        None => Ok((Options::NONE, text)),
+        None => Ok(text),
+        Some(('.', rest)) => Ok(with_style(options, rest)),
         Some((first, rest)) => match alignment_of(first) {
-            None => with_width(Options::NONE, TemplateState::Align, text),
+            None => with_width(options, TemplateState::Align, text),
             Some(align) => {
-                let aligned = Options {
-                    align,
-                    ..Options::NONE
-                };
-                with_width(aligned, TemplateState::Width, rest)
+                options.align = align;
+                with_width(options, TemplateState::Width, rest)
             }
         },
-    }
-}
-
-/// What stands in front of a text.
-#[derive(Clone, Copy, Drop)]
-pub(super) enum Token<'a> {
-    /// A character that stands for itself.
-    Literal(char),
-    /// The end of a line.
-    NewLine,
-    /// An opening brace, key characters or none and a white space, which stay as they are.
-    Spaced(&'a str, char),
-    /// A key with its options.
-    Placeholder(&'a str, Options),
-    /// An opening brace at the end of the text.
-    OpenBrace,
-    /// An opening brace and a part of a key at the end of the text.
-    OpenKey,
-}
-
-/// What an opening brace and the key characters behind it are at the end of the text.
-fn unfinished(key: &str) -> Token<'_>
-    ensures { piece_of result ≡ unfinished (chars key.now) }
-{
-    if key.is_empty() {
-        Token::OpenBrace
-    } else {
-        Token::OpenKey
-    }
-}
-
-/// What an opening brace begins, by the key characters behind it and the text after them.
-///
-/// Refused: `Unexpected` in `MaybeOpen` where there is no key; what the options refuse.
-fn key_ends<'a>(key: &'a str, after: &'a str) -> Result<(Token<'a>, &'a str), TemplateError>
-    ensures value { IsFront piece_of (key_ends (chars key.now) (chars after.now)) result }
-    ensures utf8 { IfOk result (λ r. IsUtf8 r.1.now) }
-{
-    let Some((end, rest)) = split_first(after) else {
-        return Ok((unfinished(key), after));
-    };
-    if end.is_ascii_whitespace() {
-        Ok((Token::Spaced(key, end), rest))
-    } else if key.is_empty() {
-        let state = TemplateState::MaybeOpen;
-        Err(TemplateError::Unexpected { next: end, state })
-    } else if end == '}' {
-        Ok((Token::Placeholder(key, Options::NONE), rest))
-    } else {
-        let (options, left) = with_options(rest)?;
-        Ok((Token::Placeholder(key, options), left))
-    }
-}
-
-/// What an opening brace begins, before this text.
-fn opened(text: &str) -> Result<(Token<'_>, &str), TemplateError>
-    ensures value { IsFront piece_of (opened (chars text.now)) result }
-    ensures utf8 { IfOk result (λ r. IsUtf8 r.1.now) }
-{
-    let Some((first, rest)) = split_first(text) else {
-        return Ok((Token::OpenBrace, text));
-    };
-    if first == '{' {
-        return Ok((Token::Literal('{'), rest));
-    }
-    let (key, after) = split_span(text, Span::Key);
-    key_ends(key, after)
-}
-
-/// What a closing brace begins, before this text.
-///
-/// Refused: `Unexpected` in `DoubleClose` where another character follows.
-fn closed(text: &str) -> Result<(Token<'_>, &str), TemplateError>
-    ensures value { IsFront piece_of (closed (chars text.now)) result }
-    ensures utf8 { IfOk result (λ r. IsUtf8 r.1.now) }
-{
-    let Some((next, rest)) = split_first(text) else {
-        return Ok((Token::Literal('}'), text));
-    };
-    if next == '}' {
-        Ok((Token::Literal('}'), rest))
-    } else {
-        let state = TemplateState::DoubleClose;
-        Err(TemplateError::Unexpected { next, state })
-    }
-}
-
-/// What stands in front of a character and the text behind it, and what follows that.
-///
-/// Refused: `Unexpected` at a character that fits no case; `WidthTooLarge`.
-pub(super) fn front(first: char, text: &str) -> Result<(Token<'_>, &str), TemplateError>
-    ensures value { IsFront piece_of (front first (chars text.now)) result }
-    ensures utf8 { IfOk result (λ r. IsUtf8 r.1.now) }
-{
-    if first == '\n' {
-        Ok((Token::NewLine, text))
-    } else if first == '{' {
-        opened(text)
-    } else if first == '}' {
-        closed(text)
-    } else {
-        Ok((Token::Literal(first), text))
     }
 }

@@ -7,4 +7,4 @@ use Rattle.indicatif.proofs.progress_bar.ProgressBar.absorb.Goals as goal
 
 -- src/counting.rt:38:5
 pub returns : goal.returns
-returns g c = subst (λ n. CanAnswer g.K.Tracks.means g.T.TermLike.view (Lone.Obey (Command.Inc n)) c.inc.result) c.close.ensures.sum c.inc.ensures
+returns g c = subst (λ n. CanAnswer _ (Lone.Obey (Command.Inc n)) c.inc.result) c.close.ensures.sum c.inc.ensures

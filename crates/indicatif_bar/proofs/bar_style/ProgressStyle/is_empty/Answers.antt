@@ -1,4 +1,4 @@
-use Rattle.std.proofs.Common.{◌≡◌, ◌<◌, ◌≤◌, ◌∙◌, refl, sym, ap, arith, length, map, drop}
+use Rattle.std.proofs.Common.{◌<◌, ◌≤◌, ◌∙◌, refl, sym, ap, arith, length, map}
 use Rattle.std.specs.List.{list_all}
 use Rattle.indicatif_bar.specs.Inside.Steps.{effect_of, is_empty_effect}
 use Rattle.indicatif_bar.proofs.LinesLemmas.{deeds_are}

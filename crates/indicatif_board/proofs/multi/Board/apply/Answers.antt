@@ -1,5 +1,5 @@
 use Rattle.std.proofs.Common.{subst, ap, sym, ◌∙◌}
-use Rattle.indicatif_board.specs.Boards.{Log, says, drawn_of, drawn_of_said}
+use Rattle.indicatif_board.specs.Boards.{Log, BarLog, says, drawn_of, drawn_of_said}
 use Rattle.indicatif_board.specs.Multi.{LeadsBy}
 use Rattle.indicatif_board.specs.Multi.{record_at, RecordObeys}
 use Rattle.indicatif_bar.specs.Commands.{command_of}
@@ -25,6 +25,11 @@ returns-in-Drop-clause-leads g c = rw (c.in-Drop.is, c.draw_answer.ensures) c.dr
 pub returns-in-Log-clause-leads : goal.returns-in-Log-clause-leads
 returns-in-Log-clause-leads g c = rw (c.in-Log.is, c.draw_answer-in-Log.ensures)
     (subst (λ t. LeadsBy g.K.Tracks.means g.T.TermLike.view c.args.self.now c.println.new.self (Log t) c.args.now (says c.println.result)) c.as_str.ensures.value c.println.ensures.leads)
+
+pub returns-in-BarLog-clause-leads : goal.returns-in-BarLog-clause-leads
+returns-in-BarLog-clause-leads g c = rw (c.in-BarLog.is, c.draw_answer-in-BarLog.ensures)
+    (subst (λ t. LeadsBy g.K.Tracks.means g.T.TermLike.view c.args.self.now c.bar_println.new.self (BarLog (id_of c.in-BarLog.id) t) c.args.now (says c.bar_println.result))
+    c.as_str-in-BarLog.ensures.value c.bar_println.ensures.leads)
 
 pub returns-in-Clear-clause-leads : goal.returns-in-Clear-clause-leads
 returns-in-Clear-clause-leads g c = rw (c.in-Clear.is, c.draw_answer-in-Clear.ensures) c.clear.ensures.leads

@@ -14,7 +14,7 @@ returns g c = record {
   bar = λ mark s other inside.
       let b = c.args.self.now.shown in
       let f = c.in_ok-at.ensures.found mark s inside in
-      let size = members_length b.frame.items b.members.items b.table.made (is_bottom b.alignment) b.limiter s inside.1 in
+      let size = members_length b.frame.items b.members.items b.table.made (is_bottom b.alignment) s inside.1 in
       let within : c.in_ok-at.at < length b.members.items = omega (arith, size, f.1.1) in
       c.bar.ensures ∙ said_of_place other (λ bar. bar) b.members.items s.members (id_of c.args.id).number c.in_ok-at.at c.index.result.now inside.1.members_are f.1.0 within c.index.ensures;
   «record» = λ own. record_stands c.args.self.now.shown c.args.id.number c.in_ok-at.at c.in_ok-at.ensures.own c.index.result.now c.index.ensures ∙ ap Some (sym c.bar.ensures);

@@ -48,10 +48,10 @@ returns-in_err-ask-clause-leads g c = λ mark s inside.
     let item = c.index_mut.result.now in
     let x = err_from_is_err_and c.from_residual-in_err-ask.result c.from_residual-in_err-ask.ensures.1 in
     let there : place_of id.number s.members < length s.members = subst (λ k. k < length s.members) f.1.0 f.1.1 in
-    let size = members_length b.frame.items b.members.items b.table.made (is_bottom b.alignment) b.limiter s inside.1 in
+    let size = members_length b.frame.items b.members.items b.table.made (is_bottom b.alignment) s inside.1 in
     let within : c.in_ok-at.at < length b.members.items = omega (arith, size, f.1.1) in
     let same = same_at b.frame.items b.members.items b.table.made
-    (is_bottom b.alignment) b.limiter s c.in_ok-at.at item c.obey.new.self c.obey.ensures.stays inside.1 f.1.1 c.index_mut.ensures.value c.in_err-ask.ensures.unchanged in
+    (is_bottom b.alignment) s c.in_ok-at.at item c.obey.new.self c.obey.ensures.stays inside.1 f.1.1 c.index_mut.ensures.value c.in_err-ask.ensures.unchanged in
     rw (x.1 ∙ ap Err x.2) (
       s,
       (inside.0, same, inside.2),
@@ -82,9 +82,9 @@ returns-clause-leads g c = λ mark s inside.
     let f = c.in_ok-at.ensures.found mark s inside in
     let change = λ (bar : BarRecord g.row.K.Denot). (obeyed tracks command bar now).0 in
     let next = bar_changed id.number change s in
-    let size = members_length b.frame.items b.members.items b.table.made (is_bottom b.alignment) b.limiter s inside.1 in
+    let size = members_length b.frame.items b.members.items b.table.made (is_bottom b.alignment) s inside.1 in
     let within : c.in_ok-at.at < length b.members.items = omega (arith, size, f.1.1) in
-    let holds = told_at change b.frame.items b.members.items b.table.made (is_bottom b.alignment) b.limiter mark s id.number c.in_ok-at.at item c.obey.new.self c.obey.ensures.stays
+    let holds = told_at change b.frame.items b.members.items b.table.made (is_bottom b.alignment) mark s id.number c.in_ok-at.at item c.obey.new.self c.obey.ensures.stays
     inside.1 f.1.0 f.1.1 c.index_mut.ensures.value (ap (λ r. r.0) c.in_ok-ask.ensures.done) in
     let placed = told_placed change id.number c.in_ok-at.at s.members f.1 in
     let takes_is = said_of false (λ bar. takes_memory command bar) id.number s.members in

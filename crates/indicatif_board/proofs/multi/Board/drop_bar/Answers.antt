@@ -49,9 +49,9 @@ returns-in-Ok-clause-leads g c = λ mark s inside.
     let f = c.in_ok-at.ensures.found mark s inside in
     let change = λ (bar : BarRecord g.row.K.Denot). (after_drop bar now).0 in
     let next = bar_changed id.number change s in
-    let size = members_length b.frame.items b.members.items b.table.made (is_bottom b.alignment) b.limiter s inside.1 in
+    let size = members_length b.frame.items b.members.items b.table.made (is_bottom b.alignment) s inside.1 in
     let within : c.in_ok-at.at < length b.members.items = omega (arith, size, f.1.1) in
-    let holds = told_at change b.frame.items b.members.items b.table.made (is_bottom b.alignment) b.limiter mark s id.number c.in_ok-at.at item c.lose_owner.new.self c.lose_owner.ensures.stays
+    let holds = told_at change b.frame.items b.members.items b.table.made (is_bottom b.alignment) mark s id.number c.in_ok-at.at item c.lose_owner.new.self c.lose_owner.ensures.stays
     inside.1 f.1.0 f.1.1 c.index_mut.ensures.value (ap (λ r. r.0) c.in-Ok.ensures.done) in
     let placed = told_placed change id.number c.in_ok-at.at s.members f.1 in
     let takes_is = said_of false ((board_bars tracks).left_takes now) id.number s.members in
@@ -77,10 +77,10 @@ returns-in-Err-clause-leads g c = λ mark s inside.
     let now = c.args.now in
     let f = c.in_ok-at.ensures.found mark s inside in
     let item = c.index_mut.result.now in
-    let size = members_length b.frame.items b.members.items b.table.made (is_bottom b.alignment) b.limiter s inside.1 in
+    let size = members_length b.frame.items b.members.items b.table.made (is_bottom b.alignment) s inside.1 in
     let within : c.in_ok-at.at < length b.members.items = omega (arith, size, f.1.1) in
     let same = same_at b.frame.items b.members.items b.table.made
-    (is_bottom b.alignment) b.limiter s c.in_ok-at.at item c.lose_owner.new.self c.lose_owner.ensures.stays inside.1 f.1.1 c.index_mut.ensures.value c.in-Err.ensures.unchanged in
+    (is_bottom b.alignment) s c.in_ok-at.at item c.lose_owner.new.self c.lose_owner.ensures.stays inside.1 f.1.1 c.index_mut.ensures.value c.in-Err.ensures.unchanged in
     let takes = said_of_place false ((board_bars tracks).left_takes now) b.members.items s.members id.number c.in_ok-at.at item inside.1.members_are f.1.0 within c.index_mut.ensures.value in
     let unfinished = c.in-Err.ensures.memory.1 in
     let short = c.in-Err.ensures.memory.2 in

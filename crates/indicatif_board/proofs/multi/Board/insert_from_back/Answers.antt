@@ -16,7 +16,7 @@ unfolding IsIn
 returns-clause-leads g c = λ now mark s inside.
     let tracks = g.K.Tracks.means in
     let b = c.args.self.now.shown in
-    let size : deque_len b.members ≡ length s.members = omega (arith, b.members.ok, members_length b.frame.items b.members.items b.table.made (is_bottom b.alignment) b.limiter s inside.1) in
+    let size : deque_len b.members ≡ length s.members = omega (arith, b.members.ok, members_length b.frame.items b.members.items b.table.made (is_bottom b.alignment) s inside.1) in
     let d = c.insert_at.ensures.inserted mark s (FromBack c.args.count) inside (c.saturating_sub-at.ensures ∙ ap (λ k. k - c.args.count) (c.len.ensures ∙ size)) in
     let old = known g.T.TermLike.view c.args.self.now in
     let same = ap (option_map g.T.TermLike.view) c.insert_at.ensures.terminal in (

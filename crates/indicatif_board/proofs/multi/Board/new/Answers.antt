@@ -1,14 +1,8 @@
-use Rattle.std.proofs.Common.{refl, subst}
-use Rattle.indicatif_board.specs.Boards.{opening_board}
-use Rattle.indicatif_board.specs.ShownBars.{AreShownAs}
+use Rattle.std.proofs.Common.{refl}
+use Rattle.indicatif_term.specs.Targets.{limiter_of}
 use Rattle.indicatif_board.specs.Multi.{IsIn}
-use Rattle.indicatif_board.proofs.DropLemmas.{fits_or_none}
 use Rattle.indicatif_board.proofs.multi.Board.new.Goals as goal
 
 pub returns-clause-state : goal.returns-clause-state
 unfolding IsIn
-returns-clause-state g c = (
-  refl,
-  subst (λ l. AreShownAs c.new.result (opening_board l)) c.opened_on-engine.ensures.limiter c.new.ensures.state,
-  fits_or_none c.opened_on-engine.result.0 c.opened_on-engine.ensures.opened,
-)
+returns-clause-state g c = (refl, c.new.ensures.state (limiter_of c.args.target), c.new-2.ensures.staged)

@@ -16,7 +16,7 @@ returns-clause-leads g c = λ now mark s inside.
       next,
       (
         inside.0,
-        record { members_are = holds.members_are; frame_is = holds.frame_is; made_is = holds.made_is; bottom_is = refl; limiter_is = holds.limiter_is },
+        record { members_are = holds.members_are; frame_is = holds.frame_is; made_is = holds.made_is; bottom_is = refl },
         inside.2,
       ),
       made_at_once tracks mark old old (Align bottom) now s false Done next refl refl refl,

@@ -27,7 +27,7 @@ returns-in-Some-clause-laid g c =
     let b = c.args.self.now in
     when_ok c.relay.result c.relay.ensures.lines (λ lines target s number columns placed holds.
     laid_at tracks b.frame.items b.members.items b.table.made
-    (is_bottom b.alignment) b.limiter s target c.args.now c.args.width c.in-Some.at c.index.result.now c.index_mut.result.now c.relay.new.stored
+    (is_bottom b.alignment) s target c.args.now c.args.width c.in-Some.at c.index.result.now c.index_mut.result.now c.relay.new.stored
     columns holds c.index.ensures c.index_mut.ensures.value (lines ∙ ap (λ x. lines_of_bar tracks x c.args.now c.args.width) c.bar.ensures) number c.args.bar c.in-Some.is placed)
 
 pub returns-in-Some-clause-memory : goal.returns-in-Some-clause-memory

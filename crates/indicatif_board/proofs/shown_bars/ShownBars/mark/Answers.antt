@@ -14,8 +14,8 @@ returns-then-at-len-clause-marked g c = λ s holds.
     let here = c.place-at.ensures.seat ∙ sym (seat_is b.frame.items b.table.order c.args.number b.seated) ∙ place_is b.frame.items s.members c.args.number holds.frame_is in
     let size = frame_length b.frame.items s.members holds.frame_is in
     let within : c.place-at.result < length s.members = omega (arith, size, c.len.ensures, c.if-at-len.true, b.even, b.members.ok, b.frame.ok) in
-    subst (λ m. Holds b.frame.items (set b.members.items c.place-at.result m) b.table.made (is_bottom b.alignment) b.limiter (marked_on c.args.number s)) (sym c.mark.ensures)
-    (marked_there b.frame.items b.members.items b.table.made (is_bottom b.alignment) b.limiter s c.args.number
+    subst (λ m. Holds b.frame.items (set b.members.items c.place-at.result m) b.table.made (is_bottom b.alignment) (marked_on c.args.number s)) (sym c.mark.ensures)
+    (marked_there b.frame.items b.members.items b.table.made (is_bottom b.alignment) s c.args.number
     c.place-at.result holds here c.index_mut.result.now within c.index_mut.ensures.value)
 
 pub returns-else-at-len-clause-marked : goal.returns-else-at-len-clause-marked
@@ -33,7 +33,7 @@ returns-else-at-len-clause-marked g c = λ s holds.
       b.members.ok,
       b.frame.ok,
     ) in
-    marked_nowhere b.frame.items b.members.items b.table.made (is_bottom b.alignment) b.limiter s c.args.number c.place-at.result holds here none
+    marked_nowhere b.frame.items b.members.items b.table.made (is_bottom b.alignment) s c.args.number c.place-at.result holds here none
 
 pub returns-then-at-len-clause-record : goal.returns-then-at-len-clause-record
 returns-then-at-len-clause-record g c =

@@ -27,8 +27,8 @@ returns-clause-taken g c = λ s spot holds here.
       sym holds.made_is ∙ sym c.in-Ok-insert.ensures.number,
       c.in-Ok-insert.ensures.fits,
       taken_holds b.frame.items c.queue_at-2.new.items.items b.members.items c.queue_at.new.items.items number c.insert.new.self.made
-          (is_bottom b.alignment) b.limiter s spot c.args.at c.args.bar c.new-lines.result
-          (subst (λ n. Holds b.frame.items b.members.items n (is_bottom b.alignment) b.limiter s) (sym c.in-Ok-insert.ensures.number) holds) here c.new-lines.ensures.items
+          (is_bottom b.alignment) s spot c.args.at c.args.bar c.new-lines.result
+          (subst (λ n. Holds b.frame.items b.members.items n (is_bottom b.alignment) s) (sym c.in-Ok-insert.ensures.number) holds) here c.new-lines.ensures.items
           (c.queue_at-2.ensures ∙ ap (λ xs. insert xs c.args.at (record { bar = number; lines = c.new-lines.result })) c.reserve-2.ensures.items)
           (c.queue_at.ensures ∙ ap (λ xs. insert xs c.args.at c.in-Ok.member) c.reserve.ensures.items ∙ ap (insert b.members.items c.args.at) c.in-Ok.ensures)
           (ap (λ (t : SlotTable). t.made) c.in-Ok-insert.ensures.inserted ∙ ap (λ n. n + 1) (sym c.in-Ok-insert.ensures.number)),

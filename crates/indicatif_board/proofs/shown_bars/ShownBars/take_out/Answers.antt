@@ -17,7 +17,7 @@ returns-clause-out g c = λ s number holds here.
     let b = c.args.self.now in
     let made = sym (ap (λ (t : SlotTable). t.made) c.remove.ensures.removed) in
     removed_with b.frame.items c.take_at.new.items.items b.members.items c.take_at-member.new.items.items c.remove.new.self.made
-    (is_bottom b.alignment) b.limiter s number c.args.at (subst (λ n. Holds b.frame.items b.members.items n (is_bottom b.alignment) b.limiter s) made holds) here
+    (is_bottom b.alignment) s number c.args.at (subst (λ n. Holds b.frame.items b.members.items n (is_bottom b.alignment) s) made holds) here
     c.take_at.ensures.items c.take_at-member.ensures.items
 
 pub returns-clause-bar : goal.returns-clause-bar

@@ -9,14 +9,14 @@ use Rattle.indicatif_term.specs.Engines.{is_bottom, engine_term}
 use Rattle.indicatif_term.specs.declared.lines.Segment.{Segment}
 use Rattle.indicatif_bar.specs.Machines.{target_of}
 use Rattle.indicatif_bar.specs.Shown.{PutsFrame, DrewBy}
+use Rattle.indicatif_bar.specs.Stages.{writing_as}
 use Rattle.indicatif_board.specs.BoardBars.{board_bars}
 use Rattle.indicatif_board.specs.Boards.{draw_of, board}
 use Rattle.indicatif_board.specs.Slots.{SlotTable}
 use Rattle.indicatif_board.specs.Members.{leaders}
 use Rattle.indicatif_board.specs.ShownBars.{Holds}
-use Rattle.indicatif_board.specs.Inside.Writings.{writing_by}
 use Rattle.indicatif_board.proofs.MemberLemmas.{leaders_of, dropped_bars}
-use Rattle.indicatif_board.proofs.BoardDrawLemmas.{frame_drew, written_holds, kept_ready}
+use Rattle.indicatif_board.proofs.BoardDrawLemmas.{frame_drew, ready_holds, broken_holds, written_holds}
 use Rattle.indicatif_board.proofs.BarRecordLemmas.{evenly, left_record}
 use Rattle.indicatif_board.proofs.shown_bars.ShownBars.write.Goals as goal
 
@@ -26,25 +26,28 @@ put-requires g c =
     omega (arith, prefix_len-le-length (λ m. m.dropped) b.members.items, c.leading-gone.ensures, c.make_contiguous-frame.ensures.len, b.even, b.members.ok)
 
 pub returns-in_err-put-clause-drew : goal.returns-in_err-put-clause-drew
-returns-in_err-put-clause-drew g c = λ mark now takes lays ask s laid asked some allows holds lists_stay fits.
+returns-in_err-put-clause-drew g c = λ mark now takes lays ask limiter s laid asked some allows holds lists_stay fits.
     let tracks = g.K.Tracks.means in
     let b = c.args.self.now in
     let view = g.T.TermLike.view in
     let bottom = is_bottom b.alignment in
-    let writing = writing_by c.args.writing in
+    let writing = writing_as c.args.writing in
     let gone = c.leading-gone.result in
     let gone_is : gone ≡ leaders laid.members = c.leading-gone.ensures ∙ leaders_of b.members.items laid.members holds.members_are in
     let puts = subst (λ f. PutsFrame view writing bottom gone (map bar_lines f) c.args.engine.now c.put.new.engine (Err c.in_err-put.field-0.0))
     c.make_contiguous-frame.ensures.value c.in_err-put.ensures in
-    let ready = kept_ready b.frame.items b.members.items b.table.made bottom b.limiter ask now laid allows holds in
+    let limiter_is = sym (ap (λ a. a.1) allows) in
     let x = err_from_is_err_and c.from_residual.result c.from_residual.ensures.1 in
     let same = c.make_contiguous-frame.ensures.writes_back c.make_contiguous-frame.result.now c.make_contiguous-frame.ensures.len ∙ c.make_contiguous-frame.ensures.value in
     let failed : Result Drawn Refusal = Err c.in_err-put.field-0.0 in
-    rw (x.1 ∙ ap Err x.2) (subst (λ f. DrewBy (board (board_bars tracks) mark) (Holds f b.members.items b.table.made bottom b.limiter) view c.args.engine.now c.put.new.engine
-    (draw_of (target_of (Some (view (engine_term c.args.engine.now)))) takes ask now writing s laid lays) s.lists failed) (sym same)
-    (frame_drew tracks view mark takes ask now writing s laid lays c.args.engine.now b.frame.items b.members.items b.table.made bottom b.limiter
-    (Holds b.frame.items b.members.items b.table.made bottom b.limiter) c.put.new.engine (Err c.in_err-put.field-0.0) gone gone_is asked some (ap (λ a. a.0) allows) lists_stay fits ready puts
-    (ready, record { members_are = ready.members_are; frame_is = ready.frame_is; made_is = ready.made_is; bottom_is = ready.bottom_is; limiter_is = ready.limiter_is })))
+    rw (x.1 ∙ ap Err x.2) (subst (λ f. DrewBy (board (board_bars tracks) mark) (λ next. Holds f b.members.items b.table.made bottom next × (limiter ≡ next.limiter))
+    view c.args.engine.now c.put.new.engine (draw_of (target_of (Some (view (engine_term c.args.engine.now)))) takes ask now writing s laid lays) s.lists failed) (sym same)
+    (frame_drew tracks view mark takes ask now writing s laid lays c.args.engine.now b.frame.items b.members.items b.table.made bottom holds
+    (λ next. Holds b.frame.items b.members.items b.table.made bottom next × (limiter ≡ next.limiter)) c.put.new.engine (Err c.in_err-put.field-0.0) gone gone_is asked some
+    (ap (λ a. a.0) allows) lists_stay fits puts (
+      (ready_holds tracks view mark takes ask now writing s laid lays c.args.engine.now b.frame.items b.members.items b.table.made bottom holds, limiter_is),
+      (broken_holds tracks view mark takes ask now writing s laid lays c.args.engine.now b.frame.items b.members.items b.table.made bottom holds, limiter_is),
+    )))
 
 pub take_front-requires : goal.take_front-requires
 take_front-requires g c =
@@ -64,25 +67,27 @@ invariant_of-self-2-clause-seated g c =
     ∙ sym (ap (λ (t : SlotTable). t.order) c.remove_first.ensures.removed)
 
 pub returns-clause-drew : goal.returns-clause-drew
-returns-clause-drew g c = λ mark now takes lays ask s laid asked some allows holds lists_stay fits.
+returns-clause-drew g c = λ mark now takes lays ask limiter s laid asked some allows holds lists_stay fits.
     let tracks = g.K.Tracks.means in
     let b = c.args.self.now in
     let view = g.T.TermLike.view in
     let bottom = is_bottom b.alignment in
-    let writing = writing_by c.args.writing in
+    let writing = writing_as c.args.writing in
     let gone = c.leading-gone.result in
     let gone_is : gone ≡ leaders laid.members = c.leading-gone.ensures ∙ leaders_of b.members.items laid.members holds.members_are in
     let puts = subst (λ f. PutsFrame view writing bottom gone (map bar_lines f) c.args.engine.now c.put.new.engine (Ok tt)) c.make_contiguous-frame.ensures.value c.in_ok-put.ensures in
-    let ready = kept_ready b.frame.items b.members.items b.table.made bottom b.limiter ask now laid allows holds in
     let made = sym (ap (λ (t : SlotTable). t.made) c.remove_first.ensures.removed) in
     let same = c.make_contiguous-frame.ensures.writes_back c.make_contiguous-frame.result.now c.make_contiguous-frame.ensures.len ∙ c.make_contiguous-frame.ensures.value in
-    subst (λ n. DrewBy (board (board_bars tracks) mark) (Holds c.take_front.new.items.items c.take_front-2.new.items.items n bottom b.limiter) view c.args.engine.now c.put.new.engine
+    subst (λ n. DrewBy (board (board_bars tracks) mark) (λ next. Holds c.take_front.new.items.items c.take_front-2.new.items.items n bottom next × (limiter ≡ next.limiter))
+    view c.args.engine.now c.put.new.engine
     (draw_of (target_of (Some (view (engine_term c.args.engine.now)))) takes ask now writing s laid lays) s.lists (Ok Yes)) made
-    (frame_drew tracks view mark takes ask now writing s laid lays c.args.engine.now b.frame.items b.members.items b.table.made bottom b.limiter
-    (Holds c.take_front.new.items.items c.take_front-2.new.items.items b.table.made bottom b.limiter) c.put.new.engine (Ok tt) gone gone_is asked some (ap
-    (λ a. a.0) allows) lists_stay fits ready puts
-    (written_holds tracks view mark takes ask now writing s laid lays c.args.engine.now b.frame.items b.members.items
-    b.table.made bottom b.limiter gone c.take_front.new.items.items c.take_front-2.new.items.items (c.take_front.ensures ∙ ap (drop gone) same) c.take_front-2.ensures gone_is ready))
+    (frame_drew tracks view mark takes ask now writing s laid lays c.args.engine.now b.frame.items b.members.items b.table.made bottom holds
+    (λ next. Holds c.take_front.new.items.items c.take_front-2.new.items.items b.table.made bottom next × (limiter ≡ next.limiter)) c.put.new.engine (Ok tt) gone gone_is asked some
+    (ap (λ a. a.0) allows) lists_stay fits puts (
+      written_holds tracks view mark takes ask now writing s laid lays c.args.engine.now b.frame.items b.members.items b.table.made bottom holds
+          gone c.take_front.new.items.items c.take_front-2.new.items.items (c.take_front.ensures ∙ ap (drop gone) same) c.take_front-2.ensures gone_is,
+      sym (ap (λ a. a.1) allows),
+    ))
 
 pub returns-clause-records : goal.returns-clause-records
 returns-clause-records g c = λ number.

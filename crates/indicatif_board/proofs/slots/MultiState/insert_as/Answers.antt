@@ -22,11 +22,11 @@ invariant_of-self-2 c =
     ∙ next_is free.items (vec_len free) (length s.slots.items) (vec_len c.pop.new.self) c.pop.result free.ok.0 c.pop.ensures.cases c.pop.ensures.value
     ∙ ap (λ f. get_or f (length f - 1) (length s.slots.items)) c.in_ok-reserve-3.ensures.items in
     let order = c.put_at.ensures ∙ ap (λ xs. insert xs c.min-at.result c.args.number) c.in_ok-reserve.ensures.items in
-    let slots = c.put_at-2.ensures ∙ ap (λ xs. insert xs c.min-at.result c.unwrap_or-slot.result) c.in_ok-reserve-2.ensures.items in
+    let slots = c.queue_at.ensures ∙ ap (λ xs. insert xs c.min-at.result c.unwrap_or-slot.result) c.in_ok-reserve-2.ensures.items in
     let left = c.pop.ensures.rest ∙ ap (λ k. take (k - 1) free.items) free.ok.0 ∙ ap (λ f. take (length f - 1) f) c.in_ok-reserve-3.ensures.items in
     let made = made_next c.args.number c.checked_add-self-inside.result c.ranges.number.fits c.checked_add-self-inside.ensures in (
       inserted_seated t c.args.at c.min-at.result c.args.number c.unwrap_or-slot.result (made_by c.checked_add-self-inside.result) c.put_at.new.items.items
-          c.put_at-2.new.items.items c.pop.new.self.items
+          c.queue_at.new.items.items c.pop.new.self.items
           c.self.invariant.0 place (c.requires.next ∙ sym (ap (λ (x : SlotTable). x.made) c.self.view_is)) slot order slots left made,
       omega (
         arith,
@@ -35,7 +35,7 @@ invariant_of-self-2 c =
         c.in_ok-reserve-3.ensures,
         c.len.ensures,
         slots_size,
-        c.put_at-2.new.items.ok,
+        c.queue_at.new.items.ok,
         ap length slots,
         length-insert s.slots.items c.min-at.result c.unwrap_or-slot.result within,
         c.pop.ensures.cases,
@@ -57,8 +57,8 @@ returns-clause-inserted c =
     ∙ next_is free.items (vec_len free) (length s.slots.items) (vec_len c.pop.new.self) c.pop.result free.ok.0 c.pop.ensures.cases c.pop.ensures.value
     ∙ ap (λ f. get_or f (length f - 1) (length s.slots.items)) c.in_ok-reserve-3.ensures.items in
     let order = c.put_at.ensures ∙ ap (λ xs. insert xs c.min-at.result c.args.number) c.in_ok-reserve.ensures.items in
-    let slots = c.put_at-2.ensures ∙ ap (λ xs. insert xs c.min-at.result c.unwrap_or-slot.result) c.in_ok-reserve-2.ensures.items in
+    let slots = c.queue_at.ensures ∙ ap (λ xs. insert xs c.min-at.result c.unwrap_or-slot.result) c.in_ok-reserve-2.ensures.items in
     let left = c.pop.ensures.rest ∙ ap (λ k. take (k - 1) free.items) free.ok.0 ∙ ap (λ f. take (length f - 1) f) c.in_ok-reserve-3.ensures.items in
     let made = made_next c.args.number c.checked_add-self-inside.result c.ranges.number.fits c.checked_add-self-inside.ensures in
-    inserted_is t c.args.at c.min-at.result c.args.number c.unwrap_or-slot.result (made_by c.checked_add-self-inside.result) c.put_at.new.items.items c.put_at-2.new.items.items c.pop.new.self.items
+    inserted_is t c.args.at c.min-at.result c.args.number c.unwrap_or-slot.result (made_by c.checked_add-self-inside.result) c.put_at.new.items.items c.queue_at.new.items.items c.pop.new.self.items
     c.self.invariant.0 place (c.requires.next ∙ sym (ap (λ (x : SlotTable). x.made) c.self.view_is)) slot order slots left made ∙ ap (λ x. seated c.args.at x) c.self.view_is

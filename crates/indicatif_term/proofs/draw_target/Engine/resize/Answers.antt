@@ -1,7 +1,8 @@
-use Rattle.std.proofs.Common.{◌∙◌, false, sym, arith}
+use Rattle.std.proofs.Common.{◌∙◌, false, inr, sym, arith}
 use Rattle.std.proofs.Math.Logic.{∥∥₁_map}
 use Rattle.indicatif_term.specs.Resizes.{recut_lists, settled_whole, resized_lists}
 use Rattle.indicatif_term.specs.Engines.{engine_term}
+use Rattle.indicatif_term.proofs.CountLemmas.{live_of}
 use Rattle.indicatif_term.proofs.EngineResizeLemmas.{none_resized, others_resized, same_resized, fits_suits, suits_fits, where_made}
 use Rattle.indicatif_term.proofs.draw_target.Engine.resize.Goals as goal
 
@@ -21,6 +22,12 @@ returns-then-has_size-clause-lists g c = where_made c.resize_term-then-has_size.
     let same = c.resize_term-then-has_size.ensures.same in
     suits_fits c.resize_term-then-has_size.new.self l (resized_lists v.columns v.rows c.args.cols c.args.rows l) e.counts e.failed e.shown same.0 same.1 same.2
     (same_resized v.columns v.rows c.args.cols c.args.rows l (sym c.has_size.ensures ∙ c.if-has_size.true)) (fits_suits e l fits))
+
+pub returns-in_err-cut-clause-takes : goal.returns-in_err-cut-clause-takes
+returns-in_err-cut-clause-takes g c = λ refused l fits.
+    let e = c.args.self.now in
+    let s = fits_suits e l fits in
+    inr (omega (arith, s.counted.kept_is, live_of e.counts l s.counted, c.in_err-cut.ensures.memory.1))
 
 pub remember-requires : goal.remember-requires
 remember-requires g c =

@@ -5,23 +5,19 @@ use Rattle.indicatif_text.proofs.style_words.Style.read.Goals as goal
 use Rattle.indicatif_text.proofs.style_words.Style.read.Goals.{in-Some+then-end-ne46, in_default}
 
 pub loop-end-init : goal.loop-end-init
-loop-end-init c =
-    let e = c.with_word-style.ensures in (
-      c.split_span.ensures.utf8,
-      first_read (in_words c.args.words) (chars c.args.text.now) c.with_word-style.result (chars c.split_span.result.0.now) (chars c.split_span.result.1.now)
-          c.split_span.ensures.run c.split_span.ensures.rest
-          (record { foreground = e.foreground; background = e.background; bold = e.bold; dim = e.dim; underlined = e.underlined; blink = e.blink; reverse = e.reverse; hidden = e.hidden }),
-    )
+loop-end-init c = (
+  c.split_span.ensures.utf8,
+  first_read (in_words c.args.words) (chars c.args.text.now) c.add_word.new.self (chars c.split_span.result.0.now) (chars c.split_span.result.1.now)
+      c.split_span.ensures.run c.split_span.ensures.rest c.add_word.ensures,
+)
 
 pub loop-end-preserved : goal.loop-end-preserved
-loop-end-preserved c =
-    let e = c.with_word-style-in-Some.ensures in (
-      c.split_span-in-Some.ensures.utf8,
-      next_read (in_words c.args.words) (chars c.args.text.now) (dot_within c.args.words) c.loop-end.style c.with_word-style-in-Some.result (chars c.loop-end.rest.now) (chars c.in-Some.left.now)
-          (chars c.split_span-in-Some.result.0.now) (chars c.split_span-in-Some.result.1.now) c.in-Some.end c.loop-end.invariant.1 c.in-Some.ensures.first c.if-end-ne46.false
-          c.split_span-in-Some.ensures.run c.split_span-in-Some.ensures.rest
-          (record { foreground = e.foreground; background = e.background; bold = e.bold; dim = e.dim; underlined = e.underlined; blink = e.blink; reverse = e.reverse; hidden = e.hidden }),
-    )
+loop-end-preserved c = (
+  c.split_span-in-Some.ensures.utf8,
+  next_read (in_words c.args.words) (chars c.args.text.now) (dot_within c.args.words) c.loop-end.style c.add_word-in-Some.new.self (chars c.loop-end.rest.now) (chars c.in-Some.left.now)
+      (chars c.split_span-in-Some.result.0.now) (chars c.split_span-in-Some.result.1.now) c.in-Some.end c.loop-end.invariant.1 c.in-Some.ensures.first c.if-end-ne46.false
+      c.split_span-in-Some.ensures.run c.split_span-in-Some.ensures.rest c.add_word-in-Some.ensures,
+)
 
 pub returns-clause-style : goal.returns-clause-style
 returns-clause-style c = elim c.match-split_first.branch [

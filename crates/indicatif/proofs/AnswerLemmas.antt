@@ -1,0 +1,374 @@
+-- Which answers the calls of a lone bar and of a board have: those that the table of shared bars and boards allows.
+use Rattle.std.proofs.Common.{◌≡◌, ◌⊎◌, ℕ, ◌^◌, arith, List, [], ◌∷◌, Bool, true, false, refl, sym, ◌∙◌, ap, subst, Result, Ok, Err, Option, Some, None, inl, inr, if◌then◌else◌}
+use Rattle.std.specs.Prelude.{◌==◌, ◌||◌, not, nat_lt, IfErr}
+use Rattle.std.specs.declared.io.ErrorKind.{ErrorKind}
+use Rattle.std.proofs.lemmas.Bool.{cond_both, false≢true, ltb-true, lt-ltb}
+use Rattle.std.proofs.Math.Bool.{or-true}
+use Rattle.indicatif_text.specs.declared.refusal.Refusal.{Refusal}
+use Rattle.indicatif_text.specs.declared.refusal.Refusal.TheVariants.{NoColumns, TooWide, Memory, Terminal as Failure, ForeignBar, NotMember, ElapsedBeyondClock}
+use Rattle.indicatif_text.specs.declared.refusal.Drawn.{Drawn}
+use Rattle.indicatif_text.specs.declared.refusal.Drawn.TheVariants.{Yes, Limited, Hidden}
+use Rattle.indicatif_term.specs.Calls.{TermView}
+use Rattle.indicatif_term.specs.Frames.{some_wide}
+use Rattle.indicatif_term.specs.Limiters.{Limiter}
+use Rattle.indicatif_bar.specs.Trackers.{Tracking}
+use Rattle.indicatif_bar.specs.Commands.{BarRecord, Command, SetTicker, SetStyle, PutPosition, PutMessage, PutPrefix, PutFinish, PutTabWidth, SetElapsed, ResetEta, ResetElapsed, SetTabWidth, FinishBy, FinishUsingStyle, ForceDraw, obeyed, is_beyond_clock}
+use Rattle.indicatif_bar.specs.Bars.{bar_kind}
+use Rattle.indicatif_bar.specs.Kinds.{asked_of, Frame, NoFrame}
+use Rattle.indicatif_bar.specs.Machines.{Target, target_of, Machine, Draw, Deed, AtOnce, Draws, Leads, is_no, drawn_by}
+use Rattle.indicatif_bar.specs.Runs.{CallMade, Runs}
+use Rattle.indicatif_bar.specs.Lone.{LoneState, LoneCall, Obey, Log, Clear, deed_unless, draw_of_call}
+use Rattle.indicatif_bar.specs.LoneBars.{lone_bar}
+use Rattle.indicatif_bar.specs.declared.state.Ask.{Ask}
+use Rattle.indicatif_bar.specs.declared.state.Ask.TheVariants.{No, Unforced, Forced}
+use Rattle.indicatif_board.specs.BoardBars.{board_bars}
+use Rattle.indicatif_board.specs.Boards.{BoardState, Id, Location, Before, After, Entrant, New, Old, Insert, Remove, Drop, Log as LogAbove, BarLog, Clear as ClearBoard, Redraw, Align, Tell, Answer, Given, Done, Drew, Refused, drawn_of, or_refused, turned_away, anchor_turned_away, inserted, taken_in, taken_out, draws, draw_of_command, last_draw, log_of, draw_of, laid_out, layout_takes, left_on, marked_on, deed_of, board}
+use Rattle.indicatif_board.specs.Members.{Member, is_member, said_of}
+use Rattle.indicatif.specs.Fronts.{of_no_draw, of_a_draw, of_a_clear, of_draw, asked_by, is_late, has_no_bar, bar_answers, CanAnswer, IsMissing, on_board}
+use Rattle.indicatif.specs.SharedBoards.{SharedCall, SharedDraws, SharedAnswers, given_by, is_foreign, board_answers}
+
+pub or-left : (a b : Bool) → a ≡ true → (a || b) ≡ true
+or-left a b e = rw e refl
+
+pub or-right : (a b : Bool) → b ≡ true → (a || b) ≡ true
+or-right a b e = rw e (or-true a)
+
+or-wider : (a b c : Bool) → (a || b) ≡ true → (a || (b || c)) ≡ true
+or-wider true b c e = refl
+or-wider false b c e = or-left b c e
+
+or-none : (a : Bool) → (a || false) ≡ true → a ≡ true
+or-none true e = refl
+or-none false e = e
+
+-- ---- a draw
+
+-- what a draw that is asked for in one of these ways was asked for, and whether the limiter allowed it
+abbrev ComesAs : Ask → Ask → Bool → Type 0
+ComesAs No ask allowed = ask ≡ No
+ComesAs Unforced ask allowed = Unit {0}
+ComesAs Forced ask allowed = (ask ≡ Forced) × (allowed ≡ true)
+
+module _ {S : Type 0} (target : Target) (d : Draw S) where
+  drawn_unasked : is_no d.ask ≡ true → of_no_draw (drawn_by target d).0 ≡ true
+  unfolding drawn_by
+  drawn_unasked none = rw none refl
+
+  drawn_either : (of_no_draw (drawn_by target d).0 || of_a_draw (drawn_by target d).0) ≡ true
+  unfolding drawn_by
+  drawn_either =
+      let P = λ (o : Result Drawn Refusal × S). (of_no_draw o.0 || of_a_draw o.0) ≡ true in
+      cond_both (is_no d.ask) (Ok Limited, d.after_command) _ P (λ a. refl)
+      (λ a. cond_both target.hidden (Ok Hidden, d.after_command) _ P (λ b. refl)
+      (λ b. cond_both (target.columns == 0) (Err NoColumns, d.after_command) _ P (λ c. refl)
+      (λ c. cond_both (not d.allowed) (Ok Limited, d.ready) _ P (λ f. refl)
+      (λ f. cond_both (some_wide target.columns d.lines) (Err TooWide, d.ready) (Ok Yes, d.written) P (λ g. refl) (λ g. refl)))))
+
+  drawn_forced : is_no d.ask ≡ false → not d.allowed ≡ false → of_a_draw (drawn_by target d).0 ≡ true
+  unfolding drawn_by
+  drawn_forced asked allowed =
+      let P = λ (o : Result Drawn Refusal × S). of_a_draw o.0 ≡ true in
+      cond_both (is_no d.ask) (Ok Limited, d.after_command) _ P (λ a. absurd (false≢true (sym asked ∙ a)))
+      (λ a. cond_both target.hidden (Ok Hidden, d.after_command) _ P (λ b. refl)
+      (λ b. cond_both (target.columns == 0) (Err NoColumns, d.after_command) _ P (λ c. refl)
+      (λ c. cond_both (not d.allowed) (Ok Limited, d.ready) _ P (λ f. absurd (false≢true (sym allowed ∙ f)))
+      (λ f. cond_both (some_wide target.columns d.lines) (Err TooWide, d.ready) (Ok Yes, d.written) P (λ g. refl) (λ g. refl)))))
+
+  drawn_clear : is_no d.ask ≡ false → not d.allowed ≡ false → some_wide target.columns d.lines ≡ false → of_a_clear (drawn_by target d).0 ≡ true
+  unfolding drawn_by
+  drawn_clear asked allowed narrow =
+      let P = λ (o : Result Drawn Refusal × S). of_a_clear o.0 ≡ true in
+      cond_both (is_no d.ask) (Ok Limited, d.after_command) _ P (λ a. absurd (false≢true (sym asked ∙ a)))
+      (λ a. cond_both target.hidden (Ok Hidden, d.after_command) _ P (λ b. refl)
+      (λ b. cond_both (target.columns == 0) (Err NoColumns, d.after_command) _ P (λ c. refl)
+      (λ c. cond_both (not d.allowed) (Ok Limited, d.ready) _ P (λ f. absurd (false≢true (sym allowed ∙ f)))
+      (λ f. cond_both (some_wide target.columns d.lines) (Err TooWide, d.ready) (Ok Yes, d.written) P (λ g. absurd (false≢true (sym narrow ∙ g))) (λ g. refl)))))
+
+  drawn_so : (asked : Ask) → ComesAs asked d.ask d.allowed → of_draw asked (drawn_by target d).0 ≡ true
+  drawn_so No is = drawn_unasked (ap is_no is)
+  drawn_so Unforced is = drawn_either
+  drawn_so Forced is = drawn_forced (ap is_no is.0) (ap not is.1)
+
+-- what holds of a draw's outcome, of want of memory and of the terminal's failure holds of the answer that a draw led to
+module _ {S C A : Type 0} (m : Machine S C A) (target : Target) (s : S) (d : Draw S) (ends breaks : S → S) (answer : A) (next : S) (P : Result Drawn Refusal → Type 0) where
+  draw_leads : P (drawn_by target d).0 → P (Err Memory) → ((kind : ErrorKind) → P (Ok Yes) → P (Err (Failure kind))) → Leads m target s (Draws d ends breaks) answer next → P (m.tells answer)
+  draw_leads drawn short broken (inl made) = subst P (sym (ap (λ o. m.tells o.0) made ∙ m.tells_said (drawn_by target d).0)) drawn
+  draw_leads drawn short broken (inr (inl made)) = subst P (sym (ap m.tells made.0 ∙ m.tells_said (Err Memory))) short
+  draw_leads drawn short broken (inr (inr made)) = subst P (sym (ap m.tells made.1 ∙ m.tells_said (Err (Failure made.0)))) (broken made.0 (subst P made.2.0 drawn))
+
+-- the answer of a call that answers at once: that, or want of memory
+module _ {S C A : Type 0} (m : Machine S C A) (target : Target) (s : S) (takes : Bool) (said : A) (after : S) (answer : A) (next : S) (P : Result Drawn Refusal → Type 0) where
+  at_once : P (m.tells said) → (takes ≡ true → P (Err Memory)) → Leads m target s (AtOnce takes said after) answer next → P (m.tells answer)
+  at_once told short (inl made) = subst P (sym (ap (λ o. m.tells o.0) made)) told
+  at_once told short (inr (inl made)) = subst P (sym (ap m.tells made.0 ∙ m.tells_said (Err Memory))) (short made.1.0)
+  at_once told short (inr (inr made)) = absurd made.2
+
+short_so : (asked : Ask) → of_draw asked (Err Memory) ≡ true
+short_so No = refl
+short_so Unforced = refl
+short_so Forced = refl
+
+broken_so : (asked : Ask) (kind : ErrorKind) → of_draw asked (Ok Yes) ≡ true → of_draw asked (Err (Failure kind)) ≡ true
+broken_so No kind wrote = absurd (false≢true wrote)
+broken_so Unforced kind wrote = refl
+broken_so Forced kind wrote = refl
+
+module _ {S C A : Type 0} (m : Machine S C A) (target : Target) (s : S) (d : Draw S) (ends breaks : S → S) (answer : A) (next : S) where
+  -- a draw that was asked for so
+  asked_leads : (asked : Ask) → ComesAs asked d.ask d.allowed → Leads m target s (Draws d ends breaks) answer next → of_draw asked (m.tells answer) ≡ true
+  asked_leads asked is led =
+      draw_leads m target s d ends breaks answer next (λ r. of_draw asked r ≡ true) (drawn_so target d asked is) (short_so asked) (broken_so asked) led
+
+  -- one that writes no lines, by force
+  clear_leads : is_no d.ask ≡ false → not d.allowed ≡ false → some_wide target.columns d.lines ≡ false → Leads m target s (Draws d ends breaks) answer next → of_a_clear (m.tells answer) ≡ true
+  clear_leads asked allowed narrow led =
+      draw_leads m target s d ends breaks answer next (λ r. of_a_clear r ≡ true) (drawn_clear target d asked allowed narrow) refl (λ kind wrote. refl) led
+
+-- ---- commands
+
+-- what a command asks of a bar is what it may ask
+abbrev AsksAs : Ask → Ask → Type 0
+AsksAs No ask = ask ≡ No
+AsksAs Unforced ask = Unit {0}
+AsksAs Forced ask = ask ≡ Forced
+
+command_asks : {K : Type 0} (m : Tracking K) (command : Command K) (bar : BarRecord K) (now : ℕ) → AsksAs (asked_by command) (obeyed m command bar now).1
+command_asks m (SetTicker installed) bar now = refl
+command_asks m (SetStyle style) bar now = refl
+command_asks m (PutPosition position) bar now = refl
+command_asks m (PutMessage text) bar now = refl
+command_asks m (PutPrefix text) bar now = refl
+command_asks m (PutFinish by) bar now = refl
+command_asks m (PutTabWidth tab) bar now = refl
+command_asks m (SetElapsed nanos) bar now = refl
+command_asks m ResetEta bar now = refl
+command_asks m ResetElapsed bar now = refl
+command_asks m (SetTabWidth tab) bar now = refl
+command_asks m (FinishBy by) bar now = refl
+command_asks m FinishUsingStyle bar now = refl
+command_asks m ForceDraw bar now = refl
+command_asks m _ bar now = tt
+
+-- the limiter isn't asked for a draw by force
+limiter_asked : (asked ask : Ask) (now : ℕ) (limiter : Option Limiter) → AsksAs asked ask → ComesAs asked ask (asked_of ask now limiter).0
+limiter_asked No ask now limiter is = is
+limiter_asked Unforced ask now limiter is = tt
+limiter_asked Forced ask now limiter is = (is, ap (λ a. (asked_of a now limiter).0) is)
+
+-- only a time that isn't 0 is beyond a clock
+positive : (now nanos : ℕ) → nat_lt now nanos ≡ true → nat_lt 0 nanos ≡ true
+positive now nanos beyond = let later = ltb-true now nanos beyond in lt-ltb 0 nanos (omega arith)
+
+beyond_is_late : {K : Type 0} (command : Command K) (now : ℕ) → is_beyond_clock command now ≡ true → is_late command (Err ElapsedBeyondClock) ≡ true
+beyond_is_late (SetElapsed nanos) now beyond = positive now nanos beyond
+beyond_is_late _ now beyond = absurd (false≢true beyond)
+
+-- ---- a lone bar
+
+-- the answers of a call of a lone bar: a bar that may stand on a board has these too
+abbrev pub lone_answers : {K : Type 0} → LoneCall (Command K) → Result Drawn Refusal → Bool
+lone_answers (Obey command) answer = of_draw (asked_by command) answer || is_late command answer
+lone_answers (Log text) answer = of_a_draw answer
+lone_answers Clear answer = of_a_clear answer
+
+pub anywhere : {K : Type 0} (call : LoneCall (Command K)) (answer : Result Drawn Refusal) → lone_answers call answer ≡ true → CanAnswer K call answer
+unfolding CanAnswer
+anywhere (Obey command) answer can = or-wider (of_draw (asked_by command) answer) (is_late command answer) (has_no_bar answer) can
+anywhere (Log text) answer can = or-left (of_a_draw answer) (has_no_bar answer) can
+anywhere Clear answer can = can
+
+module _ {K : Type 0} (m : Tracking K) (target : Target) (now : ℕ) (s : LoneState (BarRecord K)) (answer : Result Drawn Refusal) (next : LoneState (BarRecord K)) where
+  obey_answers : (command : Command K) (beyond : Bool) → is_beyond_clock command now ≡ beyond →
+      Leads (lone_bar m) target s (deed_unless (bar_kind m) (if beyond then Some ElapsedBeyondClock else None) (draw_of_call (bar_kind m) target (Obey command) now s) s) answer next →
+      lone_answers (Obey command) answer ≡ true
+  obey_answers command true beyond led =
+      at_once (lone_bar m) target s false (Err ElapsedBeyondClock) s answer next (λ r. lone_answers (Obey command) r ≡ true)
+      (or-right (of_draw (asked_by command) (Err ElapsedBeyondClock)) (is_late command (Err ElapsedBeyondClock)) (beyond_is_late command now beyond)) (λ taken. absurd (false≢true taken)) led
+  obey_answers command false beyond led =
+      or-left (of_draw (asked_by command) answer) (is_late command answer)
+      (asked_leads (lone_bar m) target s (draw_of_call (bar_kind m) target (Obey command) now s) (λ x. x) (λ x. x) answer next (asked_by command)
+      (limiter_asked (asked_by command) (obeyed m command s.bar now).1 now s.limiter (command_asks m command s.bar now)) led)
+
+  call_answers : (call : LoneCall (Command K)) → Leads (lone_bar m) target s ((lone_bar m).deed target call now s) answer next → lone_answers call answer ≡ true
+  call_answers (Obey command) led = obey_answers command (is_beyond_clock command now) refl led
+  call_answers (Log text) led = asked_leads (lone_bar m) target s (draw_of_call (bar_kind m) target (Log text) now s) (λ x. x) (λ x. x) answer next Forced (refl, refl) led
+  call_answers Clear led = clear_leads (lone_bar m) target s (draw_of_call (bar_kind m) target Clear now s) (λ x. x) (λ x. x) answer next refl refl refl led
+
+-- a clear's answers are a draw's
+clear_is_draw : (answer : Result Drawn Refusal) → of_a_clear answer ≡ true → of_a_draw answer ≡ true
+clear_is_draw (Err TooWide) can = refl
+clear_is_draw _ can = can
+
+module _ {K : Type 0} (m : Tracking K) (old new : Option TermView) (s next : LoneState (BarRecord K)) where
+  pub made_alone : (call : LoneCall (Command K)) (now : ℕ) (answer : Result Drawn Refusal) → CallMade (lone_bar m) old new (call, now) s answer next → lone_answers call answer ≡ true
+  made_alone call now answer made = call_answers m (target_of old) now s answer next call made.leads
+
+  -- a bar that was suspended: it was cleared and drawn again by force, or the clear was refused
+  pub suspended_alone : (now : ℕ) (answer : Result Drawn Refusal) →
+      ((cleared : Drawn) × Runs (lone_bar m) ((Clear, now) ∷ (Obey ForceDraw, now) ∷ []) (Ok cleared ∷ answer ∷ []) old s new next)
+      ⊎ ((e : Refusal) × (answer ≡ Err e) × Runs (lone_bar m) ((Clear, now) ∷ []) (Err e ∷ []) old s new next) → of_a_draw answer ≡ true
+  suspended_alone now answer (inl run) = let second = run.1.3 in
+      or-none (of_a_draw answer) (call_answers m (target_of run.1.0) now run.1.1 answer second.1 (Obey ForceDraw) second.2.leads)
+  suspended_alone now answer (inr run) =
+      subst (λ r. of_a_draw r ≡ true) (sym run.1) (clear_is_draw (Err run.0) (call_answers m (target_of old) now s (Err run.0) run.2.1 Clear run.2.2.leads))
+
+-- ---- a board
+
+-- what is said of a member's bar
+said_so : {B X : Type 0} (P : X → Type 0) (other : X) (f : B → X) → ((bar : B) → P (f bar)) → (number : ℕ) (members : List (Member B)) → is_member number members ≡ true →
+    P (said_of other f number members)
+said_so P other f each number [] there = absurd (false≢true there)
+said_so P other f each number (m ∷ ms) there = cond_both (m.number == number) (f m.bar) (said_of other f number ms) P (λ here. each m.bar)
+    (λ elsewhere. said_so P other f each number ms (sym (ap (λ b. if b then not m.dropped else is_member number ms) elsewhere) ∙ there))
+
+module _ {K : Type 0} (m : Tracking K) (mark : ℕ) (target : Target) (now : ℕ) (s : BoardState (BarRecord K)) (answer : Answer) (next : BoardState (BarRecord K)) where
+  abbrev Led : Deed (BoardState (BarRecord K)) Answer → Type 0
+  Led deed = Leads (board (board_bars m) mark) target s deed answer next
+
+  -- the answer of a call that answers at once, and takes no memory
+  said_at_once : (P : Result Drawn Refusal → Type 0) (said : Answer) (after : BoardState (BarRecord K)) → P (drawn_of said) → Led (AtOnce false said after) → P (drawn_of answer)
+  said_at_once P said after told led = at_once (board (board_bars m) mark) target s false said after answer next P told (λ taken. absurd (false≢true taken)) led
+
+  -- a draw that was asked for so
+  drew_as : (d : Draw (BoardState (BarRecord K))) (ends breaks : BoardState (BarRecord K) → BoardState (BarRecord K)) (asked : Ask) → ComesAs asked d.ask d.allowed → Led (Draws d ends breaks) →
+      of_draw asked (drawn_of answer) ≡ true
+  drew_as d ends breaks asked is led = asked_leads (board (board_bars m) mark) target s d ends breaks answer next asked is led
+
+  -- a board that hasn't a bar refuses it so; one that has it goes on
+  named_answers : (P : Result Drawn Refusal → Type 0) (id : Id) (deed : Deed (BoardState (BarRecord K)) Answer) → P (Err ForeignBar) → P (Err NotMember) →
+      (is_member id.number s.members ≡ true → Led deed → P (drawn_of answer)) → Led (or_refused (turned_away mark id s) deed s) → P (drawn_of answer)
+  named_answers P id deed foreign gone on =
+      let Q = λ (o : Option Refusal). Led (or_refused o deed s) → P (drawn_of answer) in
+      cond_both (not (id.mark == mark)) (Some ForeignBar) (if is_member id.number s.members then None else Some NotMember) Q (λ other. said_at_once P (Refused ForeignBar) s foreign)
+      (λ ours. cond_both (is_member id.number s.members) None (Some NotMember) Q on (λ left. said_at_once P (Refused NotMember) s gone))
+
+  -- a bar that is taken in, behind an anchor or without one
+  abbrev Takes : Result Drawn Refusal → Type 0
+  Takes r = (of_no_draw r || has_no_bar r) ≡ true
+
+  entered : (at : Location) (entrant : Entrant (BarRecord K)) → Led (inserted mark at entrant s) → Takes (drawn_of answer)
+  entered at (New bar) =
+      cond_both (s.made == 2 ^ 64) (AtOnce true (Refused Memory) s) (AtOnce true (Given (record { mark = mark; number = s.made })) (taken_in at bar s)) (λ deed. Led deed → Takes (drawn_of answer))
+      (λ full. at_once (board (board_bars m) mark) target s true (Refused Memory) s answer next Takes refl (λ taken. refl))
+      (λ free. at_once (board (board_bars m) mark) target s true (Given (record { mark = mark; number = s.made })) (taken_in at bar s) answer next Takes refl (λ taken. refl))
+  entered at (Old id) = named_answers Takes id (AtOnce false (Given id) s) refl refl (λ there. said_at_once Takes (Given id) s refl)
+
+  anchored : (at : Location) (deed : Deed (BoardState (BarRecord K)) Answer) → (Led deed → Takes (drawn_of answer)) → Led (or_refused (anchor_turned_away mark at s) deed s) → Takes (drawn_of answer)
+  anchored (Before anchor) deed on = named_answers Takes anchor deed refl refl (λ there. on)
+  anchored (After anchor) deed on = named_answers Takes anchor deed refl refl (λ there. on)
+  anchored _ deed on = on
+
+  -- a command of a member's bar
+  told_answers : (id : Id) (command : Command K) → is_member id.number s.members ≡ true →
+      Led (or_refused (said_of None (λ bar. if is_beyond_clock command now then Some ElapsedBeyondClock else None) id.number s.members)
+      (draws (draw_of_command (board_bars m) target id.number command now s)) s) → bar_answers (Obey command) (drawn_of answer) ≡ true
+  told_answers id command there =
+      let P = λ (r : Result Drawn Refusal). bar_answers (Obey command) r ≡ true in
+      let deed = draws (draw_of_command (board_bars m) target id.number command now s) in
+      let Q = λ (o : Option Refusal). Led (or_refused o deed s) → P (drawn_of answer) in
+      let late = or-left (is_late command (Err ElapsedBeyondClock)) false in
+      let asks = said_so (AsksAs (asked_by command)) No (λ bar. (obeyed m command bar now).1) (λ bar. command_asks m command bar now) id.number s.members there in
+      said_so Q None (λ bar. if is_beyond_clock command now then Some ElapsedBeyondClock else None)
+      (λ bar. cond_both (is_beyond_clock command now) (Some ElapsedBeyondClock) None Q
+      (λ beyond. said_at_once P (Refused ElapsedBeyondClock) s (or-right (of_draw (asked_by command) (Err ElapsedBeyondClock)) (is_late command (Err ElapsedBeyondClock) || false)
+          (late (beyond_is_late command now beyond))))
+      (λ in_time led. or-left (of_draw (asked_by command) (drawn_of answer)) (is_late command (drawn_of answer) || has_no_bar (drawn_of answer))
+      (drew_as (draw_of_command (board_bars m) target id.number command now s) (λ x. x) (λ x. x) (asked_by command)
+      (limiter_asked (asked_by command) (said_of No (λ bar. (obeyed m command bar now).1) id.number s.members) now s.limiter asks) led)))
+      id.number s.members there
+
+  -- no command is refused as a bar that the board hasn't is
+  hasnt : (command : Command K) (e : Refusal) → has_no_bar (Err e) ≡ true → bar_answers (Obey command) (Err e) ≡ true
+  hasnt command e is = or-right (of_draw (asked_by command) (Err e)) (is_late command (Err e) || has_no_bar (Err e)) (or-right (is_late command (Err e)) (has_no_bar (Err e)) is)
+
+  board_call : (call : SharedCall K) → Led (deed_of (board_bars m) mark target call now s) → board_answers call (drawn_of answer) ≡ true
+  board_call (Insert at entrant) led = anchored at (inserted mark at entrant s) (entered at entrant) led
+  board_call (Remove id) led =
+      let P = λ (r : Result Drawn Refusal). (of_no_draw r || is_foreign r) ≡ true in
+      cond_both (not (id.mark == mark)) (AtOnce false (Refused ForeignBar) s) (AtOnce false Done (taken_out id.number s)) (λ deed. Led deed → P (drawn_of answer))
+      (λ other. said_at_once P (Refused ForeignBar) s refl) (λ ours. said_at_once P Done (taken_out id.number s) refl) led
+  board_call (Drop id) led =
+      named_answers (λ r. (of_no_draw r || (of_a_draw r || has_no_bar r)) ≡ true) id (Draws (last_draw (board_bars m) target id.number now s)
+          (left_on target id.number) (marked_on id.number)) refl refl
+      (λ there led. or-wider (of_no_draw (drawn_of answer)) (of_a_draw (drawn_of answer)) (has_no_bar (drawn_of answer))
+      (drew_as (last_draw (board_bars m) target id.number now s) (left_on target id.number) (marked_on id.number) Unforced tt led)) led
+  board_call (LogAbove text) led = drew_as (log_of (board_bars m) target text now s s false) (λ x. x) (λ x. x) Forced (refl, refl) led
+  board_call (BarLog id text) led =
+      let d = log_of (board_bars m) target text now s (laid_out (board_bars m) target now id.number s) (layout_takes (board_bars m) id.number s) in
+      named_answers (λ r. (of_a_draw r || has_no_bar r) ≡ true) id (draws d) refl refl
+      (λ there led. or-left (of_a_draw (drawn_of answer)) (has_no_bar (drawn_of answer)) (drew_as d (λ x. x) (λ x. x) Forced (refl, refl) led)) led
+  board_call ClearBoard led =
+      clear_leads (board (board_bars m) mark) target s (draw_of target false Forced now NoFrame s s false) (λ x. x) (λ x. x) answer next refl refl refl led
+  board_call Redraw led = drew_as (draw_of target false Forced now Frame s s false) (λ x. x) (λ x. x) Forced (refl, refl) led
+  board_call (Align bottom) led = said_at_once (λ r. of_no_draw r ≡ true) Done (record s { bottom = bottom }) refl led
+  board_call (Tell id command) led =
+      named_answers (λ r. bar_answers (Obey command) r ≡ true) id
+      (or_refused (said_of None (λ bar. if is_beyond_clock command now then Some ElapsedBeyondClock else None) id.number s.members)
+          (draws (draw_of_command (board_bars m) target id.number command now s)) s)
+      (hasnt command ForeignBar refl) (hasnt command NotMember refl) (told_answers id command) led
+
+pub made_on_board : {K T : Type 0} (m : Tracking K) (view : T → TermView) (mark : ℕ) (old new : Option TermView) (call : SharedCall K) (now : ℕ) (s : BoardState (BarRecord K)) (answer : Answer)
+    (next : BoardState (BarRecord K)) → CallMade (board (board_bars m) mark) old new (call, now) s answer next → SharedDraws m view call (drawn_of answer)
+unfolding SharedDraws
+made_on_board m view mark old new call now s answer next made = board_call m mark (target_of old) now s answer next call made.leads
+
+-- memory may always be wanting, for a history or for a text
+pub no_memory : {K T : Type 0} (m : Tracking K) (view : T → TermView) (call : SharedCall K) → SharedDraws m view call (Err Memory)
+unfolding SharedDraws
+no_memory m view (Insert at entrant) = refl
+no_memory m view (Remove id) = refl
+no_memory m view (Drop id) = refl
+no_memory m view (LogAbove text) = refl
+no_memory m view (BarLog id text) = refl
+no_memory m view ClearBoard = refl
+no_memory m view Redraw = refl
+no_memory m view (Align bottom) = refl
+no_memory m view (Tell id command) = or-left (of_draw (asked_by command) (Err Memory)) (is_late command (Err Memory) || false) (short_so (asked_by command))
+
+-- what a board answers that is asked for a bar, the bar can answer
+pub seated : {K T : Type 0} (m : Tracking K) (view : T → TermView) (id : Id) (call : LoneCall (Command K))
+    (answer : Result Drawn Refusal) → SharedDraws m view (on_board id call) answer → CanAnswer K call answer
+unfolding SharedDraws CanAnswer
+seated m view id (Obey command) answer can = can
+seated m view id (Log text) answer can = can
+seated m view id Clear answer can = can
+
+-- a board that was drawn anew by force, or cleared
+pub redrawn_so : {K T : Type 0} (m : Tracking K) (view : T → TermView) (answer : Result Drawn Refusal) → SharedDraws m view Redraw answer → of_a_draw answer ≡ true
+unfolding SharedDraws
+redrawn_so m view answer can = can
+
+pub cleared_so : {K T : Type 0} (m : Tracking K) (view : T → TermView) (answer : Result Drawn Refusal) → SharedDraws m view ClearBoard answer → of_a_draw answer ≡ true
+unfolding SharedDraws
+cleared_so m view answer can = clear_is_draw answer can
+
+-- an insertion is refused for want of memory, or where the board hasn't the bar; a removal for want of memory, or of another board's bar; and another
+-- alignment for want of memory
+given_so : {K T : Type 0} (m : Tracking K) (view : T → TermView) (at : Location) (entrant : Entrant (BarRecord K)) (told : Answer) → SharedAnswers m view (Insert at entrant) told →
+    IfErr (given_by told) IsMissing
+unfolding SharedDraws
+given_so m view at entrant (Given id) can = tt
+given_so m view at entrant Done can = inr (inr refl)
+given_so m view at entrant (Drew drawn) can = inr (inr refl)
+given_so m view at entrant (Refused Memory) can = inl refl
+given_so m view at entrant (Refused ForeignBar) can = inr (inl refl)
+given_so m view at entrant (Refused NotMember) can = inr (inr refl)
+given_so m view at entrant (Refused e) can = absurd (false≢true can)
+
+pub taken_so : {K T : Type 0} (m : Tracking K) (view : T → TermView) (at : Location) (entrant : Entrant (BarRecord K)) (told : Answer) (e : Refusal) →
+    SharedAnswers m view (Insert at entrant) told → given_by told ≡ Err e → IsMissing e
+taken_so m view at entrant told e can given = subst (λ taken. IfErr taken IsMissing) given (given_so m view at entrant told can)
+
+pub removed_so : {K T : Type 0} (m : Tracking K) (view : T → TermView) (id : Id) (e : Refusal) → SharedAnswers m view (Remove id) (Refused e) → (e ≡ Memory) ⊎ (e ≡ ForeignBar)
+unfolding SharedDraws
+removed_so m view id Memory can = inl refl
+removed_so m view id ForeignBar can = inr refl
+removed_so m view id _ can = absurd (false≢true can)
+
+pub kept_so : {K T : Type 0} (m : Tracking K) (view : T → TermView) (id : Id) (e : Refusal) → SharedAnswers m view (Remove id) (Refused e) → IsMissing e
+kept_so m view id e can = elim (removed_so m view id e can) [ inl memory ↦ inl memory | inr foreign ↦ inr (inl foreign) ]
+
+pub aligned_so : {K T : Type 0} (m : Tracking K) (view : T → TermView) (bottom : Bool) (e : Refusal) → SharedDraws m view (Align bottom) (Err e) → e ≡ Memory
+unfolding SharedDraws
+aligned_so m view bottom Memory can = refl
+aligned_so m view bottom _ can = absurd (false≢true can)

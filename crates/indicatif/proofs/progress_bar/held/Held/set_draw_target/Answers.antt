@@ -1,8 +1,0 @@
-use Rattle.std.proofs.Common.{refl, inl}
-use Rattle.indicatif.proofs.progress_bar.held.Held.set_draw_target.Goals as goal
-
-pub returns-in-Alone : goal.returns-in-Alone
-returns-in-Alone g c = rw c.in-Alone.is (c.set_draw_target.new.self, refl, c.set_draw_target.ensures.bar, c.set_draw_target.ensures.terminal, refl)
-
-pub returns-in_ok-bar-in-On : goal.returns-in_ok-bar-in-On
-returns-in_ok-bar-in-On g c = rw (c.in-On.is, c.stand.ensures) (inl (c.new.result, refl, c.new.ensures.terminal, c.in_ok-bar-in-On.ensures))

@@ -1,0 +1,8 @@
+use Rattle.std.proofs.Common.{refl, ap}
+use Rattle.indicatif.specs.declared.progress_bar.any_bar.AnyBar.TheVariants.{Alone}
+use Rattle.indicatif.proofs.progress_bar.locked_bar.LockedBar.end.Goals as goal
+
+pub returns-in-Alone-clause-ends : goal.returns-in-Alone-clause-ends
+returns-in-Alone-clause-ends g c =
+    let made = c.finish_unfinished.ensures in
+    rw c.in-Alone.is (λ f. ap Alone (made.finished f), λ u. (c.finish_unfinished.new.bar, refl, (c.now-now.result, made.unfinished u)))

@@ -1,0 +1,8 @@
+use Rattle.std.proofs.Common.{inl, refl, sym}
+use Rattle.indicatif.proofs.progress_bar.locked_bar.LockedBar.move_by.Goals as goal
+
+pub returns-in-Alone : goal.returns-in-Alone
+returns-in-Alone g c = rw c.in-Alone.is (c.apply_to.new.bar, refl, (c.now-now.result, record { was = c.bar.ensures.some; done = inl c.apply_to.ensures.bar; leads = c.apply_to.ensures.leads }))
+
+pub returns-in-Member : goal.returns-in-Member
+returns-in-Member g c = rw (c.in-Member.is, sym c.command.ensures) (refl, c.tell.ensures)

@@ -1,0 +1,89 @@
+-- What a call makes of a shared bar, alone or on a board, and what is read of it.
+use Rattle.std.specs.Prelude.{◌≡◌, ◌⊎◌, ℕ, IsTrue, IsFalse, false, Option, Some, IfSome, Result, Ok, Err}
+use Rattle.indicatif_text.specs.declared.refusal.Refusal.{Refusal}
+use Rattle.indicatif_text.specs.declared.refusal.Refusal.TheVariants.{Memory}
+use Rattle.indicatif_text.specs.declared.refusal.Drawn.{Drawn}
+use Rattle.indicatif_text.specs.declared.refusal.Drawn.TheVariants.{Limited}
+use Rattle.indicatif_term.specs.Calls.{TermView}
+use Rattle.indicatif_bar.specs.BarStyles.{BarStyle}
+use Rattle.indicatif_bar.specs.Trackers.{Tracking}
+use Rattle.indicatif_bar.specs.Commands.{Command, FinishUsingStyle}
+use Rattle.indicatif_bar.specs.Progress.{Progress, is_finished}
+use Rattle.indicatif_bar.specs.Lone.{LoneCall, Obey}
+use Rattle.indicatif_bar.specs.LoneBars.{LoneLeadsBy, CallDone, record_of, lone_terminal}
+use Rattle.indicatif_bar.specs.declared.command.Change.{Change as Changed}
+use Rattle.indicatif_bar.specs.declared.lone.LoneBar.{LoneBar}
+use Rattle.indicatif_board.specs.Boards.{Drop, Redraw}
+use Rattle.indicatif_board.specs.BoardValues.{id_of}
+use Rattle.indicatif.specs.Fronts.{LoneIsSomewhere, SuspendedBy, IsMissing, on_board, unchanged}
+use Rattle.indicatif.specs.SharedBoards.{SharedDraws, SharedSuspends, SharedKeeps}
+use Rattle.indicatif.specs.declared.progress_bar.any_bar.AnyBar.{AnyBar}
+use Rattle.indicatif.specs.declared.progress_bar.any_bar.AnyBar.TheVariants.{Alone, Member}
+
+module _ {K T : Type 0} (m : Tracking K) (view : T → TermView) where
+  -- a bar that was in a state made a call at this moment, with this answer: what became of its record, and its step
+  pub record MadeBy (old new : LoneBar K T) (call : LoneCall (Command K)) (now : ℕ) (answer : Result Drawn Refusal) : Type 0 where
+    pub was : LoneIsSomewhere old
+    pub done : CallDone m old new call now answer
+    pub leads : LoneLeadsBy m view old new call now answer
+
+  -- the same at some moment of its clock
+  abbrev pub Makes : LoneBar K T → LoneBar K T → LoneCall (Command K) → Result Drawn Refusal → Type 0
+  Makes old new call answer = (now : ℕ) × MadeBy old new call now answer
+
+module _ {K T C : Type 0} where
+  -- what a call with this answer made of a bar: alone, it made the call; on a board, it stays there, and the board can answer so
+  abbrev pub BarMakes : Tracking K → (T → TermView) → AnyBar K T C → LoneCall (Command K) → Result Drawn Refusal → AnyBar K T C → Type 0
+  BarMakes m view (Alone old) call answer new = (bar : LoneBar K T) × (new ≡ Alone bar) × Makes m view old bar call answer
+  BarMakes m view (Member member) call answer new = (new ≡ Member member) × SharedDraws m view (on_board (id_of member.id) call) answer
+
+  -- the same of the bar's end: alone, one that is finished stays as it is
+  abbrev pub BarEnds : Tracking K → (T → TermView) → AnyBar K T C → Result Drawn Refusal → AnyBar K T C → Type 0
+  BarEnds m view (Alone old) answer new =
+      (IsTrue (is_finished (record_of old).progress) → new ≡ Alone old)
+      × (IsFalse (is_finished (record_of old).progress) → (bar : LoneBar K T) × (new ≡ Alone bar) × Makes m view old bar (Obey FinishUsingStyle) answer)
+  BarEnds m view (Member member) answer new = (new ≡ Member member) × SharedDraws m view (Drop (id_of member.id)) answer
+
+  -- the same of a bar that is suspended
+  abbrev pub BarSuspends : Tracking K → (T → TermView) → AnyBar K T C → Result Drawn Refusal → AnyBar K T C → Type 0
+  BarSuspends m view (Alone old) answer new = (bar : LoneBar K T) × (new ≡ Alone bar) × (now : ℕ) × SuspendedBy m view old bar now answer
+  BarSuspends m view (Member member) answer new = (new ≡ Member member) × SharedSuspends m view answer
+
+  -- what was read of the bar's state: alone, of the one there; on a board, of some bar's, if the board has the bar
+  abbrev pub ReadsBy : {A : Type 0} → (Progress → A → Type 0) → AnyBar K T C → Option A → Type 0
+  ReadsBy {A} R (Alone bar) found = (a : A) × (found ≡ Some a) × R (record_of bar).progress a
+  ReadsBy R (Member member) found = IfSome found (λ a. (shown : Progress) × R shown a)
+
+  -- a measure of the bar at some moment; on a board, of some bar
+  abbrev pub Measures : {A : Type 0} → (Progress → ℕ → A) → AnyBar K T C → A → Type 0
+  Measures measure (Alone bar) found = (now : ℕ) × (found ≡ measure (record_of bar).progress now)
+  Measures measure (Member member) found = (p : Progress) × (now : ℕ) × (found ≡ measure p now)
+
+  -- a bar that stands alone looks so
+  abbrev pub LooksSo : AnyBar K T C → BarStyle K → Type 0
+  LooksSo (Alone bar) style = style ≡ (record_of bar).style
+  LooksSo (Member member) style = Unit {0}
+
+  -- a bar that stands alone is not finished
+  abbrev pub IsUnfinished : AnyBar K T C → Type 0
+  IsUnfinished (Alone bar) = is_finished (record_of bar).progress ≡ false
+  IsUnfinished (Member member) = Unit {0}
+
+  -- what a closure answered of the bar's state; on a board, of some bar's, or nothing where the board hasn't the bar
+  abbrev pub IsOf : (Progress → Changed → Type 0) → AnyBar K T C → Changed → Type 0
+  IsOf R (Alone bar) change = R (record_of bar).progress change
+  IsOf R (Member member) change = ((shown : Progress) × R shown change) ⊎ (change ≡ unchanged)
+
+  -- another target was asked for: alone, the bar is as it was, on that; a board's bar stands alone on that, and the others were
+  -- drawn, or it stays where it was
+  abbrev pub BarTurns : Tracking K → (T → TermView) → AnyBar K T C → Option T → Result Drawn Refusal → AnyBar K T C → Type 0
+  BarTurns m view (Alone old) term answer new =
+      (bar : LoneBar K T) × (new ≡ Alone bar) × (record_of bar ≡ record_of old) × (lone_terminal bar ≡ term) × (answer ≡ Ok Limited)
+  BarTurns m view (Member member) term answer new =
+      ((bar : LoneBar K T) × (new ≡ Alone bar) × (lone_terminal bar ≡ term) × SharedDraws m view Redraw answer)
+      ⊎ ((e : Refusal) × (answer ≡ Err e) × (new ≡ Member member) × SharedKeeps m view (id_of member.id) e)
+
+  -- a text of the bar isn't told: there is no memory for it, or the board hasn't the bar
+  abbrev pub IsUntold : AnyBar K T C → Refusal → Type 0
+  IsUntold (Alone bar) e = e ≡ Memory
+  IsUntold (Member member) e = IsMissing e

@@ -1,0 +1,47 @@
+-- What a call makes of a shared board, with its history or without.
+use Rattle.std.specs.Prelude.{◌≡◌, ◌⊎◌, ℕ, Option, Some, None, Result, Ok, Err}
+use Rattle.indicatif_text.specs.declared.refusal.Refusal.{Refusal}
+use Rattle.indicatif_text.specs.declared.refusal.Refusal.TheVariants.{Memory}
+use Rattle.indicatif_text.specs.declared.refusal.Drawn.{Drawn}
+use Rattle.indicatif_term.specs.Calls.{TermView}
+use Rattle.indicatif_bar.specs.Trackers.{Tracking}
+use Rattle.indicatif_bar.specs.Commands.{BarRecord}
+use Rattle.indicatif_board.specs.Boards.{Id, Location, Entrant, Answer, Given, Done, Drew, Refused, Clear, Redraw, Insert, Remove, drawn_of}
+use Rattle.indicatif_board.specs.Multi.{LeadsBy}
+use Rattle.indicatif_board.specs.Recorded.{Record, AddsCall}
+use Rattle.indicatif_board.specs.declared.multi.Board.{Board}
+use Rattle.indicatif.specs.SharedBoards.{SharedCall, given_by}
+use Rattle.indicatif.specs.declared.progress_bar.any_board.AnyBoard.{AnyBoard}
+use Rattle.indicatif.specs.declared.progress_bar.any_board.AnyBoard.TheVariants.{Open, Recorded}
+
+-- what a call made of a board: its step; and a history grows by exactly the call, or found no room for it, and nothing changed
+abbrev pub BoardMakes : {K T : Type 0} → Tracking K → (T → TermView) → AnyBoard K T → SharedCall K → ℕ → Answer → AnyBoard K T → Type 0
+BoardMakes {K} {T} m view (Open old) call now answer new = (b : Board K T) × (new ≡ Open b) × LeadsBy m view old b call now answer
+BoardMakes {K} {T} m view (Recorded old) call now answer new =
+    (r : Record K T) × (new ≡ Recorded r) × (AddsCall m view old call now answer r ⊎ ((r ≡ old) × (answer ≡ Refused Memory)))
+
+-- why a call was refused, if it was
+abbrev pub refused_with : Answer → Option Refusal
+refused_with (Refused e) = Some e
+refused_with Done = None
+refused_with (Given id) = None
+refused_with (Drew drawn) = None
+
+module _ {K T : Type 0} (m : Tracking K) (view : T → TermView) where
+  -- the same of a call that draws, by what its answer tells of that
+  abbrev pub BoardDraws : AnyBoard K T → SharedCall K → ℕ → Result Drawn Refusal → AnyBoard K T → Type 0
+  BoardDraws old call now drawn new = (told : Answer) × (drawn ≡ drawn_of told) × BoardMakes m view old call now told new
+
+  -- the same of a removal, by whether it was refused
+  abbrev pub BoardRemoves : AnyBoard K T → Id → ℕ → Option Refusal → AnyBoard K T → Type 0
+  BoardRemoves old id now refused new = (told : Answer) × (refused ≡ refused_with told) × BoardMakes m view old (Remove id) now told new
+
+  -- the same of an insertion, by what it gives
+  abbrev pub BoardTakes : AnyBoard K T → Location → Entrant (BarRecord K) → ℕ → Result Id Refusal → AnyBoard K T → Type 0
+  BoardTakes old at entrant now taken new = (told : Answer) × (taken ≡ given_by told) × BoardMakes m view old (Insert at entrant) now told new
+
+  -- one that was suspended was cleared and drawn again at the same moment; or the clear was refused, and nothing drawn
+  abbrev pub BoardSuspends : AnyBoard K T → ℕ → Result Drawn Refusal → AnyBoard K T → Type 0
+  BoardSuspends old now drawn new =
+      ((cleared : Drawn) × (between : AnyBoard K T) × BoardDraws old Clear now (Ok cleared) between × BoardDraws between Redraw now drawn new)
+      ⊎ ((e : Refusal) × (drawn ≡ Err e) × BoardDraws old Clear now (Err e) new)

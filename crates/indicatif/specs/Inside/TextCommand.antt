@@ -1,0 +1,17 @@
+-- What a bar is told with a text, as a call of a bar that stands alone.
+use Rattle.std.specs.Prelude.{ℕ, List}
+use Rattle.indicatif_bar.specs.Commands.{Command, SetMessage, SetPrefix, PutMessage, PutPrefix, FinishBy}
+use Rattle.indicatif_bar.specs.Finishes.{WithMessage, AbandonWithMessage}
+use Rattle.indicatif_bar.specs.Lone.{LoneCall, Obey, Log}
+use Rattle.indicatif.specs.declared.progress_bar.text_command.TextCommand.{TextCommand}
+use Rattle.indicatif.specs.declared.progress_bar.text_command.TextCommand.TheVariants as told
+
+-- lines of text are logged; a text is the message or the prefix from now on, or the message that the bar is finished with
+abbrev pub text_call : {K : Type 0} → TextCommand → List ℕ → LoneCall (Command K)
+text_call told.Log text = Log text
+text_call told.Message text = Obey (SetMessage text)
+text_call told.Prefix text = Obey (SetPrefix text)
+text_call told.PutMessage text = Obey (PutMessage text)
+text_call told.PutPrefix text = Obey (PutPrefix text)
+text_call told.Finish text = Obey (FinishBy (WithMessage text))
+text_call told.Abandon text = Obey (FinishBy (AbandonWithMessage text))

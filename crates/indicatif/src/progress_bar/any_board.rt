@@ -1,0 +1,188 @@
+//! A board without its history, or with it.
+ghost use Rattle.std.specs.Prelude.{◌≡◌, ℕ, Some, None, IfOk, IfErr, Ok, Err, MatchResult};
+ghost use Rattle.indicatif_bar.specs.Commands.{command_of};
+ghost use Rattle.indicatif_board.specs.Boards.{Tell, Remove, Refused, drawn_of};
+ghost use Rattle.indicatif_board.specs.BoardValues.{id_of};
+ghost use Rattle.indicatif_board.specs.Calls.{call_of, answer_of};
+ghost use Rattle.indicatif.specs.SharedBoards.{SharedAnswers, SharedDraws, SharedSuspends, given_by};
+ghost use Rattle.indicatif.specs.Inside.AnyBoard.{BoardMakes, BoardDraws, BoardRemoves, BoardSuspends, refused_with};
+
+use indicatif_bar::state::{BarCommand, BarState};
+use indicatif_bar::style::Tracks;
+use indicatif_board::multi::{Answer, BarId, Board, Call, Recorded};
+use indicatif_term::draw_target::ProgressDrawTarget;
+use indicatif_term::term_like::TermLike;
+use indicatif_text::columns::{Drawn, Moment, Refusal};
+
+/// A board, with its history or without.
+#[derive(Drop)]
+pub enum AnyBoard<K: Tracks, T: Drop> {
+    /// It keeps no history.
+    Open(Board<K, T>),
+    /// It keeps its history.
+    Recorded(Recorded<K, T>),
+}
+
+/// A call follows one of `order`, or of `replays`, which tells that the board is in some state: clauses speak of that.
+impl<K: Tracks, T: TermLike + Drop> AnyBoard<K, T> {
+    /// Makes a call. A bar that is removed or turned away is given up.
+    pub fn call(&mut self, call: Call<K>, now: Moment) -> Answer
+        ensures made { BoardMakes K.means T.view self.old (call_of call) now (answer_of result) self.new }
+        ensures can { SharedAnswers K.means T.view (call_of call) (answer_of result) }
+    {
+        match self {
+            AnyBoard::Open(board) => {
+                board.order();
+                board.call(call, now)
+            }
+            AnyBoard::Recorded(record) => {
+                record.replays();
+                answer_alone(record.apply(call, now))
+            }
+        }
+    }
+
+    /// A call that draws.
+    pub fn draw(&mut self, call: Call<K>, now: Moment) -> Result<Drawn, Refusal>
+        ensures made { BoardDraws K.means T.view self.old (call_of call) now result self.new }
+        ensures can { SharedDraws K.means T.view (call_of call) result }
+    {
+        drawn_of(self.call(call, now))
+    }
+
+    /// A command of a bar. No call is made of it where no history keeps that.
+    pub fn tell(&mut self, id: BarId, command: BarCommand<K>, now: Moment) -> Result<Drawn, Refusal>
+        ensures made { BoardDraws K.means T.view self.old (Tell (id_of id) (command_of command)) now result self.new }
+        ensures can { SharedDraws K.means T.view (Tell (id_of id) (command_of command)) result }
+    {
+        match self {
+            AnyBoard::Open(board) => {
+                board.order();
+                board.command(id, command, now)
+            }
+            AnyBoard::Recorded(_) => self.draw(Call::Bar(id, command), now),
+        }
+    }
+
+    /// Takes a bar out of the order and hands it back; `None` where it isn't there.
+    pub fn remove(&mut self, id: BarId, now: Moment) -> Result<Option<BarState<K>>, Refusal>
+        ensures made { MatchResult result (λ _. BoardRemoves K.means T.view self.old (id_of id) now None self.new) (λ e. BoardRemoves K.means T.view self.old (id_of id) now (Some e) self.new) }
+        ensures can { IfErr result (λ e. SharedAnswers K.means T.view (Remove (id_of id)) (Refused e)) }
+    {
+        match self {
+            AnyBoard::Open(board) => {
+                board.order();
+                board.remove(id)
+            }
+            AnyBoard::Recorded(record) => {
+                record.replays();
+                bar_unless_refused(record.apply(Call::Remove(id), now))
+            }
+        }
+    }
+
+    /// Another target; the old one is given up. A board with its history keeps its target.
+    pub fn set_draw_target(&mut self, target: ProgressDrawTarget<T>) -> Result<(), Refusal>
+        ensures { IfErr result (λ e. (e ≡ Refusal.RecordedTarget) × (self.new ≡ self.old)) }
+    {
+        match self {
+            AnyBoard::Open(board) => {
+                let _ = board.set_draw_target(target);
+                Ok(())
+            }
+            AnyBoard::Recorded(_) => Err(Refusal::RecordedTarget),
+        }
+    }
+
+    /// Whether draws write over what stands, by moves of the cursor alone. A board with its history isn't told.
+    pub fn set_move_cursor(&mut self, on: bool) -> Result<(), Refusal>
+        ensures { IfErr result (λ e. (e ≡ Refusal.RecordedTarget) × (self.new ≡ self.old)) }
+    {
+        match self {
+            AnyBoard::Open(board) => {
+                board.set_move_cursor(on);
+                Ok(())
+            }
+            AnyBoard::Recorded(_) => Err(Refusal::RecordedTarget),
+        }
+    }
+
+    /// The board.
+    pub fn as_board(&self) -> &Board<K, T> {
+        match self {
+            AnyBoard::Open(board) => board,
+            AnyBoard::Recorded(record) => record.board(),
+        }
+    }
+
+    /// The board with its history; `None` where it keeps none.
+    pub fn as_recorded(&self) -> Option<&Recorded<K, T>> {
+        match self {
+            AnyBoard::Open(_) => None,
+            AnyBoard::Recorded(record) => Some(record),
+        }
+    }
+
+    /// Clears the board, calls `f`, and draws the board again at the same moment; where the clear was refused, `f` is called all
+    /// the same.
+    pub fn suspend<F: FnOnce() -> A, A>(&mut self, now: Moment, f: F) -> (A, Result<Drawn, Refusal>)
+        requires { F.pre f }
+        ensures value { F.post f result.0 }
+        ensures made { BoardSuspends K.means T.view self.old now result.1 self.new }
+        ensures drawn { SharedSuspends K.means T.view result.1 }
+    {
+        let cleared = self.draw(Call::Clear, now);
+        let value = f();
+        match cleared {
+            Ok(_) => {
+                let drawn = self.draw(Call::Redraw, now);
+                (value, drawn)
+            }
+            Err(refusal) => (value, Err(refusal)),
+        }
+    }
+}
+
+/// What a board with its history answered.
+type Answered<K> = (Answer, Option<BarState<K>>);
+
+/// The answer; a bar that was handed back is given up.
+fn answer_alone<K: Drop>(answered: Answered<K>) -> Answer
+    ensures { result ≡ answered.0 }
+{
+    answered.0
+}
+
+/// The bar that was handed back, unless the call was refused.
+fn bar_unless_refused<K: Drop>(answered: Answered<K>) -> Result<Option<BarState<K>>, Refusal>
+    ensures { MatchResult result (λ _. refused_with (answer_of answered.0) ≡ None) (λ e. answered.0 ≡ Answer.Refused e) }
+{
+    let (answer, bar) = answered;
+    match answer {
+        Answer::Refused(refusal) => Err(refusal),
+        Answer::Id(_) | Answer::Done | Answer::Drawn(_) => Ok(bar),
+    }
+}
+
+/// What an answer tells of a draw.
+fn drawn_of(answer: Answer) -> Result<Drawn, Refusal>
+    ensures { result ≡ drawn_of (answer_of answer) }
+{
+    match answer {
+        Answer::Id(_) | Answer::Done => Ok(Drawn::Limited),
+        Answer::Drawn(drawn) => Ok(drawn),
+        Answer::Refused(refusal) => Err(refusal),
+    }
+}
+
+/// What an answer gives of a bar that was to be taken in; an insertion gives a bar or refuses it.
+pub fn id_given(answer: Answer) -> Result<BarId, Refusal>
+    ensures ok { IfOk result (λ id. given_by (answer_of answer) ≡ Ok (id_of id)) }
+    ensures err { IfErr result (λ e. given_by (answer_of answer) ≡ Err e) }
+{
+    match answer {
+        Answer::Id(id) => Ok(id),
+        Answer::Refused(refusal) => Err(refusal),
+        Answer::Done | Answer::Drawn(_) => Err(Refusal::NotMember),
+    }
+}

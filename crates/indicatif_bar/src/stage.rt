@@ -1,0 +1,162 @@
+//! What bars are drawn on, a lone one and those of a board. It is public for boards, whose crate is another: callers have `LoneBar` and
+//! `Board`, which hold a stage each and hand it to nobody.
+ghost use Rattle.std.specs.Prelude.{◌≡◌, ◌⊎◌, ◌≤◌, None, Err, Option, option_map, IsTrue, ◌↔◌, IfOk, IfErr, IfSome, OnErr, false, map, length};
+ghost use Rattle.indicatif_term.specs.Engines.{is_bottom};
+ghost use Rattle.indicatif_term.specs.Frames.{bar_lines};
+ghost use Rattle.indicatif_term.specs.Limiters.{Limiter};
+ghost use Rattle.indicatif_term.specs.Lists.{Lists, opening_lists};
+ghost use Rattle.indicatif_term.specs.Targets.{term_of, limiter_of};
+ghost use Rattle.indicatif_bar.specs.Shown.{PutsFrame};
+ghost use Rattle.indicatif_bar.specs.Stages.{writing_as};
+
+use indicatif_term::draw_target::{
+    Engine, MultiProgressAlignment, ProgressDrawTarget, RateLimiter, Segment,
+};
+use indicatif_term::term_like::{Resize, TermLike};
+use indicatif_text::columns::Refusal;
+use std::alloc::Global;
+use std::mem::replace;
+
+/// What a draw writes.
+#[derive(Clone, Copy)]
+pub enum Writing<'a> {
+    /// The bars' lines.
+    Frame,
+    /// A text, which stays, and the bars' lines below it.
+    TextAndFrame(&'a str),
+    /// Nothing, in the place of what stood.
+    NoFrame,
+}
+
+/// A target as it is drawn on: its terminal, with what stands there, and how often draws are made that aren't forced.
+#[derive(Drop)]
+pub struct Stage<T: Drop> {
+    /// The engine on the terminal; none where the target is hidden.
+    pub engine: Option<Engine<T>>,
+    /// The limiter; none where each draw is made.
+    pub limiter: Option<RateLimiter>,
+}
+
+impl<T: TermLike + Drop> Stage<T> {
+    ghost use Rattle.indicatif_bar.specs.Stages.{stage_terminal, stage_moves, IsStaged};
+
+    /// This target, on which nothing was drawn. It takes no memory and writes nothing.
+    pub fn new(alloc: Global, target: ProgressDrawTarget<T>) -> Self
+        ensures terminal { stage_terminal result ≡ term_of target }
+        ensures moves { IfSome (stage_moves result) (λ moves. moves ≡ false) }
+        ensures staged { IsStaged result (limiter_of target) opening_lists }
+    {
+        let (engine, limiter) = Engine::opened_on(alloc, target);
+        Stage { engine, limiter }
+    }
+
+    /// The terminal; `None` where the target is hidden.
+    pub fn term(&self) -> Option<&T>
+        ensures { option_map (λ t. t.now) result ≡ stage_terminal self.now }
+    {
+        match &self.engine {
+            Some(engine) => Some(engine.term()),
+            None => None,
+        }
+    }
+
+    /// The terminal, with what stands on it; `None` where the target is hidden. Nothing is written.
+    pub fn into_term(mut self) -> Option<T>
+        ensures { result ≡ stage_terminal self }
+    {
+        match replace(&mut self.engine, None) {
+            Some(engine) => Some(engine.into_term()),
+            None => None,
+        }
+    }
+
+    /// Whether the target is hidden.
+    pub fn is_hidden(&self) -> bool
+        ensures { IsTrue result ↔ (stage_terminal self.now ≡ None) }
+    {
+        self.engine.is_none()
+    }
+
+    /// Another target, on which nothing was drawn, and the old one, with its limiter as the draws left it. Nothing is written to either.
+    pub fn set_draw_target(
+        &mut self,
+        alloc: Global,
+        target: ProgressDrawTarget<T>,
+    ) -> ProgressDrawTarget<T>
+        ensures old { term_of result ≡ stage_terminal self.old }
+        ensures old_limiter { IfSome result (λ t. t.1 ≡ self.old.limiter) }
+        ensures new { stage_terminal self.new ≡ term_of target }
+        ensures moves { IfSome (stage_moves self.new) (λ moves. moves ≡ false) }
+        ensures staged { IsStaged self.new (limiter_of target) opening_lists }
+    {
+        let (engine, limiter) = Engine::opened_on(alloc, target);
+        let limiter = replace(&mut self.limiter, limiter);
+        match replace(&mut self.engine, engine) {
+            Some(engine) => ProgressDrawTarget::from_parts(Some((engine.into_term(), limiter))),
+            None => ProgressDrawTarget::hidden(),
+        }
+    }
+
+    /// Whether draws write their lines over those that stand there: `Engine::set_move_cursor`. On a hidden target this does nothing.
+    pub fn set_move_cursor(&mut self, on: bool)
+        ensures terminal { stage_terminal self.new ≡ stage_terminal self.old }
+        ensures moves { IfSome (stage_moves self.new) (λ moves. moves ≡ on) }
+        ensures staged { (limiter : Option Limiter) (l : Lists) → IsStaged self.old limiter l → IsStaged self.new limiter l }
+    {
+        if let Some(engine) = &mut self.engine {
+            engine.set_move_cursor(on);
+        }
+    }
+}
+
+impl<T: Resize + Drop> Stage<T> {
+    ghost use Rattle.indicatif_bar.specs.Machines.{target_of};
+    ghost use Rattle.indicatif_bar.specs.Scripts.{IsAnotherSize, SizedOn, sized_lists};
+    ghost use Rattle.indicatif_bar.specs.Stages.{stage_terminal, stage_known, stage_moves, IsStaged};
+    ghost use Rattle.indicatif_term.specs.Resizes.{SizeTakes};
+
+    /// The terminal gets `rows` rows and `cols` columns, and the rows that stand there are cut: `Engine::resize`. On a hidden target this
+    /// does nothing.
+    ///
+    /// Refused: `ZeroSize` where `rows` or `cols` is 0, also on a hidden target; `Memory`, never there, nor at the size that the terminal
+    /// has, and only where a kept or a live row stands, or the terminal takes some for a size. All is unchanged then.
+    pub fn resize(&mut self, rows: u16, cols: u16) -> Result<(), Refusal>
+        ensures sized { IfOk result (λ _. SizedOn cols rows (stage_known T.view self.old) (stage_known T.view self.new)) }
+        ensures staged { IfOk result (λ _. (limiter : Option Limiter) (l : Lists) → IsStaged self.old limiter l →
+            IsStaged self.new limiter (sized_lists cols rows (target_of (stage_known T.view self.old)) l)) }
+        ensures moves { stage_moves self.new ≡ stage_moves self.old }
+        ensures hidden { stage_terminal self.old ≡ None → self.new ≡ self.old }
+        ensures unchanged { OnErr result (self.new ≡ self.old) }
+        ensures zero_size { (result ≡ Err Refusal.ZeroSize) ↔ ((rows ≡ 0) ⊎ (cols ≡ 0)) }
+        ensures no_other { IfErr result (λ e. (e ≡ Refusal.ZeroSize) ⊎ (e ≡ Refusal.Memory)) }
+        ensures memory { result ≡ Err Refusal.Memory → IsAnotherSize cols rows (stage_known T.view self.old) }
+        ensures takes { result ≡ Err Refusal.Memory → (limiter : Option Limiter) (l : Lists) → IsStaged self.old limiter l → SizeTakes T.takes_memory l }
+    {
+        if rows == 0 || cols == 0 {
+            return Err(Refusal::ZeroSize);
+        }
+        match &mut self.engine {
+            Some(engine) => engine.resize(rows, cols),
+            None => Ok(()),
+        }
+    }
+}
+
+/// Writes on an engine's terminal; the first `gone` bars of the frame are those that are gone.
+#[inline(always)]
+pub fn put<T: TermLike + Drop>(
+    engine: &mut Engine<T>,
+    frame: &[Segment],
+    gone: usize,
+    alignment: MultiProgressAlignment,
+    writing: Writing<'_>,
+) -> Result<(), Refusal>
+    requires { gone ≤ length frame.now }
+    ensures { PutsFrame T.view (writing_as writing.entry) (is_bottom alignment) gone (map bar_lines frame.now) engine.old engine.new result }
+{
+    match writing {
+        Writing::Frame => engine.draw(frame, gone, alignment),
+        Writing::TextAndFrame(text) => engine.log(text, &frame[gone..], alignment),
+        Writing::NoFrame => engine.clear(),
+    }
+}

@@ -1,0 +1,273 @@
+//! What has to hold of the bytes that were written: rows above stand at each of them.
+use super::record::Size;
+use indicatif_term::in_memory::Cells;
+use indicatif_text::columns::Refusal;
+use std::alloc::{AllocError, AllocFailed, Global};
+
+/// What is wrong with a run.
+#[derive(Clone, Copy, Debug, Drop, PartialEq, Eq)]
+pub enum Finding {
+    /// A row above the bars isn't what it was.
+    Above,
+    /// A text that was logged isn't above the bars.
+    Lost,
+    /// The first drawing behind a failure doesn't begin on a new row.
+    Beginning,
+    /// A call answers what it shouldn't.
+    Answer,
+    /// A draw that failed left other bars in the order.
+    Order,
+    /// Something was written by a call that found no memory.
+    Written,
+    /// No memory to judge by.
+    Memory,
+}
+
+impl From<Refusal> for Finding {
+    fn from(_: Refusal) -> Finding {
+        Finding::Memory
+    }
+}
+
+impl From<AllocError> for Finding {
+    fn from(_: AllocError) -> Finding {
+        Finding::Memory
+    }
+}
+
+impl<V: Drop> From<AllocFailed<V>> for Finding {
+    fn from(_: AllocFailed<V>) -> Finding {
+        Finding::Memory
+    }
+}
+
+/// How closely bytes are looked at.
+#[derive(Clone, Copy, Debug, Drop, PartialEq, Eq)]
+pub enum Look {
+    /// Behind each of them.
+    EachByte,
+    /// Behind each from the first call that fails on, and behind the last one of each call before it.
+    FromFailure,
+    /// Behind each of a call that fails and of the first drawing behind it, and behind the last one of each other call.
+    AtFailure,
+    /// Behind the last byte of a call.
+    EachCall,
+}
+
+/// The rows before a script's first call.
+const BEFORE: &str = "x\r\ny\r\n";
+
+/// What stands on a terminal, and which of its rows nothing may change.
+#[derive(Drop)]
+pub struct Judge {
+    alloc: Global,
+    size: Size,
+    look: Look,
+    cells: Cells,
+    above: Vec<String>,
+    has_failed: bool,
+    is_littered: bool,
+}
+
+impl Judge {
+    /// A terminal of this size on which two rows stand, with the cursor at the front of the next.
+    pub fn new(alloc: Global, size: Size, look: Look) -> Result<Judge, Finding> {
+        let mut judge = Judge {
+            alloc,
+            size,
+            look,
+            cells: Cells::new(alloc, size.rows, size.cols)?,
+            above: Vec::new(alloc),
+            has_failed: false,
+            is_littered: false,
+        };
+        judge.feed(BEFORE.as_bytes())?;
+        judge.keeps(2)?;
+        Ok(judge)
+    }
+
+    /// The allocator.
+    pub fn alloc(&self) -> Global {
+        self.alloc
+    }
+
+    fn feed(&mut self, bytes: &[u8]) -> Result<(), Finding> {
+        match self.cells.feed(bytes) {
+            Ok(()) => Ok(()),
+            Err(_) => Err(Finding::Memory),
+        }
+    }
+
+    /// The first rows are those that nothing may change from now on.
+    fn keeps(&mut self, rows: usize) -> Result<(), Finding> {
+        let mut above = self.cells.picture()?;
+        above.truncate(rows);
+        self.above = above;
+        Ok(())
+    }
+
+    /// Reads what a call wrote, which failed or didn't.
+    pub fn reads(&mut self, bytes: &[u8], has_failed: bool) -> Result<(), Finding> {
+        if self.has_failed && !begins_anew(bytes, has_failed) {
+            return Err(Finding::Beginning);
+        }
+        match self.look {
+            Look::EachByte => self.reads_each(bytes)?,
+            Look::FromFailure if has_failed || self.is_littered => self.reads_each(bytes)?,
+            Look::AtFailure if has_failed || self.has_failed => self.reads_each(bytes)?,
+            _ => self.reads_all(bytes)?,
+        }
+        self.has_failed = has_failed || self.has_failed && bytes.is_empty();
+        if has_failed {
+            self.is_littered = true;
+            self.keeps(self.rows_to_the_cursor()?)?;
+        }
+        Ok(())
+    }
+
+    fn reads_each(&mut self, bytes: &[u8]) -> Result<(), Finding> {
+        for byte in bytes {
+            self.reads_all(&[*byte])?;
+        }
+        Ok(())
+    }
+
+    /// Reads bytes, behind the last of which the rows above stand.
+    fn reads_all(&mut self, bytes: &[u8]) -> Result<(), Finding> {
+        self.feed(bytes)?;
+        let picture = self.cells.picture()?;
+        match begins_with(&picture, &self.above) {
+            true => Ok(()),
+            false => Err(Finding::Above),
+        }
+    }
+
+    /// The terminal gets another size: each row above is cut into rows, which stand from now on. Where nothing was drawn since a call
+    /// failed, the cursor may be within its row: of the rows that this one becomes those below the cursor needn't stand.
+    pub fn resizes(&mut self, size: Size) -> Result<(), Finding> {
+        let above = cut_rows(self.alloc, &self.above, usize::from(size.cols))?;
+        self.cells.resize(size.rows, size.cols)?;
+        self.size = size;
+        self.above = above;
+        self.reads_all(&[])?;
+        if self.has_failed {
+            self.keeps(self.rows_to_the_cursor()?)?;
+        }
+        Ok(())
+    }
+
+    /// Reads bytes of which nothing has to hold.
+    pub fn takes(&mut self, bytes: &[u8]) -> Result<(), Finding> {
+        self.feed(bytes)
+    }
+
+    /// The rows that stand, those among them that left the window, down to the last one that isn't empty.
+    pub fn rows(&self) -> Result<Vec<String>, Finding> {
+        let mut rows = self.cells.picture()?;
+        let last = rows.iter().rposition(|row| !row.is_empty());
+        rows.truncate(last.map_or(0, |at| at.saturating_add(1)));
+        Ok(rows)
+    }
+
+    /// How many rows have left the window.
+    fn rows_before(&self) -> Result<usize, Finding> {
+        let rows = self.cells.picture()?.len();
+        Ok(rows.saturating_sub(usize::from(self.size.rows)))
+    }
+
+    /// How many rows there are down to the cursor's.
+    fn rows_to_the_cursor(&self) -> Result<usize, Finding> {
+        let (row, _) = self.cells.cursor();
+        let before = self.rows_before()?;
+        Ok(before.saturating_add(usize::from(row)).saturating_add(1))
+    }
+
+    /// How many rows there are down to the last one that isn't empty, if that stands below the rows above.
+    pub fn end_below(&self) -> Result<Option<usize>, Finding> {
+        let end = self.rows()?.len();
+        match self.above.len() < end {
+            true => Ok(Some(end)),
+            false => Ok(None),
+        }
+    }
+
+    /// Whether the window has the last of the first so many rows.
+    pub fn has_in_window(&self, rows: usize) -> Result<bool, Finding> {
+        Ok(self.rows_before()? < rows)
+    }
+
+    /// A text was logged: it stands somewhere below the rows above, and belongs to them from now on. Once a call has failed, what that call
+    /// left may stand behind a row of the text: a drawing empties the row that it begins on, and none below it.
+    pub fn logged(&mut self, text: &str) -> Result<(), Finding> {
+        let picture = self.cells.picture()?;
+        let rows = rows_of(self.alloc, text, usize::from(self.size.cols))?;
+        match end_of(&picture, &rows, self.above.len(), self.is_littered) {
+            Some(end) => self.keeps(end),
+            None => Err(Finding::Lost),
+        }
+    }
+}
+
+/// Whether the first drawing after a failure begins on a new row; one that fails too, or writes nothing, needn't.
+fn begins_anew(bytes: &[u8], has_failed: bool) -> bool {
+    has_failed || bytes.is_empty() || bytes.starts_with(b"\r\n")
+}
+
+/// Whether these rows are the first ones.
+fn begins_with(rows: &[String], front: &[String]) -> bool {
+    front.len() <= rows.len() && front.iter().zip(rows).all(|(one, other)| one == other)
+}
+
+/// Where the first of these rows end that stand from this one on or later, as they are or at the front of others.
+fn end_of(picture: &[String], rows: &[String], from: usize, is_littered: bool) -> Option<usize> {
+    for at in from..picture.len() {
+        let rest = picture.get(at..)?;
+        if begins_with(rest, rows) || is_littered && fronts_are(rest, rows) {
+            return at.checked_add(rows.len());
+        }
+    }
+    None
+}
+
+/// Whether these rows are fronts of the first ones.
+fn fronts_are(rows: &[String], fronts: &[String]) -> bool {
+    let mut pairs = fronts.iter().zip(rows);
+    fronts.len() <= rows.len() && pairs.all(|(front, row)| row.as_str().starts_with(front.as_str()))
+}
+
+/// Rows of letters and blanks, each cut into rows of so many columns, without the blanks at their ends.
+fn cut_rows(alloc: Global, rows: &[String], cols: usize) -> Result<Vec<String>, Finding> {
+    let mut all = Vec::new(alloc);
+    for row in rows {
+        push_cut(&mut all, alloc, &rows_of(alloc, row.as_str(), cols)?)?;
+    }
+    Ok(all)
+}
+
+/// The pieces of a row behind others, without the blanks at their ends.
+fn push_cut(all: &mut Vec<String>, alloc: Global, pieces: &[String]) -> Result<(), Finding> {
+    for piece in pieces {
+        all.push(String::from_str(alloc, piece.as_str().trim_end_matches(' '))?)?;
+    }
+    Ok(())
+}
+
+/// The rows of a text of letters; a newline at its end ends its last line.
+fn rows_of(alloc: Global, text: &str, cols: usize) -> Result<Vec<String>, Finding> {
+    let mut rows = Vec::new(alloc);
+    let mut row = String::new(alloc);
+    let mut columns: usize = 0;
+    for c in text.strip_suffix('\n').unwrap_or(text).chars() {
+        if c == '\n' || columns == cols {
+            rows.push(row)?;
+            row = String::new(alloc);
+            columns = 0;
+        }
+        if c != '\n' {
+            row.push(c)?;
+            columns = columns.saturating_add(1);
+        }
+    }
+    rows.push(row)?;
+    Ok(rows)
+}

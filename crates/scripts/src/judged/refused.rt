@@ -1,0 +1,459 @@
+//! Scripts that are played where memory is refused once, and judged.
+//!
+//! While a script is played, what its calls do is noted in room that was taken before. It is judged behind the last call, where memory is
+//! there again.
+use super::judge::{Finding, Judge, Look};
+use super::played::{Stage, resized};
+use super::record::{Mark, Plan, Record, Size};
+use super::script::{Said, Step};
+use indicatif_text::columns::{Drawn, Refusal};
+use std::alloc::Global;
+use std::io::ErrorKind;
+use std::rc::Rc;
+
+/// What makes stages, each on a terminal behind a record.
+pub trait Stages {
+    /// A stage.
+    type Made: Stage + Drop;
+
+    /// A new one.
+    fn on(&self, record: &Rc<Record>) -> Result<Self::Made, Refusal>;
+
+    /// The calls that it makes.
+    fn script(&self) -> &'static [Step];
+}
+
+/// Where memory was refused, counted in calls from 0 on.
+#[derive(Clone, Copy, Debug, Drop, PartialEq, Eq)]
+pub enum Where {
+    /// No call answered so.
+    Nowhere,
+    /// The stage wasn't made.
+    Unmade,
+    /// This call answered `Memory`.
+    Call(usize),
+    /// A draw of no line before this size, which answered `Memory`, as later ones did.
+    Draw(usize),
+    /// The terminal's own memory in this call, which answered `Terminal`.
+    Terminal(usize),
+}
+
+impl Where {
+    /// What is said of a run that is as defined.
+    pub fn name(self) -> &'static str {
+        match self {
+            Where::Nowhere => "no call was refused",
+            Where::Unmade => "nothing was made",
+            Where::Call(_) => "a call answered Memory",
+            Where::Draw(_) => "sizes answered Memory while rows were kept",
+            Where::Terminal(_) => "the terminal found no memory",
+        }
+    }
+}
+
+/// What a call did: its answer, what the terminal was given by then, and where its order ends among all orders.
+#[derive(Clone, Copy, Drop)]
+struct Note {
+    said: Said,
+    mark: Mark,
+    end: usize,
+}
+
+/// What the calls of a script did.
+#[derive(Drop)]
+pub struct Notes {
+    calls: Vec<Note>,
+    orders: Vec<u64>,
+}
+
+impl Notes {
+    /// Nothing yet, with room for 40 calls.
+    pub fn new(alloc: Global) -> Result<Notes, Finding> {
+        Ok(Notes {
+            calls: Vec::with_capacity(alloc, 40)?,
+            orders: Vec::with_capacity(alloc, 256)?,
+        })
+    }
+
+    /// Makes a call, and notes what it does.
+    fn take<S: Stage>(
+        &mut self,
+        stage: &mut S,
+        record: &Record,
+        step: Step,
+    ) -> Result<(), Finding> {
+        let said = stage.make(step);
+        self.orders.extend_from_slice(stage.order())?;
+        let end = self.orders.len();
+        let mark = record.mark();
+        Ok(self.calls.push(Note { said, mark, end })?)
+    }
+
+    /// What the terminal was given before a call.
+    fn before(&self, call: usize) -> Mark {
+        match call.checked_sub(1).and_then(|last| self.calls.get(last)) {
+            Some(note) => note.mark,
+            None => Mark::default(),
+        }
+    }
+
+    /// The order behind so many calls.
+    fn order(&self, calls: usize) -> &[u64] {
+        let Some(last) = calls.checked_sub(1) else {
+            return &[];
+        };
+        let Some(note) = self.calls.get(last) else {
+            return &[];
+        };
+        let start = match last.checked_sub(1).and_then(|last| self.calls.get(last)) {
+            Some(note) => note.end,
+            None => 0,
+        };
+        self.orders.get(start..note.end).unwrap_or(&[])
+    }
+
+    /// Whether this call answered `Memory`.
+    fn is_refused(&self, call: usize) -> bool {
+        match self.calls.get(call) {
+            Some(note) => note.said == Err(Refusal::Memory),
+            None => false,
+        }
+    }
+
+    /// The answers of those of these calls that are compared.
+    fn answers(&self, alloc: Global, calls: &[Turn]) -> Result<Vec<Said>, Finding> {
+        let mut answers = Vec::new(alloc);
+        for (note, call) in self.calls.iter().zip(calls.iter()) {
+            if call.is_compared {
+                answers.push(note.said)?;
+            }
+        }
+        Ok(answers)
+    }
+}
+
+/// Makes the calls of a script, and notes what they do.
+pub fn noted<S: Stage>(
+    stage: &mut S,
+    record: &Record,
+    script: &[Step],
+    notes: &mut Notes,
+) -> Result<(), Finding> {
+    for step in script {
+        notes.take(stage, record, *step)?;
+    }
+    Ok(())
+}
+
+/// A call, and whether what it answers and shows is compared.
+#[derive(Clone, Copy, Drop)]
+struct Turn {
+    step: Step,
+    is_compared: bool,
+}
+
+/// What is seen of a run, call by call.
+#[derive(Drop)]
+struct Seen {
+    judge: Judge,
+    /// Where memory was refused by now.
+    found: Where,
+    /// Where those rows end that a draw of no line left below the rows above, if none of them was taken back since, or cut.
+    kept: Option<usize>,
+}
+
+impl Seen {
+    /// Whether any of these rows is still in the window.
+    fn has_kept_rows(&self) -> Result<bool, Finding> {
+        match self.kept {
+            Some(end) => self.judge.has_in_window(end),
+            None => Ok(false),
+        }
+    }
+}
+
+/// A script that was played, on a terminal of this size behind this record, and what its calls did.
+#[derive(Clone, Copy, Drop)]
+pub struct Run<'a, M> {
+    pub alloc: Global,
+    pub size: Size,
+    pub stages: &'a M,
+    pub record: &'a Record,
+    pub notes: &'a Notes,
+}
+
+impl<M: Stages> Run<'_, M> {
+    /// Where memory was refused in a run that is as it is defined.
+    ///
+    /// Each call answers what it does where nothing is refused, or `Memory`, or `Terminal` with the kind `OutOfMemory` where the
+    /// terminal's own growth was refused; the first of these leaves the order. A call with `Memory` writes nothing. Rows above stand behind
+    /// each byte. What comes behind, by the answers and by what each drawing shows, is what a new stage does that makes the same calls with
+    /// ample memory: without the refused call, or with what that call had begun; or on a terminal that fails at that very call of the writer.
+    ///
+    /// Only one call answers `Memory`, but for sizes: a draw of no line may have had none to go on remembering the rows of bars that are
+    /// gone. Then sizes may answer `Memory`, and do nothing, as long as such rows stand in the window.
+    pub fn judged(&self) -> Result<Where, Finding> {
+        let found = self.looked_at()?;
+        let follows = match found {
+            Where::Call(at) | Where::Draw(at) => self.follows_a_refusal(at)?,
+            Where::Terminal(at) => self.follows_a_failure(at)?,
+            _ => self.is_like(0, None)?,
+        };
+        match follows {
+            true => Ok(found),
+            false => Err(Finding::Answer),
+        }
+    }
+
+    /// Looks at each call.
+    fn looked_at(&self) -> Result<Where, Finding> {
+        let mut seen = Seen {
+            judge: Judge::new(self.alloc, self.size, Look::EachByte)?,
+            found: Where::Nowhere,
+            kept: None,
+        };
+        for (at, step) in self.stages.script().iter().enumerate() {
+            self.look(&mut seen, (at, *step))?;
+        }
+        Ok(seen.found)
+    }
+
+    /// Looks at a call.
+    fn look(&self, seen: &mut Seen, (at, step): (usize, Step)) -> Result<(), Finding> {
+        let Some(note) = self.notes.calls.get(at) else {
+            return Err(Finding::Answer);
+        };
+        let before = self.notes.before(at);
+        let bytes = self.record.between(self.alloc, before, note.mark)?;
+        let has_failed = note.mark.failures != before.failures;
+        seen.judge.reads(&bytes, has_failed)?;
+        match (note.said, seen.found) {
+            (Err(Refusal::Terminal(ErrorKind::OutOfMemory)), Where::Nowhere) if has_failed => {
+                self.leaves_the_order(at)?;
+                seen.found = Where::Terminal(at);
+            }
+            (_, _) if has_failed => return Err(Finding::Answer),
+            (said, _) if said == step.wanted() => {
+                resized(said, (step, &bytes), &mut seen.judge)?;
+                log(&mut seen.judge, step, said)?;
+                self.keeps(seen, (at, step))?;
+            }
+            (Err(Refusal::Memory), _) => {
+                self.leaves_the_order(at)?;
+                is_unwritten(step, &bytes)?;
+                seen.found = self.refused(seen, at)?;
+            }
+            (_, Where::Call(_)) => {}
+            _ => return Err(Finding::Answer),
+        }
+        Ok(())
+    }
+
+    fn leaves_the_order(&self, at: usize) -> Result<(), Finding> {
+        match self.notes.order(at) == self.notes.order(at.saturating_add(1)) {
+            true => Ok(()),
+            false => Err(Finding::Order),
+        }
+    }
+
+    /// What a call that wasn't refused makes of the rows of bars that are gone: behind a draw of a board without bars they are all that
+    /// stands below the rows above. That draw may have been refused memory, if no call was by now.
+    fn keeps(&self, seen: &mut Seen, (at, step): (usize, Step)) -> Result<(), Finding> {
+        let has_no_line = matches!(step, Step::Redraw) && self.notes.order(at).is_empty();
+        if has_no_line && seen.found == Where::Nowhere {
+            seen.kept = seen.judge.end_below()?;
+        }
+        if step.takes_back() {
+            seen.kept = None;
+        }
+        Ok(())
+    }
+
+    /// Where memory was refused, now that this call answers `Memory`: in it, if it is the first; else both are sizes while rows are kept.
+    fn refused(&self, seen: &Seen, at: usize) -> Result<Where, Finding> {
+        let may_be_size = self.is_size(at) && seen.has_kept_rows()?;
+        match seen.found {
+            Where::Nowhere => Ok(Where::Call(at)),
+            Where::Call(first) | Where::Draw(first) if may_be_size && self.is_size(first) => {
+                Ok(Where::Draw(first))
+            }
+            _ => Err(Finding::Answer),
+        }
+    }
+
+    fn is_size(&self, at: usize) -> bool {
+        match self.stages.script().get(at) {
+            Some(step) => step.resized().is_some(),
+            None => false,
+        }
+    }
+
+    /// What comes behind a call with `Memory` is what comes without it; or with what it did before its draw; or with all of it right before
+    /// the next call that draws bars, where only that one shows the lines that it had stored.
+    fn follows_a_refusal(&self, at: usize) -> Result<bool, Finding> {
+        if self.is_like(at, None)? {
+            return Ok(true);
+        }
+        let Some(step) = self.stages.script().get(at) else {
+            return Ok(false);
+        };
+        if let Some(begun) = step.begun() {
+            if self.is_like(at, Some((at, begun)))? {
+                return Ok(true);
+            }
+        }
+        match (step.storing(), self.next_draw(at)) {
+            (Some(storing), Some(next)) => self.is_like(at, Some((next, storing))),
+            _ => Ok(false),
+        }
+    }
+
+    /// The first call behind this one that draws bars.
+    fn next_draw(&self, at: usize) -> Option<usize> {
+        let script = self.stages.script();
+        let from = at.saturating_add(1);
+        (from..script.len()).find(|at| script.get(*at).is_some_and(|step| step.draws()))
+    }
+
+    /// Whether a new stage answers the same and shows the same from this call on, and has the same order at the end. It makes the calls that
+    /// weren't refused; and before one of them another, if one is given.
+    fn is_like(&self, from: usize, other: Option<(usize, Step)>) -> Result<bool, Finding> {
+        let mine = self.own_calls(from)?;
+        let calls = self.new_calls(from, other)?;
+        let fresh = self.fresh(&calls, Plan::Never)?;
+        let answers = self.notes.answers(self.alloc, &mine)?;
+        let wanted = fresh.notes.answers(self.alloc, &calls)?;
+        let order = self.notes.order(mine.len()) == fresh.notes.order(calls.len());
+        Ok(answers == wanted && order && self.shows_as(&fresh, &mine, &calls)?)
+    }
+
+    /// The calls of the run. Compared are those from this one on that weren't refused.
+    fn own_calls(&self, from: usize) -> Result<Vec<Turn>, Finding> {
+        let mut calls = Vec::new(self.alloc);
+        for (at, step) in self.stages.script().iter().enumerate() {
+            let is_compared = from <= at && !self.notes.is_refused(at);
+            calls.push(Turn {
+                step: *step,
+                is_compared,
+            })?;
+        }
+        Ok(calls)
+    }
+
+    /// The calls of the run that weren't refused, and before one of them another, if one is given. Compared are those from this one on.
+    fn new_calls(&self, from: usize, other: Option<(usize, Step)>) -> Result<Vec<Turn>, Finding> {
+        let mut calls = Vec::new(self.alloc);
+        for (at, step) in self.stages.script().iter().enumerate() {
+            if let Some((place, step)) = other {
+                if place == at {
+                    calls.push(Turn {
+                        step,
+                        is_compared: false,
+                    })?;
+                }
+            }
+            if !self.notes.is_refused(at) {
+                calls.push(Turn {
+                    step: *step,
+                    is_compared: from <= at,
+                })?;
+            }
+        }
+        Ok(calls)
+    }
+
+    /// Whether the same stands behind the compared calls that drew, and behind the last one.
+    fn shows_as(&self, fresh: &Fresh, mine: &[Turn], calls: &[Turn]) -> Result<bool, Finding> {
+        let mut judge = Judge::new(self.alloc, self.size, Look::EachCall)?;
+        let shown = pictures(&mut judge, (self.record, self.notes), mine)?;
+        let mut judge = Judge::new(self.alloc, self.size, Look::EachCall)?;
+        let wanted = pictures(&mut judge, (&fresh.record, &fresh.notes), calls)?;
+        Ok(shown == wanted)
+    }
+
+    /// Whether a new stage on a terminal that fails at the same call of its writer writes the same bytes, and answers the same but for the
+    /// kind of the failure.
+    fn follows_a_failure(&self, at: usize) -> Result<bool, Finding> {
+        let plan = Plan::Call(self.record.failed_call());
+        let calls = self.own_calls(at.saturating_add(1))?;
+        let fresh = self.fresh(&calls, plan)?;
+        let answers = self.notes.answers(self.alloc, &calls)?;
+        let wanted = fresh.notes.answers(self.alloc, &calls)?;
+        Ok(answers == wanted && self.bytes()? == fresh.bytes(self.alloc)?)
+    }
+
+    /// What a new stage does that makes these calls.
+    fn fresh(&self, calls: &[Turn], plan: Plan) -> Result<Fresh, Finding> {
+        let record = Record::new(self.alloc, plan, 4096)?;
+        let mut stage = self.stages.on(&record)?;
+        let mut notes = Notes::new(self.alloc)?;
+        for call in calls {
+            notes.take(&mut stage, &record, call.step)?;
+        }
+        Ok(Fresh { record, notes })
+    }
+
+    /// The bytes of all calls.
+    fn bytes(&self) -> Result<Vec<u8>, Finding> {
+        bytes_of(self.alloc, self.record, self.notes)
+    }
+}
+
+/// Calls that a new stage has made.
+#[derive(Drop)]
+struct Fresh {
+    record: Rc<Record>,
+    notes: Notes,
+}
+
+impl Fresh {
+    fn bytes(&self, alloc: Global) -> Result<Vec<u8>, Finding> {
+        bytes_of(alloc, &self.record, &self.notes)
+    }
+}
+
+/// Rows that stand, one picture behind another.
+type Pictures = Vec<Vec<String>>;
+
+/// What stands behind each of these calls that drew and is compared, and behind the last one. What a bar's drop draws may be lost: the next
+/// draw shows it.
+fn pictures(
+    judge: &mut Judge,
+    (record, notes): (&Record, &Notes),
+    calls: &[Turn],
+) -> Result<Pictures, Finding> {
+    let mut pictures = Vec::new(judge.alloc());
+    for (at, (note, call)) in notes.calls.iter().zip(calls.iter()).enumerate() {
+        let bytes = record.between(judge.alloc(), notes.before(at), note.mark)?;
+        judge.takes(&bytes)?;
+        resized(note.said, (call.step, &[]), judge)?;
+        let has_drawn = note.said == Ok(Drawn::Yes) && !matches!(call.step, Step::Drop(_));
+        if call.is_compared && has_drawn {
+            pictures.push(judge.rows()?)?;
+        }
+    }
+    pictures.push(judge.rows()?)?;
+    Ok(pictures)
+}
+
+/// The bytes of the calls that were noted.
+fn bytes_of(alloc: Global, record: &Record, notes: &Notes) -> Result<Vec<u8>, Finding> {
+    let end = notes.before(notes.calls.len());
+    Ok(record.between(alloc, Mark::default(), end)?)
+}
+
+/// A text that was logged stands above the bars.
+fn log(judge: &mut Judge, step: Step, said: Said) -> Result<(), Finding> {
+    match step.logged() {
+        Some(text) if said == Ok(Drawn::Yes) => judge.logged(text),
+        _ => Ok(()),
+    }
+}
+
+/// A call that found no memory wrote nothing. A `suspend` is a clear and a draw, of which the second alone may find none.
+fn is_unwritten(step: Step, bytes: &[u8]) -> Result<(), Finding> {
+    match bytes.is_empty() || matches!(step, Step::Suspend) {
+        true => Ok(()),
+        false => Err(Finding::Written),
+    }
+}
