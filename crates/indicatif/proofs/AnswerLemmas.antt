@@ -271,7 +271,7 @@ module _ {K : Type 0} (m : Tracking K) (mark : ℕ) (target : Target) (now : ℕ
       said_so Q None (λ bar. if is_beyond_clock command now then Some ElapsedBeyondClock else None)
       (λ bar. cond_both (is_beyond_clock command now) (Some ElapsedBeyondClock) None Q
       (λ beyond. said_at_once P (Refused ElapsedBeyondClock) s (or-right (of_draw (asked_by command) (Err ElapsedBeyondClock)) (is_late command (Err ElapsedBeyondClock) || false)
-          (late (beyond_is_late command now beyond))))
+      (late (beyond_is_late command now beyond))))
       (λ in_time led. or-left (of_draw (asked_by command) (drawn_of answer)) (is_late command (drawn_of answer) || has_no_bar (drawn_of answer))
       (drew_as (draw_of_command (board_bars m) target id.number command now s) (λ x. x) (λ x. x) (asked_by command)
       (limiter_asked (asked_by command) (said_of No (λ bar. (obeyed m command bar now).1) id.number s.members) now s.limiter asks) led)))
@@ -289,7 +289,7 @@ module _ {K : Type 0} (m : Tracking K) (mark : ℕ) (target : Target) (now : ℕ
       (λ other. said_at_once P (Refused ForeignBar) s refl) (λ ours. said_at_once P Done (taken_out id.number s) refl) led
   board_call (Drop id) led =
       named_answers (λ r. (of_no_draw r || (of_a_draw r || has_no_bar r)) ≡ true) id (Draws (last_draw (board_bars m) target id.number now s)
-          (left_on target id.number) (marked_on id.number)) refl refl
+      (left_on target id.number) (marked_on id.number)) refl refl
       (λ there led. or-wider (of_no_draw (drawn_of answer)) (of_a_draw (drawn_of answer)) (has_no_bar (drawn_of answer))
       (drew_as (last_draw (board_bars m) target id.number now s) (left_on target id.number) (marked_on id.number) Unforced tt led)) led
   board_call (LogAbove text) led = drew_as (log_of (board_bars m) target text now s s false) (λ x. x) (λ x. x) Forced (refl, refl) led
@@ -304,7 +304,7 @@ module _ {K : Type 0} (m : Tracking K) (mark : ℕ) (target : Target) (now : ℕ
   board_call (Tell id command) led =
       named_answers (λ r. bar_answers (Obey command) r ≡ true) id
       (or_refused (said_of None (λ bar. if is_beyond_clock command now then Some ElapsedBeyondClock else None) id.number s.members)
-          (draws (draw_of_command (board_bars m) target id.number command now s)) s)
+      (draws (draw_of_command (board_bars m) target id.number command now s)) s)
       (hasnt command ForeignBar refl) (hasnt command NotMember refl) (told_answers id command) led
 
 pub made_on_board : {K T : Type 0} (m : Tracking K) (view : T → TermView) (mark : ℕ) (old new : Option TermView) (call : SharedCall K) (now : ℕ) (s : BoardState (BarRecord K)) (answer : Answer)
