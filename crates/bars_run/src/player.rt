@@ -31,8 +31,8 @@ pub struct Player {
     given: u64,
 }
 
-/// The board's mark; there is no other board.
-const MARK: u64 = 0;
+/// The board's id; there is no other board.
+const BOARD_ID: u64 = 0;
 
 /// When all happens.
 const NOW: Moment = 0;
@@ -45,7 +45,7 @@ impl Player {
         ensures { IfOk result (λ player. HasPlayed asked [] player.board) }
     {
         let term = InMemoryTerm::new(alloc, asked.size.rows, asked.size.columns)?;
-        let board = Board::new(alloc, ProgressDrawTarget::term_like(term), MARK);
+        let board = Board::new(alloc, ProgressDrawTarget::term_like(term), BOARD_ID);
         let mut player = Player {
             alloc,
             board,
@@ -144,7 +144,7 @@ impl Player {
     {
         match number {
             Some(number) if 0 < number && number <= self.given => Ok(BarId {
-                mark: MARK,
+                board: BOARD_ID,
                 number: number - 1,
             }),
             _ => Err(Refusal::NotMember),

@@ -55,7 +55,7 @@ impl ShownBoard {
     #[inline(always)]
     fn step(&mut self, number: u64) -> Result<(), Refusal> {
         self.board
-            .command(BarId { mark: 1, number }, BarCommand::Inc(1), 0)?;
+            .command(BarId { board: 1, number }, BarCommand::Inc(1), 0)?;
         self.tick(number)
     }
 
@@ -63,7 +63,7 @@ impl ShownBoard {
     #[inline(always)]
     fn tick(&mut self, number: u64) -> Result<(), Refusal> {
         self.board
-            .command(BarId { mark: 1, number }, BarCommand::Tick, 0)?;
+            .command(BarId { board: 1, number }, BarCommand::Tick, 0)?;
         Ok(())
     }
 }

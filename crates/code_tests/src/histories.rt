@@ -10,12 +10,12 @@ use indicatif_text::columns::{Drawn, Moment, Refusal};
 use std::alloc::Global;
 use std::test::Fail;
 
-/// The board's mark.
-const MARK: u64 = 7;
+/// The board's id.
+const BOARD_ID: u64 = 7;
 
 /// The bar that is taken in first.
 const FIRST: BarId = BarId {
-    mark: MARK,
+    board: BOARD_ID,
     number: 0,
 };
 
@@ -35,9 +35,9 @@ fn terminal(alloc: Global) -> Result<InMemoryTerm, Refusal> {
     InMemoryTerm::new(alloc, 4, 10)
 }
 
-/// A board of the mark 7 that keeps its history, in a box.
+/// A board of the id 7 that keeps its history, in a box.
 fn kept_on(alloc: Global, target: Target) -> Result<Box<Kept>, Refusal> {
-    Ok(Box::new(alloc, Recorded::new(alloc, target, MARK))?)
+    Ok(Box::new(alloc, Recorded::new(alloc, target, BOARD_ID))?)
 }
 
 /// The same on a terminal that is drawn whenever it is asked.
@@ -136,11 +136,11 @@ fn is_drawn(alloc: Global, record: &mut Kept) -> Result<bool, Refusal> {
     Ok(ticks(record) == Answer::Drawn(Drawn::Yes))
 }
 
-/// Whether a board has this mark, and allows so many draws at the moment 0.
-fn opens_with(record: &Kept, mark: u64, draws: u32) -> bool {
+/// Whether a board has this id, and allows so many draws at the moment 0.
+fn opens_with(record: &Kept, board_id: u64, draws: u32) -> bool {
     let opening = record.opening();
     match &opening.limiter {
-        Some(limiter) => opening.mark == mark && allowed(limiter) == draws,
+        Some(limiter) => opening.board_id == board_id && allowed(limiter) == draws,
         None => false,
     }
 }

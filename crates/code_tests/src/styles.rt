@@ -125,7 +125,7 @@ fn tracked(
 /// A template, the text of its tracker, spaces for a tab, and the lines on 10 columns.
 type Said = (&'static str, &'static str, usize, &'static str);
 
-/// A tracker's text has its tabs expanded, its newlines part lines, its NULs are marks, and what isn't a colour sequence
+/// A tracker's text has its tabs expanded, its newlines part lines, its NULs are fillers, and what isn't a colour sequence
 /// counts by its characters.
 const SAID: [Said; 10] = [
     ("{t}", "a\tb", 4, "a    b\n"),
@@ -222,8 +222,11 @@ fn applied(board: &mut Kept, call: multi::Call<FnTracker<Says>>) -> Answer {
     answer
 }
 
-/// The first bar of the board of the mark 1.
-const FIRST: BarId = BarId { mark: 1, number: 0 };
+/// The first bar of the board of the id 1.
+const FIRST: BarId = BarId {
+    board: 1,
+    number: 0,
+};
 
 /// Whether a board takes such a bar in, and draws it.
 fn is_drawn(alloc: Global, board: &mut Kept, text: &'static str) -> Result<bool, Refusal> {

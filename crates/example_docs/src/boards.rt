@@ -34,7 +34,14 @@ fn on_board(rt: &HostRuntime) -> Result<()> {
     let board = &mut *board;
     board.set_move_cursor(true);
     let id = take_in(rt, board)?;
-    turn_away(rt.alloc(), board, BarId { mark: 9, number: 0 })?;
+    turn_away(
+        rt.alloc(),
+        board,
+        BarId {
+            board: 9,
+            number: 0,
+        },
+    )?;
     stack(rt.alloc(), board)?;
     ordered(rt, board)?;
     answer(rt, board, id)
@@ -137,7 +144,10 @@ fn stack(alloc: Global, board: &mut Bars) -> Result<(), Refusal> {
 }
 
 fn is_foreign(board: &mut Bars) -> bool {
-    let elsewhere = BarId { mark: 0, number: 1 };
+    let elsewhere = BarId {
+        board: 0,
+        number: 1,
+    };
     matches!(board.remove(elsewhere), Err(Refusal::ForeignBar))
 }
 
@@ -200,7 +210,10 @@ fn is_redraw(call: Call<NoTracker>) -> bool {
 
 /// A copy of a candidate that is a member.
 fn copied_member() -> Result<Candidate<NoTracker>, Refusal> {
-    copied_candidate(&Candidate::Member(BarId { mark: 1, number: 0 }))
+    copied_candidate(&Candidate::Member(BarId {
+        board: 1,
+        number: 0,
+    }))
 }
 
 fn is_member(candidate: Candidate<NoTracker>) -> bool {

@@ -27,11 +27,11 @@ fn count(entries: &[Entry<NoTracker>]) -> usize {
     entries.len()
 }
 
-/// The mark of a history's beginning.
+/// The id of a history's beginning.
 fn opened(alloc: Global) -> Result<u64, Refusal> {
     let term = InMemoryTerm::new(alloc, 4, 10)?;
     let target = ProgressDrawTarget::term_like_with_hz(term, 20, 0)?;
     let record: Recorded<NoTracker, _> = Recorded::new(alloc, target, 7);
     let opening = record.opening();
-    Ok(opening.mark)
+    Ok(opening.board_id)
 }

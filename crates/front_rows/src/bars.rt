@@ -60,16 +60,16 @@ pub struct Maker<R> {
 }
 
 impl<R: Wait + Copy + Clone + Drop> Maker<R> {
-    /// A board of this mark that keeps no history.
-    pub fn board(self, mark: u64) -> Result<Shared<R>, Refusal> {
+    /// A board of this id that keeps no history.
+    pub fn board(self, board_id: u64) -> Result<Shared<R>, Refusal> {
         let setup = self.room.setup(self.alloc)?;
-        MultiProgress::new(self.rt, self.alloc, setup, mark)
+        MultiProgress::new(self.rt, self.alloc, setup, board_id)
     }
 
-    /// A board of this mark that keeps its history.
-    pub fn recorded(self, mark: u64) -> Result<Shared<R>, Refusal> {
+    /// A board of this id that keeps its history.
+    pub fn recorded(self, board_id: u64) -> Result<Shared<R>, Refusal> {
         let target = self.room.target(self.alloc)?;
-        MultiProgress::recorded(self.rt, self.alloc, target, self.room.clock, mark)
+        MultiProgress::recorded(self.rt, self.alloc, target, self.room.clock, board_id)
     }
 
     /// A bar of this length in the style of a template.

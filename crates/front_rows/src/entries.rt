@@ -1,6 +1,6 @@
 //! Calls of a board as rows spell them: a style by its last text, a new bar by its message.
 use indicatif::{BarId, Call, Candidate, InsertLocation, MultiProgressAlignment, NoTracker};
-use scripts::boards::MARK;
+use scripts::boards::BOARD_ID;
 use scripts::commands::push_command;
 use scripts::got::Got;
 
@@ -34,7 +34,7 @@ fn push_bare(call: &Call<NoTracker>, got: &mut Got) {
 }
 
 fn push_id(id: BarId, got: &mut Got) {
-    if id.mark != MARK {
+    if id.board != BOARD_ID {
         got.text("x");
     }
     got.number(id.number);

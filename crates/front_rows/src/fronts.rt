@@ -5,7 +5,7 @@
 //!
 //! - `rate HZ MOMENT`: what is made from now on is drawn at most so often a second, by a target that was made then; `moments COUNT
 //!   MOMENT ..`: its clock tells this moment so many times, the next one so many times, and then goes on as it began.
-//! - `board`, `recorded`: a board without and with a history, of the next mark, from 1 on; `on MARK`: steps speak of this board.
+//! - `board`, `recorded`: a board without and with a history, of the next id, from 1 on; `on ID`: steps speak of this board.
 //! - `alone TEXT`, `bar LEN TEMPLATE`, `hidden_bar`: a bar that stands alone, whose owner comes behind the others: owners are numbered
 //!   from 0.
 //! - `add BAR`, `insert N BAR`, `back N BAR`, `before OWNER BAR`, `after OWNER BAR`: a new bar with this message, behind `=` another owner
@@ -14,7 +14,7 @@
 //! - `remove OWNER`, `log TEXT`, `clear`, `suspend`, `top`, `bottom`, `turn` (to another target), `hide` (to none): calls of the board.
 //! - `OWNER: CALL`: a call of a bar (`tell`), a reading (`readings`), `target` (to a target of its own), `as OWNER` (in the style of another
 //!   bar), `ticker NANOS`, `ticker off`, `ticks_past N` (whether it ticks more often than so, for ten seconds; from the
-//!   last `mark` on), `ticks_since` (how often it has ticked since then), `rests` (whether it
+//!   last `note` on), `ticks_since` (how often it has ticked since then), `rests` (whether it
 //!   doesn't tick for 50 milliseconds) and `comes_to_rest` (whether it rests after a while).
 //! - `wrap_iter OWNER TEXT`, `wrap_read ..`, `wrap_write ..`, `wrap_stream ..`, `wrap_async_read ..`, `wrap_async_write ..`: something
 //!   (`scripted`) that the bar wraps; `| STEP` asks it (`bytes`).
@@ -55,7 +55,7 @@ pub struct Fronts<R: Wait + Copy + Clone + Drop> {
     wrapped: Option<Box<Over<Bar<R>>>>,
     looked_at: usize,
     answer: Answered,
-    mark: u64,
+    noted: u64,
 }
 
 /// The next two words as a size.
@@ -93,7 +93,7 @@ impl<R: Wait + Copy + Clone + Drop> Fronts<R> {
             wrapped: None,
             looked_at: 0,
             answer: Answered::Untold,
-            mark: 0,
+            noted: 0,
         };
         Ok(Box::new(alloc, fronts)?)
     }
@@ -132,10 +132,10 @@ impl<R: Wait + Copy + Clone + Drop> Fronts<R> {
 
     /// Another board; whether the step asks for that.
     fn begins(&mut self, step: &str) -> Result<bool, Bad> {
-        let mark = (self.boards.len() as u64).wrapping_add(1);
+        let board_id = (self.boards.len() as u64).wrapping_add(1);
         let board = match step {
-            "board" => self.maker.board(mark)?,
-            "recorded" => self.maker.recorded(mark)?,
+            "board" => self.maker.board(board_id)?,
+            "recorded" => self.maker.recorded(board_id)?,
             _ => return Ok(false),
         };
         self.on = self.boards.len();
@@ -246,9 +246,9 @@ impl<R: Wait + Copy + Clone + Drop> Fronts<R> {
     fn settles(&mut self, step: &str, got: &mut Got) -> Result<bool, Bad> {
         let answer = match step.split_once(' ') {
             Some(("remove", place)) => self.board()?.remove(self.bar(place)?),
-            Some(("on", mark)) => {
-                let mark: usize = number(mark)?;
-                self.on = mark.wrapping_sub(1);
+            Some(("on", board_id)) => {
+                let board_id: usize = number(board_id)?;
+                self.on = board_id.wrapping_sub(1);
                 return Ok(true);
             }
             Some(("move", word)) => self.board()?.set_move_cursor(flag(word)?),
@@ -439,12 +439,12 @@ impl<
             }
             Some(("ticks_past", ticks)) => {
                 let before: u64 = number(ticks)?;
-                let before = before.saturating_add(self.mark);
+                let before = before.saturating_add(self.noted);
                 got.flag(ticks_past(&self.maker.rt, self.bar(place)?, before));
             }
             _ => match rest {
-                "mark" => self.mark = self.bar(place)?.ticks(),
-                "ticks_since" => got.number(self.bar(place)?.ticks().wrapping_sub(self.mark)),
+                "note" => self.noted = self.bar(place)?.ticks(),
+                "ticks_since" => got.number(self.bar(place)?.ticks().wrapping_sub(self.noted)),
                 "rests" => got.flag(rests(&self.maker.rt, self.bar(place)?)),
                 "comes_to_rest" => got.flag(comes_to_rest(&self.maker.rt, self.bar(place)?)),
                 _ => return Ok(false),

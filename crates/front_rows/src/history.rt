@@ -104,7 +104,7 @@ fn is_answered(entry: Option<&Entry<NoTracker>>, wanted: Answered) -> bool {
 /// Whether a fresh board makes the calls that were kept with the same answers, and then shows the same rows.
 fn is_replayed(look: Look, kept: &Recorded<NoTracker, InMemoryTerm>) -> Result<bool, Refusal> {
     let target = look.room.target(look.alloc)?;
-    let board = Board::new(look.alloc, target, kept.opening().mark);
+    let board = Board::new(look.alloc, target, kept.opening().board_id);
     let mut fresh = Box::new(look.alloc, board)?;
     if !answers_so(&mut fresh, look.alloc, kept.entries())? {
         return Ok(false);

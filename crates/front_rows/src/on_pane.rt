@@ -10,7 +10,7 @@
 //! - Any other step is a call of the board or of a bar.
 use crate::pane::{Pane, Wire};
 use indicatif::{Board, NoTracker, OwnRows, ProgressDrawTarget, Term};
-use scripts::boards::{MARK, board_call, push_answer};
+use scripts::boards::{BOARD_ID, board_call, push_answer};
 use scripts::got::{Bad, Got};
 use scripts::row::{At, headed, next};
 use scripts::screen::size;
@@ -98,7 +98,7 @@ impl OnPane {
 /// A board without bars on this terminal.
 fn board_on(at: At, term: OwnRows<Term<Wire>>) -> Result<Box<Shown>, Bad> {
     let target = ProgressDrawTarget::term_like(term);
-    at.boxed(Board::new(at.alloc, target, MARK))
+    at.boxed(Board::new(at.alloc, target, BOARD_ID))
 }
 
 /// The rows up to the last one that isn't empty.

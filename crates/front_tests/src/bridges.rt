@@ -208,7 +208,14 @@ fn showing_x(alloc: Global) -> Result<Box<Own>, Refusal> {
 }
 
 fn command(board: &mut Own) -> Result<Drawn, Refusal> {
-    board.command(BarId { mark: 1, number: 0 }, BarCommand::Tick, 0)
+    board.command(
+        BarId {
+            board: 1,
+            number: 0,
+        },
+        BarCommand::Tick,
+        0,
+    )
 }
 
 fn shows(board: &Own, wanted: &str) -> bool {

@@ -21,7 +21,7 @@ fn clock() -> StepClock {
     StepClock { next: 0, step: 1 }
 }
 
-/// A board of the mark 1 that keeps its history.
+/// A board of the id 1 that keeps its history.
 pub fn recorded<R: Wait + Copy + Clone + Drop>(
     rt: R,
     alloc: Global,

@@ -112,7 +112,7 @@ impl RecordReader<InMemoryTerm, NoTracker> for RunsAgain {
 }
 
 fn is_replayed(alloc: Global, kept: &Kept) -> Result<bool, Refusal> {
-    let board = Board::new(alloc, target(alloc)?, kept.opening().mark);
+    let board = Board::new(alloc, target(alloc)?, kept.opening().board_id);
     let mut fresh = Box::new(alloc, board)?;
     if !answers_so(&mut fresh, alloc, kept.entries())? {
         return Ok(false);

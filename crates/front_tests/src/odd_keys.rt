@@ -76,7 +76,7 @@ impl RecordReader<InMemoryTerm, Telling> for PlaysAgain {
 }
 
 fn played_again(alloc: Global, kept: &Kept) -> Result<String, Refusal> {
-    let board = Board::new(alloc, target(alloc)?, kept.opening().mark);
+    let board = Board::new(alloc, target(alloc)?, kept.opening().board_id);
     let mut fresh = Box::new(alloc, board)?;
     play(alloc, &mut fresh, kept.entries())?;
     contents(fresh.term())

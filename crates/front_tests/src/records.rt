@@ -16,7 +16,7 @@ fn target(alloc: Global, rows: u16) -> Result<ProgressDrawTarget<InMemoryTerm>, 
     Ok(ProgressDrawTarget::term_like(term))
 }
 
-/// A board of the mark 1 that keeps its history.
+/// A board of the id 1 that keeps its history.
 fn kept_on(alloc: Global, rows: u16) -> Result<Box<Kept>, Refusal> {
     let kept = Recorded::new(alloc, target(alloc, rows)?, 1);
     Ok(Box::new(alloc, kept)?)
@@ -32,7 +32,7 @@ fn bar_saying(alloc: Global, text: &str) -> Result<BarState<NoTracker>, Refusal>
 
 /// The bar of this number.
 fn id(number: u64) -> BarId {
-    BarId { mark: 1, number }
+    BarId { board: 1, number }
 }
 
 /// A call, by its name.
@@ -124,7 +124,7 @@ fn were_on(entries: &[Entry<NoTracker>], size: Size) -> bool {
 
 /// Whether a fresh board on a target of so many rows makes the calls that were kept with the same answers, and shows the same.
 fn is_replayed(alloc: Global, kept: &Kept, rows: u16) -> Result<bool, Refusal> {
-    let board = Board::new(alloc, target(alloc, rows)?, kept.opening().mark);
+    let board = Board::new(alloc, target(alloc, rows)?, kept.opening().board_id);
     let mut fresh = Box::new(alloc, board)?;
     let same = answers_so(&mut fresh, alloc, kept.entries())?;
     let size = Size { columns: 10, rows };
@@ -138,11 +138,23 @@ const YES: Answer = Answer::Drawn(Drawn::Yes);
 const RUN: [(Asked, (Answer, &str)); 9] = [
     (
         Asked::New(InsertLocation::End, "k"),
-        (Answer::Id(BarId { mark: 1, number: 0 }), ""),
+        (
+            Answer::Id(BarId {
+                board: 1,
+                number: 0,
+            }),
+            "",
+        ),
     ),
     (
         Asked::New(InsertLocation::End, "x"),
-        (Answer::Id(BarId { mark: 1, number: 1 }), ""),
+        (
+            Answer::Id(BarId {
+                board: 1,
+                number: 1,
+            }),
+            "",
+        ),
     ),
     (Asked::Tick(0), (YES, "")),
     (Asked::Tick(1), (YES, "")),
@@ -150,7 +162,13 @@ const RUN: [(Asked, (Answer, &str)); 9] = [
     (Asked::Gone(0), (Answer::Drawn(Drawn::Limited), "")),
     (
         Asked::New(InsertLocation::End, "y"),
-        (Answer::Id(BarId { mark: 1, number: 2 }), ""),
+        (
+            Answer::Id(BarId {
+                board: 1,
+                number: 2,
+            }),
+            "",
+        ),
     ),
     (Asked::Tick(2), (YES, "")),
     (Asked::Log("l"), (YES, "")),
@@ -166,13 +184,22 @@ fn what_was_kept_is_one_run(rt: HostRuntime) -> Result<(), Fail> {
     Ok(())
 }
 
-const FOREIGN: InsertLocation = InsertLocation::Before(BarId { mark: 2, number: 0 });
+const FOREIGN: InsertLocation = InsertLocation::Before(BarId {
+    board: 2,
+    number: 0,
+});
 
 /// A bar that was removed is handed back, and a new one that was turned away; nothing else is.
 const BACK: [(Asked, (Answer, &str)); 4] = [
     (
         Asked::New(InsertLocation::End, "a"),
-        (Answer::Id(BarId { mark: 1, number: 0 }), ""),
+        (
+            Answer::Id(BarId {
+                board: 1,
+                number: 0,
+            }),
+            "",
+        ),
     ),
     (
         Asked::New(FOREIGN, "b"),

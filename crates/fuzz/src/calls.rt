@@ -9,8 +9,8 @@ use indicatif_board::multi::{BarId, Call, Candidate, InsertLocation};
 use indicatif_term::draw_target::MultiProgressAlignment;
 use std::alloc::Global;
 
-/// The board's mark.
-pub const MARK: u64 = 1;
+/// The board's id.
+pub const BOARD_ID: u64 = 1;
 
 /// A small number, or once in eight times the greatest.
 fn number(numbers: &mut Numbers) -> u64 {
@@ -108,7 +108,7 @@ pub fn lone_call(alloc: Global, numbers: &mut Numbers) -> Result<LoneCall<NoTrac
 /// A bar that may be on the board; once in twelve times one of another board.
 fn id(numbers: &mut Numbers) -> BarId {
     BarId {
-        mark: if numbers.one_in(12) { 2 } else { MARK },
+        board: if numbers.one_in(12) { 2 } else { BOARD_ID },
         number: numbers.below(6) as u64,
     }
 }

@@ -82,7 +82,7 @@ impl Stage {
         call: &LoneCall<NoTracker>,
         now: Moment,
     ) -> Result<Result<Drawn, Refusal>, Law> {
-        let before = self.watch.mark();
+        let before = self.watch.point();
         let said = self.bar.call(copy_of(self.alloc, call)?, now);
         let wrote = self.watch.looks(before)?;
         if is_beyond(call, now) {

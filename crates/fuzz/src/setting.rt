@@ -4,7 +4,7 @@ use crate::numbers::Numbers;
 use indicatif_term::draw_target::ProgressDrawTarget;
 use indicatif_text::columns::{Drawn, Moment, Refusal};
 use scripts::judged::judge::{Judge, Look};
-use scripts::judged::record::{Behind, Mark, Plan, Record, Size};
+use scripts::judged::record::{Behind, Plan, Point, Record, Size};
 use std::alloc::Global;
 use std::io::ErrorKind;
 use std::rc::Rc;
@@ -142,9 +142,9 @@ impl Watch {
     }
 
     /// What was written behind so many bytes and failures; rows above stand.
-    pub fn looks(&mut self, before: Mark) -> Result<Wrote, Law> {
+    pub fn looks(&mut self, before: Point) -> Result<Wrote, Law> {
         let bytes = self.record.since(self.alloc, before)?;
-        let has_failed = self.record.mark().failures != before.failures;
+        let has_failed = self.record.point().failures != before.failures;
         if let Some(judge) = &mut self.judge {
             judge.reads(&bytes, has_failed)?;
         }
@@ -155,13 +155,13 @@ impl Watch {
     }
 
     /// How much the terminal was given.
-    pub fn mark(&self) -> Mark {
-        self.record.mark()
+    pub fn point(&self) -> Point {
+        self.record.point()
     }
 
     /// All that it took.
     pub fn bytes(&self) -> Result<Vec<u8>, Law> {
-        let opening = Mark {
+        let opening = Point {
             bytes: 0,
             calls: 0,
             failures: 0,

@@ -11,8 +11,8 @@ use std::alloc::Global;
 /// How many bars stand on a board all the time.
 const BARS: u32 = 4;
 
-/// The board's mark.
-const MARK: u64 = 1;
+/// The board's id.
+const BOARD_ID: u64 = 1;
 
 /// A terminal of 6 rows and 30 columns.
 fn target(alloc: Global) -> Result<ProgressDrawTarget<InMemoryTerm>, Refusal> {
@@ -23,7 +23,7 @@ fn target(alloc: Global) -> Result<ProgressDrawTarget<InMemoryTerm>, Refusal> {
 /// A board that keeps its history.
 pub fn board_of<R: Plays>(rt: R) -> Result<Multi<R>, Refusal> {
     let clock = MachineClock::new(rt);
-    MultiProgress::recorded(rt, rt.alloc(), target(rt.alloc())?, clock, MARK)
+    MultiProgress::recorded(rt, rt.alloc(), target(rt.alloc())?, clock, BOARD_ID)
 }
 
 /// Its bars.
@@ -81,7 +81,7 @@ fn rows_of(term: Option<&InMemoryTerm>) -> Result<Vec<String>, Refusal> {
 
 /// A fresh board that makes the calls of a history gives the same answers, shows the same, and has so many logged lines.
 fn is_one_run(alloc: Global, kept: &Kept, logged: u64) -> Held {
-    let board = Board::new(alloc, target(alloc)?, kept.opening().mark);
+    let board = Board::new(alloc, target(alloc)?, kept.opening().board_id);
     let mut fresh = Box::new(alloc, board)?;
     Law::Replay.holds(answers_so(&mut fresh, alloc, kept.entries())?)?;
     let rows = rows_of(kept.board().term())?;

@@ -22,7 +22,7 @@ use Rattle.indicatif_bar.specs.LoneBars.{lone_bar}
 use Rattle.indicatif_bar.specs.declared.state.Ask.{Ask}
 use Rattle.indicatif_bar.specs.declared.state.Ask.TheVariants.{No, Unforced, Forced}
 use Rattle.indicatif_board.specs.BoardBars.{board_bars}
-use Rattle.indicatif_board.specs.Boards.{BoardState, Id, Location, Before, After, Entrant, New, Old, Insert, Remove, Drop, Log as LogAbove, BarLog, Clear as ClearBoard, Redraw, Align, Tell, Answer, Given, Done, Drew, Refused, drawn_of, or_refused, turned_away, anchor_turned_away, inserted, taken_in, taken_out, draws, draw_of_command, last_draw, log_of, draw_of, laid_out, layout_takes, left_on, marked_on, deed_of, board}
+use Rattle.indicatif_board.specs.Boards.{BoardState, Id, Location, Before, After, Entrant, New, Old, Insert, Remove, Drop, Log as LogAbove, BarLog, Clear as ClearBoard, Redraw, Align, Tell, Answer, Given, Done, Drew, Refused, drawn_of, or_refused, turned_away, anchor_turned_away, inserted, taken_in, taken_out, draws, draw_of_command, last_draw, log_of, draw_of, laid_out, layout_takes, left_on, ownerless_on, deed_of, board}
 use Rattle.indicatif_board.specs.Members.{Member, is_member, said_of}
 use Rattle.indicatif.specs.Fronts.{of_no_draw, of_a_draw, of_a_clear, of_draw, asked_by, is_late, has_no_bar, bar_answers, CanAnswer, IsMissing, on_board}
 use Rattle.indicatif.specs.SharedBoards.{SharedCall, SharedDraws, SharedAnswers, given_by, is_foreign, board_answers}
@@ -221,39 +221,41 @@ said_so P other f each number [] there = absurd (false≢true there)
 said_so P other f each number (m ∷ ms) there = cond_both (m.number == number) (f m.bar) (said_of other f number ms) P (λ here. each m.bar)
     (λ elsewhere. said_so P other f each number ms (sym (ap (λ b. if b then not m.dropped else is_member number ms) elsewhere) ∙ there))
 
-module _ {K : Type 0} (m : Tracking K) (mark : ℕ) (target : Target) (now : ℕ) (s : BoardState (BarRecord K)) (answer : Answer) (next : BoardState (BarRecord K)) where
+module _ {K : Type 0} (m : Tracking K) (board_id : ℕ) (target : Target) (now : ℕ) (s : BoardState (BarRecord K)) (answer : Answer) (next : BoardState (BarRecord K)) where
   abbrev Led : Deed (BoardState (BarRecord K)) Answer → Type 0
-  Led deed = Leads (board (board_bars m) mark) target s deed answer next
+  Led deed = Leads (board (board_bars m) board_id) target s deed answer next
 
   -- the answer of a call that answers at once, and takes no memory
   said_at_once : (P : Result Drawn Refusal → Type 0) (said : Answer) (after : BoardState (BarRecord K)) → P (drawn_of said) → Led (AtOnce false said after) → P (drawn_of answer)
-  said_at_once P said after told led = at_once (board (board_bars m) mark) target s false said after answer next P told (λ taken. absurd (false≢true taken)) led
+  said_at_once P said after told led = at_once (board (board_bars m) board_id) target s false said after answer next P told (λ taken. absurd (false≢true taken)) led
 
   -- a draw that was asked for so
   drew_as : (d : Draw (BoardState (BarRecord K))) (ends breaks : BoardState (BarRecord K) → BoardState (BarRecord K)) (asked : Ask) → ComesAs asked d.ask d.allowed → Led (Draws d ends breaks) →
       of_draw asked (drawn_of answer) ≡ true
-  drew_as d ends breaks asked is led = asked_leads (board (board_bars m) mark) target s d ends breaks answer next asked is led
+  drew_as d ends breaks asked is led = asked_leads (board (board_bars m) board_id) target s d ends breaks answer next asked is led
 
   -- a board that hasn't a bar refuses it so; one that has it goes on
   named_answers : (P : Result Drawn Refusal → Type 0) (id : Id) (deed : Deed (BoardState (BarRecord K)) Answer) → P (Err ForeignBar) → P (Err NotMember) →
-      (is_member id.number s.members ≡ true → Led deed → P (drawn_of answer)) → Led (or_refused (turned_away mark id s) deed s) → P (drawn_of answer)
+      (is_member id.number s.members ≡ true → Led deed → P (drawn_of answer)) → Led (or_refused (turned_away board_id id s) deed s) → P (drawn_of answer)
   named_answers P id deed foreign gone on =
       let Q = λ (o : Option Refusal). Led (or_refused o deed s) → P (drawn_of answer) in
-      cond_both (not (id.mark == mark)) (Some ForeignBar) (if is_member id.number s.members then None else Some NotMember) Q (λ other. said_at_once P (Refused ForeignBar) s foreign)
+      cond_both (not (id.board == board_id)) (Some ForeignBar) (if is_member id.number s.members then None else Some NotMember) Q (λ other. said_at_once P (Refused ForeignBar) s foreign)
       (λ ours. cond_both (is_member id.number s.members) None (Some NotMember) Q on (λ left. said_at_once P (Refused NotMember) s gone))
 
   -- a bar that is taken in, behind an anchor or without one
   abbrev Takes : Result Drawn Refusal → Type 0
   Takes r = (of_no_draw r || has_no_bar r) ≡ true
 
-  entered : (at : Location) (entrant : Entrant (BarRecord K)) → Led (inserted mark at entrant s) → Takes (drawn_of answer)
+  entered : (at : Location) (entrant : Entrant (BarRecord K)) → Led (inserted board_id at entrant s) → Takes (drawn_of answer)
   entered at (New bar) =
-      cond_both (s.made == 2 ^ 64) (AtOnce true (Refused Memory) s) (AtOnce true (Given (record { mark = mark; number = s.made })) (taken_in at bar s)) (λ deed. Led deed → Takes (drawn_of answer))
-      (λ full. at_once (board (board_bars m) mark) target s true (Refused Memory) s answer next Takes refl (λ taken. refl))
-      (λ free. at_once (board (board_bars m) mark) target s true (Given (record { mark = mark; number = s.made })) (taken_in at bar s) answer next Takes refl (λ taken. refl))
+      cond_both (s.made == 2 ^ 64) (AtOnce true (Refused Memory) s) (AtOnce true (Given (record { board = board_id; number = s.made })) (taken_in at bar s))
+      (λ deed. Led deed → Takes (drawn_of answer))
+      (λ full. at_once (board (board_bars m) board_id) target s true (Refused Memory) s answer next Takes refl (λ taken. refl))
+      (λ free. at_once (board (board_bars m) board_id) target s true (Given (record { board = board_id; number = s.made })) (taken_in at bar s) answer next Takes refl (λ taken. refl))
   entered at (Old id) = named_answers Takes id (AtOnce false (Given id) s) refl refl (λ there. said_at_once Takes (Given id) s refl)
 
-  anchored : (at : Location) (deed : Deed (BoardState (BarRecord K)) Answer) → (Led deed → Takes (drawn_of answer)) → Led (or_refused (anchor_turned_away mark at s) deed s) → Takes (drawn_of answer)
+  anchored : (at : Location) (deed : Deed (BoardState (BarRecord K)) Answer) → (Led deed → Takes (drawn_of answer)) →
+      Led (or_refused (anchor_turned_away board_id at s) deed s) → Takes (drawn_of answer)
   anchored (Before anchor) deed on = named_answers Takes anchor deed refl refl (λ there. on)
   anchored (After anchor) deed on = named_answers Takes anchor deed refl refl (λ there. on)
   anchored _ deed on = on
@@ -281,24 +283,24 @@ module _ {K : Type 0} (m : Tracking K) (mark : ℕ) (target : Target) (now : ℕ
   hasnt : (command : Command K) (e : Refusal) → has_no_bar (Err e) ≡ true → bar_answers (Obey command) (Err e) ≡ true
   hasnt command e is = or-right (of_draw (asked_by command) (Err e)) (is_late command (Err e) || has_no_bar (Err e)) (or-right (is_late command (Err e)) (has_no_bar (Err e)) is)
 
-  board_call : (call : SharedCall K) → Led (deed_of (board_bars m) mark target call now s) → board_answers call (drawn_of answer) ≡ true
-  board_call (Insert at entrant) led = anchored at (inserted mark at entrant s) (entered at entrant) led
+  board_call : (call : SharedCall K) → Led (deed_of (board_bars m) board_id target call now s) → board_answers call (drawn_of answer) ≡ true
+  board_call (Insert at entrant) led = anchored at (inserted board_id at entrant s) (entered at entrant) led
   board_call (Remove id) led =
       let P = λ (r : Result Drawn Refusal). (of_no_draw r || is_foreign r) ≡ true in
-      cond_both (not (id.mark == mark)) (AtOnce false (Refused ForeignBar) s) (AtOnce false Done (taken_out id.number s)) (λ deed. Led deed → P (drawn_of answer))
+      cond_both (not (id.board == board_id)) (AtOnce false (Refused ForeignBar) s) (AtOnce false Done (taken_out id.number s)) (λ deed. Led deed → P (drawn_of answer))
       (λ other. said_at_once P (Refused ForeignBar) s refl) (λ ours. said_at_once P Done (taken_out id.number s) refl) led
   board_call (Drop id) led =
       named_answers (λ r. (of_no_draw r || (of_a_draw r || has_no_bar r)) ≡ true) id (Draws (last_draw (board_bars m) target id.number now s)
-      (left_on target id.number) (marked_on id.number)) refl refl
+      (left_on target id.number) (ownerless_on id.number)) refl refl
       (λ there led. or-wider (of_no_draw (drawn_of answer)) (of_a_draw (drawn_of answer)) (has_no_bar (drawn_of answer))
-      (drew_as (last_draw (board_bars m) target id.number now s) (left_on target id.number) (marked_on id.number) Unforced tt led)) led
+      (drew_as (last_draw (board_bars m) target id.number now s) (left_on target id.number) (ownerless_on id.number) Unforced tt led)) led
   board_call (LogAbove text) led = drew_as (log_of (board_bars m) target text now s s false) (λ x. x) (λ x. x) Forced (refl, refl) led
   board_call (BarLog id text) led =
       let d = log_of (board_bars m) target text now s (laid_out (board_bars m) target now id.number s) (layout_takes (board_bars m) id.number s) in
       named_answers (λ r. (of_a_draw r || has_no_bar r) ≡ true) id (draws d) refl refl
       (λ there led. or-left (of_a_draw (drawn_of answer)) (has_no_bar (drawn_of answer)) (drew_as d (λ x. x) (λ x. x) Forced (refl, refl) led)) led
   board_call ClearBoard led =
-      clear_leads (board (board_bars m) mark) target s (draw_of target false Forced now NoFrame s s false) (λ x. x) (λ x. x) answer next refl refl refl led
+      clear_leads (board (board_bars m) board_id) target s (draw_of target false Forced now NoFrame s s false) (λ x. x) (λ x. x) answer next refl refl refl led
   board_call Redraw led = drew_as (draw_of target false Forced now Frame s s false) (λ x. x) (λ x. x) Forced (refl, refl) led
   board_call (Align bottom) led = said_at_once (λ r. of_no_draw r ≡ true) Done (record s { bottom = bottom }) refl led
   board_call (Tell id command) led =
@@ -307,10 +309,10 @@ module _ {K : Type 0} (m : Tracking K) (mark : ℕ) (target : Target) (now : ℕ
       (draws (draw_of_command (board_bars m) target id.number command now s)) s)
       (hasnt command ForeignBar refl) (hasnt command NotMember refl) (told_answers id command) led
 
-pub made_on_board : {K T : Type 0} (m : Tracking K) (view : T → TermView) (mark : ℕ) (old new : Option TermView) (call : SharedCall K) (now : ℕ) (s : BoardState (BarRecord K)) (answer : Answer)
-    (next : BoardState (BarRecord K)) → CallMade (board (board_bars m) mark) old new (call, now) s answer next → SharedDraws m view call (drawn_of answer)
+pub made_on_board : {K T : Type 0} (m : Tracking K) (view : T → TermView) (board_id : ℕ) (old new : Option TermView) (call : SharedCall K) (now : ℕ) (s : BoardState (BarRecord K)) (answer : Answer)
+    (next : BoardState (BarRecord K)) → CallMade (board (board_bars m) board_id) old new (call, now) s answer next → SharedDraws m view call (drawn_of answer)
 unfolding SharedDraws
-made_on_board m view mark old new call now s answer next made = board_call m mark (target_of old) now s answer next call made.leads
+made_on_board m view board_id old new call now s answer next made = board_call m board_id (target_of old) now s answer next call made.leads
 
 -- memory may always be wanting, for a history or for a text
 pub no_memory : {K T : Type 0} (m : Tracking K) (view : T → TermView) (call : SharedCall K) → SharedDraws m view call (Err Memory)

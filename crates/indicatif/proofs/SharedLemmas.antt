@@ -21,14 +21,14 @@ use Rattle.indicatif.proofs.AnswerLemmas.{made_on_board, no_memory, taken_so}
 
 module _ {K T : Type 0} (m : Tracking K) (view : T → TermView) where
   -- a board that is in some state answered so, and a board can
-  pub can_answer : (old new : Board K T) (call : SharedCall K) (now : ℕ) (answer : Answer) (mark : ℕ) (s : SharedState K) →
-      IsIn mark old s → LeadsBy m view old new call now answer → SharedAnswers m view call answer
-  can_answer old new call now answer mark s is led = let made = led mark s is in made_on_board m view mark (known view old) (known view new) call now s answer made.0 made.2
+  pub can_answer : (old new : Board K T) (call : SharedCall K) (now : ℕ) (answer : Answer) (board_id : ℕ) (s : SharedState K) →
+      IsIn board_id old s → LeadsBy m view old new call now answer → SharedAnswers m view call answer
+  can_answer old new call now answer board_id s is led = let made = led board_id s is in made_on_board m view board_id (known view old) (known view new) call now s answer made.0 made.2
 
   -- the same of a board with its history
   pub record_answers : (old new : Record K T) (call : SharedCall K) (now : ℕ) (answer : Answer) →
       IsOneRun m old → AddsCall m view old call now answer new ⊎ ((new ≡ old) × (answer ≡ Refused Memory)) → SharedAnswers m view call answer
-  record_answers old new call now answer run (inl grows) = can_answer old.board new.board call now answer old.mark run.0 run.2 grows.leads
+  record_answers old new call now answer run (inl grows) = can_answer old.board new.board call now answer old.board_id run.0 run.2 grows.leads
   record_answers old new call now answer run (inr same) = subst (SharedAnswers m view call) (sym same.1) (no_memory m view call)
 
   -- what a history says of its growth, of the answer as its definition

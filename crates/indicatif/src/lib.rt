@@ -127,7 +127,7 @@
 //! █████░░░░░░░░░░░░░░░ 1500/6000
 //! ```
 //!
-//! Each bar may be moved by its own thread: a clone is another owner of the same bar. The last argument of `new` is the board's mark, a
+//! Each bar may be moved by its own thread: a clone is another owner of the same bar. The last argument of `new` is the board's id, a
 //! number that tells boards apart.
 //!
 //! # Wrappers

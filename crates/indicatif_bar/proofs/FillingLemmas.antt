@@ -1,4 +1,4 @@
--- Texts with something in the place of each mark, part by part; the first line with a mark.
+-- Texts with something in the place of each filler, part by part; the first line with a filler.
 use Rattle.std.proofs.Common.{◌≡◌, ℕ, ◌<◌, Bool, true, false, List, [], ◌∷◌, ◌++◌, length, refl, ◌∙◌, ap, arith, append_assoc, append-nil, sym, eqb, if◌then◌else◌, inl, inr}
 use Rattle.std.specs.Prelude.{flat_map, find, ◌||◌}
 use Rattle.std.specs.Option.{option_map_or}
@@ -7,7 +7,7 @@ use Rattle.std.proofs.lemmas.List.Splits.{length-slice_split}
 use Rattle.std.proofs.lemmas.Bool.{cases_Bool}
 use Rattle.std.specs.List.{list_any}
 use Rattle.indicatif_bar.specs.Layout.{text_columns}
-use Rattle.indicatif_bar.specs.BarStyles.{with_marks_as, is_wide_mark}
+use Rattle.indicatif_bar.specs.BarStyles.{with_fillers_as, is_filler}
 
 -- parts with a text between them
 abbrev pub parted_by : List ℕ → List (List ℕ) → List ℕ
@@ -25,38 +25,38 @@ parted_onto s x (part ∷ parts) h = refl
 some_parts : (text : List ℕ) → 0 < length (slice_split (λ b. eqb b 0) text)
 some_parts text = omega (arith, length-slice_split (λ b. eqb b 0) text)
 
--- the parts between marks, with a text between them
-pub parted_split : (s text : List ℕ) → parted_by s (slice_split (λ b. eqb b 0) text) ≡ with_marks_as s text
+-- the parts between fillers, with a text between them
+pub parted_split : (s text : List ℕ) → parted_by s (slice_split (λ b. eqb b 0) text) ≡ with_fillers_as s text
 parted_split s [] = refl
 parted_split s (b ∷ text) = elim (cases_Bool (eqb b 0)) [
-  | inl mark ↦ rw mark (parted_some s (slice_split (λ b. eqb b 0) text) (some_parts text) ∙ ap (λ x. s ++ x) (parted_split s text))
+  | inl filler ↦ rw filler (parted_some s (slice_split (λ b. eqb b 0) text) (some_parts text) ∙ ap (λ x. s ++ x) (parted_split s text))
   | inr other ↦ rw other (parted_onto s b (slice_split (λ b. eqb b 0) text) (some_parts text) ∙ ap (λ x. b ∷ x) (parted_split s text))
 ]
 
--- the first mark of a text
-pub one_mark : (s text part behind : List ℕ) → slice_split (λ b. eqb b 0) text ≡ part ∷ slice_split (λ b. eqb b 0) behind → with_marks_as s text ≡ part ++ (s ++ with_marks_as s behind)
-one_mark s text part behind e = sym (parted_split s text) ∙ ap (parted_by s) e
+-- the first filler of a text
+pub one_filler : (s text part behind : List ℕ) → slice_split (λ b. eqb b 0) text ≡ part ∷ slice_split (λ b. eqb b 0) behind → with_fillers_as s text ≡ part ++ (s ++ with_fillers_as s behind)
+one_filler s text part behind e = sym (parted_split s text) ∙ ap (parted_by s) e
     ∙ ap (λ x. part ++ x) (parted_some s (slice_split (λ b. eqb b 0) behind) (some_parts behind) ∙ ap (λ x. s ++ x) (parted_split s behind))
 
-pub last_part : (s text : List ℕ) → slice_split (λ b. eqb b 0) text ≡ text ∷ [] → with_marks_as s text ≡ text
+pub last_part : (s text : List ℕ) → slice_split (λ b. eqb b 0) text ≡ text ∷ [] → with_fillers_as s text ≡ text
 last_part s text e = sym (parted_split s text) ∙ ap (parted_by s) e ∙ append-nil text
 
 pub regrouped : (a b c d : List ℕ) → ((a ++ b) ++ c) ++ d ≡ a ++ (b ++ (c ++ d))
 regrouped a b c d = append_assoc (a ++ b) c d ∙ append_assoc a b (c ++ d)
 
--- the columns of the first line with a mark
-abbrev pub first_marked : List (List ℕ) → ℕ
-first_marked lines = option_map_or text_columns (find (list_any is_wide_mark) lines) 0
+-- the columns of the first line with a filler
+abbrev pub first_filler : List (List ℕ) → ℕ
+first_filler lines = option_map_or text_columns (find (list_any is_filler) lines) 0
 
-pub marked_behind : (line : List ℕ) (lines : List (List ℕ)) → list_any is_wide_mark line ≡ false → first_marked (line ∷ lines) ≡ first_marked lines
-marked_behind line lines e = rw e refl
+pub filler_behind : (line : List ℕ) (lines : List (List ℕ)) → list_any is_filler line ≡ false → first_filler (line ∷ lines) ≡ first_filler lines
+filler_behind line lines e = rw e refl
 
-none_more : (b : Bool) (s : List ℕ) (c : ℕ) (cs : List ℕ) → (b || list_any is_wide_mark cs) ≡ false → (list_any is_wide_mark cs ≡ false → with_marks_as s cs ≡ cs)
-    → (if b then s else c ∷ []) ++ with_marks_as s cs ≡ c ∷ cs
+none_more : (b : Bool) (s : List ℕ) (c : ℕ) (cs : List ℕ) → (b || list_any is_filler cs) ≡ false → (list_any is_filler cs ≡ false → with_fillers_as s cs ≡ cs)
+    → (if b then s else c ∷ []) ++ with_fillers_as s cs ≡ c ∷ cs
 none_more true s c cs e rest = absurd (cc e)
 none_more false s c cs e rest = ap (λ x. c ∷ x) (rest e)
 
--- a text without marks stays as it is
-pub no_marks : (s text : List ℕ) → list_any is_wide_mark text ≡ false → with_marks_as s text ≡ text
-no_marks s [] e = refl
-no_marks s (c ∷ cs) e = none_more (is_wide_mark c) s c cs e (no_marks s cs)
+-- a text without fillers stays as it is
+pub no_fillers : (s text : List ℕ) → list_any is_filler text ≡ false → with_fillers_as s text ≡ text
+no_fillers s [] e = refl
+no_fillers s (c ∷ cs) e = none_more (is_filler c) s c cs e (no_fillers s cs)

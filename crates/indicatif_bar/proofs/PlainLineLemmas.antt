@@ -12,7 +12,7 @@ use Rattle.indicatif_text.specs.Template.{Layout, TemplatePart, LiteralText, Lin
 use Rattle.indicatif_bar.specs.Progress.{Progress, shown_message}
 use Rattle.indicatif_bar.specs.Trackers.{Tracking}
 use Rattle.indicatif_bar.specs.Layout.{padded, cluster, text_columns}
-use Rattle.indicatif_bar.specs.BarStyles.{BarStyle, Wide, WideBarOf, WideMessageOf, is_wide_mark, is_newline, is_line_break, wide_mark, ends_in_mark, columns_left, with_marks_as, wide_text, filled, lines_with, in_layout, part_text, wide_part, latest_wide, lines_of_groups, lines}
+use Rattle.indicatif_bar.specs.BarStyles.{BarStyle, Wide, WideBarOf, WideMessageOf, is_filler, is_newline, is_line_break, filler, ends_in_filler, columns_left, with_fillers_as, wide_text, filled, lines_with, in_layout, part_text, wide_part, latest_wide, lines_of_groups, lines}
 use Rattle.indicatif_bar.specs.StyleLaws.{IsPlainText, cells_in}
 use Rattle.indicatif_bar.specs.LineLaws.{IsPlainPart, HasPlainParts, PlainPartsGivePlainLines}
 use Rattle.indicatif_bar.specs.Inside.Steps.{wide_source, source_text, source_of}
@@ -20,15 +20,15 @@ use Rattle.indicatif_bar.specs.declared.style.keys.Key.TheVariants.{Bar, WideBar
 use Rattle.indicatif_bar.specs.declared.style.steps.Source.{Source}
 use Rattle.indicatif_bar.specs.declared.style.steps.Source.TheVariants.{Tracker, Known, Nothing}
 use Rattle.indicatif_bar.proofs.BarWidthLemmas.{takes_bar}
-use Rattle.indicatif_bar.proofs.FillingLemmas.{no_marks}
+use Rattle.indicatif_bar.proofs.FillingLemmas.{no_fillers}
 use Rattle.indicatif_bar.proofs.LinesLemmas.{names, text_of_name, wide_of_name, latest_by}
 use Rattle.indicatif_bar.proofs.TextWidthLemmas.{takes_none, plain_takes, taken_plain, plain_both, plain_padded, plain_trimmed}
-use Rattle.indicatif_bar.proofs.WideBarLemmas.{SomeMarked, strange_mark, strange_newline, takes_without, marked_styled, sized_mark}
+use Rattle.indicatif_bar.proofs.WideBarLemmas.{SomeFiller, strange_filler, strange_newline, takes_without, filler_styled, sized_filler}
 
 pub none_plain : IsPlainText []
 none_plain = taken_plain 0 [] takes_none
 
--- ---- plain texts with marks between them
+-- ---- plain texts with fillers between them
 
 data Mixed : List ℕ → Type 0 where
   one : {text : List ℕ} → IsPlainText text → Mixed text
@@ -44,21 +44,21 @@ mixed_both xs ys (one p) y = mixed_behind xs ys p y
 mixed_both xs ys (more {front} {text} p x) y =
     subst Mixed (sym (append_assoc front (0 ∷ text) ys)) (more p (mixed_both text ys x y))
 
-mixed_marked : (text : List ℕ) → SomeMarked text → Mixed text
-mixed_marked text x =
+mixed_filler : (text : List ℕ) → SomeFiller text → Mixed text
+mixed_filler text x =
     subst Mixed (sym x.is.parts) (more (taken_plain x.is.before x.is.front x.is.takes_front) (one (taken_plain x.is.behind x.is.back x.is.takes_back)))
 
-no_mark : (text : List ℕ) → IsPlainText text → list_any is_wide_mark text ≡ false
-no_mark text p = list_any_none is_wide_mark text (takes_without 0 (text_columns text) text strange_mark (plain_takes text p))
+no_filler : (text : List ℕ) → IsPlainText text → list_any is_filler text ≡ false
+no_filler text p = list_any_none is_filler text (takes_without 0 (text_columns text) text strange_filler (plain_takes text p))
 
--- with a plain text in the place of each mark, it is plain
-mixed_filled : (shown text : List ℕ) → IsPlainText shown → Mixed text → IsPlainText (with_marks_as shown text)
-mixed_filled shown text s (one p) = subst IsPlainText (sym (no_marks shown text (no_mark text p))) p
+-- with a plain text in the place of each filler, it is plain
+mixed_filled : (shown text : List ℕ) → IsPlainText shown → Mixed text → IsPlainText (with_fillers_as shown text)
+mixed_filled shown text s (one p) = subst IsPlainText (sym (no_fillers shown text (no_filler text p))) p
 mixed_filled shown text s (more {front} {text = rest} p x) =
-    let whole : with_marks_as shown (front ++ 0 ∷ rest) ≡ front ++ (shown ++ with_marks_as shown rest) =
-    flat_map-append (λ b. if is_wide_mark b then shown else b ∷ []) front (0 ∷ rest)
-    ∙ ap (λ y. y ++ (shown ++ with_marks_as shown rest)) (no_marks shown front (no_mark front p)) in
-    subst IsPlainText (sym whole) (plain_both front (shown ++ with_marks_as shown rest) p (plain_both shown (with_marks_as shown rest) s (mixed_filled shown rest s x)))
+    let whole : with_fillers_as shown (front ++ 0 ∷ rest) ≡ front ++ (shown ++ with_fillers_as shown rest) =
+    flat_map-append (λ b. if is_filler b then shown else b ∷ []) front (0 ∷ rest)
+    ∙ ap (λ y. y ++ (shown ++ with_fillers_as shown rest)) (no_fillers shown front (no_filler front p)) in
+    subst IsPlainText (sym whole) (plain_both front (shown ++ with_fillers_as shown rest) p (plain_both shown (with_fillers_as shown rest) s (mixed_filled shown rest s x)))
 
 -- ---- lists of lists
 
@@ -80,25 +80,25 @@ split_all P ends (x ∷ xs) all =
 module _ {K : Type 0} (m : Tracking K) (style : BarStyle K) (p : Progress) (now : ℕ) where
   -- ---- parts
 
-  -- a wide key leaves a mark
-  leaves_mark : (layout : Layout) (source : Source) (wide : Wide) → wide_source layout source ≡ Some wide → source_text m style p now layout source ≡ wide_mark
-  leaves_mark layout (Tracker k) wide e = absurd (cc e)
-  leaves_mark layout Nothing wide e = absurd (cc e)
-  leaves_mark layout (Known WideBar) wide e = refl
-  leaves_mark layout (Known WideMessage) wide e = refl
-  leaves_mark layout (Known Bar) wide e = absurd (cc e)
-  leaves_mark layout (Known Spinner) wide e = absurd (cc e)
-  leaves_mark layout (Known Prefix) wide e = absurd (cc e)
-  leaves_mark layout (Known Message) wide e = absurd (cc e)
-  leaves_mark layout (Known (Position form)) wide e = absurd (cc e)
-  leaves_mark layout (Known (Length form)) wide e = absurd (cc e)
-  leaves_mark layout (Known Percent) wide e = absurd (cc e)
-  leaves_mark layout (Known PercentPrecise) wide e = absurd (cc e)
-  leaves_mark layout (Known (Elapsed form)) wide e = absurd (cc e)
-  leaves_mark layout (Known (Eta form)) wide e = absurd (cc e)
-  leaves_mark layout (Known (Duration form)) wide e = absurd (cc e)
-  leaves_mark layout (Known PerSecond) wide e = absurd (cc e)
-  leaves_mark layout (Known (BytesPerSecond form)) wide e = absurd (cc e)
+  -- a wide key leaves a filler
+  leaves_filler : (layout : Layout) (source : Source) (wide : Wide) → wide_source layout source ≡ Some wide → source_text m style p now layout source ≡ filler
+  leaves_filler layout (Tracker k) wide e = absurd (cc e)
+  leaves_filler layout Nothing wide e = absurd (cc e)
+  leaves_filler layout (Known WideBar) wide e = refl
+  leaves_filler layout (Known WideMessage) wide e = refl
+  leaves_filler layout (Known Bar) wide e = absurd (cc e)
+  leaves_filler layout (Known Spinner) wide e = absurd (cc e)
+  leaves_filler layout (Known Prefix) wide e = absurd (cc e)
+  leaves_filler layout (Known Message) wide e = absurd (cc e)
+  leaves_filler layout (Known (Position form)) wide e = absurd (cc e)
+  leaves_filler layout (Known (Length form)) wide e = absurd (cc e)
+  leaves_filler layout (Known Percent) wide e = absurd (cc e)
+  leaves_filler layout (Known PercentPrecise) wide e = absurd (cc e)
+  leaves_filler layout (Known (Elapsed form)) wide e = absurd (cc e)
+  leaves_filler layout (Known (Eta form)) wide e = absurd (cc e)
+  leaves_filler layout (Known (Duration form)) wide e = absurd (cc e)
+  leaves_filler layout (Known PerSecond) wide e = absurd (cc e)
+  leaves_filler layout (Known (BytesPerSecond form)) wide e = absurd (cc e)
 
   key_mixed : (key : List ℕ) (layout : Layout) (o : Option Wide) → wide_part m style p now (KeyText key layout) ≡ o → IsPlainPart m style p now (KeyText key layout)
       → Mixed (part_text m style p now (KeyText key layout))
@@ -106,9 +106,9 @@ module _ {K : Type 0} (m : Tracking K) (style : BarStyle K) (p : Progress) (now 
   key_mixed key layout (Some wide) is h =
       let name = encode_utf8_all key in
       let source = source_of (names style.keys) name in
-      let mark = text_of_name m style p now layout name ∙ leaves_mark layout source wide (sym (wide_of_name m style p now layout key) ∙ is) in
-      subst (λ t. Mixed (in_layout m style p now layout t)) (sym mark)
-      (mixed_marked (in_layout m style p now layout wide_mark) (marked_styled style.colours (unwrap_or layout.style []) _ (sized_mark layout.align layout.truncate layout.width)))
+      let leaves = text_of_name m style p now layout name ∙ leaves_filler layout source wide (sym (wide_of_name m style p now layout key) ∙ is) in
+      subst (λ t. Mixed (in_layout m style p now layout t)) (sym leaves)
+      (mixed_filler (in_layout m style p now layout filler) (filler_styled style.colours (unwrap_or layout.style []) _ (sized_filler layout.align layout.truncate layout.width)))
 
   part_mixed : (part : TemplatePart) → IsPlainPart m style p now part → Mixed (part_text m style p now part)
   part_mixed (LiteralText text) h = one (h refl)
@@ -153,7 +153,7 @@ module _ {K : Type 0} (m : Tracking K) (style : BarStyle K) (p : Progress) (now 
     wide_plain text (WideMessageOf layout) =
         let message = padded (shown_message p) (columns_left columns text) layout.align true in
         let plain = plain_padded (shown_message p) (columns_left columns text) layout.align true h.message in
-        cond_both (ends_in_mark text) (encode_utf8_all (drop_trailing_whitespace (chars message))) message (λ x. IsPlainText x) (λ _. plain_trimmed message plain) (λ _. plain)
+        cond_both (ends_in_filler text) (encode_utf8_all (drop_trailing_whitespace (chars message))) message (λ x. IsPlainText x) (λ _. plain_trimmed message plain) (λ _. plain)
 
     filled_plain : (text : List ℕ) (wide : Option Wide) → Mixed text → (wide ≡ None → IsPlainText text) → IsPlainText (filled style p columns wide text)
     filled_plain text None x none = none refl

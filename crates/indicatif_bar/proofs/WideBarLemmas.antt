@@ -25,23 +25,23 @@ use Rattle.indicatif_bar.specs.Tabs.{expanded}
 use Rattle.indicatif_bar.specs.Trackers.{Tracking}
 use Rattle.indicatif_bar.specs.Layout.{text_columns, spaces, surrounded, padded, cluster}
 use Rattle.indicatif_bar.specs.Keys.{key_named}
-use Rattle.indicatif_bar.specs.BarStyles.{BarStyle, WideBarOf, wide_mark, is_wide_mark, is_newline, columns_left, with_marks_as, wide_text, lines_with, key_text, named_text, in_layout, part_text, latest_wide, lines_of_groups, lines, is_line_break}
+use Rattle.indicatif_bar.specs.BarStyles.{BarStyle, WideBarOf, filler, is_filler, is_newline, columns_left, with_fillers_as, wide_text, lines_with, key_text, named_text, in_layout, part_text, latest_wide, lines_of_groups, lines, is_line_break}
 use Rattle.indicatif_bar.specs.StyleLaws.{cells_in}
 use Rattle.indicatif_bar.specs.LineLaws.{parts_text, HasWideBar, FillsRow, WideBarsFill}
-use Rattle.indicatif_bar.proofs.FillingLemmas.{no_marks}
+use Rattle.indicatif_bar.proofs.FillingLemmas.{no_fillers}
 use Rattle.indicatif_bar.proofs.TextWidthLemmas.{Takes, takes_none, takes_as, takes_both, takes_spaces, columns_behind, padded_short, plain_takes}
 use Rattle.indicatif_bar.proofs.BarWidthLemmas.{takes_bar, exact}
 
--- ---- a plain text has no mark and no newline
+-- ---- a plain text has no filler and no newline
 
 -- a byte that stands for no character of a plain text: of a control character but ESC
 pub record IsStrange (k : ℕ) : Type 0 where
   low : k < 128
   unknown : ((k == 0x1B) || is_some (char_width false k)) ≡ false
 
-pub strange_mark : IsStrange 0
+pub strange_filler : IsStrange 0
 unfolding char_width
-strange_mark = record { low = omega arith; unknown = refl }
+strange_filler = record { low = omega arith; unknown = refl }
 
 pub strange_newline : IsStrange 0x0A
 unfolding char_width
@@ -89,10 +89,10 @@ pub takes_without : (k n : ℕ) (text : List ℕ) → IsStrange k → Takes n te
 takes_without k n text s t =
     All-from_recursion (λ b. (b == k) ≡ false) text (subst (Without k) (encodes-chars text t.utf8) (without_characters k (chars text) s (plain_texts_have_widths (chars text) t.plain)))
 
--- ---- a plain text with a mark in it
+-- ---- a plain text with a filler in it
 
--- a text of n columns with one mark
-pub record Marked (n : ℕ) (text : List ℕ) : Type 0 where
+-- a text of n columns with one filler
+pub record HasFiller (n : ℕ) (text : List ℕ) : Type 0 where
   pub front : List ℕ
   pub back : List ℕ
   pub before : ℕ
@@ -102,11 +102,11 @@ pub record Marked (n : ℕ) (text : List ℕ) : Type 0 where
   pub takes_back : Takes behind back
   pub all : before + behind ≡ n
 
-marked_mark : Marked 0 wide_mark
-marked_mark = record { front = []; back = []; before = 0; behind = 0; parts = refl; takes_front = takes_none; takes_back = takes_none; all = omega arith }
+filler_alone : HasFiller 0 filler
+filler_alone = record { front = []; back = []; before = 0; behind = 0; parts = refl; takes_front = takes_none; takes_back = takes_none; all = omega arith }
 
-marked_before : (k n : ℕ) (more text : List ℕ) → Takes k more → Marked n text → Marked (k + n) (more ++ text)
-marked_before k n more text t x = record {
+filler_before : (k n : ℕ) (more text : List ℕ) → Takes k more → HasFiller n text → HasFiller (k + n) (more ++ text)
+filler_before k n more text t x = record {
   front = more ++ x.front;
   back = x.back;
   before = k + x.before;
@@ -117,8 +117,8 @@ marked_before k n more text t x = record {
   all = omega (arith, x.all);
 }
 
-marked_behind : (k n : ℕ) (more text : List ℕ) → Takes k more → Marked n text → Marked (n + k) (text ++ more)
-marked_behind k n more text t x = record {
+filler_behind : (k n : ℕ) (more text : List ℕ) → Takes k more → HasFiller n text → HasFiller (n + k) (text ++ more)
+filler_behind k n more text t x = record {
   front = x.front;
   back = x.back ++ more;
   before = x.before;
@@ -129,10 +129,10 @@ marked_behind k n more text t x = record {
   all = omega (arith, x.all);
 }
 
--- what some columns make of a mark is some columns
-pub record SomeMarked (text : List ℕ) : Type 0 where
+-- what some columns make of a filler is some columns
+pub record SomeFiller (text : List ℕ) : Type 0 where
   pub many : ℕ
-  pub is : Marked many text
+  pub is : HasFiller many text
 
 takes_sequences : (numbers : List ℕ) → Takes 0 (flat_map sequence_of numbers)
 unfolding is_plain visible
@@ -146,63 +146,63 @@ takes_sequences numbers =
       columns = ap (sum_by width_of) seen;
     }
 
-pub marked_styled : (colours : Bool) (numbers text : List ℕ) → SomeMarked text → SomeMarked (styled colours numbers text)
-marked_styled colours [] text x = x
-marked_styled false (n ∷ ns) text x = x
-marked_styled true (n ∷ ns) text x =
+pub filler_styled : (colours : Bool) (numbers text : List ℕ) → SomeFiller text → SomeFiller (styled colours numbers text)
+filler_styled colours [] text x = x
+filler_styled false (n ∷ ns) text x = x
+filler_styled true (n ∷ ns) text x =
     let opening = flat_map sequence_of (n ∷ ns) in
     let closing : Takes 0 (sequence_of 0) = subst (Takes 0) (append-nil (sequence_of 0)) (takes_sequences (0 ∷ [])) in
-    record { many = 0 + x.many + 0; is = marked_behind 0 (0 + x.many) (sequence_of 0) (opening ++ text) closing (marked_before 0 x.many opening text (takes_sequences (n ∷ ns)) x.is) }
+    record { many = 0 + x.many + 0; is = filler_behind 0 (0 + x.many) (sequence_of 0) (opening ++ text) closing (filler_before 0 x.many opening text (takes_sequences (n ∷ ns)) x.is) }
 
-marked_surrounded : (align : Alignment) (n : ℕ) → SomeMarked (surrounded wide_mark align n)
-marked_surrounded Left n = record { many = 0 + n; is = marked_behind n 0 (spaces n) wide_mark (takes_spaces n) marked_mark }
-marked_surrounded Right n = record { many = n + 0; is = marked_before n 0 (spaces n) wide_mark (takes_spaces n) marked_mark }
-marked_surrounded Center n = record {
+filler_surrounded : (align : Alignment) (n : ℕ) → SomeFiller (surrounded filler align n)
+filler_surrounded Left n = record { many = 0 + n; is = filler_behind n 0 (spaces n) filler (takes_spaces n) filler_alone }
+filler_surrounded Right n = record { many = n + 0; is = filler_before n 0 (spaces n) filler (takes_spaces n) filler_alone }
+filler_surrounded Center n = record {
   many = n / 2 + 0 + (n - n / 2);
-  is = marked_behind (n - n / 2) (n / 2 + 0) (spaces (n - n / 2)) (spaces (n / 2) ++ wide_mark) (takes_spaces (n - n / 2))
-      (marked_before (n / 2) 0 (spaces (n / 2)) wide_mark (takes_spaces (n / 2)) marked_mark);
+  is = filler_behind (n - n / 2) (n / 2 + 0) (spaces (n - n / 2)) (spaces (n / 2) ++ filler) (takes_spaces (n - n / 2))
+      (filler_before (n / 2) 0 (spaces (n / 2)) filler (takes_spaces (n / 2)) filler_alone);
 }
 
-mark_width : width_of 0 ≡ 0
+filler_width : width_of 0 ≡ 0
 unfolding char_width
-mark_width = refl
+filler_width = refl
 
-mark_ascii : (All (λ b. b < 128) wide_mark)
-mark_ascii = All-from_recursion (λ b. b < 128) wide_mark (omega arith, tt)
+filler_ascii : (All (λ b. b < 128) filler)
+filler_ascii = All-from_recursion (λ b. b < 128) filler (omega arith, tt)
 
--- a mark takes no columns, and is seen
-pub mark_columns : (back : List ℕ) → text_columns (0 ∷ back) ≡ text_columns back
-mark_columns back =
-    let ascii = IsAscii-from_all wide_mark mark_ascii in
-    ap (λ cs. sum_by width_of (visible cs)) (chars-append wide_mark back (IsUtf8-from_ascii wide_mark ascii) ∙ ap (λ x. x ++ chars back) (chars-IsAscii wide_mark ascii))
+-- a filler takes no columns, and is seen
+pub filler_columns : (back : List ℕ) → text_columns (0 ∷ back) ≡ text_columns back
+filler_columns back =
+    let ascii = IsAscii-from_all filler filler_ascii in
+    ap (λ cs. sum_by width_of (visible cs)) (chars-append filler back (IsUtf8-from_ascii filler ascii) ∙ ap (λ x. x ++ chars back) (chars-IsAscii filler ascii))
     ∙ ap (sum_by width_of) (others_are_seen 0 (chars back) (λ e. omega (arith, e)))
-    ∙ omega (arith, sum_by-cons width_of 0 (visible (chars back)), mark_width)
+    ∙ omega (arith, sum_by-cons width_of 0 (visible (chars back)), filler_width)
 
-marked_columns : (n : ℕ) (text : List ℕ) → Marked n text → text_columns text ≡ n
-marked_columns n text x =
+columns_with_filler : (n : ℕ) (text : List ℕ) → HasFiller n text → text_columns text ≡ n
+columns_with_filler n text x =
     ap text_columns x.parts ∙ columns_behind x.before x.front (0 ∷ x.back) x.takes_front
-    ∙ ap (λ k. x.before + k) (mark_columns x.back ∙ x.takes_back.columns) ∙ x.all
+    ∙ ap (λ k. x.before + k) (filler_columns x.back ∙ x.takes_back.columns) ∙ x.all
 
 none_columns : text_columns [] ≡ 0
 none_columns = takes_none.columns
 
-padded_mark : (width : ℕ) (align : Alignment) (truncate : Bool) → SomeMarked (padded wide_mark width align truncate)
-padded_mark width align truncate =
-    let none : text_columns wide_mark ≡ 0 = mark_columns [] ∙ none_columns in
-    subst SomeMarked (sym (padded_short wide_mark width align truncate (omega (arith, none)))) (marked_surrounded align (width - text_columns wide_mark))
+padded_filler : (width : ℕ) (align : Alignment) (truncate : Bool) → SomeFiller (padded filler width align truncate)
+padded_filler width align truncate =
+    let none : text_columns filler ≡ 0 = filler_columns [] ∙ none_columns in
+    subst SomeFiller (sym (padded_short filler width align truncate (omega (arith, none)))) (filler_surrounded align (width - text_columns filler))
 
-pub sized_mark : (align : Alignment) (truncate : Bool) (width : Option ℕ) → SomeMarked (option_map_or (λ w. padded wide_mark w align truncate) width wide_mark)
-sized_mark align truncate None = record { many = 0; is = marked_mark }
-sized_mark align truncate (Some width) = padded_mark width align truncate
+pub sized_filler : (align : Alignment) (truncate : Bool) (width : Option ℕ) → SomeFiller (option_map_or (λ w. padded filler w align truncate) width filler)
+sized_filler align truncate None = record { many = 0; is = filler_alone }
+sized_filler align truncate (Some width) = padded_filler width align truncate
 
 -- ---- the text of the line
 
-module _ (n : ℕ) (text : List ℕ) (x : Marked n text) where
-  has_no_mark : (k : ℕ) (part : List ℕ) → Takes k part → list_any is_wide_mark part ≡ false
-  has_no_mark k part t = list_any_none is_wide_mark part (takes_without 0 k part strange_mark t)
+module _ (n : ℕ) (text : List ℕ) (x : HasFiller n text) where
+  has_no_filler : (k : ℕ) (part : List ℕ) → Takes k part → list_any is_filler part ≡ false
+  has_no_filler k part t = list_any_none is_filler part (takes_without 0 k part strange_filler t)
 
-  has_mark : list_any is_wide_mark text ≡ true
-  has_mark = ap (list_any is_wide_mark) x.parts ∙ list_any-append is_wide_mark x.front (0 ∷ x.back) ∙ ap (λ b. b || true) (has_no_mark x.before x.front x.takes_front)
+  has_filler : list_any is_filler text ≡ true
+  has_filler = ap (list_any is_filler) x.parts ∙ list_any-append is_filler x.front (0 ∷ x.back) ∙ ap (λ b. b || true) (has_no_filler x.before x.front x.takes_front)
 
   one_line : slice_split is_newline text ≡ text ∷ []
   one_line =
@@ -212,20 +212,20 @@ module _ (n : ℕ) (text : List ℕ) (x : Marked n text) where
 
   left_is : (columns : ℕ) → columns_left columns text ≡ columns - n
   left_is columns =
-      ap (λ ls. columns - option_map_or text_columns (find (list_any is_wide_mark) ls) 0) one_line
-      ∙ ap (λ b. columns - option_map_or text_columns (if b then Some text else None) 0) has_mark
-      ∙ ap (λ k. columns - k) (marked_columns n text x)
+      ap (λ ls. columns - option_map_or text_columns (find (list_any is_filler) ls) 0) one_line
+      ∙ ap (λ b. columns - option_map_or text_columns (if b then Some text else None) 0) has_filler
+      ∙ ap (λ k. columns - k) (columns_with_filler n text x)
 
-  replaced : (shown : List ℕ) → with_marks_as shown text ≡ x.front ++ (shown ++ x.back)
+  replaced : (shown : List ℕ) → with_fillers_as shown text ≡ x.front ++ (shown ++ x.back)
   replaced shown =
-      ap (with_marks_as shown) x.parts ∙ flat_map-append (λ b. if is_wide_mark b then shown else b ∷ []) x.front (0 ∷ x.back)
-      ∙ ap (λ y. y ++ (shown ++ with_marks_as shown x.back)) (no_marks shown x.front (has_no_mark x.before x.front x.takes_front))
-      ∙ ap (λ y. x.front ++ (shown ++ y)) (no_marks shown x.back (has_no_mark x.behind x.back x.takes_back))
+      ap (with_fillers_as shown) x.parts ∙ flat_map-append (λ b. if is_filler b then shown else b ∷ []) x.front (0 ∷ x.back)
+      ∙ ap (λ y. y ++ (shown ++ with_fillers_as shown x.back)) (no_fillers shown x.front (has_no_filler x.before x.front x.takes_front))
+      ∙ ap (λ y. x.front ++ (shown ++ y)) (no_fillers shown x.back (has_no_filler x.behind x.back x.takes_back))
 
   some_text : length text ≡ suc (length x.front + length x.back)
   some_text = ap length x.parts ∙ omega (arith, length-append x.front (0 ∷ x.back))
 
-  replaced_takes : (k : ℕ) (shown : List ℕ) → Takes k shown → Takes (n + k) (with_marks_as shown text)
+  replaced_takes : (k : ℕ) (shown : List ℕ) → Takes k shown → Takes (n + k) (with_fillers_as shown text)
   replaced_takes k shown t =
       subst (Takes (n + k)) (sym (replaced shown)) (takes_as (x.before + (k + x.behind)) (n + k) (x.front ++ (shown ++ x.back)) (omega (arith, x.all))
       (takes_both x.before (k + x.behind) x.front (shown ++ x.back) x.takes_front (takes_both k x.behind shown x.back t x.takes_back)))
@@ -240,50 +240,50 @@ filled_row : (columns : ℕ) (line : List ℕ) → Takes columns line → FillsR
 filled_row columns line t = record { plain = (t.utf8, t.plain); columns_are = t.columns; one_row = one_row (chars line) columns (omega (arith, t.columns)) }
 
 module _ {K : Type 0} (m : Tracking K) (style : BarStyle K) (p : Progress) (now columns : ℕ) (h : HasWideBar m style p now columns) where
-  bar_named : named_text m style p now (encode_utf8_all (codes "wide_bar")) h.layout ≡ wide_mark
+  bar_named : named_text m style p now (encode_utf8_all (codes "wide_bar")) h.layout ≡ filler
   unfolding encode
   bar_named = ap (λ o. elim o as (λ _. List ℕ) [
     | Some k ↦ expanded style.tab (m.text k p now)
     | None ↦ option_map_or (key_text m style p now h.layout) (key_named (codes "wide_bar")) []
   ]) h.no_tracker
 
-  bar_marked : SomeMarked (part_text m style p now (KeyText (codes "wide_bar") h.layout))
-  bar_marked = subst (λ t. SomeMarked (in_layout m style p now h.layout t)) (sym bar_named)
-      (marked_styled style.colours (unwrap_or h.layout.style []) _ (sized_mark h.layout.align h.layout.truncate h.layout.width))
+  bar_filler : SomeFiller (part_text m style p now (KeyText (codes "wide_bar") h.layout))
+  bar_filler = subst (λ t. SomeFiller (in_layout m style p now h.layout t)) (sym bar_named)
+      (filler_styled style.colours (unwrap_or h.layout.style []) _ (sized_filler h.layout.align h.layout.truncate h.layout.width))
 
-  text_marked : SomeMarked (parts_text m style p now style.parts)
-  text_marked =
+  text_filler : SomeFiller (parts_text m style p now style.parts)
+  text_filler =
       let before = parts_text m style p now h.front in
       let bar = part_text m style p now (KeyText (codes "wide_bar") h.layout) in
       let behind = parts_text m style p now h.back in
       let whole : parts_text m style p now style.parts ≡ before ++ (bar ++ behind) = ap (parts_text m style p now) h.parts
       ∙ flat_map-append (part_text m style p now) h.front (KeyText (codes "wide_bar") h.layout ∷ h.back) in
-      let inner = marked_behind (text_columns behind) bar_marked.many behind bar (plain_takes behind h.plain_back) bar_marked.is in
-      let all = marked_before (text_columns before) (bar_marked.many + text_columns behind) before (bar ++ behind) (plain_takes before h.plain_front) inner in
-      subst SomeMarked (sym whole) (record { many = text_columns before + (bar_marked.many + text_columns behind); is = all })
+      let inner = filler_behind (text_columns behind) bar_filler.many behind bar (plain_takes behind h.plain_back) bar_filler.is in
+      let all = filler_before (text_columns before) (bar_filler.many + text_columns behind) before (bar ++ behind) (plain_takes before h.plain_front) inner in
+      subst SomeFiller (sym whole) (record { many = text_columns before + (bar_filler.many + text_columns behind); is = all })
 
-  -- the line: the text with the bar in the place of its mark
+  -- the line: the text with the bar in the place of its filler
   abbrev text_of_line : List ℕ
-  text_of_line = with_marks_as (wide_text style p columns (parts_text m style p now style.parts) (WideBarOf h.layout)) (parts_text m style p now style.parts)
+  text_of_line = with_fillers_as (wide_text style p columns (parts_text m style p now style.parts) (WideBarOf h.layout)) (parts_text m style p now style.parts)
 
   line_takes : Takes columns text_of_line
   line_takes =
       let text = parts_text m style p now style.parts in
-      let x = text_marked.is in
-      let n = text_marked.many in
+      let x = text_filler.is in
+      let n = text_filler.many in
       let u = text_columns (cluster style.clusters 0) in
       let left = columns_left columns text in
       let even : left % u ≡ 0 = ap (λ k. left % k) h.narrow ∙ omega arith in
       let bar = takes_bar style.clusters style.colours (unwrap_or h.layout.alternative []) p.position p.len left h.clusters in
       let shown = takes_as (cells_in style.clusters left * u) left _ (exact left u even) bar in
-      let all : n + left ≡ columns = omega (arith, left_is n text x columns, marked_columns n text x, h.room) in
+      let all : n + left ≡ columns = omega (arith, left_is n text x columns, columns_with_filler n text x, h.room) in
       takes_as (n + left) columns text_of_line all (replaced_takes n text x left (wide_text style p columns text (WideBarOf h.layout)) shown)
 
   line_alone : lines m style p now columns ≡ text_of_line ∷ []
   unfolding lines
   line_alone =
       let text = parts_text m style p now style.parts in
-      let some = none_at (length text) _ (some_text text_marked.many text text_marked.is) in
+      let some = none_at (length text) _ (some_text text_filler.many text text_filler.is) in
       ap (lines_of_groups m style p now columns None) (slice_split_none is_line_break style.parts h.one_line)
       ∙ kept_by (length text == 0) (lines_with style p columns (latest_wide m style p now None style.parts) text) some
       ∙ ap (λ ws. lines_with style p columns (last_or None ws) text) h.alone

@@ -45,16 +45,16 @@ wide_of layout WideBar = Some (WideBarOf layout)
 wide_of layout WideMessage = Some (WideMessageOf layout)
 wide_of layout _ = None
 
--- the mark that a wide key leaves in its place
-abbrev pub wide_mark : List ℕ
-wide_mark = 0 ∷ []
+-- the filler that a wide key leaves in its place
+abbrev pub filler : List ℕ
+filler = 0 ∷ []
 
-abbrev pub is_wide_mark : ℕ → Bool
-is_wide_mark b = b == 0
+abbrev pub is_filler : ℕ → Bool
+is_filler b = b == 0
 
--- the text's last character is a mark
-abbrev pub ends_in_mark : List ℕ → Bool
-ends_in_mark text = option_map_or is_wide_mark (slice_get text (length text - 1)) false
+-- the text's last character is a filler
+abbrev pub ends_in_filler : List ℕ → Bool
+ends_in_filler text = option_map_or is_filler (slice_get text (length text - 1)) false
 
 abbrev pub is_newline : ℕ → Bool
 is_newline b = b == 0x0A
@@ -63,26 +63,26 @@ abbrev pub is_line_break : TemplatePart → Bool
 is_line_break LineBreak = true
 is_line_break _ = false
 
--- the columns that the first line with a mark leaves free
+-- the columns that the first line with a filler leaves free
 abbrev pub columns_left : ℕ → List ℕ → ℕ
-columns_left columns text = columns - option_map_or text_columns (find (list_any is_wide_mark) (slice_split is_newline text)) 0
+columns_left columns text = columns - option_map_or text_columns (find (list_any is_filler) (slice_split is_newline text)) 0
 
--- a text with something in the place of each mark
-abbrev pub with_marks_as : List ℕ → List ℕ → List ℕ
-with_marks_as shown text = flat_map (λ b. if is_wide_mark b then shown else b ∷ []) text
+-- a text with something in the place of each filler
+abbrev pub with_fillers_as : List ℕ → List ℕ → List ℕ
+with_fillers_as shown text = flat_map (λ b. if is_filler b then shown else b ∷ []) text
 
 module _ {K : Type 0} (style : BarStyle K) (p : Progress) where
-  -- what stands in the place of each mark of a text
+  -- what stands in the place of each filler of a text
   abbrev pub wide_text : ℕ → List ℕ → Wide → List ℕ
   wide_text columns text (WideBarOf layout) = bar_text style.clusters style.colours (unwrap_or layout.alternative []) (fraction p) (columns_left columns text)
   wide_text columns text (WideMessageOf layout) =
       let message = padded (shown_message p) (columns_left columns text) layout.align true in
-      if ends_in_mark text then encode_utf8_all (drop_trailing_whitespace (chars message)) else message
+      if ends_in_filler text then encode_utf8_all (drop_trailing_whitespace (chars message)) else message
 
-  -- a text with its marks replaced, where a wide key has stood so far
+  -- a text with its fillers replaced, where a wide key has stood so far
   abbrev pub filled : ℕ → Option Wide → List ℕ → List ℕ
   filled columns None text = text
-  filled columns (Some wide) text = with_marks_as (wide_text columns text wide) text
+  filled columns (Some wide) text = with_fillers_as (wide_text columns text wide) text
 
   -- the lines of a text, where a wide key has stood so far
   abbrev pub lines_with : ℕ → Option Wide → List ℕ → List (List ℕ)
@@ -92,8 +92,8 @@ module _ {K : Type 0} (m : Tracking K) (style : BarStyle K) (p : Progress) (now 
   -- the text of a key, as a placeholder asks for it
   abbrev pub key_text : Layout → Key → List ℕ
   key_text layout Bar = bar_text style.clusters style.colours (unwrap_or layout.alternative []) (fraction p) (unwrap_or layout.width 20)
-  key_text layout WideBar = wide_mark
-  key_text layout WideMessage = wide_mark
+  key_text layout WideBar = filler
+  key_text layout WideMessage = filler
   key_text layout Spinner = if is_finished p then final_tick_string style.tick_strings else tick_string style.tick_strings p.ticks
   key_text layout Prefix = shown_prefix p
   key_text layout Message = shown_message p

@@ -4,7 +4,7 @@ use Rattle.indicatif_bar.specs.declared.state.Ask.{Ask}
 use Rattle.indicatif_bar.specs.declared.state.Ask.TheVariants.{No, Unforced, Forced}
 use Rattle.indicatif_bar.specs.declared.measures.Rate.{Rate}
 use Rattle.indicatif_bar.specs.declared.measures.Fraction.{Fraction}
-use Rattle.indicatif_bar.specs.Measures.{greatest_u64, fraction_of, first_marks, recorded, recorded_all, restarted, rate_since, time_for, steps_a_second}
+use Rattle.indicatif_bar.specs.Measures.{greatest_u64, fraction_of, first_samples, recorded, recorded_all, restarted, rate_since, time_for, steps_a_second}
 use Rattle.indicatif_bar.specs.Progress.{eta, per_sec, elapsed, duration, shown_message}
 use Rattle.indicatif_bar.specs.Finishes.{AndLeave, Abandon, WithMessage}
 use Rattle.indicatif_bar.specs.Trackers.{writes_nothing}
@@ -50,8 +50,8 @@ abbrev pub Rates : Type 0
 Rates =
     let one : Rate = record { steps = 1; nanos = 1000000000 } in
     let none : Rate = record { steps = 0; nanos = 1000000000 } in
-    (rate_since (recorded (restarted (recorded (first_marks 0) 2 one_second) one_second) 3 (2 * one_second)) (2 * one_second) ≡ one)
-    × (rate_since (recorded_all (first_marks 0) ((5, one_second) ∷ (2, 2 * one_second) ∷ [])) (3 * one_second) ≡ none)
+    (rate_since (recorded (restarted (recorded (first_samples 0) 2 one_second) one_second) 3 (2 * one_second)) (2 * one_second) ≡ one)
+    × (rate_since (recorded_all (first_samples 0) ((5, one_second) ∷ (2, 2 * one_second) ∷ [])) (3 * one_second) ≡ none)
 
 -- ---- commands of a bar, whatever its style
 

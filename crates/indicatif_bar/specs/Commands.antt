@@ -99,7 +99,7 @@ module _ {K : Type 0} (m : Tracking K) where
   -- the position is recorded with the rate, the trackers tick, an unforced draw is asked for
   abbrev pub update : BarRecord K → ℕ → BarRecord K × Ask
   update bar now =
-      let progress = record bar.progress { marks = recorded bar.progress.marks bar.progress.position now } in
+      let progress = record bar.progress { samples = recorded bar.progress.samples bar.progress.position now } in
       asks_draw (with_trackers (λ k. m.ticked k progress now) (with_progress bar progress))
 
   -- a tick, whether a ticker is installed or not

@@ -16,7 +16,7 @@ use Rattle.indicatif_bar.specs.StyleLaws.{IsPlainText, AreTaken}
 -- ---- a line with a wide bar
 
 module _ {K : Type 0} (m : Tracking K) (style : BarStyle K) (p : Progress) (now : ℕ) where
-  -- the text of parts of a template, with a mark for each wide key
+  -- the text of parts of a template, with a filler for each wide key
   abbrev pub parts_text : List TemplatePart → List ℕ
   parts_text parts = flat_map (part_text m style p now) parts
 

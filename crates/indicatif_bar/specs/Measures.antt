@@ -2,8 +2,8 @@
 use Rattle.std.specs.Prelude.{ℕ, zero, suc, ◌-◌, ◌*◌, ◌/◌, ◌^◌, ◌&&◌, ◌==◌, nat_lt, min, List, Option, Some, None, if◌then◌else◌, fold}
 use Rattle.indicatif_bar.specs.declared.measures.Fraction.{Fraction}
 use Rattle.indicatif_bar.specs.declared.measures.Rate.{Rate}
-use Rattle.indicatif_bar.specs.declared.measures.Mark.{Mark}
-use Rattle.indicatif_bar.specs.declared.measures.Marks.{Marks}
+use Rattle.indicatif_bar.specs.declared.measures.Sample.{Sample}
+use Rattle.indicatif_bar.specs.declared.measures.Samples.{Samples}
 
 -- the greatest number of 64 bits
 abbrev pub greatest_u64 : ℕ
@@ -15,34 +15,34 @@ fraction_of position None = record { num = 0; den = 1 }
 fraction_of position (Some zero) = record { num = 1; den = 1 }
 fraction_of position (Some (suc n)) = record { num = min position (suc n); den = suc n }
 
--- the marks as a bar is made: no steps at its making
-abbrev pub first_marks : ℕ → Marks
-first_marks making = let mark : Mark = record { steps = 0; moment = making } in record { base = mark; last = mark }
+-- the samples as a bar is made: no steps at its making
+abbrev pub first_samples : ℕ → Samples
+first_samples making = let sample : Sample = record { steps = 0; moment = making } in record { base = sample; last = sample }
 
--- the marks after a record: steps that went back begin anew, and only later steps at a later moment count
-abbrev pub recorded : Marks → ℕ → ℕ → Marks
-recorded marks steps now =
-    let mark : Mark = record { steps = steps; moment = now } in
-    if nat_lt steps marks.last.steps then record { base = mark; last = mark }
-    else if nat_lt marks.last.steps steps && nat_lt marks.last.moment now then record marks { last = mark }
-    else marks
+-- the samples after a record: steps that went back begin anew, and only later steps at a later moment count
+abbrev pub recorded : Samples → ℕ → ℕ → Samples
+recorded samples steps now =
+    let sample : Sample = record { steps = steps; moment = now } in
+    if nat_lt steps samples.last.steps then record { base = sample; last = sample }
+    else if nat_lt samples.last.steps steps && nat_lt samples.last.moment now then record samples { last = sample }
+    else samples
 
--- the marks after a list of records, each of steps and a moment
-abbrev pub recorded_all : Marks → List (ℕ × ℕ) → Marks
-recorded_all = fold (λ marks (steps, now). recorded marks steps now)
+-- the samples after a list of records, each of steps and a moment
+abbrev pub recorded_all : Samples → List (ℕ × ℕ) → Samples
+recorded_all = fold (λ samples (steps, now). recorded samples steps now)
 
--- the marks after a reset: the rate is counted from here
-abbrev pub restarted : Marks → ℕ → Marks
-restarted marks now = let mark : Mark = record { steps = marks.last.steps; moment = now } in record { base = mark; last = mark }
+-- the samples after a reset: the rate is counted from here
+abbrev pub restarted : Samples → ℕ → Samples
+restarted samples now = let sample : Sample = record { steps = samples.last.steps; moment = now } in record { base = sample; last = sample }
 
 -- steps over a time, and zero for no time
 abbrev pub rate_over : ℕ → ℕ → Rate
 rate_over steps zero = record { steps = 0; nanos = 1 }
 rate_over steps (suc n) = record { steps = steps; nanos = suc n }
 
--- the rate between the marks, up to a moment
-abbrev pub rate_since : Marks → ℕ → Rate
-rate_since marks now = rate_over (marks.last.steps - marks.base.steps) (now - marks.base.moment)
+-- the rate between the samples, up to a moment
+abbrev pub rate_since : Samples → ℕ → Rate
+rate_since samples now = rate_over (samples.last.steps - samples.base.steps) (now - samples.base.moment)
 
 -- the whole steps of a second, at most `most`
 abbrev pub steps_a_second : Rate → ℕ

@@ -2,10 +2,10 @@
 use Rattle.std.specs.Prelude.{ℕ, ◌+◌, ◌-◌, Bool, true, false, min, List, [], Option, Some, None, if◌then◌else◌, unwrap_or}
 use Rattle.indicatif_bar.specs.declared.measures.Fraction.{Fraction}
 use Rattle.indicatif_bar.specs.declared.measures.Rate.{Rate}
-use Rattle.indicatif_bar.specs.declared.measures.Marks.{Marks}
+use Rattle.indicatif_bar.specs.declared.measures.Samples.{Samples}
 use Rattle.indicatif_bar.specs.declared.progress.Status.{Status}
 use Rattle.indicatif_bar.specs.declared.progress.Status.TheVariants.{InProgress, DoneVisible, DoneHidden}
-use Rattle.indicatif_bar.specs.Measures.{fraction_of, first_marks, restarted, rate_over, rate_since, time_for, greatest_u64}
+use Rattle.indicatif_bar.specs.Measures.{fraction_of, first_samples, restarted, rate_over, rate_since, time_for, greatest_u64}
 use Rattle.indicatif_bar.specs.Tabs.{expanded}
 
 pub record Progress : Type 0 where
@@ -16,7 +16,7 @@ pub record Progress : Type 0 where
   pub status : Status
   -- the duration that was stored as the bar finished
   pub took : ℕ
-  pub marks : Marks
+  pub samples : Samples
   -- as they were set; a tab is shown as `tab` spaces
   pub message : List ℕ
   pub prefix : List ℕ
@@ -25,7 +25,7 @@ pub record Progress : Type 0 where
 -- nothing reached yet, of a length or of none, from a moment on
 abbrev pub new_progress : Option ℕ → ℕ → Progress
 new_progress len now =
-    record { position = 0; len = len; ticks = 0; start = now; status = InProgress; took = 0; marks = first_marks now; message = []; prefix = []; tab = 8 }
+    record { position = 0; len = len; ticks = 0; start = now; status = InProgress; took = 0; samples = first_samples now; message = []; prefix = []; tab = 8 }
 
 abbrev pub is_done : Status → Bool
 is_done InProgress = false
@@ -62,7 +62,7 @@ elapsed p now = now - p.start
 
 -- the rate since the last reset; of a finished bar, its position over the time since the start
 abbrev pub per_sec : Progress → ℕ → Rate
-per_sec p now = if is_finished p then rate_over p.position (elapsed p now) else rate_since p.marks now
+per_sec p now = if is_finished p then rate_over p.position (elapsed p now) else rate_since p.samples now
 
 -- the time to the end at the rate, and 0 if finished or without a length
 abbrev pub eta : Progress → ℕ → ℕ
@@ -80,7 +80,7 @@ at_end p = record p { position = unwrap_or p.len p.position }
 
 -- the rate is counted from now
 abbrev pub rate_reset : Progress → ℕ → Progress
-rate_reset p now = record p { marks = restarted p.marks now }
+rate_reset p now = record p { samples = restarted p.samples now }
 
 -- all is counted from now, from position 0
 abbrev pub progress_reset : Progress → ℕ → Progress

@@ -6,7 +6,7 @@ use Rattle.indicatif_text.specs.Template.{TemplatePart, LiteralText, LineBreak, 
 use Rattle.indicatif_text.specs.Template.{plain_layout}
 use Rattle.indicatif_text.specs.ColumnCases.{escape}
 use Rattle.indicatif_text.specs.StyleWords.{style_of}
-use Rattle.indicatif_bar.specs.Measures.{greatest_u64, first_marks, recorded}
+use Rattle.indicatif_bar.specs.Measures.{greatest_u64, first_samples, recorded}
 use Rattle.indicatif_bar.specs.Progress.{Progress, new_progress}
 use Rattle.indicatif_bar.specs.Trackers.{Tracking, telling}
 use Rattle.indicatif_bar.specs.BarStyles.{BarStyle, lines, tick_string, final_tick_string, is_empty_style}
@@ -62,7 +62,7 @@ abbrev pub PercentCases : Type 0
 PercentCases = (shows (one (key (codes "percent"))) (reached 1 (Some 8)) 80 ≡ codes "12" ∷ []) × (shows (one (key (codes "percent"))) (reached 3 (Some 8)) 80 ≡ codes "38" ∷ [])
     × (shows (one (key (codes "percent_precise"))) (reached 1 (Some 8)) 80 ≡ codes "12.500" ∷ [])
 
--- messages: wide, truncated, with marks of their own
+-- messages: wide, truncated, with fillers of their own
 abbrev pub MessageCases : Type 0
 MessageCases = (shows (one (key (codes "wide_msg"))) (saying (encode_utf8_all (codes "abcdefghij" ++ (0x308 ∷ []) ++ codes "klmnopqrst"))) 10 ≡ encode_utf8_all (codes "abcdefghij" ++ 0x308 ∷ []) ∷ [])
     × (shows (one (KeyText (codes "msg") (record plain_layout { width = Some 5; align = Center; truncate = true }))) (saying (codes "abcdefgh")) 80 ≡ codes "bcdef" ∷ [])
@@ -87,7 +87,7 @@ TickCases = let strings = characters_of (codes "12F") in (tick_string strings 5 
 
 -- a rate, whose width is also the number of its decimals
 abbrev pub RateCases : Type 0
-RateCases = let p = record (reached 3 None) { marks = recorded (first_marks 0) 3 2000000000 } in
+RateCases = let p = record (reached 3 None) { samples = recorded (first_samples 0) 3 2000000000 } in
     (lines texts (one (key_wide (codes "per_sec") 8)) p 2000000000 80 ≡ codes "1.5/s   " ∷ [])
     × (lines texts (one (key_wide (codes "per_sec") 0)) p 2000000000 80 ≡ codes "2/s" ∷ [])
 

@@ -1,6 +1,6 @@
 //! How far a bar is and how fast, as quotients of whole numbers.
 ghost use Rattle.std.specs.Prelude.{◌≡◌, ◌<◌};
-ghost use Rattle.indicatif_bar.specs.Measures.{fraction_of, first_marks, recorded, restarted, rate_over, rate_since, steps_a_second, time_for};
+ghost use Rattle.indicatif_bar.specs.Measures.{fraction_of, first_samples, recorded, restarted, rate_over, rate_since, steps_a_second, time_for};
 
 use indicatif_text::columns::Moment;
 
@@ -80,68 +80,68 @@ impl Rate {
 
 /// So many steps were made by a moment.
 #[derive(Clone, Copy, Debug, Drop)]
-pub struct Mark {
+pub struct Sample {
     steps: u64,
     moment: Moment,
 }
 
-/// The two marks that a rate is read from: where its count began, and where it stands.
+/// The two samples that a rate is read from: where its count began, and where it stands.
 #[derive(Clone, Copy, Debug, Drop)]
-pub struct Marks {
-    base: Mark,
-    last: Mark,
+pub struct Samples {
+    base: Sample,
+    last: Sample,
 }
 
-impl Marks {
+impl Samples {
     /// No steps at this moment.
-    pub(crate) fn new(now: Moment) -> Marks
-        ensures { result ≡ first_marks now }
+    pub(crate) fn new(now: Moment) -> Samples
+        ensures { result ≡ first_samples now }
     {
-        Marks::at(Mark {
+        Samples::at(Sample {
             steps: 0,
             moment: now,
         })
     }
 
-    /// A count that begins at this mark.
-    fn at(mark: Mark) -> Marks
-        ensures { result ≡ record { base = mark; last = mark } }
+    /// A count that begins at this sample.
+    fn at(sample: Sample) -> Samples
+        ensures { result ≡ record { base = sample; last = sample } }
     {
-        Marks {
-            base: mark,
-            last: mark,
+        Samples {
+            base: sample,
+            last: sample,
         }
     }
 
     /// So many steps are made by this moment. Steps that went back begin the count anew; else only more steps at a later
     /// moment count.
-    pub(crate) fn record(self, steps: u64, now: Moment) -> Marks
+    pub(crate) fn record(self, steps: u64, now: Moment) -> Samples
         ensures { result ≡ recorded self steps now }
     {
-        let mark = Mark { steps, moment: now };
+        let sample = Sample { steps, moment: now };
         if steps < self.last.steps {
-            return Marks::at(mark);
+            return Samples::at(sample);
         }
         if self.last.steps < steps && self.last.moment < now {
-            return Marks {
+            return Samples {
                 base: self.base,
-                last: mark,
+                last: sample,
             };
         }
         self
     }
 
     /// The count begins anew at this moment.
-    pub(crate) fn restart(self, now: Moment) -> Marks
+    pub(crate) fn restart(self, now: Moment) -> Samples
         ensures { result ≡ restarted self now }
     {
-        Marks::at(Mark {
+        Samples::at(Sample {
             steps: self.last.steps,
             moment: now,
         })
     }
 
-    /// The rate between the marks, up to this moment.
+    /// The rate between the samples, up to this moment.
     pub(crate) fn rate(self, now: Moment) -> Rate
         ensures { result ≡ rate_since self now }
     {

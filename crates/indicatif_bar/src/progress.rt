@@ -8,7 +8,7 @@ ghost use Rattle.indicatif_bar.specs.Inside.Widths.{IsWidened};
 ghost use Rattle.indicatif_bar.specs.declared.progress.Status.TheVariants.{DoneVisible};
 
 use crate::finish::ProgressFinish;
-use crate::measures::Marks;
+use crate::measures::Samples;
 pub use crate::measures::{Fraction, Rate};
 use crate::tabbed_text::TabbedText;
 use indicatif_text::columns::{Moment, Refusal};
@@ -46,7 +46,7 @@ pub struct ProgressState {
     start: Moment,
     status: Status,
     took: u64,
-    marks: Marks,
+    samples: Samples,
     message: TabbedText,
     prefix: TabbedText,
     /// Room for the next text.
@@ -68,7 +68,7 @@ impl Model for ProgressState {
       start = p.start;
       status = p.status;
       took = p.took;
-      marks = p.marks;
+      samples = p.samples;
       message = p.message.text;
       prefix = p.prefix.text;
       tab = p.tab;
@@ -90,7 +90,7 @@ impl ProgressState {
             start: now,
             status: Status::InProgress,
             took: 0,
-            marks: Marks::new(now),
+            samples: Samples::new(now),
             message: TabbedText::new(alloc, 8),
             prefix: TabbedText::new(alloc, 8),
             spare: TabbedText::new(alloc, 8),
@@ -135,7 +135,7 @@ impl ProgressState {
         if self.is_finished() {
             return Rate::over(self.position, self.elapsed(now));
         }
-        self.marks.rate(now)
+        self.samples.rate(now)
     }
 
     /// The nanoseconds to the end at the rate of this moment, rounded down, at most 2^64 - 1. 0 where the bar is finished,
@@ -227,7 +227,7 @@ impl ProgressState {
             start: self.start,
             status: self.status,
             took: self.took,
-            marks: self.marks,
+            samples: self.samples,
             message: self.message.try_clone(self.alloc)?,
             prefix: self.prefix.try_clone(self.alloc)?,
             spare: TabbedText::new(self.alloc, self.tab),
@@ -272,16 +272,16 @@ impl ProgressState {
 
     /// The position is recorded with the rate.
     pub(crate) fn record_position(&mut self, now: Moment)
-        ensures { self.new ≡ record self.old { marks = recorded self.old.marks self.old.position now } }
+        ensures { self.new ≡ record self.old { samples = recorded self.old.samples self.old.position now } }
     {
-        self.marks = self.marks.record(self.position, now);
+        self.samples = self.samples.record(self.position, now);
     }
 
     /// The rate is counted from this moment on.
     pub(crate) fn reset_rate(&mut self, now: Moment)
         ensures { self.new ≡ rate_reset self.old now }
     {
-        self.marks = self.marks.restart(now);
+        self.samples = self.samples.restart(now);
     }
 
     /// The time is counted from this moment on.
@@ -295,7 +295,7 @@ impl ProgressState {
     pub(crate) fn reset(&mut self, now: Moment)
         ensures { self.new ≡ progress_reset self.old now }
     {
-        self.marks = self.marks.restart(now);
+        self.samples = self.samples.restart(now);
         self.start = now;
         self.position = 0;
         self.status = Status::InProgress;

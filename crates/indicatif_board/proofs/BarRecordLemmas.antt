@@ -1,4 +1,4 @@
--- Bars' records by their numbers, where a bar is told something, marked, taken in or taken out, and where dropped bars leave the head.
+-- Bars' records by their numbers, where a bar is told something, without an owner, taken in or taken out, and where dropped bars leave the head.
 use Rattle.std.proofs.Common.{set, get_or, subst, Option, Some, None, Result, Err, inl, inr, ◌≡◌, ℕ, zero, suc, ◌+◌, ◌<◌, ◌≤◌, true, false, not, List, [], ◌∷◌, map, drop, length, refl, sym, ◌∙◌, ap, arith, if◌then◌else◌}
 use Rattle.std.specs.Prelude.{◌==◌, ◌≢◌, IfErr, IsTrue}
 use Rattle.std.specs.List.{prefix_len, position_or_len, insert, remove}

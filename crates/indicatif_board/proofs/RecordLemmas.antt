@@ -32,26 +32,26 @@ steps_more before after e target call now answer items on asked at said =
     ap (map step_of) items ∙ map-append step_of before (e ∷ []) ∙ ap (λ x. map step_of before ++ x ∷ []) same
 
 -- a call more
-pub run_grows : {K T : Type 0} (m : Tracking K) (view : T → TermView) (mark : ℕ) (limiter : Option Limiter) (old new : Board K T) (steps now_steps : List (BoardStep K))
+pub run_grows : {K T : Type 0} (m : Tracking K) (view : T → TermView) (board_id : ℕ) (limiter : Option Limiter) (old new : Board K T) (steps now_steps : List (BoardStep K))
     (call : Call (BarRecord K) (Command K)) (now : ℕ) (answer : Answer) →
-    IsOneRun m (record { mark = mark; limiter = limiter; board = old; steps = steps }) → LeadsBy m view old new call now answer →
+    IsOneRun m (record { board_id = board_id; limiter = limiter; board = old; steps = steps }) → LeadsBy m view old new call now answer →
     now_steps ≡ steps ++ record { target = target_of (known view old); call = call; now = now; answer = answer } ∷ [] →
-    IsOneRun m (record { mark = mark; limiter = limiter; board = new; steps = now_steps })
-run_grows m view mark limiter old new steps now_steps call now answer run led grown =
-    let machine = board (board_bars m) mark in
-    let made = led mark run.0 run.2 in (
+    IsOneRun m (record { board_id = board_id; limiter = limiter; board = new; steps = now_steps })
+run_grows m view board_id limiter old new steps now_steps call now answer run led grown =
+    let machine = board (board_bars m) board_id in
+    let made = led board_id run.0 run.2 in (
       made.0,
       subst (λ es. Replays machine (opening_board limiter) es made.0) (sym grown) (replays_more machine (opening_board limiter) run.0 made.0 steps _ run.1 made.2.leads),
       made.1,
     )
 
 -- the same of what it adds
-pub grown : {K T : Type 0} (m : Tracking K) (view : T → TermView) (mark : ℕ) (limiter : Option Limiter) (old new : Board K T) (steps now_steps : List (BoardStep K))
+pub grown : {K T : Type 0} (m : Tracking K) (view : T → TermView) (board_id : ℕ) (limiter : Option Limiter) (old new : Board K T) (steps now_steps : List (BoardStep K))
     (call : Call (BarRecord K) (Command K)) (now : ℕ) (answer : Answer) →
     LeadsBy m view old new call now answer →
     now_steps ≡ steps ++ record { target = target_of (known view old); call = call; now = now; answer = answer } ∷ [] →
-    AddsCall m view (record { mark = mark; limiter = limiter; board = old; steps = steps }) call now answer (record { mark = mark; limiter = limiter; board = new; steps = now_steps })
-grown m view mark limiter old new steps now_steps call now answer led more = record { mark = refl; limiter = refl; steps = more; leads = led }
+    AddsCall m view (record { board_id = board_id; limiter = limiter; board = old; steps = steps }) call now answer (record { board_id = board_id; limiter = limiter; board = new; steps = now_steps })
+grown m view board_id limiter old new steps now_steps call now answer led more = record { board_id = refl; limiter = refl; steps = more; leads = led }
 
 -- the bar of a removal
 pub removed_is_back : {K : Type 0} (r : Result (Option (BarRecord K)) Refusal) (id : Id) (other : BarRecord K) (members : List (Member (BarRecord K))) →

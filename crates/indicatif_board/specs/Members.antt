@@ -48,9 +48,9 @@ module _ {B : Type 0} where
   changed_at number f [] = []
   changed_at number f (m ∷ ms) = if m.number == number then f m ∷ ms else m ∷ changed_at number f ms
 
-  -- the bar marked: its owner is gone
-  abbrev pub marked : ℕ → List (Member B) → List (Member B)
-  marked number members = changed_at number (λ m. record m { dropped = true }) members
+  -- the bar ownerless: its owner is gone
+  abbrev pub ownerless : ℕ → List (Member B) → List (Member B)
+  ownerless number members = changed_at number (λ m. record m { dropped = true }) members
 
   -- ---- the dropped members at the head
 

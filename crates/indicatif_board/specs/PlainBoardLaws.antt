@@ -38,7 +38,7 @@ module _ {K : Type 0} where
 -- what comes after it is plain too
 abbrev pub BoardRunsArePlain : {K : Type 0} → Tracking K → Type 0
 BoardRunsArePlain {K} m = ArePlainTrackers m →
-    (mark : ℕ) (calls : List (Call (BarRecord K) (Command K) × ℕ)) (answers : List Answer) (old : Option TermView)
+    (board_id : ℕ) (calls : List (Call (BarRecord K) (Command K) × ℕ)) (answers : List Answer) (old : Option TermView)
     (s : BoardState (BarRecord K)) (new : Option TermView) (next : BoardState (BarRecord K))
-    (run : Runs (board (board_bars m) mark) calls answers old s new next) →
-    IsPlainBoard s → All (λ call. IsPlainCall call.0) calls → AllPlain (board (board_bars m) mark) calls answers old s new next run × IsPlainBoard next
+    (run : Runs (board (board_bars m) board_id) calls answers old s new next) →
+    IsPlainBoard s → All (λ call. IsPlainCall call.0) calls → AllPlain (board (board_bars m) board_id) calls answers old s new next run × IsPlainBoard next

@@ -43,9 +43,9 @@ BoardStep K = CallStep (Call (BarRecord K) (Command K)) Answer
 abbrev pub step_of : {K : Type 0} → Entry K → BoardStep K
 step_of e = record { target = target_by e.size; call = call_of e.call; now = e.now; answer = answer_of e.answer }
 
--- a board, the mark and the limiter that it began with, and the steps that it has made since
+-- a board, the id and the limiter that it began with, and the steps that it has made since
 pub record Record (K T : Type 0) : Type 0 where
-  pub mark : ℕ
+  pub board_id : ℕ
   pub limiter : Option Limiter
   pub board : Board K T
   pub steps : List (BoardStep K)
@@ -54,11 +54,11 @@ module _ {K T : Type 0} where
   -- the steps are those of one run from the opening on, and the board is where that run ends
   abbrev pub IsOneRun : Tracking K → Record K T → Type 0
   IsOneRun m r =
-      (s : BoardState (BarRecord K)) × Replays (board (board_bars m) r.mark) (opening_board r.limiter) r.steps s × IsIn r.mark r.board s
+      (s : BoardState (BarRecord K)) × Replays (board (board_bars m) r.board_id) (opening_board r.limiter) r.steps s × IsIn r.board_id r.board s
 
   -- the board made this call, with this answer, and exactly that was added
   pub record AddsCall (m : Tracking K) (view : T → TermView) (old : Record K T) (call : Call (BarRecord K) (Command K)) (now : ℕ) (answer : Answer) (new : Record K T) : Type 0 where
-    pub mark : new.mark ≡ old.mark
+    pub board_id : new.board_id ≡ old.board_id
     pub limiter : new.limiter ≡ old.limiter
     pub steps : new.steps ≡ old.steps ++ record { target = target_of (known view old.board); call = call; now = now; answer = answer } ∷ []
     pub leads : LeadsBy m view old.board new.board call now answer

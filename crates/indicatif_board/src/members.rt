@@ -81,7 +81,7 @@ impl<K: Tracks> Seated<K> {
         self.member.bar.apply(command, now)
     }
 
-    /// Its bar's owner is gone, as `BarState::dropped`; it isn't marked yet.
+    /// Its bar's owner is gone, as `BarState::dropped`; the member itself doesn't say so yet.
     pub fn lose_owner(&mut self, now: Moment) -> Result<Ask, Refusal>
         ensures done { IfOk result (λ ask. (self.new.bar, ask) ≡ after_drop self.old.bar now) }
         ensures unchanged { OnErr result (self.new.bar ≡ self.old.bar) }
@@ -93,7 +93,7 @@ impl<K: Tracks> Seated<K> {
     }
 
     /// Its owner is gone.
-    pub fn mark(&mut self)
+    pub fn set_ownerless(&mut self)
         ensures { self.new ≡ record self.old { dropped = true } }
     {
         self.member.dropped = true;

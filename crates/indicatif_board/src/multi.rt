@@ -41,7 +41,7 @@ use std::alloc::Global;
 /// the bars. Nobody else writes to the terminal while the board lives, and the bars' lines hold printable characters and colour
 /// sequences alone.
 ///
-/// A call that names a bar is refused with `ForeignBar` where the bar has another board's mark, and with `NotMember` where it was
+/// A call that names a bar is refused with `ForeignBar` where the bar has another board's id, and with `NotMember` where it was
 /// removed, dropped or never given; nothing has changed then. (`remove` answers `None` in place of `NotMember`, and `slot` in place
 /// of both.) Else a call that draws goes the steps that `LoneBar` lists, with the
 /// stored lines of all bars in their order in the place of its own; of the bars only the one that is named is laid out anew. As
@@ -54,26 +54,26 @@ use std::alloc::Global;
 /// ```
 #[derive(Drop)]
 pub struct Board<K, T: Drop> {
-    mark: u64,
+    board_id: u64,
     shown: ShownBars<K>,
     stage: Stage<T>,
 }
 
 impl<K: Tracks, T: TermLike + Drop> Board<K, T> {
     ghost use Rattle.indicatif_board.specs.Calls.{entrant_of, given, removal, answer_of, place_at, call_of, timed, IsForeign, NamesForeign, AreTurnedAway, acts_on};
-    ghost use Rattle.indicatif_board.specs.Multi.{IsIn, IsNowhere, IsAbsent, EntersAbsent, mark_of, record_at, RecordsStay, OtherRecordsStay, RecordObeys, RecordsTake, SlotsTake, SlotsGive};
+    ghost use Rattle.indicatif_board.specs.Multi.{IsIn, IsNowhere, IsAbsent, EntersAbsent, board_id_of, record_at, RecordsStay, OtherRecordsStay, RecordObeys, RecordsTake, SlotsTake, SlotsGive};
     ghost use Rattle.indicatif_board.specs.Multi.{SlotsLeft, SlotsChange, RecordsChange, StaysOrComes, LeadsBy, Suspends, known, moves_of, slots_of, terminal_of};
 
-    /// A board without bars on this target, of this mark. It takes no memory and writes nothing.
-    pub fn new(alloc: Global, target: ProgressDrawTarget<T>, mark: u64) -> Self
-        ensures state { IsIn mark result (opening_board (limiter_of target)) }
-        ensures mark { mark_of result ≡ mark }
+    /// A board without bars on this target, of this id. It takes no memory and writes nothing.
+    pub fn new(alloc: Global, target: ProgressDrawTarget<T>, board_id: u64) -> Self
+        ensures state { IsIn board_id result (opening_board (limiter_of target)) }
+        ensures board_id { board_id_of result ≡ board_id }
         ensures records { (number : ℕ) → record_at number result ≡ None }
         ensures terminal { terminal_of result ≡ term_of target }
         ensures moves { IfSome (moves_of result) (λ moves. moves ≡ false) }
     {
         Board {
-            mark,
+            board_id,
             shown: ShownBars::new(alloc),
             stage: Stage::new(alloc, target),
         }
@@ -97,12 +97,12 @@ impl<K: Tracks, T: TermLike + Drop> Board<K, T> {
     ///
     /// Refused: `ForeignBar` or `NotMember`, as `Board` says.
     pub fn bar(&self, id: BarId) -> Result<&BarState<K>, Refusal>
-        ensures foreign { id.mark ≢ mark_of self.now → result ≡ Err Refusal.ForeignBar }
-        ensures turned { (mark : ℕ) (s : BoardState (BarRecord K)) → IsIn mark self.now s →
-            MatchResult result (λ bar. turned_away mark (id_of id) s ≡ None) (λ e. turned_away mark (id_of id) s ≡ Some e) }
-        ensures bar { (mark : ℕ) (s : BoardState (BarRecord K)) (other : BarRecord K) → IsIn mark self.now s →
+        ensures foreign { id.board ≢ board_id_of self.now → result ≡ Err Refusal.ForeignBar }
+        ensures turned { (board_id : ℕ) (s : BoardState (BarRecord K)) → IsIn board_id self.now s →
+            MatchResult result (λ bar. turned_away board_id (id_of id) s ≡ None) (λ e. turned_away board_id (id_of id) s ≡ Some e) }
+        ensures bar { (board_id : ℕ) (s : BoardState (BarRecord K)) (other : BarRecord K) → IsIn board_id self.now s →
             IfOk result (λ bar. bar.now ≡ said_of other (λ b. b) id.number s.members) }
-        ensures record { id.mark ≡ mark_of self.now →
+        ensures record { id.board ≡ board_id_of self.now →
             MatchResult result (λ bar. record_at id.number self.now ≡ Some bar.now) (λ e. (e ≡ Refusal.NotMember) × (record_at id.number self.now ≡ None)) }
     {
         let at = self.find(id)?;
@@ -112,21 +112,21 @@ impl<K: Tracks, T: TermLike + Drop> Board<K, T> {
     /// The bars' numbers in their order, from the top. A bar that was dropped stands there until it leaves. The board is in some
     /// state: of that, and of each other that it may be in, hold the claims of its calls.
     pub fn order(&self) -> &[u64]
-        ensures some { (s : BoardState (BarRecord K)) × IsIn (mark_of self.now) self.now s }
-        ensures order { (mark : ℕ) (s : BoardState (BarRecord K)) → IsIn mark self.now s → result.now ≡ order_of s.members }
+        ensures some { (s : BoardState (BarRecord K)) × IsIn (board_id_of self.now) self.now s }
+        ensures order { (board_id : ℕ) (s : BoardState (BarRecord K)) → IsIn board_id self.now s → result.now ≡ order_of s.members }
         ensures slots { result.now ≡ (slots_of self.now).order }
         ensures seated { IsSeated (slots_of self.now) }
     {
         self.shown.table.order()
     }
 
-    /// A bar's slot; `None` where it isn't in the order, or has another board's mark. No two bars in the order have the same, and
+    /// A bar's slot; `None` where it isn't in the order, or has another board's id. No two bars in the order have the same, and
     /// a bar keeps its own as long as it stands there (law `each_bar_keeps_its_slot`). A new bar gets the one that was freed last, or
     /// the first that was never used.
     pub fn slot(&self, id: BarId) -> Option<usize>
-        ensures { result ≡ (if id.mark == mark_of self.now then slot_of id.number (slots_of self.now) else None) }
+        ensures { result ≡ (if id.board == board_id_of self.now then slot_of id.number (slots_of self.now) else None) }
     {
-        if id.mark != self.mark {
+        if id.board != self.board_id {
             return None;
         }
         self.shown.table.slot(id.number)
@@ -136,14 +136,14 @@ impl<K: Tracks, T: TermLike + Drop> Board<K, T> {
     /// bars begin anew, with their next draw.
     pub fn set_draw_target(&mut self, target: ProgressDrawTarget<T>) -> ProgressDrawTarget<T>
         ensures old { term_of result ≡ terminal_of self.old }
-        ensures old_limiter { (mark : ℕ) (s : BoardState (BarRecord K)) → IsIn mark self.old s → IfSome result (λ t. t.1 ≡ s.limiter) }
+        ensures old_limiter { (board_id : ℕ) (s : BoardState (BarRecord K)) → IsIn board_id self.old s → IfSome result (λ t. t.1 ≡ s.limiter) }
         ensures new { terminal_of self.new ≡ term_of target }
         ensures moves { IfSome (moves_of self.new) (λ moves. moves ≡ false) }
-        ensures mark { mark_of self.new ≡ mark_of self.old }
+        ensures board_id { board_id_of self.new ≡ board_id_of self.old }
         ensures slots { slots_of self.new ≡ slots_of self.old }
         ensures records { RecordsStay self.old self.new }
-        ensures state { (mark : ℕ) (s : BoardState (BarRecord K)) → IsIn mark self.old s →
-            IsIn mark self.new (record s { limiter = limiter_of target; lists = opening_lists }) }
+        ensures state { (board_id : ℕ) (s : BoardState (BarRecord K)) → IsIn board_id self.old s →
+            IsIn board_id self.new (record s { limiter = limiter_of target; lists = opening_lists }) }
     {
         let alloc = self.shown.alloc;
         self.stage.set_draw_target(alloc, target)
@@ -159,10 +159,10 @@ impl<K: Tracks, T: TermLike + Drop> Board<K, T> {
     pub fn set_move_cursor(&mut self, on: bool)
         ensures terminal { terminal_of self.new ≡ terminal_of self.old }
         ensures moves { IfSome (moves_of self.new) (λ moves. moves ≡ on) }
-        ensures mark { mark_of self.new ≡ mark_of self.old }
+        ensures board_id { board_id_of self.new ≡ board_id_of self.old }
         ensures slots { slots_of self.new ≡ slots_of self.old }
         ensures records { RecordsStay self.old self.new }
-        ensures state { (mark : ℕ) (s : BoardState (BarRecord K)) → IsIn mark self.old s → IsIn mark self.new s }
+        ensures state { (board_id : ℕ) (s : BoardState (BarRecord K)) → IsIn board_id self.old s → IsIn board_id self.new s }
     {
         self.stage.set_move_cursor(on);
     }
@@ -170,7 +170,7 @@ impl<K: Tracks, T: TermLike + Drop> Board<K, T> {
     /// Whether bars stand at the top of what is taken back, or at its bottom, from the next draw on.
     pub fn set_alignment(&mut self, alignment: MultiProgressAlignment)
         ensures terminal { terminal_of self.new ≡ terminal_of self.old }
-        ensures mark { mark_of self.new ≡ mark_of self.old }
+        ensures board_id { board_id_of self.new ≡ board_id_of self.old }
         ensures leads { (now : ℕ) → LeadsBy K.means T.view self.old self.new (Align (is_bottom alignment)) now Done }
         ensures slots { slots_of self.new ≡ slots_of self.old }
         ensures records { RecordsStay self.old self.new }
@@ -184,10 +184,10 @@ impl<K: Tracks, T: TermLike + Drop> Board<K, T> {
     /// also where numbers ran out past 2^64 - 1.
     pub fn add(&mut self, candidate: Candidate<K>) -> Result<BarId, Turned<K>>
         ensures terminal { terminal_of self.new ≡ terminal_of self.old }
-        ensures mark { mark_of self.new ≡ mark_of self.old }
+        ensures board_id { board_id_of self.new ≡ board_id_of self.old }
         ensures turned { IfErr result (λ t. t.candidate ≡ candidate) }
         ensures leads { (now : ℕ) → LeadsBy K.means T.view self.old self.new (Insert End (entrant_of candidate)) now (given result) }
-        ensures foreign { NamesForeign (mark_of self.old) (Insert End (entrant_of candidate)) → (given result ≡ Refused Refusal.ForeignBar) × (self.new ≡ self.old) }
+        ensures foreign { NamesForeign (board_id_of self.old) (Insert End (entrant_of candidate)) → (given result ≡ Refused Refusal.ForeignBar) × (self.new ≡ self.old) }
         ensures not_member { EntersAbsent self.old (entrant_of candidate) → (given result ≡ Refused Refusal.NotMember) × (self.new ≡ self.old) }
         ensures records { RecordsTake (entrant_of candidate) (given result) self.old self.new }
         ensures slot { SlotsTake (entrant_of candidate) (given result) self.old self.new }
@@ -202,10 +202,10 @@ impl<K: Tracks, T: TermLike + Drop> Board<K, T> {
     /// also where numbers ran out past 2^64 - 1.
     pub fn insert(&mut self, index: usize, candidate: Candidate<K>) -> Result<BarId, Turned<K>>
         ensures terminal { terminal_of self.new ≡ terminal_of self.old }
-        ensures mark { mark_of self.new ≡ mark_of self.old }
+        ensures board_id { board_id_of self.new ≡ board_id_of self.old }
         ensures turned { IfErr result (λ t. t.candidate ≡ candidate) }
         ensures leads { (now : ℕ) → LeadsBy K.means T.view self.old self.new (Insert (Index index) (entrant_of candidate)) now (given result) }
-        ensures foreign { NamesForeign (mark_of self.old) (Insert (Index index) (entrant_of candidate)) → (given result ≡ Refused Refusal.ForeignBar) × (self.new ≡ self.old) }
+        ensures foreign { NamesForeign (board_id_of self.old) (Insert (Index index) (entrant_of candidate)) → (given result ≡ Refused Refusal.ForeignBar) × (self.new ≡ self.old) }
         ensures not_member { EntersAbsent self.old (entrant_of candidate) → (given result ≡ Refused Refusal.NotMember) × (self.new ≡ self.old) }
         ensures records { RecordsTake (entrant_of candidate) (given result) self.old self.new }
         ensures slot { SlotsTake (entrant_of candidate) (given result) self.old self.new }
@@ -224,10 +224,10 @@ impl<K: Tracks, T: TermLike + Drop> Board<K, T> {
         candidate: Candidate<K>,
     ) -> Result<BarId, Turned<K>>
         ensures terminal { terminal_of self.new ≡ terminal_of self.old }
-        ensures mark { mark_of self.new ≡ mark_of self.old }
+        ensures board_id { board_id_of self.new ≡ board_id_of self.old }
         ensures turned { IfErr result (λ t. t.candidate ≡ candidate) }
         ensures leads { (now : ℕ) → LeadsBy K.means T.view self.old self.new (Insert (FromBack count) (entrant_of candidate)) now (given result) }
-        ensures foreign { NamesForeign (mark_of self.old) (Insert (FromBack count) (entrant_of candidate)) → (given result ≡ Refused Refusal.ForeignBar) × (self.new ≡ self.old) }
+        ensures foreign { NamesForeign (board_id_of self.old) (Insert (FromBack count) (entrant_of candidate)) → (given result ≡ Refused Refusal.ForeignBar) × (self.new ≡ self.old) }
         ensures not_member { EntersAbsent self.old (entrant_of candidate) → (given result ≡ Refused Refusal.NotMember) × (self.new ≡ self.old) }
         ensures records { RecordsTake (entrant_of candidate) (given result) self.old self.new }
         ensures slot { SlotsTake (entrant_of candidate) (given result) self.old self.new }
@@ -246,12 +246,12 @@ impl<K: Tracks, T: TermLike + Drop> Board<K, T> {
         candidate: Candidate<K>,
     ) -> Result<BarId, Turned<K>>
         ensures terminal { terminal_of self.new ≡ terminal_of self.old }
-        ensures mark { mark_of self.new ≡ mark_of self.old }
+        ensures board_id { board_id_of self.new ≡ board_id_of self.old }
         ensures turned { IfErr result (λ t. t.candidate ≡ candidate) }
         ensures leads { (now : ℕ) → LeadsBy K.means T.view self.old self.new (Insert (Before (id_of anchor)) (entrant_of candidate)) now (given result) }
-        ensures foreign { NamesForeign (mark_of self.old) (Insert (Before (id_of anchor)) (entrant_of candidate)) → (given result ≡ Refused Refusal.ForeignBar) × (self.new ≡ self.old) }
+        ensures foreign { NamesForeign (board_id_of self.old) (Insert (Before (id_of anchor)) (entrant_of candidate)) → (given result ≡ Refused Refusal.ForeignBar) × (self.new ≡ self.old) }
         ensures not_member { IsAbsent self.old (id_of anchor) → (given result ≡ Refused Refusal.NotMember) × (self.new ≡ self.old) }
-        ensures beside { IsTrue (is_some (record_at anchor.number self.old)) → IsForeign (mark_of self.old) (entrant_of candidate) →
+        ensures beside { IsTrue (is_some (record_at anchor.number self.old)) → IsForeign (board_id_of self.old) (entrant_of candidate) →
             (given result ≡ Refused Refusal.ForeignBar) × (self.new ≡ self.old) }
         ensures records { RecordsTake (entrant_of candidate) (given result) self.old self.new }
         ensures slot { SlotsTake (entrant_of candidate) (given result) self.old self.new }
@@ -273,12 +273,12 @@ impl<K: Tracks, T: TermLike + Drop> Board<K, T> {
         candidate: Candidate<K>,
     ) -> Result<BarId, Turned<K>>
         ensures terminal { terminal_of self.new ≡ terminal_of self.old }
-        ensures mark { mark_of self.new ≡ mark_of self.old }
+        ensures board_id { board_id_of self.new ≡ board_id_of self.old }
         ensures turned { IfErr result (λ t. t.candidate ≡ candidate) }
         ensures leads { (now : ℕ) → LeadsBy K.means T.view self.old self.new (Insert (After (id_of anchor)) (entrant_of candidate)) now (given result) }
-        ensures foreign { NamesForeign (mark_of self.old) (Insert (After (id_of anchor)) (entrant_of candidate)) → (given result ≡ Refused Refusal.ForeignBar) × (self.new ≡ self.old) }
+        ensures foreign { NamesForeign (board_id_of self.old) (Insert (After (id_of anchor)) (entrant_of candidate)) → (given result ≡ Refused Refusal.ForeignBar) × (self.new ≡ self.old) }
         ensures not_member { IsAbsent self.old (id_of anchor) → (given result ≡ Refused Refusal.NotMember) × (self.new ≡ self.old) }
-        ensures beside { IsTrue (is_some (record_at anchor.number self.old)) → IsForeign (mark_of self.old) (entrant_of candidate) →
+        ensures beside { IsTrue (is_some (record_at anchor.number self.old)) → IsForeign (board_id_of self.old) (entrant_of candidate) →
             (given result ≡ Refused Refusal.ForeignBar) × (self.new ≡ self.old) }
         ensures records { RecordsTake (entrant_of candidate) (given result) self.old self.new }
         ensures slot { SlotsTake (entrant_of candidate) (given result) self.old self.new }
@@ -293,20 +293,20 @@ impl<K: Tracks, T: TermLike + Drop> Board<K, T> {
     /// Takes a bar out of the order and hands it back; `None` where it was removed, dropped or never given. What it shows stays
     /// until the next draw.
     ///
-    /// Refused: `ForeignBar`, exactly where the bar has another board's mark.
+    /// Refused: `ForeignBar`, exactly where the bar has another board's id.
     pub fn remove(&mut self, id: BarId) -> Result<Option<BarState<K>>, Refusal>
         ensures terminal { terminal_of self.new ≡ terminal_of self.old }
-        ensures mark { mark_of self.new ≡ mark_of self.old }
+        ensures board_id { board_id_of self.new ≡ board_id_of self.old }
         ensures leads { (now : ℕ) → LeadsBy K.means T.view self.old self.new (Remove (id_of id)) now (removal result) }
-        ensures foreign { id.mark ≢ mark_of self.old → (result ≡ Err Refusal.ForeignBar) × (self.new ≡ self.old) }
-        ensures bar { (mark : ℕ) (s : BoardState (BarRecord K)) (other : BarRecord K) → IsIn mark self.old s →
+        ensures foreign { id.board ≢ board_id_of self.old → (result ≡ Err Refusal.ForeignBar) × (self.new ≡ self.old) }
+        ensures bar { (board_id : ℕ) (s : BoardState (BarRecord K)) (other : BarRecord K) → IsIn board_id self.old s →
             IfOk result (λ bar. bar ≡ (if is_member id.number s.members then Some (said_of other (λ b. b) id.number s.members) else None)) }
-        ensures record { id.mark ≡ mark_of self.old → result ≡ Ok (record_at id.number self.old) }
-        ensures gone { id.mark ≡ mark_of self.old → record_at id.number self.new ≡ None }
+        ensures record { id.board ≡ board_id_of self.old → result ≡ Ok (record_at id.number self.old) }
+        ensures gone { id.board ≡ board_id_of self.old → record_at id.number self.new ≡ None }
         ensures slots { IfOk result (λ bar. SlotsGive bar self.old self.new) }
         ensures others { OtherRecordsStay id.number self.old self.new }
     {
-        if id.mark != self.mark {
+        if id.board != self.board_id {
             return Err(Refusal::ForeignBar);
         }
         match self.find(id) {
@@ -317,20 +317,20 @@ impl<K: Tracks, T: TermLike + Drop> Board<K, T> {
 
     /// A bar whose owner is gone: one that isn't finished is finished by its stored finish and drawn by force. Then it leaves the
     /// order, if it is the first there and no other bar's rows stand before its own: its rows stay where they are until a text, a
-    /// clear or a suspend takes them back. Else it waits, marked, and leaves with the draw that finds only bars like it before it.
+    /// clear or a suspend takes them back. Else it waits, ownerless, and leaves with the draw that finds only bars like it before it.
     /// From now on no call may name it.
     ///
     /// Refused: `ForeignBar`, `NotMember`, `NoColumns`, `TooWide`, `Terminal` or `Memory`, as `Board` says. After `Terminal` or
-    /// `Memory` the bar is marked and waits, also where it is the first: it is as it was where its finish's own text found no memory,
-    /// and finished where its lines found none. After `NoColumns` or `TooWide` it has left or is marked, as if it had been drawn.
+    /// `Memory` the bar is ownerless and waits, also where it is the first: it is as it was where its finish's own text found no memory,
+    /// and finished where its lines found none. After `NoColumns` or `TooWide` it has left or is ownerless, as if it had been drawn.
     pub fn drop_bar(&mut self, id: BarId, now: Moment) -> Result<Drawn, Refusal>
         ensures silent { IsFalse (wrote result) → terminal_of self.new ≡ terminal_of self.old }
         ensures nowhere { IsNowhere T.view self.old → IsFalse (wrote result) }
-        ensures mark { mark_of self.new ≡ mark_of self.old }
+        ensures board_id { board_id_of self.new ≡ board_id_of self.old }
         ensures leads { LeadsBy K.means T.view self.old self.new (Drop (id_of id)) now (says result) }
-        ensures foreign { id.mark ≢ mark_of self.old → (result ≡ Err Refusal.ForeignBar) × (self.new ≡ self.old) }
-        ensures not_member { id.mark ≡ mark_of self.old → (result ≡ Err Refusal.NotMember) ↔ (record_at id.number self.old ≡ None) }
-        ensures gone { id.mark ≡ mark_of self.old → record_at id.number self.new ≡ None }
+        ensures foreign { id.board ≢ board_id_of self.old → (result ≡ Err Refusal.ForeignBar) × (self.new ≡ self.old) }
+        ensures not_member { id.board ≡ board_id_of self.old → (result ≡ Err Refusal.NotMember) ↔ (record_at id.number self.old ≡ None) }
+        ensures gone { id.board ≡ board_id_of self.old → record_at id.number self.new ≡ None }
         ensures slots { SlotsLeft self.old self.new }
         ensures others { OtherRecordsStay id.number self.old self.new }
     {
@@ -343,7 +343,7 @@ impl<K: Tracks, T: TermLike + Drop> Board<K, T> {
                 drawn
             }
             Err(refusal) => {
-                self.shown.mark(id.number);
+                self.shown.set_ownerless(id.number);
                 Err(refusal)
             }
         }
@@ -361,13 +361,13 @@ impl<K: Tracks, T: TermLike + Drop> Board<K, T> {
     ) -> Result<Drawn, Refusal>
         ensures silent { IsFalse (wrote result) → terminal_of self.new ≡ terminal_of self.old }
         ensures nowhere { IsNowhere T.view self.old → IsFalse (wrote result) }
-        ensures mark { mark_of self.new ≡ mark_of self.old }
+        ensures board_id { board_id_of self.new ≡ board_id_of self.old }
         ensures leads { LeadsBy K.means T.view self.old self.new (Tell (id_of id) (command_of command)) now (says result) }
-        ensures foreign { id.mark ≢ mark_of self.old → (result ≡ Err Refusal.ForeignBar) × (self.new ≡ self.old) }
-        ensures not_member { id.mark ≡ mark_of self.old → (result ≡ Err Refusal.NotMember) ↔ (record_at id.number self.old ≡ None) }
-        ensures beyond { id.mark ≡ mark_of self.old → IsTrue (is_some (record_at id.number self.old)) →
+        ensures foreign { id.board ≢ board_id_of self.old → (result ≡ Err Refusal.ForeignBar) × (self.new ≡ self.old) }
+        ensures not_member { id.board ≡ board_id_of self.old → (result ≡ Err Refusal.NotMember) ↔ (record_at id.number self.old ≡ None) }
+        ensures beyond { id.board ≡ board_id_of self.old → IsTrue (is_some (record_at id.number self.old)) →
             (result ≡ Err Refusal.ElapsedBeyondClock) ↔ IsTrue (is_beyond_clock (command_of command) now) }
-        ensures record { id.mark ≡ mark_of self.old → RecordObeys K.means id.number (command_of command) now result self.old self.new }
+        ensures record { id.board ≡ board_id_of self.old → RecordObeys K.means id.number (command_of command) now result self.old self.new }
         ensures slots { SlotsLeft self.old self.new }
         ensures others { OtherRecordsStay id.number self.old self.new }
     {
@@ -384,7 +384,7 @@ impl<K: Tracks, T: TermLike + Drop> Board<K, T> {
     pub fn println(&mut self, text: &str, now: Moment) -> Result<Drawn, Refusal>
         ensures silent { IsFalse (wrote result) → terminal_of self.new ≡ terminal_of self.old }
         ensures nowhere { IsNowhere T.view self.old → IsFalse (wrote result) }
-        ensures mark { mark_of self.new ≡ mark_of self.old }
+        ensures board_id { board_id_of self.new ≡ board_id_of self.old }
         ensures leads { LeadsBy K.means T.view self.old self.new (Log text.now) now (says result) }
         ensures slots { SlotsLeft self.old self.new }
         ensures records { RecordsStay self.old self.new }
@@ -398,10 +398,10 @@ impl<K: Tracks, T: TermLike + Drop> Board<K, T> {
     pub fn bar_println(&mut self, id: BarId, text: &str, now: Moment) -> Result<Drawn, Refusal>
         ensures silent { IsFalse (wrote result) → terminal_of self.new ≡ terminal_of self.old }
         ensures nowhere { IsNowhere T.view self.old → IsFalse (wrote result) }
-        ensures mark { mark_of self.new ≡ mark_of self.old }
+        ensures board_id { board_id_of self.new ≡ board_id_of self.old }
         ensures leads { LeadsBy K.means T.view self.old self.new (BarLog (id_of id) text.now) now (says result) }
-        ensures foreign { id.mark ≢ mark_of self.old → (result ≡ Err Refusal.ForeignBar) × (self.new ≡ self.old) }
-        ensures not_member { id.mark ≡ mark_of self.old → (result ≡ Err Refusal.NotMember) ↔ (record_at id.number self.old ≡ None) }
+        ensures foreign { id.board ≢ board_id_of self.old → (result ≡ Err Refusal.ForeignBar) × (self.new ≡ self.old) }
+        ensures not_member { id.board ≡ board_id_of self.old → (result ≡ Err Refusal.NotMember) ↔ (record_at id.number self.old ≡ None) }
         ensures slots { SlotsLeft self.old self.new }
         ensures records { RecordsStay self.old self.new }
     {
@@ -416,7 +416,7 @@ impl<K: Tracks, T: TermLike + Drop> Board<K, T> {
     pub fn clear(&mut self, now: Moment) -> Result<Drawn, Refusal>
         ensures silent { IsFalse (wrote result) → terminal_of self.new ≡ terminal_of self.old }
         ensures nowhere { IsNowhere T.view self.old → IsFalse (wrote result) }
-        ensures mark { mark_of self.new ≡ mark_of self.old }
+        ensures board_id { board_id_of self.new ≡ board_id_of self.old }
         ensures leads { LeadsBy K.means T.view self.old self.new Clear now (says result) }
         ensures slots { SlotsLeft self.old self.new }
         ensures records { RecordsStay self.old self.new }
@@ -430,7 +430,7 @@ impl<K: Tracks, T: TermLike + Drop> Board<K, T> {
     pub fn redraw(&mut self, now: Moment) -> Result<Drawn, Refusal>
         ensures silent { IsFalse (wrote result) → terminal_of self.new ≡ terminal_of self.old }
         ensures nowhere { IsNowhere T.view self.old → IsFalse (wrote result) }
-        ensures mark { mark_of self.new ≡ mark_of self.old }
+        ensures board_id { board_id_of self.new ≡ board_id_of self.old }
         ensures leads { LeadsBy K.means T.view self.old self.new Redraw now (says result) }
         ensures slots { SlotsLeft self.old self.new }
         ensures records { RecordsStay self.old self.new }
@@ -445,7 +445,7 @@ impl<K: Tracks, T: TermLike + Drop> Board<K, T> {
         requires { F.pre f }
         ensures value { F.post f result.0 }
         ensures silent { IsNowhere T.view self.old → terminal_of self.new ≡ terminal_of self.old }
-        ensures mark { mark_of self.new ≡ mark_of self.old }
+        ensures board_id { board_id_of self.new ≡ board_id_of self.old }
         ensures leads { Suspends K.means T.view self.old self.new now result.1 }
         ensures slots { SlotsLeft self.old self.new }
         ensures records { RecordsStay self.old self.new }
@@ -471,12 +471,12 @@ impl<K: Tracks, T: TermLike + Drop> Board<K, T> {
     pub fn apply(&mut self, call: Call<K>, now: Moment) -> (Answer, Option<BarState<K>>)
         ensures silent { IsFalse (wrote (drawn_of (answer_of result.0))) → terminal_of self.new ≡ terminal_of self.old }
         ensures nowhere { IsNowhere T.view self.old → terminal_of self.new ≡ terminal_of self.old }
-        ensures mark { mark_of self.new ≡ mark_of self.old }
+        ensures board_id { board_id_of self.new ≡ board_id_of self.old }
         ensures leads { LeadsBy K.means T.view self.old self.new (call_of call) now (answer_of result.0) }
-        ensures foreign { NamesForeign (mark_of self.old) (call_of call) → (answer_of result.0 ≡ Refused Refusal.ForeignBar) × (self.new ≡ self.old) }
+        ensures foreign { NamesForeign (board_id_of self.old) (call_of call) → (answer_of result.0 ≡ Refused Refusal.ForeignBar) × (self.new ≡ self.old) }
         ensures slots { SlotsChange (call_of call) (answer_of result.0) self.old self.new }
         ensures records { RecordsChange K.means (call_of call) now (answer_of result.0) self.old self.new }
-        ensures back { (mark : ℕ) (s : BoardState (BarRecord K)) (other : BarRecord K) → IsIn mark self.old s →
+        ensures back { (board_id : ℕ) (s : BoardState (BarRecord K)) (other : BarRecord K) → IsIn board_id self.old s →
             result.1 ≡ handed_back (call_of call) (answer_of result.0) other s.members }
     {
         match call {
@@ -499,9 +499,9 @@ impl<K: Tracks, T: TermLike + Drop> Board<K, T> {
     pub fn call(&mut self, call: Call<K>, now: Moment) -> Answer
         ensures silent { IsFalse (wrote (drawn_of (answer_of result))) → terminal_of self.new ≡ terminal_of self.old }
         ensures nowhere { IsNowhere T.view self.old → terminal_of self.new ≡ terminal_of self.old }
-        ensures mark { mark_of self.new ≡ mark_of self.old }
+        ensures board_id { board_id_of self.new ≡ board_id_of self.old }
         ensures leads { LeadsBy K.means T.view self.old self.new (call_of call) now (answer_of result) }
-        ensures foreign { NamesForeign (mark_of self.old) (call_of call) → (answer_of result ≡ Refused Refusal.ForeignBar) × (self.new ≡ self.old) }
+        ensures foreign { NamesForeign (board_id_of self.old) (call_of call) → (answer_of result ≡ Refused Refusal.ForeignBar) × (self.new ≡ self.old) }
         ensures slots { SlotsChange (call_of call) (answer_of result) self.old self.new }
         ensures records { RecordsChange K.means (call_of call) now (answer_of result) self.old self.new }
     {
@@ -515,18 +515,18 @@ impl<K: Tracks, T: TermLike + Drop> Board<K, T> {
     ///
     /// Refused: `Memory` for the answers alone, and nothing is run; the calls are given up.
     pub fn run(&mut self, calls: Vec<(Call<K>, Moment)>) -> Result<Vec<Answer>, Refusal>
-        ensures run { (mark : ℕ) (s : BoardState (BarRecord K)) → IsIn mark self.old s →
+        ensures run { (board_id : ℕ) (s : BoardState (BarRecord K)) → IsIn board_id self.old s →
             let old = known T.view self.old in let new = known T.view self.new in
-            IfOk result (λ answers. (next : BoardState (BarRecord K)) × IsIn mark self.new next
-            × (run : Runs (board (board_bars K.means) mark) (map timed calls.items) (map answer_of answers.items) old s new next)
-            × Headline (board (board_bars K.means) mark) (map timed calls.items) (map answer_of answers.items) old s new next run) }
+            IfOk result (λ answers. (next : BoardState (BarRecord K)) × IsIn board_id self.new next
+            × (run : Runs (board (board_bars K.means) board_id) (map timed calls.items) (map answer_of answers.items) old s new next)
+            × Headline (board (board_bars K.means) board_id) (map timed calls.items) (map answer_of answers.items) old s new next run) }
         ensures count { IfOk result (λ answers. vec_len answers ≡ vec_len calls) }
         ensures silent { IfOk result (λ answers. IsFalse (list_any (λ answer. wrote (drawn_of (answer_of answer))) answers.items) →
             terminal_of self.new ≡ terminal_of self.old) }
         ensures nowhere { IsNowhere T.view self.old → terminal_of self.new ≡ terminal_of self.old }
-        ensures mark { mark_of self.new ≡ mark_of self.old }
-        ensures foreign { IfOk result (λ answers. AreTurnedAway (mark_of self.old) (map timed calls.items) (map answer_of answers.items)) }
-        ensures records { (number : ℕ) → IsFalse (list_any (λ call. acts_on (mark_of self.old) number (call_of call.0)) calls.items) →
+        ensures board_id { board_id_of self.new ≡ board_id_of self.old }
+        ensures foreign { IfOk result (λ answers. AreTurnedAway (board_id_of self.old) (map timed calls.items) (map answer_of answers.items)) }
+        ensures records { (number : ℕ) → IsFalse (list_any (λ call. acts_on (board_id_of self.old) number (call_of call.0)) calls.items) →
             IfOk result (λ answers. StaysOrComes number answers.items self.old self.new) }
         ensures idle { vec_len calls ≡ 0 → IsTrue (is_ok result) × (self.new ≡ self.old) }
         ensures memory { IfErr result (λ e. e ≡ Refusal.Memory) }
@@ -547,10 +547,10 @@ impl<K: Tracks, T: TermLike + Drop> Board<K, T> {
     /// Takes a bar in at a place.
     fn insert_by(&mut self, at: InsertLocation, candidate: Candidate<K>) -> Result<BarId, Turned<K>>
         ensures terminal { terminal_of self.new ≡ terminal_of self.old }
-        ensures mark { mark_of self.new ≡ mark_of self.old }
+        ensures board_id { board_id_of self.new ≡ board_id_of self.old }
         ensures turned { IfErr result (λ t. t.candidate ≡ candidate) }
         ensures leads { (now : ℕ) → LeadsBy K.means T.view self.old self.new (Insert (place_at at) (entrant_of candidate)) now (given result) }
-        ensures foreign { NamesForeign (mark_of self.old) (Insert (place_at at) (entrant_of candidate)) → (given result ≡ Refused Refusal.ForeignBar) × (self.new ≡ self.old) }
+        ensures foreign { NamesForeign (board_id_of self.old) (Insert (place_at at) (entrant_of candidate)) → (given result ≡ Refused Refusal.ForeignBar) × (self.new ≡ self.old) }
         ensures slot { SlotsTake (entrant_of candidate) (given result) self.old self.new }
         ensures records { RecordsTake (entrant_of candidate) (given result) self.old self.new }
     {
@@ -567,16 +567,16 @@ impl<K: Tracks, T: TermLike + Drop> Board<K, T> {
     fn insert_at(&mut self, at: usize, candidate: Candidate<K>) -> Result<BarId, Turned<K>>
         requires within { at ≤ deque_len self.old.shown.members }
         ensures terminal { terminal_of self.new ≡ terminal_of self.old }
-        ensures mark { mark_of self.new ≡ mark_of self.old }
+        ensures board_id { board_id_of self.new ≡ board_id_of self.old }
         ensures turned { IfErr result (λ t. t.candidate ≡ candidate) }
         ensures quiet { IsFalse (wrote (drawn_of (given result))) }
-        ensures foreign { IsForeign (mark_of self.old) (entrant_of candidate) → (given result ≡ Refused Refusal.ForeignBar) × (self.new ≡ self.old) }
+        ensures foreign { IsForeign (board_id_of self.old) (entrant_of candidate) → (given result ≡ Refused Refusal.ForeignBar) × (self.new ≡ self.old) }
         ensures not_member { EntersAbsent self.old (entrant_of candidate) → (given result ≡ Refused Refusal.NotMember) × (self.new ≡ self.old) }
         ensures records { RecordsTake (entrant_of candidate) (given result) self.old self.new }
         ensures slot { SlotsTake (entrant_of candidate) (given result) self.old self.new }
-        ensures inserted { (mark : ℕ) (s : BoardState (BarRecord K)) (spot : Location) → IsIn mark self.old s → at ≡ index_of spot s.members →
-            (next : BoardState (BarRecord K)) × IsIn mark self.new next × (next.lists ≡ s.lists)
-            × ((target : Target) → Leads (board (board_bars K.means) mark) target s (inserted mark spot (entrant_of candidate) s) (given result) next) }
+        ensures inserted { (board_id : ℕ) (s : BoardState (BarRecord K)) (spot : Location) → IsIn board_id self.old s → at ≡ index_of spot s.members →
+            (next : BoardState (BarRecord K)) × IsIn board_id self.new next × (next.lists ≡ s.lists)
+            × ((target : Target) → Leads (board (board_bars K.means) board_id) target s (inserted board_id spot (entrant_of candidate) s) (given result) next) }
     {
         match candidate {
             Candidate::Member(id) => match self.find(id) {
@@ -588,8 +588,8 @@ impl<K: Tracks, T: TermLike + Drop> Board<K, T> {
             },
             Candidate::New(bar) => match self.shown.take_in(at, bar) {
                 Ok(number) => {
-                    let mark = self.mark;
-                    Ok(BarId { mark, number })
+                    let board_id = self.board_id;
+                    Ok(BarId { board, number })
                 }
                 Err(bar) => {
                     let candidate = Candidate::New(bar);
@@ -600,28 +600,28 @@ impl<K: Tracks, T: TermLike + Drop> Board<K, T> {
         }
     }
 
-    /// A bar leaves or is marked, once it was drawn for the last time, or that draw was refused so.
+    /// A bar leaves or is ownerless, once it was drawn for the last time, or that draw was refused so.
     fn part(&mut self, number: u64, drawn: &Result<Drawn, Refusal>)
         ensures terminal { terminal_of self.new ≡ terminal_of self.old }
-        ensures mark { mark_of self.new ≡ mark_of self.old }
-        ensures parted { (mark : ℕ) (s : BoardState (BarRecord K)) → IsIn mark self.old s →
+        ensures board_id { board_id_of self.new ≡ board_id_of self.old }
+        ensures parted { (board_id : ℕ) (s : BoardState (BarRecord K)) → IsIn board_id self.old s →
             let target = target_of (known T.view self.old) in
             let next = parted target number drawn.now s in
-            IsIn mark self.new next × RestsOn target.columns s.lists next.lists }
+            IsIn board_id self.new next × RestsOn target.columns s.lists next.lists }
         ensures slots { SlotsLeft self.old self.new }
         ensures gone { record_at number self.new ≡ None }
         ensures others { OtherRecordsStay number self.old self.new }
     {
         if !is_undisturbed(drawn) {
-            self.shown.mark(number);
+            self.shown.set_ownerless(number);
             return;
         }
         if !self.shown.is_first(number) {
-            self.shown.mark(number);
+            self.shown.set_ownerless(number);
             return;
         }
         match self.keep(number) {
-            Keep::Behind => self.shown.mark(number),
+            Keep::Behind => self.shown.set_ownerless(number),
             Keep::Absent | Keep::Passed => {
                 self.shown.take_out(0);
             }
@@ -632,11 +632,11 @@ impl<K: Tracks, T: TermLike + Drop> Board<K, T> {
     fn keep(&mut self, number: u64) -> Keep
         ensures shown { self.new.shown ≡ self.old.shown }
         ensures terminal { terminal_of self.new ≡ terminal_of self.old }
-        ensures mark { mark_of self.new ≡ mark_of self.old }
-        ensures kept { (mark : ℕ) (s : BoardState (BarRecord K)) → IsIn mark self.old s →
+        ensures board_id { board_id_of self.new ≡ board_id_of self.old }
+        ensures kept { (board_id : ℕ) (s : BoardState (BarRecord K)) → IsIn board_id self.old s →
             let columns = (target_of (known T.view self.old)).columns in
             let lists = kept_of columns number s.lists in
-            (result ≡ fate number s.lists) × IsIn mark self.new (record s { lists = lists }) × RestsOn columns s.lists lists }
+            (result ≡ fate number s.lists) × IsIn board_id self.new (record s { lists = lists }) × RestsOn columns s.lists lists }
     {
         match &mut self.stage.engine {
             Some(engine) => engine.keep(number),
@@ -646,15 +646,15 @@ impl<K: Tracks, T: TermLike + Drop> Board<K, T> {
 
     /// A bar's place in the order.
     fn find(&self, id: BarId) -> Result<usize, Refusal>
-        ensures foreign { id.mark ≢ mark_of self.now → result ≡ Err Refusal.ForeignBar }
-        ensures found { (mark : ℕ) (s : BoardState (BarRecord K)) → IsIn mark self.now s →
-            MatchResult result (λ p. (turned_away mark (id_of id) s ≡ None) × HasPlace (Some id.number) (Some p) s.members) (λ e. turned_away mark (id_of id) s ≡ Some e) }
+        ensures foreign { id.board ≢ board_id_of self.now → result ≡ Err Refusal.ForeignBar }
+        ensures found { (board_id : ℕ) (s : BoardState (BarRecord K)) → IsIn board_id self.now s →
+            MatchResult result (λ p. (turned_away board_id (id_of id) s ≡ None) × HasPlace (Some id.number) (Some p) s.members) (λ e. turned_away board_id (id_of id) s ≡ Some e) }
         ensures within { IfOk result (λ p. p < deque_len self.now.shown.members) }
         ensures quiet { IfErr result (λ e. IsFalse (wrote (Err e))) }
         ensures own { IfOk result (λ p. StandsAt id.number p self.now.shown) }
-        ensures absent { id.mark ≡ mark_of self.now → IfErr result (λ e. (e ≡ Refusal.NotMember) × (record_at id.number self.now ≡ None)) }
+        ensures absent { id.board ≡ board_id_of self.now → IfErr result (λ e. (e ≡ Refusal.NotMember) × (record_at id.number self.now ≡ None)) }
     {
-        if id.mark != self.mark {
+        if id.board != self.board_id {
             return Err(Refusal::ForeignBar);
         }
         let at = self.shown.place(id.number);
@@ -678,13 +678,13 @@ impl<K: Tracks, T: TermLike + Drop> Board<K, T> {
         requires placed { IfSome bar (λ at. at < deque_len self.old.shown.members) }
         ensures silent { IsFalse (wrote result) → terminal_of self.new ≡ terminal_of self.old }
         ensures nowhere { IsNowhere T.view self.old → IsFalse (wrote result) }
-        ensures mark { mark_of self.new ≡ mark_of self.old }
+        ensures board_id { board_id_of self.new ≡ board_id_of self.old }
         ensures slots { SlotsLeft self.old self.new }
         ensures records { RecordsStay self.old self.new }
         ensures refusal { IfErr result (λ e. IsTrue (is_of_draw e)) }
-        ensures drew { (mark : ℕ) (takes : Bool) (s : BoardState (BarRecord K)) (number : Option ℕ) → IsIn mark self.old s → HasPlace number bar s.members →
+        ensures drew { (board_id : ℕ) (takes : Bool) (s : BoardState (BarRecord K)) (number : Option ℕ) → IsIn board_id self.old s → HasPlace number bar s.members →
             let old = known T.view self.old in
-            (next : BoardState (BarRecord K)) × IsIn mark self.new next × DrewOn (board (board_bars K.means) mark) old (known T.view self.new)
+            (next : BoardState (BarRecord K)) × IsIn board_id self.new next × DrewOn (board (board_bars K.means) board_id) old (known T.view self.new)
             (draw_of (target_of old) takes ask now (writing_as writing.entry) s (named_laid_out K.means (target_of old) now number s)
             (named_layout_takes K.means number s)) s.lists result next }
     {
@@ -699,7 +699,7 @@ impl<K: Tracks, T: TermLike + Drop> Board<K, T> {
 impl<K: Tracks, T: Resize + Drop> Board<K, T> {
     ghost use Rattle.indicatif_bar.specs.Scripts.{IsAnotherSize, Size as NewSize, SizedOn, sized, Plays};
     ghost use Rattle.indicatif_term.specs.Resizes.{SizeTakes};
-    ghost use Rattle.indicatif_board.specs.Multi.{IsIn, RecordsStay, board_sizing, known, mark_of, moves_of, slots_of, terminal_of};
+    ghost use Rattle.indicatif_board.specs.Multi.{IsIn, RecordsStay, board_sizing, known, board_id_of, moves_of, slots_of, terminal_of};
 
     /// The terminal gets `rows` rows and `cols` columns, and what stands there is cut anew: each row by itself, never joined with
     /// another. Nothing is written now; the next draw takes back the bars' rows as they are then. On a hidden target this does nothing.
@@ -714,13 +714,13 @@ impl<K: Tracks, T: Resize + Drop> Board<K, T> {
     /// has. All is unchanged then. On a terminal that takes no memory for a size, such as a `Term`, it comes only where kept rows or rows of
     /// the bars stand: not before the first draw, nor behind a clear or a failure. A terminal in memory may be refused it at any other size.
     pub fn resize(&mut self, rows: u16, cols: u16) -> Result<(), Refusal>
-        ensures plays { (mark : ℕ) (s : BoardState (BarRecord K)) → IsIn mark self.old s →
-            let machine = board (board_bars K.means) mark in
-            let next = sized machine (board_sizing K.means mark) cols rows (target_of (known T.view self.old)) s in
-            IfOk result (λ _. IsIn mark self.new next
-            × Plays machine (board_sizing K.means mark) (NewSize cols rows ∷ []) (known T.view self.old) s (known T.view self.new) next) }
+        ensures plays { (board_id : ℕ) (s : BoardState (BarRecord K)) → IsIn board_id self.old s →
+            let machine = board (board_bars K.means) board_id in
+            let next = sized machine (board_sizing K.means board_id) cols rows (target_of (known T.view self.old)) s in
+            IfOk result (λ _. IsIn board_id self.new next
+            × Plays machine (board_sizing K.means board_id) (NewSize cols rows ∷ []) (known T.view self.old) s (known T.view self.new) next) }
         ensures sized { IfOk result (λ _. SizedOn cols rows (known T.view self.old) (known T.view self.new)) }
-        ensures mark { mark_of self.new ≡ mark_of self.old }
+        ensures board_id { board_id_of self.new ≡ board_id_of self.old }
         ensures records { RecordsStay self.old self.new }
         ensures slots { slots_of self.new ≡ slots_of self.old }
         ensures moves { moves_of self.new ≡ moves_of self.old }
@@ -729,7 +729,7 @@ impl<K: Tracks, T: Resize + Drop> Board<K, T> {
         ensures zero_size { (result ≡ Err Refusal.ZeroSize) ↔ ((rows ≡ 0) ⊎ (cols ≡ 0)) }
         ensures no_other { IfErr result (λ e. (e ≡ Refusal.ZeroSize) ⊎ (e ≡ Refusal.Memory)) }
         ensures memory { result ≡ Err Refusal.Memory → IsAnotherSize cols rows (known T.view self.old) }
-        ensures takes { result ≡ Err Refusal.Memory → (mark : ℕ) (s : BoardState (BarRecord K)) → IsIn mark self.old s → SizeTakes T.takes_memory s.lists }
+        ensures takes { result ≡ Err Refusal.Memory → (board_id : ℕ) (s : BoardState (BarRecord K)) → IsIn board_id self.old s → SizeTakes T.takes_memory s.lists }
     {
         self.stage.resize(rows, cols)
     }

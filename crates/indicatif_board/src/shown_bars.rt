@@ -12,7 +12,7 @@ ghost use Rattle.indicatif_bar.specs.Runs.{wrote};
 ghost use Rattle.indicatif_bar.specs.Shown.{DrewBy, DrewOn};
 ghost use Rattle.indicatif_bar.specs.Stages.{stage_terminal, stage_known, IsStaged, writing_as};
 ghost use Rattle.indicatif_board.specs.BoardBars.{board_bars};
-ghost use Rattle.indicatif_board.specs.Boards.{BoardState, Location, opening_board, draw_of, index_of, taken_in, marked_on, board};
+ghost use Rattle.indicatif_board.specs.Boards.{BoardState, Location, opening_board, draw_of, index_of, taken_in, ownerless_on, board};
 ghost use Rattle.indicatif_board.specs.Members.{place_of, without, is_head, said_of};
 ghost use Rattle.indicatif_board.specs.Slots.{LeavesHead, next_slot, seated, slot_of, unseated};
 ghost use Rattle.indicatif_board.specs.Inside.Named.{HasPlace, named_laid_out, named_layout_takes};
@@ -144,16 +144,16 @@ impl<K: Tracks> ShownBars<K> {
         }
     }
 
-    /// Marks a bar, if it is there: its owner is gone.
-    pub fn mark(&mut self, number: u64)
-        ensures marked { (s : BoardState (BarRecord K)) → AreShownAs self.old s → AreShownAs self.new (marked_on number s) }
+    /// A bar has no owner from now on, if it is there.
+    pub fn set_ownerless(&mut self, number: u64)
+        ensures ownerless { (s : BoardState (BarRecord K)) → AreShownAs self.old s → AreShownAs self.new (ownerless_on number s) }
         ensures slots { self.new.table ≡ self.old.table }
         ensures record { record_on number self.new ≡ None }
         ensures others { AllOthersStay number self.old self.new }
     {
         let at = self.place(number);
         if at < self.members.len() {
-            self.members[at].mark();
+            self.members[at].set_ownerless();
         }
     }
 
@@ -173,11 +173,11 @@ impl<K: Tracks> ShownBars<K> {
         ensures slots { LeavesHead self.old.table self.new.table }
         ensures records { AllStay self.old self.new }
         ensures refusal { IfErr result (λ e. IsTrue (is_of_draw e)) }
-        ensures drew { (mark : ℕ) (takes : Bool) (s : BoardState (BarRecord K)) (number : Option ℕ) → is_no ask ≡ false →
+        ensures drew { (board_id : ℕ) (takes : Bool) (s : BoardState (BarRecord K)) (number : Option ℕ) → is_no ask ≡ false →
             AreShownAs self.old s → HasPlace number bar s.members → IsStaged stage.old s.limiter s.lists →
             let old = stage_known T.view stage.old in let target = target_of old in
             (next : BoardState (BarRecord K)) × AreShownAs self.new next × IsStaged stage.new next.limiter next.lists
-            × DrewOn (board (board_bars K.means) mark) old (stage_known T.view stage.new)
+            × DrewOn (board (board_bars K.means) board_id) old (stage_known T.view stage.new)
             (draw_of target takes ask now (writing_as writing.entry) s (named_laid_out K.means target now number s) (named_layout_takes K.means number s))
             s.lists result next }
     {
@@ -226,10 +226,10 @@ impl<K: Tracks> ShownBars<K> {
         ensures slots { LeavesHead self.old.table self.new.table }
         ensures records { AllStay self.old self.new }
         ensures refusal { IfErr result (λ e. IsTrue (is_of_draw e)) }
-        ensures drew { (mark now : ℕ) (takes lays : Bool) (ask : Ask) (limiter : Option Limiter) (s laid : BoardState (BarRecord K)) → is_no ask ≡ false →
+        ensures drew { (board_id now : ℕ) (takes lays : Bool) (ask : Ask) (limiter : Option Limiter) (s laid : BoardState (BarRecord K)) → is_no ask ≡ false →
             0 < (T.view (engine_term engine.old)).columns → asked_of ask now laid.limiter ≡ (true, limiter) →
             AreShownAs self.old laid → laid.lists ≡ s.lists → Fits engine.old s.lists →
-            DrewBy (board (board_bars K.means) mark) (λ next. AreShownAs self.new next × (limiter ≡ next.limiter)) T.view engine.old engine.new
+            DrewBy (board (board_bars K.means) board_id) (λ next. AreShownAs self.new next × (limiter ≡ next.limiter)) T.view engine.old engine.new
             (draw_of (target_of (Some (T.view (engine_term engine.old)))) takes ask now (writing_as writing.entry) s laid lays) s.lists result }
     {
         let gone = leading(&self.members);

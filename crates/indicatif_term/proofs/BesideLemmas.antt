@@ -9,7 +9,7 @@ use Rattle.indicatif_text.specs.Columns.{has_wide, rows_of, last_columns}
 use Rattle.indicatif_term.specs.Shows.{look, looks_of}
 use Rattle.indicatif_term.specs.Inside.Skips.{placed_height, Sits, AreSitting}
 use Rattle.indicatif_term.specs.Standing.{placed_of, placed, texts, standing_rows, IsLine, AreLines}
-use Rattle.indicatif_term.specs.Inside.Places.{IsAt, IsThere, AreMarked}
+use Rattle.indicatif_term.specs.Inside.Places.{IsAt, IsThere, AreNoted}
 use Rattle.indicatif_term.specs.Inside.Layouts.{IsSized, IsLike, AreLike, HasLines}
 use Rattle.indicatif_term.specs.Frames.{line_text}
 use Rattle.indicatif_term.specs.declared.lines.LineType.{LineType}
@@ -177,20 +177,20 @@ turned items xs blanks n k e b len =
     let size : n - k ≡ length xs = omega (arith, len, ap length e, length-append xs blanks, b.count) in
     rw (size, e, drop_at xs blanks (length xs) refl, take_at xs blanks (length xs) refl) refl
 
--- ---- lines that are marked
+-- ---- lines that are noted
 
--- a line marked anew is the same line
-pub marked_line : (w : ℕ) (x : StandingLine) (b : Bool) → IsLine w x → IsLine w (record x { stays = b })
-marked_line w x b l = record { rows_are = l.rows_are; last_is = l.last_is; narrow = l.narrow }
+-- a line noted anew is the same line
+pub noted_line : (w : ℕ) (x : StandingLine) (b : Bool) → IsLine w x → IsLine w (record x { stays = b })
+noted_line w x b l = record { rows_are = l.rows_are; last_is = l.last_is; narrow = l.narrow }
 
 module _ (w : ℕ) (on : List StandingLine) (skipped : ℕ) (ys : List StandingLine) (i start : ℕ) (x : StandingLine) (b : Bool) (before at : Place)
-    (h : i < length ys) (e : get_or ys i x ≡ x) (m : AreMarked w on skipped (take i ys) start before) (is : IsAt w on at) (line : IsLine w x)
+    (h : i < length ys) (e : get_or ys i x ≡ x) (m : AreNoted w on skipped (take i ys) start before) (is : IsAt w on at) (line : IsLine w x)
     (there : IsTrue b → IsThere w on start x) where
   abbrev y : StandingLine
   y = record x { stays = b }
 
-  pub one_marked : (start' : ℕ) → start' ≡ min (start + x.rows) (2 ^ 64 - 1) → AreMarked w on skipped (take (i + 1) (slice_set ys i y)) start' at
-  one_marked start' s =
+  pub one_noted : (start' : ℕ) → start' ≡ min (start + x.rows) (2 ^ 64 - 1) → AreNoted w on skipped (take (i + 1) (slice_set ys i y)) start' at
+  one_noted start' s =
       let rows = standing_rows w on in
       let ps = placed (take i ys) in
       let one : Sits w (drop (placed_height ps) (looks_of (drop skipped rows))) (placed_of y) = record {
@@ -217,7 +217,7 @@ same_line [] i x y h e f = absurd (omega arith)
 same_line (z ∷ ys) zero x y h e f = sym e ∙ f
 same_line (z ∷ ys) (suc i) x y h e f = same_line ys i x y (omega arith) e f
 
--- a line that isn't marked yet is one of those that were there
+-- a line that isn't noted yet is one of those that were there
 pub still_like : (on ys xs : List StandingLine) (i : ℕ) (x : StandingLine) → i < length ys → get_or ys i x ≡ x → drop i ys ≡ drop i xs → AreLike on xs → IsLike on (string_bytes x.text) x.like
 still_like on ys xs i x h e d like =
     let P = λ (l : StandingLine). IsLike on (string_bytes l.text) l.like in
@@ -225,15 +225,15 @@ still_like on ys xs i x h e d like =
     rest.0
 
 -- before the first
-pub none_marked : (w : ℕ) (on : List StandingLine) (skipped : ℕ) → AreMarked w on skipped [] skipped (record { index = 0; row = 0 })
-none_marked w on skipped = record { sits = tt; is_at = λ small. refl; start_is = λ small. omega arith }
+pub none_noted : (w : ℕ) (on : List StandingLine) (skipped : ℕ) → AreNoted w on skipped [] skipped (record { index = 0; row = 0 })
+none_noted w on skipped = record { sits = tt; is_at = λ small. refl; start_is = λ small. omega arith }
 
 -- the texts, and what follows, stay
-pub texts_marked : (ys : List StandingLine) (i : ℕ) (x : StandingLine) (b : Bool) → get_or ys i x ≡ x → texts (slice_set ys i (record x { stays = b })) ≡ texts ys
-texts_marked ys i x b e = map-set_same (λ (l : StandingLine). string_bytes l.text) ys i (record x { stays = b }) x (ap (λ (l : StandingLine). string_bytes l.text) (sym e))
+pub texts_noted : (ys : List StandingLine) (i : ℕ) (x : StandingLine) (b : Bool) → get_or ys i x ≡ x → texts (slice_set ys i (record x { stays = b })) ≡ texts ys
+texts_noted ys i x b e = map-set_same (λ (l : StandingLine). string_bytes l.text) ys i (record x { stays = b }) x (ap (λ (l : StandingLine). string_bytes l.text) (sym e))
 
--- what follows a line is not marked yet
-pub rest_marked : (ys xs : List StandingLine) (i : ℕ) (y : StandingLine) → i < length ys → drop i ys ≡ drop i xs → drop (i + 1) (slice_set ys i y) ≡ drop (i + 1) xs
-rest_marked ys xs i y h e =
+-- what follows a line is not noted yet
+pub rest_noted : (ys xs : List StandingLine) (i : ℕ) (y : StandingLine) → i < length ys → drop i ys ≡ drop i xs → drop (i + 1) (slice_set ys i y) ≡ drop (i + 1) xs
+rest_noted ys xs i y h e =
     let next : (zs : List StandingLine) → drop (i + 1) zs ≡ drop 1 (drop i zs) = λ zs. ap (λ n. drop n zs) (omega arith) ∙ sym (drop-drop 1 i zs) in
     next (slice_set ys i y) ∙ ap (drop 1) (drop-set ys i y h) ∙ next ys ∙ ap (drop 1) e ∙ sym (next xs)

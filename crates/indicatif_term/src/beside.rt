@@ -226,8 +226,8 @@ fn is_there(standing: &[StandingLine], place: Place, start: usize, line: &Standi
     is_same(&standing[place.index].text, &line.text)
 }
 
-/// Marks those of the lines that stand on their rows already: the first of them begins below so many rows of those that stand there.
-fn mark(standing: &[StandingLine], skipped: usize, lines: &mut Vec<StandingLine>)
+/// Notes those of the lines that stand on their rows already: the first of them begins below so many rows of those that stand there.
+fn note_standing(standing: &[StandingLine], skipped: usize, lines: &mut Vec<StandingLine>)
     ensures texts { texts lines.new.items ≡ texts lines.old.items }
     ensures right { (w : ℕ) → AreLines w lines.old.items → AreLines w lines.new.items }
     ensures sits { (w : ℕ) → AreLines w standing.now → AreLines w lines.old.items → AreLike standing.now lines.old.items →
@@ -285,6 +285,6 @@ pub fn lines_among(
 {
     let skipped = height_of(standing).saturating_sub(taken);
     let mut lines = below_blanks(spare, blanks, lines)?;
-    mark(standing, skipped, &mut lines);
+    note_standing(standing, skipped, &mut lines);
     Ok(lines)
 }

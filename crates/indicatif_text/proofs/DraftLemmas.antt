@@ -9,10 +9,10 @@ use Rattle.std.specs.Char.{IsScalar}
 use Rattle.indicatif_text.specs.declared.template.TemplateError.{TemplateError}
 use Rattle.indicatif_text.specs.declared.template.TemplateError.TheVariants.{Memory}
 use Rattle.indicatif_text.specs.Template.{TemplatePart, LiteralText, TemplatePiece, Char, SpacedBrace, Front, Takes, Stops, after_run, front, Refuses, here, IsRefused}
-use Rattle.indicatif_text.specs.declared.template.marks.Kind.TheVariants.{Literal}
-use Rattle.indicatif_text.specs.declared.template.marks.Mark.{Mark}
-use Rattle.indicatif_text.specs.Inside.Marks.{AreIn}
-use Rattle.indicatif_text.specs.Inside.Draft.{Sketch, TakesIn, literal_part, kept_sketch, closed_sketch, marked_sketch, with_run, added, GoesOn}
+use Rattle.indicatif_text.specs.declared.template.stored_parts.Kind.TheVariants.{Literal}
+use Rattle.indicatif_text.specs.declared.template.stored_parts.StoredPart.{StoredPart}
+use Rattle.indicatif_text.specs.Inside.StoredParts.{AreIn}
+use Rattle.indicatif_text.specs.Inside.Draft.{Sketch, TakesIn, literal_part, kept_sketch, closed_sketch, parted_sketch, with_run, added, GoesOn}
 use Rattle.indicatif_text.specs.Inside.Spans.{is_literal_char}
 use Rattle.indicatif_text.proofs.OptionLemmas.{some_text}
 use Rattle.indicatif_text.proofs.PrefixLemmas.{left_fails}
@@ -38,8 +38,8 @@ pub closed_none : (done : List TemplatePart) (text : List ℕ) → text ≡ [] �
 closed_none done text none = sym (append-nil done) ∙ ap (λ t. done ++ literal_part t) (sym none)
 
 -- a literal text gives one
-pub marked_literal : (s : Sketch) (bs : List ℕ) → IsUtf8 bs → 0 < length bs → chars bs ≡ s.kept ++ s.run → marked_sketch s Literal ≡ closed_sketch s
-marked_literal s bs u some e =
+pub parted_literal : (s : Sketch) (bs : List ℕ) → IsUtf8 bs → 0 < length bs → chars bs ≡ s.kept ++ s.run → parted_sketch s Literal ≡ closed_sketch s
+parted_literal s bs u some e =
     let part = some_text (List TemplatePart) (λ cs. LiteralText cs ∷ []) literal_part (λ c cs. refl) bs (s.kept ++ s.run) u e (sym (ne_eqb (length bs) 0 (omega (arith, some)))) in
     ap (λ parts. record { done = s.done ++ parts; kept = []; run = [] }) part
 
@@ -115,33 +115,33 @@ reads_run s t text run rest e r a =
     subst (λ x. GoesOn s text t x) (sym a) by_sketch
 
 -- and the piece behind it
-pub reads_piece : (s t u : Sketch) (text marked after rest : List ℕ) (c : ℕ) (p : TemplatePiece) → GoesOn s text t marked → marked ≡ c ∷ after → front c after ≡ Takes rest p
+pub reads_piece : (s t u : Sketch) (text behind after rest : List ℕ) (c : ℕ) (p : TemplatePiece) → GoesOn s text t behind → behind ≡ c ∷ after → front c after ≡ Takes rest p
     → u ≡ added t p → GoesOn s text u rest
-reads_piece s t u text marked after rest c p led e f is =
+reads_piece s t u text behind after rest c p led e f is =
     let here : GoesOn t (c ∷ after) (added t p) rest = leads_piece t c after rest p f in
     subst (λ x. GoesOn s text x rest) (sym is) (leads_more (subst (λ x. GoesOn s text t x) e led) here)
 
-pub refused_here : (s t : Sketch) (text marked after place : List ℕ) (c : ℕ) (x : TemplateError) → GoesOn s text t marked → marked ≡ c ∷ after → front c after ≡ Stops place x → IsRefused text x
-refused_here s t text marked after place c x led e f = (place, led.refuses place x (subst (λ m. Refuses m place x) (sym e) (here f)))
+pub refused_here : (s t : Sketch) (text behind after place : List ℕ) (c : ℕ) (x : TemplateError) → GoesOn s text t behind → behind ≡ c ∷ after → front c after ≡ Stops place x → IsRefused text x
+refused_here s t text behind after place c x led e f = (place, led.refuses place x (subst (λ m. Refuses m place x) (sym e) (here f)))
 
-pub read_shorter : (text marked after rest : List ℕ) (c : ℕ) (p : TemplatePiece) → marked ≡ after_run is_literal_char text → marked ≡ c ∷ after → front c after ≡ Takes rest p
+pub read_shorter : (text behind after rest : List ℕ) (c : ℕ) (p : TemplatePiece) → behind ≡ after_run is_literal_char text → behind ≡ c ∷ after → front c after ≡ Takes rest p
     → length rest < length text
-read_shorter text marked after rest c p a e f =
+read_shorter text behind after rest c p a e f =
     omega (arith, rest_shorter c after f, ap length e, ap length a, length-drop (prefix_len is_literal_char text) text)
 
 -- what was taken up leads on
-module _ (s t u : Sketch) (text marked after : List ℕ) (c : ℕ) (f : Front TemplatePiece) (same : front c after ≡ f) (led : GoesOn s text t marked) (e : marked ≡ c ∷ after) where
+module _ (s t u : Sketch) (text behind after : List ℕ) (c : ℕ) (f : Front TemplatePiece) (same : front c after ≡ f) (led : GoesOn s text t behind) (e : behind ≡ c ∷ after) where
   pub taken_leads : (r : Result (Bor (List ℕ)) TemplateError) → TakesIn f t u r → IfOk r (λ rest. GoesOn s text u (chars rest.now))
-  taken_leads (Ok rest) h = reads_piece s t u text marked after (chars rest.now) c h.0 led e (same ∙ h.1) h.2
+  taken_leads (Ok rest) h = reads_piece s t u text behind after (chars rest.now) c h.0 led e (same ∙ h.1) h.2
   taken_leads (Err x) h = tt
 
   pub taken_refused : (r : Result (Bor (List ℕ)) TemplateError) → TakesIn f t u r → IfErr r (λ x. (x ≡ Memory) ⊎ IsRefused text x)
   taken_refused (Ok rest) h = tt
-  taken_refused (Err x) h = elim h [ inl memory ↦ inl memory | inr stops ↦ inr (refused_here s t text marked after stops.0 c x led e (same ∙ stops.1)) ]
+  taken_refused (Err x) h = elim h [ inl memory ↦ inl memory | inr stops ↦ inr (refused_here s t text behind after stops.0 c x led e (same ∙ stops.1)) ]
 
-  pub taken_shorter : marked ≡ after_run is_literal_char text → (r : Result (Bor (List ℕ)) TemplateError) → TakesIn f t u r →
+  pub taken_shorter : behind ≡ after_run is_literal_char text → (r : Result (Bor (List ℕ)) TemplateError) → TakesIn f t u r →
       IfOk r (λ rest. 0 < length text → length (chars rest.now) < length text)
-  taken_shorter a (Ok rest) h = λ _. read_shorter text marked after (chars rest.now) c h.0 a e (same ∙ h.1)
+  taken_shorter a (Ok rest) h = λ _. read_shorter text behind after (chars rest.now) c h.0 a e (same ∙ h.1)
   taken_shorter a (Err x) h = tt
 
 -- what is taken up of a front is taken up of another that is the same
@@ -157,7 +157,7 @@ is_line text after c e no_open no_close = only_line c (left_fails is_literal_cha
 
 -- ---- what a draft's bytes fulfil: those of its parts, and where the literal text begins
 
-module _ (bs : List ℕ) (start kept : ℕ) (u : IsUtf8 bs) (b : IsCharBoundary bs start) (k : IsCharBoundary (drop start bs) kept) (marks : List Mark) (all : AreIn (take start bs) marks) where
+module _ (bs : List ℕ) (start kept : ℕ) (u : IsUtf8 bs) (b : IsCharBoundary bs start) (k : IsCharBoundary (drop start bs) kept) (parts : List StoredPart) (all : AreIn (take start bs) parts) where
   -- more text
   pub pushed_front : (more : List ℕ) → take start (bs ++ more) ≡ take start bs
   pushed_front more = take-append-le start bs more b.0
@@ -166,10 +166,10 @@ module _ (bs : List ℕ) (start kept : ℕ) (u : IsUtf8 bs) (b : IsCharBoundary 
   pushed_behind more = drop-append-le start bs more b.0
 
   -- whether memory was refused or not
-  pub pushed_in : (ok : Bool) (after more : List ℕ) → after ≡ (if ok then bs ++ more else bs) → AreIn (take start after) marks
+  pub pushed_in : (ok : Bool) (after more : List ℕ) → after ≡ (if ok then bs ++ more else bs) → AreIn (take start after) parts
   pushed_in ok after more e =
-      subst (λ xs. AreIn (take start xs) marks) (sym e)
-      (cond_both ok (bs ++ more) bs (λ xs. AreIn (take start xs) marks) (λ _. subst (λ x. AreIn x marks) (sym (pushed_front more)) all) (λ _. all))
+      subst (λ xs. AreIn (take start xs) parts) (sym e)
+      (cond_both ok (bs ++ more) bs (λ xs. AreIn (take start xs) parts) (λ _. subst (λ x. AreIn x parts) (sym (pushed_front more)) all) (λ _. all))
 
   pub pushed_whole : (ok : Bool) (after more : List ℕ) → after ≡ (if ok then bs ++ more else bs) → IsUtf8 more → IsCharBoundary (drop start after) kept
   pushed_whole ok after more e w =

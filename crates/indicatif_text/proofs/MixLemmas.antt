@@ -10,7 +10,7 @@ use Rattle.indicatif_text.specs.declared.template.reading.Mix.{Mix}
 use Rattle.indicatif_text.specs.Inside.Reading.{IsMix, IsMixBefore, TakesUp, number_after}
 use Rattle.indicatif_text.specs.Template.{after_run, is_width_char, is_too_wide, state_after}
 use Rattle.indicatif_text.proofs.PrefixLemmas.{run_more, run_ends, left_more, left_ends}
-use Rattle.indicatif_text.proofs.OptionLemmas.{number_from_none, stays_wide, mark_here, mark_later, number_digit, number_other, below_wide}
+use Rattle.indicatif_text.proofs.OptionLemmas.{number_from_none, stays_wide, exclamation_here, exclamation_later, number_digit, number_other, below_wide}
 
 state_stays : (left : List ℕ) → state_after Width left ≡ Width
 state_stays [] = refl
@@ -36,15 +36,15 @@ mix_ends state run mix b = record {
 }
 
 module _ (mix : Mix) (c : ℕ) where
-  pub takes_mark : c ≡ 0x21 → TakesUp mix c (record mix { truncate = true; state = Width })
-  takes_mark e state run left b =
+  pub takes_exclamation : c ≡ 0x21 → TakesUp mix c (record mix { truncate = true; state = Width })
+  takes_exclamation e state run left b =
       let digit : is_ascii_digit c ≡ false = ap is_ascii_digit e in
       let digits = number_other c left digit in
       record {
         fits = b.fits;
         too_large_is = ap (λ ds. mix.too_large || is_too_wide (number_after mix.width ds)) (sym digits) ∙ b.too_large_is;
         width_is = λ h. ap (number_after mix.width) (sym digits) ∙ b.width_is h;
-        truncate_is = sym (ap (λ x. mix.truncate || x) (mark_here c left e) ∙ or-true mix.truncate) ∙ b.truncate_is;
+        truncate_is = sym (ap (λ x. mix.truncate || x) (exclamation_here c left e) ∙ or-true mix.truncate) ∙ b.truncate_is;
         state_is = state_stays left ∙ b.state_is;
       }
 
@@ -57,7 +57,7 @@ module _ (mix : Mix) (c : ℕ) where
           fits = b.fits;
           too_large_is = sym (ap (λ x. mix.too_large || is_too_wide x) more ∙ ap (λ x. mix.too_large || x) (stays_wide n ds wide) ∙ or-true mix.too_large) ∙ b.too_large_is;
           width_is = λ h. absurd (false≢true (sym h));
-          truncate_is = ap (λ x. mix.truncate || x) (sym (mark_later c left other)) ∙ b.truncate_is;
+          truncate_is = ap (λ x. mix.truncate || x) (sym (exclamation_later c left other)) ∙ b.truncate_is;
           state_is = state_stays left ∙ b.state_is;
         }
 
@@ -68,12 +68,12 @@ module _ (mix : Mix) (c : ℕ) where
           fits = below_wide n fits;
           too_large_is = ap (λ x. mix.too_large || is_too_wide x) (sym more) ∙ b.too_large_is;
           width_is = λ h. sym more ∙ b.width_is h;
-          truncate_is = ap (λ x. mix.truncate || x) (sym (mark_later c left other)) ∙ b.truncate_is;
+          truncate_is = ap (λ x. mix.truncate || x) (sym (exclamation_later c left other)) ∙ b.truncate_is;
           state_is = state_stays left ∙ b.state_is;
         }
 
-pub width_mark : (c : ℕ) → c ≡ 0x21 → is_width_char c ≡ true
-width_mark c e = ap is_width_char e
+pub width_exclamation : (c : ℕ) → c ≡ 0x21 → is_width_char c ≡ true
+width_exclamation c e = ap is_width_char e
 
 pub width_digit : (c : ℕ) → is_ascii_digit c ≡ true → is_width_char c ≡ true
 width_digit c digit = ap (λ b. b || (c == 0x21)) digit

@@ -161,11 +161,11 @@ some_text A f g same bs [] u e some = absurd (false≢true (some ∙ eq-eqb (len
 
 -- ---- marks
 
-pub mark_here : (c : ℕ) (cs : List ℕ) → c ≡ 0x21 → list_any (λ c. c == 0x21) (c ∷ cs) ≡ true
-mark_here c cs e = let test : eqb c 0x21 ≡ true = eq-eqb c 0x21 e in rw test refl
+pub exclamation_here : (c : ℕ) (cs : List ℕ) → c ≡ 0x21 → list_any (λ c. c == 0x21) (c ∷ cs) ≡ true
+exclamation_here c cs e = let test : eqb c 0x21 ≡ true = eq-eqb c 0x21 e in rw test refl
 
-pub mark_later : (c : ℕ) (cs : List ℕ) → (c ≡ 0x21 → ⊥) → list_any (λ c. c == 0x21) (c ∷ cs) ≡ list_any (λ c. c == 0x21) cs
-mark_later c cs other = let test : eqb c 0x21 ≡ false = ne_eqb c 0x21 other in rw test refl
+pub exclamation_later : (c : ℕ) (cs : List ℕ) → (c ≡ 0x21 → ⊥) → list_any (λ c. c == 0x21) (c ∷ cs) ≡ list_any (λ c. c == 0x21) cs
+exclamation_later c cs other = let test : eqb c 0x21 ≡ false = ne_eqb c 0x21 other in rw test refl
 
 -- ---- digits among other characters
 

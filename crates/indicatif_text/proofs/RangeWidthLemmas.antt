@@ -21,8 +21,8 @@ use Rattle.indicatif_text.proofs.SeamLemmas.{all_pass, is_apart, sequence_joins,
 -- ---- what stands within of a run is a part of it without a gap, so that no colour sequence arises
 
 -- a colour sequence begins at no place of a run
-abbrev Unmarked : List ℕ → Type 0
-Unmarked text = (place : ℕ) → colour_length (drop place text) ≡ None
+abbrev Uncoloured : List ℕ → Type 0
+Uncoloured text = (place : ℕ) → colour_length (drop place text) ≡ None
 
 -- what follows the second of two texts that join to the first
 record Begins (front whole : List ℕ) : Type 0 where
@@ -70,37 +70,37 @@ standing_begins start end column (c ∷ cs) h = elim (cases_Bool (nat_le (column
       record { more = c ∷ cs; parts = ap (λ x. x ++ c ∷ cs) (sym is) }
 ]
 
-front_unmarked : (c : ℕ) (front cs : List ℕ) → Begins front cs → Unmarked (c ∷ cs) → Unmarked front → Unmarked (c ∷ front)
-front_unmarked c front cs b whole rest zero = none_before (c ∷ front) b.more (ap (λ x. colour_length (c ∷ x)) (sym b.parts) ∙ whole 0)
-front_unmarked c front cs b whole rest (suc place) = rest place
+front_uncoloured : (c : ℕ) (front cs : List ℕ) → Begins front cs → Uncoloured (c ∷ cs) → Uncoloured front → Uncoloured (c ∷ front)
+front_uncoloured c front cs b whole rest zero = none_before (c ∷ front) b.more (ap (λ x. colour_length (c ∷ x)) (sym b.parts) ∙ whole 0)
+front_uncoloured c front cs b whole rest (suc place) = rest place
 
-standing_unmarked : (start end column : ℕ) (cs : List ℕ) → Unmarked cs → Unmarked (standing_within start end column cs)
-standing_unmarked start end column [] u = u
-standing_unmarked start end column (c ∷ cs) u =
+standing_uncoloured : (start end column : ℕ) (cs : List ℕ) → Uncoloured cs → Uncoloured (standing_within start end column cs)
+standing_uncoloured start end column [] u = u
+standing_uncoloured start end column (c ∷ cs) u =
     let rest = standing_within start end (column + width_of c) cs in
-    let own = standing_unmarked start end (column + width_of c) cs (λ place. u (suc place)) in
+    let own = standing_uncoloured start end (column + width_of c) cs (λ place. u (suc place)) in
     elim (cases_Bool (nat_le start column)) [
-      | inr before ↦ subst Unmarked (ap (λ b. (if b && nat_le (column + width_of c) end then c ∷ [] else []) ++ rest) (sym before)) own
+      | inr before ↦ subst Uncoloured (ap (λ b. (if b && nat_le (column + width_of c) end then c ∷ [] else []) ++ rest) (sym before)) own
       | inl begun ↦ elim (cases_Bool (nat_le (column + width_of c) end)) [
-        | inr over ↦ subst Unmarked (sym (skipped_by (nat_le start column) (nat_le (column + width_of c) end) c rest over)) own
+        | inr over ↦ subst Uncoloured (sym (skipped_by (nat_le start column) (nat_le (column + width_of c) end) c rest over)) own
         | inl fits ↦
             let b = standing_begins start end (column + width_of c) cs (let h = leb-true start column begun in omega (arith, h)) in
-            subst Unmarked (sym (one_by (nat_le start column) (nat_le (column + width_of c) end) c rest begun fits)) (front_unmarked c rest cs b u own)
+            subst Uncoloured (sym (one_by (nat_le start column) (nat_le (column + width_of c) end) c rest begun fits)) (front_uncoloured c rest cs b u own)
       ]
     ]
 
-run_unmarked : (start end column : ℕ) (cs : List ℕ) → Unmarked cs → Unmarked (run_within start end column cs)
-run_unmarked start end column cs u =
-    cond_both (nat_lt column end) (standing_within start end column cs) [] (λ text. Unmarked text) (λ _. standing_unmarked start end column cs u) (λ _. none_of_empty)
+run_uncoloured : (start end column : ℕ) (cs : List ℕ) → Uncoloured cs → Uncoloured (run_within start end column cs)
+run_uncoloured start end column cs u =
+    cond_both (nat_lt column end) (standing_within start end column cs) [] (λ text. Uncoloured text) (λ _. standing_uncoloured start end column cs u) (λ _. none_of_empty)
 
 -- such a text is seen whole, and has no colour sequence
-unmarked_seen : (cs : List ℕ) → Unmarked cs → visible cs ≡ cs
-unmarked_seen [] u = visible_none
-unmarked_seen (c ∷ cs) u = sym (visible_past c cs (u 0)) ∙ ap (λ x. c ∷ x) (unmarked_seen cs (λ place. u (suc place)))
+uncoloured_seen : (cs : List ℕ) → Uncoloured cs → visible cs ≡ cs
+uncoloured_seen [] u = visible_none
+uncoloured_seen (c ∷ cs) u = sym (visible_past c cs (u 0)) ∙ ap (λ x. c ∷ x) (uncoloured_seen cs (λ place. u (suc place)))
 
-unmarked_plain : (cs : List ℕ) → Unmarked cs → sequences_of cs ≡ []
-unmarked_plain [] u = ap (flat_map sequence_in) none_left
-unmarked_plain (c ∷ cs) u = ap (flat_map sequence_in) (first_joined c cs (u 0)) ∙ sequence_joins c (pieces_of_text cs) ∙ unmarked_plain cs (λ place. u (suc place))
+uncoloured_plain : (cs : List ℕ) → Uncoloured cs → sequences_of cs ≡ []
+uncoloured_plain [] u = ap (flat_map sequence_in) none_left
+uncoloured_plain (c ∷ cs) u = ap (flat_map sequence_in) (first_joined c cs (u 0)) ∙ sequence_joins c (pieces_of_text cs) ∙ uncoloured_plain cs (λ place. u (suc place))
 
 -- ---- the pieces of a range
 
@@ -152,7 +152,7 @@ kept_seen start end column (Colour sequence ∷ ps) exact apart =
 kept_seen start end column (Run text ∷ ps) exact apart =
     let after = column + sum_by width_of text in
     visible_apart (run_within start end column text) (pieces_within start end after ps) (rest_apart start end after text ps exact.1 apart)
-    ∙ ap (λ x. x ++ visible (pieces_within start end after ps)) (unmarked_seen (run_within start end column text) (run_unmarked start end column text exact.0))
+    ∙ ap (λ x. x ++ visible (pieces_within start end after ps)) (uncoloured_seen (run_within start end column text) (run_uncoloured start end column text exact.0))
     ∙ ap (λ x. run_within start end column text ++ x) (kept_seen start end after ps exact.1 (less_adjoin text ps apart))
 
 sequences_kept : (start end column : ℕ) (ps : List TextPiece) → AllByRecursion IsExact ps → NoRunsAdjoin ps → sequences_of (pieces_within start end column ps) ≡ flat_map sequence_in ps
@@ -162,7 +162,7 @@ sequences_kept start end column (Colour sequence ∷ ps) exact apart =
 sequences_kept start end column (Run text ∷ ps) exact apart =
     let after = column + sum_by width_of text in
     sequences_apart (run_within start end column text) (pieces_within start end after ps) (rest_apart start end after text ps exact.1 apart)
-    ∙ ap (λ x. x ++ sequences_of (pieces_within start end after ps)) (unmarked_plain (run_within start end column text) (run_unmarked start end column text exact.0))
+    ∙ ap (λ x. x ++ sequences_of (pieces_within start end after ps)) (uncoloured_plain (run_within start end column text) (run_uncoloured start end column text exact.0))
     ∙ sequences_kept start end after ps exact.1 (less_adjoin text ps apart)
 
 pub sequences_stay : SequencesStay

@@ -1,6 +1,6 @@
 -- What only the contracts of private functions cite.
 pub mod Draft
-pub mod Marks
+pub mod StoredParts
 pub mod Durations
 pub mod Growing
 pub mod Pieces

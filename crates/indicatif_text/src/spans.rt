@@ -1,7 +1,7 @@
 //! Cutting a text at the first character that doesn't belong to a run.
 ghost use Rattle.std.specs.Prelude.{◌≡◌, ◌∷◌, [], chars, take_while, MatchOption, IfSome, IsUtf8};
 ghost use Rattle.std.specs.List.{prefix_len};
-ghost use Rattle.indicatif_text.specs.Inside.Spans.{belongs, mark_of};
+ghost use Rattle.indicatif_text.specs.Inside.Spans.{belongs, bit_of};
 ghost use Rattle.indicatif_text.specs.Template.{after_run};
 
 /// How far the words of a style go. What ends them is always ASCII.
@@ -42,8 +42,8 @@ const ENDS: &[u8; 256] = &[
 
 /// What the bytes that end this run have in the table.
 #[inline(always)]
-fn mark_of(run: Span) -> u8
-    ensures { result ≡ mark_of run }
+fn bit_of(run: Span) -> u8
+    ensures { result ≡ bit_of run }
 {
     match run {
         Span::Literal => 1,
@@ -59,7 +59,7 @@ fn mark_of(run: Span) -> u8
 fn belongs(run: Span, byte: u8) -> bool
     ensures { result ≡ belongs run byte }
 {
-    ENDS[usize::from(byte)] & mark_of(run) == 0
+    ENDS[usize::from(byte)] & bit_of(run) == 0
 }
 
 /// How many bytes in front belong to the run.

@@ -8,15 +8,15 @@ ghost use Rattle.indicatif_text.specs.Template.{TemplatePart, part_of, Parses, I
 use crate::refusal::{Refusal, TemplateState};
 use crate::style_words::Style;
 use crate::template::draft::Draft;
-use crate::template::marks::Mark;
+use crate::template::stored_parts::StoredPart;
 use std::alloc::{AllocError, AllocFailed, Global};
 use std::error::Error;
 use std::fmt;
 use std::marker::Model;
 
 mod draft;
-mod marks;
 mod reading;
+mod stored_parts;
 
 /// Where a placeholder's text stands in its width.
 ///
@@ -79,19 +79,19 @@ pub enum Part<'a> {
 pub struct Template {
     /// The texts of the parts, one behind the other.
     texts: String,
-    marks: Vec<Mark>,
+    parts: Vec<StoredPart>,
 }
 
 impl Model for Template {
     ghost use Rattle.std.specs.Prelude.{List, map, string_bytes};
     ghost use Rattle.indicatif_text.specs.Template.{TemplatePart};
-    ghost use Rattle.indicatif_text.specs.Inside.Marks.{part_at, AreIn};
+    ghost use Rattle.indicatif_text.specs.Inside.StoredParts.{part_at, AreIn};
 
     ghost Value = { List TemplatePart };
 
-    ghost view = { λ t. map (part_at (string_bytes t.texts)) t.marks.items };
+    ghost view = { λ t. map (part_at (string_bytes t.texts)) t.parts.items };
 
-    ghost invariant = { λ t. AreIn (string_bytes t.texts) t.marks.items };
+    ghost invariant = { λ t. AreIn (string_bytes t.texts) t.parts.items };
 }
 
 impl Template {
@@ -144,7 +144,7 @@ impl Template {
     {
         Template {
             texts: String::new(alloc),
-            marks: Vec::new(alloc),
+            parts: Vec::new(alloc),
         }
     }
 
@@ -193,7 +193,7 @@ impl Template {
     pub fn part_count(&self) -> usize
         ensures { result ≡ length self.now }
     {
-        self.marks.len()
+        self.parts.len()
     }
 
     /// The part at a place, counted from 0.
@@ -206,8 +206,8 @@ impl Template {
     pub fn part(&self, place: usize) -> Option<Part<'_>>
         ensures { option_map part_of result ≡ slice_get self.now place }
     {
-        match self.marks.get(place) {
-            Some(mark) => Some(mark.part(self.texts.as_str())),
+        match self.parts.get(place) {
+            Some(stored) => Some(stored.part(self.texts.as_str())),
             None => None,
         }
     }
@@ -223,7 +223,7 @@ impl Template {
     {
         Parts {
             texts: self.texts.as_str(),
-            marks: self.marks.as_slice(),
+            parts: self.parts.as_slice(),
         }
     }
 }
@@ -237,19 +237,19 @@ impl Template {
 #[derive(Drop)]
 pub struct Parts<'a> {
     texts: &'a str,
-    marks: &'a [Mark],
+    parts: &'a [StoredPart],
 }
 
 impl<'a> Model for Parts<'a> {
     ghost use Rattle.std.specs.Prelude.{List, map};
     ghost use Rattle.indicatif_text.specs.Template.{TemplatePart};
-    ghost use Rattle.indicatif_text.specs.Inside.Marks.{part_at, AreIn};
+    ghost use Rattle.indicatif_text.specs.Inside.StoredParts.{part_at, AreIn};
 
     ghost Value = { List TemplatePart };
 
-    ghost view = { λ p. map (part_at p.texts.now) p.marks.now };
+    ghost view = { λ p. map (part_at p.texts.now) p.parts.now };
 
-    ghost invariant = { λ p. AreIn p.texts.now p.marks.now };
+    ghost invariant = { λ p. AreIn p.texts.now p.parts.now };
 }
 
 impl<'a> Iterator for Parts<'a> {
@@ -260,9 +260,9 @@ impl<'a> Iterator for Parts<'a> {
     ghost remaining = { item_count (λ left. left) };
 
     fn next(&mut self) -> Option<Part<'a>> {
-        let (mark, marks) = self.marks.split_first()?;
-        self.marks = marks;
-        Some(mark.part(self.texts))
+        let (stored, parts) = self.parts.split_first()?;
+        self.parts = parts;
+        Some(stored.part(self.texts))
     }
 }
 

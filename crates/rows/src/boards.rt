@@ -5,7 +5,7 @@ use indicatif_bar::style::NoTracker;
 use indicatif_board::multi::{Answer, BarId, Board, Call, Candidate, InsertLocation, Turned};
 use indicatif_term::draw_target::MultiProgressAlignment;
 use indicatif_text::columns::{Drawn, Moment, Refusal};
-use scripts::boards::{MARK, bar_id, board_call, candidate, of_bar, placed, push_answer};
+use scripts::boards::{BOARD_ID, bar_id, board_call, candidate, of_bar, placed, push_answer};
 use scripts::commands::command;
 use scripts::got::{Bad, Got};
 use scripts::lone::read_bar;
@@ -80,7 +80,7 @@ impl OnScreen {
 }
 
 fn board_on(at: At, target: Box<Target>) -> Result<Box<Shown>, Bad> {
-    at.boxed(Board::new(at.alloc, Box::into_inner(target), MARK))
+    at.boxed(Board::new(at.alloc, Box::into_inner(target), BOARD_ID))
 }
 
 /// Sets where bars stand in what is taken back; nothing is as it was.
@@ -215,7 +215,7 @@ fn push_candidate(candidate: &Candidate<NoTracker>, got: &mut Got) {
             got.text(bar.message());
         }
         Candidate::Member(id) => {
-            got.text(if id.mark == MARK { " =" } else { " =x" });
+            got.text(if id.board == BOARD_ID { " =" } else { " =x" });
             got.number(id.number);
         }
     }

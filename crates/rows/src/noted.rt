@@ -11,7 +11,7 @@ use indicatif_board::multi::Board;
 use indicatif_term::draw_target::ProgressDrawTarget;
 use indicatif_term::in_memory::InMemoryTerm;
 use indicatif_term::term_like::TermLike;
-use scripts::boards::{MARK, candidate, of_bar};
+use scripts::boards::{BOARD_ID, candidate, of_bar};
 use scripts::commands::command;
 use scripts::got::{Bad, Got};
 use scripts::row::{At, headed};
@@ -154,7 +154,7 @@ impl OnNoted {
             kind: ErrorKind::Other,
         };
         let target = ProgressDrawTarget::term_like(term);
-        let board = at.boxed(Board::new(at.alloc, target, MARK))?;
+        let board = at.boxed(Board::new(at.alloc, target, BOARD_ID))?;
         Ok(OnNoted { board, memory })
     }
 

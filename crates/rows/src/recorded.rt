@@ -3,7 +3,7 @@ use indicatif_bar::state::BarState;
 use indicatif_bar::style::NoTracker;
 use indicatif_board::multi::{Answer, Board, Call, Recorded};
 use indicatif_text::columns::Moment;
-use scripts::boards::{MARK, board_call, of_bar, push_answer};
+use scripts::boards::{BOARD_ID, board_call, of_bar, push_answer};
 use scripts::got::{Bad, Got};
 use scripts::lone::read_bar;
 use scripts::row::At;
@@ -40,7 +40,7 @@ impl OnScreen {
 }
 
 fn kept_on(at: At, target: Box<Target>) -> Result<Box<Kept>, Bad> {
-    at.boxed(Recorded::new(at.alloc, Box::into_inner(target), MARK))
+    at.boxed(Recorded::new(at.alloc, Box::into_inner(target), BOARD_ID))
 }
 
 fn board_of(board: &Kept) -> &Board<NoTracker, Behind> {

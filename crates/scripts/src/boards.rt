@@ -9,18 +9,18 @@ use indicatif_board::multi::{Answer, BarId, Call, Candidate, InsertLocation};
 use indicatif_term::draw_target::MultiProgressAlignment;
 use std::alloc::Global;
 
-/// The mark of the board that rows speak of.
-pub const MARK: u64 = 1;
+/// The id of the board that rows speak of.
+pub const BOARD_ID: u64 = 1;
 
 /// The bar of a number; that of another board behind `x`.
 pub fn bar_id(text: &str) -> Result<BarId, Bad> {
     match text.strip_prefix('x') {
         Some(rest) => Ok(BarId {
-            mark: MARK + 1,
+            board: BOARD_ID + 1,
             number: number(rest)?,
         }),
         None => Ok(BarId {
-            mark: MARK,
+            board: BOARD_ID,
             number: number(text)?,
         }),
     }

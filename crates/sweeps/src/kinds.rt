@@ -6,7 +6,7 @@ use scripts::judged::judge::{Finding, Judge};
 use scripts::judged::on_bar::OnBar;
 use scripts::judged::on_board::OnBoard;
 use scripts::judged::played::{Stage, played};
-use scripts::judged::record::{Mark, Record};
+use scripts::judged::record::{Point, Record};
 use scripts::judged::script::{BOARD, LONE, SHARED, SIZED_BOARD, SIZED_LONE, Step};
 use std::alloc::Global;
 use std::sync::Wait;
@@ -81,7 +81,7 @@ impl Kind {
 #[derive(Clone, Copy, Drop)]
 pub struct Outcome {
     pub failed: u64,
-    pub mark: Mark,
+    pub point: Point,
 }
 
 /// How many bytes a record has room for at first.
@@ -126,8 +126,8 @@ fn judged<S: Stage + Drop>(
 ) -> Result<Outcome, Finding> {
     let mut judge = Judge::new(alloc, case.size, case.look)?;
     let failed = played(&mut stage, record, case.kind.script(), &mut judge)?;
-    let mark = record.mark();
+    let point = record.point();
     record.heal();
     played(&mut stage, record, case.kind.last(), &mut judge)?;
-    Ok(Outcome { failed, mark })
+    Ok(Outcome { failed, point })
 }

@@ -84,11 +84,11 @@ impl<R: Wait + Copy + Clone + Drop> OnShared<R> {
 
     /// The last owner of a bar goes, which answers nothing: it counts as drawn where the writer didn't fail.
     fn drop_bar(&mut self, number: u64) -> Said {
-        let before = self.record.mark().failures;
+        let before = self.record.point().failures;
         if let Some(bar) = self.bars.get_mut(number as usize) {
             *bar = None;
         }
-        match self.record.mark().failures == before {
+        match self.record.point().failures == before {
             true => Ok(Drawn::Yes),
             false => Err(Refusal::Terminal(self.record.failed_by())),
         }

@@ -3,7 +3,7 @@ use crate::sweep::LARGEST;
 use anyhow::Result;
 use bars_run::run_bars;
 use scripts::judged::judge::Finding;
-use scripts::judged::record::{Mark, Plan, Record, Size, Wire};
+use scripts::judged::record::{Plan, Point, Record, Size, Wire};
 use scripts::judged::refused::Where;
 use std::alloc::{AllocError, Global};
 
@@ -34,7 +34,7 @@ fn words(alloc: Global, size: Size) -> Result<Vec<String>> {
 #[derive(Drop)]
 struct Ran {
     status: u8,
-    mark: Mark,
+    point: Point,
     printed: Vec<u8>,
     said: Vec<u8>,
 }
@@ -46,24 +46,24 @@ impl Ran {
         let mut output = Wire(record.clone()?);
         let mut said: Vec<u8> = Vec::new(alloc);
         let status = run_bars(alloc, args, COMMANDS, &mut output, &mut said);
-        let mark = record.mark();
+        let point = record.point();
         Ok(Ran {
             status,
-            mark,
-            printed: record.between(alloc, Mark::default(), mark)?,
+            point,
+            printed: record.between(alloc, Point::default(), point)?,
             said,
         })
     }
 
     /// Whether it printed all, and said nothing.
     fn is_whole(&self) -> bool {
-        self.status == 0 && self.mark.failures == 0 && self.said.is_empty()
+        self.status == 0 && self.point.failures == 0 && self.said.is_empty()
     }
 
     /// Whether it printed a beginning of what the other one did, said that its output failed, and asked no more of it.
     fn is_beginning_of(&self, whole: &Ran) -> bool {
         self.status == 2
-            && self.mark.failures == 1
+            && self.point.failures == 1
             && self.said.as_slice() == b"bars: output failed\n".as_slice()
             && whole.printed.starts_with(&self.printed)
     }
@@ -90,7 +90,7 @@ impl Printed {
         let args = words(alloc, size)?;
         let whole = Ran::new(alloc, &args, Plan::Never)?;
         self.count(whole.is_whole());
-        for byte in 0..whole.mark.bytes {
+        for byte in 0..whole.point.bytes {
             let ran = Ran::new(alloc, &args, Plan::Byte(byte))?;
             self.count(ran.is_beginning_of(&whole) && ran.printed.len() == byte);
         }
@@ -99,7 +99,7 @@ impl Printed {
     }
 
     fn with_calls(&mut self, alloc: Global, args: &[String], whole: &Ran) -> Result<()> {
-        for call in 1..=whole.mark.calls {
+        for call in 1..=whole.point.calls {
             let once = Ran::new(alloc, args, Plan::Call(call))?;
             self.count(once.is_beginning_of(whole));
             let always = Ran::new(alloc, args, Plan::From(call))?;
@@ -140,9 +140,9 @@ pub fn refused(alloc: Global) -> Result<Where, Finding> {
     let mut said = again(Vec::with_capacity(alloc, ROOM), alloc)?;
     let mut output = Wire(record.clone()?);
     let status = run_bars(alloc, &args, COMMANDS, &mut output, &mut said);
-    let printed = match record.between(alloc, Mark::default(), record.mark()) {
+    let printed = match record.between(alloc, Point::default(), record.point()) {
         Ok(printed) => printed,
-        Err(_) => record.between(alloc, Mark::default(), record.mark())?,
+        Err(_) => record.between(alloc, Point::default(), record.point())?,
     };
     match status {
         0 if printed.as_slice() == PRINTED && said.is_empty() => Ok(Where::Nowhere),

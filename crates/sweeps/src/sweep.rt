@@ -1,7 +1,7 @@
 //! The runs of a script, one for each place where its terminal can fail.
 use crate::kinds::{Kind, run};
 use scripts::judged::judge::{Finding, Look};
-use scripts::judged::record::{Mark, Plan, Size};
+use scripts::judged::record::{Plan, Point, Size};
 use std::sync::Wait;
 
 /// A run: what plays its script, on a terminal of this size that fails so, and how closely it is looked at.
@@ -54,21 +54,21 @@ impl<R: AllocGlobal + Wait + Copy + Clone + Drop> Runs for R {}
 
 impl Tally {
     /// Plays this case, and counts it; what the writer was given, nothing where the run isn't as it should be.
-    fn plays<R: Runs>(&mut self, rt: R, case: Case) -> Mark {
+    fn plays<R: Runs>(&mut self, rt: R, case: Case) -> Point {
         let outcome = run(rt, case);
         self.runs = self.runs.saturating_add(1);
         let found = match outcome {
-            Ok(outcome) if case.admits(outcome.failed) => return outcome.mark,
+            Ok(outcome) if case.admits(outcome.failed) => return outcome.point,
             Ok(outcome) => Found::Failed(outcome.failed),
             Err(finding) => Found::Wrong(finding),
         };
         self.differ = self.differ.saturating_add(1);
         self.first = Some(self.first.unwrap_or((case, found)));
-        Mark::default()
+        Point::default()
     }
 
     /// Plays this case where nothing fails, and looks behind each byte; what the writer was given.
-    fn unfailed<R: Runs>(&mut self, rt: R, case: Case) -> Mark {
+    fn unfailed<R: Runs>(&mut self, rt: R, case: Case) -> Point {
         let look = Look::EachByte;
         self.plays(
             rt,

@@ -116,14 +116,14 @@ module _ {S X : Type 0} (f : S → X) (target : Target) (d : Draw S) where
       (λ k. cond_both (not d.allowed) (Ok Limited, d.ready) _ P (λ h. λ q. absurd cc)
       (λ h. cond_both (some_wide target.columns d.lines) (Err TooWide, d.ready) (Ok Yes, d.written) P (λ g. λ q. absurd cc) (λ g. λ q. refl)))))
 
-module _ {K : Type 0} (m : Tracking K) (mark now : ℕ) (s : BoardState (BarRecord K)) (answer : Result Drawn Refusal) where
-  board_ample : (old new : Option TermView) → Says (board (board_bars m) mark) old new (ClearBoard, now) s (says answer) → drawn_of (says answer) ≡ Err Memory → ⊥
+module _ {K : Type 0} (m : Tracking K) (board_id now : ℕ) (s : BoardState (BarRecord K)) (answer : Result Drawn Refusal) where
+  board_ample : (old new : Option TermView) → Says (board (board_bars m) board_id) old new (ClearBoard, now) s (says answer) → drawn_of (says answer) ≡ Err Memory → ⊥
   board_ample old new w e = never_both (comes_to_lines (target_of old) (draw_of (target_of old) false Forced now NoFrame s s false)) false refl (w.memory e)
 
-  pub board_cleared_ample : (old new : Option TermView) → Says (board (board_bars m) mark) old new (ClearBoard, now) s (says answer) → answer ≡ Err Memory → ⊥
+  pub board_cleared_ample : (old new : Option TermView) → Says (board (board_bars m) board_id) old new (ClearBoard, now) s (says answer) → answer ≡ Err Memory → ⊥
   board_cleared_ample old new w e = board_ample old new w (drawn_of_said answer ∙ e)
 
-  pub board_cleared_so : (v : TermView) (new : Option TermView) → Says (board (board_bars m) mark) (Some v) new (ClearBoard, now) s (says answer) → v.columns ≢ 0 →
+  pub board_cleared_so : (v : TermView) (new : Option TermView) → Says (board (board_bars m) board_id) (Some v) new (ClearBoard, now) s (says answer) → v.columns ≢ 0 →
       (answer ≡ Ok Yes) ⊎ (is_failure answer ≡ true)
   board_cleared_so v new w wide =
       let d = draw_of (target_of (Some v)) false Forced now NoFrame s s false in
@@ -132,7 +132,7 @@ module _ {K : Type 0} (m : Tracking K) (mark now : ℕ) (s : BoardState (BarReco
 
   module _ (target : Target) (next : BoardState (BarRecord K)) where
     abbrev pub Clears : Type 0
-    Clears = Leads (board (board_bars m) mark) target s ((board (board_bars m) mark).deed target ClearBoard now s) (says answer) next
+    Clears = Leads (board (board_bars m) board_id) target s ((board (board_bars m) board_id).deed target ClearBoard now s) (says answer) next
 
     said : (r : Result Drawn Refusal) → says answer ≡ says r → answer ≡ r
     said r e = sym (drawn_of_said answer) ∙ ap drawn_of e ∙ drawn_of_said r

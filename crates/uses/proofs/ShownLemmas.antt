@@ -97,7 +97,7 @@ module _ {K : Type 0} (m : Tracking K) where
 -- ---- the same of a bar on a board
 
 abbrev pub own : Id
-own = record { mark = 0; number = 0 }
+own = record { board = 0; number = 0 }
 
 abbrev pub add_bar : {K : Type 0} → List (List ℕ) → Call (BarRecord K) (Command K)
 add_bar ticks = Insert End (New (message_bar ticks))

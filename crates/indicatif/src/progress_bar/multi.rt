@@ -20,7 +20,7 @@ use std::sync::{Arc, Mutex, Wait};
 /// answers what that answers; what a call does and refuses is said there. A bar's own calls go on from its clock. A call of a bar
 /// takes the bar's lock first and then the board's, and no call takes them the other way.
 ///
-/// Boards are told apart by their marks alone: give those that live at one time marks of their own.
+/// Boards are told apart by their ids alone: give those that live at one time ids of their own.
 ///
 /// Only a board that keeps its history (`recorded`) takes memory for each call: one entry. Where its history has no room, the call
 /// answers `Memory`, and nothing has changed. On any other board a call takes what `Board` says, and for a text that isn't empty a copy.
@@ -47,17 +47,17 @@ pub struct MultiProgress<
 
 /// Boards whose bars have no keys of the caller's own.
 impl<T: TermLike + Drop, C: Clock + Drop, R: Wait + Clone + Drop> MultiProgress<T, C, R> {
-    /// A board without bars, of this mark. It writes nothing yet. Its bars come by `new_bar`, `new_spinner` and `add`.
+    /// A board without bars, of this id. It writes nothing yet. Its bars come by `new_bar`, `new_spinner` and `add`.
     ///
     /// Refused: `Memory`; nothing is made, and what was handed in is given up.
-    pub fn new(rt: R, alloc: Global, setup: Setup<T, C>, mark: u64) -> Result<Self, Refusal>
+    pub fn new(rt: R, alloc: Global, setup: Setup<T, C>, board_id: u64) -> Result<Self, Refusal>
         ensures { IfErr result (λ e. e ≡ Refusal.Memory) }
     {
         let Setup { target, clock } = setup;
-        MultiProgress::with_draw_target(rt, alloc, target, clock, mark)
+        MultiProgress::with_draw_target(rt, alloc, target, clock, board_id)
     }
 
-    /// A board without bars on this target, by this clock, of this mark.
+    /// A board without bars on this target, by this clock, of this id.
     ///
     /// Refused: `Memory`; nothing is made, and what was handed in is given up.
     pub fn with_draw_target(
@@ -65,11 +65,11 @@ impl<T: TermLike + Drop, C: Clock + Drop, R: Wait + Clone + Drop> MultiProgress<
         alloc: Global,
         target: ProgressDrawTarget<T>,
         clock: C,
-        mark: u64,
+        board_id: u64,
     ) -> Result<Self, Refusal>
         ensures { IfErr result (λ e. e ≡ Refusal.Memory) }
     {
-        MultiProgress::keyed(rt, alloc, Setup { target, clock }, mark)
+        MultiProgress::keyed(rt, alloc, Setup { target, clock }, board_id)
     }
 
     /// The same, and the board keeps its history; `with_record` lends it. It grows with each call.
@@ -80,11 +80,11 @@ impl<T: TermLike + Drop, C: Clock + Drop, R: Wait + Clone + Drop> MultiProgress<
         alloc: Global,
         target: ProgressDrawTarget<T>,
         clock: C,
-        mark: u64,
+        board_id: u64,
     ) -> Result<Self, Refusal>
         ensures { IfErr result (λ e. e ≡ Refusal.Memory) }
     {
-        MultiProgress::keyed_recorded(rt, alloc, Setup { target, clock }, mark)
+        MultiProgress::keyed_recorded(rt, alloc, Setup { target, clock }, board_id)
     }
 }
 
@@ -101,11 +101,11 @@ impl<T: TermLike + Drop, C: Clock + Drop, R: Wait + Clone + Drop, K: Tracks> Mul
     /// ```
     ///
     /// Refused: `Memory`; nothing is made, and what was handed in is given up.
-    pub fn keyed(rt: R, alloc: Global, setup: Setup<T, C>, mark: u64) -> Result<Self, Refusal>
+    pub fn keyed(rt: R, alloc: Global, setup: Setup<T, C>, board_id: u64) -> Result<Self, Refusal>
         ensures { IfErr result (λ e. e ≡ Refusal.Memory) }
     {
         let Setup { target, clock } = setup;
-        let board = AnyBoard::Open(Board::new(alloc, target, mark));
+        let board = AnyBoard::Open(Board::new(alloc, target, board_id));
         MultiProgress::shared(rt, alloc, LockedBoard::new(board, clock))
     }
 
@@ -116,12 +116,12 @@ impl<T: TermLike + Drop, C: Clock + Drop, R: Wait + Clone + Drop, K: Tracks> Mul
         rt: R,
         alloc: Global,
         setup: Setup<T, C>,
-        mark: u64,
+        board_id: u64,
     ) -> Result<Self, Refusal>
         ensures { IfErr result (λ e. e ≡ Refusal.Memory) }
     {
         let Setup { target, clock } = setup;
-        let board = AnyBoard::Recorded(Recorded::new(alloc, target, mark));
+        let board = AnyBoard::Recorded(Recorded::new(alloc, target, board_id));
         MultiProgress::shared(rt, alloc, LockedBoard::new(board, clock))
     }
 

@@ -8,7 +8,7 @@ ghost use Rattle.indicatif_term.specs.Frames.{line_text};
 ghost use Rattle.indicatif_bar.specs.Tabs.{expanded};
 ghost use Rattle.indicatif_bar.specs.Progress.{fraction, is_finished, shown_message};
 ghost use Rattle.indicatif_bar.specs.Layout.{bar_text, padded};
-ghost use Rattle.indicatif_bar.specs.BarStyles.{key_text, tick_string, final_tick_string, wide_text, with_marks_as, lines_with, lines, columns_left, ends_in_mark, is_newline, is_wide_mark, is_empty_style};
+ghost use Rattle.indicatif_bar.specs.BarStyles.{key_text, tick_string, final_tick_string, wide_text, with_fillers_as, lines_with, lines, columns_left, ends_in_filler, is_newline, is_filler, is_empty_style};
 ghost use Rattle.indicatif_bar.specs.Inside.Steps.{PutsSource, placeholder_layout, source_text, effect_text, wide_found};
 
 use crate::bar_style::ProgressStyle;
@@ -16,7 +16,7 @@ use crate::progress::ProgressState;
 use crate::scan::cut_at;
 use crate::spare::SpareLines;
 use crate::style::bar::{RestLook, push_bar};
-use crate::style::filling::{Gap, has_break, has_mark, push_line, push_lines};
+use crate::style::filling::{Gap, has_break, has_filler, push_line, push_lines};
 use crate::style::key_texts::{
     push_count, push_percent, push_percent_precise, push_rate, push_text, push_time,
     push_whole_rate,
@@ -211,7 +211,7 @@ impl<K: Tracks> ProgressStyle<K> {
         Ok(())
     }
 
-    /// Appends what stands in the place of each mark of a text with this gap.
+    /// Appends what stands in the place of each filler of a text with this gap.
     fn push_wide(
         &self,
         wide: WideKey,
@@ -220,7 +220,7 @@ impl<K: Tracks> ProgressStyle<K> {
         spare: &mut SpareLines,
         out: &mut String,
     ) -> Result<(), Refusal>
-        ensures text { (columns : ℕ) (text : List ℕ) → gap.columns ≡ columns_left columns text → gap.is_last ≡ ends_in_mark text →
+        ensures text { (columns : ℕ) (text : List ℕ) → gap.columns ≡ columns_left columns text → gap.is_last ≡ ends_in_filler text →
             OnOk result (string_bytes out.new ≡ string_bytes out.old
             ++ wide_text self.now state.now columns text (wide_found wide)) }
         ensures memory { IfErr result (λ e. e ≡ Refusal.Memory) }
@@ -243,7 +243,7 @@ impl<K: Tracks> ProgressStyle<K> {
         Ok(())
     }
 
-    /// Appends a text with what stands in the place of each of its marks, which have this gap.
+    /// Appends a text with what stands in the place of each of its fillers, which have this gap.
     fn push_filled(
         &self,
         text: &str,
@@ -253,13 +253,13 @@ impl<K: Tracks> ProgressStyle<K> {
         spare: &mut SpareLines,
         out: &mut String,
     ) -> Result<(), Refusal>
-        ensures text { (columns : ℕ) → gap.columns ≡ columns_left columns text.now → gap.is_last ≡ ends_in_mark text.now →
+        ensures text { (columns : ℕ) → gap.columns ≡ columns_left columns text.now → gap.is_last ≡ ends_in_filler text.now →
             OnOk result (string_bytes out.new ≡ string_bytes out.old
-            ++ with_marks_as (wide_text self.now state.now columns text.now (wide_found wide)) text.now) }
+            ++ with_fillers_as (wide_text self.now state.now columns text.now (wide_found wide)) text.now) }
         ensures memory { IfErr result (λ e. e ≡ Refusal.Memory) }
     {
         let mut rest = text;
-        'marks: while let Some((part, behind)) = cut_at(0, rest) {
+        'fillers: while let Some((part, behind)) = cut_at(0, rest) {
             out.push_str(part)?;
             self.push_wide(wide, gap, state, spare, out)?;
             rest = behind;
@@ -287,7 +287,7 @@ impl<K: Tracks> ProgressStyle<K> {
             push_lines(text, spare, lines)?;
             return Ok(());
         };
-        if !has_mark(text.as_str()) {
+        if !has_filler(text.as_str()) {
             push_lines(text, spare, lines)?;
             return Ok(());
         }
@@ -301,7 +301,7 @@ impl<K: Tracks> ProgressStyle<K> {
         Ok(())
     }
 
-    /// Appends the lines of a text with what stands in the place of its marks.
+    /// Appends the lines of a text with what stands in the place of its fillers.
     fn push_all_filled(
         &self,
         text: &str,
@@ -323,7 +323,7 @@ impl<K: Tracks> ProgressStyle<K> {
         Ok(())
     }
 
-    /// The same of one line that has a mark. A bar in its place leaves it one line.
+    /// The same of one line that has a filler. A bar in its place leaves it one line.
     fn push_line_filled(
         &self,
         text: &str,
@@ -334,7 +334,7 @@ impl<K: Tracks> ProgressStyle<K> {
         lines: &mut Vec<LineType>,
     ) -> Result<(), Refusal>
         requires one_line { IsFalse (list_any is_newline text.now) }
-        requires marked { IsTrue (list_any is_wide_mark text.now) }
+        requires has_filler { IsTrue (list_any is_filler text.now) }
         ensures lines { OnOk result (map line_text lines.new.items ≡ map line_text lines.old.items
             ++ lines_with self.now state.now width (Some (wide_found wide)) text.now) }
         ensures kind { IsTrue (list_all is_bar_line lines.old.items) → IsTrue (list_all is_bar_line lines.new.items) }

@@ -1,20 +1,20 @@
-//! Lines of a text, and what stands in the place of a wide key's marks.
+//! Lines of a text, and what stands in the place of a wide key's fillers.
 ghost use Rattle.std.specs.Prelude.{◌≡◌, ◌++◌, ◌∷◌, [], false, find, map, string_bytes, OnOk, IfErr, IsTrue, IsFalse};
 ghost use Rattle.std.specs.Option.{option_map_or};
 ghost use Rattle.std.specs.List.{list_all, list_any, slice_get, slice_split};
 ghost use Rattle.indicatif_bar.specs.Bars.{is_bar_line};
 ghost use Rattle.indicatif_term.specs.Frames.{line_text};
 ghost use Rattle.indicatif_bar.specs.Layout.{text_columns};
-ghost use Rattle.indicatif_bar.specs.BarStyles.{is_wide_mark, is_newline, ends_in_mark, columns_left};
+ghost use Rattle.indicatif_bar.specs.BarStyles.{is_filler, is_newline, ends_in_filler, columns_left};
 
 use crate::scan::{cut_at, has_byte};
 use crate::spare::SpareLines;
 use indicatif_term::draw_target::LineType;
 use indicatif_text::columns::{Refusal, columns};
 
-/// Whether a text has a mark.
-pub(crate) fn has_mark(text: &str) -> bool
-    ensures { result ≡ list_any is_wide_mark text.now }
+/// Whether a text has a filler.
+pub(crate) fn has_filler(text: &str) -> bool
+    ensures { result ≡ list_any is_filler text.now }
 {
     has_byte(0, text)
 }
@@ -26,7 +26,7 @@ pub(crate) fn has_break(text: &str) -> bool
     has_byte(b'\n', text)
 }
 
-/// Where a text's marks stand: how many columns their line leaves free, and whether one ends the text.
+/// Where a text's fillers stand: how many columns their line leaves free, and whether one ends the text.
 #[derive(Clone, Copy, Drop)]
 pub(crate) struct Gap {
     pub(crate) columns: usize,
@@ -37,31 +37,31 @@ impl Gap {
     /// The gap of a text on a terminal of `width` columns.
     pub(crate) fn of(text: &str, width: u16) -> Gap
         ensures columns { result.columns ≡ columns_left width text.now }
-        ensures is_last { result.is_last ≡ ends_in_mark text.now }
+        ensures is_last { result.is_last ≡ ends_in_filler text.now }
     {
         Gap {
             columns: columns_left(text, width),
-            is_last: ends_in_mark(text),
+            is_last: ends_in_filler(text),
         }
     }
 
-    /// The same of one line that has a mark.
+    /// The same of one line that has a filler.
     pub(crate) fn of_line(line: &str, width: u16) -> Gap
         requires one_line { IsFalse (list_any is_newline line.now) }
-        requires marked { IsTrue (list_any is_wide_mark line.now) }
+        requires has_filler { IsTrue (list_any is_filler line.now) }
         ensures columns { result.columns ≡ columns_left width line.now }
-        ensures is_last { result.is_last ≡ ends_in_mark line.now }
+        ensures is_last { result.is_last ≡ ends_in_filler line.now }
     {
         Gap {
-            columns: usize::from(width).saturating_sub(columns_behind_mark(line)),
-            is_last: ends_in_mark(line),
+            columns: usize::from(width).saturating_sub(columns_behind_filler(line)),
+            is_last: ends_in_filler(line),
         }
     }
 }
 
-/// Whether a mark ends a text.
-fn ends_in_mark(text: &str) -> bool
-    ensures { result ≡ ends_in_mark text.now }
+/// Whether a filler ends a text.
+fn ends_in_filler(text: &str) -> bool
+    ensures { result ≡ ends_in_filler text.now }
 {
     match text.as_bytes().last() {
         Some(b) => *b == 0,
@@ -69,41 +69,41 @@ fn ends_in_mark(text: &str) -> bool
     }
 }
 
-/// The columns that the first line with a mark leaves free.
+/// The columns that the first line with a filler leaves free.
 fn columns_left(text: &str, width: u16) -> usize
     ensures { result ≡ columns_left width text.now }
 {
-    usize::from(width).saturating_sub(marked_columns(text))
+    usize::from(width).saturating_sub(filler_line_columns(text))
 }
 
-/// The columns of the first line with a mark, or 0.
-fn marked_columns(text: &str) -> usize
-    ensures { result ≡ option_map_or text_columns (find (list_any is_wide_mark) (slice_split is_newline text.now)) 0 }
+/// The columns of the first line with a filler, or 0.
+fn filler_line_columns(text: &str) -> usize
+    ensures { result ≡ option_map_or text_columns (find (list_any is_filler) (slice_split is_newline text.now)) 0 }
 {
     let mut rest = text;
     'lines: while let Some((line, behind)) = cut_at(b'\n', rest) {
-        if has_mark(line) {
+        if has_filler(line) {
             return columns(line);
         }
         rest = behind;
     }
-    if has_mark(rest) { columns(rest) } else { 0 }
+    if has_filler(rest) { columns(rest) } else { 0 }
 }
 
-/// The columns of a text. A mark at its front takes none, so it isn't measured.
-fn columns_behind_mark(text: &str) -> usize
+/// The columns of a text. A filler at its front takes none, so it isn't measured.
+fn columns_behind_filler(text: &str) -> usize
     ensures { result ≡ text_columns text.now }
 {
-    if begins_with_mark(text) {
+    if begins_with_filler(text) {
         let (_, behind) = text.split_at(1);
         return columns(behind);
     }
     columns(text)
 }
 
-/// Whether a mark begins a text.
-fn begins_with_mark(text: &str) -> bool
-    ensures { result ≡ option_map_or is_wide_mark (slice_get text.now 0) false }
+/// Whether a filler begins a text.
+fn begins_with_filler(text: &str) -> bool
+    ensures { result ≡ option_map_or is_filler (slice_get text.now 0) false }
 {
     match text.as_bytes().first() {
         Some(b) => *b == 0,

@@ -5,9 +5,9 @@ use Rattle.std.specs.Str.{chars}
 use Rattle.indicatif_text.specs.declared.template.TemplateError.{TemplateError}
 use Rattle.indicatif_text.specs.declared.template.TemplateError.TheVariants.{Memory}
 use Rattle.indicatif_text.specs.declared.template.draft.Draft.{Draft}
-use Rattle.indicatif_text.specs.declared.template.marks.Kind.{Kind}
+use Rattle.indicatif_text.specs.declared.template.stored_parts.Kind.{Kind}
 use Rattle.indicatif_text.specs.Template.{TemplatePart, LiteralText, LineBreak, KeyText, TemplatePiece, Char, Break, SpacedBrace, Keyed, LastBrace, LastKey, Front, Takes, Stops, Reads, Refuses, is_open_run, without_open_run, onto_literal, joined_parts}
-use Rattle.indicatif_text.specs.Inside.Marks.{part_with, part_at}
+use Rattle.indicatif_text.specs.Inside.StoredParts.{part_with, part_at}
 
 -- a template that is half read: its parts so far, the literal text that stays whatever follows, and the literal run that an
 -- opening brace at the end would take away
@@ -20,7 +20,7 @@ pub record Sketch : Type 0 where
 -- as it keeps, stay whatever follows; the others are the run
 unfoldable pub sketch_of : Draft → Sketch
 sketch_of d = record {
-  done = map (part_at (take d.start (string_bytes d.texts))) d.marks.items;
+  done = map (part_at (take d.start (string_bytes d.texts))) d.parts.items;
   kept = chars (take d.kept (drop d.start (string_bytes d.texts)));
   run = chars (drop d.kept (drop d.start (string_bytes d.texts)));
 }
@@ -47,8 +47,8 @@ abbrev pub closed_sketch : Sketch → Sketch
 closed_sketch s = record { done = sketched_parts s; kept = []; run = [] }
 
 -- a sketch whose text was made a part of this kind
-abbrev pub marked_sketch : Sketch → Kind → Sketch
-marked_sketch s kind = record { done = s.done ++ part_with kind (s.kept ++ s.run) ∷ []; kept = []; run = [] }
+abbrev pub parted_sketch : Sketch → Kind → Sketch
+parted_sketch s kind = record { done = s.done ++ part_with kind (s.kept ++ s.run) ∷ []; kept = []; run = [] }
 
 -- a sketch with a further part
 abbrev pub with_part : Sketch → TemplatePart → Sketch

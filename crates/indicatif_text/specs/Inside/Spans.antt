@@ -24,9 +24,9 @@ belongs Key = is_key_char
 belongs (Word words) = λ c. in_words words c && is_word_char c
 
 -- what the bytes that end a run have in the table
-abbrev pub mark_of : Span → ℕ
-mark_of Literal = 1
-mark_of Key = 2
-mark_of (Word All) = 4
-mark_of (Word Style) = 8
-mark_of (Word Alternative) = 16
+abbrev pub bit_of : Span → ℕ
+bit_of Literal = 1
+bit_of Key = 2
+bit_of (Word All) = 4
+bit_of (Word Style) = 8
+bit_of (Word Alternative) = 16

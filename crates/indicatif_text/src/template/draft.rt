@@ -1,11 +1,11 @@
 //! A template that is half read.
 ghost use Rattle.std.specs.Prelude.{◌≡◌, ℕ, List, ◌∷◌, ◌++◌, [], ◌⊎◌, ◌<◌, chars, string_bytes, take, drop, length, OnOk, IfOk, IfErr, IsCharBoundary};
-ghost use Rattle.indicatif_text.specs.Inside.Marks.{AreIn};
+ghost use Rattle.indicatif_text.specs.Inside.StoredParts.{AreIn};
 
 use crate::refusal::TemplateState;
 use crate::spans::{Span, split_first, split_span};
-use crate::template::marks::{Kind, Mark};
 use crate::template::reading::{Options, with_options};
+use crate::template::stored_parts::{Kind, StoredPart};
 use crate::template::{Template, TemplateError};
 use std::alloc::{AllocError, Global};
 
@@ -16,11 +16,11 @@ const FIRST_PARTS: usize = 16;
 /// whatever follows; the others are the literal run, which an opening brace at the end would take away.
 #[derive(Drop)]
 pub(super) struct Draft {
-    marks: Vec<Mark>,
+    parts: Vec<StoredPart>,
     texts: String,
     start: usize,
     kept: usize,
-    ghost marks_in: { AreIn (take start (string_bytes texts)) marks.items },
+    ghost parts_in: { AreIn (take start (string_bytes texts)) parts.items },
     ghost start_whole: { IsCharBoundary (string_bytes texts) start },
     ghost kept_whole: { IsCharBoundary (drop start (string_bytes texts)) kept },
 }
@@ -28,16 +28,16 @@ pub(super) struct Draft {
 impl Draft {
     ghost use Rattle.indicatif_text.specs.Template.{LineBreak, Char, SpacedBrace, Keyed, LastBrace, plain_layout, with_options, keyed, unfinished, key_ends, opened, closed, IsRefused};
     ghost use Rattle.indicatif_text.specs.Inside.Reading.{layout_of};
-    ghost use Rattle.indicatif_text.specs.Inside.Draft.{Sketch, GoesOn, TakesIn, sketch_of, empty_sketch, sketched_parts, kept_sketch, closed_sketch, marked_sketch, with_part, with_run, added};
+    ghost use Rattle.indicatif_text.specs.Inside.Draft.{Sketch, GoesOn, TakesIn, sketch_of, empty_sketch, sketched_parts, kept_sketch, closed_sketch, parted_sketch, with_part, with_run, added};
 
     /// Nothing so far, with room for the texts of a text of `len` bytes, and for a part to every four of them, but for a few alone.
     pub(super) fn new(alloc: Global, len: usize) -> Result<Draft, AllocError>
         ensures { IfOk result (λ draft. sketch_of draft ≡ empty_sketch) }
     {
-        let marks = Vec::with_capacity(alloc, (len / 4 + 1).min(FIRST_PARTS))?;
+        let parts = Vec::with_capacity(alloc, (len / 4 + 1).min(FIRST_PARTS))?;
         let texts = String::with_capacity(alloc, len)?;
         Ok(Draft {
-            marks,
+            parts,
             texts,
             start: 0,
             kept: 0,
@@ -54,11 +54,11 @@ impl Draft {
     /// Makes the text behind the parts the text of a further part.
     #[inline]
     fn close(&mut self, kind: Kind) -> Result<(), AllocError>
-        ensures { OnOk result (sketch_of self.new ≡ marked_sketch (sketch_of self.old) kind) }
+        ensures { OnOk result (sketch_of self.new ≡ parted_sketch (sketch_of self.old) kind) }
     {
         let start = self.start;
         let end = self.texts.len();
-        self.marks.push(Mark { kind, start, end })?;
+        self.parts.push(StoredPart { kind, start, end })?;
         self.start = end;
         self.kept = 0;
         Ok(())
@@ -238,10 +238,10 @@ impl Draft {
         ensures refused { IfErr result (λ e. (e ≡ TemplateError.Memory) ⊎ IsRefused (chars text.now) e) }
         ensures shorter { IfOk result (λ rest. 0 < length (chars text.now) → length (chars rest.now) < length (chars text.now)) }
     {
-        let (run, marked) = split_span(text, Span::Literal);
+        let (run, behind) = split_span(text, Span::Literal);
         self.push_run(run)?;
-        let Some((first, after)) = split_first(marked) else {
-            return Ok(marked);
+        let Some((first, after)) = split_first(behind) else {
+            return Ok(behind);
         };
         if first == '{' {
             return self.read_open(after);
@@ -258,7 +258,7 @@ impl Draft {
         ensures { IfOk result (λ template. template ≡ sketched_parts (sketch_of self)) }
     {
         self.close_literal()?;
-        let (texts, marks) = (self.texts, self.marks);
-        Ok(Template { texts, marks })
+        let (texts, parts) = (self.texts, self.parts);
+        Ok(Template { texts, parts })
     }
 }

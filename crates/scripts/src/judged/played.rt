@@ -41,10 +41,10 @@ fn is_failing<S: Stage>(
     step: Step,
     judge: &mut Judge,
 ) -> Result<bool, Finding> {
-    let before = record.mark();
+    let before = record.point();
     let order = copied(judge.alloc(), stage.order())?;
     let said = stage.make(step);
-    let has_failed = record.mark().failures != before.failures;
+    let has_failed = record.point().failures != before.failures;
     let bytes = record.since(judge.alloc(), before)?;
     judge.reads(&bytes, has_failed)?;
     if has_failed {

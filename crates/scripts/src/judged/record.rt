@@ -36,7 +36,7 @@ impl Plan {
 
 /// What a writer was given so far.
 #[derive(Clone, Copy, Default, Drop)]
-pub struct Mark {
+pub struct Point {
     /// Bytes.
     pub bytes: usize,
     /// Calls.
@@ -49,7 +49,7 @@ pub struct Mark {
 #[derive(Drop)]
 pub struct Record {
     plan: Cell<Plan>,
-    mark: Cell<Mark>,
+    point: Cell<Point>,
     failed_call: Cell<u64>,
     failed_by: Cell<ErrorKind>,
     taken: RefCell<Vec<u8>>,
@@ -60,7 +60,7 @@ impl Record {
     pub fn new(alloc: Global, plan: Plan, room: usize) -> Result<Rc<Record>, Refusal> {
         let record = Record {
             plan: Cell::new(plan),
-            mark: Cell::new(Mark::default()),
+            point: Cell::new(Point::default()),
             failed_call: Cell::new(0),
             failed_by: Cell::new(ErrorKind::BrokenPipe),
             taken: RefCell::new(Vec::with_capacity(alloc, room)?),
@@ -74,8 +74,8 @@ impl Record {
     }
 
     /// How much it was given.
-    pub fn mark(&self) -> Mark {
-        self.mark.get()
+    pub fn point(&self) -> Point {
+        self.point.get()
     }
 
     /// The number of the call that failed last; 0 if none has.
@@ -88,13 +88,13 @@ impl Record {
         self.failed_by.get()
     }
 
-    /// The bytes that it has taken behind this mark.
-    pub fn since(&self, alloc: Global, mark: Mark) -> Result<Vec<u8>, Refusal> {
-        self.between(alloc, mark, self.mark())
+    /// The bytes that it has taken behind this point.
+    pub fn since(&self, alloc: Global, point: Point) -> Result<Vec<u8>, Refusal> {
+        self.between(alloc, point, self.point())
     }
 
-    /// The bytes that it has taken between two marks.
-    pub fn between(&self, alloc: Global, from: Mark, to: Mark) -> Result<Vec<u8>, Refusal> {
+    /// The bytes that it has taken between two points.
+    pub fn between(&self, alloc: Global, from: Point, to: Point) -> Result<Vec<u8>, Refusal> {
         match self.taken.try_borrow() {
             Ok(taken) => {
                 let bytes = taken.get(from.bytes..to.bytes).unwrap_or(&[]);
@@ -106,18 +106,18 @@ impl Record {
 
     /// Counts a call; whether it may be made.
     fn admits(&self) -> bool {
-        let mut mark = self.mark.get();
-        mark.calls = mark.calls.saturating_add(1);
-        self.mark.set(mark);
-        !self.plan.get().denies(mark.calls)
+        let mut point = self.point.get();
+        point.calls = point.calls.saturating_add(1);
+        self.point.set(point);
+        !self.plan.get().denies(point.calls)
     }
 
     /// Counts a failure of this kind.
     fn failure(&self, kind: ErrorKind) -> Error {
-        let mut mark = self.mark.get();
-        mark.failures = mark.failures.saturating_add(1);
-        self.mark.set(mark);
-        self.failed_call.set(mark.calls);
+        let mut point = self.point.get();
+        point.failures = point.failures.saturating_add(1);
+        self.point.set(point);
+        self.failed_call.set(point.calls);
         self.failed_by.set(kind);
         Error::from(kind)
     }
@@ -127,7 +127,7 @@ impl Record {
         let Plan::Byte(at) = self.plan.get() else {
             return Some(usize::MAX);
         };
-        let room = at.saturating_sub(self.mark.get().bytes);
+        let room = at.saturating_sub(self.point.get().bytes);
         if room > 0 {
             return Some(room);
         }
@@ -142,9 +142,9 @@ impl Record {
         if taken.extend_from_slice(bytes).is_err() {
             return Err(self.failure(ErrorKind::OutOfMemory));
         }
-        let mut mark = self.mark.get();
-        mark.bytes = mark.bytes.saturating_add(bytes.len());
-        self.mark.set(mark);
+        let mut point = self.point.get();
+        point.bytes = point.bytes.saturating_add(bytes.len());
+        self.point.set(point);
         Ok(())
     }
 }

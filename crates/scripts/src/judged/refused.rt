@@ -4,7 +4,7 @@
 //! there again.
 use super::judge::{Finding, Judge, Look};
 use super::played::{Stage, resized};
-use super::record::{Mark, Plan, Record, Size};
+use super::record::{Plan, Point, Record, Size};
 use super::script::{Said, Step};
 use indicatif_text::columns::{Drawn, Refusal};
 use std::alloc::Global;
@@ -55,7 +55,7 @@ impl Where {
 #[derive(Clone, Copy, Drop)]
 struct Note {
     said: Said,
-    mark: Mark,
+    point: Point,
     end: usize,
 }
 
@@ -85,15 +85,15 @@ impl Notes {
         let said = stage.make(step);
         self.orders.extend_from_slice(stage.order())?;
         let end = self.orders.len();
-        let mark = record.mark();
-        Ok(self.calls.push(Note { said, mark, end })?)
+        let point = record.point();
+        Ok(self.calls.push(Note { said, point, end })?)
     }
 
     /// What the terminal was given before a call.
-    fn before(&self, call: usize) -> Mark {
+    fn before(&self, call: usize) -> Point {
         match call.checked_sub(1).and_then(|last| self.calls.get(last)) {
-            Some(note) => note.mark,
-            None => Mark::default(),
+            Some(note) => note.point,
+            None => Point::default(),
         }
     }
 
@@ -224,8 +224,8 @@ impl<M: Stages> Run<'_, M> {
             return Err(Finding::Answer);
         };
         let before = self.notes.before(at);
-        let bytes = self.record.between(self.alloc, before, note.mark)?;
-        let has_failed = note.mark.failures != before.failures;
+        let bytes = self.record.between(self.alloc, before, note.point)?;
+        let has_failed = note.point.failures != before.failures;
         seen.judge.reads(&bytes, has_failed)?;
         match (note.said, seen.found) {
             (Err(Refusal::Terminal(ErrorKind::OutOfMemory)), Where::Nowhere) if has_failed => {
@@ -424,7 +424,7 @@ fn pictures(
 ) -> Result<Pictures, Finding> {
     let mut pictures = Vec::new(judge.alloc());
     for (at, (note, call)) in notes.calls.iter().zip(calls.iter()).enumerate() {
-        let bytes = record.between(judge.alloc(), notes.before(at), note.mark)?;
+        let bytes = record.between(judge.alloc(), notes.before(at), note.point)?;
         judge.takes(&bytes)?;
         resized(note.said, (call.step, &[]), judge)?;
         let has_drawn = note.said == Ok(Drawn::Yes) && !matches!(call.step, Step::Drop(_));
@@ -439,7 +439,7 @@ fn pictures(
 /// The bytes of the calls that were noted.
 fn bytes_of(alloc: Global, record: &Record, notes: &Notes) -> Result<Vec<u8>, Finding> {
     let end = notes.before(notes.calls.len());
-    Ok(record.between(alloc, Mark::default(), end)?)
+    Ok(record.between(alloc, Point::default(), end)?)
 }
 
 /// A text that was logged stands above the bars.

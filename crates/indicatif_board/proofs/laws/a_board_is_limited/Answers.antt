@@ -7,10 +7,10 @@ pub returns-clause-asks : goal.returns-clause-asks
 returns-clause-asks g c = board_limited
 
 pub returns-clause-bounded : goal.returns-clause-bounded
-returns-clause-bounded g c = λ kind mark. runs_bounded (board kind mark) (λ s. s.limiter) (board_limited kind mark)
+returns-clause-bounded g c = λ kind board_id. runs_bounded (board kind board_id) (λ s. s.limiter) (board_limited kind board_id)
 
 pub returns-clause-joins : goal.returns-clause-joins
-returns-clause-joins g c = λ kind mark. runs_bounded_from (board kind mark) (λ s. s.limiter) (board_limited kind mark)
+returns-clause-joins g c = λ kind board_id. runs_bounded_from (board kind board_id) (λ s. s.limiter) (board_limited kind board_id)
 
 pub returns-clause-free : goal.returns-clause-free
 returns-clause-free g c = board_free

@@ -3,7 +3,7 @@ use Rattle.std.specs.Prelude.{string_bytes}
 use Rattle.std.proofs.lemmas.List.{length-map}
 use Rattle.indicatif_term.specs.Standing.{IsLine}
 use Rattle.indicatif_term.specs.declared.remembered.StandingLine.{StandingLine}
-use Rattle.indicatif_term.proofs.BesideLemmas.{all_at, all_set, marked_line, texts_marked}
+use Rattle.indicatif_term.proofs.BesideLemmas.{all_at, all_set, noted_line, texts_noted}
 use Rattle.indicatif_term.proofs.RenewedLemmas.{in_place}
 use Rattle.indicatif_term.proofs.renewed.leave_all.Goals as goal
 
@@ -20,8 +20,8 @@ loop-at-preserved c =
     let h : i < length ys = omega (arith, ap length old.texts_same, length-map ys bytes, length-map c.args.lines.now.items bytes, c.loop-at-test.true, c.len-at-end.ensures) in
     let e = sym c.index_mut.ensures.value in
     record {
-      texts_same = texts_marked ys i x true e ∙ old.texts_same;
-      right = λ w all. all_set (IsLine w) ys i _ (marked_line w x true (all_at (IsLine w) ys i x h e (old.right w all))) (old.right w all);
+      texts_same = texts_noted ys i x true e ∙ old.texts_same;
+      right = λ w all. all_set (IsLine w) ys i _ (noted_line w x true (all_at (IsLine w) ys i x h e (old.right w all))) (old.right w all);
     }
 
 pub returns : goal.returns

@@ -13,15 +13,15 @@ use Rattle.indicatif_board.proofs.multi.Board.add.Goals as goal
 
 pub returns-clause-leads : goal.returns-clause-leads
 unfolding IsIn
-returns-clause-leads g c = λ now mark s inside.
+returns-clause-leads g c = λ now board_id s inside.
     let tracks = g.K.Tracks.means in
     let b = c.args.self.now.shown in
     let size : deque_len b.members ≡ length s.members = omega (arith, b.members.ok, members_length b.frame.items b.members.items b.table.made (is_bottom b.alignment) s inside.1) in
-    let d = c.insert_at.ensures.inserted mark s End inside (c.len-at.ensures ∙ size) in
+    let d = c.insert_at.ensures.inserted board_id s End inside (c.len-at.ensures ∙ size) in
     let old = known g.T.TermLike.view c.args.self.now in
     let same = ap (option_map g.T.TermLike.view) c.insert_at.ensures.terminal in (
       d.0,
       d.1,
-      subst (λ o. CallMade (board (board_bars tracks) mark) old o (Insert End (entrant_of c.args.candidate), now) s (given c.insert_at.result) d.0) (sym same)
-          (made_by_insertion tracks mark old End (entrant_of c.args.candidate) now s (given c.insert_at.result) d.0 refl (d.3 (target_of old)) c.insert_at.ensures.quiet d.2),
+      subst (λ o. CallMade (board (board_bars tracks) board_id) old o (Insert End (entrant_of c.args.candidate), now) s (given c.insert_at.result) d.0) (sym same)
+          (made_by_insertion tracks board_id old End (entrant_of c.args.candidate) now s (given c.insert_at.result) d.0 refl (d.3 (target_of old)) c.insert_at.ensures.quiet d.2),
     )

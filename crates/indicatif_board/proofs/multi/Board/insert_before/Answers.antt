@@ -12,28 +12,29 @@ use Rattle.indicatif_board.proofs.multi.Board.insert_before.Goals as goal
 
 pub returns-clause-leads : goal.returns-clause-leads
 unfolding IsIn
-returns-clause-leads g c = λ now mark s inside.
+returns-clause-leads g c = λ now board_id s inside.
     let tracks = g.K.Tracks.means in
-    let f = c.in-Ok.ensures.found mark s inside in
-    let d = c.insert_at.ensures.inserted mark s (Before (id_of c.args.anchor)) inside (f.1.0) in
+    let f = c.in-Ok.ensures.found board_id s inside in
+    let d = c.insert_at.ensures.inserted board_id s (Before (id_of c.args.anchor)) inside (f.1.0) in
     let old = known g.T.TermLike.view c.args.self.now in
     let same = ap (option_map g.T.TermLike.view) c.insert_at.ensures.terminal in (
       d.0,
       d.1,
-      subst (λ o. CallMade (board (board_bars tracks) mark) old o (Insert (Before (id_of c.args.anchor)) (entrant_of c.args.candidate), now) s (given c.insert_at.result) d.0) (sym same)
-          (made_by_insertion tracks mark old (Before (id_of c.args.anchor)) (entrant_of c.args.candidate) now s (given c.insert_at.result) d.0 f.0 (d.3 (target_of old)) c.insert_at.ensures.quiet d.2),
+      subst (λ o. CallMade (board (board_bars tracks) board_id) old o (Insert (Before (id_of c.args.anchor)) (entrant_of c.args.candidate), now) s (given c.insert_at.result) d.0) (sym same)
+          (made_by_insertion tracks board_id old (Before (id_of c.args.anchor)) (entrant_of c.args.candidate) now s
+          (given c.insert_at.result) d.0 f.0 (d.3 (target_of old)) c.insert_at.ensures.quiet d.2),
     )
 
 pub returns-in-Err-clause-leads : goal.returns-in-Err-clause-leads
-returns-in-Err-clause-leads g c = λ now mark s inside.
+returns-in-Err-clause-leads g c = λ now board_id s inside.
     let tracks = g.K.Tracks.means in
     let old = known g.T.TermLike.view c.args.self.now in
     let id = id_of c.args.anchor in
-    let why = c.in-Err.ensures.found mark s inside in (
+    let why = c.in-Err.ensures.found board_id s inside in (
       s,
       inside,
-      made_turned_away tracks mark old old (Insert (Before id) (entrant_of c.args.candidate)) now s c.in-Err.refusal
-          (ap (λ o. or_refused o (inserted mark (Before id) (entrant_of c.args.candidate) s) s) why) (turned_quietly mark id s c.in-Err.refusal why),
+      made_turned_away tracks board_id old old (Insert (Before id) (entrant_of c.args.candidate)) now s c.in-Err.refusal
+          (ap (λ o. or_refused o (inserted board_id (Before id) (entrant_of c.args.candidate) s) s) why) (turned_quietly board_id id s c.in-Err.refusal why),
     )
 
 pub returns-in-Err-clause-records : goal.returns-in-Err-clause-records

@@ -7,18 +7,18 @@ use Rattle.indicatif_bar.specs.Runs.{Runs, wrote}
 use Rattle.indicatif_board.specs.BoardBars.{board_bars}
 use Rattle.indicatif_board.specs.Boards.{BoardState, drawn_of, board}
 use Rattle.indicatif_board.specs.Calls.{timed, call_of, answer_of, AreTurnedAway, acts_on}
-use Rattle.indicatif_board.specs.Multi.{IsIn, IsNowhere, StaysOrComes, mark_of, terminal_of, known}
+use Rattle.indicatif_board.specs.Multi.{IsIn, IsNowhere, StaysOrComes, board_id_of, terminal_of, known}
 use Rattle.indicatif_board.proofs.multi.Board.run.Given as goal
 
 abbrev pub invariant-loop-call : goal.invariant-loop-call
 invariant-loop-call g l = record {
   counted : vec_len l.answers ≡ length l.yielded;
   room : length l.fn.calls.items ≤ vec_capacity l.answers;
-  ran : (mark : ℕ) (s : BoardState (BarRecord g.row.K.Denot)) → IsIn mark l.fn.self s → (m : BoardState (BarRecord g.row.K.Denot)) × IsIn mark l.self m ×
-      Runs (board (board_bars g.K.Tracks.means) mark) (map timed l.yielded) (map answer_of l.answers.items) (known g.T.TermLike.view l.fn.self) s (known g.T.TermLike.view l.self) m;
+  ran : (board_id : ℕ) (s : BoardState (BarRecord g.row.K.Denot)) → IsIn board_id l.fn.self s → (m : BoardState (BarRecord g.row.K.Denot)) × IsIn board_id l.self m ×
+      Runs (board (board_bars g.K.Tracks.means) board_id) (map timed l.yielded) (map answer_of l.answers.items) (known g.T.TermLike.view l.fn.self) s (known g.T.TermLike.view l.self) m;
   silent : IsFalse (list_any (λ answer. wrote (drawn_of (answer_of answer))) l.answers.items) → terminal_of l.self ≡ terminal_of l.fn.self;
   nowhere : IsNowhere g.T.TermLike.view l.fn.self → terminal_of l.self ≡ terminal_of l.fn.self;
-  foreign : AreTurnedAway (mark_of l.fn.self) (map timed l.yielded) (map answer_of l.answers.items);
-  records : (number : ℕ) → IsFalse (list_any (λ call. acts_on (mark_of l.fn.self) number (call_of call.0)) l.yielded) → StaysOrComes number l.answers.items l.fn.self l.self;
-  mark : mark_of l.self ≡ mark_of l.fn.self;
+  foreign : AreTurnedAway (board_id_of l.fn.self) (map timed l.yielded) (map answer_of l.answers.items);
+  records : (number : ℕ) → IsFalse (list_any (λ call. acts_on (board_id_of l.fn.self) number (call_of call.0)) l.yielded) → StaysOrComes number l.answers.items l.fn.self l.self;
+  board_id : board_id_of l.self ≡ board_id_of l.fn.self;
 }

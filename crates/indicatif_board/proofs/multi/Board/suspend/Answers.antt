@@ -4,18 +4,18 @@ use Rattle.indicatif_board.proofs.LeavingLemmas.{more_left}
 use Rattle.indicatif_board.proofs.multi.Board.suspend.Goals as goal
 
 pub returns-in-Ok-clause-leads : goal.returns-in-Ok-clause-leads
-returns-in-Ok-clause-leads g c = λ mark s inside.
+returns-in-Ok-clause-leads g c = λ board_id s inside.
     let view = g.T.TermLike.view in
-    let cleared = c.in-Ok.ensures.leads mark s inside in
-    let drawn = c.redraw-drawn.ensures.leads mark cleared.0 cleared.1 in (
+    let cleared = c.in-Ok.ensures.leads board_id s inside in
+    let drawn = c.redraw-drawn.ensures.leads board_id cleared.0 cleared.1 in (
       drawn.0,
       drawn.1,
       inl (c.in-Ok.field-0, (known view c.clear-cleared.new.self, cleared.0, cleared.2, (known view c.redraw-drawn.new.self, drawn.0, drawn.2, (refl, refl)))),
     )
 
 pub returns-in-Err-clause-leads : goal.returns-in-Err-clause-leads
-returns-in-Err-clause-leads g c = λ mark s inside.
-    let cleared = c.in-Err.ensures.leads mark s inside in
+returns-in-Err-clause-leads g c = λ board_id s inside.
+    let cleared = c.in-Err.ensures.leads board_id s inside in
     (cleared.0, cleared.1, inr (c.in-Err.e, refl, (known g.T.TermLike.view c.clear-cleared.new.self, cleared.0, cleared.2, (refl, refl))))
 
 pub returns-in-Ok-clause-records : goal.returns-in-Ok-clause-records

@@ -9,7 +9,7 @@ pub invariant_of-self-2 : goal.invariant_of-self-2
 invariant_of-self-2 g c =
     let entry : Entry g.row.K.Denot = record { call = c.in-Ok.copy; now = c.args.now; answer = c.same.result; size = c.size_of-size.result } in
     let items : c.push_reserved.new.self.items ≡ c.self.inside.entries.items ++ entry ∷ [] = c.push_reserved.ensures.items ∙ ap (λ xs. xs ++ entry ∷ []) c.reserve.ensures.items in
-    run_grows g.K.Tracks.means g.T.TermLike.view c.self.inside.opening.mark c.self.inside.opening.limiter c.self.inside.board c.apply-answer.new.self
+    run_grows g.K.Tracks.means g.T.TermLike.view c.self.inside.opening.board_id c.self.inside.opening.limiter c.self.inside.board c.apply-answer.new.self
     (map step_of c.self.inside.entries.items) (map step_of c.push_reserved.new.self.items) (call_of c.args.call) c.args.now (answer_of c.apply-answer.result.0)
     c.self.invariant c.apply-answer.ensures.leads
     (steps_more c.self.inside.entries.items c.push_reserved.new.self.items entry _ _ _ _ items c.size_of-size.ensures c.in-Ok.ensures.same refl (ap answer_of c.same.ensures))
@@ -19,13 +19,13 @@ returns-clause-grows g c =
     let entry : Entry g.row.K.Denot = record { call = c.in-Ok.copy; now = c.args.now; answer = c.same.result; size = c.size_of-size.result } in
     let items : c.push_reserved.new.self.items ≡ c.self.inside.entries.items ++ entry ∷ [] = c.push_reserved.ensures.items ∙ ap (λ xs. xs ++ entry ∷ []) c.reserve.ensures.items in
     let now : Record g.row.K.Denot g.row.T.Denot = record {
-      mark = c.self.inside.opening.mark;
+      board_id = c.self.inside.opening.board_id;
       limiter = c.self.inside.opening.limiter;
       board = c.apply-answer.new.self;
       steps = map step_of c.push_reserved.new.self.items;
     } in
     inl (subst (λ old. AddsCall g.K.Tracks.means g.T.TermLike.view old (call_of c.args.call) c.args.now (answer_of c.apply-answer.result.0) now) c.self.view_is
-    (grown g.K.Tracks.means g.T.TermLike.view c.self.inside.opening.mark c.self.inside.opening.limiter c.self.inside.board c.apply-answer.new.self
+    (grown g.K.Tracks.means g.T.TermLike.view c.self.inside.opening.board_id c.self.inside.opening.limiter c.self.inside.board c.apply-answer.new.self
     (map step_of c.self.inside.entries.items) (map step_of c.push_reserved.new.self.items) (call_of c.args.call) c.args.now (answer_of c.apply-answer.result.0)
     c.apply-answer.ensures.leads
     (steps_more c.self.inside.entries.items c.push_reserved.new.self.items entry _ _ _ _ items c.size_of-size.ensures c.in-Ok.ensures.same refl (ap answer_of c.same.ensures))))

@@ -26,7 +26,7 @@ put-requires g c =
     omega (arith, prefix_len-le-length (λ m. m.dropped) b.members.items, c.leading-gone.ensures, c.make_contiguous-frame.ensures.len, b.even, b.members.ok)
 
 pub returns-in_err-put-clause-drew : goal.returns-in_err-put-clause-drew
-returns-in_err-put-clause-drew g c = λ mark now takes lays ask limiter s laid asked some allows holds lists_stay fits.
+returns-in_err-put-clause-drew g c = λ board_id now takes lays ask limiter s laid asked some allows holds lists_stay fits.
     let tracks = g.K.Tracks.means in
     let b = c.args.self.now in
     let view = g.T.TermLike.view in
@@ -40,13 +40,13 @@ returns-in_err-put-clause-drew g c = λ mark now takes lays ask limiter s laid a
     let x = err_from_is_err_and c.from_residual.result c.from_residual.ensures.1 in
     let same = c.make_contiguous-frame.ensures.writes_back c.make_contiguous-frame.result.now c.make_contiguous-frame.ensures.len ∙ c.make_contiguous-frame.ensures.value in
     let failed : Result Drawn Refusal = Err c.in_err-put.field-0.0 in
-    rw (x.1 ∙ ap Err x.2) (subst (λ f. DrewBy (board (board_bars tracks) mark) (λ next. Holds f b.members.items b.table.made bottom next × (limiter ≡ next.limiter))
+    rw (x.1 ∙ ap Err x.2) (subst (λ f. DrewBy (board (board_bars tracks) board_id) (λ next. Holds f b.members.items b.table.made bottom next × (limiter ≡ next.limiter))
     view c.args.engine.now c.put.new.engine (draw_of (target_of (Some (view (engine_term c.args.engine.now)))) takes ask now writing s laid lays) s.lists failed) (sym same)
-    (frame_drew tracks view mark takes ask now writing s laid lays c.args.engine.now b.frame.items b.members.items b.table.made bottom holds
+    (frame_drew tracks view board_id takes ask now writing s laid lays c.args.engine.now b.frame.items b.members.items b.table.made bottom holds
     (λ next. Holds b.frame.items b.members.items b.table.made bottom next × (limiter ≡ next.limiter)) c.put.new.engine (Err c.in_err-put.field-0.0) gone gone_is asked some
     (ap (λ a. a.0) allows) lists_stay fits puts (
-      (ready_holds tracks view mark takes ask now writing s laid lays c.args.engine.now b.frame.items b.members.items b.table.made bottom holds, limiter_is),
-      (broken_holds tracks view mark takes ask now writing s laid lays c.args.engine.now b.frame.items b.members.items b.table.made bottom holds, limiter_is),
+      (ready_holds tracks view board_id takes ask now writing s laid lays c.args.engine.now b.frame.items b.members.items b.table.made bottom holds, limiter_is),
+      (broken_holds tracks view board_id takes ask now writing s laid lays c.args.engine.now b.frame.items b.members.items b.table.made bottom holds, limiter_is),
     )))
 
 pub take_front-requires : goal.take_front-requires
@@ -67,7 +67,7 @@ invariant_of-self-2-clause-seated g c =
     ∙ sym (ap (λ (t : SlotTable). t.order) c.remove_first.ensures.removed)
 
 pub returns-clause-drew : goal.returns-clause-drew
-returns-clause-drew g c = λ mark now takes lays ask limiter s laid asked some allows holds lists_stay fits.
+returns-clause-drew g c = λ board_id now takes lays ask limiter s laid asked some allows holds lists_stay fits.
     let tracks = g.K.Tracks.means in
     let b = c.args.self.now in
     let view = g.T.TermLike.view in
@@ -78,13 +78,13 @@ returns-clause-drew g c = λ mark now takes lays ask limiter s laid asked some a
     let puts = subst (λ f. PutsFrame view writing bottom gone (map bar_lines f) c.args.engine.now c.put.new.engine (Ok tt)) c.make_contiguous-frame.ensures.value c.in_ok-put.ensures in
     let made = sym (ap (λ (t : SlotTable). t.made) c.remove_first.ensures.removed) in
     let same = c.make_contiguous-frame.ensures.writes_back c.make_contiguous-frame.result.now c.make_contiguous-frame.ensures.len ∙ c.make_contiguous-frame.ensures.value in
-    subst (λ n. DrewBy (board (board_bars tracks) mark) (λ next. Holds c.take_front.new.items.items c.take_front-2.new.items.items n bottom next × (limiter ≡ next.limiter))
+    subst (λ n. DrewBy (board (board_bars tracks) board_id) (λ next. Holds c.take_front.new.items.items c.take_front-2.new.items.items n bottom next × (limiter ≡ next.limiter))
     view c.args.engine.now c.put.new.engine
     (draw_of (target_of (Some (view (engine_term c.args.engine.now)))) takes ask now writing s laid lays) s.lists (Ok Yes)) made
-    (frame_drew tracks view mark takes ask now writing s laid lays c.args.engine.now b.frame.items b.members.items b.table.made bottom holds
+    (frame_drew tracks view board_id takes ask now writing s laid lays c.args.engine.now b.frame.items b.members.items b.table.made bottom holds
     (λ next. Holds c.take_front.new.items.items c.take_front-2.new.items.items b.table.made bottom next × (limiter ≡ next.limiter)) c.put.new.engine (Ok tt) gone gone_is asked some
     (ap (λ a. a.0) allows) lists_stay fits puts (
-      written_holds tracks view mark takes ask now writing s laid lays c.args.engine.now b.frame.items b.members.items b.table.made bottom holds
+      written_holds tracks view board_id takes ask now writing s laid lays c.args.engine.now b.frame.items b.members.items b.table.made bottom holds
           gone c.take_front.new.items.items c.take_front-2.new.items.items (c.take_front.ensures ∙ ap (drop gone) same) c.take_front-2.ensures gone_is,
       sym (ap (λ a. a.1) allows),
     ))

@@ -2,10 +2,10 @@ use Rattle.std.proofs.Common.{◌≡◌, ◌-◌, ◌∙◌, ◌∷◌, [], ◌+
 use Rattle.std.specs.Prelude.{chars, string_bytes, take, drop, map, IsCharBoundary}
 use Rattle.std.proofs.lemmas.List.{map-append}
 use Rattle.std.proofs.lemmas.Str.{IsUtf8-string_bytes, IsUtf8-nil, IsCharBoundary-start, IsCharBoundary-end}
-use Rattle.indicatif_text.specs.Inside.Draft.{sketch_of, marked_sketch}
-use Rattle.indicatif_text.specs.declared.template.marks.Mark.{Mark}
-use Rattle.indicatif_text.specs.Inside.Marks.{part_at, AreIn}
-use Rattle.indicatif_text.proofs.MarkLemmas.{whole_parts, closed_in}
+use Rattle.indicatif_text.specs.Inside.Draft.{sketch_of, parted_sketch}
+use Rattle.indicatif_text.specs.declared.template.stored_parts.StoredPart.{StoredPart}
+use Rattle.indicatif_text.specs.Inside.StoredParts.{part_at, AreIn}
+use Rattle.indicatif_text.proofs.StoredPartLemmas.{whole_parts, closed_in}
 use Rattle.indicatif_text.proofs.DraftLemmas.{same_sketch, all_kept, all_run, none_kept, none_run, behind_parts}
 use Rattle.indicatif_text.proofs.template.draft.Draft.close.Goals as goal
 
@@ -16,10 +16,10 @@ invariant_of-self-2 c =
     let end : c.len-end.result ≡ length bytes = omega (arith, c.len-end.ensures, old.texts.bytes.ok.0) in
     let front : take c.len-end.result bytes ≡ bytes = all_kept bytes _ end in
     let behind : drop c.len-end.result bytes ≡ [] = all_run bytes _ end in
-    let mark : Mark = record { kind = c.args.kind; start = old.start; end = c.len-end.result } in
-    let all = closed_in bytes old.start (IsUtf8-string_bytes old.texts) old.start_whole old.marks.items old.marks_in mark refl end in
+    let part : StoredPart = record { kind = c.args.kind; start = old.start; end = c.len-end.result } in
+    let all = closed_in bytes old.start (IsUtf8-string_bytes old.texts) old.start_whole old.parts.items old.parts_in part refl end in
     record {
-      marks_in = subst (AreIn (take c.len-end.result bytes)) (sym c.in_ok-push.ensures.items) (subst (λ bs. AreIn bs (old.marks.items ++ mark ∷ [])) (sym front) all);
+      parts_in = subst (AreIn (take c.len-end.result bytes)) (sym c.in_ok-push.ensures.items) (subst (λ bs. AreIn bs (old.parts.items ++ part ∷ [])) (sym front) all);
       start_whole = subst (IsCharBoundary bytes) (sym end) (IsCharBoundary-end bytes);
       kept_whole = subst (λ bs. IsCharBoundary bs 0) (sym behind) (IsCharBoundary-start [] IsUtf8-nil);
     }
@@ -31,12 +31,12 @@ returns c =
     let bytes = string_bytes old.texts in
     let utf8 = IsUtf8-string_bytes old.texts in
     let end : c.len-end.result ≡ length bytes = omega (arith, c.len-end.ensures, old.texts.bytes.ok.0) in
-    let mark : Mark = record { kind = c.args.kind; start = old.start; end = c.len-end.result } in
+    let part : StoredPart = record { kind = c.args.kind; start = old.start; end = c.len-end.result } in
     let none : drop c.len-end.result bytes ≡ [] = all_run bytes _ end in
     let length_of : c.len-end.result - old.start ≡ length (drop old.start bytes) = omega (arith, end, length-drop old.start bytes) in
     let text : chars (take (c.len-end.result - old.start) (drop old.start bytes)) ≡ (sketch_of old).kept ++ (sketch_of old).run =
-    ap chars (all_kept (drop old.start bytes) _ length_of) ∙ behind_parts bytes old.start old.kept utf8 old.start_whole old.kept_whole old.marks.items old.marks_in in
-    same_sketch _ (marked_sketch (sketch_of old) c.args.kind)
-    (ap (λ bs. map (part_at bs) c.push.new.self.items) (all_kept bytes _ end) ∙ ap (map (part_at bytes)) c.in_ok-push.ensures.items ∙ map-append (part_at bytes) old.marks.items (mark ∷ [])
-    ∙ cc (whole_parts bytes old.start utf8 old.start_whole old.marks.items old.marks_in, text))
+    ap chars (all_kept (drop old.start bytes) _ length_of) ∙ behind_parts bytes old.start old.kept utf8 old.start_whole old.kept_whole old.parts.items old.parts_in in
+    same_sketch _ (parted_sketch (sketch_of old) c.args.kind)
+    (ap (λ bs. map (part_at bs) c.push.new.self.items) (all_kept bytes _ end) ∙ ap (map (part_at bytes)) c.in_ok-push.ensures.items ∙ map-append (part_at bytes) old.parts.items (part ∷ [])
+    ∙ cc (whole_parts bytes old.start utf8 old.start_whole old.parts.items old.parts_in, text))
     (none_kept _ 0 none) (none_run _ 0 none)

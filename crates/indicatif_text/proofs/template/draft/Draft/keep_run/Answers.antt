@@ -11,7 +11,7 @@ invariant_of-self c =
     let old = c.args.self.now in
     let behind = drop old.start (string_bytes old.texts) in
     let n : length behind ≡ c.len.result - old.start = omega (arith, length-drop old.start (string_bytes old.texts), c.len.ensures, old.texts.bytes.ok.0) in
-    record { marks_in = old.marks_in; start_whole = old.start_whole; kept_whole = subst (IsCharBoundary behind) n (IsCharBoundary-end behind) }
+    record { parts_in = old.parts_in; start_whole = old.start_whole; kept_whole = subst (IsCharBoundary behind) n (IsCharBoundary-end behind) }
 
 pub returns : goal.returns
 unfolding sketch_of
@@ -21,5 +21,5 @@ returns c =
     let behind = drop old.start bytes in
     let n : c.len.result - old.start ≡ length behind = omega (arith, length-drop old.start bytes, c.len.ensures, old.texts.bytes.ok.0) in
     same_sketch _ (kept_sketch (sketch_of old)) refl
-    (ap chars (all_kept behind _ n) ∙ behind_parts bytes old.start old.kept (IsUtf8-string_bytes old.texts) old.start_whole old.kept_whole old.marks.items old.marks_in)
+    (ap chars (all_kept behind _ n) ∙ behind_parts bytes old.start old.kept (IsUtf8-string_bytes old.texts) old.start_whole old.kept_whole old.parts.items old.parts_in)
     (ap chars (all_run behind _ n) ∙ chars-nil)

@@ -1,8 +1,8 @@
 use Rattle.std.proofs.Common.{◌≡◌, subst}
 use Rattle.std.specs.Prelude.{OnOk}
-use Rattle.indicatif_text.specs.declared.template.marks.Kind.TheVariants.{NewLine}
-use Rattle.indicatif_text.specs.Inside.Draft.{sketch_of, marked_sketch}
+use Rattle.indicatif_text.specs.declared.template.stored_parts.Kind.TheVariants.{NewLine}
+use Rattle.indicatif_text.specs.Inside.Draft.{sketch_of, parted_sketch}
 use Rattle.indicatif_text.proofs.template.draft.Draft.push_new_line.Goals as goal
 
 pub returns : goal.returns
-returns c = subst (λ s. OnOk c.close.result (sketch_of c.close.new.self ≡ marked_sketch s NewLine)) c.in_ok-close_literal.ensures c.close.ensures
+returns c = subst (λ s. OnOk c.close.result (sketch_of c.close.new.self ≡ parted_sketch s NewLine)) c.in_ok-close_literal.ensures c.close.ensures

@@ -14,72 +14,72 @@ returns-in_default-clause-leads c =
 pub returns-then-first-eq123-clause-leads : goal.returns-then-first-eq123-clause-leads
 returns-then-first-eq123-clause-leads c =
     let text = chars c.args.text.now in
-    let marked = chars c.split_span.result.1.now in
-    let led = reads_run (sketch_of c.args.self.now) (sketch_of c.push_run.new.self) text (chars c.split_span.result.0.now) marked c.in_ok-push_run.ensures c.split_span.ensures.run
+    let behind = chars c.split_span.result.1.now in
+    let led = reads_run (sketch_of c.args.self.now) (sketch_of c.push_run.new.self) text (chars c.split_span.result.0.now) behind c.in_ok-push_run.ensures c.split_span.ensures.run
     c.split_span.ensures.rest in
     taken_leads (sketch_of c.args.self.now) (sketch_of c.push_run.new.self) (sketch_of c.read_open.new.self)
-    text marked (chars c.in-Some.after.now) c.in-Some.first (opened (chars c.in-Some.after.now))
+    text behind (chars c.in-Some.after.now) c.in-Some.first (opened (chars c.in-Some.after.now))
     (front_opened c.in-Some.first (chars c.in-Some.after.now) c.if-first-eq123.true) led c.in-Some.ensures.first c.read_open.result c.read_open.ensures
 
 pub returns-then-first-eq123-clause-refused : goal.returns-then-first-eq123-clause-refused
 returns-then-first-eq123-clause-refused c =
     let text = chars c.args.text.now in
-    let marked = chars c.split_span.result.1.now in
-    let led = reads_run (sketch_of c.args.self.now) (sketch_of c.push_run.new.self) text (chars c.split_span.result.0.now) marked c.in_ok-push_run.ensures c.split_span.ensures.run
+    let behind = chars c.split_span.result.1.now in
+    let led = reads_run (sketch_of c.args.self.now) (sketch_of c.push_run.new.self) text (chars c.split_span.result.0.now) behind c.in_ok-push_run.ensures c.split_span.ensures.run
     c.split_span.ensures.rest in
     taken_refused (sketch_of c.args.self.now) (sketch_of c.push_run.new.self) (sketch_of c.read_open.new.self)
-    text marked (chars c.in-Some.after.now) c.in-Some.first (opened (chars c.in-Some.after.now))
+    text behind (chars c.in-Some.after.now) c.in-Some.first (opened (chars c.in-Some.after.now))
     (front_opened c.in-Some.first (chars c.in-Some.after.now) c.if-first-eq123.true) led c.in-Some.ensures.first c.read_open.result c.read_open.ensures
 
 pub returns-then-first-eq123-clause-shorter : goal.returns-then-first-eq123-clause-shorter
 returns-then-first-eq123-clause-shorter c =
     let text = chars c.args.text.now in
-    let marked = chars c.split_span.result.1.now in
-    let led = reads_run (sketch_of c.args.self.now) (sketch_of c.push_run.new.self) text (chars c.split_span.result.0.now) marked c.in_ok-push_run.ensures c.split_span.ensures.run
+    let behind = chars c.split_span.result.1.now in
+    let led = reads_run (sketch_of c.args.self.now) (sketch_of c.push_run.new.self) text (chars c.split_span.result.0.now) behind c.in_ok-push_run.ensures c.split_span.ensures.run
     c.split_span.ensures.rest in
     taken_shorter (sketch_of c.args.self.now) (sketch_of c.push_run.new.self) (sketch_of c.read_open.new.self)
-    text marked (chars c.in-Some.after.now) c.in-Some.first (opened (chars c.in-Some.after.now))
+    text behind (chars c.in-Some.after.now) c.in-Some.first (opened (chars c.in-Some.after.now))
     (front_opened c.in-Some.first (chars c.in-Some.after.now) c.if-first-eq123.true) led c.in-Some.ensures.first c.split_span.ensures.rest c.read_open.result c.read_open.ensures
 
 pub returns-then-first-eq125-clause-leads : goal.returns-then-first-eq125-clause-leads
 returns-then-first-eq125-clause-leads c =
     let text = chars c.args.text.now in
-    let marked = chars c.split_span.result.1.now in
-    let led = reads_run (sketch_of c.args.self.now) (sketch_of c.push_run.new.self) text (chars c.split_span.result.0.now) marked c.in_ok-push_run.ensures c.split_span.ensures.run
+    let behind = chars c.split_span.result.1.now in
+    let led = reads_run (sketch_of c.args.self.now) (sketch_of c.push_run.new.self) text (chars c.split_span.result.0.now) behind c.in_ok-push_run.ensures c.split_span.ensures.run
     c.split_span.ensures.rest in
     taken_leads (sketch_of c.args.self.now) (sketch_of c.push_run.new.self) (sketch_of c.read_close.new.self)
-    text marked (chars c.in-Some.after.now) c.in-Some.first (closed (chars c.in-Some.after.now))
+    text behind (chars c.in-Some.after.now) c.in-Some.first (closed (chars c.in-Some.after.now))
     (front_closed c.in-Some.first (chars c.in-Some.after.now) c.if-first-eq125.true) led c.in-Some.ensures.first c.read_close.result c.read_close.ensures
 
 pub returns-then-first-eq125-clause-refused : goal.returns-then-first-eq125-clause-refused
 returns-then-first-eq125-clause-refused c =
     let text = chars c.args.text.now in
-    let marked = chars c.split_span.result.1.now in
-    let led = reads_run (sketch_of c.args.self.now) (sketch_of c.push_run.new.self) text (chars c.split_span.result.0.now) marked c.in_ok-push_run.ensures c.split_span.ensures.run
+    let behind = chars c.split_span.result.1.now in
+    let led = reads_run (sketch_of c.args.self.now) (sketch_of c.push_run.new.self) text (chars c.split_span.result.0.now) behind c.in_ok-push_run.ensures c.split_span.ensures.run
     c.split_span.ensures.rest in
     taken_refused (sketch_of c.args.self.now) (sketch_of c.push_run.new.self) (sketch_of c.read_close.new.self)
-    text marked (chars c.in-Some.after.now) c.in-Some.first (closed (chars c.in-Some.after.now))
+    text behind (chars c.in-Some.after.now) c.in-Some.first (closed (chars c.in-Some.after.now))
     (front_closed c.in-Some.first (chars c.in-Some.after.now) c.if-first-eq125.true) led c.in-Some.ensures.first c.read_close.result c.read_close.ensures
 
 pub returns-then-first-eq125-clause-shorter : goal.returns-then-first-eq125-clause-shorter
 returns-then-first-eq125-clause-shorter c =
     let text = chars c.args.text.now in
-    let marked = chars c.split_span.result.1.now in
-    let led = reads_run (sketch_of c.args.self.now) (sketch_of c.push_run.new.self) text (chars c.split_span.result.0.now) marked c.in_ok-push_run.ensures c.split_span.ensures.run
+    let behind = chars c.split_span.result.1.now in
+    let led = reads_run (sketch_of c.args.self.now) (sketch_of c.push_run.new.self) text (chars c.split_span.result.0.now) behind c.in_ok-push_run.ensures c.split_span.ensures.run
     c.split_span.ensures.rest in
     taken_shorter (sketch_of c.args.self.now) (sketch_of c.push_run.new.self) (sketch_of c.read_close.new.self)
-    text marked (chars c.in-Some.after.now) c.in-Some.first (closed (chars c.in-Some.after.now))
+    text behind (chars c.in-Some.after.now) c.in-Some.first (closed (chars c.in-Some.after.now))
     (front_closed c.in-Some.first (chars c.in-Some.after.now) c.if-first-eq125.true) led c.in-Some.ensures.first c.split_span.ensures.rest c.read_close.result c.read_close.ensures
 
 pub returns-clause-leads : goal.returns-clause-leads
 returns-clause-leads c =
     let text = chars c.args.text.now in
-    let marked = chars c.split_span.result.1.now in
-    let led = reads_run (sketch_of c.args.self.now) (sketch_of c.push_run.new.self) text (chars c.split_span.result.0.now) marked c.in_ok-push_run.ensures c.split_span.ensures.run
+    let behind = chars c.split_span.result.1.now in
+    let led = reads_run (sketch_of c.args.self.now) (sketch_of c.push_run.new.self) text (chars c.split_span.result.0.now) behind c.in_ok-push_run.ensures c.split_span.ensures.run
     c.split_span.ensures.rest in
     let line = front_break c.in-Some.first (chars c.in-Some.after.now)
     (is_line text (chars c.in-Some.after.now) c.in-Some.first (sym c.in-Some.ensures.first ∙ c.split_span.ensures.rest) c.if-first-eq123.false c.if-first-eq125.false) in
-    reads_piece (sketch_of c.args.self.now) (sketch_of c.push_run.new.self) (sketch_of c.push_new_line.new.self) text marked (chars c.in-Some.after.now) (chars c.in-Some.after.now) c.in-Some.first
+    reads_piece (sketch_of c.args.self.now) (sketch_of c.push_run.new.self) (sketch_of c.push_new_line.new.self) text behind (chars c.in-Some.after.now) (chars c.in-Some.after.now) c.in-Some.first
     Break led c.in-Some.ensures.first line c.in_ok-push_new_line.ensures
 
 pub returns-clause-shorter : goal.returns-clause-shorter

@@ -1,8 +1,8 @@
 use Rattle.std.proofs.Common.{[], ◌∷◌, ◌++◌, ◌∙◌, ap, sym, inr}
 use Rattle.std.specs.Prelude.{chars}
 use Rattle.indicatif_text.specs.Template.{SpacedBrace, Keyed, plain_layout, keyed, unfinished, with_options, key_ends}
-use Rattle.indicatif_text.specs.declared.template.marks.Kind.TheVariants.{Key}
-use Rattle.indicatif_text.specs.Inside.Draft.{sketch_of, marked_sketch}
+use Rattle.indicatif_text.specs.declared.template.stored_parts.Kind.TheVariants.{Key}
+use Rattle.indicatif_text.specs.Inside.Draft.{sketch_of, parted_sketch}
 use Rattle.indicatif_text.proofs.DraftLemmas.{taken_same}
 use Rattle.indicatif_text.proofs.TokenLemmas.{no_chars, has_chars, key_open, key_spaced, key_missing, key_closed, key_options}
 use Rattle.indicatif_text.proofs.template.draft.Draft.read_key.Goals as goal
@@ -39,5 +39,5 @@ returns c = (
   Keyed (chars c.args.key.now) plain_layout,
   key_closed (chars c.args.key.now) (chars c.args.after.now) c.in-Some.end (chars c.in-Some.rest.now) c.in-Some.ensures.first
       (sym c.is_ascii_whitespace.ensures.value ∙ c.if-is_ascii_whitespace.false) (has_chars c.args.key.now c.utf8.key c.if-is_empty.ensures) c.if-end-ne125.false,
-  c.in_ok-close.ensures ∙ ap (λ s. marked_sketch s Key) c.in_ok-push_name.ensures,
+  c.in_ok-close.ensures ∙ ap (λ s. parted_sketch s Key) c.in_ok-push_name.ensures,
 )

@@ -1,9 +1,9 @@
 use Rattle.std.proofs.Common.{◌∙◌, ◌+◌, ◌-◌, ◌*◌, ap, sym}
-use Rattle.indicatif_text.proofs.MixLemmas.{takes_mark, takes_too_much, takes_digit, width_mark, width_digit}
+use Rattle.indicatif_text.proofs.MixLemmas.{takes_exclamation, takes_too_much, takes_digit, width_exclamation, width_digit}
 use Rattle.indicatif_text.proofs.template.reading.Mix.with.Goals as goal
 
 pub returns-then-c-eq33 : goal.returns-then-c-eq33
-returns-then-c-eq33 c = (width_mark c.args.c c.if-c-eq33.true, takes_mark c.args.self c.args.c c.if-c-eq33.true)
+returns-then-c-eq33 c = (width_exclamation c.args.c c.if-c-eq33.true, takes_exclamation c.args.self c.args.c c.if-c-eq33.true)
 
 pub returns-then-number-gt65535 : goal.returns-then-number-gt65535
 returns-then-number-gt65535 c =

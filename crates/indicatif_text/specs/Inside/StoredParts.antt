@@ -1,9 +1,9 @@
 -- The parts of a template as they are stored: their texts are one list of bytes, and each part knows the place of its own.
 use Rattle.std.specs.Prelude.{◌≤◌, ℕ, List, slice_range, All, IsCharBoundary}
 use Rattle.std.specs.Str.{chars}
-use Rattle.indicatif_text.specs.declared.template.marks.Kind.{Kind}
-use Rattle.indicatif_text.specs.declared.template.marks.Kind.TheVariants.{Literal, NewLine, Key, Placeholder}
-use Rattle.indicatif_text.specs.declared.template.marks.Mark.{Mark}
+use Rattle.indicatif_text.specs.declared.template.stored_parts.Kind.{Kind}
+use Rattle.indicatif_text.specs.declared.template.stored_parts.Kind.TheVariants.{Literal, NewLine, Key, Placeholder}
+use Rattle.indicatif_text.specs.declared.template.stored_parts.StoredPart.{StoredPart}
 use Rattle.indicatif_text.specs.Template.{TemplatePart, LiteralText, LineBreak, KeyText, plain_layout}
 use Rattle.indicatif_text.specs.Inside.Reading.{layout_of}
 
@@ -15,13 +15,13 @@ part_with Key text = KeyText text plain_layout
 part_with (Placeholder options) text = KeyText text (layout_of options)
 
 -- what a stored part is, by the bytes of all texts
-abbrev pub part_at : List ℕ → Mark → TemplatePart
-part_at texts mark = part_with mark.kind (chars (slice_range texts mark.start mark.end))
+abbrev pub part_at : List ℕ → StoredPart → TemplatePart
+part_at texts part = part_with part.kind (chars (slice_range texts part.start part.end))
 
 -- the text of a stored part is a text of its own among all
-abbrev pub IsIn : List ℕ → Mark → Type 0
-IsIn texts mark = (mark.start ≤ mark.end) × IsCharBoundary texts mark.start × IsCharBoundary texts mark.end
+abbrev pub IsIn : List ℕ → StoredPart → Type 0
+IsIn texts part = (part.start ≤ part.end) × IsCharBoundary texts part.start × IsCharBoundary texts part.end
 
 -- and that of each of these
-abbrev pub AreIn : List ℕ → List Mark → Type 0
-AreIn texts marks = All (IsIn texts) marks
+abbrev pub AreIn : List ℕ → List StoredPart → Type 0
+AreIn texts parts = All (IsIn texts) parts

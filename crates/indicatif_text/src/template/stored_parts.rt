@@ -1,7 +1,7 @@
 //! The parts of a template as they are stored: all their texts are one, and each part knows the place of its own.
 ghost use Rattle.std.specs.Prelude.{◌≡◌};
 ghost use Rattle.indicatif_text.specs.Template.{part_of};
-ghost use Rattle.indicatif_text.specs.Inside.Marks.{IsIn, part_at};
+ghost use Rattle.indicatif_text.specs.Inside.StoredParts.{IsIn, part_at};
 
 use crate::template::reading::Options;
 use crate::template::{Alignment, Part};
@@ -21,13 +21,13 @@ pub(super) enum Kind {
 
 /// A part of a template: what it is, and from which byte of the texts to which its own stands. That of a newline is empty.
 #[derive(Clone, Copy, Debug, Drop)]
-pub(super) struct Mark {
+pub(super) struct StoredPart {
     pub kind: Kind,
     pub start: usize,
     pub end: usize,
 }
 
-impl Mark {
+impl StoredPart {
     /// The part, whose text stands among these texts.
     #[tactic(auto, unfolding(crate::specs::Template::part_of))]
     #[inline(always)]

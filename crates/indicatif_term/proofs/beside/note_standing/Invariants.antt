@@ -1,13 +1,13 @@
 use Rattle.std.proofs.Common.{◌≡◌, ℕ, take, drop}
 use Rattle.indicatif_term.specs.Standing.{texts, AreLines}
 use Rattle.indicatif_term.specs.Inside.Layouts.{AreLike}
-use Rattle.indicatif_term.specs.Inside.Places.{AreMarked}
-use Rattle.indicatif_term.proofs.beside.mark.Given as goal
+use Rattle.indicatif_term.specs.Inside.Places.{AreNoted}
+use Rattle.indicatif_term.proofs.beside.note_standing.Given as goal
 
 abbrev pub invariant-loop-at : goal.invariant-loop-at
 invariant-loop-at l = record {
   texts_same : texts l.lines.items ≡ texts l.fn.lines.items;
   rest : drop l.at l.lines.items ≡ drop l.at l.fn.lines.items;
   right : (w : ℕ) → AreLines w l.fn.lines.items → AreLines w l.lines.items;
-  marked : (w : ℕ) → AreLines w l.standing → AreLines w l.fn.lines.items → AreLike l.standing l.fn.lines.items → AreMarked w l.standing l.fn.skipped (take l.at l.lines.items) l.start l.place;
+  noted : (w : ℕ) → AreLines w l.standing → AreLines w l.fn.lines.items → AreLike l.standing l.fn.lines.items → AreNoted w l.standing l.fn.skipped (take l.at l.lines.items) l.start l.place;
 }

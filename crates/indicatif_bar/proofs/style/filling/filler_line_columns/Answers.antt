@@ -1,0 +1,13 @@
+use Rattle.std.proofs.Common.{◌∙◌, sym, ap}
+use Rattle.std.specs.List.{slice_split}
+use Rattle.indicatif_bar.specs.BarStyles.{is_newline}
+use Rattle.indicatif_bar.proofs.FillingLemmas.{first_filler, filler_behind}
+use Rattle.indicatif_bar.proofs.style.filling.filler_line_columns.Goals as goal
+
+pub lines-preserved : goal.lines-preserved
+lines-preserved c =
+    let unfilled = sym c.has_filler.ensures ∙ c.if-has_filler.false in
+    record {
+      same = sym (filler_behind c.in-Some.line.now (slice_split is_newline c.in-Some.behind.now) unfilled) ∙ ap first_filler (sym c.in-Some.ensures.parts) ∙ c.lines.invariant.same;
+      utf8 = c.in-Some.ensures.utf8;
+    }
