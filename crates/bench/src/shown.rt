@@ -14,17 +14,17 @@ use std::io::Write;
 /// Keeps what is written, and forgets it once that is more than 64 KiB; counts bytes and flushes.
 #[derive(Drop)]
 pub struct Sink {
-    kept: Vec<u8>,
+    written: Vec<u8>,
     bytes: u64,
     flushes: u64,
 }
 
 impl Write for Sink {
     fn write(&mut self, buf: &[u8]) -> io::Result<usize> {
-        if self.kept.len() > 65_536 {
-            self.kept.clear();
+        if self.written.len() > 65_536 {
+            self.written.clear();
         }
-        self.kept.extend_from_slice(buf)?;
+        self.written.extend_from_slice(buf)?;
         self.bytes = self.bytes.wrapping_add(buf.len() as u64);
         Ok(buf.len())
     }
@@ -38,7 +38,7 @@ impl Write for Sink {
 /// The terminal that is drawn on: 24 rows, 80 columns.
 pub fn terminal(alloc: Global) -> Term<Sink> {
     let sink = Sink {
-        kept: Vec::new(alloc),
+        written: Vec::new(alloc),
         bytes: 0,
         flushes: 0,
     };

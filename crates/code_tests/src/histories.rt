@@ -28,7 +28,7 @@ fn bar_saying(alloc: Global, text: &str) -> Result<Candidate<NoTracker>, Refusal
 
 type Target = ProgressDrawTarget<InMemoryTerm>;
 
-type Kept = Recorded<NoTracker, InMemoryTerm>;
+type Recording = Recorded<NoTracker, InMemoryTerm>;
 
 /// A terminal of 4 rows and 10 columns.
 fn terminal(alloc: Global) -> Result<InMemoryTerm, Refusal> {
@@ -36,33 +36,33 @@ fn terminal(alloc: Global) -> Result<InMemoryTerm, Refusal> {
 }
 
 /// A board of the id 7 that keeps its history, in a box.
-fn kept_on(alloc: Global, target: Target) -> Result<Box<Kept>, Refusal> {
+fn recorded_on(alloc: Global, target: Target) -> Result<Box<Recording>, Refusal> {
     Ok(Box::new(alloc, Recorded::new(alloc, target, BOARD_ID))?)
 }
 
 /// The same on a terminal that is drawn whenever it is asked.
-fn kept(alloc: Global) -> Result<Box<Kept>, Refusal> {
+fn recorded(alloc: Global) -> Result<Box<Recording>, Refusal> {
     match terminal(alloc) {
-        Ok(term) => kept_on(alloc, Target::term_like(term)),
+        Ok(term) => recorded_on(alloc, Target::term_like(term)),
         Err(refusal) => Err(refusal),
     }
 }
 
 /// The same on a terminal that is drawn 20 times a second.
-fn kept_rated(alloc: Global) -> Result<Box<Kept>, Refusal> {
+fn recorded_rated(alloc: Global) -> Result<Box<Recording>, Refusal> {
     let target = Target::term_like_with_hz(terminal(alloc)?, 20, 0)?;
-    kept_on(alloc, target)
+    recorded_on(alloc, target)
 }
 
 /// What the board answers to a call; a bar that comes back is given up.
-fn answer_of(record: &mut Kept, call: Call<NoTracker>, now: Moment) -> Answer {
+fn answer_of(record: &mut Recording, call: Call<NoTracker>, now: Moment) -> Answer {
     let (answer, bar) = record.apply(call, now);
     drop(bar);
     answer
 }
 
 /// Whether the board that is cleared at the moment 5 answers this.
-fn is_cleared(record: &mut Kept, wanted: &Answer) -> bool {
+fn is_cleared(record: &mut Recording, wanted: &Answer) -> bool {
     answer_of(record, Call::Clear, 5) == *wanted
 }
 
@@ -75,7 +75,7 @@ fn is_clear(entry: &Entry<NoTracker>, answer: &Answer, size: Option<Size>) -> bo
 }
 
 /// Whether a clear is answered so, and this is all that is kept.
-fn keeps_a_clear(record: &mut Kept, answer: &Answer, size: Option<Size>) -> bool {
+fn records_a_clear(record: &mut Recording, answer: &Answer, size: Option<Size>) -> bool {
     if !is_cleared(record, answer) {
         return false;
     }
@@ -87,20 +87,20 @@ fn keeps_a_clear(record: &mut Kept, answer: &Answer, size: Option<Size>) -> bool
 
 #[test]
 fn an_entry_and_its_size(rt: HostRuntime) -> Result<(), Fail> {
-    let mut record = kept(rt.alloc())?;
+    let mut record = recorded(rt.alloc())?;
     let size = Size {
         columns: 10,
         rows: 4,
     };
-    assert!(rt; keeps_a_clear(&mut record, &Answer::Drawn(Drawn::Yes), Some(size)));
+    assert!(rt; records_a_clear(&mut record, &Answer::Drawn(Drawn::Yes), Some(size)));
     Ok(())
 }
 
 /// A hidden target has no size.
 #[test]
 fn an_entry_where_nothing_is_shown(rt: HostRuntime) -> Result<(), Fail> {
-    let mut record = kept_on(rt.alloc(), Target::hidden())?;
-    assert!(rt; keeps_a_clear(&mut record, &Answer::Drawn(Drawn::Hidden), None));
+    let mut record = recorded_on(rt.alloc(), Target::hidden())?;
+    assert!(rt; records_a_clear(&mut record, &Answer::Drawn(Drawn::Hidden), None));
     Ok(())
 }
 
@@ -117,18 +117,18 @@ fn allowed(limiter: &RateLimiter) -> u32 {
 }
 
 /// Takes a bar in.
-fn takes_in(record: &mut Kept, candidate: Candidate<NoTracker>) -> Answer {
+fn takes_in(record: &mut Recording, candidate: Candidate<NoTracker>) -> Answer {
     let at = InsertLocation::End;
     answer_of(record, Call::Insert { at, candidate }, 0)
 }
 
 /// Draws the first bar, without force.
-fn ticks(record: &mut Kept) -> Answer {
+fn ticks(record: &mut Recording) -> Answer {
     answer_of(record, Call::Bar(FIRST, BarCommand::Tick), 0)
 }
 
 /// Takes a bar in, and tells whether it is drawn then.
-fn is_drawn(alloc: Global, record: &mut Kept) -> Result<bool, Refusal> {
+fn is_drawn(alloc: Global, record: &mut Recording) -> Result<bool, Refusal> {
     match bar_saying(alloc, "a") {
         Ok(candidate) => drop(takes_in(record, candidate)),
         Err(refusal) => return Err(refusal),
@@ -137,7 +137,7 @@ fn is_drawn(alloc: Global, record: &mut Kept) -> Result<bool, Refusal> {
 }
 
 /// Whether a board has this id, and allows so many draws at the moment 0.
-fn opens_with(record: &Kept, board_id: u64, draws: u32) -> bool {
+fn opens_with(record: &Recording, board_id: u64, draws: u32) -> bool {
     let opening = record.opening();
     match &opening.limiter {
         Some(limiter) => opening.board_id == board_id && allowed(limiter) == draws,
@@ -148,14 +148,14 @@ fn opens_with(record: &Kept, board_id: u64, draws: u32) -> bool {
 /// The limiter stays as the target came: 20 draws are in hand, though one was made.
 #[test]
 fn an_opening(rt: HostRuntime) -> Result<(), Fail> {
-    let mut record = kept_rated(rt.alloc())?;
+    let mut record = recorded_rated(rt.alloc())?;
     assert!(rt; is_drawn(rt.alloc(), &mut record)? && opens_with(&record, 7, 20));
     Ok(())
 }
 
 #[test]
 fn an_opening_without_a_limit(rt: HostRuntime) -> Result<(), Fail> {
-    let record = kept(rt.alloc())?;
+    let record = recorded(rt.alloc())?;
     assert!(rt; record.opening().limiter.is_none());
     Ok(())
 }

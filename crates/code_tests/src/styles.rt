@@ -192,7 +192,7 @@ fn a_sequence_of_another_kind_is_drawn(rt: HostRuntime) -> Result<(), Fail> {
 
 // ---- the same on a board that keeps its history
 
-type Kept = Recorded<FnTracker<Says>, InMemoryTerm>;
+type Recording = Recorded<FnTracker<Says>, InMemoryTerm>;
 
 type OnBoard = Board<FnTracker<Says>, InMemoryTerm>;
 
@@ -216,7 +216,7 @@ fn insertion_of(
 }
 
 /// What a board answers to a call; a bar that comes back is given up.
-fn applied(board: &mut Kept, call: multi::Call<FnTracker<Says>>) -> Answer {
+fn applied(board: &mut Recording, call: multi::Call<FnTracker<Says>>) -> Answer {
     let (answer, bar) = board.apply(call, 0);
     drop(bar);
     answer
@@ -229,7 +229,7 @@ const FIRST: BarId = BarId {
 };
 
 /// Whether a board takes such a bar in, and draws it.
-fn is_drawn(alloc: Global, board: &mut Kept, text: &'static str) -> Result<bool, Refusal> {
+fn is_drawn(alloc: Global, board: &mut Recording, text: &'static str) -> Result<bool, Refusal> {
     let taken = applied(board, insertion_of(alloc, text)?);
     let drawn = applied(board, multi::Call::Bar(FIRST, BarCommand::Tick));
     Ok(taken == Answer::Id(FIRST) && drawn == Answer::Drawn(Drawn::Yes))
@@ -258,13 +258,13 @@ fn contents(term: Option<&InMemoryTerm>) -> Result<String, Refusal> {
 
 /// What a board shows that keeps its history, where it draws a bar whose tracker writes this text, and a fresh board that makes the same
 /// calls answers and shows the same.
-fn kept_shows(alloc: Global, text: &'static str) -> Result<String, Refusal> {
-    let mut kept: Box<Kept> = Box::new(alloc, Recorded::new(alloc, target(alloc)?, 1))?;
+fn recorded_shows(alloc: Global, text: &'static str) -> Result<String, Refusal> {
+    let mut recorded: Box<Recording> = Box::new(alloc, Recorded::new(alloc, target(alloc)?, 1))?;
     let mut fresh: Box<OnBoard> = Box::new(alloc, Board::new(alloc, target(alloc)?, 1))?;
-    let drawn = is_drawn(alloc, &mut kept, text)?;
-    let same = answers_so(alloc, &mut fresh, kept.entries())?;
-    let shown = contents(kept.board().term())?;
-    match drawn && same && kept.entries().len() == 2 && shown == contents(fresh.term())? {
+    let drawn = is_drawn(alloc, &mut recorded, text)?;
+    let same = answers_so(alloc, &mut fresh, recorded.entries())?;
+    let shown = contents(recorded.board().term())?;
+    match drawn && same && recorded.entries().len() == 2 && shown == contents(fresh.term())? {
         true => Ok(shown),
         false => Err(Refusal::NotMember),
     }
@@ -273,7 +273,7 @@ fn kept_shows(alloc: Global, text: &'static str) -> Result<String, Refusal> {
 /// A tracker's tab is two spaces and its newline parts two lines, on a board too.
 #[test]
 fn a_tab_and_a_newline_on_a_board(rt: HostRuntime) -> Result<(), Fail> {
-    let shown = kept_shows(rt.alloc(), "a\tb\nc")?;
+    let shown = recorded_shows(rt.alloc(), "a\tb\nc")?;
     assert_eq!(rt; shown.as_str(), "a  b\nc");
     Ok(())
 }
@@ -281,7 +281,7 @@ fn a_tab_and_a_newline_on_a_board(rt: HostRuntime) -> Result<(), Fail> {
 /// What isn't a colour sequence is drawn on a board too; what it does to the terminal isn't claimed.
 #[test]
 fn a_sequence_of_another_kind_on_a_board(rt: HostRuntime) -> Result<(), Fail> {
-    assert!(rt; kept_shows(rt.alloc(), "\u{1B}[2J").is_ok());
+    assert!(rt; recorded_shows(rt.alloc(), "\u{1B}[2J").is_ok());
     Ok(())
 }
 

@@ -97,8 +97,8 @@ fn last_of_a_hundred_splits(done: &Done, worker: BarWorker) -> Result<BarWorker,
 {
     let mut last = worker;
     for k in 0..100u64 {
-        let (mut kept, given) = last.split(done)?;
-        kept.add(done, k);
+        let (mut own, given) = last.split(done)?;
+        own.add(done, k);
         last = given;
     }
     Ok(last)

@@ -131,7 +131,7 @@ fn fn_tracker_and_tells_text(rt: HostRuntime) -> Result<(), Fail> {
 fn shows_in(bar: &Bar, spare: &mut SpareLines, wanted: &str) -> Result<bool, Refusal> {
     let lines = bar.lines_in(spare, 0, 80)?;
     let found = shows(&lines, wanted);
-    spare.keep(lines);
+    spare.store(lines);
     Ok(found)
 }
 

@@ -122,7 +122,7 @@ fn take_in(rt: &HostRuntime, board: &mut Bars) -> Result<BarId> {
 fn turn_away(alloc: Global, board: &mut Bars, id: BarId) -> Result<(), Refusal> {
     let bar = bar_saying(alloc, "b")?;
     if let Err(turned) = board.insert_after(id, Candidate::New(bar)) {
-        let kept = turned.candidate;
+        let returned = turned.candidate;
     }
     Ok(())
 }

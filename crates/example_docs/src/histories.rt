@@ -8,19 +8,19 @@ use indicatif_text::columns::Refusal;
 use std::alloc::Global;
 
 pub fn main(rt: &HostRuntime) -> Result<()> {
-    println!(rt; "Recorded {}", kept(rt.alloc())?)?;
+    println!(rt; "Recorded {}", recorded(rt.alloc())?)?;
     println!(rt; "Opening {}", opened(rt.alloc())?)?;
     Ok(())
 }
 
 /// How many entries a call leaves.
-fn kept(alloc: Global) -> Result<usize, Refusal> {
+fn recorded(alloc: Global) -> Result<usize, Refusal> {
     let now = 5;
     let term = InMemoryTerm::new(alloc, 4, 10)?;
     let mut record = Recorded::new(alloc, ProgressDrawTarget::term_like(term), 1);
     let (answer, none) = record.apply(Call::Clear, now);
-    let kept = record.entries();
-    Ok(count(kept))
+    let recorded = record.entries();
+    Ok(count(recorded))
 }
 
 fn count(entries: &[Entry<NoTracker>]) -> usize {

@@ -127,7 +127,7 @@ fn laid_out(rt: &HostRuntime, bar: &Bar) -> Result<()> {
     let lines = bar.lines_in(&mut spare, now, 80)?;
     print_lines(rt, "lines_in", &lines)?;
     let before = bar.lines_in(&mut spare, 0, 80)?;
-    spare.keep(before);
+    spare.store(before);
     let lines = bar.lines_in(&mut spare, 1, 80)?;
     print_lines(rt, "SpareLines", &lines)
 }

@@ -39,7 +39,7 @@ pub struct Over<P> {
 pub type OverCounted = Over<Counted>;
 
 /// What is wrapped already, to be asked.
-pub fn kept_over<R: AllocGlobal + RandomSource, P: Drop>(
+pub fn passed_over<R: AllocGlobal + RandomSource, P: Drop>(
     rt: &R,
     alloc: Global,
     wrapped: Wrapped<P>,
@@ -65,7 +65,7 @@ pub fn begin<R: AllocGlobal + RandomSource>(
     let mut words = rest;
     let position = number(next(&mut words))?;
     let wrapped = ProgressBarIter::new(script_of(alloc, words)?, Counted::at(position));
-    kept_over(rt, alloc, wrapped)
+    passed_over(rt, alloc, wrapped)
 }
 
 /// Makes a step, or looks at the bar.

@@ -24,7 +24,7 @@
 //!   `adds OWNER: CALL`: a call, and what it adds. Behind them stands `!answer` where the last of them is kept with another answer than
 //!   was given, and `!run` where a fresh board that makes all that were kept gives another answer or shows something else.
 use crate::bars::{Bar, Maker, Pace, Room, Shared, push_board};
-use crate::bytes::{Over, Wrapped, asks, kept_over};
+use crate::bytes::{Over, Wrapped, asks, passed_over};
 use crate::clock::{RowClock, moments_of};
 use crate::history::{Answered, Look, Question, shown};
 use crate::readings::read;
@@ -110,7 +110,7 @@ impl<R: Wait + Copy + Clone + Drop> Fronts<R> {
         Ok(self.bar(place)?.clone()?)
     }
 
-    fn keep(&mut self, bar: Bar<R>) -> Result<(), Bad> {
+    fn store(&mut self, bar: Bar<R>) -> Result<(), Bad> {
         Ok(self.bars.push(bar)?)
     }
 
@@ -148,7 +148,7 @@ impl<R: Wait + Copy + Clone + Drop> Fronts<R> {
         let Some(bar) = self.coming(step)? else {
             return Ok(false);
         };
-        self.keep(bar)?;
+        self.store(bar)?;
         Ok(true)
     }
 
@@ -214,7 +214,7 @@ impl<R: Wait + Copy + Clone + Drop> Fronts<R> {
         let bar = self.entrant(words)?;
         let taken = self.taken(name, place, bar)?;
         self.answer = Answered::Answer(Ok(Drawn::Limited));
-        self.keep(taken)?;
+        self.store(taken)?;
         Ok(true)
     }
 
@@ -379,7 +379,7 @@ impl<R: AllocGlobal + RandomSource + Wait + Copy + Clone + Drop> Fronts<R> {
         }
         let bar = self.bar(next(&mut words))?;
         let wrapped = wrapped(bar, name, script_of(self.maker.alloc, words)?)?;
-        self.wrapped = Some(kept_over(&self.maker.rt, self.maker.alloc, wrapped)?);
+        self.wrapped = Some(passed_over(&self.maker.rt, self.maker.alloc, wrapped)?);
         Ok(true)
     }
 }
@@ -460,14 +460,14 @@ impl<R: Wait + Clock + Copy + Clone + Drop> Fronts<R> {
         if step != "history_rests" {
             return Ok(false);
         }
-        let before = self.kept()?;
+        let before = self.recorded_calls()?;
         pause(&self.maker.rt);
-        got.flag(self.kept()? == before);
+        got.flag(self.recorded_calls()? == before);
         Ok(true)
     }
 
-    /// How many calls the board has kept.
-    fn kept(&self) -> Result<usize, Bad> {
+    /// How many calls the board has recorded.
+    fn recorded_calls(&self) -> Result<usize, Bad> {
         let look = self.look(Question::Order);
         Ok(shown(self.board()?, look, &mut Got::new(self.maker.alloc)))
     }

@@ -37,14 +37,14 @@ pub struct Look {
 #[derive(Drop)]
 pub struct Seen {
     said: Got,
-    kept: usize,
+    recorded: usize,
 }
 
 /// Appends what a board answers to a question; how many calls it has kept.
 pub fn shown<R: Wait + Copy + Clone + Drop>(board: &Shared<R>, look: Look, got: &mut Got) -> usize {
     let seen = board.with_record(look);
     got.text(seen.said.as_str());
-    seen.kept
+    seen.recorded
 }
 
 impl RecordReader<InMemoryTerm, NoTracker> for Look {
@@ -52,14 +52,14 @@ impl RecordReader<InMemoryTerm, NoTracker> for Look {
 
     fn read(self, record: Option<&Recorded<NoTracker, InMemoryTerm>>) -> Seen {
         let mut said = Got::new(self.alloc);
-        let kept = match record {
+        let recorded = match record {
             Some(record) => answer(self, record, &mut said),
             None => {
                 said.text("no history");
                 0
             }
         };
-        Seen { said, kept }
+        Seen { said, recorded }
     }
 }
 
@@ -102,14 +102,14 @@ fn is_answered(entry: Option<&Entry<NoTracker>>, wanted: Answered) -> bool {
 }
 
 /// Whether a fresh board makes the calls that were kept with the same answers, and then shows the same rows.
-fn is_replayed(look: Look, kept: &Recorded<NoTracker, InMemoryTerm>) -> Result<bool, Refusal> {
+fn is_replayed(look: Look, recorded: &Recorded<NoTracker, InMemoryTerm>) -> Result<bool, Refusal> {
     let target = look.room.target(look.alloc)?;
-    let board = Board::new(look.alloc, target, kept.opening().board_id);
+    let board = Board::new(look.alloc, target, recorded.opening().board_id);
     let mut fresh = Box::new(look.alloc, board)?;
-    if !answers_so(&mut fresh, look.alloc, kept.entries())? {
+    if !answers_so(&mut fresh, look.alloc, recorded.entries())? {
         return Ok(false);
     }
-    same_rows(rows_of(fresh.term()), rows_of(kept.board().term()))
+    same_rows(rows_of(fresh.term()), rows_of(recorded.board().term()))
 }
 
 /// Whether a board makes these calls with the same answers.

@@ -111,7 +111,7 @@ impl Scripted {
     }
 
     /// Keeps bytes that are written.
-    fn keep(&mut self, bytes: &[u8]) -> io::Result<usize>
+    fn store(&mut self, bytes: &[u8]) -> io::Result<usize>
         ensures { IfOk result (λ n. n ≤ length bytes.now) }
     {
         match self.written.extend_from_slice(bytes) {
@@ -164,7 +164,7 @@ impl Seek for Scripted {
 impl Write for Scripted {
     fn write(&mut self, buf: &[u8]) -> io::Result<usize> {
         let count = count_of(self.answer(), buf.len())?;
-        self.keep(&buf[..count])
+        self.store(&buf[..count])
     }
 
     fn flush(&mut self) -> io::Result<()> {
@@ -238,7 +238,7 @@ impl AsyncWrite for Scripted {
     fn poll_write(&mut self, cx: &mut Context<'_>, buf: &[u8]) -> Poll<io::Result<usize>> {
         let polled = self.polled(cx, buf.len());
         match polled {
-            Poll::Ready(Ok(count)) => Poll::Ready(self.keep(&buf[..count])),
+            Poll::Ready(Ok(count)) => Poll::Ready(self.store(&buf[..count])),
             polled => polled,
         }
     }

@@ -1,7 +1,7 @@
 //! Boards that threads share and that keep their history: a fresh board that makes the calls that were kept gives the same answers and
 //! the same picture.
 use crate::fronts::{Bar, Shared, bar_on, recorded};
-use crate::kept::{Kept, Kind, counted, is_one_run};
+use crate::recordings::{Kind, Recording, counted, is_one_run};
 use indicatif::{
     Drawn, Entry, InMemoryTerm, MultiProgressAlignment, NoTracker, RecordReader, Refusal,
 };
@@ -318,9 +318,9 @@ struct MadeAt {
 impl RecordReader<InMemoryTerm, NoTracker> for MadeAt {
     type Found = bool;
 
-    fn read(self, record: Option<&Kept>) -> bool {
+    fn read(self, record: Option<&Recording>) -> bool {
         match record {
-            Some(kept) => are_at(kept.entries(), self.moments),
+            Some(recorded) => are_at(recorded.entries(), self.moments),
             None => false,
         }
     }

@@ -1,6 +1,6 @@
 //! Lines of a log above the bars of a board that threads share: what reaches the board's history and its terminal.
 use crate::fronts::{Bar, Shared, bar_on, recorded};
-use crate::kept::{Kind, counted, is_one_run};
+use crate::recordings::{Kind, counted, is_one_run};
 use indicatif::bridge::{LevelOnEachLine, LineForm, LogBridge, emit};
 use indicatif::{
     BarCommand, BarId, BarState, Board, Candidate, Cells, Drawn, InMemoryTerm, MultiProgress,

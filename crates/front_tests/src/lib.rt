@@ -1,7 +1,7 @@
 //! Tests of crate `indicatif` that need code: threads, closures, and types of their own. Expected values come from outside. A test that is
 //! only a list of calls is a row of `front_rows`.
 //!
-//! - `fronts`: bars and boards for tests, whose calls have no clauses. `kept`: what a board has kept.
+//! - `fronts`: bars and boards for tests, whose calls have no clauses. `recorded`: what a board has recorded.
 //! - `shown`: a terminal that others see. `owners`: what the last owner of a bar leaves there. `watched`: boards there, while a closure
 //!   runs, and where the cursor only moves. `bars`: bars in threads, pauses and bounds.
 //! - `boards`: boards that threads share. `records`: a board with its history that nobody shares.
@@ -43,8 +43,6 @@ mod given_up;
 #[cfg(test)]
 mod intervals;
 #[cfg(test)]
-mod kept;
-#[cfg(test)]
 mod keyed;
 #[cfg(test)]
 mod lent;
@@ -62,6 +60,8 @@ mod own_bars;
 mod owners;
 #[cfg(test)]
 mod pieces;
+#[cfg(test)]
+mod recordings;
 #[cfg(test)]
 mod records;
 #[cfg(test)]

@@ -31,7 +31,7 @@ type Bar<R> = ProgressBar<InMemoryTerm, StepClock, R, Telling>;
 
 type Shared<R> = MultiProgress<InMemoryTerm, StepClock, R, Telling>;
 
-type Kept = Recorded<Telling, InMemoryTerm>;
+type Recording = Recorded<Telling, InMemoryTerm>;
 
 fn setup(alloc: Global) -> Result<Setup<InMemoryTerm, StepClock>, Refusal> {
     Ok(Setup {
@@ -67,18 +67,18 @@ struct PlaysAgain {
 impl RecordReader<InMemoryTerm, Telling> for PlaysAgain {
     type Found = Result<String, Refusal>;
 
-    fn read(self, record: Option<&Kept>) -> Result<String, Refusal> {
+    fn read(self, record: Option<&Recording>) -> Result<String, Refusal> {
         match record {
-            Some(kept) => played_again(self.alloc, kept),
+            Some(recorded) => played_again(self.alloc, recorded),
             None => Err(Refusal::NotMember),
         }
     }
 }
 
-fn played_again(alloc: Global, kept: &Kept) -> Result<String, Refusal> {
-    let board = Board::new(alloc, target(alloc)?, kept.opening().board_id);
+fn played_again(alloc: Global, recorded: &Recording) -> Result<String, Refusal> {
+    let board = Board::new(alloc, target(alloc)?, recorded.opening().board_id);
     let mut fresh = Box::new(alloc, board)?;
-    play(alloc, &mut fresh, kept.entries())?;
+    play(alloc, &mut fresh, recorded.entries())?;
     contents(fresh.term())
 }
 

@@ -1,5 +1,5 @@
 //! Boards that keep their history: a fresh board that makes the calls that were kept gives the same answers and the same picture.
-use crate::kept::{Kept, answers_so, same_rows};
+use crate::recordings::{Recording, answers_so, same_rows};
 use indicatif::{
     Answer, BarCommand, BarId, BarState, Board, Call, Candidate, Drawn, Entry, InMemoryTerm,
     InsertLocation, NoTracker, ProgressDrawTarget, ProgressFinish, ProgressStyle, Recorded,
@@ -17,9 +17,9 @@ fn target(alloc: Global, rows: u16) -> Result<ProgressDrawTarget<InMemoryTerm>, 
 }
 
 /// A board of the id 1 that keeps its history.
-fn kept_on(alloc: Global, rows: u16) -> Result<Box<Kept>, Refusal> {
-    let kept = Recorded::new(alloc, target(alloc, rows)?, 1);
-    Ok(Box::new(alloc, kept)?)
+fn recorded_on(alloc: Global, rows: u16) -> Result<Box<Recording>, Refusal> {
+    let recorded = Recorded::new(alloc, target(alloc, rows)?, 1);
+    Ok(Box::new(alloc, recorded)?)
 }
 
 /// A bar whose one line is this text.
@@ -75,7 +75,7 @@ fn is_named(bar: Option<BarState<NoTracker>>, wanted: &str) -> bool {
 /// Makes a call at the moment 0; whether it answers so, and hands a bar with this message back.
 fn answers(
     alloc: Global,
-    board: &mut Kept,
+    board: &mut Recording,
     asked: Asked,
     wanted: &(Answer, &str),
 ) -> Result<bool, Refusal> {
@@ -87,7 +87,7 @@ fn answers(
 /// Whether a board answers so, one call after another.
 fn all_answer(
     alloc: Global,
-    board: &mut Kept,
+    board: &mut Recording,
     rows: &[(Asked, (Answer, &str))],
 ) -> Result<bool, Refusal> {
     for row in rows {
@@ -123,13 +123,13 @@ fn were_on(entries: &[Entry<NoTracker>], size: Size) -> bool {
 }
 
 /// Whether a fresh board on a target of so many rows makes the calls that were kept with the same answers, and shows the same.
-fn is_replayed(alloc: Global, kept: &Kept, rows: u16) -> Result<bool, Refusal> {
-    let board = Board::new(alloc, target(alloc, rows)?, kept.opening().board_id);
+fn is_replayed(alloc: Global, recorded: &Recording, rows: u16) -> Result<bool, Refusal> {
+    let board = Board::new(alloc, target(alloc, rows)?, recorded.opening().board_id);
     let mut fresh = Box::new(alloc, board)?;
-    let same = answers_so(&mut fresh, alloc, kept.entries())?;
+    let same = answers_so(&mut fresh, alloc, recorded.entries())?;
     let size = Size { columns: 10, rows };
-    let shown = same_rows(fresh.term(), kept.board().term())?;
-    Ok(same && shown && were_on(kept.entries(), size))
+    let shown = same_rows(fresh.term(), recorded.board().term())?;
+    Ok(same && shown && were_on(recorded.entries(), size))
 }
 
 const YES: Answer = Answer::Drawn(Drawn::Yes);
@@ -175,8 +175,8 @@ const RUN: [(Asked, (Answer, &str)); 9] = [
 ];
 
 #[test]
-fn what_was_kept_is_one_run(rt: HostRuntime) -> Result<(), Fail> {
-    let mut board = kept_on(rt.alloc(), 2)?;
+fn what_was_recorded_is_one_run(rt: HostRuntime) -> Result<(), Fail> {
+    let mut board = recorded_on(rt.alloc(), 2)?;
     assert!(rt; all_answer(rt.alloc(), &mut board, &RUN) == Ok(true));
     assert_eq!(rt; board.entries().len(), 9);
     assert!(rt; has_rows(board.board().term(), &["k", "l", "x", "y"]) == Ok(true));
@@ -211,7 +211,7 @@ const BACK: [(Asked, (Answer, &str)); 4] = [
 
 #[test]
 fn bars_that_come_back(rt: HostRuntime) -> Result<(), Fail> {
-    let mut board = kept_on(rt.alloc(), 4)?;
+    let mut board = recorded_on(rt.alloc(), 4)?;
     assert!(rt; all_answer(rt.alloc(), &mut board, &BACK) == Ok(true));
     assert_eq!(rt; board.entries().len(), 4);
     assert!(rt; is_replayed(rt.alloc(), &board, 4) == Ok(true));
@@ -219,7 +219,12 @@ fn bars_that_come_back(rt: HostRuntime) -> Result<(), Fail> {
 }
 
 /// Logs a text under the lock; whether it was drawn.
-fn log_once<R: Wait>(rt: &R, alloc: Global, board: &Mutex<Box<Kept>>, text: &'static str) -> bool {
+fn log_once<R: Wait>(
+    rt: &R,
+    alloc: Global,
+    board: &Mutex<Box<Recording>>,
+    text: &'static str,
+) -> bool {
     match call_of(alloc, Asked::Log(text)) {
         Ok(call) => board.lock(rt).apply(call, 0).0 == YES,
         Err(_) => false,
@@ -227,7 +232,12 @@ fn log_once<R: Wait>(rt: &R, alloc: Global, board: &Mutex<Box<Kept>>, text: &'st
 }
 
 /// The same fifty times; how often it was drawn.
-fn log_fifty<R: Wait>(rt: &R, alloc: Global, board: &Mutex<Box<Kept>>, text: &'static str) -> u64 {
+fn log_fifty<R: Wait>(
+    rt: &R,
+    alloc: Global,
+    board: &Mutex<Box<Recording>>,
+    text: &'static str,
+) -> u64 {
     let mut drawn: u64 = 0;
     for _ in 0..50u32 {
         if log_once(rt, alloc, board, text) {
@@ -249,16 +259,16 @@ fn are_logs(entries: &[Entry<NoTracker>]) -> bool {
 
 #[test]
 fn two_threads_log_on_one_board(rt: HostRuntime) -> Result<(), Fail> {
-    let board = Mutex::new(kept_on(rt.alloc(), 5)?);
+    let board = Mutex::new(recorded_on(rt.alloc(), 5)?);
     let drawn = join(
         &rt,
         || log_fifty(&rt, rt.alloc(), &board, "mine"),
         || log_fifty(&rt, rt.alloc(), &board, "theirs"),
     );
     assert_eq!(rt; drawn, (50, 50));
-    let kept = board.lock(&rt);
-    assert_eq!(rt; kept.entries().len(), 100);
-    assert!(rt; are_logs(kept.entries()));
-    assert!(rt; is_replayed(rt.alloc(), &kept, 5) == Ok(true));
+    let recorded = board.lock(&rt);
+    assert_eq!(rt; recorded.entries().len(), 100);
+    assert!(rt; are_logs(recorded.entries()));
+    assert!(rt; is_replayed(rt.alloc(), &recorded, 5) == Ok(true));
     Ok(())
 }

@@ -55,7 +55,7 @@ fn logged_in(rows: &[String]) -> u64 {
     found
 }
 
-type Kept = Recorded<NoTracker, InMemoryTerm>;
+type Recording = Recorded<NoTracker, InMemoryTerm>;
 
 /// Whether a board makes these calls with the same answers.
 fn answers_so(
@@ -80,11 +80,11 @@ fn rows_of(term: Option<&InMemoryTerm>) -> Result<Vec<String>, Refusal> {
 }
 
 /// A fresh board that makes the calls of a history gives the same answers, shows the same, and has so many logged lines.
-fn is_one_run(alloc: Global, kept: &Kept, logged: u64) -> Held {
-    let board = Board::new(alloc, target(alloc)?, kept.opening().board_id);
+fn is_one_run(alloc: Global, recorded: &Recording, logged: u64) -> Held {
+    let board = Board::new(alloc, target(alloc)?, recorded.opening().board_id);
     let mut fresh = Box::new(alloc, board)?;
-    Law::Replay.holds(answers_so(&mut fresh, alloc, kept.entries())?)?;
-    let rows = rows_of(kept.board().term())?;
+    Law::Replay.holds(answers_so(&mut fresh, alloc, recorded.entries())?)?;
+    let rows = rows_of(recorded.board().term())?;
     Law::Replay.holds(rows_of(fresh.term())? == rows)?;
     Law::Logged.holds(logged_in(&rows) == logged)
 }
@@ -99,9 +99,9 @@ struct RunsAgain {
 impl RecordReader<InMemoryTerm, NoTracker> for RunsAgain {
     type Found = Held;
 
-    fn read(self, record: Option<&Kept>) -> Held {
+    fn read(self, record: Option<&Recording>) -> Held {
         match record {
-            Some(kept) => is_one_run(self.alloc, kept, self.logged),
+            Some(recorded) => is_one_run(self.alloc, recorded, self.logged),
             None => Err(Law::Replay),
         }
     }

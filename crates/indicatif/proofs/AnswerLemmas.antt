@@ -367,8 +367,8 @@ removed_so m view id Memory can = inl refl
 removed_so m view id ForeignBar can = inr refl
 removed_so m view id _ can = absurd (false≢true can)
 
-pub kept_so : {K T : Type 0} (m : Tracking K) (view : T → TermView) (id : Id) (e : Refusal) → SharedAnswers m view (Remove id) (Refused e) → IsMissing e
-kept_so m view id e can = elim (removed_so m view id e can) [ inl memory ↦ inl memory | inr foreign ↦ inr (inl foreign) ]
+pub stays_so : {K T : Type 0} (m : Tracking K) (view : T → TermView) (id : Id) (e : Refusal) → SharedAnswers m view (Remove id) (Refused e) → IsMissing e
+stays_so m view id e can = elim (removed_so m view id e can) [ inl memory ↦ inl memory | inr foreign ↦ inr (inl foreign) ]
 
 pub aligned_so : {K T : Type 0} (m : Tracking K) (view : T → TermView) (bottom : Bool) (e : Refusal) → SharedDraws m view (Align bottom) (Err e) → e ≡ Memory
 unfolding SharedDraws

@@ -12,7 +12,7 @@ use Rattle.indicatif_bar.specs.LoneBars.{record_of, Obeys, ObeysOrNot}
 use Rattle.indicatif_bar.specs.declared.lone.LoneBar.{LoneBar}
 use Rattle.indicatif.specs.declared.owned.OwnedBar.{OwnedBar}
 use Rattle.indicatif.specs.declared.wrap.ProgressBarIter.{ProgressBarIter}
-use Rattle.indicatif.specs.Wrap.{inner_of, seeks_kept, last_draw_of}
+use Rattle.indicatif.specs.Wrap.{inner_of, wrapped_seeks, last_draw_of}
 use Rattle.indicatif.specs.Owned.{lone_of, MayBuild}
 
 module _ {K T : Type 0} (m : Tracking K) (view : T → TermView) where
@@ -26,7 +26,7 @@ module _ {K T : Type 0} (m : Tracking K) (view : T → TermView) where
   }
 
 module _ {I K T C : Type 0} (m : Tracking K) (view : T → TermView) (old mid : ProgressBarIter I (OwnedBar K T C)) (now : ℕ)
-    (it : inner_of mid ≡ inner_of old) (seeks : seeks_kept mid ≡ seeks_kept old) (last : last_draw_of mid ≡ last_draw_of old) where
+    (it : inner_of mid ≡ inner_of old) (seeks : wrapped_seeks mid ≡ wrapped_seeks old) (last : last_draw_of mid ≡ last_draw_of old) where
   -- a wrapper whose bar answered this
   abbrev pub Answered : Command K → Result Drawn Refusal → Type 0
   Answered command answer = ObeysOrNot m view (lone_of old.progress) (lone_of mid.progress) command now answer

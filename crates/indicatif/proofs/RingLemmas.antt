@@ -1,6 +1,6 @@
 -- What is kept of a list of updates is its last ones.
 use Rattle.std.proofs.Common.{◌≡◌, ℕ, suc, zero, List, [], ◌∷◌, take, fold, reverse, refl, sym, ap, ◌∙◌}
-use Rattle.indicatif.specs.Ring.{kept_updates}
+use Rattle.indicatif.specs.Ring.{last_updates}
 
 cut_less : (n : ℕ) (xs : List ℕ) → take n (take (suc n) xs) ≡ take n xs
 cut_less zero xs = refl
@@ -12,13 +12,13 @@ cut_again : (n : ℕ) (x : ℕ) (xs : List ℕ) → take n (x ∷ take n xs) ≡
 cut_again zero x xs = refl
 cut_again (suc n) x xs = ap (λ l. x ∷ l) (cut_less n xs)
 
-kept_from : (n : ℕ) (places updates : List ℕ) → fold (λ ps p. take n (p ∷ ps)) (take n places) updates ≡ take n (fold (λ ps p. p ∷ ps) places updates)
-kept_from n places [] = refl
-kept_from n places (u ∷ us) = ap (λ l. fold (λ ps p. take n (p ∷ ps)) l us) (cut_again n u places) ∙ kept_from n (u ∷ places) us
+last_from : (n : ℕ) (places updates : List ℕ) → fold (λ ps p. take n (p ∷ ps)) (take n places) updates ≡ take n (fold (λ ps p. p ∷ ps) places updates)
+last_from n places [] = refl
+last_from n places (u ∷ us) = ap (λ l. fold (λ ps p. take n (p ∷ ps)) l us) (cut_again n u places) ∙ last_from n (u ∷ places) us
 
 take_nil : (n : ℕ) → take {A = ℕ} n [] ≡ []
 take_nil zero = refl
 take_nil (suc n) = refl
 
-pub kept-all : (n : ℕ) (updates : List ℕ) → kept_updates n updates ≡ take n (reverse updates)
-kept-all n updates = ap (λ l. fold (λ ps p. take n (p ∷ ps)) l updates) (sym (take_nil n)) ∙ kept_from n [] updates
+pub last-all : (n : ℕ) (updates : List ℕ) → last_updates n updates ≡ take n (reverse updates)
+last-all n updates = ap (λ l. fold (λ ps p. take n (p ∷ ps)) l updates) (sym (take_nil n)) ∙ last_from n [] updates

@@ -25,22 +25,22 @@ module _ {X Y : Type 0} (R : X → Y → Type 0) where
 
 module _ {V : Type 0} where
   -- the answers of one piece more
-  pub kept_more : (full : List (Option V)) (all : Option (Vec V Global)) (one : Option V) (rest left : List (Option V)) (new : Option (Vec V Global))
+  pub more_in_order : (full : List (Option V)) (all : Option (Vec V Global)) (one : Option V) (rest left : List (Option V)) (new : Option (Vec V Global))
       → left ≡ one ∷ rest
       → IfSome all (λ v. full ≡ map Some v.items ++ left)
       → IfSome new (λ v. IsSomeAnd all (λ a. IsSomeAnd one (λ o. v.items ≡ a.items ++ o ∷ [])))
       → IfSome new (λ v. full ≡ map Some v.items ++ rest)
-  kept_more full all one rest left None is inv kept = tt
-  kept_more full None one rest left (Some v) is inv kept = absurd kept
-  kept_more full (Some a) None rest left (Some v) is inv kept = absurd kept
-  kept_more full (Some a) (Some o) rest left (Some v) is inv kept =
+  more_in_order full all one rest left None is inv kept = tt
+  more_in_order full None one rest left (Some v) is inv kept = absurd kept
+  more_in_order full (Some a) None rest left (Some v) is inv kept = absurd kept
+  more_in_order full (Some a) (Some o) rest left (Some v) is inv kept =
       inv ∙ ap (λ l. map Some a.items ++ l) is ∙ sym (ap (λ l. map Some l ++ rest) kept ∙ ap (λ l. l ++ rest) (map-append Some a.items (o ∷ [])) ∙ append_assoc (map Some a.items) (Some o ∷ []) rest)
 
   -- the answers of all pieces
-  pub all_kept : (full left : List (Option V)) (all : Option (Vec V Global)) → left ≡ []
+  pub all_in_order : (full left : List (Option V)) (all : Option (Vec V Global)) → left ≡ []
       → IfSome all (λ v. full ≡ map Some v.items ++ left) → IfSome all (λ v. full ≡ map Some v.items)
-  all_kept full left None is inv = tt
-  all_kept full left (Some v) is inv = inv ∙ ap (λ l. map Some v.items ++ l) is ∙ append-nil (map Some v.items)
+  all_in_order full left None is inv = tt
+  all_in_order full left (Some v) is inv = inv ∙ ap (λ l. map Some v.items ++ l) is ∙ append-nil (map Some v.items)
 
 module _ {T A : Type 0} (R : T → A → Type 0) (id : SumId) where
   -- what became of some pieces together

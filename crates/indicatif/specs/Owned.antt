@@ -16,7 +16,7 @@ use Rattle.indicatif_bar.specs.Lone.{LoneState, LoneCall, Obey, opening_state}
 use Rattle.indicatif_bar.specs.LoneBars.{record_of, lone_terminal, lone_known, lone_bar, LoneIsIn, Obeys, ObeysOrNot, RefusesCommand}
 use Rattle.indicatif_bar.specs.declared.lone.LoneBar.{LoneBar}
 use Rattle.indicatif.specs.Moves.{Standing, Move, Advance, PlaceAt, FinishAsStored}
-use Rattle.indicatif.specs.Wrap.{inner_of, seeks_kept, last_draw_of}
+use Rattle.indicatif.specs.Wrap.{inner_of, wrapped_seeks, last_draw_of}
 use Rattle.indicatif.specs.declared.owned.OwnedBar.{OwnedBar}
 use Rattle.indicatif.specs.declared.wrap.ProgressBarIter.{ProgressBarIter}
 
@@ -79,7 +79,7 @@ module _ {I K T C : Type 0} (m : Tracking K) (view : T → TermView) where
   -- its bar obeyed a command, at some moment and with some answer; all else is as it was
   pub record Built (old : ProgressBarIter I (OwnedBar K T C)) (command : Command K) (new : ProgressBarIter I (OwnedBar K T C)) : Type 0 where
     pub it : inner_of new ≡ inner_of old
-    pub seeks : seeks_kept new ≡ seeks_kept old
+    pub seeks : wrapped_seeks new ≡ wrapped_seeks old
     pub last : last_draw_of new ≡ last_draw_of old
     pub moment : ℕ
     pub answer : Result Drawn Refusal

@@ -6,5 +6,5 @@ abbrev pub greatest_of : List ℕ → ℕ
 greatest_of = fold max 0
 
 -- what is kept of a list of updates that come one after the other, the latest first: each is put in front, and what is past n is dropped
-abbrev pub kept_updates : ℕ → List ℕ → List ℕ
-kept_updates n = fold (λ places place. take n (place ∷ places)) []
+abbrev pub last_updates : ℕ → List ℕ → List ℕ
+last_updates n = fold (λ places place. take n (place ∷ places)) []

@@ -55,8 +55,8 @@ module _ {K T : Type 0} (m : Tracking K) (view : T → TermView) where
   SharedSuspends drawn = IsTrue (of_a_draw drawn)
 
   -- a bar stays on its board: that hasn't it, or there is no memory for its removal
-  abbrev pub SharedKeeps : Id → Refusal → Type 0
-  SharedKeeps id e = IsMissing e
+  abbrev pub SharedStays : Id → Refusal → Type 0
+  SharedStays id e = IsMissing e
 
   -- what one gives that is to take a bar in at a place
   abbrev pub SharedTakes : Location → Result Id Refusal → Type 0

@@ -17,8 +17,8 @@ abbrev pub inner_of : {T P : Type 0} → ProgressBarIter T P → T
 inner_of w = w.it
 
 -- what is remembered of seeks
-abbrev pub seeks_kept : {T P : Type 0} → ProgressBarIter T P → Seeks
-seeks_kept w = w.seeks
+abbrev pub wrapped_seeks : {T P : Type 0} → ProgressBarIter T P → Seeks
+wrapped_seeks w = w.seeks
 
 -- what the last draw answered, if there was one
 abbrev pub last_draw_of : {T P : Type 0} → ProgressBarIter T P → Option (Result Drawn Refusal)
@@ -26,11 +26,11 @@ last_draw_of w = w.last
 
 -- it wraps this, with nothing remembered yet
 abbrev pub Wraps : {T P : Type 0} → ProgressBarIter T P → T → Type 0
-Wraps w it = (inner_of w ≡ it) × (seeks_kept w ≡ no_seeks) × (last_draw_of w ≡ None)
+Wraps w it = (inner_of w ≡ it) × (wrapped_seeks w ≡ no_seeks) × (last_draw_of w ≡ None)
 
 -- nothing of the bar has changed, nor what is remembered of seeks and of the last draw
 abbrev pub SameBar : {T P : Type 0} → ProgressBarIter T P → ProgressBarIter T P → Type 0
-SameBar s t = (t.progress ≡ s.progress) × (seeks_kept t ≡ seeks_kept s) × (last_draw_of t ≡ last_draw_of s)
+SameBar s t = (t.progress ≡ s.progress) × (wrapped_seeks t ≡ wrapped_seeks s) × (last_draw_of t ≡ last_draw_of s)
 
 -- ---- what becomes of the bar
 
@@ -45,9 +45,9 @@ module _ {T P : Type 0} (stands : P → Option Standing) (leads : P → Move →
 
   -- an item advances the bar by 1; the end finishes one that isn't finished, and changes nothing of one that is
   abbrev pub CountsItem : Bool → ProgressBarIter T P → ProgressBarIter T P → Type 0
-  CountsItem true s t = Moved s (Advance 1) t × (seeks_kept t ≡ seeks_kept s)
+  CountsItem true s t = Moved s (Advance 1) t × (wrapped_seeks t ≡ wrapped_seeks s)
   CountsItem false s t =
-      (Moved s FinishAsStored t × (seeks_kept t ≡ seeks_kept s) × IfSome (stands s.progress) (λ bar. bar.finished ≡ false))
+      (Moved s FinishAsStored t × (wrapped_seeks t ≡ wrapped_seeks s) × IfSome (stands s.progress) (λ bar. bar.finished ≡ false))
       ⊎ (SameBar s t × IfSome (stands s.progress) (λ bar. bar.finished ≡ true))
 
   -- the bar was placed after n more bytes
@@ -55,13 +55,13 @@ module _ {T P : Type 0} (stands : P → Option Standing) (leads : P → Move →
     pub position : ℕ
     pub place : ℕ
     pub here : IfSome (stands s.progress) (λ bar. position ≡ bar.position)
-    pub by_seeks : (place, seeks_kept t) ≡ after_move 5 10 (seeks_kept s) position n
+    pub by_seeks : (place, wrapped_seeks t) ≡ after_move 5 10 (wrapped_seeks s) position n
     pub moved : Moved s (PlaceAt place) t
 
   -- the bar was placed by a seek to a place
   pub record Sought (s : ProgressBarIter T P) (to : ℕ) (t : ProgressBarIter T P) : Type 0 where
     pub place : ℕ
-    pub by_seeks : (place, seeks_kept t) ≡ after_seek 10 (seeks_kept s) to
+    pub by_seeks : (place, wrapped_seeks t) ≡ after_seek 10 (wrapped_seeks s) to
     pub moved : Moved s (PlaceAt place) t
 
   -- a call of `next`: what the inner one gave, by what its calls may give, was handed on, and counted
@@ -70,8 +70,8 @@ module _ {T P : Type 0} (stands : P → Option Standing) (leads : P → Move →
 
   -- an item of a stream advances the bar by 1; each end finishes it
   abbrev pub Polled : Bool → ProgressBarIter T P → ProgressBarIter T P → Type 0
-  Polled true s t = Moved s (Advance 1) t × (seeks_kept t ≡ seeks_kept s)
-  Polled false s t = Moved s FinishAsStored t × (seeks_kept t ≡ seeks_kept s)
+  Polled true s t = Moved s (Advance 1) t × (wrapped_seeks t ≡ wrapped_seeks s)
+  Polled false s t = Moved s FinishAsStored t × (wrapped_seeks t ≡ wrapped_seeks s)
 
   -- a polled read that is ready places the bar by the bytes that came; of one that failed none came
   abbrev pub ReadPlaces : {E : Type 0} → ProgressBarIter T P → Poll (Result ℕ E) → ProgressBarIter T P → Type 0

@@ -9,7 +9,7 @@ ghost use Rattle.indicatif.specs.Owned.{Commanded, IsRun};
 ghost use Rattle.indicatif.specs.Parallel.{Blocks};
 ghost use Rattle.indicatif.specs.declared.owned.OwnedBar.{OwnedBar};
 ghost use Rattle.indicatif.specs.Wrap.{inner_of, last_draw_of};
-ghost use Rattle.indicatif.specs.Ring.{kept_updates};
+ghost use Rattle.indicatif.specs.Ring.{last_updates};
 ghost use Rattle.indicatif.specs.Seek.{Seeks, no_seeks, saturated, Forward, after_seek, after_steps};
 
 use crate::moves::Moves;
@@ -18,8 +18,8 @@ use indicatif_bar::style::Tracks;
 use indicatif_term::term_like::TermLike;
 
 /// What is kept after a list of updates is its last `n`, the latest first.
-pub fn the_last_updates_are_kept()
-    ensures { (n : ℕ) (updates : List ℕ) → kept_updates n updates ≡ take n (reverse updates) }
+pub fn the_last_updates_stay()
+    ensures { (n : ℕ) (updates : List ℕ) → last_updates n updates ≡ take n (reverse updates) }
 {}
 
 /// Without a seek a reader shows how far it came: moves add up, and the sum stays at 2^64 - 1.

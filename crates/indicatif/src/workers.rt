@@ -262,7 +262,7 @@ fn jobs_for(
 }
 
 // The answers of one piece more.
-fn kept<A: Drop>(all: Option<Vec<Vec<A>>>, answers: Option<Vec<A>>) -> Option<Vec<Vec<A>>>
+fn with_piece<A: Drop>(all: Option<Vec<Vec<A>>>, answers: Option<Vec<A>>) -> Option<Vec<Vec<A>>>
     ensures { IfSome result (λ made. IsSomeAnd all (λ before. IsSomeAnd answers (λ one. made.items ≡ before.items ++ one ∷ []))) }
 {
     let mut all = all?;
@@ -293,7 +293,7 @@ fn gathered<A: Drop>(
             worker: more,
         } = e;
         worker = worker.join(more, done);
-        all = kept(all, answers);
+        all = with_piece(all, answers);
     }
     (all, worker)
 }

@@ -1,7 +1,7 @@
 //! The wrapper.
 ghost use Rattle.std.specs.Prelude.{◌≡◌, None};
 ghost use Rattle.indicatif.specs.Seek.{no_seeks};
-ghost use Rattle.indicatif.specs.Wrap.{inner_of, seeks_kept, last_draw_of, Placed};
+ghost use Rattle.indicatif.specs.Wrap.{inner_of, wrapped_seeks, last_draw_of, Placed};
 
 use crate::moves::Moves;
 use crate::seek::SeekMax;
@@ -37,7 +37,7 @@ impl<T, P> ProgressBarIter<T, P> {
     pub fn new(it: T, progress: P) -> ProgressBarIter<T, P>
         ensures it { inner_of result ≡ it }
         ensures progress { result.progress ≡ progress }
-        ensures seeks { seeks_kept result ≡ no_seeks }
+        ensures seeks { wrapped_seeks result ≡ no_seeks }
         ensures last { last_draw_of result ≡ None }
     {
         ProgressBarIter {

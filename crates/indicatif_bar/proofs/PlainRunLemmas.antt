@@ -29,12 +29,12 @@ use Rattle.indicatif_bar.specs.Commands.{BarRecord, Command, Tick, TickerTick, S
 use Rattle.indicatif_bar.specs.StyleLaws.{IsPlainText}
 use Rattle.indicatif_bar.specs.LineLaws.{IsPlainLiteral, HasPlainTexts}
 use Rattle.indicatif_bar.specs.PlainLaws.{IsPlainWithTabs, ArePlainTrackers, HasPlainLiteral, IsPlainFinish, IsPlainBar, IsPlainCommand, IsPlainLoneCall, LoneRunsArePlain}
-use Rattle.indicatif_bar.proofs.KeptStateLemmas.{IsKept, leads_keep}
+use Rattle.indicatif_bar.proofs.PreservingLemmas.{IsPreserved, leads_preserve}
 use Rattle.indicatif_bar.proofs.PlainTextLemmas.{plain_texts_give_plain_lines, plain_lines_are_asked}
 
 -- ---- whatever draws by calls
 
-module _ {S C A : Type 0} (m : Machine S C A) (P : S → Type 0) (Q : C → Type 0) (keeps : (target : Target) (call : C) (now : ℕ) (s : S) → Q call → P s → IsKept m P (m.deed target call now s))
+module _ {S C A : Type 0} (m : Machine S C A) (P : S → Type 0) (Q : C → Type 0) (keeps : (target : Target) (call : C) (now : ℕ) (s : S) → Q call → P s → IsPreserved m P (m.deed target call now s))
     (plain : (target : Target) (call : C) (now : ℕ) (s : S) → Q call → P s → IsTrue (are_plain (lines_by (m.deed target call now s)))) where
   -- a run of plain calls from a plain state
   pub runs_plain : (calls : List (C × ℕ)) (answers : List A) (old : Option TermView) (s : S) (new : Option TermView) (next : S) (run : Runs m calls answers old s new next) →
@@ -42,7 +42,7 @@ module _ {S C A : Type 0} (m : Machine S C A) (P : S → Type 0) (Q : C → Type
   runs_plain [] [] old s new next run is all = (tt, subst P (sym run.1) is)
   runs_plain (call ∷ calls) (answer ∷ answers) old s new next run is all =
       let others = runs_plain calls answers run.0 run.1 new next run.3
-      (leads_keep m P (target_of old) s run.1 (m.deed (target_of old) call.0 call.1 s) answer (keeps (target_of old) call.0 call.1 s all.0 is) run.2.leads is) all.1 in
+      (leads_preserve m P (target_of old) s run.1 (m.deed (target_of old) call.0 call.1 s) answer (keeps (target_of old) call.0 call.1 s all.0 is) run.2.leads is) all.1 in
       ((λ _. plain (target_of old) call.0 call.1 s all.0 is, others.0), others.1)
   runs_plain [] (answer ∷ answers) old s new next run is all = absurd run
   runs_plain (call ∷ calls) [] old s new next run is all = absurd run
@@ -107,7 +107,7 @@ module _ {B C : Type 0} (kind : Kind B C) (IsBar : B → Type 0) (IsCommand : C 
   call_writing Clear c = tt
 
   deed_keeps : (refused : Option Refusal) (target : Target) (call : LoneCall C) (now : ℕ) (s : LoneState B) → IsCall call → IsState s →
-      IsKept (lone kind) IsState (deed_unless kind refused (draw_of_call kind target call now s) s)
+      IsPreserved (lone kind) IsState (deed_unless kind refused (draw_of_call kind target call now s) s)
   deed_keeps (Some e) target call now s c p = p
   deed_keeps None target call now s c p =
       let bar = told_plain call now s.bar c p in

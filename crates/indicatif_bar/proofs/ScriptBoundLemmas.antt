@@ -7,7 +7,7 @@ use Rattle.indicatif_term.proofs.LimiterLemmas.{Claim, counted}
 use Rattle.indicatif_bar.specs.Machines.{target_of, Machine}
 use Rattle.indicatif_bar.specs.Runs.{Runs, deed_on}
 use Rattle.indicatif_bar.specs.Bounds.{IsLimited, drew_unforced, unforced_draws}
-use Rattle.indicatif_bar.specs.Scripts.{Sizing, Part, Called, Size, sized, sized_lists, Plays, unforced_in, ScriptsAreBounded, ScriptsAreBoundedFrom, KeepsLimiter}
+use Rattle.indicatif_bar.specs.Scripts.{Sizing, Part, Called, Size, sized, sized_lists, Plays, unforced_in, ScriptsAreBounded, ScriptsAreBoundedFrom, LeavesLimiter}
 use Rattle.indicatif_bar.proofs.BoundLemmas.{call_step, with_step}
 
 -- one more at the front, where it is
@@ -15,7 +15,7 @@ one_more : (b : Bool) (n : ℕ) (xs ys : List ℕ) → (if b then n ∷ xs else 
 one_more true n xs ys = refl
 one_more false n xs ys = refl
 
-module _ {S C A : Type 0} (m : Machine S C A) (z : Sizing m) (limiter : S → Option Limiter) (limited : IsLimited m limiter) (keeps : KeepsLimiter z limiter) where
+module _ {S C A : Type 0} (m : Machine S C A) (z : Sizing m) (limiter : S → Option Limiter) (limited : IsLimited m limiter) (keeps : LeavesLimiter z limiter) where
   -- what is claimed of moments from a state on
   abbrev ClaimFrom : S → List ℕ → Type 0
   ClaimFrom s others = (l : Limiter) → 0 < l.interval → limiter s ≡ Some l → Claim l others

@@ -181,7 +181,7 @@ module _ {S C A : Type 0} (m : Machine S C A) (z : Sizing m) where
       let rest = subst (Left (broken || b) parts u x new next) (sym first.1) later plays.3 plain.1 known in
       let c = rest.2 in
       let last : (n : ℕ) (t : Terminal) → Known broken v.columns v.rows n l t → RowsLastThrough n t (Given p.bytes ∷ c.events) = λ n t k. (
-        p.keeps n t (placed_known broken v.columns v.rows n l t k),
+        p.stays n t (placed_known broken v.columns v.rows n l t k),
         c.lasts n (after t p.bytes) (known_then v u b l (m.lists x) p n t broken k),
       ) in (
         rest.0,

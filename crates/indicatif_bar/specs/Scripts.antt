@@ -217,5 +217,5 @@ module _ {State Call Answer : Type 0} (m : Machine State Call Answer) (z : Sizin
       (last : ℕ) → last_or None moments ≡ Some last → (l.prev ≤ last) × (length moments * l.interval ≤ l.capacity * l.interval + (last - l.prev))
 
 -- a machine's limiter stays as its rows get another size
-abbrev pub KeepsLimiter : {State Call Answer : Type 0} {m : Machine State Call Answer} → Sizing m → (State → Option Limiter) → Type 0
-KeepsLimiter {State} z limiter = (l : Lists) (s : State) → limiter (z.put l s) ≡ limiter s
+abbrev pub LeavesLimiter : {State Call Answer : Type 0} {m : Machine State Call Answer} → Sizing m → (State → Option Limiter) → Type 0
+LeavesLimiter {State} z limiter = (l : Lists) (s : State) → limiter (z.put l s) ≡ limiter s

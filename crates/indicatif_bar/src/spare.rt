@@ -12,7 +12,7 @@ use std::mem::replace;
 /// ```
 /// let mut spare = SpareLines::new(alloc);
 /// let before = bar.lines_in(&mut spare, 0, 80)?;
-/// spare.keep(before);
+/// spare.store(before);
 /// let lines = bar.lines_in(&mut spare, 1, 80)?; // in the room of those before
 /// ```
 #[derive(Drop)]
@@ -61,12 +61,12 @@ impl SpareLines {
     }
 
     /// Keeps the room of a text that is no more, where there is room for that.
-    pub(crate) fn keep_text(&mut self, text: String) {
+    pub(crate) fn store_text(&mut self, text: String) {
         let _ = self.texts.push(text);
     }
 
     /// Keeps the room of lines that are no more, for the next ones. Where that itself finds no room, the rest is given back.
-    pub fn keep(&mut self, lines: Vec<LineType>) {
+    pub fn store(&mut self, lines: Vec<LineType>) {
         let mut lines = lines;
         while let Some(line) = lines.pop() {
             if let LineType::Text(text) | LineType::Bar(text) = line {

@@ -3,7 +3,7 @@ use Rattle.std.proofs.Common.{◌≡◌, ◌+◌, ◌/◌, ◌≤◌, List, [], 
 use Rattle.std.proofs.Math.Nat.{div-le_self}
 use Rattle.std.proofs.lemmas.List.Sums.{sum_by-append, sum_by-cons}
 use Rattle.std.proofs.lemmas.List.Elements.{All-append, All-cons, All-nil}
-use Rattle.indicatif_board.specs.Done.{Worker, IsDivided, split_into, kept_half, given_half, shares_of, added_by}
+use Rattle.indicatif_board.specs.Done.{Worker, IsDivided, split_into, own_half, given_half, shares_of, added_by}
 
 -- the first of some workers, and the rest
 pub shares_of-cons : (w : Worker) (ws : List Worker) → shares_of (w ∷ ws) ≡ w.account.parts + shares_of ws
@@ -21,7 +21,7 @@ IsDivided-one w = record {
 }
 
 pub IsDivided-halves : (w : Worker) (xs ys : List Worker)
-    → IsDivided (split_into (kept_half w.account) w) xs
+    → IsDivided (split_into (own_half w.account) w) xs
     → IsDivided (split_into (given_half w.account) w) ys
     → IsDivided w (xs ++ ys)
 IsDivided-halves w xs ys kept given =

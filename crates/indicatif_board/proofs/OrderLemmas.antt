@@ -17,11 +17,11 @@ use Rattle.indicatif_bar.specs.declared.state.Ask.TheVariants.{No, Forced}
 use Rattle.indicatif_board.specs.Members.{Member, is_member, is_head, without, said_of, order_of, place_of, new_member, leaders, changed_at}
 use Rattle.indicatif_board.specs.Boards.{BoardState, BoardKind, Call, Insert, Remove, Drop, Log, BarLog, Clear, Redraw, Align, Tell, Answer, Given, Refused, Id, Location, Entrant, New, Old, opening_board, turned_away, anchor_turned_away, or_refused, inserted, index_of, taken_in, taken_out, draws, draw_of, bar_changed, laid_out, layout_takes, left_by, left_on, ownerless_on, board}
 use Rattle.indicatif_board.specs.Slots.{occurrences}
-use Rattle.indicatif_board.specs.OrderLaws.{RunsKeep, StandsOnce, IsGone, with_new, new_bars, new_numbers, NumbersCount, NumbersAreNew}
+use Rattle.indicatif_board.specs.OrderLaws.{RunsPreserve, StandsOnce, IsGone, with_new, new_bars, new_numbers, NumbersCount, NumbersAreNew}
 use Rattle.indicatif_board.proofs.MemberLemmas.{place-changed, map-inserted, map-removed, drop-map}
 use Rattle.indicatif_board.proofs.SlotLemmas.{ones_other, ones_most, occurrences-front, occurrences-inserted, occurrences-removed, occurrences-cut}
-use Rattle.indicatif_bar.proofs.KeptStateLemmas.{IsKept, leads_keep}
-use Rattle.indicatif_board.proofs.RunInvariantLemmas.{runs_keep}
+use Rattle.indicatif_bar.proofs.PreservingLemmas.{IsPreserved, leads_preserve}
+use Rattle.indicatif_board.proofs.RunInvariantLemmas.{runs_preserve}
 
 -- ---- what bars that come and go keep
 
@@ -34,14 +34,14 @@ module _ {B C : Type 0} (kind : BoardKind B C) (board_id : ℕ) (Q : List ℕ �
   abbrev P : BoardState B → Type 0
   P s = Q (order_of s.members) s.made
 
-  abbrev KeepsIt : Deed (BoardState B) Answer → Type 0
-  KeepsIt deed = IsKept (board kind board_id) P deed
+  abbrev PreservesIt : Deed (BoardState B) Answer → Type 0
+  PreservesIt deed = IsPreserved (board kind board_id) P deed
 
-  unless_refused : (s : BoardState B) (refused : Option Refusal) (deed : Deed (BoardState B) Answer) → P s → KeepsIt deed → KeepsIt (or_refused refused deed s)
+  unless_refused : (s : BoardState B) (refused : Option Refusal) (deed : Deed (BoardState B) Answer) → P s → PreservesIt deed → PreservesIt (or_refused refused deed s)
   unless_refused s None deed is keeps = keeps
   unless_refused s (Some e) deed is keeps = is
 
-  either : (b : Bool) (one other : Deed (BoardState B) Answer) → KeepsIt one → KeepsIt other → KeepsIt (if b then one else other)
+  either : (b : Bool) (one other : Deed (BoardState B) Answer) → PreservesIt one → PreservesIt other → PreservesIt (if b then one else other)
   either true one other a b = a
   either false one other a b = b
 
@@ -59,7 +59,7 @@ module _ {B C : Type 0} (kind : BoardKind B C) (board_id : ℕ) (Q : List ℕ �
       let k = place_of number members in
       subst (λ o. Q o made) (map-removed (λ (m : Member B). m.number) members k) (lasts.go (order_of members) made k is)
 
-  inserted_keeps : (s : BoardState B) (at : Location) (entrant : Entrant B) → P s → Comes (Insert at entrant) s → KeepsIt (inserted board_id at entrant s)
+  inserted_keeps : (s : BoardState B) (at : Location) (entrant : Entrant B) → P s → Comes (Insert at entrant) s → PreservesIt (inserted board_id at entrant s)
   inserted_keeps s at (New bar) is comes = either (s.made == 2 ^ 64) _ _ is comes
   inserted_keeps s at (Old id) is comes = unless_refused s (turned_away board_id id s) _ is is
 
@@ -85,7 +85,7 @@ module _ {B C : Type 0} (kind : BoardKind B C) (board_id : ℕ) (Q : List ℕ �
   written_keeps s is = subst (λ o. Q o s.made) (drop-map (λ (m : Member B). m.number) (leaders s.members) s.members) (lasts.go_first (order_of s.members) s.made (leaders s.members) is)
 
   only_draws : (target : Target) (takes : Bool) (ask : Ask) (now : ℕ) (writing : Writing) (after laid : BoardState B) (lays : Bool) → P after → P laid →
-      KeepsIt (draws (draw_of target takes ask now writing after laid lays))
+      PreservesIt (draws (draw_of target takes ask now writing after laid lays))
   only_draws target takes ask now writing after laid lays numbers ready = (numbers, ready, written_keeps laid ready, ready, (λ x is. is), λ x is. is)
 
   laid_keeps : (target : Target) (now number : ℕ) (s : BoardState B) → P s → P (laid_out kind target now number s)
@@ -94,7 +94,7 @@ module _ {B C : Type 0} (kind : BoardKind B C) (board_id : ℕ) (Q : List ℕ �
   told_keeps : (number : ℕ) (f : B → B) (s : BoardState B) → P s → P (bar_changed number f s)
   told_keeps number f s is = changed_keeps number (λ m. record m { bar = f m.bar }) s (λ m. refl) is
 
-  deed_keeps : (target : Target) (call : Call B C) (now : ℕ) (s : BoardState B) → P s → Comes call s → KeepsIt ((board kind board_id).deed target call now s)
+  deed_keeps : (target : Target) (call : Call B C) (now : ℕ) (s : BoardState B) → P s → Comes call s → PreservesIt ((board kind board_id).deed target call now s)
   deed_keeps target (Insert at entrant) now s is comes = unless_refused s (anchor_turned_away board_id at s) _ is (inserted_keeps s at entrant is comes)
   deed_keeps target (Remove id) now s is comes = either (not (id.board == board_id)) _ _ is (taken_out_keeps s id.number is)
   deed_keeps target (Drop id) now s is comes =
@@ -134,8 +134,8 @@ module _ {B C : Type 0} (kind : BoardKind B C) (board_id : ℕ) (Q : List ℕ �
     comes_of (Align bottom) s is = tt
     comes_of (Tell id command) s is = tt
 
-    order_kept : RunsKeep (board kind board_id) P
-    order_kept = runs_keep (board kind board_id) P (λ target call now s is. deed_keeps target call now s is (comes_of call s is))
+    order_kept : RunsPreserve (board kind board_id) P
+    order_kept = runs_preserve (board kind board_id) P (λ target call now s is. deed_keeps target call now s is (comes_of call s is))
 
 -- ---- each bar stands there once
 
@@ -167,7 +167,7 @@ once_lasts = record {
 pub stands_at_first : {B : Type 0} (limiter : Option Limiter) → StandsOnce {B = B} (opening_board limiter)
 stands_at_first limiter = record { apart = λ n. omega arith; given = λ n new. refl }
 
-pub stands_kept : {B C : Type 0} (kind : BoardKind B C) (board_id : ℕ) → RunsKeep (board kind board_id) StandsOnce
+pub stands_kept : {B C : Type 0} (kind : BoardKind B C) (board_id : ℕ) → RunsPreserve (board kind board_id) StandsOnce
 stands_kept kind board_id calls answers old s new next run is =
     let after = order_kept kind board_id Once once_lasts once_comes calls answers old s new next run (record { apart = is.apart; given = is.given }) in
     record { apart = after.apart; given = after.given }
@@ -190,7 +190,7 @@ gone_lasts number = record {
   go_first = λ order made count is. record { was_given = is.was_given; is_out = omega (arith, occurrences-cut number count order, is.is_out) };
 }
 
-pub gone_kept : {B C : Type 0} (kind : BoardKind B C) (board_id number : ℕ) → RunsKeep (board kind board_id) (IsGone number)
+pub gone_kept : {B C : Type 0} (kind : BoardKind B C) (board_id number : ℕ) → RunsPreserve (board kind board_id) (IsGone number)
 gone_kept kind board_id number calls answers old s new next run is =
     let after = order_kept kind board_id (Gone number) (gone_lasts number) (gone_comes number) calls answers old s new next run (record { was_given = is.was_given; is_out = is.is_out }) in
     record { was_given = after.was_given; is_out = after.is_out }
@@ -216,7 +216,7 @@ module _ {B C : Type 0} (kind : BoardKind B C) (board_id : ℕ) where
         Leads (board kind board_id) target s ((board kind board_id).deed target call now s) answer next →
         next.made ≡ s.made
     same_made call comes leads =
-        leads_keep (board kind board_id) (λ x. x.made ≡ s.made) target s next ((board kind board_id).deed target call now s) answer
+        leads_preserve (board kind board_id) (λ x. x.made ≡ s.made) target s next ((board kind board_id).deed target call now s) answer
         (deed_keeps kind board_id (λ order k. k ≡ s.made) (same_lasts s.made) target call now s refl comes) leads refl
 
     module _ (at : Location) (bar : B) where

@@ -20,7 +20,7 @@ use Rattle.indicatif_bar.specs.PlainLaws.{ArePlainTrackers, IsPlainBar, IsPlainC
 use Rattle.indicatif_bar.specs.declared.state.Ask.{Ask}
 use Rattle.indicatif_bar.specs.declared.state.Ask.TheVariants.{No, Forced}
 use Rattle.indicatif_bar.proofs.PlainTextLemmas.{plain_lines_are_asked}
-use Rattle.indicatif_bar.proofs.KeptStateLemmas.{IsKept}
+use Rattle.indicatif_bar.proofs.PreservingLemmas.{IsPreserved}
 use Rattle.indicatif_bar.proofs.PlainRunLemmas.{runs_plain, ArePlainFrames, IsPlainWriting, written_plain, dropped_all, KeepsPlain, bars_keep_plain, finished_plain}
 use Rattle.indicatif_board.specs.Members.{Member, new_member, is_member, is_head, place_of, without, changed_at, said_of, leaders, frame_of}
 use Rattle.indicatif_board.specs.Boards.{BoardState, BoardKind, Call, Insert, Remove, Drop, Log, BarLog, Clear, Redraw, Align, Tell, Answer, Location, Entrant, New, Old, turned_away, anchor_turned_away, or_refused, index_of, inserted, taken_out, draws, draw_of, bar_changed, laid_out, layout_takes, left_by, left_on, ownerless_on, board}
@@ -100,7 +100,7 @@ module _ {B C : Type 0} (kind : BoardKind B C) (board_id : ℕ) (IsBar : B → T
 
   -- plain lines, and plain states on the way
   abbrev Goes : Deed (BoardState B) Answer → Type 0
-  Goes deed = IsKept (board kind board_id) IsState deed × IsTrue (are_plain (lines_by deed))
+  Goes deed = IsPreserved (board kind board_id) IsState deed × IsTrue (are_plain (lines_by deed))
 
   unless_refused : (s : BoardState B) (refused : Option Refusal) (deed : Deed (BoardState B) Answer) → IsState s → Goes deed → Goes (or_refused refused deed s)
   unless_refused s None deed all goes = goes

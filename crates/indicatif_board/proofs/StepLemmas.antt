@@ -7,7 +7,7 @@ use lib.ListN.{get_elem?}
 use Rattle.atomic_table.specs.Table.{keeps, Me, Allows, Splits, Joins}
 use Rattle.atomic_table.proofs.Lists.{at_set, at_snoc, set_else}
 use Rattle.indicatif_board.specs.declared.done.Account.{Account}
-use Rattle.indicatif_board.specs.Done.{all_added, all_parts, IsFair, AddsUp, account, after_adding, ReadsSum, kept_half, given_half, account_of_both, spent_account, whole_share}
+use Rattle.indicatif_board.specs.Done.{all_added, all_parts, IsFair, AddsUp, account, after_adding, ReadsSum, own_half, given_half, account_of_both, spent_account, whole_share}
 use Rattle.indicatif_board.proofs.AccountLemmas.{All-at, All-from_at, sum_by-set_at, at_most_sum_by, all_added-one_has_all, AddsUp-set}
 
 no_part : (n : ℕ) → n - n / 2 ≡ 0 → n ≡ 0
@@ -50,14 +50,14 @@ totals slots id me s k h at r =
       ((refl, o.1, ap (λ ws. slice_index ws 0) k.0), refl),
     )
 
-pub splits : (id : ℕ) (v : Account) → Splits {S = Unit {0}} (λ s. AddsUp s.words s.views) id v (kept_half v) (given_half v)
+pub splits : (id : ℕ) (v : Account) → Splits {S = Unit {0}} (λ s. AddsUp s.words s.views) id v (own_half v) (given_half v)
 splits id v s k at =
-    let vs : List Account = set s.views id (kept_half v) in
+    let vs : List Account = set s.views id (own_half v) in
     let all : List Account = vs ++ given_half v ∷ [] in
     let half : ℕ = v.parts / 2 in
     let small : half ≤ v.parts = div-le_self v.parts 2 in
-    let sum : all_added vs + v.added ≡ all_added s.views + v.added = sum_by-set_at (λ u. u.added) s.views id v (kept_half v) at in
-    let parts : all_parts vs + v.parts ≡ all_parts s.views + (v.parts - half) = sum_by-set_at (λ u. u.parts) s.views id v (kept_half v) at in
+    let sum : all_added vs + v.added ≡ all_added s.views + v.added = sum_by-set_at (λ u. u.added) s.views id v (own_half v) at in
+    let parts : all_parts vs + v.parts ≡ all_parts s.views + (v.parts - half) = sum_by-set_at (λ u. u.parts) s.views id v (own_half v) at in
     let sum' : all_added all ≡ all_added vs + 0 = sum_by_push (λ u. u.added) vs (given_half v) in
     let parts' : all_parts all ≡ all_parts vs + half = sum_by_push (λ u. u.parts) vs (given_half v) in
     let same : all_added all ≡ all_added s.views = omega (arith, sum, sum') in
@@ -69,11 +69,11 @@ splits id v s k at =
           ⊎_elim
           (λ h.
           ⊎_elim
-          (λ (p : (j ≡ id) × (kept_half v ≡ u)). subst (IsFair (all_added all)) p.1 (o.0, omega (arith, o.1, same), λ none. o.2 (no_part v.parts none)))
+          (λ (p : (j ≡ id) × (own_half v ≡ u)). subst (IsFair (all_added all)) p.1 (o.0, omega (arith, o.1, same), λ none. o.2 (no_part v.parts none)))
           (λ (p : (j ≢ id) × (get_elem? s.views j ≡ some u)).
           let q = All-at (IsFair (all_added s.views)) s.views j u k.2 p.1 in
           (q.0, omega (arith, q.1, same), q.2))
-          (at_set s.views id j (kept_half v) u h))
+          (at_set s.views id j (own_half v) u h))
           (λ (p : given_half v ≡ u). subst (IsFair (all_added all)) p (zero-le, omega (arith, o.1, same), λ none. refl))
           (at_snoc vs (given_half v) u j e)),
     )

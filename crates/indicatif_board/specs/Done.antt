@@ -31,8 +31,8 @@ abbrev pub ReadsSum : Account → ℕ → Account → Type 0
 ReadsSum before found now = (now ≡ record before { seen = now.seen }) × (before.seen ≤ now.seen) × (found ≡ now.seen % 2 ^ 64)
 
 -- of the first worker after a split: half of the share and all that was added
-abbrev pub kept_half : Account → Account
-kept_half a = record a { parts = a.parts - a.parts / 2 }
+abbrev pub own_half : Account → Account
+own_half a = record a { parts = a.parts - a.parts / 2 }
 
 -- of the second worker after a split: half of the share and nothing added; what was seen stays seen
 abbrev pub given_half : Account → Account

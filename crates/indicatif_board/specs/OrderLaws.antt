@@ -9,8 +9,8 @@ use Rattle.indicatif_board.specs.Slots.{occurrences}
 use Rattle.indicatif_board.specs.Boards.{BoardState, BoardKind, Id, New, Call, Insert, Answer, Given, board}
 
 -- what is so before a run is so after it; a front of a run is a run, so it is so after each of its calls
-abbrev pub RunsKeep : {State Call Answer : Type 0} → Machine State Call Answer → (State → Type 0) → Type 0
-RunsKeep {State} {Call} {Answer} m P =
+abbrev pub RunsPreserve : {State Call Answer : Type 0} → Machine State Call Answer → (State → Type 0) → Type 0
+RunsPreserve {State} {Call} {Answer} m P =
     (calls : List (Call × ℕ)) (answers : List Answer) (old : Option TermView) (s : State) (new : Option TermView) (next : State) →
     Runs m calls answers old s new next → P s → P next
 

@@ -29,7 +29,7 @@ pub enum Candidate<K> {
 ///
 /// ```
 /// if let Err(turned) = board.insert_after(id, Candidate::New(bar)) {
-///     let kept = turned.candidate; // the bar as it was
+///     let returned = turned.candidate; // the bar as it was
 /// }
 /// ```
 #[derive(Drop)]

@@ -15,7 +15,7 @@
 //!
 //! Between any two steps of any threads the sum is that of all adds so far, modulo 2^64: `AddsUp` in `specs/Done.antt`.
 ghost use Rattle.std.specs.Prelude.{◌≡◌, ℕ, ◌+◌, ◌-◌, ◌*◌, ◌<◌, ◌≤◌, ◌%◌, ◌^◌, ◌↔◌, List, [], ◌++◌, length, All, IfOk, IfErr, IsErr, IfSome, IsNone};
-ghost use Rattle.indicatif_board.specs.Done.{whole_share, after_adding, ReadsSum, kept_half, given_half, account_of_both, first_worker, with_account, split_into, shares_of, added_by, IsDivided, Worker};
+ghost use Rattle.indicatif_board.specs.Done.{whole_share, after_adding, ReadsSum, own_half, given_half, account_of_both, first_worker, with_account, split_into, shares_of, added_by, IsDivided, Worker};
 
 use crate::sums::{Adds, Halves, Joins, Sums, Totals};
 use atomic_table::{Seat, Table};
@@ -142,7 +142,7 @@ impl BarWorker {
     /// can't be closed any more.
     pub fn split(self, done: &Done) -> Result<(BarWorker, BarWorker), Refusal>
         requires of { self.adds_to ≡ done.now }
-        ensures first { IfOk result (λ halves. halves.0 ≡ split_into (kept_half self.account) self) }
+        ensures first { IfOk result (λ halves. halves.0 ≡ split_into (own_half self.account) self) }
         ensures second { IfOk result (λ halves. halves.1 ≡ split_into (given_half self.account) self) }
         ensures refused { IsErr result ↔ (self.splits ≡ 2 ^ 64 - 1) }
         ensures memory { IfErr result (λ e. e ≡ Refusal.Memory) }

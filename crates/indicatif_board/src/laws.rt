@@ -11,19 +11,19 @@ ghost use Rattle.indicatif_board.specs.Boards.{BoardKind, BoardState, Call, Answ
 ghost use Rattle.indicatif_bar.specs.Scripts.{UnbrokenScriptsAreRead, ScriptsAreBounded, ScriptsAreBoundedFrom};
 ghost use Rattle.indicatif_board.specs.BoardBars.{board_bars};
 ghost use Rattle.indicatif_board.specs.Multi.{board_sizing};
-ghost use Rattle.indicatif_board.specs.Done.{account_of_both, kept_half, given_half};
+ghost use Rattle.indicatif_board.specs.Done.{account_of_both, own_half, given_half};
 ghost use Rattle.indicatif_board.specs.declared.done.Account.{Account};
 ghost use Rattle.indicatif_board.specs.LimitLaws.{IsAllowed};
 ghost use Rattle.indicatif_board.specs.LoneLaws.{OneIsTakenIn, LoneRunsAreBoardRuns};
 ghost use Rattle.indicatif_board.specs.PlainBoardLaws.{BoardRunsArePlain};
-ghost use Rattle.indicatif_board.specs.OrderLaws.{RunsKeep, StandsOnce, IsGone, NumbersCount, NumbersAreNew};
+ghost use Rattle.indicatif_board.specs.OrderLaws.{RunsPreserve, StandsOnce, IsGone, NumbersCount, NumbersAreNew};
 ghost use Rattle.indicatif_board.specs.Slots.{SlotTable, IsSeated, slot_of, seated, unseated, head_unseated, occurrences};
 
 use indicatif_bar::style::Tracks;
 
 /// Two halves that are joined again are what was split, share and adds and sights.
 pub fn halves_join_again()
-    ensures { (a : Account) → a.added ≤ a.seen → account_of_both (kept_half a) (given_half a) ≡ a }
+    ensures { (a : Account) → a.added ≤ a.seen → account_of_both (own_half a) (given_half a) ≡ a }
 {}
 
 /// What a run of a board leaves, whatever its bars and its calls are, whichever of them the terminal breaks off, where each line
@@ -114,7 +114,7 @@ pub fn scripts_of_a_board<K: Tracks>()
 /// No bar stands in a board's order twice, and none that was not taken in: so it is at first, and after each call of any run.
 pub fn each_bar_stands_once<B, C>()
     ensures first { (limiter : Option Limiter) → StandsOnce {B = B} (opening_board limiter) }
-    ensures kept { (kind : BoardKind B C) (board_id : ℕ) → RunsKeep (board kind board_id) StandsOnce }
+    ensures kept { (kind : BoardKind B C) (board_id : ℕ) → RunsPreserve (board kind board_id) StandsOnce }
 {}
 
 /// A board counts the bars that it takes in: in any run they get the next numbers one after another, so that no two have the
@@ -122,7 +122,7 @@ pub fn each_bar_stands_once<B, C>()
 pub fn numbers_are_never_used_again<B, C>()
     ensures counted { (kind : BoardKind B C) (board_id : ℕ) → NumbersCount kind board_id }
     ensures new { (kind : BoardKind B C) (board_id : ℕ) → NumbersAreNew kind board_id }
-    ensures gone { (kind : BoardKind B C) (board_id number : ℕ) → RunsKeep (board kind board_id) (IsGone number) }
+    ensures gone { (kind : BoardKind B C) (board_id number : ℕ) → RunsPreserve (board kind board_id) (IsGone number) }
 {}
 
 /// A bar has a slot exactly where it stands in the order, and no two bars have the same.
@@ -133,7 +133,7 @@ pub fn each_bar_has_its_slot()
 
 /// A bar keeps its slot as others come and go: what it has after bars at the head left, after one left from anywhere, or after a new
 /// one was taken in, it had before.
-pub fn each_bar_keeps_its_slot()
+pub fn each_bar_stays_in_its_slot()
     ensures head { (t : SlotTable) (count number slot : ℕ) → IsSeated t → slot_of number (head_unseated count t) ≡ Some slot → slot_of number t ≡ Some slot }
     ensures out { (t : SlotTable) (at number slot : ℕ) → IsSeated t → slot_of number (unseated at t) ≡ Some slot → slot_of number t ≡ Some slot }
     ensures new { (t : SlotTable) (at number : ℕ) → IsSeated t → t.made ≢ number → slot_of number (seated at t) ≡ slot_of number t }

@@ -121,7 +121,7 @@ impl<K: Tracks, T: TermLike + Drop> Board<K, T> {
     }
 
     /// A bar's slot; `None` where it isn't in the order, or has another board's id. No two bars in the order have the same, and
-    /// a bar keeps its own as long as it stands there (law `each_bar_keeps_its_slot`). A new bar gets the one that was freed last, or
+    /// a bar keeps its own as long as it stands there (law `each_bar_stays_in_its_slot`). A new bar gets the one that was freed last, or
     /// the first that was never used.
     pub fn slot(&self, id: BarId) -> Option<usize>
         ensures { result ≡ (if id.board == board_id_of self.now then slot_of id.number (slots_of self.now) else None) }
@@ -688,7 +688,7 @@ impl<K: Tracks, T: TermLike + Drop> Board<K, T> {
             (draw_of (target_of old) takes ask now (writing_as writing.entry) s (named_laid_out K.means (target_of old) now number s)
             (named_layout_takes K.means number s)) s.lists result next }
     {
-        self.shown.keep_place(bar);
+        self.shown.note_place(bar);
         if ask.is_no() {
             return Ok(Drawn::Limited);
         }

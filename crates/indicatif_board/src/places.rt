@@ -31,10 +31,10 @@ impl Places {
     }
 
     /// Keeps a bar's place, where there is room for it.
-    pub fn keep(&mut self, number: u64, at: usize) {
+    pub fn note(&mut self, number: u64, at: usize) {
         let key = self.key(number);
-        if let Some(kept) = self.places.get_mut(key) {
-            *kept = at.wrapping_add(self.gone);
+        if let Some(noted) = self.places.get_mut(key) {
+            *noted = at.wrapping_add(self.gone);
         }
     }
 
@@ -53,7 +53,7 @@ impl Places {
         if at == 0 {
             self.gone = self.gone.wrapping_sub(1);
         }
-        self.keep(number, at);
+        self.note(number, at);
     }
 
     /// The bar at a place was taken out.

@@ -77,7 +77,7 @@ pub struct Opening {
 /// ```
 /// let mut record = Recorded::new(alloc, ProgressDrawTarget::term_like(term), 1);
 /// let (answer, none) = record.apply(Call::Clear, now);
-/// let kept = record.entries(); // one entry: the call, its moment, its answer
+/// let recorded = record.entries(); // one entry: the call, its moment, its answer
 /// ```
 #[derive(Drop)]
 pub struct Recorded<K: Tracks, T: Drop> {

@@ -135,12 +135,12 @@ impl<K: Tracks> ShownBars<K> {
     }
 
     /// Keeps where this bar stands, if one is named: it is looked for there first.
-    pub fn keep_place(&mut self, bar: Option<usize>)
+    pub fn note_place(&mut self, bar: Option<usize>)
         requires placed { IfSome bar (λ at. at < deque_len self.old.members) }
         ensures { self.new ≡ self.old }
     {
         if let Some(at) = bar {
-            self.table.keep_place(self.frame[at].bar, at);
+            self.table.note_place(self.frame[at].bar, at);
         }
     }
 
@@ -255,6 +255,6 @@ fn relay<K: Tracks>(
     ensures unchanged { OnErr result (stored.new ≡ stored.old) }
 {
     let lines = bar.lines_in(spare, now, width)?;
-    spare.keep(replace(stored, lines));
+    spare.store(replace(stored, lines));
     Ok(())
 }

@@ -85,10 +85,10 @@ impl MultiState {
     }
 
     /// Keeps a bar's place, where it is looked for first from now on.
-    pub(crate) fn keep_place(&mut self, number: u64, at: usize)
+    pub(crate) fn note_place(&mut self, number: u64, at: usize)
         ensures { self.new ≡ self.old }
     {
-        self.places.keep(number, at);
+        self.places.note(number, at);
     }
 
     /// A bar's slot; `None` where it isn't in the order.

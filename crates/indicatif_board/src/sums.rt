@@ -39,9 +39,9 @@ impl Play<(), Account> for Totals {
 pub struct Halves;
 
 impl Split<Account> for Halves {
-    ghost use Rattle.indicatif_board.specs.Done.{kept_half, given_half};
+    ghost use Rattle.indicatif_board.specs.Done.{own_half, given_half};
 
-    ghost left = { kept_half };
+    ghost left = { own_half };
 
     ghost right = { given_half };
 }

@@ -8,7 +8,7 @@ use Rattle.indicatif_text.specs.Columns.{Cell, Blank, Written, Continued, blank_
 use Rattle.indicatif_term.specs.Screen.{is_continued, emptied_front, emptied_glyph, cut_before, written_at, joined_at}
 use Rattle.indicatif_term.specs.Pictures.{is_written, trimmed}
 use Rattle.indicatif_term.specs.declared.in_memory.marks.CombiningMark.{CombiningMark}
-use Rattle.indicatif_term.specs.Inside.Rows.{cell_shown, whole_row, character_cells, KeepsMarks, JoinsMark, with_mark_at}
+use Rattle.indicatif_term.specs.Inside.Rows.{cell_shown, whole_row, character_cells, LeavesMarks, JoinsMark, with_mark_at}
 use Rattle.indicatif_term.specs.Inside.Runs.{narrow_cells}
 use Rattle.indicatif_term.proofs.RowEditLemmas.{join_last}
 use Rattle.indicatif_term.proofs.KeptRowLemmas.{none_kept, length-whole_row, whole_joined, nothing_joined, written_kept, text_kept}
@@ -137,33 +137,33 @@ cells_of_whole w m m' cells e =
     ∙ ap (take (length cells)) (sym (map-append (cell_shown m) cells blanks) ∙ e ∙ map-append (cell_shown m') cells blanks)
     ∙ take_at (map (cell_shown m') cells) (map (cell_shown m') blanks) (length cells) (length-map cells (cell_shown m'))
 
-keeps_whole : (w : ℕ) (marks : List CombiningMark) (cells : List Cell) → KeepsMarks marks cells → KeepsMarks marks (whole_row w cells)
+keeps_whole : (w : ℕ) (marks : List CombiningMark) (cells : List Cell) → LeavesMarks marks cells → LeavesMarks marks (whole_row w cells)
 keeps_whole w marks cells keeps = λ more. whole_shown (marks ++ more) w cells ∙ ap (whole_row w) (keeps more) ∙ sym (whole_shown marks w cells)
 
-pub keeps_again : (marks marks' : List CombiningMark) (cells cells' : List Cell) → KeepsMarks marks cells → marks' ≡ marks → cells' ≡ cells → KeepsMarks marks' cells'
+pub keeps_again : (marks marks' : List CombiningMark) (cells cells' : List Cell) → LeavesMarks marks cells → marks' ≡ marks → cells' ≡ cells → LeavesMarks marks' cells'
 keeps_again marks marks' cells cells' keeps e e' = λ more.
     ap (λ ms. map (cell_shown (ms ++ more)) cells') e ∙ ap (map (cell_shown (marks ++ more))) e' ∙ keeps more
     ∙ sym (ap (λ ms. map (cell_shown ms) cells') e ∙ ap (map (cell_shown marks)) e')
 
-pub keeps_same : (w : ℕ) (marks : List CombiningMark) (old new : List Cell) → KeepsMarks marks old → whole_row w new ≡ whole_row w old → KeepsMarks marks new
+pub keeps_same : (w : ℕ) (marks : List CombiningMark) (old new : List Cell) → LeavesMarks marks old → whole_row w new ≡ whole_row w old → LeavesMarks marks new
 keeps_same w marks old new keeps e = λ more.
     cells_of_whole w (marks ++ more) marks new (ap (map (cell_shown (marks ++ more))) e ∙ keeps_whole w marks old keeps more ∙ sym (ap (map (cell_shown marks)) e))
 
-pub keeps_cells : (w n : ℕ) (marks : List CombiningMark) (cells old new : List Cell) → ((m : List CombiningMark) → map (cell_shown m) cells ≡ cells) → KeepsMarks marks old →
-    whole_row w new ≡ written_at n cells (whole_row w old) → KeepsMarks marks new
+pub keeps_cells : (w n : ℕ) (marks : List CombiningMark) (cells old new : List Cell) → ((m : List CombiningMark) → map (cell_shown m) cells ≡ cells) → LeavesMarks marks old →
+    whole_row w new ≡ written_at n cells (whole_row w old) → LeavesMarks marks new
 keeps_cells w n marks cells old new same keeps e = λ more.
     let row = whole_row w old in
     let by = λ (m : List CombiningMark). ap (map (cell_shown m)) e ∙ written_shown m n cells row ∙ ap (λ xs. written_at n xs (map (cell_shown m) row)) (same m) in
     cells_of_whole w (marks ++ more) marks new (by (marks ++ more) ∙ ap (written_at n cells) (keeps_whole w marks old keeps more) ∙ sym (by marks))
 
-pub keeps_written : (w n c columns : ℕ) (marks : List CombiningMark) (old new : List Cell) → KeepsMarks marks old →
-    whole_row w new ≡ written_at n (character_cells c columns) (whole_row w old) → KeepsMarks marks new
+pub keeps_written : (w n c columns : ℕ) (marks : List CombiningMark) (old new : List Cell) → LeavesMarks marks old →
+    whole_row w new ≡ written_at n (character_cells c columns) (whole_row w old) → LeavesMarks marks new
 keeps_written w n c columns marks old new keeps e = keeps_cells w n marks (character_cells c columns) old new (λ m. character_shown m c columns) keeps e
 
 -- ---- joining a mark
 
 module _ (row : List Cell) (marks marks' : List CombiningMark) (n mark : ℕ) (x y z : Cell) (h : n < length row) (at : x ≡ get_or row n x) (not : is_continued x ≡ false)
-    (keeps : KeepsMarks marks row) (joins : JoinsMark mark marks marks' (get_or row n y) z) where
+    (keeps : LeavesMarks marks row) (joins : JoinsMark mark marks marks' (get_or row n y) z) where
   -- marks put behind change only the cell that a mark is joined to
   others : (later : List CombiningMark) → map (cell_shown (marks' ++ later)) (set row n z) ≡ set (map (cell_shown marks) row) n (with_mark_at mark (cell_shown marks (get_or row n y)))
   others later =
@@ -175,7 +175,7 @@ module _ (row : List Cell) (marks marks' : List CombiningMark) (n mark : ℕ) (x
   none_later : map (cell_shown marks') (set row n z) ≡ map (cell_shown (marks' ++ [])) (set row n z)
   none_later = ap (λ ms. map (cell_shown ms) (set row n z)) (sym (append-nil marks'))
 
-  pub keeps_joined : KeepsMarks marks' (set row n z)
+  pub keeps_joined : LeavesMarks marks' (set row n z)
   keeps_joined = λ later. others later ∙ sym (none_later ∙ others [])
 
   pub joined_shown : map (cell_shown marks') (set row n z) ≡ joined_at (n + 1) mark (map (cell_shown marks) row)

@@ -194,7 +194,7 @@ impl InMemoryTerm {
     /// Keeps the text of a call, then reads its bytes: `bytes` and `end`.
     fn play(&mut self, line: Result<String, Refusal>, bytes: &[u8], end: &[u8]) -> io::Result<()>
         ensures writes { Writes (bytes.now ++ end.now) (view_of self.old) (view_of self.new) result }
-        ensures kept { OnOk result (IsOkAnd line (λ t. self.new.moves ≡ self.old.moves ++ string_bytes t)) }
+        ensures recorded { OnOk result (IsOkAnd line (λ t. self.new.moves ≡ self.old.moves ++ string_bytes t)) }
         ensures left { OnErr result ((self.new.moves ≡ self.old.moves)
             ⊎ IsOkAnd line (λ t. self.new.moves ≡ self.old.moves ++ string_bytes t)) }
         ensures kind { IfErr result (λ e. error_kind e ≡ ErrorKind.OutOfMemory) }
@@ -218,7 +218,7 @@ impl InMemoryTerm {
         ensures read { OnOk result (self.new.terminal ≡ after self.old.terminal (bytes.now ++ end.now)) }
         ensures stopped { OnErr result (ReadsBeginning (bytes.now ++ end.now) self.old.terminal self.new.terminal) }
         ensures faults { self.new.faults ≡ self.old.faults }
-        ensures kept { OnOk result (IsOkAnd line (λ t. self.new.moves ≡ self.old.moves ++ string_bytes t)) }
+        ensures recorded { OnOk result (IsOkAnd line (λ t. self.new.moves ≡ self.old.moves ++ string_bytes t)) }
         ensures left { OnErr result ((self.new.moves ≡ self.old.moves)
             ⊎ IsOkAnd line (λ t. self.new.moves ≡ self.old.moves ++ string_bytes t)) }
     {
@@ -261,7 +261,7 @@ impl TermLike for InMemoryTerm {
         ensures by_none { n ≡ 0 → IsOk result }
         ensures writes { Writes (move_bytes UP n) (view_of self.old) (view_of self.new) result }
         ensures kind { IfErr result (λ e. error_kind e ≡ ErrorKind.OutOfMemory) }
-        ensures kept { Records (if n == 0 then [] else move_text (codes "Up") n) self.old self.new result }
+        ensures recorded { Records (if n == 0 then [] else move_text (codes "Up") n) self.old self.new result }
     {
         if n == 0 {
             return Ok(());
@@ -274,7 +274,7 @@ impl TermLike for InMemoryTerm {
         ensures by_none { n ≡ 0 → IsOk result }
         ensures writes { Writes (move_bytes DOWN n) (view_of self.old) (view_of self.new) result }
         ensures kind { IfErr result (λ e. error_kind e ≡ ErrorKind.OutOfMemory) }
-        ensures kept { Records (if n == 0 then [] else move_text (codes "Down") n) self.old self.new result }
+        ensures recorded { Records (if n == 0 then [] else move_text (codes "Down") n) self.old self.new result }
     {
         if n == 0 {
             return Ok(());
@@ -287,7 +287,7 @@ impl TermLike for InMemoryTerm {
         ensures by_none { n ≡ 0 → IsOk result }
         ensures writes { Writes (move_bytes RIGHT n) (view_of self.old) (view_of self.new) result }
         ensures kind { IfErr result (λ e. error_kind e ≡ ErrorKind.OutOfMemory) }
-        ensures kept { Records (if n == 0 then [] else move_text (codes "Right") n) self.old self.new result }
+        ensures recorded { Records (if n == 0 then [] else move_text (codes "Right") n) self.old self.new result }
     {
         if n == 0 {
             return Ok(());
@@ -300,7 +300,7 @@ impl TermLike for InMemoryTerm {
         ensures by_none { n ≡ 0 → IsOk result }
         ensures writes { Writes (move_bytes LEFT n) (view_of self.old) (view_of self.new) result }
         ensures kind { IfErr result (λ e. error_kind e ≡ ErrorKind.OutOfMemory) }
-        ensures kept { Records (if n == 0 then [] else move_text (codes "Left") n) self.old self.new result }
+        ensures recorded { Records (if n == 0 then [] else move_text (codes "Left") n) self.old self.new result }
     {
         if n == 0 {
             return Ok(());
@@ -312,7 +312,7 @@ impl TermLike for InMemoryTerm {
     fn write_line(&mut self, s: &str) -> io::Result<()>
         ensures writes { Writes (line_bytes s.now) (view_of self.old) (view_of self.new) result }
         ensures kind { IfErr result (λ e. error_kind e ≡ ErrorKind.OutOfMemory) }
-        ensures kept { Records (written_text s.now ++ codes "NewLine\n") self.old self.new result }
+        ensures recorded { Records (written_text s.now ++ codes "NewLine\n") self.old self.new result }
     {
         let line = ended_line(self.alloc, s);
         self.play(line, s.as_bytes(), b"\r\n")
@@ -321,7 +321,7 @@ impl TermLike for InMemoryTerm {
     fn write_str(&mut self, s: &str) -> io::Result<()>
         ensures writes { Writes s.now (view_of self.old) (view_of self.new) result }
         ensures kind { IfErr result (λ e. error_kind e ≡ ErrorKind.OutOfMemory) }
-        ensures kept { Records (written_text s.now) self.old self.new result }
+        ensures recorded { Records (written_text s.now) self.old self.new result }
     {
         let line = text_line(self.alloc, s);
         self.play(line, s.as_bytes(), b"")
@@ -330,7 +330,7 @@ impl TermLike for InMemoryTerm {
     fn clear_line(&mut self) -> io::Result<()>
         ensures writes { Writes clear_bytes (view_of self.old) (view_of self.new) result }
         ensures kind { IfErr result (λ e. error_kind e ≡ ErrorKind.OutOfMemory) }
-        ensures kept { Records (codes "Clear\n") self.old self.new result }
+        ensures recorded { Records (codes "Clear\n") self.old self.new result }
     {
         let line = own_line(self.alloc, "Clear\n");
         self.play(line, b"\r\x1B[2K", b"")
@@ -339,7 +339,7 @@ impl TermLike for InMemoryTerm {
     fn flush(&mut self) -> io::Result<()>
         ensures writes { Writes [] (view_of self.old) (view_of self.new) result }
         ensures kind { IfErr result (λ e. error_kind e ≡ ErrorKind.OutOfMemory) }
-        ensures kept { Records (codes "Flush\n") self.old self.new result }
+        ensures recorded { Records (codes "Flush\n") self.old self.new result }
     {
         let line = own_line(self.alloc, "Flush\n");
         self.play(line, b"", b"")

@@ -109,11 +109,11 @@ fn compare(
     };
     let same = is_same_frame(&mut made, spare, last, frame, window);
     let Compared { plan, changed } = made;
-    spare.keep_counts(plan.segments);
+    spare.store_counts(plan.segments);
     if same {
         return Some(changed);
     }
-    spare.keep_new(changed);
+    spare.store_new(changed);
     None
 }
 
@@ -341,7 +341,7 @@ pub fn put_new(lines: &mut Vec<StandingLine>, spare: &mut Spare, changed: Vec<Ne
     while let Some(line) = changed.pop() {
         put_line(lines, spare, line);
     }
-    spare.keep_new(changed);
+    spare.store_new(changed);
 }
 
 /// All lines stay.
@@ -365,5 +365,5 @@ fn put_line(lines: &mut Vec<StandingLine>, spare: &mut Spare, line: NewLine)
     let before = replace(&mut standing.text, text);
     standing.last = last;
     standing.stays = false;
-    spare.keep_text(before);
+    spare.store_text(before);
 }

@@ -12,7 +12,7 @@ use Rattle.indicatif_text.specs.Template.{TemplatePart, LiteralText, TemplatePie
 use Rattle.indicatif_text.specs.declared.template.stored_parts.Kind.TheVariants.{Literal}
 use Rattle.indicatif_text.specs.declared.template.stored_parts.StoredPart.{StoredPart}
 use Rattle.indicatif_text.specs.Inside.StoredParts.{AreIn}
-use Rattle.indicatif_text.specs.Inside.Draft.{Sketch, TakesIn, literal_part, kept_sketch, closed_sketch, parted_sketch, with_run, added, GoesOn}
+use Rattle.indicatif_text.specs.Inside.Draft.{Sketch, TakesIn, literal_part, fixed_sketch, closed_sketch, parted_sketch, with_run, added, GoesOn}
 use Rattle.indicatif_text.specs.Inside.Spans.{is_literal_char}
 use Rattle.indicatif_text.proofs.OptionLemmas.{some_text}
 use Rattle.indicatif_text.proofs.PrefixLemmas.{left_fails}
@@ -24,35 +24,35 @@ use Rattle.std.proofs.lemmas.Bool.Decides.{nat_tests}
 use Rattle.std.proofs.lemmas.List.{drop-take, take-append-drop, take-append-le, drop-append-le, take-take, take_all, drop_all, length-take, length-take-le}
 use Rattle.std.proofs.lemmas.Str.{chars-nil, chars-append, chars_past_char, IsUtf8-encode, IsUtf8-take, IsUtf8-drop, IsUtf8-append, IsCharBoundary-end, IsCharBoundary-from_rest, IsCharBoundary-from_drop}
 
-pub same_sketch : (a b : Sketch) → a.done ≡ b.done → a.kept ≡ b.kept → a.run ≡ b.run → a ≡ b
-same_sketch a b d k r = λ i. record { done = d i; kept = k i; run = r i }
+pub same_sketch : (a b : Sketch) → a.done ≡ b.done → a.fixed ≡ b.fixed → a.run ≡ b.run → a ≡ b
+same_sketch a b d k r = λ i. record { done = d i; fixed = k i; run = r i }
 
 pub chars_one : (c : ℕ) → IsScalar c → chars (encode c) ≡ c ∷ []
 chars_one c s = chars_past_char (encode c) [] c (IsUtf8-encode c s) (sym (append-nil (encode c))) ∙ ap (λ x. c ∷ x) chars-nil
 
-spaced_text : (kept run key all : List ℕ) (space : ℕ) → all ≡ kept ++ (((run ++ 0x7B ∷ []) ++ key) ++ space ∷ []) → all ≡ (kept ++ run) ++ (0x7B ∷ (key ++ space ∷ []))
-spaced_text kept run key all space e = e ∙ simp append_assoc
+spaced_text : (fixed run key all : List ℕ) (space : ℕ) → all ≡ fixed ++ (((run ++ 0x7B ∷ []) ++ key) ++ space ∷ []) → all ≡ (fixed ++ run) ++ (0x7B ∷ (key ++ space ∷ []))
+spaced_text fixed run key all space e = e ∙ simp append_assoc
 
 -- no literal text gives no part
 pub closed_none : (done : List TemplatePart) (text : List ℕ) → text ≡ [] → done ≡ done ++ literal_part text
 closed_none done text none = sym (append-nil done) ∙ ap (λ t. done ++ literal_part t) (sym none)
 
 -- a literal text gives one
-pub parted_literal : (s : Sketch) (bs : List ℕ) → IsUtf8 bs → 0 < length bs → chars bs ≡ s.kept ++ s.run → parted_sketch s Literal ≡ closed_sketch s
+pub parted_literal : (s : Sketch) (bs : List ℕ) → IsUtf8 bs → 0 < length bs → chars bs ≡ s.fixed ++ s.run → parted_sketch s Literal ≡ closed_sketch s
 parted_literal s bs u some e =
-    let part = some_text (List TemplatePart) (λ cs. LiteralText cs ∷ []) literal_part (λ c cs. refl) bs (s.kept ++ s.run) u e (sym (ne_eqb (length bs) 0 (omega (arith, some)))) in
-    ap (λ parts. record { done = s.done ++ parts; kept = []; run = [] }) part
+    let part = some_text (List TemplatePart) (λ cs. LiteralText cs ∷ []) literal_part (λ c cs. refl) bs (s.fixed ++ s.run) u e (sym (ne_eqb (length bs) 0 (omega (arith, some)))) in
+    ap (λ parts. record { done = s.done ++ parts; fixed = []; run = [] }) part
 
 -- ---- a literal text of which so many bytes in front are kept
 
 module _ (bs : List ℕ) (n : ℕ) (u : IsUtf8 bs) (b : IsCharBoundary bs n) where
   -- what is kept and the run are the whole text
-  pub kept_and_run : chars bs ≡ chars (take n bs) ++ chars (drop n bs)
-  kept_and_run = ap chars (sym (take-append-drop n bs)) ∙ chars-append (take n bs) (drop n bs) (IsUtf8-take bs n u b)
+  pub fixed_and_run : chars bs ≡ chars (take n bs) ++ chars (drop n bs)
+  fixed_and_run = ap chars (sym (take-append-drop n bs)) ∙ chars-append (take n bs) (drop n bs) (IsUtf8-take bs n u b)
 
   -- more text belongs to the run
-  pub more_kept : (more : List ℕ) → chars (take n (bs ++ more)) ≡ chars (take n bs)
-  more_kept more = ap chars (take-append-le n bs more b.0)
+  pub more_fixed : (more : List ℕ) → chars (take n (bs ++ more)) ≡ chars (take n bs)
+  more_fixed more = ap chars (take-append-le n bs more b.0)
 
   pub more_run : (more : List ℕ) → chars (drop n (bs ++ more)) ≡ chars (drop n bs) ++ chars more
   more_run more = ap chars (drop-append-le n bs more b.0) ∙ chars-append (drop n bs) more (IsUtf8-drop bs n u b)
@@ -68,8 +68,8 @@ module _ (bs : List ℕ) (n : ℕ) (u : IsUtf8 bs) (b : IsCharBoundary bs n) whe
       subst (λ xs. IsCharBoundary xs n) (sym e) (cond_both ok (bs ++ more) bs (λ xs. IsCharBoundary xs n) (λ _. more_boundary more w) (λ _. b))
 
 -- the run is cut off
-pub cut_kept : (bs : List ℕ) (n : ℕ) → take n (take n bs) ≡ take n bs
-cut_kept bs n = take-take n n bs (omega arith)
+pub cut_fixed : (bs : List ℕ) (n : ℕ) → take n (take n bs) ≡ take n bs
+cut_fixed bs n = take-take n n bs (omega arith)
 
 pub cut_run : (bs : List ℕ) (n : ℕ) → drop n (take n bs) ≡ []
 cut_run bs n = drop_all n (take n bs) (omega (arith, length-take n bs))
@@ -78,31 +78,31 @@ pub cut_end : (bs : List ℕ) (n : ℕ) → n ≤ length bs → IsCharBoundary (
 cut_end bs n le = subst (IsCharBoundary (take n bs)) (length-take-le n bs le) (IsCharBoundary-end (take n bs))
 
 -- and what stands before it stays a text
-pub cut_start : (bs : List ℕ) (start kept : ℕ) → IsUtf8 bs → IsCharBoundary bs start → IsCharBoundary (drop start bs) kept → IsCharBoundary (take (start + kept) bs) start
-cut_start bs start kept u b k =
-    IsCharBoundary-from_drop (take (start + kept) bs) start (omega (arith, length-take-le (start + kept) bs (IsCharBoundary-from_rest bs start kept b.0 k).0))
-    (subst IsUtf8 (sym (drop-take start kept bs)) (IsUtf8-take (drop start bs) kept (IsUtf8-drop bs start u b) k))
+pub cut_start : (bs : List ℕ) (start fixed : ℕ) → IsUtf8 bs → IsCharBoundary bs start → IsCharBoundary (drop start bs) fixed → IsCharBoundary (take (start + fixed) bs) start
+cut_start bs start fixed u b k =
+    IsCharBoundary-from_drop (take (start + fixed) bs) start (omega (arith, length-take-le (start + fixed) bs (IsCharBoundary-from_rest bs start fixed b.0 k).0))
+    (subst IsUtf8 (sym (drop-take start fixed bs)) (IsUtf8-take (drop start bs) fixed (IsUtf8-drop bs start u b) k))
 
 -- all is kept
-pub all_kept : (bs : List ℕ) (n : ℕ) → n ≡ length bs → take n bs ≡ bs
-all_kept bs n e = take_all n bs (omega (arith, e))
+pub all_fixed : (bs : List ℕ) (n : ℕ) → n ≡ length bs → take n bs ≡ bs
+all_fixed bs n e = take_all n bs (omega (arith, e))
 
 pub all_run : (bs : List ℕ) (n : ℕ) → n ≡ length bs → drop n bs ≡ []
 all_run bs n e = drop_all n bs (omega (arith, e))
 
 -- nothing is kept of no text
-pub none_kept : (bs : List ℕ) (n : ℕ) → bs ≡ [] → chars (take n bs) ≡ []
-none_kept bs n e = ap chars (take_all n bs (omega (arith, ap length e)) ∙ e) ∙ chars-nil
+pub none_fixed : (bs : List ℕ) (n : ℕ) → bs ≡ [] → chars (take n bs) ≡ []
+none_fixed bs n e = ap chars (take_all n bs (omega (arith, ap length e)) ∙ e) ∙ chars-nil
 
 pub none_run : (bs : List ℕ) (n : ℕ) → bs ≡ [] → chars (drop n bs) ≡ []
 none_run bs n e = ap chars (drop_all n bs (omega (arith, ap length e))) ∙ chars-nil
 
 -- an opening brace, a key and a white space, put to what is kept
-pub spaced_sketch : (s opened named spaced kept : Sketch) (key : List ℕ) (space : ℕ) → opened ≡ added s (Char 0x7B) → named ≡ with_run opened key →
-    spaced ≡ added named (Char space) → kept ≡ kept_sketch spaced → kept ≡ added s (SpacedBrace ((0x7B ∷ key) ++ space ∷ []))
-spaced_sketch s opened named spaced kept key space a b c d =
-    let text : spaced.kept ++ spaced.run ≡ s.kept ++ (((s.run ++ 0x7B ∷ []) ++ key) ++ space ∷ []) = cc (a, b, c) in
-    same_sketch kept (added s (SpacedBrace ((0x7B ∷ key) ++ space ∷ []))) (cc (a, b, c, d)) (ap (λ t. t.kept) d ∙ spaced_text s.kept s.run key _ space text) (ap (λ t. t.run) d)
+pub spaced_sketch : (s opened named spaced fixed : Sketch) (key : List ℕ) (space : ℕ) → opened ≡ added s (Char 0x7B) → named ≡ with_run opened key →
+    spaced ≡ added named (Char space) → fixed ≡ fixed_sketch spaced → fixed ≡ added s (SpacedBrace ((0x7B ∷ key) ++ space ∷ []))
+spaced_sketch s opened named spaced fixed key space a b c d =
+    let text : spaced.fixed ++ spaced.run ≡ s.fixed ++ (((s.run ++ 0x7B ∷ []) ++ key) ++ space ∷ []) = cc (a, b, c) in
+    same_sketch fixed (added s (SpacedBrace ((0x7B ∷ key) ++ space ∷ []))) (cc (a, b, c, d)) (ap (λ t. t.fixed) d ∙ spaced_text s.fixed s.run key _ space text) (ap (λ t. t.run) d)
 
 -- ---- what is read
 
@@ -157,7 +157,7 @@ is_line text after c e no_open no_close = only_line c (left_fails is_literal_cha
 
 -- ---- what a draft's bytes fulfil: those of its parts, and where the literal text begins
 
-module _ (bs : List ℕ) (start kept : ℕ) (u : IsUtf8 bs) (b : IsCharBoundary bs start) (k : IsCharBoundary (drop start bs) kept) (parts : List StoredPart) (all : AreIn (take start bs) parts) where
+module _ (bs : List ℕ) (start fixed : ℕ) (u : IsUtf8 bs) (b : IsCharBoundary bs start) (k : IsCharBoundary (drop start bs) fixed) (parts : List StoredPart) (all : AreIn (take start bs) parts) where
   -- more text
   pub pushed_front : (more : List ℕ) → take start (bs ++ more) ≡ take start bs
   pushed_front more = take-append-le start bs more b.0
@@ -171,25 +171,25 @@ module _ (bs : List ℕ) (start kept : ℕ) (u : IsUtf8 bs) (b : IsCharBoundary 
       subst (λ xs. AreIn (take start xs) parts) (sym e)
       (cond_both ok (bs ++ more) bs (λ xs. AreIn (take start xs) parts) (λ _. subst (λ x. AreIn x parts) (sym (pushed_front more)) all) (λ _. all))
 
-  pub pushed_whole : (ok : Bool) (after more : List ℕ) → after ≡ (if ok then bs ++ more else bs) → IsUtf8 more → IsCharBoundary (drop start after) kept
+  pub pushed_whole : (ok : Bool) (after more : List ℕ) → after ≡ (if ok then bs ++ more else bs) → IsUtf8 more → IsCharBoundary (drop start after) fixed
   pushed_whole ok after more e w =
-      subst (λ xs. IsCharBoundary (drop start xs) kept) (sym e)
-      (cond_both ok (bs ++ more) bs (λ xs. IsCharBoundary (drop start xs) kept)
-      (λ _. subst (λ x. IsCharBoundary x kept) (sym (pushed_behind more)) (more_boundary (drop start bs) kept (IsUtf8-drop bs start u b) k more w)) (λ _. k))
+      subst (λ xs. IsCharBoundary (drop start xs) fixed) (sym e)
+      (cond_both ok (bs ++ more) bs (λ xs. IsCharBoundary (drop start xs) fixed)
+      (λ _. subst (λ x. IsCharBoundary x fixed) (sym (pushed_behind more)) (more_boundary (drop start bs) fixed (IsUtf8-drop bs start u b) k more w)) (λ _. k))
 
-  pub pushed_kept : (more : List ℕ) → chars (take kept (drop start (bs ++ more))) ≡ chars (take kept (drop start bs))
-  pushed_kept more = ap (λ x. chars (take kept x)) (pushed_behind more) ∙ more_kept (drop start bs) kept (IsUtf8-drop bs start u b) k more
+  pub pushed_fixed : (more : List ℕ) → chars (take fixed (drop start (bs ++ more))) ≡ chars (take fixed (drop start bs))
+  pushed_fixed more = ap (λ x. chars (take fixed x)) (pushed_behind more) ∙ more_fixed (drop start bs) fixed (IsUtf8-drop bs start u b) k more
 
-  pub pushed_run : (more : List ℕ) → chars (drop kept (drop start (bs ++ more))) ≡ chars (drop kept (drop start bs)) ++ chars more
-  pushed_run more = ap (λ x. chars (drop kept x)) (pushed_behind more) ∙ more_run (drop start bs) kept (IsUtf8-drop bs start u b) k more
+  pub pushed_run : (more : List ℕ) → chars (drop fixed (drop start (bs ++ more))) ≡ chars (drop fixed (drop start bs)) ++ chars more
+  pushed_run more = ap (λ x. chars (drop fixed x)) (pushed_behind more) ∙ more_run (drop start bs) fixed (IsUtf8-drop bs start u b) k more
 
   -- the run is cut off
-  pub cut_front : take start (take (start + kept) bs) ≡ take start bs
-  cut_front = take-take start (start + kept) bs (omega arith)
+  pub cut_front : take start (take (start + fixed) bs) ≡ take start bs
+  cut_front = take-take start (start + fixed) bs (omega arith)
 
-  pub cut_behind : drop start (take (start + kept) bs) ≡ take kept (drop start bs)
-  cut_behind = drop-take start kept bs
+  pub cut_behind : drop start (take (start + fixed) bs) ≡ take fixed (drop start bs)
+  cut_behind = drop-take start fixed bs
 
   -- what is kept and the run are what stands behind the parts
-  pub behind_parts : chars (drop start bs) ≡ chars (take kept (drop start bs)) ++ chars (drop kept (drop start bs))
-  behind_parts = kept_and_run (drop start bs) kept (IsUtf8-drop bs start u b) k
+  pub behind_parts : chars (drop start bs) ≡ chars (take fixed (drop start bs)) ++ chars (drop fixed (drop start bs))
+  behind_parts = fixed_and_run (drop start bs) fixed (IsUtf8-drop bs start u b) k

@@ -112,17 +112,17 @@ aside p off (d ∷ ds) =
     cond_both (stands_before (length ds)) (d ∷ 0x2C ∷ with_commas ds) (d ∷ with_commas ds)
     (λ xs. filter p xs ≡ filter p (d ∷ ds)) (λ e. ap (λ xs. if p d then d ∷ xs else xs) past ∙ same) (λ e. same)
 
-one_kept : (d : ℕ) → filter (λ d. not (d == 0x2C)) ((48 + d) ∷ []) ≡ (48 + d) ∷ []
-one_kept d = rw (ne_eqb (48 + d) 0x2C (λ e. omega arith)) refl
+one_left : (d : ℕ) → filter (λ d. not (d == 0x2C)) ((48 + d) ∷ []) ≡ (48 + d) ∷ []
+one_left d = rw (ne_eqb (48 + d) 0x2C (λ e. omega arith)) refl
 
-numeral_kept : (n : ℕ) → n < 10 ^ 64 → filter (λ d. not (d == 0x2C)) (decimal n) ≡ decimal n
-numeral_kept n small = decimal_by_steps_wide (λ n ds. filter (λ d. not (d == 0x2C)) ds ≡ ds) (λ n few. one_kept n)
+numeral_left : (n : ℕ) → n < 10 ^ 64 → filter (λ d. not (d == 0x2C)) (decimal n) ≡ decimal n
+numeral_left n small = decimal_by_steps_wide (λ n ds. filter (λ d. not (d == 0x2C)) ds ≡ ds) (λ n few. one_left n)
     (λ n ds more e. filter-append (λ d. not (d == 0x2C)) ds ((48 + n % 10) ∷ []) ∙ ap (λ xs. xs ++ filter (λ d. not (d == 0x2C)) ((48 + n % 10) ∷ [])) e
-    ∙ ap (λ xs. ds ++ xs) (one_kept (n % 10))) n small
+    ∙ ap (λ xs. ds ++ xs) (one_left (n % 10))) n small
 
 pub commas_aside : (n : ℕ) → n < 10 ^ 64 → filter (λ d. not (d == 0x2C)) (human_count n) ≡ decimal n
 unfolding human_count
-commas_aside n small = aside (λ d. not (d == 0x2C)) refl (decimal n) ∙ numeral_kept n small
+commas_aside n small = aside (λ d. not (d == 0x2C)) refl (decimal n) ∙ numeral_left n small
 
 pub by_thousands : (n : ℕ) → 1000 ≤ n → n < 10 ^ 64 → human_count n ≡ human_count (n / 1000) ++ (0x2C ∷ last_digits 3 n)
 by_thousands n more small =
@@ -137,11 +137,11 @@ pub only_zeros : (ds : List ℕ) → (k : ℕ) × (without_trailing_zeros ds ++ 
 only_zeros [] = (0, refl)
 only_zeros (d ∷ ds) =
     let rest = only_zeros ds in
-    let kept = without_trailing_zeros ds in
-    elim (cases_Bool ((d == 48) && (length kept == 0))) [
+    let shown = without_trailing_zeros ds in
+    elim (cases_Bool ((d == 48) && (length shown == 0))) [
       | inl gone ↦
-          let parts = and_parts (d == 48) (length kept == 0) gone in
-          let none : kept ≡ [] = nil_from_length kept (eqb-true (length kept) 0 parts.1) in
+          let parts = and_parts (d == 48) (length shown == 0) gone in
+          let none : shown ≡ [] = nil_from_length shown (eqb-true (length shown) 0 parts.1) in
           (suc rest.0, rw gone (ap (λ x. x ∷ replicate rest.0 48) (sym (eqb-true d 48 parts.0)) ∙ ap (λ xs. d ∷ (xs ++ replicate rest.0 48)) (sym none) ∙ ap (λ xs. d ∷ xs) rest.1))
       | inr stays ↦ (rest.0, rw stays (ap (λ xs. d ∷ xs) rest.1))
     ]
@@ -160,8 +160,8 @@ not_first d ds (x ∷ es) stays later e = let rest : without_trailing_zeros ds �
 pub no_zero_left : (ds es : List ℕ) → without_trailing_zeros ds ≡ es ++ (48 ∷ []) → ⊥
 no_zero_left [] es e = no_end es e
 no_zero_left (d ∷ ds) es e =
-    let kept = without_trailing_zeros ds in
-    elim (cases_Bool ((d == 48) && (length kept == 0))) [
+    let shown = without_trailing_zeros ds in
+    elim (cases_Bool ((d == 48) && (length shown == 0))) [
       | inl gone ↦ no_end es (rw gone at e)
       | inr stays ↦ not_first d ds es stays (no_zero_left ds) (rw stays at e)
     ]

@@ -101,59 +101,59 @@ not_dropped : (b : Bool) (xs ys : List ℕ) → (if b && false then xs else ys) 
 not_dropped true xs ys = refl
 not_dropped false xs ys = refl
 
-kept_last : (ds : List ℕ) (x : ℕ) → (x ≡ 48 → ⊥) → without_trailing_zeros (ds ++ (x ∷ [])) ≡ ds ++ (x ∷ [])
-kept_last [] x other = rw (ne_eqb x 48 other) refl
-kept_last (d ∷ ds) x other =
+shown_last : (ds : List ℕ) (x : ℕ) → (x ≡ 48 → ⊥) → without_trailing_zeros (ds ++ (x ∷ [])) ≡ ds ++ (x ∷ [])
+shown_last [] x other = rw (ne_eqb x 48 other) refl
+shown_last (d ∷ ds) x other =
     let some : length (ds ++ (x ∷ [])) ≡ 0 → ⊥ = λ none. omega (arith, length-append ds (x ∷ [])) in
-    ap (λ es. if (d == 48) && (length es == 0) then [] else d ∷ es) (kept_last ds x other)
+    ap (λ es. if (d == 48) && (length es == 0) then [] else d ∷ es) (shown_last ds x other)
     ∙ rw (ne_eqb (length (ds ++ (x ∷ []))) 0 some) (not_dropped (d == 48) [] (d ∷ (ds ++ (x ∷ []))))
 
-kept_all : (kept m : ℕ) → (kept ≡ 0) ⊎ (0 < m % 10) → without_trailing_zeros (last_digits kept m) ≡ last_digits kept m
-kept_all zero m ends = refl
-kept_all (suc k) m (inl none) = absurd (omega arith)
-kept_all (suc k) m (inr some) = kept_last (last_digits k (m / 10)) (48 + m % 10) (λ e. omega arith)
+shown_all : (shown m : ℕ) → (shown ≡ 0) ⊎ (0 < m % 10) → without_trailing_zeros (last_digits shown m) ≡ last_digits shown m
+shown_all zero m ends = refl
+shown_all (suc k) m (inl none) = absurd (omega arith)
+shown_all (suc k) m (inr some) = shown_last (last_digits k (m / 10)) (48 + m % 10) (λ e. omega arith)
 
-zeros_dropped : (kept zeros m : ℕ) → (kept ≡ 0) ⊎ (0 < m % 10) → without_trailing_zeros (last_digits (kept + zeros) (m * 10 ^ zeros)) ≡ last_digits kept m
-zeros_dropped kept zero m ends =
-    let none : kept + 0 ≡ kept = omega arith in
-    ap (λ k. without_trailing_zeros (last_digits k (m * 10 ^ 0))) none ∙ ap (λ x. without_trailing_zeros (last_digits kept x)) (times_none m) ∙ kept_all kept m ends
-zeros_dropped kept (suc j) m ends =
+zeros_dropped : (shown zeros m : ℕ) → (shown ≡ 0) ⊎ (0 < m % 10) → without_trailing_zeros (last_digits (shown + zeros) (m * 10 ^ zeros)) ≡ last_digits shown m
+zeros_dropped shown zero m ends =
+    let none : shown + 0 ≡ shown = omega arith in
+    ap (λ k. without_trailing_zeros (last_digits k (m * 10 ^ 0))) none ∙ ap (λ x. without_trailing_zeros (last_digits shown x)) (times_none m) ∙ shown_all shown m ends
+zeros_dropped shown (suc j) m ends =
     let y = m * 10 ^ j in
     let x = m * 10 ^ suc j in
-    let more : kept + suc j ≡ suc (kept + j) = omega arith in
+    let more : shown + suc j ≡ suc (shown + j) = omega arith in
     let ten : x ≡ y * 10 = ap (λ k. m * 10 ^ k) (sym (add-one j)) ∙ tenfold m j in
     let front : x / 10 ≡ y = omega (arith, ten) in
     let last : 48 + x % 10 ≡ 48 = omega (arith, ten) in
-    ap (λ k. without_trailing_zeros (last_digits k x)) more ∙ ap (λ d. without_trailing_zeros (last_digits (kept + j) (x / 10) ++ (d ∷ []))) last
-    ∙ dropped (last_digits (kept + j) (x / 10)) ∙ ap (λ z. without_trailing_zeros (last_digits (kept + j) z)) front ∙ zeros_dropped kept j m ends
+    ap (λ k. without_trailing_zeros (last_digits k x)) more ∙ ap (λ d. without_trailing_zeros (last_digits (shown + j) (x / 10) ++ (d ∷ []))) last
+    ∙ dropped (last_digits (shown + j) (x / 10)) ∙ ap (λ z. without_trailing_zeros (last_digits (shown + j) z)) front ∙ zeros_dropped shown j m ends
 
 some_power : (k : ℕ) → 0 < 10 ^ k
 some_power k = one-le-pow k 10 (omega arith)
 
 -- the text by the decimals that are kept
-pub by_decimals : (num den places kept m : ℕ) → kept ≤ places → round (num * 10 ^ places) den ≡ m * 10 ^ (places - kept)
-    → (kept ≡ 0) ⊎ (0 < m % 10) → human_float_count num den places ≡ human_count (m / 10 ^ kept) ++ after_point (last_digits kept m)
+pub by_decimals : (num den places shown m : ℕ) → shown ≤ places → round (num * 10 ^ places) den ≡ m * 10 ^ (places - shown)
+    → (shown ≡ 0) ⊎ (0 < m % 10) → human_float_count num den places ≡ human_count (m / 10 ^ shown) ++ after_point (last_digits shown m)
 unfolding human_float_count
-by_decimals num den places kept m within is ends =
-    let j = places - kept in
-    let all : places ≡ j + kept = omega arith in
-    let turned : places ≡ kept + j = omega arith in
-    let whole : m * 10 ^ j / 10 ^ places ≡ m / 10 ^ kept =
-    ap (λ k. m * 10 ^ j / 10 ^ k) all ∙ ap (λ x. m * 10 ^ j / x) (pow-add 10 j kept) ∙ ap (λ x. x / (10 ^ j * 10 ^ kept)) (mul_comm m (10 ^ j))
-    ∙ mul-div-mul_left m (10 ^ kept) (some_power j) in
-    let decimals : without_trailing_zeros (last_digits places (m * 10 ^ j)) ≡ last_digits kept m =
-    ap (λ k. without_trailing_zeros (last_digits k (m * 10 ^ j))) turned ∙ zeros_dropped kept j m ends in
+by_decimals num den places shown m within is ends =
+    let j = places - shown in
+    let all : places ≡ j + shown = omega arith in
+    let turned : places ≡ shown + j = omega arith in
+    let whole : m * 10 ^ j / 10 ^ places ≡ m / 10 ^ shown =
+    ap (λ k. m * 10 ^ j / 10 ^ k) all ∙ ap (λ x. m * 10 ^ j / x) (pow-add 10 j shown) ∙ ap (λ x. x / (10 ^ j * 10 ^ shown)) (mul_comm m (10 ^ j))
+    ∙ mul-div-mul_left m (10 ^ shown) (some_power j) in
+    let decimals : without_trailing_zeros (last_digits places (m * 10 ^ j)) ≡ last_digits shown m =
+    ap (λ k. without_trailing_zeros (last_digits k (m * 10 ^ j))) turned ∙ zeros_dropped shown j m ends in
     ap (λ x. human_count (x / 10 ^ places) ++ after_point (without_trailing_zeros (last_digits places x))) is
     ∙ ap (λ x. human_count x ++ after_point (without_trailing_zeros (last_digits places (m * 10 ^ j)))) whole
-    ∙ ap (λ ds. human_count (m / 10 ^ kept) ++ after_point ds) decimals
+    ∙ ap (λ ds. human_count (m / 10 ^ shown) ++ after_point ds) decimals
 
 -- ---- the whole part
 
-pub whole_plain : (num den kept : ℕ) → below num den kept / 10 ^ kept ≡ num / den
+pub whole_plain : (num den shown : ℕ) → below num den shown / 10 ^ shown ≡ num / den
 unfolding below
-whole_plain num den kept =
-    div-div-eq-div-mul (num * 10 ^ kept) den (10 ^ kept) ∙ ap (λ x. x / (den * 10 ^ kept)) (mul_comm num (10 ^ kept))
-    ∙ ap (λ x. 10 ^ kept * num / x) (mul_comm den (10 ^ kept)) ∙ mul-div-mul_left num den (some_power kept)
+whole_plain num den shown =
+    div-div-eq-div-mul (num * 10 ^ shown) den (10 ^ shown) ∙ ap (λ x. x / (den * 10 ^ shown)) (mul_comm num (10 ^ shown))
+    ∙ ap (λ x. 10 ^ shown * num / x) (mul_comm den (10 ^ shown)) ∙ mul-div-mul_left num den (some_power shown)
 
 no_carry : (n k : ℕ) → n % 10 < 9 → (n + 1) / 10 ^ suc k ≡ n / 10 ^ suc k
 no_carry n k low =
@@ -161,39 +161,39 @@ no_carry n k low =
     ap (λ x. (n + 1) / x) (pow-succ' 10 k) ∙ sym (div-div-eq-div-mul (n + 1) 10 (10 ^ k)) ∙ ap (λ x. x / 10 ^ k) front
     ∙ div-div-eq-div-mul n 10 (10 ^ k) ∙ sym (ap (λ x. n / x) (pow-succ' 10 k))
 
-pub whole_raised : (num den kept : ℕ) → 0 < kept → below num den kept % 10 < 9 → (below num den kept + 1) / 10 ^ kept ≡ num / den
+pub whole_raised : (num den shown : ℕ) → 0 < shown → below num den shown % 10 < 9 → (below num den shown + 1) / 10 ^ shown ≡ num / den
 whole_raised num den zero some low = absurd (omega arith)
 whole_raised num den (suc k) some low = no_carry (below num den (suc k)) k low ∙ whole_plain num den (suc k)
 
 -- ---- the text of what the division finds
 
-zeros_of : (num den up places kept : ℕ) → EndsAt num den up places kept → round (num * 10 ^ places) den ≡ below num den places + up
-    → human_float_count num den places ≡ human_count ((below num den kept + up) / 10 ^ kept) ++ after_point (last_digits kept (below num den kept + up))
-zeros_of num den up places kept at is = by_decimals num den places kept (below num den kept + up) at.within (is ∙ at.zeros) at.ends
+zeros_of : (num den up places shown : ℕ) → EndsAt num den up places shown → round (num * 10 ^ places) den ≡ below num den places + up
+    → human_float_count num den places ≡ human_count ((below num den shown + up) / 10 ^ shown) ++ after_point (last_digits shown (below num den shown + up))
+zeros_of num den up places shown at is = by_decimals num den places shown (below num den shown + up) at.within (is ∙ at.zeros) at.ends
 
-pub text_plain : (num den places kept : ℕ) → EndsAt num den 0 places kept → round (num * 10 ^ places) den ≡ below num den places
-    → human_float_count num den places ≡ human_count (num / den) ++ after_point (last_digits kept (below num den kept))
-text_plain num den places kept at is =
+pub text_plain : (num den places shown : ℕ) → EndsAt num den 0 places shown → round (num * 10 ^ places) den ≡ below num den places
+    → human_float_count num den places ≡ human_count (num / den) ++ after_point (last_digits shown (below num den shown))
+text_plain num den places shown at is =
     let same : round (num * 10 ^ places) den ≡ below num den places + 0 = omega (arith, is) in
-    let none : below num den kept + 0 ≡ below num den kept = omega arith in
-    zeros_of num den 0 places kept at same
-    ∙ ap (λ m. human_count (m / 10 ^ kept) ++ after_point (last_digits kept m)) none
-    ∙ ap (λ w. human_count w ++ after_point (last_digits kept (below num den kept))) (whole_plain num den kept)
+    let none : below num den shown + 0 ≡ below num den shown = omega arith in
+    zeros_of num den 0 places shown at same
+    ∙ ap (λ m. human_count (m / 10 ^ shown) ++ after_point (last_digits shown m)) none
+    ∙ ap (λ w. human_count w ++ after_point (last_digits shown (below num den shown))) (whole_plain num den shown)
 
-pub text_raised : (num den places kept : ℕ) → 0 < kept → EndsAt num den 1 places kept → round (num * 10 ^ places) den ≡ below num den places + 1
-    → human_float_count num den places ≡ human_count (num / den) ++ after_point (last_digits kept (below num den kept + 1))
-text_raised num den places kept some at is =
-    let low : below num den kept % 10 < 9 = elim at.ends [ inl none ↦ absurd (omega arith) | inr more ↦ omega arith ] in
-    zeros_of num den 1 places kept at is
-    ∙ ap (λ w. human_count w ++ after_point (last_digits kept (below num den kept + 1))) (whole_raised num den kept some low)
+pub text_raised : (num den places shown : ℕ) → 0 < shown → EndsAt num den 1 places shown → round (num * 10 ^ places) den ≡ below num den places + 1
+    → human_float_count num den places ≡ human_count (num / den) ++ after_point (last_digits shown (below num den shown + 1))
+text_raised num den places shown some at is =
+    let low : below num den shown % 10 < 9 = elim at.ends [ inl none ↦ absurd (omega arith) | inr more ↦ omega arith ] in
+    zeros_of num den 1 places shown at is
+    ∙ ap (λ w. human_count w ++ after_point (last_digits shown (below num den shown + 1))) (whole_raised num den shown some low)
 
-pub text_carried : (num den places kept : ℕ) → kept ≡ 0 → EndsAt num den 1 places kept → round (num * 10 ^ places) den ≡ below num den places + 1
+pub text_carried : (num den places shown : ℕ) → shown ≡ 0 → EndsAt num den 1 places shown → round (num * 10 ^ places) den ≡ below num den places + 1
     → human_float_count num den places ≡ human_count (num / den + 1) ++ []
 text_carried num den places zero none at is =
     let whole : (below num den 0 + 1) / 10 ^ 0 ≡ num / den + 1 =
     ap (λ x. (below num den 0 + 1) / x) (pow-zero 10) ∙ omega (arith, below_none num den) in
     zeros_of num den 1 places 0 at is ∙ ap (λ w. human_count w ++ []) whole
-text_carried num den places (suc kept) none at is = absurd (omega arith)
+text_carried num den places (suc shown) none at is = absurd (omega arith)
 
 -- ---- one decimal more
 
@@ -266,20 +266,20 @@ length-behind [] = omega arith
 length-behind (d ∷ ds) = omega arith
 
 -- the digits up to the last one, and that one, which may be raised where it's no nine
-pub last_raised : (up : Bool) (place kept n m digit last : ℕ) → kept ≡ place + 1 → m ≡ n * 10 + digit → digit < 10 → last ≡ raised up digit → (up ≡ true → digit < 9)
-    → last_digits place n ++ ((48 + last) ∷ []) ≡ last_digits kept (raised up m)
-last_raised false place kept n m digit last k e small is low =
+pub last_raised : (up : Bool) (place shown n m digit last : ℕ) → shown ≡ place + 1 → m ≡ n * 10 + digit → digit < 10 → last ≡ raised up digit → (up ≡ true → digit < 9)
+    → last_digits place n ++ ((48 + last) ∷ []) ≡ last_digits shown (raised up m)
+last_raised false place shown n m digit last k e small is low =
     rw (k, is) (sym (digit_more place n m digit e small))
-last_raised true place kept n m digit last k e small is low =
+last_raised true place shown n m digit last k e small is low =
     let more : m + 1 ≡ n * 10 + (digit + 1) = omega (arith, e) in
     rw (k, is) (sym (digit_more place n (m + 1) (digit + 1) more (omega (arith, low refl))))
 
 -- the last of the decimals is no nine where one that is raised is none
-pub last_low : (num den kept place digit : ℕ) → kept ≡ place + 1 → below num den (place + 1) ≡ below num den place * 10 + digit → digit < 10
-    → (kept ≡ 0) ⊎ (below num den kept % 10 < 9) → digit < 9
-last_low num den kept place digit k e small (inl none) = absurd (omega arith)
-last_low num den kept place digit k e small (inr low) =
-    let at : below num den kept ≡ below num den place * 10 + digit = ap (below num den) k ∙ e in
+pub last_low : (num den shown place digit : ℕ) → shown ≡ place + 1 → below num den (place + 1) ≡ below num den place * 10 + digit → digit < 10
+    → (shown ≡ 0) ⊎ (below num den shown % 10 < 9) → digit < 9
+last_low num den shown place digit k e small (inl none) = absurd (omega arith)
+last_low num den shown place digit k e small (inr low) =
+    let at : below num den shown ≡ below num den place * 10 + digit = ap (below num den) k ∙ e in
     omega (arith, at, low)
 
 -- the length of a whole part with decimals

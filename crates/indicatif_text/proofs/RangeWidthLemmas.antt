@@ -115,8 +115,8 @@ module _ (sequence rest : List ℕ) (exact : colour_length sequence ≡ Some (le
   sequence_unseen : visible (sequence ++ rest) ≡ visible rest
   sequence_unseen = hidden (length sequence) (sequence ++ rest) first_of_both (sequence_length stands_first) ∙ ap visible (drop-append_seam sequence rest)
 
-  sequence_kept : sequences_of (sequence ++ rest) ≡ sequence ∷ sequences_of rest
-  sequence_kept =
+  sequence_left : sequences_of (sequence ++ rest) ≡ sequence ∷ sequences_of rest
+  sequence_left =
       ap (flat_map sequence_in) (first_colour (length sequence) (sequence ++ rest) first_of_both (sequence_length stands_first))
       ∙ ap (λ x. x ∷ sequences_of (drop (length sequence) (sequence ++ rest))) (take-append_seam sequence rest)
       ∙ ap (λ x. sequence ∷ sequences_of x) (drop-append_seam sequence rest)
@@ -140,34 +140,34 @@ less_adjoin text (Run next ∷ ps) apart = absurd apart
 less_adjoin text (Colour sequence ∷ ps) apart = apart
 
 -- the characters of the runs that stay
-abbrev kept_within : ℕ → ℕ → ℕ → List TextPiece → List ℕ
-kept_within start end column [] = []
-kept_within start end column (Colour sequence ∷ ps) = kept_within start end column ps
-kept_within start end column (Run text ∷ ps) = run_within start end column text ++ kept_within start end (column + sum_by width_of text) ps
+abbrev stays_within : ℕ → ℕ → ℕ → List TextPiece → List ℕ
+stays_within start end column [] = []
+stays_within start end column (Colour sequence ∷ ps) = stays_within start end column ps
+stays_within start end column (Run text ∷ ps) = run_within start end column text ++ stays_within start end (column + sum_by width_of text) ps
 
-kept_seen : (start end column : ℕ) (ps : List TextPiece) → AllByRecursion IsExact ps → NoRunsAdjoin ps → visible (pieces_within start end column ps) ≡ kept_within start end column ps
-kept_seen start end column [] exact apart = visible_none
-kept_seen start end column (Colour sequence ∷ ps) exact apart =
-    sequence_unseen sequence (pieces_within start end column ps) exact.0 ∙ kept_seen start end column ps exact.1 apart
-kept_seen start end column (Run text ∷ ps) exact apart =
+left_seen : (start end column : ℕ) (ps : List TextPiece) → AllByRecursion IsExact ps → NoRunsAdjoin ps → visible (pieces_within start end column ps) ≡ stays_within start end column ps
+left_seen start end column [] exact apart = visible_none
+left_seen start end column (Colour sequence ∷ ps) exact apart =
+    sequence_unseen sequence (pieces_within start end column ps) exact.0 ∙ left_seen start end column ps exact.1 apart
+left_seen start end column (Run text ∷ ps) exact apart =
     let after = column + sum_by width_of text in
     visible_apart (run_within start end column text) (pieces_within start end after ps) (rest_apart start end after text ps exact.1 apart)
     ∙ ap (λ x. x ++ visible (pieces_within start end after ps)) (uncoloured_seen (run_within start end column text) (run_uncoloured start end column text exact.0))
-    ∙ ap (λ x. run_within start end column text ++ x) (kept_seen start end after ps exact.1 (less_adjoin text ps apart))
+    ∙ ap (λ x. run_within start end column text ++ x) (left_seen start end after ps exact.1 (less_adjoin text ps apart))
 
-sequences_kept : (start end column : ℕ) (ps : List TextPiece) → AllByRecursion IsExact ps → NoRunsAdjoin ps → sequences_of (pieces_within start end column ps) ≡ flat_map sequence_in ps
-sequences_kept start end column [] exact apart = ap (flat_map sequence_in) none_left
-sequences_kept start end column (Colour sequence ∷ ps) exact apart =
-    sequence_kept sequence (pieces_within start end column ps) exact.0 ∙ ap (λ x. sequence ∷ x) (sequences_kept start end column ps exact.1 apart)
-sequences_kept start end column (Run text ∷ ps) exact apart =
+sequences_left : (start end column : ℕ) (ps : List TextPiece) → AllByRecursion IsExact ps → NoRunsAdjoin ps → sequences_of (pieces_within start end column ps) ≡ flat_map sequence_in ps
+sequences_left start end column [] exact apart = ap (flat_map sequence_in) none_left
+sequences_left start end column (Colour sequence ∷ ps) exact apart =
+    sequence_left sequence (pieces_within start end column ps) exact.0 ∙ ap (λ x. sequence ∷ x) (sequences_left start end column ps exact.1 apart)
+sequences_left start end column (Run text ∷ ps) exact apart =
     let after = column + sum_by width_of text in
     sequences_apart (run_within start end column text) (pieces_within start end after ps) (rest_apart start end after text ps exact.1 apart)
     ∙ ap (λ x. x ++ sequences_of (pieces_within start end after ps)) (uncoloured_plain (run_within start end column text) (run_uncoloured start end column text exact.0))
-    ∙ sequences_kept start end after ps exact.1 (less_adjoin text ps apart)
+    ∙ sequences_left start end after ps exact.1 (less_adjoin text ps apart)
 
 pub sequences_stay : SequencesStay
 unfolding ansi_range
-sequences_stay text start end = sequences_kept start end 0 (pieces_of_text text) (all_exact text).exact (runs_are_longest text)
+sequences_stay text start end = sequences_left start end 0 (pieces_of_text text) (all_exact text).exact (runs_are_longest text)
 
 -- ---- columns
 
@@ -211,19 +211,19 @@ run_fits start end column n cs f =
     cond_both (nat_lt column end) (standing_within start end column cs) [] (λ text. Fits start end column (sum_by width_of text + n))
     (λ _. standing_fits start end column n cs f) (λ _. record { left = omega (arith, f.left); wide = omega (arith, f.wide) })
 
-kept_fits : (start end column : ℕ) (ps : List TextPiece) → Fits start end column (sum_by width_of (kept_within start end column ps))
-kept_fits start end column [] = record { left = omega arith; wide = omega arith }
-kept_fits start end column (Colour sequence ∷ ps) = kept_fits start end column ps
-kept_fits start end column (Run text ∷ ps) =
-    let rest = kept_within start end (column + sum_by width_of text) ps in
+left_fits : (start end column : ℕ) (ps : List TextPiece) → Fits start end column (sum_by width_of (stays_within start end column ps))
+left_fits start end column [] = record { left = omega arith; wide = omega arith }
+left_fits start end column (Colour sequence ∷ ps) = left_fits start end column ps
+left_fits start end column (Run text ∷ ps) =
+    let rest = stays_within start end (column + sum_by width_of text) ps in
     subst (Fits start end column) (sym (sum_by-append width_of (run_within start end column text) rest))
-    (run_fits start end column (sum_by width_of rest) text (kept_fits start end (column + sum_by width_of text) ps))
+    (run_fits start end column (sum_by width_of rest) text (left_fits start end (column + sum_by width_of text) ps))
 
 pub ranges_fit : RangesFit
 unfolding ansi_range
 ranges_fit text start end =
-    let seen = ap (sum_by width_of) (kept_seen start end 0 (pieces_of_text text) (all_exact text).exact (runs_are_longest text)) in
-    omega (arith, seen, (kept_fits start end 0 (pieces_of_text text)).wide)
+    let seen = ap (sum_by width_of) (left_seen start end 0 (pieces_of_text text) (all_exact text).exact (runs_are_longest text)) in
+    omega (arith, seen, (left_fits start end 0 (pieces_of_text text)).wide)
 
 -- ---- characters
 
@@ -253,18 +253,18 @@ pub no_character_is_added : NoCharacterIsAdded
 unfolding ansi_range
 no_character_is_added is_such text start end e = pieces_all_such is_such start end 0 (pieces_of_text text) (ap (list_all is_such) (pieces_join text) ∙ e)
 
-kept_all_such : (p : ℕ → Bool) (start end column : ℕ) (ps : List TextPiece) → list_all p (flat_map run_text ps) ≡ true → list_all p (kept_within start end column ps) ≡ true
-kept_all_such p start end column [] e = refl
-kept_all_such p start end column (Colour sequence ∷ ps) e = kept_all_such p start end column ps e
-kept_all_such p start end column (Run text ∷ ps) e =
+left_all_such : (p : ℕ → Bool) (start end column : ℕ) (ps : List TextPiece) → list_all p (flat_map run_text ps) ≡ true → list_all p (stays_within start end column ps) ≡ true
+left_all_such p start end column [] e = refl
+left_all_such p start end column (Colour sequence ∷ ps) e = left_all_such p start end column ps e
+left_all_such p start end column (Run text ∷ ps) e =
     let after = column + sum_by width_of text in
     let parts = and_parts (list_all p text) (list_all p (flat_map run_text ps)) (sym (list_all-append p text (flat_map run_text ps)) ∙ e) in
-    all_pass p (run_within start end column text) (kept_within start end after ps) (run_all_such p start end column text parts.0) (kept_all_such p start end after ps parts.1)
+    all_pass p (run_within start end column text) (stays_within start end after ps) (run_all_such p start end column text parts.0) (left_all_such p start end after ps parts.1)
 
 pub ranges_stay_plain : RangesStayPlain
 unfolding ansi_range is_plain
 ranges_stay_plain text start end e =
     let ps = pieces_of_text text in
     let has_width : ℕ → Bool = λ c. is_some (char_width false c) in
-    ap (list_all has_width) (kept_seen start end 0 ps (all_exact text).exact (runs_are_longest text))
-    ∙ kept_all_such has_width start end 0 ps (ap (list_all has_width) (runs_are_visible text) ∙ e)
+    ap (list_all has_width) (left_seen start end 0 ps (all_exact text).exact (runs_are_longest text))
+    ∙ left_all_such has_width start end 0 ps (ap (list_all has_width) (runs_are_visible text) ∙ e)

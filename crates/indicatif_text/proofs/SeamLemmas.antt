@@ -327,18 +327,18 @@ white_apart : (c : ℕ) (cs : List ℕ) → is_whitespace c ≡ true → is_apar
 white_apart c cs e = grind (arith, nat_tests)
 
 -- a text is such a beginning and a text apart
-record EndsApart (text kept : List ℕ) : Type 0 where
+record EndsApart (text stays : List ℕ) : Type 0 where
   left : List ℕ
-  parts : text ≡ kept ++ left
+  parts : text ≡ stays ++ left
   apart : is_apart left ≡ true
 
 ends_white : (text : List ℕ) → EndsApart text (drop_trailing_whitespace text)
 ends_white [] = record { left = []; parts = refl; apart = refl }
 ends_white (c ∷ cs) =
     let rest = ends_white cs in
-    let kept = drop_trailing_whitespace cs in
-    cond_both (is_whitespace c && (length kept == 0)) [] (c ∷ kept) (λ front. EndsApart (c ∷ cs) front)
-    (λ e. record { left = c ∷ cs; parts = refl; apart = white_apart c cs (and_parts (is_whitespace c) (length kept == 0) e).0 })
+    let stays = drop_trailing_whitespace cs in
+    cond_both (is_whitespace c && (length stays == 0)) [] (c ∷ stays) (λ front. EndsApart (c ∷ cs) front)
+    (λ e. record { left = c ∷ cs; parts = refl; apart = white_apart c cs (and_parts (is_whitespace c) (length stays == 0) e).0 })
     (λ e. record { left = rest.left; parts = ap (λ x. c ∷ x) rest.parts; apart = rest.apart })
 
 first_plain : (xs ys : List ℕ) → list_all has_width (xs ++ ys) ≡ true → list_all has_width xs ≡ true
@@ -347,7 +347,7 @@ first_plain xs ys e = (and_parts (list_all has_width xs) (list_all has_width ys)
 pub plain_texts_trim : PlainTextsTrim
 unfolding is_plain
 plain_texts_trim text e =
-    let kept = drop_trailing_whitespace text in
+    let stays = drop_trailing_whitespace text in
     let s = ends_white text in
-    let seen : visible text ≡ visible kept ++ visible s.left = ap visible s.parts ∙ visible_apart kept s.left s.apart in
-    first_plain (visible kept) (visible s.left) (ap (list_all has_width) (sym seen) ∙ e)
+    let seen : visible text ≡ visible stays ++ visible s.left = ap visible s.parts ∙ visible_apart stays s.left s.apart in
+    first_plain (visible stays) (visible s.left) (ap (list_all has_width) (sym seen) ∙ e)

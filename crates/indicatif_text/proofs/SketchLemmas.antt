@@ -53,15 +53,15 @@ completed_empty ps = fresh ps
 
 pub completed_nil : (s : Sketch) → completed s [] ≡ sketched_parts s
 unfolding completed
-completed_nil s = ap (λ parts. s.done ++ parts) (text_alone (s.kept ++ s.run))
+completed_nil s = ap (λ parts. s.done ++ parts) (text_alone (s.fixed ++ s.run))
 
 after_part : (s : Sketch) (part : TemplatePart) (ps : List TemplatePiece)
-    → after_text (s.kept ++ s.run) (part ∷ joined_parts (without_open_run ps)) ≡ literal_part (s.kept ++ s.run) ++ (part ∷ joined_parts (without_open_run ps)) →
-    s.done ++ after_text (s.kept ++ s.run) (part ∷ joined_parts (without_open_run ps)) ≡ completed (with_part s part) ps
+    → after_text (s.fixed ++ s.run) (part ∷ joined_parts (without_open_run ps)) ≡ literal_part (s.fixed ++ s.run) ++ (part ∷ joined_parts (without_open_run ps)) →
+    s.done ++ after_text (s.fixed ++ s.run) (part ∷ joined_parts (without_open_run ps)) ≡ completed (with_part s part) ps
 unfolding completed
 after_part s part ps e =
     let rest = joined_parts (without_open_run ps) in
-    ap (λ parts. s.done ++ parts) e ∙ sym (append_assoc s.done (literal_part (s.kept ++ s.run)) (part ∷ rest))
+    ap (λ parts. s.done ++ parts) e ∙ sym (append_assoc s.done (literal_part (s.fixed ++ s.run)) (part ∷ rest))
     ∙ sym (append_assoc (sketched_parts s) (part ∷ []) rest) ∙ ap (λ parts. (sketched_parts s ++ part ∷ []) ++ parts) (sym (fresh ps))
 
 -- what may follow a piece: nothing after an opening brace or key at the end; and a spaced brace has a character
@@ -86,23 +86,23 @@ module _ (s : Sketch) (ps : List TemplatePiece) where
   complete_char c = elim (cases_Bool (is_open_run ps)) [
     | inl is ↦ rw is refl
     | inr other ↦
-        rw other (ap (λ parts. s.done ++ parts) (text_twice (s.kept ++ s.run) c [] (joined_parts (without_open_run ps)))
-        ∙ ap (λ text. s.done ++ after_text text (joined_parts (without_open_run ps))) (append_assoc s.kept s.run (c ∷ [])))
+        rw other (ap (λ parts. s.done ++ parts) (text_twice (s.fixed ++ s.run) c [] (joined_parts (without_open_run ps)))
+        ∙ ap (λ text. s.done ++ after_text text (joined_parts (without_open_run ps))) (append_assoc s.fixed s.run (c ∷ [])))
   ]
 
   complete_break : completed s (Break ∷ ps) ≡ completed (added s Break) ps
   unfolding completed
-  complete_break = after_part s LineBreak ps (text_break (s.kept ++ s.run) (joined_parts (without_open_run ps)))
+  complete_break = after_part s LineBreak ps (text_break (s.fixed ++ s.run) (joined_parts (without_open_run ps)))
 
   complete_keyed : (key : List ℕ) (layout : Layout) → completed s (Keyed key layout ∷ ps) ≡ completed (added s (Keyed key layout)) ps
   unfolding completed
-  complete_keyed key layout = after_part s (KeyText key layout) ps (text_key (s.kept ++ s.run) key layout (joined_parts (without_open_run ps)))
+  complete_keyed key layout = after_part s (KeyText key layout) ps (text_key (s.fixed ++ s.run) key layout (joined_parts (without_open_run ps)))
 
   complete_spaced : (c : ℕ) (cs : List ℕ) → completed s (SpacedBrace (c ∷ cs) ∷ ps) ≡ completed (added s (SpacedBrace (c ∷ cs))) ps
   unfolding completed
   complete_spaced c cs =
-      let text = (s.kept ++ s.run) ++ c ∷ cs in
-      let start = ap (λ parts. s.done ++ parts) (text_twice (s.kept ++ s.run) c cs (joined_parts (without_open_run ps))) in
+      let text = (s.fixed ++ s.run) ++ c ∷ cs in
+      let start = ap (λ parts. s.done ++ parts) (text_twice (s.fixed ++ s.run) c cs (joined_parts (without_open_run ps))) in
       start ∙ elim (cases_Bool (is_open_run ps)) [
         | inl is ↦ rw (is, open_gone ps is) refl
         | inr other ↦ rw other (ap (λ t. s.done ++ after_text t (joined_parts (without_open_run ps))) (sym (append-nil text)))
@@ -110,7 +110,7 @@ module _ (s : Sketch) (ps : List TemplatePiece) where
 
 complete_last_brace : (s : Sketch) → completed s (LastBrace ∷ []) ≡ completed (added s LastBrace) []
 unfolding completed
-complete_last_brace s = ap (λ text. s.done ++ after_text text []) (sym (append-nil s.kept))
+complete_last_brace s = ap (λ text. s.done ++ after_text text []) (sym (append-nil s.fixed))
 
 complete_last_key : (s : Sketch) → completed s (LastKey ∷ []) ≡ completed s []
 unfolding completed

@@ -91,8 +91,8 @@ last_all_digits zero n = refl
 last_all_digits (suc k) n =
     all_pass is_ascii_digit (last_digits k (n / 10)) ((48 + n % 10) ∷ []) (last_all_digits k (n / 10)) (one_digit (n % 10) (omega arith))
 
-kept_digits : (ds : List ℕ) → list_all is_ascii_digit ds ≡ true → list_all is_ascii_digit (without_trailing_zeros ds) ≡ true
-kept_digits ds on =
+left_digits : (ds : List ℕ) → list_all is_ascii_digit ds ≡ true → list_all is_ascii_digit (without_trailing_zeros ds) ≡ true
+left_digits ds on =
     let zeros = only_zeros ds in
     let both = sym (list_all-append is_ascii_digit (without_trailing_zeros ds) (replicate zeros.0 48))
     ∙ ap (λ xs. list_all is_ascii_digit xs) zeros.1 ∙ on in
@@ -175,7 +175,7 @@ parts_of_count scaled places small =
     record {
       whole = whole_is front ds on;
       decimals = decimals_are front ds on;
-      digits = digits_are front ds (kept_digits (last_digits places scaled) (last_all_digits places scaled))
+      digits = digits_are front ds (left_digits (last_digits places scaled) (last_all_digits places scaled))
           ∙ ap (λ xs. xs ++ ds) (count_digits (scaled / 10 ^ places) small);
     }
 
@@ -249,7 +249,7 @@ unfolding human_float_count
 no_point_at_end num den places front small e =
     let scaled = round (num * 10 ^ places) den in
     let ds = without_trailing_zeros (last_digits places scaled) in
-    let digits = kept_digits (last_digits places scaled) (last_all_digits places scaled) in
+    let digits = left_digits (last_digits places scaled) (last_all_digits places scaled) in
     let counts = weaker is_ascii_digit is_count_char (λ c on. rw on refl) ds digits in
     let on = ends_in_count (human_count (scaled / 10 ^ places)) ds (count_chars (scaled / 10 ^ places) (whole_small num den places small)) counts in
     false≢true (sym (last_one is_count_char front 0x2E) ∙ ap (λ xs. last_passes is_count_char xs) (sym e) ∙ on)

@@ -3,13 +3,13 @@ use Rattle.std.specs.Prelude.{ℕ, ◌-◌, ◌*◌, ◌/◌, ◌^◌, ◌==◌,
 use Rattle.meter_parts.specs.declared.recent.Done.{Done}
 
 -- from where a rate is counted, and from where it will be
-pub record Kept : Type 0 where
+pub record Samples : Type 0 where
   pub older : Done
   pub newer : Done
 
 -- once a second and a half has passed since the one, it is counted from there, and later from now
-abbrev pub kept_after : Done → Done → Done → Kept
-kept_after older newer now =
+abbrev pub samples_after : Done → Done → Done → Samples
+samples_after older newer now =
     if nat_le 1_500_000_000 (now.moment - newer.moment) then record { older = newer; newer = now }
     else record { older = older; newer = newer }
 

@@ -1,6 +1,6 @@
 //! How fast it went lately.
 ghost use Rattle.std.specs.Prelude.{◌≡◌, ◌≤◌, ◌-◌, ◌+◌, ◌*◌, ◌/◌, ◌<◌};
-ghost use Rattle.meter_parts.specs.Recent.{Kept, kept_after, rate_of, time_of};
+ghost use Rattle.meter_parts.specs.Recent.{Samples, samples_after, rate_of, time_of};
 
 /// How much was done by a moment, in nanoseconds.
 #[derive(Clone, Copy, Debug, Drop, PartialEq, Eq)]
@@ -44,8 +44,8 @@ impl Recent {
 
     /// So much is done now.
     pub fn went_on(&mut self, now: Done)
-        ensures { (self.new.older ≡ (kept_after self.old.older self.old.newer now).older)
-            × (self.new.newer ≡ (kept_after self.old.older self.old.newer now).newer) }
+        ensures { (self.new.older ≡ (samples_after self.old.older self.old.newer now).older)
+            × (self.new.newer ≡ (samples_after self.old.older self.old.newer now).newer) }
     {
         if now.moment.saturating_sub(self.newer.moment) >= SPAN {
             self.older = self.newer;

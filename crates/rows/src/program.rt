@@ -34,7 +34,7 @@ impl Read for Input<'_> {
 /// Keeps so many bytes, and fails when it is full; its flush fails where that is said.
 #[derive(Drop)]
 struct Output {
-    kept: Vec<u8>,
+    written: Vec<u8>,
     room: usize,
     is_flush_failing: bool,
 }
@@ -45,7 +45,7 @@ impl Write for Output {
             return Err(Error::from(ErrorKind::StorageFull));
         }
         let taken = buf.len().min(self.room);
-        self.kept.extend_from_slice(&buf[..taken])?;
+        self.written.extend_from_slice(&buf[..taken])?;
         self.room -= taken;
         Ok(taken)
     }
@@ -97,7 +97,7 @@ fn plain_streams(at: At) -> Streams {
 
 fn endless(at: At) -> Output {
     Output {
-        kept: Vec::new(at.alloc),
+        written: Vec::new(at.alloc),
         room: usize::MAX,
         is_flush_failing: false,
     }
@@ -141,8 +141,8 @@ fn run(args: &[String], commands: &[u8], (streams, at): (Streams, At), got: &mut
 
 /// Appends what was printed behind this text; nothing where nothing was.
 fn push_printed(parting: &str, output: &Output, got: &mut Got) {
-    if !output.kept.is_empty() {
+    if !output.written.is_empty() {
         got.text(parting);
-        got.bytes(&output.kept);
+        got.bytes(&output.written);
     }
 }

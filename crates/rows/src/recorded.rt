@@ -10,12 +10,12 @@ use scripts::row::At;
 use scripts::screen::{self, Behind, Screen, Target};
 use std::rc::Rc;
 
-type Kept = Recorded<NoTracker, Behind>;
+type Recording = Recorded<NoTracker, Behind>;
 
 /// A board with its history on a screen.
 #[derive(Drop)]
 pub struct OnScreen {
-    board: Box<Kept>,
+    board: Box<Recording>,
     screen: Rc<Screen>,
 }
 
@@ -24,7 +24,7 @@ impl OnScreen {
     pub fn begin(rest: &str, at: At) -> Result<OnScreen, Bad> {
         let mut words = rest;
         let (screen, target) = screen::begin(&mut words, at)?;
-        let board = kept_on(at, target)?;
+        let board = recorded_on(at, target)?;
         Ok(OnScreen { board, screen })
     }
 
@@ -39,19 +39,19 @@ impl OnScreen {
     }
 }
 
-fn kept_on(at: At, target: Box<Target>) -> Result<Box<Kept>, Bad> {
+fn recorded_on(at: At, target: Box<Target>) -> Result<Box<Recording>, Bad> {
     at.boxed(Recorded::new(at.alloc, Box::into_inner(target), BOARD_ID))
 }
 
-fn board_of(board: &Kept) -> &Board<NoTracker, Behind> {
+fn board_of(board: &Recording) -> &Board<NoTracker, Behind> {
     board.board()
 }
 
-/// `order`; `kept`, how many calls the history has; or a reading of a bar. Whether the step asks for one of these.
-fn look(board: &Kept, step: &str, now: Moment, got: &mut Got) -> Result<bool, Bad> {
+/// `order`; `recorded`, how many calls the history has; or a reading of a bar. Whether the step asks for one of these.
+fn look(board: &Recording, step: &str, now: Moment, got: &mut Got) -> Result<bool, Bad> {
     match step {
         "order" => got.numbers(board_of(board).order()),
-        "kept" => got.number(board.entries().len()),
+        "recorded" => got.number(board.entries().len()),
         _ => return look_at_bar(board_of(board), step, now, got),
     }
     Ok(true)
@@ -73,14 +73,14 @@ fn look_at_bar(
 }
 
 fn applied(
-    board: &mut Kept,
+    board: &mut Recording,
     call: Call<NoTracker>,
     now: Moment,
 ) -> (Answer, Option<BarState<NoTracker>>) {
     board.apply(call, now)
 }
 
-fn made(board: &mut Kept, call: Call<NoTracker>, now: Moment, got: &mut Got) {
+fn made(board: &mut Recording, call: Call<NoTracker>, now: Moment, got: &mut Got) {
     let (answer, back) = applied(board, call, now);
     push_answer(answer, got);
     if let Some(bar) = back {

@@ -21,8 +21,8 @@ impl Styled {
     pub fn begin(name: &str, rest: &str, at: At) -> Result<Styled, Bad> {
         let look = match name {
             "style" => style_of(at, rest)?,
-            "default_bar" => kept(at, ProgressStyle::default_bar(at.alloc))?,
-            _ => kept(at, ProgressStyle::default_spinner(at.alloc))?,
+            "default_bar" => taken_up(at, ProgressStyle::default_bar(at.alloc))?,
+            _ => taken_up(at, ProgressStyle::default_spinner(at.alloc))?,
         };
         Ok(Styled { look: Some(look) })
     }
@@ -42,7 +42,7 @@ impl Styled {
 }
 
 /// What a builder made.
-fn kept(at: At, made: Result<ProgressStyle<NoTracker>, Refusal>) -> Result<Look, Bad> {
+fn taken_up(at: At, made: Result<ProgressStyle<NoTracker>, Refusal>) -> Result<Look, Bad> {
     at.boxed(made?)
 }
 
@@ -52,7 +52,7 @@ fn built(look: Look, (name, rest): (&str, &str), at: At) -> Result<Look, Bad> {
     match name {
         "tick_strings" => with_tick_strings(look, rest, at),
         "colours" => with_colours(look, flag(rest)?, at),
-        "clone" => kept(at, look.try_clone()),
+        "clone" => taken_up(at, look.try_clone()),
         _ => with_text(look, (name, unescaped(at.alloc, rest)?.as_str()), at),
     }
 }
@@ -60,9 +60,9 @@ fn built(look: Look, (name, rest): (&str, &str), at: At) -> Result<Look, Bad> {
 /// The same style with another template, other ticks or other characters of a bar.
 pub fn with_text(look: Look, (name, text): (&str, &str), at: At) -> Result<Look, Bad> {
     match name {
-        "template" => kept(at, Box::into_inner(look).template(text)),
-        "tick_chars" => kept(at, Box::into_inner(look).tick_chars(text)),
-        "progress_chars" => kept(at, Box::into_inner(look).progress_chars(text)),
+        "template" => taken_up(at, Box::into_inner(look).template(text)),
+        "tick_chars" => taken_up(at, Box::into_inner(look).tick_chars(text)),
+        "progress_chars" => taken_up(at, Box::into_inner(look).progress_chars(text)),
         _ => Err(Bad::Step),
     }
 }
@@ -73,7 +73,7 @@ fn with_tick_strings(look: Look, rest: &str, at: At) -> Result<Look, Bad> {
     for text in &texts {
         strings.push(text.as_str())?;
     }
-    kept(at, Box::into_inner(look).tick_strings(&strings))
+    taken_up(at, Box::into_inner(look).tick_strings(&strings))
 }
 
 /// The texts behind tabs.
@@ -108,14 +108,14 @@ fn push_new_lines(
     at: At,
     got: &mut Got,
 ) -> Result<(), Bad> {
-    let look = kept(at, look.try_clone())?;
+    let look = taken_up(at, look.try_clone())?;
     let bar = in_style(look, Some(10), at)?;
     push_lines(&bar, columns, at.now, got)
 }
 
 /// The same style with colours, or without.
 pub fn with_colours(look: Look, colours: bool, at: At) -> Result<Look, Bad> {
-    kept(at, Box::into_inner(look).with_colors(colours))
+    taken_up(at, Box::into_inner(look).with_colors(colours))
 }
 
 /// A new bar in this style.

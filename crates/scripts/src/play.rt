@@ -55,7 +55,7 @@ impl Given {
         }
     }
 
-    fn keep(&mut self, alloc: Global, row: Row<'_>) -> Result<(), Bad> {
+    fn store(&mut self, alloc: Global, row: Row<'_>) -> Result<(), Bad> {
         self.steps = String::from_str(alloc, row.steps)?;
         self.wanted = String::from_str(alloc, row.wanted)?;
         Ok(())
@@ -76,7 +76,7 @@ impl<W: World> Player<'_, W> {
     fn agrees(&mut self, row: Row<'_>) -> bool {
         if let Some(steps) = row.steps.strip_prefix("given ") {
             let given = Row { steps, ..row };
-            return self.given.keep(self.alloc, given).is_ok() && self.gives(given);
+            return self.given.store(self.alloc, given).is_ok() && self.gives(given);
         }
         match row.steps.strip_prefix("+ ") {
             Some(steps) => self.begins() && self.gives(Row { steps, ..row }),

@@ -145,7 +145,7 @@ impl Screen {
         Some(limits.halt)
     }
 
-    fn keep(&self, bytes: &[u8]) -> io::Result<()> {
+    fn store(&self, bytes: &[u8]) -> io::Result<()> {
         match self.written.try_borrow_mut() {
             Ok(mut written) => Ok(written.extend_from_slice(bytes)?),
             Err(_) => Err(Error::from(ErrorKind::OutOfMemory)),
@@ -174,7 +174,7 @@ impl Screen {
     /// Takes these bytes.
     fn take(&self, bytes: &[u8]) -> io::Result<()> {
         self.feed(bytes)?;
-        self.keep(bytes)?;
+        self.store(bytes)?;
         let mut counts = self.counts.get();
         counts.bytes = counts.bytes.saturating_add(bytes.len() as u64);
         self.counts.set(counts);

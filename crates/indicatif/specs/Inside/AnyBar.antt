@@ -16,7 +16,7 @@ use Rattle.indicatif_bar.specs.declared.lone.LoneBar.{LoneBar}
 use Rattle.indicatif_board.specs.Boards.{Drop, Redraw}
 use Rattle.indicatif_board.specs.BoardValues.{id_of}
 use Rattle.indicatif.specs.Fronts.{LoneIsSomewhere, SuspendedBy, IsMissing, on_board, unchanged}
-use Rattle.indicatif.specs.SharedBoards.{SharedDraws, SharedSuspends, SharedKeeps}
+use Rattle.indicatif.specs.SharedBoards.{SharedDraws, SharedSuspends, SharedStays}
 use Rattle.indicatif.specs.declared.progress_bar.any_bar.AnyBar.{AnyBar}
 use Rattle.indicatif.specs.declared.progress_bar.any_bar.AnyBar.TheVariants.{Alone, Member}
 
@@ -81,7 +81,7 @@ module _ {K T C : Type 0} where
       (bar : LoneBar K T) × (new ≡ Alone bar) × (record_of bar ≡ record_of old) × (lone_terminal bar ≡ term) × (answer ≡ Ok Limited)
   BarTurns m view (Member member) term answer new =
       ((bar : LoneBar K T) × (new ≡ Alone bar) × (lone_terminal bar ≡ term) × SharedDraws m view Redraw answer)
-      ⊎ ((e : Refusal) × (answer ≡ Err e) × (new ≡ Member member) × SharedKeeps m view (id_of member.id) e)
+      ⊎ ((e : Refusal) × (answer ≡ Err e) × (new ≡ Member member) × SharedStays m view (id_of member.id) e)
 
   -- a text of the bar isn't told: there is no memory for it, or the board hasn't the bar
   abbrev pub IsUntold : AnyBar K T C → Refusal → Type 0

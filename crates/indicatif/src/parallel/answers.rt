@@ -121,12 +121,12 @@ fn own_pieces<T, A: Drop, F: Fn(&T) -> A, P: Moves>(
     ensures within { result.1.done ≤ claims.now.items }
 {
     let mut course = course;
-    let made = kept_up_pieces(alloc, items, claims, f, &mut course);
+    let made = pieces_in_order(alloc, items, claims, f, &mut course);
     (made, course)
 }
 
 // The same of a bar that is lent.
-fn kept_up_pieces<T, A: Drop, F: Fn(&T) -> A, P: Moves>(
+fn pieces_in_order<T, A: Drop, F: Fn(&T) -> A, P: Moves>(
     alloc: Global,
     items: &[T],
     claims: &Claims,
@@ -146,7 +146,7 @@ fn kept_up_pieces<T, A: Drop, F: Fn(&T) -> A, P: Moves>(
             break;
         };
         pieces.push(Piece::at(alloc, items, &part, f)?)?;
-        course.keep_up(claims, &part);
+        course.follow_part(claims, &part);
     }
     Ok(pieces)
 }

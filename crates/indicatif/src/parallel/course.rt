@@ -92,7 +92,7 @@ impl<P: Moves> Course<P> {
     }
 
     /// The items of a part were met by the thread that has the bar: the bar follows what all have met.
-    pub fn keep_up(&mut self, claims: &Claims, part: &Part)
+    pub fn follow_part(&mut self, claims: &Claims, part: &Part)
         ensures within { self.old.done ≤ claims.now.items → self.new.done ≤ claims.now.items }
         ensures goes { GoesOn P.stands P.leads self.old.done self.old.bar self.new.done self.new.bar }
     {

@@ -70,7 +70,7 @@ fn own_visits<T, F: Fn(&T), P: Moves>(
             break;
         };
         visit(&items[part.start..part.end], f);
-        course.keep_up(claims, &part);
+        course.follow_part(claims, &part);
     }
     course
 }

@@ -8,7 +8,7 @@ ghost use Rattle.indicatif_board.specs.Boards.{Tell, Redraw, Drop as Dropped};
 ghost use Rattle.indicatif_board.specs.BoardValues.{id_of};
 ghost use Rattle.indicatif.specs.Fronts.{on_board, unchanged};
 ghost use Rattle.indicatif.specs.Inside.TextCommand.{text_call};
-ghost use Rattle.indicatif.specs.SharedBoards.{SharedDraws, SharedSuspends, SharedKeeps};
+ghost use Rattle.indicatif.specs.SharedBoards.{SharedDraws, SharedSuspends, SharedStays};
 
 use crate::progress_bar::locked_board::SharedBoard;
 use crate::progress_bar::text_command::TextCommand;
@@ -123,13 +123,13 @@ impl<K: Tracks, T: TermLike + Drop, C: Clock + Drop> MemberBar<K, T, C> {
     }
 
     /// Takes the bar out of the order and draws the others by force; the bar, and what that draw answered.
-    #[tactic(auto, using(crate::proofs::AnswerLemmas::kept_so))]
+    #[tactic(auto, using(crate::proofs::AnswerLemmas::stays_so))]
     pub fn leave<R: Wait>(
         &self,
         rt: &R,
         now: Moment,
     ) -> Result<(BarState<K>, Result<Drawn, Refusal>), Refusal>
-        ensures { MatchResult result (λ left. SharedDraws K.means T.view Redraw left.1) (λ e. SharedKeeps K.means T.view (id_of self.now.id) e) }
+        ensures { MatchResult result (λ left. SharedDraws K.means T.view Redraw left.1) (λ e. SharedStays K.means T.view (id_of self.now.id) e) }
     {
         let mut locked = self.board.lock(rt);
         match locked.board.remove(self.id, now) {

@@ -134,7 +134,7 @@ impl<K: Tracks> ProgressStyle<K> {
         let mut text = spare.text();
         tracker.track_text(state, now, &mut text)?;
         push_expanded(text.as_str(), self.tab, out)?;
-        spare.keep_text(text);
+        spare.store_text(text);
         Ok(())
     }
 
@@ -185,7 +185,7 @@ impl<K: Tracks> ProgressStyle<K> {
             truncate: placeholder.truncate,
         };
         push_padded(text.as_str(), place, out)?;
-        spare.keep_text(text);
+        spare.store_text(text);
         Ok(())
     }
 
@@ -293,11 +293,11 @@ impl<K: Tracks> ProgressStyle<K> {
         }
         if has_break(text.as_str()) {
             self.push_all_filled(text.as_str(), wide, state, width, spare, lines)?;
-            spare.keep_text(text);
+            spare.store_text(text);
             return Ok(());
         }
         self.push_line_filled(text.as_str(), wide, state, width, spare, lines)?;
-        spare.keep_text(text);
+        spare.store_text(text);
         Ok(())
     }
 
@@ -404,7 +404,7 @@ impl<K: Tracks> ProgressStyle<K> {
             }
         }
         if line.text.as_str().is_empty() {
-            spare.keep_text(line.text);
+            spare.store_text(line.text);
             return Ok(lines);
         }
         self.push_lines(line, state, width, spare, &mut lines)?;
@@ -466,6 +466,6 @@ fn push_message(
     let mut message = spare.text();
     push_padded(state.message(), place, &mut message)?;
     out.push_str(message.as_str().trim_end())?;
-    spare.keep_text(message);
+    spare.store_text(message);
     Ok(())
 }

@@ -124,7 +124,7 @@ pub(crate) fn push_lines(
 {
     if has_break(text.as_str()) {
         push_pieces(text.as_str(), spare, lines)?;
-        spare.keep_text(text);
+        spare.store_text(text);
         return Ok(());
     }
     push_line(text, lines)?;

@@ -1,7 +1,7 @@
 -- The rows of a terminal as they are kept.
 use Rattle.indicatif_term.specs.Screen.{Screen, IsWhole, Op, Put, Return, LineFeed, Up, Down, Right, Left, EmptyRow}
 use Rattle.indicatif_term.specs.declared.in_memory.grid.Grid.TheInside.{Inside}
-use Rattle.indicatif_term.specs.declared.in_memory.grid.Op as kept
+use Rattle.indicatif_term.specs.declared.in_memory.grid.Op as stored
 use Rattle.indicatif_term.specs.declared.in_memory.grid.Op.TheVariants as variants
 
 -- the screen that a grid stands for
@@ -13,7 +13,7 @@ abbrev pub IsSound : Inside → Type 0
 IsSound g = IsWhole (screen_of g)
 
 -- the operation
-abbrev pub op_of : kept.Op → Op
+abbrev pub op_of : stored.Op → Op
 op_of (variants.Put c) = Put c
 op_of variants.Return = Return
 op_of variants.LineFeed = LineFeed

@@ -2,14 +2,14 @@
 use Rattle.std.specs.Prelude.{◌≡◌, ℕ, ◌+◌, ◌-◌, ◌≤◌, List, [], ◌∷◌, ◌++◌, take, drop, map, reverse, replicate, length}
 use Rattle.indicatif_text.specs.Columns.{Cell, Blank, Written, Continued}
 use Rattle.indicatif_term.specs.Screen.{with_mark, emptied_glyph, emptied_front}
-use Rattle.indicatif_term.specs.declared.in_memory.cell.CellKind as kept
+use Rattle.indicatif_term.specs.declared.in_memory.cell.CellKind as stored
 use Rattle.indicatif_term.specs.declared.in_memory.cell.CellKind.TheVariants as variants
 use Rattle.indicatif_term.specs.declared.in_memory.marks.CombiningMark.{CombiningMark}
 use Rattle.indicatif_term.specs.Inside.Marks.{chain}
 use Rattle.indicatif_term.specs.declared.in_memory.row.Row.TheInside.{Inside}
 
 -- the cell that is kept in this way, with the place of its last mark in the place of its marks
-abbrev pub cell_of : kept.CellKind → Cell
+abbrev pub cell_of : stored.CellKind → Cell
 cell_of variants.Empty = Blank
 cell_of (variants.Single c) = Written (record { base = c; marks = [] })
 cell_of (variants.Joined c last) = Written (record { base = c; marks = last ∷ [] })
@@ -31,17 +31,17 @@ abbrev pub whole_row : ℕ → List Cell → List Cell
 whole_row w cells = cells ++ replicate (w - length cells) Blank
 
 -- the row that is kept in this way
-abbrev pub row_kept : Inside → List Cell
-row_kept r = map (cell_shown r.marks.items) (whole_row r.columns r.cells.items)
+abbrev pub row_stored : Inside → List Cell
+row_stored r = map (cell_shown r.marks.items) (whole_row r.columns r.cells.items)
 
 -- what is put behind the marks changes no cell
-abbrev pub KeepsMarks : List CombiningMark → List Cell → Type 0
-KeepsMarks marks cells = (more : List CombiningMark) → map (cell_shown (marks ++ more)) cells ≡ map (cell_shown marks) cells
+abbrev pub LeavesMarks : List CombiningMark → List Cell → Type 0
+LeavesMarks marks cells = (more : List CombiningMark) → map (cell_shown (marks ++ more)) cells ≡ map (cell_shown marks) cells
 
 -- no more cells are kept than the row has, and their marks stay theirs
-pub record IsKept (r : Inside) : Type 0 where
+pub record IsStored (r : Inside) : Type 0 where
   pub within : length r.cells.items ≤ r.columns
-  pub keeps : KeepsMarks r.marks.items r.cells.items
+  pub leaves : LeavesMarks r.marks.items r.cells.items
 
 -- a cell with a mark joined to its character, if it has one
 abbrev pub with_mark_at : ℕ → Cell → Cell

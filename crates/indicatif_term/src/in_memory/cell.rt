@@ -7,7 +7,7 @@ ghost use Rattle.indicatif_term.specs.Resizes.{glyph_at};
 ghost use Rattle.indicatif_term.specs.Inside.Rows.{cell_shown, JoinsMark};
 
 use crate::in_memory::glyph::Glyph;
-use crate::in_memory::marks::{CombiningMark, keep_mark, leads_to_none, marks_up_to, show_marks};
+use crate::in_memory::marks::{CombiningMark, leads_to_none, marks_up_to, show_marks, store_mark};
 use indicatif_text::columns::Refusal;
 use std::alloc::Global;
 use std::marker::Model;
@@ -113,10 +113,10 @@ impl Cell {
         ensures refused { IfErr result (λ e. e ≡ Refusal.Memory) }
     {
         match self.kind {
-            CellKind::Single(c) => self.kind = CellKind::Joined(c, keep_mark(marks, 0, mark)?),
+            CellKind::Single(c) => self.kind = CellKind::Joined(c, store_mark(marks, 0, mark)?),
             CellKind::Joined(c, last) => self.kind = CellKind::Joined(
                 c,
-                keep_mark(marks, last, mark)?,
+                store_mark(marks, last, mark)?,
             ),
             CellKind::Empty | CellKind::Continued => {}
         }

@@ -15,7 +15,7 @@ pub(crate) struct CombiningMark {
 }
 
 /// Puts a mark behind those of the row, and gives its place. Refused: `Memory`, also where it has no place below 2^32.
-pub(crate) fn keep_mark(
+pub(crate) fn store_mark(
     marks: &mut Vec<CombiningMark>,
     before: u32,
     character: char,

@@ -6,7 +6,7 @@ ghost use Rattle.indicatif_term.specs.Screen.{cut_before, written_at, joined_at}
 ghost use Rattle.indicatif_term.specs.Pictures.{cell_text, is_blank, is_written, has_written, row_text, trimmed};
 ghost use Rattle.indicatif_term.specs.Resizes.{glyph_at, glyphs_in};
 ghost use Rattle.indicatif_term.specs.Inside.Runs.{run_chars, narrow_cells};
-ghost use Rattle.indicatif_term.specs.Inside.Rows.{cell_shown, KeepsMarks, BeginTheSame, emptied_back, emptied_on, overwritten, character_cells};
+ghost use Rattle.indicatif_term.specs.Inside.Rows.{cell_shown, LeavesMarks, BeginTheSame, emptied_back, emptied_on, overwritten, character_cells};
 
 use crate::in_memory::cell::Cell;
 use crate::in_memory::glyph::Glyph;
@@ -31,11 +31,11 @@ impl Model for Row {
 
     ghost Value = { List Cell };
 
-    ghost use Rattle.indicatif_term.specs.Inside.Rows.{row_kept, IsKept};
+    ghost use Rattle.indicatif_term.specs.Inside.Rows.{row_stored, IsStored};
 
-    ghost view = { row_kept };
+    ghost view = { row_stored };
 
-    ghost invariant = { IsKept };
+    ghost invariant = { IsStored };
 }
 
 impl Row {
@@ -207,11 +207,11 @@ fn join_before(
     mark: char,
 ) -> Result<(), Refusal>
     requires within { at ≤ length cells.old }
-    requires keeps { KeepsMarks marks.old.items cells.old }
+    requires leaves { LeavesMarks marks.old.items cells.old }
     ensures joined { OnOk result (map (cell_shown marks.new.items) cells.new
         ≡ joined_at at mark (map (cell_shown marks.old.items) cells.old)) }
     ensures err { OnErr result (map (cell_shown marks.new.items) cells.new ≡ map (cell_shown marks.old.items) cells.old) }
-    ensures keeps { KeepsMarks marks.new.items cells.new }
+    ensures leaves { LeavesMarks marks.new.items cells.new }
     ensures refused { IfErr result (λ e. e ≡ Refusal.Memory) }
 {
     let mut left = at;

@@ -13,7 +13,7 @@ use Rattle.indicatif_text.specs.Inside.StoredParts.{part_with, part_at}
 -- opening brace at the end would take away
 pub record Sketch : Type 0 where
   pub done : List TemplatePart
-  pub kept : List ℕ
+  pub fixed : List ℕ
   pub run : List ℕ
 
 -- what the code has drafted, in the words of the grammar: behind the texts of its parts, the first bytes of the literal text, as many
@@ -21,13 +21,13 @@ pub record Sketch : Type 0 where
 unfoldable pub sketch_of : Draft → Sketch
 sketch_of d = record {
   done = map (part_at (take d.start (string_bytes d.texts))) d.parts.items;
-  kept = chars (take d.kept (drop d.start (string_bytes d.texts)));
-  run = chars (drop d.kept (drop d.start (string_bytes d.texts)));
+  fixed = chars (take d.fixed (drop d.start (string_bytes d.texts)));
+  run = chars (drop d.fixed (drop d.start (string_bytes d.texts)));
 }
 
 -- nothing drafted yet
 abbrev pub empty_sketch : Sketch
-empty_sketch = record { done = []; kept = []; run = [] }
+empty_sketch = record { done = []; fixed = []; run = [] }
 
 -- a literal text as a part, if it has a character
 abbrev pub literal_part : List ℕ → List TemplatePart
@@ -36,23 +36,23 @@ literal_part (c ∷ cs) = LiteralText (c ∷ cs) ∷ []
 
 -- the parts of a sketch
 abbrev pub sketched_parts : Sketch → List TemplatePart
-sketched_parts s = s.done ++ literal_part (s.kept ++ s.run)
+sketched_parts s = s.done ++ literal_part (s.fixed ++ s.run)
 
 -- a sketch whose literal run stays whatever follows
-abbrev pub kept_sketch : Sketch → Sketch
-kept_sketch s = record s { kept = s.kept ++ s.run; run = [] }
+abbrev pub fixed_sketch : Sketch → Sketch
+fixed_sketch s = record s { fixed = s.fixed ++ s.run; run = [] }
 
 -- a sketch whose literal text was made a part
 abbrev pub closed_sketch : Sketch → Sketch
-closed_sketch s = record { done = sketched_parts s; kept = []; run = [] }
+closed_sketch s = record { done = sketched_parts s; fixed = []; run = [] }
 
 -- a sketch whose text was made a part of this kind
 abbrev pub parted_sketch : Sketch → Kind → Sketch
-parted_sketch s kind = record { done = s.done ++ part_with kind (s.kept ++ s.run) ∷ []; kept = []; run = [] }
+parted_sketch s kind = record { done = s.done ++ part_with kind (s.fixed ++ s.run) ∷ []; fixed = []; run = [] }
 
 -- a sketch with a further part
 abbrev pub with_part : Sketch → TemplatePart → Sketch
-with_part s part = record { done = sketched_parts s ++ part ∷ []; kept = []; run = [] }
+with_part s part = record { done = sketched_parts s ++ part ∷ []; fixed = []; run = [] }
 
 -- a sketch with further characters that stand for themselves
 abbrev pub with_run : Sketch → List ℕ → Sketch
@@ -62,7 +62,7 @@ with_run s text = record s { run = s.run ++ text }
 abbrev pub added : Sketch → TemplatePiece → Sketch
 added s (Char c) = record s { run = s.run ++ c ∷ [] }
 added s Break = with_part s LineBreak
-added s (SpacedBrace text) = record s { kept = (s.kept ++ s.run) ++ text; run = [] }
+added s (SpacedBrace text) = record s { fixed = (s.fixed ++ s.run) ++ text; run = [] }
 added s (Keyed key layout) = with_part s (KeyText key layout)
 added s LastBrace = record s { run = [] }
 added s LastKey = s
@@ -74,7 +74,7 @@ after_text (c ∷ cs) parts = onto_literal (c ∷ cs) parts
 
 -- the parts of a sketch and the pieces that follow it
 unfoldable pub completed : Sketch → List TemplatePiece → List TemplatePart
-completed s ps = s.done ++ (if is_open_run ps then after_text s.kept [] else after_text (s.kept ++ s.run) (joined_parts (without_open_run ps)))
+completed s ps = s.done ++ (if is_open_run ps then after_text s.fixed [] else after_text (s.fixed ++ s.run) (joined_parts (without_open_run ps)))
 
 -- from one sketch and what is left of a text to another: what becomes of the rest becomes of the text
 pub record GoesOn (before : Sketch) (text : List ℕ) (after : Sketch) (rest : List ℕ) : Type 0 where

@@ -64,7 +64,7 @@ pub(crate) struct Rounded {
     /// What stands before the point.
     pub(crate) whole: u128,
     /// How many decimals stand behind it, without the zeros at the end.
-    pub(crate) kept: u16,
+    pub(crate) shown: u16,
     /// Whether the last of them is one more than the division gives; without decimals, whether `whole` is.
     pub(crate) up: bool,
 }
@@ -74,10 +74,10 @@ impl Rounded {
     /// that is.
     pub(crate) fn of(quotient: Quotient, decimals: u16) -> Rounded
         requires { 0 < quotient.den }
-        ensures kept { result.kept ≤ decimals }
+        ensures shown { result.shown ≤ decimals }
         ensures text { human_float_count quotient.num quotient.den decimals ≡ human_count result.whole
-            ++ after_point (last_digits result.kept (raised result.up (below quotient.num quotient.den result.kept))) }
-        ensures no_carry { NeedsNoCarry result.up quotient.num quotient.den result.kept }
+            ++ after_point (last_digits result.shown (raised result.up (below quotient.num quotient.den result.shown))) }
+        ensures no_carry { NeedsNoCarry result.up quotient.num quotient.den result.shown }
     {
         let whole = quotient.num / u128::from(quotient.den);
         let mut division = LongDivision::new(quotient);
@@ -93,20 +93,20 @@ impl Rounded {
         if !rounds_up(odd, division.rest, quotient.den) {
             return Rounded {
                 whole,
-                kept: nonzero,
+                shown: nonzero,
                 up: false,
             };
         }
         if not_nine == 0 {
             return Rounded {
                 whole: whole + 1,
-                kept: 0,
+                shown: 0,
                 up: true,
             };
         }
         Rounded {
             whole,
-            kept: not_nine,
+            shown: not_nine,
             up: true,
         }
     }
@@ -144,7 +144,7 @@ pub(crate) fn four_decimals_text(num: u128, den: u64) -> ShortText
     let quotient = Quotient { num, den };
     let rounded = Rounded::of(quotient, 4);
     let mut digits = [0u8; 4];
-    let decimals = &mut digits[..rounded.kept as usize];
+    let decimals = &mut digits[..rounded.shown as usize];
     fill_decimals(quotient, rounded.up, decimals);
     joined(rounded.whole, decimals)
 }
@@ -180,11 +180,11 @@ pub(crate) fn push_quotient(
     let rounded = Rounded::of(quotient, decimals);
     let mut whole = ShortText::new();
     whole.prepend_wide_count(rounded.whole);
-    let kept = rounded.kept as usize;
-    if kept == 0 {
+    let shown = rounded.shown as usize;
+    if shown == 0 {
         return out.push_str(whole.as_str());
     }
-    out.reserve(whole.as_str().len() + 1 + kept)?;
+    out.reserve(whole.as_str().len() + 1 + shown)?;
     append(out, whole.as_str());
     append(out, ".");
     append_decimals(quotient, rounded, out);
@@ -194,14 +194,14 @@ pub(crate) fn push_quotient(
 /// Appends the decimals of a rounded quotient, of which there are some and for which there is room.
 fn append_decimals(quotient: Quotient, rounded: Rounded, out: &mut String)
     requires den { 0 < quotient.den }
-    requires some { 0 < rounded.kept }
-    requires no_carry { NeedsNoCarry rounded.up quotient.num quotient.den rounded.kept }
-    requires room { string_len out.old + rounded.kept ≤ string_capacity out.old }
+    requires some { 0 < rounded.shown }
+    requires no_carry { NeedsNoCarry rounded.up quotient.num quotient.den rounded.shown }
+    requires room { string_len out.old + rounded.shown ≤ string_capacity out.old }
     ensures { string_bytes out.new ≡ string_bytes out.old
-        ++ last_digits rounded.kept (raised rounded.up (below quotient.num quotient.den rounded.kept)) }
+        ++ last_digits rounded.shown (raised rounded.up (below quotient.num quotient.den rounded.shown)) }
 {
     let mut division = LongDivision::new(quotient);
-    for place in 0..rounded.kept - 1 {
+    for place in 0..rounded.shown - 1 {
         append_digit(out, division.next_digit());
     }
     let last = division.next_digit();

@@ -12,23 +12,23 @@ use std::alloc::{AllocError, Global};
 /// The most parts for which room is taken before they come.
 const FIRST_PARTS: usize = 16;
 
-/// The parts so far, their texts up to the byte `start`, and behind them the literal text that comes next. Its first `kept` bytes stay
+/// The parts so far, their texts up to the byte `start`, and behind them the literal text that comes next. Its first `fixed` bytes stay
 /// whatever follows; the others are the literal run, which an opening brace at the end would take away.
 #[derive(Drop)]
 pub(super) struct Draft {
     parts: Vec<StoredPart>,
     texts: String,
     start: usize,
-    kept: usize,
+    fixed: usize,
     ghost parts_in: { AreIn (take start (string_bytes texts)) parts.items },
     ghost start_whole: { IsCharBoundary (string_bytes texts) start },
-    ghost kept_whole: { IsCharBoundary (drop start (string_bytes texts)) kept },
+    ghost fixed_whole: { IsCharBoundary (drop start (string_bytes texts)) fixed },
 }
 
 impl Draft {
     ghost use Rattle.indicatif_text.specs.Template.{LineBreak, Char, SpacedBrace, Keyed, LastBrace, plain_layout, with_options, keyed, unfinished, key_ends, opened, closed, IsRefused};
     ghost use Rattle.indicatif_text.specs.Inside.Reading.{layout_of};
-    ghost use Rattle.indicatif_text.specs.Inside.Draft.{Sketch, GoesOn, TakesIn, sketch_of, empty_sketch, sketched_parts, kept_sketch, closed_sketch, parted_sketch, with_part, with_run, added};
+    ghost use Rattle.indicatif_text.specs.Inside.Draft.{Sketch, GoesOn, TakesIn, sketch_of, empty_sketch, sketched_parts, fixed_sketch, closed_sketch, parted_sketch, with_part, with_run, added};
 
     /// Nothing so far, with room for the texts of a text of `len` bytes, and for a part to every four of them, but for a few alone.
     pub(super) fn new(alloc: Global, len: usize) -> Result<Draft, AllocError>
@@ -40,15 +40,15 @@ impl Draft {
             parts,
             texts,
             start: 0,
-            kept: 0,
+            fixed: 0,
         })
     }
 
     /// Puts the literal run to the text that stays.
-    fn keep_run(&mut self)
-        ensures { sketch_of self.new ≡ kept_sketch (sketch_of self.old) }
+    fn fix_run(&mut self)
+        ensures { sketch_of self.new ≡ fixed_sketch (sketch_of self.old) }
     {
-        self.kept = self.texts.len() - self.start;
+        self.fixed = self.texts.len() - self.start;
     }
 
     /// Makes the text behind the parts the text of a further part.
@@ -60,7 +60,7 @@ impl Draft {
         let end = self.texts.len();
         self.parts.push(StoredPart { kind, start, end })?;
         self.start = end;
-        self.kept = 0;
+        self.fixed = 0;
         Ok(())
     }
 
@@ -107,7 +107,7 @@ impl Draft {
     fn drop_run(&mut self)
         ensures { sketch_of self.new ≡ added (sketch_of self.old) LastBrace }
     {
-        self.texts.truncate(self.start + self.kept);
+        self.texts.truncate(self.start + self.fixed);
     }
 
     /// Adds an opening brace that a white space makes literal.
@@ -118,7 +118,7 @@ impl Draft {
         self.push_literal('{')?;
         self.push_run(key)?;
         self.push_literal(space)?;
-        self.keep_run();
+        self.fix_run();
         Ok(())
     }
 

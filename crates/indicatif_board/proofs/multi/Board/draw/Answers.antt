@@ -19,15 +19,15 @@ returns-then-is_no-clause-drew g c = λ board_id takes s number inside placed.
     let old = known g.T.TermLike.view c.args.self.now in
     let target = target_of old in
     let d = draw_of target takes c.args.ask c.args.now (writing_as c.args.writing) s (named_laid_out tracks target c.args.now number s) (named_layout_takes tracks number s) in
-    let shown : AreShownAs c.keep_place.new.self s = subst (λ b. AreShownAs b s) (sym c.keep_place.ensures) inside.1 in
+    let shown : AreShownAs c.note_place.new.self s = subst (λ b. AreShownAs b s) (sym c.note_place.ensures) inside.1 in
     (s, (inside.0, shown, inside.2), drew_none (board (board_bars tracks) board_id) old d s.lists (Ok Limited) s refl refl (outcome-unasked target d (sym c.is_no.ensures ∙ c.if-is_no.true)))
 
 pub returns-clause-drew : goal.returns-clause-drew
 unfolding IsIn
 returns-clause-drew g c = λ board_id takes s number inside placed.
-    let shown : AreShownAs c.keep_place.new.self s = subst (λ b. AreShownAs b s) (sym c.keep_place.ensures) inside.1 in
+    let shown : AreShownAs c.note_place.new.self s = subst (λ b. AreShownAs b s) (sym c.note_place.ensures) inside.1 in
     let d = c.draw_on.ensures.drew board_id takes s number (sym c.is_no.ensures ∙ c.if-is_no.false) shown placed inside.2 in
     (d.0, (inside.0, d.1, d.2), d.3)
 
 pub returns-then-is_no-clause-slots : goal.returns-then-is_no-clause-slots
-returns-then-is_no-clause-slots g c = subst (λ b. LeavesHead c.args.self.now.shown.table b.table) (sym c.keep_place.ensures) (none_left c.args.self.now.shown.table)
+returns-then-is_no-clause-slots g c = subst (λ b. LeavesHead c.args.self.now.shown.table b.table) (sym c.note_place.ensures) (none_left c.args.self.now.shown.table)

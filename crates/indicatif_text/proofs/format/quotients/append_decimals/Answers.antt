@@ -46,11 +46,11 @@ append_digit-requires-2-clause-digit c =
     let place = c.loop-place.place in
     let i = c.loop-place.invariant in
     let digit = c.next_digit-last.result in
-    let kept : c.args.rounded.kept ≡ place + 1 = omega (arith, c.requires.some, c.loop-place-test.false, c.loop-place.auto.place-end) in
+    let shown : c.args.rounded.shown ≡ place + 1 = omega (arith, c.requires.some, c.loop-place-test.false, c.loop-place.auto.place-end) in
     let next : below num den (place + 1) ≡ below num den place * 10 + digit =
     below_next num den place c.requires.den ∙ sym (ap (λ d. below num den place * 10 + d) (rw (i.rest_is, i.den_is) at c.next_digit-last.ensures.digit)) in
     elim c.if-rounded.branch [
-      | then-rounded w ↦ omega (arith, w.append_digit-is, last_low num den c.args.rounded.kept place digit kept next c.next_digit-last.ensures.small (c.requires.no_carry w.if-rounded.true))
+      | then-rounded w ↦ omega (arith, w.append_digit-is, last_low num den c.args.rounded.shown place digit shown next c.next_digit-last.ensures.small (c.requires.no_carry w.if-rounded.true))
       | else-rounded w ↦ omega (arith, w.append_digit-is, c.next_digit-last.ensures.small)
     ]
 
@@ -67,15 +67,15 @@ returns c =
     let i = c.loop-place.invariant in
     let digit = c.next_digit-last.result in
     let up = c.args.rounded.up in
-    let kept : c.args.rounded.kept ≡ place + 1 = omega (arith, c.requires.some, c.loop-place-test.false, c.loop-place.auto.place-end) in
+    let shown : c.args.rounded.shown ≡ place + 1 = omega (arith, c.requires.some, c.loop-place-test.false, c.loop-place.auto.place-end) in
     let next : below num den (place + 1) ≡ below num den place * 10 + digit =
     below_next num den place c.requires.den ∙ sym (ap (λ d. below num den place * 10 + d) (rw (i.rest_is, i.den_is) at c.next_digit-last.ensures.digit)) in
-    let low : up ≡ true → digit < 9 = λ on. last_low num den c.args.rounded.kept place digit kept next c.next_digit-last.ensures.small (c.requires.no_carry on) in
+    let low : up ≡ true → digit < 9 = λ on. last_low num den c.args.rounded.shown place digit shown next c.next_digit-last.ensures.small (c.requires.no_carry on) in
     let is : c.if-rounded.append_digit ≡ raised up digit = elim c.if-rounded.branch [
       | then-rounded w ↦ w.append_digit-is ∙ ap (λ b. raised b digit) (sym w.if-rounded.true)
       | else-rounded w ↦ w.append_digit-is ∙ ap (λ b. raised b digit) (sym w.if-rounded.false)
     ] in
-    let last = last_raised up place c.args.rounded.kept (below num den place) (below num den (place + 1)) digit c.if-rounded.append_digit kept next c.next_digit-last.ensures.small is low in
+    let last = last_raised up place c.args.rounded.shown (below num den place) (below num den (place + 1)) digit c.if-rounded.append_digit shown next c.next_digit-last.ensures.small is low in
     c.append_digit-2.ensures.bytes ∙ ap (λ x. x ++ ((48 + c.if-rounded.append_digit) ∷ [])) i.bytes_are
     ∙ append_assoc (string_bytes c.args.out.now) (last_digits place (below num den place)) ((48 + c.if-rounded.append_digit) ∷ [])
-    ∙ ap (λ x. string_bytes c.args.out.now ++ x) (last ∙ ap (λ k. last_digits c.args.rounded.kept (raised up (below num den k))) (sym kept))
+    ∙ ap (λ x. string_bytes c.args.out.now ++ x) (last ∙ ap (λ k. last_digits c.args.rounded.shown (raised up (below num den k))) (sym shown))

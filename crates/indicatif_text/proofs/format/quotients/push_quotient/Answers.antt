@@ -13,9 +13,9 @@ prepend_wide_count-requires c =
 pub returns-in_err-reserve-clause-full : goal.returns-in_err-reserve-clause-full
 returns-in_err-reserve-clause-full c =
     let rounded = c.of-rounded.result in
-    let decimals = last_digits rounded.kept (raised rounded.up (below c.args.quotient.num c.args.quotient.den rounded.kept)) in
-    let many : length decimals ≡ rounded.kept = length-last_digits rounded.kept _ in
-    let some : 0 < rounded.kept = omega (arith, c.if-kept-eq0.false) in
+    let decimals = last_digits rounded.shown (raised rounded.up (below c.args.quotient.num c.args.quotient.den rounded.shown)) in
+    let many : length decimals ≡ rounded.shown = length-last_digits rounded.shown _ in
+    let some : 0 < rounded.shown = omega (arith, c.if-shown-eq0.false) in
     let len : length (human_float_count c.args.quotient.num c.args.quotient.den c.args.decimals) ≡ length (human_count rounded.whole) + (1 + length decimals) =
     ap length c.of-rounded.ensures.text ∙ length-with_point (human_count rounded.whole) decimals (omega (arith, many, some)) in
     let whole : length (human_count rounded.whole) ≡ length c.as_str-2.result.now =

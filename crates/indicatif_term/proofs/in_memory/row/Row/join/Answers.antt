@@ -14,8 +14,8 @@ returns-then-at-len-clause-joined c =
     let within : c.args.at ≤ r.columns = omega (arith, c.requires, ap length c.self.view_is, length_shown r.columns r.marks.items r.cells.items c.self.invariant.within) in
     nothing_joined_shown r.columns c.args.at c.args.mark r.marks.items r.cells.items c.args.self.now far within c.self.view_is
 
-pub join_before-requires-clause-keeps : goal.join_before-requires-clause-keeps
-join_before-requires-clause-keeps c = keeps_again c.self.inside.marks.items _ c.self.inside.cells.items c.deref_mut.result.now c.self.invariant.keeps refl c.deref_mut.ensures.value
+pub join_before-requires-clause-leaves : goal.join_before-requires-clause-leaves
+join_before-requires-clause-leaves c = keeps_again c.self.inside.marks.items _ c.self.inside.cells.items c.deref_mut.result.now c.self.invariant.leaves refl c.deref_mut.ensures.value
 
 -- the cells that were lent, put back
 back_err : (c : goal.After-from_residual) → (with_items c.self.inside.cells c.join_before.new.cells).items ≡ c.join_before.new.cells
@@ -31,7 +31,7 @@ back_ok c =
 pub invariant_of-self : goal.invariant_of-self
 invariant_of-self c = record {
   within = omega (arith, ap length (back_err c), c.join_before.auto.cells, ap length c.deref_mut.ensures.value, c.self.invariant.within);
-  keeps = keeps_again c.join_before.new.marks.items _ c.join_before.new.cells _ c.join_before.ensures.keeps refl (back_err c);
+  leaves = keeps_again c.join_before.new.marks.items _ c.join_before.new.cells _ c.join_before.ensures.leaves refl (back_err c);
 }
 
 pub returns-in_err-join_before-clause-err : goal.returns-in_err-join_before-clause-err
@@ -44,7 +44,7 @@ returns-in_err-join_before-clause-err c =
 pub invariant_of-self-2 : goal.invariant_of-self-2
 invariant_of-self-2 c = record {
   within = omega (arith, ap length (back_ok c), c.join_before.auto.cells, ap length c.deref_mut.ensures.value, c.self.invariant.within);
-  keeps = keeps_again c.join_before.new.marks.items _ c.join_before.new.cells _ c.join_before.ensures.keeps refl (back_ok c);
+  leaves = keeps_again c.join_before.new.marks.items _ c.join_before.new.cells _ c.join_before.ensures.leaves refl (back_ok c);
 }
 
 pub returns-clause-joined : goal.returns-clause-joined

@@ -27,7 +27,7 @@ appended c =
 pub invariant_of-self : goal.invariant_of-self
 invariant_of-self c = record {
   within = omega (arith, ap length c.in_err-push.ensures.items, c.self.invariant.within);
-  keeps = keeps_again c.self.inside.marks.items _ c.self.inside.cells.items _ c.self.invariant.keeps refl c.in_err-push.ensures.items;
+  leaves = keeps_again c.self.inside.marks.items _ c.self.inside.cells.items _ c.self.invariant.leaves refl c.in_err-push.ensures.items;
 }
 
 pub invariant_of-self-then-at-len : goal.invariant_of-self-then-at-len
@@ -36,7 +36,7 @@ invariant_of-self-then-at-len c =
     let fits : c.args.at + c.args.columns ≤ r.columns = omega (arith, c.requires.fits, ap length c.self.view_is, length_shown r.columns r.marks.items r.cells.items c.self.invariant.within) in
     record {
       within = omega (arith, ap length (more c), length-append r.cells.items (Written (record { base = c.args.c; marks = [] }) ∷ []), c.if-at-len.true, c.len.ensures, c.if-columns-eq1.true);
-      keeps = keeps_written r.columns c.args.at c.args.c c.args.columns r.marks.items r.cells.items _ c.self.invariant.keeps (appended c);
+      leaves = keeps_written r.columns c.args.at c.args.c c.args.columns r.marks.items r.cells.items _ c.self.invariant.leaves (appended c);
     }
 
 pub returns-then-at-len-clause-written : goal.returns-then-at-len-clause-written
@@ -52,7 +52,7 @@ invariant_of-self-in_err-lengthen c =
     let fits : c.args.at + c.args.columns ≤ r.columns = omega (arith, c.requires.fits, ap length c.self.view_is, length_shown r.columns r.marks.items r.cells.items c.self.invariant.within) in
     record {
       within = omega (arith, c.lengthen.ensures.within, c.self.invariant.within);
-      keeps = keeps_same r.columns r.marks.items r.cells.items _ c.self.invariant.keeps (c.lengthen.ensures.same r.columns fits c.self.invariant.within);
+      leaves = keeps_same r.columns r.marks.items r.cells.items _ c.self.invariant.leaves (c.lengthen.ensures.same r.columns fits c.self.invariant.within);
     }
 
 back : (c : goal.After-self-1) → (with_items c.lengthen.new.cells c.overwrite.new.cells).items ≡ c.overwrite.new.cells
@@ -91,7 +91,7 @@ invariant_of-self-2 c =
     omega (arith, ap length (back c), c.overwrite.auto.cells, c.empty_on.auto.cells, c.empty_before.auto.cells, ap length lent.value) in
     record {
       within = omega (arith, room c, same, c.lengthen.ensures.within, c.self.invariant.within);
-      keeps = keeps_written r.columns c.args.at c.args.c c.args.columns r.marks.items r.cells.items _ c.self.invariant.keeps (over c);
+      leaves = keeps_written r.columns c.args.at c.args.c c.args.columns r.marks.items r.cells.items _ c.self.invariant.leaves (over c);
     }
 
 pub returns-clause-written : goal.returns-clause-written

@@ -11,7 +11,7 @@ use Rattle.indicatif_term.proofs.in_memory.row.Row.write_run.Goals as goal
 pub invariant_of-self : goal.invariant_of-self
 invariant_of-self c = record {
   within = omega (arith, ap length c.in_err-append_to.ensures.err, c.self.invariant.within);
-  keeps = keeps_again c.self.inside.marks.items _ c.self.inside.cells.items _ c.self.invariant.keeps refl c.in_err-append_to.ensures.err;
+  leaves = keeps_again c.self.inside.marks.items _ c.self.inside.cells.items _ c.self.invariant.leaves refl c.in_err-append_to.ensures.err;
 }
 
 appended : (c : goal.After-len-then-at-len) → whole_row c.self.inside.columns c.append_to.new.cells.items
@@ -39,7 +39,7 @@ invariant_of-self-then-at-len c =
         ap length c.self.view_is,
         length_shown r.columns r.marks.items r.cells.items c.self.invariant.within,
       );
-      keeps = keeps_cells r.columns c.args.at r.marks.items (narrow_cells run) r.cells.items _ (λ m. narrow_shown m run) c.self.invariant.keeps (appended c);
+      leaves = keeps_cells r.columns c.args.at r.marks.items (narrow_cells run) r.cells.items _ (λ m. narrow_shown m run) c.self.invariant.leaves (appended c);
     }
 
 pub returns-then-at-len-clause-written : goal.returns-then-at-len-clause-written

@@ -1,7 +1,7 @@
 use Rattle.std.specs.Fn.{FnReturnsAt}
 use Rattle.std.proofs.lemmas.List.Elements.{All-push, All-same}
 use Rattle.indicatif.specs.Inside.ListPieces.{IsPiece}
-use Rattle.indicatif.proofs.parallel.answers.kept_up_pieces.Goals as goal
+use Rattle.indicatif.proofs.parallel.answers.pieces_in_order.Goals as goal
 
 pub loop-preserved : goal.loop-preserved
 loop-preserved g c =
@@ -9,6 +9,6 @@ loop-preserved g c =
     let is = rw c.in_ok-at.was at c.at.ensures in
     let more = rw c.in_ok-push.was at c.push.ensures.items in (
       All-same Q _ _ more (All-push Q _ _ c.loop.invariant.0 is),
-      (λ start before. c.keep_up.ensures.goes start (c.loop.invariant.1 start before)),
-      c.keep_up.ensures.within c.loop.invariant.2,
+      (λ start before. c.follow_part.ensures.goes start (c.loop.invariant.1 start before)),
+      c.follow_part.ensures.within c.loop.invariant.2,
     )

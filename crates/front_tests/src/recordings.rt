@@ -8,7 +8,7 @@ use std::alloc::Global;
 use std::sync::Wait;
 
 /// A board that keeps its history.
-pub type Kept = Recorded<NoTracker, InMemoryTerm>;
+pub type Recording = Recorded<NoTracker, InMemoryTerm>;
 
 /// A kind of calls.
 #[derive(Clone, Copy, Drop)]
@@ -44,9 +44,9 @@ fn is_ticker(command: &BarCommand<NoTracker>, kind: Kind<'_>) -> bool {
 impl<'a> RecordReader<InMemoryTerm, NoTracker> for Kind<'a> {
     type Found = u64;
 
-    fn read(self, record: Option<&Kept>) -> u64 {
+    fn read(self, record: Option<&Recording>) -> u64 {
         match record {
-            Some(kept) => count(kept.entries(), self),
+            Some(recorded) => count(recorded.entries(), self),
             None => 0,
         }
     }
@@ -103,21 +103,21 @@ struct RunsAgain {
 impl RecordReader<InMemoryTerm, NoTracker> for RunsAgain {
     type Found = bool;
 
-    fn read(self, record: Option<&Kept>) -> bool {
+    fn read(self, record: Option<&Recording>) -> bool {
         match record {
-            Some(kept) => is_replayed(self.alloc, kept) == Ok(true),
+            Some(recorded) => is_replayed(self.alloc, recorded) == Ok(true),
             None => false,
         }
     }
 }
 
-fn is_replayed(alloc: Global, kept: &Kept) -> Result<bool, Refusal> {
-    let board = Board::new(alloc, target(alloc)?, kept.opening().board_id);
+fn is_replayed(alloc: Global, recorded: &Recording) -> Result<bool, Refusal> {
+    let board = Board::new(alloc, target(alloc)?, recorded.opening().board_id);
     let mut fresh = Box::new(alloc, board)?;
-    if !answers_so(&mut fresh, alloc, kept.entries())? {
+    if !answers_so(&mut fresh, alloc, recorded.entries())? {
         return Ok(false);
     }
-    same_rows(fresh.term(), kept.board().term())
+    same_rows(fresh.term(), recorded.board().term())
 }
 
 /// Whether what a board has kept is one run: a fresh board that makes those calls gives the same answers, and shows the same.

@@ -1,5 +1,5 @@
 use Rattle.std.proofs.Common.{length}
-use Rattle.indicatif_term.proofs.spare.Spare.keep_new.Given as goal
+use Rattle.indicatif_term.proofs.spare.Spare.store_new.Given as goal
 
 abbrev pub invariant-loop-line : goal.invariant-loop-line
 invariant-loop-line l = Unit {0}

@@ -2,7 +2,7 @@ use Rattle.std.proofs.Common.{◌≤◌, All}
 use Rattle.std.specs.Fn.{FnReturnsAt}
 use Rattle.indicatif.specs.Inside.Courses.{GoesOn}
 use Rattle.indicatif.specs.Inside.ListPieces.{IsPiece}
-use Rattle.indicatif.proofs.parallel.answers.kept_up_pieces.Given as goal
+use Rattle.indicatif.proofs.parallel.answers.pieces_in_order.Given as goal
 
 abbrev pub invariant-loop : goal.invariant-loop
 invariant-loop g l =

@@ -1,5 +1,5 @@
 use Rattle.indicatif_board.proofs.LeavingLemmas.{slot_behind_head, slot_beside_gone, slot_around_new}
-use Rattle.indicatif_board.proofs.laws.each_bar_keeps_its_slot.Goals as goal
+use Rattle.indicatif_board.proofs.laws.each_bar_stays_in_its_slot.Goals as goal
 
 pub returns-clause-head : goal.returns-clause-head
 returns-clause-head c = slot_behind_head
