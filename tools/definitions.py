@@ -74,8 +74,8 @@ SOURCES = {
         "Standing": (OWN, {}),
         "Targets": (CRATE, {OWN: "term_of limiter_of term_behind"}),
         "Terminal": (OWN + ", above all what is passed over",
-                     {SEQUENCES: "is_digit number_with at_least_one sequence_ops",
-                      UNICODE: "is_leading spelling_with left_over first_char"}),
+                     {SEQUENCES: "is_digit number_with sequence_ops",
+                      UNICODE: "is_leading spelling_with first_char"}),
         "Writers": (OWN, {}),
     },
     "indicatif_bar": {

@@ -52,8 +52,7 @@ pub record Draw (State : Type 0) : Type 0 where
   pub written : State
   pub broken : State
 
--- a call answers at once, and may take memory; or it draws: `ends` makes the last state of the one that the draw's answer leads
--- to, `breaks` of the one in which want of memory or the terminal's failure leaves it
+-- a call answers at once, and may take memory; or it draws: `ends` makes the last state after the draw's answer, `breaks` after want of memory or the terminal's failure
 pub data Deed (State Answer : Type 0) : Type 0 where
   AtOnce : (takes : Bool) → (answer : Answer) → (next : State) → Deed State Answer
   Draws : (draw : Draw State) → (ends breaks : State → State) → Deed State Answer
@@ -81,28 +80,13 @@ drawn_by target d =
     else if list_any (has_wide target.columns) d.lines then (Err TooWide, d.ready)
     else (Ok Yes, d.written)
 
+-- ---- whatever the terminal and the memory do
+
 -- whether a draw comes as far as its lines
 abbrev pub comes_to_lines : {State : Type 0} → Target → Draw State → Bool
 comes_to_lines target d = not (is_no d.ask) && not target.hidden && not (target.columns == 0)
 
-module _ {State Call Answer : Type 0} (m : Machine State Call Answer) where
-  -- the same of a call
-  abbrev pub done_by : Target → Deed State Answer → Answer × State
-  done_by target (AtOnce takes answer next) = (answer, next)
-  done_by target (Draws d ends breaks) = let o = drawn_by target d in (m.says o.0, ends o.1)
-
-  -- of calls with their moments, one after another: the answers and the last state
-  abbrev pub outcomes : Target → List (Call × ℕ) → State → List Answer × State
-  outcomes target [] s = ([], s)
-  outcomes target (call ∷ calls) s =
-      let first = done_by target (m.deed target call.0 call.1 s) in
-      let others = outcomes target calls first.1 in
-      (first.0 ∷ others.0, others.1)
-
--- ---- whatever the terminal and the memory do
-
--- memory is refused to a call in state s, at a step that takes some: before its numbers change; as its lines are laid out; or,
--- once the limiter has allowed it, as its rows are planned. The next state is the one before that step
+-- memory is refused at a step that takes some: before the numbers change, as lines are laid out, or, once the limiter allowed it, as rows are planned; the next state is that before the step
 abbrev pub IsOutOfMemory : {State Answer : Type 0} → Target → State → Deed State Answer → State → Type 0
 IsOutOfMemory target s (AtOnce takes answer after) next = IsTrue takes × (next ≡ s)
 IsOutOfMemory target s (Draws d ends breaks) next =
@@ -114,10 +98,25 @@ abbrev pub IsBroken : {State Answer : Type 0} → Target → Deed State Answer �
 IsBroken target (AtOnce takes answer after) next = ⊥
 IsBroken target (Draws d ends breaks) next = ((drawn_by target d).0 ≡ Ok Yes) × (next ≡ breaks d.broken)
 
+-- ---- what a call leads to
+
 module _ {State Call Answer : Type 0} (m : Machine State Call Answer) where
-  -- a call answers so and leads to the next state: as where nothing fails, or else by one of these
+  -- the answer of a call, and the state then, where nothing fails
+  abbrev pub done_by : Target → Deed State Answer → Answer × State
+  done_by target (AtOnce takes answer next) = (answer, next)
+  done_by target (Draws d ends breaks) = let o = drawn_by target d in (m.says o.0, ends o.1)
+
+  -- a call answers so and leads to the next state: as where nothing fails; or memory is refused to it; or the terminal fails
   abbrev pub Leads : Target → State → Deed State Answer → Answer → State → Type 0
   Leads target s deed answer next =
-      ((answer, next) ≡ done_by m target deed)
+      ((answer, next) ≡ done_by target deed)
       ⊎ (((answer ≡ m.says (Err Memory)) × IsOutOfMemory target s deed next)
       ⊎ ((kind : ErrorKind) × (answer ≡ m.says (Err (Failure kind))) × IsBroken target deed next))
+
+  -- of calls with their moments, one after another: the answers and the last state
+  abbrev pub outcomes : Target → List (Call × ℕ) → State → List Answer × State
+  outcomes target [] s = ([], s)
+  outcomes target (call ∷ calls) s =
+      let first = done_by target (m.deed target call.0 call.1 s) in
+      let others = outcomes target calls first.1 in
+      (first.0 ∷ others.0, others.1)

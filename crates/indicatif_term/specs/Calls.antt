@@ -49,9 +49,8 @@ pub data Told : Type 0 where
 
 -- whether it tells anything
 abbrev pub is_told : Told → Bool
-is_told (State t) = true
-is_told (Bytes bytes) = true
 is_told Nothing = false
+is_told _ = true
 
 -- what it tells after these bytes
 abbrev pub led_on : Told → List ℕ → Told
@@ -59,8 +58,7 @@ led_on (State t) bytes = State (after t bytes)
 led_on (Bytes old) bytes = Bytes (old ++ bytes)
 led_on Nothing bytes = Nothing
 
--- what contracts see of a terminal: what it tells, its size, how often a call has failed, modulo 2^64, and of what kind the last
--- failure was
+-- what contracts see of a terminal: what it tells, its size, how often a call has failed, modulo 2^64, and of what kind the last failure was
 pub record TermView : Type 0 where
   pub told : Told
   pub columns : ℕ

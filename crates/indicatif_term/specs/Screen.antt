@@ -40,15 +40,13 @@ blank_screen rows columns = record { columns = columns; height = rows; rows = re
 -- whether a cell continues a wide glyph
 abbrev pub is_continued : Cell → Bool
 is_continued Continued = true
-is_continued Blank = false
-is_continued (Written g) = false
+is_continued _ = false
 
 -- blanks in the place of the continued cells at the front
 abbrev pub emptied_front : List Cell → List Cell
 emptied_front [] = []
 emptied_front (Continued ∷ cs) = Blank ∷ emptied_front cs
-emptied_front (Blank ∷ cs) = Blank ∷ cs
-emptied_front (Written g ∷ cs) = Written g ∷ cs
+emptied_front (c ∷ cs) = c ∷ cs
 
 -- the same and in the place of the glyph after them
 abbrev pub emptied_glyph : List Cell → List Cell
@@ -73,10 +71,9 @@ with_mark c g = record g { marks = g.marks ++ c ∷ [] }
 
 -- the mark joined to the glyph at the end of the cells, read from their end, if they end with one
 abbrev pub joined_back : ℕ → List Cell → List Cell
-joined_back c [] = []
 joined_back c (Continued ∷ cs) = Continued ∷ joined_back c cs
 joined_back c (Written g ∷ cs) = Written (with_mark c g) ∷ cs
-joined_back c (Blank ∷ cs) = Blank ∷ cs
+joined_back c cells = cells
 
 -- the row with the mark joined to the glyph that ends at column n
 abbrev pub joined_at : ℕ → ℕ → List Cell → List Cell

@@ -27,20 +27,16 @@ abbrev pub number_with : Option ℕ → ℕ → Option ℕ
 number_with None c = None
 number_with (Some n) c = if is_digit c then Some (min (10 * n + (c - 0x30)) GREATEST) else None
 
--- a count, where a missing one or 0 counts as 1
-abbrev pub at_least_one : ℕ → ℕ
-at_least_one n = if n == 0 then 1 else n
-
--- what the sequence with this number and this last character asks for
+-- what the sequence with this number and this last character asks for; in a move a missing number or 0 counts as 1
 abbrev pub sequence_ops : Option ℕ → ℕ → List Op
 sequence_ops None c = []
 sequence_ops (Some n) c =
-    if c == 0x41 then Up (at_least_one n) ∷ []
-    else if c == 0x42 then Down (at_least_one n) ∷ []
-    else if c == 0x43 then Right (at_least_one n) ∷ []
-    else if c == 0x44 then Left (at_least_one n) ∷ []
-    else if (c == 0x4B) && (n == 2) then EmptyRow ∷ []
-    else []
+    let count = if n == 0 then 1 else n in
+    if c == 0x41 then Up count ∷ []
+    else if c == 0x42 then Down count ∷ []
+    else if c == 0x43 then Right count ∷ []
+    else if c == 0x44 then Left count ∷ []
+    else if (c == 0x4B) && (n == 2) then EmptyRow ∷ [] else []
 
 -- a character outside a sequence: what it asks for, and where the next one stands
 abbrev pub plain_ops : ℕ → List Op
@@ -82,10 +78,6 @@ is_leading b = nat_lt b 0x80 || nat_le 0xC0 b
 abbrev pub spelling_with : List ℕ → ℕ → List ℕ
 spelling_with spelling b = (if is_leading b then [] else spelling) ++ b ∷ []
 
--- what is left of bytes that spell no character: nothing once they are four, as many as a character has
-abbrev pub left_over : List ℕ → List ℕ
-left_over bytes = if nat_lt (length bytes) 4 then bytes else []
-
 -- the character that bytes spell
 abbrev pub first_char : List ℕ → ℕ
 first_char bytes = slice_index (chars bytes) 0
@@ -96,12 +88,12 @@ byte_ops r b =
     let bytes = spelling_with r.spelling b in
     if is_utf8 bytes then char_ops r.place (first_char bytes) else []
 
--- the reader after a byte
+-- the reader after a byte; of bytes that spell no character nothing is left once they are four, as many as a character has
 abbrev pub byte_reader : Reader → ℕ → Reader
 byte_reader r b =
     let bytes = spelling_with r.spelling b in
     if is_utf8 bytes then record { place = char_place r.place (first_char bytes); spelling = [] }
-    else record { place = r.place; spelling = left_over bytes }
+    else record { place = r.place; spelling = if nat_lt (length bytes) 4 then bytes else [] }
 
 -- what bytes ask for, and the reader after them
 abbrev pub ops_of : Reader → List ℕ → List Op

@@ -1,7 +1,7 @@
 //! The bytes of a character that isn't whole.
-ghost use Rattle.std.specs.Prelude.{◌≡◌, ◌<◌, [], if◌then◌else◌, length, IsTrue, Some, None};
+ghost use Rattle.std.specs.Prelude.{◌≡◌, ◌<◌, [], if◌then◌else◌, length, nat_lt, IsTrue, Some, None};
 ghost use Rattle.std.specs.Str.{is_utf8};
-ghost use Rattle.indicatif_term.specs.Terminal.{is_leading, spelling_with, first_char, left_over};
+ghost use Rattle.indicatif_term.specs.Terminal.{is_leading, spelling_with, first_char};
 
 use std::marker::Model;
 use std::str;
@@ -69,7 +69,7 @@ impl Spelling {
 
     /// What is left of bytes that spell no character: nothing once they are four.
     pub(crate) fn left_over(self) -> Spelling
-        ensures left_over { result ≡ left_over self }
+        ensures left_over { result ≡ (if nat_lt (length self) 4 then self else []) }
         ensures short { length result < 4 }
     {
         if self.len < 4 {
