@@ -48,7 +48,7 @@ opening_board limiter = record { members = []; made = 0; bottom = false; limiter
 
 -- a bar by its board's id and its number there
 pub record Id : Type 0 where
-  pub board_id : ℕ
+  pub board : ℕ
   pub number : ℕ
 
 -- where a bar is to stand

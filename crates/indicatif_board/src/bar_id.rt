@@ -9,7 +9,7 @@
 #[derive(Clone, Copy, Debug, Drop, PartialEq, Eq)]
 pub struct BarId {
     /// The board's id.
-    pub board_id: u64,
+    pub board: u64,
     /// The bar's number, counted from 0 as bars were taken in.
     pub number: u64,
 }

@@ -588,7 +588,7 @@ impl<K: Tracks, T: TermLike + Drop> Board<K, T> {
             },
             Candidate::New(bar) => match self.shown.take_in(at, bar) {
                 Ok(number) => {
-                    let board_id = self.board_id;
+                    let board = self.board_id;
                     Ok(BarId { board, number })
                 }
                 Err(bar) => {
