@@ -47,11 +47,11 @@ fn board_of(board: &Recording) -> &Board<NoTracker, Behind> {
     board.board()
 }
 
-/// `order`; `recorded`, how many calls the history has; or a reading of a bar. Whether the step asks for one of these.
+/// `order`; `entries`, how many calls the history has; or a reading of a bar. Whether the step asks for one of these.
 fn look(board: &Recording, step: &str, now: Moment, got: &mut Got) -> Result<bool, Bad> {
     match step {
         "order" => got.numbers(board_of(board).order()),
-        "recorded" => got.number(board.entries().len()),
+        "entries" => got.number(board.entries().len()),
         _ => return look_at_bar(board_of(board), step, now, got),
     }
     Ok(true)
