@@ -1,8 +1,9 @@
 -- How often a run draws that asks a limiter.
-use Rattle.std.proofs.Common.{◌≡◌, ℕ, ◌-◌, ◌*◌, ◌/◌, ◌<◌, ◌≤◌, ◌⊎◌, inl, inr, Bool, true, false, ◌&&◌, List, [], ◌∷◌, length, refl, sym, ◌∙◌, ap, subst, arith, Result, Ok, Err, Option, Some, None, if◌then◌else◌}
+use Rattle.std.proofs.Common.{◌≡◌, ℕ, ◌+◌, ◌-◌, ◌%◌, min, ◌*◌, ◌/◌, ◌<◌, ◌≤◌, ◌⊎◌, inl, inr, Bool, true, false, ◌&&◌, List, [], ◌∷◌, length, refl, sym, ◌∙◌, ap, subst, arith, Result, Ok, Err, Option, Some, None, if◌then◌else◌}
 use Rattle.std.specs.Prelude.{not, ◌==◌}
 use Rattle.std.proofs.lemmas.Bool.{cond_both, false≢true}
 use Rattle.std.proofs.lemmas.Nat.{le-div}
+use Rattle.std.proofs.Math.Nat.{mul-le-mul_right, mod-add-div', min-le_right}
 use Rattle.indicatif_text.specs.declared.refusal.Refusal.{Refusal}
 use Rattle.indicatif_text.specs.declared.refusal.Refusal.TheVariants.{NoColumns, TooWide, Memory, Terminal as Failure}
 use Rattle.indicatif_text.specs.declared.refusal.Drawn.{Drawn}
@@ -17,7 +18,7 @@ use Rattle.indicatif_bar.specs.Machines.{Target, target_of, Machine, Draw, Deed,
 use Rattle.indicatif_bar.specs.Kinds.{Kind, asked_of}
 use Rattle.indicatif_bar.specs.Runs.{Runs, deed_on}
 use Rattle.indicatif_bar.specs.Lone.{LoneState, lone, refused_at_once, draw_of_call, deed_unless}
-use Rattle.indicatif_bar.specs.Bounds.{AsksLimiter, DeedAsks, IsLimited, is_unforced, is_yes, drew_unforced, unforced_draws, RunsAreBounded, RunsAreBoundedFrom}
+use Rattle.indicatif_bar.specs.Bounds.{AsksLimiter, DeedAsks, IsLimited, Spent, SpendingsAddUp, is_unforced, is_yes, drew_unforced, unforced_draws, RunsAreBounded, RunsAreBoundedFrom, RunsSpend}
 
 and-false : (a b : Bool) → b ≡ false → (a && b) ≡ false
 and-false true b e = e
@@ -130,6 +131,74 @@ module _ {S C A : Type 0} (m : Machine S C A) (limiter : S → Option Limiter) (
 
   pub runs_bounded_from : RunsAreBoundedFrom m limiter
   runs_bounded_from l positive calls answers old s new next run is = run_claims calls answers old s new next run l positive is
+
+-- ---- what draws spend
+
+right_distrib : (a b k : ℕ) → (a + b) * k ≡ a * k + b * k
+right_distrib a b k = grind arith
+
+-- a draw that the limiter allows
+used_spends : (l : Limiter) (now : ℕ) → 0 < l.interval → l.prev ≤ now → (0 < l.capacity) ⊎ (l.interval ≤ now - l.prev) → Spent l (used l (now - l.prev) now) 1
+used_spends l now positive later leaves =
+    let q = (now - l.prev) / l.interval in
+    let some : 1 ≤ l.capacity + (now - l.prev) / l.interval = elim leaves as (λ o. 1 ≤ l.capacity + (now - l.prev) / l.interval) [
+      | inl h ↦ omega (arith, h)
+      | inr h ↦ let one : 1 ≤ (now - l.prev) / l.interval = le-div 1 (now - l.prev) l.interval positive (omega (arith, h)) in omega (arith, one)
+    ] in
+    let hand = min l.most (l.capacity + q - 1) in
+    let fewer : 1 + hand ≤ l.capacity + q = omega (arith, some, min-le_right l.most (l.capacity + q - 1)) in
+    let all : 1 * l.interval + hand * l.interval ≤ (l.capacity + q) * l.interval = subst (λ x. x ≤ (l.capacity + q) * l.interval) (right_distrib 1 hand l.interval) (mul-le-mul_right l.interval fewer) in
+    let paid : 1 * l.interval + hand * l.interval ≤ l.capacity * l.interval + q * l.interval = subst (λ x. 1 * l.interval + hand * l.interval ≤ x) (right_distrib l.capacity q l.interval) all in
+    let on : now - (now - l.prev) % l.interval ≡ l.prev + q * l.interval = omega (arith, mod-add-div' (now - l.prev) l.interval, later) in
+    record { interval = refl; goes_on = omega (arith, on); paid = omega (arith, on, paid) }
+
+pub spendings_add_up : SpendingsAddUp
+spendings_add_up l k l' n m a b =
+    let paid : m * l.interval + l'.capacity * l.interval ≤ k.capacity * l.interval + (l'.prev - k.prev) =
+    subst (λ i. m * i + l'.capacity * i ≤ k.capacity * i + (l'.prev - k.prev)) a.interval b.paid in
+    record {
+      interval = b.interval ∙ a.interval;
+      goes_on = omega (arith, a.goes_on, b.goes_on);
+      paid = omega (arith, right_distrib n m l.interval, a.paid, paid, a.goes_on, b.goes_on);
+    }
+
+pub spent_none : (l : Limiter) → Spent l l 0
+spent_none l = record { interval = refl; goes_on = omega arith; paid = omega arith }
+
+-- whatever became of the draw itself
+spent_less : (l l' : Limiter) → Spent l l' 1 → Spent l l' 0
+spent_less l l' a = record { interval = a.interval; goes_on = a.goes_on; paid = omega (arith, a.paid) }
+
+-- the draws with one more at the front, where it is
+count_front : (drew : Bool) (now : ℕ) (others : List ℕ) → length (if drew then now ∷ others else others) ≡ (if drew then 1 else 0) + length others
+count_front true now others = omega arith
+count_front false now others = omega arith
+
+module _ {S C A : Type 0} (m : Machine S C A) (limiter : S → Option Limiter) (limited : IsLimited m limiter) where
+  spends_step : (l : Limiter) (now : ℕ) (next : S) (drew : Bool) → 0 < l.interval → LimiterStep m limiter l now next drew →
+      (k : Limiter) × (limiter next ≡ Some k) × Spent l k (if drew then 1 else 0)
+  spends_step l now next drew positive (inl same) = (l, same.0, rw same.1 (spent_none l))
+  spends_step l now next drew positive (inr asked) = elim (answered l now) [
+    | inl y ↦
+        let k = used l (now - l.prev) now in
+        let spent : Spent l k 1 = used_spends l now positive y.0 y.1 in
+        (k, asked.1 ∙ ap (λ o. Some o.1) y.2, cond_both drew 1 0 (Spent l k) (λ t. spent) (λ f. spent_less l k spent))
+    | inr n ↦ absurd (false≢true (sym (ap (λ o. o.0) n) ∙ asked.0))
+  ]
+
+  pub run_spends : RunsSpend m limiter
+  run_spends l positive [] [] old s new next run is = (l, ap limiter run.1 ∙ is, spent_none l)
+  run_spends l positive (call ∷ calls) (answer ∷ answers) old s new next run is =
+      let drew = drew_unforced (deed_on m old call s) (m.tells answer) in
+      let step = spends_step l call.1 run.1 drew positive (call_step m limiter l call.1 (target_of old) s (deed_on m old call s) answer run.1 is (limited (target_of old) call.0 call.1 s) run.2.leads) in
+      let rest = run_spends step.0 (subst (λ i. 0 < i) (sym step.2.interval) positive) calls answers run.0 run.1 new next run.3 step.1 in
+      let others = unforced_draws m calls answers run.0 run.1 new next run.3 in (
+        rest.0,
+        rest.1,
+        subst (Spent l rest.0) (sym (count_front drew call.1 others)) (spendings_add_up l step.0 rest.0 (if drew then 1 else 0) (length others) step.2 rest.2),
+      )
+  run_spends l positive [] (answer ∷ answers) old s new next run is = absurd run
+  run_spends l positive (call ∷ calls) [] old s new next run is = absurd run
 
 -- ---- a lone bar asks its limiter
 

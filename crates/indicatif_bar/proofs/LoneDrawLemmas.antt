@@ -17,7 +17,7 @@ use Rattle.indicatif_bar.specs.Kinds.{Kind, Writing, Frame, TextAndFrame, NoFram
 use Rattle.indicatif_bar.specs.Machines.{target_of, Draw, is_no, Leads}
 use Rattle.indicatif_bar.specs.Runs.{CallMade, wrote, lines_by, deed_on}
 use Rattle.indicatif_bar.specs.Lone.{LoneState, LoneCall, Obey, Log, Clear, lone_frame, draw_asked, draw_of_call, refused_at_once, deed_unless, takes_text, lone}
-use Rattle.indicatif_bar.specs.LoneBars.{LoneIsIn, LoneIsNowhere, lone_bar, LoneLeadsBy, Obeys, ObeysOrNot, RefusesCommand, lone_known, record_of, lone_terminal}
+use Rattle.indicatif_bar.specs.LoneBars.{LoneIsIn, LoneIsNowhere, lone_bar, LoneLeadsBy, Obeys, ObeysOrNot, RefusesCommand, lone_known, lone_moves, record_of, lone_terminal}
 use Rattle.indicatif_bar.specs.Shown.{PutsFrame, DrewBy, DrewOn, WritesLinesOn}
 use Rattle.indicatif_term.specs.declared.lines.Segment.{Segment}
 use Rattle.indicatif_bar.specs.Inside.Writings.{IsLaidOut}
@@ -33,7 +33,7 @@ pub puts_laid : {T : Type 0} (view : T → TermView) (writing : Writing) (lines 
     PutsFrame view writing false 0 (bar_lines segment ∷ []) old new r → PutsFrame view writing false 0 (record { bar = 0; lines = map chars lines } ∷ []) old new r
 puts_laid view Frame lines segment old new r laid p = subst (λ b. PutsFrame view Frame false 0 (b ∷ []) old new r) laid p
 puts_laid view (TextAndFrame text) lines segment old new r laid p = subst (λ b. PutsFrame view (TextAndFrame text) false 0 (b ∷ []) old new r) laid p
-puts_laid view NoFrame lines segment old new r laid p = record { answers = p.answers; memory = p.memory; counted = p.counted; unchanged = p.unchanged; lists = p.lists; paints = p.paints }
+puts_laid view NoFrame lines segment old new r laid p = record { answers = p.answers; memory = p.memory; counted = p.counted; unchanged = p.unchanged; moves = p.moves; lists = p.lists; paints = p.paints }
 
 either_way : (r : Result Unit Refusal) (A B : Type 0) → A → B → MatchResult r (λ _. A) (λ _. B)
 either_way (Ok u) A B a b = a
@@ -133,6 +133,7 @@ module _ {K T : Type 0} (m : Tracking K) (view : T → TermView) (old mid new : 
     pub bar : record_of new ≡ record_of mid
     pub silent : IsFalse (wrote answer) → lone_terminal new ≡ lone_terminal mid
     pub nowhere : LoneIsNowhere view mid → IsFalse (wrote answer)
+    pub moves : lone_moves new ≡ lone_moves mid
     pub drew : (takes : Bool) (s : LoneState (BarRecord K)) → LoneIsIn mid s → (next : LoneState (BarRecord K)) × LoneIsIn new next
         × DrewOn (lone_bar m) (lone_known view mid) (lone_known view new) (draw_asked (bar_kind m) (target_of (lone_known view mid)) takes ask now writing s) s.lists answer next
 
@@ -173,12 +174,13 @@ module _ {K T : Type 0} (m : Tracking K) (view : T → TermView) (old mid new : 
     bar = draws.bar ∙ ap (λ o. o.0) told.as_told;
     silent = λ quiet. draws.silent quiet ∙ ap lone_terminal told.rest;
     nowhere = λ none. draws.nowhere (ap (λ b. (target_of (lone_known view b)).columns) told.rest ∙ none);
+    moves = draws.moves ∙ ap lone_moves told.rest;
     leads = command_leads command ask told draws;
   }
 
   pub obeys_or_not : (command : Command K) (ask : Ask) → IsToldOrNot m old mid command now (Ok ask) → Draws ask Frame → ObeysOrNot m view old new command now answer
   obeys_or_not command ask told draws = let o = obeys command ask (record { as_told = told.as_told.0; in_time = told.as_told.1; rest = told.rest }) draws in
-      record { bar = inl o.bar; silent = o.silent; nowhere = o.nowhere; leads = o.leads }
+      record { bar = inl o.bar; silent = o.silent; nowhere = o.nowhere; moves = o.moves; leads = o.leads }
 
   pub log_leads : (text : List ℕ) → Draws Forced (TextAndFrame (text_lines (logged_lines text))) → LoneLeadsBy m view mid new (Log text) now answer
   log_leads text draws = λ s inside.
@@ -211,5 +213,6 @@ module _ {K T : Type 0} (m : Tracking K) (view : T → TermView) (old : LoneBar 
         bar = inr (e, refl, told.as_told.0, same);
         silent = λ quiet. ap lone_terminal same;
         nowhere = λ none. refused_quietly e told.as_told.0;
+        moves = ap lone_moves same;
         leads = subst (λ b. LoneLeadsBy m view old b (Obey command) now (Err e)) (sym same) (refused_leads e told.as_told.0);
       }

@@ -1,14 +1,14 @@
 -- How often a script draws that asks a limiter.
-use Rattle.std.proofs.Common.{◌≡◌, ℕ, ◌-◌, ◌*◌, ◌/◌, ◌<◌, ◌≤◌, Bool, true, false, List, [], ◌∷◌, ◌++◌, length, refl, sym, ◌∙◌, ap, subst, arith, Option, Some, if◌then◌else◌}
+use Rattle.std.proofs.Common.{◌≡◌, ℕ, ◌-◌, ◌*◌, ◌/◌, ◌<◌, ◌≤◌, Bool, true, false, List, [], ◌∷◌, ◌++◌, length, refl, sym, ◌∙◌, ap, subst, arith, Option, Some, length-append, if◌then◌else◌}
 use Rattle.std.proofs.lemmas.Nat.{le-div}
 use Rattle.indicatif_term.specs.Calls.{TermView}
 use Rattle.indicatif_term.specs.Limiters.{Limiter}
 use Rattle.indicatif_term.proofs.LimiterLemmas.{Claim, counted}
 use Rattle.indicatif_bar.specs.Machines.{target_of, Machine}
 use Rattle.indicatif_bar.specs.Runs.{Runs, deed_on}
-use Rattle.indicatif_bar.specs.Bounds.{IsLimited, drew_unforced, unforced_draws}
-use Rattle.indicatif_bar.specs.Scripts.{Sizing, Part, Called, Size, sized, sized_lists, Plays, unforced_in, ScriptsAreBounded, ScriptsAreBoundedFrom, LeavesLimiter}
-use Rattle.indicatif_bar.proofs.BoundLemmas.{call_step, with_step}
+use Rattle.indicatif_bar.specs.Bounds.{IsLimited, Spent, drew_unforced, unforced_draws}
+use Rattle.indicatif_bar.specs.Scripts.{Sizing, Part, Called, Size, sized, sized_lists, Plays, unforced_in, ScriptsAreBounded, ScriptsAreBoundedFrom, ScriptsSpend, LeavesLimiter}
+use Rattle.indicatif_bar.proofs.BoundLemmas.{call_step, with_step, run_spends, spendings_add_up, spent_none}
 
 -- one more at the front, where it is
 one_more : (b : Bool) (n : ℕ) (xs ys : List ℕ) → (if b then n ∷ xs else xs) ++ ys ≡ (if b then n ∷ (xs ++ ys) else (xs ++ ys))
@@ -51,3 +51,14 @@ module _ {S C A : Type 0} (m : Machine S C A) (z : Sizing m) (limiter : S → Op
 
   pub scripts_bounded_from : ScriptsAreBoundedFrom m z limiter
   scripts_bounded_from l positive parts old s new next plays is = script_claims parts old s new next plays l positive is
+
+  pub scripts_spend : ScriptsSpend m z limiter
+  scripts_spend l positive [] old s new next plays is = (l, ap limiter plays.1 ∙ is, spent_none l)
+  scripts_spend l positive (Called calls answers ∷ parts) old s new next plays is =
+      let first = run_spends m limiter limited l positive calls answers old s plays.0 plays.1 plays.2 is in
+      let rest = scripts_spend first.0 (subst (λ i. 0 < i) (sym first.2.interval) positive) parts plays.0 plays.1 new next plays.3 first.1 in
+      let u = unforced_draws m calls answers old s plays.0 plays.1 plays.2 in
+      let others = unforced_in m z parts plays.0 plays.1 new next plays.3 in
+      (rest.0, rest.1, subst (Spent l rest.0) (sym (length-append u others)) (spendings_add_up l first.0 rest.0 (length u) (length others) first.2 rest.2))
+  scripts_spend l positive (Size w h ∷ parts) old s new next plays is =
+      scripts_spend l positive parts plays.0 (sized m z w h (target_of old) s) new next plays.4 (keeps (sized_lists w h (target_of old) (m.lists s)) s ∙ is)

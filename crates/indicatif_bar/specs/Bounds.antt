@@ -31,6 +31,16 @@ DeedAsks {State} limiter now s (Draws d ends breaks) = AsksLimiter limiter now s
 abbrev pub IsLimited : {State Call Answer : Type 0} → Machine State Call Answer → (State → Option Limiter) → Type 0
 IsLimited {State} {Call} m limiter = (target : Target) (call : Call) (now : ℕ) (s : State) → DeedAsks limiter now s (m.deed target call now s)
 
+-- what a limiter became by so many unforced draws: each took one from its hand, or one of the intervals by which it went on
+pub record Spent (l l' : Limiter) (draws : ℕ) : Type 0 where
+  pub interval : l'.interval ≡ l.interval
+  pub goes_on : l.prev ≤ l'.prev
+  pub paid : draws * l.interval + l'.capacity * l.interval ≤ l.capacity * l.interval + (l'.prev - l.prev)
+
+-- what two runs spend, one after the other, they spend together
+abbrev pub SpendingsAddUp : Type 0
+SpendingsAddUp = (l k l' : Limiter) (n m : ℕ) → Spent l k n → Spent k l' m → Spent l l' (n + m)
+
 -- ---- unforced draws
 
 -- whether a draw is asked that isn't forced
@@ -67,11 +77,18 @@ module _ {State Call Answer : Type 0} (m : Machine State Call Answer) where
       let moments = unforced_draws calls answers old s new next run in
       (last : ℕ) → last_or None moments ≡ Some last → length moments ≤ 20 + (last - making) / (draw_limiter rate making).interval
 
-  -- the same from any state of a limiter, so that the bounds of two runs join: each unforced draw takes one from its hand, or one
-  -- of the intervals from its last moment to the last draw
+  -- the same from any state of a limiter: each unforced draw takes one from its hand, or one of the intervals from its last moment to
+  -- the last draw
   abbrev pub RunsAreBoundedFrom : (State → Option Limiter) → Type 0
   RunsAreBoundedFrom limiter =
       (l : Limiter) → 0 < l.interval → (calls : List (Call × ℕ)) (answers : List Answer) (old : Option TermView) (s : State) (new : Option TermView) (next : State)
       (run : Runs m calls answers old s new next) → limiter s ≡ Some l →
       let moments = unforced_draws calls answers old s new next run in
       (last : ℕ) → last_or None moments ≡ Some last → (l.prev ≤ last) × (length moments * l.interval ≤ l.capacity * l.interval + (last - l.prev))
+
+  -- from any state of a limiter, a run's unforced draws are spent by the limiter that it ends with: so what two runs spend adds up
+  abbrev pub RunsSpend : (State → Option Limiter) → Type 0
+  RunsSpend limiter =
+      (l : Limiter) → 0 < l.interval → (calls : List (Call × ℕ)) (answers : List Answer) (old : Option TermView) (s : State) (new : Option TermView) (next : State)
+      (run : Runs m calls answers old s new next) → limiter s ≡ Some l →
+      (l' : Limiter) × (limiter next ≡ Some l') × Spent l l' (length (unforced_draws calls answers old s new next run))

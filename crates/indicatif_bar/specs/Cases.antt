@@ -1,9 +1,10 @@
 -- Worked cases of a lone bar: what calls at the moment 0 answer, and the rows that stand then. The terminal never fails but where a case says so.
 use Rattle.indicatif_text.specs.Template.{KeyText, plain_layout}
 use Rattle.indicatif_bar.specs.BarStyles.{BarStyle}
-use Rattle.std.specs.Prelude.{◌≡◌, ℕ, ◌+◌, ◌-◌, true, false, List, [], ◌∷◌, ◌++◌, length, map, replicate, Some, None, flat_map, codes, Result, Ok, Err}
+use Rattle.std.specs.Prelude.{◌≡◌, ℕ, ◌+◌, ◌-◌, true, false, List, [], ◌∷◌, ◌++◌, length, map, replicate, take, Some, None, flat_map, codes, Result, Ok, Err}
+use Rattle.std.specs.declared.io.ErrorKind.{ErrorKind}
 use Rattle.indicatif_text.specs.declared.refusal.Refusal.{Refusal}
-use Rattle.indicatif_text.specs.declared.refusal.Refusal.TheVariants.{NoColumns, TooWide, ElapsedBeyondClock}
+use Rattle.indicatif_text.specs.declared.refusal.Refusal.TheVariants.{NoColumns, TooWide, ElapsedBeyondClock, Terminal as Failure}
 use Rattle.indicatif_text.specs.declared.refusal.Drawn.{Drawn}
 use Rattle.indicatif_text.specs.declared.refusal.Drawn.TheVariants.{Yes, Limited, Hidden}
 use Rattle.indicatif_text.specs.Columns.{Cell, rows_of}
@@ -12,8 +13,10 @@ use Rattle.indicatif_bar.specs.Bars.{bar_kind, lines_of_bar}
 use Rattle.indicatif_bar.specs.Trackers.{Tracking, writes_nothing}
 use Rattle.indicatif_bar.specs.Commands.{BarRecord, Command, new_bar, obeyed, Tick, SetMessage, PutMessage, SetElapsed, ForceDraw}
 use Rattle.indicatif_bar.specs.LoneBars.{lone_bar}
+use Rattle.indicatif_term.specs.Calls.{anew_bytes, clear_bytes, line_bytes}
 use Rattle.indicatif_term.specs.Limiters.{draw_limiter}
-use Rattle.indicatif_bar.specs.Machines.{Target, outcomes}
+use Rattle.indicatif_term.specs.Terminal.{after, blank_terminal}
+use Rattle.indicatif_bar.specs.Machines.{Target, Leads, outcomes}
 use Rattle.indicatif_bar.specs.Lone.{LoneState, LoneCall, Obey, Log, Clear, opening_state, draw_of_call}
 
 -- ---- messages
@@ -134,20 +137,31 @@ LateElapsed =
 
 -- ---- a terminal that fails
 
--- 4 rows, 5 columns: `a` is logged above the bar `x`; the draw of the message `y` is broken off, and the
--- rows are forgotten; then `b` is logged. `a` and `b` are the rows that were added above, and both are safe
+-- 4 rows, 5 columns: `a` is logged above the bar `x`; the draw of the message `y` is broken off, which leads to
+-- a state whose rows are forgotten; then `b` is logged. `a` and `b` are the two rows that were added above
 abbrev pub BrokenOff : Type 0
 BrokenOff =
     let target = terminal_of_size 4 5 in
     let logged = ran target (codes "x") (Log (codes "a") ∷ []) in
-    let broken = (draw_of_call (bar_kind untracked) target (Obey (SetMessage (codes "y"))) 0 logged.1).broken in
+    let call = Obey (SetMessage (codes "y")) in
+    let broken = (draw_of_call (bar_kind untracked) target call 0 logged.1).broken in
     let again = outcomes (lone_bar untracked) target ((Log (codes "b"), 0) ∷ []) broken in
     (all_rows 5 logged.1.lists ≡ rows_of_lines 5 (codes "a" ∷ codes "x" ∷ []))
+    × ((kind : ErrorKind) → Leads (lone_bar untracked) target logged.1 ((lone_bar untracked).deed target call 0 logged.1) (Err (Failure kind)) broken)
     × (broken.lists ≡ forgotten_lists)
     × (again.0 ≡ Ok Yes ∷ [])
     × (again.1.lists.above ≡ rows_of_lines 5 (codes "b" ∷ []))
     × (all_rows 5 again.1.lists ≡ rows_of_lines 5 (codes "b" ∷ codes "y" ∷ []))
     × (length logged.1.lists.above + (length broken.lists.above - length logged.1.lists.above) + (length again.1.lists.above - length broken.lists.above) ≡ 2)
+
+-- the same by bytes: `a` and the bar `x` stand, and `y` is written over `x`. After each beginning of its bytes the first row is that of `a`;
+-- after seven of them a new row begins, on which `b` and the bar `y` follow
+abbrev pub BrokenBytes : Type 0
+BrokenBytes =
+    let shown = after (blank_terminal 4 5) (line_bytes (codes "a") ++ codes "x    ") in
+    let bytes = clear_bytes ++ codes "y    " in
+    (map (λ k. take 1 (after shown (take k bytes)).screen.rows) (0 ∷ 1 ∷ 2 ∷ 3 ∷ 4 ∷ 5 ∷ 6 ∷ 7 ∷ 8 ∷ 9 ∷ 10 ∷ []) ≡ replicate 11 (rows_of_lines 5 (codes "a" ∷ [])))
+    × ((after shown (take 7 bytes ++ anew_bytes ++ line_bytes (codes "b") ++ codes "y    ")).screen.rows ≡ rows_of_lines 5 (codes "a" ∷ codes "y " ∷ codes "b" ∷ codes "y    " ∷ []))
 
 -- ---- limiters
 

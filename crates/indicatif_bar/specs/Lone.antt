@@ -1,5 +1,5 @@
 -- A lone bar: its states, its calls, and what each call is about to do.
-use Rattle.std.specs.Prelude.{ℕ, Bool, false, List, [], ◌∷◌, map, chars, Option, Some, None, Result, Err, refl}
+use Rattle.std.specs.Prelude.{ℕ, Bool, false, ◌&&◌, List, [], ◌∷◌, map, chars, Option, Some, None, Result, Err, refl}
 use Rattle.indicatif_text.specs.declared.refusal.Refusal.{Refusal}
 use Rattle.indicatif_text.specs.declared.refusal.Drawn.{Drawn}
 use Rattle.indicatif_term.specs.Lists.{Lists, BarLines, opening_lists, forgotten_lists}
@@ -71,7 +71,7 @@ module _ {B C : Type 0} (kind : Kind B C) where
   lines_take NoFrame bar = false
   lines_take _ bar = kind.lays bar
 
-  -- a draw, once the bar's numbers have changed
+  -- a draw, once the bar's numbers have changed: the limiter is asked first, and the bar laid out only where it allows the draw
   abbrev pub draw_asked : Target → Bool → Ask → ℕ → Writing → LoneState B → Draw (LoneState B)
   draw_asked target takes ask now writing s =
       let asked = asked_of ask now s.limiter in
@@ -79,7 +79,7 @@ module _ {B C : Type 0} (kind : Kind B C) where
       let frame = lone_frame target now s.bar in
       record {
         text_takes = takes;
-        lines_take = lines_take writing s.bar;
+        lines_take = asked.0 && lines_take writing s.bar;
         rows_take = rows_take writing 0 frame;
         ask = ask;
         after_command = s;

@@ -80,6 +80,8 @@ module _ {K T : Type 0} (m : Tracking K) (view : T → TermView) (old new : Lone
     -- where nothing was written, the terminal was not touched; and where there is nothing to draw on, nothing was written
     pub silent : IsFalse (wrote answer) → lone_terminal new ≡ lone_terminal old
     pub nowhere : LoneIsNowhere view old → IsFalse (wrote answer)
+    -- whether its draws go by moves of the cursor alone stays
+    pub moves : lone_moves new ≡ lone_moves old
     -- its step
     pub leads : LoneLeadsBy (Obey command) now answer
 
@@ -88,6 +90,7 @@ module _ {K T : Type 0} (m : Tracking K) (view : T → TermView) (old new : Lone
     pub bar : (record_of new ≡ (obeyed m command (record_of old) now).0) ⊎ Disobeys old new command now answer
     pub silent : IsFalse (wrote answer) → lone_terminal new ≡ lone_terminal old
     pub nowhere : LoneIsNowhere view old → IsFalse (wrote answer)
+    pub moves : lone_moves new ≡ lone_moves old
     pub leads : LoneLeadsBy (Obey command) now answer
 
 -- what became of the bar in a call with this answer: a command made of it what it says, or was refused; else it stays

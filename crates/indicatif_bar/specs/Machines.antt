@@ -1,6 +1,7 @@
 -- Whatever draws by calls, as a lone bar or a board: what a call is about to do, and what it leads to. A draw goes in this
 -- order: the numbers change; no draw is asked; the target is hidden; it has no columns; the lines are laid out and stored; the
--- limiter is asked, unless the draw is forced; a line is too wide; the terminal is written.
+-- limiter is asked, unless the draw is forced; a line is too wide; the terminal is written. A lone bar asks the limiter before its
+-- lines are laid out.
 use Rattle.std.specs.Prelude.{◌≡◌, ℕ, Bool, true, false, IsTrue, not, ◌&&◌, ◌==◌, List, [], ◌∷◌, Option, Some, None, Result, Ok, Err, if◌then◌else◌, ◌⊎◌}
 use Rattle.std.specs.declared.io.ErrorKind.{ErrorKind}
 use Rattle.indicatif_text.specs.declared.refusal.Refusal.{Refusal}

@@ -12,7 +12,7 @@ use Rattle.indicatif_term.specs.Resizes.{resized, resized_terminal, resized_list
 use Rattle.indicatif_term.specs.Events.{Event, Given, Sized, terminal_after, told_after, rows_then, RowsLastThrough}
 use Rattle.indicatif_bar.specs.Machines.{Target, target_of, Machine, outcomes}
 use Rattle.indicatif_bar.specs.Runs.{Runs, AllPlain, broke, IsLedOn, RowsLast, ReadsAs, Starts, is_undisturbed}
-use Rattle.indicatif_bar.specs.Bounds.{unforced_draws}
+use Rattle.indicatif_bar.specs.Bounds.{Spent, unforced_draws}
 
 -- ---- a size
 
@@ -208,13 +208,20 @@ module _ {State Call Answer : Type 0} (m : Machine State Call Answer) (z : Sizin
       let moments = unforced_in parts old s new next plays in
       (last : ℕ) → last_or None moments ≡ Some last → length moments ≤ 20 + (last - making) / (draw_limiter rate making).interval
 
-  -- the same from any state of a limiter, so that the bounds of two scripts join
+  -- the same from any state of a limiter
   abbrev pub ScriptsAreBoundedFrom : (State → Option Limiter) → Type 0
   ScriptsAreBoundedFrom limiter =
       (l : Limiter) → 0 < l.interval → (parts : List (Part Call Answer)) (old : Option TermView) (s : State) (new : Option TermView) (next : State)
       (plays : Plays parts old s new next) → limiter s ≡ Some l →
       let moments = unforced_in parts old s new next plays in
       (last : ℕ) → last_or None moments ≡ Some last → (l.prev ≤ last) × (length moments * l.interval ≤ l.capacity * l.interval + (last - l.prev))
+
+  -- a script's unforced draws are spent by the limiter that it ends with, as a run's
+  abbrev pub ScriptsSpend : (State → Option Limiter) → Type 0
+  ScriptsSpend limiter =
+      (l : Limiter) → 0 < l.interval → (parts : List (Part Call Answer)) (old : Option TermView) (s : State) (new : Option TermView) (next : State)
+      (plays : Plays parts old s new next) → limiter s ≡ Some l →
+      (l' : Limiter) × (limiter next ≡ Some l') × Spent l l' (length (unforced_in parts old s new next plays))
 
 -- a machine's limiter stays as its rows get another size
 abbrev pub LeavesLimiter : {State Call Answer : Type 0} {m : Machine State Call Answer} → Sizing m → (State → Option Limiter) → Type 0

@@ -1,7 +1,7 @@
 -- Every run of a lone bar is one of a board with that bar alone.
 use Rattle.std.proofs.Common.{◌≡◌, ℕ, Bool, true, false, refl, sym, ◌∙◌, ap, subst, inl, inr, List, [], ◌∷◌, map, Option, Some, None, Result, Ok, Err, if◌then◌else◌}
 use Rattle.std.specs.Prelude.{◌==◌, not, chars}
-use Rattle.std.proofs.lemmas.Bool.{eq-eqb}
+use Rattle.std.proofs.lemmas.Bool.{and_parts, eq-eqb}
 use Rattle.indicatif_text.specs.declared.refusal.Refusal.{Refusal}
 use Rattle.indicatif_text.specs.declared.refusal.Refusal.TheVariants.{NoColumns, TooWide}
 use Rattle.indicatif_text.specs.declared.refusal.Drawn.{Drawn}
@@ -11,7 +11,7 @@ use Rattle.indicatif_term.specs.Frames.{some_wide}
 use Rattle.indicatif_bar.specs.Machines.{Target, target_of, Draw, Draws, Leads, is_no, drawn_by}
 use Rattle.indicatif_bar.specs.Runs.{CallMade, lines_by}
 use Rattle.indicatif_bar.specs.Shown.{WritesLinesOn}
-use Rattle.indicatif_bar.specs.Lone.{LoneState, LoneCall, Obey, Log, Clear, draw_of_call, deed_unless, refused_at_once, lone}
+use Rattle.indicatif_bar.specs.Lone.{LoneState, LoneCall, Obey, Log, Clear, bar_after, draw_of_call, deed_unless, lines_take, refused_at_once, writing_of, lone}
 use Rattle.indicatif_board.specs.Boards.{BoardKind, BoardState, says, drawn_of_said, turned_away, or_refused, draws, board}
 use Rattle.indicatif_board.specs.LoneLaws.{first_bar, with_one, call_on_board, on_board, OneIsTakenIn, LoneRunsAreBoardRuns}
 
@@ -24,11 +24,11 @@ if_both P true x x' y y' p q = p
 if_both P false x x' y y' p q = q
 
 module _ {B : Type 0} where
-  -- the draw of the board: the lines that were stored before it, and those that are laid out for it
-  abbrev drawn_on : List (List ℕ) → List (List ℕ) → Draw (LoneState B) → Draw (BoardState B)
-  drawn_on stored laid d = record {
+  -- the draw of the board: whether its layout takes memory, the lines that were stored before it, and those that are laid out for it
+  abbrev drawn_on : Bool → List (List ℕ) → List (List ℕ) → Draw (LoneState B) → Draw (BoardState B)
+  drawn_on lays stored laid d = record {
     text_takes = d.text_takes;
-    lines_take = d.lines_take;
+    lines_take = lays;
     rows_take = d.rows_take;
     ask = d.ask;
     after_command = with_one stored d.after_command;
@@ -43,9 +43,9 @@ module _ {B : Type 0} where
   abbrev AreAlike : Result Drawn Refusal × LoneState B → Result Drawn Refusal × BoardState B → Type 0
   AreAlike o p = (p.0 ≡ o.0) × (kept : List (List ℕ)) × (p.1 ≡ with_one kept o.1)
 
-  outcome_alike : (target : Target) (stored laid : List (List ℕ)) (d : Draw (LoneState B)) → AreAlike (drawn_by target d) (drawn_by target (drawn_on stored laid d))
+  outcome_alike : (target : Target) (lays : Bool) (stored laid : List (List ℕ)) (d : Draw (LoneState B)) → AreAlike (drawn_by target d) (drawn_by target (drawn_on lays stored laid d))
   unfolding drawn_by
-  outcome_alike target stored laid d =
+  outcome_alike target lays stored laid d =
       let before = with_one stored d.after_command in
       let ready = with_one laid d.ready in
       if_both AreAlike (is_no d.ask) (Ok Limited, d.after_command) _ (Ok Limited, before) _ (refl, stored, refl)
@@ -56,40 +56,40 @@ module _ {B : Type 0} where
       (refl, laid, refl) (refl, laid, refl)))))
 
 module _ {B C : Type 0} (kind : BoardKind B C) (board_id : ℕ) (target : Target) where
-  -- what a draw of the lone bar leads to, that of the board does
-  draw_carried : (stored laid : List (List ℕ)) (d : Draw (LoneState B)) (s next : LoneState B) (answer : Result Drawn Refusal) →
+  -- what a draw of the lone bar leads to, that of the board does, whose layout takes memory where the lone bar's does
+  draw_carried : (lays : Bool) (stored laid : List (List ℕ)) (d : Draw (LoneState B)) → (d.lines_take ≡ true → lays ≡ true) → (s next : LoneState B) (answer : Result Drawn Refusal) →
       Leads (lone kind.bars) target s (Draws d (λ x. x) (λ x. x)) answer next →
-      (kept : List (List ℕ)) × Leads (board kind board_id) target (with_one stored s) (draws (drawn_on stored laid d)) (says answer) (with_one kept next)
-  draw_carried stored laid d s next answer (inl made) =
+      (kept : List (List ℕ)) × Leads (board kind board_id) target (with_one stored s) (draws (drawn_on lays stored laid d)) (says answer) (with_one kept next)
+  draw_carried lays stored laid d take s next answer (inl made) =
       let o = drawn_by target d in
-      let p = drawn_by target (drawn_on stored laid d) in
-      let r = outcome_alike target stored laid d in
+      let p = drawn_by target (drawn_on lays stored laid d) in
+      let r = outcome_alike target lays stored laid d in
       let same : (says o.0, with_one r.1 o.1) ≡ (says p.0, p.1) = cc (r.0, r.2) in
       (r.1, inl (ap (λ (x : Result Drawn Refusal × LoneState B). (says x.0, with_one r.1 x.1)) made ∙ same))
-  draw_carried stored laid d s next answer (inr (inl short)) = elim short.1 [
+  draw_carried lays stored laid d take s next answer (inr (inl short)) = elim short.1 [
     | inl text ↦ (stored, inr (inl (ap says short.0, inl (text.0, ap (with_one stored) text.1))))
     | inr shown ↦ elim shown.1 [
-      | inl lines ↦ (stored, inr (inl (ap says short.0, inr (shown.0, inl (lines.0, ap (with_one stored) lines.1)))))
+      | inl lines ↦ (stored, inr (inl (ap says short.0, inr (shown.0, inl (take lines.0, ap (with_one stored) lines.1)))))
       | inr planned ↦ (laid, inr (inl (ap says short.0, inr (shown.0, inr (planned.0, planned.1, ap (with_one laid) planned.2)))))
     ]
   ]
-  draw_carried stored laid d s next answer (inr (inr broken)) =
-      (laid, inr (inr (broken.0, ap says broken.1, ((outcome_alike target stored laid d).0 ∙ broken.2.0, ap (with_one laid) broken.2.1))))
+  draw_carried lays stored laid d take s next answer (inr (inr broken)) =
+      (laid, inr (inr (broken.0, ap says broken.1, ((outcome_alike target lays stored laid d).0 ∙ broken.2.0, ap (with_one laid) broken.2.1))))
 
   -- the same of a call that may be refused at once
-  deed_carried : (why : Option Refusal) (stored laid : List (List ℕ)) (d : Draw (LoneState B)) (s next : LoneState B) (answer : Result Drawn Refusal) →
-      Leads (lone kind.bars) target s (deed_unless kind.bars why d s) answer next →
-      (kept : List (List ℕ)) × Leads (board kind board_id) target (with_one stored s) (or_refused why (draws (drawn_on stored laid d)) (with_one stored s)) (says answer) (with_one kept next)
-  deed_carried None stored laid d s next answer led = draw_carried stored laid d s next answer led
-  deed_carried (Some e) stored laid d s next answer (inl made) = (stored, inl (ap (λ (x : Result Drawn Refusal × LoneState B). (says x.0, with_one stored x.1)) made))
-  deed_carried (Some e) stored laid d s next answer (inr (inl short)) = (stored, inr (inl (ap says short.0, (short.1.0, ap (with_one stored) short.1.1))))
-  deed_carried (Some e) stored laid d s next answer (inr (inr broken)) = absurd broken.2
+  deed_carried : (why : Option Refusal) (lays : Bool) (stored laid : List (List ℕ)) (d : Draw (LoneState B)) → (d.lines_take ≡ true → lays ≡ true) →
+      (s next : LoneState B) (answer : Result Drawn Refusal) → Leads (lone kind.bars) target s (deed_unless kind.bars why d s) answer next →
+      (kept : List (List ℕ)) × Leads (board kind board_id) target (with_one stored s) (or_refused why (draws (drawn_on lays stored laid d)) (with_one stored s)) (says answer) (with_one kept next)
+  deed_carried None lays stored laid d take s next answer led = draw_carried lays stored laid d take s next answer led
+  deed_carried (Some e) lays stored laid d take s next answer (inl made) = (stored, inl (ap (λ (x : Result Drawn Refusal × LoneState B). (says x.0, with_one stored x.1)) made))
+  deed_carried (Some e) lays stored laid d take s next answer (inr (inl short)) = (stored, inr (inl (ap says short.0, (short.1.0, ap (with_one stored) short.1.1))))
+  deed_carried (Some e) lays stored laid d take s next answer (inr (inr broken)) = absurd broken.2
 
   -- the lines to write are the same
-  lines_carried : (why : Option Refusal) (stored laid : List (List ℕ)) (d : Draw (LoneState B)) (s : LoneState B) →
-      lines_by (deed_unless kind.bars why d s) ≡ lines_by (or_refused why (draws (drawn_on stored laid d)) (with_one stored s))
-  lines_carried None stored laid d s = refl
-  lines_carried (Some e) stored laid d s = refl
+  lines_carried : (why : Option Refusal) (lays : Bool) (stored laid : List (List ℕ)) (d : Draw (LoneState B)) (s : LoneState B) →
+      lines_by (deed_unless kind.bars why d s) ≡ lines_by (or_refused why (draws (drawn_on lays stored laid d)) (with_one stored s))
+  lines_carried None lays stored laid d s = refl
+  lines_carried (Some e) lays stored laid d s = refl
 
   -- the one bar is meant
   is_meant : (stored : List (List ℕ)) (s : LoneState B) → turned_away board_id (first_bar board_id) (with_one stored s) ≡ None
@@ -101,10 +101,14 @@ module _ {B C : Type 0} (kind : BoardKind B C) (board_id : ℕ) (target : Target
   laid_for (Log text) now s stored = map chars (kind.bars.lines s.bar now target.columns)
   laid_for Clear now s stored = stored
 
+  -- whether the board's layout takes memory then: also where the limiter won't allow the draw
+  abbrev lays_for : LoneCall C → ℕ → LoneState B → Bool
+  lays_for call now s = lines_take kind.bars (writing_of call) (bar_after kind.bars call now s.bar)
+
   -- the board's deed is the lone bar's
   deed_is : (call : LoneCall C) (now : ℕ) (s : LoneState B) (stored : List (List ℕ)) →
       (board kind board_id).deed target (call_on_board board_id call) now (with_one stored s)
-      ≡ or_refused (refused_at_once kind.bars call now s.bar) (draws (drawn_on stored (laid_for call now s stored) (draw_of_call kind.bars target call now s))) (with_one stored s)
+      ≡ or_refused (refused_at_once kind.bars call now s.bar) (draws (drawn_on (lays_for call now s) stored (laid_for call now s stored) (draw_of_call kind.bars target call now s))) (with_one stored s)
   deed_is (Obey command) now s stored = rw (is_meant stored s) refl
   deed_is (Log text) now s stored = rw (is_meant stored s) refl
   deed_is Clear now s stored = refl
@@ -118,9 +122,10 @@ module _ {B C : Type 0} (kind : BoardKind B C) where
       let why = refused_at_once kind.bars call now s.bar in
       let d = draw_of_call kind.bars target call now s in
       let laid = laid_for kind board_id target call now s stored in
+      let lays = lays_for kind board_id target call now s in
       let is = deed_is kind board_id target call now s stored in
-      let led = deed_carried kind board_id target why stored laid d s next answer made.leads in
-      let lines = lines_carried kind board_id target why stored laid d s ∙ ap lines_by (sym is) in (
+      let led = deed_carried kind board_id target why lays stored laid d (λ take. (and_parts d.allowed lays take).1) s next answer made.leads in
+      let lines = lines_carried kind board_id target why lays stored laid d s ∙ ap lines_by (sym is) in (
         led.0,
         record {
           leads = subst (λ deed. Leads (board kind board_id) target (with_one stored s) deed (says answer) (with_one led.0 next)) (sym is) led.1;

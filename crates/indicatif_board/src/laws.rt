@@ -5,10 +5,10 @@ ghost use Rattle.indicatif_bar.specs.Commands.{BarRecord, Command};
 ghost use Rattle.indicatif_bar.specs.Machines.{Target};
 ghost use Rattle.indicatif_bar.specs.Runs.{RunsPaint, RowsAboveLast, RunsAreRead, RunsReadFromBytes, ReadsAfter, OneOutcome};
 ghost use Rattle.indicatif_bar.specs.Says.{EachSays};
-ghost use Rattle.indicatif_bar.specs.Bounds.{IsLimited, RunsAreBounded, RunsAreBoundedFrom};
+ghost use Rattle.indicatif_bar.specs.Bounds.{IsLimited, RunsAreBounded, RunsAreBoundedFrom, RunsSpend};
 ghost use Rattle.indicatif_term.specs.Limiters.{Limiter};
 ghost use Rattle.indicatif_board.specs.Boards.{BoardKind, BoardState, Call, Answer, opening_board, board};
-ghost use Rattle.indicatif_bar.specs.Scripts.{UnbrokenScriptsAreRead, ScriptsAreBounded, ScriptsAreBoundedFrom};
+ghost use Rattle.indicatif_bar.specs.Scripts.{UnbrokenScriptsAreRead, ScriptsAreBounded, ScriptsAreBoundedFrom, ScriptsSpend};
 ghost use Rattle.indicatif_board.specs.BoardBars.{board_bars};
 ghost use Rattle.indicatif_board.specs.Multi.{board_sizing};
 ghost use Rattle.indicatif_board.specs.Done.{account_of_both, own_half, given_half};
@@ -93,12 +93,14 @@ pub fn a_lone_bar_is_a_board_of_one<K: Tracks>()
 {}
 
 /// A board asks its limiter once for each unforced draw, and nothing else changes that: from a rate's limiter as it is made on, a
-/// run makes at most 20 unforced draws, and one more for each interval from the making to the last of them. Without a limiter each
-/// draw is allowed.
+/// run makes at most 20 unforced draws, and one more for each interval from the making to the last of them. From any other state of a
+/// limiter on as many as it has in hand, and one for each interval from its moment on; and what two runs spend, one after the other,
+/// adds up (`how_often_a_run_draws`). Without a limiter each draw is allowed.
 pub fn a_board_is_limited<B, C>()
     ensures asks { (kind : BoardKind B C) (board_id : ℕ) → IsLimited (board kind board_id) (λ s. s.limiter) }
     ensures bounded { (kind : BoardKind B C) (board_id : ℕ) → RunsAreBounded (board kind board_id) (λ s. s.limiter) }
-    ensures joins { (kind : BoardKind B C) (board_id : ℕ) → RunsAreBoundedFrom (board kind board_id) (λ s. s.limiter) }
+    ensures from_any { (kind : BoardKind B C) (board_id : ℕ) → RunsAreBoundedFrom (board kind board_id) (λ s. s.limiter) }
+    ensures spends { (kind : BoardKind B C) (board_id : ℕ) → RunsSpend (board kind board_id) (λ s. s.limiter) }
     ensures free { (kind : BoardKind B C) (board_id : ℕ) (target : Target) (call : Call B C) (now : ℕ) (s : BoardState B) → s.limiter ≡ None →
         IsAllowed ((board kind board_id).deed target call now s) }
 {}
@@ -108,7 +110,8 @@ pub fn a_board_is_limited<B, C>()
 pub fn scripts_of_a_board<K: Tracks>()
     ensures read { (board_id : ℕ) → UnbrokenScriptsAreRead (board (board_bars K.means) board_id) (board_sizing K.means board_id) }
     ensures bounded { (board_id : ℕ) → ScriptsAreBounded (board (board_bars K.means) board_id) (board_sizing K.means board_id) (λ s. s.limiter) }
-    ensures joins { (board_id : ℕ) → ScriptsAreBoundedFrom (board (board_bars K.means) board_id) (board_sizing K.means board_id) (λ s. s.limiter) }
+    ensures from_any { (board_id : ℕ) → ScriptsAreBoundedFrom (board (board_bars K.means) board_id) (board_sizing K.means board_id) (λ s. s.limiter) }
+    ensures spends { (board_id : ℕ) → ScriptsSpend (board (board_bars K.means) board_id) (board_sizing K.means board_id) (λ s. s.limiter) }
 {}
 
 /// No bar stands in a board's order twice, and none that was not taken in: so it is at first, and after each call of any run.

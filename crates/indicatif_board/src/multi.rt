@@ -44,8 +44,8 @@ use std::alloc::Global;
 /// A call that names a bar is refused with `ForeignBar` where the bar has another board's id, and with `NotMember` where it was
 /// removed, dropped or never given; nothing has changed then. (`remove` answers `None` in place of `NotMember`, and `slot` in place
 /// of both.) Else a call that draws goes the steps that `LoneBar` lists, with the
-/// stored lines of all bars in their order in the place of its own; of the bars only the one that is named is laid out anew. As
-/// many lines from the front are shown as have at most the terminal's rows together. A draw that was answered with `Yes` takes the
+/// stored lines of all bars in their order in the place of its own; of the bars only the one that is named is laid out anew, and that
+/// before the limiter is asked. As many lines from the front are shown as have at most the terminal's rows together. A draw that was answered with `Yes` takes the
 /// dropped bars at the head of the order out of it. After `Terminal` no bar leaves the order, and the next draw begins on a new row.
 ///
 /// ```

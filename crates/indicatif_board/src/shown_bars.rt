@@ -2,7 +2,7 @@
 ghost use Rattle.std.specs.Prelude.{◌≡◌, ◌<◌, ◌≤◌, ◌^◌, MatchResult, ℕ, Bool, Option, Some, None, true, false, IsTrue, IsFalse, map, length, IfSome, IfOk, IfErr, OnErr};
 ghost use Rattle.std.specs.VecDeque.{deque_len};
 ghost use Rattle.indicatif_term.specs.Frames.{line_text};
-ghost use Rattle.indicatif_term.specs.Engines.{engine_term, Fits};
+ghost use Rattle.indicatif_term.specs.Engines.{engine_moves, engine_term, Fits};
 ghost use Rattle.indicatif_term.specs.Limiters.{Limiter};
 ghost use Rattle.indicatif_bar.specs.Bars.{lines_of_bar, lines_take_memory};
 ghost use Rattle.indicatif_bar.specs.Commands.{BarRecord};
@@ -10,7 +10,7 @@ ghost use Rattle.indicatif_bar.specs.Machines.{Target, is_no, target_of};
 ghost use Rattle.indicatif_bar.specs.Kinds.{asked_of};
 ghost use Rattle.indicatif_bar.specs.Runs.{wrote};
 ghost use Rattle.indicatif_bar.specs.Shown.{DrewBy, DrewOn};
-ghost use Rattle.indicatif_bar.specs.Stages.{stage_terminal, stage_known, IsStaged, writing_as};
+ghost use Rattle.indicatif_bar.specs.Stages.{stage_terminal, stage_known, stage_moves, IsStaged, writing_as};
 ghost use Rattle.indicatif_board.specs.BoardBars.{board_bars};
 ghost use Rattle.indicatif_board.specs.Boards.{BoardState, Location, opening_board, draw_of, index_of, taken_in, ownerless_on, board};
 ghost use Rattle.indicatif_board.specs.Members.{place_of, without, is_head, said_of};
@@ -170,6 +170,7 @@ impl<K: Tracks> ShownBars<K> {
         requires placed { IfSome bar (λ at. at < deque_len self.old.members) }
         ensures silent { IsFalse (wrote result) → stage_terminal stage.new ≡ stage_terminal stage.old }
         ensures nowhere { (target_of (stage_known T.view stage.old)).columns ≡ 0 → IsFalse (wrote result) }
+        ensures moves { stage_moves stage.new ≡ stage_moves stage.old }
         ensures slots { LeavesHead self.old.table self.new.table }
         ensures records { AllStay self.old self.new }
         ensures refusal { IfErr result (λ e. IsTrue (is_of_draw e)) }
@@ -223,6 +224,7 @@ impl<K: Tracks> ShownBars<K> {
         writing: Writing<'_>,
     ) -> Result<Drawn, Refusal>
         ensures silent { IsFalse (wrote result) → engine.new ≡ engine.old }
+        ensures moves { engine_moves engine.new ≡ engine_moves engine.old }
         ensures slots { LeavesHead self.old.table self.new.table }
         ensures records { AllStay self.old self.new }
         ensures refusal { IfErr result (λ e. IsTrue (is_of_draw e)) }

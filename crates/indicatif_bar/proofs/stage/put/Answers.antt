@@ -12,4 +12,4 @@ returns-in-TextAndFrame g c =
     rw c.in-TextAndFrame.is (puts_text g.T.TermLike.view (text_lines (logged_lines c.in-TextAndFrame.text.now)) (is_bottom c.args.alignment) c.args.gone
     (map bar_lines c.args.frame.now) _ c.args.engine.now c.log.new.self c.log.result
     (drop-map bar_lines c.args.gone c.args.frame.now ∙ ap (map bar_lines) (sym all)) (λ short. (c.log.ensures.memory short).1)
-    c.log.ensures.answer c.log.ensures.counted c.log.ensures.unchanged c.log.ensures.lists c.log.ensures.paints)
+    c.log.ensures.answer c.log.ensures.counted c.log.ensures.unchanged c.log.ensures.moves c.log.ensures.lists c.log.ensures.paints)

@@ -1,6 +1,6 @@
 use Rattle.std.proofs.Common.{refl}
 use Rattle.indicatif_bar.proofs.ScriptLemmas.{unbroken_read}
-use Rattle.indicatif_bar.proofs.ScriptBoundLemmas.{scripts_bounded, scripts_bounded_from}
+use Rattle.indicatif_bar.proofs.ScriptBoundLemmas.{scripts_bounded, scripts_bounded_from, scripts_spend}
 use Rattle.indicatif_board.specs.BoardBars.{board_bars}
 use Rattle.indicatif_board.specs.Boards.{board}
 use Rattle.indicatif_board.specs.Multi.{board_sizing}
@@ -15,6 +15,10 @@ pub returns-clause-bounded : goal.returns-clause-bounded
 returns-clause-bounded g c = λ board_id.
     scripts_bounded (board (board_bars g.K.Tracks.means) board_id) (board_sizing g.K.Tracks.means board_id) (λ s. s.limiter) (board_limited (board_bars g.K.Tracks.means) board_id) (λ l s. refl)
 
-pub returns-clause-joins : goal.returns-clause-joins
-returns-clause-joins g c = λ board_id.
+pub returns-clause-from_any : goal.returns-clause-from_any
+returns-clause-from_any g c = λ board_id.
     scripts_bounded_from (board (board_bars g.K.Tracks.means) board_id) (board_sizing g.K.Tracks.means board_id) (λ s. s.limiter) (board_limited (board_bars g.K.Tracks.means) board_id) (λ l s. refl)
+
+pub returns-clause-spends : goal.returns-clause-spends
+returns-clause-spends g c = λ board_id.
+    scripts_spend (board (board_bars g.K.Tracks.means) board_id) (board_sizing g.K.Tracks.means board_id) (λ s. s.limiter) (board_limited (board_bars g.K.Tracks.means) board_id) (λ l s. refl)

@@ -14,7 +14,7 @@ returns-in-Bar g c =
           (command_of c.in-Bar.command) x.result x.ensures.done x.ensures.unchanged x.ensures.beyond x.ensures.memory x.ensures.no_other;
       rest = refl;
     }) in
-    record { bar = rw c.in-Bar.is o.bar; silent = o.silent; nowhere = o.nowhere; leads = rw c.in-Bar.is o.leads }
+    record { bar = rw c.in-Bar.is o.bar; silent = o.silent; nowhere = o.nowhere; moves = o.moves; leads = rw c.in-Bar.is o.leads }
 
 pub returns-in-Log-clause-leads : goal.returns-in-Log-clause-leads
 returns-in-Log-clause-leads g c = rw c.in-Log.is (subst (λ t. LoneLeadsBy g.K.Tracks.means g.T.TermLike.view c.args.self.now c.println.new.self (Log t) c.args.now c.println.result)

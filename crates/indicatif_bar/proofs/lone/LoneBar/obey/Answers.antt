@@ -18,6 +18,7 @@ returns-then-is_no-clause-obeys g c = λ old command told.
       bar = refl;
       silent = λ _. refl;
       nowhere = λ _. refl;
+      moves = refl;
       drew = λ takes s inside.
           let d = draw_asked (bar_kind g.K.Tracks.means) (target_of known) takes c.args.ask c.args.now Frame s in
           (s, inside, drew_none (lone (bar_kind g.K.Tracks.means)) known d s.lists (Ok Limited) s refl refl (outcome-unasked (target_of known) d (sym c.is_no.ensures ∙ c.if-is_no.true)));
@@ -26,4 +27,4 @@ returns-then-is_no-clause-obeys g c = λ old command told.
 pub returns-clause-obeys : goal.returns-clause-obeys
 returns-clause-obeys g c = λ old command told.
     obeys g.K.Tracks.means g.T.TermLike.view old c.args.self.now c.draw.new.self c.args.now c.draw.result command c.args.ask told
-    (record { bar = c.draw.ensures.bar; silent = c.draw.ensures.silent; nowhere = c.draw.ensures.nowhere; drew = c.draw.ensures.drew })
+    (record { bar = c.draw.ensures.bar; silent = c.draw.ensures.silent; nowhere = c.draw.ensures.nowhere; moves = c.draw.ensures.moves; drew = c.draw.ensures.drew })

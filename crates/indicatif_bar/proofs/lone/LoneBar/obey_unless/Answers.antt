@@ -15,4 +15,4 @@ pub returns-clause-obeys : goal.returns-clause-obeys
 returns-clause-obeys g c = λ old command told.
     obeys_or_not g.K.Tracks.means g.T.TermLike.view old c.args.self.now c.draw.new.self c.args.now c.draw.result command c.in_ok-ask.ask
     (subst (λ r. IsToldOrNot g.K.Tracks.means old c.args.self.now command c.args.now r) c.in_ok-ask.was told)
-    (record { bar = c.draw.ensures.bar; silent = c.draw.ensures.silent; nowhere = c.draw.ensures.nowhere; drew = c.draw.ensures.drew })
+    (record { bar = c.draw.ensures.bar; silent = c.draw.ensures.silent; nowhere = c.draw.ensures.nowhere; moves = c.draw.ensures.moves; drew = c.draw.ensures.drew })

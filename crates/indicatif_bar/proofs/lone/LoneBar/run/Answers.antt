@@ -37,6 +37,7 @@ loop-call-init g c = record {
   went = let bar = record_of c.args.self.now in subst (λ xs. RecordsGo g.K.Tracks.means [] xs bar bar) (sym c.in_ok-answers.ensures.items) refl;
   silent = λ quiet. refl;
   nowhere = λ none. rw c.in_ok-answers.ensures.items refl;
+  moves = refl;
 }
 
 pub push_reserved-requires : goal.push_reserved-requires
@@ -73,6 +74,7 @@ loop-call-preserved g c = record {
       let before = c.loop-call.invariant.nowhere none in
       let here = c.call-answer.ensures.nowhere (ap (λ o. (target_of (option_map g.T.TermLike.view o)).columns) (c.loop-call.invariant.silent before) ∙ none) in
       ap (list_any wrote) c.push_reserved.ensures.items ∙ any-push wrote c.loop-call.answers.items c.call-answer.result ∙ rw (before, here) refl;
+  moves = c.call-answer.ensures.moves ∙ c.loop-call.invariant.moves;
 }
 
 pub returns-clause-run : goal.returns-clause-run
