@@ -330,6 +330,7 @@ impl<K: Tracks, T: TermLike + Drop> Board<K, T> {
         ensures leads { LeadsBy K.means T.view self.old self.new (Drop (id_of id)) now (says result) }
         ensures foreign { id.mark ≢ mark_of self.old → (result ≡ Err Refusal.ForeignBar) × (self.new ≡ self.old) }
         ensures not_member { id.mark ≡ mark_of self.old → (result ≡ Err Refusal.NotMember) ↔ (record_at id.number self.old ≡ None) }
+        ensures unchanged { result ≡ Err Refusal.NotMember → self.new ≡ self.old }
         ensures gone { id.mark ≡ mark_of self.old → record_at id.number self.new ≡ None }
         ensures slots { SlotsLeft self.old self.new }
         ensures others { OtherRecordsStay id.number self.old self.new }
@@ -367,6 +368,7 @@ impl<K: Tracks, T: TermLike + Drop> Board<K, T> {
         ensures not_member { id.mark ≡ mark_of self.old → (result ≡ Err Refusal.NotMember) ↔ (record_at id.number self.old ≡ None) }
         ensures beyond { id.mark ≡ mark_of self.old → IsTrue (is_some (record_at id.number self.old)) →
             (result ≡ Err Refusal.ElapsedBeyondClock) ↔ IsTrue (is_beyond_clock (command_of command) now) }
+        ensures unchanged { (result ≡ Err Refusal.NotMember) ⊎ (result ≡ Err Refusal.ElapsedBeyondClock) → self.new ≡ self.old }
         ensures record { id.mark ≡ mark_of self.old → RecordObeys K.means id.number (command_of command) now result self.old self.new }
         ensures slots { SlotsLeft self.old self.new }
         ensures others { OtherRecordsStay id.number self.old self.new }
@@ -402,6 +404,7 @@ impl<K: Tracks, T: TermLike + Drop> Board<K, T> {
         ensures leads { LeadsBy K.means T.view self.old self.new (BarLog (id_of id) text.now) now (says result) }
         ensures foreign { id.mark ≢ mark_of self.old → (result ≡ Err Refusal.ForeignBar) × (self.new ≡ self.old) }
         ensures not_member { id.mark ≡ mark_of self.old → (result ≡ Err Refusal.NotMember) ↔ (record_at id.number self.old ≡ None) }
+        ensures unchanged { result ≡ Err Refusal.NotMember → self.new ≡ self.old }
         ensures slots { SlotsLeft self.old self.new }
         ensures records { RecordsStay self.old self.new }
     {
