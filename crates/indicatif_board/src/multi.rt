@@ -447,7 +447,8 @@ impl<K: Tracks, T: TermLike + Drop> Board<K, T> {
     pub fn suspend<F: FnOnce() -> A, A>(&mut self, now: Moment, f: F) -> (A, Result<Drawn, Refusal>)
         requires { F.pre f }
         ensures value { F.post f result.0 }
-        ensures silent { IsNowhere T.view self.old → terminal_of self.new ≡ terminal_of self.old }
+        ensures nowhere { IsNowhere T.view self.old → IsFalse (wrote result.1) }
+        ensures stays { IsNowhere T.view self.old → terminal_of self.new ≡ terminal_of self.old }
         ensures mark { mark_of self.new ≡ mark_of self.old }
         ensures leads { Suspends K.means T.view self.old self.new now result.1 }
         ensures slots { SlotsLeft self.old self.new }
@@ -473,7 +474,7 @@ impl<K: Tracks, T: TermLike + Drop> Board<K, T> {
     #[inline(always)]
     pub fn apply(&mut self, call: Call<K>, now: Moment) -> (Answer, Option<BarState<K>>)
         ensures silent { IsFalse (wrote (drawn_of (answer_of result.0))) → terminal_of self.new ≡ terminal_of self.old }
-        ensures nowhere { IsNowhere T.view self.old → terminal_of self.new ≡ terminal_of self.old }
+        ensures nowhere { IsNowhere T.view self.old → IsFalse (wrote (drawn_of (answer_of result.0))) }
         ensures mark { mark_of self.new ≡ mark_of self.old }
         ensures leads { LeadsBy K.means T.view self.old self.new (call_of call) now (answer_of result.0) }
         ensures foreign { NamesForeign (mark_of self.old) (call_of call) → (answer_of result.0 ≡ Refused Refusal.ForeignBar) × (self.new ≡ self.old) }
@@ -501,7 +502,7 @@ impl<K: Tracks, T: TermLike + Drop> Board<K, T> {
     /// As `apply`. A bar that is removed or turned away is given up.
     pub fn call(&mut self, call: Call<K>, now: Moment) -> Answer
         ensures silent { IsFalse (wrote (drawn_of (answer_of result))) → terminal_of self.new ≡ terminal_of self.old }
-        ensures nowhere { IsNowhere T.view self.old → terminal_of self.new ≡ terminal_of self.old }
+        ensures nowhere { IsNowhere T.view self.old → IsFalse (wrote (drawn_of (answer_of result))) }
         ensures mark { mark_of self.new ≡ mark_of self.old }
         ensures leads { LeadsBy K.means T.view self.old self.new (call_of call) now (answer_of result) }
         ensures foreign { NamesForeign (mark_of self.old) (call_of call) → (answer_of result ≡ Refused Refusal.ForeignBar) × (self.new ≡ self.old) }
@@ -526,7 +527,8 @@ impl<K: Tracks, T: TermLike + Drop> Board<K, T> {
         ensures count { IfOk result (λ answers. vec_len answers ≡ vec_len calls) }
         ensures silent { IfOk result (λ answers. IsFalse (list_any (λ answer. wrote (drawn_of (answer_of answer))) answers.items) →
             terminal_of self.new ≡ terminal_of self.old) }
-        ensures nowhere { IsNowhere T.view self.old → terminal_of self.new ≡ terminal_of self.old }
+        ensures nowhere { IfOk result (λ answers. IsNowhere T.view self.old →
+            IsFalse (list_any (λ answer. wrote (drawn_of (answer_of answer))) answers.items)) }
         ensures mark { mark_of self.new ≡ mark_of self.old }
         ensures foreign { IfOk result (λ answers. AreTurnedAway (mark_of self.old) (map timed calls.items) (map answer_of answers.items)) }
         ensures records { (number : ℕ) → IsFalse (list_any (λ call. acts_on (mark_of self.old) number (call_of call.0)) calls.items) →

@@ -35,7 +35,7 @@ loop-call-init g c = record {
       let old = known g.T.TermLike.view c.args.self.now in
       (s, inside, subst (λ xs. Runs (board (board_bars g.K.Tracks.means) mark) [] (map answer_of xs) old s old s) (sym c.in_ok-answers.ensures.items) (refl, refl));
   silent = λ quiet. refl;
-  nowhere = λ none. refl;
+  nowhere = λ none. rw c.in_ok-answers.ensures.items refl;
   foreign = subst (λ xs. AreTurnedAway {K = g.row.K.Denot} (mark_of c.args.self.now) [] (map answer_of xs)) (sym c.in_ok-answers.ensures.items) tt;
   records = λ number apart. inl refl;
   mark = refl;
@@ -67,8 +67,10 @@ loop-call-preserved g c = record {
       (sym (ap (list_any wrote_so) c.push_reserved.ensures.items ∙ any-push wrote_so c.loop-call.answers.items c.call-answer.result) ∙ quiet) in
       c.call-answer.ensures.silent parts.1 ∙ c.loop-call.invariant.silent parts.0;
   nowhere = λ none.
-      let same = c.loop-call.invariant.nowhere none in
-      c.call-answer.ensures.nowhere (ap (λ o. (target_of (option_map g.T.TermLike.view o)).columns) same ∙ none) ∙ same;
+      let wrote_so = λ (answer : AnswerValue). wrote (drawn_of (answer_of answer)) in
+      let before = c.loop-call.invariant.nowhere none in
+      let here = c.call-answer.ensures.nowhere (ap (λ o. (target_of (option_map g.T.TermLike.view o)).columns) (c.loop-call.invariant.silent before) ∙ none) in
+      ap (list_any wrote_so) c.push_reserved.ensures.items ∙ any-push wrote_so c.loop-call.answers.items c.call-answer.result ∙ rw (before, here) refl;
   foreign = rw (c.push_reserved.ensures.items, map-append, map-append)
       (turned_more (mark_of c.args.self.now) (map timed c.loop-call.yielded) (map answer_of c.loop-call.answers.items) (timed (c.in-Some.call, c.in-Some.now)) (answer_of c.call-answer.result)
       c.loop-call.invariant.foreign (λ foreign. (c.call-answer.ensures.foreign (subst (λ mark. NamesForeign mark (call_of c.in-Some.call)) (sym c.loop-call.invariant.mark) foreign)).0));

@@ -17,7 +17,7 @@ invariant-loop-call g l = record {
   ran : (mark : ℕ) (s : BoardState (BarRecord g.row.K.Denot)) → IsIn mark l.fn.self s → (m : BoardState (BarRecord g.row.K.Denot)) × IsIn mark l.self m ×
       Runs (board (board_bars g.K.Tracks.means) mark) (map timed l.yielded) (map answer_of l.answers.items) (known g.T.TermLike.view l.fn.self) s (known g.T.TermLike.view l.self) m;
   silent : IsFalse (list_any (λ answer. wrote (drawn_of (answer_of answer))) l.answers.items) → terminal_of l.self ≡ terminal_of l.fn.self;
-  nowhere : IsNowhere g.T.TermLike.view l.fn.self → terminal_of l.self ≡ terminal_of l.fn.self;
+  nowhere : IsNowhere g.T.TermLike.view l.fn.self → IsFalse (list_any (λ answer. wrote (drawn_of (answer_of answer))) l.answers.items);
   foreign : AreTurnedAway (mark_of l.fn.self) (map timed l.yielded) (map answer_of l.answers.items);
   records : (number : ℕ) → IsFalse (list_any (λ call. acts_on (mark_of l.fn.self) number (call_of call.0)) l.yielded) → StaysOrComes number l.answers.items l.fn.self l.self;
   mark : mark_of l.self ≡ mark_of l.fn.self;
