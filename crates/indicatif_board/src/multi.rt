@@ -257,6 +257,8 @@ impl<K: Tracks, T: TermLike + Drop> Board<K, T> {
         ensures not_member { IsAbsent self.old (id_of anchor) → (given result ≡ Refused Refusal.NotMember) × (self.new ≡ self.old) }
         ensures beside { IsTrue (is_some (record_at anchor.number self.old)) → IsForeign (mark_of self.old) (entrant_of candidate) →
             (given result ≡ Refused Refusal.ForeignBar) × (self.new ≡ self.old) }
+        ensures absent { anchor.mark ≡ mark_of self.old → IsTrue (is_some (record_at anchor.number self.old)) → EntersAbsent self.old (entrant_of candidate) →
+            (given result ≡ Refused Refusal.NotMember) × (self.new ≡ self.old) }
         ensures records { RecordsTake (entrant_of candidate) (given result) self.old self.new }
         ensures slot { SlotsTake (entrant_of candidate) (given result) self.old self.new }
     {
@@ -285,6 +287,8 @@ impl<K: Tracks, T: TermLike + Drop> Board<K, T> {
         ensures not_member { IsAbsent self.old (id_of anchor) → (given result ≡ Refused Refusal.NotMember) × (self.new ≡ self.old) }
         ensures beside { IsTrue (is_some (record_at anchor.number self.old)) → IsForeign (mark_of self.old) (entrant_of candidate) →
             (given result ≡ Refused Refusal.ForeignBar) × (self.new ≡ self.old) }
+        ensures absent { anchor.mark ≡ mark_of self.old → IsTrue (is_some (record_at anchor.number self.old)) → EntersAbsent self.old (entrant_of candidate) →
+            (given result ≡ Refused Refusal.NotMember) × (self.new ≡ self.old) }
         ensures records { RecordsTake (entrant_of candidate) (given result) self.old self.new }
         ensures slot { SlotsTake (entrant_of candidate) (given result) self.old self.new }
     {
