@@ -44,3 +44,9 @@ returns-in-Err-clause-slot g c = none_seated (entrant_of c.args.candidate) c.in-
 
 pub returns-clause-not_member : goal.returns-clause-not_member
 returns-clause-not_member g c = λ absent. absurd (has_record c.args.self.now.shown c.args.anchor.number c.in-Ok.at c.in-Ok.ensures.own absent.1)
+
+pub returns-in-Err-clause-absent : goal.returns-in-Err-clause-absent
+returns-in-Err-clause-absent g c = λ own some out. absurd (cc (sym (ap is_some (c.in-Err.ensures.absent own).1) ∙ some))
+
+pub returns-clause-absent : goal.returns-clause-absent
+returns-clause-absent g c = λ own some out. c.insert_at.ensures.not_member out
