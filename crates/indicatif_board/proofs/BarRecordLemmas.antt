@@ -2,13 +2,14 @@
 use Rattle.std.proofs.Common.{set, get_or, subst, Option, Some, None, Result, Err, inl, inr, ◌≡◌, ℕ, zero, suc, ◌+◌, ◌<◌, ◌≤◌, true, false, not, List, [], ◌∷◌, map, drop, length, refl, sym, ◌∙◌, ap, arith, if◌then◌else◌}
 use Rattle.std.specs.Prelude.{◌==◌, ◌≢◌, IfErr, IsTrue}
 use Rattle.std.specs.List.{prefix_len, position_or_len, insert, remove}
+use Rattle.std.specs.VecDeque.{deque_len}
 use Rattle.std.proofs.lemmas.Bool.{cases_Bool, eqb-true, eq-eqb, ne_eqb}
 use Rattle.std.proofs.lemmas.List.{length-map}
 use Rattle.indicatif_term.specs.declared.lines.Segment.{Segment}
 use Rattle.indicatif_text.specs.declared.refusal.Refusal.{Refusal}
 use Rattle.indicatif_text.specs.declared.refusal.Drawn.{Drawn}
 use Rattle.indicatif_bar.specs.Commands.{BarRecord}
-use Rattle.indicatif_board.specs.Boards.{Entrant, New, Old, Refused}
+use Rattle.indicatif_board.specs.Boards.{Location, Entrant, New, Old, Refused}
 use Rattle.indicatif_board.specs.Multi.{RecordsTake, SlotsTake}
 use Rattle.indicatif_board.specs.declared.multi.Board.{Board}
 use Rattle.indicatif_board.specs.declared.shown_bars.ShownBars.{ShownBars}
@@ -266,13 +267,17 @@ pub none_taken : {K T : Type 0} (entrant : Entrant (BarRecord K)) (e : Refusal) 
 none_taken (New bar) e b = λ number. refl
 none_taken (Old id) e b = λ number. refl
 
-pub none_seated : {K T : Type 0} (entrant : Entrant (BarRecord K)) (e : Refusal) (b : Board K T) → SlotsTake entrant (Refused e) b b
-none_seated (New bar) e b = refl
-none_seated (Old id) e b = refl
+pub none_seated : {K T : Type 0} (at : Location) (entrant : Entrant (BarRecord K)) (e : Refusal) (b : Board K T) → SlotsTake at entrant (Refused e) b b
+none_seated at (New bar) e b = refl
+none_seated at (Old id) e b = refl
 
 module _ {K : Type 0} (b : ShownBars K) where
   even_on : length b.members.items ≡ length b.table.order
   even_on = evenly b.frame.items b.table.order b.members.items (omega (arith, b.even, b.members.ok, b.frame.ok)) b.seated
+
+  -- as many bars as numbers
+  pub seats_on : deque_len b.members ≡ length b.table.order
+  seats_on = omega (arith, b.members.ok, even_on)
 
   -- a bar that isn't dropped stands there
   pub stands : (number at : ℕ) (item : Member K) → at ≡ seat_of number b.table.order → at < length b.members.items → item ≡ get_or b.members.items at item → item.dropped ≡ false →

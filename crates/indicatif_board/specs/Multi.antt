@@ -1,6 +1,6 @@
 -- What contracts see of a board: its terminal, whether it is in a given state, and what a call leads to.
-use Rattle.std.specs.Prelude.{◌≡◌, ◌≢◌, ◌⊎◌, ℕ, Bool, IsTrue, List, [], ◌∷◌, Option, Some, None, MatchOption, option_map, Result, Err, refl}
-use Rattle.std.specs.List.{list_any}
+use Rattle.std.specs.Prelude.{◌≡◌, ◌≢◌, ◌⊎◌, ℕ, ◌+◌, ◌-◌, min, length, ◌==◌, Bool, IsTrue, List, [], ◌∷◌, Option, Some, None, MatchOption, option_map, Result, Err, refl}
+use Rattle.std.specs.List.{list_any, position_or_len}
 use Rattle.indicatif_text.specs.declared.refusal.Refusal.{Refusal}
 use Rattle.indicatif_text.specs.declared.refusal.Drawn.{Drawn}
 use Rattle.indicatif_term.specs.Calls.{TermView}
@@ -14,12 +14,20 @@ use Rattle.indicatif_bar.specs.Runs.{CallMade, Runs}
 use Rattle.indicatif_bar.specs.Scripts.{Sizing}
 use Rattle.indicatif_bar.specs.Stages.{IsStaged}
 use Rattle.indicatif_board.specs.BoardBars.{board_bars}
-use Rattle.indicatif_board.specs.Boards.{BoardState, Id, Entrant, New, Old, Call, Insert, Remove, Drop, Clear, Redraw, Tell, Answer, Given, Drew, Refused, says, drawn_of, board}
+use Rattle.indicatif_board.specs.Boards.{BoardState, Id, Location, End, Index, FromBack, Before, After, Entrant, New, Old, Call, Insert, Remove, Drop, Clear, Redraw, Tell, Answer, Given, Drew, Refused, says, drawn_of, board}
 use Rattle.indicatif_board.specs.Calls.{answer_of, gives}
 use Rattle.indicatif_board.specs.Slots.{SlotTable, LeavesHead, LeavesFrom, next_slot, seated, slot_of}
 use Rattle.indicatif_board.specs.ShownBars.{AreShownAs, record_on}
 use Rattle.indicatif_board.specs.declared.calls.Answer.{Answer as AnswerValue}
 use Rattle.indicatif_board.specs.declared.multi.Board.{Board}
+
+-- how many of the bars of these numbers, from the top, stand before a new one there
+abbrev pub seat_in : Location → List ℕ → ℕ
+seat_in End order = length order
+seat_in (Index i) order = min i (length order)
+seat_in (FromBack i) order = length order - i
+seat_in (Before anchor) order = position_or_len (λ n. n == anchor.number) order
+seat_in (After anchor) order = position_or_len (λ n. n == anchor.number) order + 1
 
 module _ {K T : Type 0} where
   -- its terminal; none where the target is hidden
@@ -85,12 +93,12 @@ module _ {K T : Type 0} where
       (id.mark ≡ old.mark) × (record_at id.number old ≡ None) × (record_at id.number new ≡ Some bar) × OtherRecordsStay id.number old new
   RecordsTake _ _ old new = RecordsStay old new
 
-  -- one was to be taken in: a new bar has the slot that was freed last, or where none was free the first that was never used; where
-  -- it was turned away, or was there already, each bar has the slot that it had
-  abbrev pub SlotsTake : Entrant (BarRecord K) → Answer → Board K T → Board K T → Type 0
-  SlotsTake (New bar) (Given id) old new =
-      (slot_of id.number (slots_of new) ≡ Some (next_slot (slots_of old))) × (at : ℕ) × (slots_of new ≡ seated at (slots_of old))
-  SlotsTake _ _ old new = slots_of new ≡ slots_of old
+  -- one was to be taken in there: a new bar stands there, and has the slot that was freed last, or where none was free the first
+  -- that was never used; where it was turned away, or was there already, each bar stands where it stood, with the slot that it had
+  abbrev pub SlotsTake : Location → Entrant (BarRecord K) → Answer → Board K T → Board K T → Type 0
+  SlotsTake at (New bar) (Given id) old new =
+      (slot_of id.number (slots_of new) ≡ Some (next_slot (slots_of old))) × (slots_of new ≡ seated (seat_in at (slots_of old).order) (slots_of old))
+  SlotsTake at _ _ old new = slots_of new ≡ slots_of old
 
   -- one was to be taken out: it left its slot, or it wasn't there
   abbrev pub SlotsGive : Option (BarRecord K) → Board K T → Board K T → Type 0
@@ -102,7 +110,7 @@ module _ {K T : Type 0} where
 
   -- what a call with this answer made of the slots
   abbrev pub SlotsChange : Call (BarRecord K) (Command K) → Answer → Board K T → Board K T → Type 0
-  SlotsChange (Insert at entrant) answer old new = SlotsTake entrant answer old new
+  SlotsChange (Insert at entrant) answer old new = SlotsTake at entrant answer old new
   SlotsChange (Remove id) answer old new = (slots_of new ≡ slots_of old) ⊎ LeavesFrom (slots_of old) (slots_of new)
   SlotsChange _ answer old new = SlotsLeft old new
 

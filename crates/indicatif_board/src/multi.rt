@@ -61,7 +61,7 @@ pub struct Board<K, T: Drop> {
 
 impl<K: Tracks, T: TermLike + Drop> Board<K, T> {
     ghost use Rattle.indicatif_board.specs.Calls.{entrant_of, given, removal, answer_of, place_at, call_of, timed, IsForeign, NamesForeign, AreTurnedAway, acts_on};
-    ghost use Rattle.indicatif_board.specs.Multi.{IsIn, IsNowhere, IsAbsent, EntersAbsent, mark_of, record_at, RecordsStay, OtherRecordsStay, RecordObeys, RecordsTake, SlotsTake, SlotsGive};
+    ghost use Rattle.indicatif_board.specs.Multi.{IsIn, IsNowhere, IsAbsent, EntersAbsent, mark_of, record_at, seat_in, RecordsStay, OtherRecordsStay, RecordObeys, RecordsTake, SlotsTake, SlotsGive};
     ghost use Rattle.indicatif_board.specs.Multi.{SlotsLeft, SlotsChange, RecordsChange, StaysOrComes, LeadsBy, Suspends, known, moves_of, slots_of, terminal_of};
 
     /// A board without bars on this target, of this mark. It takes no memory and writes nothing.
@@ -191,7 +191,7 @@ impl<K: Tracks, T: TermLike + Drop> Board<K, T> {
         ensures foreign { NamesForeign (mark_of self.old) (Insert End (entrant_of candidate)) → (given result ≡ Refused Refusal.ForeignBar) × (self.new ≡ self.old) }
         ensures not_member { EntersAbsent self.old (entrant_of candidate) → (given result ≡ Refused Refusal.NotMember) × (self.new ≡ self.old) }
         ensures records { RecordsTake (entrant_of candidate) (given result) self.old self.new }
-        ensures slot { SlotsTake (entrant_of candidate) (given result) self.old self.new }
+        ensures slot { SlotsTake End (entrant_of candidate) (given result) self.old self.new }
     {
         let at = self.shown.members.len();
         self.insert_at(at, candidate)
@@ -210,7 +210,7 @@ impl<K: Tracks, T: TermLike + Drop> Board<K, T> {
         ensures foreign { NamesForeign (mark_of self.old) (Insert (Index index) (entrant_of candidate)) → (given result ≡ Refused Refusal.ForeignBar) × (self.new ≡ self.old) }
         ensures not_member { EntersAbsent self.old (entrant_of candidate) → (given result ≡ Refused Refusal.NotMember) × (self.new ≡ self.old) }
         ensures records { RecordsTake (entrant_of candidate) (given result) self.old self.new }
-        ensures slot { SlotsTake (entrant_of candidate) (given result) self.old self.new }
+        ensures slot { SlotsTake (Index index) (entrant_of candidate) (given result) self.old self.new }
     {
         let at = index.min(self.shown.members.len());
         self.insert_at(at, candidate)
@@ -233,7 +233,7 @@ impl<K: Tracks, T: TermLike + Drop> Board<K, T> {
         ensures foreign { NamesForeign (mark_of self.old) (Insert (FromBack count) (entrant_of candidate)) → (given result ≡ Refused Refusal.ForeignBar) × (self.new ≡ self.old) }
         ensures not_member { EntersAbsent self.old (entrant_of candidate) → (given result ≡ Refused Refusal.NotMember) × (self.new ≡ self.old) }
         ensures records { RecordsTake (entrant_of candidate) (given result) self.old self.new }
-        ensures slot { SlotsTake (entrant_of candidate) (given result) self.old self.new }
+        ensures slot { SlotsTake (FromBack count) (entrant_of candidate) (given result) self.old self.new }
     {
         let at = self.shown.members.len().saturating_sub(count);
         self.insert_at(at, candidate)
@@ -260,7 +260,7 @@ impl<K: Tracks, T: TermLike + Drop> Board<K, T> {
         ensures absent { anchor.mark ≡ mark_of self.old → IsTrue (is_some (record_at anchor.number self.old)) → EntersAbsent self.old (entrant_of candidate) →
             (given result ≡ Refused Refusal.NotMember) × (self.new ≡ self.old) }
         ensures records { RecordsTake (entrant_of candidate) (given result) self.old self.new }
-        ensures slot { SlotsTake (entrant_of candidate) (given result) self.old self.new }
+        ensures slot { SlotsTake (Before (id_of anchor)) (entrant_of candidate) (given result) self.old self.new }
     {
         let at = match self.find(anchor) {
             Ok(at) => at,
@@ -290,7 +290,7 @@ impl<K: Tracks, T: TermLike + Drop> Board<K, T> {
         ensures absent { anchor.mark ≡ mark_of self.old → IsTrue (is_some (record_at anchor.number self.old)) → EntersAbsent self.old (entrant_of candidate) →
             (given result ≡ Refused Refusal.NotMember) × (self.new ≡ self.old) }
         ensures records { RecordsTake (entrant_of candidate) (given result) self.old self.new }
-        ensures slot { SlotsTake (entrant_of candidate) (given result) self.old self.new }
+        ensures slot { SlotsTake (After (id_of anchor)) (entrant_of candidate) (given result) self.old self.new }
     {
         let at = match self.find(anchor) {
             Ok(at) => at,
@@ -567,7 +567,7 @@ impl<K: Tracks, T: TermLike + Drop> Board<K, T> {
         ensures quiet { IsFalse (wrote (drawn_of (given result))) }
         ensures leads { (now : ℕ) → LeadsBy K.means T.view self.old self.new (Insert (place_at at) (entrant_of candidate)) now (given result) }
         ensures foreign { NamesForeign (mark_of self.old) (Insert (place_at at) (entrant_of candidate)) → (given result ≡ Refused Refusal.ForeignBar) × (self.new ≡ self.old) }
-        ensures slot { SlotsTake (entrant_of candidate) (given result) self.old self.new }
+        ensures slot { SlotsTake (place_at at) (entrant_of candidate) (given result) self.old self.new }
         ensures records { RecordsTake (entrant_of candidate) (given result) self.old self.new }
     {
         match at {
@@ -589,7 +589,7 @@ impl<K: Tracks, T: TermLike + Drop> Board<K, T> {
         ensures foreign { IsForeign (mark_of self.old) (entrant_of candidate) → (given result ≡ Refused Refusal.ForeignBar) × (self.new ≡ self.old) }
         ensures not_member { EntersAbsent self.old (entrant_of candidate) → (given result ≡ Refused Refusal.NotMember) × (self.new ≡ self.old) }
         ensures records { RecordsTake (entrant_of candidate) (given result) self.old self.new }
-        ensures slot { SlotsTake (entrant_of candidate) (given result) self.old self.new }
+        ensures slot { (spot : Location) → at ≡ seat_in spot (slots_of self.old).order → SlotsTake spot (entrant_of candidate) (given result) self.old self.new }
         ensures inserted { (mark : ℕ) (s : BoardState (BarRecord K)) (spot : Location) → IsIn mark self.old s → at ≡ index_of spot s.members →
             (next : BoardState (BarRecord K)) × IsIn mark self.new next × (next.lists ≡ s.lists)
             × ((target : Target) → Leads (board (board_bars K.means) mark) target s (inserted mark spot (entrant_of candidate) s) (given result) next) }
