@@ -62,7 +62,7 @@ pub struct Board<K, T: Drop> {
 impl<K: Tracks, T: TermLike + Drop> Board<K, T> {
     ghost use Rattle.indicatif_board.specs.Calls.{entrant_of, given, removal, answer_of, place_at, call_of, timed, IsForeign, NamesForeign, AreTurnedAway, acts_on};
     ghost use Rattle.indicatif_board.specs.Multi.{IsIn, IsNowhere, IsAbsent, EntersAbsent, mark_of, record_at, seat_in, RecordsStay, OtherRecordsStay, RecordObeys, RecordsTake, SlotsTake, SlotsGive};
-    ghost use Rattle.indicatif_board.specs.Multi.{SlotsLeft, SlotsChange, RecordsChange, StaysOrComes, LeadsBy, Suspends, known, moves_of, slots_of, terminal_of};
+    ghost use Rattle.indicatif_board.specs.Multi.{SlotsLeft, SlotsChange, KeepsSlot, RecordsChange, StaysOrComes, LeadsBy, Suspends, known, moves_of, slots_of, terminal_of};
 
     /// A board without bars on this target, of this mark. It takes no memory and writes nothing.
     pub fn new(alloc: Global, target: ProgressDrawTarget<T>, mark: u64) -> Self
@@ -524,8 +524,8 @@ impl<K: Tracks, T: TermLike + Drop> Board<K, T> {
 
     /// Makes the calls one after another, each at its moment, and answers what each answered. No calls change nothing, and are never
     /// refused. A call that names another board's bar (of an insertion beside an anchor, that anchor) is answered `ForeignBar`, and
-    /// changes nothing. A bar that none of the calls removes, drops or tells something keeps its record. Bars that are removed or
-    /// turned away are given up.
+    /// changes nothing. A bar that none of the calls removes, drops or tells something keeps its record. Each bar keeps its slot as
+    /// long as it stands in the order. Bars that are removed or turned away are given up.
     ///
     /// Refused: `Memory` for the answers alone, and nothing is run; the calls are given up.
     pub fn run(&mut self, calls: Vec<(Call<K>, Moment)>) -> Result<Vec<Answer>, Refusal>
@@ -543,6 +543,7 @@ impl<K: Tracks, T: TermLike + Drop> Board<K, T> {
         ensures foreign { IfOk result (λ answers. AreTurnedAway (mark_of self.old) (map timed calls.items) (map answer_of answers.items)) }
         ensures records { (number : ℕ) → IsFalse (list_any (λ call. acts_on (mark_of self.old) number (call_of call.0)) calls.items) →
             IfOk result (λ answers. StaysOrComes number answers.items self.old self.new) }
+        ensures slots { (number slot : ℕ) → slot_of number (slots_of self.old) ≡ Some slot → KeepsSlot number slot self.new }
         ensures idle { vec_len calls ≡ 0 → IsTrue (is_ok result) × (self.new ≡ self.old) }
         ensures memory { IfErr result (λ e. e ≡ Refusal.Memory) }
         ensures unrun { OnErr result (self.new ≡ self.old) }
@@ -552,7 +553,9 @@ impl<K: Tracks, T: TermLike + Drop> Board<K, T> {
             return Ok(Vec::new(alloc));
         }
         let mut answers = Vec::with_capacity(alloc, calls.len())?;
+        self.order();
         for (call, now) in calls {
+            self.order();
             let answer = self.call(call, now);
             answers.push_reserved(answer);
         }

@@ -14,8 +14,8 @@ use Rattle.indicatif_board.specs.Boards.{drawn_of, board}
 use Rattle.indicatif_board.specs.declared.calls.Answer.{Answer as AnswerValue}
 use Rattle.indicatif_board.specs.declared.calls.Call.{Call as CallValue}
 use Rattle.indicatif_board.specs.Calls.{timed, call_of, answer_of, AreTurnedAway, NamesForeign, acts_on}
-use Rattle.indicatif_board.specs.Multi.{known, mark_of, StaysOrComes}
-use Rattle.indicatif_board.proofs.RunRecordLemmas.{turned_more, records_more}
+use Rattle.indicatif_board.specs.Multi.{known, mark_of, slots_of, StaysOrComes}
+use Rattle.indicatif_board.proofs.RunRecordLemmas.{turned_more, records_more, made_before, slots_more}
 use Rattle.indicatif_board.proofs.multi.Board.run.Goals as goal
 
 pub returns-then-is_empty-clause-run : goal.returns-then-is_empty-clause-run
@@ -38,6 +38,7 @@ loop-call-init g c = record {
   nowhere = λ none. rw c.in_ok-answers.ensures.items refl;
   foreign = subst (λ xs. AreTurnedAway {K = g.row.K.Denot} (mark_of c.args.self.now) [] (map answer_of xs)) (sym c.in_ok-answers.ensures.items) tt;
   records = λ number apart. inl refl;
+  slots = λ number slot stood. (inl stood, made_before (slots_of c.args.self.now) number slot c.order.ensures.seated stood);
   mark = refl;
 }
 
@@ -81,6 +82,10 @@ loop-call-preserved g c = record {
       subst (λ xs. StaysOrComes number xs c.args.self.now c.call-answer.new.self) (sym c.push_reserved.ensures.items)
       (records_more tracks number c.loop-call.answers.items (call_of c.in-Some.call) c.in-Some.now c.call-answer.result c.args.self.now c.loop-call.self c.call-answer.new.self
       (c.loop-call.invariant.records number parts.0) c.call-answer.ensures.records (ap (λ mark. acts_on mark number (call_of c.in-Some.call)) c.loop-call.invariant.mark ∙ parts.1));
+  slots = λ number slot stood.
+      let before = c.loop-call.invariant.slots number slot stood in
+      slots_more (call_of c.in-Some.call) (answer_of c.call-answer.result) c.loop-call.self c.call-answer.new.self number slot
+      c.order-in-loop-call.ensures.seated c.call-answer.ensures.slots before.0 before.1;
   mark = c.call-answer.ensures.mark ∙ c.loop-call.invariant.mark;
 }
 
@@ -123,3 +128,12 @@ returns-clause-records g c =
     λ number apart.
     let acted = λ (call : CallValue g.row.K.Denot × ℕ). acts_on (mark_of c.args.self.now) number (call_of call.0) in
     c.loop-call.invariant.records number (ap (list_any acted) (sym (map-id c.loop-call.yielded) ∙ t.0) ∙ apart)
+
+pub returns-then-is_empty-clause-slots : goal.returns-then-is_empty-clause-slots
+returns-then-is_empty-clause-slots g c = λ number slot stood. inl stood
+
+pub returns-in_err-answers-clause-slots : goal.returns-in_err-answers-clause-slots
+returns-in_err-answers-clause-slots g c = λ number slot stood. inl stood
+
+pub returns-clause-slots : goal.returns-clause-slots
+returns-clause-slots g c = λ number slot stood. (c.loop-call.invariant.slots number slot stood).0
