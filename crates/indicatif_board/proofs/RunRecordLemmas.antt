@@ -124,12 +124,12 @@ module _ {K T : Type 0} (b c : Board K T) (number : ℕ) (seats : IsSeated (slot
   call_one (Insert at entrant) answer went = taken_one at entrant answer went
   call_one (Remove id) answer went = out_one went
   call_one (Drop id) answer went = left_one went
-  call_one (Log text) answer went = left_one went
-  call_one (BarLog id text) answer went = left_one went
-  call_one Clear answer went = left_one went
-  call_one Redraw answer went = left_one went
-  call_one (Align bottom) answer went = left_one went
-  call_one (Tell id command) answer went = left_one went
+  call_one (Log text) answer went = left_one went.0
+  call_one (BarLog id text) answer went = left_one went.0
+  call_one Clear answer went = left_one went.0
+  call_one Redraw answer went = left_one went.0
+  call_one (Align bottom) answer went = same_one number (slots_of b) (slots_of c) made went
+  call_one (Tell id command) answer went = left_one went.0
 
 kept_or_none : (o o' : Option ℕ) (slot : ℕ) → ((s : ℕ) → o' ≡ Some s → o ≡ Some s) → (o ≡ Some slot) ⊎ (o ≡ None) → (o' ≡ Some slot) ⊎ (o' ≡ None)
 kept_or_none o None slot keeps before = inr refl

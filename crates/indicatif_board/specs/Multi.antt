@@ -3,6 +3,7 @@ use Rattle.std.specs.Prelude.{◌≡◌, ◌≢◌, ◌⊎◌, ℕ, ◌+◌, ◌
 use Rattle.std.specs.List.{list_any, position_or_len}
 use Rattle.indicatif_text.specs.declared.refusal.Refusal.{Refusal}
 use Rattle.indicatif_text.specs.declared.refusal.Drawn.{Drawn}
+use Rattle.indicatif_text.specs.declared.refusal.Drawn.TheVariants.{Yes}
 use Rattle.indicatif_term.specs.Calls.{TermView}
 use Rattle.indicatif_term.specs.Engines.{engine_moves, engine_term}
 use Rattle.indicatif_bar.specs.Trackers.{Tracking}
@@ -14,10 +15,10 @@ use Rattle.indicatif_bar.specs.Runs.{CallMade, Runs}
 use Rattle.indicatif_bar.specs.Scripts.{Sizing}
 use Rattle.indicatif_bar.specs.Stages.{IsStaged}
 use Rattle.indicatif_board.specs.BoardBars.{board_bars}
-use Rattle.indicatif_board.specs.Boards.{BoardState, Id, Location, End, Index, FromBack, Before, After, Entrant, New, Old, Call, Insert, Remove, Drop, Clear, Redraw, Tell, Answer, Given, Drew, Refused, says, drawn_of, board}
+use Rattle.indicatif_board.specs.Boards.{BoardState, Id, Location, End, Index, FromBack, Before, After, Entrant, New, Old, Call, Insert, Remove, Drop, Clear, Redraw, Align, Tell, Answer, Given, Drew, Refused, says, drawn_of, board}
 use Rattle.indicatif_board.specs.Calls.{answer_of, gives}
 use Rattle.indicatif_board.specs.Slots.{SlotTable, LeavesHead, LeavesFrom, next_slot, seated, slot_of}
-use Rattle.indicatif_board.specs.ShownBars.{AreShownAs, record_on}
+use Rattle.indicatif_board.specs.ShownBars.{AreShownAs, HeadIsOwned, record_on}
 use Rattle.indicatif_board.specs.declared.calls.Answer.{Answer as AnswerValue}
 use Rattle.indicatif_board.specs.declared.multi.Board.{Board}
 
@@ -108,11 +109,17 @@ module _ {K T : Type 0} where
   abbrev pub SlotsLeft : Board K T → Board K T → Type 0
   SlotsLeft old new = LeavesHead (slots_of old) (slots_of new)
 
+  -- the bar at the head of the order, if there is one, has a record
+  abbrev pub HeadHasRecord : Board K T → Type 0
+  HeadHasRecord b = HeadIsOwned b.shown
+
   -- what a call with this answer made of the slots
   abbrev pub SlotsChange : Call (BarRecord K) (Command K) → Answer → Board K T → Board K T → Type 0
   SlotsChange (Insert at entrant) answer old new = SlotsTake at entrant answer old new
   SlotsChange (Remove id) answer old new = (slots_of new ≡ slots_of old) ⊎ LeavesFrom (slots_of old) (slots_of new)
-  SlotsChange _ answer old new = SlotsLeft old new
+  SlotsChange (Drop id) answer old new = SlotsLeft old new
+  SlotsChange (Align bottom) answer old new = slots_of new ≡ slots_of old
+  SlotsChange _ answer old new = SlotsLeft old new × (answer ≡ Drew Yes → HeadHasRecord new) × (answer ≢ Drew Yes → slots_of new ≡ slots_of old)
 
   -- the bar of this number has this slot, or stands in the order no more
   abbrev pub KeepsSlot : ℕ → ℕ → Board K T → Type 0

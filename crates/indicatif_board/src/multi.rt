@@ -14,7 +14,7 @@ ghost use Rattle.indicatif_board.specs.BoardBars.{board_bars};
 ghost use Rattle.indicatif_board.specs.Boards.{BoardState, Tell, Log, BarLog, Clear, Redraw, Align, Insert, Remove, Drop, Location, End, Index, FromBack, Before, After, Done, Refused, opening_board, says, drawn_of, index_of, inserted, turned_away, draw_of, board};
 ghost use Rattle.indicatif_board.specs.BoardValues.{id_of};
 ghost use Rattle.indicatif_board.specs.Members.{is_member, order_of, said_of};
-ghost use Rattle.indicatif_board.specs.Slots.{slot_of, IsSeated};
+ghost use Rattle.indicatif_board.specs.Slots.{slot_of, occurrences, IsSeated};
 ghost use Rattle.indicatif_board.specs.Recorded.{handed_back};
 ghost use Rattle.indicatif_board.specs.Inside.Named.{HasPlace, named_laid_out, named_layout_takes};
 ghost use Rattle.indicatif_board.specs.Inside.Parting.{parted, RestsOn};
@@ -62,7 +62,7 @@ pub struct Board<K, T: Drop> {
 impl<K: Tracks, T: TermLike + Drop> Board<K, T> {
     ghost use Rattle.indicatif_board.specs.Calls.{entrant_of, given, removal, answer_of, place_at, call_of, timed, IsForeign, NamesForeign, AreTurnedAway, acts_on};
     ghost use Rattle.indicatif_board.specs.Multi.{IsIn, IsNowhere, IsAbsent, EntersAbsent, mark_of, record_at, seat_in, RecordsStay, OtherRecordsStay, RecordObeys, RecordsTake, SlotsTake, SlotsGive};
-    ghost use Rattle.indicatif_board.specs.Multi.{SlotsLeft, SlotsChange, KeepsSlot, RecordsChange, StaysOrComes, LeadsBy, Suspends, known, moves_of, slots_of, terminal_of};
+    ghost use Rattle.indicatif_board.specs.Multi.{SlotsLeft, SlotsChange, HeadHasRecord, KeepsSlot, RecordsChange, StaysOrComes, LeadsBy, Suspends, known, moves_of, slots_of, terminal_of};
 
     /// A board without bars on this target, of this mark. It takes no memory and writes nothing.
     pub fn new(alloc: Global, target: ProgressDrawTarget<T>, mark: u64) -> Self
@@ -116,6 +116,7 @@ impl<K: Tracks, T: TermLike + Drop> Board<K, T> {
         ensures order { (mark : ℕ) (s : BoardState (BarRecord K)) → IsIn mark self.now s → result.now ≡ order_of s.members }
         ensures slots { result.now ≡ (slots_of self.now).order }
         ensures seated { IsSeated (slots_of self.now) }
+        ensures absent { (number : ℕ) → occurrences number result.now ≡ 0 → record_at number self.now ≡ None }
     {
         self.shown.table.order()
     }
@@ -381,6 +382,8 @@ impl<K: Tracks, T: TermLike + Drop> Board<K, T> {
         ensures unchanged { (result ≡ Err Refusal.NotMember) ⊎ (result ≡ Err Refusal.ElapsedBeyondClock) → self.new ≡ self.old }
         ensures record { id.mark ≡ mark_of self.old → RecordObeys K.means id.number (command_of command) now result self.old self.new }
         ensures slots { SlotsLeft self.old self.new }
+        ensures head { result ≡ Ok Drawn.Yes → HeadHasRecord self.new }
+        ensures stay { result ≢ Ok Drawn.Yes → slots_of self.new ≡ slots_of self.old }
         ensures others { OtherRecordsStay id.number self.old self.new }
     {
         let at = self.find(id)?;
@@ -399,6 +402,8 @@ impl<K: Tracks, T: TermLike + Drop> Board<K, T> {
         ensures mark { mark_of self.new ≡ mark_of self.old }
         ensures leads { LeadsBy K.means T.view self.old self.new (Log text.now) now (says result) }
         ensures slots { SlotsLeft self.old self.new }
+        ensures head { result ≡ Ok Drawn.Yes → HeadHasRecord self.new }
+        ensures stay { result ≢ Ok Drawn.Yes → slots_of self.new ≡ slots_of self.old }
         ensures records { RecordsStay self.old self.new }
     {
         self.draw(Ask::Forced, None, Writing::TextAndFrame(text), now)
@@ -416,6 +421,8 @@ impl<K: Tracks, T: TermLike + Drop> Board<K, T> {
         ensures not_member { id.mark ≡ mark_of self.old → (result ≡ Err Refusal.NotMember) ↔ (record_at id.number self.old ≡ None) }
         ensures unchanged { result ≡ Err Refusal.NotMember → self.new ≡ self.old }
         ensures slots { SlotsLeft self.old self.new }
+        ensures head { result ≡ Ok Drawn.Yes → HeadHasRecord self.new }
+        ensures stay { result ≢ Ok Drawn.Yes → slots_of self.new ≡ slots_of self.old }
         ensures records { RecordsStay self.old self.new }
     {
         let at = self.find(id)?;
@@ -432,6 +439,8 @@ impl<K: Tracks, T: TermLike + Drop> Board<K, T> {
         ensures mark { mark_of self.new ≡ mark_of self.old }
         ensures leads { LeadsBy K.means T.view self.old self.new Clear now (says result) }
         ensures slots { SlotsLeft self.old self.new }
+        ensures head { result ≡ Ok Drawn.Yes → HeadHasRecord self.new }
+        ensures stay { result ≢ Ok Drawn.Yes → slots_of self.new ≡ slots_of self.old }
         ensures records { RecordsStay self.old self.new }
     {
         self.draw(Ask::Forced, None, Writing::NoFrame, now)
@@ -446,6 +455,8 @@ impl<K: Tracks, T: TermLike + Drop> Board<K, T> {
         ensures mark { mark_of self.new ≡ mark_of self.old }
         ensures leads { LeadsBy K.means T.view self.old self.new Redraw now (says result) }
         ensures slots { SlotsLeft self.old self.new }
+        ensures head { result ≡ Ok Drawn.Yes → HeadHasRecord self.new }
+        ensures stay { result ≢ Ok Drawn.Yes → slots_of self.new ≡ slots_of self.old }
         ensures records { RecordsStay self.old self.new }
     {
         self.draw(Ask::Forced, None, Writing::Frame, now)
@@ -462,6 +473,7 @@ impl<K: Tracks, T: TermLike + Drop> Board<K, T> {
         ensures mark { mark_of self.new ≡ mark_of self.old }
         ensures leads { Suspends K.means T.view self.old self.new now result.1 }
         ensures slots { SlotsLeft self.old self.new }
+        ensures head { result.1 ≡ Ok Drawn.Yes → HeadHasRecord self.new }
         ensures records { RecordsStay self.old self.new }
     {
         let cleared = self.clear(now);
@@ -699,6 +711,8 @@ impl<K: Tracks, T: TermLike + Drop> Board<K, T> {
         ensures nowhere { IsNowhere T.view self.old → IsFalse (wrote result) }
         ensures mark { mark_of self.new ≡ mark_of self.old }
         ensures slots { SlotsLeft self.old self.new }
+        ensures head { result ≡ Ok Drawn.Yes → HeadHasRecord self.new }
+        ensures stay { result ≢ Ok Drawn.Yes → slots_of self.new ≡ slots_of self.old }
         ensures records { RecordsStay self.old self.new }
         ensures refusal { IfErr result (λ e. IsTrue (is_of_draw e)) }
         ensures drew { (mark : ℕ) (takes : Bool) (s : BoardState (BarRecord K)) (number : Option ℕ) → IsIn mark self.old s → HasPlace number bar s.members →

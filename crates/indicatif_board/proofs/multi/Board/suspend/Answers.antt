@@ -35,3 +35,6 @@ pub returns-in-Ok-clause-stays : goal.returns-in-Ok-clause-stays
 returns-in-Ok-clause-stays g c = λ none.
     let same = c.clear-cleared.ensures.silent (c.clear-cleared.ensures.nowhere none) in
     c.redraw-drawn.ensures.silent (c.redraw-drawn.ensures.nowhere (ap (λ o. (target_of (option_map g.T.TermLike.view o)).columns) same ∙ none)) ∙ same
+
+pub returns-in-Ok-clause-head : goal.returns-in-Ok-clause-head
+returns-in-Ok-clause-head g c = c.redraw-drawn.ensures.head
