@@ -14,7 +14,7 @@ use Rattle.indicatif_board.specs.BoardBars.{board_bars}
 use Rattle.indicatif_board.specs.Boards.{Call, Remove, Id, Answer, Drew, says, opening_board, board}
 use Rattle.indicatif_board.specs.Calls.{call_of, answer_of, removal}
 use Rattle.indicatif_board.specs.Members.{Member, is_member, said_of}
-use Rattle.indicatif_board.specs.Multi.{LeadsBy, SlotsLeft, HeadHasRecord, known, slots_of}
+use Rattle.indicatif_board.specs.Multi.{LeadsBy, SlotsLeft, SlotsChange, RecordsChange, HeadHasRecord, known, slots_of}
 use Rattle.indicatif_board.specs.Recorded.{CallStep, BoardStep, Replays, IsOneRun, AddsCall, step_of, target_by, handed_back}
 use Rattle.indicatif_board.specs.Inside.Calls.{removed_back}
 use Rattle.indicatif_board.specs.declared.multi.Board.{Board}
@@ -35,12 +35,12 @@ steps_more before after e target call now answer items on asked at said =
     ap (map step_of) items ∙ map-append step_of before (e ∷ []) ∙ ap (λ x. map step_of before ++ x ∷ []) same
 
 -- a call more
-pub run_grows : {K T : Type 0} (m : Tracking K) (view : T → TermView) (mark : ℕ) (limiter : Option Limiter) (old new : Board K T) (steps now_steps : List (BoardStep K))
+pub run_grows : {K T : Type 0} (m : Tracking K) (view : T → TermView) (mark : ℕ) (limiter : Option Limiter) (opened : Target) (old new : Board K T) (steps now_steps : List (BoardStep K))
     (call : Call (BarRecord K) (Command K)) (now : ℕ) (answer : Answer) →
-    IsOneRun m (record { mark = mark; limiter = limiter; board = old; steps = steps }) → LeadsBy m view old new call now answer →
+    IsOneRun m (record { mark = mark; limiter = limiter; target = opened; board = old; steps = steps }) → LeadsBy m view old new call now answer →
     now_steps ≡ steps ++ record { target = target_of (known view old); call = call; now = now; answer = answer } ∷ [] →
-    IsOneRun m (record { mark = mark; limiter = limiter; board = new; steps = now_steps })
-run_grows m view mark limiter old new steps now_steps call now answer run led grown =
+    IsOneRun m (record { mark = mark; limiter = limiter; target = opened; board = new; steps = now_steps })
+run_grows m view mark limiter opened old new steps now_steps call now answer run led grown =
     let machine = board (board_bars m) mark in
     let made = led mark run.0 run.2 in (
       made.0,
@@ -49,12 +49,13 @@ run_grows m view mark limiter old new steps now_steps call now answer run led gr
     )
 
 -- the same of what it adds
-pub grown : {K T : Type 0} (m : Tracking K) (view : T → TermView) (mark : ℕ) (limiter : Option Limiter) (old new : Board K T) (steps now_steps : List (BoardStep K))
+pub grown : {K T : Type 0} (m : Tracking K) (view : T → TermView) (mark : ℕ) (limiter : Option Limiter) (opened : Target) (old new : Board K T) (steps now_steps : List (BoardStep K))
     (call : Call (BarRecord K) (Command K)) (now : ℕ) (answer : Answer) →
-    LeadsBy m view old new call now answer →
+    LeadsBy m view old new call now answer → SlotsChange call answer old new → RecordsChange m call now answer old new →
     now_steps ≡ steps ++ record { target = target_of (known view old); call = call; now = now; answer = answer } ∷ [] →
-    AddsCall m view (record { mark = mark; limiter = limiter; board = old; steps = steps }) call now answer (record { mark = mark; limiter = limiter; board = new; steps = now_steps })
-grown m view mark limiter old new steps now_steps call now answer led more = record { mark = refl; limiter = refl; steps = more; leads = led }
+    AddsCall m view (record { mark = mark; limiter = limiter; target = opened; board = old; steps = steps }) call now answer (record { mark = mark; limiter = limiter; target = opened; board = new; steps = now_steps })
+grown m view mark limiter opened old new steps now_steps call now answer led slots_go records_go more =
+    record { mark = refl; limiter = refl; target = refl; steps = more; leads = led; slots = slots_go; records = records_go }
 
 -- the bar of a removal
 pub removed_is_back : {K : Type 0} (r : Result (Option (BarRecord K)) Refusal) (id : Id) (other : BarRecord K) (members : List (Member (BarRecord K))) →
