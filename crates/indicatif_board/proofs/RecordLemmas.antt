@@ -53,7 +53,8 @@ pub grown : {K T : Type 0} (m : Tracking K) (view : T → TermView) (mark : ℕ)
     (call : Call (BarRecord K) (Command K)) (now : ℕ) (answer : Answer) →
     LeadsBy m view old new call now answer → SlotsChange call answer old new → RecordsChange m call now answer old new →
     now_steps ≡ steps ++ record { target = target_of (known view old); call = call; now = now; answer = answer } ∷ [] →
-    AddsCall m view (record { mark = mark; limiter = limiter; target = opened; board = old; steps = steps }) call now answer (record { mark = mark; limiter = limiter; target = opened; board = new; steps = now_steps })
+    AddsCall m view (record { mark = mark; limiter = limiter; target = opened; board = old; steps = steps }) call now answer
+    (record { mark = mark; limiter = limiter; target = opened; board = new; steps = now_steps })
 grown m view mark limiter opened old new steps now_steps call now answer led slots_go records_go more =
     record { mark = refl; limiter = refl; target = refl; steps = more; leads = led; slots = slots_go; records = records_go }
 

@@ -73,6 +73,10 @@ module _ {K T : Type 0} where
   EntersAbsent b (New bar) = ⊥
   EntersAbsent b (Old id) = IsAbsent b id
 
+  -- a call was refused so, and nothing has changed
+  abbrev pub TurnsAway : Refusal → Answer → Board K T → Board K T → Type 0
+  TurnsAway refusal answer old new = (answer ≡ Refused refusal) × (new ≡ old)
+
   -- every bar's record is as before
   abbrev pub RecordsStay : Board K T → Board K T → Type 0
   RecordsStay old new = (number : ℕ) → record_at number new ≡ record_at number old

@@ -61,7 +61,7 @@ pub struct Board<K, T: Drop> {
 
 impl<K: Tracks, T: TermLike + Drop> Board<K, T> {
     ghost use Rattle.indicatif_board.specs.Calls.{entrant_of, given, removal, answer_of, place_at, call_of, timed, IsForeign, NamesForeign, AreTurnedAway, acts_on};
-    ghost use Rattle.indicatif_board.specs.Multi.{IsIn, IsNowhere, IsAbsent, EntersAbsent, mark_of, record_at, seat_in, RecordsStay, OtherRecordsStay, RecordObeys, RecordsTake, SlotsTake, SlotsGive};
+    ghost use Rattle.indicatif_board.specs.Multi.{IsIn, IsNowhere, IsAbsent, EntersAbsent, TurnsAway, mark_of, record_at, seat_in, RecordsStay, OtherRecordsStay, RecordObeys, RecordsTake, SlotsTake, SlotsGive};
     ghost use Rattle.indicatif_board.specs.Multi.{SlotsLeft, SlotsChange, HeadHasRecord, KeepsSlot, RecordsChange, StaysOrComes, LeadsBy, Suspends, known, moves_of, slots_of, terminal_of};
 
     /// A board without bars on this target, of this mark. It takes no memory and writes nothing.
@@ -189,8 +189,8 @@ impl<K: Tracks, T: TermLike + Drop> Board<K, T> {
         ensures turned { IfErr result (λ t. t.candidate ≡ candidate) }
         ensures quiet { IsFalse (wrote (drawn_of (given result))) }
         ensures leads { (now : ℕ) → LeadsBy K.means T.view self.old self.new (Insert End (entrant_of candidate)) now (given result) }
-        ensures foreign { NamesForeign (mark_of self.old) (Insert End (entrant_of candidate)) → (given result ≡ Refused Refusal.ForeignBar) × (self.new ≡ self.old) }
-        ensures not_member { EntersAbsent self.old (entrant_of candidate) → (given result ≡ Refused Refusal.NotMember) × (self.new ≡ self.old) }
+        ensures foreign { NamesForeign (mark_of self.old) (Insert End (entrant_of candidate)) → TurnsAway Refusal.ForeignBar (given result) self.old self.new }
+        ensures not_member { EntersAbsent self.old (entrant_of candidate) → TurnsAway Refusal.NotMember (given result) self.old self.new }
         ensures records { RecordsTake (entrant_of candidate) (given result) self.old self.new }
         ensures slot { SlotsTake End (entrant_of candidate) (given result) self.old self.new }
     {
@@ -208,8 +208,8 @@ impl<K: Tracks, T: TermLike + Drop> Board<K, T> {
         ensures turned { IfErr result (λ t. t.candidate ≡ candidate) }
         ensures quiet { IsFalse (wrote (drawn_of (given result))) }
         ensures leads { (now : ℕ) → LeadsBy K.means T.view self.old self.new (Insert (Index index) (entrant_of candidate)) now (given result) }
-        ensures foreign { NamesForeign (mark_of self.old) (Insert (Index index) (entrant_of candidate)) → (given result ≡ Refused Refusal.ForeignBar) × (self.new ≡ self.old) }
-        ensures not_member { EntersAbsent self.old (entrant_of candidate) → (given result ≡ Refused Refusal.NotMember) × (self.new ≡ self.old) }
+        ensures foreign { NamesForeign (mark_of self.old) (Insert (Index index) (entrant_of candidate)) → TurnsAway Refusal.ForeignBar (given result) self.old self.new }
+        ensures not_member { EntersAbsent self.old (entrant_of candidate) → TurnsAway Refusal.NotMember (given result) self.old self.new }
         ensures records { RecordsTake (entrant_of candidate) (given result) self.old self.new }
         ensures slot { SlotsTake (Index index) (entrant_of candidate) (given result) self.old self.new }
     {
@@ -231,8 +231,8 @@ impl<K: Tracks, T: TermLike + Drop> Board<K, T> {
         ensures turned { IfErr result (λ t. t.candidate ≡ candidate) }
         ensures quiet { IsFalse (wrote (drawn_of (given result))) }
         ensures leads { (now : ℕ) → LeadsBy K.means T.view self.old self.new (Insert (FromBack count) (entrant_of candidate)) now (given result) }
-        ensures foreign { NamesForeign (mark_of self.old) (Insert (FromBack count) (entrant_of candidate)) → (given result ≡ Refused Refusal.ForeignBar) × (self.new ≡ self.old) }
-        ensures not_member { EntersAbsent self.old (entrant_of candidate) → (given result ≡ Refused Refusal.NotMember) × (self.new ≡ self.old) }
+        ensures foreign { NamesForeign (mark_of self.old) (Insert (FromBack count) (entrant_of candidate)) → TurnsAway Refusal.ForeignBar (given result) self.old self.new }
+        ensures not_member { EntersAbsent self.old (entrant_of candidate) → TurnsAway Refusal.NotMember (given result) self.old self.new }
         ensures records { RecordsTake (entrant_of candidate) (given result) self.old self.new }
         ensures slot { SlotsTake (FromBack count) (entrant_of candidate) (given result) self.old self.new }
     {
@@ -254,12 +254,12 @@ impl<K: Tracks, T: TermLike + Drop> Board<K, T> {
         ensures turned { IfErr result (λ t. t.candidate ≡ candidate) }
         ensures quiet { IsFalse (wrote (drawn_of (given result))) }
         ensures leads { (now : ℕ) → LeadsBy K.means T.view self.old self.new (Insert (Before (id_of anchor)) (entrant_of candidate)) now (given result) }
-        ensures foreign { NamesForeign (mark_of self.old) (Insert (Before (id_of anchor)) (entrant_of candidate)) → (given result ≡ Refused Refusal.ForeignBar) × (self.new ≡ self.old) }
-        ensures not_member { IsAbsent self.old (id_of anchor) → (given result ≡ Refused Refusal.NotMember) × (self.new ≡ self.old) }
+        ensures foreign { NamesForeign (mark_of self.old) (Insert (Before (id_of anchor)) (entrant_of candidate)) → TurnsAway Refusal.ForeignBar (given result) self.old self.new }
+        ensures not_member { IsAbsent self.old (id_of anchor) → TurnsAway Refusal.NotMember (given result) self.old self.new }
         ensures beside { IsTrue (is_some (record_at anchor.number self.old)) → IsForeign (mark_of self.old) (entrant_of candidate) →
-            (given result ≡ Refused Refusal.ForeignBar) × (self.new ≡ self.old) }
+            TurnsAway Refusal.ForeignBar (given result) self.old self.new }
         ensures absent { anchor.mark ≡ mark_of self.old → IsTrue (is_some (record_at anchor.number self.old)) → EntersAbsent self.old (entrant_of candidate) →
-            (given result ≡ Refused Refusal.NotMember) × (self.new ≡ self.old) }
+            TurnsAway Refusal.NotMember (given result) self.old self.new }
         ensures records { RecordsTake (entrant_of candidate) (given result) self.old self.new }
         ensures slot { SlotsTake (Before (id_of anchor)) (entrant_of candidate) (given result) self.old self.new }
     {
@@ -284,12 +284,12 @@ impl<K: Tracks, T: TermLike + Drop> Board<K, T> {
         ensures turned { IfErr result (λ t. t.candidate ≡ candidate) }
         ensures quiet { IsFalse (wrote (drawn_of (given result))) }
         ensures leads { (now : ℕ) → LeadsBy K.means T.view self.old self.new (Insert (After (id_of anchor)) (entrant_of candidate)) now (given result) }
-        ensures foreign { NamesForeign (mark_of self.old) (Insert (After (id_of anchor)) (entrant_of candidate)) → (given result ≡ Refused Refusal.ForeignBar) × (self.new ≡ self.old) }
-        ensures not_member { IsAbsent self.old (id_of anchor) → (given result ≡ Refused Refusal.NotMember) × (self.new ≡ self.old) }
+        ensures foreign { NamesForeign (mark_of self.old) (Insert (After (id_of anchor)) (entrant_of candidate)) → TurnsAway Refusal.ForeignBar (given result) self.old self.new }
+        ensures not_member { IsAbsent self.old (id_of anchor) → TurnsAway Refusal.NotMember (given result) self.old self.new }
         ensures beside { IsTrue (is_some (record_at anchor.number self.old)) → IsForeign (mark_of self.old) (entrant_of candidate) →
-            (given result ≡ Refused Refusal.ForeignBar) × (self.new ≡ self.old) }
+            TurnsAway Refusal.ForeignBar (given result) self.old self.new }
         ensures absent { anchor.mark ≡ mark_of self.old → IsTrue (is_some (record_at anchor.number self.old)) → EntersAbsent self.old (entrant_of candidate) →
-            (given result ≡ Refused Refusal.NotMember) × (self.new ≡ self.old) }
+            TurnsAway Refusal.NotMember (given result) self.old self.new }
         ensures records { RecordsTake (entrant_of candidate) (given result) self.old self.new }
         ensures slot { SlotsTake (After (id_of anchor)) (entrant_of candidate) (given result) self.old self.new }
     {
@@ -499,7 +499,7 @@ impl<K: Tracks, T: TermLike + Drop> Board<K, T> {
         ensures nowhere { IsNowhere T.view self.old → IsFalse (wrote (drawn_of (answer_of result.0))) }
         ensures mark { mark_of self.new ≡ mark_of self.old }
         ensures leads { LeadsBy K.means T.view self.old self.new (call_of call) now (answer_of result.0) }
-        ensures foreign { NamesForeign (mark_of self.old) (call_of call) → (answer_of result.0 ≡ Refused Refusal.ForeignBar) × (self.new ≡ self.old) }
+        ensures foreign { NamesForeign (mark_of self.old) (call_of call) → TurnsAway Refusal.ForeignBar (answer_of result.0) self.old self.new }
         ensures slots { SlotsChange (call_of call) (answer_of result.0) self.old self.new }
         ensures records { RecordsChange K.means (call_of call) now (answer_of result.0) self.old self.new }
         ensures back { (mark : ℕ) (s : BoardState (BarRecord K)) (other : BarRecord K) → IsIn mark self.old s →
@@ -527,7 +527,7 @@ impl<K: Tracks, T: TermLike + Drop> Board<K, T> {
         ensures nowhere { IsNowhere T.view self.old → IsFalse (wrote (drawn_of (answer_of result))) }
         ensures mark { mark_of self.new ≡ mark_of self.old }
         ensures leads { LeadsBy K.means T.view self.old self.new (call_of call) now (answer_of result) }
-        ensures foreign { NamesForeign (mark_of self.old) (call_of call) → (answer_of result ≡ Refused Refusal.ForeignBar) × (self.new ≡ self.old) }
+        ensures foreign { NamesForeign (mark_of self.old) (call_of call) → TurnsAway Refusal.ForeignBar (answer_of result) self.old self.new }
         ensures slots { SlotsChange (call_of call) (answer_of result) self.old self.new }
         ensures records { RecordsChange K.means (call_of call) now (answer_of result) self.old self.new }
     {
@@ -581,7 +581,7 @@ impl<K: Tracks, T: TermLike + Drop> Board<K, T> {
         ensures turned { IfErr result (λ t. t.candidate ≡ candidate) }
         ensures quiet { IsFalse (wrote (drawn_of (given result))) }
         ensures leads { (now : ℕ) → LeadsBy K.means T.view self.old self.new (Insert (place_at at) (entrant_of candidate)) now (given result) }
-        ensures foreign { NamesForeign (mark_of self.old) (Insert (place_at at) (entrant_of candidate)) → (given result ≡ Refused Refusal.ForeignBar) × (self.new ≡ self.old) }
+        ensures foreign { NamesForeign (mark_of self.old) (Insert (place_at at) (entrant_of candidate)) → TurnsAway Refusal.ForeignBar (given result) self.old self.new }
         ensures slot { SlotsTake (place_at at) (entrant_of candidate) (given result) self.old self.new }
         ensures records { RecordsTake (entrant_of candidate) (given result) self.old self.new }
     {
@@ -601,8 +601,8 @@ impl<K: Tracks, T: TermLike + Drop> Board<K, T> {
         ensures mark { mark_of self.new ≡ mark_of self.old }
         ensures turned { IfErr result (λ t. t.candidate ≡ candidate) }
         ensures quiet { IsFalse (wrote (drawn_of (given result))) }
-        ensures foreign { IsForeign (mark_of self.old) (entrant_of candidate) → (given result ≡ Refused Refusal.ForeignBar) × (self.new ≡ self.old) }
-        ensures not_member { EntersAbsent self.old (entrant_of candidate) → (given result ≡ Refused Refusal.NotMember) × (self.new ≡ self.old) }
+        ensures foreign { IsForeign (mark_of self.old) (entrant_of candidate) → TurnsAway Refusal.ForeignBar (given result) self.old self.new }
+        ensures not_member { EntersAbsent self.old (entrant_of candidate) → TurnsAway Refusal.NotMember (given result) self.old self.new }
         ensures records { RecordsTake (entrant_of candidate) (given result) self.old self.new }
         ensures slot { (spot : Location) → at ≡ seat_in spot (slots_of self.old).order → SlotsTake spot (entrant_of candidate) (given result) self.old self.new }
         ensures inserted { (mark : ℕ) (s : BoardState (BarRecord K)) (spot : Location) → IsIn mark self.old s → at ≡ index_of spot s.members →
