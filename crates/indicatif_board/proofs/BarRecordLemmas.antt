@@ -1,14 +1,15 @@
 -- Bars' records by their numbers, where a bar is told something, without an owner, taken in or taken out, and where dropped bars leave the head.
-use Rattle.std.proofs.Common.{set, get_or, subst, Option, Some, None, Result, Err, inl, inr, ◌≡◌, ℕ, zero, suc, ◌+◌, ◌<◌, ◌≤◌, true, false, not, List, [], ◌∷◌, map, drop, length, refl, sym, ◌∙◌, ap, arith, if◌then◌else◌}
+use Rattle.std.proofs.Common.{is_some, set, get_or, subst, Option, Some, None, Result, Err, inl, inr, ◌≡◌, ℕ, zero, suc, ◌+◌, ◌<◌, ◌≤◌, true, false, not, List, [], ◌∷◌, map, drop, length, refl, sym, ◌∙◌, ap, arith, if◌then◌else◌}
 use Rattle.std.specs.Prelude.{◌==◌, ◌≢◌, IfErr, IsTrue}
 use Rattle.std.specs.List.{prefix_len, position_or_len, insert, remove}
+use Rattle.std.specs.VecDeque.{deque_len}
 use Rattle.std.proofs.lemmas.Bool.{cases_Bool, eqb-true, eq-eqb, ne_eqb}
 use Rattle.std.proofs.lemmas.List.{length-map}
 use Rattle.indicatif_term.specs.declared.lines.Segment.{Segment}
 use Rattle.indicatif_text.specs.declared.refusal.Refusal.{Refusal}
 use Rattle.indicatif_text.specs.declared.refusal.Drawn.{Drawn}
 use Rattle.indicatif_bar.specs.Commands.{BarRecord}
-use Rattle.indicatif_board.specs.Boards.{Entrant, New, Old, Refused}
+use Rattle.indicatif_board.specs.Boards.{Location, Entrant, New, Old, Refused}
 use Rattle.indicatif_board.specs.Multi.{RecordsTake, SlotsTake}
 use Rattle.indicatif_board.specs.declared.multi.Board.{Board}
 use Rattle.indicatif_board.specs.declared.shown_bars.ShownBars.{ShownBars}
@@ -160,6 +161,10 @@ module _ {K : Type 0} where
 
   -- ---- dropped bars that leave the head
 
+  prefix_one : (x : Member K) (members : List (Member K)) → x.dropped ≡ true →
+      prefix_len (λ m. m.dropped) (x ∷ members) ≡ suc (prefix_len (λ m. m.dropped) members)
+  prefix_one x members gone = let step : 1 + prefix_len (λ (m : Member K). m.dropped) members ≡ suc (prefix_len (λ (m : Member K). m.dropped) members) = omega arith in rw (gone, step) refl
+
   pub record_followers : (number : ℕ) (order : List ℕ) (members : List (Member K)) → occurrences number order ≤ 1 → length members ≡ length order →
       record_in number (drop (prefix_len (λ m. m.dropped) members) order) (drop (prefix_len (λ m. m.dropped) members) members) ≡ record_in number order members
   record_followers number [] [] once even = refl
@@ -178,6 +183,26 @@ module _ {K : Type 0} where
           | inr there ↦ rw (gone, step, there) same
         ]
     | inr stays ↦ rw stays refl
+  ]
+
+  -- the one that stands at the head then has its owner
+  pub head_owned : (order : List ℕ) (members : List (Member K)) → length members ≡ length order → (number : ℕ) (rest : List ℕ) →
+      drop (prefix_len (λ m. m.dropped) members) order ≡ number ∷ rest →
+      is_some (record_in number (drop (prefix_len (λ m. m.dropped) members) order) (drop (prefix_len (λ m. m.dropped) members) members)) ≡ true
+  head_owned [] [] even number rest e = absurd (cc e)
+  head_owned [] (x ∷ members) even number rest e = absurd (omega (arith, even))
+  head_owned (n ∷ order) [] even number rest e = absurd (omega (arith, even))
+  head_owned (n ∷ order) (x ∷ members) even number rest e = elim (cases_Bool x.dropped) [
+    | inl gone ↦
+        let step : prefix_len (λ (m : Member K). m.dropped) (x ∷ members) ≡ suc (prefix_len (λ (m : Member K). m.dropped) members) = prefix_one x members gone in
+        ap (λ k. is_some (record_in number (drop k (n ∷ order)) (drop k (x ∷ members)))) step
+        ∙ head_owned order members (omega (arith, even)) number rest (sym (ap (λ k. drop k (n ∷ order)) step) ∙ e)
+    | inr stays ↦
+        let none : prefix_len (λ (m : Member K). m.dropped) (x ∷ members) ≡ 0 = rw stays refl in
+        let list : n ∷ order ≡ number ∷ rest = sym (ap (λ k. drop k (n ∷ order)) none) ∙ e in
+        let here : n ≡ number = cc list in
+        let own : is_some (record_in number (n ∷ order) (x ∷ members)) ≡ true = rw (eq-eqb n number here, stays) refl in
+        ap (λ k. is_some (record_in number (drop k (n ∷ order)) (drop k (x ∷ members)))) none ∙ own
   ]
 
 -- ---- the same of the lists that a board keeps
@@ -236,6 +261,14 @@ module _ {K : Type 0} (number at : ℕ) (order : List ℕ) (members : List (Memb
         ap (λ o. record_in number o members') order_is ∙ ap (record_in number (drop at order)) members_are
         ∙ ap (λ k. record_in number (drop k order) (drop k members)) count ∙ record_followers number order members once even
 
+    -- then the bar at the head has a record
+    pub left_head : at ≡ prefix_len (λ m. m.dropped) members → order' ≡ drop at order → members' ≡ drop at members → (head : ℕ) (rest : List ℕ) → order' ≡ head ∷ rest →
+        is_some (record_in head order' members') ≡ true
+    left_head count order_is members_are head rest e =
+        ap (λ o. is_some (record_in head o members')) order_is ∙ ap (λ ms. is_some (record_in head (drop at order) ms)) members_are
+        ∙ ap (λ k. is_some (record_in head (drop k order) (drop k members))) count
+        ∙ head_owned order members even head rest (sym (ap (λ k. drop k order) count) ∙ sym order_is ∙ e)
+
 -- ---- a bar that a call names
 
 -- an item at a place inside, whatever stands for those past the end
@@ -266,13 +299,17 @@ pub none_taken : {K T : Type 0} (entrant : Entrant (BarRecord K)) (e : Refusal) 
 none_taken (New bar) e b = λ number. refl
 none_taken (Old id) e b = λ number. refl
 
-pub none_seated : {K T : Type 0} (entrant : Entrant (BarRecord K)) (e : Refusal) (b : Board K T) → SlotsTake entrant (Refused e) b b
-none_seated (New bar) e b = refl
-none_seated (Old id) e b = refl
+pub none_seated : {K T : Type 0} (at : Location) (entrant : Entrant (BarRecord K)) (e : Refusal) (b : Board K T) → SlotsTake at entrant (Refused e) b b
+none_seated at (New bar) e b = refl
+none_seated at (Old id) e b = refl
 
 module _ {K : Type 0} (b : ShownBars K) where
   even_on : length b.members.items ≡ length b.table.order
   even_on = evenly b.frame.items b.table.order b.members.items (omega (arith, b.even, b.members.ok, b.frame.ok)) b.seated
+
+  -- as many bars as numbers
+  pub seats_on : deque_len b.members ≡ length b.table.order
+  seats_on = omega (arith, b.members.ok, even_on)
 
   -- a bar that isn't dropped stands there
   pub stands : (number at : ℕ) (item : Member K) → at ≡ seat_of number b.table.order → at < length b.members.items → item ≡ get_or b.members.items at item → item.dropped ≡ false →

@@ -1,8 +1,9 @@
 -- What contracts see of a board: its terminal, whether it is in a given state, and what a call leads to.
-use Rattle.std.specs.Prelude.{◌≡◌, ◌≢◌, ◌⊎◌, ℕ, Bool, IsTrue, List, [], ◌∷◌, Option, Some, None, MatchOption, option_map, Result, Err, refl}
-use Rattle.std.specs.List.{list_any}
+use Rattle.std.specs.Prelude.{◌≡◌, ◌≢◌, ◌⊎◌, ℕ, ◌+◌, ◌-◌, min, length, ◌==◌, Bool, IsTrue, List, [], ◌∷◌, Option, Some, None, MatchOption, option_map, Result, Err, refl}
+use Rattle.std.specs.List.{list_any, position_or_len}
 use Rattle.indicatif_text.specs.declared.refusal.Refusal.{Refusal}
 use Rattle.indicatif_text.specs.declared.refusal.Drawn.{Drawn}
+use Rattle.indicatif_text.specs.declared.refusal.Drawn.TheVariants.{Yes}
 use Rattle.indicatif_term.specs.Calls.{TermView}
 use Rattle.indicatif_term.specs.Engines.{engine_moves, engine_term}
 use Rattle.indicatif_bar.specs.Trackers.{Tracking}
@@ -14,12 +15,20 @@ use Rattle.indicatif_bar.specs.Runs.{CallMade, Runs}
 use Rattle.indicatif_bar.specs.Scripts.{Sizing}
 use Rattle.indicatif_bar.specs.Stages.{IsStaged}
 use Rattle.indicatif_board.specs.BoardBars.{board_bars}
-use Rattle.indicatif_board.specs.Boards.{BoardState, Id, Entrant, New, Old, Call, Insert, Remove, Drop, Clear, Redraw, Tell, Answer, Given, Drew, Refused, says, drawn_of, board}
+use Rattle.indicatif_board.specs.Boards.{BoardState, Id, Location, End, Index, FromBack, Before, After, Entrant, New, Old, Call, Insert, Remove, Drop, Clear, Redraw, Align, Tell, Answer, Given, Drew, Refused, says, drawn_of, board}
 use Rattle.indicatif_board.specs.Calls.{answer_of, gives}
 use Rattle.indicatif_board.specs.Slots.{SlotTable, LeavesHead, LeavesFrom, next_slot, seated, slot_of}
-use Rattle.indicatif_board.specs.ShownBars.{AreShownAs, record_on}
+use Rattle.indicatif_board.specs.ShownBars.{AreShownAs, HeadIsOwned, record_on}
 use Rattle.indicatif_board.specs.declared.calls.Answer.{Answer as AnswerValue}
 use Rattle.indicatif_board.specs.declared.multi.Board.{Board}
+
+-- how many of the bars of these numbers, from the top, stand before a new one there
+abbrev pub seat_in : Location → List ℕ → ℕ
+seat_in End order = length order
+seat_in (Index i) order = min i (length order)
+seat_in (FromBack i) order = length order - i
+seat_in (Before anchor) order = position_or_len (λ n. n == anchor.number) order
+seat_in (After anchor) order = position_or_len (λ n. n == anchor.number) order + 1
 
 module _ {K T : Type 0} where
   -- its terminal; none where the target is hidden
@@ -64,6 +73,10 @@ module _ {K T : Type 0} where
   EntersAbsent b (New bar) = ⊥
   EntersAbsent b (Old id) = IsAbsent b id
 
+  -- a call was refused so, and nothing has changed
+  abbrev pub TurnsAway : Refusal → Answer → Board K T → Board K T → Type 0
+  TurnsAway refusal answer old new = (answer ≡ Refused refusal) × (new ≡ old)
+
   -- every bar's record is as before
   abbrev pub RecordsStay : Board K T → Board K T → Type 0
   RecordsStay old new = (number : ℕ) → record_at number new ≡ record_at number old
@@ -85,12 +98,12 @@ module _ {K T : Type 0} where
       (id.board ≡ old.board_id) × (record_at id.number old ≡ None) × (record_at id.number new ≡ Some bar) × OtherRecordsStay id.number old new
   RecordsTake _ _ old new = RecordsStay old new
 
-  -- one was to be taken in: a new bar has the slot that was freed last, or where none was free the first that was never used; where
-  -- it was turned away, or was there already, each bar has the slot that it had
-  abbrev pub SlotsTake : Entrant (BarRecord K) → Answer → Board K T → Board K T → Type 0
-  SlotsTake (New bar) (Given id) old new =
-      (slot_of id.number (slots_of new) ≡ Some (next_slot (slots_of old))) × (at : ℕ) × (slots_of new ≡ seated at (slots_of old))
-  SlotsTake _ _ old new = slots_of new ≡ slots_of old
+  -- one was to be taken in there: a new bar stands there, and has the slot that was freed last, or where none was free the first
+  -- that was never used; where it was turned away, or was there already, each bar stands where it stood, with the slot that it had
+  abbrev pub SlotsTake : Location → Entrant (BarRecord K) → Answer → Board K T → Board K T → Type 0
+  SlotsTake at (New bar) (Given id) old new =
+      (slot_of id.number (slots_of new) ≡ Some (next_slot (slots_of old))) × (slots_of new ≡ seated (seat_in at (slots_of old).order) (slots_of old))
+  SlotsTake at _ _ old new = slots_of new ≡ slots_of old
 
   -- one was to be taken out: it left its slot, or it wasn't there
   abbrev pub SlotsGive : Option (BarRecord K) → Board K T → Board K T → Type 0
@@ -100,11 +113,21 @@ module _ {K T : Type 0} where
   abbrev pub SlotsLeft : Board K T → Board K T → Type 0
   SlotsLeft old new = LeavesHead (slots_of old) (slots_of new)
 
+  -- the bar at the head of the order, if there is one, has a record
+  abbrev pub HeadHasRecord : Board K T → Type 0
+  HeadHasRecord b = HeadIsOwned b.shown
+
   -- what a call with this answer made of the slots
   abbrev pub SlotsChange : Call (BarRecord K) (Command K) → Answer → Board K T → Board K T → Type 0
-  SlotsChange (Insert at entrant) answer old new = SlotsTake entrant answer old new
+  SlotsChange (Insert at entrant) answer old new = SlotsTake at entrant answer old new
   SlotsChange (Remove id) answer old new = (slots_of new ≡ slots_of old) ⊎ LeavesFrom (slots_of old) (slots_of new)
-  SlotsChange _ answer old new = SlotsLeft old new
+  SlotsChange (Drop id) answer old new = SlotsLeft old new
+  SlotsChange (Align bottom) answer old new = slots_of new ≡ slots_of old
+  SlotsChange _ answer old new = SlotsLeft old new × (answer ≡ Drew Yes → HeadHasRecord new) × (answer ≢ Drew Yes → slots_of new ≡ slots_of old)
+
+  -- the bar of this number has this slot, or stands in the order no more
+  abbrev pub KeepsSlot : ℕ → ℕ → Board K T → Type 0
+  KeepsSlot number slot b = (slot_of number (slots_of b) ≡ Some slot) ⊎ (slot_of number (slots_of b) ≡ None)
 
   -- a call named a bar: of a bar of this board it made what is said, and others stay; of another board's, all stay
   abbrev pub NamedGoes : Id → Type 0 → Board K T → Board K T → Type 0

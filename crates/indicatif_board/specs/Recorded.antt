@@ -9,7 +9,7 @@ use Rattle.indicatif_board.specs.BoardBars.{board_bars}
 use Rattle.indicatif_board.specs.Boards.{BoardState, Call, Insert, Remove, New, Answer, Done, Refused, opening_board, board}
 use Rattle.indicatif_board.specs.Members.{Member, is_member, said_of}
 use Rattle.indicatif_board.specs.Calls.{call_of, answer_of}
-use Rattle.indicatif_board.specs.Multi.{IsIn, LeadsBy, known}
+use Rattle.indicatif_board.specs.Multi.{IsIn, LeadsBy, SlotsChange, RecordsChange, known}
 use Rattle.indicatif_board.specs.declared.multi.Board.{Board}
 use Rattle.indicatif_board.specs.declared.recorded.Size.{Size}
 use Rattle.indicatif_board.specs.declared.recorded.Entry.{Entry}
@@ -43,10 +43,11 @@ BoardStep K = CallStep (Call (BarRecord K) (Command K)) Answer
 abbrev pub step_of : {K : Type 0} → Entry K → BoardStep K
 step_of e = record { target = target_by e.size; call = call_of e.call; now = e.now; answer = answer_of e.answer }
 
--- a board, the id and the limiter that it began with, and the steps that it has made since
+-- a board, the id, the limiter and the target that it began with, and the steps that it has made since
 pub record Record (K T : Type 0) : Type 0 where
   pub board_id : ℕ
   pub limiter : Option Limiter
+  pub target : Target
   pub board : Board K T
   pub steps : List (BoardStep K)
 
@@ -60,8 +61,12 @@ module _ {K T : Type 0} where
   pub record AddsCall (m : Tracking K) (view : T → TermView) (old : Record K T) (call : Call (BarRecord K) (Command K)) (now : ℕ) (answer : Answer) (new : Record K T) : Type 0 where
     pub board_id : new.board_id ≡ old.board_id
     pub limiter : new.limiter ≡ old.limiter
+    pub target : new.target ≡ old.target
     pub steps : new.steps ≡ old.steps ++ record { target = target_of (known view old.board); call = call; now = now; answer = answer } ∷ []
     pub leads : LeadsBy m view old.board new.board call now answer
+    -- what it made of the slots and the records, as of a board without its history
+    pub slots : SlotsChange call answer old.board new.board
+    pub records : RecordsChange m call now answer old.board new.board
 
 -- the bar that a call hands back which was answered so: a new one that was turned away, or one that was removed
 abbrev pub handed_back : {K : Type 0} → Call (BarRecord K) (Command K) → Answer → BarRecord K → List (Member (BarRecord K)) → Option (BarRecord K)

@@ -1,5 +1,5 @@
 -- The bars of a board as they are shown: their members, numbers and lines stand as a state says.
-use Rattle.std.specs.Prelude.{◌≡◌, ℕ, Bool, ◌==◌, List, ◌∷◌, map, Option, Some, None, if◌then◌else◌}
+use Rattle.std.specs.Prelude.{◌≡◌, ℕ, Bool, IsTrue, ◌==◌, List, ◌∷◌, map, Option, Some, None, is_some, if◌then◌else◌}
 use Rattle.indicatif_term.specs.Frames.{bar_lines}
 use Rattle.indicatif_term.specs.Engines.{is_bottom}
 use Rattle.indicatif_term.specs.declared.lines.Segment.{Segment}
@@ -35,3 +35,7 @@ module _ {K : Type 0} where
   -- the same of bars as they are shown
   abbrev pub record_on : ℕ → ShownBars K → Option (BarRecord K)
   record_on number b = record_in number b.table.order b.members.items
+
+  -- the bar at the head of the order, if there is one, has a record
+  abbrev pub HeadIsOwned : ShownBars K → Type 0
+  HeadIsOwned b = (number : ℕ) (order : List ℕ) → b.table.order ≡ number ∷ order → IsTrue (is_some (record_on number b))

@@ -14,7 +14,7 @@ ghost use Rattle.indicatif_board.specs.BoardBars.{board_bars};
 ghost use Rattle.indicatif_board.specs.Boards.{BoardState, Tell, Log, BarLog, Clear, Redraw, Align, Insert, Remove, Drop, Location, End, Index, FromBack, Before, After, Done, Refused, opening_board, says, drawn_of, index_of, inserted, turned_away, draw_of, board};
 ghost use Rattle.indicatif_board.specs.BoardValues.{id_of};
 ghost use Rattle.indicatif_board.specs.Members.{is_member, order_of, said_of};
-ghost use Rattle.indicatif_board.specs.Slots.{slot_of, IsSeated};
+ghost use Rattle.indicatif_board.specs.Slots.{slot_of, occurrences, IsSeated};
 ghost use Rattle.indicatif_board.specs.Recorded.{handed_back};
 ghost use Rattle.indicatif_board.specs.Inside.Named.{HasPlace, named_laid_out, named_layout_takes};
 ghost use Rattle.indicatif_board.specs.Inside.Parting.{parted, RestsOn};
@@ -61,8 +61,8 @@ pub struct Board<K, T: Drop> {
 
 impl<K: Tracks, T: TermLike + Drop> Board<K, T> {
     ghost use Rattle.indicatif_board.specs.Calls.{entrant_of, given, removal, answer_of, place_at, call_of, timed, IsForeign, NamesForeign, AreTurnedAway, acts_on};
-    ghost use Rattle.indicatif_board.specs.Multi.{IsIn, IsNowhere, IsAbsent, EntersAbsent, board_id_of, record_at, RecordsStay, OtherRecordsStay, RecordObeys, RecordsTake, SlotsTake, SlotsGive};
-    ghost use Rattle.indicatif_board.specs.Multi.{SlotsLeft, SlotsChange, RecordsChange, StaysOrComes, LeadsBy, Suspends, known, moves_of, slots_of, terminal_of};
+    ghost use Rattle.indicatif_board.specs.Multi.{IsIn, IsNowhere, IsAbsent, EntersAbsent, TurnsAway, board_id_of, record_at, seat_in, RecordsStay, OtherRecordsStay, RecordObeys, RecordsTake, SlotsTake, SlotsGive};
+    ghost use Rattle.indicatif_board.specs.Multi.{SlotsLeft, SlotsChange, HeadHasRecord, KeepsSlot, RecordsChange, StaysOrComes, LeadsBy, Suspends, known, moves_of, slots_of, terminal_of};
 
     /// A board without bars on this target, of this id. It takes no memory and writes nothing.
     pub fn new(alloc: Global, target: ProgressDrawTarget<T>, board_id: u64) -> Self
@@ -116,6 +116,7 @@ impl<K: Tracks, T: TermLike + Drop> Board<K, T> {
         ensures order { (board_id : ℕ) (s : BoardState (BarRecord K)) → IsIn board_id self.now s → result.now ≡ order_of s.members }
         ensures slots { result.now ≡ (slots_of self.now).order }
         ensures seated { IsSeated (slots_of self.now) }
+        ensures absent { (number : ℕ) → occurrences number result.now ≡ 0 → record_at number self.now ≡ None }
     {
         self.shown.table.order()
     }
@@ -186,11 +187,12 @@ impl<K: Tracks, T: TermLike + Drop> Board<K, T> {
         ensures terminal { terminal_of self.new ≡ terminal_of self.old }
         ensures board_id { board_id_of self.new ≡ board_id_of self.old }
         ensures turned { IfErr result (λ t. t.candidate ≡ candidate) }
+        ensures quiet { IsFalse (wrote (drawn_of (given result))) }
         ensures leads { (now : ℕ) → LeadsBy K.means T.view self.old self.new (Insert End (entrant_of candidate)) now (given result) }
-        ensures foreign { NamesForeign (board_id_of self.old) (Insert End (entrant_of candidate)) → (given result ≡ Refused Refusal.ForeignBar) × (self.new ≡ self.old) }
-        ensures not_member { EntersAbsent self.old (entrant_of candidate) → (given result ≡ Refused Refusal.NotMember) × (self.new ≡ self.old) }
+        ensures foreign { NamesForeign (board_id_of self.old) (Insert End (entrant_of candidate)) → TurnsAway Refusal.ForeignBar (given result) self.old self.new }
+        ensures not_member { EntersAbsent self.old (entrant_of candidate) → TurnsAway Refusal.NotMember (given result) self.old self.new }
         ensures records { RecordsTake (entrant_of candidate) (given result) self.old self.new }
-        ensures slot { SlotsTake (entrant_of candidate) (given result) self.old self.new }
+        ensures slot { SlotsTake End (entrant_of candidate) (given result) self.old self.new }
     {
         let at = self.shown.members.len();
         self.insert_at(at, candidate)
@@ -204,11 +206,12 @@ impl<K: Tracks, T: TermLike + Drop> Board<K, T> {
         ensures terminal { terminal_of self.new ≡ terminal_of self.old }
         ensures board_id { board_id_of self.new ≡ board_id_of self.old }
         ensures turned { IfErr result (λ t. t.candidate ≡ candidate) }
+        ensures quiet { IsFalse (wrote (drawn_of (given result))) }
         ensures leads { (now : ℕ) → LeadsBy K.means T.view self.old self.new (Insert (Index index) (entrant_of candidate)) now (given result) }
-        ensures foreign { NamesForeign (board_id_of self.old) (Insert (Index index) (entrant_of candidate)) → (given result ≡ Refused Refusal.ForeignBar) × (self.new ≡ self.old) }
-        ensures not_member { EntersAbsent self.old (entrant_of candidate) → (given result ≡ Refused Refusal.NotMember) × (self.new ≡ self.old) }
+        ensures foreign { NamesForeign (board_id_of self.old) (Insert (Index index) (entrant_of candidate)) → TurnsAway Refusal.ForeignBar (given result) self.old self.new }
+        ensures not_member { EntersAbsent self.old (entrant_of candidate) → TurnsAway Refusal.NotMember (given result) self.old self.new }
         ensures records { RecordsTake (entrant_of candidate) (given result) self.old self.new }
-        ensures slot { SlotsTake (entrant_of candidate) (given result) self.old self.new }
+        ensures slot { SlotsTake (Index index) (entrant_of candidate) (given result) self.old self.new }
     {
         let at = index.min(self.shown.members.len());
         self.insert_at(at, candidate)
@@ -226,11 +229,12 @@ impl<K: Tracks, T: TermLike + Drop> Board<K, T> {
         ensures terminal { terminal_of self.new ≡ terminal_of self.old }
         ensures board_id { board_id_of self.new ≡ board_id_of self.old }
         ensures turned { IfErr result (λ t. t.candidate ≡ candidate) }
+        ensures quiet { IsFalse (wrote (drawn_of (given result))) }
         ensures leads { (now : ℕ) → LeadsBy K.means T.view self.old self.new (Insert (FromBack count) (entrant_of candidate)) now (given result) }
-        ensures foreign { NamesForeign (board_id_of self.old) (Insert (FromBack count) (entrant_of candidate)) → (given result ≡ Refused Refusal.ForeignBar) × (self.new ≡ self.old) }
-        ensures not_member { EntersAbsent self.old (entrant_of candidate) → (given result ≡ Refused Refusal.NotMember) × (self.new ≡ self.old) }
+        ensures foreign { NamesForeign (board_id_of self.old) (Insert (FromBack count) (entrant_of candidate)) → TurnsAway Refusal.ForeignBar (given result) self.old self.new }
+        ensures not_member { EntersAbsent self.old (entrant_of candidate) → TurnsAway Refusal.NotMember (given result) self.old self.new }
         ensures records { RecordsTake (entrant_of candidate) (given result) self.old self.new }
-        ensures slot { SlotsTake (entrant_of candidate) (given result) self.old self.new }
+        ensures slot { SlotsTake (FromBack count) (entrant_of candidate) (given result) self.old self.new }
     {
         let at = self.shown.members.len().saturating_sub(count);
         self.insert_at(at, candidate)
@@ -248,13 +252,16 @@ impl<K: Tracks, T: TermLike + Drop> Board<K, T> {
         ensures terminal { terminal_of self.new ≡ terminal_of self.old }
         ensures board_id { board_id_of self.new ≡ board_id_of self.old }
         ensures turned { IfErr result (λ t. t.candidate ≡ candidate) }
+        ensures quiet { IsFalse (wrote (drawn_of (given result))) }
         ensures leads { (now : ℕ) → LeadsBy K.means T.view self.old self.new (Insert (Before (id_of anchor)) (entrant_of candidate)) now (given result) }
-        ensures foreign { NamesForeign (board_id_of self.old) (Insert (Before (id_of anchor)) (entrant_of candidate)) → (given result ≡ Refused Refusal.ForeignBar) × (self.new ≡ self.old) }
-        ensures not_member { IsAbsent self.old (id_of anchor) → (given result ≡ Refused Refusal.NotMember) × (self.new ≡ self.old) }
+        ensures foreign { NamesForeign (board_id_of self.old) (Insert (Before (id_of anchor)) (entrant_of candidate)) → TurnsAway Refusal.ForeignBar (given result) self.old self.new }
+        ensures not_member { IsAbsent self.old (id_of anchor) → TurnsAway Refusal.NotMember (given result) self.old self.new }
         ensures beside { IsTrue (is_some (record_at anchor.number self.old)) → IsForeign (board_id_of self.old) (entrant_of candidate) →
-            (given result ≡ Refused Refusal.ForeignBar) × (self.new ≡ self.old) }
+            TurnsAway Refusal.ForeignBar (given result) self.old self.new }
+        ensures absent { anchor.board_id ≡ board_id_of self.old → IsTrue (is_some (record_at anchor.number self.old)) → EntersAbsent self.old (entrant_of candidate) →
+            TurnsAway Refusal.NotMember (given result) self.old self.new }
         ensures records { RecordsTake (entrant_of candidate) (given result) self.old self.new }
-        ensures slot { SlotsTake (entrant_of candidate) (given result) self.old self.new }
+        ensures slot { SlotsTake (Before (id_of anchor)) (entrant_of candidate) (given result) self.old self.new }
     {
         let at = match self.find(anchor) {
             Ok(at) => at,
@@ -275,13 +282,16 @@ impl<K: Tracks, T: TermLike + Drop> Board<K, T> {
         ensures terminal { terminal_of self.new ≡ terminal_of self.old }
         ensures board_id { board_id_of self.new ≡ board_id_of self.old }
         ensures turned { IfErr result (λ t. t.candidate ≡ candidate) }
+        ensures quiet { IsFalse (wrote (drawn_of (given result))) }
         ensures leads { (now : ℕ) → LeadsBy K.means T.view self.old self.new (Insert (After (id_of anchor)) (entrant_of candidate)) now (given result) }
-        ensures foreign { NamesForeign (board_id_of self.old) (Insert (After (id_of anchor)) (entrant_of candidate)) → (given result ≡ Refused Refusal.ForeignBar) × (self.new ≡ self.old) }
-        ensures not_member { IsAbsent self.old (id_of anchor) → (given result ≡ Refused Refusal.NotMember) × (self.new ≡ self.old) }
+        ensures foreign { NamesForeign (board_id_of self.old) (Insert (After (id_of anchor)) (entrant_of candidate)) → TurnsAway Refusal.ForeignBar (given result) self.old self.new }
+        ensures not_member { IsAbsent self.old (id_of anchor) → TurnsAway Refusal.NotMember (given result) self.old self.new }
         ensures beside { IsTrue (is_some (record_at anchor.number self.old)) → IsForeign (board_id_of self.old) (entrant_of candidate) →
-            (given result ≡ Refused Refusal.ForeignBar) × (self.new ≡ self.old) }
+            TurnsAway Refusal.ForeignBar (given result) self.old self.new }
+        ensures absent { anchor.board_id ≡ board_id_of self.old → IsTrue (is_some (record_at anchor.number self.old)) → EntersAbsent self.old (entrant_of candidate) →
+            TurnsAway Refusal.NotMember (given result) self.old self.new }
         ensures records { RecordsTake (entrant_of candidate) (given result) self.old self.new }
-        ensures slot { SlotsTake (entrant_of candidate) (given result) self.old self.new }
+        ensures slot { SlotsTake (After (id_of anchor)) (entrant_of candidate) (given result) self.old self.new }
     {
         let at = match self.find(anchor) {
             Ok(at) => at,
@@ -297,6 +307,7 @@ impl<K: Tracks, T: TermLike + Drop> Board<K, T> {
     pub fn remove(&mut self, id: BarId) -> Result<Option<BarState<K>>, Refusal>
         ensures terminal { terminal_of self.new ≡ terminal_of self.old }
         ensures board_id { board_id_of self.new ≡ board_id_of self.old }
+        ensures quiet { IsFalse (wrote (drawn_of (removal result))) }
         ensures leads { (now : ℕ) → LeadsBy K.means T.view self.old self.new (Remove (id_of id)) now (removal result) }
         ensures foreign { id.board ≢ board_id_of self.old → (result ≡ Err Refusal.ForeignBar) × (self.new ≡ self.old) }
         ensures bar { (board_id : ℕ) (s : BoardState (BarRecord K)) (other : BarRecord K) → IsIn board_id self.old s →
@@ -330,6 +341,7 @@ impl<K: Tracks, T: TermLike + Drop> Board<K, T> {
         ensures leads { LeadsBy K.means T.view self.old self.new (Drop (id_of id)) now (says result) }
         ensures foreign { id.board ≢ board_id_of self.old → (result ≡ Err Refusal.ForeignBar) × (self.new ≡ self.old) }
         ensures not_member { id.board ≡ board_id_of self.old → (result ≡ Err Refusal.NotMember) ↔ (record_at id.number self.old ≡ None) }
+        ensures unchanged { result ≡ Err Refusal.NotMember → self.new ≡ self.old }
         ensures gone { id.board ≡ board_id_of self.old → record_at id.number self.new ≡ None }
         ensures slots { SlotsLeft self.old self.new }
         ensures others { OtherRecordsStay id.number self.old self.new }
@@ -367,8 +379,11 @@ impl<K: Tracks, T: TermLike + Drop> Board<K, T> {
         ensures not_member { id.board ≡ board_id_of self.old → (result ≡ Err Refusal.NotMember) ↔ (record_at id.number self.old ≡ None) }
         ensures beyond { id.board ≡ board_id_of self.old → IsTrue (is_some (record_at id.number self.old)) →
             (result ≡ Err Refusal.ElapsedBeyondClock) ↔ IsTrue (is_beyond_clock (command_of command) now) }
+        ensures unchanged { (result ≡ Err Refusal.NotMember) ⊎ (result ≡ Err Refusal.ElapsedBeyondClock) → self.new ≡ self.old }
         ensures record { id.board ≡ board_id_of self.old → RecordObeys K.means id.number (command_of command) now result self.old self.new }
         ensures slots { SlotsLeft self.old self.new }
+        ensures head { result ≡ Ok Drawn.Yes → HeadHasRecord self.new }
+        ensures stay { result ≢ Ok Drawn.Yes → slots_of self.new ≡ slots_of self.old }
         ensures others { OtherRecordsStay id.number self.old self.new }
     {
         let at = self.find(id)?;
@@ -387,6 +402,8 @@ impl<K: Tracks, T: TermLike + Drop> Board<K, T> {
         ensures board_id { board_id_of self.new ≡ board_id_of self.old }
         ensures leads { LeadsBy K.means T.view self.old self.new (Log text.now) now (says result) }
         ensures slots { SlotsLeft self.old self.new }
+        ensures head { result ≡ Ok Drawn.Yes → HeadHasRecord self.new }
+        ensures stay { result ≢ Ok Drawn.Yes → slots_of self.new ≡ slots_of self.old }
         ensures records { RecordsStay self.old self.new }
     {
         self.draw(Ask::Forced, None, Writing::TextAndFrame(text), now)
@@ -402,7 +419,10 @@ impl<K: Tracks, T: TermLike + Drop> Board<K, T> {
         ensures leads { LeadsBy K.means T.view self.old self.new (BarLog (id_of id) text.now) now (says result) }
         ensures foreign { id.board ≢ board_id_of self.old → (result ≡ Err Refusal.ForeignBar) × (self.new ≡ self.old) }
         ensures not_member { id.board ≡ board_id_of self.old → (result ≡ Err Refusal.NotMember) ↔ (record_at id.number self.old ≡ None) }
+        ensures unchanged { result ≡ Err Refusal.NotMember → self.new ≡ self.old }
         ensures slots { SlotsLeft self.old self.new }
+        ensures head { result ≡ Ok Drawn.Yes → HeadHasRecord self.new }
+        ensures stay { result ≢ Ok Drawn.Yes → slots_of self.new ≡ slots_of self.old }
         ensures records { RecordsStay self.old self.new }
     {
         let at = self.find(id)?;
@@ -419,6 +439,8 @@ impl<K: Tracks, T: TermLike + Drop> Board<K, T> {
         ensures board_id { board_id_of self.new ≡ board_id_of self.old }
         ensures leads { LeadsBy K.means T.view self.old self.new Clear now (says result) }
         ensures slots { SlotsLeft self.old self.new }
+        ensures head { result ≡ Ok Drawn.Yes → HeadHasRecord self.new }
+        ensures stay { result ≢ Ok Drawn.Yes → slots_of self.new ≡ slots_of self.old }
         ensures records { RecordsStay self.old self.new }
     {
         self.draw(Ask::Forced, None, Writing::NoFrame, now)
@@ -433,6 +455,8 @@ impl<K: Tracks, T: TermLike + Drop> Board<K, T> {
         ensures board_id { board_id_of self.new ≡ board_id_of self.old }
         ensures leads { LeadsBy K.means T.view self.old self.new Redraw now (says result) }
         ensures slots { SlotsLeft self.old self.new }
+        ensures head { result ≡ Ok Drawn.Yes → HeadHasRecord self.new }
+        ensures stay { result ≢ Ok Drawn.Yes → slots_of self.new ≡ slots_of self.old }
         ensures records { RecordsStay self.old self.new }
     {
         self.draw(Ask::Forced, None, Writing::Frame, now)
@@ -444,10 +468,12 @@ impl<K: Tracks, T: TermLike + Drop> Board<K, T> {
     pub fn suspend<F: FnOnce() -> A, A>(&mut self, now: Moment, f: F) -> (A, Result<Drawn, Refusal>)
         requires { F.pre f }
         ensures value { F.post f result.0 }
-        ensures silent { IsNowhere T.view self.old → terminal_of self.new ≡ terminal_of self.old }
+        ensures nowhere { IsNowhere T.view self.old → IsFalse (wrote result.1) }
+        ensures stays { IsNowhere T.view self.old → terminal_of self.new ≡ terminal_of self.old }
         ensures board_id { board_id_of self.new ≡ board_id_of self.old }
         ensures leads { Suspends K.means T.view self.old self.new now result.1 }
         ensures slots { SlotsLeft self.old self.new }
+        ensures head { result.1 ≡ Ok Drawn.Yes → HeadHasRecord self.new }
         ensures records { RecordsStay self.old self.new }
     {
         let cleared = self.clear(now);
@@ -470,10 +496,10 @@ impl<K: Tracks, T: TermLike + Drop> Board<K, T> {
     #[inline(always)]
     pub fn apply(&mut self, call: Call<K>, now: Moment) -> (Answer, Option<BarState<K>>)
         ensures silent { IsFalse (wrote (drawn_of (answer_of result.0))) → terminal_of self.new ≡ terminal_of self.old }
-        ensures nowhere { IsNowhere T.view self.old → terminal_of self.new ≡ terminal_of self.old }
+        ensures nowhere { IsNowhere T.view self.old → IsFalse (wrote (drawn_of (answer_of result.0))) }
         ensures board_id { board_id_of self.new ≡ board_id_of self.old }
         ensures leads { LeadsBy K.means T.view self.old self.new (call_of call) now (answer_of result.0) }
-        ensures foreign { NamesForeign (board_id_of self.old) (call_of call) → (answer_of result.0 ≡ Refused Refusal.ForeignBar) × (self.new ≡ self.old) }
+        ensures foreign { NamesForeign (board_id_of self.old) (call_of call) → TurnsAway Refusal.ForeignBar (answer_of result.0) self.old self.new }
         ensures slots { SlotsChange (call_of call) (answer_of result.0) self.old self.new }
         ensures records { RecordsChange K.means (call_of call) now (answer_of result.0) self.old self.new }
         ensures back { (board_id : ℕ) (s : BoardState (BarRecord K)) (other : BarRecord K) → IsIn board_id self.old s →
@@ -498,10 +524,10 @@ impl<K: Tracks, T: TermLike + Drop> Board<K, T> {
     /// As `apply`. A bar that is removed or turned away is given up.
     pub fn call(&mut self, call: Call<K>, now: Moment) -> Answer
         ensures silent { IsFalse (wrote (drawn_of (answer_of result))) → terminal_of self.new ≡ terminal_of self.old }
-        ensures nowhere { IsNowhere T.view self.old → terminal_of self.new ≡ terminal_of self.old }
+        ensures nowhere { IsNowhere T.view self.old → IsFalse (wrote (drawn_of (answer_of result))) }
         ensures board_id { board_id_of self.new ≡ board_id_of self.old }
         ensures leads { LeadsBy K.means T.view self.old self.new (call_of call) now (answer_of result) }
-        ensures foreign { NamesForeign (board_id_of self.old) (call_of call) → (answer_of result ≡ Refused Refusal.ForeignBar) × (self.new ≡ self.old) }
+        ensures foreign { NamesForeign (board_id_of self.old) (call_of call) → TurnsAway Refusal.ForeignBar (answer_of result) self.old self.new }
         ensures slots { SlotsChange (call_of call) (answer_of result) self.old self.new }
         ensures records { RecordsChange K.means (call_of call) now (answer_of result) self.old self.new }
     {
@@ -510,8 +536,8 @@ impl<K: Tracks, T: TermLike + Drop> Board<K, T> {
 
     /// Makes the calls one after another, each at its moment, and answers what each answered. No calls change nothing, and are never
     /// refused. A call that names another board's bar (of an insertion beside an anchor, that anchor) is answered `ForeignBar`, and
-    /// changes nothing. A bar that none of the calls removes, drops or tells something keeps its record. Bars that are removed or
-    /// turned away are given up.
+    /// changes nothing. A bar that none of the calls removes, drops or tells something keeps its record. Each bar keeps its slot as
+    /// long as it stands in the order. Bars that are removed or turned away are given up.
     ///
     /// Refused: `Memory` for the answers alone, and nothing is run; the calls are given up.
     pub fn run(&mut self, calls: Vec<(Call<K>, Moment)>) -> Result<Vec<Answer>, Refusal>
@@ -523,11 +549,13 @@ impl<K: Tracks, T: TermLike + Drop> Board<K, T> {
         ensures count { IfOk result (λ answers. vec_len answers ≡ vec_len calls) }
         ensures silent { IfOk result (λ answers. IsFalse (list_any (λ answer. wrote (drawn_of (answer_of answer))) answers.items) →
             terminal_of self.new ≡ terminal_of self.old) }
-        ensures nowhere { IsNowhere T.view self.old → terminal_of self.new ≡ terminal_of self.old }
+        ensures nowhere { IfOk result (λ answers. IsNowhere T.view self.old →
+            IsFalse (list_any (λ answer. wrote (drawn_of (answer_of answer))) answers.items)) }
         ensures board_id { board_id_of self.new ≡ board_id_of self.old }
         ensures foreign { IfOk result (λ answers. AreTurnedAway (board_id_of self.old) (map timed calls.items) (map answer_of answers.items)) }
         ensures records { (number : ℕ) → IsFalse (list_any (λ call. acts_on (board_id_of self.old) number (call_of call.0)) calls.items) →
             IfOk result (λ answers. StaysOrComes number answers.items self.old self.new) }
+        ensures slots { (number slot : ℕ) → slot_of number (slots_of self.old) ≡ Some slot → KeepsSlot number slot self.new }
         ensures idle { vec_len calls ≡ 0 → IsTrue (is_ok result) × (self.new ≡ self.old) }
         ensures memory { IfErr result (λ e. e ≡ Refusal.Memory) }
         ensures unrun { OnErr result (self.new ≡ self.old) }
@@ -537,7 +565,9 @@ impl<K: Tracks, T: TermLike + Drop> Board<K, T> {
             return Ok(Vec::new(alloc));
         }
         let mut answers = Vec::with_capacity(alloc, calls.len())?;
+        self.order();
         for (call, now) in calls {
+            self.order();
             let answer = self.call(call, now);
             answers.push_reserved(answer);
         }
@@ -549,9 +579,10 @@ impl<K: Tracks, T: TermLike + Drop> Board<K, T> {
         ensures terminal { terminal_of self.new ≡ terminal_of self.old }
         ensures board_id { board_id_of self.new ≡ board_id_of self.old }
         ensures turned { IfErr result (λ t. t.candidate ≡ candidate) }
+        ensures quiet { IsFalse (wrote (drawn_of (given result))) }
         ensures leads { (now : ℕ) → LeadsBy K.means T.view self.old self.new (Insert (place_at at) (entrant_of candidate)) now (given result) }
-        ensures foreign { NamesForeign (board_id_of self.old) (Insert (place_at at) (entrant_of candidate)) → (given result ≡ Refused Refusal.ForeignBar) × (self.new ≡ self.old) }
-        ensures slot { SlotsTake (entrant_of candidate) (given result) self.old self.new }
+        ensures foreign { NamesForeign (board_id_of self.old) (Insert (place_at at) (entrant_of candidate)) → TurnsAway Refusal.ForeignBar (given result) self.old self.new }
+        ensures slot { SlotsTake (place_at at) (entrant_of candidate) (given result) self.old self.new }
         ensures records { RecordsTake (entrant_of candidate) (given result) self.old self.new }
     {
         match at {
@@ -570,10 +601,10 @@ impl<K: Tracks, T: TermLike + Drop> Board<K, T> {
         ensures board_id { board_id_of self.new ≡ board_id_of self.old }
         ensures turned { IfErr result (λ t. t.candidate ≡ candidate) }
         ensures quiet { IsFalse (wrote (drawn_of (given result))) }
-        ensures foreign { IsForeign (board_id_of self.old) (entrant_of candidate) → (given result ≡ Refused Refusal.ForeignBar) × (self.new ≡ self.old) }
-        ensures not_member { EntersAbsent self.old (entrant_of candidate) → (given result ≡ Refused Refusal.NotMember) × (self.new ≡ self.old) }
+        ensures foreign { IsForeign (board_id_of self.old) (entrant_of candidate) → TurnsAway Refusal.ForeignBar (given result) self.old self.new }
+        ensures not_member { EntersAbsent self.old (entrant_of candidate) → TurnsAway Refusal.NotMember (given result) self.old self.new }
         ensures records { RecordsTake (entrant_of candidate) (given result) self.old self.new }
-        ensures slot { SlotsTake (entrant_of candidate) (given result) self.old self.new }
+        ensures slot { (spot : Location) → at ≡ seat_in spot (slots_of self.old).order → SlotsTake spot (entrant_of candidate) (given result) self.old self.new }
         ensures inserted { (board_id : ℕ) (s : BoardState (BarRecord K)) (spot : Location) → IsIn board_id self.old s → at ≡ index_of spot s.members →
             (next : BoardState (BarRecord K)) × IsIn board_id self.new next × (next.lists ≡ s.lists)
             × ((target : Target) → Leads (board (board_bars K.means) board_id) target s (inserted board_id spot (entrant_of candidate) s) (given result) next) }
@@ -680,6 +711,8 @@ impl<K: Tracks, T: TermLike + Drop> Board<K, T> {
         ensures nowhere { IsNowhere T.view self.old → IsFalse (wrote result) }
         ensures board_id { board_id_of self.new ≡ board_id_of self.old }
         ensures slots { SlotsLeft self.old self.new }
+        ensures head { result ≡ Ok Drawn.Yes → HeadHasRecord self.new }
+        ensures stay { result ≢ Ok Drawn.Yes → slots_of self.new ≡ slots_of self.old }
         ensures records { RecordsStay self.old self.new }
         ensures refusal { IfErr result (λ e. IsTrue (is_of_draw e)) }
         ensures drew { (board_id : ℕ) (takes : Bool) (s : BoardState (BarRecord K)) (number : Option ℕ) → IsIn board_id self.old s → HasPlace number bar s.members →

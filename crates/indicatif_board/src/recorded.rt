@@ -1,5 +1,5 @@
 //! A board with its history.
-ghost use Rattle.std.specs.Prelude.{◌≡◌, ◌⊎◌, ℕ, Option, [], map, IfErr};
+ghost use Rattle.std.specs.Prelude.{◌≡◌, ◌⊎◌, ℕ, Option, [], map, option_map, IfErr};
 ghost use Rattle.indicatif_term.specs.Limiters.{Limiter};
 ghost use Rattle.indicatif_term.specs.Targets.{term_of, limiter_of};
 ghost use Rattle.indicatif_bar.specs.Commands.{BarRecord};
@@ -54,7 +54,7 @@ pub struct Entry<K> {
     pub size: Option<Size>,
 }
 
-/// What a board began with, its terminal apart.
+/// What a board began with, its terminal apart. With it a history without calls tells what its calls would be made on.
 ///
 /// ```
 /// let target = ProgressDrawTarget::term_like_with_hz(term, 20, 0)?;
@@ -67,6 +67,8 @@ pub struct Opening {
     pub board_id: u64,
     /// How often it may be drawn, as the target came; `None` where that has no limit, or is hidden.
     pub limiter: Option<RateLimiter>,
+    /// How large the terminal was; `None` where the target is hidden. Each entry tells its own size.
+    pub size: Option<Size>,
 }
 
 /// A board that keeps what it was asked and what it answered. The calls and answers that it has kept are always those of one run
@@ -87,30 +89,37 @@ pub struct Recorded<K: Tracks, T: Drop> {
     entries: Vec<Entry<K>>,
 }
 
-/// Contracts see the id and the limiter of the opening, the board, and its steps.
+/// Contracts see the id, the limiter and the target of the opening, the board, and its steps.
 impl<K: Tracks, T: Drop> Model for Recorded<K, T> {
     ghost use Rattle.std.specs.Prelude.{map};
-    ghost use Rattle.indicatif_board.specs.Recorded.{Record, IsOneRun, step_of};
+    ghost use Rattle.indicatif_board.specs.Recorded.{Record, IsOneRun, step_of, target_by};
 
     ghost Value = { Record K T };
 
-    ghost view = { λ r. record { board_id = r.opening.board_id; limiter = r.opening.limiter; board = r.board; steps = map step_of r.entries.items } };
+    ghost view = { λ r. record { board_id = r.opening.board_id; limiter = r.opening.limiter; target = target_by r.opening.size; board = r.board; steps = map step_of r.entries.items } };
 
-    ghost invariant = { λ r. IsOneRun K.means (record { board_id = r.opening.board_id; limiter = r.opening.limiter; board = r.board; steps = map step_of r.entries.items }) };
+    ghost invariant = { λ r. IsOneRun K.means (record { board_id = r.opening.board_id; limiter = r.opening.limiter; target = target_by r.opening.size; board = r.board; steps = map step_of r.entries.items }) };
 }
 
 impl<K: Tracks, T: TermLike + Drop> Recorded<K, T> {
     /// A board without bars on this target, of this id, that has made no call. It takes no memory and writes nothing.
     pub fn new(alloc: Global, target: ProgressDrawTarget<T>, board_id: u64) -> Self
         ensures opening { (result.board_id ≡ board_id) × (result.limiter ≡ limiter_of target) }
+        ensures target { result.target ≡ target_of (option_map T.view (term_of target)) }
         ensures steps { result.steps ≡ [] }
         ensures terminal { terminal_of result.board ≡ term_of target }
     {
         let (target, limiter) = with_limiter(target);
+        let board = Board::new(alloc, target, board_id);
+        let size = size_of(&board);
         Recorded {
             alloc,
-            opening: Opening { board_id, limiter },
-            board: Board::new(alloc, target, board_id),
+            opening: Opening {
+                board_id,
+                limiter,
+                size,
+            },
+            board,
             entries: Vec::new(alloc),
         }
     }
@@ -145,7 +154,8 @@ impl<K: Tracks, T: TermLike + Drop> Recorded<K, T> {
 
     /// What it began with.
     pub fn opening(&self) -> &Opening
-        ensures { (result.now.board_id ≡ self.now.board_id) × (result.now.limiter ≡ self.now.limiter) }
+        ensures began { (result.now.board_id ≡ self.now.board_id) × (result.now.limiter ≡ self.now.limiter) }
+        ensures target { target_by result.now.size ≡ self.now.target }
     {
         &self.opening
     }

@@ -1,5 +1,5 @@
 //! The bars of a board with the lines that they show, and how they are drawn.
-ghost use Rattle.std.specs.Prelude.{◌≡◌, ◌<◌, ◌≤◌, ◌^◌, MatchResult, ℕ, Bool, Option, Some, None, true, false, IsTrue, IsFalse, map, length, IfSome, IfOk, IfErr, OnErr};
+ghost use Rattle.std.specs.Prelude.{◌≡◌, ◌≢◌, ◌<◌, ◌≤◌, ◌^◌, MatchResult, ℕ, Bool, Option, Some, None, Ok, true, false, IsTrue, IsFalse, map, length, IfSome, IfOk, IfErr, OnErr};
 ghost use Rattle.std.specs.VecDeque.{deque_len};
 ghost use Rattle.indicatif_term.specs.Frames.{line_text};
 ghost use Rattle.indicatif_term.specs.Engines.{engine_moves, engine_term, Fits};
@@ -47,7 +47,7 @@ pub struct ShownBars<K> {
 }
 
 impl<K: Tracks> ShownBars<K> {
-    ghost use Rattle.indicatif_board.specs.ShownBars.{AreShownAs, record_on};
+    ghost use Rattle.indicatif_board.specs.ShownBars.{AreShownAs, HeadIsOwned, record_on};
     ghost use Rattle.indicatif_board.specs.Inside.Standing.{is_of_draw, seat_of, StandsAt, AllStay, AllOthersStay};
 
     /// No bars, at the top. Takes no memory.
@@ -172,6 +172,8 @@ impl<K: Tracks> ShownBars<K> {
         ensures nowhere { (target_of (stage_known T.view stage.old)).columns ≡ 0 → IsFalse (wrote result) }
         ensures moves { stage_moves stage.new ≡ stage_moves stage.old }
         ensures slots { LeavesHead self.old.table self.new.table }
+        ensures head { result ≡ Ok Drawn.Yes → HeadIsOwned self.new }
+        ensures stay { result ≢ Ok Drawn.Yes → self.new.table ≡ self.old.table }
         ensures records { AllStay self.old self.new }
         ensures refusal { IfErr result (λ e. IsTrue (is_of_draw e)) }
         ensures drew { (board_id : ℕ) (takes : Bool) (s : BoardState (BarRecord K)) (number : Option ℕ) → is_no ask ≡ false →
@@ -226,6 +228,8 @@ impl<K: Tracks> ShownBars<K> {
         ensures silent { IsFalse (wrote result) → engine.new ≡ engine.old }
         ensures moves { engine_moves engine.new ≡ engine_moves engine.old }
         ensures slots { LeavesHead self.old.table self.new.table }
+        ensures head { result ≡ Ok Drawn.Yes → HeadIsOwned self.new }
+        ensures stay { result ≢ Ok Drawn.Yes → self.new.table ≡ self.old.table }
         ensures records { AllStay self.old self.new }
         ensures refusal { IfErr result (λ e. IsTrue (is_of_draw e)) }
         ensures drew { (board_id now : ℕ) (takes lays : Bool) (ask : Ask) (limiter : Option Limiter) (s laid : BoardState (BarRecord K)) → is_no ask ≡ false →

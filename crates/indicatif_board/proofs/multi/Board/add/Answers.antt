@@ -9,6 +9,7 @@ use Rattle.indicatif_board.specs.Calls.{entrant_of, given}
 use Rattle.indicatif_board.specs.Multi.{IsIn, known}
 use Rattle.indicatif_board.proofs.MemberLemmas.{members_length}
 use Rattle.indicatif_board.proofs.BoardCallLemmas.{made_by_insertion}
+use Rattle.indicatif_board.proofs.BarRecordLemmas.{seats_on}
 use Rattle.indicatif_board.proofs.multi.Board.add.Goals as goal
 
 pub returns-clause-leads : goal.returns-clause-leads
@@ -25,3 +26,6 @@ returns-clause-leads g c = λ now board_id s inside.
       subst (λ o. CallMade (board (board_bars tracks) board_id) old o (Insert End (entrant_of c.args.candidate), now) s (given c.insert_at.result) d.0) (sym same)
           (made_by_insertion tracks board_id old End (entrant_of c.args.candidate) now s (given c.insert_at.result) d.0 refl (d.3 (target_of old)) c.insert_at.ensures.quiet d.2),
     )
+
+pub returns-clause-slot : goal.returns-clause-slot
+returns-clause-slot g c = c.insert_at.ensures.slot End (c.len-at.ensures ∙ seats_on c.args.self.now.shown)

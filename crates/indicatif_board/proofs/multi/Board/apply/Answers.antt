@@ -4,8 +4,7 @@ use Rattle.indicatif_board.specs.Multi.{LeadsBy}
 use Rattle.indicatif_board.specs.Multi.{record_at, RecordObeys}
 use Rattle.indicatif_bar.specs.Commands.{command_of}
 use Rattle.indicatif_board.specs.BoardValues.{id_of}
-use Rattle.indicatif_board.proofs.RecordLemmas.{removed_is_back}
-use Rattle.indicatif_board.proofs.LeavingLemmas.{same_left}
+use Rattle.indicatif_board.proofs.RecordLemmas.{removed_is_back, said_slots}
 use Rattle.indicatif_board.proofs.multi.Board.apply.Goals as goal
 
 pub returns-in-Insert-clause-leads : goal.returns-in-Insert-clause-leads
@@ -80,22 +79,27 @@ pub returns-in-Drop-clause-slots : goal.returns-in-Drop-clause-slots
 returns-in-Drop-clause-slots g c = rw c.in-Drop.is c.drop_bar.ensures.slots
 
 pub returns-in-Log-clause-slots : goal.returns-in-Log-clause-slots
-returns-in-Log-clause-slots g c = rw c.in-Log.is c.println.ensures.slots
+returns-in-Log-clause-slots g c =
+    rw c.in-Log.is (said_slots c.println.result _ c.args.self.now c.println.new.self c.draw_answer-in-Log.ensures c.println.ensures.slots c.println.ensures.head c.println.ensures.stay)
 
 pub returns-in-BarLog-clause-slots : goal.returns-in-BarLog-clause-slots
-returns-in-BarLog-clause-slots g c = rw c.in-BarLog.is c.bar_println.ensures.slots
+returns-in-BarLog-clause-slots g c =
+    rw c.in-BarLog.is (said_slots c.bar_println.result _ c.args.self.now c.bar_println.new.self c.draw_answer-in-BarLog.ensures c.bar_println.ensures.slots c.bar_println.ensures.head c.bar_println.ensures.stay)
 
 pub returns-in-Clear-clause-slots : goal.returns-in-Clear-clause-slots
-returns-in-Clear-clause-slots g c = rw c.in-Clear.is c.clear.ensures.slots
+returns-in-Clear-clause-slots g c =
+    rw c.in-Clear.is (said_slots c.clear.result _ c.args.self.now c.clear.new.self c.draw_answer-in-Clear.ensures c.clear.ensures.slots c.clear.ensures.head c.clear.ensures.stay)
 
 pub returns-in-Redraw-clause-slots : goal.returns-in-Redraw-clause-slots
-returns-in-Redraw-clause-slots g c = rw c.in-Redraw.is c.redraw.ensures.slots
+returns-in-Redraw-clause-slots g c =
+    rw c.in-Redraw.is (said_slots c.redraw.result _ c.args.self.now c.redraw.new.self c.draw_answer-in-Redraw.ensures c.redraw.ensures.slots c.redraw.ensures.head c.redraw.ensures.stay)
 
 pub returns-in-Bar-clause-slots : goal.returns-in-Bar-clause-slots
-returns-in-Bar-clause-slots g c = rw c.in-Bar.is c.command.ensures.slots
+returns-in-Bar-clause-slots g c =
+    rw c.in-Bar.is (said_slots c.command.result _ c.args.self.now c.command.new.self c.draw_answer-in-Bar.ensures c.command.ensures.slots c.command.ensures.head c.command.ensures.stay)
 
 pub returns-in-Insert-clause-slots : goal.returns-in-Insert-clause-slots
 returns-in-Insert-clause-slots g c = rw (c.in-Insert.is, c.insertion_answer.ensures.answer) c.insert_by.ensures.slot
 
 pub returns-in-Align-clause-slots : goal.returns-in-Align-clause-slots
-returns-in-Align-clause-slots g c = rw c.in-Align.is (same_left c.args.self.now.shown.table c.set_alignment.new.self.shown.table c.set_alignment.ensures.slots)
+returns-in-Align-clause-slots g c = rw c.in-Align.is c.set_alignment.ensures.slots

@@ -1,4 +1,4 @@
-use Rattle.std.proofs.Common.{◌∙◌, false, refl, ap, Err, Some}
+use Rattle.std.proofs.Common.{◌∙◌, false, refl, sym, ap, Err, Some}
 use Rattle.std.proofs.lemmas.Result.{err_from_is_err_and}
 use Rattle.indicatif_bar.specs.Machines.{target_of}
 use Rattle.indicatif_board.specs.BoardBars.{board_bars}
@@ -56,3 +56,17 @@ returns-clause-not_member g c = λ own. (
 
 pub returns-in_err-at-clause-slots : goal.returns-in_err-at-clause-slots
 returns-in_err-at-clause-slots g c = none_left c.args.self.now.shown.table
+
+pub returns-in_err-at-clause-head : goal.returns-in_err-at-clause-head
+returns-in_err-at-clause-head g c = λ yes.
+    let x = err_from_is_err_and c.from_residual.result c.from_residual.ensures.1 in
+    absurd (cc (sym (x.1 ∙ ap Err x.2) ∙ yes))
+
+pub returns-in_err-at-clause-stay : goal.returns-in_err-at-clause-stay
+returns-in_err-at-clause-stay g c = λ other. refl
+
+pub returns-clause-head : goal.returns-clause-head
+returns-clause-head g c = c.draw.ensures.head
+
+pub returns-clause-stay : goal.returns-clause-stay
+returns-clause-stay g c = c.draw.ensures.stay

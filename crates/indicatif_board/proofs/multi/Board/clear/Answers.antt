@@ -17,3 +17,9 @@ returns-clause-leads g c = λ board_id s inside.
       made_by_draw tracks board_id old (known g.T.TermLike.view c.draw.new.self) Clear c.args.now s (draw_of
           (target_of old) false Forced c.args.now NoFrame s s false) s.lists c.draw.result d.0 refl refl d.2,
     )
+
+pub returns-clause-head : goal.returns-clause-head
+returns-clause-head g c = c.draw.ensures.head
+
+pub returns-clause-stay : goal.returns-clause-stay
+returns-clause-stay g c = c.draw.ensures.stay

@@ -185,3 +185,25 @@ returns-in_err-at-clause-slots g c = none_left c.args.self.now.shown.table
 
 pub returns-in_err-ask-clause-slots : goal.returns-in_err-ask-clause-slots
 returns-in_err-ask-clause-slots g c = none_left c.args.self.now.shown.table
+
+pub returns-in_err-at-clause-head : goal.returns-in_err-at-clause-head
+returns-in_err-at-clause-head g c = λ yes.
+    let x = err_from_is_err_and c.from_residual.result c.from_residual.ensures.1 in
+    absurd (cc (sym (x.1 ∙ ap Err x.2) ∙ yes))
+
+pub returns-in_err-at-clause-stay : goal.returns-in_err-at-clause-stay
+returns-in_err-at-clause-stay g c = λ other. refl
+
+pub returns-clause-head : goal.returns-clause-head
+returns-clause-head g c = c.draw.ensures.head
+
+pub returns-clause-stay : goal.returns-clause-stay
+returns-clause-stay g c = c.draw.ensures.stay
+
+pub returns-in_err-ask-clause-head : goal.returns-in_err-ask-clause-head
+returns-in_err-ask-clause-head g c = λ yes.
+    let x = err_from_is_err_and c.from_residual-in_err-ask.result c.from_residual-in_err-ask.ensures.1 in
+    absurd (cc (sym (x.1 ∙ ap Err x.2) ∙ yes))
+
+pub returns-in_err-ask-clause-stay : goal.returns-in_err-ask-clause-stay
+returns-in_err-ask-clause-stay g c = λ other. refl

@@ -1,4 +1,4 @@
-use Rattle.std.proofs.Common.{◌∙◌, refl, sym, subst, Ok}
+use Rattle.std.proofs.Common.{◌∙◌, refl, sym, ap, subst, Ok}
 use Rattle.indicatif_text.specs.declared.refusal.Drawn.TheVariants.{Limited}
 use Rattle.indicatif_bar.specs.Machines.{target_of}
 use Rattle.indicatif_bar.specs.Stages.{writing_as}
@@ -31,3 +31,12 @@ returns-clause-drew g c = λ board_id takes s number inside placed.
 
 pub returns-then-is_no-clause-slots : goal.returns-then-is_no-clause-slots
 returns-then-is_no-clause-slots g c = subst (λ b. LeavesHead c.args.self.now.shown.table b.table) (sym c.note_place.ensures) (none_left c.args.self.now.shown.table)
+
+pub returns-then-is_no-clause-stay : goal.returns-then-is_no-clause-stay
+returns-then-is_no-clause-stay g c = λ other. ap (λ b. b.table) c.note_place.ensures
+
+pub returns-clause-head : goal.returns-clause-head
+returns-clause-head g c = c.draw_on.ensures.head
+
+pub returns-clause-stay : goal.returns-clause-stay
+returns-clause-stay g c = λ other. c.draw_on.ensures.stay other ∙ ap (λ b. b.table) c.note_place.ensures

@@ -2,6 +2,7 @@ use Rattle.std.proofs.Common.{◌∙◌, refl, sym, ap}
 use Rattle.indicatif_board.specs.declared.calls.Candidate.TheVariants.{New as New-value}
 use Rattle.indicatif_board.specs.Boards.{taken_in}
 use Rattle.indicatif_board.specs.Multi.{IsIn}
+use Rattle.indicatif_board.specs.Slots.{seated}
 use Rattle.indicatif_board.proofs.BoardCallLemmas.{new_leads, new_refused}
 use Rattle.indicatif_board.proofs.BarRecordLemmas.{has_record}
 use Rattle.indicatif_board.proofs.multi.Board.insert_at.Goals as goal
@@ -37,9 +38,9 @@ returns-in-Ok-take_in-clause-records g c =
     rw c.in-New.is (refl, r.0, r.1, r.2)
 
 pub returns-in-Ok-take_in-clause-slot : goal.returns-in-Ok-take_in-clause-slot
-returns-in-Ok-take_in-clause-slot g c =
+returns-in-Ok-take_in-clause-slot g c = λ spot here.
     let taken = c.in-Ok-take_in.ensures.slot in
-    rw c.in-New.is (taken.0, c.args.at, taken.1)
+    rw c.in-New.is (taken.0, taken.1 ∙ ap (λ at. seated at c.args.self.now.shown.table) here)
 
 pub returns-in-Err-take_in-clause-slot : goal.returns-in-Err-take_in-clause-slot
-returns-in-Err-take_in-clause-slot g c = rw c.in-New.is c.in-Err-take_in.ensures.slot
+returns-in-Err-take_in-clause-slot g c = λ spot here. rw c.in-New.is c.in-Err-take_in.ensures.slot

@@ -1,4 +1,4 @@
-use Rattle.std.proofs.Common.{sym, ap, subst, option_map}
+use Rattle.std.proofs.Common.{sym, ◌∙◌, is_some, ap, subst, option_map}
 use Rattle.indicatif_bar.specs.Machines.{target_of}
 use Rattle.indicatif_bar.specs.Runs.{CallMade}
 use Rattle.indicatif_board.specs.BoardBars.{board_bars}
@@ -41,7 +41,16 @@ pub returns-in-Err-clause-records : goal.returns-in-Err-clause-records
 returns-in-Err-clause-records g c = none_taken (entrant_of c.args.candidate) c.in-Err.refusal c.args.self.now
 
 pub returns-in-Err-clause-slot : goal.returns-in-Err-clause-slot
-returns-in-Err-clause-slot g c = none_seated (entrant_of c.args.candidate) c.in-Err.refusal c.args.self.now
+returns-in-Err-clause-slot g c = none_seated (Before (id_of c.args.anchor)) (entrant_of c.args.candidate) c.in-Err.refusal c.args.self.now
 
 pub returns-clause-not_member : goal.returns-clause-not_member
 returns-clause-not_member g c = λ absent. absurd (has_record c.args.self.now.shown c.args.anchor.number c.in-Ok.at c.in-Ok.ensures.own absent.1)
+
+pub returns-in-Err-clause-absent : goal.returns-in-Err-clause-absent
+returns-in-Err-clause-absent g c = λ own some out. absurd (cc (sym (ap is_some (c.in-Err.ensures.absent own).1) ∙ some))
+
+pub returns-clause-absent : goal.returns-clause-absent
+returns-clause-absent g c = λ own some out. c.insert_at.ensures.not_member out
+
+pub returns-clause-slot : goal.returns-clause-slot
+returns-clause-slot g c = c.insert_at.ensures.slot (Before (id_of c.args.anchor)) c.in-Ok.ensures.own.seat

@@ -1,5 +1,7 @@
-use Rattle.std.proofs.Common.{◌∙◌, sym}
+use Rattle.std.proofs.Common.{◌∙◌, sym, ap}
 use Rattle.indicatif_board.specs.Multi.{IsIn}
+use Rattle.indicatif_board.specs.Slots.{occurrences}
+use Rattle.indicatif_board.proofs.BarRecordLemmas.{record_none}
 use Rattle.indicatif_board.proofs.MemberLemmas.{order_is}
 use Rattle.indicatif_board.proofs.SomeBoardLemmas.{some_board}
 use Rattle.indicatif_board.proofs.multi.Board.order.Goals as goal
@@ -12,3 +14,8 @@ returns-clause-order g c = λ board_id s inside.
 
 pub returns-clause-some : goal.returns-clause-some
 returns-clause-some g c = some_board c.args.self.now
+
+pub returns-clause-absent : goal.returns-clause-absent
+returns-clause-absent g c = λ number none.
+    let b = c.args.self.now.shown in
+    record_none number b.table.order b.members.items (ap (occurrences number) (sym c.order.ensures.order) ∙ none)

@@ -14,8 +14,8 @@ use Rattle.indicatif_board.specs.Boards.{drawn_of, board}
 use Rattle.indicatif_board.specs.declared.calls.Answer.{Answer as AnswerValue}
 use Rattle.indicatif_board.specs.declared.calls.Call.{Call as CallValue}
 use Rattle.indicatif_board.specs.Calls.{timed, call_of, answer_of, AreTurnedAway, NamesForeign, acts_on}
-use Rattle.indicatif_board.specs.Multi.{known, board_id_of, StaysOrComes}
-use Rattle.indicatif_board.proofs.RunRecordLemmas.{turned_more, records_more}
+use Rattle.indicatif_board.specs.Multi.{known, board_id_of, slots_of, StaysOrComes}
+use Rattle.indicatif_board.proofs.RunRecordLemmas.{turned_more, records_more, made_before, slots_more}
 use Rattle.indicatif_board.proofs.multi.Board.run.Goals as goal
 
 pub returns-then-is_empty-clause-run : goal.returns-then-is_empty-clause-run
@@ -35,9 +35,10 @@ loop-call-init g c = record {
       let old = known g.T.TermLike.view c.args.self.now in
       (s, inside, subst (λ xs. Runs (board (board_bars g.K.Tracks.means) board_id) [] (map answer_of xs) old s old s) (sym c.in_ok-answers.ensures.items) (refl, refl));
   silent = λ quiet. refl;
-  nowhere = λ none. refl;
+  nowhere = λ none. rw c.in_ok-answers.ensures.items refl;
   foreign = subst (λ xs. AreTurnedAway {K = g.row.K.Denot} (board_id_of c.args.self.now) [] (map answer_of xs)) (sym c.in_ok-answers.ensures.items) tt;
   records = λ number apart. inl refl;
+  slots = λ number slot stood. (inl stood, made_before (slots_of c.args.self.now) number slot c.order.ensures.seated stood);
   board_id = refl;
 }
 
@@ -67,8 +68,10 @@ loop-call-preserved g c = record {
       (sym (ap (list_any wrote_so) c.push_reserved.ensures.items ∙ any-push wrote_so c.loop-call.answers.items c.call-answer.result) ∙ quiet) in
       c.call-answer.ensures.silent parts.1 ∙ c.loop-call.invariant.silent parts.0;
   nowhere = λ none.
-      let same = c.loop-call.invariant.nowhere none in
-      c.call-answer.ensures.nowhere (ap (λ o. (target_of (option_map g.T.TermLike.view o)).columns) same ∙ none) ∙ same;
+      let wrote_so = λ (answer : AnswerValue). wrote (drawn_of (answer_of answer)) in
+      let before = c.loop-call.invariant.nowhere none in
+      let here = c.call-answer.ensures.nowhere (ap (λ o. (target_of (option_map g.T.TermLike.view o)).columns) (c.loop-call.invariant.silent before) ∙ none) in
+      ap (list_any wrote_so) c.push_reserved.ensures.items ∙ any-push wrote_so c.loop-call.answers.items c.call-answer.result ∙ rw (before, here) refl;
   foreign = rw (c.push_reserved.ensures.items, map-append, map-append)
       (turned_more (board_id_of c.args.self.now) (map timed c.loop-call.yielded) (map answer_of c.loop-call.answers.items) (timed (c.in-Some.call, c.in-Some.now)) (answer_of c.call-answer.result)
       c.loop-call.invariant.foreign (λ foreign. (c.call-answer.ensures.foreign (subst (λ board_id. NamesForeign board_id (call_of c.in-Some.call)) (sym c.loop-call.invariant.board_id) foreign)).0));
@@ -79,6 +82,10 @@ loop-call-preserved g c = record {
       subst (λ xs. StaysOrComes number xs c.args.self.now c.call-answer.new.self) (sym c.push_reserved.ensures.items)
       (records_more tracks number c.loop-call.answers.items (call_of c.in-Some.call) c.in-Some.now c.call-answer.result c.args.self.now c.loop-call.self c.call-answer.new.self
       (c.loop-call.invariant.records number parts.0) c.call-answer.ensures.records (ap (λ board_id. acts_on board_id number (call_of c.in-Some.call)) c.loop-call.invariant.board_id ∙ parts.1));
+  slots = λ number slot stood.
+      let before = c.loop-call.invariant.slots number slot stood in
+      slots_more (call_of c.in-Some.call) (answer_of c.call-answer.result) c.loop-call.self c.call-answer.new.self number slot
+      c.order-in-loop-call.ensures.seated c.call-answer.ensures.slots before.0 before.1;
   board_id = c.call-answer.ensures.board_id ∙ c.loop-call.invariant.board_id;
 }
 
@@ -121,3 +128,12 @@ returns-clause-records g c =
     λ number apart.
     let acted = λ (call : CallValue g.row.K.Denot × ℕ). acts_on (board_id_of c.args.self.now) number (call_of call.0) in
     c.loop-call.invariant.records number (ap (list_any acted) (sym (map-id c.loop-call.yielded) ∙ t.0) ∙ apart)
+
+pub returns-then-is_empty-clause-slots : goal.returns-then-is_empty-clause-slots
+returns-then-is_empty-clause-slots g c = λ number slot stood. inl stood
+
+pub returns-in_err-answers-clause-slots : goal.returns-in_err-answers-clause-slots
+returns-in_err-answers-clause-slots g c = λ number slot stood. inl stood
+
+pub returns-clause-slots : goal.returns-clause-slots
+returns-clause-slots g c = λ number slot stood. (c.loop-call.invariant.slots number slot stood).0

@@ -1,4 +1,5 @@
-use Rattle.std.proofs.Common.{refl, inl, inr, ◌∙◌}
+use Rattle.std.proofs.Common.{refl, inl, inr, ◌∙◌, ap, option_map}
+use Rattle.indicatif_bar.specs.Machines.{target_of}
 use Rattle.indicatif_board.specs.Multi.{known}
 use Rattle.indicatif_board.proofs.LeavingLemmas.{more_left}
 use Rattle.indicatif_board.proofs.multi.Board.suspend.Goals as goal
@@ -24,3 +25,16 @@ returns-in-Ok-clause-records g c = λ number. c.redraw-drawn.ensures.records num
 pub returns-in-Ok-clause-slots : goal.returns-in-Ok-clause-slots
 returns-in-Ok-clause-slots g c =
     more_left c.args.self.now.shown.table c.clear-cleared.new.self.shown.table c.redraw-drawn.new.self.shown.table c.clear-cleared.ensures.slots c.redraw-drawn.ensures.slots
+
+pub returns-in-Ok-clause-nowhere : goal.returns-in-Ok-clause-nowhere
+returns-in-Ok-clause-nowhere g c = λ none.
+    let same = c.clear-cleared.ensures.silent (c.clear-cleared.ensures.nowhere none) in
+    c.redraw-drawn.ensures.nowhere (ap (λ o. (target_of (option_map g.T.TermLike.view o)).columns) same ∙ none)
+
+pub returns-in-Ok-clause-stays : goal.returns-in-Ok-clause-stays
+returns-in-Ok-clause-stays g c = λ none.
+    let same = c.clear-cleared.ensures.silent (c.clear-cleared.ensures.nowhere none) in
+    c.redraw-drawn.ensures.silent (c.redraw-drawn.ensures.nowhere (ap (λ o. (target_of (option_map g.T.TermLike.view o)).columns) same ∙ none)) ∙ same
+
+pub returns-in-Ok-clause-head : goal.returns-in-Ok-clause-head
+returns-in-Ok-clause-head g c = c.redraw-drawn.ensures.head

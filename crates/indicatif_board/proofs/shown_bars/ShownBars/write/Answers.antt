@@ -1,4 +1,4 @@
-use Rattle.std.proofs.Common.{◌≡◌, ◌∙◌, sym, ap, subst, map, drop, arith, Result, Ok, Err, Some}
+use Rattle.std.proofs.Common.{◌≡◌, ◌∙◌, refl, sym, ap, subst, map, drop, arith, Result, Ok, Err, Some}
 use Rattle.std.proofs.lemmas.Result.{err_from_is_err_and}
 use Rattle.std.proofs.lemmas.List.Sums.{prefix_len-le-length}
 use Rattle.indicatif_term.specs.Frames.{bar_lines}
@@ -17,7 +17,7 @@ use Rattle.indicatif_board.specs.Members.{leaders}
 use Rattle.indicatif_board.specs.ShownBars.{Holds}
 use Rattle.indicatif_board.proofs.MemberLemmas.{leaders_of, dropped_bars}
 use Rattle.indicatif_board.proofs.BoardDrawLemmas.{frame_drew, ready_holds, broken_holds, written_holds}
-use Rattle.indicatif_board.proofs.BarRecordLemmas.{evenly, left_record}
+use Rattle.indicatif_board.proofs.BarRecordLemmas.{evenly, left_head, left_record}
 use Rattle.indicatif_board.proofs.shown_bars.ShownBars.write.Goals as goal
 
 pub put-requires : goal.put-requires
@@ -96,3 +96,18 @@ returns-clause-records g c = λ number.
     left_record number c.leading-gone.result b.table.order b.members.items even c.remove_first.new.self.order c.take_front-2.new.items.items
     c.leading-gone.ensures (ap (λ (t : SlotTable). t.order) c.remove_first.ensures.removed)
     c.take_front-2.ensures (c.remove_first.ensures.seated.apart number)
+
+pub returns-clause-head : goal.returns-clause-head
+returns-clause-head g c = λ yes head rest order.
+    let b = c.args.self.now in
+    let even = evenly b.frame.items b.table.order b.members.items (omega (arith, b.even, b.members.ok, b.frame.ok)) b.seated in
+    left_head head c.leading-gone.result b.table.order b.members.items even c.remove_first.new.self.order c.take_front-2.new.items.items
+    c.leading-gone.ensures (ap (λ (t : SlotTable). t.order) c.remove_first.ensures.removed) c.take_front-2.ensures head rest order
+
+pub returns-clause-stay : goal.returns-clause-stay
+returns-clause-stay g c = λ other. absurd (other refl)
+
+pub returns-in_err-put-clause-head : goal.returns-in_err-put-clause-head
+returns-in_err-put-clause-head g c = λ yes.
+    let x = err_from_is_err_and c.from_residual.result c.from_residual.ensures.1 in
+    absurd (cc (sym (x.1 ∙ ap Err x.2) ∙ yes))
