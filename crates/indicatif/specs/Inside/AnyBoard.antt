@@ -10,7 +10,7 @@ use Rattle.indicatif_board.specs.Boards.{Id, Location, Entrant, Answer, Given, D
 use Rattle.indicatif_board.specs.Multi.{LeadsBy}
 use Rattle.indicatif_board.specs.Recorded.{Record, AddsCall}
 use Rattle.indicatif_board.specs.declared.multi.Board.{Board}
-use Rattle.indicatif.specs.SharedBoards.{SharedCall, given_by}
+use Rattle.indicatif.specs.Inside.SharedBoards.{SharedCall, given_by}
 use Rattle.indicatif.specs.declared.progress_bar.any_board.AnyBoard.{AnyBoard}
 use Rattle.indicatif.specs.declared.progress_bar.any_board.AnyBoard.TheVariants.{Open, Recorded}
 
