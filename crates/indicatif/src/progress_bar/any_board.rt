@@ -5,7 +5,7 @@ ghost use Rattle.indicatif_board.specs.Boards.{Tell, Remove, Refused, drawn_of};
 ghost use Rattle.indicatif_board.specs.BoardValues.{id_of};
 ghost use Rattle.indicatif_board.specs.Calls.{call_of, answer_of};
 ghost use Rattle.indicatif.specs.Fronts.{CanDraw};
-ghost use Rattle.indicatif.specs.Inside.AnyBoard.{BoardMakes, BoardDraws, BoardRemoves, BoardSuspends, refused_with};
+ghost use Rattle.indicatif.specs.Inside.AnyBoard.{BoardMakes, BoardDraws, BoardRemoves, BoardSuspends, BoardTurns, BoardMoves, refused_with};
 ghost use Rattle.indicatif.specs.Inside.SharedBoards.{SharedAnswers, SharedDraws, given_by};
 
 use indicatif_bar::state::{BarCommand, BarState};
@@ -84,7 +84,8 @@ impl<K: Tracks, T: TermLike + Drop> AnyBoard<K, T> {
 
     /// Another target; the old one is given up. A board with its history keeps its target.
     pub fn set_draw_target(&mut self, target: ProgressDrawTarget<T>) -> Result<(), Refusal>
-        ensures { IfErr result (λ e. (e ≡ Refusal.RecordedTarget) × (self.new ≡ self.old)) }
+        ensures turns { BoardTurns self.old target result self.new }
+        ensures refused { IfErr result (λ e. (e ≡ Refusal.RecordedTarget) × (self.new ≡ self.old)) }
     {
         match self {
             AnyBoard::Open(board) => {
@@ -97,7 +98,8 @@ impl<K: Tracks, T: TermLike + Drop> AnyBoard<K, T> {
 
     /// Whether draws write over what stands, by moves of the cursor alone. A board with its history isn't told.
     pub fn set_move_cursor(&mut self, on: bool) -> Result<(), Refusal>
-        ensures { IfErr result (λ e. (e ≡ Refusal.RecordedTarget) × (self.new ≡ self.old)) }
+        ensures moves { BoardMoves self.old on result self.new }
+        ensures refused { IfErr result (λ e. (e ≡ Refusal.RecordedTarget) × (self.new ≡ self.old)) }
     {
         match self {
             AnyBoard::Open(board) => {
