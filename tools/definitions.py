@@ -124,7 +124,6 @@ SOURCES = {
         "Parallel": (OWN, {}),
         "Ring": (CRATE, {}),
         "Seek": (CRATE, {}),
-        "SharedBoards": (OWN, {}),
         "Workers": (OWN, {}),
         "Wrap": (OWN, {}),
     },

@@ -1,6 +1,6 @@
 -- Which answers the calls of a lone bar and of a board have: those that the table of shared bars and boards allows.
 use Rattle.std.proofs.Common.{◌≡◌, ◌⊎◌, ℕ, ◌^◌, arith, List, [], ◌∷◌, Bool, true, false, refl, sym, ◌∙◌, ap, subst, Result, Ok, Err, Option, Some, None, inl, inr, if◌then◌else◌}
-use Rattle.std.specs.Prelude.{◌==◌, ◌||◌, not, nat_lt, IfErr}
+use Rattle.std.specs.Prelude.{◌==◌, ◌||◌, ◌&&◌, not, nat_lt, IfErr}
 use Rattle.std.specs.declared.io.ErrorKind.{ErrorKind}
 use Rattle.std.proofs.lemmas.Bool.{cond_both, false≢true, ltb-true, lt-ltb}
 use Rattle.std.proofs.Math.Bool.{or-true}
@@ -24,8 +24,8 @@ use Rattle.indicatif_bar.specs.declared.state.Ask.TheVariants.{No, Unforced, For
 use Rattle.indicatif_board.specs.BoardBars.{board_bars}
 use Rattle.indicatif_board.specs.Boards.{BoardState, Id, Location, Before, After, Entrant, New, Old, Insert, Remove, Drop, Log as LogAbove, BarLog, Clear as ClearBoard, Redraw, Align, Tell, Answer, Given, Done, Drew, Refused, drawn_of, or_refused, turned_away, anchor_turned_away, inserted, taken_in, taken_out, draws, draw_of_command, last_draw, log_of, draw_of, laid_out, layout_takes, left_on, ownerless_on, deed_of, board}
 use Rattle.indicatif_board.specs.Members.{Member, is_member, said_of}
-use Rattle.indicatif.specs.Fronts.{of_no_draw, of_a_draw, of_a_clear, of_draw, asked_by, is_late, has_no_bar, bar_answers, CanAnswer, IsMissing, on_board}
-use Rattle.indicatif.specs.SharedBoards.{SharedCall, SharedDraws, SharedAnswers, given_by, is_foreign, board_answers}
+use Rattle.indicatif.specs.Fronts.{of_no_draw, of_a_draw, of_a_clear, of_draw, asked_by, is_late, has_no_bar, bar_answers, CanAnswer, CanDraw, IsMissing, MemoryOrForeign}
+use Rattle.indicatif.specs.Inside.SharedBoards.{SharedCall, SharedDraws, SharedAnswers, on_board, given_by, is_foreign, names_bar, board_answers}
 
 pub or-left : (a b : Bool) → a ≡ true → (a || b) ≡ true
 or-left a b e = rw e refl
@@ -221,6 +221,18 @@ said_so P other f each number [] there = absurd (false≢true there)
 said_so P other f each number (m ∷ ms) there = cond_both (m.number == number) (f m.bar) (said_of other f number ms) P (λ here. each m.bar)
     (λ elsewhere. said_so P other f each number ms (sym (ap (λ b. if b then not m.dropped else is_member number ms) elsewhere) ∙ there))
 
+-- an anchor is named, whatever is to be taken in
+before_named : {B : Type 0} (anchor : Id) (entrant : Entrant B) → names_bar entrant (Before anchor) ≡ true
+before_named anchor (Old id) = refl
+before_named anchor (New bar) = refl
+
+after_named : {B : Type 0} (anchor : Id) (entrant : Entrant B) → names_bar entrant (After anchor) ≡ true
+after_named anchor (Old id) = refl
+after_named anchor (New bar) = refl
+
+or_none_named : {named : Bool} → named ≡ true → (named && true) ≡ true
+or_none_named is = rw is refl
+
 module _ {K : Type 0} (m : Tracking K) (board_id : ℕ) (target : Target) (now : ℕ) (s : BoardState (BarRecord K)) (answer : Answer) (next : BoardState (BarRecord K)) where
   abbrev Led : Deed (BoardState (BarRecord K)) Answer → Type 0
   Led deed = Leads (board (board_bars m) board_id) target s deed answer next
@@ -243,22 +255,24 @@ module _ {K : Type 0} (m : Tracking K) (board_id : ℕ) (target : Target) (now :
       (λ ours. cond_both (is_member id.number s.members) None (Some NotMember) Q on (λ left. said_at_once P (Refused NotMember) s gone))
 
   -- a bar that is taken in, behind an anchor or without one
-  abbrev Takes : Result Drawn Refusal → Type 0
-  Takes r = (of_no_draw r || has_no_bar r) ≡ true
+  abbrev Takes : Location → Entrant (BarRecord K) → Result Drawn Refusal → Type 0
+  Takes at entrant r = (of_no_draw r || (names_bar entrant at && has_no_bar r)) ≡ true
 
-  entered : (at : Location) (entrant : Entrant (BarRecord K)) → Led (inserted board_id at entrant s) → Takes (drawn_of answer)
+  entered : (at : Location) (entrant : Entrant (BarRecord K)) → Led (inserted board_id at entrant s) → Takes at entrant (drawn_of answer)
   entered at (New bar) =
       cond_both (s.made == 2 ^ 64) (AtOnce true (Refused Memory) s) (AtOnce true (Given (record { board = board_id; number = s.made })) (taken_in at bar s))
-      (λ deed. Led deed → Takes (drawn_of answer))
-      (λ full. at_once (board (board_bars m) board_id) target s true (Refused Memory) s answer next Takes refl (λ taken. refl))
-      (λ free. at_once (board (board_bars m) board_id) target s true (Given (record { board = board_id; number = s.made })) (taken_in at bar s) answer next Takes refl (λ taken. refl))
-  entered at (Old id) = named_answers Takes id (AtOnce false (Given id) s) refl refl (λ there. said_at_once Takes (Given id) s refl)
+      (λ deed. Led deed → Takes at (New bar) (drawn_of answer))
+      (λ full. at_once (board (board_bars m) board_id) target s true (Refused Memory) s answer next (Takes at (New bar)) refl (λ taken. refl))
+      (λ free. at_once (board (board_bars m) board_id) target s true (Given (record { board = board_id; number = s.made })) (taken_in at bar s) answer next (Takes at (New bar)) refl (λ taken. refl))
+  entered at (Old id) = named_answers (Takes at (Old id)) id (AtOnce false (Given id) s) refl refl (λ there. said_at_once (Takes at (Old id)) (Given id) s refl)
 
-  anchored : (at : Location) (deed : Deed (BoardState (BarRecord K)) Answer) → (Led deed → Takes (drawn_of answer)) →
-      Led (or_refused (anchor_turned_away board_id at s) deed s) → Takes (drawn_of answer)
-  anchored (Before anchor) deed on = named_answers Takes anchor deed refl refl (λ there. on)
-  anchored (After anchor) deed on = named_answers Takes anchor deed refl refl (λ there. on)
-  anchored _ deed on = on
+  anchored : (at : Location) (entrant : Entrant (BarRecord K)) (deed : Deed (BoardState (BarRecord K)) Answer) → (Led deed → Takes at entrant (drawn_of answer)) →
+      Led (or_refused (anchor_turned_away board_id at s) deed s) → Takes at entrant (drawn_of answer)
+  anchored (Before anchor) entrant deed on =
+      named_answers (Takes (Before anchor) entrant) anchor deed (or_none_named (before_named anchor entrant)) (or_none_named (before_named anchor entrant)) (λ there. on)
+  anchored (After anchor) entrant deed on =
+      named_answers (Takes (After anchor) entrant) anchor deed (or_none_named (after_named anchor entrant)) (or_none_named (after_named anchor entrant)) (λ there. on)
+  anchored _ entrant deed on = on
 
   -- a command of a member's bar
   told_answers : (id : Id) (command : Command K) → is_member id.number s.members ≡ true →
@@ -284,7 +298,7 @@ module _ {K : Type 0} (m : Tracking K) (board_id : ℕ) (target : Target) (now :
   hasnt command e is = or-right (of_draw (asked_by command) (Err e)) (is_late command (Err e) || has_no_bar (Err e)) (or-right (is_late command (Err e)) (has_no_bar (Err e)) is)
 
   board_call : (call : SharedCall K) → Led (deed_of (board_bars m) board_id target call now s) → board_answers call (drawn_of answer) ≡ true
-  board_call (Insert at entrant) led = anchored at (inserted board_id at entrant s) (entered at entrant) led
+  board_call (Insert at entrant) led = anchored at entrant (inserted board_id at entrant s) (entered at entrant) led
   board_call (Remove id) led =
       let P = λ (r : Result Drawn Refusal). (of_no_draw r || is_foreign r) ≡ true in
       cond_both (not (id.board == board_id)) (AtOnce false (Refused ForeignBar) s) (AtOnce false Done (taken_out id.number s)) (λ deed. Led deed → P (drawn_of answer))
@@ -309,68 +323,75 @@ module _ {K : Type 0} (m : Tracking K) (board_id : ℕ) (target : Target) (now :
       (draws (draw_of_command (board_bars m) target id.number command now s)) s)
       (hasnt command ForeignBar refl) (hasnt command NotMember refl) (told_answers id command) led
 
-pub made_on_board : {K T : Type 0} (m : Tracking K) (view : T → TermView) (board_id : ℕ) (old new : Option TermView) (call : SharedCall K) (now : ℕ) (s : BoardState (BarRecord K)) (answer : Answer)
-    (next : BoardState (BarRecord K)) → CallMade (board (board_bars m) board_id) old new (call, now) s answer next → SharedDraws m view call (drawn_of answer)
+pub made_on_board : {K : Type 0} (m : Tracking K) (board_id : ℕ) (old new : Option TermView) (call : SharedCall K) (now : ℕ) (s : BoardState (BarRecord K)) (answer : Answer)
+    (next : BoardState (BarRecord K)) → CallMade (board (board_bars m) board_id) old new (call, now) s answer next → SharedDraws K call (drawn_of answer)
 unfolding SharedDraws
-made_on_board m view board_id old new call now s answer next made = board_call m board_id (target_of old) now s answer next call made.leads
+made_on_board m board_id old new call now s answer next made = board_call m board_id (target_of old) now s answer next call made.leads
 
 -- memory may always be wanting, for a history or for a text
-pub no_memory : {K T : Type 0} (m : Tracking K) (view : T → TermView) (call : SharedCall K) → SharedDraws m view call (Err Memory)
+pub no_memory : {K : Type 0} (call : SharedCall K) → SharedDraws K call (Err Memory)
 unfolding SharedDraws
-no_memory m view (Insert at entrant) = refl
-no_memory m view (Remove id) = refl
-no_memory m view (Drop id) = refl
-no_memory m view (LogAbove text) = refl
-no_memory m view (BarLog id text) = refl
-no_memory m view ClearBoard = refl
-no_memory m view Redraw = refl
-no_memory m view (Align bottom) = refl
-no_memory m view (Tell id command) = or-left (of_draw (asked_by command) (Err Memory)) (is_late command (Err Memory) || false) (short_so (asked_by command))
+no_memory (Insert at entrant) = refl
+no_memory (Remove id) = refl
+no_memory (Drop id) = refl
+no_memory (LogAbove text) = refl
+no_memory (BarLog id text) = refl
+no_memory ClearBoard = refl
+no_memory Redraw = refl
+no_memory (Align bottom) = refl
+no_memory (Tell id command) = or-left (of_draw (asked_by command) (Err Memory)) (is_late command (Err Memory) || false) (short_so (asked_by command))
 
 -- what a board answers that is asked for a bar, the bar can answer
-pub seated : {K T : Type 0} (m : Tracking K) (view : T → TermView) (id : Id) (call : LoneCall (Command K))
-    (answer : Result Drawn Refusal) → SharedDraws m view (on_board id call) answer → CanAnswer K call answer
+pub seated : {K : Type 0} (id : Id) (call : LoneCall (Command K)) (answer : Result Drawn Refusal) → SharedDraws K (on_board id call) answer → CanAnswer K call answer
 unfolding SharedDraws CanAnswer
-seated m view id (Obey command) answer can = can
-seated m view id (Log text) answer can = can
-seated m view id Clear answer can = can
+seated id (Obey command) answer can = can
+seated id (Log text) answer can = can
+seated id Clear answer can = can
 
 -- a board that was drawn anew by force, or cleared
-pub redrawn_so : {K T : Type 0} (m : Tracking K) (view : T → TermView) (answer : Result Drawn Refusal) → SharedDraws m view Redraw answer → of_a_draw answer ≡ true
+pub redrawn_so : {K : Type 0} (answer : Result Drawn Refusal) → SharedDraws K Redraw answer → CanDraw answer
 unfolding SharedDraws
-redrawn_so m view answer can = can
+redrawn_so answer can = can
 
-pub cleared_so : {K T : Type 0} (m : Tracking K) (view : T → TermView) (answer : Result Drawn Refusal) → SharedDraws m view ClearBoard answer → of_a_draw answer ≡ true
+pub cleared_so : {K : Type 0} (answer : Result Drawn Refusal) → SharedDraws K ClearBoard answer → CanDraw answer
 unfolding SharedDraws
-cleared_so m view answer can = clear_is_draw answer can
+cleared_so answer can = clear_is_draw answer can
 
 -- an insertion is refused for want of memory, or where the board hasn't the bar; a removal for want of memory, or of another board's bar; and another
 -- alignment for want of memory
-given_so : {K T : Type 0} (m : Tracking K) (view : T → TermView) (at : Location) (entrant : Entrant (BarRecord K)) (told : Answer) → SharedAnswers m view (Insert at entrant) told →
-    IfErr (given_by told) IsMissing
+given_so : {K : Type 0} (at : Location) (entrant : Entrant (BarRecord K)) (told : Answer) (e : Refusal) → SharedAnswers K (Insert at entrant) told → given_by told ≡ Err e →
+    SharedAnswers K (Insert at entrant) (Refused e)
+given_so at entrant (Refused refusal) e can given = subst (λ taken. IfErr taken (λ r. SharedAnswers K (Insert at entrant) (Refused r))) given can
+given_so at entrant (Given id) e can given = subst (λ taken. IfErr taken (λ r. SharedAnswers K (Insert at entrant) (Refused r))) given tt
+given_so at entrant Done e can given = subst (λ taken. IfErr taken (λ r. SharedAnswers K (Insert at entrant) (Refused r))) given (no_memory (Insert at entrant))
+given_so at entrant (Drew drawn) e can given = subst (λ taken. IfErr taken (λ r. SharedAnswers K (Insert at entrant) (Refused r))) given (no_memory (Insert at entrant))
+
+pub turned_so : {K I : Type 0} (at : Location) (entrant : Entrant (BarRecord K)) (told : Answer) (taken : Result I Refusal) → IfErr taken (λ e. given_by told ≡ Err e) →
+    SharedAnswers K (Insert at entrant) told → IfErr taken (λ e. SharedAnswers K (Insert at entrant) (Refused e))
+turned_so at entrant told (Ok id) given can = tt
+turned_so at entrant told (Err e) given can = given_so at entrant told e can given
+
+no_bar : (named : Bool) (e : Refusal) → (named && has_no_bar (Err e)) ≡ true → IsMissing e
+no_bar true ForeignBar can = inr (inl refl)
+no_bar true NotMember can = inr (inr refl)
+no_bar true _ can = absurd (false≢true can)
+no_bar false e can = absurd (false≢true can)
+
+pub not_taken : {K : Type 0} (at : Location) (entrant : Entrant (BarRecord K)) (e : Refusal) → SharedAnswers K (Insert at entrant) (Refused e) → IsMissing e
 unfolding SharedDraws
-given_so m view at entrant (Given id) can = tt
-given_so m view at entrant Done can = inr (inr refl)
-given_so m view at entrant (Drew drawn) can = inr (inr refl)
-given_so m view at entrant (Refused Memory) can = inl refl
-given_so m view at entrant (Refused ForeignBar) can = inr (inl refl)
-given_so m view at entrant (Refused NotMember) can = inr (inr refl)
-given_so m view at entrant (Refused e) can = absurd (false≢true can)
+not_taken at entrant Memory can = inl refl
+not_taken at entrant e can = no_bar (names_bar entrant at) e can
 
-pub taken_so : {K T : Type 0} (m : Tracking K) (view : T → TermView) (at : Location) (entrant : Entrant (BarRecord K)) (told : Answer) (e : Refusal) →
-    SharedAnswers m view (Insert at entrant) told → given_by told ≡ Err e → IsMissing e
-taken_so m view at entrant told e can given = subst (λ taken. IfErr taken IsMissing) given (given_so m view at entrant told can)
-
-pub removed_so : {K T : Type 0} (m : Tracking K) (view : T → TermView) (id : Id) (e : Refusal) → SharedAnswers m view (Remove id) (Refused e) → (e ≡ Memory) ⊎ (e ≡ ForeignBar)
+pub removed_so : {K : Type 0} (id : Id) (e : Refusal) → SharedAnswers K (Remove id) (Refused e) → MemoryOrForeign e
 unfolding SharedDraws
-removed_so m view id Memory can = inl refl
-removed_so m view id ForeignBar can = inr refl
-removed_so m view id _ can = absurd (false≢true can)
+removed_so id Memory can = inl refl
+removed_so id ForeignBar can = inr refl
+removed_so id _ can = absurd (false≢true can)
 
-pub stays_so : {K T : Type 0} (m : Tracking K) (view : T → TermView) (id : Id) (e : Refusal) → SharedAnswers m view (Remove id) (Refused e) → IsMissing e
-stays_so m view id e can = elim (removed_so m view id e can) [ inl memory ↦ inl memory | inr foreign ↦ inr (inl foreign) ]
+pub stays_so : {K : Type 0} (id : Id) (e : Refusal) → SharedAnswers K (Remove id) (Refused e) → IsMissing e
+stays_so id e can = elim (removed_so id e can) [ inl memory ↦ inl memory | inr foreign ↦ inr (inl foreign) ]
 
-pub aligned_so : {K T : Type 0} (m : Tracking K) (view : T → TermView) (bottom : Bool) (e : Refusal) → SharedDraws m view (Align bottom) (Err e) → e ≡ Memory
+pub aligned_so : {K : Type 0} (bottom : Bool) (e : Refusal) → SharedDraws K (Align bottom) (Err e) → e ≡ Memory
 unfolding SharedDraws
-aligned_so m view bottom Memory can = refl
-aligned_so m view bottom _ can = absurd (false≢true can)
+aligned_so bottom Memory can = refl
+aligned_so bottom _ can = absurd (false≢true can)

@@ -1,7 +1,7 @@
 -- What is said of a shared bar is an answer that its call can have; and want of memory is one.
 use Rattle.std.proofs.Common.{◌≡◌, ◌⊎◌, ◌||◌, ℕ, true, inl, inr, refl, sym, subst, Option, Some, None, IfSome, Result, Ok, Err, MatchResult}
 use Rattle.indicatif_text.specs.declared.refusal.Refusal.{Refusal}
-use Rattle.indicatif_text.specs.declared.refusal.Refusal.TheVariants.{Memory}
+use Rattle.indicatif_text.specs.declared.refusal.Refusal.TheVariants.{Memory, ForeignBar}
 use Rattle.indicatif_text.specs.declared.refusal.Drawn.{Drawn}
 use Rattle.indicatif_term.specs.Calls.{TermView}
 use Rattle.indicatif_bar.specs.Commands.{Command}
@@ -11,11 +11,9 @@ use Rattle.indicatif_bar.specs.LoneBars.{record_of, lone_known}
 use Rattle.indicatif_bar.specs.Progress.{Progress, new_progress, eta, per_sec, duration, elapsed}
 use Rattle.indicatif_bar.specs.declared.command.Change.{Change as Changed}
 use Rattle.indicatif_bar.specs.declared.lone.LoneBar.{LoneBar}
-use Rattle.indicatif_board.specs.Boards.{Location}
 use Rattle.indicatif_board.specs.BoardValues.{id_of}
-use Rattle.indicatif.specs.Fronts.{LoneIsSomewhere, SuspendedBy, of_no_draw, of_a_draw, has_no_bar, CanAnswer, CanTurn, IsMissing, unchanged}
-use Rattle.indicatif.specs.Inside.AnyBar.{MadeBy, BarMakes, BarSuspends, BarTurns, IsUntold, IsOf}
-use Rattle.indicatif.specs.SharedBoards.{SharedDraws, SharedTakes}
+use Rattle.indicatif.specs.Fronts.{of_no_draw, of_a_draw, has_no_bar, CanAnswer, CanDraw, CanTurn, IsMissing, MemoryOrForeign, unchanged}
+use Rattle.indicatif.specs.Inside.AnyBar.{SuspendedBy, MadeBy, BarMakes, BarSuspends, BarTurns, IsUntold, IsOf}
 use Rattle.indicatif.proofs.AnswerLemmas.{or-left, or-right, anywhere, made_alone, suspended_alone, seated}
 use Rattle.indicatif.specs.declared.progress_bar.any_bar.AnyBar.{AnyBar}
 use Rattle.indicatif.specs.declared.progress_bar.any_bar.AnyBar.TheVariants.{Alone, Member}
@@ -27,17 +25,17 @@ module _ {K T : Type 0} (m : Tracking K) (view : T → TermView) where
     made_answers call made = let led = made.leads made.was.0 made.was.1 in
         anywhere call answer (made_alone m (lone_known view old) (lone_known view new) made.was.0 led.0 call now answer led.2)
 
-    pub suspended_answers : SuspendedBy m view old new now answer → of_a_draw answer ≡ true
+    pub suspended_answers : SuspendedBy m view old new now answer → CanDraw answer
     suspended_answers made = let led = made.leads made.was.0 made.was.1 in
         suspended_alone m (lone_known view old) (lone_known view new) made.was.0 led.0 now answer led.2
 
 pub place_answers : {K T C : Type 0} (m : Tracking K) (view : T → TermView) (old new : AnyBar K T C) (call : LoneCall (Command K)) (answer : Result Drawn Refusal) →
     BarMakes m view old call answer new → CanAnswer K call answer
 place_answers m view (Alone old) new call answer made = made_answers m view old made.0 made.2.0 answer call made.2.1
-place_answers m view (Member member) new call answer made = seated m view (id_of member.id) call answer made.1
+place_answers m view (Member member) new call answer made = seated (id_of member.id) call answer made.1
 
 pub place_suspends : {K T C : Type 0} (m : Tracking K) (view : T → TermView) (old new : AnyBar K T C) (answer : Result Drawn Refusal) →
-    BarSuspends m view old answer new → of_a_draw answer ≡ true
+    BarSuspends m view old answer new → CanDraw answer
 place_suspends m view (Alone old) new answer made = suspended_answers m view old made.0 made.2 answer made.3
 place_suspends m view (Member member) new answer made = made.1
 
@@ -49,7 +47,7 @@ can_stay e (inr (inr gone)) = rw gone refl
 
 pub place_turns : {K T C : Type 0} (m : Tracking K) (view : T → TermView) (old new : AnyBar K T C) (term : Option T) (answer : Result Drawn Refusal) →
     BarTurns m view old term answer new → CanTurn answer
-unfolding CanTurn SharedDraws
+unfolding CanTurn
 place_turns m view (Alone old) new term answer made = rw made.4 refl
 place_turns m view (Member member) new term answer (inl made) = or-right (of_no_draw answer) (of_a_draw answer || has_no_bar answer) (or-left (of_a_draw answer) (has_no_bar answer) made.3)
 place_turns m view (Member member) new term answer (inr made) = subst CanTurn (sym made.1) (can_stay made.0 made.3)
@@ -58,8 +56,15 @@ pub place_untold : {K T C : Type 0} (place : AnyBar K T C) (e : Refusal) → IsU
 place_untold (Alone bar) e untold = inl untold
 place_untold (Member member) e untold = untold
 
-pub not_taken : {K T : Type 0} (m : Tracking K) (view : T → TermView) (at : Location) → SharedTakes m view at (Err Memory)
-not_taken m view at = inl refl
+-- memory is one of the reasons
+pub memory_missing : IsMissing Memory
+memory_missing = inl refl
+
+pub memory_or_foreign : MemoryOrForeign Memory
+memory_or_foreign = inl refl
+
+pub foreign_or_memory : MemoryOrForeign ForeignBar
+foreign_or_memory = inr refl
 
 -- what was found of a bar on a board, if it is there
 pub seat_reads : {X A : Type 0} (R : Progress → A → Type 0) (state : X → Progress) (bar : Result X Refusal) (found : Option A) →

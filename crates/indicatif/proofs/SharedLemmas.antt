@@ -6,7 +6,7 @@ use Rattle.indicatif_text.specs.declared.refusal.Drawn.{Drawn}
 use Rattle.indicatif_term.specs.Calls.{TermView}
 use Rattle.indicatif_bar.specs.Trackers.{Tracking}
 use Rattle.indicatif_bar.specs.Commands.{BarRecord}
-use Rattle.indicatif_board.specs.Boards.{Id, Location, Entrant, Insert, Remove, Clear, Redraw, Answer, Done, Refused}
+use Rattle.indicatif_board.specs.Boards.{Id, Remove, Clear, Redraw, Answer, Done, Refused}
 use Rattle.indicatif_board.specs.Calls.{answer_of, removal}
 use Rattle.indicatif_board.specs.declared.calls.Answer.{Answer as AnswerValue}
 use Rattle.indicatif_board.specs.declared.calls.Answer.TheVariants as answer
@@ -16,20 +16,20 @@ use Rattle.indicatif_board.specs.declared.multi.Board.{Board}
 use Rattle.indicatif.specs.Inside.AnyBoard.{BoardDraws, BoardRemoves, BoardSuspends, refused_with}
 use Rattle.indicatif.specs.declared.progress_bar.any_board.AnyBoard.{AnyBoard}
 use Rattle.indicatif.specs.declared.progress_bar.any_board.AnyBoard.TheVariants as kind
-use Rattle.indicatif.specs.SharedBoards.{SharedCall, SharedState, SharedAnswers, SharedTakes, given_by}
-use Rattle.indicatif.proofs.AnswerLemmas.{made_on_board, no_memory, taken_so}
+use Rattle.indicatif.specs.Inside.SharedBoards.{SharedCall, SharedState, SharedAnswers}
+use Rattle.indicatif.proofs.AnswerLemmas.{made_on_board, no_memory}
 
 module _ {K T : Type 0} (m : Tracking K) (view : T → TermView) where
   -- a board that is in some state answered so, and a board can
   pub can_answer : (old new : Board K T) (call : SharedCall K) (now : ℕ) (answer : Answer) (board_id : ℕ) (s : SharedState K) →
-      IsIn board_id old s → LeadsBy m view old new call now answer → SharedAnswers m view call answer
-  can_answer old new call now answer board_id s is led = let made = led board_id s is in made_on_board m view board_id (known view old) (known view new) call now s answer made.0 made.2
+      IsIn board_id old s → LeadsBy m view old new call now answer → SharedAnswers K call answer
+  can_answer old new call now answer board_id s is led = let made = led board_id s is in made_on_board m board_id (known view old) (known view new) call now s answer made.0 made.2
 
   -- the same of a board with its history
   pub record_answers : (old new : Record K T) (call : SharedCall K) (now : ℕ) (answer : Answer) →
-      IsOneRun m old → AddsCall m view old call now answer new ⊎ ((new ≡ old) × (answer ≡ Refused Memory)) → SharedAnswers m view call answer
+      IsOneRun m old → AddsCall m view old call now answer new ⊎ ((new ≡ old) × (answer ≡ Refused Memory)) → SharedAnswers K call answer
   record_answers old new call now answer run (inl grows) = can_answer old.board new.board call now answer old.board_id run.0 run.2 grows.leads
-  record_answers old new call now answer run (inr same) = subst (SharedAnswers m view call) (sym same.1) (no_memory m view call)
+  record_answers old new call now answer run (inr same) = subst (SharedAnswers K call) (sym same.1) (no_memory call)
 
   -- what a history says of its growth, of the answer as its definition
   pub grows_so : (old new : Record K T) (call : SharedCall K) (now : ℕ) (told : AnswerValue) →
@@ -39,16 +39,16 @@ module _ {K T : Type 0} (m : Tracking K) (view : T → TermView) where
   grows_so old new call now told (inr same) = inr (same.0, ap answer_of same.1)
 
   -- a removal that was refused
-  pub refused_so : (id : Id) (r : Result (Option (BarRecord K)) Refusal) → SharedAnswers m view (Remove id) (removal r) → IfErr r (λ e. SharedAnswers m view (Remove id) (Refused e))
+  pub refused_so : (id : Id) (r : Result (Option (BarRecord K)) Refusal) → SharedAnswers K (Remove id) (removal r) → IfErr r (λ e. SharedAnswers K (Remove id) (Refused e))
   refused_so id (Ok bar) can = tt
   refused_so id (Err e) can = can
 
   -- the same of what a history answered
   pub refused_as : (id : Id) (r : Result (Option (BarRecord K)) Refusal) (told : AnswerValue) →
-      MatchResult r (λ bar. refused_with (answer_of told) ≡ None) (λ e. told ≡ answer.Refused e) → SharedAnswers m view (Remove id) (answer_of told) →
-      IfErr r (λ e. SharedAnswers m view (Remove id) (Refused e))
+      MatchResult r (λ bar. refused_with (answer_of told) ≡ None) (λ e. told ≡ answer.Refused e) → SharedAnswers K (Remove id) (answer_of told) →
+      IfErr r (λ e. SharedAnswers K (Remove id) (Refused e))
   refused_as id (Ok bar) told is can = tt
-  refused_as id (Err e) told is can = subst (λ t. SharedAnswers m view (Remove id) (answer_of t)) is can
+  refused_as id (Err e) told is can = subst (λ t. SharedAnswers K (Remove id) (answer_of t)) is can
 
   -- what a removal made of a board, and of one with its history, by whether it was refused
   pub removed_open : (old new : Board K T) (id : Id) (now : ℕ) (r : Result (Option (BarRecord K)) Refusal) →
@@ -68,9 +68,3 @@ module _ {K T : Type 0} (m : Tracking K) (view : T → TermView) where
   pub cleared_and_drawn : (old between new : AnyBoard K T) (now : ℕ) (cleared : Drawn) (drawn : Result Drawn Refusal) →
       BoardDraws m view old Clear now (Ok cleared) between → BoardDraws m view between Redraw now drawn new → BoardSuspends m view old now drawn new
   cleared_and_drawn old between new now cleared drawn first second = inl (cleared, between, first, second)
-
-  -- what an insertion gave, by what was answered
-  pub takes_so : {I : Type 0} (f : I → Id) (at : Location) (entrant : Entrant (BarRecord K)) (told : Answer) (taken : Result I Refusal) → IfErr taken (λ e. given_by told ≡ Err e) →
-      SharedAnswers m view (Insert at entrant) told → MatchResult taken (λ id. SharedTakes m view at (Ok (f id))) (λ e. SharedTakes m view at (Err e))
-  takes_so f at entrant told (Ok id) given can = tt
-  takes_so f at entrant told (Err e) given can = taken_so m view at entrant told e can given

@@ -1,45 +1,21 @@
 -- Bars and boards that are shared: which answers their calls can have. Nothing is known of what stands under a lock, since another owner may
--- have called meanwhile; so the call alone says which answers can come, and each of these does for some bar or board.
+-- have called meanwhile; so the call alone says which answers can come. At most these come, and not each of them does.
 use Rattle.std.specs.Prelude.{◌≡◌, ◌⊎◌, ℕ, Bool, true, false, IsTrue, ◌||◌, nat_lt, None, Result, Ok, Err}
 use Rattle.indicatif_text.specs.declared.refusal.Refusal.{Refusal}
 use Rattle.indicatif_text.specs.declared.refusal.Refusal.TheVariants.{NoColumns, TooWide, Memory, Terminal as Failure, ForeignBar, NotMember, ElapsedBeyondClock}
 use Rattle.indicatif_text.specs.declared.refusal.Drawn.{Drawn}
 use Rattle.indicatif_text.specs.declared.refusal.Drawn.TheVariants.{Yes, Limited, Hidden}
-use Rattle.indicatif_term.specs.Calls.{TermView}
-use Rattle.indicatif_bar.specs.Trackers.{Tracking}
 use Rattle.indicatif_bar.specs.declared.state.Ask.{Ask}
 use Rattle.indicatif_bar.specs.declared.state.Ask.TheVariants.{No, Unforced, Forced}
-use Rattle.indicatif_bar.specs.Commands.{BarRecord, Command, SetTicker, SetStyle, PutPosition, PutMessage, PutPrefix, PutFinish, PutTabWidth, SetElapsed, ResetEta, ResetElapsed, SetTabWidth, FinishBy, FinishUsingStyle, ForceDraw}
-use Rattle.indicatif_bar.specs.Lone.{LoneState, LoneCall, Obey, Log, Clear}
-use Rattle.indicatif_bar.specs.LoneBars.{LoneIsIn, LoneSuspends, record_of}
+use Rattle.indicatif_bar.specs.Commands.{Command, Tick, TickerTick, SetTicker, Inc, Dec, SetPosition, Update, SetLength, UnsetLength, IncLength, DecLength, SetMessage, SetPrefix, SetStyle, PutPosition, PutMessage, PutPrefix, PutFinish, PutTabWidth, SetTabWidth, SetElapsed, ResetEta, ResetElapsed, Reset, FinishBy, FinishUsingStyle, ForceDraw}
+use Rattle.indicatif_bar.specs.Lone.{LoneCall, Obey, Log, Clear}
 use Rattle.indicatif_bar.specs.declared.command.Change.{Change}
-use Rattle.indicatif_bar.specs.declared.lone.LoneBar.{LoneBar}
-use Rattle.indicatif_board.specs.Boards.{Id, Tell, BarLog, Clear as ClearBoard, Call as BoardCall}
-
--- ---- bars that stand alone
-
--- there is a state that the bar is in
-abbrev pub LoneIsSomewhere : {K T : Type 0} → LoneBar K T → Type 0
-LoneIsSomewhere {K} b = (s : LoneState (BarRecord K)) × LoneIsIn b s
-
-module _ {K T : Type 0} (m : Tracking K) (view : T → TermView) where
-  -- a bar that was in a state was suspended at this moment, with this answer: its record is as before, and its step
-  pub record SuspendedBy (old new : LoneBar K T) (now : ℕ) (answer : Result Drawn Refusal) : Type 0 where
-    pub was : LoneIsSomewhere old
-    pub bar : record_of new ≡ record_of old
-    pub leads : LoneSuspends m view old new now answer
 
 -- ---- calls
 
 -- a change that sets nothing
 abbrev pub unchanged : Change
 unchanged = record { pos = None; len = None }
-
--- what a bar's call is on its board
-abbrev pub on_board : {B C : Type 0} → Id → LoneCall C → BoardCall B C
-on_board id (Obey command) = Tell id command
-on_board id (Log text) = BarLog id text
-on_board id Clear = ClearBoard
 
 -- ---- draws
 
@@ -64,6 +40,14 @@ abbrev pub of_a_clear : Result Drawn Refusal → Bool
 of_a_clear (Err TooWide) = false
 of_a_clear answer = of_a_draw answer
 
+-- a draw by force can answer so
+abbrev pub CanDraw : Result Drawn Refusal → Type 0
+CanDraw answer = IsTrue (of_a_draw answer)
+
+-- a clear can answer so
+abbrev pub CanClear : Result Drawn Refusal → Type 0
+CanClear answer = IsTrue (of_a_clear answer)
+
 -- an answer where such a draw is asked: none; one that the limiter may put off; or one by force, which it can't
 abbrev pub of_draw : Ask → Result Drawn Refusal → Bool
 of_draw No answer = of_no_draw answer
@@ -84,11 +68,23 @@ asked_by (PutTabWidth tab) = No
 asked_by (SetElapsed nanos) = No
 asked_by ResetEta = No
 asked_by ResetElapsed = No
+asked_by Tick = Unforced
+asked_by TickerTick = Unforced
+asked_by (Inc n) = Unforced
+asked_by (Dec n) = Unforced
+asked_by (SetPosition position) = Unforced
+asked_by (Update position len) = Unforced
+asked_by (SetLength n) = Unforced
+asked_by UnsetLength = Unforced
+asked_by (IncLength n) = Unforced
+asked_by (DecLength n) = Unforced
+asked_by (SetMessage text) = Unforced
+asked_by (SetPrefix text) = Unforced
+asked_by Reset = Unforced
 asked_by (SetTabWidth tab) = Forced
 asked_by (FinishBy by) = Forced
 asked_by FinishUsingStyle = Forced
 asked_by ForceDraw = Forced
-asked_by _ = Unforced
 
 -- a command's own refusal: an elapsed time beyond the clock, which 0 never is
 abbrev pub is_late : {K : Type 0} → Command K → Result Drawn Refusal → Bool
@@ -119,3 +115,7 @@ CanTurn answer = IsTrue (of_no_draw answer || (of_a_draw answer || has_no_bar an
 -- why a bar's text isn't told, or a bar isn't taken in: there is no memory, or the board that is asked hasn't the bar
 abbrev pub IsMissing : Refusal → Type 0
 IsMissing e = (e ≡ Memory) ⊎ (e ≡ ForeignBar) ⊎ (e ≡ NotMember)
+
+-- why a bar isn't taken in where no other is named, or isn't taken out: there is no memory, or it is another board's
+abbrev pub MemoryOrForeign : Refusal → Type 0
+MemoryOrForeign e = (e ≡ Memory) ⊎ (e ≡ ForeignBar)

@@ -6,4 +6,5 @@ pub mod ListPieces
 pub mod LockedBar
 pub mod Pieces
 pub mod PositionChange
+pub mod SharedBoards
 pub mod TextCommand

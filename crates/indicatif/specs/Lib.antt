@@ -6,7 +6,6 @@ pub mod Owned
 pub mod Parallel
 pub mod Ring
 pub mod Seek
-pub mod SharedBoards
 pub mod Workers
 pub mod Wrap
 pub mod Inside

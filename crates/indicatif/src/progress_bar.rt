@@ -8,7 +8,7 @@
 //! - `locked_board`: what a board's lock keeps; `any_board`: the board there, with its history or without.
 //! - `text_command`: what a bar is told with a text; `position_change`: what moves its position.
 //! - `ticker`: which steady ticker it has; `steady`: the thread that ticks.
-ghost use Rattle.std.specs.Prelude.{◌≡◌, ◌⊎◌, ℕ, IsTrue, IfErr};
+ghost use Rattle.std.specs.Prelude.{◌≡◌, ◌⊎◌, ℕ, IfErr};
 ghost use Rattle.std.specs.Fn.{FnOnceReturnsAt};
 ghost use Rattle.indicatif_bar.specs.Commands as Command;
 ghost use Rattle.indicatif_bar.specs.Commands.{command_of};
@@ -16,7 +16,7 @@ ghost use Rattle.indicatif_bar.specs.Finishes as Finish;
 ghost use Rattle.indicatif_bar.specs.Lone as Lone;
 ghost use Rattle.indicatif_bar.specs.Progress.{Progress};
 ghost use Rattle.indicatif_bar.specs.declared.command.Change.{Change as Changed};
-ghost use Rattle.indicatif.specs.Fronts.{of_a_draw, CanAnswer, CanTurn, unchanged, IsMissing};
+ghost use Rattle.indicatif.specs.Fronts.{CanAnswer, CanDraw, CanTurn, IsMissing, MemoryOrForeign, unchanged};
 ghost use Rattle.indicatif.specs.Inside.LockedBar.{OwnerJoins};
 ghost use Rattle.indicatif.specs.Inside.PositionChange.{position_command};
 ghost use Rattle.indicatif.specs.Inside.TextCommand.{text_call};
@@ -64,11 +64,11 @@ use std::sync::{Arc, Mutex, Wait};
 /// Once the last owner is gone, by `release` or by being dropped, a bar that isn't finished is finished by its stored finish.
 ///
 /// A bar that stands on a board answers as the board does when it is told that call of that bar; so each command may be refused
-/// `NotMember` or `ForeignBar` there, where the board hasn't the bar, and `Memory`, where a copy of its text finds none. Where the board
-/// keeps its history, each may be refused `Memory` because that has no room; nothing has changed then.
+/// `NotMember` there, where the board has lost the bar to one of the same mark, and `Memory`, where a copy of its text finds none. Where
+/// the board keeps its history, each may be refused `Memory` because that has no room; nothing has changed then.
 ///
-/// Its clauses say which answers come: for some bar, or some board, and some moment they are that one's. That the bar under the lock
-/// was changed so is what tests show, since no clause can name what a lock keeps.
+/// Its clauses say which answers a call can have, by the call alone. At most these come: they allow `ForeignBar` too, which a bar's own
+/// board never answers. That the bar under the lock was changed so is what tests show, since no clause can name what a lock keeps.
 ///
 /// ```
 /// let bar = ProgressBar::new(rt, rt.alloc(), 100, setup)?;
@@ -317,7 +317,7 @@ impl<T: TermLike + Drop, C: Clock + Drop, R: Wait + Clone + Drop, K: Tracks> Pro
     pub fn suspend<F: FnOnce() -> A, A>(&self, f: F) -> (A, Result<Drawn, Refusal>)
         requires { F.pre f }
         ensures value { F.post f result.0 }
-        ensures drawn { IsTrue (of_a_draw result.1) }
+        ensures drawn { CanDraw result.1 }
     {
         self.state.lock.lock(&self.rt).suspend(&self.rt, f)
     }
@@ -359,7 +359,7 @@ impl<T: TermLike + Drop, C: Clock + Drop, R: Wait + Clone + Drop, K: Tracks> Pro
 
     /// Takes the bar out of the order of a board.
     pub(crate) fn take_out(&self, board: &Mutex<LockedBoard<K, T, C>>) -> Result<(), Refusal>
-        ensures { IfErr result (λ e. (e ≡ Refusal.Memory) ⊎ (e ≡ Refusal.ForeignBar)) }
+        ensures { IfErr result MemoryOrForeign }
     {
         self.state.lock.lock(&self.rt).take_out(&self.rt, board)
     }

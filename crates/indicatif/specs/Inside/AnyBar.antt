@@ -7,20 +7,30 @@ use Rattle.indicatif_text.specs.declared.refusal.Drawn.TheVariants.{Limited}
 use Rattle.indicatif_term.specs.Calls.{TermView}
 use Rattle.indicatif_bar.specs.BarStyles.{BarStyle}
 use Rattle.indicatif_bar.specs.Trackers.{Tracking}
-use Rattle.indicatif_bar.specs.Commands.{Command, FinishUsingStyle}
+use Rattle.indicatif_bar.specs.Commands.{BarRecord, Command, FinishUsingStyle}
 use Rattle.indicatif_bar.specs.Progress.{Progress, is_finished}
-use Rattle.indicatif_bar.specs.Lone.{LoneCall, Obey}
-use Rattle.indicatif_bar.specs.LoneBars.{LoneLeadsBy, CallDone, record_of, lone_terminal}
+use Rattle.indicatif_bar.specs.Lone.{LoneState, LoneCall, Obey}
+use Rattle.indicatif_bar.specs.LoneBars.{LoneIsIn, LoneLeadsBy, LoneSuspends, CallDone, record_of, lone_terminal}
 use Rattle.indicatif_bar.specs.declared.command.Change.{Change as Changed}
 use Rattle.indicatif_bar.specs.declared.lone.LoneBar.{LoneBar}
-use Rattle.indicatif_board.specs.Boards.{Drop, Redraw}
+use Rattle.indicatif_board.specs.Boards.{Drop}
 use Rattle.indicatif_board.specs.BoardValues.{id_of}
-use Rattle.indicatif.specs.Fronts.{LoneIsSomewhere, SuspendedBy, IsMissing, on_board, unchanged}
-use Rattle.indicatif.specs.SharedBoards.{SharedDraws, SharedSuspends, SharedStays}
+use Rattle.indicatif.specs.Fronts.{CanDraw, IsMissing, unchanged}
+use Rattle.indicatif.specs.Inside.SharedBoards.{SharedDraws, on_board}
 use Rattle.indicatif.specs.declared.progress_bar.any_bar.AnyBar.{AnyBar}
 use Rattle.indicatif.specs.declared.progress_bar.any_bar.AnyBar.TheVariants.{Alone, Member}
 
+-- there is a state that the bar is in
+abbrev pub LoneIsSomewhere : {K T : Type 0} → LoneBar K T → Type 0
+LoneIsSomewhere {K} b = (s : LoneState (BarRecord K)) × LoneIsIn b s
+
 module _ {K T : Type 0} (m : Tracking K) (view : T → TermView) where
+  -- a bar that was in a state was suspended at this moment, with this answer: its record is as before, and its step
+  pub record SuspendedBy (old new : LoneBar K T) (now : ℕ) (answer : Result Drawn Refusal) : Type 0 where
+    pub was : LoneIsSomewhere old
+    pub bar : record_of new ≡ record_of old
+    pub leads : LoneSuspends m view old new now answer
+
   -- a bar that was in a state made a call at this moment, with this answer: what became of its record, and its step
   pub record MadeBy (old new : LoneBar K T) (call : LoneCall (Command K)) (now : ℕ) (answer : Result Drawn Refusal) : Type 0 where
     pub was : LoneIsSomewhere old
@@ -35,19 +45,19 @@ module _ {K T C : Type 0} where
   -- what a call with this answer made of a bar: alone, it made the call; on a board, it stays there, and the board can answer so
   abbrev pub BarMakes : Tracking K → (T → TermView) → AnyBar K T C → LoneCall (Command K) → Result Drawn Refusal → AnyBar K T C → Type 0
   BarMakes m view (Alone old) call answer new = (bar : LoneBar K T) × (new ≡ Alone bar) × Makes m view old bar call answer
-  BarMakes m view (Member member) call answer new = (new ≡ Member member) × SharedDraws m view (on_board (id_of member.id) call) answer
+  BarMakes m view (Member member) call answer new = (new ≡ Member member) × SharedDraws K (on_board (id_of member.id) call) answer
 
   -- the same of the bar's end: alone, one that is finished stays as it is
   abbrev pub BarEnds : Tracking K → (T → TermView) → AnyBar K T C → Result Drawn Refusal → AnyBar K T C → Type 0
   BarEnds m view (Alone old) answer new =
       (IsTrue (is_finished (record_of old).progress) → new ≡ Alone old)
       × (IsFalse (is_finished (record_of old).progress) → (bar : LoneBar K T) × (new ≡ Alone bar) × Makes m view old bar (Obey FinishUsingStyle) answer)
-  BarEnds m view (Member member) answer new = (new ≡ Member member) × SharedDraws m view (Drop (id_of member.id)) answer
+  BarEnds m view (Member member) answer new = (new ≡ Member member) × SharedDraws K (Drop (id_of member.id)) answer
 
   -- the same of a bar that is suspended
   abbrev pub BarSuspends : Tracking K → (T → TermView) → AnyBar K T C → Result Drawn Refusal → AnyBar K T C → Type 0
   BarSuspends m view (Alone old) answer new = (bar : LoneBar K T) × (new ≡ Alone bar) × (now : ℕ) × SuspendedBy m view old bar now answer
-  BarSuspends m view (Member member) answer new = (new ≡ Member member) × SharedSuspends m view answer
+  BarSuspends m view (Member member) answer new = (new ≡ Member member) × CanDraw answer
 
   -- what was read of the bar's state: alone, of the one there; on a board, of some bar's, if the board has the bar
   abbrev pub ReadsBy : {A : Type 0} → (Progress → A → Type 0) → AnyBar K T C → Option A → Type 0
@@ -80,8 +90,8 @@ module _ {K T C : Type 0} where
   BarTurns m view (Alone old) term answer new =
       (bar : LoneBar K T) × (new ≡ Alone bar) × (record_of bar ≡ record_of old) × (lone_terminal bar ≡ term) × (answer ≡ Ok Limited)
   BarTurns m view (Member member) term answer new =
-      ((bar : LoneBar K T) × (new ≡ Alone bar) × (lone_terminal bar ≡ term) × SharedDraws m view Redraw answer)
-      ⊎ ((e : Refusal) × (answer ≡ Err e) × (new ≡ Member member) × SharedStays m view (id_of member.id) e)
+      ((bar : LoneBar K T) × (new ≡ Alone bar) × (lone_terminal bar ≡ term) × CanDraw answer)
+      ⊎ ((e : Refusal) × (answer ≡ Err e) × (new ≡ Member member) × IsMissing e)
 
   -- a text of the bar isn't told: there is no memory for it, or the board hasn't the bar
   abbrev pub IsUntold : AnyBar K T C → Refusal → Type 0

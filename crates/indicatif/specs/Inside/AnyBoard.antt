@@ -1,16 +1,19 @@
 -- What a call makes of a shared board, with its history or without.
-use Rattle.std.specs.Prelude.{◌≡◌, ◌⊎◌, ℕ, Option, Some, None, Result, Ok, Err}
+use Rattle.std.specs.Prelude.{◌≡◌, ◌⊎◌, ℕ, Bool, Option, Some, None, IfSome, Result, Ok, Err}
 use Rattle.indicatif_text.specs.declared.refusal.Refusal.{Refusal}
-use Rattle.indicatif_text.specs.declared.refusal.Refusal.TheVariants.{Memory}
+use Rattle.indicatif_text.specs.declared.refusal.Refusal.TheVariants.{Memory, RecordedTarget}
 use Rattle.indicatif_text.specs.declared.refusal.Drawn.{Drawn}
 use Rattle.indicatif_term.specs.Calls.{TermView}
+use Rattle.indicatif_term.specs.Limiters.{Limiter}
+use Rattle.indicatif_term.specs.Lists.{opening_lists}
+use Rattle.indicatif_term.specs.Targets.{term_of, limiter_of}
 use Rattle.indicatif_bar.specs.Trackers.{Tracking}
 use Rattle.indicatif_bar.specs.Commands.{BarRecord}
-use Rattle.indicatif_board.specs.Boards.{Id, Location, Entrant, Answer, Given, Done, Drew, Refused, Clear, Redraw, Insert, Remove, drawn_of}
-use Rattle.indicatif_board.specs.Multi.{LeadsBy}
+use Rattle.indicatif_board.specs.Boards.{BoardState, Id, Location, Entrant, Answer, Given, Done, Drew, Refused, Clear, Redraw, Insert, Remove, drawn_of}
+use Rattle.indicatif_board.specs.Multi.{LeadsBy, IsIn, RecordsStay, terminal_of, moves_of}
 use Rattle.indicatif_board.specs.Recorded.{Record, AddsCall}
 use Rattle.indicatif_board.specs.declared.multi.Board.{Board}
-use Rattle.indicatif.specs.SharedBoards.{SharedCall, given_by}
+use Rattle.indicatif.specs.Inside.SharedBoards.{SharedCall, given_by}
 use Rattle.indicatif.specs.declared.progress_bar.any_board.AnyBoard.{AnyBoard}
 use Rattle.indicatif.specs.declared.progress_bar.any_board.AnyBoard.TheVariants.{Open, Recorded}
 
@@ -45,3 +48,27 @@ module _ {K T : Type 0} (m : Tracking K) (view : T → TermView) where
   BoardSuspends old now drawn new =
       ((cleared : Drawn) × (between : AnyBoard K T) × BoardDraws old Clear now (Ok cleared) between × BoardDraws between Redraw now drawn new)
       ⊎ ((e : Refusal) × (drawn ≡ Err e) × BoardDraws old Clear now (Err e) new)
+
+module _ {K T : Type 0} where
+  -- a board is on another target: that is its terminal, its bars' records are as before, and nothing was drawn there yet
+  pub record StandsOn (target : Option (T × Option Limiter)) (old new : Board K T) : Type 0 where
+    pub terminal : terminal_of new ≡ term_of target
+    pub records : RecordsStay old new
+    pub state : (mark : ℕ) (s : BoardState (BarRecord K)) → IsIn mark old s → IsIn mark new (record s { limiter = limiter_of target; lists = opening_lists })
+
+  -- another target was asked for: a board without a history is on that; one with its history refuses it, and stays
+  abbrev pub BoardTurns : AnyBoard K T → Option (T × Option Limiter) → Result Unit Refusal → AnyBoard K T → Type 0
+  BoardTurns (Open old) target answer new = (answer ≡ Ok tt) × (b : Board K T) × (new ≡ Open b) × StandsOn target old b
+  BoardTurns (Recorded old) target answer new = (answer ≡ Err RecordedTarget) × (new ≡ Recorded old)
+
+  -- a board's draws go by moves of the cursor or not, if it has a terminal; the terminal and its bars' records are as before
+  pub record MovesSo (on : Bool) (old new : Board K T) : Type 0 where
+    pub moves : IfSome (moves_of new) (λ moves. moves ≡ on)
+    pub terminal : terminal_of new ≡ terminal_of old
+    pub records : RecordsStay old new
+    pub state : (mark : ℕ) (s : BoardState (BarRecord K)) → IsIn mark old s → IsIn mark new s
+
+  -- a board was told so: one without a history is; one with its history refuses it, and stays
+  abbrev pub BoardMoves : AnyBoard K T → Bool → Result Unit Refusal → AnyBoard K T → Type 0
+  BoardMoves (Open old) on answer new = (answer ≡ Ok tt) × (b : Board K T) × (new ≡ Open b) × MovesSo on old b
+  BoardMoves (Recorded old) on answer new = (answer ≡ Err RecordedTarget) × (new ≡ Recorded old)

@@ -4,8 +4,9 @@ ghost use Rattle.indicatif_bar.specs.Commands.{command_of};
 ghost use Rattle.indicatif_board.specs.Boards.{Tell, Remove, Refused, drawn_of};
 ghost use Rattle.indicatif_board.specs.BoardValues.{id_of};
 ghost use Rattle.indicatif_board.specs.Calls.{call_of, answer_of};
-ghost use Rattle.indicatif.specs.SharedBoards.{SharedAnswers, SharedDraws, SharedSuspends, given_by};
-ghost use Rattle.indicatif.specs.Inside.AnyBoard.{BoardMakes, BoardDraws, BoardRemoves, BoardSuspends, refused_with};
+ghost use Rattle.indicatif.specs.Fronts.{CanDraw};
+ghost use Rattle.indicatif.specs.Inside.AnyBoard.{BoardMakes, BoardDraws, BoardRemoves, BoardSuspends, BoardTurns, BoardMoves, refused_with};
+ghost use Rattle.indicatif.specs.Inside.SharedBoards.{SharedAnswers, SharedDraws, given_by};
 
 use indicatif_bar::state::{BarCommand, BarState};
 use indicatif_bar::style::Tracks;
@@ -28,7 +29,7 @@ impl<K: Tracks, T: TermLike + Drop> AnyBoard<K, T> {
     /// Makes a call. A bar that is removed or turned away is given up.
     pub fn call(&mut self, call: Call<K>, now: Moment) -> Answer
         ensures made { BoardMakes K.means T.view self.old (call_of call) now (answer_of result) self.new }
-        ensures can { SharedAnswers K.means T.view (call_of call) (answer_of result) }
+        ensures can { SharedAnswers K (call_of call) (answer_of result) }
     {
         match self {
             AnyBoard::Open(board) => {
@@ -45,7 +46,7 @@ impl<K: Tracks, T: TermLike + Drop> AnyBoard<K, T> {
     /// A call that draws.
     pub fn draw(&mut self, call: Call<K>, now: Moment) -> Result<Drawn, Refusal>
         ensures made { BoardDraws K.means T.view self.old (call_of call) now result self.new }
-        ensures can { SharedDraws K.means T.view (call_of call) result }
+        ensures can { SharedDraws K (call_of call) result }
     {
         drawn_of(self.call(call, now))
     }
@@ -53,7 +54,7 @@ impl<K: Tracks, T: TermLike + Drop> AnyBoard<K, T> {
     /// A command of a bar. No call is made of it where no history keeps that.
     pub fn tell(&mut self, id: BarId, command: BarCommand<K>, now: Moment) -> Result<Drawn, Refusal>
         ensures made { BoardDraws K.means T.view self.old (Tell (id_of id) (command_of command)) now result self.new }
-        ensures can { SharedDraws K.means T.view (Tell (id_of id) (command_of command)) result }
+        ensures can { SharedDraws K (Tell (id_of id) (command_of command)) result }
     {
         match self {
             AnyBoard::Open(board) => {
@@ -67,7 +68,7 @@ impl<K: Tracks, T: TermLike + Drop> AnyBoard<K, T> {
     /// Takes a bar out of the order and hands it back; `None` where it isn't there.
     pub fn remove(&mut self, id: BarId, now: Moment) -> Result<Option<BarState<K>>, Refusal>
         ensures made { MatchResult result (λ _. BoardRemoves K.means T.view self.old (id_of id) now None self.new) (λ e. BoardRemoves K.means T.view self.old (id_of id) now (Some e) self.new) }
-        ensures can { IfErr result (λ e. SharedAnswers K.means T.view (Remove (id_of id)) (Refused e)) }
+        ensures can { IfErr result (λ e. SharedAnswers K (Remove (id_of id)) (Refused e)) }
     {
         match self {
             AnyBoard::Open(board) => {
@@ -83,7 +84,8 @@ impl<K: Tracks, T: TermLike + Drop> AnyBoard<K, T> {
 
     /// Another target; the old one is given up. A board with its history keeps its target.
     pub fn set_draw_target(&mut self, target: ProgressDrawTarget<T>) -> Result<(), Refusal>
-        ensures { IfErr result (λ e. (e ≡ Refusal.RecordedTarget) × (self.new ≡ self.old)) }
+        ensures turns { BoardTurns self.old target result self.new }
+        ensures refused { IfErr result (λ e. (e ≡ Refusal.RecordedTarget) × (self.new ≡ self.old)) }
     {
         match self {
             AnyBoard::Open(board) => {
@@ -96,7 +98,8 @@ impl<K: Tracks, T: TermLike + Drop> AnyBoard<K, T> {
 
     /// Whether draws write over what stands, by moves of the cursor alone. A board with its history isn't told.
     pub fn set_move_cursor(&mut self, on: bool) -> Result<(), Refusal>
-        ensures { IfErr result (λ e. (e ≡ Refusal.RecordedTarget) × (self.new ≡ self.old)) }
+        ensures moves { BoardMoves self.old on result self.new }
+        ensures refused { IfErr result (λ e. (e ≡ Refusal.RecordedTarget) × (self.new ≡ self.old)) }
     {
         match self {
             AnyBoard::Open(board) => {
@@ -129,7 +132,7 @@ impl<K: Tracks, T: TermLike + Drop> AnyBoard<K, T> {
         requires { F.pre f }
         ensures value { F.post f result.0 }
         ensures made { BoardSuspends K.means T.view self.old now result.1 self.new }
-        ensures drawn { SharedSuspends K.means T.view result.1 }
+        ensures drawn { CanDraw result.1 }
     {
         let cleared = self.draw(Call::Clear, now);
         let value = f();
@@ -183,6 +186,6 @@ pub fn id_given(answer: Answer) -> Result<BarId, Refusal>
     match answer {
         Answer::Id(id) => Ok(id),
         Answer::Refused(refusal) => Err(refusal),
-        Answer::Done | Answer::Drawn(_) => Err(Refusal::NotMember),
+        Answer::Done | Answer::Drawn(_) => Err(Refusal::Memory),
     }
 }

@@ -1,5 +1,5 @@
 //! What the lock of a shared bar keeps.
-ghost use Rattle.std.specs.Prelude.{◌≡◌, ◌⊎◌, ◌<◌, ℕ, Some, None, Ok, Err, true, false, IsTrue, IsFalse, IfOk, IfErr};
+ghost use Rattle.std.specs.Prelude.{◌≡◌, ◌<◌, ℕ, Some, None, Ok, Err, true, false, IsTrue, IsFalse, IfOk, IfErr};
 ghost use Rattle.std.specs.Fn.{FnOnceReturnsAt};
 ghost use Rattle.indicatif_term.specs.Targets.{term_of};
 ghost use Rattle.indicatif_bar.specs.Commands.{Update, SetTicker, SetPosition, FinishUsingStyle, command_of};
@@ -7,12 +7,11 @@ ghost use Rattle.indicatif_bar.specs.Lone as Lone;
 ghost use Rattle.indicatif_bar.specs.LoneBars.{record_of};
 ghost use Rattle.indicatif_bar.specs.Progress.{eta, per_sec, duration, elapsed, is_finished};
 ghost use Rattle.indicatif_bar.specs.declared.command.Change.{Change as Changed};
-ghost use Rattle.indicatif_board.specs.Calls.{place_at};
+ghost use Rattle.indicatif.specs.Fronts.{IsMissing, MemoryOrForeign};
 ghost use Rattle.indicatif.specs.Inside.AnyBar.{MadeBy, BarMakes, BarSuspends, BarEnds, BarTurns, IsOf, IsUnfinished, Measures};
 ghost use Rattle.indicatif.specs.Inside.LockedBar.{OwnerJoins, OwnerLeaves};
 ghost use Rattle.indicatif.specs.Inside.PositionChange.{position_command};
 ghost use Rattle.indicatif.specs.Inside.TextCommand.{text_call};
-ghost use Rattle.indicatif.specs.SharedBoards.{SharedTakes};
 ghost use Rattle.indicatif.specs.Seek.{after_move};
 
 use crate::progress_bar::any_bar::AnyBar;
@@ -339,7 +338,7 @@ impl<K: Tracks, T: TermLike + Drop, C: Clock + Drop> LockedBar<K, T, C> {
     }
 
     /// Takes the bar in on a board. A bar that is on one stays.
-    #[tactic(auto, using(crate::proofs::FrontLemmas::not_taken))]
+    #[tactic(auto, using(crate::proofs::AnswerLemmas::not_taken))]
     pub fn take_in<R: Wait>(
         &mut self,
         rt: &R,
@@ -347,7 +346,7 @@ impl<K: Tracks, T: TermLike + Drop, C: Clock + Drop> LockedBar<K, T, C> {
         at: InsertLocation,
         alloc: Global,
     ) -> Result<(), Refusal>
-        ensures { IfErr result (λ e. SharedTakes K.means T.view (place_at at) (Err e)) }
+        ensures { IfErr result IsMissing }
     {
         let Ok(candidate) = self.bar.candidate() else {
             return Err(Refusal::Memory);
@@ -367,7 +366,7 @@ impl<K: Tracks, T: TermLike + Drop, C: Clock + Drop> LockedBar<K, T, C> {
         rt: &R,
         board: &Mutex<LockedBoard<K, T, C>>,
     ) -> Result<(), Refusal>
-        ensures { IfErr result (λ e. (e ≡ Refusal.Memory) ⊎ (e ≡ Refusal.ForeignBar)) }
+        ensures { IfErr result MemoryOrForeign }
     {
         let Some(id) = self.bar.id() else {
             return Ok(());

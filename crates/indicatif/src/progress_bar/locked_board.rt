@@ -1,10 +1,11 @@
 //! What the lock of a shared board keeps.
 ghost use Rattle.std.specs.Prelude.{◌≡◌, ℕ, Some, None, IfErr, Ok, Err, MatchResult};
-ghost use Rattle.indicatif_board.specs.Boards.{Remove, Refused};
+ghost use Rattle.indicatif_board.specs.Boards.{Insert, Remove, Refused};
 ghost use Rattle.indicatif_board.specs.BoardValues.{id_of};
 ghost use Rattle.indicatif_board.specs.Calls.{call_of, entrant_of, place_at};
-ghost use Rattle.indicatif.specs.SharedBoards.{SharedAnswers, SharedDraws, SharedSuspends, SharedTakes};
+ghost use Rattle.indicatif.specs.Fronts.{CanDraw};
 ghost use Rattle.indicatif.specs.Inside.AnyBoard.{BoardDraws, BoardTakes, BoardRemoves, BoardSuspends};
+ghost use Rattle.indicatif.specs.Inside.SharedBoards.{SharedAnswers, SharedDraws};
 
 use crate::progress_bar::any_board::{AnyBoard, id_given};
 use indicatif_bar::state::BarState;
@@ -47,7 +48,7 @@ impl<K: Tracks, T: TermLike + Drop, C: Clock + Drop> LockedBoard<K, T, C> {
     /// A call that draws.
     pub fn draw(&mut self, call: Call<K>) -> Result<Drawn, Refusal>
         ensures made { (now : ℕ) × BoardDraws K.means T.view self.old.board (call_of call) now result self.new.board }
-        ensures can { SharedDraws K.means T.view (call_of call) result }
+        ensures can { SharedDraws K (call_of call) result }
     {
         let now = self.clock.now();
         self.board.draw(call, now)
@@ -58,7 +59,7 @@ impl<K: Tracks, T: TermLike + Drop, C: Clock + Drop> LockedBoard<K, T, C> {
         ensures made { MatchResult result
             (λ id. (now : ℕ) × BoardTakes K.means T.view self.old.board (place_at at) (entrant_of candidate) now (Ok (id_of id)) self.new.board)
             (λ e. (now : ℕ) × BoardTakes K.means T.view self.old.board (place_at at) (entrant_of candidate) now (Err e) self.new.board) }
-        ensures can { MatchResult result (λ id. SharedTakes K.means T.view (place_at at) (Ok (id_of id))) (λ e. SharedTakes K.means T.view (place_at at) (Err e)) }
+        ensures can { IfErr result (λ e. SharedAnswers K (Insert (place_at at) (entrant_of candidate)) (Refused e)) }
     {
         let now = self.clock.now();
         id_given(self.board.call(Call::Insert { at, candidate }, now))
@@ -68,7 +69,7 @@ impl<K: Tracks, T: TermLike + Drop, C: Clock + Drop> LockedBoard<K, T, C> {
     pub fn remove(&mut self, id: BarId) -> Result<Option<BarState<K>>, Refusal>
         ensures made { MatchResult result (λ _. (now : ℕ) × BoardRemoves K.means T.view self.old.board (id_of id) now None self.new.board)
             (λ e. (now : ℕ) × BoardRemoves K.means T.view self.old.board (id_of id) now (Some e) self.new.board) }
-        ensures can { IfErr result (λ e. SharedAnswers K.means T.view (Remove (id_of id)) (Refused e)) }
+        ensures can { IfErr result (λ e. SharedAnswers K (Remove (id_of id)) (Refused e)) }
     {
         let now = self.clock.now();
         self.board.remove(id, now)
@@ -79,7 +80,7 @@ impl<K: Tracks, T: TermLike + Drop, C: Clock + Drop> LockedBoard<K, T, C> {
         requires { F.pre f }
         ensures value { F.post f result.0 }
         ensures made { (now : ℕ) × BoardSuspends K.means T.view self.old.board now result.1 self.new.board }
-        ensures drawn { SharedSuspends K.means T.view result.1 }
+        ensures drawn { CanDraw result.1 }
     {
         let now = self.clock.now();
         self.board.suspend(now, f)

@@ -4,11 +4,11 @@ ghost use Rattle.std.specs.Fn.{FnOnceReturnsAt};
 ghost use Rattle.indicatif_bar.specs.Commands.{Update, command_of};
 ghost use Rattle.indicatif_bar.specs.Progress.{Progress};
 ghost use Rattle.indicatif_bar.specs.declared.command.Change.{Change as Changed};
-ghost use Rattle.indicatif_board.specs.Boards.{Tell, Redraw, Drop as Dropped};
+ghost use Rattle.indicatif_board.specs.Boards.{Tell, Drop as Dropped};
 ghost use Rattle.indicatif_board.specs.BoardValues.{id_of};
-ghost use Rattle.indicatif.specs.Fronts.{on_board, unchanged};
+ghost use Rattle.indicatif.specs.Fronts.{CanDraw, IsMissing, unchanged};
+ghost use Rattle.indicatif.specs.Inside.SharedBoards.{SharedDraws, on_board};
 ghost use Rattle.indicatif.specs.Inside.TextCommand.{text_call};
-ghost use Rattle.indicatif.specs.SharedBoards.{SharedDraws, SharedSuspends, SharedStays};
 
 use crate::progress_bar::locked_board::SharedBoard;
 use crate::progress_bar::text_command::TextCommand;
@@ -61,7 +61,7 @@ impl<K: Tracks, T: TermLike + Drop, C: Clock + Drop> MemberBar<K, T, C> {
         command: BarCommand<K>,
         now: Moment,
     ) -> Result<Drawn, Refusal>
-        ensures { SharedDraws K.means T.view (Tell (id_of self.now.id) (command_of command)) result }
+        ensures { SharedDraws K (Tell (id_of self.now.id) (command_of command)) result }
     {
         self.board.lock(rt).board.tell(self.id, command, now)
     }
@@ -74,7 +74,7 @@ impl<K: Tracks, T: TermLike + Drop, C: Clock + Drop> MemberBar<K, T, C> {
         now: Moment,
     ) -> Result<Drawn, Refusal>
         requires { F.IsAlwaysCallable f }
-        ensures { (change : Changed) × SharedDraws K.means T.view (Tell (id_of self.now.id) (Update change.pos change.len)) result
+        ensures { (change : Changed) × SharedDraws K (Tell (id_of self.now.id) (Update change.pos change.len)) result
             × (((shown : Progress) × FnOnceReturnsAt F.FnOnce f shown change) ⊎ (change ≡ unchanged)) }
     {
         let mut locked = self.board.lock(rt);
@@ -90,7 +90,7 @@ impl<K: Tracks, T: TermLike + Drop, C: Clock + Drop> MemberBar<K, T, C> {
         text: &str,
         now: Moment,
     ) -> Result<Drawn, Refusal>
-        ensures { SharedDraws K.means T.view (on_board (id_of self.now.id) (text_call told text.now)) result }
+        ensures { SharedDraws K (on_board (id_of self.now.id) (text_call told text.now)) result }
     {
         match String::from_str(self.alloc, text) {
             Ok(text) => {
@@ -110,26 +110,26 @@ impl<K: Tracks, T: TermLike + Drop, C: Clock + Drop> MemberBar<K, T, C> {
     ) -> (A, Result<Drawn, Refusal>)
         requires { F.pre f }
         ensures value { F.post f result.0 }
-        ensures drawn { SharedSuspends K.means T.view result.1 }
+        ensures drawn { CanDraw result.1 }
     {
         self.board.lock(rt).board.suspend(now, f)
     }
 
     /// The bar's owner is gone.
     pub fn lose_owner<R: Wait>(&self, rt: &R, now: Moment) -> Result<Drawn, Refusal>
-        ensures { SharedDraws K.means T.view (Dropped (id_of self.now.id)) result }
+        ensures { SharedDraws K (Dropped (id_of self.now.id)) result }
     {
         self.board.lock(rt).board.draw(Call::Drop(self.id), now)
     }
 
     /// Takes the bar out of the order and draws the others by force; the bar, and what that draw answered.
-    #[tactic(auto, using(crate::proofs::AnswerLemmas::stays_so))]
+    #[tactic(auto, using(crate::proofs::AnswerLemmas::stays_so, crate::proofs::AnswerLemmas::redrawn_so))]
     pub fn leave<R: Wait>(
         &self,
         rt: &R,
         now: Moment,
     ) -> Result<(BarState<K>, Result<Drawn, Refusal>), Refusal>
-        ensures { MatchResult result (λ left. SharedDraws K.means T.view Redraw left.1) (λ e. SharedStays K.means T.view (id_of self.now.id) e) }
+        ensures { MatchResult result (λ left. CanDraw left.1) IsMissing }
     {
         let mut locked = self.board.lock(rt);
         match locked.board.remove(self.id, now) {

@@ -1,6 +1,6 @@
 //! Several bars on one target, which threads share.
-ghost use Rattle.std.specs.Prelude.{◌≡◌, ◌⊎◌, IsTrue, IfErr};
-ghost use Rattle.indicatif.specs.Fronts.{of_a_draw, of_a_clear, IsMissing};
+ghost use Rattle.std.specs.Prelude.{◌≡◌, IfErr};
+ghost use Rattle.indicatif.specs.Fronts.{CanClear, CanDraw, IsMissing, MemoryOrForeign};
 
 use crate::progress_bar::ProgressBar;
 use crate::progress_bar::any_board::AnyBoard;
@@ -143,16 +143,17 @@ impl<T: TermLike + Drop, C: Clock + Drop, R: Wait + Clone + Drop, K: Tracks> Mul
     /// Adds a bar after all others, and hands its owner back. A bar that stood alone leaves its target, and what it drew there stays. A
     /// bar that is already on this board stays where it is.
     ///
-    /// Refused: `ForeignBar` for a bar of another board; `Memory`. The board is as before then, and this owner is given up as by
-    /// `ProgressBar::release`: if it was the only one, its bar is finished by its stored finish, and leaves the board that has it.
+    /// Refused: `ForeignBar` for a bar of another board, which may have the same mark; `Memory`. The board is as before then, and this
+    /// owner is given up as by `ProgressBar::release`: if it was the only one, its bar is finished by its stored finish, and leaves the
+    /// board that has it.
     ///
     /// ```
     /// let bar = board.add(bar)?; // it is drawn among the board's bars from now on
     /// ```
     pub fn add(&self, bar: ProgressBar<T, C, R, K>) -> Result<ProgressBar<T, C, R, K>, Refusal>
-        ensures { IfErr result IsMissing }
+        ensures { IfErr result MemoryOrForeign }
     {
-        self.take_in(InsertLocation::End, bar)
+        self.take_in_alone(InsertLocation::End, bar)
     }
 
     /// Takes a bar in where `index` bars stand before it, or behind all others where there are fewer; else as `add`.
@@ -161,9 +162,9 @@ impl<T: TermLike + Drop, C: Clock + Drop, R: Wait + Clone + Drop, K: Tracks> Mul
         index: usize,
         bar: ProgressBar<T, C, R, K>,
     ) -> Result<ProgressBar<T, C, R, K>, Refusal>
-        ensures { IfErr result IsMissing }
+        ensures { IfErr result MemoryOrForeign }
     {
-        self.take_in(InsertLocation::Index(index), bar)
+        self.take_in_alone(InsertLocation::Index(index), bar)
     }
 
     /// Takes a bar in where `count` bars stand behind it, or before all others where there are fewer; else as `add`.
@@ -172,9 +173,9 @@ impl<T: TermLike + Drop, C: Clock + Drop, R: Wait + Clone + Drop, K: Tracks> Mul
         count: usize,
         bar: ProgressBar<T, C, R, K>,
     ) -> Result<ProgressBar<T, C, R, K>, Refusal>
-        ensures { IfErr result IsMissing }
+        ensures { IfErr result MemoryOrForeign }
     {
-        self.take_in(InsertLocation::FromBack(count), bar)
+        self.take_in_alone(InsertLocation::FromBack(count), bar)
     }
 
     /// Takes a bar in right before the anchor; else as `add`.
@@ -207,8 +208,25 @@ impl<T: TermLike + Drop, C: Clock + Drop, R: Wait + Clone + Drop, K: Tracks> Mul
         }
     }
 
+    /// Takes a bar in where no other is named. One that stands on a board, but not on this one, is another board's, also where both have
+    /// the same mark.
+    #[tactic(auto, using(crate::proofs::FrontLemmas::memory_or_foreign, crate::proofs::FrontLemmas::foreign_or_memory))]
+    fn take_in_alone(
+        &self,
+        at: InsertLocation,
+        bar: ProgressBar<T, C, R, K>,
+    ) -> Result<ProgressBar<T, C, R, K>, Refusal>
+        ensures { IfErr result MemoryOrForeign }
+    {
+        match self.take_in(at, bar) {
+            Ok(bar) => Ok(bar),
+            Err(Refusal::Memory) => Err(Refusal::Memory),
+            Err(_) => Err(Refusal::ForeignBar),
+        }
+    }
+
     /// Takes a bar in at a place.
-    #[tactic(auto, using(crate::proofs::FrontLemmas::not_taken))]
+    #[tactic(auto, using(crate::proofs::FrontLemmas::memory_missing))]
     fn take_in(
         &self,
         at: InsertLocation,
@@ -229,7 +247,7 @@ impl<T: TermLike + Drop, C: Clock + Drop, R: Wait + Clone + Drop, K: Tracks> Mul
     /// Refused: `ForeignBar` for a bar of another board; `Memory`, only of a board that keeps its history, where that has no room. Nothing
     /// has changed then.
     pub fn remove(&self, bar: &ProgressBar<T, C, R, K>) -> Result<(), Refusal>
-        ensures { IfErr result (λ e. (e ≡ Refusal.Memory) ⊎ (e ≡ Refusal.ForeignBar)) }
+        ensures { IfErr result MemoryOrForeign }
     {
         bar.take_out(&self.board)
     }
@@ -239,9 +257,9 @@ impl<T: TermLike + Drop, C: Clock + Drop, R: Wait + Clone + Drop, K: Tracks> Mul
     ///
     /// Refused: as `Board::println`; `Memory` also for a copy of the text, on a hidden target too, and where the history has no room. Nothing
     /// has changed then.
-    #[tactic(auto, unfolding(crate::specs::SharedBoards::SharedDraws))]
+    #[tactic(auto, unfolding(crate::specs::Inside::SharedBoards::SharedDraws))]
     pub fn println(&self, text: &str) -> Result<Drawn, Refusal>
-        ensures { IsTrue (of_a_draw result) }
+        ensures { CanDraw result }
     {
         match String::from_str(self.alloc, text) {
             Ok(text) => self.board.lock(&self.rt).draw(Call::Log(text)),
@@ -253,9 +271,9 @@ impl<T: TermLike + Drop, C: Clock + Drop, R: Wait + Clone + Drop, K: Tracks> Mul
     ///
     /// Refused: as `Board::clear`, which takes no memory; `Memory`, only of a board that keeps its history, where that has no room. Nothing
     /// has changed then.
-    #[tactic(auto, unfolding(crate::specs::SharedBoards::SharedDraws))]
+    #[tactic(auto, unfolding(crate::specs::Inside::SharedBoards::SharedDraws))]
     pub fn clear(&self) -> Result<Drawn, Refusal>
-        ensures { IsTrue (of_a_clear result) }
+        ensures { CanClear result }
     {
         self.board.lock(&self.rt).draw(Call::Clear)
     }
@@ -265,7 +283,7 @@ impl<T: TermLike + Drop, C: Clock + Drop, R: Wait + Clone + Drop, K: Tracks> Mul
     pub fn suspend<F: FnOnce() -> A, A>(&self, f: F) -> (A, Result<Drawn, Refusal>)
         requires { F.pre f }
         ensures value { F.post f result.0 }
-        ensures drawn { IsTrue (of_a_draw result.1) }
+        ensures drawn { CanDraw result.1 }
     {
         self.board.lock(&self.rt).suspend(f)
     }
@@ -343,15 +361,14 @@ impl<T: TermLike + Drop, C: Clock + Clone + Drop, R: Wait + Clone + Drop, K: Tra
     /// ```
     ///
     /// Refused: `Memory`; nothing has changed then.
-    #[tactic(auto, using(crate::proofs::FrontLemmas::not_taken))]
     pub fn new_bar(&self, len: u64) -> Result<ProgressBar<T, C, R, K>, Refusal>
-        ensures { IfErr result IsMissing }
+        ensures { IfErr result (λ e. e ≡ Refusal.Memory) }
     {
         let Ok((rt, setup)) = self.setup() else {
             return Err(Refusal::Memory);
         };
         match ProgressBar::plain(rt, self.alloc, Some(len), setup) {
-            Ok(bar) => self.add(bar),
+            Ok(bar) => self.add_new(bar),
             Err(_) => Err(Refusal::Memory),
         }
     }
@@ -359,15 +376,24 @@ impl<T: TermLike + Drop, C: Clock + Clone + Drop, R: Wait + Clone + Drop, K: Tra
     /// A bar without a length behind all others, in the style of a spinner, which draws nothing yet.
     ///
     /// Refused: `Memory`; nothing has changed then.
-    #[tactic(auto, using(crate::proofs::FrontLemmas::not_taken))]
     pub fn new_spinner(&self) -> Result<ProgressBar<T, C, R, K>, Refusal>
-        ensures { IfErr result IsMissing }
+        ensures { IfErr result (λ e. e ≡ Refusal.Memory) }
     {
         let Ok((rt, setup)) = self.setup() else {
             return Err(Refusal::Memory);
         };
         match ProgressBar::spinning(rt, self.alloc, setup) {
-            Ok(bar) => self.add(bar),
+            Ok(bar) => self.add_new(bar),
+            Err(_) => Err(Refusal::Memory),
+        }
+    }
+
+    /// Takes a bar in that was just made, after all others: it is on no board, so it is turned away for memory alone.
+    fn add_new(&self, bar: ProgressBar<T, C, R, K>) -> Result<ProgressBar<T, C, R, K>, Refusal>
+        ensures { IfErr result (λ e. e ≡ Refusal.Memory) }
+    {
+        match self.add(bar) {
+            Ok(bar) => Ok(bar),
             Err(_) => Err(Refusal::Memory),
         }
     }
