@@ -64,7 +64,7 @@ use std::sync::{Arc, Mutex, Wait};
 /// Once the last owner is gone, by `release` or by being dropped, a bar that isn't finished is finished by its stored finish.
 ///
 /// A bar that stands on a board answers as the board does when it is told that call of that bar; so each command may be refused
-/// `NotMember` there, where the board has lost the bar to one of the same mark, and `Memory`, where a copy of its text finds none. Where
+/// `NotMember` there, where the board has lost the bar to one of the same id, and `Memory`, where a copy of its text finds none. Where
 /// the board keeps its history, each may be refused `Memory` because that has no room; nothing has changed then.
 ///
 /// Its clauses say which answers a call can have, by the call alone. At most these come: they allow `ForeignBar` too, which a bar's own

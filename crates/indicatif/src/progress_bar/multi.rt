@@ -143,7 +143,7 @@ impl<T: TermLike + Drop, C: Clock + Drop, R: Wait + Clone + Drop, K: Tracks> Mul
     /// Adds a bar after all others, and hands its owner back. A bar that stood alone leaves its target, and what it drew there stays. A
     /// bar that is already on this board stays where it is.
     ///
-    /// Refused: `ForeignBar` for a bar of another board, which may have the same mark; `Memory`. The board is as before then, and this
+    /// Refused: `ForeignBar` for a bar of another board, which may have the same id; `Memory`. The board is as before then, and this
     /// owner is given up as by `ProgressBar::release`: if it was the only one, its bar is finished by its stored finish, and leaves the
     /// board that has it.
     ///
@@ -209,7 +209,7 @@ impl<T: TermLike + Drop, C: Clock + Drop, R: Wait + Clone + Drop, K: Tracks> Mul
     }
 
     /// Takes a bar in where no other is named. One that stands on a board, but not on this one, is another board's, also where both have
-    /// the same mark.
+    /// the same id.
     #[tactic(auto, using(crate::proofs::FrontLemmas::memory_or_foreign, crate::proofs::FrontLemmas::foreign_or_memory))]
     fn take_in_alone(
         &self,
