@@ -1,4 +1,4 @@
--- Worked cases of a board: what calls at the moment 0 answer, and the rows that stand then. The terminal never fails.
+-- Worked cases of a board: what calls at the moment 0 answer, and the rows that stand then. The terminal fails where a case says so.
 use Rattle.std.specs.Prelude.{◌≡◌, ℕ, Bool, true, false, List, [], ◌∷◌, ◌++◌, map, replicate, codes, Option, Some, None}
 use Rattle.std.specs.declared.io.ErrorKind.{ErrorKind}
 use Rattle.indicatif_text.specs.declared.refusal.Refusal.TheVariants.{ForeignBar, NotMember, NoColumns, TooWide, Memory, ElapsedBeyondClock, Terminal as Failure}
@@ -289,6 +289,23 @@ DropRefused =
     ((kind : ErrorKind) → Leads machine target (one_shown Gone) (its_drop Gone) (Refused (Failure kind)) (record (one_shown Gone) { members = stays Gone []; lists = forgotten_lists }))
     × Leads machine target (one_shown Shown) (its_drop Shown) (Refused Memory) (record (one_shown Shown) { members = stays Shown (codes "a" ∷ []) })
     × (TakesMemory machine target (its_drop Gone) → ⊥)
+
+-- ---- a draw that the terminal breaks off
+
+-- `a` is logged above the bar `x`, and the next draw is broken off: the rows are forgotten, so `a` is taken back no more, and the bar
+-- stays in the order; then `b` is logged, with the bar below
+abbrev pub BrokenBelow : Type 0
+BrokenBelow =
+    let machine = board plain_bars 1 in
+    let target = terminal_of_size 4 10 in
+    let logged = (ran_in 4 10 (add (codes "x") ∷ touch 0 ∷ Log (codes "a") ∷ [])).1 in
+    let broken = record logged { lists = forgotten_lists } in
+    let again = outcomes machine target ((Log (codes "b"), 0) ∷ []) broken in
+    (all_rows 10 logged.lists ≡ rows_of_lines 10 (codes "a" ∷ codes "x" ∷ []))
+    × ((kind : ErrorKind) → Leads machine target logged (machine.deed target Redraw 0 logged) (Refused (Failure kind)) broken)
+    × (order_of broken.members ≡ 0 ∷ [])
+    × (again.0 ≡ Drew Yes ∷ [])
+    × (all_rows 10 again.1.lists ≡ rows_of_lines 10 (codes "b" ∷ codes "x" ∷ []))
 
 -- ---- bars of the product, without trackers
 

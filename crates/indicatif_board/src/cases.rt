@@ -1,6 +1,6 @@
 //! Worked cases of the definitions: each clause computes.
 ghost use Rattle.indicatif_board.specs.SlotCases.{UsedAgain, FreedLastFirst, EachItsOwn};
-ghost use Rattle.indicatif_board.specs.BoardCases.{TwoBars, ThreeBarsOnTwo, LeftAbove, BothDropped, BoardAtTheBottom, Ordered, EmptyLog, RemovedLater, WaitsBehind, LongLog, RemovedTwice, TooWideForAll, TwentyDrawsAtOnce, Unseen, DropRefused, LateOnBoard, OneIsLeft, OwnText, ClearedRows, ClearedHead, WithoutColumns};
+ghost use Rattle.indicatif_board.specs.BoardCases.{TwoBars, ThreeBarsOnTwo, LeftAbove, BothDropped, BoardAtTheBottom, Ordered, EmptyLog, RemovedLater, WaitsBehind, LongLog, RemovedTwice, TooWideForAll, TwentyDrawsAtOnce, Unseen, DropRefused, BrokenBelow, LateOnBoard, OneIsLeft, OwnText, ClearedRows, ClearedHead, WithoutColumns};
 
 /// What stands after calls of a board.
 pub fn rows()
@@ -35,6 +35,11 @@ pub fn answers()
 /// A drop whose own draw is refused.
 pub fn refused_drops()
     ensures { DropRefused }
+{}
+
+/// A draw that the terminal breaks off, with a text above the bars, and a text after it.
+pub fn broken_draws()
+    ensures { BrokenBelow }
 {}
 
 /// Bars of the product on a board.
