@@ -338,7 +338,7 @@ impl<K: Tracks, T: TermLike + Drop, C: Clock + Drop> LockedBar<K, T, C> {
     }
 
     /// Takes the bar in on a board. A bar that is on one stays.
-    #[tactic(auto, using(crate::proofs::AnswerLemmas::not_taken))]
+    #[tactic(auto, using(crate::proofs::AnswerLemmas::not_taken, crate::proofs::FrontLemmas::memory_missing))]
     pub fn take_in<R: Wait>(
         &mut self,
         rt: &R,
