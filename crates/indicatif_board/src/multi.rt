@@ -258,7 +258,7 @@ impl<K: Tracks, T: TermLike + Drop> Board<K, T> {
         ensures not_member { IsAbsent self.old (id_of anchor) → TurnsAway Refusal.NotMember (given result) self.old self.new }
         ensures beside { IsTrue (is_some (record_at anchor.number self.old)) → IsForeign (board_id_of self.old) (entrant_of candidate) →
             TurnsAway Refusal.ForeignBar (given result) self.old self.new }
-        ensures absent { anchor.board_id ≡ board_id_of self.old → IsTrue (is_some (record_at anchor.number self.old)) → EntersAbsent self.old (entrant_of candidate) →
+        ensures absent { anchor.board ≡ board_id_of self.old → IsTrue (is_some (record_at anchor.number self.old)) → EntersAbsent self.old (entrant_of candidate) →
             TurnsAway Refusal.NotMember (given result) self.old self.new }
         ensures records { RecordsTake (entrant_of candidate) (given result) self.old self.new }
         ensures slot { SlotsTake (Before (id_of anchor)) (entrant_of candidate) (given result) self.old self.new }
@@ -288,7 +288,7 @@ impl<K: Tracks, T: TermLike + Drop> Board<K, T> {
         ensures not_member { IsAbsent self.old (id_of anchor) → TurnsAway Refusal.NotMember (given result) self.old self.new }
         ensures beside { IsTrue (is_some (record_at anchor.number self.old)) → IsForeign (board_id_of self.old) (entrant_of candidate) →
             TurnsAway Refusal.ForeignBar (given result) self.old self.new }
-        ensures absent { anchor.board_id ≡ board_id_of self.old → IsTrue (is_some (record_at anchor.number self.old)) → EntersAbsent self.old (entrant_of candidate) →
+        ensures absent { anchor.board ≡ board_id_of self.old → IsTrue (is_some (record_at anchor.number self.old)) → EntersAbsent self.old (entrant_of candidate) →
             TurnsAway Refusal.NotMember (given result) self.old self.new }
         ensures records { RecordsTake (entrant_of candidate) (given result) self.old self.new }
         ensures slot { SlotsTake (After (id_of anchor)) (entrant_of candidate) (given result) self.old self.new }
