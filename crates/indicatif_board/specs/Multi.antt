@@ -81,6 +81,10 @@ module _ {K T : Type 0} where
   abbrev pub RecordsStay : Board K T → Board K T → Type 0
   RecordsStay old new = (number : ℕ) → record_at number new ≡ record_at number old
 
+  -- the terminal, how draws go to it, the slots and all records are as before
+  abbrev pub AllStays : Board K T → Board K T → Type 0
+  AllStays old new = (terminal_of new ≡ terminal_of old) × (moves_of new ≡ moves_of old) × (slots_of new ≡ slots_of old) × RecordsStay old new
+
   -- every bar's is, but for that of this number
   abbrev pub OtherRecordsStay : ℕ → Board K T → Board K T → Type 0
   OtherRecordsStay number old new = (other : ℕ) → other ≢ number → record_at other new ≡ record_at other old

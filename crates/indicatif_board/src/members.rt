@@ -73,7 +73,6 @@ impl<K: Tracks> Seated<K> {
     pub fn obey(&mut self, command: BarCommand<K>, now: Moment) -> Result<Ask, Refusal>
         ensures done { IfOk result (λ ask. (self.new.bar, ask) ≡ obeyed K.means (command_of command) self.old.bar now) }
         ensures unchanged { OnErr result (self.new.bar ≡ self.old.bar) }
-        ensures same { OnErr result (self.new ≡ self.old) }
         ensures beyond { (result ≡ Err Refusal.ElapsedBeyondClock) ↔ IsTrue (is_beyond_clock (command_of command) now) }
         ensures memory { result ≡ Err Refusal.Memory → IsTrue (takes_memory (command_of command) self.old.bar) }
         ensures no_other { IfErr result (λ e. (e ≡ Refusal.ElapsedBeyondClock) ⊎ (e ≡ Refusal.Memory)) }

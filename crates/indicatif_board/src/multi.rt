@@ -61,7 +61,7 @@ pub struct Board<K, T: Drop> {
 
 impl<K: Tracks, T: TermLike + Drop> Board<K, T> {
     ghost use Rattle.indicatif_board.specs.Calls.{entrant_of, given, removal, answer_of, place_at, call_of, timed, IsForeign, NamesForeign, AreTurnedAway, acts_on};
-    ghost use Rattle.indicatif_board.specs.Multi.{IsIn, IsNowhere, IsAbsent, EntersAbsent, TurnsAway, board_id_of, record_at, seat_in, RecordsStay, OtherRecordsStay, RecordObeys, RecordsTake, SlotsTake, SlotsGive};
+    ghost use Rattle.indicatif_board.specs.Multi.{IsIn, IsNowhere, IsAbsent, EntersAbsent, TurnsAway, AllStays, board_id_of, record_at, seat_in, RecordsStay, OtherRecordsStay, RecordObeys, RecordsTake, SlotsTake, SlotsGive};
     ghost use Rattle.indicatif_board.specs.Multi.{SlotsLeft, SlotsChange, HeadHasRecord, KeepsSlot, RecordsChange, StaysOrComes, LeadsBy, Suspends, known, moves_of, slots_of, terminal_of};
 
     /// A board without bars on this target, of this id. It takes no memory and writes nothing.
@@ -379,7 +379,8 @@ impl<K: Tracks, T: TermLike + Drop> Board<K, T> {
         ensures not_member { id.board ≡ board_id_of self.old → (result ≡ Err Refusal.NotMember) ↔ (record_at id.number self.old ≡ None) }
         ensures beyond { id.board ≡ board_id_of self.old → IsTrue (is_some (record_at id.number self.old)) →
             (result ≡ Err Refusal.ElapsedBeyondClock) ↔ IsTrue (is_beyond_clock (command_of command) now) }
-        ensures unchanged { (result ≡ Err Refusal.NotMember) ⊎ (result ≡ Err Refusal.ElapsedBeyondClock) → self.new ≡ self.old }
+        ensures unchanged { result ≡ Err Refusal.NotMember → self.new ≡ self.old }
+        ensures untouched { result ≡ Err Refusal.ElapsedBeyondClock → AllStays self.old self.new }
         ensures record { id.board ≡ board_id_of self.old → RecordObeys K.means id.number (command_of command) now result self.old self.new }
         ensures slots { SlotsLeft self.old self.new }
         ensures head { result ≡ Ok Drawn.Yes → HeadHasRecord self.new }

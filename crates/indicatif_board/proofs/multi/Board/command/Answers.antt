@@ -1,5 +1,8 @@
-use Rattle.std.proofs.Common.{◌≡◌, ◌<◌, ◌∙◌, is_some, true, false, refl, sym, ap, subst, length, arith, Ok, Err, Some, None, inl, inr}
+use Rattle.std.proofs.Common.{◌≡◌, ◌<◌, ◌∙◌, set, is_some, true, false, refl, sym, ap, subst, length, arith, Ok, Err, Some, None, inl, inr}
 use Rattle.std.proofs.lemmas.Result.{err_from_is_err_and}
+use Rattle.std.specs.Prelude.{◌==◌}
+use Rattle.std.proofs.lemmas.Bool.{cases_Bool, eqb-true, eq-eqb, false≢true}
+use Rattle.indicatif_board.specs.ShownBars.{record_in, record_on}
 use Rattle.indicatif_text.specs.declared.refusal.Refusal.TheVariants.{ElapsedBeyondClock, NotMember}
 use Rattle.indicatif_term.specs.Engines.{is_bottom}
 use Rattle.indicatif_bar.specs.Commands.{BarRecord, obeyed, command_of, is_beyond_clock, takes_memory}
@@ -207,3 +210,36 @@ returns-in_err-ask-clause-head g c = λ yes.
 
 pub returns-in_err-ask-clause-stay : goal.returns-in_err-ask-clause-stay
 returns-in_err-ask-clause-stay g c = λ other. refl
+
+pub returns-in_err-at-clause-untouched : goal.returns-in_err-at-clause-untouched
+returns-in_err-at-clause-untouched g c = λ late. (refl, refl, refl, λ number. refl)
+
+pub returns-in_err-ask-clause-untouched : goal.returns-in_err-ask-clause-untouched
+returns-in_err-ask-clause-untouched g c = λ late. (
+  refl,
+  refl,
+  refl,
+  λ number.
+      let b = c.args.self.now.shown in
+      let id = c.args.id.number in
+      let item = c.index_mut.result.now in
+      let own = c.in_ok-at.ensures.own in
+      elim (cases_Bool (number == id)) [
+        | inl here ↦ subst (λ n. record_in n b.table.order (set b.members.items c.in_ok-at.at c.obey.new.self) ≡ record_on n b) (sym (eqb-true number id here))
+            (told_on b id c.in_ok-at.at own item c.obey.new.self c.obey.ensures.stays c.index_mut.ensures.value
+            ∙ ap Some c.in_err-ask.ensures.unchanged ∙ sym (record_stands b id c.in_ok-at.at own item c.index_mut.ensures.value))
+        | inr apart ↦ told_apart b id c.in_ok-at.at own c.obey.new.self number (λ e. false≢true (sym apart ∙ eq-eqb number id e))
+      ],
+)
+
+pub returns-in_err-ask-clause-unchanged : goal.returns-in_err-ask-clause-unchanged
+returns-in_err-ask-clause-unchanged g c = λ e.
+    let x = err_from_is_err_and c.from_residual-in_err-ask.result c.from_residual-in_err-ask.ensures.1 in
+    let same = same_error c.from_residual-in_err-ask.result (x.1 ∙ ap Err x.2) e in
+    absurd (elim c.in_err-ask.ensures.no_other [ inl late ↦ cc (sym late ∙ same) | inr short ↦ cc (sym short ∙ same) ])
+
+pub returns-clause-untouched : goal.returns-clause-untouched
+returns-clause-untouched g c = λ e. absurd (not_of_draw c.draw.result ElapsedBeyondClock c.draw.ensures.refusal refl e)
+
+pub returns-clause-unchanged : goal.returns-clause-unchanged
+returns-clause-unchanged g c = λ e. absurd (not_of_draw c.draw.result NotMember c.draw.ensures.refusal refl e)
