@@ -3,7 +3,7 @@ ghost use Rattle.std.specs.Prelude.{◌≡◌, string_bytes};
 ghost use Rattle.indicatif_bar.specs.LoneBars.{CallDone, LoneLeadsBy};
 ghost use Rattle.indicatif_board.specs.BoardValues.{id_of};
 ghost use Rattle.indicatif_board.specs.Calls.{call_of};
-ghost use Rattle.indicatif.specs.Fronts.{on_board};
+ghost use Rattle.indicatif.specs.Inside.SharedBoards.{on_board};
 ghost use Rattle.indicatif.specs.Inside.TextCommand.{text_call};
 
 use indicatif_bar::lone::LoneBar;
