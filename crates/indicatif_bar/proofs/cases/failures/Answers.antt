@@ -1,5 +1,5 @@
 use Rattle.std.proofs.Common.{refl, inr}
-use Rattle.std.specs.Str.{chars}
+use Rattle.std.specs.Str.{chars, is_utf8}
 use Rattle.std.proofs.Math.Utf8.{encode}
 use Rattle.unicode_width.specs.Width.{char_width}
 use Rattle.unicode_width.proofs.Computing.{unicode_width}
@@ -10,6 +10,10 @@ use Rattle.indicatif_bar.specs.BarStyles.{lines}
 use Rattle.indicatif_bar.specs.Machines.{drawn_by}
 use Rattle.indicatif_bar.proofs.cases.failures.Goals as goal
 
-pub returns : goal.returns
-unfolding char_width unicode_width rows_of visible has_wide drawn logged cleared shown_rows lines_of fitting grouped chars lines encode drawn_by after
-returns c = record { broken_off = (refl, (λ kind. inr (inr (kind, refl, (refl, refl)))), refl, refl, refl, refl, refl); broken_bytes = (refl, refl) }
+pub returns-clause-broken_off : goal.returns-clause-broken_off
+unfolding char_width unicode_width rows_of visible has_wide drawn logged cleared shown_rows lines_of fitting grouped chars lines encode drawn_by
+returns-clause-broken_off c = (refl, (λ kind. inr (inr (kind, refl, (refl, refl)))), refl, refl, refl, refl, refl)
+
+pub returns-clause-broken_bytes : goal.returns-clause-broken_bytes
+unfolding char_width unicode_width rows_of visible chars encode is_utf8 after
+returns-clause-broken_bytes c = (refl, refl)
