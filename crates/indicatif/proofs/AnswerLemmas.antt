@@ -349,22 +349,22 @@ seated id (Log text) answer can = can
 seated id Clear answer can = can
 
 -- a board that was drawn anew by force, or cleared
-pub redrawn_so : {K : Type 0} (answer : Result Drawn Refusal) → SharedDraws K Redraw answer → CanDraw answer
+pub redrawn_so : (K : Type 0) (answer : Result Drawn Refusal) → SharedDraws K Redraw answer → CanDraw answer
 unfolding SharedDraws
-redrawn_so answer can = can
+redrawn_so K answer can = can
 
-pub cleared_so : {K : Type 0} (answer : Result Drawn Refusal) → SharedDraws K ClearBoard answer → CanDraw answer
+pub cleared_so : (K : Type 0) (answer : Result Drawn Refusal) → SharedDraws K ClearBoard answer → CanDraw answer
 unfolding SharedDraws
-cleared_so answer can = clear_is_draw answer can
+cleared_so K answer can = clear_is_draw answer can
 
 -- an insertion is refused for want of memory, or where the board hasn't the bar; a removal for want of memory, or of another board's bar; and another
 -- alignment for want of memory
 given_so : {K : Type 0} (at : Location) (entrant : Entrant (BarRecord K)) (told : Answer) (e : Refusal) → SharedAnswers K (Insert at entrant) told → given_by told ≡ Err e →
     SharedAnswers K (Insert at entrant) (Refused e)
-given_so at entrant (Refused refusal) e can given = subst (λ taken. IfErr taken (λ r. SharedAnswers K (Insert at entrant) (Refused r))) given can
-given_so at entrant (Given id) e can given = subst (λ taken. IfErr taken (λ r. SharedAnswers K (Insert at entrant) (Refused r))) given tt
-given_so at entrant Done e can given = subst (λ taken. IfErr taken (λ r. SharedAnswers K (Insert at entrant) (Refused r))) given (no_memory (Insert at entrant))
-given_so at entrant (Drew drawn) e can given = subst (λ taken. IfErr taken (λ r. SharedAnswers K (Insert at entrant) (Refused r))) given (no_memory (Insert at entrant))
+given_so {K = K} at entrant (Refused refusal) e can given = subst (λ taken. IfErr taken (λ r. SharedAnswers K (Insert at entrant) (Refused r))) given can
+given_so {K = K} at entrant (Given id) e can given = subst (λ taken. IfErr taken (λ r. SharedAnswers K (Insert at entrant) (Refused r))) given tt
+given_so {K = K} at entrant Done e can given = subst (λ taken. IfErr taken (λ r. SharedAnswers K (Insert at entrant) (Refused r))) given (no_memory (Insert at entrant))
+given_so {K = K} at entrant (Drew drawn) e can given = subst (λ taken. IfErr taken (λ r. SharedAnswers K (Insert at entrant) (Refused r))) given (no_memory (Insert at entrant))
 
 pub turned_so : {K I : Type 0} (at : Location) (entrant : Entrant (BarRecord K)) (told : Answer) (taken : Result I Refusal) → IfErr taken (λ e. given_by told ≡ Err e) →
     SharedAnswers K (Insert at entrant) told → IfErr taken (λ e. SharedAnswers K (Insert at entrant) (Refused e))
@@ -382,16 +382,16 @@ unfolding SharedDraws
 not_taken at entrant Memory can = inl refl
 not_taken at entrant e can = no_bar (names_bar entrant at) e can
 
-pub removed_so : {K : Type 0} (id : Id) (e : Refusal) → SharedAnswers K (Remove id) (Refused e) → MemoryOrForeign e
+pub removed_so : (K : Type 0) (id : Id) (e : Refusal) → SharedAnswers K (Remove id) (Refused e) → MemoryOrForeign e
 unfolding SharedDraws
-removed_so id Memory can = inl refl
-removed_so id ForeignBar can = inr refl
-removed_so id _ can = absurd (false≢true can)
+removed_so K id Memory can = inl refl
+removed_so K id ForeignBar can = inr refl
+removed_so K id _ can = absurd (false≢true can)
 
-pub stays_so : {K : Type 0} (id : Id) (e : Refusal) → SharedAnswers K (Remove id) (Refused e) → IsMissing e
-stays_so id e can = elim (removed_so id e can) [ inl memory ↦ inl memory | inr foreign ↦ inr (inl foreign) ]
+pub stays_so : (K : Type 0) (id : Id) (e : Refusal) → SharedAnswers K (Remove id) (Refused e) → IsMissing e
+stays_so K id e can = elim (removed_so K id e can) [ inl memory ↦ inl memory | inr foreign ↦ inr (inl foreign) ]
 
-pub aligned_so : {K : Type 0} (bottom : Bool) (e : Refusal) → SharedDraws K (Align bottom) (Err e) → e ≡ Memory
+pub aligned_so : (K : Type 0) (bottom : Bool) (e : Refusal) → SharedDraws K (Align bottom) (Err e) → e ≡ Memory
 unfolding SharedDraws
-aligned_so bottom Memory can = refl
-aligned_so bottom _ can = absurd (false≢true can)
+aligned_so K bottom Memory can = refl
+aligned_so K bottom _ can = absurd (false≢true can)

@@ -45,12 +45,12 @@ can_stay e (inl memory) = rw memory refl
 can_stay e (inr (inl foreign)) = rw foreign refl
 can_stay e (inr (inr gone)) = rw gone refl
 
-pub place_turns : {K T C : Type 0} (m : Tracking K) (view : T → TermView) (old new : AnyBar K T C) (term : Option T) (answer : Result Drawn Refusal) →
-    BarTurns m view old term answer new → CanTurn answer
+pub place_turns : {K T C : Type 0} (old new : AnyBar K T C) (term : Option T) (answer : Result Drawn Refusal) →
+    BarTurns old term answer new → CanTurn answer
 unfolding CanTurn
-place_turns m view (Alone old) new term answer made = rw made.4 refl
-place_turns m view (Member member) new term answer (inl made) = or-right (of_no_draw answer) (of_a_draw answer || has_no_bar answer) (or-left (of_a_draw answer) (has_no_bar answer) made.3)
-place_turns m view (Member member) new term answer (inr made) = subst CanTurn (sym made.1) (can_stay made.0 made.3)
+place_turns (Alone old) new term answer made = rw made.4 refl
+place_turns (Member member) new term answer (inl made) = or-right (of_no_draw answer) (of_a_draw answer || has_no_bar answer) (or-left (of_a_draw answer) (has_no_bar answer) made.3)
+place_turns (Member member) new term answer (inr made) = subst CanTurn (sym made.1) (can_stay made.0 made.3)
 
 pub place_untold : {K T C : Type 0} (place : AnyBar K T C) (e : Refusal) → IsUntold place e → IsMissing e
 place_untold (Alone bar) e untold = inl untold

@@ -86,10 +86,10 @@ module _ {K T C : Type 0} where
 
   -- another target was asked for: alone, the bar is as it was, on that; a board's bar stands alone on that, and the others were
   -- drawn, or it stays where it was
-  abbrev pub BarTurns : Tracking K → (T → TermView) → AnyBar K T C → Option T → Result Drawn Refusal → AnyBar K T C → Type 0
-  BarTurns m view (Alone old) term answer new =
+  abbrev pub BarTurns : AnyBar K T C → Option T → Result Drawn Refusal → AnyBar K T C → Type 0
+  BarTurns (Alone old) term answer new =
       (bar : LoneBar K T) × (new ≡ Alone bar) × (record_of bar ≡ record_of old) × (lone_terminal bar ≡ term) × (answer ≡ Ok Limited)
-  BarTurns m view (Member member) term answer new =
+  BarTurns (Member member) term answer new =
       ((bar : LoneBar K T) × (new ≡ Alone bar) × (lone_terminal bar ≡ term) × CanDraw answer)
       ⊎ ((e : Refusal) × (answer ≡ Err e) × (new ≡ Member member) × IsMissing e)
 

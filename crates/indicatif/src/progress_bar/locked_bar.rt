@@ -321,7 +321,7 @@ impl<K: Tracks, T: TermLike + Drop, C: Clock + Drop> LockedBar<K, T, C> {
         rt: &R,
         target: ProgressDrawTarget<T>,
     ) -> Result<Drawn, Refusal>
-        ensures { BarTurns K.means T.view self.old.bar (term_of target) result self.new.bar }
+        ensures { BarTurns self.old.bar (term_of target) result self.new.bar }
     {
         match &mut self.bar {
             AnyBar::Alone(bar) => {

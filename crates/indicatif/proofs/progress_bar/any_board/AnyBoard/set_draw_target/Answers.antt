@@ -4,4 +4,4 @@ use Rattle.indicatif.proofs.progress_bar.any_board.AnyBoard.set_draw_target.Goal
 pub returns-in-Open-clause-turns : goal.returns-in-Open-clause-turns
 returns-in-Open-clause-turns g c =
     let e = c.set_draw_target.ensures in
-    rw c.in-Open.is (refl, (c.set_draw_target.new.self, refl, record { terminal = e.new; records = e.records; state = e.state }))
+    rw c.in-Open.is (refl, c.set_draw_target.new.self, refl, record { terminal = e.new; records = e.records; state = e.state })

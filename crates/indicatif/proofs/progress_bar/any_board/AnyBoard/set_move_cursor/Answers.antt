@@ -4,4 +4,4 @@ use Rattle.indicatif.proofs.progress_bar.any_board.AnyBoard.set_move_cursor.Goal
 pub returns-in-Open-clause-moves : goal.returns-in-Open-clause-moves
 returns-in-Open-clause-moves g c =
     let e = c.set_move_cursor.ensures in
-    rw c.in-Open.is (refl, (c.set_move_cursor.new.self, refl, record { moves = e.moves; terminal = e.terminal; records = e.records; state = e.state }))
+    rw c.in-Open.is (refl, c.set_move_cursor.new.self, refl, record { moves = e.moves; terminal = e.terminal; records = e.records; state = e.state })

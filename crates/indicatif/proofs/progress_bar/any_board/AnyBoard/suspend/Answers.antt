@@ -7,7 +7,7 @@ returns-in-Ok-clause-made g c = cleared_and_drawn g.K.Tracks.means g.T.TermLike.
     c.in-Ok.ensures.made c.draw-drawn.ensures.made
 
 pub returns-in-Ok-clause-drawn : goal.returns-in-Ok-clause-drawn
-returns-in-Ok-clause-drawn g c = redrawn_so c.draw-drawn.result c.draw-drawn.ensures.can
+returns-in-Ok-clause-drawn g c = redrawn_so _ c.draw-drawn.result c.draw-drawn.ensures.can
 
 pub returns-in-Err-clause-drawn : goal.returns-in-Err-clause-drawn
-returns-in-Err-clause-drawn g c = cleared_so _ c.in-Err.ensures.can
+returns-in-Err-clause-drawn g c = cleared_so _ _ c.in-Err.ensures.can
