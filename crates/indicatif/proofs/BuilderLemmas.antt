@@ -23,6 +23,7 @@ module _ {K T : Type 0} (m : Tracking K) (view : T → TermView) where
     silent = obeys.silent;
     nowhere = obeys.nowhere;
     leads = obeys.leads;
+    moves = obeys.moves;
   }
 
 module _ {I K T C : Type 0} (m : Tracking K) (view : T → TermView) (old mid : ProgressBarIter I (OwnedBar K T C)) (now : ℕ)
