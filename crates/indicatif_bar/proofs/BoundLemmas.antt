@@ -147,7 +147,8 @@ used_spends l now positive later leaves =
     ] in
     let hand = min l.most (l.capacity + q - 1) in
     let fewer : 1 + hand ≤ l.capacity + q = omega (arith, some, min-le_right l.most (l.capacity + q - 1)) in
-    let all : 1 * l.interval + hand * l.interval ≤ (l.capacity + q) * l.interval = subst (λ x. x ≤ (l.capacity + q) * l.interval) (right_distrib 1 hand l.interval) (mul-le-mul_right l.interval fewer) in
+    let all : 1 * l.interval + hand * l.interval ≤ (l.capacity + q) * l.interval =
+    subst (λ x. x ≤ (l.capacity + q) * l.interval) (right_distrib 1 hand l.interval) (mul-le-mul_right l.interval fewer) in
     let paid : 1 * l.interval + hand * l.interval ≤ l.capacity * l.interval + q * l.interval = subst (λ x. 1 * l.interval + hand * l.interval ≤ x) (right_distrib l.capacity q l.interval) all in
     let on : now - (now - l.prev) % l.interval ≡ l.prev + q * l.interval = omega (arith, mod-add-div' (now - l.prev) l.interval, later) in
     record { interval = refl; goes_on = omega (arith, on); paid = omega (arith, on, paid) }
@@ -190,7 +191,8 @@ module _ {S C A : Type 0} (m : Machine S C A) (limiter : S → Option Limiter) (
   run_spends l positive [] [] old s new next run is = (l, ap limiter run.1 ∙ is, spent_none l)
   run_spends l positive (call ∷ calls) (answer ∷ answers) old s new next run is =
       let drew = drew_unforced (deed_on m old call s) (m.tells answer) in
-      let step = spends_step l call.1 run.1 drew positive (call_step m limiter l call.1 (target_of old) s (deed_on m old call s) answer run.1 is (limited (target_of old) call.0 call.1 s) run.2.leads) in
+      let step =
+      spends_step l call.1 run.1 drew positive (call_step m limiter l call.1 (target_of old) s (deed_on m old call s) answer run.1 is (limited (target_of old) call.0 call.1 s) run.2.leads) in
       let rest = run_spends step.0 (subst (λ i. 0 < i) (sym step.2.interval) positive) calls answers run.0 run.1 new next run.3 step.1 in
       let others = unforced_draws m calls answers run.0 run.1 new next run.3 in (
         rest.0,

@@ -33,7 +33,8 @@ pub puts_laid : {T : Type 0} (view : T → TermView) (writing : Writing) (lines 
     PutsFrame view writing false 0 (bar_lines segment ∷ []) old new r → PutsFrame view writing false 0 (record { bar = 0; lines = map chars lines } ∷ []) old new r
 puts_laid view Frame lines segment old new r laid p = subst (λ b. PutsFrame view Frame false 0 (b ∷ []) old new r) laid p
 puts_laid view (TextAndFrame text) lines segment old new r laid p = subst (λ b. PutsFrame view (TextAndFrame text) false 0 (b ∷ []) old new r) laid p
-puts_laid view NoFrame lines segment old new r laid p = record { answers = p.answers; memory = p.memory; counted = p.counted; unchanged = p.unchanged; moves = p.moves; lists = p.lists; paints = p.paints }
+puts_laid view NoFrame lines segment old new r laid p =
+    record { answers = p.answers; memory = p.memory; counted = p.counted; unchanged = p.unchanged; moves = p.moves; lists = p.lists; paints = p.paints }
 
 either_way : (r : Result Unit Refusal) (A B : Type 0) → A → B → MatchResult r (λ _. A) (λ _. B)
 either_way (Ok u) A B a b = a

@@ -108,7 +108,8 @@ module _ {B C : Type 0} (kind : BoardKind B C) (board_id : ℕ) (target : Target
   -- the board's deed is the lone bar's
   deed_is : (call : LoneCall C) (now : ℕ) (s : LoneState B) (stored : List (List ℕ)) →
       (board kind board_id).deed target (call_on_board board_id call) now (with_one stored s)
-      ≡ or_refused (refused_at_once kind.bars call now s.bar) (draws (drawn_on (lays_for call now s) stored (laid_for call now s stored) (draw_of_call kind.bars target call now s))) (with_one stored s)
+      ≡ or_refused (refused_at_once kind.bars call now s.bar)
+      (draws (drawn_on (lays_for call now s) stored (laid_for call now s stored) (draw_of_call kind.bars target call now s))) (with_one stored s)
   deed_is (Obey command) now s stored = rw (is_meant stored s) refl
   deed_is (Log text) now s stored = rw (is_meant stored s) refl
   deed_is Clear now s stored = refl

@@ -84,7 +84,8 @@ returns-in-Log-clause-slots g c =
 
 pub returns-in-BarLog-clause-slots : goal.returns-in-BarLog-clause-slots
 returns-in-BarLog-clause-slots g c =
-    rw c.in-BarLog.is (said_slots c.bar_println.result _ c.args.self.now c.bar_println.new.self c.draw_answer-in-BarLog.ensures c.bar_println.ensures.slots c.bar_println.ensures.head c.bar_println.ensures.stay)
+    rw c.in-BarLog.is
+    (said_slots c.bar_println.result _ c.args.self.now c.bar_println.new.self c.draw_answer-in-BarLog.ensures c.bar_println.ensures.slots c.bar_println.ensures.head c.bar_println.ensures.stay)
 
 pub returns-in-Clear-clause-slots : goal.returns-in-Clear-clause-slots
 returns-in-Clear-clause-slots g c =
