@@ -123,7 +123,7 @@ impl<K: Tracks, T: TermLike + Drop, C: Clock + Drop> MemberBar<K, T, C> {
     }
 
     /// Takes the bar out of the order and draws the others by force; the bar, and what that draw answered.
-    #[tactic(auto, using(crate::proofs::AnswerLemmas::stays_so))]
+    #[tactic(auto, using(crate::proofs::AnswerLemmas::stays_so), unfolding(crate::specs::Inside::SharedBoards::SharedDraws))]
     pub fn leave<R: Wait>(
         &self,
         rt: &R,
