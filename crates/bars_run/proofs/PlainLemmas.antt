@@ -10,7 +10,7 @@ use Rattle.unicode_width.specs.Width.{char_width}
 use Rattle.unicode_width.proofs.Computing.{unicode_width}
 use Rattle.log.specs.declared.level.Level.TheVariants.{Warn as WarnLevel}
 use Rattle.indicatif_text.specs.Columns.{is_plain, visible}
-use Rattle.indicatif_bar.specs.declared.bar_style.builders.TheConstants.{TICKS}
+use Rattle.indicatif_bar.specs.declared.style.builders.TheConstants.{TICKS}
 use Rattle.indicatif_bar.specs.declared.tracker.NoTracker.{NoTracker}
 use Rattle.indicatif_bar.specs.Builders.{characters_of}
 use Rattle.indicatif_bar.specs.PlainLaws.{ArePlainTrackers, HasPlainLiteral, IsPlainBar, IsPlainWithTabs}

@@ -6,7 +6,7 @@ use Rattle.std.proofs.lemmas.Bool.{or_parts}
 use Rattle.std.proofs.lemmas.List.{map-append}
 use Rattle.indicatif_text.specs.Template.{TemplatePart, KeyText, Keyed, Parses, plain_layout, front, end, piece, parts_of}
 use Rattle.indicatif_term.specs.Calls.{TermView}
-use Rattle.indicatif_term.specs.Engines.{is_bottom}
+use Rattle.indicatif_term.specs.DrawTargets.{is_bottom}
 use Rattle.indicatif_term.specs.Memory.{view_of}
 use Rattle.indicatif_bar.specs.Machines.{Machine, target_of}
 use Rattle.indicatif_bar.specs.Scripts.{Part, Called, Size, Sizing, sized, Plays}

@@ -19,8 +19,8 @@ use Rattle.indicatif_bar.specs.Machines.{Target, target_of, Machine, Draw, Deed,
 use Rattle.indicatif_bar.specs.Runs.{CallMade, Runs}
 use Rattle.indicatif_bar.specs.Lone.{LoneState, LoneCall, Obey, Log, Clear, deed_unless, draw_of_call}
 use Rattle.indicatif_bar.specs.LoneBars.{lone_bar}
-use Rattle.indicatif_bar.specs.declared.state.Ask.{Ask}
-use Rattle.indicatif_bar.specs.declared.state.Ask.TheVariants.{No, Unforced, Forced}
+use Rattle.indicatif_bar.specs.declared.ask.Ask.{Ask}
+use Rattle.indicatif_bar.specs.declared.ask.Ask.TheVariants.{No, Unforced, Forced}
 use Rattle.indicatif_board.specs.BoardBars.{board_bars}
 use Rattle.indicatif_board.specs.Boards.{BoardState, Id, Location, Before, After, Entrant, New, Old, Insert, Remove, Drop, Log as LogAbove, BarLog, Clear as ClearBoard, Redraw, Align, Tell, Answer, Given, Done, Drew, Refused, drawn_of, or_refused, turned_away, anchor_turned_away, inserted, taken_in, taken_out, draws, draw_of_command, last_draw, log_of, draw_of, laid_out, layout_takes, left_on, ownerless_on, deed_of, board}
 use Rattle.indicatif_board.specs.Members.{Member, is_member, said_of}

@@ -6,7 +6,7 @@ use Rattle.indicatif_text.specs.declared.refusal.Refusal.{Refusal}
 use Rattle.indicatif_term.specs.Calls.{TermView}
 use Rattle.std.proofs.lemmas.Bool.{cond_both}
 use Rattle.indicatif_bar.specs.Trackers.{Tracking}
-use Rattle.indicatif_bar.specs.declared.state.Ask.TheVariants.{No}
+use Rattle.indicatif_bar.specs.declared.ask.Ask.TheVariants.{No}
 use Rattle.indicatif_bar.specs.PositionLimiters.{allow_position}
 use Rattle.indicatif_bar.specs.Commands.{BarRecord, Command, tick, ticker_tick, moved_to}
 use Rattle.indicatif_bar.specs.Runs.{Runs}

@@ -5,8 +5,8 @@ use Rattle.indicatif_text.specs.declared.refusal.Refusal.{Refusal}
 use Rattle.indicatif_text.specs.declared.refusal.Refusal.TheVariants.{NoColumns, TooWide, Memory, Terminal as Failure, ForeignBar, NotMember, ElapsedBeyondClock}
 use Rattle.indicatif_text.specs.declared.refusal.Drawn.{Drawn}
 use Rattle.indicatif_text.specs.declared.refusal.Drawn.TheVariants.{Yes, Limited, Hidden}
-use Rattle.indicatif_bar.specs.declared.state.Ask.{Ask}
-use Rattle.indicatif_bar.specs.declared.state.Ask.TheVariants.{No, Unforced, Forced}
+use Rattle.indicatif_bar.specs.declared.ask.Ask.{Ask}
+use Rattle.indicatif_bar.specs.declared.ask.Ask.TheVariants.{No, Unforced, Forced}
 use Rattle.indicatif_bar.specs.Commands.{Command, Tick, TickerTick, SetTicker, Inc, Dec, SetPosition, Update, SetLength, UnsetLength, IncLength, DecLength, SetMessage, SetPrefix, SetStyle, PutPosition, PutMessage, PutPrefix, PutFinish, PutTabWidth, SetTabWidth, SetElapsed, ResetEta, ResetElapsed, Reset, FinishBy, FinishUsingStyle, ForceDraw}
 use Rattle.indicatif_bar.specs.Lone.{LoneCall, Obey, Log, Clear}
 use Rattle.indicatif_bar.specs.declared.command.Change.{Change}

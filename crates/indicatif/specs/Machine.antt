@@ -1,9 +1,9 @@
 -- Targets on the machine's terminals.
 use Rattle.std.specs.Prelude.{◌≡◌, ℕ, Option, Some, None, if◌then◌else◌}
 use Rattle.indicatif_term.specs.Limiters.{Limiter, draw_limiter}
-use Rattle.indicatif_term.specs.Targets.{hides, term_behind}
+use Rattle.indicatif_term.specs.DrawTargets.{hides, term_behind}
 use Rattle.indicatif_term.specs.Writers.{WriterTerm}
-use Rattle.indicatif_term.specs.declared.target.Facts.{Facts}
+use Rattle.indicatif_term.specs.declared.draw_target.Facts.{Facts}
 use Rattle.indicatif.specs.OwnRows.{new_rows}
 use Rattle.indicatif.specs.declared.own_rows.OwnRows.{OwnRows}
 use Rattle.indicatif.specs.declared.own_rows.RowEnds.{RowEnds}

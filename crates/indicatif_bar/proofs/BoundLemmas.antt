@@ -12,8 +12,8 @@ use Rattle.indicatif_term.specs.Calls.{TermView}
 use Rattle.indicatif_term.specs.Frames.{some_wide}
 use Rattle.indicatif_term.specs.Limiters.{Limiter, allow, used, draw_limiter}
 use Rattle.indicatif_term.proofs.LimiterLemmas.{Claim, from_used, claim_kept, answered, counted}
-use Rattle.indicatif_bar.specs.declared.state.Ask.{Ask}
-use Rattle.indicatif_bar.specs.declared.state.Ask.TheVariants.{No, Unforced, Forced}
+use Rattle.indicatif_bar.specs.declared.ask.Ask.{Ask}
+use Rattle.indicatif_bar.specs.declared.ask.Ask.TheVariants.{No, Unforced, Forced}
 use Rattle.indicatif_bar.specs.Machines.{Target, target_of, Machine, Draw, Deed, AtOnce, Draws, Leads, is_no, drawn_by}
 use Rattle.indicatif_bar.specs.Kinds.{Kind, asked_of}
 use Rattle.indicatif_bar.specs.Runs.{Runs, deed_on}

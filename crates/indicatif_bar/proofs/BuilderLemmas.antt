@@ -11,7 +11,7 @@ use Rattle.indicatif_text.specs.Template.{refusal_of}
 use Rattle.indicatif_text.specs.Template.{IsRefused}
 use Rattle.indicatif_bar.specs.Layout.{text_columns, cluster}
 use Rattle.indicatif_bar.specs.Builders.{characters_of, first_clusters}
-use Rattle.indicatif_bar.specs.declared.bar_style.builders.TheConstants.{CLUSTERS, TICKS, TICK_STRINGS}
+use Rattle.indicatif_bar.specs.declared.style.builders.TheConstants.{CLUSTERS, TICKS, TICK_STRINGS}
 
 -- a template's error that is not of memory is a fault of the text
 pub refused_by : (text : List ℕ) (e : TemplateError) (r : Refusal) → r ≡ refusal_of e → (e ≢ error.Memory → IsRefused text e)

@@ -7,7 +7,7 @@ use Rattle.indicatif_text.specs.declared.refusal.Refusal.TheVariants.{Memory, El
 use Rattle.indicatif_bar.specs.Trackers.{Tracking}
 use Rattle.indicatif_bar.specs.Commands.{BarRecord, Command, SetElapsed, obeyed, is_beyond_clock, takes_memory}
 use Rattle.indicatif_bar.specs.LoneBars.{RefusesCommand}
-use Rattle.indicatif_bar.specs.declared.state.Ask.{Ask}
+use Rattle.indicatif_bar.specs.declared.ask.Ask.{Ask}
 
 module _ {K : Type 0} (m : Tracking K) (old new : BarRecord K) (now : ℕ) where
   -- the record obeyed and asks so, or refused

@@ -20,7 +20,7 @@ use Rattle.indicatif_bar.specs.Trackers.{Tracking}
 use Rattle.indicatif_bar.specs.Keys.{key_named}
 use Rattle.indicatif_bar.specs.declared.style.keys.Key.{Key}
 use Rattle.indicatif_bar.specs.declared.style.keys.Key.TheVariants.{Bar, Spinner, Prefix, Message}
-use Rattle.indicatif_bar.specs.BarStyles.{BarStyle, Wide, key_text, in_layout, is_bare_layout, is_empty_key, is_empty_name, is_empty_part, is_empty_style}
+use Rattle.indicatif_bar.specs.Styles.{BarStyle, Wide, key_text, in_layout, is_bare_layout, is_empty_key, is_empty_name, is_empty_part, is_empty_style}
 use Rattle.indicatif_bar.specs.declared.style.steps.Source.{Source}
 use Rattle.indicatif_bar.specs.declared.style.steps.Source.TheVariants.{Tracker, Known, Nothing}
 use Rattle.indicatif_bar.specs.Inside.Steps.{Effect, WritesText, Breaks, PutsSource, source_of, effect_of_part, source_text, effect_text, is_empty_source, is_empty_effect}

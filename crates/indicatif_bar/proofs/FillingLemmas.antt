@@ -7,7 +7,7 @@ use Rattle.std.proofs.lemmas.List.Splits.{length-slice_split}
 use Rattle.std.proofs.lemmas.Bool.{cases_Bool}
 use Rattle.std.specs.List.{list_any}
 use Rattle.indicatif_bar.specs.Layout.{text_columns}
-use Rattle.indicatif_bar.specs.BarStyles.{with_fillers_as, is_filler}
+use Rattle.indicatif_bar.specs.Styles.{with_fillers_as, is_filler}
 
 -- parts with a text between them
 abbrev pub parted_by : List ℕ → List (List ℕ) → List ℕ

@@ -16,7 +16,7 @@ use Rattle.std.specs.declared.alloc.Global.{Global}
 use Rattle.indicatif_bar.specs.Trackers.{Tracking, entries, changed_trackers}
 use Rattle.indicatif_bar.specs.Keys.{named, key_named}
 use Rattle.indicatif_bar.specs.declared.style.keys.Key.{Key}
-use Rattle.indicatif_bar.specs.BarStyles.{BarStyle, Wide, wide_of, key_text, named_text, in_layout, part_text, wide_part, latest_wide, lines_with, lines_of_groups, lines, is_line_break}
+use Rattle.indicatif_bar.specs.Styles.{BarStyle, Wide, wide_of, key_text, named_text, in_layout, part_text, wide_part, latest_wide, lines_with, lines_of_groups, lines, is_line_break}
 use Rattle.indicatif_bar.specs.Inside.Steps.{Effect, WritesText, Breaks, PutsSource, source_at, source_of, names_of, effect_of_part, wide_source, source_text, effect_text}
 use Rattle.indicatif_bar.specs.declared.style.steps.Source.TheVariants.{Tracker, Known, Nothing}
 

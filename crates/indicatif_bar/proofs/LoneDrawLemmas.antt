@@ -9,7 +9,7 @@ use Rattle.indicatif_term.specs.Calls.{TermView}
 use Rattle.indicatif_term.specs.Limiters.{Limiter}
 use Rattle.indicatif_term.specs.Frames.{text_lines, logged_lines, bar_lines}
 use Rattle.indicatif_term.specs.Engines.{engine_term, Fits}
-use Rattle.indicatif_term.specs.declared.draw_target.Engine.{Engine}
+use Rattle.indicatif_term.specs.declared.engine.Engine.{Engine}
 use Rattle.indicatif_bar.specs.Trackers.{Tracking}
 use Rattle.indicatif_bar.specs.Commands.{BarRecord, Command, Tick, TickerTick, SetTicker, Inc, Dec, SetPosition, Update, SetLength, UnsetLength, IncLength, DecLength, SetMessage, SetPrefix, SetStyle, PutPosition, PutMessage, PutPrefix, PutFinish, PutTabWidth, SetTabWidth, SetElapsed, ResetEta, ResetElapsed, Reset, FinishBy, FinishUsingStyle, ForceDraw, obeyed, is_beyond_clock, takes_memory}
 use Rattle.indicatif_bar.specs.Bars.{bar_kind}
@@ -22,8 +22,8 @@ use Rattle.indicatif_bar.specs.Shown.{PutsFrame, DrewBy, DrewOn, WritesLinesOn}
 use Rattle.indicatif_term.specs.declared.lines.Segment.{Segment}
 use Rattle.indicatif_bar.specs.Inside.Writings.{IsLaidOut}
 use Rattle.indicatif_bar.specs.Inside.Obeying.{IsTold, IsToldOrNot}
-use Rattle.indicatif_bar.specs.declared.state.Ask.{Ask}
-use Rattle.indicatif_bar.specs.declared.state.Ask.TheVariants.{Forced}
+use Rattle.indicatif_bar.specs.declared.ask.Ask.{Ask}
+use Rattle.indicatif_bar.specs.declared.ask.Ask.TheVariants.{Forced}
 use Rattle.indicatif_bar.specs.declared.lone.LoneBar.{LoneBar}
 use Rattle.indicatif_bar.proofs.OutcomeLemmas.{drew, drawn_answer, writes_nothing}
 

@@ -11,7 +11,7 @@ use Rattle.std.proofs.lemmas.Str.{IsCharBoundary-after_ascii}
 use Rattle.indicatif_text.specs.Template.{Layout}
 use Rattle.indicatif_bar.specs.Progress.{Progress}
 use Rattle.indicatif_bar.specs.Layout.{text_columns}
-use Rattle.indicatif_bar.specs.BarStyles.{BarStyle, WideBarOf, is_filler, is_newline, columns_left, with_fillers_as, wide_text}
+use Rattle.indicatif_bar.specs.Styles.{BarStyle, WideBarOf, is_filler, is_newline, columns_left, with_fillers_as, wide_text}
 use Rattle.indicatif_bar.specs.StyleLaws.{AreTaken}
 use Rattle.indicatif_bar.proofs.ScanLemmas.{whole}
 use Rattle.indicatif_bar.proofs.BarWidthLemmas.{takes_bar}

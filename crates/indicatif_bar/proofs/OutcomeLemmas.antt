@@ -10,7 +10,7 @@ use Rattle.indicatif_term.specs.Calls.{TermView}
 use Rattle.indicatif_term.specs.Lists.{Lists, forgotten_lists}
 use Rattle.indicatif_term.specs.Frames.{are_plain, some_wide, is_fault}
 use Rattle.indicatif_term.specs.Engines.{engine_term, Fits, Answers, Counted, Paints, is_failure, lists_after}
-use Rattle.indicatif_term.specs.declared.draw_target.Engine.{Engine}
+use Rattle.indicatif_term.specs.declared.engine.Engine.{Engine}
 use Rattle.indicatif_term.proofs.EngineLemmas.{paints_nothing}
 use Rattle.indicatif_bar.specs.Machines.{Target, target_of, Machine, Draw, Draws, is_no, comes_to_lines, drawn_by, Leads}
 use Rattle.indicatif_bar.specs.Runs.{wrote, WritesLines}

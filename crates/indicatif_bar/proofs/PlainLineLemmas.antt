@@ -12,7 +12,7 @@ use Rattle.indicatif_text.specs.Template.{Layout, TemplatePart, LiteralText, Lin
 use Rattle.indicatif_bar.specs.Progress.{Progress, shown_message}
 use Rattle.indicatif_bar.specs.Trackers.{Tracking}
 use Rattle.indicatif_bar.specs.Layout.{padded, cluster, text_columns}
-use Rattle.indicatif_bar.specs.BarStyles.{BarStyle, Wide, WideBarOf, WideMessageOf, is_filler, is_newline, is_line_break, filler, ends_in_filler, columns_left, with_fillers_as, wide_text, filled, lines_with, in_layout, part_text, wide_part, latest_wide, lines_of_groups, lines}
+use Rattle.indicatif_bar.specs.Styles.{BarStyle, Wide, WideBarOf, WideMessageOf, is_filler, is_newline, is_line_break, filler, ends_in_filler, columns_left, with_fillers_as, wide_text, filled, lines_with, in_layout, part_text, wide_part, latest_wide, lines_of_groups, lines}
 use Rattle.indicatif_bar.specs.StyleLaws.{IsPlainText, cells_in}
 use Rattle.indicatif_bar.specs.LineLaws.{IsPlainPart, HasPlainParts, PlainPartsGivePlainLines}
 use Rattle.indicatif_bar.specs.Inside.Steps.{wide_source, source_text, source_of}

@@ -21,7 +21,7 @@ use Rattle.indicatif_bar.specs.Tabs.{expanded}
 use Rattle.indicatif_bar.specs.Trackers.{Tracking}
 use Rattle.indicatif_bar.specs.Layout.{padded, cluster, text_columns}
 use Rattle.indicatif_bar.specs.Keys.{named, key_named, count_text, time_text, percent_text, rate_text, whole_rate_text}
-use Rattle.indicatif_bar.specs.BarStyles.{BarStyle, Wide, wide_of, tick_string, final_tick_string, key_text, named_text, in_layout}
+use Rattle.indicatif_bar.specs.Styles.{BarStyle, Wide, wide_of, tick_string, final_tick_string, key_text, named_text, in_layout}
 use Rattle.indicatif_bar.specs.StyleLaws.{IsPlainText, cells_in}
 use Rattle.indicatif_bar.specs.LineLaws.{IsPlainLiteral, IsPlainPart, HasPlainParts, HasPlainTexts, PlainTextsGivePlainLines, PlainLinesAreAsked}
 use Rattle.indicatif_bar.specs.declared.style.keys.CountForm.{CountForm}

@@ -11,7 +11,7 @@ use Rattle.indicatif_term.specs.Limiters.{Limiter}
 use Rattle.indicatif_term.specs.Lists.{Lists, BarLines, logged, opening_lists}
 use Rattle.indicatif_term.specs.Frames.{all_lines, are_plain, is_fault}
 use Rattle.indicatif_term.specs.Engines.{engine_moves, engine_term, Fits, Answers, Counted, Paints, is_failure, lists_after}
-use Rattle.indicatif_term.specs.declared.draw_target.Engine.{Engine}
+use Rattle.indicatif_term.specs.declared.engine.Engine.{Engine}
 use Rattle.indicatif_term.proofs.SomeListsLemmas.{some_fit}
 use Rattle.indicatif_bar.specs.Kinds.{TextAndFrame, has_line}
 use Rattle.indicatif_bar.specs.Machines.{target_of, Target, Machine, Draw, is_no}

@@ -25,7 +25,7 @@ use Rattle.indicatif_bar.specs.Tabs.{expanded}
 use Rattle.indicatif_bar.specs.Trackers.{Tracking}
 use Rattle.indicatif_bar.specs.Layout.{text_columns, spaces, surrounded, padded, cluster}
 use Rattle.indicatif_bar.specs.Keys.{key_named}
-use Rattle.indicatif_bar.specs.BarStyles.{BarStyle, WideBarOf, filler, is_filler, is_newline, columns_left, with_fillers_as, wide_text, lines_with, key_text, named_text, in_layout, part_text, latest_wide, lines_of_groups, lines, is_line_break}
+use Rattle.indicatif_bar.specs.Styles.{BarStyle, WideBarOf, filler, is_filler, is_newline, columns_left, with_fillers_as, wide_text, lines_with, key_text, named_text, in_layout, part_text, latest_wide, lines_of_groups, lines, is_line_break}
 use Rattle.indicatif_bar.specs.StyleLaws.{cells_in}
 use Rattle.indicatif_bar.specs.LineLaws.{parts_text, HasWideBar, FillsRow, WideBarsFill}
 use Rattle.indicatif_bar.proofs.FillingLemmas.{no_fillers}

@@ -7,7 +7,7 @@ use Rattle.indicatif_text.specs.declared.refusal.Refusal.{Refusal}
 use Rattle.indicatif_text.specs.declared.refusal.Refusal.TheVariants.{FewTicks, FewProgressChars, UnequalWidths, ZeroWidthChars}
 use Rattle.indicatif_text.specs.Template.{TemplatePart}
 use Rattle.indicatif_bar.specs.Layout.{text_columns, cluster}
-use Rattle.indicatif_bar.specs.BarStyles.{BarStyle}
+use Rattle.indicatif_bar.specs.Styles.{BarStyle}
 
 -- the grapheme clusters of a text (Unicode, UAX #29)
 abbrev pub clusters_of : List ℕ → List (List ℕ)

@@ -1,6 +1,6 @@
 -- Worked cases of a lone bar: what calls at the moment 0 answer, and the rows that stand then. The terminal never fails but where a case says so.
 use Rattle.indicatif_text.specs.Template.{KeyText, plain_layout}
-use Rattle.indicatif_bar.specs.BarStyles.{BarStyle}
+use Rattle.indicatif_bar.specs.Styles.{BarStyle}
 use Rattle.std.specs.Prelude.{◌≡◌, ℕ, ◌+◌, ◌-◌, true, false, List, [], ◌∷◌, ◌++◌, length, map, replicate, take, Some, None, flat_map, codes, Result, Ok, Err}
 use Rattle.std.specs.declared.io.ErrorKind.{ErrorKind}
 use Rattle.indicatif_text.specs.declared.refusal.Refusal.{Refusal}

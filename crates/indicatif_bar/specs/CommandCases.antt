@@ -1,14 +1,14 @@
 -- Worked cases of measures and of commands. A second is 1,000,000,000 nanoseconds.
 use Rattle.std.specs.Prelude.{◌≡◌, ℕ, ◌*◌, [], ◌∷◌, ◌++◌, List, replicate, Option, Some, None, codes, true}
-use Rattle.indicatif_bar.specs.declared.state.Ask.{Ask}
-use Rattle.indicatif_bar.specs.declared.state.Ask.TheVariants.{No, Unforced, Forced}
+use Rattle.indicatif_bar.specs.declared.ask.Ask.{Ask}
+use Rattle.indicatif_bar.specs.declared.ask.Ask.TheVariants.{No, Unforced, Forced}
 use Rattle.indicatif_bar.specs.declared.measures.Rate.{Rate}
 use Rattle.indicatif_bar.specs.declared.measures.Fraction.{Fraction}
 use Rattle.indicatif_bar.specs.Measures.{greatest_u64, fraction_of, first_samples, recorded, recorded_all, restarted, rate_since, time_for, steps_a_second}
 use Rattle.indicatif_bar.specs.Progress.{eta, per_sec, elapsed, duration, shown_message}
 use Rattle.indicatif_bar.specs.Finishes.{AndLeave, Abandon, WithMessage}
 use Rattle.indicatif_bar.specs.Trackers.{writes_nothing}
-use Rattle.indicatif_bar.specs.BarStyles.{BarStyle}
+use Rattle.indicatif_bar.specs.Styles.{BarStyle}
 use Rattle.indicatif_bar.specs.Commands.{BarRecord, Command, Inc, Dec, SetPosition, PutPosition, Tick, TickerTick, SetTicker, SetMessage, SetTabWidth, SetLength, IncLength, DecLength, SetElapsed, ResetEta, Reset, FinishBy, FinishUsingStyle, PutFinish, new_bar, obeyed, is_beyond_clock}
 
 abbrev pub ms : ℕ

@@ -1,13 +1,13 @@
 -- A bar's record and what each command makes of it. Texts are lists of bytes in UTF-8, moments and times nanoseconds.
 use Rattle.std.specs.Prelude.{not, ◌||◌, ◌==◌, ℕ, string_bytes, ◌+◌, ◌-◌, ◌%◌, ◌^◌, Bool, true, false, nat_lt, min, List, Option, Some, None, if◌then◌else◌, unwrap_or, option_map}
-use Rattle.indicatif_bar.specs.declared.state.Ask.{Ask}
-use Rattle.indicatif_bar.specs.declared.state.Ask.TheVariants.{No, Unforced, Forced}
+use Rattle.indicatif_bar.specs.declared.ask.Ask.{Ask}
+use Rattle.indicatif_bar.specs.declared.ask.Ask.TheVariants.{No, Unforced, Forced}
 use Rattle.indicatif_bar.specs.Measures.{greatest_u64, recorded}
 use Rattle.indicatif_bar.specs.PositionLimiters.{PositionLimiter, position_limiter, allow_position, position_reset}
 use Rattle.indicatif_bar.specs.Progress.{Progress, new_progress, is_finished, elapsed, rate_reset, progress_reset}
 use Rattle.indicatif_bar.specs.Tabs.{has_tab, is_some_text}
 use Rattle.indicatif_bar.specs.Trackers.{Tracking, changed_trackers}
-use Rattle.indicatif_bar.specs.BarStyles.{BarStyle}
+use Rattle.indicatif_bar.specs.Styles.{BarStyle}
 use Rattle.indicatif_bar.specs.declared.command.BarCommand.{BarCommand}
 use Rattle.indicatif_bar.specs.declared.command.BarCommand.TheVariants as told
 use Rattle.indicatif_bar.specs.Finishes.{BarFinish, AndClear, finish_of, finished_by, finish_takes_memory}

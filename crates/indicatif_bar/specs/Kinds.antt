@@ -3,8 +3,8 @@ use Rattle.std.specs.Prelude.{ℕ, Bool, true, false, nat_lt, List, [], ◌++◌
 use Rattle.indicatif_text.specs.declared.refusal.Refusal.{Refusal}
 use Rattle.indicatif_term.specs.Lists.{Lists, BarLines, drawn, logged, cleared}
 use Rattle.indicatif_term.specs.Frames.{all_lines}
-use Rattle.indicatif_bar.specs.declared.state.Ask.{Ask}
-use Rattle.indicatif_bar.specs.declared.state.Ask.TheVariants.{Unforced}
+use Rattle.indicatif_bar.specs.declared.ask.Ask.{Ask}
+use Rattle.indicatif_bar.specs.declared.ask.Ask.TheVariants.{Unforced}
 use Rattle.indicatif_term.specs.Limiters.{Limiter, allow}
 use Rattle.indicatif_bar.specs.Machines.{Target}
 

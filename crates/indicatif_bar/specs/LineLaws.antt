@@ -9,7 +9,7 @@ use Rattle.indicatif_bar.specs.Progress.{Progress, shown_message, shown_prefix}
 use Rattle.indicatif_bar.specs.Trackers.{Tracking}
 use Rattle.indicatif_bar.specs.Layout.{text_columns, cluster}
 use Rattle.indicatif_bar.specs.Keys.{named}
-use Rattle.indicatif_bar.specs.BarStyles.{BarStyle, WideBarOf, wide_part, part_text, is_line_break, lines, is_empty_style}
+use Rattle.indicatif_bar.specs.Styles.{BarStyle, WideBarOf, wide_part, part_text, is_line_break, lines, is_empty_style}
 use Rattle.indicatif_bar.specs.Commands.{BarRecord, SetTabWidth, obeyed}
 use Rattle.indicatif_bar.specs.StyleLaws.{IsPlainText, AreTaken}
 

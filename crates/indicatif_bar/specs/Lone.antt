@@ -7,8 +7,8 @@ use Rattle.indicatif_term.specs.Frames.{text_lines, logged_lines}
 use Rattle.indicatif_term.specs.Limiters.{Limiter}
 use Rattle.indicatif_bar.specs.Machines.{Target, Machine, Draw, Deed, AtOnce, Draws}
 use Rattle.indicatif_bar.specs.Kinds.{Kind, asked_of, Writing, Frame, TextAndFrame, NoFrame, rows_take, lines_to_write, written_lists}
-use Rattle.indicatif_bar.specs.declared.state.Ask.{Ask}
-use Rattle.indicatif_bar.specs.declared.state.Ask.TheVariants.{Forced}
+use Rattle.indicatif_bar.specs.declared.ask.Ask.{Ask}
+use Rattle.indicatif_bar.specs.declared.ask.Ask.TheVariants.{Forced}
 
 -- ---- states
 

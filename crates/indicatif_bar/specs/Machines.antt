@@ -12,8 +12,8 @@ use Rattle.indicatif_term.specs.Calls.{TermView}
 use Rattle.indicatif_term.specs.Lists.{Lists}
 use Rattle.std.specs.List.{list_any}
 use Rattle.indicatif_text.specs.Columns.{has_wide}
-use Rattle.indicatif_bar.specs.declared.state.Ask.{Ask}
-use Rattle.indicatif_bar.specs.declared.state.Ask.TheVariants.{No}
+use Rattle.indicatif_bar.specs.declared.ask.Ask.{Ask}
+use Rattle.indicatif_bar.specs.declared.ask.Ask.TheVariants.{No}
 
 -- ---- where it draws
 

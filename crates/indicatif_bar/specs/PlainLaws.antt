@@ -8,7 +8,7 @@ use Rattle.indicatif_term.specs.Frames.{logged_lines}
 use Rattle.indicatif_bar.specs.Tabs.{expanded}
 use Rattle.indicatif_bar.specs.Progress.{Progress}
 use Rattle.indicatif_bar.specs.Trackers.{Tracking}
-use Rattle.indicatif_bar.specs.BarStyles.{BarStyle}
+use Rattle.indicatif_bar.specs.Styles.{BarStyle}
 use Rattle.indicatif_bar.specs.StyleLaws.{IsPlainText, AreTaken}
 use Rattle.indicatif_bar.specs.Finishes.{BarFinish, WithMessage, AbandonWithMessage}
 use Rattle.indicatif_bar.specs.Commands.{BarRecord, Command, SetMessage, SetPrefix, SetStyle, PutMessage, PutPrefix, PutFinish, FinishBy}

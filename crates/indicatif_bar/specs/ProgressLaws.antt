@@ -1,12 +1,12 @@
 -- What a user would ask of the measures, the texts and the commands of a bar.
 use Rattle.std.specs.Prelude.{◌≡◌, ◌≢◌, ◌↔◌, ◌<◌, ◌≤◌, ℕ, suc, ◌*◌, Option, Some, IsTrue}
-use Rattle.indicatif_bar.specs.declared.state.Ask.TheVariants.{Unforced}
+use Rattle.indicatif_bar.specs.declared.ask.Ask.TheVariants.{Unforced}
 use Rattle.indicatif_bar.specs.declared.measures.Rate.{Rate}
 use Rattle.indicatif_bar.specs.Measures.{greatest_u64, fraction_of, time_for, steps_a_second}
 use Rattle.indicatif_bar.specs.Progress.{Progress, per_sec, eta, duration, fraction, is_finished}
 use Rattle.indicatif_bar.specs.Trackers.{Tracking}
 use Rattle.indicatif_bar.specs.Commands.{BarRecord, Command, obeyed, new_bar}
-use Rattle.indicatif_bar.specs.BarStyles.{BarStyle}
+use Rattle.indicatif_bar.specs.Styles.{BarStyle}
 
 -- a fraction is a part of a whole: its whole is above 0, and its part no more than that
 abbrev pub FractionsAreProper : Type 0

@@ -4,8 +4,8 @@ ghost use Rattle.std.specs.List.{list_all};
 ghost use Rattle.indicatif_term.specs.Frames.{line_text};
 ghost use Rattle.indicatif_bar.specs.Bars.{lines_of_bar, lines_take_memory, is_bar_line};
 
-use crate::bar_state::BarState;
 use crate::spare::SpareLines;
+use crate::state::BarState;
 use crate::tracker::Tracks;
 use indicatif_term::draw_target::LineType;
 use indicatif_text::columns::{Moment, Refusal};

@@ -1,6 +1,6 @@
 //! Worked cases of the definitions: each clause computes.
 ghost use Rattle.std.specs.Prelude.{ℕ};
-ghost use Rattle.indicatif_bar.specs.BarStyles.{BarStyle};
+ghost use Rattle.indicatif_bar.specs.Styles.{BarStyle};
 ghost use Rattle.indicatif_bar.specs.CommandCases.{Fractions, Greatest, Rates, TwelveSteps, RateAndEta, Asks, ResetRates, Ends, ElapsedTimes, TabWidths, Finishes, Resets};
 ghost use Rattle.indicatif_bar.specs.StyleCases.{TrackersCases, WideBarCases, PercentCases, MessageCases, BarCases, TickCases, RateCases, LineCases, EmptyCases, FaultCases};
 ghost use Rattle.indicatif_bar.specs.ScriptCases.{Dragged, ScrolledAway, LogsCut, HiddenSize, Standing};

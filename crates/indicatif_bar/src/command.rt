@@ -1,6 +1,6 @@
 //! What a bar can be told.
-use crate::bar_style::ProgressStyle;
 use crate::finish::ProgressFinish;
+use crate::style::ProgressStyle;
 
 /// What is to be set of a bar's position and length; what is `None` stays.
 ///

@@ -1,11 +1,10 @@
 //! What bars are drawn on, a lone one and those of a board. It is public for boards, whose crate is another: callers have `LoneBar` and
 //! `Board`, which hold a stage each and hand it to nobody.
 ghost use Rattle.std.specs.Prelude.{◌≡◌, ◌⊎◌, ◌≤◌, None, Err, Option, option_map, IsTrue, ◌↔◌, IfOk, IfErr, IfSome, OnErr, false, map, length};
-ghost use Rattle.indicatif_term.specs.Engines.{is_bottom};
 ghost use Rattle.indicatif_term.specs.Frames.{bar_lines};
 ghost use Rattle.indicatif_term.specs.Limiters.{Limiter};
 ghost use Rattle.indicatif_term.specs.Lists.{Lists, opening_lists};
-ghost use Rattle.indicatif_term.specs.Targets.{term_of, limiter_of};
+ghost use Rattle.indicatif_term.specs.DrawTargets.{is_bottom, term_of, limiter_of};
 ghost use Rattle.indicatif_bar.specs.Shown.{PutsFrame};
 ghost use Rattle.indicatif_bar.specs.Stages.{writing_as};
 

@@ -10,7 +10,7 @@ use Rattle.indicatif_term.specs.Frames.{is_fault}
 use Rattle.indicatif_term.specs.Lists.{Lists}
 use Rattle.indicatif_bar.specs.Trackers.{Tracking}
 use Rattle.indicatif_bar.specs.Commands.{BarRecord, Command, is_beyond_clock}
-use Rattle.indicatif_bar.specs.declared.state.Ask.{Ask}
+use Rattle.indicatif_bar.specs.declared.ask.Ask.{Ask}
 use Rattle.indicatif_bar.specs.Machines.{Target, target_of, Draw, Deed, AtOnce, Leads}
 use Rattle.indicatif_bar.specs.Runs.{CallMade, lines_by, wrote}
 use Rattle.indicatif_bar.specs.Shown.{DrewOn, WritesLinesOn}

@@ -7,14 +7,14 @@ use Rattle.indicatif_term.specs.Lists.{Lists, forgotten_lists}
 use Rattle.indicatif_term.specs.Limiters.{Limiter}
 use Rattle.indicatif_term.specs.Frames.{bar_lines}
 use Rattle.indicatif_term.specs.Engines.{engine_term, Fits, Paints, is_failure, lists_after}
-use Rattle.indicatif_term.specs.declared.draw_target.Engine.{Engine}
+use Rattle.indicatif_term.specs.declared.engine.Engine.{Engine}
 use Rattle.indicatif_term.specs.declared.lines.Segment.{Segment}
 use Rattle.indicatif_bar.specs.Trackers.{Tracking}
 use Rattle.indicatif_bar.specs.Commands.{BarRecord}
 use Rattle.indicatif_bar.specs.Machines.{target_of, Draw, is_no}
 use Rattle.indicatif_bar.specs.Kinds.{Writing, asked_of, written_lists}
 use Rattle.indicatif_bar.specs.Shown.{PutsFrame, DrewBy}
-use Rattle.indicatif_bar.specs.declared.state.Ask.{Ask}
+use Rattle.indicatif_bar.specs.declared.ask.Ask.{Ask}
 use Rattle.indicatif_bar.proofs.OutcomeLemmas.{drew, drawn_answer}
 use Rattle.indicatif_board.specs.BoardBars.{board_bars}
 use Rattle.indicatif_board.specs.Members.{leaders, frame_of}

@@ -11,8 +11,8 @@ use Rattle.indicatif_term.specs.declared.draw_target.Keep.TheVariants.{Absent, P
 use Rattle.indicatif_bar.specs.Machines.{Target, Deed}
 use Rattle.indicatif_bar.specs.Runs.{ReadsAfter}
 use Rattle.indicatif_bar.specs.Kinds.{Writing, Frame, TextAndFrame, NoFrame}
-use Rattle.indicatif_bar.specs.declared.state.Ask.{Ask}
-use Rattle.indicatif_bar.specs.declared.state.Ask.TheVariants.{No, Forced}
+use Rattle.indicatif_bar.specs.declared.ask.Ask.{Ask}
+use Rattle.indicatif_bar.specs.declared.ask.Ask.TheVariants.{No, Forced}
 use Rattle.indicatif_bar.proofs.SoundRunLemmas.{DrawsSoundly, GoesSoundly, sound_read_after}
 use Rattle.indicatif_bar.proofs.LoneRunLemmas.{written_soundly}
 use Rattle.indicatif_board.specs.Members.{is_member, is_head, without, said_of, leaders, frame_of}

@@ -17,8 +17,8 @@ use Rattle.indicatif_bar.specs.Progress.{is_finished}
 use Rattle.indicatif_bar.specs.Trackers.{Tracking}
 use Rattle.indicatif_bar.specs.Commands.{BarRecord, Command, finish, after_drop}
 use Rattle.indicatif_bar.specs.PlainLaws.{ArePlainTrackers, IsPlainBar, IsPlainCommand}
-use Rattle.indicatif_bar.specs.declared.state.Ask.{Ask}
-use Rattle.indicatif_bar.specs.declared.state.Ask.TheVariants.{No, Forced}
+use Rattle.indicatif_bar.specs.declared.ask.Ask.{Ask}
+use Rattle.indicatif_bar.specs.declared.ask.Ask.TheVariants.{No, Forced}
 use Rattle.indicatif_bar.proofs.PlainTextLemmas.{plain_lines_are_asked}
 use Rattle.indicatif_bar.proofs.PreservingLemmas.{IsPreserved}
 use Rattle.indicatif_bar.proofs.PlainRunLemmas.{runs_plain, ArePlainFrames, IsPlainWriting, written_plain, dropped_all, KeepsPlain, bars_keep_plain, finished_plain}

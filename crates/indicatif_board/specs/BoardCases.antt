@@ -10,8 +10,8 @@ use Rattle.indicatif_bar.specs.Says.{TakesMemory}
 use Rattle.indicatif_bar.specs.Cases.{terminal_of_size, nowhere, rows_of_lines, bar_saying, untracked as no_trackers}
 use Rattle.indicatif_bar.specs.Finishes.{AndLeave}
 use Rattle.indicatif_bar.specs.Commands.{BarRecord, Command, Tick, SetElapsed, PutFinish}
-use Rattle.indicatif_bar.specs.declared.state.Ask.{Ask}
-use Rattle.indicatif_bar.specs.declared.state.Ask.TheVariants.{No, Unforced, Forced}
+use Rattle.indicatif_bar.specs.declared.ask.Ask.{Ask}
+use Rattle.indicatif_bar.specs.declared.ask.Ask.TheVariants.{No, Unforced, Forced}
 use Rattle.indicatif_board.specs.BoardBars.{board_bars}
 use Rattle.indicatif_board.specs.Members.{order_of, Member}
 use Rattle.indicatif_board.specs.Boards.{BoardKind, BoardState, opening_board, Id, End, Index, FromBack, Before, After, New, Old, Call, Insert, Remove, Drop, Log, BarLog, Clear, Redraw, Align, Tell, Answer, Given, Done, Drew, Refused, board}

@@ -1,7 +1,7 @@
 -- The bars of a board as they are shown: their members, numbers and lines stand as a state says.
 use Rattle.std.specs.Prelude.{◌≡◌, ℕ, Bool, IsTrue, ◌==◌, List, ◌∷◌, map, Option, Some, None, is_some, if◌then◌else◌}
 use Rattle.indicatif_term.specs.Frames.{bar_lines}
-use Rattle.indicatif_term.specs.Engines.{is_bottom}
+use Rattle.indicatif_term.specs.DrawTargets.{is_bottom}
 use Rattle.indicatif_term.specs.declared.lines.Segment.{Segment}
 use Rattle.indicatif_bar.specs.Commands.{BarRecord}
 use Rattle.indicatif_board.specs.Members.{frame_of}

@@ -1,35 +1,39 @@
 //! A board: several bars on one target, in an order.
-ghost use Rattle.std.specs.Prelude.{◌≡◌, ◌≢◌, ◌==◌, ◌↔◌, ◌⊎◌, ◌<◌, ◌≤◌, ◌∷◌, [], ℕ, Bool, Option, Some, None, Ok, Err, is_some, true, false, option_map, IsTrue, IsFalse, IfOk, IfErr, IfSome, MatchResult, MatchOption, map, OnErr, is_ok, vec_len, if◌then◌else◌};
-ghost use Rattle.std.specs.List.{list_any};
+//!
+//! What it is and how it draws stands here. Beside it, all private:
+//!
+//! - `insertions`: how bars come into the order; `leaving`: how they leave it.
+//! - `runs`: its calls as values, one or a list.
+ghost use Rattle.std.specs.Prelude.{◌≡◌, ◌≢◌, ◌==◌, ◌↔◌, ◌⊎◌, ◌<◌, ◌∷◌, [], ℕ, Bool, Option, Some, None, Ok, Err, is_some, false, option_map, IsTrue, IsFalse, IfOk, IfErr, IfSome, MatchResult, OnErr, if◌then◌else◌};
 ghost use Rattle.std.specs.VecDeque.{deque_len};
-ghost use Rattle.indicatif_term.specs.Engines.{is_bottom, engine_term, Fits};
-ghost use Rattle.indicatif_term.specs.Lists.{fate, kept_of, opening_lists};
-ghost use Rattle.indicatif_term.specs.Targets.{term_of, limiter_of};
+ghost use Rattle.indicatif_term.specs.Lists.{opening_lists};
+ghost use Rattle.indicatif_term.specs.DrawTargets.{is_bottom, term_of, limiter_of};
 ghost use Rattle.indicatif_bar.specs.Commands.{BarRecord, command_of, is_beyond_clock};
-ghost use Rattle.indicatif_bar.specs.Machines.{Target, Leads, is_no, target_of};
-ghost use Rattle.indicatif_bar.specs.Runs.{wrote, Runs, Headline};
+ghost use Rattle.indicatif_bar.specs.Machines.{target_of};
+ghost use Rattle.indicatif_bar.specs.Runs.{wrote};
 ghost use Rattle.indicatif_bar.specs.Shown.{DrewOn};
 ghost use Rattle.indicatif_bar.specs.Stages.{writing_as};
 ghost use Rattle.indicatif_board.specs.BoardBars.{board_bars};
-ghost use Rattle.indicatif_board.specs.Boards.{BoardState, Tell, Log, BarLog, Clear, Redraw, Align, Insert, Remove, Drop, Location, End, Index, FromBack, Before, After, Done, opening_board, says, drawn_of, index_of, inserted, turned_away, draw_of, board};
+ghost use Rattle.indicatif_board.specs.Boards.{BoardState, Tell, Log, BarLog, Clear, Redraw, Align, Done, opening_board, says, turned_away, draw_of, board};
 ghost use Rattle.indicatif_board.specs.BoardValues.{id_of};
-ghost use Rattle.indicatif_board.specs.Members.{is_member, order_of, said_of};
+ghost use Rattle.indicatif_board.specs.Members.{order_of, said_of};
 ghost use Rattle.indicatif_board.specs.Slots.{slot_of, occurrences, IsSeated};
-ghost use Rattle.indicatif_board.specs.Recorded.{handed_back};
 ghost use Rattle.indicatif_board.specs.Inside.Named.{HasPlace, named_laid_out, named_layout_takes};
-ghost use Rattle.indicatif_board.specs.Inside.Parting.{parted, RestsOn};
 ghost use Rattle.indicatif_board.specs.Inside.Standing.{is_of_draw, StandsAt};
+
+mod insertions;
+mod leaving;
+mod runs;
 
 pub use crate::bar_id::BarId;
 pub use crate::calls::{Answer, Call, Candidate, InsertLocation, Turned};
-use crate::calls::{draw_answer, insertion_answer, is_undisturbed, removal_answer};
 pub use crate::recorded::{Entry, Opening, Recorded, Size};
 use crate::shown_bars::ShownBars;
 pub use crate::slots::MultiState;
 use indicatif_bar::stage::{Stage, Writing};
 use indicatif_bar::state::{Ask, BarCommand, BarState};
 use indicatif_bar::style::Tracks;
-use indicatif_term::draw_target::{Keep, MultiProgressAlignment, ProgressDrawTarget};
+use indicatif_term::draw_target::{MultiProgressAlignment, ProgressDrawTarget};
 use indicatif_term::term_like::{Resize, TermLike};
 use indicatif_text::columns::{Drawn, Moment, Refusal};
 use std::alloc::Global;
@@ -60,9 +64,8 @@ pub struct Board<K, T: Drop> {
 }
 
 impl<K: Tracks, T: TermLike + Drop> Board<K, T> {
-    ghost use Rattle.indicatif_board.specs.Calls.{entrant_of, given, removal, answer_of, place_at, call_of, timed, IsForeign, NamesForeign, AreTurnedAway, acts_on};
-    ghost use Rattle.indicatif_board.specs.Multi.{IsIn, IsNowhere, IsAbsent, EntersAbsent, TurnsAway, AllStays, board_id_of, record_at, seat_in, RecordsStay, OtherRecordsStay, RecordObeys, RecordsTake, SlotsTake, SlotsGive};
-    ghost use Rattle.indicatif_board.specs.Multi.{SlotsLeft, SlotsChange, HeadHasRecord, KeepsSlot, RecordsChange, StaysOrComes, LeadsBy, Suspends, known, moves_of, slots_of, terminal_of};
+    ghost use Rattle.indicatif_board.specs.Multi.{IsIn, IsNowhere, AllStays, board_id_of, record_at, RecordsStay, OtherRecordsStay, RecordObeys};
+    ghost use Rattle.indicatif_board.specs.Multi.{SlotsLeft, HeadHasRecord, LeadsBy, Suspends, known, moves_of, slots_of, terminal_of};
 
     /// A board without bars on this target, of this id. It takes no memory and writes nothing.
     pub fn new(alloc: Global, target: ProgressDrawTarget<T>, board_id: u64) -> Self
@@ -177,188 +180,6 @@ impl<K: Tracks, T: TermLike + Drop> Board<K, T> {
         ensures records { RecordsStay self.old self.new }
     {
         self.shown.alignment = alignment;
-    }
-
-    /// Takes a bar in behind all others. One that is there already stays where it is.
-    ///
-    /// Refused, with the candidate handed back and nothing changed: `ForeignBar` or `NotMember` for a bar that is not this board's; `Memory`,
-    /// also where numbers ran out past 2^64 - 1.
-    pub fn add(&mut self, candidate: Candidate<K>) -> Result<BarId, Turned<K>>
-        ensures terminal { terminal_of self.new ≡ terminal_of self.old }
-        ensures board_id { board_id_of self.new ≡ board_id_of self.old }
-        ensures turned { IfErr result (λ t. t.candidate ≡ candidate) }
-        ensures quiet { IsFalse (wrote (drawn_of (given result))) }
-        ensures leads { (now : ℕ) → LeadsBy K.means T.view self.old self.new (Insert End (entrant_of candidate)) now (given result) }
-        ensures foreign { NamesForeign (board_id_of self.old) (Insert End (entrant_of candidate)) → TurnsAway Refusal.ForeignBar (given result) self.old self.new }
-        ensures not_member { EntersAbsent self.old (entrant_of candidate) → TurnsAway Refusal.NotMember (given result) self.old self.new }
-        ensures records { RecordsTake (entrant_of candidate) (given result) self.old self.new }
-        ensures slot { SlotsTake End (entrant_of candidate) (given result) self.old self.new }
-    {
-        let at = self.shown.members.len();
-        self.insert_at(at, candidate)
-    }
-
-    /// Takes a bar in where `index` bars stand before it, or behind all others where there are fewer. One that is there already stays.
-    ///
-    /// Refused, with the candidate handed back and nothing changed: `ForeignBar` or `NotMember` for a bar that is not this board's; `Memory`,
-    /// also where numbers ran out past 2^64 - 1.
-    pub fn insert(&mut self, index: usize, candidate: Candidate<K>) -> Result<BarId, Turned<K>>
-        ensures terminal { terminal_of self.new ≡ terminal_of self.old }
-        ensures board_id { board_id_of self.new ≡ board_id_of self.old }
-        ensures turned { IfErr result (λ t. t.candidate ≡ candidate) }
-        ensures quiet { IsFalse (wrote (drawn_of (given result))) }
-        ensures leads { (now : ℕ) → LeadsBy K.means T.view self.old self.new (Insert (Index index) (entrant_of candidate)) now (given result) }
-        ensures foreign { NamesForeign (board_id_of self.old) (Insert (Index index) (entrant_of candidate)) → TurnsAway Refusal.ForeignBar (given result) self.old self.new }
-        ensures not_member { EntersAbsent self.old (entrant_of candidate) → TurnsAway Refusal.NotMember (given result) self.old self.new }
-        ensures records { RecordsTake (entrant_of candidate) (given result) self.old self.new }
-        ensures slot { SlotsTake (Index index) (entrant_of candidate) (given result) self.old self.new }
-    {
-        let at = index.min(self.shown.members.len());
-        self.insert_at(at, candidate)
-    }
-
-    /// Takes a bar in where `count` bars stand behind it, or before all others where there are fewer. One that is there already stays.
-    ///
-    /// Refused, with the candidate handed back and nothing changed: `ForeignBar` or `NotMember` for a bar that is not this board's; `Memory`,
-    /// also where numbers ran out past 2^64 - 1.
-    pub fn insert_from_back(
-        &mut self,
-        count: usize,
-        candidate: Candidate<K>,
-    ) -> Result<BarId, Turned<K>>
-        ensures terminal { terminal_of self.new ≡ terminal_of self.old }
-        ensures board_id { board_id_of self.new ≡ board_id_of self.old }
-        ensures turned { IfErr result (λ t. t.candidate ≡ candidate) }
-        ensures quiet { IsFalse (wrote (drawn_of (given result))) }
-        ensures leads { (now : ℕ) → LeadsBy K.means T.view self.old self.new (Insert (FromBack count) (entrant_of candidate)) now (given result) }
-        ensures foreign { NamesForeign (board_id_of self.old) (Insert (FromBack count) (entrant_of candidate)) → TurnsAway Refusal.ForeignBar (given result) self.old self.new }
-        ensures not_member { EntersAbsent self.old (entrant_of candidate) → TurnsAway Refusal.NotMember (given result) self.old self.new }
-        ensures records { RecordsTake (entrant_of candidate) (given result) self.old self.new }
-        ensures slot { SlotsTake (FromBack count) (entrant_of candidate) (given result) self.old self.new }
-    {
-        let at = self.shown.members.len().saturating_sub(count);
-        self.insert_at(at, candidate)
-    }
-
-    /// Takes a bar in right before the anchor. One that is there already stays where it is.
-    ///
-    /// Refused, with the candidate handed back and nothing changed: `ForeignBar` or `NotMember` for the anchor, then for a bar that is not this
-    /// board's; `Memory`, also where numbers ran out past 2^64 - 1.
-    pub fn insert_before(
-        &mut self,
-        anchor: BarId,
-        candidate: Candidate<K>,
-    ) -> Result<BarId, Turned<K>>
-        ensures terminal { terminal_of self.new ≡ terminal_of self.old }
-        ensures board_id { board_id_of self.new ≡ board_id_of self.old }
-        ensures turned { IfErr result (λ t. t.candidate ≡ candidate) }
-        ensures quiet { IsFalse (wrote (drawn_of (given result))) }
-        ensures leads { (now : ℕ) → LeadsBy K.means T.view self.old self.new (Insert (Before (id_of anchor)) (entrant_of candidate)) now (given result) }
-        ensures foreign { NamesForeign (board_id_of self.old) (Insert (Before (id_of anchor)) (entrant_of candidate)) → TurnsAway Refusal.ForeignBar (given result) self.old self.new }
-        ensures not_member { IsAbsent self.old (id_of anchor) → TurnsAway Refusal.NotMember (given result) self.old self.new }
-        ensures beside { IsTrue (is_some (record_at anchor.number self.old)) → IsForeign (board_id_of self.old) (entrant_of candidate) →
-            TurnsAway Refusal.ForeignBar (given result) self.old self.new }
-        ensures absent { anchor.board ≡ board_id_of self.old → IsTrue (is_some (record_at anchor.number self.old)) → EntersAbsent self.old (entrant_of candidate) →
-            TurnsAway Refusal.NotMember (given result) self.old self.new }
-        ensures records { RecordsTake (entrant_of candidate) (given result) self.old self.new }
-        ensures slot { SlotsTake (Before (id_of anchor)) (entrant_of candidate) (given result) self.old self.new }
-    {
-        let at = match self.find(anchor) {
-            Ok(at) => at,
-            Err(refusal) => return Err(Turned { candidate, refusal }),
-        };
-        self.insert_at(at, candidate)
-    }
-
-    /// Takes a bar in right after the anchor. One that is there already stays where it is.
-    ///
-    /// Refused, with the candidate handed back and nothing changed: `ForeignBar` or `NotMember` for the anchor, then for a bar that is not this
-    /// board's; `Memory`, also where numbers ran out past 2^64 - 1.
-    pub fn insert_after(
-        &mut self,
-        anchor: BarId,
-        candidate: Candidate<K>,
-    ) -> Result<BarId, Turned<K>>
-        ensures terminal { terminal_of self.new ≡ terminal_of self.old }
-        ensures board_id { board_id_of self.new ≡ board_id_of self.old }
-        ensures turned { IfErr result (λ t. t.candidate ≡ candidate) }
-        ensures quiet { IsFalse (wrote (drawn_of (given result))) }
-        ensures leads { (now : ℕ) → LeadsBy K.means T.view self.old self.new (Insert (After (id_of anchor)) (entrant_of candidate)) now (given result) }
-        ensures foreign { NamesForeign (board_id_of self.old) (Insert (After (id_of anchor)) (entrant_of candidate)) → TurnsAway Refusal.ForeignBar (given result) self.old self.new }
-        ensures not_member { IsAbsent self.old (id_of anchor) → TurnsAway Refusal.NotMember (given result) self.old self.new }
-        ensures beside { IsTrue (is_some (record_at anchor.number self.old)) → IsForeign (board_id_of self.old) (entrant_of candidate) →
-            TurnsAway Refusal.ForeignBar (given result) self.old self.new }
-        ensures absent { anchor.board ≡ board_id_of self.old → IsTrue (is_some (record_at anchor.number self.old)) → EntersAbsent self.old (entrant_of candidate) →
-            TurnsAway Refusal.NotMember (given result) self.old self.new }
-        ensures records { RecordsTake (entrant_of candidate) (given result) self.old self.new }
-        ensures slot { SlotsTake (After (id_of anchor)) (entrant_of candidate) (given result) self.old self.new }
-    {
-        let at = match self.find(anchor) {
-            Ok(at) => at,
-            Err(refusal) => return Err(Turned { candidate, refusal }),
-        };
-        self.insert_at(at + 1, candidate)
-    }
-
-    /// Takes a bar out of the order and hands it back; `None` where it was removed, dropped or never given. What it shows stays
-    /// until the next draw.
-    ///
-    /// Refused: `ForeignBar`, exactly where the bar has another board's id.
-    pub fn remove(&mut self, id: BarId) -> Result<Option<BarState<K>>, Refusal>
-        ensures terminal { terminal_of self.new ≡ terminal_of self.old }
-        ensures board_id { board_id_of self.new ≡ board_id_of self.old }
-        ensures quiet { IsFalse (wrote (drawn_of (removal result))) }
-        ensures leads { (now : ℕ) → LeadsBy K.means T.view self.old self.new (Remove (id_of id)) now (removal result) }
-        ensures foreign { id.board ≢ board_id_of self.old → (result ≡ Err Refusal.ForeignBar) × (self.new ≡ self.old) }
-        ensures bar { (board_id : ℕ) (s : BoardState (BarRecord K)) (other : BarRecord K) → IsIn board_id self.old s →
-            IfOk result (λ bar. bar ≡ (if is_member id.number s.members then Some (said_of other (λ b. b) id.number s.members) else None)) }
-        ensures record { id.board ≡ board_id_of self.old → result ≡ Ok (record_at id.number self.old) }
-        ensures gone { id.board ≡ board_id_of self.old → record_at id.number self.new ≡ None }
-        ensures slots { IfOk result (λ bar. SlotsGive bar self.old self.new) }
-        ensures others { OtherRecordsStay id.number self.old self.new }
-    {
-        if id.board != self.board_id {
-            return Err(Refusal::ForeignBar);
-        }
-        match self.find(id) {
-            Ok(at) => Ok(Some(self.shown.take_out(at))),
-            Err(_) => Ok(None),
-        }
-    }
-
-    /// A bar whose owner is gone: one that isn't finished is finished by its stored finish and drawn by force. Then it leaves the
-    /// order, if it is the first there and no other bar's rows stand before its own: its rows stay where they are until a text, a
-    /// clear or a suspend takes them back. Else it waits, ownerless, and leaves with the draw that finds only bars like it before it.
-    /// From now on no call may name it.
-    ///
-    /// Refused: `ForeignBar`, `NotMember`, `NoColumns`, `TooWide`, `Terminal` or `Memory`, as `Board` says. After `Terminal` or
-    /// `Memory` the bar is ownerless and waits, also where it is the first: it is as it was where its finish's own text found no memory,
-    /// and finished where its lines found none. After `NoColumns` or `TooWide` it has left or is ownerless, as if it had been drawn.
-    pub fn drop_bar(&mut self, id: BarId, now: Moment) -> Result<Drawn, Refusal>
-        ensures silent { IsFalse (wrote result) → terminal_of self.new ≡ terminal_of self.old }
-        ensures nowhere { IsNowhere T.view self.old → IsFalse (wrote result) }
-        ensures board_id { board_id_of self.new ≡ board_id_of self.old }
-        ensures leads { LeadsBy K.means T.view self.old self.new (Drop (id_of id)) now (says result) }
-        ensures foreign { id.board ≢ board_id_of self.old → (result ≡ Err Refusal.ForeignBar) × (self.new ≡ self.old) }
-        ensures not_member { id.board ≡ board_id_of self.old → (result ≡ Err Refusal.NotMember) ↔ (record_at id.number self.old ≡ None) }
-        ensures unchanged { result ≡ Err Refusal.NotMember → self.new ≡ self.old }
-        ensures gone { id.board ≡ board_id_of self.old → record_at id.number self.new ≡ None }
-        ensures slots { SlotsLeft self.old self.new }
-        ensures others { OtherRecordsStay id.number self.old self.new }
-    {
-        let at = self.find(id)?;
-        let shown = &mut self.shown;
-        match shown.members[at].lose_owner(now) {
-            Ok(ask) => {
-                let drawn = self.draw(ask, Some(at), Writing::Frame, now);
-                self.part(id.number, &drawn);
-                drawn
-            }
-            Err(refusal) => {
-                self.shown.set_ownerless(id.number);
-                Err(refusal)
-            }
-        }
     }
 
     /// A command of a bar, and the draw that it asks for.
@@ -485,194 +306,6 @@ impl<K: Tracks, T: TermLike + Drop> Board<K, T> {
                 (value, drawn)
             }
             Err(e) => (value, Err(e)),
-        }
-    }
-
-    /// A call as a value: what the method that `Call` names does and refuses. Beside the answer it hands back the bar that was removed,
-    /// or the new one that was turned away.
-    ///
-    /// ```
-    /// let (answer, removed) = board.apply(Call::Remove(id), now); // Answer::Done, and the bar
-    /// ```
-    #[inline(always)]
-    pub fn apply(&mut self, call: Call<K>, now: Moment) -> (Answer, Option<BarState<K>>)
-        ensures silent { IsFalse (wrote (drawn_of (answer_of result.0))) → terminal_of self.new ≡ terminal_of self.old }
-        ensures nowhere { IsNowhere T.view self.old → IsFalse (wrote (drawn_of (answer_of result.0))) }
-        ensures board_id { board_id_of self.new ≡ board_id_of self.old }
-        ensures leads { LeadsBy K.means T.view self.old self.new (call_of call) now (answer_of result.0) }
-        ensures foreign { NamesForeign (board_id_of self.old) (call_of call) → TurnsAway Refusal.ForeignBar (answer_of result.0) self.old self.new }
-        ensures slots { SlotsChange (call_of call) (answer_of result.0) self.old self.new }
-        ensures records { RecordsChange K.means (call_of call) now (answer_of result.0) self.old self.new }
-        ensures back { (board_id : ℕ) (s : BoardState (BarRecord K)) (other : BarRecord K) → IsIn board_id self.old s →
-            result.1 ≡ handed_back (call_of call) (answer_of result.0) other s.members }
-    {
-        match call {
-            Call::Insert { at, candidate } => insertion_answer(self.insert_by(at, candidate)),
-            Call::Remove(id) => removal_answer(self.remove(id)),
-            Call::Drop(id) => (draw_answer(self.drop_bar(id, now)), None),
-            Call::Log(text) => (draw_answer(self.println(text.as_str(), now)), None),
-            Call::BarLog(id, text) => (draw_answer(self.bar_println(id, text.as_str(), now)), None),
-            Call::Clear => (draw_answer(self.clear(now)), None),
-            Call::Redraw => (draw_answer(self.redraw(now)), None),
-            Call::Align(alignment) => {
-                self.set_alignment(alignment);
-                (Answer::Done, None)
-            }
-            Call::Bar(id, command) => (draw_answer(self.command(id, command, now)), None),
-        }
-    }
-
-    /// As `apply`. A bar that is removed or turned away is given up.
-    pub fn call(&mut self, call: Call<K>, now: Moment) -> Answer
-        ensures silent { IsFalse (wrote (drawn_of (answer_of result))) → terminal_of self.new ≡ terminal_of self.old }
-        ensures nowhere { IsNowhere T.view self.old → IsFalse (wrote (drawn_of (answer_of result))) }
-        ensures board_id { board_id_of self.new ≡ board_id_of self.old }
-        ensures leads { LeadsBy K.means T.view self.old self.new (call_of call) now (answer_of result) }
-        ensures foreign { NamesForeign (board_id_of self.old) (call_of call) → TurnsAway Refusal.ForeignBar (answer_of result) self.old self.new }
-        ensures slots { SlotsChange (call_of call) (answer_of result) self.old self.new }
-        ensures records { RecordsChange K.means (call_of call) now (answer_of result) self.old self.new }
-    {
-        self.apply(call, now).0
-    }
-
-    /// Makes the calls one after another, each at its moment, and answers what each answered. No calls change nothing, and are never
-    /// refused. A call that names another board's bar (of an insertion beside an anchor, that anchor) is answered `ForeignBar`, and
-    /// changes nothing. A bar that none of the calls removes, drops or tells something keeps its record. Each bar keeps its slot as
-    /// long as it stands in the order. Bars that are removed or turned away are given up.
-    ///
-    /// Refused: `Memory` for the answers alone, and nothing is run; the calls are given up.
-    pub fn run(&mut self, calls: Vec<(Call<K>, Moment)>) -> Result<Vec<Answer>, Refusal>
-        ensures run { (board_id : ℕ) (s : BoardState (BarRecord K)) → IsIn board_id self.old s →
-            let old = known T.view self.old in let new = known T.view self.new in
-            IfOk result (λ answers. (next : BoardState (BarRecord K)) × IsIn board_id self.new next
-            × (run : Runs (board (board_bars K.means) board_id) (map timed calls.items) (map answer_of answers.items) old s new next)
-            × Headline (board (board_bars K.means) board_id) (map timed calls.items) (map answer_of answers.items) old s new next run) }
-        ensures count { IfOk result (λ answers. vec_len answers ≡ vec_len calls) }
-        ensures silent { IfOk result (λ answers. IsFalse (list_any (λ answer. wrote (drawn_of (answer_of answer))) answers.items) →
-            terminal_of self.new ≡ terminal_of self.old) }
-        ensures nowhere { IfOk result (λ answers. IsNowhere T.view self.old →
-            IsFalse (list_any (λ answer. wrote (drawn_of (answer_of answer))) answers.items)) }
-        ensures board_id { board_id_of self.new ≡ board_id_of self.old }
-        ensures foreign { IfOk result (λ answers. AreTurnedAway (board_id_of self.old) (map timed calls.items) (map answer_of answers.items)) }
-        ensures records { (number : ℕ) → IsFalse (list_any (λ call. acts_on (board_id_of self.old) number (call_of call.0)) calls.items) →
-            IfOk result (λ answers. StaysOrComes number answers.items self.old self.new) }
-        ensures slots { (number slot : ℕ) → slot_of number (slots_of self.old) ≡ Some slot → KeepsSlot number slot self.new }
-        ensures idle { vec_len calls ≡ 0 → IsTrue (is_ok result) × (self.new ≡ self.old) }
-        ensures memory { IfErr result (λ e. e ≡ Refusal.Memory) }
-        ensures unrun { OnErr result (self.new ≡ self.old) }
-    {
-        let alloc = self.shown.alloc;
-        if calls.is_empty() {
-            return Ok(Vec::new(alloc));
-        }
-        let mut answers = Vec::with_capacity(alloc, calls.len())?;
-        self.order();
-        for (call, now) in calls {
-            self.order();
-            let answer = self.call(call, now);
-            answers.push_reserved(answer);
-        }
-        Ok(answers)
-    }
-
-    /// Takes a bar in at a place.
-    fn insert_by(&mut self, at: InsertLocation, candidate: Candidate<K>) -> Result<BarId, Turned<K>>
-        ensures terminal { terminal_of self.new ≡ terminal_of self.old }
-        ensures board_id { board_id_of self.new ≡ board_id_of self.old }
-        ensures turned { IfErr result (λ t. t.candidate ≡ candidate) }
-        ensures quiet { IsFalse (wrote (drawn_of (given result))) }
-        ensures leads { (now : ℕ) → LeadsBy K.means T.view self.old self.new (Insert (place_at at) (entrant_of candidate)) now (given result) }
-        ensures foreign { NamesForeign (board_id_of self.old) (Insert (place_at at) (entrant_of candidate)) → TurnsAway Refusal.ForeignBar (given result) self.old self.new }
-        ensures slot { SlotsTake (place_at at) (entrant_of candidate) (given result) self.old self.new }
-        ensures records { RecordsTake (entrant_of candidate) (given result) self.old self.new }
-    {
-        match at {
-            InsertLocation::End => self.add(candidate),
-            InsertLocation::Index(index) => self.insert(index, candidate),
-            InsertLocation::FromBack(count) => self.insert_from_back(count, candidate),
-            InsertLocation::Before(anchor) => self.insert_before(anchor, candidate),
-            InsertLocation::After(anchor) => self.insert_after(anchor, candidate),
-        }
-    }
-
-    /// Takes a bar in where so many bars stand before it.
-    fn insert_at(&mut self, at: usize, candidate: Candidate<K>) -> Result<BarId, Turned<K>>
-        requires within { at ≤ deque_len self.old.shown.members }
-        ensures terminal { terminal_of self.new ≡ terminal_of self.old }
-        ensures board_id { board_id_of self.new ≡ board_id_of self.old }
-        ensures turned { IfErr result (λ t. t.candidate ≡ candidate) }
-        ensures quiet { IsFalse (wrote (drawn_of (given result))) }
-        ensures foreign { IsForeign (board_id_of self.old) (entrant_of candidate) → TurnsAway Refusal.ForeignBar (given result) self.old self.new }
-        ensures not_member { EntersAbsent self.old (entrant_of candidate) → TurnsAway Refusal.NotMember (given result) self.old self.new }
-        ensures records { RecordsTake (entrant_of candidate) (given result) self.old self.new }
-        ensures slot { (spot : Location) → at ≡ seat_in spot (slots_of self.old).order → SlotsTake spot (entrant_of candidate) (given result) self.old self.new }
-        ensures inserted { (board_id : ℕ) (s : BoardState (BarRecord K)) (spot : Location) → IsIn board_id self.old s → at ≡ index_of spot s.members →
-            (next : BoardState (BarRecord K)) × IsIn board_id self.new next × (next.lists ≡ s.lists)
-            × ((target : Target) → Leads (board (board_bars K.means) board_id) target s (inserted board_id spot (entrant_of candidate) s) (given result) next) }
-    {
-        match candidate {
-            Candidate::Member(id) => match self.find(id) {
-                Ok(_) => Ok(id),
-                Err(refusal) => {
-                    let candidate = Candidate::Member(id);
-                    Err(Turned { candidate, refusal })
-                }
-            },
-            Candidate::New(bar) => match self.shown.take_in(at, bar) {
-                Ok(number) => {
-                    let board = self.board_id;
-                    Ok(BarId { board, number })
-                }
-                Err(bar) => {
-                    let candidate = Candidate::New(bar);
-                    let refusal = Refusal::Memory;
-                    Err(Turned { candidate, refusal })
-                }
-            },
-        }
-    }
-
-    /// A bar leaves or is ownerless, once it was drawn for the last time, or that draw was refused so.
-    fn part(&mut self, number: u64, drawn: &Result<Drawn, Refusal>)
-        ensures terminal { terminal_of self.new ≡ terminal_of self.old }
-        ensures board_id { board_id_of self.new ≡ board_id_of self.old }
-        ensures parted { (board_id : ℕ) (s : BoardState (BarRecord K)) → IsIn board_id self.old s →
-            let target = target_of (known T.view self.old) in
-            let next = parted target number drawn.now s in
-            IsIn board_id self.new next × RestsOn target.columns s.lists next.lists }
-        ensures slots { SlotsLeft self.old self.new }
-        ensures gone { record_at number self.new ≡ None }
-        ensures others { OtherRecordsStay number self.old self.new }
-    {
-        if !is_undisturbed(drawn) {
-            self.shown.set_ownerless(number);
-            return;
-        }
-        if !self.shown.is_first(number) {
-            self.shown.set_ownerless(number);
-            return;
-        }
-        match self.keep(number) {
-            Keep::Behind => self.shown.set_ownerless(number),
-            Keep::Absent | Keep::Passed => {
-                self.shown.take_out(0);
-            }
-        }
-    }
-
-    /// A bar's rows are kept, if they are the first that are live.
-    fn keep(&mut self, number: u64) -> Keep
-        ensures shown { self.new.shown ≡ self.old.shown }
-        ensures terminal { terminal_of self.new ≡ terminal_of self.old }
-        ensures board_id { board_id_of self.new ≡ board_id_of self.old }
-        ensures kept { (board_id : ℕ) (s : BoardState (BarRecord K)) → IsIn board_id self.old s →
-            let columns = (target_of (known T.view self.old)).columns in
-            let lists = kept_of columns number s.lists in
-            (result ≡ fate number s.lists) × IsIn board_id self.new (record s { lists = lists }) × RestsOn columns s.lists lists }
-    {
-        match &mut self.stage.engine {
-            Some(engine) => engine.keep(number),
-            None => Keep::Absent,
         }
     }
 

@@ -1,7 +1,7 @@
 //! A board with its history.
 ghost use Rattle.std.specs.Prelude.{◌≡◌, ◌⊎◌, ℕ, Option, [], map, option_map, IfErr};
 ghost use Rattle.indicatif_term.specs.Limiters.{Limiter};
-ghost use Rattle.indicatif_term.specs.Targets.{term_of, limiter_of};
+ghost use Rattle.indicatif_term.specs.DrawTargets.{term_of, limiter_of};
 ghost use Rattle.indicatif_bar.specs.Commands.{BarRecord};
 ghost use Rattle.indicatif_bar.specs.Machines.{target_of};
 ghost use Rattle.indicatif_board.specs.Boards.{BoardState, Refused};

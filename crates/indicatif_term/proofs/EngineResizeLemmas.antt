@@ -12,7 +12,7 @@ use Rattle.indicatif_term.specs.Standing.{texts, standing_rows, AreLines}
 use Rattle.indicatif_term.specs.Resizes.{recut, recut_all, recut_lists, settled_whole, resized_lists}
 use Rattle.indicatif_term.specs.Inside.Recutting.{row_heights, IsShownCut, HasMore, cut_lines, shown_lines}
 use Rattle.indicatif_term.specs.Engines.{Fits}
-use Rattle.indicatif_term.specs.declared.draw_target.Engine.{Engine}
+use Rattle.indicatif_term.specs.declared.engine.Engine.{Engine}
 use Rattle.indicatif_term.specs.declared.counts.Counts.{Counts}
 use Rattle.indicatif_term.specs.declared.remembered.Remembered.{Remembered}
 use Rattle.indicatif_term.specs.declared.recutting.CutLines.{CutLines}

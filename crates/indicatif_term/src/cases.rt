@@ -12,7 +12,7 @@ ghost use Rattle.indicatif_term.specs.Cases.{LongLine, ThreeOnTwo, LogAbove, AtT
 ghost use Rattle.indicatif_term.specs.Resizes.{resized_terminal};
 ghost use Rattle.indicatif_term.specs.ResizeCases.{fed, picture_at, cursor_at, NotJoined, LiveRowsScrollAway, LogIsCut, RowsBelowDropped, ReachedBelow, KeptRowsScrollAway};
 ghost use Rattle.indicatif_term.specs.Inside.Recutting.{piece_text, texts_then, cut_counts, counts_after};
-ghost use Rattle.indicatif_term.specs.Targets.{is_dumb};
+ghost use Rattle.indicatif_term.specs.DrawTargets.{is_dumb};
 ghost use Rattle.indicatif_term.specs.LimiterCases.{TwentyAtOnce, WholeMilliseconds, NoMoreInHand, NoneBefore};
 
 /// The bytes of calls.

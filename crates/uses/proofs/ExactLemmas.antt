@@ -11,8 +11,8 @@ use Rattle.indicatif_text.specs.declared.refusal.Drawn.TheVariants.{Yes, Limited
 use Rattle.indicatif_term.specs.Calls.{TermView}
 use Rattle.indicatif_term.specs.Frames.{all_lines, logged_lines, some_wide, text_lines}
 use Rattle.indicatif_term.specs.Engines.{is_failure}
-use Rattle.indicatif_bar.specs.declared.state.Ask.{Ask}
-use Rattle.indicatif_bar.specs.declared.state.Ask.TheVariants.{Unforced, Forced}
+use Rattle.indicatif_bar.specs.declared.ask.Ask.{Ask}
+use Rattle.indicatif_bar.specs.declared.ask.Ask.TheVariants.{Unforced, Forced}
 use Rattle.indicatif_bar.specs.Machines.{Target, target_of, Draw, Leads, is_no, comes_to_lines, drawn_by}
 use Rattle.indicatif_bar.specs.Kinds.{has_line}
 use Rattle.indicatif_bar.specs.Runs.{wrote}
@@ -20,7 +20,7 @@ use Rattle.indicatif_bar.specs.Says.{Decided, Says}
 use Rattle.indicatif_bar.specs.Trackers.{Tracking}
 use Rattle.indicatif_bar.specs.Progress.{is_finished, is_hidden}
 use Rattle.indicatif_bar.specs.Commands.{BarRecord, TickerTick, obeyed}
-use Rattle.indicatif_bar.specs.BarStyles.{lines, is_empty_style}
+use Rattle.indicatif_bar.specs.Styles.{lines, is_empty_style}
 use Rattle.indicatif_bar.specs.Bars.{bar_kind}
 use Rattle.indicatif_bar.specs.Lone.{LoneState, Obey, Log, Clear, draw_of_call, lone_frame}
 use Rattle.indicatif_bar.specs.LoneBars.{lone_bar}

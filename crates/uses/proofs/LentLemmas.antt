@@ -13,8 +13,8 @@ use Rattle.indicatif_bar.specs.Machines.{Target, Leads, drawn_by}
 use Rattle.indicatif_bar.specs.Runs.{CallMade, WritesLines, deed_on, lines_by}
 use Rattle.indicatif_bar.specs.Lone.{LoneState, LoneCall, Obey}
 use Rattle.indicatif_bar.specs.LoneBars.{lone_bar}
-use Rattle.indicatif_bar.specs.declared.state.Ask.{Ask}
-use Rattle.indicatif_bar.specs.declared.state.Ask.TheVariants.{No}
+use Rattle.indicatif_bar.specs.declared.ask.Ask.{Ask}
+use Rattle.indicatif_bar.specs.declared.ask.Ask.TheVariants.{No}
 use Rattle.indicatif_bar.specs.Trackers.{Tracking}
 use Rattle.indicatif_bar.specs.PositionLimiters.{allow_position}
 use Rattle.indicatif_bar.specs.Commands.{BarRecord, Command, Inc, ForceDraw, obeyed, tick, ticker_tick}

@@ -13,7 +13,7 @@ use Rattle.indicatif_text.specs.declared.refusal.Drawn.{Drawn}
 use Rattle.indicatif_term.specs.Lists.{all_rows, drawn, logged, cleared, shown_rows, lines_of, fitting, grouped}
 use Rattle.indicatif_term.specs.Frames.{are_plain}
 use Rattle.indicatif_term.specs.Pictures.{row_text}
-use Rattle.indicatif_bar.specs.BarStyles.{BarStyle, lines}
+use Rattle.indicatif_bar.specs.Styles.{BarStyle, lines}
 use Rattle.indicatif_bar.specs.Builders.{first_clusters}
 use Rattle.indicatif_term.specs.Calls.{TermView}
 use Rattle.indicatif_bar.specs.Machines.{Machine, Leads, target_of, done_by, drawn_by}

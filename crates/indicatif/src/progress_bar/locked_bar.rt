@@ -1,7 +1,7 @@
 //! What the lock of a shared bar keeps.
 ghost use Rattle.std.specs.Prelude.{◌≡◌, ◌<◌, ℕ, Some, None, Ok, Err, true, false, IsTrue, IsFalse, IfOk, IfErr};
 ghost use Rattle.std.specs.Fn.{FnOnceReturnsAt};
-ghost use Rattle.indicatif_term.specs.Targets.{term_of};
+ghost use Rattle.indicatif_term.specs.DrawTargets.{term_of};
 ghost use Rattle.indicatif_bar.specs.Commands.{Update, SetTicker, SetPosition, FinishUsingStyle, command_of};
 ghost use Rattle.indicatif_bar.specs.Lone as Lone;
 ghost use Rattle.indicatif_bar.specs.LoneBars.{record_of};

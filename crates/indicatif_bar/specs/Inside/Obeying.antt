@@ -5,7 +5,7 @@ use Rattle.indicatif_bar.specs.Trackers.{Tracking}
 use Rattle.indicatif_bar.specs.Commands.{Command, obeyed, is_beyond_clock}
 use Rattle.indicatif_bar.specs.LoneBars.{RefusesCommand}
 use Rattle.indicatif_bar.specs.declared.lone.LoneBar.{LoneBar}
-use Rattle.indicatif_bar.specs.declared.state.Ask.{Ask}
+use Rattle.indicatif_bar.specs.declared.ask.Ask.{Ask}
 
 module _ {K T : Type 0} (m : Tracking K) (old mid : LoneBar K T) (command : Command K) (now : ℕ) where
   -- the bar has obeyed, and asks for this draw; nothing else has changed

@@ -10,7 +10,7 @@ use Rattle.indicatif_bar.specs.Tabs.{expanded}
 use Rattle.indicatif_bar.specs.Progress.{Progress}
 use Rattle.indicatif_bar.specs.Trackers.{Tracking}
 use Rattle.indicatif_bar.specs.Keys.{key_named}
-use Rattle.indicatif_bar.specs.BarStyles.{BarStyle, Wide, WideBarOf, WideMessageOf, wide_of, key_text, in_layout, is_bare_layout, is_empty_key}
+use Rattle.indicatif_bar.specs.Styles.{BarStyle, Wide, WideBarOf, WideMessageOf, wide_of, key_text, in_layout, is_bare_layout, is_empty_key}
 use Rattle.indicatif_bar.specs.declared.style.steps.Source.{Source}
 use Rattle.indicatif_bar.specs.declared.style.steps.Source.TheVariants.{Tracker, Known, Nothing}
 use Rattle.indicatif_bar.specs.declared.style.steps.Placeholder.{Placeholder}

@@ -3,7 +3,7 @@ ghost use Rattle.std.specs.Prelude.{◌≡◌, ◌==◌, ◌&&◌, ◌++◌, nat
 ghost use Rattle.std.specs.List.{slice_get};
 ghost use Rattle.indicatif_text.specs.StyleWords.{numbers_of, opening_of};
 ghost use Rattle.indicatif_text.specs.Template.{TemplatePart, part_of};
-ghost use Rattle.indicatif_bar.specs.BarStyles.{is_bare_layout};
+ghost use Rattle.indicatif_bar.specs.Styles.{is_bare_layout};
 ghost use Rattle.indicatif_bar.specs.Inside.Steps.{wide_found, wide_source, placeholder_layout, names_of, literal_text, effect_of, effect_of_part, source_of};
 
 use crate::style::keys::{Key, key_named};

@@ -6,7 +6,7 @@ use Rattle.unicode_width.proofs.Computing.{unicode_width}
 use Rattle.indicatif_text.specs.Columns.{rows_of, visible, has_wide}
 use Rattle.indicatif_term.specs.Lists.{drawn, logged, shown_rows, lines_of, fitting, grouped}
 use Rattle.indicatif_term.specs.Resizes.{recut, resized_lists}
-use Rattle.indicatif_bar.specs.BarStyles.{lines}
+use Rattle.indicatif_bar.specs.Styles.{lines}
 use Rattle.indicatif_bar.specs.Machines.{drawn_by}
 use Rattle.bars_run.proofs.cases.prints.Goals as goal
 

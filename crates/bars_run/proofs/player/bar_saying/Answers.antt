@@ -1,10 +1,10 @@
 use Rattle.std.proofs.Common.{◌∙◌, ◌≡◌, ap, sym, None}
 use Rattle.std.specs.Prelude.{codes}
 use Rattle.std.specs.Str.{chars}
-use Rattle.indicatif_bar.specs.declared.bar_style.builders.TheConstants.{TICKS}
+use Rattle.indicatif_bar.specs.declared.style.builders.TheConstants.{TICKS}
 use Rattle.indicatif_bar.specs.declared.tracker.NoTracker.{NoTracker}
 use Rattle.indicatif_bar.specs.Builders.{first_style}
-use Rattle.indicatif_bar.specs.BarStyles.{BarStyle}
+use Rattle.indicatif_bar.specs.Styles.{BarStyle}
 use Rattle.indicatif_bar.specs.Commands.{BarRecord, new_bar}
 use Rattle.bars_run.proofs.PlayLemmas.{message_parts, message_read}
 use Rattle.bars_run.proofs.player.bar_saying.Goals as goal

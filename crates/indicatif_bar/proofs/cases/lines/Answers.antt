@@ -9,7 +9,7 @@ use Rattle.indicatif_text.specs.Format.{round, human_count, human_float_count, f
 use Rattle.indicatif_text.specs.Range.{ansi_range}
 use Rattle.indicatif_text.specs.StyleWords.{style_of}
 use Rattle.indicatif_bar.specs.Layout.{padded, bar_text}
-use Rattle.indicatif_bar.specs.BarStyles.{lines, is_empty_style}
+use Rattle.indicatif_bar.specs.Styles.{lines, is_empty_style}
 use Rattle.indicatif_bar.proofs.cases.lines.Goals as goal
 
 pub returns-clause-trackers : goal.returns-clause-trackers

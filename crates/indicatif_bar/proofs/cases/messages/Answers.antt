@@ -1,7 +1,7 @@
 use Rattle.std.proofs.Common.{refl}
 use Rattle.std.specs.Str.{chars}
 use Rattle.std.proofs.Math.Utf8.{encode}
-use Rattle.indicatif_bar.specs.BarStyles.{lines}
+use Rattle.indicatif_bar.specs.Styles.{lines}
 use Rattle.indicatif_bar.proofs.cases.messages.Goals as goal
 
 pub returns : goal.returns

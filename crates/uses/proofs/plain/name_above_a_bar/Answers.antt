@@ -4,7 +4,7 @@ use Rattle.std.specs.Str.{chars}
 use Rattle.indicatif_term.specs.Screen.{blank_screen}
 use Rattle.indicatif_term.specs.Terminal.{blank_terminal}
 use Rattle.indicatif_term.specs.Pictures.{picture_text}
-use Rattle.indicatif_term.specs.Targets.{term_of, limiter_of}
+use Rattle.indicatif_term.specs.DrawTargets.{term_of, limiter_of}
 use Rattle.indicatif_term.specs.Frames.{are_plain}
 use Rattle.indicatif_term.specs.Memory.{view_of}
 use Rattle.indicatif_bar.specs.Commands.{new_bar}

@@ -1,6 +1,6 @@
 use Rattle.std.proofs.Common.{◌∙◌, ap, subst, inl, inr, None, Some, option_map}
 use Rattle.indicatif_term.specs.Memory.{view_of}
-use Rattle.indicatif_term.specs.Targets.{term_of, limiter_of}
+use Rattle.indicatif_term.specs.DrawTargets.{term_of, limiter_of}
 use Rattle.indicatif_board.specs.Boards.{opening_board}
 use Rattle.indicatif_board.specs.Multi.{IsIn}
 use Rattle.bars_run.proofs.PlayLemmas.{begun, some_if}

@@ -1,6 +1,6 @@
 use Rattle.std.proofs.Common.{◌∙◌, sym, ap}
 use Rattle.std.specs.List.{slice_split}
-use Rattle.indicatif_bar.specs.BarStyles.{is_newline}
+use Rattle.indicatif_bar.specs.Styles.{is_newline}
 use Rattle.indicatif_bar.proofs.FillingLemmas.{first_filler, filler_behind}
 use Rattle.indicatif_bar.proofs.style.filling.filler_line_columns.Goals as goal
 

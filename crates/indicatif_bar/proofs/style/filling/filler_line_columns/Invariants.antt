@@ -1,7 +1,7 @@
 use Rattle.std.proofs.Common.{◌≡◌, length}
 use Rattle.std.specs.List.{slice_split}
 use Rattle.std.specs.Str.{IsUtf8}
-use Rattle.indicatif_bar.specs.BarStyles.{is_newline}
+use Rattle.indicatif_bar.specs.Styles.{is_newline}
 use Rattle.indicatif_bar.proofs.FillingLemmas.{first_filler}
 use Rattle.indicatif_bar.proofs.style.filling.filler_line_columns.Given as goal
 

@@ -1,6 +1,6 @@
 use Rattle.std.proofs.Common.{refl, false, None}
 use Rattle.indicatif_bar.specs.Machines.{target_of}
-use Rattle.indicatif_bar.specs.declared.state.Ask.TheVariants.{Forced}
+use Rattle.indicatif_bar.specs.declared.ask.Ask.TheVariants.{Forced}
 use Rattle.indicatif_bar.specs.Kinds.{NoFrame}
 use Rattle.indicatif_board.specs.Boards.{Clear, draw_of}
 use Rattle.indicatif_board.specs.Multi.{known}

@@ -4,12 +4,12 @@ use Rattle.std.specs.Prelude.{◌==◌}
 use Rattle.std.proofs.lemmas.Bool.{cases_Bool, eqb-true, eq-eqb, false≢true}
 use Rattle.indicatif_board.specs.ShownBars.{record_in, record_on}
 use Rattle.indicatif_text.specs.declared.refusal.Refusal.TheVariants.{ElapsedBeyondClock, NotMember}
-use Rattle.indicatif_term.specs.Engines.{is_bottom}
+use Rattle.indicatif_term.specs.DrawTargets.{is_bottom}
 use Rattle.indicatif_bar.specs.Commands.{BarRecord, obeyed, command_of, is_beyond_clock, takes_memory}
 use Rattle.indicatif_bar.specs.Kinds.{Frame}
 use Rattle.indicatif_bar.specs.Machines.{target_of}
 use Rattle.indicatif_bar.specs.Shown.{DrewOn}
-use Rattle.indicatif_bar.specs.declared.state.Ask.TheVariants.{No}
+use Rattle.indicatif_bar.specs.declared.ask.Ask.TheVariants.{No}
 use Rattle.indicatif_board.specs.BoardBars.{board_bars}
 use Rattle.indicatif_board.specs.BoardValues.{id_of}
 use Rattle.indicatif_board.specs.Boards.{Tell, Refused, draw_of, draw_of_command, laid_out, layout_takes, bar_changed, or_refused, draws, board}

@@ -1,6 +1,6 @@
 use Rattle.std.proofs.Common.{◌≡◌, ◌∙◌, length, min, sym, ap, refl, subst, arith, option_map}
 use Rattle.std.specs.VecDeque.{deque_len}
-use Rattle.indicatif_term.specs.Engines.{is_bottom}
+use Rattle.indicatif_term.specs.DrawTargets.{is_bottom}
 use Rattle.indicatif_bar.specs.Machines.{target_of}
 use Rattle.indicatif_bar.specs.Runs.{CallMade}
 use Rattle.indicatif_board.specs.BoardBars.{board_bars}

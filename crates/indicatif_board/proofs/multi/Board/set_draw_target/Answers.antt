@@ -1,8 +1,7 @@
 use Rattle.std.proofs.Common.{◌≡◌, subst}
 use Rattle.std.specs.Prelude.{IfSome}
-use Rattle.indicatif_term.specs.Targets.{limiter_of}
+use Rattle.indicatif_term.specs.DrawTargets.{is_bottom, limiter_of}
 use Rattle.indicatif_term.specs.Lists.{opening_lists}
-use Rattle.indicatif_term.specs.Engines.{is_bottom}
 use Rattle.indicatif_board.specs.Multi.{IsIn}
 use Rattle.indicatif_board.proofs.MemberLemmas.{held_with}
 use Rattle.indicatif_board.proofs.multi.Board.set_draw_target.Goals as goal

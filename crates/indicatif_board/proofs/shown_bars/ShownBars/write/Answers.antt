@@ -5,7 +5,8 @@ use Rattle.indicatif_term.specs.Frames.{bar_lines}
 use Rattle.indicatif_text.specs.declared.refusal.Drawn.{Drawn}
 use Rattle.indicatif_text.specs.declared.refusal.Drawn.TheVariants.{Yes}
 use Rattle.indicatif_text.specs.declared.refusal.Refusal.{Refusal}
-use Rattle.indicatif_term.specs.Engines.{is_bottom, engine_term}
+use Rattle.indicatif_term.specs.Engines.{engine_term}
+use Rattle.indicatif_term.specs.DrawTargets.{is_bottom}
 use Rattle.indicatif_term.specs.declared.lines.Segment.{Segment}
 use Rattle.indicatif_bar.specs.Machines.{target_of}
 use Rattle.indicatif_bar.specs.Shown.{PutsFrame, DrewBy}

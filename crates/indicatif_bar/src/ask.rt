@@ -1,0 +1,56 @@
+//! Whether a command asks for a draw.
+ghost use Rattle.std.specs.Prelude.{◌≡◌};
+ghost use Rattle.indicatif_bar.specs.Kinds.{asked_of};
+ghost use Rattle.indicatif_bar.specs.Machines.{is_no};
+
+use indicatif_term::draw_target::RateLimiter;
+use indicatif_text::columns::Moment;
+
+/// Whether a command asks for a draw.
+///
+/// ```
+/// bar.tick(now); // Ask::Unforced: a draw, if the limiter allows it
+/// bar.force_draw(now); // Ask::Forced
+/// ```
+#[derive(Clone, Copy, Debug, Drop, PartialEq, Eq)]
+pub enum Ask {
+    /// No draw.
+    No,
+    /// A draw, where the limiter allows it.
+    Unforced,
+    /// A draw, whatever the limiter says.
+    Forced,
+}
+
+impl Ask {
+    /// Whether no draw is asked.
+    ///
+    /// ```
+    /// assert!(Ask::No.is_no() && !Ask::Forced.is_no());
+    /// ```
+    pub fn is_no(self) -> bool
+        ensures { result ≡ is_no self }
+    {
+        match self {
+            Ask::No => true,
+            Ask::Unforced | Ask::Forced => false,
+        }
+    }
+
+    /// Whether a draw that is asked so may be made at this moment: always, but for an unforced one, which is asked of the limiter, if
+    /// there is one, which counts it.
+    ///
+    /// ```
+    /// let mut limiter = None;
+    /// assert!(Ask::Unforced.allows(&mut limiter, 0)); // as often as it is asked
+    /// ```
+    pub fn allows(self, limiter: &mut Option<RateLimiter>, now: Moment) -> bool
+        ensures answer { result ≡ (asked_of self now limiter.old).0 }
+        ensures next { limiter.new ≡ (asked_of self now limiter.old).1 }
+    {
+        match (self, limiter) {
+            (Ask::Unforced, Some(limiter)) => limiter.allow(now),
+            _ => true,
+        }
+    }
+}

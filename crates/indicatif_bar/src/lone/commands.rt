@@ -1,0 +1,378 @@
+//! What a bar that stands alone is told, and texts above it.
+ghost use Rattle.std.specs.Prelude.{◌≡◌, ◌<◌, Ok, Err, IsTrue, IsFalse, ◌↔◌, IfOk, IfErr, OnErr};
+ghost use Rattle.std.specs.Fn.{FnOnceReturnsAt};
+ghost use Rattle.indicatif_bar.specs.declared.command.Change.{Change as Changed};
+ghost use Rattle.indicatif_bar.specs.Runs.{wrote};
+ghost use Rattle.indicatif_bar.specs.Finishes.{AndLeave, WithMessage, AndClear, Abandon, AbandonWithMessage, finish_of};
+ghost use Rattle.indicatif_bar.specs.Commands.{Tick, TickerTick, SetTicker, Inc, Dec, SetPosition, Update, SetLength, UnsetLength, IncLength, DecLength, SetMessage, SetPrefix, SetStyle};
+ghost use Rattle.indicatif_bar.specs.Commands.{PutPosition, PutMessage, PutPrefix, PutFinish, PutTabWidth, SetTabWidth, SetElapsed, ResetEta};
+ghost use Rattle.indicatif_bar.specs.Commands.{ResetElapsed, Reset, FinishBy, FinishUsingStyle, ForceDraw, takes_memory};
+ghost use Rattle.indicatif_bar.specs.Lone.{Log, Clear};
+ghost use Rattle.indicatif_bar.specs.LoneBars.{LoneIsNowhere, record_of, lone_moves, lone_terminal, LoneLeadsBy, Obeys, ObeysOrNot};
+
+use crate::lone::LoneBar;
+use crate::stage::Writing;
+use crate::state::{Ask, Change, ProgressFinish, ProgressState};
+use crate::style::ProgressStyle;
+use crate::tracker::Tracks;
+use indicatif_term::term_like::TermLike;
+use indicatif_text::columns::{Drawn, Moment, Refusal};
+
+impl<K: Tracks, T: TermLike + Drop> LoneBar<K, T> {
+    /// One more tick, up to 2^64 - 1, unless a steady ticker is installed, and a draw: a spinner shows its next text.
+    pub fn tick(&mut self, now: Moment) -> Result<Drawn, Refusal>
+        ensures { Obeys K.means T.view self.old self.new Tick now result }
+    {
+        let ask = self.shown.bar.tick(now);
+        self.obey(ask, now)
+    }
+
+    /// A steady ticker's own tick, and a draw.
+    pub fn ticker_tick(&mut self, now: Moment) -> Result<Drawn, Refusal>
+        ensures { Obeys K.means T.view self.old self.new TickerTick now result }
+    {
+        let ask = self.shown.bar.ticker_tick(now);
+        self.obey(ask, now)
+    }
+
+    /// From now on a steady ticker is installed, or none is; while one is, `tick` changes nothing. No draw is asked.
+    pub fn set_ticker(&mut self, installed: bool, now: Moment) -> Result<Drawn, Refusal>
+        ensures obeys { Obeys K.means T.view self.old self.new (SetTicker installed) now result }
+        ensures limited { result ≡ Ok Drawn.Limited }
+    {
+        let ask = self.shown.bar.set_ticker(installed, now);
+        self.obey(ask, now)
+    }
+
+    /// The position goes up by `delta`, modulo 2^64; and a tick, as often as the position's limiter allows: 10 times at once, and once
+    /// more each millisecond.
+    #[inline(always)]
+    pub fn inc(&mut self, delta: u64, now: Moment) -> Result<Drawn, Refusal>
+        ensures { Obeys K.means T.view self.old self.new (Inc delta) now result }
+    {
+        let ask = self.shown.bar.inc(delta, now);
+        self.obey(ask, now)
+    }
+
+    /// The position goes down by `delta`, modulo 2^64; else as `inc`.
+    #[inline(always)]
+    pub fn dec(&mut self, delta: u64, now: Moment) -> Result<Drawn, Refusal>
+        ensures { Obeys K.means T.view self.old self.new (Dec delta) now result }
+    {
+        let ask = self.shown.bar.dec(delta, now);
+        self.obey(ask, now)
+    }
+
+    /// Another position; else as `inc`.
+    #[inline(always)]
+    pub fn set_position(&mut self, position: u64, now: Moment) -> Result<Drawn, Refusal>
+        ensures { Obeys K.means T.view self.old self.new (SetPosition position) now result }
+    {
+        let ask = self.shown.bar.set_position(position, now);
+        self.obey(ask, now)
+    }
+
+    /// What workers have counted is added to the position; as `inc`.
+    #[inline(always)]
+    pub fn absorb(&mut self, sum: u64, now: Moment) -> Result<Drawn, Refusal>
+        ensures { Obeys K.means T.view self.old self.new (Inc sum) now result }
+    {
+        let ask = self.shown.bar.absorb(sum, now);
+        self.obey(ask, now)
+    }
+
+    /// Sets a position and a length, each if there is one; then as `tick`.
+    pub fn set_change(&mut self, change: Change, now: Moment) -> Result<Drawn, Refusal>
+        ensures { Obeys K.means T.view self.old self.new (Update change.pos change.len) now result }
+    {
+        let ask = self.shown.bar.set_change(change, now);
+        self.obey(ask, now)
+    }
+
+    /// Another length, and a draw: `{bar}`, `{percent}` and `{eta}` follow it.
+    pub fn set_length(&mut self, len: u64, now: Moment) -> Result<Drawn, Refusal>
+        ensures { Obeys K.means T.view self.old self.new (SetLength len) now result }
+    {
+        let ask = self.shown.bar.set_length(len, now);
+        self.obey(ask, now)
+    }
+
+    /// No length, and a draw: the bar is empty, `{len}` shows the position, and `{eta}` is 0.
+    pub fn unset_length(&mut self, now: Moment) -> Result<Drawn, Refusal>
+        ensures { Obeys K.means T.view self.old self.new UnsetLength now result }
+    {
+        let ask = self.shown.bar.unset_length(now);
+        self.obey(ask, now)
+    }
+
+    /// A length that is longer by `delta`, up to 2^64 - 1, where there is one; and a draw.
+    pub fn inc_length(&mut self, delta: u64, now: Moment) -> Result<Drawn, Refusal>
+        ensures { Obeys K.means T.view self.old self.new (IncLength delta) now result }
+    {
+        let ask = self.shown.bar.inc_length(delta, now);
+        self.obey(ask, now)
+    }
+
+    /// A length that is shorter by `delta`, down to 0, where there is one; and a draw.
+    pub fn dec_length(&mut self, delta: u64, now: Moment) -> Result<Drawn, Refusal>
+        ensures { Obeys K.means T.view self.old self.new (DecLength delta) now result }
+    {
+        let ask = self.shown.bar.dec_length(delta, now);
+        self.obey(ask, now)
+    }
+
+    /// The rate, and the time that is left by it, are counted from this moment on, as after a pause. No draw is asked.
+    pub fn reset_eta(&mut self, now: Moment) -> Result<Drawn, Refusal>
+        ensures obeys { Obeys K.means T.view self.old self.new ResetEta now result }
+        ensures limited { result ≡ Ok Drawn.Limited }
+    {
+        let ask = self.shown.bar.reset_eta(now);
+        self.obey(ask, now)
+    }
+
+    /// The rate and the time are counted from this moment on. No draw is asked.
+    pub fn reset_elapsed(&mut self, now: Moment) -> Result<Drawn, Refusal>
+        ensures obeys { Obeys K.means T.view self.old self.new ResetElapsed now result }
+        ensures limited { result ≡ Ok Drawn.Limited }
+    {
+        let ask = self.shown.bar.reset_elapsed(now);
+        self.obey(ask, now)
+    }
+
+    /// The bar goes on from position 0, its rate and its time from this moment on; and a draw.
+    pub fn reset(&mut self, now: Moment) -> Result<Drawn, Refusal>
+        ensures { Obeys K.means T.view self.old self.new Reset now result }
+    {
+        let ask = self.shown.bar.reset(now);
+        self.obey(ask, now)
+    }
+
+    /// The bar is finished at its length, where it has one, and stays on the screen. A draw by force.
+    pub fn finish(&mut self, now: Moment) -> Result<Drawn, Refusal>
+        ensures { Obeys K.means T.view self.old self.new (FinishBy AndLeave) now result }
+    {
+        let ask = self.shown.bar.finish(now);
+        self.obey(ask, now)
+    }
+
+    /// The bar is finished at its length, where it has one, and goes from the screen: it has no lines any more. A draw by force.
+    pub fn finish_and_clear(&mut self, now: Moment) -> Result<Drawn, Refusal>
+        ensures { Obeys K.means T.view self.old self.new (FinishBy AndClear) now result }
+    {
+        let ask = self.shown.bar.finish_and_clear(now);
+        self.obey(ask, now)
+    }
+
+    /// The bar is finished where it stands, as where work is given up, and stays on the screen. A draw by force.
+    pub fn abandon(&mut self, now: Moment) -> Result<Drawn, Refusal>
+        ensures { Obeys K.means T.view self.old self.new (FinishBy Abandon) now result }
+    {
+        let ask = self.shown.bar.abandon(now);
+        self.obey(ask, now)
+    }
+
+    /// Another position. No draw is asked, and the rate doesn't count it.
+    pub fn with_position(&mut self, position: u64, now: Moment) -> Result<Drawn, Refusal>
+        ensures obeys { Obeys K.means T.view self.old self.new (PutPosition position) now result }
+        ensures limited { result ≡ Ok Drawn.Limited }
+    {
+        let ask = self.shown.bar.with_position(position, now);
+        self.obey(ask, now)
+    }
+
+    /// What finishes the bar by `finish_using_style`. No draw is asked.
+    pub fn with_finish(&mut self, finish: ProgressFinish, now: Moment) -> Result<Drawn, Refusal>
+        ensures obeys { Obeys K.means T.view self.old self.new (PutFinish (finish_of finish)) now result }
+        ensures limited { result ≡ Ok Drawn.Limited }
+    {
+        let ask = self.shown.bar.with_finish(finish, now);
+        self.obey(ask, now)
+    }
+
+    /// A draw by force. Nothing of the bar changes.
+    pub fn force_draw(&mut self, now: Moment) -> Result<Drawn, Refusal>
+        ensures { Obeys K.means T.view self.old self.new ForceDraw now result }
+    {
+        let ask = self.shown.bar.force_draw(now);
+        self.obey(ask, now)
+    }
+
+    /// Another message, and a draw. It shows only where the template has `{msg}` or `{wide_msg}`.
+    pub fn set_message(&mut self, text: &str, now: Moment) -> Result<Drawn, Refusal>
+        ensures { ObeysOrNot K.means T.view self.old self.new (SetMessage text.now) now result }
+    {
+        let asked = self.shown.bar.set_message(text, now);
+        self.obey_unless(asked, now)
+    }
+
+    /// Another prefix, and a draw. It shows only where the template has `{prefix}`.
+    pub fn set_prefix(&mut self, text: &str, now: Moment) -> Result<Drawn, Refusal>
+        ensures { ObeysOrNot K.means T.view self.old self.new (SetPrefix text.now) now result }
+    {
+        let asked = self.shown.bar.set_prefix(text, now);
+        self.obey_unless(asked, now)
+    }
+
+    /// Another style, with the bar's width of tabs. No draw is asked. A style that is refused is given up.
+    pub fn set_style(&mut self, style: ProgressStyle<K>, now: Moment) -> Result<Drawn, Refusal>
+        ensures obeys { ObeysOrNot K.means T.view self.old self.new (SetStyle style) now result }
+        ensures memory { IfErr result (λ e. (e ≡ Refusal.Memory)
+            × IsTrue (takes_memory (SetStyle style) (record_of self.old))) }
+        ensures unchanged { OnErr result (self.new ≡ self.old) }
+        ensures limited { IfOk result (λ drawn. drawn ≡ Drawn.Limited) }
+    {
+        let asked = self.shown.bar.set_style(style, now);
+        self.obey_unless(asked, now)
+    }
+
+    /// As `set_style`.
+    ///
+    /// ```
+    /// let style = ProgressStyle::with_template(alloc, "{pos} of {len}")?;
+    /// let drawn = bar.with_style(style, now)?; // Drawn::Limited; the next draw is in this style
+    /// ```
+    pub fn with_style(&mut self, style: ProgressStyle<K>, now: Moment) -> Result<Drawn, Refusal>
+        ensures obeys { ObeysOrNot K.means T.view self.old self.new (SetStyle style) now result }
+        ensures memory { IfErr result (λ e. (e ≡ Refusal.Memory)
+            × IsTrue (takes_memory (SetStyle style) (record_of self.old))) }
+        ensures unchanged { OnErr result (self.new ≡ self.old) }
+        ensures limited { IfOk result (λ drawn. drawn ≡ Drawn.Limited) }
+    {
+        let asked = self.shown.bar.with_style(style, now);
+        self.obey_unless(asked, now)
+    }
+
+    /// Another message, which shows only where the template has `{msg}` or `{wide_msg}`. No draw is asked.
+    pub fn with_message(&mut self, text: &str, now: Moment) -> Result<Drawn, Refusal>
+        ensures obeys { ObeysOrNot K.means T.view self.old self.new (PutMessage text.now) now result }
+        ensures memory { IfErr result (λ e. (e ≡ Refusal.Memory)
+            × IsTrue (takes_memory (PutMessage text.now) (record_of self.old))) }
+        ensures unchanged { OnErr result (self.new ≡ self.old) }
+        ensures limited { IfOk result (λ drawn. drawn ≡ Drawn.Limited) }
+    {
+        let asked = self.shown.bar.with_message(text, now);
+        self.obey_unless(asked, now)
+    }
+
+    /// Another prefix, which shows only where the template has `{prefix}`. No draw is asked.
+    pub fn with_prefix(&mut self, text: &str, now: Moment) -> Result<Drawn, Refusal>
+        ensures obeys { ObeysOrNot K.means T.view self.old self.new (PutPrefix text.now) now result }
+        ensures memory { IfErr result (λ e. (e ≡ Refusal.Memory)
+            × IsTrue (takes_memory (PutPrefix text.now) (record_of self.old))) }
+        ensures unchanged { OnErr result (self.new ≡ self.old) }
+        ensures limited { IfOk result (λ drawn. drawn ≡ Drawn.Limited) }
+    {
+        let asked = self.shown.bar.with_prefix(text, now);
+        self.obey_unless(asked, now)
+    }
+
+    /// As many spaces for a tab, in the message, the prefix and the style. No draw is asked.
+    pub fn with_tab_width(&mut self, tab: usize, now: Moment) -> Result<Drawn, Refusal>
+        ensures obeys { ObeysOrNot K.means T.view self.old self.new (PutTabWidth tab) now result }
+        ensures memory { IfErr result (λ e. (e ≡ Refusal.Memory)
+            × IsTrue (takes_memory (PutTabWidth tab) (record_of self.old))) }
+        ensures unchanged { OnErr result (self.new ≡ self.old) }
+        ensures limited { IfOk result (λ drawn. drawn ≡ Drawn.Limited) }
+    {
+        let asked = self.shown.bar.with_tab_width(tab, now);
+        self.obey_unless(asked, now)
+    }
+
+    /// The same, and a draw by force.
+    pub fn set_tab_width(&mut self, tab: usize, now: Moment) -> Result<Drawn, Refusal>
+        ensures { ObeysOrNot K.means T.view self.old self.new (SetTabWidth tab) now result }
+    {
+        let asked = self.shown.bar.set_tab_width(tab, now);
+        self.obey_unless(asked, now)
+    }
+
+    /// So many nanoseconds have passed since the start: `ElapsedBeyondClock`, exactly where they are more than the moment, and
+    /// nothing has changed then. No draw is asked.
+    pub fn set_elapsed(&mut self, nanos: u64, now: Moment) -> Result<Drawn, Refusal>
+        ensures obeys { ObeysOrNot K.means T.view self.old self.new (SetElapsed nanos) now result }
+        ensures beyond { (result ≡ Err Refusal.ElapsedBeyondClock) ↔ (now < nanos) }
+        ensures no_other { IfErr result (λ e. e ≡ Refusal.ElapsedBeyondClock) }
+        ensures unchanged { OnErr result (self.new ≡ self.old) }
+        ensures limited { IfOk result (λ drawn. drawn ≡ Drawn.Limited) }
+    {
+        let asked = self.shown.bar.set_elapsed(nanos, now);
+        self.obey_unless(asked, now)
+    }
+
+    /// As `set_elapsed`.
+    ///
+    /// ```
+    /// let drawn = bar.with_elapsed(3_000_000_000, 4_000_000_000)?; // three seconds have passed at the fourth; Drawn::Limited
+    /// ```
+    pub fn with_elapsed(&mut self, nanos: u64, now: Moment) -> Result<Drawn, Refusal>
+        ensures obeys { ObeysOrNot K.means T.view self.old self.new (SetElapsed nanos) now result }
+        ensures beyond { (result ≡ Err Refusal.ElapsedBeyondClock) ↔ (now < nanos) }
+        ensures no_other { IfErr result (λ e. e ≡ Refusal.ElapsedBeyondClock) }
+        ensures unchanged { OnErr result (self.new ≡ self.old) }
+        ensures limited { IfOk result (λ drawn. drawn ≡ Drawn.Limited) }
+    {
+        let asked = self.shown.bar.with_elapsed(nanos, now);
+        self.obey_unless(asked, now)
+    }
+
+    /// As `finish`, with this message, which shows only where the template has `{msg}` or `{wide_msg}`.
+    pub fn finish_with_message(&mut self, text: &str, now: Moment) -> Result<Drawn, Refusal>
+        ensures { ObeysOrNot K.means T.view self.old self.new (FinishBy (WithMessage text.now)) now result }
+    {
+        let asked = self.shown.bar.finish_with_message(text, now);
+        self.obey_unless(asked, now)
+    }
+
+    /// As `abandon`, with this message.
+    pub fn abandon_with_message(&mut self, text: &str, now: Moment) -> Result<Drawn, Refusal>
+        ensures { ObeysOrNot K.means T.view self.old self.new (FinishBy (AbandonWithMessage text.now)) now result }
+    {
+        let asked = self.shown.bar.abandon_with_message(text, now);
+        self.obey_unless(asked, now)
+    }
+
+    /// The bar is finished by the finish that `with_finish` stored, at first `AndClear`. A draw by force.
+    pub fn finish_using_style(&mut self, now: Moment) -> Result<Drawn, Refusal>
+        ensures { ObeysOrNot K.means T.view self.old self.new FinishUsingStyle now result }
+    {
+        let asked = self.shown.bar.finish_using_style(now);
+        self.obey_unless(asked, now)
+    }
+
+    /// Writes the text's lines above the bar, by force. A line is ended by `\n` or `\r\n`; an empty text is one empty
+    /// line; tabs stay as they are. The bar's lines are laid out anew. On a hidden target the text is dropped.
+    pub fn println(&mut self, text: &str, now: Moment) -> Result<Drawn, Refusal>
+        ensures bar { record_of self.new ≡ record_of self.old }
+        ensures silent { IsFalse (wrote result) → lone_terminal self.new ≡ lone_terminal self.old }
+        ensures nowhere { LoneIsNowhere T.view self.old → IsFalse (wrote result) }
+        ensures moves { lone_moves self.new ≡ lone_moves self.old }
+        ensures leads { LoneLeadsBy K.means T.view self.old self.new (Log text.now) now result }
+    {
+        self.draw(Ask::Forced, Writing::TextAndFrame(text), now)
+    }
+
+    /// Takes the bar's rows back, by force. The next draw shows them again. Takes no memory.
+    pub fn clear(&mut self, now: Moment) -> Result<Drawn, Refusal>
+        ensures bar { record_of self.new ≡ record_of self.old }
+        ensures silent { IsFalse (wrote result) → lone_terminal self.new ≡ lone_terminal self.old }
+        ensures nowhere { LoneIsNowhere T.view self.old → IsFalse (wrote result) }
+        ensures moves { lone_moves self.new ≡ lone_moves self.old }
+        ensures leads { LoneLeadsBy K.means T.view self.old self.new Clear now result }
+    {
+        self.draw(Ask::Forced, Writing::NoFrame, now)
+    }
+
+    /// Sets what the closure answers of the state that it is shown; then as `tick`.
+    pub fn update<F: FnOnce(&ProgressState) -> Change>(
+        &mut self,
+        f: F,
+        now: Moment,
+    ) -> Result<Drawn, Refusal>
+        requires { F.IsAlwaysCallable f }
+        ensures { (change : Changed) × FnOnceReturnsAt F.FnOnce f (record_of self.old).progress change
+            × Obeys K.means T.view self.old self.new (Update change.pos change.len) now result }
+    {
+        let ask = self.shown.bar.update(f, now);
+        self.obey(ask, now)
+    }
+}

@@ -1,0 +1,471 @@
+//! The lines of a style, laid out into one growing text.
+ghost use Rattle.std.specs.Prelude.{◌≡◌, ◌++◌, ℕ, List, [], Some, map, string_bytes, true, if◌then◌else◌, OnOk, IfOk, IfErr, IsTrue, IsFalse, option_map, unwrap_or};
+ghost use Rattle.std.specs.Option.{option_map_or, option_or};
+ghost use Rattle.std.specs.List.{list_all, list_any, slice_get};
+ghost use Rattle.indicatif_bar.specs.Bars.{is_bar_line};
+ghost use Rattle.std.specs.Str.{trim_end};
+ghost use Rattle.indicatif_term.specs.Frames.{line_text};
+ghost use Rattle.indicatif_bar.specs.Tabs.{expanded};
+ghost use Rattle.indicatif_bar.specs.Progress.{fraction, is_finished, shown_message};
+ghost use Rattle.indicatif_bar.specs.Layout.{bar_text, padded};
+ghost use Rattle.indicatif_bar.specs.Styles.{key_text, tick_string, final_tick_string, wide_text, with_fillers_as, lines_with, lines, columns_left, ends_in_filler, is_newline, is_filler, is_empty_style};
+ghost use Rattle.indicatif_bar.specs.Inside.Steps.{PutsSource, placeholder_layout, source_text, effect_text, wide_found};
+
+use crate::progress::ProgressState;
+use crate::scan::cut_at;
+use crate::spare::SpareLines;
+use crate::style::ProgressStyle;
+use crate::style::bar::{RestLook, push_bar};
+use crate::style::filling::{Gap, has_break, has_filler, push_line, push_lines};
+use crate::style::key_texts::{
+    push_count, push_percent, push_percent_precise, push_rate, push_text, push_time,
+    push_whole_rate,
+};
+use crate::style::keys::Key;
+use crate::style::padding::{AtWidth, push_padded};
+use crate::style::steps::{Placeholder, Source, Step, WideKey, literal_at};
+use crate::tabs::push_expanded;
+use crate::tracker::Tracks;
+use indicatif_term::draw_target::LineType;
+use indicatif_text::columns::{Moment, Refusal};
+use indicatif_text::template::{Alignment, Template};
+use std::mem::replace;
+
+impl<K: Tracks> ProgressStyle<K> {
+    /// Appends a bar of so many columns, as a placeholder asks for it.
+    fn push_bar(
+        &self,
+        placeholder: &Placeholder,
+        state: &ProgressState,
+        columns: u64,
+        out: &mut String,
+    ) -> Result<(), Refusal>
+        ensures text { OnOk result (string_bytes out.new ≡ string_bytes out.old
+            ++ bar_text self.now.clusters self.now.colours (unwrap_or (placeholder_layout placeholder.now).alternative []) (fraction state.now) columns) }
+        ensures memory { IfErr result (λ e. e ≡ Refusal.Memory) }
+    {
+        let rest = RestLook {
+            colours: self.colours,
+            style: placeholder.alternative_style(),
+        };
+        push_bar(&self.clusters, rest, state.fraction(), columns, out)
+    }
+
+    /// Appends the text of a key.
+    fn push_key(
+        &self,
+        key: Key,
+        placeholder: &Placeholder,
+        state: &ProgressState,
+        now: Moment,
+        out: &mut String,
+    ) -> Result<(), Refusal>
+        ensures text { OnOk result (string_bytes out.new ≡ string_bytes out.old
+            ++ key_text K.means self.now state.now now (placeholder_layout placeholder.now) key) }
+        ensures memory { IfErr result (λ e. e ≡ Refusal.Memory) }
+    {
+        match key {
+            Key::Bar => self.push_bar(
+                placeholder,
+                state,
+                u64::from(placeholder.width.unwrap_or(20)),
+                out,
+            ),
+            Key::WideBar | Key::WideMessage => push_text("\0", out),
+            Key::Spinner => push_text(self.spinner_text(state), out),
+            Key::Prefix => push_text(state.prefix(), out),
+            Key::Message => push_text(state.message(), out),
+            Key::Position(form) => push_count(form, state.pos(), out),
+            Key::Length(form) => push_count(form, state.len().unwrap_or(state.pos()), out),
+            Key::Percent => push_percent(state.fraction(), out),
+            Key::PercentPrecise => push_percent_precise(state.fraction(), out),
+            Key::Elapsed(form) => push_time(form, state.elapsed(now), out),
+            Key::Eta(form) => push_time(form, state.eta(now), out),
+            Key::Duration(form) => push_time(form, state.duration(now), out),
+            Key::PerSecond => push_rate(state.per_sec(now), placeholder.width.unwrap_or(4), out),
+            Key::BytesPerSecond(form) => push_whole_rate(form, state.per_sec(now), out),
+        }
+    }
+
+    /// The spinner's text.
+    pub(crate) fn spinner_text(&self, state: &ProgressState) -> &str
+        ensures { result.now ≡ (if is_finished state.now then final_tick_string self.now.tick_strings
+            else tick_string self.now.tick_strings state.now.ticks) }
+    {
+        if state.is_finished() {
+            return self.get_final_tick_str();
+        }
+        self.get_tick_str(state.ticks())
+    }
+
+    /// Appends the text of the tracker at a place, its tabs expanded; nothing where there is none.
+    fn push_tracked(
+        &self,
+        place: usize,
+        state: &ProgressState,
+        now: Moment,
+        spare: &mut SpareLines,
+        out: &mut String,
+    ) -> Result<(), Refusal>
+        ensures text { OnOk result (string_bytes out.new ≡ string_bytes out.old
+            ++ option_map_or (λ entry. expanded self.now.tab (K.means.text entry.1 state.now now))
+            (slice_get self.now.keys place) []) }
+        ensures memory { IfErr result (λ e. e ≡ Refusal.Memory) }
+    {
+        match self.keys.get(place) {
+            Some(entry) => self.push_text_of(&entry.1, state, now, spare, out),
+            None => Ok(()),
+        }
+    }
+
+    /// Appends a tracker's text, its tabs expanded.
+    fn push_text_of(
+        &self,
+        tracker: &K,
+        state: &ProgressState,
+        now: Moment,
+        spare: &mut SpareLines,
+        out: &mut String,
+    ) -> Result<(), Refusal>
+        ensures text { OnOk result (string_bytes out.new ≡ string_bytes out.old
+            ++ expanded self.now.tab (K.means.text tracker.now state.now now)) }
+        ensures memory { IfErr result (λ e. e ≡ Refusal.Memory) }
+    {
+        let mut text = spare.text();
+        tracker.track_text(state, now, &mut text)?;
+        push_expanded(text.as_str(), self.tab, out)?;
+        spare.store_text(text);
+        Ok(())
+    }
+
+    /// Appends the text of a placeholder as its source tells it.
+    fn push_told(
+        &self,
+        placeholder: &Placeholder,
+        state: &ProgressState,
+        now: Moment,
+        spare: &mut SpareLines,
+        out: &mut String,
+    ) -> Result<(), Refusal>
+        ensures text { OnOk result (string_bytes out.new ≡ string_bytes out.old
+            ++ source_text K.means self.now state.now now (placeholder_layout placeholder.now) placeholder.now.source) }
+        ensures memory { IfErr result (λ e. e ≡ Refusal.Memory) }
+    {
+        match placeholder.source {
+            Source::Tracker(place) => self.push_tracked(place, state, now, spare, out)?,
+            Source::Known(key) => self.push_key(key, placeholder, state, now, out)?,
+            Source::Nothing => {}
+        }
+        Ok(())
+    }
+
+    /// The same at the placeholder's width, where it has one.
+    fn push_sized(
+        &self,
+        placeholder: &Placeholder,
+        state: &ProgressState,
+        now: Moment,
+        spare: &mut SpareLines,
+        out: &mut String,
+    ) -> Result<(), Refusal>
+        ensures text { let text = source_text K.means self.now state.now now (placeholder_layout placeholder.now) placeholder.now.source in
+            OnOk result (string_bytes out.new ≡ string_bytes out.old
+            ++ option_map_or (λ width. padded text width placeholder.now.align placeholder.now.truncate) placeholder.now.width text) }
+        ensures memory { IfErr result (λ e. e ≡ Refusal.Memory) }
+    {
+        let Some(width) = placeholder.width else {
+            self.push_told(placeholder, state, now, spare, out)?;
+            return Ok(());
+        };
+        let mut text = spare.text();
+        self.push_told(placeholder, state, now, spare, &mut text)?;
+        let place = AtWidth {
+            width: usize::from(width),
+            align: placeholder.align,
+            truncate: placeholder.truncate,
+        };
+        push_padded(text.as_str(), place, out)?;
+        spare.store_text(text);
+        Ok(())
+    }
+
+    /// Appends the text of a placeholder, at its width and in its style.
+    fn push_styled(
+        &self,
+        placeholder: &Placeholder,
+        state: &ProgressState,
+        now: Moment,
+        spare: &mut SpareLines,
+        out: &mut String,
+    ) -> Result<(), Refusal>
+        ensures text { OnOk result (string_bytes out.new ≡ string_bytes out.old
+            ++ effect_text K.means self.now state.now now (PutsSource placeholder.now.source (placeholder_layout placeholder.now))) }
+        ensures memory { IfErr result (λ e. e ≡ Refusal.Memory) }
+    {
+        let some = placeholder.open(self.colours, out)?;
+        self.push_sized(placeholder, state, now, spare, out)?;
+        if some {
+            out.push_str("\x1b[0m")?;
+            return Ok(());
+        }
+        Ok(())
+    }
+
+    /// Appends what stands in the place of each filler of a text with this gap.
+    fn push_wide(
+        &self,
+        wide: WideKey,
+        gap: Gap,
+        state: &ProgressState,
+        spare: &mut SpareLines,
+        out: &mut String,
+    ) -> Result<(), Refusal>
+        ensures text { (columns : ℕ) (text : List ℕ) → gap.columns ≡ columns_left columns text → gap.is_last ≡ ends_in_filler text →
+            OnOk result (string_bytes out.new ≡ string_bytes out.old
+            ++ wide_text self.now state.now columns text (wide_found wide)) }
+        ensures memory { IfErr result (λ e. e ≡ Refusal.Memory) }
+    {
+        match wide {
+            WideKey::Bar(placeholder) => self.push_bar(
+                &placeholder,
+                state,
+                gap.columns as u64,
+                out,
+            )?,
+            WideKey::Message(placeholder) => push_message(
+                placeholder.align,
+                gap,
+                state,
+                spare,
+                out,
+            )?,
+        }
+        Ok(())
+    }
+
+    /// Appends a text with what stands in the place of each of its fillers, which have this gap.
+    fn push_filled(
+        &self,
+        text: &str,
+        wide: WideKey,
+        gap: Gap,
+        state: &ProgressState,
+        spare: &mut SpareLines,
+        out: &mut String,
+    ) -> Result<(), Refusal>
+        ensures text { (columns : ℕ) → gap.columns ≡ columns_left columns text.now → gap.is_last ≡ ends_in_filler text.now →
+            OnOk result (string_bytes out.new ≡ string_bytes out.old
+            ++ with_fillers_as (wide_text self.now state.now columns text.now (wide_found wide)) text.now) }
+        ensures memory { IfErr result (λ e. e ≡ Refusal.Memory) }
+    {
+        let mut rest = text;
+        'fillers: while let Some((part, behind)) = cut_at(0, rest) {
+            out.push_str(part)?;
+            self.push_wide(wide, gap, state, spare, out)?;
+            rest = behind;
+        }
+        out.push_str(rest)?;
+        Ok(())
+    }
+
+    /// Appends the lines of a text, where a wide key has stood so far.
+    fn push_lines(
+        &self,
+        line: Line,
+        state: &ProgressState,
+        width: u16,
+        spare: &mut SpareLines,
+        lines: &mut Vec<LineType>,
+    ) -> Result<(), Refusal>
+        ensures lines { OnOk result (map line_text lines.new.items ≡ map line_text lines.old.items
+            ++ lines_with self.now state.now width (option_map wide_found line.wide) (string_bytes line.text)) }
+        ensures kind { IsTrue (list_all is_bar_line lines.old.items) → IsTrue (list_all is_bar_line lines.new.items) }
+        ensures memory { IfErr result (λ e. e ≡ Refusal.Memory) }
+    {
+        let Line { text, wide } = line;
+        let Some(wide) = wide else {
+            push_lines(text, spare, lines)?;
+            return Ok(());
+        };
+        if !has_filler(text.as_str()) {
+            push_lines(text, spare, lines)?;
+            return Ok(());
+        }
+        if has_break(text.as_str()) {
+            self.push_all_filled(text.as_str(), wide, state, width, spare, lines)?;
+            spare.store_text(text);
+            return Ok(());
+        }
+        self.push_line_filled(text.as_str(), wide, state, width, spare, lines)?;
+        spare.store_text(text);
+        Ok(())
+    }
+
+    /// Appends the lines of a text with what stands in the place of its fillers.
+    fn push_all_filled(
+        &self,
+        text: &str,
+        wide: WideKey,
+        state: &ProgressState,
+        width: u16,
+        spare: &mut SpareLines,
+        lines: &mut Vec<LineType>,
+    ) -> Result<(), Refusal>
+        ensures lines { OnOk result (map line_text lines.new.items ≡ map line_text lines.old.items
+            ++ lines_with self.now state.now width (Some (wide_found wide)) text.now) }
+        ensures kind { IsTrue (list_all is_bar_line lines.old.items) → IsTrue (list_all is_bar_line lines.new.items) }
+        ensures memory { IfErr result (λ e. e ≡ Refusal.Memory) }
+    {
+        let gap = Gap::of(text, width);
+        let mut filled = spare.text();
+        self.push_filled(text, wide, gap, state, spare, &mut filled)?;
+        push_lines(filled, spare, lines)?;
+        Ok(())
+    }
+
+    /// The same of one line that has a filler. A bar in its place leaves it one line.
+    fn push_line_filled(
+        &self,
+        text: &str,
+        wide: WideKey,
+        state: &ProgressState,
+        width: u16,
+        spare: &mut SpareLines,
+        lines: &mut Vec<LineType>,
+    ) -> Result<(), Refusal>
+        requires one_line { IsFalse (list_any is_newline text.now) }
+        requires has_filler { IsTrue (list_any is_filler text.now) }
+        ensures lines { OnOk result (map line_text lines.new.items ≡ map line_text lines.old.items
+            ++ lines_with self.now state.now width (Some (wide_found wide)) text.now) }
+        ensures kind { IsTrue (list_all is_bar_line lines.old.items) → IsTrue (list_all is_bar_line lines.new.items) }
+        ensures memory { IfErr result (λ e. e ≡ Refusal.Memory) }
+    {
+        let gap = Gap::of_line(text, width);
+        let mut filled = spare.text();
+        self.push_filled(text, wide, gap, state, spare, &mut filled)?;
+        let _read = self.tab;
+        match wide {
+            WideKey::Bar(_) => push_line(filled, lines)?,
+            WideKey::Message(_) => push_lines(filled, spare, lines)?,
+        }
+        Ok(())
+    }
+
+    /// The lines, in room of `spare`. Where the style shows nothing, there are none at once.
+    pub(crate) fn lines_in(
+        &self,
+        spare: &mut SpareLines,
+        state: &ProgressState,
+        now: Moment,
+        width: u16,
+    ) -> Result<Vec<LineType>, Refusal>
+        ensures lines { IfOk result (λ v. map line_text v.items
+            ≡ lines K.means self.now state.now now width) }
+        ensures kind { IfOk result (λ v. IsTrue (list_all is_bar_line v.items)) }
+        ensures memory { IfErr result (λ e. (e ≡ Refusal.Memory) × IsFalse (is_empty_style self.now state.now)) }
+    {
+        if self.is_empty(state) {
+            return Ok(spare.lines());
+        }
+        self.laid_out(spare, state, now, width)
+    }
+
+    /// The lines, laid out step by step.
+    fn laid_out(
+        &self,
+        spare: &mut SpareLines,
+        state: &ProgressState,
+        now: Moment,
+        width: u16,
+    ) -> Result<Vec<LineType>, Refusal>
+        ensures lines { IfOk result (λ v. map line_text v.items
+            ≡ lines K.means self.now state.now now width) }
+        ensures kind { IfOk result (λ v. IsTrue (list_all is_bar_line v.items)) }
+        ensures memory { IfErr result (λ e. e ≡ Refusal.Memory) }
+    {
+        let mut lines = spare.lines();
+        let mut line = Line {
+            text: spare.text(),
+            wide: None,
+        };
+        let template: &Template = &self.template;
+        for step in &self.steps {
+            match step {
+                Step::Text(text) => line.text.push_str(text.as_str())?,
+                Step::Literal(place) => line.text.push_str(literal_at(template, *place))?,
+                Step::Break => {
+                    let ended = line.end(spare.text());
+                    self.push_lines(ended, state, width, spare, &mut lines)?;
+                }
+                Step::Placeholder(placeholder) => {
+                    line.remember(placeholder.wide());
+                    self.push_styled(placeholder, state, now, spare, &mut line.text)?;
+                }
+            }
+        }
+        if line.text.as_str().is_empty() {
+            spare.store_text(line.text);
+            return Ok(lines);
+        }
+        self.push_lines(line, state, width, spare, &mut lines)?;
+        Ok(lines)
+    }
+}
+
+/// The line at hand: what it has so far, and the latest wide key.
+#[derive(Drop)]
+struct Line {
+    text: String,
+    wide: Option<WideKey>,
+}
+
+impl Line {
+    /// Takes the wide key that a placeholder is, if it is one.
+    fn remember(&mut self, wide: Option<WideKey>)
+        ensures { self.new ≡ record self.old { wide = option_or wide self.old.wide } }
+    {
+        if let Some(wide) = wide {
+            self.wide = Some(wide);
+        }
+    }
+
+    /// The line so far; the next one begins in this room.
+    fn end(&mut self, room: String) -> Line
+        ensures ended { result ≡ self.old }
+        ensures next { self.new ≡ record self.old { text = room } }
+    {
+        Line {
+            text: replace(&mut self.text, room),
+            wide: self.wide,
+        }
+    }
+}
+
+/// Appends the message at a gap's columns; where the gap ends its text, without white space at its end.
+fn push_message(
+    align: Alignment,
+    gap: Gap,
+    state: &ProgressState,
+    spare: &mut SpareLines,
+    out: &mut String,
+) -> Result<(), Refusal>
+    ensures text { let message = padded (shown_message state.now) gap.columns align true in
+        OnOk result (string_bytes out.new ≡ string_bytes out.old
+        ++ (if gap.is_last then trim_end message else message)) }
+    ensures memory { IfErr result (λ e. e ≡ Refusal.Memory) }
+{
+    let place = AtWidth {
+        width: gap.columns,
+        align,
+        truncate: true,
+    };
+    if !gap.is_last {
+        push_padded(state.message(), place, out)?;
+        return Ok(());
+    }
+    let mut message = spare.text();
+    push_padded(state.message(), place, &mut message)?;
+    out.push_str(message.as_str().trim_end())?;
+    spare.store_text(message);
+    Ok(())
+}

@@ -1,4 +1,0 @@
-use Rattle.indicatif_term.proofs.draw_target.Engine.remember.Goals as goal
-
-pub invariant_of-self : goal.invariant_of-self
-invariant_of-self g c = record { some = rw (c.replace-counts.ensures.after, c.replace-old.ensures.after) c.requires }

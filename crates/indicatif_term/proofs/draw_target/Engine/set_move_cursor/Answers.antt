@@ -1,6 +1,0 @@
-use Rattle.indicatif_term.specs.Engines.{Fits}
-use Rattle.indicatif_term.proofs.draw_target.Engine.set_move_cursor.Goals as goal
-
-pub returns-clause-lists : goal.returns-clause-lists
-unfolding Fits
-returns-clause-lists g c = λ l fits. fits

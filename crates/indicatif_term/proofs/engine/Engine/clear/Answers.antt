@@ -1,0 +1,38 @@
+use Rattle.std.proofs.Common.{ap, append-nil, ◌+◌, [], false, arith}
+use Rattle.std.proofs.Math.Logic.{∥∥₁_map}
+use Rattle.indicatif_term.specs.Inside.Bytes.{paint_bytes}
+use Rattle.indicatif_term.specs.Frames.{is_fault}
+use Rattle.indicatif_term.specs.Lists.{cleared}
+use Rattle.indicatif_term.specs.Engines.{engine_term}
+use Rattle.indicatif_term.proofs.RememberedLemmas.{nothing_shown}
+use Rattle.indicatif_term.proofs.DrawingLemmas.{cleared-adds, cleared-sound}
+use Rattle.indicatif_term.proofs.EngineLemmas.{paints_refused, paints_by, fill_led, fits_counts, fits_failed, fits_forgets, fits_by, suits_made, clear_paints}
+use Rattle.indicatif_term.proofs.engine.Engine.clear.Goals as goal
+
+pub returns-in_err-of-clause-paints : goal.returns-in_err-of-clause-paints
+returns-in_err-of-clause-paints g c = λ l fits.
+    paints_refused _ c.from_residual.result c.in_err-of.field-0.0 l _ c.from_residual.ensures.1 (ap is_fault c.in_err-of.ensures.0)
+
+pub repaint-requires : goal.repaint-requires
+repaint-requires g c =
+    record {
+      suits = ∥∥₁_map c.args.self.now.some (λ x.
+          let l = cleared x.0 in
+          (l, suits_made c.cleared-next.result _ l (c.cleared-next.ensures x.0 x.1.counted) (cleared-sound x.0) (nothing_shown c.nothing-forgotten.result l c.nothing-forgotten.ensures)));
+      lines = omega arith;
+    }
+
+pub returns-clause-lists : goal.returns-clause-lists
+returns-clause-lists g c = λ l fits. fits_by c.cleared-next.result _ c.repaint.result c.repaint.new.self l (cleared l) c.repaint.ensures.remembers
+    (c.cleared-next.ensures l (fits_counts c.args.self.now l fits)) (cleared-sound l) (nothing_shown c.nothing-forgotten.result (cleared l) c.nothing-forgotten.ensures)
+
+pub returns-clause-paints : goal.returns-clause-paints
+returns-clause-paints g c = λ l fits.
+    let s = g.T.TermLike.view (engine_term c.args.self.now) in
+    let old = c.args.self.now.counts in
+    let o = fits_counts c.args.self.now l fits in
+    paints_by s (g.T.TermLike.view (engine_term c.repaint.new.self)) old c.cleared-next.result _ c.repaint.result c.repaint.new.self c.args.self.now.failed l cleared
+    (paint_bytes false old.below (old.kept + old.live) [] c.cleared-next.result.below) c.repaint.ensures.remembers (fits_failed c.args.self.now l fits)
+    (rw (fill_led, append-nil) at c.repaint.ensures.writes)
+    (λ x is. clear_paints s.columns s.rows x old c.cleared-next.result (rw c.in_ok-of.ensures.0 at c.in_ok-of.field-0.some) is.counts (c.cleared-next.ensures x is.counts)) o
+    (fits_forgets c.args.self.now l fits) (cleared-sound l) (cleared-adds l)

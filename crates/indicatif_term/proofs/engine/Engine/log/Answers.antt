@@ -1,0 +1,137 @@
+use Rattle.std.proofs.Common.{map, ◌+◌, [], ◌++◌, ◌∙◌, ap, arith, refl, false, replicate, take}
+use Rattle.std.proofs.Math.Logic.{∥∥₁_map}
+use Rattle.indicatif_term.specs.Lists.{Lists, logged}
+use Rattle.indicatif_term.specs.Counts.{CountsOf}
+use Rattle.indicatif_term.specs.Inside.Bytes.{paint_bytes}
+use Rattle.indicatif_term.proofs.LastLineLemmas.{fill_bytes}
+use Rattle.indicatif_term.specs.Inside.Plans.{frame_lines}
+use Rattle.indicatif_term.specs.Frames.{bar_lines, logged_lines, text_lines, all_lines, is_fault}
+use Rattle.indicatif_term.specs.declared.remembered.Remembered.{Remembered}
+use Rattle.indicatif_term.specs.Engines.{engine_term}
+use Rattle.indicatif_term.specs.DrawTargets.{is_bottom}
+use Rattle.indicatif_term.proofs.SkippingLemmas.{logged_shown, some_lines}
+use Rattle.indicatif_term.proofs.DrawingLemmas.{logged-adds, logged-sound}
+use Rattle.indicatif_term.proofs.LineEndLemmas.{log_fill}
+use Rattle.indicatif_term.proofs.EngineLemmas.{paints_refused, paints_by, fill_led, fits_counts, fits_failed, fits_forgets, fits_by, suits_made, log_paints, narrow_both, answer_made}
+use Rattle.indicatif_term.proofs.LoggedLineLemmas.{logged_length, logged_utf8}
+use Rattle.indicatif_term.proofs.ShownRowLemmas.{frame_lines_le}
+use Rattle.indicatif_term.proofs.CarriedLemmas.{no_lines_right}
+use Rattle.indicatif_term.proofs.engine.Engine.log.Goals as goal
+
+pub returns-in_err-planned-clause-paints : goal.returns-in_err-planned-clause-paints
+returns-in_err-planned-clause-paints g c = λ l fits plain. paints_refused _ c.from_residual.result c.in_err-planned.field-0.0 l _ c.from_residual.ensures.1 c.in_err-planned.ensures.planned.0
+
+pub returns-in_err-lines-clause-memory : goal.returns-in_err-lines-clause-memory
+returns-in_err-lines-clause-memory g c = λ e.
+    let s = g.T.TermLike.view (engine_term c.args.self.now) in
+    let p = c.in_ok-planned.ensures.planned in
+    let old = c.args.self.now.counts in
+    let rows = c.in_ok-planned.planned.text.height in
+    let blanks = rw c.is_bottom.ensures at (c.blanks_of-blanks.ensures.blanks (old.kept + old.live) rows c.saturating_sub-free.ensures) in (
+      rw p.columns_are at c.in_ok-planned.planned.window.some,
+      some_lines s.columns s.rows 0 c.blanks_of-blanks.result (old.kept + old.live) rows (is_bottom c.args.alignment) c.args.frame.now c.in_ok-planned.planned.plan p.plan_is blanks
+          (omega (arith, c.in_err-lines.ensures.memory.1)),
+    )
+
+pub returns-in_err-lines-clause-paints : goal.returns-in_err-lines-clause-paints
+returns-in_err-lines-clause-paints g c = λ l fits plain.
+    paints_refused _ c.from_residual-in_err-lines.result c.in_err-lines.field-0.0 l _ c.from_residual-in_err-lines.ensures.1 (ap is_fault c.in_err-lines.ensures.memory.0)
+
+pub repaint-requires : goal.repaint-requires
+repaint-requires g c =
+    let s = g.T.TermLike.view (engine_term c.args.self.now) in
+    let frame = map bar_lines c.args.frame.now in
+    let bottom = is_bottom c.args.alignment in
+    let p = c.in_ok-planned.ensures.planned in
+    let win = c.in_ok-planned.planned.window in
+    let old = c.args.self.now.counts in
+    let text = text_lines (logged_lines c.args.text.now) in
+    let blanks = rw c.is_bottom.ensures at (c.blanks_of-blanks.ensures.blanks (old.kept + old.live) c.in_ok-planned.planned.text.height c.saturating_sub-free.ensures) in
+    let t = c.in_ok-lines.ensures.texts ∙ ap (λ xs. replicate c.blanks_of-blanks.result [] ++ xs) c.in_ok-planned.ensures.lines.texts_are in
+    let shown : Remembered = record {
+      width = win.columns;
+      kept = c.no_lines.result;
+      lines = c.in_ok-lines.lines;
+      right =
+          ∣ (λ p. (no_lines_right win.columns c.no_lines.result.items c.no_lines.ensures, c.in_ok-lines.ensures.right win.columns c.in_ok-planned.ensures.lines.measured)) ∣₁;
+    } in
+    record {
+      suits = ∥∥₁_map c.args.self.now.some (λ x.
+          let l = x.0 in
+          let l' = logged s.columns s.rows bottom text frame l in
+          let next = rw p.rows_are at (c.logged-next.ensures s.columns bottom text frame l x.1.counted (rw (← p.rows_are) at p.plan_is) p.height_is blanks) in (
+            l',
+            suits_made c.logged-next.result _ l' next (logged-sound s.columns s.rows bottom text frame l)
+                (logged_shown win.columns s.columns s.rows c.in_ok-planned.planned.text.height c.blanks_of-blanks.result bottom text c.args.frame.now l old c.in_ok-planned.planned.plan shown
+                p.columns_are refl x.1.counted p.plan_is p.height_is blanks t c.no_lines.ensures),
+          ));
+      lines = rw p.plan_is.lines_are (frame_lines_le s.columns s.rows c.args.frame.now);
+    }
+
+pub returns-clause-answer : goal.returns-clause-answer
+returns-clause-answer g c =
+    let text = text_lines (logged_lines c.args.text.now) in
+    let frame = all_lines (map bar_lines c.args.frame.now) in
+    let p = c.in_ok-planned.ensures.planned in
+    let w = c.in_ok-planned.planned.window.columns in
+    rw (← p.columns_are) (answer_made w (text ++ frame) c.logged-next.result _ c.repaint.result c.repaint.new.self
+    c.repaint.ensures.remembers c.in_ok-planned.planned.window.some
+    (rw (← p.columns_are) at (narrow_both (g.T.TermLike.view (engine_term c.args.self.now)).columns text frame p.narrow_text p.narrow_frame)))
+
+pub returns-clause-lists : goal.returns-clause-lists
+returns-clause-lists g c = λ l fits.
+    let s = g.T.TermLike.view (engine_term c.args.self.now) in
+    let frame = map bar_lines c.args.frame.now in
+    let bottom = is_bottom c.args.alignment in
+    let p = c.in_ok-planned.ensures.planned in
+    let win = c.in_ok-planned.planned.window in
+    let old = c.args.self.now.counts in
+    let text = text_lines (logged_lines c.args.text.now) in
+    let blanks = rw c.is_bottom.ensures at (c.blanks_of-blanks.ensures.blanks (old.kept + old.live) c.in_ok-planned.planned.text.height c.saturating_sub-free.ensures) in
+    let t = c.in_ok-lines.ensures.texts ∙ ap (λ xs. replicate c.blanks_of-blanks.result [] ++ xs) c.in_ok-planned.ensures.lines.texts_are in
+    let shown : Remembered = record {
+      width = win.columns;
+      kept = c.no_lines.result;
+      lines = c.in_ok-lines.lines;
+      right =
+          ∣ (λ p. (no_lines_right win.columns c.no_lines.result.items c.no_lines.ensures, c.in_ok-lines.ensures.right win.columns c.in_ok-planned.ensures.lines.measured)) ∣₁;
+    } in
+    fits_by c.logged-next.result _ c.repaint.result c.repaint.new.self l (logged s.columns s.rows bottom text frame l) c.repaint.ensures.remembers
+    (rw p.rows_are at (c.logged-next.ensures s.columns bottom text frame l (fits_counts c.args.self.now l fits) (rw (← p.rows_are) at p.plan_is) p.height_is blanks))
+    (logged-sound s.columns s.rows bottom text frame l)
+    (logged_shown win.columns s.columns s.rows c.in_ok-planned.planned.text.height c.blanks_of-blanks.result bottom text c.args.frame.now l old c.in_ok-planned.planned.plan shown p.columns_are refl
+    (fits_counts c.args.self.now l fits) p.plan_is p.height_is blanks t c.no_lines.ensures)
+
+pub returns-clause-paints : goal.returns-clause-paints
+returns-clause-paints g c = λ l fits plain.
+    let s = g.T.TermLike.view (engine_term c.args.self.now) in
+    let frame = map bar_lines c.args.frame.now in
+    let bottom = is_bottom c.args.alignment in
+    let old = c.args.self.now.counts in
+    let o = fits_counts c.args.self.now l fits in
+    let p = c.in_ok-planned.ensures.planned in
+    let plan = c.in_ok-planned.planned.plan in
+    let rows = c.in_ok-planned.planned.text.height in
+    let text = logged_lines c.args.text.now in
+    let blanks = rw c.is_bottom.ensures at (c.blanks_of-blanks.ensures.blanks (old.kept + old.live) rows c.saturating_sub-free.ensures) in
+    let next = λ (x : Lists) (is : CountsOf old x). rw p.rows_are at (c.logged-next.ensures s.columns bottom (text_lines text) frame x is (rw (← p.rows_are) at p.plan_is) p.height_is blanks) in
+    let lines = text ++ replicate c.blanks_of-blanks.result [] ++ take plan.lines (frame_lines c.args.frame.now) in
+    let fill = log_fill s.columns s.rows 0 c.blanks_of-blanks.result (old.kept + old.live) rows bottom c.args.frame.now plan p.plan_is p.plan_ends blanks
+    c.logged-next.result.below c.fill-fill.result c.unwrap_or-last.result text (logged_length c.args.text.now) (rw p.text_ends at c.unwrap_or-last.ensures)
+    (rw p.columns_are at c.fill-fill.ensures) in
+    paints_by s (g.T.TermLike.view (engine_term c.repaint.new.self)) old c.logged-next.result _ c.repaint.result c.repaint.new.self c.args.self.now.failed l
+    (logged s.columns s.rows bottom (text_lines text) frame)
+    (paint_bytes false old.below (old.kept + old.live) lines c.logged-next.result.below ++ fill_bytes c.logged-next.result.below s.columns lines) c.repaint.ensures.remembers
+    (fits_failed c.args.self.now l fits)
+    (rw (fill_led, fill) at c.repaint.ensures.writes)
+    (λ x is. log_paints s.columns s.rows x old c.logged-next.result rows c.blanks_of-blanks.result bottom text c.args.frame.now plan
+    (rw p.columns_are at c.in_ok-planned.planned.window.some) (logged_utf8 c.args.text.now c.utf8.text) plain p.narrow_text p.narrow_frame is.counts p.plan_is (next x is.counts) p.height_is blanks) o
+    (fits_forgets c.args.self.now l fits) (logged-sound s.columns s.rows bottom (text_lines text) frame l) (logged-adds s.columns s.rows bottom (text_lines text) frame l)
+
+pub invariant_of-shown : goal.invariant_of-shown
+invariant_of-shown g c = record {
+  right = ∣ (λ p. (
+    no_lines_right c.in_ok-planned.planned.window.columns c.no_lines.result.items c.no_lines.ensures,
+    c.in_ok-lines.ensures.right c.in_ok-planned.planned.window.columns c.in_ok-planned.ensures.lines.measured,
+  )) ∣₁;
+}

@@ -1,0 +1,36 @@
+-- Where bars are drawn: a terminal, with how often it may be drawn there; or nowhere. And where they stand in the place of a taller drawing.
+use Rattle.std.specs.Prelude.{ℕ, Bool, true, false, not, ◌||◌, List, Option, Some, None, option_map, string_bytes, codes, bytes_eq}
+use Rattle.std.specs.declared.io.ErrorKind.TheVariants.{Other}
+use Rattle.indicatif_term.specs.Limiters.{Limiter}
+use Rattle.indicatif_term.specs.Writers.{WriterTerm}
+use Rattle.indicatif_term.specs.declared.draw_target.Facts.{Facts}
+use Rattle.indicatif_term.specs.declared.draw_target.MultiProgressAlignment.{MultiProgressAlignment}
+use Rattle.indicatif_term.specs.declared.draw_target.MultiProgressAlignment.TheVariants.{Top, Bottom}
+
+module _ {T : Type 0} where
+  -- a target's terminal; none where it is hidden
+  abbrev pub term_of : Option (T × Option Limiter) → Option T
+  term_of target = option_map (λ t. t.0) target
+
+  -- a target's limiter; none where it is hidden, and where it may be drawn as often as it is asked
+  abbrev pub limiter_of : Option (T × Option Limiter) → Option Limiter
+  limiter_of None = None
+  limiter_of (Some t) = t.1
+
+-- whether a terminal of this kind has no moves: its kind isn't told, or it is `dumb`
+abbrev pub is_dumb : Option (List ℕ) → Bool
+is_dumb None = true
+is_dumb (Some kind) = bytes_eq kind (codes "dumb")
+
+-- whether bars are hidden where this is so
+abbrev pub hides : Facts → Bool
+hides facts = not facts.attended || is_dumb (option_map string_bytes facts.term)
+
+-- a new terminal of the size that is told, behind a writer
+abbrev pub term_behind : {W : Type 0} → W → Facts → WriterTerm W
+term_behind w facts = record { writer = w; columns = facts.cols; rows = facts.rows; faults = 0; kind = Other }
+
+-- whether bars stand at the bottom
+abbrev pub is_bottom : MultiProgressAlignment → Bool
+is_bottom Top = false
+is_bottom Bottom = true

@@ -1,0 +1,716 @@
+//! Drawing the lines of bars on a terminal, below text that stays.
+//!
+//! The rows that an engine has written are of three kinds, from the top: those *above*, which never change again; those
+//! *kept*, of bars that are gone; and the *live* ones, of the last frame. An engine remembers their counts and the lines of its
+//! last drawing, no text that was logged, so what it needs does not grow with that. A draw writes the lines that changed and leaves
+//! those that stay. Else, as for a log, it goes up to the first of the kept and live rows, empties them from there down, goes up
+//! again, and writes the new ones in their place. The rows above stand at every moment.
+ghost use Rattle.std.specs.Prelude.{◌≡◌, ◌∷◌, List, true, false, ◌≢◌, map, length, replicate, ◌+◌, ◌<◌, ◌≤◌, IfErr, IfSome, option_map, IsTrue, IsFalse, ◌++◌, [], ℕ, Err, false, ◌⊎◌, ◌↔◌, ◌==◌, ◌&&◌, IfOk};
+ghost use Rattle.indicatif_term.specs.Lists.{Lists, opening_lists};
+ghost use Rattle.indicatif_term.specs.Counts.{CountsOf};
+ghost use Rattle.indicatif_term.specs.Remembered.{Suits};
+ghost use Rattle.indicatif_term.specs.Standing.{texts};
+
+use crate::beside::{Room, below_blanks, height_of, lines_among, lines_within};
+use crate::carried::carried;
+use crate::counts::{Counts, Keep, blanks_of};
+use crate::draw_target::{MultiProgressAlignment, ProgressDrawTarget};
+use crate::layout::plan_drawing;
+use crate::limiter::RateLimiter;
+use crate::lines::Segment;
+use crate::moving::{are_even, write_over};
+use crate::painting::{Drawing, Painting, paint};
+use crate::recutting::Widths;
+use crate::remembered::{Remembered, StandingLine};
+use crate::renewed::{Last, NewLine, new_lines, put_new};
+use crate::skipping::{Changes, write_changes};
+use crate::spare::Spare;
+use crate::term_like::{Resize, TermLike};
+use crate::window::Window;
+use indicatif_text::columns::Refusal;
+use std::alloc::Global;
+use std::mem::replace;
+
+/// Draws the lines of bars on a terminal, and takes back those that it may still change.
+///
+/// It begins on the cursor's row, which has to be empty, as all below it, with the cursor at its front; it may be any row of
+/// the window. Lines are to hold printable characters and colour sequences alone; a line wraps where its row is full, and a
+/// wide character that does not fit goes to the next row. Nobody else may write to the terminal, and only `resize` changes its size.
+///
+/// A call that is refused with `NoColumns`, `TooWide` or `Memory` has written nothing and changed nothing; it can be made
+/// again. After `Terminal`, with the kind of the terminal's own failure, some beginning of the drawing was written: the rows
+/// are forgotten, and the next drawing begins on a new row, by `write_line("")` and `clear_line`, below whatever stands there,
+/// also where the terminal broke off within an escape sequence or a character. The rows above stand then, too, and from then on.
+///
+/// ```
+/// let mut engine = Engine::new(alloc, InMemoryTerm::new(alloc, 4, 5)?);
+/// engine.draw(&frame, 0, MultiProgressAlignment::Top)?; // the lines of the frame's bars
+/// engine.log("done", &frame, MultiProgressAlignment::Top)?; // stands above them from now on
+/// ```
+#[derive(Drop)]
+pub struct Engine<T: Drop> {
+    term: T,
+    alloc: Global,
+    counts: Counts,
+    /// The lines of the kept rows and of the last drawing.
+    shown: Remembered,
+    /// Room for the next counts and lines.
+    spare: Spare,
+    /// Whether a call has failed, so that the next drawing begins on a new row.
+    failed: bool,
+    /// Whether draws write lines over those that stand there, where they can.
+    moves: bool,
+    ghost some: { ∥ ((l : Lists) × Suits counts failed shown l) ∥₁ },
+}
+
+impl<T: TermLike + Drop> Engine<T> {
+    ghost use Rattle.indicatif_term.specs.Lists.{Lists, drawn, logged, cleared, kept_of, fate};
+    ghost use Rattle.indicatif_term.specs.Inside.Bytes.{paint_bytes, drawing_lines};
+    ghost use Rattle.indicatif_term.specs.Frames.{bar_lines, all_lines, are_plain, logged_lines, text_lines, is_fault};
+    ghost use Rattle.indicatif_term.specs.Inside.Plans.{frame_lines};
+    ghost use Rattle.indicatif_term.specs.Engines.{engine_moves, engine_term, Fits, is_failure, Answers, Counted, Paints, lists_after};
+    ghost use Rattle.indicatif_term.specs.Inside.Remembering.{Draws, Remembers, HasRoom, AreKnown, CanMove};
+    ghost use Rattle.indicatif_term.specs.Inside.Moves.{moved_bytes};
+    ghost use Rattle.indicatif_term.specs.Inside.Skips.{PlacedLine, placed_height, change_bytes};
+    ghost use Rattle.indicatif_term.specs.Inside.Renewed.{AreFitting, AreInPlace, Renews};
+    ghost use Rattle.indicatif_term.specs.Inside.Places.{IsWithin};
+    ghost use Rattle.indicatif_term.specs.Standing.{placed};
+    ghost use Rattle.indicatif_term.specs.Shows.{IsOpening, Rests, resting};
+    ghost use Rattle.indicatif_term.specs.Screen.{Screen};
+    ghost use Rattle.indicatif_term.specs.Terminal.{Terminal};
+    ghost use Rattle.indicatif_term.specs.DrawTargets.{is_bottom, term_of, limiter_of};
+
+    /// An engine that has drawn nothing yet. It takes no memory and writes nothing.
+    pub fn new(alloc: Global, term: T) -> Self
+        ensures terminal { engine_term result ≡ term }
+        ensures moves { engine_moves result ≡ false }
+        ensures lists { Fits result opening_lists }
+        ensures rests { (w h : ℕ) (opening : Screen) → IsOpening w h opening →
+            Rests w h opening opening_lists (resting opening) }
+    {
+        Engine {
+            term,
+            alloc,
+            counts: Counts::new(alloc),
+            shown: Remembered::nothing(alloc),
+            spare: Spare::new(alloc),
+            failed: false,
+            moves: false,
+        }
+    }
+
+    /// An engine on this target's terminal, none where the target is hidden; and the target's limiter. It takes no memory and
+    /// writes nothing.
+    ///
+    /// ```
+    /// let (engine, limiter) = Engine::opened_on(alloc, ProgressDrawTarget::term_like(term)); // an engine, and no limiter
+    /// ```
+    pub fn opened_on(
+        alloc: Global,
+        target: ProgressDrawTarget<T>,
+    ) -> (Option<Self>, Option<RateLimiter>)
+        ensures terminal { option_map engine_term result.0 ≡ term_of target }
+        ensures opened { IfSome result.0 (λ engine. Fits engine opening_lists) }
+        ensures moves { IfSome result.0 (λ engine. engine_moves engine ≡ false) }
+        ensures limiter { result.1 ≡ limiter_of target }
+    {
+        match target.into_parts() {
+            Some((term, limiter)) => (Some(Engine::new(alloc, term)), limiter),
+            None => (None, None),
+        }
+    }
+
+    /// The terminal.
+    pub fn term(&self) -> &T
+        ensures terminal { result.now ≡ engine_term self.now }
+        ensures some { (l : Lists) × Fits self.now l }
+    {
+        &self.term
+    }
+
+    /// The terminal; what was drawn stays on it.
+    pub fn into_term(self) -> T
+        ensures { result ≡ engine_term self }
+    {
+        self.term
+    }
+
+    /// Whether draws write their lines over those that stand there, by moves of the cursor alone: up to the first row, to its front,
+    /// and each line with the spaces that fill its last row. It is off at first.
+    ///
+    /// A draw does so where that shows the same as with it off: it has a line and at least as many rows as it takes back, none of
+    /// its rows ends early for a wide character, no line begins with a character of no columns, and what stands in the rows is
+    /// known. Any other draw, a log and a clear go as with it off.
+    ///
+    /// ```
+    /// engine.set_move_cursor(true); // for a terminal that flickers where rows are emptied
+    /// ```
+    pub fn set_move_cursor(&mut self, on: bool)
+        ensures terminal { engine_term self.new ≡ engine_term self.old }
+        ensures moves { engine_moves self.new ≡ on }
+        ensures lists { (l : Lists) → Fits self.old l → Fits self.new l }
+    {
+        self.moves = on;
+    }
+
+    /// Draws the frame in the place of the live rows. The rows of its first `pass` members, which have numbers of their own,
+    /// then become kept rows, with the blank rows above them.
+    ///
+    /// As many lines from the front are written as have at most the terminal's rows together, and none where the frame stands as it is.
+    /// One pass over the frame before the first byte, two over the lines at its front that stand there, one while writing. Memory for
+    /// its lines, those of kept rows and their counts, where earlier drawings left no room for them, is taken before the first byte.
+    ///
+    /// Refused: `NoColumns` where the terminal has no columns; `TooWide` where any line, also one past the terminal's
+    /// rows, holds a character wider than the terminal; `Memory`, also in place of `TooWide`, and never where the frame has no
+    /// line; then `Terminal`.
+    pub fn draw(
+        &mut self,
+        frame: &[Segment],
+        pass: usize,
+        alignment: MultiProgressAlignment,
+    ) -> Result<(), Refusal>
+        ensures answer { Answers (T.view (engine_term self.old)).columns
+            (all_lines (map bar_lines frame.now)) result }
+        ensures counted { Counted (T.view (engine_term self.old)) (T.view (engine_term self.new)) result }
+        ensures moves { engine_moves self.new ≡ engine_moves self.old }
+        ensures memory { result ≡ Err Refusal.Memory →
+            (0 < (T.view (engine_term self.old)).columns) × (0 < length (all_lines (map bar_lines frame.now))) }
+        ensures unchanged { IfErr result (λ e. IsFalse (is_fault e) → self.new ≡ self.old) }
+        ensures lists { (l : Lists) → Fits self.old l → let s = T.view (engine_term self.old) in
+            Fits self.new (lists_after result l
+            (drawn s.columns s.rows (is_bottom alignment) pass (map bar_lines frame.now) l)) }
+        ensures paints { (l : Lists) → Fits self.old l →
+            IsTrue (are_plain (all_lines (map bar_lines frame.now))) →
+            let s = T.view (engine_term self.old) in
+            Paints s (T.view (engine_term self.new)) (is_failure result) l (lists_after result l
+            (drawn s.columns s.rows (is_bottom alignment) pass (map bar_lines frame.now) l)) }
+    {
+        let may_stay = self.may_stay(pass);
+        let before = Last::of(&self.shown, &self.counts, may_stay);
+        match new_lines(&mut self.spare, &self.term, before, frame) {
+            Some(changed) => self.renew(changed),
+            None => self.draw_anew(frame, pass, alignment),
+        }
+    }
+
+    /// The same, by a plan of the frame.
+    #[inline(never)]
+    fn draw_anew(
+        &mut self,
+        frame: &[Segment],
+        pass: usize,
+        alignment: MultiProgressAlignment,
+    ) -> Result<(), Refusal>
+        ensures answer { Answers (T.view (engine_term self.old)).columns
+            (all_lines (map bar_lines frame.now)) result }
+        ensures counted { Counted (T.view (engine_term self.old)) (T.view (engine_term self.new)) result }
+        ensures moves { engine_moves self.new ≡ engine_moves self.old }
+        ensures memory { result ≡ Err Refusal.Memory →
+            (0 < (T.view (engine_term self.old)).columns) × (0 < length (all_lines (map bar_lines frame.now))) }
+        ensures unchanged { IfErr result (λ e. IsFalse (is_fault e) → self.new ≡ self.old) }
+        ensures lists { (l : Lists) → Fits self.old l → let s = T.view (engine_term self.old) in
+            Fits self.new (lists_after result l
+            (drawn s.columns s.rows (is_bottom alignment) pass (map bar_lines frame.now) l)) }
+        ensures paints { (l : Lists) → Fits self.old l →
+            IsTrue (are_plain (all_lines (map bar_lines frame.now))) →
+            let s = T.view (engine_term self.old) in
+            Paints s (T.view (engine_term self.new)) (is_failure result) l (lists_after result l
+            (drawn s.columns s.rows (is_bottom alignment) pass (map bar_lines frame.now) l)) }
+    {
+        let planned = plan_drawing(&self.term, &self.shown, &mut self.spare, None, frame, pass)?;
+        let window = planned.window;
+        let plan = planned.plan;
+        let taken = self.counts.live;
+        let blanks = blanks_of(alignment.is_bottom(), taken, plan.rows);
+        let drawing = Drawing {
+            text: None,
+            blanks,
+            frame,
+            lines: plan.lines,
+        };
+        let lines = lines_among(
+            &mut self.spare,
+            self.shown.on(window.columns),
+            taken,
+            blanks,
+            planned.lines,
+        )?;
+        let needed = plan.lines > 0;
+        let kept = carried(&mut self.spare, &self.shown, &self.counts, window, needed)?;
+        let shown = Remembered {
+            width: window.columns,
+            kept,
+            lines,
+        };
+        let last = plan.last;
+        let next = self.counts.drawn(plan, blanks, window.rows);
+        if self.can_move(&next, taken, &shown) {
+            return self.overwrite(next, taken, shown);
+        }
+        if let Some(room) = self.room_for(&next, taken, &shown) {
+            return self.rewrite(next, shown, room);
+        }
+        let fill = next.fill(last, window.columns);
+        self.repaint(next, taken, &drawing, fill, shown)
+    }
+
+    /// Writes the lines of the text, which stay, in the place of the kept and the live rows, and draws the frame below
+    /// them.
+    ///
+    /// The lines are ended by LF or CR LF; an empty text is one empty line. Tabs in it are not expanded. The text is lent:
+    /// it is measured in one pass and written in one.
+    ///
+    /// Refused as `draw`, with the text's lines among those that may be too wide.
+    pub fn log(
+        &mut self,
+        text: &str,
+        frame: &[Segment],
+        alignment: MultiProgressAlignment,
+    ) -> Result<(), Refusal>
+        ensures answer { Answers (T.view (engine_term self.old)).columns
+            (text_lines (logged_lines text.now) ++ all_lines (map bar_lines frame.now)) result }
+        ensures counted { Counted (T.view (engine_term self.old)) (T.view (engine_term self.new)) result }
+        ensures moves { engine_moves self.new ≡ engine_moves self.old }
+        ensures memory { result ≡ Err Refusal.Memory →
+            (0 < (T.view (engine_term self.old)).columns) × (0 < length (all_lines (map bar_lines frame.now))) }
+        ensures unchanged { IfErr result (λ e. IsFalse (is_fault e) → self.new ≡ self.old) }
+        ensures lists { (l : Lists) → Fits self.old l → let s = T.view (engine_term self.old) in
+            Fits self.new (lists_after result l (logged s.columns s.rows (is_bottom alignment)
+            (text_lines (logged_lines text.now)) (map bar_lines frame.now) l)) }
+        ensures paints { (l : Lists) → Fits self.old l →
+            IsTrue (are_plain
+            (text_lines (logged_lines text.now) ++ all_lines (map bar_lines frame.now))) →
+            let s = T.view (engine_term self.old) in
+            Paints s (T.view (engine_term self.new)) (is_failure result) l (lists_after result l
+            (logged s.columns s.rows (is_bottom alignment)
+            (text_lines (logged_lines text.now)) (map bar_lines frame.now) l)) }
+    {
+        let planned = plan_drawing(
+            &self.term,
+            &self.shown,
+            &mut self.spare,
+            Some(text),
+            frame,
+            0,
+        )?;
+        let window = planned.window;
+        let metrics = planned.text;
+        let plan = planned.plan;
+        let taken = self.counts.kept + self.counts.live;
+        let free = taken.saturating_sub(metrics.height);
+        let blanks = blanks_of(alignment.is_bottom(), free, plan.rows);
+        let drawing = Drawing {
+            text: Some(text),
+            blanks,
+            frame,
+            lines: plan.lines,
+        };
+        let lines = below_blanks(&mut self.spare, blanks, planned.lines)?;
+        let shown = Remembered {
+            width: window.columns,
+            kept: self.spare.no_lines(),
+            lines,
+        };
+        let last = plan.last.unwrap_or(metrics.last_line_width);
+        let next = self
+            .counts
+            .logged(metrics.height, plan, blanks, window.rows);
+        let fill = next.fill(Some(last), window.columns);
+        self.repaint(next, taken, &drawing, fill, shown)
+    }
+
+    /// Takes back the kept and the live rows. Takes no memory.
+    ///
+    /// Refused: `NoColumns` where the terminal has no columns; then `Terminal`.
+    pub fn clear(&mut self) -> Result<(), Refusal>
+        ensures answer { Answers (T.view (engine_term self.old)).columns [] result }
+        ensures no_memory { result ≢ Err Refusal.Memory }
+        ensures counted { Counted (T.view (engine_term self.old)) (T.view (engine_term self.new)) result }
+        ensures moves { engine_moves self.new ≡ engine_moves self.old }
+        ensures unchanged { IfErr result (λ e. IsFalse (is_fault e) → self.new ≡ self.old) }
+        ensures lists { (l : Lists) → Fits self.old l →
+            Fits self.new (lists_after result l (cleared l)) }
+        ensures paints { (l : Lists) → Fits self.old l →
+            Paints (T.view (engine_term self.old)) (T.view (engine_term self.new)) (is_failure result) l
+            (lists_after result l (cleared l)) }
+    {
+        Window::of(&self.term)?;
+        let taken = self.counts.kept + self.counts.live;
+        let next = self.counts.cleared(self.alloc);
+        let nothing = Drawing {
+            text: None,
+            blanks: 0,
+            frame: &[],
+            lines: 0,
+        };
+        let forgotten = Remembered::nothing(self.alloc);
+        self.repaint(next, taken, &nothing, 0, forgotten)
+    }
+
+    /// The rows of a bar that is gone become kept rows, with the blank rows above them, if they are the first live ones of a
+    /// bar. Writes nothing. An engine that has failed has no rows.
+    pub fn keep(&mut self, bar: u64) -> Keep
+        ensures fate { (l : Lists) → Fits self.old l → result ≡ fate bar l }
+        ensures lists { (l : Lists) → Fits self.old l →
+            Fits self.new (kept_of (T.view (engine_term self.old)).columns bar l) }
+        ensures terminal { engine_term self.new ≡ engine_term self.old }
+        ensures moves { engine_moves self.new ≡ engine_moves self.old }
+        ensures rests { (w h : ℕ) (l : Lists) (opening : Screen) (t : Terminal) →
+            Rests w h opening l t → Rests w h opening (kept_of w bar l) t }
+    {
+        let counts = replace(&mut self.counts, Counts::new(self.alloc));
+        let (outcome, next) = counts.keep(bar);
+        self.counts = next;
+        let shown = replace(&mut self.shown, Remembered::nothing(self.alloc));
+        let width = self.term.width() as usize;
+        self.shown = shown.after_keep(self.alloc, width);
+        outcome
+    }
+
+    /// Whether these lines can be written over so many live rows by moves alone, where that is asked.
+    fn can_move(&self, next: &Counts, taken: usize, shown: &Remembered) -> bool
+        ensures { IsTrue result → CanMove self.now next.now taken shown.now }
+    {
+        if !self.moves || self.failed || next.below || shown.lines.is_empty() {
+            return false;
+        }
+        if self.counts.below != (taken == 0) || height_of(&shown.lines) < taken {
+            return false;
+        }
+        if taken > 0 && !self.are_known(taken, shown.width) {
+            return false;
+        }
+        are_even(&shown.lines, shown.width)
+    }
+
+    /// Whether the lines of so many live rows are remembered, of a terminal of that width.
+    fn are_known(&self, taken: usize, width: usize) -> bool
+        ensures { IsTrue result → AreKnown self.now.shown taken width }
+    {
+        if self.shown.width != width {
+            return false;
+        }
+        let known = height_of(&self.shown.lines);
+        taken <= known && known <= 65535
+    }
+
+    /// Writes the lines over so many live rows, by moves alone, and remembers the next counts and the lines; after a failure, that a
+    /// call has failed.
+    fn overwrite(&mut self, next: Counts, taken: usize, shown: Remembered) -> Result<(), Refusal>
+        requires suits { ∥ ((l : Lists) × Suits next false shown l) ∥₁ }
+        ensures writes { Draws (moved_bytes shown.width taken (placed shown.lines.items))
+            (T.view (engine_term self.old)) (T.view (engine_term self.new)) result }
+        ensures remembers { Remembers next shown result self.new }
+        ensures moves { engine_moves self.new ≡ engine_moves self.old }
+    {
+        match write_over(&mut self.term, taken, &shown.lines, shown.width) {
+            Ok(()) => {
+                self.remember(next, shown);
+                Ok(())
+            }
+            Err(e) => {
+                self.forget();
+                Err(Refusal::Terminal(e.kind()))
+            }
+        }
+    }
+
+    /// Whether a draw may be left out where it changes nothing: no call has failed, the cursor needn't move, and no member passes.
+    fn may_stay(&self, pass: usize) -> bool
+        ensures { result ≡ true → (self.now.failed ≡ false) × (pass ≡ 0) }
+    {
+        !self.failed && !self.moves && pass == 0
+    }
+
+    /// Writes new lines in the place of those that stand, and remembers them; after a failure, that a call has failed.
+    fn renew(&mut self, changed: Vec<NewLine>) -> Result<(), Refusal>
+        requires sound { self.old.failed ≡ false }
+        requires some { 0 < length self.old.shown.lines.items }
+        requires low { (r : Remembered) → Renews self.old.shown changed.items r → placed_height (placed r.lines.items) ≤ 65535 }
+        requires fit { AreFitting self.old.shown.width self.old.shown.lines.items (length self.old.shown.lines.items) changed.items }
+        requires known { 0 < self.old.shown.width }
+        requires suits { (r : Remembered) → Renews self.old.shown changed.items r → ∥ ((l : Lists) × Suits self.old.counts false r l) ∥₁ }
+        ensures { (r : Remembered) × (ls : List StandingLine) × Renews self.old.shown changed.items r × Remembers self.old.counts r result self.new
+            × AreInPlace self.old.shown.width self.old.shown.lines.items ls × (texts ls ≡ texts r.lines.items)
+            × ((front : List PlacedLine) (last : PlacedLine) → placed ls ≡ front ++ last ∷ [] →
+            Draws (change_bytes self.old.shown.width 0 front last []) (T.view (engine_term self.old)) (T.view (engine_term self.new)) result)
+            × (engine_moves self.new ≡ engine_moves self.old) }
+    {
+        if changed.is_empty() {
+            self.spare.store_new(changed);
+            return self.stay();
+        }
+        self.write_new(changed)
+    }
+
+    /// Writes nothing, and remembers what was drawn last; after a failure, that a call has failed.
+    fn stay(&mut self) -> Result<(), Refusal>
+        requires { self.old.failed ≡ false }
+        ensures writes { Draws [] (T.view (engine_term self.old)) (T.view (engine_term self.new)) result }
+        ensures remembers { Remembers self.old.counts self.old.shown result self.new }
+        ensures moves { engine_moves self.new ≡ engine_moves self.old }
+    {
+        match self.term.flush() {
+            Ok(()) => Ok(()),
+            Err(e) => {
+                self.forget();
+                Err(Refusal::Terminal(e.kind()))
+            }
+        }
+    }
+
+    /// Writes new lines in the place of those that stand, and remembers them; after a failure, that a call has failed.
+    fn write_new(&mut self, changed: Vec<NewLine>) -> Result<(), Refusal>
+        requires sound { self.old.failed ≡ false }
+        requires some { 0 < length self.old.shown.lines.items }
+        requires low { (r : Remembered) → Renews self.old.shown changed.items r → placed_height (placed r.lines.items) ≤ 65535 }
+        requires fit { AreFitting self.old.shown.width self.old.shown.lines.items (length self.old.shown.lines.items) changed.items }
+        requires known { 0 < self.old.shown.width }
+        requires suits { (r : Remembered) → Renews self.old.shown changed.items r → ∥ ((l : Lists) × Suits self.old.counts false r l) ∥₁ }
+        ensures { (r : Remembered) × Renews self.old.shown changed.items r × Remembers self.old.counts r result self.new
+            × ((front : List PlacedLine) (last : PlacedLine) → placed r.lines.items ≡ front ++ last ∷ [] →
+            Draws (change_bytes self.old.shown.width 0 front last []) (T.view (engine_term self.old)) (T.view (engine_term self.new)) result)
+            × (engine_moves self.new ≡ engine_moves self.old) }
+    {
+        put_new(&mut self.shown.lines, &mut self.spare, changed);
+        let lines = &self.shown.lines;
+        let before = lines.len() - 1;
+        let changes = Changes {
+            front: &lines[..before],
+            last: &lines[before],
+            free: 0,
+            more: &[],
+        };
+        match write_changes(&mut self.term, &changes, self.shown.width) {
+            Ok(()) => Ok(()),
+            Err(e) => {
+                self.forget();
+                Err(Refusal::Terminal(e.kind()))
+            }
+        }
+    }
+
+    /// How these lines stand in the place of so many live rows, where those that stay can be left; else the whole drawing is written.
+    fn room_for(&self, next: &Counts, taken: usize, shown: &Remembered) -> Option<Room>
+        ensures { IfSome result (λ room. HasRoom self.now next.now taken shown.now × IsWithin shown.now.lines.items taken room) }
+    {
+        if self.failed || self.counts.below || next.below {
+            return None;
+        }
+        if self.shown.width != shown.width || shown.width > 65535 {
+            return None;
+        }
+        let known = height_of(&self.shown.lines);
+        if known < taken || known > 65535 {
+            return None;
+        }
+        lines_within(&shown.lines, taken)
+    }
+
+    /// Writes those of the lines that do not stay, and remembers the next counts and the lines; after a failure, that a call has
+    /// failed.
+    fn rewrite(&mut self, next: Counts, shown: Remembered, room: Room) -> Result<(), Refusal>
+        requires suits { ∥ ((l : Lists) × Suits next false shown l) ∥₁ }
+        requires room { (rows : ℕ) × IsWithin shown.lines.items rows room × (rows ≤ 65535) }
+        ensures writes { (front : List PlacedLine) (last : PlacedLine) (more : List PlacedLine) → placed shown.lines.items ≡ front ++ last ∷ more → length front + 1 ≡ room.lines →
+            Draws (change_bytes shown.width room.free front last more)
+            (T.view (engine_term self.old)) (T.view (engine_term self.new)) result }
+        ensures remembers { Remembers next shown result self.new }
+        ensures moves { engine_moves self.new ≡ engine_moves self.old }
+    {
+        let before = room.lines - 1;
+        let changes = Changes {
+            front: &shown.lines[..before],
+            last: &shown.lines[before],
+            free: room.free,
+            more: &shown.lines[room.lines..],
+        };
+        match write_changes(&mut self.term, &changes, shown.width) {
+            Ok(()) => {
+                self.remember(next, shown);
+                Ok(())
+            }
+            Err(e) => {
+                self.forget();
+                Err(Refusal::Terminal(e.kind()))
+            }
+        }
+    }
+
+    /// A drawing was made.
+    fn remember(&mut self, next: Counts, shown: Remembered)
+        requires { ∥ ((l : Lists) × Suits next false shown l) ∥₁ }
+        ensures terminal { engine_term self.new ≡ engine_term self.old }
+        ensures moves { engine_moves self.new ≡ engine_moves self.old }
+        ensures remembered { (self.new.counts ≡ next) × (self.new.failed ≡ false) × (self.new.shown ≡ shown) }
+    {
+        let counts = replace(&mut self.counts, next);
+        self.spare.store_counts(counts.segments);
+        let old = replace(&mut self.shown, shown);
+        self.spare.store_kept(old.kept);
+        self.spare.store_lines(old.lines);
+        self.failed = false;
+    }
+
+    /// The terminal failed.
+    fn forget(&mut self)
+        ensures terminal { engine_term self.new ≡ engine_term self.old }
+        ensures moves { engine_moves self.new ≡ engine_moves self.old }
+        ensures forgotten { CountsOf self.new.counts opening_lists × (self.new.failed ≡ true) × (self.new.shown.width ≡ 0) }
+    {
+        self.counts = Counts::new(self.alloc);
+        self.shown = Remembered::nothing(self.alloc);
+        self.failed = true;
+    }
+
+    /// Takes so many rows back, writes the drawing and so many spaces behind it in their place, and remembers the next
+    /// counts and these lines; after a failure, that a call has failed.
+    fn repaint(
+        &mut self,
+        next: Counts,
+        taken: usize,
+        drawing: &Drawing<'_>,
+        fill: usize,
+        shown: Remembered,
+    ) -> Result<(), Refusal>
+        requires suits { ∥ ((l : Lists) × Suits next false shown l) ∥₁ }
+        requires lines { drawing.now.lines ≤ length (frame_lines drawing.now.frame.now) }
+        ensures writes { Draws
+            (paint_bytes self.old.failed self.old.counts.below taken (drawing_lines drawing.now) next.below
+            ++ replicate fill 0x20)
+            (T.view (engine_term self.old)) (T.view (engine_term self.new)) result }
+        ensures remembers { Remembers next shown result self.new }
+        ensures moves { engine_moves self.new ≡ engine_moves self.old }
+    {
+        let painting = Painting {
+            anew: self.failed,
+            below: self.counts.below,
+            taken,
+            drawing: *drawing,
+            ends_below: next.below,
+            fill,
+        };
+        match paint(&mut self.term, &painting) {
+            Ok(()) => {
+                self.remember(next, shown);
+                Ok(())
+            }
+            Err(e) => {
+                self.forget();
+                Err(Refusal::Terminal(e.kind()))
+            }
+        }
+    }
+}
+
+impl<T: Resize + Drop> Engine<T> {
+    ghost use Rattle.indicatif_term.specs.Lists.{Lists};
+    ghost use Rattle.indicatif_term.specs.Resizes.{Resized, SizeTakes, has_size, recut_lists, settled_whole, resized_lists};
+    ghost use Rattle.indicatif_term.specs.Engines.{engine_moves, engine_term, Fits};
+
+    /// Gets `rows` rows and `cols` columns. Nothing is written: its terminal cuts each row that stands there, and the lists are cut
+    /// with them, so that the next drawing takes back just the rows that its own became. Rows aren't joined again where there are
+    /// more columns than before; live rows that scroll away are rows above from then on. The same size changes nothing. What
+    /// `set_move_cursor` was told last stays.
+    ///
+    /// After a failure of the terminal, until the next drawing, nothing but the size changes: the rows above the cursor's that were
+    /// safe are cut and stay safe (`laws::what_stays_safe`).
+    ///
+    /// It takes memory for the lines of the kept and the live rows, one a row, before the terminal gets the size.
+    ///
+    /// Refused: `ZeroSize` where `rows` or `cols` is 0; `Memory`, also where a draw of no line had none to go on remembering the lines of
+    /// kept rows. All is unchanged then. `Memory` never comes at the size that it has. On a terminal that takes none for a size, such as a
+    /// `Term`, it comes only where a kept or a live row stands: not before the first drawing, nor behind a clear or a failure. A terminal
+    /// in memory may be refused it at any other size.
+    ///
+    /// ```
+    /// engine.draw(&frame, 0, MultiProgressAlignment::Top)?; // contents: "fetched"
+    /// engine.resize(4, 5)?; // contents: "fetch\ned"
+    /// ```
+    pub fn resize(&mut self, rows: u16, cols: u16) -> Result<(), Refusal>
+        ensures resized { IfOk result (λ u. Resized cols rows (T.view (engine_term self.old)) (T.view (engine_term self.new))) }
+        ensures unchanged { IfErr result (λ e. self.new ≡ self.old) }
+        ensures zero_size { (result ≡ Err Refusal.ZeroSize) ↔ ((rows ≡ 0) ⊎ (cols ≡ 0)) }
+        ensures no_other { IfErr result (λ e. (e ≡ Refusal.ZeroSize) ⊎ (e ≡ Refusal.Memory)) }
+        ensures memory { result ≡ Err Refusal.Memory → IsFalse (has_size cols rows (T.view (engine_term self.old))) }
+        ensures takes { result ≡ Err Refusal.Memory → (l : Lists) → Fits self.old l → SizeTakes T.takes_memory l }
+        ensures moves { engine_moves self.new ≡ engine_moves self.old }
+        ensures lists { IfOk result (λ u. (l : Lists) → Fits self.old l → let s = T.view (engine_term self.old) in
+            Fits self.new (resized_lists s.columns s.rows cols rows l)) }
+    {
+        if rows == 0 || cols == 0 {
+            return Err(Refusal::ZeroSize);
+        }
+        if self.failed {
+            return self.resize_term(rows, cols);
+        }
+        if self.has_size(rows, cols) {
+            return self.resize_term(rows, cols);
+        }
+        let cut = self.cut(rows, cols)?;
+        self.resize_term(rows, cols)?;
+        self.remember(cut.counts, cut.shown);
+        Ok(())
+    }
+
+    /// Gives its terminal alone another size.
+    fn resize_term(&mut self, rows: u16, cols: u16) -> Result<(), Refusal>
+        ensures resized { IfOk result (λ u. Resized cols rows (T.view (engine_term self.old)) (T.view (engine_term self.new))) }
+        ensures unchanged { IfErr result (λ e. self.new ≡ self.old) }
+        ensures zero_size { (result ≡ Err Refusal.ZeroSize) ↔ ((rows ≡ 0) ⊎ (cols ≡ 0)) }
+        ensures no_other { IfErr result (λ e. (e ≡ Refusal.ZeroSize) ⊎ (e ≡ Refusal.Memory)) }
+        ensures memory { result ≡ Err Refusal.Memory → IsFalse (has_size cols rows (T.view (engine_term self.old))) }
+        ensures takes { result ≡ Err Refusal.Memory → IsTrue T.takes_memory }
+        ensures moves { engine_moves self.new ≡ engine_moves self.old }
+        ensures same { (self.new.counts ≡ self.old.counts) × (self.new.failed ≡ self.old.failed) × (self.new.shown ≡ self.old.shown) }
+    {
+        self.term.resize(rows, cols)
+    }
+
+    /// Whether its terminal has this size.
+    fn has_size(&self, rows: u16, cols: u16) -> bool
+        ensures { result ≡ has_size cols rows (T.view (engine_term self.now)) }
+    {
+        self.term.width() == cols && self.term.height() == rows
+    }
+
+    /// Its counts and lines on a terminal of another size. Refused: `Memory`, only where a kept or a live row stands, and also where the
+    /// lines of these aren't remembered.
+    fn cut(&self, rows: u16, cols: u16) -> Result<CutDrawing, Refusal>
+        requires rows { 0 < rows }
+        ensures suits { IfOk result (λ c. (l : Lists) → Suits self.now.counts self.now.failed self.now.shown l → self.now.failed ≡ false →
+            Suits c.counts false c.shown (settled_whole cols rows (recut_lists cols l))) }
+        ensures memory { IfErr result (λ e. (e ≡ Refusal.Memory) × (0 < self.now.counts.kept + self.now.counts.live)) }
+    {
+        let standing = self.counts.kept + self.counts.live;
+        if standing == 0 {
+            return Ok(CutDrawing {
+                counts: self.counts.recut_none(self.alloc),
+                shown: Remembered::nothing(self.alloc),
+            });
+        }
+        let widths = Widths {
+            from: self.term.width() as usize,
+            to: cols as usize,
+        };
+        let cut = self.shown.cut(self.alloc, widths)?;
+        if cut.heights.len() < standing {
+            return Err(Refusal::Memory);
+        }
+        let above = cut.heights.len() - standing;
+        let counts = self
+            .counts
+            .recut(self.alloc, &cut.heights[above..], rows as usize)?;
+        Ok(CutDrawing {
+            counts,
+            shown: cut.shown,
+        })
+    }
+}
+
+/// The counts and the lines of what stands there, cut anew.
+#[derive(Drop)]
+struct CutDrawing {
+    counts: Counts,
+    shown: Remembered,
+}
