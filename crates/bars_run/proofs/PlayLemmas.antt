@@ -1,9 +1,11 @@
 -- Lines played one after another on a board.
-use Rattle.std.proofs.Common.{◌≡◌, ℕ, zero, suc, ◌<◌, Bool, true, false, List, [], ◌∷◌, ◌++◌, map, refl, sym, ◌∙◌, ap, subst, arith, Option, Some, None, Result, Ok, Err}
+use Rattle.std.proofs.Common.{◌≡◌, ℕ, zero, suc, ◌<◌, ◌⊎◌, Bool, true, false, List, [], ◌∷◌, ◌++◌, map, refl, sym, ◌∙◌, ap, subst, arith, Option, Some, None, Result, Ok, Err, inl, inr}
 use Rattle.std.specs.Prelude.{◌||◌, IsFalse, IfOk, OnOk, codes}
 use Rattle.std.specs.List.{list_any}
 use Rattle.std.proofs.lemmas.Bool.{or_parts}
 use Rattle.std.proofs.lemmas.List.{map-append}
+use Rattle.indicatif_text.specs.declared.refusal.Refusal.{Refusal}
+use Rattle.indicatif_text.specs.declared.refusal.Refusal.TheVariants.{Memory, ZeroSize}
 use Rattle.indicatif_text.specs.Template.{TemplatePart, KeyText, Keyed, Parses, plain_layout, front, end, piece, parts_of}
 use Rattle.indicatif_term.specs.Calls.{TermView}
 use Rattle.indicatif_term.specs.DrawTargets.{is_bottom}
@@ -11,9 +13,10 @@ use Rattle.indicatif_term.specs.Memory.{view_of}
 use Rattle.indicatif_bar.specs.Machines.{Machine, target_of}
 use Rattle.indicatif_bar.specs.Scripts.{Part, Called, Size, Sizing, sized, Plays}
 use Rattle.indicatif_bar.specs.Trackers.{writes_nothing}
-use Rattle.indicatif_board.specs.Boards.{BoardState, Align, Answer, opening_board}
+use Rattle.indicatif_board.specs.Boards.{BoardState, Align, Answer, Done, Refused, opening_board}
 use Rattle.indicatif_board.specs.Multi.{IsIn, LeadsBy, known}
 use Rattle.bars_run.specs.declared.arguments.Asked.{Asked}
+use Rattle.bars_run.specs.Arguments.{HasCells}
 use Rattle.bars_run.specs.Commands.{Spelled, and_then, each, spelled}
 use Rattle.bars_run.specs.Inside.Players.{Played, empty_memory, unanswered, Makes, Obeys, HasPlayed}
 use Rattle.bars_run.specs.Plays.{Bar, BarCall, Step, machine, sizing, calling, step_of, script_of, is_refused, any_refused}
@@ -39,6 +42,22 @@ called call answer old new fine leads s is =
     let r = leads 0 s is in
     let v = known view_of new in
     (Called ((call, 0) ∷ []) (answer ∷ []), refl, rw fine refl, r.0, r.1, (v, r.0, (v, r.0, r.2, (refl, refl)), (refl, refl)))
+
+-- where bars stand is never refused
+pub align_taken : (bottom : Bool) (e : Refusal) (old new : Played) → IsIn 0 old (opening_board None) → LeadsBy writes_nothing view_of old new (Align bottom) 0 (Refused e) → ⊥
+align_taken bottom e old new is leads = elim (leads 0 (opening_board None) is).2.leads [
+  | inl made ↦ absurd (let q : Refused e ≡ Done = ap (λ o. o.0) made in cc)
+  | inr (inl short) ↦ absurd (let q : false ≡ true = short.1.0 in cc)
+  | inr (inr broken) ↦ absurd broken.2
+]
+
+-- a terminal that would have no cells, or memory was refused for it
+pub no_cells : (asked : Asked) (e : Refusal) → (e ≡ ZeroSize) ⊎ (e ≡ Memory) → (e ≡ ZeroSize → (asked.size.rows ≡ 0) ⊎ (asked.size.columns ≡ 0)) →
+    (e ≡ Memory) ⊎ ((e ≡ ZeroSize) × (HasCells asked.size → ⊥))
+no_cells asked e why none = elim why [
+  | inl z ↦ inr (z, λ cells. elim (none z) [ inl r ↦ omega (arith, r, cells.0) | inr w ↦ omega (arith, w, cells.1) ])
+  | inr m ↦ inl m
+]
 
 -- a size that was taken
 pub resized : {X E : Type 0} (r : Result X E) (w h : ℕ) (old new : Played) →

@@ -1,9 +1,12 @@
--- What `bars run` prints.
-use Rattle.std.specs.Prelude.{◌≡◌, ℕ, IsFalse, List, [], ◌∷◌, ◌++◌, map, flat_map, Option, Some, All, if◌then◌else◌}
+-- What `bars run` prints, and why it ends early.
+use Rattle.std.specs.Prelude.{◌≡◌, ◌⊎◌, ℕ, suc, ◌-◌, ◌^◌, min, IsFalse, List, [], ◌∷◌, ◌++◌, length, map, flat_map, Option, Some, None, IfSome, All, if◌then◌else◌}
 use Rattle.std.specs.List.{list_all}
 use Rattle.std.specs.Io.KnownBytes.{Appends}
+use Rattle.indicatif_text.specs.declared.refusal.Refusal.TheVariants.{Memory, ZeroSize}
 use Rattle.indicatif_term.specs.Pictures.{is_empty, row_text}
 use Rattle.bars_run.specs.declared.arguments.Asked.{Asked}
+use Rattle.bars_run.specs.declared.fault.Fault.{Fault}
+use Rattle.bars_run.specs.declared.fault.Fault.TheVariants.{Usage, BadCommand, Line, Refused, Input, Output}
 use Rattle.bars_run.specs.Arguments.{HasCells, asked_by}
 use Rattle.bars_run.specs.Commands.{Spelled, lines_of, spelled, each}
 use Rattle.bars_run.specs.Plays.{Step, step_of, played, any_refused, SizesHaveCells, rows_after, IsPlain}
@@ -34,3 +37,37 @@ pub record Prints (words : List (List ℕ)) (input : List ℕ) (old new : Option
   pub done : IsFalse (any_refused (played asked steps).0)
   -- and where all texts are plain, exactly the texts of the rows that stand then were printed
   pub shown : All IsPlain commands → Appends old new (printed (map row_text (rows_after asked steps)))
+
+-- ---- a run that ends early
+
+-- a line of an input by its number, counted from 1, which stops at 2 ^ 64 - 1; the lines before it spell commands
+pub record IsLine (input : List ℕ) (number : ℕ) (line : List ℕ) : Type 0 where
+  pub before : List (List ℕ)
+  pub behind : List (List ℕ)
+  pub lines_are : lines_of input ≡ before ++ line ∷ behind
+  pub number_is : number ≡ min (suc (length before)) (2 ^ 64 - 1)
+  pub commands : List Spelled
+  pub commands_are : each spelled before ≡ Some commands
+
+-- all lines of an input were played on such a terminal, and a board refuses none of the calls
+pub record IsPlayed (asked : Asked) (input : List ℕ) : Type 0 where
+  pub commands : List Spelled
+  pub commands_are : each spelled (lines_of input) ≡ Some commands
+  pub steps : List Step
+  pub steps_are : each step_of commands ≡ Some steps
+  pub done : IsFalse (any_refused (played asked steps).0)
+
+-- what is known where a run on such a terminal ended by a fault. Whether a read or a write failed, or memory was refused, nobody knows
+abbrev pub EndsOn : Asked → Option (List ℕ) → Fault → Type 0
+EndsOn asked input Usage = ⊥
+EndsOn asked input (Refused refusal) = (refusal ≡ Memory) ⊎ ((refusal ≡ ZeroSize) × (HasCells asked.size → ⊥))
+EndsOn asked input (BadCommand number) = HasCells asked.size × IfSome input (λ bytes. (line : List ℕ) × IsLine bytes number line × (spelled line ≡ None))
+EndsOn asked input (Line number refusal) =
+    HasCells asked.size × ((refusal ≡ Memory) ⊎ IfSome input (λ bytes. (line : List ℕ) × IsLine bytes number line × (command : Spelled) × (spelled line ≡ Some command)))
+EndsOn asked input Input = HasCells asked.size
+EndsOn asked input Output = HasCells asked.size × IfSome input (λ bytes. IsPlayed asked bytes)
+
+-- the same of a run of these words: they ask for nothing, or for such a terminal
+abbrev pub EndsBy : List (List ℕ) → Option (List ℕ) → Fault → Type 0
+EndsBy words input Usage = asked_by words ≡ None
+EndsBy words input fault = (asked : Asked) × (asked_by words ≡ Some asked) × EndsOn asked input fault

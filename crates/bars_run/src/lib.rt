@@ -19,14 +19,16 @@ pub mod laws;
 mod player;
 pub mod words;
 
-ghost use Rattle.std.specs.Prelude.{◌≡◌, ◌⊎◌, ℕ, [], map, Some, IfErr, IfOk, IfSome, OnOk, string_bytes};
+ghost use Rattle.std.specs.Prelude.{◌≡◌, ◌≢◌, ◌⊎◌, ℕ, [], map, Some, None, Err, IfErr, IfOk, IfSome, OnOk, string_bytes};
 ghost use Rattle.std.specs.Io.Buffered.{reader_remaining};
 ghost use Rattle.std.specs.Io.KnownBytes.{Appends};
 ghost use Rattle.bars_run.specs.declared.arguments.Asked.{Asked as AskedFor};
+ghost use Rattle.bars_run.specs.declared.fault.Fault.{Fault as Ending};
+ghost use Rattle.bars_run.specs.Arguments.{HasCells, asked_by};
 ghost use Rattle.bars_run.specs.Commands.{command_of, lines_of, spelled, Spelled};
 ghost use Rattle.bars_run.specs.Fault.{status_of};
-ghost use Rattle.bars_run.specs.Inside.Players.{HasPlayed, Obeys, Stands};
-ghost use Rattle.bars_run.specs.Printing.{Prints, printed, up_to_last as trimmed};
+ghost use Rattle.bars_run.specs.Inside.Players.{HasPlayed, LineEnds, Obeys, Stands};
+ghost use Rattle.bars_run.specs.Printing.{EndsBy, EndsOn, Prints, printed, up_to_last as trimmed};
 
 use crate::arguments::Asked;
 use crate::commands::Command;
@@ -53,6 +55,10 @@ use std::io::{BufRead, BufReader, ErrorKind, Read, Write};
 /// with the status that it has, and the commands behind it aren't played. At status 0 nothing is written to `err`, at status 1
 /// nothing to `out`.
 ///
+/// At another status than 0 contracts name a fault that has it, and say where that one comes (`EndsBy`): words that ask for nothing, a
+/// size of 0, the first line that spells no command, a line that spells one, or all lines played. They don't know whether a read or a
+/// write failed or memory was refused, nor what `err` gets.
+///
 /// Where the input tells its bytes, as a slice does, contracts know more at status 0 (`Prints`): the terminal has rows and columns,
 /// at first and after each size, each line spells a command, a board that plays them one after another refuses none, and, if their
 /// texts consist of characters with a width and colour sequences, exactly the texts of the rows that stand at the end were printed.
@@ -74,6 +80,9 @@ pub fn run_bars<R: Read + Drop, O: Write, E: Write>(
     ensures status { (result ≡ 0) ⊎ (result ≡ 1) ⊎ (result ≡ 2) }
     ensures fine { result ≡ 0 → err.new ≡ err.old }
     ensures refused { result ≡ 1 → out.new ≡ out.old }
+    ensures usage { asked_by (map (λ word. string_bytes word) args.now) ≡ None → (result ≡ 2) × (out.new ≡ out.old) }
+    ensures fault { result ≢ 0 → (fault : Ending) × (result ≡ status_of fault) × ((fault ≡ Fault.Output) ⊎ (out.new ≡ out.old))
+        × EndsBy (map (λ word. string_bytes word) args.now) (R.remaining input) fault }
     ensures printed { result ≡ 0 → IfSome (R.remaining input) (λ bytes. Prints (map (λ word. string_bytes word) args.now) bytes (O.contents out.old) (O.contents out.new)) }
 {
     match shown(alloc, args, input, out) {
@@ -93,6 +102,8 @@ fn shown<R: Read + Drop, O: Write>(
     out: &mut O,
 ) -> Result<(), Fault>
     ensures unprinted { IfErr result (λ fault. (fault ≡ Fault.Output) ⊎ (out.new ≡ out.old)) }
+    ensures usage { asked_by (map (λ word. string_bytes word) args.now) ≡ None → (result ≡ Err Fault.Usage) × (out.new ≡ out.old) }
+    ensures fault { IfErr result (λ fault. EndsBy (map (λ word. string_bytes word) args.now) (R.remaining input) fault) }
     ensures printed { OnOk result (IfSome (R.remaining input) (λ bytes. Prints (map (λ word. string_bytes word) args.now) bytes (O.contents out.old) (O.contents out.new))) }
 {
     let Some(asked) = Asked::by(args) else {
@@ -107,7 +118,9 @@ fn shown<R: Read + Drop, O: Write>(
 
 /// The rows that stand after all commands.
 fn played<R: Read + Drop>(alloc: Global, asked: Asked, input: R) -> Result<Vec<String>, Fault>
-    ensures { IfOk result (λ rows. IfSome (R.remaining input) (λ bytes. Stands asked bytes (map (λ row. string_bytes row) rows.items))) }
+    ensures stands { IfOk result (λ rows. IfSome (R.remaining input) (λ bytes. Stands asked bytes (map (λ row. string_bytes row) rows.items))) }
+    ensures cells { OnOk result (HasCells asked.size) }
+    ensures fault { IfErr result (λ fault. EndsOn asked (R.remaining input) fault) }
 {
     let mut player = Player::new(alloc, asked)?;
     let input = buffered(alloc, input)?;
@@ -119,7 +132,8 @@ fn played<R: Read + Drop>(alloc: Global, asked: Asked, input: R) -> Result<Vec<S
 
 /// The input, with room for what is read ahead of it.
 fn buffered<R: Read + Drop>(alloc: Global, input: R) -> Result<BufReader<Input<R>>, Fault>
-    ensures { IfOk result (λ reader. reader_remaining (λ given. R.remaining given.0) reader ≡ R.remaining input) }
+    ensures remaining { IfOk result (λ reader. reader_remaining (λ given. R.remaining given.0) reader ≡ R.remaining input) }
+    ensures fault { IfErr result (λ fault. fault ≡ Fault.Refused Refusal.Memory) }
 {
     match BufReader::new(alloc, Input(input)) {
         Ok(reader) => Ok(reader),
@@ -129,8 +143,9 @@ fn buffered<R: Read + Drop>(alloc: Global, input: R) -> Result<BufReader<Input<R
 
 /// Plays each line.
 fn play<R: BufRead + Drop>(alloc: Global, player: &mut Player, input: R) -> Result<(), Fault>
-    ensures { (asked : AskedFor) → HasPlayed asked [] player.old.board →
+    ensures played { (asked : AskedFor) → HasPlayed asked [] player.old.board →
         OnOk result (IfSome (R.remaining input) (λ bytes. HasPlayed asked (lines_of bytes) player.new.board)) }
+    ensures fault { (asked : AskedFor) → HasPlayed asked [] player.old.board → IfErr result (λ fault. EndsOn asked (R.remaining input) fault) }
 {
     let mut number: u64 = 0;
     for line in input.split(alloc, b'\n') {
@@ -146,7 +161,8 @@ fn play<R: BufRead + Drop>(alloc: Global, player: &mut Player, input: R) -> Resu
 
 /// Plays one line, of this number.
 fn play_line(player: &mut Player, number: u64, line: &[u8]) -> Result<(), Fault>
-    ensures { OnOk result ((command : Spelled) × (spelled line.now ≡ Some command) × Obeys command player.old.board player.new.board) }
+    ensures played { OnOk result ((command : Spelled) × (spelled line.now ≡ Some command) × Obeys command player.old.board player.new.board) }
+    ensures fault { IfErr result (λ fault. LineEnds number line.now fault) }
 {
     let Some(command) = Command::spelt(line) else {
         return Err(Fault::BadCommand(number));
@@ -158,7 +174,9 @@ fn play_line(player: &mut Player, number: u64, line: &[u8]) -> Result<(), Fault>
 }
 
 /// Why the line of this number couldn't be read: it found no room, or the input failed.
-fn unread(number: u64, e: &io::Error) -> Fault {
+fn unread(number: u64, e: &io::Error) -> Fault
+    ensures { (result ≡ Fault.Line number Refusal.Memory) ⊎ (result ≡ Fault.Input) }
+{
     match e.kind() {
         ErrorKind::OutOfMemory => Fault::Line(number, Refusal::Memory),
         _ => Fault::Input,

@@ -1,11 +1,15 @@
 //! A board in memory, and what a command does on it.
-ghost use Rattle.std.specs.Prelude.{◌≡◌, ℕ, suc, [], map, Some, IfOk, IfSome, OnOk, string_bytes};
+ghost use Rattle.std.specs.Prelude.{◌≡◌, ◌⊎◌, ℕ, suc, [], map, Some, IfErr, IfOk, IfSome, OnOk, string_bytes};
+ghost use Rattle.indicatif_term.specs.Memory.{view_of};
 ghost use Rattle.indicatif_term.specs.Pictures.{picture_text};
 ghost use Rattle.indicatif_bar.specs.Scripts.{Size as NewSize};
+ghost use Rattle.indicatif_bar.specs.Trackers.{writes_nothing};
+ghost use Rattle.indicatif_board.specs.Boards.{Refused};
 ghost use Rattle.indicatif_board.specs.BoardValues.{id_of};
 ghost use Rattle.indicatif_board.specs.Bridge.{bridge_bytes};
 ghost use Rattle.indicatif_board.specs.Calls.{call_of as call_as};
-ghost use Rattle.indicatif_board.specs.Multi.{terminal_of};
+ghost use Rattle.indicatif_board.specs.Multi.{LeadsBy, terminal_of};
+ghost use Rattle.bars_run.specs.Arguments.{HasCells};
 ghost use Rattle.bars_run.specs.Commands.{Add, Log, Warn, OfBar, command_of, action_of};
 ghost use Rattle.bars_run.specs.Plays.{bar_at, bar_saying as saying, call_on, calling};
 ghost use Rattle.bars_run.specs.Inside.Players.{Obeys, Makes, HasPlayed};
@@ -42,7 +46,8 @@ impl Player {
     ///
     /// Refused: `ZeroSize` where the terminal would have no cells, or `Memory`.
     pub fn new(alloc: Global, asked: Asked) -> Result<Player, Refusal>
-        ensures { IfOk result (λ player. HasPlayed asked [] player.board) }
+        ensures played { IfOk result (λ player. HasPlayed asked [] player.board) }
+        ensures refused { IfErr result (λ e. (e ≡ Refusal.Memory) ⊎ ((e ≡ Refusal.ZeroSize) × (HasCells asked.size → ⊥))) }
     {
         let term = InMemoryTerm::new(alloc, asked.size.rows, asked.size.columns)?;
         let board = Board::new(alloc, ProgressDrawTarget::term_like(term), BOARD_ID);
@@ -73,7 +78,8 @@ impl Player {
 
     /// The rows that scrolled away, then those of the window, each without the blanks at its end.
     pub fn picture(&self) -> Result<Vec<String>, Refusal>
-        ensures { IfOk result (λ rows. IfSome (terminal_of self.now.board) (λ term. map (λ row. string_bytes row) rows.items ≡ picture_text term.terminal.screen)) }
+        ensures refused { IfErr result (λ e. e ≡ Refusal.Memory) }
+        ensures picture { IfOk result (λ rows. IfSome (terminal_of self.now.board) (λ term. map (λ row. string_bytes row) rows.items ≡ picture_text term.terminal.screen)) }
     {
         match self.board.term() {
             Some(term) => term.picture(),
@@ -83,7 +89,8 @@ impl Player {
 
     /// Makes a call of the board.
     fn make(&mut self, call: Call<NoTracker>) -> Result<(), Refusal>
-        ensures { OnOk result (Makes (calling (call_as call)) self.old.board self.new.board) }
+        ensures made { OnOk result (Makes (calling (call_as call)) self.old.board self.new.board) }
+        ensures refused { IfErr result (λ e. LeadsBy writes_nothing view_of self.old.board self.new.board (call_as call) 0 (Refused e)) }
     {
         match self.board.call(call, NOW) {
             Answer::Refused(refusal) => Err(refusal),

@@ -5,8 +5,8 @@ use Rattle.std.specs.Io.KnownBytes.{prepend_known}
 use Rattle.bars_run.proofs.ReadLemmas.{nothing_ahead}
 use Rattle.bars_run.proofs.buffered.Goals as goal
 
-pub returns-in-Ok : goal.returns-in-Ok
-returns-in-Ok g c =
+pub returns-in-Ok-clause-remaining : goal.returns-in-Ok-clause-remaining
+returns-in-Ok-clause-remaining g c =
     let reader = c.in-Ok.reader in
     let known = g.R.Read.remaining (reader_inner reader).0 in
     let room : (reader_capacity reader == 0) ≡ false = ap (λ n. n == 0) c.in-Ok.ensures.capacity in

@@ -10,6 +10,8 @@ use Rattle.indicatif_board.specs.Boards.{BoardState, Align, opening_board}
 use Rattle.indicatif_board.specs.Multi.{IsIn, known}
 use Rattle.indicatif_board.specs.declared.multi.Board.{Board}
 use Rattle.bars_run.specs.declared.arguments.Asked.{Asked}
+use Rattle.bars_run.specs.declared.fault.Fault.{Fault}
+use Rattle.bars_run.specs.declared.fault.Fault.TheVariants.{BadCommand, Line}
 use Rattle.bars_run.specs.Arguments.{HasCells}
 use Rattle.bars_run.specs.Commands.{Spelled, lines_of, spelled, each}
 use Rattle.bars_run.specs.Plays.{Bar, Step, machine, sizing, step_of, script_of, played, rows_after, any_refused, SizesHaveCells, IsPlain}
@@ -63,3 +65,9 @@ pub record Stands (asked : Asked) (input : List ℕ) (texts : List (List ℕ)) :
   pub sizes : SizesHaveCells steps
   pub done : IsFalse (any_refused (played asked steps).0)
   pub shown : All IsPlain commands → (blank : ℕ) × (texts ≡ map row_text (rows_after asked steps) ++ replicate blank [])
+
+-- why a line of this number wasn't played
+abbrev pub LineEnds : ℕ → List ℕ → Fault → Type 0
+LineEnds number line (BadCommand n) = (n ≡ number) × (spelled line ≡ None)
+LineEnds number line (Line n refusal) = (n ≡ number) × (command : Spelled) × (spelled line ≡ Some command)
+LineEnds number line _ = ⊥

@@ -8,4 +8,4 @@ use Rattle.bars_run.proofs.player.Player.add.Goals as goal
 pub returns : goal.returns
 returns c =
     obeyed c.make.result (Add c.args.text.now) (calling (on.Insert on.End (on.New c.in_ok-bar.bar))) c.args.self.now.board c.make.new.self.board
-    (ap (λ (bar : Bar). Some (calling (on.Insert on.End (on.New bar)))) (sym c.in_ok-bar.ensures)) c.make.ensures
+    (ap (λ (bar : Bar). Some (calling (on.Insert on.End (on.New bar)))) (sym c.in_ok-bar.ensures)) c.make.ensures.made

@@ -8,4 +8,4 @@ use Rattle.bars_run.proofs.player.Player.log.Goals as goal
 pub returns : goal.returns
 returns c =
     obeyed c.make.result (Log c.args.text.now) (calling (on.Log (string_bytes c.in_ok-line.line))) c.args.self.now.board c.make.new.self.board
-    (ap (λ text. Some (calling (on.Log text))) (sym c.in_ok-line.ensures.ok)) c.make.ensures
+    (ap (λ text. Some (calling (on.Log text))) (sym c.in_ok-line.ensures.ok)) c.make.ensures.made

@@ -14,4 +14,4 @@ returns-in-Size c =
 
 pub returns-in-Clear : goal.returns-in-Clear
 returns-in-Clear c =
-    obeyed c.make.result (command_of c.args.command) (calling on.Clear) c.args.self.now.board c.make.new.self.board (ap (λ command. step_of (command_of command)) c.in-Clear.is) c.make.ensures
+    obeyed c.make.result (command_of c.args.command) (calling on.Clear) c.args.self.now.board c.make.new.self.board (ap (λ command. step_of (command_of command)) c.in-Clear.is) c.make.ensures.made
