@@ -16,6 +16,6 @@ returns-clause-cells g c = let begun = c.in_ok-player.ensures.played in (begun.s
 pub returns-in_err-play-clause-fault : goal.returns-in_err-play-clause-fault
 returns-in_err-play-clause-fault g c =
     let asked = c.args.asked in
-    let x = err_from_is_err_and c.from_residual.result c.from_residual.ensures.1 in
+    let x = err_from_is_err_and c.from_residual-in_err-play.result c.from_residual-in_err-play.ensures.1 in
     rw (x.1 ∙ ap Err x.2)
     (same_ends asked _ (g.R.Read.remaining c.args.input) c.in_err-play.field-0.0 c.in_ok-input.ensures.remaining (c.in_err-play.ensures.fault asked c.in_ok-player.ensures.played))
