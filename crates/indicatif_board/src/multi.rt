@@ -175,6 +175,7 @@ impl<K: Tracks, T: TermLike + Drop> Board<K, T> {
     pub fn set_alignment(&mut self, alignment: MultiProgressAlignment)
         ensures terminal { terminal_of self.new ≡ terminal_of self.old }
         ensures board_id { board_id_of self.new ≡ board_id_of self.old }
+        ensures moves { moves_of self.new ≡ moves_of self.old }
         ensures leads { (now : ℕ) → LeadsBy K.means T.view self.old self.new (Align (is_bottom alignment)) now Done }
         ensures slots { slots_of self.new ≡ slots_of self.old }
         ensures records { RecordsStay self.old self.new }
@@ -195,6 +196,7 @@ impl<K: Tracks, T: TermLike + Drop> Board<K, T> {
         ensures silent { IsFalse (wrote result) → terminal_of self.new ≡ terminal_of self.old }
         ensures nowhere { IsNowhere T.view self.old → IsFalse (wrote result) }
         ensures board_id { board_id_of self.new ≡ board_id_of self.old }
+        ensures moves { moves_of self.new ≡ moves_of self.old }
         ensures leads { LeadsBy K.means T.view self.old self.new (Tell (id_of id) (command_of command)) now (says result) }
         ensures foreign { id.board ≢ board_id_of self.old → (result ≡ Err Refusal.ForeignBar) × (self.new ≡ self.old) }
         ensures not_member { id.board ≡ board_id_of self.old → (result ≡ Err Refusal.NotMember) ↔ (record_at id.number self.old ≡ None) }
@@ -222,6 +224,7 @@ impl<K: Tracks, T: TermLike + Drop> Board<K, T> {
         ensures silent { IsFalse (wrote result) → terminal_of self.new ≡ terminal_of self.old }
         ensures nowhere { IsNowhere T.view self.old → IsFalse (wrote result) }
         ensures board_id { board_id_of self.new ≡ board_id_of self.old }
+        ensures moves { moves_of self.new ≡ moves_of self.old }
         ensures leads { LeadsBy K.means T.view self.old self.new (Log text.now) now (says result) }
         ensures slots { SlotsLeft self.old self.new }
         ensures head { result ≡ Ok Drawn.Yes → HeadHasRecord self.new }
@@ -238,6 +241,7 @@ impl<K: Tracks, T: TermLike + Drop> Board<K, T> {
         ensures silent { IsFalse (wrote result) → terminal_of self.new ≡ terminal_of self.old }
         ensures nowhere { IsNowhere T.view self.old → IsFalse (wrote result) }
         ensures board_id { board_id_of self.new ≡ board_id_of self.old }
+        ensures moves { moves_of self.new ≡ moves_of self.old }
         ensures leads { LeadsBy K.means T.view self.old self.new (BarLog (id_of id) text.now) now (says result) }
         ensures foreign { id.board ≢ board_id_of self.old → (result ≡ Err Refusal.ForeignBar) × (self.new ≡ self.old) }
         ensures not_member { id.board ≡ board_id_of self.old → (result ≡ Err Refusal.NotMember) ↔ (record_at id.number self.old ≡ None) }
@@ -259,6 +263,7 @@ impl<K: Tracks, T: TermLike + Drop> Board<K, T> {
         ensures silent { IsFalse (wrote result) → terminal_of self.new ≡ terminal_of self.old }
         ensures nowhere { IsNowhere T.view self.old → IsFalse (wrote result) }
         ensures board_id { board_id_of self.new ≡ board_id_of self.old }
+        ensures moves { moves_of self.new ≡ moves_of self.old }
         ensures leads { LeadsBy K.means T.view self.old self.new Clear now (says result) }
         ensures slots { SlotsLeft self.old self.new }
         ensures head { result ≡ Ok Drawn.Yes → HeadHasRecord self.new }
@@ -275,6 +280,7 @@ impl<K: Tracks, T: TermLike + Drop> Board<K, T> {
         ensures silent { IsFalse (wrote result) → terminal_of self.new ≡ terminal_of self.old }
         ensures nowhere { IsNowhere T.view self.old → IsFalse (wrote result) }
         ensures board_id { board_id_of self.new ≡ board_id_of self.old }
+        ensures moves { moves_of self.new ≡ moves_of self.old }
         ensures leads { LeadsBy K.means T.view self.old self.new Redraw now (says result) }
         ensures slots { SlotsLeft self.old self.new }
         ensures head { result ≡ Ok Drawn.Yes → HeadHasRecord self.new }
@@ -293,6 +299,7 @@ impl<K: Tracks, T: TermLike + Drop> Board<K, T> {
         ensures nowhere { IsNowhere T.view self.old → IsFalse (wrote result.1) }
         ensures stays { IsNowhere T.view self.old → terminal_of self.new ≡ terminal_of self.old }
         ensures board_id { board_id_of self.new ≡ board_id_of self.old }
+        ensures moves { moves_of self.new ≡ moves_of self.old }
         ensures leads { Suspends K.means T.view self.old self.new now result.1 }
         ensures slots { SlotsLeft self.old self.new }
         ensures head { result.1 ≡ Ok Drawn.Yes → HeadHasRecord self.new }
@@ -344,6 +351,7 @@ impl<K: Tracks, T: TermLike + Drop> Board<K, T> {
         ensures silent { IsFalse (wrote result) → terminal_of self.new ≡ terminal_of self.old }
         ensures nowhere { IsNowhere T.view self.old → IsFalse (wrote result) }
         ensures board_id { board_id_of self.new ≡ board_id_of self.old }
+        ensures moves { moves_of self.new ≡ moves_of self.old }
         ensures slots { SlotsLeft self.old self.new }
         ensures head { result ≡ Ok Drawn.Yes → HeadHasRecord self.new }
         ensures stay { result ≢ Ok Drawn.Yes → slots_of self.new ≡ slots_of self.old }

@@ -8,7 +8,7 @@ ghost use Rattle.indicatif_board.specs.BoardBars.{board_bars};
 ghost use Rattle.indicatif_board.specs.Boards.{BoardState, Insert, Location, End, Index, FromBack, Before, After, drawn_of, index_of, inserted, board};
 ghost use Rattle.indicatif_board.specs.BoardValues.{id_of};
 ghost use Rattle.indicatif_board.specs.Calls.{entrant_of, given, place_at, IsForeign, NamesForeign};
-ghost use Rattle.indicatif_board.specs.Multi.{IsIn, IsAbsent, EntersAbsent, TurnsAway, board_id_of, record_at, seat_in, RecordsTake, SlotsTake, LeadsBy, slots_of, terminal_of};
+ghost use Rattle.indicatif_board.specs.Multi.{IsIn, IsAbsent, EntersAbsent, TurnsAway, board_id_of, record_at, seat_in, RecordsTake, SlotsTake, LeadsBy, moves_of, slots_of, terminal_of};
 
 use crate::bar_id::BarId;
 use crate::calls::{Candidate, InsertLocation, Turned};
@@ -25,6 +25,7 @@ impl<K: Tracks, T: TermLike + Drop> Board<K, T> {
     pub fn add(&mut self, candidate: Candidate<K>) -> Result<BarId, Turned<K>>
         ensures terminal { terminal_of self.new ≡ terminal_of self.old }
         ensures board_id { board_id_of self.new ≡ board_id_of self.old }
+        ensures moves { moves_of self.new ≡ moves_of self.old }
         ensures turned { IfErr result (λ t. t.candidate ≡ candidate) }
         ensures quiet { IsFalse (wrote (drawn_of (given result))) }
         ensures leads { (now : ℕ) → LeadsBy K.means T.view self.old self.new (Insert End (entrant_of candidate)) now (given result) }
@@ -44,6 +45,7 @@ impl<K: Tracks, T: TermLike + Drop> Board<K, T> {
     pub fn insert(&mut self, index: usize, candidate: Candidate<K>) -> Result<BarId, Turned<K>>
         ensures terminal { terminal_of self.new ≡ terminal_of self.old }
         ensures board_id { board_id_of self.new ≡ board_id_of self.old }
+        ensures moves { moves_of self.new ≡ moves_of self.old }
         ensures turned { IfErr result (λ t. t.candidate ≡ candidate) }
         ensures quiet { IsFalse (wrote (drawn_of (given result))) }
         ensures leads { (now : ℕ) → LeadsBy K.means T.view self.old self.new (Insert (Index index) (entrant_of candidate)) now (given result) }
@@ -67,6 +69,7 @@ impl<K: Tracks, T: TermLike + Drop> Board<K, T> {
     ) -> Result<BarId, Turned<K>>
         ensures terminal { terminal_of self.new ≡ terminal_of self.old }
         ensures board_id { board_id_of self.new ≡ board_id_of self.old }
+        ensures moves { moves_of self.new ≡ moves_of self.old }
         ensures turned { IfErr result (λ t. t.candidate ≡ candidate) }
         ensures quiet { IsFalse (wrote (drawn_of (given result))) }
         ensures leads { (now : ℕ) → LeadsBy K.means T.view self.old self.new (Insert (FromBack count) (entrant_of candidate)) now (given result) }
@@ -90,6 +93,7 @@ impl<K: Tracks, T: TermLike + Drop> Board<K, T> {
     ) -> Result<BarId, Turned<K>>
         ensures terminal { terminal_of self.new ≡ terminal_of self.old }
         ensures board_id { board_id_of self.new ≡ board_id_of self.old }
+        ensures moves { moves_of self.new ≡ moves_of self.old }
         ensures turned { IfErr result (λ t. t.candidate ≡ candidate) }
         ensures quiet { IsFalse (wrote (drawn_of (given result))) }
         ensures leads { (now : ℕ) → LeadsBy K.means T.view self.old self.new (Insert (Before (id_of anchor)) (entrant_of candidate)) now (given result) }
@@ -120,6 +124,7 @@ impl<K: Tracks, T: TermLike + Drop> Board<K, T> {
     ) -> Result<BarId, Turned<K>>
         ensures terminal { terminal_of self.new ≡ terminal_of self.old }
         ensures board_id { board_id_of self.new ≡ board_id_of self.old }
+        ensures moves { moves_of self.new ≡ moves_of self.old }
         ensures turned { IfErr result (λ t. t.candidate ≡ candidate) }
         ensures quiet { IsFalse (wrote (drawn_of (given result))) }
         ensures leads { (now : ℕ) → LeadsBy K.means T.view self.old self.new (Insert (After (id_of anchor)) (entrant_of candidate)) now (given result) }
@@ -147,6 +152,7 @@ impl<K: Tracks, T: TermLike + Drop> Board<K, T> {
     ) -> Result<BarId, Turned<K>>
         ensures terminal { terminal_of self.new ≡ terminal_of self.old }
         ensures board_id { board_id_of self.new ≡ board_id_of self.old }
+        ensures moves { moves_of self.new ≡ moves_of self.old }
         ensures turned { IfErr result (λ t. t.candidate ≡ candidate) }
         ensures quiet { IsFalse (wrote (drawn_of (given result))) }
         ensures leads { (now : ℕ) → LeadsBy K.means T.view self.old self.new (Insert (place_at at) (entrant_of candidate)) now (given result) }
@@ -168,6 +174,7 @@ impl<K: Tracks, T: TermLike + Drop> Board<K, T> {
         requires within { at ≤ deque_len self.old.shown.members }
         ensures terminal { terminal_of self.new ≡ terminal_of self.old }
         ensures board_id { board_id_of self.new ≡ board_id_of self.old }
+        ensures moves { moves_of self.new ≡ moves_of self.old }
         ensures turned { IfErr result (λ t. t.candidate ≡ candidate) }
         ensures quiet { IsFalse (wrote (drawn_of (given result))) }
         ensures foreign { IsForeign (board_id_of self.old) (entrant_of candidate) → TurnsAway Refusal.ForeignBar (given result) self.old self.new }

@@ -9,7 +9,7 @@ ghost use Rattle.indicatif_board.specs.BoardValues.{id_of};
 ghost use Rattle.indicatif_board.specs.Members.{is_member, said_of};
 ghost use Rattle.indicatif_board.specs.Inside.Parting.{parted, RestsOn};
 ghost use Rattle.indicatif_board.specs.Calls.{removal};
-ghost use Rattle.indicatif_board.specs.Multi.{IsIn, IsNowhere, board_id_of, record_at, OtherRecordsStay, SlotsGive, SlotsLeft, LeadsBy, known, terminal_of};
+ghost use Rattle.indicatif_board.specs.Multi.{IsIn, IsNowhere, board_id_of, record_at, OtherRecordsStay, SlotsGive, SlotsLeft, LeadsBy, known, moves_of, terminal_of};
 
 use crate::bar_id::BarId;
 use crate::calls::is_undisturbed;
@@ -29,6 +29,7 @@ impl<K: Tracks, T: TermLike + Drop> Board<K, T> {
     pub fn remove(&mut self, id: BarId) -> Result<Option<BarState<K>>, Refusal>
         ensures terminal { terminal_of self.new ≡ terminal_of self.old }
         ensures board_id { board_id_of self.new ≡ board_id_of self.old }
+        ensures moves { moves_of self.new ≡ moves_of self.old }
         ensures quiet { IsFalse (wrote (drawn_of (removal result))) }
         ensures leads { (now : ℕ) → LeadsBy K.means T.view self.old self.new (Remove (id_of id)) now (removal result) }
         ensures foreign { id.board ≢ board_id_of self.old → (result ≡ Err Refusal.ForeignBar) × (self.new ≡ self.old) }
@@ -60,6 +61,7 @@ impl<K: Tracks, T: TermLike + Drop> Board<K, T> {
         ensures silent { IsFalse (wrote result) → terminal_of self.new ≡ terminal_of self.old }
         ensures nowhere { IsNowhere T.view self.old → IsFalse (wrote result) }
         ensures board_id { board_id_of self.new ≡ board_id_of self.old }
+        ensures moves { moves_of self.new ≡ moves_of self.old }
         ensures leads { LeadsBy K.means T.view self.old self.new (Drop (id_of id)) now (says result) }
         ensures foreign { id.board ≢ board_id_of self.old → (result ≡ Err Refusal.ForeignBar) × (self.new ≡ self.old) }
         ensures not_member { id.board ≡ board_id_of self.old → (result ≡ Err Refusal.NotMember) ↔ (record_at id.number self.old ≡ None) }
@@ -87,6 +89,7 @@ impl<K: Tracks, T: TermLike + Drop> Board<K, T> {
     fn part(&mut self, number: u64, drawn: &Result<Drawn, Refusal>)
         ensures terminal { terminal_of self.new ≡ terminal_of self.old }
         ensures board_id { board_id_of self.new ≡ board_id_of self.old }
+        ensures moves { moves_of self.new ≡ moves_of self.old }
         ensures parted { (board_id : ℕ) (s : BoardState (BarRecord K)) → IsIn board_id self.old s →
             let target = target_of (known T.view self.old) in
             let next = parted target number drawn.now s in
@@ -116,6 +119,7 @@ impl<K: Tracks, T: TermLike + Drop> Board<K, T> {
         ensures shown { self.new.shown ≡ self.old.shown }
         ensures terminal { terminal_of self.new ≡ terminal_of self.old }
         ensures board_id { board_id_of self.new ≡ board_id_of self.old }
+        ensures moves { moves_of self.new ≡ moves_of self.old }
         ensures kept { (board_id : ℕ) (s : BoardState (BarRecord K)) → IsIn board_id self.old s →
             let columns = (target_of (known T.view self.old)).columns in
             let lists = kept_of columns number s.lists in

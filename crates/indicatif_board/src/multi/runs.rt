@@ -8,7 +8,7 @@ ghost use Rattle.indicatif_board.specs.Boards.{BoardState, drawn_of, board};
 ghost use Rattle.indicatif_board.specs.Slots.{slot_of};
 ghost use Rattle.indicatif_board.specs.Recorded.{handed_back};
 ghost use Rattle.indicatif_board.specs.Calls.{answer_of, call_of, timed, NamesForeign, AreTurnedAway, acts_on};
-ghost use Rattle.indicatif_board.specs.Multi.{IsIn, IsNowhere, TurnsAway, board_id_of, SlotsChange, KeepsSlot, RecordsChange, StaysOrComes, LeadsBy, known, slots_of, terminal_of};
+ghost use Rattle.indicatif_board.specs.Multi.{IsIn, IsNowhere, TurnsAway, board_id_of, SlotsChange, KeepsSlot, RecordsChange, StaysOrComes, LeadsBy, known, moves_of, slots_of, terminal_of};
 
 use crate::calls::{Answer, Call, draw_answer, insertion_answer, removal_answer};
 use crate::multi::Board;
@@ -29,6 +29,7 @@ impl<K: Tracks, T: TermLike + Drop> Board<K, T> {
         ensures silent { IsFalse (wrote (drawn_of (answer_of result.0))) → terminal_of self.new ≡ terminal_of self.old }
         ensures nowhere { IsNowhere T.view self.old → IsFalse (wrote (drawn_of (answer_of result.0))) }
         ensures board_id { board_id_of self.new ≡ board_id_of self.old }
+        ensures moves { moves_of self.new ≡ moves_of self.old }
         ensures leads { LeadsBy K.means T.view self.old self.new (call_of call) now (answer_of result.0) }
         ensures foreign { NamesForeign (board_id_of self.old) (call_of call) → TurnsAway Refusal.ForeignBar (answer_of result.0) self.old self.new }
         ensures slots { SlotsChange (call_of call) (answer_of result.0) self.old self.new }
@@ -57,6 +58,7 @@ impl<K: Tracks, T: TermLike + Drop> Board<K, T> {
         ensures silent { IsFalse (wrote (drawn_of (answer_of result))) → terminal_of self.new ≡ terminal_of self.old }
         ensures nowhere { IsNowhere T.view self.old → IsFalse (wrote (drawn_of (answer_of result))) }
         ensures board_id { board_id_of self.new ≡ board_id_of self.old }
+        ensures moves { moves_of self.new ≡ moves_of self.old }
         ensures leads { LeadsBy K.means T.view self.old self.new (call_of call) now (answer_of result) }
         ensures foreign { NamesForeign (board_id_of self.old) (call_of call) → TurnsAway Refusal.ForeignBar (answer_of result) self.old self.new }
         ensures slots { SlotsChange (call_of call) (answer_of result) self.old self.new }
@@ -83,6 +85,7 @@ impl<K: Tracks, T: TermLike + Drop> Board<K, T> {
         ensures nowhere { IfOk result (λ answers. IsNowhere T.view self.old →
             IsFalse (list_any (λ answer. wrote (drawn_of (answer_of answer))) answers.items)) }
         ensures board_id { board_id_of self.new ≡ board_id_of self.old }
+        ensures moves { moves_of self.new ≡ moves_of self.old }
         ensures foreign { IfOk result (λ answers. AreTurnedAway (board_id_of self.old) (map timed calls.items) (map answer_of answers.items)) }
         ensures records { (number : ℕ) → IsFalse (list_any (λ call. acts_on (board_id_of self.old) number (call_of call.0)) calls.items) →
             IfOk result (λ answers. StaysOrComes number answers.items self.old self.new) }

@@ -40,6 +40,7 @@ loop-call-init g c = record {
   records = λ number apart. inl refl;
   slots = λ number slot stood. (inl stood, made_before (slots_of c.args.self.now) number slot c.order.ensures.seated stood);
   board_id = refl;
+  moves = refl;
 }
 
 pub push_reserved-requires : goal.push_reserved-requires
@@ -87,6 +88,7 @@ loop-call-preserved g c = record {
       slots_more (call_of c.in-Some.call) (answer_of c.call-answer.result) c.loop-call.self c.call-answer.new.self number slot
       c.order-in-loop-call.ensures.seated c.call-answer.ensures.slots before.0 before.1;
   board_id = c.call-answer.ensures.board_id ∙ c.loop-call.invariant.board_id;
+  moves = c.call-answer.ensures.moves ∙ c.loop-call.invariant.moves;
 }
 
 pub returns-clause-run : goal.returns-clause-run
