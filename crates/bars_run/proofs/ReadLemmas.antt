@@ -54,22 +54,23 @@ module _ {X E : Type 0} (f : X → List ℕ) (asked : Asked) (o known known' : O
   pub reads_next : (old new : Played) (x : X) (command : Spelled) → IfSome o (λ bytes. Reads asked number bytes known byte old) → r ≡ Some (Ok x) → byte' ≡ byte → spelled (f x) ≡ Some command →
       Obeys command old new → IfSome o (λ bytes. Reads asked number' bytes known' byte' new)
   unfolding is_line
-  reads_next old new x command reads is same spells obeys = elim o as (λ y. IfSome y (λ bytes. Reads asked number bytes known byte old) → IfSome y (λ bytes. Reads asked number' bytes known' byte' new)) [
-    | None ↦ λ p. tt
-    | Some bytes ↦ λ p.
-        let given = subst (λ y. YieldsKnownPiece f (first_piece byte) byte known y known') is gives in
-        let drops = subst (λ k. DropsThrough k known' byte) p.known_is given.1 in
-        let rest = drop_through 0x0A p.left in
-        record {
-          left = rest;
-          known_is = drops ∙ ap (λ n. Some (drop_through n p.left)) p.byte_is;
-          byte_is = same ∙ p.byte_is;
-          lines = p.lines ++ f x ∷ [];
-          number_is = next_number number (length p.lines) number' p.number_is counted ∙ ap (λ n. min n (2 ^ 64 - 1)) (sym (length-append p.lines (f x ∷ []) ∙ add-one (length p.lines)));
-          all = (is_line bytes old x p is).lines_are ∙ sym (append_assoc p.lines (f x ∷ []) (lines_of rest));
-          played = one_more asked p.lines (f x) command old new p.played spells obeys;
-        }
-  ] reads
+  reads_next old new x command reads is same spells obeys =
+      elim o as (λ y. IfSome y (λ bytes. Reads asked number bytes known byte old) → IfSome y (λ bytes. Reads asked number' bytes known' byte' new)) [
+        | None ↦ λ p. tt
+        | Some bytes ↦ λ p.
+            let given = subst (λ y. YieldsKnownPiece f (first_piece byte) byte known y known') is gives in
+            let drops = subst (λ k. DropsThrough k known' byte) p.known_is given.1 in
+            let rest = drop_through 0x0A p.left in
+            record {
+              left = rest;
+              known_is = drops ∙ ap (λ n. Some (drop_through n p.left)) p.byte_is;
+              byte_is = same ∙ p.byte_is;
+              lines = p.lines ++ f x ∷ [];
+              number_is = next_number number (length p.lines) number' p.number_is counted ∙ ap (λ n. min n (2 ^ 64 - 1)) (sym (length-append p.lines (f x ∷ []) ∙ add-one (length p.lines)));
+              all = (is_line bytes old x p is).lines_are ∙ sym (append_assoc p.lines (f x ∷ []) (lines_of rest));
+              played = one_more asked p.lines (f x) command old new p.played spells obeys;
+            }
+      ] reads
 
   -- why a run ends at a line that wasn't played
   pub line_ends : (b : Played) (x : X) (fault : Fault) → HasCells asked.size → IfSome o (λ bytes. Reads asked number bytes known byte b) → r ≡ Some (Ok x) → LineEnds number' (f x) fault →

@@ -98,7 +98,8 @@ impl<K: Tracks, T: Drop> Model for Recorded<K, T> {
 
     ghost view = { λ r. record { board_id = r.opening.board_id; limiter = r.opening.limiter; target = target_by r.opening.size; board = r.board; steps = map step_of r.entries.items } };
 
-    ghost invariant = { λ r. IsOneRun K.means (record { board_id = r.opening.board_id; limiter = r.opening.limiter; target = target_by r.opening.size; board = r.board; steps = map step_of r.entries.items }) };
+    ghost invariant = { λ r. IsOneRun K.means
+        (record { board_id = r.opening.board_id; limiter = r.opening.limiter; target = target_by r.opening.size; board = r.board; steps = map step_of r.entries.items }) };
 }
 
 impl<K: Tracks, T: TermLike + Drop> Recorded<K, T> {

@@ -16,7 +16,8 @@ pub loop-line-preserved : goal.loop-line-preserved
 loop-line-preserved g c = λ asked p.
     let told = c.in_ok-play_line.ensures.played in
     let spells = subst (λ xs. spelled xs ≡ Some told.0) c.as_slice.ensures.value told.1 in
-    reads_next _ asked _ _ _ _ _ c.next.result c.next.ensures.steps.2 c.loop-line.number c.saturating_add-number.result c.saturating_add-number.ensures c.loop-line.player.board c.play_line.new.player.board c.in-Ok.line told.0 (c.loop-line.invariant asked p)
+    reads_next _ asked _ _ _ _ _ c.next.result c.next.ensures.steps.2 c.loop-line.number
+    c.saturating_add-number.result c.saturating_add-number.ensures c.loop-line.player.board c.play_line.new.player.board c.in-Ok.line told.0 (c.loop-line.invariant asked p)
     (c.in-Some.is ∙ ap Some c.in-Ok.is) c.next.ensures.steps.1 spells told.2
 
 pub returns-clause-played : goal.returns-clause-played
@@ -30,5 +31,6 @@ returns-in_err-play_line-clause-fault g c = λ asked p.
     let x = err_from_is_err_and c.from_residual.result c.from_residual.ensures.1 in
     let why = subst (λ xs. LineEnds c.saturating_add-number.result xs c.in_err-play_line.field-0.0) c.as_slice.ensures.value c.in_err-play_line.ensures.fault in
     rw (x.1 ∙ ap Err x.2)
-    (line_ends _ asked _ _ _ _ 0 c.next.result c.next.ensures.steps.2 c.loop-line.number c.saturating_add-number.result c.saturating_add-number.ensures c.loop-line.player.board c.in-Ok.line c.in_err-play_line.field-0.0
+    (line_ends _ asked _ _ _ _ 0 c.next.result c.next.ensures.steps.2 c.loop-line.number
+    c.saturating_add-number.result c.saturating_add-number.ensures c.loop-line.player.board c.in-Ok.line c.in_err-play_line.field-0.0
     (p.some_rows, p.some_columns) (c.loop-line.invariant asked p) (c.in-Some.is ∙ ap Some c.in-Ok.is) why)

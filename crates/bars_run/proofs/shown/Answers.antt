@@ -28,4 +28,5 @@ pub returns-in_err-picture-clause-fault : goal.returns-in_err-picture-clause-fau
 returns-in_err-picture-clause-fault g c =
     let x = err_from_is_err_and c.from_residual.result c.from_residual.ensures.1 in
     rw (x.1 ∙ ap Err x.2)
-    (ends_by (map (λ word. string_bytes word) c.args.args.now) c.in-Some.asked (g.R.Read.remaining c.args.input) c.in_err-picture.field-0.0 (sym c.by.ensures ∙ c.in-Some.is) c.in_err-picture.ensures.fault)
+    (ends_by (map (λ word. string_bytes word) c.args.args.now) c.in-Some.asked (g.R.Read.remaining c.args.input) c.in_err-picture.field-0.0
+    (sym c.by.ensures ∙ c.in-Some.is) c.in_err-picture.ensures.fault)

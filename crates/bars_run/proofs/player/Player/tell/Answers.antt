@@ -10,4 +10,5 @@ returns c =
     let action = action_of c.args.action in
     let found = c.in_ok-id.ensures in
     obeyed c.make.result (OfBar c.args.number action) (calling (call_of c.in_ok-call.call)) c.args.self.now.board c.make.new.self.board
-    (ap (λ number. step_of (OfBar number action)) found.1 ∙ ap (λ id. Some (calling (call_on id action))) (sym found.2) ∙ ap (λ call. Some (calling call)) (sym c.in_ok-call.ensures)) c.make.ensures.made
+    (ap (λ number. step_of (OfBar number action)) found.1 ∙ ap (λ id. Some (calling (call_on id action))) (sym found.2) ∙ ap (λ call. Some (calling call)) (sym c.in_ok-call.ensures))
+    c.make.ensures.made
