@@ -7,3 +7,4 @@ mod PictureLemmas
 mod PlainLemmas
 mod SharedLemmas
 mod ShownLemmas
+mod StandingLemmas

@@ -47,7 +47,7 @@ module _ {K : Type 0} (m : Tracking K) where
   log_done text s = done_by machine small (machine.deed small (Log text) 0 s)
 
   -- a log that was answered well comes to that
-  log_made : (text : List ℕ) (s next : BoardState (BarRecord K)) (answered : Drawn) → Leads machine small s (machine.deed small (Log text) 0 s) (Drew answered) next →
+  pub log_made : (text : List ℕ) (s next : BoardState (BarRecord K)) (answered : Drawn) → Leads machine small s (machine.deed small (Log text) 0 s) (Drew answered) next →
       (Drew answered, next) ≡ log_done text s
   log_made text s next answered (inl made) = made
   log_made text s next answered (inr (inl short)) = absurd (let q = short.0 in cc q)

@@ -1,6 +1,7 @@
 //! Exact answers of a bar or a board that was lent, whatever was done with it before.
 ghost use Rattle.std.specs.Prelude.{◌≡◌, ◌≢◌, ◌↔◌, ◌⊎◌, Some, None, Ok, Err, IsTrue, IsFalse};
-ghost use Rattle.indicatif_term.specs.Engines.{is_failure};
+ghost use Rattle.indicatif_term.specs.Calls.{TermView};
+ghost use Rattle.indicatif_term.specs.Engines.{Paints, is_failure};
 ghost use Rattle.indicatif_term.specs.Frames.{logged_lines, some_wide, text_lines};
 ghost use Rattle.indicatif_bar.specs.Commands.{BarRecord, command_of};
 ghost use Rattle.indicatif_bar.specs.Lone.{LoneState, Obey};
@@ -100,7 +101,8 @@ pub fn tell_on<K: ProgressTracker, T: TermLike + Drop>(
 }
 
 /// Takes the bars' rows back. Where the terminal has columns that is done, or the terminal fails: that is so exactly where its faults
-/// grew. No memory is taken for it. If it was done, the dropped bars at the head leave the order; else nobody does.
+/// grew. No memory is taken for it. If it was done, the dropped bars at the head leave the order; else nobody does. Whatever was done with
+/// the board before, the call paints what its rows come to: it writes no lines, so no text has to be plain for that.
 pub fn take_bars_back<K: ProgressTracker, T: TermLike + Drop>(
     board: &mut Board<K, T>,
     now: Moment,
@@ -112,6 +114,9 @@ pub fn take_bars_back<K: ProgressTracker, T: TermLike + Drop>(
     ensures leave { result ≡ Ok Drawn.Yes → (s : BoardState (BarRecord K)) × IsIn (board_id_of board.old) board.old s
         × ((slots_of board.new).order ≡ order_of (followers s.members)) }
     ensures stay { result ≢ Ok Drawn.Yes → (slots_of board.new).order ≡ (slots_of board.old).order }
+    ensures paints { (v : TermView) → known T.view board.old ≡ Some v →
+        (s : BoardState (BarRecord K)) × (next : BoardState (BarRecord K)) × IsIn (board_id_of board.old) board.old s × IsIn (board_id_of board.old) board.new next
+        × (v' : TermView) × (known T.view board.new ≡ Some v') × Paints v v' (is_failure result) s.lists next.lists }
 {
     let _before = board.order();
     what_a_board_answers::<K>();

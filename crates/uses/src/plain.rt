@@ -1,33 +1,37 @@
 //! What stands where the texts are plain, with no premise on what the calls lead to.
-ghost use Rattle.std.specs.Prelude.{◌≡◌, ◌∷◌, [], ℕ, Some, map, replicate, All, IfOk, string_bytes, codes};
+ghost use Rattle.std.specs.Prelude.{◌≡◌, ◌∷◌, [], ℕ, List, Some, map, replicate, All, IfOk, string_bytes, codes};
 ghost use Rattle.indicatif_term.specs.Calls.{TermView};
 ghost use Rattle.indicatif_term.specs.Engines.{Paints, is_failure};
 ghost use Rattle.indicatif_term.specs.Frames.{logged_lines};
 ghost use Rattle.indicatif_term.specs.Memory.{view_of};
 ghost use Rattle.indicatif_bar.specs.Commands.{BarRecord};
 ghost use Rattle.indicatif_bar.specs.Lone.{LoneState};
-ghost use Rattle.indicatif_bar.specs.LoneBars.{LoneIsIn, lone_known, record_of};
-ghost use Rattle.indicatif_bar.specs.PlainLaws.{ArePlainTrackers};
+ghost use Rattle.indicatif_bar.specs.LoneBars.{LoneIsIn, lone_known, lone_timed, record_of};
+ghost use Rattle.indicatif_bar.specs.PlainLaws.{ArePlainTrackers, IsPlainLoneCall};
 ghost use Rattle.indicatif_bar.specs.StyleLaws.{IsPlainText};
 ghost use Rattle.indicatif_bar.specs.Trackers.{writes_nothing};
 ghost use Rattle.indicatif_board.specs.Boards.{End, Given, Insert, New};
 ghost use Rattle.indicatif_board.specs.BoardValues.{id_of};
+ghost use Rattle.indicatif_board.specs.Calls.{timed};
 ghost use Rattle.indicatif_board.specs.Multi.{LeadsBy};
+ghost use Rattle.indicatif_board.specs.PlainBoardLaws.{IsPlainCall};
 ghost use Rattle.uses.specs.Plain.{HasPlainTexts};
 
 use indicatif_bar::laws::{
     plain_texts_give_plain_runs as plain_texts_give_plain_lone_runs, what_a_lone_run_reads,
 };
-use indicatif_bar::lone::LoneBar;
+use indicatif_bar::lone::{LoneBar, LoneCall};
 use indicatif_bar::state::{BarCommand, BarState};
 use indicatif_bar::style::{NoTracker, ProgressStyle, ProgressTracker};
 use indicatif_board::laws::{
     plain_texts_give_plain_runs, scripts_of_a_board, what_a_board_run_reads,
 };
-use indicatif_board::multi::{BarId, Board, Candidate};
+use indicatif_board::multi::{BarId, Board, Call, Candidate};
 use indicatif_term::draw_target::ProgressDrawTarget;
 use indicatif_term::in_memory::InMemoryTerm;
-use indicatif_term::laws::a_new_terminal_is_an_opening;
+use indicatif_term::laws::{
+    a_new_terminal_is_an_opening, what_is_shown_is_read, where_a_terminal_stands,
+};
 use indicatif_term::term_like::TermLike;
 use indicatif_text::columns::{Drawn, Moment, Refusal};
 use indicatif_text::laws::template_or_refused;
@@ -137,6 +141,68 @@ pub fn name_above_a_board(alloc: Global) -> Result<Vec<String>, Refusal>
     match board.term() {
         Some(left) => {
             let texts = left.picture()?;
+            Ok(texts)
+        }
+        None => Err(Refusal::Memory),
+    }
+}
+
+/// A name logged above a bar on a new terminal of 4 rows and 10 columns, then any calls with plain texts, whatever they answer; and the
+/// texts of the rows that stand then. The name is the first, also where the terminal broke some of the calls off.
+///
+/// Refused: `Memory`, or what the log was refused.
+pub fn name_stands<K: ProgressTracker>(
+    alloc: Global,
+    bar: BarState<K>,
+    calls: Vec<(LoneCall<K>, Moment)>,
+) -> Result<Vec<String>, Refusal>
+    ensures { ArePlainTrackers K.means → HasPlainTexts bar → All (λ call. IsPlainLoneCall call.0) (map lone_timed calls.items) →
+        IfOk result (λ texts. (others : List (List ℕ)) × (map (λ text. string_bytes text) texts.items ≡ codes "a.txt" ∷ others)) }
+{
+    let term = InMemoryTerm::new(alloc, 4, 10)?;
+    let mut bar = LoneBar::new(bar, ProgressDrawTarget::term_like(term));
+    let record = bar.bar();
+    let _style = record.style();
+    let _logged = bar.println("a.txt", 0)?;
+    let _answers = bar.run(calls)?;
+    a_new_terminal_is_an_opening();
+    plain_texts_give_plain_lone_runs::<K>();
+    where_a_terminal_stands();
+    what_is_shown_is_read();
+    match bar.into_term() {
+        Some(term) => {
+            let texts = term.picture()?;
+            Ok(texts)
+        }
+        None => Err(Refusal::Memory),
+    }
+}
+
+/// The same on a new board: a name is logged there, then any calls are made, whatever they answer.
+///
+/// Refused: `Memory`, or what the log was refused.
+pub fn name_stands_on<K: ProgressTracker>(
+    alloc: Global,
+    calls: Vec<(Call<K>, Moment)>,
+) -> Result<Vec<String>, Refusal>
+    ensures { ArePlainTrackers K.means → All (λ call. IsPlainCall call.0) (map timed calls.items) →
+        IfOk result (λ texts. (others : List (List ℕ)) × (map (λ text. string_bytes text) texts.items ≡ codes "a.txt" ∷ others)) }
+{
+    let term = InMemoryTerm::new(alloc, 4, 10)?;
+    let mut board: Board<K, InMemoryTerm> = Board::new(
+        alloc,
+        ProgressDrawTarget::term_like(term),
+        0,
+    );
+    let _logged = board.println("a.txt", 0)?;
+    let _answers = board.run(calls)?;
+    a_new_terminal_is_an_opening();
+    plain_texts_give_plain_runs::<K>();
+    where_a_terminal_stands();
+    what_is_shown_is_read();
+    match board.term() {
+        Some(term) => {
+            let texts = term.picture()?;
             Ok(texts)
         }
         None => Err(Refusal::Memory),

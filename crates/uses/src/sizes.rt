@@ -1,13 +1,14 @@
 //! That another size takes no memory where nothing stands that it cuts, on a terminal that takes none itself.
 ghost use Rattle.std.specs.Prelude.{◌≢◌, Err};
 
+use indicatif_bar::laws::what_a_lone_bar_answers;
 use indicatif_bar::lone::LoneBar;
 use indicatif_bar::state::BarState;
 use indicatif_bar::style::ProgressTracker;
 use indicatif_term::draw_target::ProgressDrawTarget;
 use indicatif_term::laws::where_a_size_takes_none;
 use indicatif_term::term_like::Term;
-use indicatif_text::columns::Refusal;
+use indicatif_text::columns::{Moment, Refusal};
 use std::io::Write;
 
 /// A bar behind a writer gets another size before it is drawn.
@@ -23,4 +24,20 @@ pub fn sized_at_first<K: ProgressTracker, W: Write + Drop>(
     where_a_size_takes_none();
     bar.resize(rows, cols)?;
     Ok(bar)
+}
+
+/// A bar behind a writer, which was lent, gets another size once its rows were taken back.
+pub fn sized_behind_clear<K: ProgressTracker, W: Write + Drop>(
+    bar: &mut LoneBar<K, Term<W>>,
+    rows: u16,
+    cols: u16,
+    now: Moment,
+) -> Result<(), Refusal>
+    ensures { result ≢ Err Refusal.Memory }
+{
+    let _in_some_state = bar.bar();
+    what_a_lone_bar_answers::<K>();
+    where_a_size_takes_none();
+    bar.clear(now)?;
+    bar.resize(rows, cols)
 }

@@ -1,7 +1,8 @@
-use Rattle.std.proofs.Common.{◌≡◌, true, ap, subst, sym, ◌∙◌, option_map}
+use Rattle.std.proofs.Common.{◌≡◌, refl, true, ap, subst, sym, ◌∙◌, option_map}
 use Rattle.std.specs.Prelude.{◌≢◌, ◌↔◌}
-use Rattle.indicatif_term.specs.Engines.{is_failure}
+use Rattle.indicatif_term.specs.Engines.{Paints, is_failure}
 use Rattle.indicatif_bar.specs.Machines.{target_of}
+use Rattle.indicatif_bar.specs.Runs.{CallMade}
 use Rattle.indicatif_bar.specs.Says.{Says}
 use Rattle.indicatif_board.specs.BoardBars.{board_bars}
 use Rattle.indicatif_board.specs.Boards.{Clear, says, drawn_of_said, board}
@@ -64,3 +65,16 @@ returns-clause-failed g c = λ term next there left.
     let w = c.what_a_board_answers.ensures board_id old new (Clear, c.args.now) s.0 (says c.clear-drawn.result) made.0 made.2 in
     subst (λ r. (is_failure r ≡ true) ↔ ((view next).faults ≢ (view term).faults)) (drawn_of_said c.clear-drawn.result)
     (w.failed (view term) (view next) (ap (option_map view) there) (ap (option_map view) left))
+
+pub returns-clause-paints : goal.returns-clause-paints
+returns-clause-paints g c = λ v at.
+    let m = g.K.ProgressTracker.means in
+    let view = g.T.TermLike.view in
+    let board_id = board_id_of c.args.board.now in
+    let new = known view c.clear-drawn.new.self in
+    let s = c.order-before.ensures.some in
+    let made = c.clear-drawn.ensures.leads board_id s.0 s.1 in
+    let answer = c.clear-drawn.result in
+    let step = subst (λ o. CallMade (board (board_bars m) board_id) o new (Clear, c.args.now) s.0 (says answer) made.0) at made.2 in
+    let painted = subst (λ r. Paints v step.writes.0 (is_failure r) s.0.lists made.0.lists) (drawn_of_said answer) (step.writes.2.paints (λ _. refl)) in
+    (s.0, made.0, s.1, made.1, step.writes.0, step.writes.1, painted)
