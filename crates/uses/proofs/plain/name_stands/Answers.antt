@@ -44,7 +44,11 @@ returns-in-Some g c = λ trackers texts calls_plain.
     let call = (Log first_name, 0) ∷ [] in
     let one : Runs (lone_bar m) call (Ok drawn ∷ []) old start between log.0 = (between, log.0, made, (refl, refl)) in
     let plain_bar : IsPlainBar bar = record {
-      style = record { literals = texts.literals; ticks = texts.ticks; clusters = subst (λ (b : BarRecord g.row.K.Denot). AreTaken b.style.clusters) (c.bar-record.ensures.state start begun) c.style-style.ensures.taken };
+      style = record {
+        literals = texts.literals;
+        ticks = texts.ticks;
+        clusters = subst (λ (b : BarRecord g.row.K.Denot). AreTaken b.style.clusters) (c.bar-record.ensures.state start begun) c.style-style.ensures.taken;
+      };
       message = texts.message;
       prefix = texts.prefix;
       on_finish = texts.on_finish;
