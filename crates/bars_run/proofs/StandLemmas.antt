@@ -35,7 +35,7 @@ use Rattle.bars_run.specs.Fault.{status_of}
 use Rattle.bars_run.specs.Inside.Players.{Played, empty_memory, unanswered, HasPlayed, Stands}
 use Rattle.bars_run.specs.Plays as plays
 use Rattle.bars_run.specs.Plays.{Bar, Step, machine, sizing, script_of, played, rows_after, columns_after, is_refused, any_refused, SizesHaveCells, IsPlain}
-use Rattle.bars_run.specs.Printing.{Prints, IsPlayed, EndsOn, EndsBy, printed}
+use Rattle.bars_run.specs.Printing.{Prints, EndsOn, EndsBy, printed}
 use Rattle.bars_run.proofs.PlainLemmas.{no_trackers, plain_made}
 use Rattle.bars_run.proofs.PlainScriptLemmas.{scripts_plain}
 use Rattle.bars_run.proofs.PrintLemmas.{ended, none_behind}
@@ -241,11 +241,6 @@ ends_by words asked o (Line number refusal) is ends = (asked, is, ends)
 ends_by words asked o (Denied refusal) is ends = (asked, is, ends)
 ends_by words asked o Input is ends = (asked, is, ends)
 ends_by words asked o Output is ends = (asked, is, ends)
-
--- what stands was played
-pub stands_played : (asked : Asked) (o : Option (List ℕ)) (texts : List (List ℕ)) → IfSome o (λ bytes. Stands asked bytes texts) → IfSome o (λ bytes. IsPlayed asked bytes)
-stands_played asked None texts p = tt
-stands_played asked (Some bytes) texts p = record { commands = p.commands; commands_are = p.commands_are; steps = p.steps; steps_are = p.steps_are; done = p.done }
 
 -- the same of the input itself, of which this is known to be left
 pub same_ends : (asked : Asked) (left o : Option (List ℕ)) (fault : Fault) → left ≡ o → EndsOn asked left fault → EndsOn asked o fault
