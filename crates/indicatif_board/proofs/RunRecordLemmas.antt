@@ -9,7 +9,7 @@ use Rattle.indicatif_bar.specs.Commands.{BarRecord, Command}
 use Rattle.indicatif_bar.proofs.LoneRunLemmas.{any-push}
 use Rattle.indicatif_board.specs.Boards.{Id, Location, Entrant, New, Old, Call, Insert, Remove, Drop, Log, BarLog, Clear, Redraw, Align, Tell, Answer, Given, Done, Drew, Refused}
 use Rattle.indicatif_board.specs.Calls.{NamesForeign, AreTurnedAway, answer_of, is_bar, acts_on, gives}
-use Rattle.indicatif_board.specs.Multi.{record_at, board_id_of, seat_in, slots_of, NamedGoes, RecordsTake, RecordsChange, SlotsTake, SlotsLeft, SlotsChange, KeepsSlot, StaysOrComes}
+use Rattle.indicatif_board.specs.Multi.{record_at, board_id_of, seat_in, slots_of, NamedGoes, RecordsTake, RecordsChange, SlotsTake, SlotsLeft, SlotsChange, StaysInSlot, StaysOrComes}
 use Rattle.indicatif_board.specs.Slots.{SlotTable, IsSeated, LeavesHead, LeavesFrom, seated, slot_of}
 use Rattle.indicatif_board.proofs.LeavingLemmas.{slot_behind_head, slot_beside_gone, slot_around_new}
 use Rattle.indicatif_board.proofs.SeatLemmas.{without_slot}
@@ -138,7 +138,7 @@ kept_or_none o (Some s) slot keeps (inr none) = absurd (cc (sym (keeps s refl) �
 
 -- a bar that keeps its slot, or left, does so after one call more
 pub slots_more : {K T : Type 0} (call : Call (BarRecord K) (Command K)) (answer : Answer) (b c : Board K T) (number slot : ℕ) → IsSeated (slots_of b) → SlotsChange call answer b c →
-    KeepsSlot number slot b → number < (slots_of b).made → KeepsSlot number slot c × (number < (slots_of c).made)
+    StaysInSlot number slot b → number < (slots_of b).made → StaysInSlot number slot c × (number < (slots_of c).made)
 slots_more call answer b c number slot seats went kept made =
     let one = call_one b c number seats made call answer went in
     (kept_or_none (slot_of number (slots_of b)) (slot_of number (slots_of c)) slot one.0 kept, one.1)

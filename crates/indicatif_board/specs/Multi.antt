@@ -130,8 +130,8 @@ module _ {K T : Type 0} where
   SlotsChange _ answer old new = SlotsLeft old new × (answer ≡ Drew Yes → HeadHasRecord new) × (answer ≢ Drew Yes → slots_of new ≡ slots_of old)
 
   -- the bar of this number has this slot, or stands in the order no more
-  abbrev pub KeepsSlot : ℕ → ℕ → Board K T → Type 0
-  KeepsSlot number slot b = (slot_of number (slots_of b) ≡ Some slot) ⊎ (slot_of number (slots_of b) ≡ None)
+  abbrev pub StaysInSlot : ℕ → ℕ → Board K T → Type 0
+  StaysInSlot number slot b = (slot_of number (slots_of b) ≡ Some slot) ⊎ (slot_of number (slots_of b) ≡ None)
 
   -- a call named a bar: of a bar of this board it made what is said, and others stay; of another board's, all stay
   abbrev pub NamedGoes : Id → Type 0 → Board K T → Board K T → Type 0

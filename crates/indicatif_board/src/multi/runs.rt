@@ -8,7 +8,7 @@ ghost use Rattle.indicatif_board.specs.Boards.{BoardState, drawn_of, board};
 ghost use Rattle.indicatif_board.specs.Slots.{slot_of};
 ghost use Rattle.indicatif_board.specs.Recorded.{handed_back};
 ghost use Rattle.indicatif_board.specs.Calls.{answer_of, call_of, timed, NamesForeign, AreTurnedAway, acts_on};
-ghost use Rattle.indicatif_board.specs.Multi.{IsIn, IsNowhere, TurnsAway, board_id_of, SlotsChange, KeepsSlot, RecordsChange, StaysOrComes, LeadsBy, known, moves_of, slots_of, terminal_of};
+ghost use Rattle.indicatif_board.specs.Multi.{IsIn, IsNowhere, TurnsAway, board_id_of, SlotsChange, StaysInSlot, RecordsChange, StaysOrComes, LeadsBy, known, moves_of, slots_of, terminal_of};
 
 use crate::calls::{Answer, Call, draw_answer, insertion_answer, removal_answer};
 use crate::multi::Board;
@@ -89,7 +89,7 @@ impl<K: Tracks, T: TermLike + Drop> Board<K, T> {
         ensures foreign { IfOk result (λ answers. AreTurnedAway (board_id_of self.old) (map timed calls.items) (map answer_of answers.items)) }
         ensures records { (number : ℕ) → IsFalse (list_any (λ call. acts_on (board_id_of self.old) number (call_of call.0)) calls.items) →
             IfOk result (λ answers. StaysOrComes number answers.items self.old self.new) }
-        ensures slots { (number slot : ℕ) → slot_of number (slots_of self.old) ≡ Some slot → KeepsSlot number slot self.new }
+        ensures slots { (number slot : ℕ) → slot_of number (slots_of self.old) ≡ Some slot → StaysInSlot number slot self.new }
         ensures idle { vec_len calls ≡ 0 → IsTrue (is_ok result) × (self.new ≡ self.old) }
         ensures memory { IfErr result (λ e. e ≡ Refusal.Memory) }
         ensures unrun { OnErr result (self.new ≡ self.old) }
@@ -99,6 +99,7 @@ impl<K: Tracks, T: TermLike + Drop> Board<K, T> {
             return Ok(Vec::new(alloc));
         }
         let mut answers = Vec::with_capacity(alloc, calls.len())?;
+        // What `order` says of the slots is for the proof of `slots` alone: before the first call, and before each.
         self.order();
         for (call, now) in calls {
             self.order();

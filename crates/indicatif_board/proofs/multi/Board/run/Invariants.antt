@@ -7,7 +7,7 @@ use Rattle.indicatif_bar.specs.Runs.{Runs, wrote}
 use Rattle.indicatif_board.specs.BoardBars.{board_bars}
 use Rattle.indicatif_board.specs.Boards.{BoardState, drawn_of, board}
 use Rattle.indicatif_board.specs.Calls.{timed, call_of, answer_of, AreTurnedAway, acts_on}
-use Rattle.indicatif_board.specs.Multi.{IsIn, IsNowhere, KeepsSlot, StaysOrComes, board_id_of, moves_of, slots_of, terminal_of, known}
+use Rattle.indicatif_board.specs.Multi.{IsIn, IsNowhere, StaysInSlot, StaysOrComes, board_id_of, moves_of, slots_of, terminal_of, known}
 use Rattle.indicatif_board.specs.Slots.{slot_of}
 use Rattle.indicatif_board.proofs.multi.Board.run.Given as goal
 
@@ -21,7 +21,7 @@ invariant-loop-call g l = record {
   nowhere : IsNowhere g.T.TermLike.view l.fn.self → IsFalse (list_any (λ answer. wrote (drawn_of (answer_of answer))) l.answers.items);
   foreign : AreTurnedAway (board_id_of l.fn.self) (map timed l.yielded) (map answer_of l.answers.items);
   records : (number : ℕ) → IsFalse (list_any (λ call. acts_on (board_id_of l.fn.self) number (call_of call.0)) l.yielded) → StaysOrComes number l.answers.items l.fn.self l.self;
-  slots : (number slot : ℕ) → slot_of number (slots_of l.fn.self) ≡ Some slot → KeepsSlot number slot l.self × (number < (slots_of l.self).made);
+  slots : (number slot : ℕ) → slot_of number (slots_of l.fn.self) ≡ Some slot → StaysInSlot number slot l.self × (number < (slots_of l.self).made);
   board_id : board_id_of l.self ≡ board_id_of l.fn.self;
   moves : moves_of l.self ≡ moves_of l.fn.self;
 }
