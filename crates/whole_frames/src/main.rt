@@ -121,8 +121,17 @@ fn in_memory(alloc: Global, size: Size) -> Result<Three<InMemoryTerm>, Refusal> 
 fn played(alloc: Global, chance: &mut Chance) -> Result<Option<u32>, Refusal> {
     let mut three = in_memory(alloc, size_by(chance))?;
     let mut frame = Frame::new(alloc);
+    first_difference(&mut three, &mut frame, chance)
+}
+
+/// The number of the first call behind which they differ, from 1.
+fn first_difference(
+    three: &mut Three<InMemoryTerm>,
+    frame: &mut Frame,
+    chance: &mut Chance,
+) -> Result<Option<u32>, Refusal> {
     for at in 0..CALLS {
-        if !step(&mut three, &mut frame, chance)? || !is_same(&three)? {
+        if !step(three, frame, chance)? || !is_same(three)? {
             return Ok(Some(at + 1));
         }
     }
@@ -142,8 +151,18 @@ fn print_written<R: AllocGlobal + Print>(rt: &R, chance: &mut Chance) -> Result<
     let term = behind(alloc, size);
     let mut three = Three::new(alloc, term, behind(alloc, size), behind(alloc, size));
     let mut frame = Frame::new(alloc);
+    print_calls(rt, &mut three, &mut frame, chance)
+}
+
+/// Plays the calls of a list, and prints what each engine wrote.
+fn print_calls<R: Print>(
+    rt: &R,
+    three: &mut Three<Term<Vec<u8>>>,
+    frame: &mut Frame,
+    chance: &mut Chance,
+) -> Result<()> {
     for _ in 0..CALLS {
-        step(&mut three, &mut frame, chance)?;
+        step(three, frame, chance)?;
     }
     print_bytes(rt, three.engine.term())?;
     print_bytes(rt, three.moving.term())?;
