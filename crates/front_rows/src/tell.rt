@@ -1,13 +1,10 @@
 //! A bar's calls as rows spell them: a name and what belongs to it.
 //!
-//! - Without an argument: `tick`, `unset_length`, `reset_eta`, `reset_elapsed`, `reset`, `force_draw`, `finish`, `finish_and_clear`,
-//!   `abandon`, `finish_using_style`, `suspend`; `at_end`: by what wraps something, at its end.
-//! - With a number: `inc`, `dec`, `set_position`, `set_length`, `inc_length`, `dec_length`, `set_elapsed`, `set_tab_width`; `further`: an
-//!   update of the position; `with_position`, `with_elapsed`, `with_tab_width`; `advance` and `place`: by what wraps something;
-//!   `absorb`: a sum of one worker that has added so much.
-//! - With a text: `set_message`, `set_prefix`, `finish_with_message`, `abandon_with_message`, `log`, `with_message`, `with_prefix`;
-//!   `set_style` and `with_style`: a spinner whose last text is this one; `template`: the bar's own style with another template;
-//!   `with_finish`: a call that finishes a bar.
+//! - Without an argument: those of `scripts::commands::BARE`; `suspend`; `at_end`: by what wraps something, at its end.
+//! - With a number: those of `NUMBERED` there; `further`: an update of the position; `with_elapsed`; `advance` and `place`: by what wraps
+//!   something; `absorb`: a sum of one worker that has added so much.
+//! - With a text: those of `WORDED` there; `log`; `set_style` and `with_style`: a spinner whose last text is this one; `template`: the
+//!   bar's own style with another template; `with_finish`: a call that finishes a bar.
 //!
 //! What answers with the bar counts as `limited`, since it draws nothing.
 use crate::bars::{Bar, spinner};

@@ -7,6 +7,7 @@ use indicatif_bar::state::{BarCommand, BarState, Change, ProgressFinish};
 use indicatif_bar::style::{NoTracker, ProgressStyle};
 use indicatif_board::multi::{BarId, Call, Candidate, InsertLocation};
 use indicatif_term::draw_target::MultiProgressAlignment;
+use scripts::commands::{COUNTING, bare, by_number};
 use std::alloc::Global;
 
 /// The board's id.
@@ -78,21 +79,17 @@ fn rare_command(alloc: Global, numbers: &mut Numbers) -> Result<BarCommand<NoTra
 
 /// A command of a bar's numbers.
 fn counting(numbers: &mut Numbers) -> BarCommand<NoTracker> {
-    match numbers.below(11) {
-        0 => BarCommand::Dec(number(numbers)),
-        1 => BarCommand::SetPosition(number(numbers)),
-        2 => BarCommand::Update(Change {
-            pos: Some(number(numbers)),
+    let name = numbers.text_of(&COUNTING);
+    let first = number(numbers);
+    if name == "update" {
+        return BarCommand::Update(Change {
+            pos: Some(first),
             len: Some(number(numbers)),
-        }),
-        3 => BarCommand::SetLength(number(numbers)),
-        4 => BarCommand::UnsetLength,
-        5 => BarCommand::IncLength(number(numbers)),
-        6 => BarCommand::DecLength(number(numbers)),
-        7 => BarCommand::WithPosition(number(numbers)),
-        8 => BarCommand::ResetEta,
-        9 => BarCommand::ResetElapsed,
-        _ => BarCommand::Reset,
+        });
+    }
+    match by_number(name, first) {
+        Ok(command) => command,
+        Err(_) => bare(name).unwrap_or(BarCommand::Reset),
     }
 }
 

@@ -7,7 +7,7 @@ use Rattle.indicatif_text.specs.declared.refusal.Drawn.{Drawn}
 use Rattle.indicatif_text.specs.declared.refusal.Drawn.TheVariants.{Yes, Limited, Hidden}
 use Rattle.indicatif_bar.specs.declared.ask.Ask.{Ask}
 use Rattle.indicatif_bar.specs.declared.ask.Ask.TheVariants.{No, Unforced, Forced}
-use Rattle.indicatif_bar.specs.Commands.{Command, Tick, TickerTick, SetTicker, Inc, Dec, SetPosition, Update, SetLength, UnsetLength, IncLength, DecLength, SetMessage, SetPrefix, SetStyle, PutPosition, PutMessage, PutPrefix, PutFinish, PutTabWidth, SetTabWidth, SetElapsed, ResetEta, ResetElapsed, Reset, FinishBy, FinishUsingStyle, ForceDraw}
+use Rattle.indicatif_bar.specs.Commands.{Command, SetTicker, SetStyle, PutPosition, PutMessage, PutPrefix, PutFinish, PutTabWidth, SetTabWidth, SetElapsed, ResetEta, ResetElapsed, FinishBy, FinishUsingStyle, ForceDraw}
 use Rattle.indicatif_bar.specs.Lone.{LoneCall, Obey, Log, Clear}
 use Rattle.indicatif_bar.specs.declared.command.Change.{Change}
 
@@ -56,7 +56,7 @@ of_draw Forced answer = of_a_draw answer
 
 -- ---- bars
 
--- the draw that a command asks for; one that the limiter may put off is by force where the bar is finished
+-- the draw that a command asks for, most often one that the limiter may put off, but by force where the bar is finished
 abbrev pub asked_by : {K : Type 0} → Command K → Ask
 asked_by (SetTicker installed) = No
 asked_by (SetStyle style) = No
@@ -68,23 +68,11 @@ asked_by (PutTabWidth tab) = No
 asked_by (SetElapsed nanos) = No
 asked_by ResetEta = No
 asked_by ResetElapsed = No
-asked_by Tick = Unforced
-asked_by TickerTick = Unforced
-asked_by (Inc n) = Unforced
-asked_by (Dec n) = Unforced
-asked_by (SetPosition position) = Unforced
-asked_by (Update position len) = Unforced
-asked_by (SetLength n) = Unforced
-asked_by UnsetLength = Unforced
-asked_by (IncLength n) = Unforced
-asked_by (DecLength n) = Unforced
-asked_by (SetMessage text) = Unforced
-asked_by (SetPrefix text) = Unforced
-asked_by Reset = Unforced
 asked_by (SetTabWidth tab) = Forced
 asked_by (FinishBy by) = Forced
 asked_by FinishUsingStyle = Forced
 asked_by ForceDraw = Forced
+asked_by _ = Unforced
 
 -- a command's own refusal: an elapsed time beyond the clock, which 0 never is
 abbrev pub is_late : {K : Type 0} → Command K → Result Drawn Refusal → Bool

@@ -7,7 +7,7 @@ use Rattle.indicatif_bar.specs.Progress.{is_finished}
 use Rattle.indicatif_bar.specs.PositionLimiters.{allow_position}
 use Rattle.indicatif_bar.specs.Trackers.{Tracking}
 use Rattle.indicatif_bar.specs.Finishes.{BarFinish, AndLeave, WithMessage, AndClear, Abandon, AbandonWithMessage}
-use Rattle.indicatif_bar.specs.Commands.{BarRecord, Command, obeyed, tick, ticker_tick, moved_to, finish, asks_draw, with_progress, some_or, Tick, TickerTick, SetTicker, Inc, Dec, SetPosition, Update, SetLength, UnsetLength, IncLength, DecLength, SetMessage, SetPrefix, SetStyle, PutPosition, PutMessage, PutPrefix, PutFinish, PutTabWidth, SetTabWidth, SetElapsed, ResetEta, ResetElapsed, Reset, FinishBy, FinishUsingStyle, ForceDraw}
+use Rattle.indicatif_bar.specs.Commands.{BarRecord, Command, obeyed, tick, ticker_tick, moved_to, finish, asks_draw, with_progress, some_or, Tick, SetTicker, Inc, Dec, SetPosition, Update, SetStyle, PutPosition, PutMessage, PutPrefix, PutFinish, PutTabWidth, SetTabWidth, SetElapsed, ResetEta, ResetElapsed, FinishBy, FinishUsingStyle, ForceDraw}
 use Rattle.indicatif_bar.specs.ProgressLaws.{TabsAgree, FinishedDrawsAreForced}
 
 -- ---- tabs
@@ -40,32 +40,17 @@ elapsed_agrees false x y p q = q
 
 after_agrees : {K : Type 0} (m : Tracking K) (bar : BarRecord K) (command : Command K) (now : ℕ) → bar.style.tab ≡ bar.progress.tab → Agrees (obeyed m command bar now)
 after_agrees m bar Tick now e = tick_agrees m bar now e
-after_agrees m bar TickerTick now e = e
-after_agrees m bar (SetTicker installed) now e = e
 after_agrees m bar (Inc n) now e = moved_agrees m _ bar now e
 after_agrees m bar (Dec n) now e = moved_agrees m _ bar now e
 after_agrees m bar (SetPosition position) now e = moved_agrees m _ bar now e
 after_agrees m bar (Update position len) now e = tick_agrees m _ now e
-after_agrees m bar (SetLength n) now e = e
-after_agrees m bar UnsetLength now e = e
-after_agrees m bar (IncLength n) now e = e
-after_agrees m bar (DecLength n) now e = e
-after_agrees m bar (SetMessage text) now e = e
-after_agrees m bar (SetPrefix text) now e = e
 after_agrees m bar (SetStyle style) now e = refl
-after_agrees m bar (PutPosition position) now e = e
-after_agrees m bar (PutMessage text) now e = e
-after_agrees m bar (PutPrefix text) now e = e
-after_agrees m bar (PutFinish by) now e = e
 after_agrees m bar (PutTabWidth tab) now e = refl
 after_agrees m bar (SetTabWidth tab) now e = refl
 after_agrees m bar (SetElapsed nanos) now e = elapsed_agrees (nat_lt now nanos) _ _ e e
-after_agrees m bar ResetEta now e = e
-after_agrees m bar ResetElapsed now e = e
-after_agrees m bar Reset now e = e
 after_agrees m bar (FinishBy by) now e = finish_agrees by bar now e
 after_agrees m bar FinishUsingStyle now e = finish_agrees bar.on_finish bar now e
-after_agrees m bar ForceDraw now e = e
+after_agrees m bar _ now e = e
 
 pub tabs_agree : {K : Type 0} → TabsAgree K
 tabs_agree m style len bar command now = (refl, after_agrees m bar command now)
@@ -104,19 +89,12 @@ moved_is_forced m position bar now =
 
 pub finished_draws_are_forced : {K : Type 0} → FinishedDrawsAreForced K
 finished_draws_are_forced m bar Tick now = tick_is_forced m bar now
-finished_draws_are_forced m bar TickerTick now = asked_is_forced (obeyed m TickerTick bar now).0
 finished_draws_are_forced m bar (SetTicker installed) now = none_is_forced (obeyed m (SetTicker installed) bar now).0
 finished_draws_are_forced m bar (Inc n) now = moved_is_forced m ((bar.progress.position + n) % 2 ^ 64) bar now
 finished_draws_are_forced m bar (Dec n) now = moved_is_forced m ((bar.progress.position + 2 ^ 64 - n) % 2 ^ 64) bar now
 finished_draws_are_forced m bar (SetPosition position) now = moved_is_forced m position bar now
 finished_draws_are_forced m bar (Update position len) now =
     tick_is_forced m (with_progress bar (record bar.progress { position = unwrap_or position bar.progress.position; len = some_or len bar.progress.len })) now
-finished_draws_are_forced m bar (SetLength n) now = asked_is_forced (obeyed m (SetLength n) bar now).0
-finished_draws_are_forced m bar UnsetLength now = asked_is_forced (obeyed m UnsetLength bar now).0
-finished_draws_are_forced m bar (IncLength n) now = asked_is_forced (obeyed m (IncLength n) bar now).0
-finished_draws_are_forced m bar (DecLength n) now = asked_is_forced (obeyed m (DecLength n) bar now).0
-finished_draws_are_forced m bar (SetMessage text) now = asked_is_forced (obeyed m (SetMessage text) bar now).0
-finished_draws_are_forced m bar (SetPrefix text) now = asked_is_forced (obeyed m (SetPrefix text) bar now).0
 finished_draws_are_forced m bar (SetStyle style) now = none_is_forced (obeyed m (SetStyle style) bar now).0
 finished_draws_are_forced m bar (PutPosition position) now = none_is_forced (obeyed m (PutPosition position) bar now).0
 finished_draws_are_forced m bar (PutMessage text) now = none_is_forced (obeyed m (PutMessage text) bar now).0
@@ -127,7 +105,7 @@ finished_draws_are_forced m bar (SetTabWidth tab) now = force_is_forced (obeyed 
 finished_draws_are_forced m bar (SetElapsed nanos) now = none_is_forced (obeyed m (SetElapsed nanos) bar now).0
 finished_draws_are_forced m bar ResetEta now = none_is_forced (obeyed m ResetEta bar now).0
 finished_draws_are_forced m bar ResetElapsed now = none_is_forced (obeyed m ResetElapsed bar now).0
-finished_draws_are_forced m bar Reset now = asked_is_forced (obeyed m Reset bar now).0
 finished_draws_are_forced m bar (FinishBy by) now = force_is_forced (obeyed m (FinishBy by) bar now).0
 finished_draws_are_forced m bar FinishUsingStyle now = force_is_forced (obeyed m FinishUsingStyle bar now).0
 finished_draws_are_forced m bar ForceDraw now = force_is_forced (obeyed m ForceDraw bar now).0
+finished_draws_are_forced m bar _ now = asked_is_forced _

@@ -11,7 +11,7 @@ use Rattle.indicatif_term.specs.Frames.{text_lines, logged_lines, bar_lines}
 use Rattle.indicatif_term.specs.Engines.{engine_term, Fits}
 use Rattle.indicatif_term.specs.declared.engine.Engine.{Engine}
 use Rattle.indicatif_bar.specs.Trackers.{Tracking}
-use Rattle.indicatif_bar.specs.Commands.{BarRecord, Command, Tick, TickerTick, SetTicker, Inc, Dec, SetPosition, Update, SetLength, UnsetLength, IncLength, DecLength, SetMessage, SetPrefix, SetStyle, PutPosition, PutMessage, PutPrefix, PutFinish, PutTabWidth, SetTabWidth, SetElapsed, ResetEta, ResetElapsed, Reset, FinishBy, FinishUsingStyle, ForceDraw, obeyed, is_beyond_clock, takes_memory}
+use Rattle.indicatif_bar.specs.Commands.{BarRecord, Command, SetElapsed, obeyed, is_beyond_clock, takes_memory}
 use Rattle.indicatif_bar.specs.Bars.{bar_kind}
 use Rattle.indicatif_bar.specs.Kinds.{Kind, Writing, Frame, TextAndFrame, NoFrame, asked_of}
 use Rattle.indicatif_bar.specs.Machines.{target_of, Draw, is_no, Leads}
@@ -100,33 +100,8 @@ module _ {B C : Type 0} (kind : Kind B C) (old : Option TermView) (call : LoneCa
 
 -- a command that takes memory for a text isn't refused by the clock
 pub memory_in_time : {K : Type 0} (command : Command K) (bar : BarRecord K) (now : ℕ) → takes_memory command bar ≡ true → is_beyond_clock command now ≡ false
-memory_in_time Tick bar now e = refl
-memory_in_time TickerTick bar now e = refl
-memory_in_time (SetTicker i) bar now e = refl
-memory_in_time (Inc n) bar now e = refl
-memory_in_time (Dec n) bar now e = refl
-memory_in_time (SetPosition p) bar now e = refl
-memory_in_time (Update p n) bar now e = refl
-memory_in_time (SetLength n) bar now e = refl
-memory_in_time UnsetLength bar now e = refl
-memory_in_time (IncLength n) bar now e = refl
-memory_in_time (DecLength n) bar now e = refl
-memory_in_time (SetMessage t) bar now e = refl
-memory_in_time (SetPrefix t) bar now e = refl
-memory_in_time (SetStyle t) bar now e = refl
-memory_in_time (PutPosition p) bar now e = refl
-memory_in_time (PutMessage t) bar now e = refl
-memory_in_time (PutPrefix t) bar now e = refl
-memory_in_time (PutFinish f) bar now e = refl
-memory_in_time (PutTabWidth t) bar now e = refl
-memory_in_time (SetTabWidth t) bar now e = refl
 memory_in_time (SetElapsed n) bar now e = absurd (false≢true e)
-memory_in_time ResetEta bar now e = refl
-memory_in_time ResetElapsed bar now e = refl
-memory_in_time Reset bar now e = refl
-memory_in_time (FinishBy f) bar now e = refl
-memory_in_time FinishUsingStyle bar now e = refl
-memory_in_time ForceDraw bar now e = refl
+memory_in_time _ bar now e = refl
 
 module _ {K T : Type 0} (m : Tracking K) (view : T → TermView) (old mid new : LoneBar K T) (now : ℕ) (answer : Result Drawn Refusal) where
   -- what a draw of a bar says, which was so before it

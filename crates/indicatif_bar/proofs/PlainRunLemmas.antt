@@ -25,7 +25,7 @@ use Rattle.indicatif_bar.specs.Trackers.{Tracking}
 use Rattle.indicatif_bar.specs.Styles.{BarStyle, lines}
 use Rattle.indicatif_bar.specs.Bars.{bar_kind, lines_of_bar}
 use Rattle.indicatif_bar.specs.Finishes.{BarFinish, AndLeave, WithMessage, AndClear, Abandon, AbandonWithMessage}
-use Rattle.indicatif_bar.specs.Commands.{BarRecord, Command, Tick, TickerTick, SetTicker, Inc, Dec, SetPosition, Update, SetLength, UnsetLength, IncLength, DecLength, SetMessage, SetPrefix, SetStyle, PutPosition, PutMessage, PutPrefix, PutFinish, PutTabWidth, SetTabWidth, SetElapsed, ResetEta, ResetElapsed, Reset, FinishBy, FinishUsingStyle, ForceDraw, obeyed, tick, ticker_tick, moved_to, finish, with_progress, some_or}
+use Rattle.indicatif_bar.specs.Commands.{BarRecord, Command, Tick, Inc, Dec, SetPosition, Update, SetMessage, SetPrefix, SetStyle, PutMessage, PutPrefix, PutFinish, SetElapsed, FinishBy, FinishUsingStyle, obeyed, tick, ticker_tick, moved_to, finish, with_progress, some_or}
 use Rattle.indicatif_bar.specs.StyleLaws.{IsPlainText}
 use Rattle.indicatif_bar.specs.LineLaws.{IsPlainLiteral, HasPlainTexts}
 use Rattle.indicatif_bar.specs.PlainLaws.{IsPlainWithTabs, ArePlainTrackers, HasPlainLiteral, IsPlainFinish, IsPlainBar, IsPlainCommand, IsPlainLoneCall, LoneRunsArePlain}
@@ -193,8 +193,6 @@ module _ {K : Type 0} (m : Tracking K) (trackers : ArePlainTrackers m) where
 
   obeyed_plain : (command : Command K) (bar : BarRecord K) (now : ℕ) → IsPlainCommand command → IsPlainBar bar → IsPlainBar (obeyed m command bar now).0
   obeyed_plain Tick bar now c h = ticked_plain bar now h
-  obeyed_plain TickerTick bar now c h = same_texts h refl refl refl refl refl refl
-  obeyed_plain (SetTicker installed) bar now c h = same_texts h refl refl refl refl refl refl
   obeyed_plain (Inc n) bar now c h = moved_plain _ bar now h
   obeyed_plain (Dec n) bar now c h = moved_plain _ bar now h
   obeyed_plain (SetPosition position) bar now c h = moved_plain position bar now h
@@ -202,30 +200,20 @@ module _ {K : Type 0} (m : Tracking K) (trackers : ArePlainTrackers m) where
       let next = with_progress bar (record bar.progress { position = unwrap_or position bar.progress.position; len = some_or len bar.progress.len }) in
       let same : IsPlainBar next = same_texts h refl refl refl refl refl refl in
       ticked_plain next now same
-  obeyed_plain (SetLength n) bar now c h = same_texts h refl refl refl refl refl refl
-  obeyed_plain UnsetLength bar now c h = same_texts h refl refl refl refl refl refl
-  obeyed_plain (IncLength n) bar now c h = same_texts h refl refl refl refl refl refl
-  obeyed_plain (DecLength n) bar now c h = same_texts h refl refl refl refl refl refl
   obeyed_plain (SetMessage text) bar now c h = same_texts (told_message text bar c h) refl refl refl refl refl refl
   obeyed_plain (SetPrefix text) bar now c h = same_texts (told_prefix text bar c h) refl refl refl refl refl refl
   obeyed_plain (SetStyle style) bar now c h =
       record { style = record { literals = c.literals; ticks = c.ticks; clusters = c.clusters }; message = h.message; prefix = h.prefix; on_finish = h.on_finish }
-  obeyed_plain (PutPosition position) bar now c h = same_texts h refl refl refl refl refl refl
   obeyed_plain (PutMessage text) bar now c h = told_message text bar c h
   obeyed_plain (PutPrefix text) bar now c h = told_prefix text bar c h
   obeyed_plain (PutFinish by) bar now c h = record { style = h.style; message = h.message; prefix = h.prefix; on_finish = c }
-  obeyed_plain (PutTabWidth tab) bar now c h = same_texts h refl refl refl refl refl refl
-  obeyed_plain (SetTabWidth tab) bar now c h = same_texts h refl refl refl refl refl refl
   obeyed_plain (SetElapsed nanos) bar now c h =
       let next = with_progress bar (record bar.progress { start = now - nanos }) in
       let same : IsPlainBar next = same_texts h refl refl refl refl refl refl in
       cond_both (nat_lt now nanos) bar next IsPlainBar (λ _. h) (λ _. same)
-  obeyed_plain ResetEta bar now c h = same_texts h refl refl refl refl refl refl
-  obeyed_plain ResetElapsed bar now c h = same_texts h refl refl refl refl refl refl
-  obeyed_plain Reset bar now c h = same_texts h refl refl refl refl refl refl
   obeyed_plain (FinishBy by) bar now c h = finished_plain by bar now c h
   obeyed_plain FinishUsingStyle bar now c h = finished_plain bar.on_finish bar now h.on_finish h
-  obeyed_plain ForceDraw bar now c h = h
+  obeyed_plain _ bar now c h = same_texts h refl refl refl refl refl refl
 
   pub bars_keep_plain : KeepsPlain (bar_kind m) IsPlainBar IsPlainCommand
   bars_keep_plain = record { lines = bar_lines_plain; after = obeyed_plain }

@@ -1,6 +1,12 @@
 //! What a bar can be told.
-use crate::finish::ProgressFinish;
+ghost use Rattle.std.specs.Prelude.{◌≡◌, IfOk, IfErr, IsTrue};
+ghost use Rattle.indicatif_bar.specs.Commands.{command_of, copy_takes_memory};
+
+use crate::finish::{ProgressFinish, same_text};
 use crate::style::ProgressStyle;
+use crate::tracker::Tracks;
+use indicatif_text::columns::Refusal;
+use std::alloc::Global;
 
 /// What is to be set of a bar's position and length; what is `None` stays.
 ///
@@ -78,4 +84,48 @@ pub enum BarCommand<K> {
     FinishUsingStyle,
     /// A draw by force.
     ForceDraw,
+}
+
+impl<K: Tracks> BarCommand<K> {
+    /// Another command, equal to this one.
+    ///
+    /// ```
+    /// let again = command.try_clone(alloc)?;
+    /// ```
+    ///
+    /// Refused: `Memory`, only where it has a style, or a text that isn't empty.
+    pub fn try_clone(&self, alloc: Global) -> Result<BarCommand<K>, Refusal>
+        ensures same { IfOk result (λ other. command_of other ≡ command_of self.now) }
+        ensures memory { IfErr result (λ e. (e ≡ Refusal.Memory) × IsTrue (copy_takes_memory (command_of self.now))) }
+    {
+        Ok(match self {
+            BarCommand::Tick => BarCommand::Tick,
+            BarCommand::TickerTick => BarCommand::TickerTick,
+            BarCommand::SetTicker(installed) => BarCommand::SetTicker(*installed),
+            BarCommand::Inc(delta) => BarCommand::Inc(*delta),
+            BarCommand::Dec(delta) => BarCommand::Dec(*delta),
+            BarCommand::SetPosition(position) => BarCommand::SetPosition(*position),
+            BarCommand::Update(change) => BarCommand::Update(*change),
+            BarCommand::SetLength(len) => BarCommand::SetLength(*len),
+            BarCommand::UnsetLength => BarCommand::UnsetLength,
+            BarCommand::IncLength(delta) => BarCommand::IncLength(*delta),
+            BarCommand::DecLength(delta) => BarCommand::DecLength(*delta),
+            BarCommand::SetMessage(text) => BarCommand::SetMessage(same_text(alloc, text)?),
+            BarCommand::SetPrefix(text) => BarCommand::SetPrefix(same_text(alloc, text)?),
+            BarCommand::SetStyle(style) => BarCommand::SetStyle(style.try_clone()?),
+            BarCommand::WithPosition(position) => BarCommand::WithPosition(*position),
+            BarCommand::WithMessage(text) => BarCommand::WithMessage(same_text(alloc, text)?),
+            BarCommand::WithPrefix(text) => BarCommand::WithPrefix(same_text(alloc, text)?),
+            BarCommand::WithFinish(finish) => BarCommand::WithFinish(finish.try_clone(alloc)?),
+            BarCommand::WithTabWidth(tab) => BarCommand::WithTabWidth(*tab),
+            BarCommand::SetTabWidth(tab) => BarCommand::SetTabWidth(*tab),
+            BarCommand::SetElapsed(nanos) => BarCommand::SetElapsed(*nanos),
+            BarCommand::ResetEta => BarCommand::ResetEta,
+            BarCommand::ResetElapsed => BarCommand::ResetElapsed,
+            BarCommand::Reset => BarCommand::Reset,
+            BarCommand::Finish(finish) => BarCommand::Finish(finish.try_clone(alloc)?),
+            BarCommand::FinishUsingStyle => BarCommand::FinishUsingStyle,
+            BarCommand::ForceDraw => BarCommand::ForceDraw,
+        })
+    }
 }
