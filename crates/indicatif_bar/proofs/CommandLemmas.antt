@@ -108,4 +108,4 @@ finished_draws_are_forced m bar ResetElapsed now = none_is_forced (obeyed m Rese
 finished_draws_are_forced m bar (FinishBy by) now = force_is_forced (obeyed m (FinishBy by) bar now).0
 finished_draws_are_forced m bar FinishUsingStyle now = force_is_forced (obeyed m FinishUsingStyle bar now).0
 finished_draws_are_forced m bar ForceDraw now = force_is_forced (obeyed m ForceDraw bar now).0
-finished_draws_are_forced m bar _ now = asked_is_forced _
+finished_draws_are_forced m bar command now = asked_is_forced (obeyed m command bar now).0
