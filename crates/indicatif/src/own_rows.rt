@@ -24,7 +24,7 @@ use std::io;
 /// let term = OwnRows::new(Term::new(writer, 24, 79)); // for a terminal of 80 columns, or of any other number
 /// let target = ProgressDrawTarget::term(term, facts, 20, now)?;
 /// ```
-#[derive(Debug, Drop)]
+#[derive(Debug)]
 pub struct OwnRows<T> {
     term: T,
     ends: RowEnds,
@@ -33,6 +33,18 @@ pub struct OwnRows<T> {
     column: usize,
     /// The terminal's faults when a drawing began.
     faults: u64,
+}
+
+impl<T: Drop> Drop for OwnRows<T> {
+    fn drop(self) {
+        let OwnRows {
+            term: _,
+            ends: _,
+            place: _,
+            column: _,
+            faults: _,
+        } = self;
+    }
 }
 
 /// Who ends a row that is full.

@@ -21,10 +21,15 @@ use std::fmt::{self, Debug, Formatter};
 /// let bar = OwnedBar::new(LoneBar::new(state, target), StepClock { next: 0, step: 1_000_000 });
 /// let mut wrapped = ProgressBarIter::new(items.into_iter(), bar);
 /// ```
-#[derive(Drop)]
 pub struct OwnedBar<K, T: Drop, C> {
     pub(crate) bar: LoneBar<K, T>,
     pub(crate) clock: C,
+}
+
+impl<K: Drop, T: Drop, C: Drop> Drop for OwnedBar<K, T, C> {
+    fn drop(self) {
+        let OwnedBar { bar: _, clock: _ } = self;
+    }
 }
 
 impl<K, T: Drop, C> OwnedBar<K, T, C> {

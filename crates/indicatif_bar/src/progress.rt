@@ -37,7 +37,7 @@ pub(crate) enum Status {
 /// bar.set_position(3, 2_000_000_000); // it stood at 2
 /// let rate = bar.state().per_sec(2_000_000_000); // 1 step in 1,000,000,000 nanoseconds
 /// ```
-#[derive(Debug, Drop)]
+#[derive(Debug)]
 pub struct ProgressState {
     alloc: Global,
     position: u64,
@@ -52,6 +52,25 @@ pub struct ProgressState {
     /// Room for the next text.
     spare: TabbedText,
     tab: usize,
+}
+
+impl Drop for ProgressState {
+    fn drop(self) {
+        let ProgressState {
+            alloc: _,
+            position: _,
+            len: _,
+            ticks: _,
+            start: _,
+            status: _,
+            took: _,
+            samples: _,
+            message: _,
+            prefix: _,
+            spare: _,
+            tab: _,
+        } = self;
+    }
 }
 
 /// Contracts see what was reached, and the texts as they were set.

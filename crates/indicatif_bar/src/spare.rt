@@ -15,11 +15,20 @@ use std::mem::replace;
 /// spare.store(before);
 /// let lines = bar.lines_in(&mut spare, 1, 80)?; // in the room of those before
 /// ```
-#[derive(Drop)]
 pub struct SpareLines {
     alloc: Global,
     texts: Vec<String>,
     lines: Vec<LineType>,
+}
+
+impl Drop for SpareLines {
+    fn drop(self) {
+        let SpareLines {
+            alloc: _,
+            texts: _,
+            lines: _,
+        } = self;
+    }
 }
 
 impl Model for SpareLines {

@@ -28,12 +28,20 @@ pub enum Writing<'a> {
 }
 
 /// A target as it is drawn on: its terminal, with what stands there, and how often draws are made that aren't forced.
-#[derive(Drop)]
 pub struct Stage<T: Drop> {
     /// The engine on the terminal; none where the target is hidden.
     pub engine: Option<Engine<T>>,
     /// The limiter; none where each draw is made.
     pub limiter: Option<RateLimiter>,
+}
+
+impl<T: Drop> Drop for Stage<T> {
+    fn drop(self) {
+        let Stage {
+            engine: _,
+            limiter: _,
+        } = self;
+    }
 }
 
 impl<T: TermLike + Drop> Stage<T> {

@@ -56,11 +56,20 @@ use std::alloc::Global;
 /// let mut board: Board<NoTracker, _> = Board::new(alloc, ProgressDrawTarget::term_like(term), 1);
 /// board.println("a.txt", now)?; // stands above the bars from now on
 /// ```
-#[derive(Drop)]
 pub struct Board<K, T: Drop> {
     board_id: u64,
     shown: ShownBars<K>,
     stage: Stage<T>,
+}
+
+impl<K: Drop, T: Drop> Drop for Board<K, T> {
+    fn drop(self) {
+        let Board {
+            board_id: _,
+            shown: _,
+            stage: _,
+        } = self;
+    }
 }
 
 impl<K: Tracks, T: TermLike + Drop> Board<K, T> {

@@ -81,12 +81,22 @@ pub struct Opening {
 /// let (answer, none) = record.apply(Call::Clear, now);
 /// let recorded = record.entries(); // one entry: the call, its moment, its answer
 /// ```
-#[derive(Drop)]
 pub struct Recorded<K: Tracks, T: Drop> {
     alloc: Global,
     opening: Opening,
     board: Board<K, T>,
     entries: Vec<Entry<K>>,
+}
+
+impl<K: Tracks, T: Drop> Drop for Recorded<K, T> {
+    fn drop(self) {
+        let Recorded {
+            alloc: _,
+            opening: _,
+            board: _,
+            entries: _,
+        } = self;
+    }
 }
 
 /// Contracts see the id, the limiter and the target of the opening, the board, and its steps.

@@ -30,7 +30,6 @@ use std::collections::VecDeque;
 use std::mem::replace;
 
 /// Bars in their order, and the lines that were laid out last.
-#[derive(Drop)]
 pub struct ShownBars<K> {
     pub alloc: Global,
     /// The bars. A queue moves nothing where a bar is taken in at the head, or out there.
@@ -44,6 +43,19 @@ pub struct ShownBars<K> {
     pub alignment: MultiProgressAlignment,
     ghost even: { deque_len members ≡ deque_len frame },
     ghost seated: { map (λ s. s.bar) frame.items ≡ table.order },
+}
+
+impl<K: Drop> Drop for ShownBars<K> {
+    fn drop(self) {
+        let ShownBars {
+            alloc: _,
+            members: _,
+            frame: _,
+            spare: _,
+            table: _,
+            alignment: _,
+        } = self;
+    }
 }
 
 impl<K: Tracks> ShownBars<K> {

@@ -22,7 +22,6 @@ use std::marker::Model;
 /// assert_eq!(state.order(), [second, first].as_slice());
 /// assert_eq!(state.slot(second), Some(1));
 /// ```
-#[derive(Drop)]
 pub struct MultiState {
     order: Vec<u64>,
     /// A queue moves nothing where a bar is taken in at the head, or out there.
@@ -33,6 +32,18 @@ pub struct MultiState {
     next: Option<u64>,
     /// Where bars are looked for first.
     places: Places,
+}
+
+impl Drop for MultiState {
+    fn drop(self) {
+        let MultiState {
+            order: _,
+            slots: _,
+            free: _,
+            next: _,
+            places: _,
+        } = self;
+    }
 }
 
 /// Contracts see the bars' numbers in their order, their slots, the free slots, and how many bars were ever taken in.

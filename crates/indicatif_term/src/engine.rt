@@ -47,7 +47,6 @@ use std::mem::replace;
 /// engine.draw(&frame, 0, MultiProgressAlignment::Top)?; // the lines of the frame's bars
 /// engine.log("done", &frame, MultiProgressAlignment::Top)?; // stands above them from now on
 /// ```
-#[derive(Drop)]
 pub struct Engine<T: Drop> {
     term: T,
     alloc: Global,
@@ -61,6 +60,20 @@ pub struct Engine<T: Drop> {
     /// Whether draws write lines over those that stand there, where they can.
     moves: bool,
     ghost some: { ∥ ((l : Lists) × Suits counts failed shown l) ∥₁ },
+}
+
+impl<T: Drop> Drop for Engine<T> {
+    fn drop(self) {
+        let Engine {
+            term: _,
+            alloc: _,
+            counts: _,
+            shown: _,
+            spare: _,
+            failed: _,
+            moves: _,
+        } = self;
+    }
 }
 
 impl<T: TermLike + Drop> Engine<T> {
@@ -132,7 +145,16 @@ impl<T: TermLike + Drop> Engine<T> {
     pub fn into_term(self) -> T
         ensures { result ≡ engine_term self }
     {
-        self.term
+        let Engine {
+            term,
+            alloc: _,
+            counts: _,
+            shown: _,
+            spare: _,
+            failed: _,
+            moves: _,
+        } = self;
+        term
     }
 
     /// Whether draws write their lines over those that stand there, by moves of the cursor alone: up to the first row, to its front,

@@ -66,12 +66,23 @@ use std::{io, mem};
 /// left the text as it was, or with this call at its end.
 ///
 /// That text grows with all that is written, until `moves_since_last_check` hands it out or `reset` empties it.
-#[derive(Debug, Drop)]
+#[derive(Debug)]
 pub struct InMemoryTerm {
     alloc: Global,
     cells: Cells,
     faults: u64,
     moves: String,
+}
+
+impl Drop for InMemoryTerm {
+    fn drop(self) {
+        let InMemoryTerm {
+            alloc: _,
+            cells: _,
+            faults: _,
+            moves: _,
+        } = self;
+    }
 }
 
 impl Model for InMemoryTerm {

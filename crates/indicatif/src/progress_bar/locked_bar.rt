@@ -39,12 +39,22 @@ pub struct SharedBar<K: Tracks, T: Drop, C> {
 }
 
 /// A bar, its clock and ticker, and how many own it.
-#[derive(Drop)]
 pub struct LockedBar<K: Tracks, T: Drop, C> {
     owners: u64,
     pub ticker: Ticker,
     clock: C,
     bar: AnyBar<K, T, C>,
+}
+
+impl<K: Tracks, T: Drop, C: Drop> Drop for LockedBar<K, T, C> {
+    fn drop(self) {
+        let LockedBar {
+            owners: _,
+            ticker: _,
+            clock: _,
+            bar: _,
+        } = self;
+    }
 }
 
 impl<K: Tracks, T: Drop, C> LockedBar<K, T, C> {

@@ -21,11 +21,20 @@ use std::alloc::Global;
 use std::sync::Wait;
 
 /// A bar on a board: the board, the bar's number there, and what its texts are made by.
-#[derive(Drop)]
 pub struct MemberBar<K: Tracks, T: Drop, C> {
     pub board: SharedBoard<K, T, C>,
     pub id: BarId,
     pub alloc: Global,
+}
+
+impl<K: Tracks, T: Drop, C: Drop> Drop for MemberBar<K, T, C> {
+    fn drop(self) {
+        let MemberBar {
+            board: _,
+            id: _,
+            alloc: _,
+        } = self;
+    }
 }
 
 /// What a closure answers of the bar's state, or nothing where there is no bar.

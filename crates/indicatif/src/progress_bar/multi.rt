@@ -33,7 +33,6 @@ use std::sync::{Arc, Mutex, Wait};
 /// let bar = board.add(ProgressBar::hidden(rt, rt.alloc(), clock)?)?;
 /// board.println("a.txt")?; // stands above the bars from now on
 /// ```
-#[derive(Drop)]
 pub struct MultiProgress<
     T: TermLike + Drop,
     C: Clock + Drop,
@@ -43,6 +42,17 @@ pub struct MultiProgress<
     board: SharedBoard<K, T, C>,
     alloc: Global,
     rt: R,
+}
+
+impl<T: TermLike + Drop, C: Clock + Drop, R: Wait + Clone + Drop, K: Tracks> Drop
+    for MultiProgress<T, C, R, K> {
+    fn drop(self) {
+        let MultiProgress {
+            board: _,
+            alloc: _,
+            rt: _,
+        } = self;
+    }
 }
 
 /// Boards whose bars have no keys of the caller's own.

@@ -17,7 +17,6 @@ use std::sync::{Arc, Wait};
 ///     bar.set_position(3)?;
 /// }
 /// ```
-#[derive(Drop)]
 pub struct WeakProgressBar<
     T: TermLike + Drop,
     C: Clock + Drop,
@@ -25,6 +24,13 @@ pub struct WeakProgressBar<
     K: Tracks = NoTracker,
 > {
     of: Option<Known<T, C, R, K>>,
+}
+
+impl<T: TermLike + Drop, C: Clock + Drop, R: Wait + Clone + Drop, K: Tracks> Drop
+    for WeakProgressBar<T, C, R, K> {
+    fn drop(self) {
+        let WeakProgressBar { of: _ } = self;
+    }
 }
 
 /// A bar that was known.
