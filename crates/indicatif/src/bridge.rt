@@ -78,6 +78,7 @@ impl LineForm for LevelOnEachLine {
 /// let rt = Logged::new(rt, Level::Info, bridge);
 /// warn!(rt; "low disk"); // `WARN  low disk` stands above the bars
 /// ```
+#[derive(Drop)]
 pub struct LogBridge<
     T: TermLike + Drop,
     C: Clock + Drop,
@@ -89,18 +90,6 @@ pub struct LogBridge<
     most: LevelFilter,
     form: F,
     missed: AtomicU64,
-}
-
-impl<T: TermLike + Drop, C: Clock + Drop, R: Wait + Clone + Drop, F: Drop, K: Tracks> Drop
-    for LogBridge<T, C, R, F, K> {
-    fn drop(self) {
-        let LogBridge {
-            board: _,
-            most: _,
-            form: _,
-            missed: _,
-        } = self;
-    }
 }
 
 impl<T: TermLike + Drop, C: Clock + Drop, R: Wait + Clone + Drop, K: Tracks> LogBridge<
