@@ -109,8 +109,9 @@ impl<K: Tracks> ProgressStyle<K> {
             ⊎ ((error : TemplateError) × IsRefused (chars text.now) error × (e ≡ refusal_of error))) }
     {
         let template = parsed(self.alloc, text)?;
-        self.steps = steps_of(self.alloc, &template, self.keys.as_slice(), self.tab)?;
+        let steps = steps_of(self.alloc, &template, self.keys.as_slice(), self.tab)?;
         self.template = Arc::new(self.alloc, template)?;
+        self.steps = steps;
         Ok(self)
     }
 
@@ -174,14 +175,33 @@ impl<K: Tracks> ProgressStyle<K> {
     /// key of that name that needs no tracker.
     ///
     /// Refused: `Memory`. The style and the tracker are given up then.
-    pub fn with_key(mut self, name: &str, tracker: K) -> Result<ProgressStyle<K>, Refusal>
+    pub fn with_key(self, name: &str, tracker: K) -> Result<ProgressStyle<K>, Refusal>
         ensures style { IfOk result (λ style. style ≡ record self { keys = with_key name.now tracker self.keys }) }
         ensures memory { IfErr result (λ e. e ≡ Refusal.Memory) }
     {
-        let own = String::from_str(self.alloc, name)?;
-        self.keys.insert(0, (own, tracker))?;
-        self.steps = steps_of(self.alloc, &self.template, self.keys.as_slice(), self.tab)?;
-        Ok(self)
+        let ProgressStyle {
+            alloc,
+            template,
+            steps: _,
+            clusters,
+            tick_strings,
+            mut keys,
+            colours,
+            tab,
+        } = self;
+        let own = String::from_str(alloc, name)?;
+        keys.insert(0, (own, tracker))?;
+        let steps = steps_of(alloc, &template, keys.as_slice(), tab)?;
+        Ok(ProgressStyle {
+            alloc,
+            template,
+            steps,
+            clusters,
+            tick_strings,
+            keys,
+            colours,
+            tab,
+        })
     }
 
     /// Whether the colours that the template names are written. They are off at first: `machine::wants_colors` of crate `indicatif` says
