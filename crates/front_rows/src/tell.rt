@@ -1,6 +1,6 @@
 //! A bar's calls as rows spell them: a name and what belongs to it.
 //!
-//! - Without an argument: those of `scripts::commands::BARE`; `suspend`; `at_end`: by what wraps something, at its end.
+//! - Without an argument: those of `scripts::commands::BARE` that a shared bar has; `suspend`; `at_end`: by what wraps something, at its end.
 //! - With a number: those of `NUMBERED` there; `further`: an update of the position; `with_elapsed`; `advance` and `place`: by what wraps
 //!   something; `absorb`: a sum of one worker that has added so much.
 //! - With a text: those of `WORDED` there; `log`; `set_style` and `with_style`: a spinner whose last text is this one; `template`: the

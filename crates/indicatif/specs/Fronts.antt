@@ -56,7 +56,7 @@ of_draw Forced answer = of_a_draw answer
 
 -- ---- bars
 
--- the draw that a command asks for, most often one that the limiter may put off, but by force where the bar is finished
+-- the draw that a command asks for: none, or one by force; all that aren't named ask for one that the limiter may put off
 abbrev pub asked_by : {K : Type 0} → Command K → Ask
 asked_by (SetTicker installed) = No
 asked_by (SetStyle style) = No
