@@ -1,5 +1,5 @@
 //! Boards that are shared, their histories, and logs above their bars.
-use crate::bars::{Bar, InMemory, setup_of};
+use crate::documented_shared::bars::{Bar, InMemory, setup_of};
 use anyhow::Result;
 use indicatif::bridge::{LevelOnEachLine, LogBridge};
 use indicatif::machine::Shares;

@@ -2,7 +2,7 @@
 ghost use Rattle.std.specs.Prelude.{◌-◌, decimal};
 ghost use Rattle.indicatif_bar.specs.Trackers.{telling};
 
-use crate::bars::{InMemory, setup_of};
+use crate::documented_shared::bars::{InMemory, setup_of};
 use anyhow::Result;
 use indicatif::machine::Shares;
 use indicatif::style::ProgressTracker;

@@ -1,5 +1,5 @@
 //! What a bar wraps.
-use crate::bars::{Bar, InMemory, bar_of, setup_of};
+use crate::documented_shared::bars::{Bar, InMemory, bar_of, setup_of};
 use anyhow::Result;
 use futures::Stream;
 use indicatif::machine::Shares;

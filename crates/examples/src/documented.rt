@@ -3,8 +3,6 @@
 //!
 //! - `texts`: of `indicatif_text`. `memory`, `engines`, `targets`: of `indicatif_term`.
 //! - `records`, `lone`: of `indicatif_bar`. `boards`, `histories`: of `indicatif_board`.
-#![tactic(auto)]
-
 mod boards;
 mod engines;
 mod histories;
@@ -16,13 +14,13 @@ mod texts;
 
 use anyhow::Result;
 
-fn main(rt: HostRuntime) -> Result<()> {
-    texts::main(&rt)?;
-    memory::main(&rt)?;
-    engines::main(&rt)?;
-    targets::main(&rt)?;
-    records::main(&rt)?;
-    lone::main(&rt)?;
-    boards::main(&rt)?;
-    histories::main(&rt)
+pub fn main(rt: &HostRuntime) -> Result<()> {
+    texts::main(rt)?;
+    memory::main(rt)?;
+    engines::main(rt)?;
+    targets::main(rt)?;
+    records::main(rt)?;
+    lone::main(rt)?;
+    boards::main(rt)?;
+    histories::main(rt)
 }

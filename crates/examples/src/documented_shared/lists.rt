@@ -1,5 +1,5 @@
 //! Lists in threads.
-use crate::bars::{Bar, bar_of};
+use crate::documented_shared::bars::{Bar, bar_of};
 use anyhow::Result;
 use indicatif::machine::Shares;
 use indicatif::{Gate, ParallelProgressIterator, Refusal, run_workers, run_workers_with};
