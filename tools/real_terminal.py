@@ -6,7 +6,7 @@ usage: tools/real_terminal.py [FILE ..]
        tools/real_terminal.py sizes SEED COUNT
   FILE   files of crates/rows/data, by their names; `real_terminals.txt` and those of bars and boards if none is named
   lists  so many random lists of calls: what the engine writes, what one writes whose cursor only moves, and what one writes that
-         writes whole frames (program `whole_frames`) is played to three panes. All rows, with those that scrolled away and with
+         writes whole frames (`fuzz whole_frames`) is played to three panes. All rows, with those that scrolled away and with
          colours, and the cursor have to be the same
   sizes  so many random scripts of boards_model.py, with sizes at which tmux has no rows to join: what a board writes is played to a
          pane that gets these sizes between the calls. All rows have to be the model's
@@ -221,7 +221,7 @@ def coloured(text):
 
 def lists(seed, count):
     """Whether the panes of each list are the same."""
-    told = subprocess.run([built("whole_frames"), seed, count, "bytes"], capture_output=True, text=True, check=True).stdout.split("\n")
+    told = subprocess.run([built("fuzz"), "whole_frames", seed, count, "bytes"], capture_output=True, text=True, check=True).stdout.split("\n")
     differ = 0
     with tempfile.TemporaryDirectory() as folder:
         tmux = Tmux(folder)

@@ -1,5 +1,5 @@
 #!/bin/sh
-# Refuses memory to the scripts of crate `sweeps`: each allocation of a script in turn, one in each run, on terminals of 1 to 4 rows and
+# Refuses memory to the scripts of `fuzz sweeps`: each allocation of a script in turn, one in each run, on terminals of 1 to 4 rows and
 # 1 to 6 columns, and of `bars run` on one. Each run judges itself, and says that it is as it is defined, and where memory was refused.
 # Printed are, for each script, how many runs said what; a run that says anything else is printed with the number of its allocation, and
 # the status is 1 then.
@@ -11,14 +11,14 @@ here=$(cd "$(dirname "$0")" && pwd)
 work=$(mktemp -d)
 trap 'rm -rf "$work"' EXIT
 cc -shared -fPIC -O1 -o "$work/refuse_one.so" "$here/refuse_one.c" -ldl
-cd "$here/../crates/sweeps"
-rt run -- memory board >&2
+cd "$here/../crates/fuzz"
+rt run -- sweeps memory board >&2
 
 # NUMBER WORD..: the program with these words, its allocation of this number refused.
 refusing() {
     number=$1
     shift
-    LD_PRELOAD="$work/refuse_one.so" REFUSE="$number" out/sweeps memory "$@"
+    LD_PRELOAD="$work/refuse_one.so" REFUSE="$number" out/fuzz sweeps memory "$@"
 }
 
 status=0

@@ -1,15 +1,19 @@
-//! Random input, and laws that have to hold whatever it is.
+//! Random input, and laws that have to hold whatever it is; terminals that fail; and the engine beside one that writes whole frames.
 //!
-//! `fuzz SEED BYTES TEMPLATES LONE BOARD THREADS [STEPS]` feeds so many random bytes to cell terminals, reads so many random templates,
+//! `fuzz laws SEED BYTES TEMPLATES LONE BOARD THREADS [STEPS]` feeds so many random bytes to cell terminals, reads so many random templates,
 //! and plays so many random lists of calls: of a lone bar, of a board, and of a board in four threads with random delays, each of which
 //! makes so many calls, 8 where none are said. It prints how many runs of each kind there were and how many broke a law; of the first of
-//! these its number and the law. The same seed gives the same bytes, templates and lists.
+//! these its number and the law. The same seed gives the same bytes, templates and lists. The exit status is 1 where a law was broken.
+//!
+//! `fuzz sweeps ..` and `fuzz whole_frames ..` do what the modules of these names say. `fuzz SEED BYTES ..`, with the numbers alone, does
+//! all three, one after another.
 //!
 //! - `numbers`: random numbers. `law`: what has to hold. `texts`, `calls`: random texts and calls.
 //! - `cells`: bytes. `templates`: templates and styles.
 //! - `setting`: a terminal, how it fails, and who looks at its bytes. `lone_lists`, `board_lists`: lists of calls.
 //! - `threads`: a shared board that keeps its history. `player`, `deed`: what a thread does.
 //! - `tickers`: one bar's ticker, told on by one thread and off by another, 200 times each; both have to end.
+//! - `sweeps`: terminals that fail, at each place where they can. `whole_frames`: engines beside one that writes whole frames.
 #![tactic(auto)]
 
 mod board_lists;
@@ -21,23 +25,25 @@ mod lone_lists;
 mod numbers;
 mod player;
 mod setting;
+mod sweeps;
 mod templates;
 mod texts;
 mod threads;
 mod tickers;
+mod whole_frames;
 
 use crate::law::{Held, Tally};
 use crate::numbers::Numbers;
-use crate::player::Player;
+use crate::player::Plays;
 use anyhow::{Result, anyhow};
 use std::alloc::Global;
-use std::env::{self, Env};
+use std::env::{self, Args, Env};
+use std::io;
 use std::process::ExitCode;
-use std::thread::join;
 
 /// The seed, how many runs of each kind are made, and how many calls each of four threads makes.
 #[derive(Clone, Copy, Drop)]
-struct Asked {
+struct Counts {
     seed: u64,
     bytes: u64,
     templates: u64,
@@ -50,14 +56,25 @@ struct Asked {
 /// How many calls each of four threads makes, where the arguments don't say it.
 const STEPS: u64 = 8;
 
-/// What the arguments ask for.
-fn request<R: AllocGlobal + Env>(rt: &R) -> Result<Asked> {
+/// What is asked for.
+#[derive(Clone, Copy, Drop)]
+enum Asked {
+    /// All three: random input by these counts, and the other two as without words.
+    All(Counts),
+    /// Random input.
+    Laws(Counts),
+    Sweeps(sweeps::Asked),
+    WholeFrames(whole_frames::Asked),
+}
+
+/// The numbers behind so many words.
+fn counts_behind<R: AllocGlobal + Env>(rt: &R, passed: usize) -> Result<Counts> {
     let mut numbers: Vec<u64> = Vec::new(rt.alloc());
-    for word in env::args(rt)?.skip(1) {
+    for word in env::args(rt)?.skip(passed) {
         numbers.push(word.as_str().parse()?)?;
     }
     match numbers.as_slice() {
-        [seed, bytes, templates, lone, board, threads, rest @ ..] if rest.len() < 2 => Ok(Asked {
+        [seed, bytes, templates, lone, board, threads, rest @ ..] if rest.len() < 2 => Ok(Counts {
             seed: *seed,
             bytes: *bytes,
             templates: *templates,
@@ -66,8 +83,32 @@ fn request<R: AllocGlobal + Env>(rt: &R) -> Result<Asked> {
             threads: *threads,
             steps: rest.first().copied().unwrap_or(STEPS),
         }),
-        _ => Err(anyhow!("usage: fuzz SEED BYTES TEMPLATES LONE BOARD THREADS [STEPS]")),
+        _ => Err(anyhow!(
+            "usage: fuzz [laws] SEED BYTES TEMPLATES LONE BOARD THREADS [STEPS] | sweeps .. | whole_frames .."
+        )),
     }
+}
+
+/// The words, the first of which is the program's name; they are asked for once more where memory was refused.
+fn words_of<R: AllocGlobal + Env>(rt: &R) -> io::Result<Args> {
+    match env::args(rt) {
+        Ok(words) => Ok(words),
+        Err(_) => env::args(rt),
+    }
+}
+
+/// What the arguments ask for.
+fn request<R: AllocGlobal + Env>(rt: &R) -> Result<Asked> {
+    let mut words = words_of(rt)?;
+    let Some(first) = words.nth(1) else {
+        return Ok(Asked::All(counts_behind(rt, 1)?));
+    };
+    Ok(match first.as_str() {
+        "laws" => Asked::Laws(counts_behind(rt, 2)?),
+        "sweeps" => Asked::Sweeps(sweeps::request(words)),
+        "whole_frames" => Asked::WholeFrames(whole_frames::request(words)),
+        _ => Asked::All(counts_behind(rt, 1)?),
+    })
 }
 
 /// A kind of runs that are made by one thread.
@@ -115,58 +156,69 @@ fn say<R: Print>(rt: &R, name: &str, tally: Tally) -> Result<bool> {
 }
 
 /// Makes all runs of one thread; whether none broke a law.
-fn all_alone<R: AllocGlobal + Print>(rt: &R, asked: Asked) -> Result<bool> {
-    let Asked { seed, .. } = asked;
+fn all_alone<R: AllocGlobal + Print>(rt: &R, counts: Counts) -> Result<bool> {
+    let Counts { seed, .. } = counts;
     let alloc = rt.alloc();
-    let count = asked.bytes.div_ceil(BYTES as u64);
+    let count = counts.bytes.div_ceil(BYTES as u64);
     let bytes = say(
         rt,
         "bytes by thousands",
         Kind::Bytes.all(alloc, seed, count),
     )?;
-    let tally = Kind::Templates.all(alloc, seed, asked.templates);
+    let tally = Kind::Templates.all(alloc, seed, counts.templates);
     let templates = say(rt, "templates", tally)?;
     let lone = say(
         rt,
         "lists of a lone bar",
-        Kind::Lone.all(alloc, seed, asked.lone),
+        Kind::Lone.all(alloc, seed, counts.lone),
     )?;
     let board = say(
         rt,
         "lists of a board",
-        Kind::Board.all(alloc, seed, asked.board),
+        Kind::Board.all(alloc, seed, counts.board),
     )?;
     Ok(bytes && templates && lone && board)
 }
 
-fn main(rt: HostRuntime) -> Result<ExitCode> {
-    let asked = request(&rt)?;
-    let alone = all_alone(&rt, asked)?;
+/// Makes all runs of four threads; whether none broke a law.
+fn all_in_threads<R: Plays + Print>(rt: R, counts: Counts) -> Result<bool> {
     let mut tally = Tally::default();
-    for number in 0..asked.threads {
-        let seed = asked.seed.wrapping_add(number);
-        let board = threads::board_of(rt)?;
-        let bars = threads::bars_of(rt, &board)?;
-        let one = Player::new(&rt, &board, bars.as_slice(), 1);
-        let two = Player::new(&rt, &board, bars.as_slice(), 2);
-        let three = Player::new(&rt, &board, bars.as_slice(), 3);
-        let four = Player::new(&rt, &board, bars.as_slice(), 4);
-        let steps = asked.steps;
-        let front = || join(&rt, || one.plays(seed, steps), || two.plays(seed, steps));
-        let back = || join(&rt, || three.plays(seed, steps), || four.plays(seed, steps));
-        let ((first, second), (third, fourth)) = join(&rt, front, back);
-        let logged = [first, second, third, fourth];
-        tally.count(threads::judged(rt, &board, bars.as_slice(), logged));
+    for number in 0..counts.threads {
+        let seed = counts.seed.wrapping_add(number);
+        tally.count(threads::played(rt, seed, counts.steps)?);
     }
-    let threads = say(&rt, "lists in four threads", tally)?;
-    let bar = tickers::bar_of(rt)?;
-    let (on, off) = join(&rt, || tickers::tell_on(&bar), || tickers::tell_off(&bar));
-    let (on, off) = (on?, off?);
-    bar.disable_steady_tick()?;
+    say(&rt, "lists in four threads", tally)
+}
+
+/// Makes all runs of random input, and the ticker's; the status says whether none broke a law.
+fn all_laws<R: Plays + Print>(rt: R, counts: Counts) -> Result<ExitCode> {
+    let alone = all_alone(&rt, counts)?;
+    let threads = all_in_threads(rt, counts)?;
+    let (on, off) = tickers::told(rt)?;
     println!(rt; "one ticker: told on {on} times, told off {off} times")?;
     Ok(if alone && threads {
         ExitCode::SUCCESS
     } else {
         ExitCode::FAILURE
     })
+}
+
+fn main(rt: HostRuntime) -> Result<ExitCode> {
+    match request(&rt)? {
+        Asked::All(counts) => {
+            let status = all_laws(rt, counts)?;
+            sweeps::run(rt, sweeps::USUAL)?;
+            whole_frames::run(&rt, whole_frames::USUAL)?;
+            Ok(status)
+        }
+        Asked::Laws(counts) => all_laws(rt, counts),
+        Asked::Sweeps(asked) => {
+            sweeps::run(rt, asked)?;
+            Ok(ExitCode::SUCCESS)
+        }
+        Asked::WholeFrames(asked) => {
+            whole_frames::run(&rt, asked)?;
+            Ok(ExitCode::SUCCESS)
+        }
+    }
 }

@@ -1,5 +1,5 @@
 //! The runs of a script, one for each place where its terminal can fail.
-use crate::kinds::{Kind, run};
+use crate::sweeps::kinds::{Kind, run};
 use scripts::judged::judge::{Finding, Look};
 use scripts::judged::record::{Plan, Point, Size};
 use std::sync::Wait;

@@ -1,7 +1,7 @@
 //! What plays a script.
-use crate::in_loop::InLoop;
-use crate::on_shared::OnShared;
-use crate::sweep::Case;
+use crate::sweeps::in_loop::InLoop;
+use crate::sweeps::on_shared::OnShared;
+use crate::sweeps::sweep::Case;
 use scripts::judged::judge::{Finding, Judge};
 use scripts::judged::on_bar::OnBar;
 use scripts::judged::on_board::OnBoard;

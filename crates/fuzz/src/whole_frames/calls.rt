@@ -1,5 +1,5 @@
 //! Random frames, each like the one before, and calls.
-use crate::chance::Chance;
+use crate::whole_frames::chance::Chance;
 use indicatif_term::draw_target::{LineType, Segment};
 use indicatif_text::columns::Refusal;
 use std::alloc::Global;

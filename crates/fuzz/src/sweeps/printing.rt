@@ -1,5 +1,5 @@
 //! `bars run` before an output that fails.
-use crate::sweep::LARGEST;
+use crate::sweeps::sweep::LARGEST;
 use anyhow::Result;
 use bars_run::run_bars;
 use scripts::judged::judge::Finding;

@@ -1,9 +1,9 @@
 //! Scripts where memory may be refused once.
-use crate::in_loop::InLoop;
-use crate::kinds::LOOP;
-use crate::on_shared::OnShared;
-use crate::printing;
-use crate::sweep::Runs;
+use crate::sweeps::in_loop::InLoop;
+use crate::sweeps::kinds::LOOP;
+use crate::sweeps::on_shared::OnShared;
+use crate::sweeps::printing;
+use crate::sweeps::sweep::Runs;
 use indicatif_text::columns::Refusal;
 use scripts::judged::judge::Finding;
 use scripts::judged::on_bar::OnBar;

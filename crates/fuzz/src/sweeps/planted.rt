@@ -1,6 +1,6 @@
 //! A board with a wrong body in one of its calls, so that it shows what the judge of refused memory finds.
-use crate::memory::Boards;
-use crate::sweep::LARGEST;
+use crate::sweeps::memory::Boards;
+use crate::sweeps::sweep::LARGEST;
 use indicatif_text::columns::{Drawn, Refusal};
 use scripts::judged::judge::Finding;
 use scripts::judged::on_board::OnBoard;

@@ -1,18 +1,15 @@
 //! Plays scripts of calls on terminals that fail, at each place where they can, and has them judged.
 //!
-//! `sweeps` says of each sweep whether all of its runs are as they should be, and `sweeps count` how many runs there are, too. `sweeps pairs`
-//! makes those of two calls at each size, which take longer.
+//! `fuzz sweeps` says of each sweep whether all of its runs are as they should be, and `fuzz sweeps count` how many runs there are, too.
+//! `fuzz sweeps pairs` makes those of two calls at each size, which take longer.
 //!
-//! `sweeps memory SCRIPT` plays one of the scripts `board`, `sized-board`, `lone`, `sized-lone`, `shared`, `loop` and `run` once, for
-//! `tools/refusals.sh`, which refuses it an allocation, and says whether it is as it is defined; so it does behind the sweeps of each of them,
-//! where nothing is refused. With
-//! `grows` the terminal takes memory too. With `grows count` or `stays count` it says where memory was refused; with `unjudged` in the place
-//! of `count` the script is played alone. Rows and columns behind that are the terminal's.
+//! `fuzz sweeps memory SCRIPT` plays one of the scripts `board`, `sized-board`, `lone`, `sized-lone`, `shared`, `loop` and `run` once, for
+//! `tools/refusals.sh`, which refuses it an allocation, and says whether it is as it is defined; so it does behind the sweeps of each of
+//! them, where nothing is refused. With `grows` the terminal takes memory too. With `grows count` or `stays count` it says where memory was
+//! refused; with `unjudged` in the place of `count` the script is played alone. Rows and columns behind that are the terminal's.
 //!
 //! - `sweep`: the runs of a script. `kinds`: what plays a script. `on_shared`, `in_loop`: a shared board and a wrapped loop that do.
 //! - `printing`: `bars run` before an output that fails. `memory`: want of memory. `planted`: wrong bodies that its judge finds.
-#![tactic(auto)]
-
 mod in_loop;
 mod kinds;
 mod memory;
@@ -21,21 +18,20 @@ mod planted;
 mod printing;
 mod sweep;
 
-use crate::kinds::{KINDS, Kind};
-use crate::memory::{Growing, Judging, NAMES, Playing};
-use crate::planted::PLANTED;
-use crate::printing::Printed;
-use crate::sweep::{LARGEST, Runs, Sweep, Tally};
+use crate::sweeps::kinds::{KINDS, Kind};
+use crate::sweeps::memory::{Growing, Judging, NAMES, Playing};
+use crate::sweeps::planted::PLANTED;
+use crate::sweeps::printing::Printed;
+use crate::sweeps::sweep::{LARGEST, Runs, Sweep, Tally};
 use anyhow::{Result, anyhow};
 use scripts::judged::judge::Finding;
 use scripts::judged::record::Size;
 use scripts::judged::refused::Where;
-use std::env::{self, Env};
-use std::io;
+use std::env::Args;
 
 /// What is said of sweeps.
 #[derive(Clone, Copy, Drop)]
-enum Telling {
+pub enum Telling {
     /// Whether all runs are as they should be.
     Verdicts,
     /// How many runs there are, too.
@@ -108,7 +104,7 @@ fn printed<R: AllocGlobal + Print>(rt: &R, telling: Telling) -> Result<()> {
 
 /// What is asked for.
 #[derive(Clone, Copy, Drop)]
-enum Asked {
+pub enum Asked {
     /// All sweeps but the longest.
     Sweeps(Telling),
     /// Those of two calls at each size.
@@ -118,6 +114,9 @@ enum Asked {
     /// Nothing that there is.
     Nothing,
 }
+
+/// What no word asks for: all sweeps but the longest.
+pub const USUAL: Asked = Asked::Sweeps(Telling::Verdicts);
 
 /// The number of the script of this name.
 fn number_of(name: &str) -> Option<usize> {
@@ -134,33 +133,40 @@ fn size_of(rows: Option<&str>, cols: Option<&str>) -> Size {
     }
 }
 
-/// What the arguments ask for.
-fn request<R: AllocGlobal + Env>(rt: &R) -> io::Result<Asked> {
-    let words: Vec<String> = env::args(rt)?.skip(1).collect(rt.alloc())?;
-    let mut words = words.iter().map(|word| word.as_str());
-    let first = words.next();
-    let script = words.next().and_then(number_of);
-    let growing = match words.next() {
+/// The text of a word, where there is one.
+fn text_of(word: &Option<String>) -> Option<&str> {
+    match word {
+        Some(word) => Some(word.as_str()),
+        None => None,
+    }
+}
+
+/// What the words behind `sweeps` ask for. It takes no memory, so that `tools/refusals.sh` refuses it none.
+pub fn request(mut words: Args) -> Asked {
+    let (first, script) = (words.next(), words.next());
+    let (growing, judging) = (words.next(), words.next());
+    let (rows, cols) = (words.next(), words.next());
+    let growing = match text_of(&growing) {
         Some("grows") => Growing::Terminal,
         _ => Growing::Library,
     };
-    let (judging, telling) = match words.next() {
+    let (judging, telling) = match text_of(&judging) {
         Some("count") => (Judging::Judged, Telling::Counts),
         Some("unjudged") => (Judging::Unjudged, Telling::Verdicts),
         _ => (Judging::Judged, Telling::Verdicts),
     };
     let playing = Playing {
-        size: size_of(words.next(), words.next()),
+        size: size_of(text_of(&rows), text_of(&cols)),
         growing,
         judging,
     };
-    Ok(match (first, script) {
-        (None, _) => Asked::Sweeps(Telling::Verdicts),
+    match (text_of(&first), text_of(&script).and_then(number_of)) {
+        (None, _) => USUAL,
         (Some("count"), _) => Asked::Sweeps(Telling::Counts),
         (Some("pairs"), _) => Asked::Pairs,
         (Some("memory"), Some(script)) => Asked::Memory(script, playing, telling),
         _ => Asked::Nothing,
-    })
+    }
 }
 
 /// Says whether a script in which memory may be refused is as it is defined.
@@ -208,11 +214,8 @@ fn all_swept<R: Runs + Print>(rt: &R, telling: Telling) -> Result<()> {
     wrong_bodies(rt)
 }
 
-fn main(rt: HostRuntime) -> Result<()> {
-    let asked = match request(&rt) {
-        Ok(asked) => asked,
-        Err(_) => request(&rt)?,
-    };
+/// Does what is asked for.
+pub fn run<R: Runs + Print>(rt: R, asked: Asked) -> Result<()> {
     match asked {
         Asked::Sweeps(telling) => all_swept(&rt, telling),
         Asked::Pairs => paired(&rt),
@@ -224,7 +227,7 @@ fn main(rt: HostRuntime) -> Result<()> {
             }
         }
         Asked::Nothing => Err(anyhow!(
-            "usage: sweeps [count | pairs | memory SCRIPT [grows | stays] [count | unjudged] [ROWS COLS]]"
+            "usage: fuzz sweeps [count | pairs | memory SCRIPT [grows | stays] [count | unjudged] [ROWS COLS]]"
         )),
     }
 }

@@ -3,24 +3,23 @@
 //!
 //! - `whole`: the engine that writes whole frames. `calls`: random calls. `chance`: random numbers.
 //!
-//! `whole_frames` plays a thousand lists; `whole_frames SEED COUNT` so many by that seed. `whole_frames SEED COUNT bytes` prints, of each
-//! list, the terminal's rows and columns, and then what each of the three engines writes, in hexadecimal digits, a line each.
-#![tactic(auto)]
-
+//! `fuzz whole_frames` plays a thousand lists; `fuzz whole_frames SEED COUNT` so many by that seed. `fuzz whole_frames SEED COUNT bytes`
+//! prints, of each list, the terminal's rows and columns, and then what each of the three engines writes, as a text between quotes, a line
+//! each.
 mod calls;
 mod chance;
 mod whole;
 
-use crate::calls::{Call, Frame};
-use crate::chance::Chance;
-use crate::whole::WholeFrames;
+use crate::whole_frames::calls::{Call, Frame};
+use crate::whole_frames::chance::Chance;
+use crate::whole_frames::whole::WholeFrames;
 use anyhow::Result;
 use indicatif_term::draw_target::{Engine, MultiProgressAlignment};
 use indicatif_term::in_memory::InMemoryTerm;
 use indicatif_term::term_like::{Term, TermLike};
 use indicatif_text::columns::Refusal;
 use std::alloc::Global;
-use std::env::{self, Env};
+use std::env::Args;
 
 /// How many calls a list has.
 const CALLS: u32 = 16;
@@ -183,15 +182,42 @@ fn number_or(word: Option<&String>, other: u64) -> u64 {
     }
 }
 
-fn main(rt: HostRuntime) -> Result<()> {
-    let mut words = env::args(&rt)?;
-    words.next();
-    let seed = number_or(words.next().as_ref(), 1);
-    let count = number_or(words.next().as_ref(), 1000);
-    let mut chance = Chance::new(seed);
-    match words.next() {
-        Some(word) if word.as_str() == "bytes" => print_all(&rt, &mut chance, count),
-        _ => compare(&rt, &mut chance, count),
+/// What is asked for: so many lists by a seed, which are compared, or whose bytes are printed.
+#[derive(Clone, Copy, Drop)]
+pub struct Asked {
+    seed: u64,
+    count: u64,
+    prints: bool,
+}
+
+/// What no word asks for.
+pub const USUAL: Asked = Asked {
+    seed: 1,
+    count: 1000,
+    prints: false,
+};
+
+/// What the words behind `whole_frames` ask for.
+pub fn request(mut words: Args) -> Asked {
+    let seed = number_or(words.next().as_ref(), USUAL.seed);
+    let count = number_or(words.next().as_ref(), USUAL.count);
+    let prints = match words.next() {
+        Some(word) => word.as_str() == "bytes",
+        None => false,
+    };
+    Asked {
+        seed,
+        count,
+        prints,
+    }
+}
+
+/// Does what is asked for.
+pub fn run<R: AllocGlobal + Print>(rt: &R, asked: Asked) -> Result<()> {
+    let mut chance = Chance::new(asked.seed);
+    match asked.prints {
+        true => print_all(rt, &mut chance, asked.count),
+        false => compare(rt, &mut chance, asked.count),
     }
 }
 
