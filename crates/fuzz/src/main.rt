@@ -34,12 +34,14 @@ mod whole_frames;
 
 use crate::law::{Held, Tally};
 use crate::numbers::Numbers;
-use crate::player::Plays;
+use crate::player::Player;
+use crate::sweeps::sweep::Runs;
 use anyhow::{Result, anyhow};
 use std::alloc::Global;
 use std::env::{self, Args, Env};
 use std::io;
 use std::process::ExitCode;
+use std::thread::join;
 
 /// The seed, how many runs of each kind are made, and how many calls each of four threads makes.
 #[derive(Clone, Copy, Drop)]
@@ -65,6 +67,16 @@ enum Asked {
     Laws(Counts),
     Sweeps(sweeps::Asked),
     WholeFrames(whole_frames::Asked),
+}
+
+impl Asked {
+    /// How much random input is asked for, if any is.
+    fn counts(self) -> Option<Counts> {
+        match self {
+            Asked::All(counts) | Asked::Laws(counts) => Some(counts),
+            Asked::Sweeps(_) | Asked::WholeFrames(_) => None,
+        }
+    }
 }
 
 /// The numbers behind so many words.
@@ -180,45 +192,49 @@ fn all_alone<R: AllocGlobal + Print>(rt: &R, counts: Counts) -> Result<bool> {
     Ok(bytes && templates && lone && board)
 }
 
-/// Makes all runs of four threads; whether none broke a law.
-fn all_in_threads<R: Plays + Print>(rt: R, counts: Counts) -> Result<bool> {
-    let mut tally = Tally::default();
-    for number in 0..counts.threads {
-        let seed = counts.seed.wrapping_add(number);
-        tally.count(threads::played(rt, seed, counts.steps)?);
+/// What is asked for but random input.
+fn others<R: Runs + Print>(rt: R, asked: Asked) -> Result<()> {
+    match asked {
+        Asked::Laws(_) => Ok(()),
+        Asked::Sweeps(asked) => sweeps::run(rt, asked),
+        Asked::WholeFrames(asked) => whole_frames::run(&rt, asked),
+        Asked::All(_) => {
+            sweeps::run(rt, sweeps::USUAL)?;
+            whole_frames::run(&rt, whole_frames::USUAL)
+        }
     }
-    say(&rt, "lists in four threads", tally)
-}
-
-/// Makes all runs of random input, and the ticker's; the status says whether none broke a law.
-fn all_laws<R: Plays + Print>(rt: R, counts: Counts) -> Result<ExitCode> {
-    let alone = all_alone(&rt, counts)?;
-    let threads = all_in_threads(rt, counts)?;
-    let (on, off) = tickers::told(rt)?;
-    println!(rt; "one ticker: told on {on} times, told off {off} times")?;
-    Ok(if alone && threads {
-        ExitCode::SUCCESS
-    } else {
-        ExitCode::FAILURE
-    })
 }
 
 fn main(rt: HostRuntime) -> Result<ExitCode> {
-    match request(&rt)? {
-        Asked::All(counts) => {
-            let status = all_laws(rt, counts)?;
-            sweeps::run(rt, sweeps::USUAL)?;
-            whole_frames::run(&rt, whole_frames::USUAL)?;
-            Ok(status)
-        }
-        Asked::Laws(counts) => all_laws(rt, counts),
-        Asked::Sweeps(asked) => {
-            sweeps::run(rt, asked)?;
-            Ok(ExitCode::SUCCESS)
-        }
-        Asked::WholeFrames(asked) => {
-            whole_frames::run(&rt, asked)?;
-            Ok(ExitCode::SUCCESS)
-        }
+    let asked = request(&rt)?;
+    let Some(counts) = asked.counts() else {
+        others(rt, asked)?;
+        return Ok(ExitCode::SUCCESS);
+    };
+    let alone = all_alone(&rt, counts)?;
+    let mut tally = Tally::default();
+    for number in 0..counts.threads {
+        let seed = counts.seed.wrapping_add(number);
+        let board = threads::board_of(rt)?;
+        let bars = threads::bars_of(rt, &board)?;
+        let one = Player::new(&rt, &board, bars.as_slice(), 1);
+        let two = Player::new(&rt, &board, bars.as_slice(), 2);
+        let three = Player::new(&rt, &board, bars.as_slice(), 3);
+        let four = Player::new(&rt, &board, bars.as_slice(), 4);
+        let steps = counts.steps;
+        let front = || join(&rt, || one.plays(seed, steps), || two.plays(seed, steps));
+        let back = || join(&rt, || three.plays(seed, steps), || four.plays(seed, steps));
+        let ((first, second), (third, fourth)) = join(&rt, front, back);
+        let logged = [first, second, third, fourth];
+        tally.count(threads::judged(rt, &board, bars.as_slice(), logged));
     }
+    let threads = say(&rt, "lists in four threads", tally)?;
+    let bar = tickers::bar_of(rt)?;
+    let (on, off) = join(&rt, || tickers::tell_on(&bar), || tickers::tell_off(&bar));
+    let (on, off) = (on?, off?);
+    bar.disable_steady_tick()?;
+    println!(rt; "one ticker: told on {on} times, told off {off} times")?;
+    others(rt, asked)?;
+    let is_kept = alone && threads;
+    Ok(ExitCode::from(u8::from(!is_kept)))
 }

@@ -16,7 +16,7 @@ mod memory;
 mod on_shared;
 mod planted;
 mod printing;
-mod sweep;
+pub mod sweep;
 
 use crate::sweeps::kinds::{KINDS, Kind};
 use crate::sweeps::memory::{Growing, Judging, NAMES, Playing};

@@ -1,13 +1,12 @@
 //! Random calls on a shared board, and what has to hold of it at the end.
 use crate::law::{Held, Law};
-use crate::player::{Bar, Multi, Player, Plays};
+use crate::player::{Bar, Multi, Plays};
 use indicatif::machine::MachineClock;
 use indicatif::{
     Board, Entry, InMemoryTerm, MultiProgress, NoTracker, ProgressBar, ProgressDrawTarget,
     RecordReader, Recorded, Refusal,
 };
 use std::alloc::Global;
-use std::thread::join;
 
 /// How many bars stand on a board all the time.
 const BARS: u32 = 4;
@@ -22,13 +21,13 @@ fn target(alloc: Global) -> Result<ProgressDrawTarget<InMemoryTerm>, Refusal> {
 }
 
 /// A board that keeps its history.
-fn board_of<R: Plays>(rt: R) -> Result<Multi<R>, Refusal> {
+pub fn board_of<R: Plays>(rt: R) -> Result<Multi<R>, Refusal> {
     let clock = MachineClock::new(rt);
     MultiProgress::recorded(rt, rt.alloc(), target(rt.alloc())?, clock, BOARD_ID)
 }
 
 /// Its bars.
-fn bars_of<R: Plays>(rt: R, board: &Multi<R>) -> Result<Vec<Bar<R>>, Refusal> {
+pub fn bars_of<R: Plays>(rt: R, board: &Multi<R>) -> Result<Vec<Bar<R>>, Refusal> {
     let mut bars = Vec::new(rt.alloc());
     for _ in 0..BARS {
         let bar = ProgressBar::hidden(rt, rt.alloc(), MachineClock::new(rt))?;
@@ -109,7 +108,7 @@ impl RecordReader<InMemoryTerm, NoTracker> for RunsAgain {
 }
 
 /// What four threads logged on a board stands there, and its history is one run.
-fn judged<R: Plays>(
+pub fn judged<R: Plays>(
     rt: R,
     board: &Multi<R>,
     bars: &[Bar<R>],
@@ -123,19 +122,4 @@ fn judged<R: Plays>(
     come_to_rest(bars)?;
     let alloc = rt.alloc();
     board.with_record(RunsAgain { alloc, logged })
-}
-
-/// Plays a list of so many calls in each of four threads; whether it broke a law.
-pub fn played<R: Plays>(rt: R, seed: u64, steps: u64) -> Result<Held, Refusal> {
-    let board = board_of(rt)?;
-    let bars = bars_of(rt, &board)?;
-    let one = Player::new(&rt, &board, bars.as_slice(), 1);
-    let two = Player::new(&rt, &board, bars.as_slice(), 2);
-    let three = Player::new(&rt, &board, bars.as_slice(), 3);
-    let four = Player::new(&rt, &board, bars.as_slice(), 4);
-    let front = || join(&rt, || one.plays(seed, steps), || two.plays(seed, steps));
-    let back = || join(&rt, || three.plays(seed, steps), || four.plays(seed, steps));
-    let ((first, second), (third, fourth)) = join(&rt, front, back);
-    let logged = [first, second, third, fourth];
-    Ok(judged(rt, &board, bars.as_slice(), logged))
 }
