@@ -459,8 +459,6 @@ FOREIGN = set(
     """WithStyle WithElapsed read_vectored write_vectored AsRef contents_formatted on_bright on_123 blink_fast AsyncSeek AsyncBufRead
     par_iter FROM_RUST Grapheme_Extend clock_gettime is_stderr_for_multi test_duration_stuff human_float_count_negative""".split()
 )
-# A crate that is gone: its row stands in the table of docs/CONTRIBUTING.md until that is written anew.
-FOREIGN.add("example_docs")
 
 
 def words_of_sources():
