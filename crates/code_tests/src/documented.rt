@@ -13,14 +13,13 @@ use indicatif_text::format::{
 };
 use indicatif_text::template::{Part, Template, TemplateError};
 use log::Level;
-use std::test::Fail;
 
 #[test]
 fn columns_of_texts(rt: HostRuntime) {
-    assert_eq!(rt; width('国'), 2);
-    assert_eq!(rt; width('\n'), 0);
-    assert_eq!(rt; columns("\u{1b}[31mred\u{1b}[0m"), 3);
-    assert!(rt; is_parameter('7') && is_parameter(';') && !is_parameter('m'));
+    same!(rt; width('国'), 2);
+    same!(rt; width('\n'), 0);
+    same!(rt; columns("\u{1b}[31mred\u{1b}[0m"), 3);
+    holds!(rt; is_parameter('7') && is_parameter(';') && !is_parameter('m'));
 }
 
 #[test]
@@ -29,194 +28,179 @@ fn rows_of_lines(rt: HostRuntime) {
         height: 3,
         last_line_width: 1,
     };
-    assert_eq!(rt; wrapped("123456789国123456789", 10), Ok(measured));
+    same!(rt; wrapped("123456789国123456789", 10), Ok(measured));
     let line = "123456789国123456789";
-    assert_eq!(rt;
-        wrapped(line, 10),
+    same!(rt; wrapped(line, 10),
         Ok(Metrics {
             height: 3,
             last_line_width: 1
-        })
-    );
-    assert_eq!(rt; wrapped(line, 1), Err(Refusal::TooWide));
-    assert_eq!(rt; wrapped(line, 0), Err(Refusal::NoColumns));
+        }));
+    same!(rt; wrapped(line, 1), Err(Refusal::TooWide));
+    same!(rt; wrapped(line, 0), Err(Refusal::NoColumns));
 }
 
 #[test]
 fn pieces_of_a_text(rt: HostRuntime) {
     let mut left = pieces("a\u{1b}[1mb");
-    assert_eq!(rt;
-        left.next(),
+    same!(rt; left.next(),
         Some(Piece {
             text: "a",
             colour: false
-        })
-    );
-    assert_eq!(rt;
-        left.next(),
+        }));
+    same!(rt; left.next(),
         Some(Piece {
             text: "\u{1b}[1m",
             colour: true
-        })
-    );
-    assert_eq!(rt;
-        left.next(),
+        }));
+    same!(rt; left.next(),
         Some(Piece {
             text: "b",
             colour: false
-        })
-    );
-    assert_eq!(rt; left.next(), None);
+        }));
+    same!(rt; left.next(), None);
     let first = pieces("\u{1b}[1mb").next();
-    assert_eq!(rt;
-        first,
+    same!(rt; first,
         Some(Piece {
             text: "\u{1b}[1m",
             colour: true
-        })
-    );
+        }));
 }
 
 #[test]
 fn moments_of_a_step_clock(rt: HostRuntime) {
     let mut clock = StepClock { next: 5, step: 2 };
-    assert_eq!(rt; clock.now(), 5);
-    assert_eq!(rt; clock.now(), 7);
+    same!(rt; clock.now(), 5);
+    same!(rt; clock.now(), 7);
 }
 
 #[test]
-fn durations(rt: HostRuntime) -> Result<(), Fail> {
+fn durations(rt: HostRuntime) {
     let alloc = rt.alloc();
-    let text = FormattedDuration(90_061 * 1_000_000_000).to_string(alloc)?;
-    assert_eq!(rt; text.as_str(), "1d 01:01:01");
-    assert_eq!(rt;
-        HumanDuration(89_499_000_000).to_string(alloc)?.as_str(),
-        "89 seconds"
-    );
-    assert_eq!(rt;
-        HumanDuration(89_500_000_000).to_string(alloc)?.as_str(),
-        "2 minutes"
-    );
+    let text = FormattedDuration(90_061 * 1_000_000_000)
+        .to_string(alloc)
+        .expect(&rt, "granted");
+    same!(rt; text.as_str(), "1d 01:01:01");
+    same!(rt; HumanDuration(89_499_000_000).to_string(alloc).expect(&rt, "granted").as_str(),
+        "89 seconds");
+    same!(rt; HumanDuration(89_500_000_000).to_string(alloc).expect(&rt, "granted").as_str(),
+        "2 minutes");
     let mut out = String::new(alloc);
-    HumanDuration(4_000_000_000).write_short(&mut out)?;
-    assert_eq!(rt; out.as_str(), "4s");
-    Ok(())
+    HumanDuration(4_000_000_000)
+        .write_short(&mut out)
+        .expect(&rt, "granted");
+    same!(rt; out.as_str(), "4s");
 }
 
 #[test]
-fn bytes_and_counts(rt: HostRuntime) -> Result<(), Fail> {
+fn bytes_and_counts(rt: HostRuntime) {
     let alloc = rt.alloc();
-    assert_eq!(rt; HumanBytes(1_500).to_string(alloc)?.as_str(), "1.46 KiB");
-    assert_eq!(rt; DecimalBytes(1_500).to_string(alloc)?.as_str(), "1.50 kB");
-    assert_eq!(rt; BinaryBytes(1_500).to_string(alloc)?.as_str(), "1.46 KiB");
-    assert_eq!(rt;
-        HumanCount(7_654_321).to_string(alloc)?.as_str(),
-        "7,654,321"
-    );
-    Ok(())
+    same!(rt; HumanBytes(1_500).to_string(alloc).expect(&rt, "granted").as_str(), "1.46 KiB");
+    same!(rt; DecimalBytes(1_500).to_string(alloc).expect(&rt, "granted").as_str(), "1.50 kB");
+    same!(rt; BinaryBytes(1_500).to_string(alloc).expect(&rt, "granted").as_str(), "1.46 KiB");
+    same!(rt; HumanCount(7_654_321).to_string(alloc).expect(&rt, "granted").as_str(),
+        "7,654,321");
 }
 
 #[test]
-fn quotients(rt: HostRuntime) -> Result<(), Fail> {
+fn quotients(rt: HostRuntime) {
     let alloc = rt.alloc();
-    let count = HumanFloatCount::new(85, 2).ok_or("a divisor of 0")?;
-    assert_eq!(rt; count.to_string(alloc)?.as_str(), "42.5");
-    assert!(rt; HumanFloatCount::new(1, 0).is_none());
-    let eighth = HumanFloatCount::new(1, 8).ok_or("a divisor of 0")?;
+    let count = HumanFloatCount::new(85, 2)
+        .ok_or("a divisor of 0")
+        .expect(&rt, "granted");
+    same!(rt; count.to_string(alloc).expect(&rt, "granted").as_str(), "42.5");
+    holds!(rt; HumanFloatCount::new(1, 0).is_none());
+    let eighth = HumanFloatCount::new(1, 8)
+        .ok_or("a divisor of 0")
+        .expect(&rt, "granted");
     let mut out = String::new(alloc);
-    eighth.with_decimals(2, &mut out)?;
-    assert_eq!(rt; out.as_str(), "0.12");
-    Ok(())
+    eighth.with_decimals(2, &mut out).expect(&rt, "granted");
+    same!(rt; out.as_str(), "0.12");
 }
 
 #[test]
-fn refusals(rt: HostRuntime) -> Result<(), Fail> {
+fn refusals(rt: HostRuntime) {
     let alloc = rt.alloc();
     let refusal = Refusal::NoColumns;
-    assert_eq!(rt;
-        refusal.to_string(alloc)?.as_str(),
-        "a terminal of no columns"
-    );
-    assert_eq!(rt; Refusal::RecordedTarget.number(), 17);
+    same!(rt; refusal.to_string(alloc).expect(&rt, "granted").as_str(),
+        "a terminal of no columns");
+    same!(rt; Refusal::RecordedTarget.number(), 17);
     let fault = Fault::Line(4, Refusal::NotMember);
-    assert_eq!(rt; fault.to_string(alloc)?.as_str(), "bars: line 4: E9");
-    assert_eq!(rt; fault.status(), 1);
-    Ok(())
+    same!(rt; fault.to_string(alloc).expect(&rt, "granted").as_str(), "bars: line 4: E9");
+    same!(rt; fault.status(), 1);
 }
 
 #[test]
-fn templates(rt: HostRuntime) -> Result<(), Fail> {
+fn templates(rt: HostRuntime) {
     let alloc = rt.alloc();
-    let template = Template::parse(alloc, "{foo:5!3}")?;
-    assert_eq!(rt; template.part_count(), 1);
-    assert_eq!(rt; Template::parse(alloc, "{{x}}")?.part_count(), 1);
-    let lines = Template::parse(alloc, "a\nb")?;
-    assert_eq!(rt; lines.part_count(), 3);
-    assert_eq!(rt; lines.part(2), Some(Part::Literal("b")));
-    assert_eq!(rt; lines.parts().next(), Some(Part::Literal("a")));
-    assert_eq!(rt; lines.parts().count(), 3);
-    assert_eq!(rt; Template::of_bar(alloc)?.part_count(), 5);
-    assert_eq!(rt; Template::of_spinner(alloc)?.part_count(), 3);
-    assert_eq!(rt;
-        Template::parse(alloc, "{k:65536}").err(),
-        Some(TemplateError::WidthTooLarge)
-    );
-    Ok(())
+    let template = Template::parse(alloc, "{foo:5!3}").expect(&rt, "granted");
+    same!(rt; template.part_count(), 1);
+    same!(rt; Template::parse(alloc, "{{x}}").expect(&rt, "granted").part_count(), 1);
+    let lines = Template::parse(alloc, "a\nb").expect(&rt, "granted");
+    same!(rt; lines.part_count(), 3);
+    same!(rt; lines.part(2), Some(Part::Literal("b")));
+    same!(rt; lines.parts().next(), Some(Part::Literal("a")));
+    same!(rt; lines.parts().count(), 3);
+    same!(rt; Template::of_bar(alloc).expect(&rt, "granted").part_count(), 5);
+    same!(rt; Template::of_spinner(alloc).expect(&rt, "granted").part_count(), 3);
+    same!(rt; Template::parse(alloc, "{k:65536}").err(),
+        Some(TemplateError::WidthTooLarge));
 }
 
 #[test]
-fn errors_of_templates(rt: HostRuntime) -> Result<(), Fail> {
+fn errors_of_templates(rt: HostRuntime) {
     let alloc = rt.alloc();
     let state = TemplateState::DoubleClose;
     let error = Template::parse(alloc, "}x").err();
-    assert_eq!(rt; error, Some(TemplateError::Unexpected { next: 'x', state }));
+    same!(rt; error, Some(TemplateError::Unexpected { next: 'x', state }));
     let error = TemplateError::Unexpected { next: 'x', state };
     let text = "TemplateError: unexpected character 'x' in state DoubleClose";
-    assert_eq!(rt; error.to_string(alloc)?.as_str(), text);
-    Ok(())
+    same!(rt; error.to_string(alloc).expect(&rt, "granted").as_str(), text);
 }
 
 #[test]
-fn styles(rt: HostRuntime) -> Result<(), Fail> {
+fn styles(rt: HostRuntime) {
     let alloc = rt.alloc();
     let mut out = String::new(alloc);
     let style = Style::from_dotted_str("red.on_blue");
-    style.apply_to(true, " XXX ", &mut out)?;
-    assert_eq!(rt; out.as_str(), "\x1b[31m\x1b[44m XXX \x1b[0m");
-    assert_eq!(rt; Style::new(), Style::from_dotted_str(""));
+    style
+        .apply_to(true, " XXX ", &mut out)
+        .expect(&rt, "granted");
+    same!(rt; out.as_str(), "\x1b[31m\x1b[44m XXX \x1b[0m");
+    same!(rt; Style::new(), Style::from_dotted_str(""));
     let mut out = String::new(alloc);
     let style = Style::from_dotted_str("red.green");
-    style.apply_to(true, "x", &mut out)?;
-    assert_eq!(rt; out.as_str(), "\x1b[32mx\x1b[0m");
-    Ok(())
+    style.apply_to(true, "x", &mut out).expect(&rt, "granted");
+    same!(rt; out.as_str(), "\x1b[32mx\x1b[0m");
 }
 
 #[test]
-fn opened_styles(rt: HostRuntime) -> Result<(), Fail> {
+fn opened_styles(rt: HostRuntime) {
     let alloc = rt.alloc();
     let mut out = String::new(alloc);
-    Style::from_dotted_str("hidden.bold.dim").apply_to(true, "", &mut out)?;
-    assert_eq!(rt; out.as_str(), "\x1b[1m\x1b[2m\x1b[8m\x1b[0m");
+    Style::from_dotted_str("hidden.bold.dim")
+        .apply_to(true, "", &mut out)
+        .expect(&rt, "granted");
+    same!(rt; out.as_str(), "\x1b[1m\x1b[2m\x1b[8m\x1b[0m");
     let mut out = String::new(alloc);
-    let is_open = Style::from_dotted_str("red").open(true, &mut out)?;
-    assert!(rt; is_open);
-    assert_eq!(rt; out.as_str(), "\x1b[31m");
-    Ok(())
+    let is_open = Style::from_dotted_str("red")
+        .open(true, &mut out)
+        .expect(&rt, "granted");
+    holds!(rt; is_open);
+    same!(rt; out.as_str(), "\x1b[31m");
 }
 
 #[test]
-fn asks_and_orders(rt: HostRuntime) -> Result<(), Fail> {
+fn asks_and_orders(rt: HostRuntime) {
     let alloc = rt.alloc();
     let mut limiter = None;
-    assert!(rt; Ask::Unforced.allows(&mut limiter, 0));
-    assert!(rt; Ask::No.is_no() && !Ask::Forced.is_no());
+    holds!(rt; Ask::Unforced.allows(&mut limiter, 0));
+    holds!(rt; Ask::No.is_no() && !Ask::Forced.is_no());
     let mut state = MultiState::new(alloc);
-    let first = state.insert(0)?;
-    let second = state.insert(0)?;
-    assert_eq!(rt; state.order(), [second, first].as_slice());
-    assert_eq!(rt; state.slot(second), Some(1));
+    let first = state.insert(0).expect(&rt, "granted");
+    let second = state.insert(0).expect(&rt, "granted");
+    same!(rt; state.order(), [second, first].as_slice());
+    same!(rt; state.slot(second), Some(1));
     let mut out = String::new(alloc);
-    bridge_line(Level::Warn, "low disk", &mut out)?;
-    assert_eq!(rt; out.as_str(), "WARN  low disk");
-    Ok(())
+    bridge_line(Level::Warn, "low disk", &mut out).expect(&rt, "granted");
+    same!(rt; out.as_str(), "WARN  low disk");
 }

@@ -93,15 +93,14 @@ fn run_failing_at(rt: &impl Abort, alloc: Global, failing: u64) -> Result<(u64, 
 }
 
 #[test]
-fn each_call_of_the_terminal_fails_once(rt: HostRuntime) -> Result<(), Fail> {
-    let (calls, failures) = run_failing_at(&rt, rt.alloc(), 0)?;
-    assert_eq!(rt; failures, 0);
-    assert!(rt; calls > 0);
+fn each_call_of_the_terminal_fails_once(rt: HostRuntime) {
+    let (calls, failures) = run_failing_at(&rt, rt.alloc(), 0).expect(&rt, "granted");
+    same!(rt; failures, 0);
+    holds!(rt; calls > 0);
     for failing in 1..=calls {
-        let (_, failures) = run_failing_at(&rt, rt.alloc(), failing)?;
+        let (_, failures) = run_failing_at(&rt, rt.alloc(), failing).expect(&rt, "granted");
         assert_eq!(rt; failures, 1, "where call {failing} fails");
     }
-    Ok(())
 }
 
 // ---- a boxed terminal
@@ -133,10 +132,9 @@ fn boxed_draws(alloc: Global) -> Result<bool, Fail> {
 }
 
 #[test]
-fn a_boxed_terminal_answers_as_the_plain_one(rt: HostRuntime) -> Result<(), Fail> {
-    assert!(rt; plain_draws(rt.alloc())?);
-    assert!(rt; boxed_draws(rt.alloc())?);
-    Ok(())
+fn a_boxed_terminal_answers_as_the_plain_one(rt: HostRuntime) {
+    holds!(rt; plain_draws(rt.alloc()).expect(&rt, "granted"));
+    holds!(rt; boxed_draws(rt.alloc()).expect(&rt, "granted"));
 }
 
 /// How often the bar's terminal has failed.
@@ -154,12 +152,14 @@ fn fails_once(bar: &mut Shown<Box<dyn TermLike + Drop>>) -> bool {
 }
 
 #[test]
-fn a_boxed_terminal_that_fails(rt: HostRuntime) -> Result<(), Fail> {
-    let failing = FailsOnce::new(InMemoryTerm::new(rt.alloc(), 5, 10)?, 4);
-    let term: Box<dyn TermLike + Drop> = Box::new(rt.alloc(), failing)?;
-    let mut bar = Shown::on(rt.alloc(), "ab", term)?;
-    assert!(rt; fails_once(&mut bar));
-    Ok(())
+fn a_boxed_terminal_that_fails(rt: HostRuntime) {
+    let failing = FailsOnce::new(
+        InMemoryTerm::new(rt.alloc(), 5, 10).expect(&rt, "granted"),
+        4,
+    );
+    let term: Box<dyn TermLike + Drop> = Box::new(rt.alloc(), failing).expect(&rt, "granted");
+    let mut bar = Shown::on(rt.alloc(), "ab", term).expect(&rt, "granted");
+    holds!(rt; fails_once(&mut bar));
 }
 
 // ---- memory is refused; tried with each allocation failing in turn
@@ -216,9 +216,9 @@ fn want_of_memory_behind_a_writer(rt: HostRuntime) {
     match bar_with_room(rt.alloc()) {
         Ok(mut bar) => {
             draws_at_last(&rt, &mut bar);
-            assert!(rt; shows_the_script(rt.alloc(), &bar));
+            holds!(rt; shows_the_script(rt.alloc(), &bar));
         }
-        Err(refusal) => assert_eq!(rt; refusal, Refusal::Memory),
+        Err(refusal) => same!(rt; refusal, Refusal::Memory),
     }
 }
 

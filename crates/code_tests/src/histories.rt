@@ -8,7 +8,6 @@ use indicatif_term::draw_target::{ProgressDrawTarget, RateLimiter};
 use indicatif_term::in_memory::InMemoryTerm;
 use indicatif_text::columns::{Drawn, Moment, Refusal};
 use std::alloc::Global;
-use std::test::Fail;
 
 /// The board's id.
 const BOARD_ID: u64 = 7;
@@ -86,22 +85,20 @@ fn records_a_clear(record: &mut Recording, answer: &Answer, size: Option<Size>) 
 }
 
 #[test]
-fn an_entry_and_its_size(rt: HostRuntime) -> Result<(), Fail> {
-    let mut record = recorded(rt.alloc())?;
+fn an_entry_and_its_size(rt: HostRuntime) {
+    let mut record = recorded(rt.alloc()).expect(&rt, "granted");
     let size = Size {
         columns: 10,
         rows: 4,
     };
-    assert!(rt; records_a_clear(&mut record, &Answer::Drawn(Drawn::Yes), Some(size)));
-    Ok(())
+    holds!(rt; records_a_clear(&mut record, &Answer::Drawn(Drawn::Yes), Some(size)));
 }
 
 /// A hidden target has no size.
 #[test]
-fn an_entry_where_nothing_is_shown(rt: HostRuntime) -> Result<(), Fail> {
-    let mut record = recorded_on(rt.alloc(), Target::hidden())?;
-    assert!(rt; records_a_clear(&mut record, &Answer::Drawn(Drawn::Hidden), None));
-    Ok(())
+fn an_entry_where_nothing_is_shown(rt: HostRuntime) {
+    let mut record = recorded_on(rt.alloc(), Target::hidden()).expect(&rt, "granted");
+    holds!(rt; records_a_clear(&mut record, &Answer::Drawn(Drawn::Hidden), None));
 }
 
 /// How many of 30 draws a limiter allows at the moment 0.
@@ -147,15 +144,13 @@ fn opens_with(record: &Recording, board_id: u64, draws: u32) -> bool {
 
 /// The limiter stays as the target came: 20 draws are in hand, though one was made.
 #[test]
-fn an_opening(rt: HostRuntime) -> Result<(), Fail> {
-    let mut record = recorded_rated(rt.alloc())?;
-    assert!(rt; is_drawn(rt.alloc(), &mut record)? && opens_with(&record, 7, 20));
-    Ok(())
+fn an_opening(rt: HostRuntime) {
+    let mut record = recorded_rated(rt.alloc()).expect(&rt, "granted");
+    holds!(rt; is_drawn(rt.alloc(), &mut record).expect(&rt, "granted") && opens_with(&record, 7, 20));
 }
 
 #[test]
-fn an_opening_without_a_limit(rt: HostRuntime) -> Result<(), Fail> {
-    let record = recorded(rt.alloc())?;
-    assert!(rt; record.opening().limiter.is_none());
-    Ok(())
+fn an_opening_without_a_limit(rt: HostRuntime) {
+    let record = recorded(rt.alloc()).expect(&rt, "granted");
+    holds!(rt; record.opening().limiter.is_none());
 }

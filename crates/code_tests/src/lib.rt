@@ -12,6 +12,24 @@
 //! - `documented`: the examples of the libraries' documentation that say what comes.
 #![tactic(auto)]
 
+/// Whether a value is the one that is wanted.
+#[cfg(test)]
+macro_rules! same {
+    ($rt:expr; $got:expr, $wanted:expr $(,)?) => {
+        $crate::checks::are_same(&$rt, stringify!($got), $got, $wanted)
+    };
+}
+
+/// Whether this holds.
+#[cfg(test)]
+macro_rules! holds {
+    ($rt:expr; $holds:expr $(,)?) => {
+        $crate::checks::is_so(&$rt, stringify!($holds), $holds)
+    };
+}
+
+#[cfg(test)]
+mod checks;
 #[cfg(test)]
 mod documented;
 #[cfg(test)]

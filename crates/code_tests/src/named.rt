@@ -14,7 +14,6 @@ use scripts::spelling::{flag, optional};
 use scripts::{called_bare, called_with_number, called_with_text};
 use std::alloc::Global;
 use std::process::Abort;
-use std::test::Fail;
 
 type Bar = BarState<NoTracker>;
 

@@ -1,7 +1,6 @@
 //! Files of rows: which lines are rows, and which of them agree.
 use scripts::got::{Bad, Got};
 use scripts::play::{Tally, World, play_rows};
-use std::test::Fail;
 
 /// Gives each step back, `no` excepted, which it can't read, and counts them.
 #[derive(Drop)]
@@ -30,7 +29,7 @@ fn told(rt: HostRuntime, text: &str) -> Option<(u64, u64, u64)> {
 }
 
 #[test]
-fn files_of_rows(rt: HostRuntime) -> Result<(), Fail> {
+fn files_of_rows(rt: HostRuntime) {
     for (text, wanted) in [
         ("", (0, 0, 0)),
         ("# a heading\n\n# a -> b\n", (0, 0, 0)),
@@ -49,5 +48,4 @@ fn files_of_rows(rt: HostRuntime) -> Result<(), Fail> {
     ] {
         assert_eq!(rt; told(rt, text), Some(wanted), "of {text:?}");
     }
-    Ok(())
 }

@@ -150,11 +150,10 @@ fn is_told(rt: &impl Abort, alloc: Global, row: &Said) -> Result<(), Fail> {
 }
 
 #[test]
-fn texts_of_trackers(rt: HostRuntime) -> Result<(), Fail> {
+fn texts_of_trackers(rt: HostRuntime) {
     for row in &SAID {
-        is_told(&rt, rt.alloc(), row)?;
+        is_told(&rt, rt.alloc(), row).expect(&rt, "granted");
     }
-    Ok(())
 }
 
 /// A tracker in a style of its own, with colours or without, is shown so.
@@ -165,9 +164,9 @@ fn shows_colours(rt: &impl Abort, alloc: Global, colours: bool, wanted: &str) ->
 }
 
 #[test]
-fn a_tracker_in_colours(rt: HostRuntime) -> Result<(), Fail> {
+fn a_tracker_in_colours(rt: HostRuntime) {
     let coloured = "\u{1B}[31m\u{1B}[44m XXX \u{1B}[0m\n";
-    shows_colours(&rt, rt.alloc(), true, coloured)?;
+    shows_colours(&rt, rt.alloc(), true, coloured).expect(&rt, "granted");
     shows_colours(&rt, rt.alloc(), false, " XXX \n")
 }
 
@@ -182,12 +181,11 @@ fn on_terminal(
 
 /// What isn't a colour sequence is written as it is: the draw is made.
 #[test]
-fn a_sequence_of_another_kind_is_drawn(rt: HostRuntime) -> Result<(), Fail> {
-    let look = tracked(rt.alloc(), "{t}", "\u{1B}[2J", false)?;
-    let bar = bar(rt.alloc(), look, Some(4))?;
-    let mut drawn = on_terminal(rt.alloc(), bar)?;
-    assert_eq!(rt; drawn.tick(0), Ok(Drawn::Yes));
-    Ok(())
+fn a_sequence_of_another_kind_is_drawn(rt: HostRuntime) {
+    let look = tracked(rt.alloc(), "{t}", "\u{1B}[2J", false).expect(&rt, "granted");
+    let bar = bar(rt.alloc(), look, Some(4)).expect(&rt, "granted");
+    let mut drawn = on_terminal(rt.alloc(), bar).expect(&rt, "granted");
+    same!(rt; drawn.tick(0), Ok(Drawn::Yes));
 }
 
 // ---- the same on a board that keeps its history
@@ -272,17 +270,15 @@ fn recorded_shows(alloc: Global, text: &'static str) -> Result<String, Refusal> 
 
 /// A tracker's tab is two spaces and its newline parts two lines, on a board too.
 #[test]
-fn a_tab_and_a_newline_on_a_board(rt: HostRuntime) -> Result<(), Fail> {
-    let shown = recorded_shows(rt.alloc(), "a\tb\nc")?;
-    assert_eq!(rt; shown.as_str(), "a  b\nc");
-    Ok(())
+fn a_tab_and_a_newline_on_a_board(rt: HostRuntime) {
+    let shown = recorded_shows(rt.alloc(), "a\tb\nc").expect(&rt, "granted");
+    same!(rt; shown.as_str(), "a  b\nc");
 }
 
 /// What isn't a colour sequence is drawn on a board too; what it does to the terminal isn't claimed.
 #[test]
-fn a_sequence_of_another_kind_on_a_board(rt: HostRuntime) -> Result<(), Fail> {
-    assert!(rt; recorded_shows(rt.alloc(), "\u{1B}[2J").is_ok());
-    Ok(())
+fn a_sequence_of_another_kind_on_a_board(rt: HostRuntime) {
+    holds!(rt; recorded_shows(rt.alloc(), "\u{1B}[2J").is_ok());
 }
 
 // ---- names of keys
@@ -309,10 +305,10 @@ fn shows_line(
 
 /// A tracker comes before a key of its name, and before an earlier tracker of its name.
 #[test]
-fn names_of_trackers(rt: HostRuntime) -> Result<(), Fail> {
-    let look = named(rt.alloc())?;
-    let clone = cloned(rt.alloc(), &look)?;
-    shows_line(&rt, rt.alloc(), look, "pw2\n")?;
+fn names_of_trackers(rt: HostRuntime) {
+    let look = named(rt.alloc()).expect(&rt, "granted");
+    let clone = cloned(rt.alloc(), &look).expect(&rt, "granted");
+    shows_line(&rt, rt.alloc(), look, "pw2\n").expect(&rt, "granted");
     shows_line(&rt, rt.alloc(), clone, "pw2\n")
 }
 
@@ -427,12 +423,11 @@ fn shows_after(
 }
 
 #[test]
-fn ticks_and_resets_of_a_tracker(rt: HostRuntime) -> Result<(), Fail> {
-    let mut bar = lit(rt.alloc())?;
+fn ticks_and_resets_of_a_tracker(rt: HostRuntime) {
+    let mut bar = lit(rt.alloc()).expect(&rt, "granted");
     for row in &CALLS {
-        shows_after(&rt, rt.alloc(), &mut bar, *row)?;
+        shows_after(&rt, rt.alloc(), &mut bar, *row).expect(&rt, "granted");
     }
-    Ok(())
 }
 
 // ---- the tracker that the documentation of `ProgressTracker` shows
@@ -471,11 +466,10 @@ fn counting(alloc: Global) -> Result<Told<Left>, Refusal> {
 
 /// It follows the position, and stays at 0 past the end.
 #[test]
-fn a_tracker_of_what_is_left(rt: HostRuntime) -> Result<(), Fail> {
-    let mut bar = counting(rt.alloc())?;
+fn a_tracker_of_what_is_left(rt: HostRuntime) {
+    let mut bar = counting(rt.alloc()).expect(&rt, "granted");
     for (position, wanted) in [(0, "files 10\n"), (3, "files 7\n"), (12, "files 0\n")] {
         bar.set_position(position, 0);
-        shows(&rt, rt.alloc(), &bar, (80, wanted))?;
+        shows(&rt, rt.alloc(), &bar, (80, wanted)).expect(&rt, "granted");
     }
-    Ok(())
 }

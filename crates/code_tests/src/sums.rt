@@ -3,7 +3,6 @@ ghost use Rattle.std.specs.Prelude.{◌≡◌, ◌+◌, All, IfOk};
 
 use indicatif_board::done::{BarWorker, Done};
 use indicatif_text::columns::Refusal;
-use std::test::Fail;
 use std::thread::join;
 
 /// A worker that added 1 a thousand times, and the total that it read then.
@@ -28,66 +27,61 @@ fn a_thousand_times(done: &Done, mut worker: BarWorker) -> Worked
 }
 
 #[test]
-fn two_threads_add_a_thousand_times(rt: HostRuntime) -> Result<(), Fail> {
-    let (done, worker) = Done::new(rt.alloc())?;
-    let (mine, theirs) = worker.split(&done)?;
+fn two_threads_add_a_thousand_times(rt: HostRuntime) {
+    let (done, worker) = Done::new(rt.alloc()).expect(&rt, "granted");
+    let (mine, theirs) = worker.split(&done).expect(&rt, "granted");
     let (mine, theirs) = join(
         &rt,
         || a_thousand_times(&done, mine),
         || a_thousand_times(&done, theirs),
     );
-    assert!(rt; mine.total >= 1000 && theirs.total >= 1000);
-    assert!(rt; mine.total == 2000 || theirs.total == 2000);
+    holds!(rt; mine.total >= 1000 && theirs.total >= 1000);
+    holds!(rt; mine.total == 2000 || theirs.total == 2000);
     let worker = mine.worker.join(theirs.worker, &done);
-    assert_eq!(rt; done.close(worker), 2000);
-    Ok(())
+    same!(rt; done.close(worker), 2000);
 }
 
 #[test]
-fn a_total_is_read_from_the_shared_word(rt: HostRuntime) -> Result<(), Fail> {
-    let (done, worker) = Done::new(rt.alloc())?;
-    let (mut first, mut second) = worker.split(&done)?;
+fn a_total_is_read_from_the_shared_word(rt: HostRuntime) {
+    let (done, worker) = Done::new(rt.alloc()).expect(&rt, "granted");
+    let (mut first, mut second) = worker.split(&done).expect(&rt, "granted");
     first.add(&done, 5);
-    assert_eq!(rt; second.total(&done), 5);
+    same!(rt; second.total(&done), 5);
     second.add(&done, 2);
-    assert_eq!(rt; first.total(&done), 7);
+    same!(rt; first.total(&done), 7);
     let worker = second.join(first, &done);
-    assert_eq!(rt; done.close(worker), 7);
-    Ok(())
+    same!(rt; done.close(worker), 7);
 }
 
 #[test]
-fn a_total_is_read_anew_each_time(rt: HostRuntime) -> Result<(), Fail> {
-    let (done, worker) = Done::new(rt.alloc())?;
-    let (mut first, mut second) = worker.split(&done)?;
+fn a_total_is_read_anew_each_time(rt: HostRuntime) {
+    let (done, worker) = Done::new(rt.alloc()).expect(&rt, "granted");
+    let (mut first, mut second) = worker.split(&done).expect(&rt, "granted");
     first.add(&done, 5);
-    assert_eq!(rt; second.total(&done), 5);
+    same!(rt; second.total(&done), 5);
     first.add(&done, 4);
-    assert_eq!(rt; second.total(&done), 9);
+    same!(rt; second.total(&done), 9);
     second.add(&done, 1);
-    assert_eq!(rt; second.total(&done), 10);
-    Ok(())
+    same!(rt; second.total(&done), 10);
 }
 
 #[test]
-fn a_sum_of_nothing_is_closed_at_once(rt: HostRuntime) -> Result<(), Fail> {
-    let (done, mut worker) = Done::new(rt.alloc())?;
-    assert_eq!(rt; worker.total(&done), 0);
-    assert_eq!(rt; done.close(worker), 0);
-    Ok(())
+fn a_sum_of_nothing_is_closed_at_once(rt: HostRuntime) {
+    let (done, mut worker) = Done::new(rt.alloc()).expect(&rt, "granted");
+    same!(rt; worker.total(&done), 0);
+    same!(rt; done.close(worker), 0);
 }
 
 #[test]
-fn a_sum_wraps_at_2_to_the_64(rt: HostRuntime) -> Result<(), Fail> {
-    let (done, mut worker) = Done::new(rt.alloc())?;
+fn a_sum_wraps_at_2_to_the_64(rt: HostRuntime) {
+    let (done, mut worker) = Done::new(rt.alloc()).expect(&rt, "granted");
     worker.add(&done, u64::MAX - 1);
-    let (mut first, mut second) = worker.split(&done)?;
+    let (mut first, mut second) = worker.split(&done).expect(&rt, "granted");
     first.add(&done, 1);
     second.add(&done, 2);
     let mut worker = first.join(second, &done);
-    assert_eq!(rt; worker.total(&done), 1);
-    assert_eq!(rt; done.close(worker), 1);
-    Ok(())
+    same!(rt; worker.total(&done), 1);
+    same!(rt; done.close(worker), 1);
 }
 
 /// Splits a hundred times in a row; the worker of the k-th split that stays behind adds k. The one that was given last.
@@ -105,11 +99,10 @@ fn last_of_a_hundred_splits(done: &Done, worker: BarWorker) -> Result<BarWorker,
 }
 
 #[test]
-fn a_hundred_splits_in_a_row(rt: HostRuntime) -> Result<(), Fail> {
-    let (done, worker) = Done::new(rt.alloc())?;
-    let mut last = last_of_a_hundred_splits(&done, worker)?;
-    assert_eq!(rt; last.total(&done), 4950);
-    Ok(())
+fn a_hundred_splits_in_a_row(rt: HostRuntime) {
+    let (done, worker) = Done::new(rt.alloc()).expect(&rt, "granted");
+    let mut last = last_of_a_hundred_splits(&done, worker).expect(&rt, "granted");
+    same!(rt; last.total(&done), 4950);
 }
 
 /// Each of these workers adds 2.
@@ -122,25 +115,27 @@ fn each_adds_two(done: &Done, workers: Vec<BarWorker>)
 }
 
 #[test]
-fn a_worker_for_each_piece(rt: HostRuntime) -> Result<(), Fail> {
-    let (done, worker) = Done::new(rt.alloc())?;
-    let (mut mine, theirs) = worker.split(&done)?;
-    let workers = theirs.split_among(rt.alloc(), &done, 99)?;
-    assert_eq!(rt; workers.len(), 99);
+fn a_worker_for_each_piece(rt: HostRuntime) {
+    let (done, worker) = Done::new(rt.alloc()).expect(&rt, "granted");
+    let (mut mine, theirs) = worker.split(&done).expect(&rt, "granted");
+    let workers = theirs
+        .split_among(rt.alloc(), &done, 99)
+        .expect(&rt, "granted");
+    same!(rt; workers.len(), 99);
     each_adds_two(&done, workers);
-    assert_eq!(rt; mine.total(&done), 198);
-    Ok(())
+    same!(rt; mine.total(&done), 198);
 }
 
 #[test]
-fn pieces_are_joined_again(rt: HostRuntime) -> Result<(), Fail> {
-    let (done, mut worker) = Done::new(rt.alloc())?;
+fn pieces_are_joined_again(rt: HostRuntime) {
+    let (done, mut worker) = Done::new(rt.alloc()).expect(&rt, "granted");
     worker.add(&done, 3);
-    let workers = worker.split_among(rt.alloc(), &done, 5)?;
+    let workers = worker
+        .split_among(rt.alloc(), &done, 5)
+        .expect(&rt, "granted");
     let Some(mut all) = BarWorker::join_all(workers, &done) else {
         panic!(rt; "five workers are some")
     };
     all.add(&done, 4);
-    assert_eq!(rt; done.close(all), 7);
-    Ok(())
+    same!(rt; done.close(all), 7);
 }

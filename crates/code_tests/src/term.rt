@@ -5,7 +5,6 @@ use indicatif_term::term_like::TermLike;
 use indicatif_text::columns::{Clock, Refusal, StepClock};
 use std::alloc::Global;
 use std::io::ErrorKind;
-use std::test::Fail;
 
 type Target = ProgressDrawTarget<InMemoryTerm>;
 
@@ -30,12 +29,11 @@ fn opened(alloc: Global, target: Target) -> (bool, bool) {
 }
 
 #[test]
-fn engines_of_targets(rt: HostRuntime) -> Result<(), Fail> {
+fn engines_of_targets(rt: HostRuntime) {
     let alloc = rt.alloc();
-    assert_eq!(rt; opened(alloc, target(alloc)?), (true, false));
-    assert_eq!(rt; opened(alloc, hidden()), (false, false));
-    assert_eq!(rt; opened(alloc, often(alloc)?), (true, true));
-    Ok(())
+    same!(rt; opened(alloc, target(alloc).expect(&rt, "granted")), (true, false));
+    same!(rt; opened(alloc, hidden()), (false, false));
+    same!(rt; opened(alloc, often(alloc).expect(&rt, "granted")), (true, true));
 }
 
 /// Rows and columns of a target's terminal, where it has one and no limiter.
@@ -59,23 +57,20 @@ fn taken_apart(setup: Setup<InMemoryTerm, StepClock>) -> (bool, Option<(u16, u16
 }
 
 #[test]
-fn what_a_bar_is_made_with(rt: HostRuntime) -> Result<(), Fail> {
+fn what_a_bar_is_made_with(rt: HostRuntime) {
     let setup = Setup {
-        target: target(rt.alloc())?,
+        target: target(rt.alloc()).expect(&rt, "granted"),
         clock: StepClock { next: 5, step: 2 },
     };
-    assert_eq!(rt; taken_apart(setup), (false, Some((2, 3)), 5));
-    assert_eq!(rt; told(hidden()), (true, None));
-    assert!(rt; hidden().into_parts().is_none());
-    Ok(())
+    same!(rt; taken_apart(setup), (false, Some((2, 3)), 5));
+    same!(rt; told(hidden()), (true, None));
+    holds!(rt; hidden().into_parts().is_none());
 }
 
 #[test]
 fn bars_stand_at_the_top_by_default(rt: HostRuntime) {
-    assert_eq!(rt;
-        MultiProgressAlignment::default(),
-        MultiProgressAlignment::Top
-    );
+    same!(rt; MultiProgressAlignment::default(),
+        MultiProgressAlignment::Top);
 }
 
 /// Writes texts; the failures that the terminal counts are those that it told, each of them want of memory.
@@ -111,10 +106,10 @@ fn goes_on(term: &InMemoryTerm) -> bool {
 fn want_of_memory(rt: HostRuntime) {
     match InMemoryTerm::new(rt.alloc(), 2, 4) {
         Ok(mut term) => {
-            assert!(rt; writes_all(&mut term) && goes_on(&term));
+            holds!(rt; writes_all(&mut term) && goes_on(&term));
         }
         Err(refusal) => {
-            assert_eq!(rt; refusal, Refusal::Memory);
+            same!(rt; refusal, Refusal::Memory);
         }
     }
 }

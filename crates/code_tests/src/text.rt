@@ -7,7 +7,7 @@ use std::alloc::{AllocError, Global};
 
 #[test]
 fn nearest_whole_numbers(rt: HostRuntime) {
-    assert!(rt; nearest(7, 2) == 4 && nearest(5, 2) == 2);
+    holds!(rt; nearest(7, 2) == 4 && nearest(5, 2) == 2);
 }
 
 /// Whether a text was made, and is this one.
@@ -34,11 +34,11 @@ fn padded(alloc: Global) -> Result<String, AllocError> {
 fn options_of_a_hole_are_ignored(rt: HostRuntime) {
     let alloc = rt.alloc();
     let bytes = format!(in alloc; "{:>6}|{:<6}|", HumanBytes(5), DecimalBytes(5));
-    assert!(rt; is(bytes, "5 B|5 B|"));
+    holds!(rt; is(bytes, "5 B|5 B|"));
     let counts = format!(in alloc; "{:>6}|{:06}|", HumanCount(5), BinaryBytes(5));
-    assert!(rt; is(counts, "5|5 B|"));
+    holds!(rt; is(counts, "5|5 B|"));
     let durations = format!(in alloc; "{:>12}|{:^12}|", HumanDuration(0), FormattedDuration(0));
-    assert!(rt; is(durations, "0 seconds|00:00:00|"));
-    assert!(rt; is(half(alloc), "0.5|0.5|"));
-    assert!(rt; is(padded(alloc), "   5 B|"));
+    holds!(rt; is(durations, "0 seconds|00:00:00|"));
+    holds!(rt; is(half(alloc), "0.5|0.5|"));
+    holds!(rt; is(padded(alloc), "   5 B|"));
 }

@@ -33,9 +33,9 @@ fn length(bar: &Bar) -> Option<u64> {
 
 #[test]
 fn asks(rt: HostRuntime) {
-    assert!(rt; Ask::No.is_no() && !Ask::Forced.is_no());
-    assert!(rt; Ask::Unforced.allows(&mut None, 0));
-    assert!(rt; matches!(ProgressFinish::default(), ProgressFinish::AndClear));
+    holds!(rt; Ask::No.is_no() && !Ask::Forced.is_no());
+    holds!(rt; Ask::Unforced.allows(&mut None, 0));
+    holds!(rt; matches!(ProgressFinish::default(), ProgressFinish::AndClear));
 }
 
 /// What the clock tells.
@@ -49,19 +49,20 @@ fn setup(rt: HostRuntime) {
         target: ProgressDrawTarget::<InMemoryTerm>::hidden(),
         clock: StepClock { next: 0, step: 1 },
     };
-    assert!(rt; setup.target.is_hidden());
-    assert_eq!(rt; told(&mut setup.clock), 0);
-    assert_eq!(rt; told(&mut setup.clock), 1);
+    holds!(rt; setup.target.is_hidden());
+    same!(rt; told(&mut setup.clock), 0);
+    same!(rt; told(&mut setup.clock), 1);
 }
 
 #[test]
-fn draw_target(rt: HostRuntime) -> Result<(), Fail> {
-    let shown = ProgressDrawTarget::term_like(InMemoryTerm::new(rt.alloc(), 2, 5)?);
-    assert!(rt; !shown.is_hidden());
-    assert_eq!(rt; shown.into_term().map(|term| term.width()), Some(5));
+fn draw_target(rt: HostRuntime) {
+    let shown = ProgressDrawTarget::term_like(InMemoryTerm::new(rt.alloc(), 2, 5).expect(
+        &rt, "granted",
+    ));
+    holds!(rt; !shown.is_hidden());
+    same!(rt; shown.into_term().map(|term| term.width()), Some(5));
     let nowhere: ProgressDrawTarget<InMemoryTerm> = ProgressDrawTarget::hidden();
-    assert!(rt; nowhere.is_hidden());
-    Ok(())
+    holds!(rt; nowhere.is_hidden());
 }
 
 /// Whether a fault is written so.
@@ -71,11 +72,10 @@ fn is_written(alloc: Global, fault: &Fault, wanted: &str) -> Result<bool, Fail> 
 }
 
 #[test]
-fn fault(rt: HostRuntime) -> Result<(), Fail> {
+fn fault(rt: HostRuntime) {
     let fault = Fault::Line(4, Refusal::NotMember);
-    assert!(rt; is_written(rt.alloc(), &fault, "bars: line 4: E9")?);
-    assert_eq!(rt; fault.status(), 1);
-    Ok(())
+    holds!(rt; is_written(rt.alloc(), &fault, "bars: line 4: E9").expect(&rt, "granted"));
+    same!(rt; fault.status(), 1);
 }
 
 // ---- a tracker that tells a text
@@ -118,11 +118,10 @@ fn shows(lines: &[LineType], wanted: &str) -> bool {
 }
 
 #[test]
-fn fn_tracker_and_tells_text(rt: HostRuntime) -> Result<(), Fail> {
-    let bar = telling(rt.alloc(), ready(rt.alloc())?)?;
-    let lines = bar.lines(0, 80)?;
-    assert!(rt; shows(&lines, "ready!"));
-    Ok(())
+fn fn_tracker_and_tells_text(rt: HostRuntime) {
+    let bar = telling(rt.alloc(), ready(rt.alloc()).expect(&rt, "granted")).expect(&rt, "granted");
+    let lines = bar.lines(0, 80).expect(&rt, "granted");
+    holds!(rt; shows(&lines, "ready!"));
 }
 
 // ---- room of lines
@@ -152,11 +151,10 @@ fn share_a_room(alloc: Global, first: &mut Bar, second: &Bar) -> Result<bool, Re
 }
 
 #[test]
-fn spare_lines(rt: HostRuntime) -> Result<(), Fail> {
-    let mut first = plain_bar(rt.alloc(), 10)?;
-    let second = plain_bar(rt.alloc(), 10)?;
-    assert!(rt; share_a_room(rt.alloc(), &mut first, &second)?);
-    Ok(())
+fn spare_lines(rt: HostRuntime) {
+    let mut first = plain_bar(rt.alloc(), 10).expect(&rt, "granted");
+    let second = plain_bar(rt.alloc(), 10).expect(&rt, "granted");
+    holds!(rt; share_a_room(rt.alloc(), &mut first, &second).expect(&rt, "granted"));
 }
 
 // ---- closures
@@ -176,12 +174,11 @@ fn update_twice(bar: &mut Bar) -> Ask {
 }
 
 #[test]
-fn an_update_of_a_record(rt: HostRuntime) -> Result<(), Fail> {
-    let mut bar = plain_bar(rt.alloc(), 10)?;
+fn an_update_of_a_record(rt: HostRuntime) {
+    let mut bar = plain_bar(rt.alloc(), 10).expect(&rt, "granted");
     bar.with_position(12, 0);
-    assert_eq!(rt; update_twice(&mut bar), Ask::Unforced);
-    assert_eq!(rt; (position(&bar), length(&bar)), (24, Some(25)));
-    Ok(())
+    same!(rt; update_twice(&mut bar), Ask::Unforced);
+    same!(rt; (position(&bar), length(&bar)), (24, Some(25)));
 }
 
 /// One further than it is.
@@ -210,11 +207,10 @@ fn stands(bar: &Lone, wanted: &str) -> Result<bool, Refusal> {
 }
 
 #[test]
-fn an_update_of_a_lone_bar(rt: HostRuntime) -> Result<(), Fail> {
-    let mut bar = shown_at(rt.alloc(), 23)?;
-    assert_eq!(rt; update_next(&mut bar), Ok(Drawn::Yes));
-    assert!(rt; stands(&bar, "24")?);
-    Ok(())
+fn an_update_of_a_lone_bar(rt: HostRuntime) {
+    let mut bar = shown_at(rt.alloc(), 23).expect(&rt, "granted");
+    same!(rt; update_next(&mut bar), Ok(Drawn::Yes));
+    holds!(rt; stands(&bar, "24").expect(&rt, "granted"));
 }
 
 /// Suspended round a closure that answers this number.
@@ -232,10 +228,9 @@ fn narrow(alloc: Global) -> Result<Box<Lone>, Refusal> {
 
 /// The closure's answer is handed on, also where the draw behind it is refused.
 #[test]
-fn an_answer_of_a_closure(rt: HostRuntime) -> Result<(), Fail> {
-    let mut bar = shown_at(rt.alloc(), 23)?;
-    assert_eq!(rt; suspend(&mut bar, 7), (7, Ok(Drawn::Yes)));
-    let mut bar = narrow(rt.alloc())?;
-    assert_eq!(rt; suspend(&mut bar, 8), (8, Err(Refusal::TooWide)));
-    Ok(())
+fn an_answer_of_a_closure(rt: HostRuntime) {
+    let mut bar = shown_at(rt.alloc(), 23).expect(&rt, "granted");
+    same!(rt; suspend(&mut bar, 7), (7, Ok(Drawn::Yes)));
+    let mut bar = narrow(rt.alloc()).expect(&rt, "granted");
+    same!(rt; suspend(&mut bar, 8), (8, Err(Refusal::TooWide)));
 }

@@ -2,7 +2,6 @@
 use bars_run::words::words;
 use std::env::{Env, FillError};
 use std::process::Abort;
-use std::test::Fail;
 
 /// A program that was started by these words.
 #[derive(Drop)]
@@ -40,7 +39,7 @@ fn are_words(rt: &impl Abort, words: &[String], wanted: &[&str]) {
 }
 
 #[test]
-fn words_behind_the_name(rt: HostRuntime) -> Result<(), Fail> {
+fn words_behind_the_name(rt: HostRuntime) {
     let table: [(&'static [&'static [u8]], &[&str]); 6] = [
         (&[b"bars", b"demo"], &["demo"]),
         (&[], &[]),
@@ -50,8 +49,7 @@ fn words_behind_the_name(rt: HostRuntime) -> Result<(), Fail> {
         (&[b"bars", b"demo", b"\xff"], &[]),
     ];
     for (started, wanted) in table {
-        let words = words(&(Started(started), rt.alloc()))?;
+        let words = words(&(Started(started), rt.alloc())).expect(&rt, "granted");
         are_words(&rt, &words, wanted);
     }
-    Ok(())
 }

@@ -55,11 +55,10 @@ fn each_is_one_write(rt: &impl Abort, bar: &mut Buffered) {
 
 /// Behind a `BufWriter` each drawing that changes a line is one write; one that changes none makes none, as a call that is refused.
 #[test]
-fn a_drawing_is_one_write(rt: HostRuntime) -> Result<(), Fail> {
-    let writer = BufWriter::new(rt.alloc(), CallCount::default())?;
-    let mut bar = Shown::on(rt.alloc(), "ab", Term::new(writer, 6, 10))?;
+fn a_drawing_is_one_write(rt: HostRuntime) {
+    let writer = BufWriter::new(rt.alloc(), CallCount::default()).expect(&rt, "granted");
+    let mut bar = Shown::on(rt.alloc(), "ab", Term::new(writer, 6, 10)).expect(&rt, "granted");
     each_is_one_write(&rt, &mut bar);
-    Ok(())
 }
 
 // ---- a terminal in a box
@@ -90,12 +89,11 @@ fn boxed(alloc: Global, count: &Rc<Cell<u64>>) -> Result<Boxed, Fail> {
 
 /// A line isn't flushed, and a flush is counted once.
 #[test]
-fn a_boxed_terminal_is_flushed_once(rt: HostRuntime) -> Result<(), Fail> {
-    let count = Rc::new(rt.alloc(), Cell::new(0))?;
-    let mut boxed = boxed(rt.alloc(), &count)?;
-    assert_eq!(rt; (boxed.write_line("ab").is_ok(), count.get()), (true, 0));
-    assert_eq!(rt; (boxed.flush().is_ok(), count.get()), (true, 1));
-    Ok(())
+fn a_boxed_terminal_is_flushed_once(rt: HostRuntime) {
+    let count = Rc::new(rt.alloc(), Cell::new(0)).expect(&rt, "granted");
+    let mut boxed = boxed(rt.alloc(), &count).expect(&rt, "granted");
+    same!(rt; (boxed.write_line("ab").is_ok(), count.get()), (true, 0));
+    same!(rt; (boxed.flush().is_ok(), count.get()), (true, 1));
 }
 
 /// Each call of the script is drawn, and flushed once.
@@ -109,11 +107,15 @@ fn each_is_flushed_once(rt: &impl Abort, bar: &mut Shown<Boxed>, count: &Cell<u6
 }
 
 #[test]
-fn a_boxed_terminal_is_flushed_once_a_drawing(rt: HostRuntime) -> Result<(), Fail> {
-    let count = Rc::new(rt.alloc(), Cell::new(0))?;
-    let mut bar = Shown::on(rt.alloc(), "ab", boxed(rt.alloc(), &count)?)?;
+fn a_boxed_terminal_is_flushed_once_a_drawing(rt: HostRuntime) {
+    let count = Rc::new(rt.alloc(), Cell::new(0)).expect(&rt, "granted");
+    let mut bar = Shown::on(
+        rt.alloc(),
+        "ab",
+        boxed(rt.alloc(), &count).expect(&rt, "granted"),
+    )
+    .expect(&rt, "granted");
     each_is_flushed_once(&rt, &mut bar, &count);
-    Ok(())
 }
 
 // ---- a writer that takes one byte a call
@@ -208,13 +210,12 @@ fn draws_all(rt: &impl Abort, bar: &mut Shown<Term<ByteWise>>) {
 }
 
 #[test]
-fn a_bar_behind_a_writer_of_one_byte_a_call(rt: HostRuntime) -> Result<(), Fail> {
-    let bytes = bytes_of_the_script(rt.alloc())?;
-    let mut bar = bar_behind(rt.alloc(), ByteWise::steady(rt.alloc()))?;
+fn a_bar_behind_a_writer_of_one_byte_a_call(rt: HostRuntime) {
+    let bytes = bytes_of_the_script(rt.alloc()).expect(&rt, "granted");
+    let mut bar = bar_behind(rt.alloc(), ByteWise::steady(rt.alloc())).expect(&rt, "granted");
     draws_all(&rt, &mut bar);
-    let term = bar.term().ok_or("no terminal")?;
-    assert!(rt; has_written(term, &bytes, (bytes.len() as u64, 0)));
-    Ok(())
+    let term = bar.term().ok_or("no terminal").expect(&rt, "granted");
+    holds!(rt; has_written(term, &bytes, (bytes.len() as u64, 0)));
 }
 
 /// The rows down to the cursor's that these bytes show, each behind a newline.
@@ -305,10 +306,13 @@ fn run_broken_at(rt: &impl Abort, alloc: Global, at: usize) -> Result<u64, Fail>
 }
 
 #[test]
-fn a_bar_behind_a_writer_that_fails(rt: HostRuntime) -> Result<(), Fail> {
-    let bytes = bytes_of_the_script(rt.alloc())?;
+fn a_bar_behind_a_writer_that_fails(rt: HostRuntime) {
+    let bytes = bytes_of_the_script(rt.alloc()).expect(&rt, "granted");
     for at in 0..bytes.len() {
-        assert_eq!(rt; run_broken_at(&rt, rt.alloc(), at)?, 1, "at {at}");
+        assert_eq!(rt;
+            run_broken_at(&rt, rt.alloc(), at).expect(&rt, "granted"),
+            1,
+            "at {at}"
+        );
     }
-    Ok(())
 }

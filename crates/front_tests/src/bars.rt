@@ -6,7 +6,6 @@ use indicatif::{
 };
 use std::alloc::Global;
 use std::sync::Wait;
-use std::test::Fail;
 
 /// What the closure of a pause gives, and what the pause answers.
 fn paused<R: Wait + Copy + Clone + Drop>(bar: &Bar<R>, value: u8) -> (u8, Result<Drawn, Refusal>) {
@@ -14,26 +13,24 @@ fn paused<R: Wait + Copy + Clone + Drop>(bar: &Bar<R>, value: u8) -> (u8, Result
 }
 
 #[test]
-fn pauses_hand_values_on(rt: HostRuntime) -> Result<(), Fail> {
-    let bar = alone(rt, rt.alloc(), "{pos}")?;
-    assert!(rt; paused(&bar, 7) == (7, Ok(Drawn::Yes)));
-    assert!(rt; shows(&bar, "0"));
-    let board = recorded(rt, rt.alloc())?;
-    let bar = bar_on(&board, rt, rt.alloc(), "a")?;
-    assert!(rt; paused(&bar, 7) == (7, Ok(Drawn::Yes)));
-    assert!(rt; board.suspend(|| 8u8).0 == 8);
-    Ok(())
+fn pauses_hand_values_on(rt: HostRuntime) {
+    let bar = alone(rt, rt.alloc(), "{pos}").expect(&rt, "granted");
+    same!(rt; paused(&bar, 7), (7, Ok(Drawn::Yes)));
+    holds!(rt; shows(&bar, "0"));
+    let board = recorded(rt, rt.alloc()).expect(&rt, "granted");
+    let bar = bar_on(&board, rt, rt.alloc(), "a").expect(&rt, "granted");
+    same!(rt; paused(&bar, 7), (7, Ok(Drawn::Yes)));
+    same!(rt; board.suspend(|| 8u8).0, 8);
 }
 
 fn crosses<X: Send + Sync>(_bar: &X) {}
 
 #[test]
-fn a_bar_crosses_threads(rt: HostRuntime) -> Result<(), Fail> {
-    let bar = alone(rt, rt.alloc(), "{pos}")?;
+fn a_bar_crosses_threads(rt: HostRuntime) {
+    let bar = alone(rt, rt.alloc(), "{pos}").expect(&rt, "granted");
     crosses(&bar);
-    let weak = bar.downgrade()?;
+    let weak = bar.downgrade().expect(&rt, "granted");
     crosses(&weak);
-    Ok(())
 }
 
 type Boxed = Box<dyn TermLike + Drop>;
@@ -54,7 +51,7 @@ fn steps_two<R: Wait + Copy + Clone + Drop>(rt: R, alloc: Global) -> Result<(Dra
 
 #[test]
 fn a_boxed_terminal(rt: HostRuntime) {
-    assert!(rt; steps_two(rt, rt.alloc()) == Ok((Drawn::Yes, 2)));
+    same!(rt; steps_two(rt, rt.alloc()), Ok((Drawn::Yes, 2)));
 }
 
 type Look = ProgressStyle<NoTracker>;
@@ -78,25 +75,23 @@ fn changed(alloc: Global, style: &Look) -> Result<Box<Look>, Refusal> {
 
 /// The style of a record is read, and what is made of it leaves the record as it is.
 #[test]
-fn a_style_of_a_record(rt: HostRuntime) -> Result<(), Fail> {
-    let bar = record(rt.alloc())?;
-    assert!(rt; bar.style().get_tick_str(1) == "+");
-    let other = changed(rt.alloc(), bar.style())?;
-    assert!(rt; other.get_final_tick_str() == "2");
-    assert!(rt; bar.style().get_final_tick_str() == "ok");
-    Ok(())
+fn a_style_of_a_record(rt: HostRuntime) {
+    let bar = record(rt.alloc()).expect(&rt, "granted");
+    same!(rt; bar.style().get_tick_str(1), "+");
+    let other = changed(rt.alloc(), bar.style()).expect(&rt, "granted");
+    same!(rt; other.get_final_tick_str(), "2");
+    same!(rt; bar.style().get_final_tick_str(), "ok");
 }
 
 /// What programmers are shown of a bar, as the crate shows it; of a wrapper its fields as well.
 #[test]
-fn debug_texts(rt: HostRuntime) -> Result<(), Fail> {
-    let board = recorded(rt, rt.alloc())?;
-    assert!(rt; format!(in rt.alloc(); "{:?}", *board)?.as_str() == "MultiProgress");
-    let bar = alone(rt, rt.alloc(), "{pos}")?;
-    assert!(rt; format!(in rt.alloc(); "{bar:?}")?.as_str() == "ProgressBar");
-    let wrapped = bar.wrap_read("ab".as_bytes())?;
-    let text = format!(in rt.alloc(); "{wrapped:?}")?;
+fn debug_texts(rt: HostRuntime) {
+    let board = recorded(rt, rt.alloc()).expect(&rt, "granted");
+    same!(rt; format!(in rt.alloc(); "{:?}", *board).expect(&rt, "granted").as_str(), "MultiProgress");
+    let bar = alone(rt, rt.alloc(), "{pos}").expect(&rt, "granted");
+    same!(rt; format!(in rt.alloc(); "{bar:?}").expect(&rt, "granted").as_str(), "ProgressBar");
+    let wrapped = bar.wrap_read("ab".as_bytes()).expect(&rt, "granted");
+    let text = format!(in rt.alloc(); "{wrapped:?}").expect(&rt, "granted");
     let beginning = "ProgressBarIter { it: [97, 98], progress: ProgressBar, ";
-    assert!(rt; text.as_str().starts_with(beginning));
-    Ok(())
+    holds!(rt; text.as_str().starts_with(beginning));
 }

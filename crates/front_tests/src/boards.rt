@@ -7,7 +7,6 @@ use indicatif::{
 };
 use std::alloc::Global;
 use std::sync::Wait;
-use std::test::Fail;
 use std::thread::{self, Threads, join};
 use std::time::{Clock, Duration};
 
@@ -31,18 +30,17 @@ fn logged<R: Wait + Copy + Clone + Drop>(board: &Shared<R>) -> (u64, u64) {
 }
 
 #[test]
-fn two_threads_log(rt: HostRuntime) -> Result<(), Fail> {
-    let board = recorded(rt, rt.alloc())?;
+fn two_threads_log(rt: HostRuntime) {
+    let board = recorded(rt, rt.alloc()).expect(&rt, "granted");
     let drawn = join(
         &rt,
         || log_fifty(&board, "mine"),
         || log_fifty(&board, "theirs"),
     );
-    assert_eq!(rt; drawn, (50, 50));
-    assert_eq!(rt; counted(&board, Kind::Any), 100);
-    assert_eq!(rt; logged(&board), (50, 50));
-    assert!(rt; is_one_run(&board, rt.alloc()));
-    Ok(())
+    same!(rt; drawn, (50, 50));
+    same!(rt; counted(&board, Kind::Any), 100);
+    same!(rt; logged(&board), (50, 50));
+    holds!(rt; is_one_run(&board, rt.alloc()));
 }
 
 // ---- a board in two threads
@@ -66,20 +64,20 @@ fn adds_and_logs<R: Wait + Copy + Clone + Drop>(
 /// One owner of a board goes into another thread, and both add bars and log: each adds a bar, draws it, logs fifty texts, finishes the
 /// bar and drops it.
 #[test]
-fn a_board_crosses_threads(rt: HostRuntime) -> Result<(), Fail> {
-    let board = recorded(rt, rt.alloc())?;
+fn a_board_crosses_threads(rt: HostRuntime) {
+    let board = recorded(rt, rt.alloc()).expect(&rt, "granted");
     crosses(&*board);
-    let other = board.clone()?;
+    let other = board.clone().expect(&rt, "granted");
     let child = thread::spawn(&rt, move || {
         adds_and_logs(&other, rt, rt.alloc(), "theirs").unwrap_or(0)
-    })?;
+    })
+    .expect(&rt, "granted");
     let mine = adds_and_logs(&board, rt, rt.alloc(), "mine").unwrap_or(0);
-    assert_eq!(rt; (mine, child.join(&rt)), (50, 50));
-    assert_eq!(rt; logged(&board), (50, 50));
+    same!(rt; (mine, child.join(&rt)), (50, 50));
+    same!(rt; logged(&board), (50, 50));
     let came_and_went = (counted(&board, Kind::Any), counted(&board, Kind::Gone));
-    assert_eq!(rt; came_and_went, (108, 2));
-    assert!(rt; is_one_run(&board, rt.alloc()));
-    Ok(())
+    same!(rt; came_and_went, (108, 2));
+    holds!(rt; is_one_run(&board, rt.alloc()));
 }
 
 // ---- a thousand calls
@@ -248,18 +246,17 @@ fn sum_of(one: (u64, u64), other: (u64, u64)) -> Option<u64> {
 
 /// A thousand calls from four threads, with bars that are taken out and come back: the bar that all have is taken out too.
 #[test]
-fn a_thousand_calls(rt: HostRuntime) -> Result<(), Fail> {
-    let on = stage_on(rt, rt.alloc())?;
+fn a_thousand_calls(rt: HostRuntime) {
+    let on = stage_on(rt, rt.alloc()).expect(&rt, "granted");
     let (one, other) = join(
         &rt,
         || play_two(&on, rt, rt.alloc(), (1, 2)),
         || play_two(&on, rt, rt.alloc(), (3, 4)),
     );
     let own = sum_of(one, other).unwrap_or(0);
-    assert!(rt; own >= 20 && counted(&on.board, Kind::Remove) > own);
-    assert!(rt; counted(&on.board, Kind::Any) >= 1000);
-    assert!(rt; is_one_run(&on.board, rt.alloc()));
-    Ok(())
+    holds!(rt; own >= 20 && counted(&on.board, Kind::Remove) > own);
+    holds!(rt; counted(&on.board, Kind::Any) >= 1000);
+    holds!(rt; is_one_run(&on.board, rt.alloc()));
 }
 
 // ---- a ticker
@@ -294,17 +291,18 @@ fn of_tickers<R: Wait + Copy + Clone + Drop>(board: &Shared<R>) -> (u64, u64, u6
 
 /// A board that is suspended beside a ticker draws again; the history has the ticker's ticks, and no more once it is told off.
 #[test]
-fn a_pause_beside_a_ticker(rt: HostRuntime) -> Result<(), Fail> {
-    let on = stage_on(rt, rt.alloc())?;
-    on.common.enable_steady_tick(1_000_000)?;
-    assert!(rt; ticks(&rt, &on.common));
-    assert!(rt; on.board.suspend(|| 7u8) == (7, Ok(Drawn::Yes)));
-    on.common.disable_steady_tick()?;
+fn a_pause_beside_a_ticker(rt: HostRuntime) {
+    let on = stage_on(rt, rt.alloc()).expect(&rt, "granted");
+    on.common
+        .enable_steady_tick(1_000_000)
+        .expect(&rt, "granted");
+    holds!(rt; ticks(&rt, &on.common));
+    same!(rt; on.board.suspend(|| 7u8), (7, Ok(Drawn::Yes)));
+    on.common.disable_steady_tick().expect(&rt, "granted");
     let ticked = on.common.ticks();
     waits(&rt);
-    assert_eq!(rt; of_tickers(&on.board), (ticked, 1, 1));
-    assert!(rt; is_one_run(&on.board, rt.alloc()));
-    Ok(())
+    same!(rt; of_tickers(&on.board), (ticked, 1, 1));
+    holds!(rt; is_one_run(&on.board, rt.alloc()));
 }
 
 // ---- moments
@@ -338,16 +336,13 @@ fn are_at(entries: &[Entry<NoTracker>], moments: &[u64]) -> bool {
 /// A board's own calls are made at the moments of its clock, and those of a bar at the moments of the bar's. Each goes on by 1 with each
 /// reading, of which three of the bar's were made before it is taken in.
 #[test]
-fn moments_of_two_clocks(rt: HostRuntime) -> Result<(), Fail> {
-    let board = recorded(rt, rt.alloc())?;
-    let bar = bar_on(&board, rt, rt.alloc(), "a")?;
-    assert!(rt; bar.tick().is_ok() && board.println("l").is_ok());
-    assert!(rt; bar.println("m").is_ok() && board.clear().is_ok());
+fn moments_of_two_clocks(rt: HostRuntime) {
+    let board = recorded(rt, rt.alloc()).expect(&rt, "granted");
+    let bar = bar_on(&board, rt, rt.alloc(), "a").expect(&rt, "granted");
+    holds!(rt; bar.tick().is_ok() && board.println("l").is_ok());
+    holds!(rt; bar.println("m").is_ok() && board.clear().is_ok());
     bar.release();
-    assert!(rt;
-        board.with_record(MadeAt {
+    holds!(rt; board.with_record(MadeAt {
             moments: &[0, 3, 1, 4, 2, 5]
-        })
-    );
-    Ok(())
+        }));
 }

@@ -10,7 +10,6 @@ use log::{Level, LevelFilter, Log, Logged, error, info, warn};
 use std::alloc::Global;
 use std::io::{self, ErrorKind, Write};
 use std::sync::Wait;
-use std::test::Fail;
 use std::thread::{Threads, join};
 
 type Bridge<R> = LogBridge<InMemoryTerm, StepClock, R>;
@@ -26,17 +25,16 @@ fn warn_twice<L: Log>(rt: &L) {
 
 /// A board shows its bar, and above it a warning and an error of two lines: one entry a record.
 #[test]
-fn records_stand_above_the_bars(rt: HostRuntime) -> Result<(), Fail> {
-    let board = recorded(rt, rt.alloc())?;
-    let bar = bar_on(&board, rt, rt.alloc(), "x")?;
-    bar.tick()?;
+fn records_stand_above_the_bars(rt: HostRuntime) {
+    let board = recorded(rt, rt.alloc()).expect(&rt, "granted");
+    let bar = bar_on(&board, rt, rt.alloc(), "x").expect(&rt, "granted");
+    bar.tick().expect(&rt, "granted");
     let before = counted(&board, Kind::Any);
-    warn_twice(&Logged::new(rt, Level::Trace, bridge_over(&board)?));
-    assert_eq!(rt; counted(&board, Kind::Any).wrapping_sub(before), 2);
-    assert_eq!(rt; counted(&board, Kind::Log("WARN  low disk")), 1);
-    assert_eq!(rt; counted(&board, Kind::Log("ERROR a\nb")), 1);
-    assert!(rt; is_one_run(&board, rt.alloc()));
-    Ok(())
+    warn_twice(&Logged::new(rt, Level::Trace, bridge_over(&board).expect(&rt, "granted")));
+    same!(rt; counted(&board, Kind::Any).wrapping_sub(before), 2);
+    same!(rt; counted(&board, Kind::Log("WARN  low disk")), 1);
+    same!(rt; counted(&board, Kind::Log("ERROR a\nb")), 1);
+    holds!(rt; is_one_run(&board, rt.alloc()));
 }
 
 // ---- two threads log, and two others tick
@@ -66,17 +64,16 @@ fn log_beside_ticks<R: Threads + Wait + Copy + Clone + Sync + Drop, L: Log + Syn
 }
 
 #[test]
-fn two_threads_log_through_a_bridge(rt: HostRuntime) -> Result<(), Fail> {
-    let board = recorded(rt, rt.alloc())?;
-    let one = bar_on(&board, rt, rt.alloc(), "one")?;
-    let other = bar_on(&board, rt, rt.alloc(), "other")?;
-    let log = Logged::new(rt, Level::Info, bridge_over(&board)?);
+fn two_threads_log_through_a_bridge(rt: HostRuntime) {
+    let board = recorded(rt, rt.alloc()).expect(&rt, "granted");
+    let one = bar_on(&board, rt, rt.alloc(), "one").expect(&rt, "granted");
+    let other = bar_on(&board, rt, rt.alloc(), "other").expect(&rt, "granted");
+    let log = Logged::new(rt, Level::Info, bridge_over(&board).expect(&rt, "granted"));
     log_beside_ticks(&rt, &log, (&one, &other));
-    assert_eq!(rt; counted(&board, Kind::Log("INFO  mine")), 20);
-    assert_eq!(rt; counted(&board, Kind::Log("INFO  theirs")), 20);
-    assert_eq!(rt; log.sink().missed(), 0);
-    assert!(rt; is_one_run(&board, rt.alloc()));
-    Ok(())
+    same!(rt; counted(&board, Kind::Log("INFO  mine")), 20);
+    same!(rt; counted(&board, Kind::Log("INFO  theirs")), 20);
+    same!(rt; log.sink().missed(), 0);
+    holds!(rt; is_one_run(&board, rt.alloc()));
 }
 
 // ---- filters, and forms of lines
@@ -89,25 +86,25 @@ fn log_each_level<L: Log>(rt: &L) {
 
 /// A filter lets warnings and errors through; a record that is dropped isn't missed.
 #[test]
-fn a_filter_drops_records(rt: HostRuntime) -> Result<(), Fail> {
-    let board = recorded(rt, rt.alloc())?;
-    let bridge = bridge_over(&board)?.with_filter(LevelFilter::Warn);
+fn a_filter_drops_records(rt: HostRuntime) {
+    let board = recorded(rt, rt.alloc()).expect(&rt, "granted");
+    let bridge = bridge_over(&board)
+        .expect(&rt, "granted")
+        .with_filter(LevelFilter::Warn);
     let log = Logged::new(rt, Level::Trace, bridge);
     log_each_level(&log);
-    assert_eq!(rt; counted(&board, Kind::Any), 2);
-    assert_eq!(rt; counted(&board, Kind::Log("WARN  w")), 1);
-    assert_eq!(rt; log.sink().missed(), 0);
-    Ok(())
+    same!(rt; counted(&board, Kind::Any), 2);
+    same!(rt; counted(&board, Kind::Log("WARN  w")), 1);
+    same!(rt; log.sink().missed(), 0);
 }
 
 /// The level may stand before each line of a text.
 #[test]
-fn a_level_stands_on_each_line(rt: HostRuntime) -> Result<(), Fail> {
-    let board = recorded(rt, rt.alloc())?;
-    let bridge = LogBridge::with_form((*board).clone()?, LevelOnEachLine);
+fn a_level_stands_on_each_line(rt: HostRuntime) {
+    let board = recorded(rt, rt.alloc()).expect(&rt, "granted");
+    let bridge = LogBridge::with_form((*board).clone().expect(&rt, "granted"), LevelOnEachLine);
     log_each_level(&Logged::new(rt, Level::Trace, bridge));
-    assert_eq!(rt; counted(&board, Kind::Log("ERROR e\nERROR f")), 1);
-    Ok(())
+    same!(rt; counted(&board, Kind::Log("ERROR e\nERROR f")), 1);
 }
 
 /// A line of a caller's own form: the text alone.
@@ -121,12 +118,11 @@ impl LineForm for TextAlone {
 }
 
 #[test]
-fn a_line_has_a_form_of_the_callers(rt: HostRuntime) -> Result<(), Fail> {
-    let board = recorded(rt, rt.alloc())?;
-    let bridge = LogBridge::with_form((*board).clone()?, TextAlone);
+fn a_line_has_a_form_of_the_callers(rt: HostRuntime) {
+    let board = recorded(rt, rt.alloc()).expect(&rt, "granted");
+    let bridge = LogBridge::with_form((*board).clone().expect(&rt, "granted"), TextAlone);
     log_each_level(&Logged::new(rt, Level::Trace, bridge));
-    assert_eq!(rt; counted(&board, Kind::Log("e\nf")), 1);
-    Ok(())
+    same!(rt; counted(&board, Kind::Log("e\nf")), 1);
 }
 
 // ---- a terminal that fails
@@ -176,16 +172,19 @@ fn contents(term: Option<&Term<Wire>>) -> Option<String> {
 
 /// The first record meets the failure and is counted; the next one stands on the row after.
 #[test]
-fn a_record_that_failed_is_missed(rt: HostRuntime) -> Result<(), Fail> {
-    let board = breaking_after(rt, rt.alloc(), 0)?;
-    let log = Logged::new(rt, Level::Trace, LogBridge::new((*board).clone()?));
+fn a_record_that_failed_is_missed(rt: HostRuntime) {
+    let board = breaking_after(rt, rt.alloc(), 0).expect(&rt, "granted");
+    let log = Logged::new(
+        rt,
+        Level::Trace,
+        LogBridge::new((*board).clone().expect(&rt, "granted")),
+    );
     warn!(log; "one");
-    assert_eq!(rt; log.sink().missed(), 1);
+    same!(rt; log.sink().missed(), 1);
     warn!(log; "two");
-    assert_eq!(rt; log.sink().missed(), 1);
+    same!(rt; log.sink().missed(), 1);
     let shown = board.with_term(|term| contents(term));
-    assert!(rt; shown.is_some_and(|text| text.as_str() == "\nWARN  two"));
-    Ok(())
+    holds!(rt; shown.is_some_and(|text| text.as_str() == "\nWARN  two"));
 }
 
 // ---- lines on a board of one's own
@@ -226,27 +225,25 @@ fn shows(board: &Own, wanted: &str) -> bool {
 }
 
 #[test]
-fn lines_stand_above_the_bar(rt: HostRuntime) -> Result<(), Fail> {
-    let mut board = showing_x(rt.alloc())?;
-    command(&mut board)?;
+fn lines_stand_above_the_bar(rt: HostRuntime) {
+    let mut board = showing_x(rt.alloc()).expect(&rt, "granted");
+    command(&mut board).expect(&rt, "granted");
     let warned = emit(rt.alloc(), &mut board, Level::Warn, "low disk", 0);
     let failed = emit(rt.alloc(), &mut board, Level::Error, "a\nb", 0);
-    assert_eq!(rt; (warned, failed), (Ok(Drawn::Yes), Ok(Drawn::Yes)));
-    assert!(rt; shows(&board, "WARN  low disk\nERROR a\nb\nx"));
-    Ok(())
+    same!(rt; (warned, failed), (Ok(Drawn::Yes), Ok(Drawn::Yes)));
+    holds!(rt; shows(&board, "WARN  low disk\nERROR a\nb\nx"));
 }
 
 /// On a hidden target a line is dropped: it doesn't show once there is a terminal.
 #[test]
-fn a_hidden_board_drops_lines(rt: HostRuntime) -> Result<(), Fail> {
+fn a_hidden_board_drops_lines(rt: HostRuntime) {
     let hidden: ProgressDrawTarget<InMemoryTerm> = ProgressDrawTarget::hidden();
-    let mut board: Box<Own> = Box::new(rt.alloc(), Board::new(rt.alloc(), hidden, 1))?;
-    assert_eq!(rt;
-        emit(rt.alloc(), &mut board, Level::Info, "i", 0),
-        Ok(Drawn::Hidden)
+    let mut board: Box<Own> = Box::new(rt.alloc(), Board::new(rt.alloc(), hidden, 1)).expect(
+        &rt, "granted",
     );
-    board.set_draw_target(target(rt.alloc())?);
-    board.redraw(0)?;
-    assert!(rt; shows(&board, ""));
-    Ok(())
+    same!(rt; emit(rt.alloc(), &mut board, Level::Info, "i", 0),
+        Ok(Drawn::Hidden));
+    board.set_draw_target(target(rt.alloc()).expect(&rt, "granted"));
+    board.redraw(0).expect(&rt, "granted");
+    holds!(rt; shows(&board, ""));
 }

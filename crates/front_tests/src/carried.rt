@@ -68,24 +68,22 @@ fn is_on_board<R: Wait + Copy + Clone + Drop>(board: &Shared<R>, wanted: &str) -
 
 /// The crate's test says that nothing stops; here the bar stands on the board then.
 #[test]
-fn late_pb_drop(rt: HostRuntime) -> Result<(), Fail> {
-    let board = board_on(rt, rt.alloc())?;
-    let bar = bar_on(&board, rt, rt.alloc())?;
-    assert!(rt; bar.tick().is_ok());
+fn late_pb_drop(rt: HostRuntime) {
+    let board = board_on(rt, rt.alloc()).expect(&rt, "granted");
+    let bar = bar_on(&board, rt, rt.alloc()).expect(&rt, "granted");
+    holds!(rt; bar.tick().is_ok());
     let row = "░░░░░░░░░░░░░░░░░░░░░░░░░░░░░░░░░░░░░░░░░░░░░░░░░░░░░░░░░░░░░░░░░░░░░░░░░░░ 0/10";
-    assert!(rt; is_on_board(&board, row));
-    Ok(())
+    holds!(rt; is_on_board(&board, row));
 }
 
 fn crosses<X: Send + Sync>(_value: &X) {}
 
 #[test]
-fn progress_bar_sync_send(rt: HostRuntime) -> Result<(), Fail> {
-    let bar = bar_of(rt, rt.alloc(), 1)?;
+fn progress_bar_sync_send(rt: HostRuntime) {
+    let bar = bar_of(rt, rt.alloc(), 1).expect(&rt, "granted");
     crosses(&bar);
-    let board = board_on(rt, rt.alloc())?;
+    let board = board_on(rt, rt.alloc()).expect(&rt, "granted");
     crosses(&board);
-    Ok(())
 }
 
 fn is_there<R: Wait + Copy + Clone + Drop>(
@@ -95,26 +93,26 @@ fn is_there<R: Wait + Copy + Clone + Drop>(
 }
 
 #[test]
-fn test_weak_pb(rt: HostRuntime) -> Result<(), Fail> {
-    let bar = bar_of(rt, rt.alloc(), 0)?;
-    let weak = Box::new(rt.alloc(), bar.downgrade()?)?;
-    assert!(rt; is_there(&weak));
+fn test_weak_pb(rt: HostRuntime) {
+    let bar = bar_of(rt, rt.alloc(), 0).expect(&rt, "granted");
+    let weak = Box::new(rt.alloc(), bar.downgrade().expect(&rt, "granted")).expect(&rt, "granted");
+    holds!(rt; is_there(&weak));
     drop(bar);
-    assert!(rt; !is_there(&weak));
-    Ok(())
+    holds!(rt; !is_there(&weak));
 }
 
 /// The target that the bar had of its own is given up.
 #[test]
-fn multi_progress_println_bar_with_target(rt: HostRuntime) -> Result<(), Fail> {
-    let board = board_on(rt, rt.alloc())?;
-    let bar = board.add(bar_of(rt, rt.alloc(), 10)?)?;
-    assert!(rt; is_on_board(&board, ""));
-    assert!(rt; bar.println("message printed :)").is_ok() && bar.inc(2).is_ok());
+fn multi_progress_println_bar_with_target(rt: HostRuntime) {
+    let board = board_on(rt, rt.alloc()).expect(&rt, "granted");
+    let bar = board
+        .add(bar_of(rt, rt.alloc(), 10).expect(&rt, "granted"))
+        .expect(&rt, "granted");
+    holds!(rt; is_on_board(&board, ""));
+    holds!(rt; bar.println("message printed :)").is_ok() && bar.inc(2).is_ok());
     let rows =
         "message printed :)\n███████████████░░░░░░░░░░░░░░░░░░░░░░░░░░░░░░░░░░░░░░░░░░░░░░░░░░░░░░░░░░░░ 2/10";
-    assert!(rt; is_on_board(&board, rows));
-    Ok(())
+    holds!(rt; is_on_board(&board, rows));
 }
 
 /// The greatest place, once these came behind what came before.
@@ -133,7 +131,7 @@ fn forgets_100(places: &mut MaxRingBuf<10>) -> bool {
 
 #[test]
 fn test_max_ring_buf(rt: HostRuntime) {
-    assert!(rt; forgets_100(&mut MaxRingBuf::new()));
+    holds!(rt; forgets_100(&mut MaxRingBuf::new()));
 }
 
 // ---- what a bar wraps
@@ -195,14 +193,13 @@ fn with_bar<R: Wait + Copy + Clone + Drop>(rt: R, alloc: Global) -> Result<Box<L
 }
 
 #[test]
-fn it_can_wrap_an_iterator(rt: HostRuntime) -> Result<(), Fail> {
+fn it_can_wrap_an_iterator(rt: HostRuntime) {
     let alloc = rt.alloc();
-    assert!(rt; doubles(alloc, with_progress(alloc))?);
-    assert!(rt; doubles(alloc, with_count(alloc))?);
-    assert!(rt; doubles(alloc, with_style(alloc))?);
-    let mut list = with_bar(rt, alloc)?;
-    assert!(rt; are_even(doubled(alloc, &mut list)));
-    Ok(())
+    holds!(rt; doubles(alloc, with_progress(alloc)).expect(&rt, "granted"));
+    holds!(rt; doubles(alloc, with_count(alloc)).expect(&rt, "granted"));
+    holds!(rt; doubles(alloc, with_style(alloc)).expect(&rt, "granted"));
+    let mut list = with_bar(rt, alloc).expect(&rt, "granted");
+    holds!(rt; are_even(doubled(alloc, &mut list)));
 }
 
 /// The items of a list, each doubled by one of several threads.
@@ -219,19 +216,24 @@ fn mapped<R: Threads + Sync, P: Moves>(
 }
 
 #[test]
-fn it_can_wrap_a_parallel_iterator(rt: HostRuntime) -> Result<(), Fail> {
+fn it_can_wrap_a_parallel_iterator(rt: HostRuntime) {
     let alloc = rt.alloc();
     let items = [1u32, 2, 3];
-    let counted = items.as_slice().progress_count(alloc, 3, setup(alloc)?)?;
-    assert!(rt; mapped(&rt, alloc, counted));
-    let lent = items.as_slice().progress_with(bar_of(rt, alloc, 3)?);
-    assert!(rt; mapped(&rt, alloc, lent));
-    let style = percents(alloc)?;
+    let counted = items
+        .as_slice()
+        .progress_count(alloc, 3, setup(alloc).expect(&rt, "granted"))
+        .expect(&rt, "granted");
+    holds!(rt; mapped(&rt, alloc, counted));
+    let lent = items
+        .as_slice()
+        .progress_with(bar_of(rt, alloc, 3).expect(&rt, "granted"));
+    holds!(rt; mapped(&rt, alloc, lent));
+    let style = percents(alloc).expect(&rt, "granted");
     let styled = items
         .as_slice()
-        .progress_with_style(alloc, style, setup(alloc)?)?;
-    assert!(rt; mapped(&rt, alloc, styled));
-    Ok(())
+        .progress_with_style(alloc, style, setup(alloc).expect(&rt, "granted"))
+        .expect(&rt, "granted");
+    holds!(rt; mapped(&rt, alloc, styled));
 }
 
 /// A text of 34 bytes.
@@ -246,10 +248,9 @@ fn reads_all<R: Wait + Copy + Clone + Drop>(alloc: Global, bar: &Bar<R>) -> Resu
 }
 
 #[test]
-fn it_can_wrap_a_reader(rt: HostRuntime) -> Result<(), Fail> {
-    let bar = bar_of(rt, rt.alloc(), 34)?;
-    assert!(rt; reads_all(rt.alloc(), &bar)?);
-    Ok(())
+fn it_can_wrap_a_reader(rt: HostRuntime) {
+    let bar = bar_of(rt, rt.alloc(), 34).expect(&rt, "granted");
+    holds!(rt; reads_all(rt.alloc(), &bar).expect(&rt, "granted"));
 }
 
 /// A text of 26 bytes.
@@ -264,8 +265,7 @@ fn written<R: Wait + Copy + Clone + Drop>(alloc: Global, bar: &Bar<R>) -> Result
 }
 
 #[test]
-fn it_can_wrap_a_writer(rt: HostRuntime) -> Result<(), Fail> {
-    let bar = bar_of(rt, rt.alloc(), 26)?;
-    assert!(rt; written(rt.alloc(), &bar)?.as_slice() == TEXT_READ.as_bytes());
-    Ok(())
+fn it_can_wrap_a_writer(rt: HostRuntime) {
+    let bar = bar_of(rt, rt.alloc(), 26).expect(&rt, "granted");
+    same!(rt; written(rt.alloc(), &bar).expect(&rt, "granted").as_slice(), TEXT_READ.as_bytes());
 }

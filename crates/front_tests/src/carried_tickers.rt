@@ -6,7 +6,6 @@ use indicatif::{
 use std::alloc::Global;
 use std::io::{self, Write};
 use std::sync::{Arc, Mutex, Wait};
-use std::test::Fail;
 use std::thread::Threads;
 use std::time::Duration;
 use std::{thread, time};
@@ -90,27 +89,25 @@ fn rests<R: Wait + time::Clock>(rt: &R, writes: &Mutex<u64>) -> bool {
 
 /// The crate waits for the thread's end; here it is told to end, and writes nothing any more.
 #[test]
-fn ticker_thread_terminates_on_drop(rt: HostRuntime) -> Result<(), Fail> {
-    let writes = no_writes(rt.alloc())?;
-    let bar = ticking(rt, rt.alloc(), &writes)?;
-    assert!(rt; ticks_on(&rt, &bar));
+fn ticker_thread_terminates_on_drop(rt: HostRuntime) {
+    let writes = no_writes(rt.alloc()).expect(&rt, "granted");
+    let bar = ticking(rt, rt.alloc(), &writes).expect(&rt, "granted");
+    holds!(rt; ticks_on(&rt, &bar));
     drop(bar);
-    assert!(rt; rests(&rt, &writes));
-    Ok(())
+    holds!(rt; rests(&rt, &writes));
 }
 
 /// It goes on while an owner is left.
 #[test]
-fn ticker_thread_terminates_on_drop_2(rt: HostRuntime) -> Result<(), Fail> {
-    let writes = no_writes(rt.alloc())?;
-    let bar = ticking(rt, rt.alloc(), &writes)?;
-    let other = bar.clone()?;
-    assert!(rt; ticks_on(&rt, &bar));
+fn ticker_thread_terminates_on_drop_2(rt: HostRuntime) {
+    let writes = no_writes(rt.alloc()).expect(&rt, "granted");
+    let bar = ticking(rt, rt.alloc(), &writes).expect(&rt, "granted");
+    let other = bar.clone().expect(&rt, "granted");
+    holds!(rt; ticks_on(&rt, &bar));
     drop(bar);
-    assert!(rt; ticks_on(&rt, &other));
+    holds!(rt; ticks_on(&rt, &other));
     drop(other);
-    assert!(rt; rests(&rt, &writes));
-    Ok(())
+    holds!(rt; rests(&rt, &writes));
 }
 
 // ---- spinners on a board
@@ -176,11 +173,10 @@ fn is_on_board<R: Wait + Copy + Clone + Drop>(board: &Shared<R>, wanted: &str) -
 }
 
 #[test]
-fn ticker_drop(rt: HostRuntime) -> Result<(), Fail> {
-    let board = board_on(rt, rt.alloc())?;
-    replaced(&board, rt, rt.alloc())?;
+fn ticker_drop(rt: HostRuntime) {
+    let board = board_on(rt, rt.alloc()).expect(&rt, "granted");
+    replaced(&board, rt, rt.alloc()).expect(&rt, "granted");
     let rows =
         "  doing stuff 0\n  doing stuff 1\n  doing stuff 2\n  doing stuff 3\n  doing stuff 4";
-    assert!(rt; is_on_board(&board, rows));
-    Ok(())
+    holds!(rt; is_on_board(&board, rows));
 }

@@ -72,8 +72,8 @@ fn expands(rt: &impl Abort, alloc: Global, template: &str, wanted: &str) -> Resu
 }
 
 #[test]
-fn test_expand_template(rt: HostRuntime) -> Result<(), Fail> {
-    expands(&rt, rt.alloc(), "{{ {foo} {bar} }}", "{ FOO BAR }")?;
+fn test_expand_template(rt: HostRuntime) {
+    expands(&rt, rt.alloc(), "{{ {foo} {bar} }}", "{ FOO BAR }").expect(&rt, "granted");
     let json = r#"{ "foo": "{foo}", "bar": {bar} }"#;
     expands(&rt, rt.alloc(), json, r#"{ "foo": "FOO", "bar": BAR }"#)
 }
@@ -91,7 +91,7 @@ fn expands_flags(
 }
 
 #[test]
-fn test_expand_template_flags(rt: HostRuntime) -> Result<(), Fail> {
+fn test_expand_template_flags(rt: HostRuntime) {
     let table: &[(&str, &str)] = &[
         ("{foo:5}", "XXX  "),
         ("{foo:.red.on_blue}", "\u{1b}[31m\u{1b}[44mXXX\u{1b}[0m"),
@@ -102,14 +102,13 @@ fn test_expand_template_flags(rt: HostRuntime) -> Result<(), Fail> {
         ),
     ];
     for (template, wanted) in table {
-        expands_flags(&rt, rt.alloc(), (*template, true), *wanted)?;
+        expands_flags(&rt, rt.alloc(), (*template, true), *wanted).expect(&rt, "granted");
     }
-    Ok(())
 }
 
 /// The crate tells two streams' colours apart; here a style is told whether it has colours.
 #[test]
-fn test_stderr_colors(rt: HostRuntime) -> Result<(), Fail> {
+fn test_stderr_colors(rt: HostRuntime) {
     expands_flags(&rt, rt.alloc(), ("{foo:.red.on_blue}", false), "XXX")
 }
 
@@ -170,13 +169,12 @@ fn tracked(alloc: Global) -> Result<Box<BarState<TestTracker>>, Refusal> {
 }
 
 #[test]
-fn test_stateful_tracker(rt: HostRuntime) -> Result<(), Fail> {
-    let mut bar = tracked(rt.alloc())?;
-    assert!(rt; is_line(&bar, "{  }")?);
+fn test_stateful_tracker(rt: HostRuntime) {
+    let mut bar = tracked(rt.alloc()).expect(&rt, "granted");
+    holds!(rt; is_line(&bar, "{  }").expect(&rt, "granted"));
     bar.inc(1, 0);
-    assert!(rt; is_line(&bar, "{ 1 1 }")?);
+    holds!(rt; is_line(&bar, "{ 1 1 }").expect(&rt, "granted"));
     bar.reset(0);
-    assert!(rt; is_line(&bar, "{  }")?);
+    holds!(rt; is_line(&bar, "{  }").expect(&rt, "granted"));
     bar.finish_and_clear(0);
-    Ok(())
 }

@@ -2,7 +2,6 @@
 use crate::fronts::{Bar, alone, bar_on, recorded};
 use indicatif::{Change, ProgressState, Refusal};
 use std::sync::Wait;
-use std::test::Fail;
 use std::thread::{Threads, join};
 
 // ---- updates
@@ -36,11 +35,10 @@ fn updated_by_two<R: Wait + Threads + Sync + Copy + Clone + Drop>(
 
 /// Two threads update a bar that stands alone, and one on a board: no update is lost.
 #[test]
-fn updates_of_two_threads(rt: HostRuntime) -> Result<(), Fail> {
-    let bar = alone(rt, rt.alloc(), "{pos}")?;
-    assert_eq!(rt; updated_by_two(&rt, &bar)?, 2000);
-    let board = recorded(rt, rt.alloc())?;
-    let bar = bar_on(&board, rt, rt.alloc(), "a")?;
-    assert_eq!(rt; updated_by_two(&rt, &bar)?, 2000);
-    Ok(())
+fn updates_of_two_threads(rt: HostRuntime) {
+    let bar = alone(rt, rt.alloc(), "{pos}").expect(&rt, "granted");
+    same!(rt; updated_by_two(&rt, &bar).expect(&rt, "granted"), 2000);
+    let board = recorded(rt, rt.alloc()).expect(&rt, "granted");
+    let bar = bar_on(&board, rt, rt.alloc(), "a").expect(&rt, "granted");
+    same!(rt; updated_by_two(&rt, &bar).expect(&rt, "granted"), 2000);
 }

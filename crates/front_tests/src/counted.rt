@@ -8,7 +8,6 @@ use indicatif::{
 };
 use std::alloc::Global;
 use std::sync::Wait;
-use std::test::Fail;
 use std::thread::join;
 
 type Bar<R> = ProgressBar<InMemoryTerm, StepClock, R>;
@@ -23,18 +22,17 @@ fn bar_at<R: Wait + Clone + Drop>(rt: R, alloc: Global, position: u64) -> Result
 }
 
 #[test]
-fn a_bar_absorbs_past_2_to_the_64(rt: HostRuntime) -> Result<(), Fail> {
-    let bar = bar_at(rt, rt.alloc(), u64::MAX - 1)?;
-    let (done, worker) = bar.worker()?;
-    let (mut first, mut second) = worker.split(&done)?;
+fn a_bar_absorbs_past_2_to_the_64(rt: HostRuntime) {
+    let bar = bar_at(rt, rt.alloc(), u64::MAX - 1).expect(&rt, "granted");
+    let (done, worker) = bar.worker().expect(&rt, "granted");
+    let (mut first, mut second) = worker.split(&done).expect(&rt, "granted");
     first.add(&done, 1);
     second.add(&done, 2);
-    assert_eq!(rt; bar.position(), u64::MAX - 1);
+    same!(rt; bar.position(), u64::MAX - 1);
     let whole = first.join(second, &done);
-    assert!(rt; bar.absorb(done, whole).is_ok());
-    assert_eq!(rt; bar.position(), 1);
-    assert!(rt; !bar.is_finished());
-    Ok(())
+    holds!(rt; bar.absorb(done, whole).is_ok());
+    same!(rt; bar.position(), 1);
+    holds!(rt; !bar.is_finished());
 }
 
 /// What stands on its terminal.
@@ -47,17 +45,19 @@ fn contents<R: Wait + Clone + Drop>(bar: &Bar<R>) -> Option<String> {
 
 /// A total is no sum that ends: its worker goes on. The bar shows what was added once it has absorbed it.
 #[test]
-fn what_was_added_is_drawn(rt: HostRuntime) -> Result<(), Fail> {
-    let style = ProgressStyle::with_template(rt.alloc(), "{pos} done")?;
-    let bar = bar_at(rt, rt.alloc(), 0)?.with_style(style)?;
-    let (done, mut worker) = bar.worker()?;
+fn what_was_added_is_drawn(rt: HostRuntime) {
+    let style = ProgressStyle::with_template(rt.alloc(), "{pos} done").expect(&rt, "granted");
+    let bar = bar_at(rt, rt.alloc(), 0)
+        .expect(&rt, "granted")
+        .with_style(style)
+        .expect(&rt, "granted");
+    let (done, mut worker) = bar.worker().expect(&rt, "granted");
     worker.add(&done, 40);
-    assert_eq!(rt; worker.total(&done), 40);
+    same!(rt; worker.total(&done), 40);
     worker.add(&done, 2);
-    assert!(rt; bar.absorb(done, worker).is_ok());
-    assert!(rt; bar.force_draw().is_ok());
-    assert!(rt; contents(&bar).is_some_and(|text| text.as_str() == "42 done"));
-    Ok(())
+    holds!(rt; bar.absorb(done, worker).is_ok());
+    holds!(rt; bar.force_draw().is_ok());
+    holds!(rt; contents(&bar).is_some_and(|text| text.as_str() == "42 done"));
 }
 
 /// Adds 1 a thousand times.
@@ -73,48 +73,50 @@ fn a_thousand_times(done: &Done, mut worker: BarWorker) -> BarWorker
 }
 
 #[test]
-fn two_threads_count_for_a_bar(rt: HostRuntime) -> Result<(), Fail> {
-    let bar = bar_at(rt, rt.alloc(), 5)?;
-    let (done, worker) = bar.worker()?;
-    let (mine, theirs) = worker.split(&done)?;
+fn two_threads_count_for_a_bar(rt: HostRuntime) {
+    let bar = bar_at(rt, rt.alloc(), 5).expect(&rt, "granted");
+    let (done, worker) = bar.worker().expect(&rt, "granted");
+    let (mine, theirs) = worker.split(&done).expect(&rt, "granted");
     let (mine, theirs) = join(
         &rt,
         || a_thousand_times(&done, mine),
         || a_thousand_times(&done, theirs),
     );
     let whole = mine.join(theirs, &done);
-    assert!(rt; bar.absorb(done, whole).is_ok());
-    assert_eq!(rt; bar.position(), 2005);
-    Ok(())
+    holds!(rt; bar.absorb(done, whole).is_ok());
+    same!(rt; bar.position(), 2005);
 }
 
 #[test]
-fn pieces_over_a_shared_bar(rt: HostRuntime) -> Result<(), Fail> {
+fn pieces_over_a_shared_bar(rt: HostRuntime) {
     let alloc = rt.alloc();
     let pieces = vec![in alloc;
-        vec![in alloc; 1u32, 2]?,
-        vec![in alloc; 3u32]?,
+        vec![in alloc; 1u32, 2].expect(&rt, "granted"),
+        vec![in alloc; 3u32].expect(&rt, "granted"),
         Vec::new(alloc),
-    ]?;
-    let bar = bar_at(rt, alloc, 0)?;
+    ]
+    .expect(&rt, "granted");
+    let bar = bar_at(rt, alloc, 0).expect(&rt, "granted");
     let double = |x: &u32| x.wrapping_mul(2);
-    let made = run_workers(&rt, alloc, pieces.as_slice(), double, &Open, &bar)?;
-    assert!(rt; made[0].as_slice() == [2, 4].as_slice());
-    assert!(rt; made[1].as_slice() == [6].as_slice());
-    assert!(rt; made[2].is_empty());
-    assert_eq!(rt; bar.position(), 3);
-    Ok(())
+    let made = run_workers(&rt, alloc, pieces.as_slice(), double, &Open, &bar).expect(
+        &rt, "granted",
+    );
+    same!(rt; made[0].as_slice(), [2, 4].as_slice());
+    same!(rt; made[1].as_slice(), [6].as_slice());
+    holds!(rt; made[2].is_empty());
+    same!(rt; bar.position(), 3);
 }
 
 #[test]
-fn a_list_over_a_shared_bar(rt: HostRuntime) -> Result<(), Fail> {
-    let bar = bar_at(rt, rt.alloc(), 0)?;
+fn a_list_over_a_shared_bar(rt: HostRuntime) {
+    let bar = bar_at(rt, rt.alloc(), 0).expect(&rt, "granted");
     let items = [1u32, 2, 3];
-    let list = items.as_slice().progress_with(bar.clone()?);
+    let list = items
+        .as_slice()
+        .progress_with(bar.clone().expect(&rt, "granted"));
     let (made, other) = list.map_collect(&rt, rt.alloc(), |x: &u32| x.wrapping_mul(2));
-    assert!(rt; made?.as_slice() == [2, 4, 6].as_slice());
+    same!(rt; made.expect(&rt, "granted").as_slice(), [2, 4, 6].as_slice());
     other.release();
-    assert_eq!(rt; bar.position(), 3);
-    assert!(rt; !bar.is_finished());
-    Ok(())
+    same!(rt; bar.position(), 3);
+    holds!(rt; !bar.is_finished());
 }

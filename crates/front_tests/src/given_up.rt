@@ -4,7 +4,6 @@ use crate::ticking::{tick_off, ticks_on};
 use indicatif::{InMemoryTerm, ProgressBar, ProgressDrawTarget, Refusal, Setup, StepClock};
 use std::alloc::Global;
 use std::sync::Wait;
-use std::test::Fail;
 use std::thread::Threads;
 use std::time::Duration;
 use std::{thread, time};
@@ -49,19 +48,18 @@ fn comes_to<R: time::Clock>(rt: &R, count: &Count, left: u64) -> bool {
 /// The thread of a ticker of an hour gives its runtime up long before the hour is over: where the ticker is told off, where another
 /// takes its place, and where the bar's last owner is gone.
 #[test]
-fn threads_of_tickers_end(rt: HostRuntime) -> Result<(), Fail> {
-    let (lent, count) = first(rt, rt.alloc())?;
-    let bar = bar_by(lent, rt.alloc())?;
-    assert!(rt; waits_for_an_hour(&rt, &bar)?);
-    assert_eq!(rt; count.living(), 2);
-    tick_off(&bar)?;
-    assert!(rt; comes_to(&rt, &count, 1));
-    assert!(rt; waits_for_an_hour(&rt, &bar)?);
-    assert!(rt; waits_for_an_hour(&rt, &bar)?);
-    assert!(rt; comes_to(&rt, &count, 2));
+fn threads_of_tickers_end(rt: HostRuntime) {
+    let (lent, count) = first(rt, rt.alloc()).expect(&rt, "granted");
+    let bar = bar_by(lent, rt.alloc()).expect(&rt, "granted");
+    holds!(rt; waits_for_an_hour(&rt, &bar).expect(&rt, "granted"));
+    same!(rt; count.living(), 2);
+    tick_off(&bar).expect(&rt, "granted");
+    holds!(rt; comes_to(&rt, &count, 1));
+    holds!(rt; waits_for_an_hour(&rt, &bar).expect(&rt, "granted"));
+    holds!(rt; waits_for_an_hour(&rt, &bar).expect(&rt, "granted"));
+    holds!(rt; comes_to(&rt, &count, 2));
     drop(bar);
-    assert!(rt; comes_to(&rt, &count, 0));
-    Ok(())
+    holds!(rt; comes_to(&rt, &count, 0));
 }
 
 // ---- another owner
@@ -69,19 +67,18 @@ fn threads_of_tickers_end(rt: HostRuntime) -> Result<(), Fail> {
 /// Where there is no memory for another owner, a weak bar says so, which isn't that no owner is left; so does a bar that is to be cloned.
 /// Nothing has changed then: the owner that is left is the last.
 #[test]
-fn no_memory_for_another_owner(rt: HostRuntime) -> Result<(), Fail> {
-    let (lent, count) = first(rt, rt.alloc())?;
-    let bar = bar_by(lent, rt.alloc())?;
-    let weak = bar.downgrade()?;
+fn no_memory_for_another_owner(rt: HostRuntime) {
+    let (lent, count) = first(rt, rt.alloc()).expect(&rt, "granted");
+    let bar = bar_by(lent, rt.alloc()).expect(&rt, "granted");
+    let weak = bar.downgrade().expect(&rt, "granted");
     count.refuse(true);
-    assert!(rt; weak.upgrade().is_err());
-    assert!(rt; bar.clone().is_err());
-    assert!(rt; bar.downgrade().is_err());
+    holds!(rt; weak.upgrade().is_err());
+    holds!(rt; bar.clone().is_err());
+    holds!(rt; bar.downgrade().is_err());
     count.refuse(false);
-    assert!(rt; weak.upgrade()?.is_some());
+    holds!(rt; weak.upgrade().expect(&rt, "granted").is_some());
     bar.release();
-    assert!(rt; weak.upgrade()?.is_none());
+    holds!(rt; weak.upgrade().expect(&rt, "granted").is_none());
     drop(weak);
-    assert_eq!(rt; count.living(), 0);
-    Ok(())
+    same!(rt; count.living(), 0);
 }

@@ -3,7 +3,6 @@ use crate::fronts::{Bar, alone};
 use indicatif::machine::MachineClock;
 use indicatif::{Clock, Moment};
 use std::sync::Wait;
-use std::test::Fail;
 use std::thread;
 use std::time::{self, Duration};
 
@@ -43,12 +42,11 @@ fn pace_of<R: Wait + time::Clock + Copy + Clone + Drop>(
 }
 
 #[test]
-fn a_ticker_keeps_its_interval(rt: HostRuntime) -> Result<(), Fail> {
-    let bar = alone(rt, rt.alloc(), "{pos}")?;
+fn a_ticker_keeps_its_interval(rt: HostRuntime) {
+    let bar = alone(rt, rt.alloc(), "{pos}").expect(&rt, "granted");
     let opened = MachineClock::new(rt).now();
-    bar.enable_steady_tick(INTERVAL)?;
+    bar.enable_steady_tick(INTERVAL).expect(&rt, "granted");
     let pace = pace_of(&rt, &bar, opened);
-    bar.disable_steady_tick()?;
-    assert_eq!(rt; pace, Pace::Fair);
-    Ok(())
+    bar.disable_steady_tick().expect(&rt, "granted");
+    same!(rt; pace, Pace::Fair);
 }

@@ -11,7 +11,6 @@ use indicatif::{
 };
 use std::alloc::Global;
 use std::sync::Wait;
-use std::test::Fail;
 use std::thread;
 
 /// Tells how many steps of so many are left.
@@ -75,36 +74,37 @@ fn contents(term: Option<&InMemoryTerm>) -> Option<String> {
 
 /// It follows the position, whoever owns the bar, and stays at 0 past the end.
 #[test]
-fn what_is_left(rt: HostRuntime) -> Result<(), Fail> {
-    let bar = files(rt, rt.alloc())?;
-    let other = bar.clone()?;
+fn what_is_left(rt: HostRuntime) {
+    let bar = files(rt, rt.alloc()).expect(&rt, "granted");
+    let other = bar.clone().expect(&rt, "granted");
     for (position, wanted) in [(0, "files 10"), (3, "files 7"), (12, "files 0")] {
-        other.set_position(position)?;
+        other.set_position(position).expect(&rt, "granted");
         assert!(rt; shows(&bar, wanted), "at {position}");
     }
-    Ok(())
 }
 
 /// Another thread moves the bar, and then the key with it.
 #[test]
-fn in_another_thread(rt: HostRuntime) -> Result<(), Fail> {
-    let bar = files(rt, rt.alloc())?;
-    let other = bar.clone()?;
-    let moved = thread::spawn(&rt, move || other.inc(4))?;
-    assert!(rt; moved.join(&rt).is_ok());
-    assert!(rt; shows(&bar, "files 6"));
-    Ok(())
+fn in_another_thread(rt: HostRuntime) {
+    let bar = files(rt, rt.alloc()).expect(&rt, "granted");
+    let other = bar.clone().expect(&rt, "granted");
+    let moved = thread::spawn(&rt, move || other.inc(4)).expect(&rt, "granted");
+    holds!(rt; moved.join(&rt).is_ok());
+    holds!(rt; shows(&bar, "files 6"));
 }
 
 /// A style that is told later, and one that was read of the bar, have the key too.
 #[test]
-fn another_style(rt: HostRuntime) -> Result<(), Fail> {
-    let bar = files(rt, rt.alloc())?;
-    let told = bar.style()?.template("{left} of 10")?;
-    bar.set_style(told)?;
-    bar.set_position(1)?;
-    assert!(rt; shows(&bar, "9 of 10"));
-    Ok(())
+fn another_style(rt: HostRuntime) {
+    let bar = files(rt, rt.alloc()).expect(&rt, "granted");
+    let told = bar
+        .style()
+        .expect(&rt, "granted")
+        .template("{left} of 10")
+        .expect(&rt, "granted");
+    bar.set_style(told).expect(&rt, "granted");
+    bar.set_position(1).expect(&rt, "granted");
+    holds!(rt; shows(&bar, "9 of 10"));
 }
 
 /// The second of a board's two bars has moved by 2.
@@ -124,10 +124,9 @@ fn two_on_a_board<R: Wait + Copy + Clone + Drop>(
 }
 
 #[test]
-fn on_a_board(rt: HostRuntime) -> Result<(), Fail> {
-    let shown = two_on_a_board(rt, rt.alloc())?;
-    assert!(rt; shown.is_some_and(|text| text.as_str() == "a 10\nfiles 8"));
-    Ok(())
+fn on_a_board(rt: HostRuntime) {
+    let shown = two_on_a_board(rt, rt.alloc()).expect(&rt, "granted");
+    holds!(rt; shown.is_some_and(|text| text.as_str() == "a 10\nfiles 8"));
 }
 
 /// A loop over three items, with a bar of its own in that style.
@@ -143,8 +142,7 @@ fn looped(alloc: Global) -> Result<Option<String>, Refusal> {
 }
 
 #[test]
-fn in_a_loop(rt: HostRuntime) -> Result<(), Fail> {
-    let shown = looped(rt.alloc())?;
-    assert!(rt; shown.is_some_and(|text| text.as_str() == " 8"));
-    Ok(())
+fn in_a_loop(rt: HostRuntime) {
+    let shown = looped(rt.alloc()).expect(&rt, "granted");
+    holds!(rt; shown.is_some_and(|text| text.as_str() == " 8"));
 }

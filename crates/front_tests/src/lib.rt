@@ -18,6 +18,22 @@
 //!   of `stepped`, and `gates`.
 #![tactic(auto)]
 
+/// Whether a value is the one that is wanted.
+#[cfg(test)]
+macro_rules! same {
+    ($rt:expr; $got:expr, $wanted:expr $(,)?) => {
+        $crate::checks::are_same(&$rt, stringify!($got), $got, $wanted)
+    };
+}
+
+/// Whether this holds.
+#[cfg(test)]
+macro_rules! holds {
+    ($rt:expr; $holds:expr $(,)?) => {
+        $crate::checks::is_so(&$rt, stringify!($holds), $holds)
+    };
+}
+
 #[cfg(test)]
 mod bars;
 #[cfg(test)]
@@ -30,6 +46,8 @@ mod carried;
 mod carried_tickers;
 #[cfg(test)]
 mod carried_trackers;
+#[cfg(test)]
+mod checks;
 #[cfg(test)]
 mod closures;
 #[cfg(test)]

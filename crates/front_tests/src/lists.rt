@@ -7,7 +7,6 @@ use indicatif::{
 use std::alloc::{AllocError, Global};
 use std::sync::Wait;
 use std::sync::atomic::{AtomicU64, Ordering};
-use std::test::Fail;
 use std::thread::{Threads, available_parallelism};
 
 /// The numbers below `count`.
@@ -20,30 +19,28 @@ fn numbers(alloc: Global, count: u32) -> Result<Vec<u32>, AllocError> {
 }
 
 #[test]
-fn ten_thousand_items_are_three_blocks(rt: HostRuntime) -> Result<(), Fail> {
-    let items = numbers(rt.alloc(), 10_000)?;
+fn ten_thousand_items_are_three_blocks(rt: HostRuntime) {
+    let items = numbers(rt.alloc(), 10_000).expect(&rt, "granted");
     let list = items.as_slice().progress_with(bar_at(rt.alloc(), 0));
     let (made, bar) = list.map_collect(&rt, rt.alloc(), |x: &u32| x.wrapping_mul(2));
-    let made = made?;
-    assert_eq!(rt; made.len(), 10_000);
+    let made = made.expect(&rt, "granted");
+    same!(rt; made.len(), 10_000);
     for (k, x) in made.iter().enumerate() {
-        assert_eq!(rt; *x as usize, k.wrapping_mul(2));
+        same!(rt; *x as usize, k.wrapping_mul(2));
     }
-    assert!(rt; bar.steps.as_slice() == [4096, 4096, 1808].as_slice());
-    assert_eq!(rt; bar.position, 10_000);
-    assert!(rt; !bar.finished);
-    Ok(())
+    same!(rt; bar.steps.as_slice(), [4096, 4096, 1808].as_slice());
+    same!(rt; bar.position, 10_000);
+    holds!(rt; !bar.finished);
 }
 
 /// A list that is no longer than a block moves its bar by a tenth at a time: of 2,000 items by 200.
 #[test]
-fn a_shorter_list_moves_by_tenths(rt: HostRuntime) -> Result<(), Fail> {
-    let items = numbers(rt.alloc(), 2000)?;
+fn a_shorter_list_moves_by_tenths(rt: HostRuntime) {
+    let items = numbers(rt.alloc(), 2000).expect(&rt, "granted");
     let list = items.as_slice().progress_with(bar_at(rt.alloc(), 0));
     let (made, bar) = list.map_collect(&rt, rt.alloc(), |x: &u32| *x);
-    assert!(rt; made? == items);
-    assert!(rt; bar.steps.as_slice() == [200; 10].as_slice());
-    Ok(())
+    same!(rt; made.expect(&rt, "granted"), items);
+    same!(rt; bar.steps.as_slice(), [200; 10].as_slice());
 }
 
 /// How often an item looks whether the other one has begun.
@@ -64,15 +61,14 @@ fn meets(begun: &[AtomicU64; 2], item: usize) -> bool {
 /// Two items are worked on at the same time: each sees that the other has begun. (Where there is one processor alone, or nobody tells
 /// how many, they are worked on one after another.)
 #[test]
-fn pieces_of_a_list_run_at_the_same_time(rt: HostRuntime) -> Result<(), Fail> {
+fn pieces_of_a_list_run_at_the_same_time(rt: HostRuntime) {
     let begun = [AtomicU64::new(0), AtomicU64::new(0)];
     let items = [0usize, 1];
     let list = items.as_slice().progress_with(bar_at(rt.alloc(), 0));
     let (made, bar) = list.map_collect(&rt, rt.alloc(), |item: &usize| meets(&begun, *item));
-    let both = made?.as_slice() == [true, true].as_slice();
-    assert!(rt; both || !has_processors(&rt));
-    assert!(rt; bar.steps.as_slice() == [2].as_slice() || !has_processors(&rt));
-    Ok(())
+    let both = made.expect(&rt, "granted").as_slice() == [true, true].as_slice();
+    holds!(rt; both || !has_processors(&rt));
+    holds!(rt; bar.steps.as_slice() == [2].as_slice() || !has_processors(&rt));
 }
 
 /// Whether the machine tells that it has more than one processor.
@@ -84,59 +80,55 @@ fn has_processors<R: Threads>(rt: &R) -> bool {
 }
 
 #[test]
-fn no_item_advances_nothing(rt: HostRuntime) -> Result<(), Fail> {
-    let none = numbers(rt.alloc(), 0)?;
+fn no_item_advances_nothing(rt: HostRuntime) {
+    let none = numbers(rt.alloc(), 0).expect(&rt, "granted");
     let list = none.as_slice().progress_with(bar_at(rt.alloc(), 7));
     let (made, bar) = list.map_collect(&rt, rt.alloc(), |x: &u32| x.wrapping_mul(2));
-    assert!(rt; made?.is_empty());
-    assert!(rt; bar.steps.is_empty());
-    assert_eq!(rt; bar.position, 7);
+    holds!(rt; made.expect(&rt, "granted").is_empty());
+    holds!(rt; bar.steps.is_empty());
+    same!(rt; bar.position, 7);
     let (answer, bar) = none
         .as_slice()
         .progress_with(bar)
         .for_each(&rt, |_x: &u32| ());
-    assert_eq!(rt; answer, Ok(()));
-    assert!(rt; bar.steps.is_empty());
-    Ok(())
+    same!(rt; answer, Ok(()));
+    holds!(rt; bar.steps.is_empty());
 }
 
 #[test]
-fn one_item_is_a_block(rt: HostRuntime) -> Result<(), Fail> {
+fn one_item_is_a_block(rt: HostRuntime) {
     let one = [21u32];
     let list = one.as_slice().progress_with(bar_at(rt.alloc(), 0));
     let (made, bar) = list.map_collect(&rt, rt.alloc(), |x: &u32| x.wrapping_mul(2));
-    assert!(rt; made?.as_slice() == [42].as_slice());
-    assert!(rt; bar.steps.as_slice() == [1].as_slice());
-    Ok(())
+    same!(rt; made.expect(&rt, "granted").as_slice(), [42].as_slice());
+    same!(rt; bar.steps.as_slice(), [1].as_slice());
 }
 
 #[test]
-fn a_whole_block_and_one_item_more(rt: HostRuntime) -> Result<(), Fail> {
-    let items = numbers(rt.alloc(), 4097)?;
+fn a_whole_block_and_one_item_more(rt: HostRuntime) {
+    let items = numbers(rt.alloc(), 4097).expect(&rt, "granted");
     let list = items.as_slice().progress_with(bar_at(rt.alloc(), 0));
     let (made, bar) = list.map_collect(&rt, rt.alloc(), |x: &u32| *x);
-    assert!(rt; made? == items);
-    assert!(rt; bar.steps.as_slice() == [4096, 1].as_slice());
-    Ok(())
+    same!(rt; made.expect(&rt, "granted"), items);
+    same!(rt; bar.steps.as_slice(), [4096, 1].as_slice());
 }
 
 /// A million items: 244 whole blocks, which are 999,424 items, and one of 576.
 #[test]
-fn a_million_items(rt: HostRuntime) -> Result<(), Fail> {
-    let items = numbers(rt.alloc(), 1_000_000)?;
+fn a_million_items(rt: HostRuntime) {
+    let items = numbers(rt.alloc(), 1_000_000).expect(&rt, "granted");
     let list = items.as_slice().progress_with(bar_at(rt.alloc(), 0));
     let (made, bar) = list.map_collect(&rt, rt.alloc(), |x: &u32| x.wrapping_mul(2));
-    let made = made?;
-    assert_eq!(rt; made.len(), 1_000_000);
+    let made = made.expect(&rt, "granted");
+    same!(rt; made.len(), 1_000_000);
     for (k, x) in made.iter().enumerate() {
-        assert_eq!(rt; *x as usize, k.wrapping_mul(2));
+        same!(rt; *x as usize, k.wrapping_mul(2));
     }
-    assert_eq!(rt; bar.steps.len(), 245);
-    assert_eq!(rt; bar.steps[0], 4096);
-    assert_eq!(rt; bar.steps[243], 4096);
-    assert_eq!(rt; bar.steps[244], 576);
-    assert_eq!(rt; bar.position, 1_000_000);
-    Ok(())
+    same!(rt; bar.steps.len(), 245);
+    same!(rt; bar.steps[0], 4096);
+    same!(rt; bar.steps[243], 4096);
+    same!(rt; bar.steps[244], 576);
+    same!(rt; bar.position, 1_000_000);
 }
 
 /// So many counts of 0.
@@ -159,16 +151,15 @@ fn are_met_once(counts: &[AtomicU64]) -> bool {
 }
 
 #[test]
-fn each_item_is_met_once(rt: HostRuntime) -> Result<(), Fail> {
-    let met = counts(rt.alloc(), 10_000)?;
+fn each_item_is_met_once(rt: HostRuntime) {
+    let met = counts(rt.alloc(), 10_000).expect(&rt, "granted");
     let list = met.as_slice().progress_with(bar_at(rt.alloc(), 0));
     let (answer, bar) = list.for_each(&rt, |times: &AtomicU64| {
         times.fetch_add(1, Ordering::SeqCst);
     });
-    assert_eq!(rt; answer, Ok(()));
-    assert!(rt; bar.steps.as_slice() == [4096, 4096, 1808].as_slice());
-    assert!(rt; are_met_once(met.as_slice()));
-    Ok(())
+    same!(rt; answer, Ok(()));
+    same!(rt; bar.steps.as_slice(), [4096, 4096, 1808].as_slice());
+    holds!(rt; are_met_once(met.as_slice()));
 }
 
 /// A bar that may stop within a block, and tells the threads where it stands.
@@ -222,8 +213,8 @@ fn stood_at(steps: &[u64], places: &[u64]) -> bool {
 
 /// Smaller steps add up, and each block's end is one of them.
 #[test]
-fn a_bar_that_stops_within_blocks_stops_behind_each(rt: HostRuntime) -> Result<(), Fail> {
-    let items = numbers(rt.alloc(), 10_000)?;
+fn a_bar_that_stops_within_blocks_stops_behind_each(rt: HostRuntime) {
+    let items = numbers(rt.alloc(), 10_000).expect(&rt, "granted");
     let place = AtomicU64::new(0);
     let bar = Telling {
         place: &place,
@@ -231,10 +222,9 @@ fn a_bar_that_stops_within_blocks_stops_behind_each(rt: HostRuntime) -> Result<(
     };
     let list = items.as_slice().progress_with(bar);
     let (made, bar) = list.map_collect(&rt, rt.alloc(), |x: &u32| *x);
-    assert!(rt; made? == items);
-    assert!(rt; stood_at(bar.steps.as_slice(), &[4096, 8192, 10_000]));
-    assert!(rt; bar.steps.len() > 3);
-    Ok(())
+    same!(rt; made.expect(&rt, "granted"), items);
+    holds!(rt; stood_at(bar.steps.as_slice(), &[4096, 8192, 10_000]));
+    holds!(rt; bar.steps.len() > 3);
 }
 
 /// How often an item of this list looks whether the bar has moved.
@@ -252,7 +242,7 @@ fn sees_a_move(place: &AtomicU64) -> bool {
 
 /// Forty items that look whether the bar has moved. One of them sees it: the bar moves while others are worked on.
 #[test]
-fn a_bar_moves_while_threads_work(rt: HostRuntime) -> Result<(), Fail> {
+fn a_bar_moves_while_threads_work(rt: HostRuntime) {
     let items = [0u8; 40];
     let place = AtomicU64::new(0);
     let bar = Telling {
@@ -261,9 +251,8 @@ fn a_bar_moves_while_threads_work(rt: HostRuntime) -> Result<(), Fail> {
     };
     let list = items.as_slice().progress_with(bar);
     let (seen, bar) = list.map_collect(&rt, rt.alloc(), |_item: &u8| sees_a_move(&place));
-    assert!(rt; seen?.contains(&true));
-    assert_eq!(rt; bar.position(), 40);
-    Ok(())
+    holds!(rt; seen.expect(&rt, "granted").contains(&true));
+    same!(rt; bar.position(), 40);
 }
 
 type Shared<R> = ProgressBar<InMemoryTerm, StepClock, R>;
@@ -290,13 +279,12 @@ fn sees_within<R: Wait + Clone + Drop>(bar: &Shared<R>) -> bool {
 /// A shared bar moves while threads work, by less than a block too. (Forty items are blocks of four, or of more where there are more
 /// processors.)
 #[test]
-fn a_shared_bar_moves_within_a_block(rt: HostRuntime) -> Result<(), Fail> {
+fn a_shared_bar_moves_within_a_block(rt: HostRuntime) {
     let items = [0u8; 40];
-    let bar = shared_bar(rt, rt.alloc())?;
-    let owner = bar.clone()?;
+    let bar = shared_bar(rt, rt.alloc()).expect(&rt, "granted");
+    let owner = bar.clone().expect(&rt, "granted");
     let list = items.as_slice().progress_with(owner);
     let (seen, _owner) = list.map_collect(&rt, rt.alloc(), |_item: &u8| sees_within(&bar));
-    assert!(rt; seen?.contains(&true));
-    assert_eq!(rt; bar.position(), 40);
-    Ok(())
+    holds!(rt; seen.expect(&rt, "granted").contains(&true));
+    same!(rt; bar.position(), 40);
 }

@@ -10,7 +10,6 @@ use indicatif::{
 use std::alloc::Global;
 use std::cell::Cell;
 use std::io::{self, BufWriter, ErrorKind, Stderr};
-use std::test::Fail;
 use std::time::{self, Duration};
 
 // ---- terminals
@@ -51,11 +50,10 @@ fn goes_on(clock: &mut impl Clock) -> bool {
 }
 
 #[test]
-fn a_terminal_of_which_is_told(rt: HostRuntime) -> Result<(), Fail> {
-    let Setup { target, mut clock } = setup_of(&rt, true, Some("xterm"))?;
+fn a_terminal_of_which_is_told(rt: HostRuntime) {
+    let Setup { target, mut clock } = setup_of(&rt, true, Some("xterm")).expect(&rt, "granted");
     let size = size_of(target);
-    assert!(rt; size == Some((7, 40)) && goes_on(&mut clock));
-    Ok(())
+    holds!(rt; size == Some((7, 40)) && goes_on(&mut clock));
 }
 
 /// Whether nothing is drawn on what was made.
@@ -67,11 +65,10 @@ fn is_hidden<T: Drop>(
 }
 
 #[test]
-fn a_terminal_that_is_hidden(rt: HostRuntime) -> Result<(), Fail> {
-    assert!(rt; is_hidden(setup_of(&rt, false, Some("xterm")))?);
-    assert!(rt; is_hidden(setup_of(&rt, true, Some("dumb")))?);
-    assert!(rt; is_hidden(setup_of(&rt, true, None))?);
-    Ok(())
+fn a_terminal_that_is_hidden(rt: HostRuntime) {
+    holds!(rt; is_hidden(setup_of(&rt, false, Some("xterm"))).expect(&rt, "granted"));
+    holds!(rt; is_hidden(setup_of(&rt, true, Some("dumb"))).expect(&rt, "granted"));
+    holds!(rt; is_hidden(setup_of(&rt, true, None)).expect(&rt, "granted"));
 }
 
 /// Whether a bar is hidden by these facts: its stream is no terminal, or one without moves.
@@ -84,16 +81,15 @@ fn is_hidden_by(found: Result<Facts, Refusal>) -> Result<bool, Refusal> {
 }
 
 #[test]
-fn the_programs_own_streams(rt: HostRuntime) -> Result<(), Fail> {
-    let out = is_hidden_by(facts_of(&rt, &rt.stdout()))?;
-    assert!(rt; is_hidden(on_stdout(&rt))? == out);
-    let err = is_hidden_by(facts_of(&rt, &rt.stderr()))?;
-    assert!(rt; is_hidden(on_stderr(&rt))? == err);
-    let setup = on_stream(&rt, rt.stderr())?;
-    assert!(rt; setup.target.is_hidden() == err);
-    let board = board_on(rt, on_stderr(&rt)?)?;
-    assert!(rt; board.is_hidden() == err);
-    Ok(())
+fn the_programs_own_streams(rt: HostRuntime) {
+    let out = is_hidden_by(facts_of(&rt, &rt.stdout())).expect(&rt, "granted");
+    same!(rt; is_hidden(on_stdout(&rt)).expect(&rt, "granted"), out);
+    let err = is_hidden_by(facts_of(&rt, &rt.stderr())).expect(&rt, "granted");
+    same!(rt; is_hidden(on_stderr(&rt)).expect(&rt, "granted"), err);
+    let setup = on_stream(&rt, rt.stderr()).expect(&rt, "granted");
+    same!(rt; setup.target.is_hidden(), err);
+    let board = board_on(rt, on_stderr(&rt).expect(&rt, "granted")).expect(&rt, "granted");
+    same!(rt; board.is_hidden(), err);
 }
 
 /// A board on standard error.
@@ -114,14 +110,13 @@ fn shows(alloc: Global, style: ProgressStyle<NoTracker>, wanted: &str) -> Result
 
 /// A style for standard error has colours where they are wanted there, and none elsewhere.
 #[test]
-fn a_style_for_standard_error(rt: HostRuntime) -> Result<(), Fail> {
-    let wanted = match wants_colors(&rt, &rt.stderr())? {
+fn a_style_for_standard_error(rt: HostRuntime) {
+    let wanted = match wants_colors(&rt, &rt.stderr()).expect(&rt, "granted") {
         true => "\u{1b}[31mx\u{1b}[0m",
         false => "x",
     };
-    let style = style_on_stderr(&rt, "{msg:.red}")?;
-    assert!(rt; shows(rt.alloc(), style, wanted)?);
-    Ok(())
+    let style = style_on_stderr(&rt, "{msg:.red}").expect(&rt, "granted");
+    holds!(rt; shows(rt.alloc(), style, wanted).expect(&rt, "granted"));
 }
 
 // ---- a bar behind a writer
@@ -153,10 +148,9 @@ fn tick(timed: &mut Timed) -> Result<Drawn, Refusal> {
 }
 
 #[test]
-fn behind_a_writer(rt: HostRuntime) -> Result<(), Fail> {
-    let mut timed = bar_behind(&rt)?;
-    assert!(rt; tick(&mut timed) == Ok(Drawn::Yes));
-    Ok(())
+fn behind_a_writer(rt: HostRuntime) {
+    let mut timed = bar_behind(&rt).expect(&rt, "granted");
+    same!(rt; tick(&mut timed), Ok(Drawn::Yes));
 }
 
 // ---- clocks
@@ -207,7 +201,7 @@ fn a_clock_of_a_machine(rt: HostRuntime) {
         6_000_000_000,
         6_000_000_000,
     ];
-    assert!(rt; tells(&mut clock, moments.as_slice()));
+    holds!(rt; tells(&mut clock, moments.as_slice()));
 }
 
 /// A machine that runs for so many seconds.
@@ -234,9 +228,9 @@ fn told_at(secs: u64) -> Moment {
 /// After 584 years the nanoseconds are more than 64 bits hold, and the clock stands at the greatest number.
 #[test]
 fn a_clock_of_an_old_machine(rt: HostRuntime) {
-    assert_eq!(rt; told_at(18_446_744_072), 18_446_744_072_000_000_000);
-    assert_eq!(rt; told_at(18_446_744_074), u64::MAX);
-    assert_eq!(rt; told_at(u64::MAX), u64::MAX);
+    same!(rt; told_at(18_446_744_072), 18_446_744_072_000_000_000);
+    same!(rt; told_at(18_446_744_074), u64::MAX);
+    same!(rt; told_at(u64::MAX), u64::MAX);
 }
 
 /// Whether the clock goes on within so many readings.
@@ -252,5 +246,5 @@ fn goes_on_within<R: time::Clock>(clock: &mut MachineClock<R>, readings: u32) ->
 
 #[test]
 fn a_clock_of_this_machine(rt: HostRuntime) {
-    assert!(rt; goes_on_within(&mut MachineClock::new(rt), 1_000_000));
+    holds!(rt; goes_on_within(&mut MachineClock::new(rt), 1_000_000));
 }

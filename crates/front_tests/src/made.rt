@@ -4,7 +4,6 @@ use indicatif::{
     Refusal, Setup, StepClock,
 };
 use std::alloc::Global;
-use std::test::Fail;
 
 /// What is wrapped by a bar of its own.
 type Shown<I> = ProgressBarIter<I, OwnedBar<NoTracker, InMemoryTerm, StepClock>>;
@@ -67,19 +66,16 @@ fn has_bar(alloc: Global) -> Result<bool, Refusal> {
 
 /// As far as anybody knows, up to 4 items come: `size_hint` is (0, Some(4)).
 #[test]
-fn a_length_by_the_upper_bound(rt: HostRuntime) -> Result<(), Fail> {
-    assert!(rt; length_of_even(rt.alloc())? == Some(4));
-    Ok(())
+fn a_length_by_the_upper_bound(rt: HostRuntime) {
+    same!(rt; length_of_even(rt.alloc()).expect(&rt, "granted"), Some(4));
 }
 
 #[test]
-fn no_length_no_bar(rt: HostRuntime) -> Result<(), Fail> {
-    assert!(rt; !has_bar(rt.alloc())?);
-    Ok(())
+fn no_length_no_bar(rt: HostRuntime) {
+    holds!(rt; !has_bar(rt.alloc()).expect(&rt, "granted"));
 }
 
 #[test]
-fn a_length_of_an_endless_one_that_is_told(rt: HostRuntime) -> Result<(), Fail> {
-    assert!(rt; length_of_sevens(rt.alloc(), 2)? == Some(2));
-    Ok(())
+fn a_length_of_an_endless_one_that_is_told(rt: HostRuntime) {
+    same!(rt; length_of_sevens(rt.alloc(), 2).expect(&rt, "granted"), Some(2));
 }

@@ -8,7 +8,6 @@ use indicatif::{
 };
 use std::alloc::Global;
 use std::sync::Wait;
-use std::test::Fail;
 
 /// Tells this text.
 #[derive(Drop)]
@@ -116,17 +115,15 @@ fn shown<R: Wait + Copy + Clone + Drop>(
 
 /// A tab is two spaces, and a newline parts two lines.
 #[test]
-fn a_tab_and_a_newline(rt: HostRuntime) -> Result<(), Fail> {
-    let (shown, again) = shown(rt, rt.alloc(), "a\tb\nc")?;
-    assert_eq!(rt; shown.as_str(), "a  b\nc");
-    assert_eq!(rt; again.as_str(), "a  b\nc");
-    Ok(())
+fn a_tab_and_a_newline(rt: HostRuntime) {
+    let (shown, again) = shown(rt, rt.alloc(), "a\tb\nc").expect(&rt, "granted");
+    same!(rt; shown.as_str(), "a  b\nc");
+    same!(rt; again.as_str(), "a  b\nc");
 }
 
 /// What isn't a colour sequence is drawn; what it does to the terminal isn't claimed.
 #[test]
-fn a_sequence_of_another_kind(rt: HostRuntime) -> Result<(), Fail> {
-    let (shown, again) = shown(rt, rt.alloc(), "\u{1B}[2J")?;
-    assert!(rt; shown == again);
-    Ok(())
+fn a_sequence_of_another_kind(rt: HostRuntime) {
+    let (shown, again) = shown(rt, rt.alloc(), "\u{1B}[2J").expect(&rt, "granted");
+    same!(rt; shown, again);
 }

@@ -4,7 +4,6 @@ use indicatif::{
     ProgressDrawTarget, ProgressStyle, Refusal, Setup, StepClock,
 };
 use std::alloc::Global;
-use std::test::Fail;
 use std::thread::Threads;
 
 /// A terminal of 4 rows and 20 columns, and a clock that goes on by a second each time it is asked.
@@ -35,30 +34,32 @@ fn doubled<R: Threads + Sync>(
 }
 
 #[test]
-fn a_bar_of_the_lists_length(rt: HostRuntime) -> Result<(), Fail> {
-    let items = [1u32, 2, 3];
-    let list = items.as_slice().progress(rt.alloc(), setup(rt.alloc())?)?;
-    assert_eq!(rt; doubled(&rt, rt.alloc(), list)?, (12, 3));
-    Ok(())
-}
-
-#[test]
-fn a_bar_of_another_length(rt: HostRuntime) -> Result<(), Fail> {
+fn a_bar_of_the_lists_length(rt: HostRuntime) {
     let items = [1u32, 2, 3];
     let list = items
         .as_slice()
-        .progress_count(rt.alloc(), 5, setup(rt.alloc())?)?;
-    assert_eq!(rt; doubled(&rt, rt.alloc(), list)?, (12, 3));
-    Ok(())
+        .progress(rt.alloc(), setup(rt.alloc()).expect(&rt, "granted"))
+        .expect(&rt, "granted");
+    same!(rt; doubled(&rt, rt.alloc(), list).expect(&rt, "granted"), (12, 3));
 }
 
 #[test]
-fn a_bar_in_a_style_of_ones_own(rt: HostRuntime) -> Result<(), Fail> {
+fn a_bar_of_another_length(rt: HostRuntime) {
     let items = [1u32, 2, 3];
-    let style = ProgressStyle::default_spinner(rt.alloc())?;
     let list = items
         .as_slice()
-        .progress_with_style(rt.alloc(), style, setup(rt.alloc())?)?;
-    assert_eq!(rt; doubled(&rt, rt.alloc(), list)?, (12, 3));
-    Ok(())
+        .progress_count(rt.alloc(), 5, setup(rt.alloc()).expect(&rt, "granted"))
+        .expect(&rt, "granted");
+    same!(rt; doubled(&rt, rt.alloc(), list).expect(&rt, "granted"), (12, 3));
+}
+
+#[test]
+fn a_bar_in_a_style_of_ones_own(rt: HostRuntime) {
+    let items = [1u32, 2, 3];
+    let style = ProgressStyle::default_spinner(rt.alloc()).expect(&rt, "granted");
+    let list = items
+        .as_slice()
+        .progress_with_style(rt.alloc(), style, setup(rt.alloc()).expect(&rt, "granted"))
+        .expect(&rt, "granted");
+    same!(rt; doubled(&rt, rt.alloc(), list).expect(&rt, "granted"), (12, 3));
 }

@@ -5,7 +5,6 @@ use indicatif::{
 };
 use std::alloc::Global;
 use std::sync::Wait;
-use std::test::Fail;
 use std::thread::{self, join};
 
 type Bar<R> = ProgressBar<Term<Shown<R>>, StepClock, R>;
@@ -35,17 +34,16 @@ fn ending<R: Wait + Copy + Clone + Drop>(
 
 /// An owner that isn't the last leaves the bar as it is, and the last one finishes it by its stored finish.
 #[test]
-fn the_last_release_finishes(rt: HostRuntime) -> Result<(), Fail> {
-    let bytes = no_bytes(rt.alloc())?;
-    let bar = ending(rt, rt.alloc(), &bytes, ProgressFinish::AndLeave)?;
-    let other = bar.clone()?;
-    assert!(rt; bar.set_position(3) == Ok(Drawn::Yes));
+fn the_last_release_finishes(rt: HostRuntime) {
+    let bytes = no_bytes(rt.alloc()).expect(&rt, "granted");
+    let bar = ending(rt, rt.alloc(), &bytes, ProgressFinish::AndLeave).expect(&rt, "granted");
+    let other = bar.clone().expect(&rt, "granted");
+    same!(rt; bar.set_position(3), Ok(Drawn::Yes));
     bar.release();
-    assert!(rt; !other.is_finished());
-    assert!(rt; is_seen(&rt, rt.alloc(), &bytes, "3/10") == Ok(true));
+    holds!(rt; !other.is_finished());
+    same!(rt; is_seen(&rt, rt.alloc(), &bytes, "3/10"), Ok(true));
     other.release();
-    assert!(rt; is_seen(&rt, rt.alloc(), &bytes, "10/10") == Ok(true));
-    Ok(())
+    same!(rt; is_seen(&rt, rt.alloc(), &bytes, "10/10"), Ok(true));
 }
 
 /// Draws a bar, whose one owner is dropped at the end of the block.
@@ -61,23 +59,21 @@ fn drawn_and_dropped<R: Wait + Copy + Clone + Drop>(
 
 /// So does an owner that is dropped.
 #[test]
-fn the_last_drop_finishes(rt: HostRuntime) -> Result<(), Fail> {
-    let bytes = no_bytes(rt.alloc())?;
+fn the_last_drop_finishes(rt: HostRuntime) {
+    let bytes = no_bytes(rt.alloc()).expect(&rt, "granted");
     let drawn = drawn_and_dropped(rt, rt.alloc(), &bytes, ProgressFinish::AndLeave);
-    assert!(rt; drawn == Ok(Drawn::Yes));
-    assert!(rt; is_seen(&rt, rt.alloc(), &bytes, "10/10") == Ok(true));
-    Ok(())
+    same!(rt; drawn, Ok(Drawn::Yes));
+    same!(rt; is_seen(&rt, rt.alloc(), &bytes, "10/10"), Ok(true));
 }
 
 /// Where it is to be cleared, its row goes.
 #[test]
-fn the_last_drop_clears(rt: HostRuntime) -> Result<(), Fail> {
-    let bytes = no_bytes(rt.alloc())?;
+fn the_last_drop_clears(rt: HostRuntime) {
+    let bytes = no_bytes(rt.alloc()).expect(&rt, "granted");
     let drawn = drawn_and_dropped(rt, rt.alloc(), &bytes, ProgressFinish::AndClear);
-    assert!(rt; drawn == Ok(Drawn::Yes));
-    assert!(rt; is_seen(&rt, rt.alloc(), &bytes, "") == Ok(true));
-    assert!(rt; !bytes.lock(&rt).is_empty());
-    Ok(())
+    same!(rt; drawn, Ok(Drawn::Yes));
+    same!(rt; is_seen(&rt, rt.alloc(), &bytes, ""), Ok(true));
+    holds!(rt; !bytes.lock(&rt).is_empty());
 }
 
 // ---- another target
@@ -93,22 +89,21 @@ fn board_on<R: Wait + Copy + Clone + Drop>(
 
 /// What a bar drew on its own target stays there: once it has another one, and once a board has taken it in.
 #[test]
-fn what_was_drawn_stays(rt: HostRuntime) -> Result<(), Fail> {
-    let first = no_bytes(rt.alloc())?;
-    let bar = bar_on(rt, rt.alloc(), &first, "{pos}")?;
-    assert!(rt; bar.set_position(1) == Ok(Drawn::Yes));
-    let second = no_bytes(rt.alloc())?;
-    let target = setup_on(rt, &second, 10)?.target;
-    assert!(rt; bar.set_draw_target(target) == Ok(Drawn::Limited));
-    assert!(rt; bar.set_position(2) == Ok(Drawn::Yes));
-    let third = no_bytes(rt.alloc())?;
-    let board = board_on(rt, rt.alloc(), &third)?;
-    let bar = board.add(bar)?;
-    assert!(rt; bar.set_position(3) == Ok(Drawn::Yes));
-    assert!(rt; is_seen(&rt, rt.alloc(), &first, "1") == Ok(true));
-    assert!(rt; is_seen(&rt, rt.alloc(), &second, "2") == Ok(true));
-    assert!(rt; is_seen(&rt, rt.alloc(), &third, "3") == Ok(true));
-    Ok(())
+fn what_was_drawn_stays(rt: HostRuntime) {
+    let first = no_bytes(rt.alloc()).expect(&rt, "granted");
+    let bar = bar_on(rt, rt.alloc(), &first, "{pos}").expect(&rt, "granted");
+    same!(rt; bar.set_position(1), Ok(Drawn::Yes));
+    let second = no_bytes(rt.alloc()).expect(&rt, "granted");
+    let target = setup_on(rt, &second, 10).expect(&rt, "granted").target;
+    same!(rt; bar.set_draw_target(target), Ok(Drawn::Limited));
+    same!(rt; bar.set_position(2), Ok(Drawn::Yes));
+    let third = no_bytes(rt.alloc()).expect(&rt, "granted");
+    let board = board_on(rt, rt.alloc(), &third).expect(&rt, "granted");
+    let bar = board.add(bar).expect(&rt, "granted");
+    same!(rt; bar.set_position(3), Ok(Drawn::Yes));
+    same!(rt; is_seen(&rt, rt.alloc(), &first, "1"), Ok(true));
+    same!(rt; is_seen(&rt, rt.alloc(), &second, "2"), Ok(true));
+    same!(rt; is_seen(&rt, rt.alloc(), &third, "3"), Ok(true));
 }
 
 // ---- threads
@@ -125,33 +120,31 @@ fn advance<R: Wait + Clone + Drop>(bar: &Bar<R>, times: u32) -> u64 {
 }
 
 #[test]
-fn threads_advance_through_clones(rt: HostRuntime) -> Result<(), Fail> {
-    let bytes = no_bytes(rt.alloc())?;
-    let bar = bar_on(rt, rt.alloc(), &bytes, "{pos}")?;
-    let other = bar.clone()?;
-    let third = bar.clone()?;
-    let child = thread::spawn(&rt, move || advance(&third, 500))?;
+fn threads_advance_through_clones(rt: HostRuntime) {
+    let bytes = no_bytes(rt.alloc()).expect(&rt, "granted");
+    let bar = bar_on(rt, rt.alloc(), &bytes, "{pos}").expect(&rt, "granted");
+    let other = bar.clone().expect(&rt, "granted");
+    let third = bar.clone().expect(&rt, "granted");
+    let child = thread::spawn(&rt, move || advance(&third, 500)).expect(&rt, "granted");
     let refused = join(&rt, || advance(&bar, 250), || advance(&other, 250));
-    assert_eq!(rt; refused, (0, 0));
-    assert_eq!(rt; child.join(&rt), 0);
-    assert_eq!(rt; bar.position(), 1000);
-    assert!(rt; bar.force_draw() == Ok(Drawn::Yes));
-    assert!(rt; is_seen(&rt, rt.alloc(), &bytes, "1000") == Ok(true));
-    Ok(())
+    same!(rt; refused, (0, 0));
+    same!(rt; child.join(&rt), 0);
+    same!(rt; bar.position(), 1000);
+    same!(rt; bar.force_draw(), Ok(Drawn::Yes));
+    same!(rt; is_seen(&rt, rt.alloc(), &bytes, "1000"), Ok(true));
 }
 
 /// A bar that says hello, ticks, says something longer and ticks in two threads.
 #[test]
-fn two_threads_tick(rt: HostRuntime) -> Result<(), Fail> {
-    let bytes = no_bytes(rt.alloc())?;
-    let bar = bar_on(rt, rt.alloc(), &bytes, "{msg}")?;
-    assert!(rt; bar.set_message("hello") == Ok(Drawn::Yes));
-    assert!(rt; bar.tick() == Ok(Drawn::Yes));
-    assert!(rt; bar.set_message("progress bars") == Ok(Drawn::Yes));
-    let other = bar.clone()?;
+fn two_threads_tick(rt: HostRuntime) {
+    let bytes = no_bytes(rt.alloc()).expect(&rt, "granted");
+    let bar = bar_on(rt, rt.alloc(), &bytes, "{msg}").expect(&rt, "granted");
+    same!(rt; bar.set_message("hello"), Ok(Drawn::Yes));
+    same!(rt; bar.tick(), Ok(Drawn::Yes));
+    same!(rt; bar.set_message("progress bars"), Ok(Drawn::Yes));
+    let other = bar.clone().expect(&rt, "granted");
     let ticked = join(&rt, || bar.tick().is_ok(), || other.tick().is_ok());
-    assert_eq!(rt; ticked, (true, true));
-    assert!(rt; is_seen(&rt, rt.alloc(), &bytes, "progress b\nars") == Ok(true));
-    assert_eq!(rt; bar.ticks(), 3);
-    Ok(())
+    same!(rt; ticked, (true, true));
+    same!(rt; is_seen(&rt, rt.alloc(), &bytes, "progress b\nars"), Ok(true));
+    same!(rt; bar.ticks(), 3);
 }

@@ -4,7 +4,6 @@ use crate::stepped::{Stepped, bar_at};
 use indicatif::{Refusal, run_workers_with};
 use std::alloc::{AllocError, Global};
 use std::sync::atomic::{AtomicU64, Ordering};
-use std::test::Fail;
 use std::thread::Threads;
 
 /// `count` pieces, in each of which the number 1 stands `items` times.
@@ -26,13 +25,14 @@ fn ones(alloc: Global, items: u32) -> Result<Vec<u32>, AllocError> {
 }
 
 #[test]
-fn answers_stand_in_the_order_of_the_pieces(rt: HostRuntime) -> Result<(), Fail> {
+fn answers_stand_in_the_order_of_the_pieces(rt: HostRuntime) {
     let alloc = rt.alloc();
     let pieces = vec![in alloc;
-        vec![in alloc; 1u32, 2]?,
-        vec![in alloc; 3u32]?,
+        vec![in alloc; 1u32, 2].expect(&rt, "granted"),
+        vec![in alloc; 3u32].expect(&rt, "granted"),
         Vec::new(alloc),
-    ]?;
+    ]
+    .expect(&rt, "granted");
     let mut bar = bar_at(alloc, 0);
     let gate = Turnstile {
         passed: AtomicU64::new(0),
@@ -44,21 +44,21 @@ fn answers_stand_in_the_order_of_the_pieces(rt: HostRuntime) -> Result<(), Fail>
         |x: &u32| x.wrapping_mul(2),
         &gate,
         &mut bar,
-    )?;
-    assert_eq!(rt; made.len(), 3);
-    assert!(rt; made[0].as_slice() == [2, 4].as_slice());
-    assert!(rt; made[1].as_slice() == [6].as_slice());
-    assert!(rt; made[2].is_empty());
-    assert_eq!(rt; bar.position, 3);
-    assert!(rt; bar.steps.as_slice() == [3].as_slice());
-    assert!(rt; !bar.finished);
-    assert_eq!(rt; gate.passed.load(Ordering::SeqCst), 3);
-    Ok(())
+    )
+    .expect(&rt, "granted");
+    same!(rt; made.len(), 3);
+    same!(rt; made[0].as_slice(), [2, 4].as_slice());
+    same!(rt; made[1].as_slice(), [6].as_slice());
+    holds!(rt; made[2].is_empty());
+    same!(rt; bar.position, 3);
+    same!(rt; bar.steps.as_slice(), [3].as_slice());
+    holds!(rt; !bar.finished);
+    same!(rt; gate.passed.load(Ordering::SeqCst), 3);
 }
 
 #[test]
-fn no_piece_is_refused(rt: HostRuntime) -> Result<(), Fail> {
-    let none = pieces_of_ones(rt.alloc(), 0, 0)?;
+fn no_piece_is_refused(rt: HostRuntime) {
+    let none = pieces_of_ones(rt.alloc(), 0, 0).expect(&rt, "granted");
     let mut bar = bar_at(rt.alloc(), 7);
     let answer = run_workers_with(
         &rt,
@@ -68,15 +68,14 @@ fn no_piece_is_refused(rt: HostRuntime) -> Result<(), Fail> {
         &Open,
         &mut bar,
     );
-    assert!(rt; answer.err() == Some(Refusal::ZeroPieces));
-    assert_eq!(rt; bar.position, 7);
-    assert!(rt; bar.steps.is_empty());
-    Ok(())
+    same!(rt; answer.err(), Some(Refusal::ZeroPieces));
+    same!(rt; bar.position, 7);
+    holds!(rt; bar.steps.is_empty());
 }
 
 #[test]
-fn pieces_run_at_the_same_time(rt: HostRuntime) -> Result<(), Fail> {
-    let pieces = pieces_of_ones(rt.alloc(), 2, 1)?;
+fn pieces_run_at_the_same_time(rt: HostRuntime) {
+    let pieces = pieces_of_ones(rt.alloc(), 2, 1).expect(&rt, "granted");
     let mut bar = bar_at(rt.alloc(), 0);
     let gate = Together {
         second_came: AtomicU64::new(0),
@@ -89,11 +88,11 @@ fn pieces_run_at_the_same_time(rt: HostRuntime) -> Result<(), Fail> {
         |x: &u32| *x,
         &gate,
         &mut bar,
-    )?;
-    assert_eq!(rt; gate.first_saw_it.load(Ordering::SeqCst), 1);
-    assert_eq!(rt; made.len(), 2);
-    assert_eq!(rt; bar.position, 2);
-    Ok(())
+    )
+    .expect(&rt, "granted");
+    same!(rt; gate.first_saw_it.load(Ordering::SeqCst), 1);
+    same!(rt; made.len(), 2);
+    same!(rt; bar.position, 2);
 }
 
 /// So many pieces of so many items each, over a bar of the tests'; how many answers there are.
@@ -112,21 +111,18 @@ fn answers_of<R: Threads + Sync>(
 }
 
 #[test]
-fn seventy_pieces(rt: HostRuntime) -> Result<(), Fail> {
-    let pieces = pieces_of_ones(rt.alloc(), 70, 3)?;
+fn seventy_pieces(rt: HostRuntime) {
+    let pieces = pieces_of_ones(rt.alloc(), 70, 3).expect(&rt, "granted");
     let mut bar = bar_at(rt.alloc(), 0);
-    assert_eq!(rt;
-        answers_of(&rt, rt.alloc(), pieces.as_slice(), &mut bar)?,
-        210
-    );
-    assert!(rt; bar.steps.as_slice() == [210].as_slice());
-    Ok(())
+    same!(rt; answers_of(&rt, rt.alloc(), pieces.as_slice(), &mut bar).expect(&rt, "granted"),
+        210);
+    same!(rt; bar.steps.as_slice(), [210].as_slice());
 }
 
 /// Of six hundred pieces each runs once, and none of those behind the first 256 begins before these have begun.
 #[test]
-fn six_hundred_pieces(rt: HostRuntime) -> Result<(), Fail> {
-    let pieces = pieces_of_ones(rt.alloc(), 600, 2)?;
+fn six_hundred_pieces(rt: HostRuntime) {
+    let pieces = pieces_of_ones(rt.alloc(), 600, 2).expect(&rt, "granted");
     let mut bar = bar_at(rt.alloc(), 0);
     let gate = Waves {
         passed: AtomicU64::new(0),
@@ -139,15 +135,15 @@ fn six_hundred_pieces(rt: HostRuntime) -> Result<(), Fail> {
         |x: &u32| x.wrapping_add(1),
         &gate,
         &mut bar,
-    )?;
-    assert_eq!(rt; made.len(), 600);
+    )
+    .expect(&rt, "granted");
+    same!(rt; made.len(), 600);
     for answers in made.iter() {
-        assert!(rt; answers.as_slice() == [2, 2].as_slice());
+        same!(rt; answers.as_slice(), [2, 2].as_slice());
     }
-    assert!(rt; bar.steps.as_slice() == [1200].as_slice());
-    assert_eq!(rt; gate.passed.load(Ordering::SeqCst), 600);
-    assert_eq!(rt; gate.early.load(Ordering::SeqCst), 0);
-    Ok(())
+    same!(rt; bar.steps.as_slice(), [1200].as_slice());
+    same!(rt; gate.passed.load(Ordering::SeqCst), 600);
+    same!(rt; gate.early.load(Ordering::SeqCst), 0);
 }
 
 /// So many pieces, each with its own number, twice.
@@ -161,9 +157,9 @@ fn numbered(alloc: Global, count: u32) -> Result<Vec<Vec<u32>>, AllocError> {
 
 /// Each of three hundred pieces has passed the gate, by its own number and once, before its first item is met.
 #[test]
-fn each_piece_passes_before_its_items(rt: HostRuntime) -> Result<(), Fail> {
-    let pieces = numbered(rt.alloc(), 300)?;
-    let roll = Roll::of(rt.alloc(), 300)?;
+fn each_piece_passes_before_its_items(rt: HostRuntime) {
+    let pieces = numbered(rt.alloc(), 300).expect(&rt, "granted");
+    let roll = Roll::of(rt.alloc(), 300).expect(&rt, "granted");
     let mut bar = bar_at(rt.alloc(), 0);
     let made = run_workers_with(
         &rt,
@@ -172,46 +168,37 @@ fn each_piece_passes_before_its_items(rt: HostRuntime) -> Result<(), Fail> {
         |piece: &u32| roll.passed(*piece),
         &roll,
         &mut bar,
-    )?;
-    assert_eq!(rt; made.len(), 300);
+    )
+    .expect(&rt, "granted");
+    same!(rt; made.len(), 300);
     for answers in made.iter() {
-        assert!(rt; answers.as_slice() == [1, 1].as_slice());
+        same!(rt; answers.as_slice(), [1, 1].as_slice());
     }
-    Ok(())
 }
 
 #[test]
-fn two_pieces_of_a_thousand_items(rt: HostRuntime) -> Result<(), Fail> {
-    let pieces = pieces_of_ones(rt.alloc(), 2, 1000)?;
+fn two_pieces_of_a_thousand_items(rt: HostRuntime) {
+    let pieces = pieces_of_ones(rt.alloc(), 2, 1000).expect(&rt, "granted");
     let mut bar = bar_at(rt.alloc(), 5);
-    assert_eq!(rt;
-        answers_of(&rt, rt.alloc(), pieces.as_slice(), &mut bar)?,
-        2000
-    );
-    assert_eq!(rt; bar.position, 2005);
-    Ok(())
+    same!(rt; answers_of(&rt, rt.alloc(), pieces.as_slice(), &mut bar).expect(&rt, "granted"),
+        2000);
+    same!(rt; bar.position, 2005);
 }
 
 #[test]
-fn four_pieces_of_a_million_items_in_all(rt: HostRuntime) -> Result<(), Fail> {
-    let pieces = pieces_of_ones(rt.alloc(), 4, 250_000)?;
+fn four_pieces_of_a_million_items_in_all(rt: HostRuntime) {
+    let pieces = pieces_of_ones(rt.alloc(), 4, 250_000).expect(&rt, "granted");
     let mut bar = bar_at(rt.alloc(), 0);
-    assert_eq!(rt;
-        answers_of(&rt, rt.alloc(), pieces.as_slice(), &mut bar)?,
-        1_000_000
-    );
-    assert!(rt; bar.steps.as_slice() == [1_000_000].as_slice());
-    Ok(())
+    same!(rt; answers_of(&rt, rt.alloc(), pieces.as_slice(), &mut bar).expect(&rt, "granted"),
+        1_000_000);
+    same!(rt; bar.steps.as_slice(), [1_000_000].as_slice());
 }
 
 #[test]
-fn one_piece_of_one_item(rt: HostRuntime) -> Result<(), Fail> {
-    let pieces = pieces_of_ones(rt.alloc(), 1, 1)?;
+fn one_piece_of_one_item(rt: HostRuntime) {
+    let pieces = pieces_of_ones(rt.alloc(), 1, 1).expect(&rt, "granted");
     let mut bar = bar_at(rt.alloc(), 0);
-    assert_eq!(rt;
-        answers_of(&rt, rt.alloc(), pieces.as_slice(), &mut bar)?,
-        1
-    );
-    assert!(rt; bar.steps.as_slice() == [1].as_slice());
-    Ok(())
+    same!(rt; answers_of(&rt, rt.alloc(), pieces.as_slice(), &mut bar).expect(&rt, "granted"),
+        1);
+    same!(rt; bar.steps.as_slice(), [1].as_slice());
 }

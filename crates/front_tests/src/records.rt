@@ -7,7 +7,6 @@ use indicatif::{
 };
 use std::alloc::Global;
 use std::sync::{Mutex, Wait};
-use std::test::Fail;
 use std::thread::join;
 
 /// A target on a terminal in memory of so many rows and 10 columns.
@@ -175,13 +174,12 @@ const RUN: [(Asked, (Answer, &str)); 9] = [
 ];
 
 #[test]
-fn what_was_recorded_is_one_run(rt: HostRuntime) -> Result<(), Fail> {
-    let mut board = recorded_on(rt.alloc(), 2)?;
-    assert!(rt; all_answer(rt.alloc(), &mut board, &RUN) == Ok(true));
-    assert_eq!(rt; board.entries().len(), 9);
-    assert!(rt; has_rows(board.board().term(), &["k", "l", "x", "y"]) == Ok(true));
-    assert!(rt; is_replayed(rt.alloc(), &board, 2) == Ok(true));
-    Ok(())
+fn what_was_recorded_is_one_run(rt: HostRuntime) {
+    let mut board = recorded_on(rt.alloc(), 2).expect(&rt, "granted");
+    same!(rt; all_answer(rt.alloc(), &mut board, &RUN), Ok(true));
+    same!(rt; board.entries().len(), 9);
+    same!(rt; has_rows(board.board().term(), &["k", "l", "x", "y"]), Ok(true));
+    same!(rt; is_replayed(rt.alloc(), &board, 2), Ok(true));
 }
 
 const FOREIGN: InsertLocation = InsertLocation::Before(BarId {
@@ -210,12 +208,11 @@ const BACK: [(Asked, (Answer, &str)); 4] = [
 ];
 
 #[test]
-fn bars_that_come_back(rt: HostRuntime) -> Result<(), Fail> {
-    let mut board = recorded_on(rt.alloc(), 4)?;
-    assert!(rt; all_answer(rt.alloc(), &mut board, &BACK) == Ok(true));
-    assert_eq!(rt; board.entries().len(), 4);
-    assert!(rt; is_replayed(rt.alloc(), &board, 4) == Ok(true));
-    Ok(())
+fn bars_that_come_back(rt: HostRuntime) {
+    let mut board = recorded_on(rt.alloc(), 4).expect(&rt, "granted");
+    same!(rt; all_answer(rt.alloc(), &mut board, &BACK), Ok(true));
+    same!(rt; board.entries().len(), 4);
+    same!(rt; is_replayed(rt.alloc(), &board, 4), Ok(true));
 }
 
 /// Logs a text under the lock; whether it was drawn.
@@ -258,17 +255,16 @@ fn are_logs(entries: &[Entry<NoTracker>]) -> bool {
 }
 
 #[test]
-fn two_threads_log_on_one_board(rt: HostRuntime) -> Result<(), Fail> {
-    let board = Mutex::new(recorded_on(rt.alloc(), 5)?);
+fn two_threads_log_on_one_board(rt: HostRuntime) {
+    let board = Mutex::new(recorded_on(rt.alloc(), 5).expect(&rt, "granted"));
     let drawn = join(
         &rt,
         || log_fifty(&rt, rt.alloc(), &board, "mine"),
         || log_fifty(&rt, rt.alloc(), &board, "theirs"),
     );
-    assert_eq!(rt; drawn, (50, 50));
+    same!(rt; drawn, (50, 50));
     let recorded = board.lock(&rt);
-    assert_eq!(rt; recorded.entries().len(), 100);
-    assert!(rt; are_logs(recorded.entries()));
-    assert!(rt; is_replayed(rt.alloc(), &recorded, 5) == Ok(true));
-    Ok(())
+    same!(rt; recorded.entries().len(), 100);
+    holds!(rt; are_logs(recorded.entries()));
+    same!(rt; is_replayed(rt.alloc(), &recorded, 5), Ok(true));
 }

@@ -9,7 +9,6 @@ use std::alloc::{AllocError, Global};
 use std::cell::Cell;
 use std::io::{self, Read};
 use std::sync::Wait;
-use std::test::Fail;
 use std::thread::{Threads, join};
 use std::time::{self, Duration};
 
@@ -90,71 +89,88 @@ fn contents<R: Wait + Clone + Drop>(
 
 /// A board is three seconds old and was just drawn; a bar that is made then by a clock of its own is drawn a tenth of a second later.
 #[test]
-fn a_bar_that_is_made_later_is_drawn(rt: HostRuntime) -> Result<(), Fail> {
-    let board = board_at_100(rt, rt.alloc())?;
+fn a_bar_that_is_made_later_is_drawn(rt: HostRuntime) {
+    let board = board_at_100(rt, rt.alloc()).expect(&rt, "granted");
     let first = clock_of(&[100 * SECOND, 100 * SECOND, 103 * SECOND]);
-    let first = board.add(bar_by(rt, rt.alloc(), first)?)?;
-    assert!(rt; first.tick() == Ok(Drawn::Yes));
+    let first = board
+        .add(bar_by(rt, rt.alloc(), first).expect(&rt, "granted"))
+        .expect(&rt, "granted");
+    same!(rt; first.tick(), Ok(Drawn::Yes));
     let later = clock_of(&[103 * SECOND, 103 * SECOND, 103 * SECOND + SECOND / 10]);
-    let later = board.add(bar_by(rt, rt.alloc(), later)?)?;
-    assert!(rt; later.tick() == Ok(Drawn::Yes));
-    assert!(rt; contents(&board).is_some_and(|text| text.as_str() == "0\n0"));
-    Ok(())
+    let later = board
+        .add(bar_by(rt, rt.alloc(), later).expect(&rt, "granted"))
+        .expect(&rt, "granted");
+    same!(rt; later.tick(), Ok(Drawn::Yes));
+    holds!(rt; contents(&board).is_some_and(|text| text.as_str() == "0\n0"));
 }
 
 /// A machine runs for an hour when the bar is made: there is room for an elapsed time of an hour, and none for a longer one.
 #[test]
-fn a_bar_begins_with_elapsed_time(rt: HostRuntime) -> Result<(), Fail> {
-    let bar = bar_by(rt, rt.alloc(), clock_of(&[3600 * SECOND]))?.with_elapsed(3600 * SECOND)?;
-    assert_eq!(rt; bar.elapsed(), 3600 * SECOND);
-    assert!(rt; bar.set_elapsed(3601 * SECOND) == Err(Refusal::ElapsedBeyondClock));
-    Ok(())
+fn a_bar_begins_with_elapsed_time(rt: HostRuntime) {
+    let bar = bar_by(rt, rt.alloc(), clock_of(&[3600 * SECOND]))
+        .expect(&rt, "granted")
+        .with_elapsed(3600 * SECOND)
+        .expect(&rt, "granted");
+    same!(rt; bar.elapsed(), 3600 * SECOND);
+    same!(rt; bar.set_elapsed(3601 * SECOND), Err(Refusal::ElapsedBeyondClock));
 }
 
 /// A board makes its bars itself: they stand one below the other, by its clock.
 #[test]
-fn a_board_makes_its_bars(rt: HostRuntime) -> Result<(), Fail> {
-    let board = board_at_100(rt, rt.alloc())?;
-    let bar = board.new_bar(3)?;
-    let spinner = board.new_spinner()?;
-    bar.set_style(ProgressStyle::with_template(rt.alloc(), "{pos}/{len}")?)?;
-    spinner.set_style(ProgressStyle::with_template(rt.alloc(), "{msg}")?)?;
-    spinner.set_message("waits")?;
-    assert!(rt; bar.inc(1) == Ok(Drawn::Yes));
-    assert!(rt; contents(&board).is_some_and(|text| text.as_str() == "1/3\nwaits"));
-    assert_eq!(rt; spinner.length(), None);
-    Ok(())
+fn a_board_makes_its_bars(rt: HostRuntime) {
+    let board = board_at_100(rt, rt.alloc()).expect(&rt, "granted");
+    let bar = board.new_bar(3).expect(&rt, "granted");
+    let spinner = board.new_spinner().expect(&rt, "granted");
+    bar.set_style(ProgressStyle::with_template(rt.alloc(), "{pos}/{len}").expect(&rt, "granted"))
+        .expect(&rt, "granted");
+    spinner
+        .set_style(ProgressStyle::with_template(rt.alloc(), "{msg}").expect(&rt, "granted"))
+        .expect(&rt, "granted");
+    spinner.set_message("waits").expect(&rt, "granted");
+    same!(rt; bar.inc(1), Ok(Drawn::Yes));
+    holds!(rt; contents(&board).is_some_and(|text| text.as_str() == "1/3\nwaits"));
+    same!(rt; spinner.length(), None);
 }
 
 /// A wrapper's bar is told before it moves, and what is told is seen by its other owners.
 #[test]
-fn a_wrappers_bar_is_told(rt: HostRuntime) -> Result<(), Fail> {
-    let bar = bar_on(rt, rt.alloc())?;
-    let style = ProgressStyle::with_template(rt.alloc(), "{prefix} {msg} {pos}")?;
+fn a_wrappers_bar_is_told(rt: HostRuntime) {
+    let bar = bar_on(rt, rt.alloc()).expect(&rt, "granted");
+    let style = ProgressStyle::with_template(rt.alloc(), "{prefix} {msg} {pos}").expect(
+        &rt, "granted",
+    );
     let mut wrapped = bar
-        .wrap_iter(0..3u32)?
-        .with_style(style)?
-        .with_prefix("a")?
-        .with_message("b")?
-        .with_position(7)?
-        .with_finish(ProgressFinish::Abandon)?;
-    assert_eq!(rt; bar.position(), 7);
+        .wrap_iter(0..3u32)
+        .expect(&rt, "granted")
+        .with_style(style)
+        .expect(&rt, "granted")
+        .with_prefix("a")
+        .expect(&rt, "granted")
+        .with_message("b")
+        .expect(&rt, "granted")
+        .with_position(7)
+        .expect(&rt, "granted")
+        .with_finish(ProgressFinish::Abandon)
+        .expect(&rt, "granted");
+    same!(rt; bar.position(), 7);
     for _ in &mut wrapped {}
-    assert_eq!(rt; bar.position(), 10);
-    assert!(rt; bar.is_finished());
-    assert!(rt; shown_by(&bar).is_some_and(|text| text.as_str() == "a b 10"));
-    Ok(())
+    same!(rt; bar.position(), 10);
+    holds!(rt; bar.is_finished());
+    holds!(rt; shown_by(&bar).is_some_and(|text| text.as_str() == "a b 10"));
 }
 
 /// So is its elapsed time: a machine that runs for an hour has room for an hour, and for no second more.
 #[test]
-fn a_wrappers_bar_begins_with_elapsed_time(rt: HostRuntime) -> Result<(), Fail> {
-    let bar = bar_by(rt, rt.alloc(), clock_of(&[3600 * SECOND]))?;
-    let wrapped = bar.wrap_iter(0..3u32)?.with_elapsed(3600 * SECOND)?;
-    assert_eq!(rt; bar.elapsed(), 3600 * SECOND);
+fn a_wrappers_bar_begins_with_elapsed_time(rt: HostRuntime) {
+    let bar = bar_by(rt, rt.alloc(), clock_of(&[3600 * SECOND])).expect(&rt, "granted");
+    let wrapped = bar
+        .wrap_iter(0..3u32)
+        .expect(&rt, "granted")
+        .with_elapsed(3600 * SECOND)
+        .expect(&rt, "granted");
+    same!(rt; bar.elapsed(), 3600 * SECOND);
     let refused = wrapped.with_elapsed(3601 * SECOND).err();
-    assert!(rt; refused == Some(Refusal::ElapsedBeyondClock));
-    Ok(())
+    same!(rt; refused, Some(Refusal::ElapsedBeyondClock));
 }
 
 /// What stands on the bar's terminal.
@@ -210,14 +226,13 @@ fn rests<R: Wait + time::Clock + Clone + Drop>(rt: &R, bar: &Bar<R>) -> bool {
 
 /// One thread tells a ticker on while another tells it off: both come to an end, and once it is off it is off.
 #[test]
-fn on_and_off_from_two_threads(rt: HostRuntime) -> Result<(), Fail> {
-    let bar = bar_on(rt, rt.alloc())?;
+fn on_and_off_from_two_threads(rt: HostRuntime) {
+    let bar = bar_on(rt, rt.alloc()).expect(&rt, "granted");
     let (on, off) = join(&rt, || tells_on(&bar, 200), || tells_off(&bar, 200));
-    on?;
-    off?;
-    tick_off(&bar)?;
-    assert!(rt; rests(&rt, &bar));
-    Ok(())
+    on.expect(&rt, "granted");
+    off.expect(&rt, "granted");
+    tick_off(&bar).expect(&rt, "granted");
+    holds!(rt; rests(&rt, &bar));
 }
 
 /// Tells a ticker of an hour on so many times, each in the place of the one before.
@@ -234,14 +249,13 @@ fn replaces<R: Wait + Threads + time::Clock + Clone + Drop + Send + 'static>(
 /// Of ten tickers of an hour, each of which replaces the one before, none ticks more than once: that others are told off and end
 /// makes none of them tick before its hour is over.
 #[test]
-fn a_ticker_that_is_replaced_wakes_none(rt: HostRuntime) -> Result<(), Fail> {
-    let bar = bar_on(rt, rt.alloc())?;
-    replaces(&bar, 10)?;
-    assert!(rt; ticks_on(&rt, &bar, 0));
+fn a_ticker_that_is_replaced_wakes_none(rt: HostRuntime) {
+    let bar = bar_on(rt, rt.alloc()).expect(&rt, "granted");
+    replaces(&bar, 10).expect(&rt, "granted");
+    holds!(rt; ticks_on(&rt, &bar, 0));
     waits(&rt);
-    assert!(rt; bar.ticks() <= 10);
-    tick_off(&bar)?;
-    Ok(())
+    holds!(rt; bar.ticks() <= 10);
+    tick_off(&bar).expect(&rt, "granted");
 }
 
 /// Reads to the end, seven bytes at a time.
@@ -262,14 +276,13 @@ fn reads_all<T: Read, R: Wait + Clone + Drop>(
 
 /// Two threads read 20,000 bytes each through wrappers of one bar, which stands at 40,000 then.
 #[test]
-fn two_readers_of_one_bar_lose_no_byte(rt: HostRuntime) -> Result<(), Fail> {
+fn two_readers_of_one_bar_lose_no_byte(rt: HostRuntime) {
     let bytes = [7u8; 20_000];
-    let bar = bar_on(rt, rt.alloc())?;
-    let mut one = bar.wrap_read(bytes.as_slice())?;
-    let mut other = bar.wrap_read(bytes.as_slice())?;
+    let bar = bar_on(rt, rt.alloc()).expect(&rt, "granted");
+    let mut one = bar.wrap_read(bytes.as_slice()).expect(&rt, "granted");
+    let mut other = bar.wrap_read(bytes.as_slice()).expect(&rt, "granted");
     let (first, second) = join(&rt, || reads_all(&mut one), || reads_all(&mut other));
-    assert_eq!(rt; first?, 20_000);
-    assert_eq!(rt; second?, 20_000);
-    assert_eq!(rt; bar.position(), 40_000);
-    Ok(())
+    same!(rt; first.expect(&rt, "granted"), 20_000);
+    same!(rt; second.expect(&rt, "granted"), 20_000);
+    same!(rt; bar.position(), 40_000);
 }

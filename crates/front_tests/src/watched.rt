@@ -3,7 +3,6 @@ use crate::shown::{Bytes, Shown, is_seen, is_written, no_bytes, setup_on};
 use indicatif::{Drawn, MultiProgress, ProgressBar, ProgressStyle, Refusal, StepClock, Term};
 use std::alloc::Global;
 use std::sync::{Arc, Wait};
-use std::test::Fail;
 
 type Board<R> = MultiProgress<Term<Shown<R>>, StepClock, R>;
 
@@ -61,30 +60,35 @@ fn bar_pauses<R: Wait + Copy + Clone + Drop>(
 
 /// A board's bars stand there before and behind a pause of the board or of one of them, and not while the closure runs.
 #[test]
-fn bars_are_taken_back_while_a_closure_runs(rt: HostRuntime) -> Result<(), Fail> {
-    let bytes = no_bytes(rt.alloc())?;
-    let board = board_on(rt, rt.alloc(), &bytes, 10)?;
-    let one = bar_of(&board, rt.alloc(), "a")?;
-    let other = bar_of(&board, rt.alloc(), "b")?;
-    assert!(rt; draws(&one) && draws(&other));
-    assert!(rt; is_seen(&rt, rt.alloc(), &bytes, "a\nb") == Ok(true));
-    assert!(rt; board_pauses(&board, rt, rt.alloc(), Arc::try_clone(&bytes)?));
-    assert!(rt; is_seen(&rt, rt.alloc(), &bytes, "a\nb") == Ok(true));
-    assert!(rt; bar_pauses(&one, rt, rt.alloc(), Arc::try_clone(&bytes)?));
-    assert!(rt; is_seen(&rt, rt.alloc(), &bytes, "a\nb") == Ok(true));
-    Ok(())
+fn bars_are_taken_back_while_a_closure_runs(rt: HostRuntime) {
+    let bytes = no_bytes(rt.alloc()).expect(&rt, "granted");
+    let board = board_on(rt, rt.alloc(), &bytes, 10).expect(&rt, "granted");
+    let one = bar_of(&board, rt.alloc(), "a").expect(&rt, "granted");
+    let other = bar_of(&board, rt.alloc(), "b").expect(&rt, "granted");
+    holds!(rt; draws(&one) && draws(&other));
+    same!(rt; is_seen(&rt, rt.alloc(), &bytes, "a\nb"), Ok(true));
+    holds!(rt; board_pauses(&board, rt, rt.alloc(), Arc::try_clone(&bytes).expect(&rt, "granted")));
+    same!(rt; is_seen(&rt, rt.alloc(), &bytes, "a\nb"), Ok(true));
+    holds!(rt; bar_pauses(&one, rt, rt.alloc(), Arc::try_clone(&bytes).expect(&rt, "granted")));
+    same!(rt; is_seen(&rt, rt.alloc(), &bytes, "a\nb"), Ok(true));
 }
 
 /// So is a bar that stands alone.
 #[test]
-fn a_bar_is_taken_back_while_a_closure_runs(rt: HostRuntime) -> Result<(), Fail> {
-    let bytes = no_bytes(rt.alloc())?;
-    let bar: Bar<HostRuntime> = ProgressBar::new(rt, rt.alloc(), 10, setup_on(rt, &bytes, 10)?)?;
-    bar.set_style(ProgressStyle::with_template(rt.alloc(), "{pos}/{len}")?)?;
-    assert!(rt; draws(&bar));
-    assert!(rt; bar_pauses(&bar, rt, rt.alloc(), Arc::try_clone(&bytes)?));
-    assert!(rt; is_seen(&rt, rt.alloc(), &bytes, "0/10") == Ok(true));
-    Ok(())
+fn a_bar_is_taken_back_while_a_closure_runs(rt: HostRuntime) {
+    let bytes = no_bytes(rt.alloc()).expect(&rt, "granted");
+    let bar: Bar<HostRuntime> = ProgressBar::new(
+        rt,
+        rt.alloc(),
+        10,
+        setup_on(rt, &bytes, 10).expect(&rt, "granted"),
+    )
+    .expect(&rt, "granted");
+    bar.set_style(ProgressStyle::with_template(rt.alloc(), "{pos}/{len}").expect(&rt, "granted"))
+        .expect(&rt, "granted");
+    holds!(rt; draws(&bar));
+    holds!(rt; bar_pauses(&bar, rt, rt.alloc(), Arc::try_clone(&bytes).expect(&rt, "granted")));
+    same!(rt; is_seen(&rt, rt.alloc(), &bytes, "0/10"), Ok(true));
 }
 
 // ---- a cursor that only moves
@@ -92,16 +96,15 @@ fn a_bar_is_taken_back_while_a_closure_runs(rt: HostRuntime) -> Result<(), Fail>
 /// On two columns each of two lines fills its row. A draw goes up to the first row, and writes both lines from its front; it ends no
 /// row and empties none. Once that is off again, a draw writes what changed alone.
 #[test]
-fn a_cursor_only_moves(rt: HostRuntime) -> Result<(), Fail> {
-    let bytes = no_bytes(rt.alloc())?;
-    let board = board_on(rt, rt.alloc(), &bytes, 2)?;
-    board.set_move_cursor(true)?;
-    let one = bar_of(&board, rt.alloc(), "ab")?;
-    let other = bar_of(&board, rt.alloc(), "cd")?;
-    assert!(rt; draws(&one) && is_written(&rt, &bytes, "\rab"));
-    assert!(rt; draws(&other) && is_written(&rt, &bytes, "\rab\rabcd"));
-    assert!(rt; draws(&one) && is_written(&rt, &bytes, "\rab\rabcd\u{1b}[1A\rabcd"));
-    board.set_move_cursor(false)?;
-    assert!(rt; draws(&one) && is_written(&rt, &bytes, "\rab\rabcd\u{1b}[1A\rabcd"));
-    Ok(())
+fn a_cursor_only_moves(rt: HostRuntime) {
+    let bytes = no_bytes(rt.alloc()).expect(&rt, "granted");
+    let board = board_on(rt, rt.alloc(), &bytes, 2).expect(&rt, "granted");
+    board.set_move_cursor(true).expect(&rt, "granted");
+    let one = bar_of(&board, rt.alloc(), "ab").expect(&rt, "granted");
+    let other = bar_of(&board, rt.alloc(), "cd").expect(&rt, "granted");
+    holds!(rt; draws(&one) && is_written(&rt, &bytes, "\rab"));
+    holds!(rt; draws(&other) && is_written(&rt, &bytes, "\rab\rabcd"));
+    holds!(rt; draws(&one) && is_written(&rt, &bytes, "\rab\rabcd\u{1b}[1A\rabcd"));
+    board.set_move_cursor(false).expect(&rt, "granted");
+    holds!(rt; draws(&one) && is_written(&rt, &bytes, "\rab\rabcd\u{1b}[1A\rabcd"));
 }
