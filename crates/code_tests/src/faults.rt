@@ -7,45 +7,51 @@ use indicatif_text::columns::{Drawn, Refusal};
 use std::alloc::Global;
 use std::io::ErrorKind;
 use std::process::Abort;
-use std::test::Fail;
+
+/// A terminal of a kind that only its maker knows.
+type Boxed = Box<dyn TermLike + Drop>;
 
 // ---- a call of the terminal fails
 
-/// A bar that says this on a terminal of which the call of this number fails; none where it is 0.
-fn bar_failing_at(alloc: Global, message: &str, failing: u64) -> Result<Shown<FailsOnce>, Refusal> {
-    let term = InMemoryTerm::new(alloc, 20, 10)?;
-    Shown::on(alloc, message, FailsOnce::new(term, failing))
+/// A bar that says `ab` on a terminal of which the call of this number fails; none where it is 0.
+fn bar_failing_at(rt: &impl Abort, alloc: Global, failing: u64) -> Shown<FailsOnce> {
+    let term = InMemoryTerm::new(alloc, 20, 10).expect(rt, "granted");
+    Shown::on(alloc, "ab", FailsOnce::new(term, failing)).expect(rt, "granted")
+}
+
+/// The terminal in memory.
+fn inner<'a>(rt: &impl Abort, bar: &'a Shown<FailsOnce>) -> &'a InMemoryTerm {
+    bar.term().expect(rt, "a terminal").inner()
 }
 
 /// What stands on the screen.
-fn contents(alloc: Global, bar: &Shown<FailsOnce>) -> Result<String, Refusal> {
-    match bar.term() {
-        Some(term) => term.inner().contents(),
-        None => Ok(String::new(alloc)),
-    }
+fn contents(rt: &impl Abort, bar: &Shown<FailsOnce>) -> String {
+    inner(rt, bar).contents().expect(rt, "granted")
 }
 
 /// The rows down to the cursor's, each ended by a newline.
-fn rows_to_the_cursor(alloc: Global, bar: &Shown<FailsOnce>) -> Result<String, Refusal> {
-    let mut text = String::new(alloc);
-    if let Some(term) = bar.term() {
-        push_rows_to_the_cursor(&mut text, term.inner())?;
-    }
-    Ok(text)
-}
-
-fn push_rows_to_the_cursor(text: &mut String, term: &InMemoryTerm) -> Result<(), Refusal> {
+fn rows_to_the_cursor(rt: &impl Abort, alloc: Global, bar: &Shown<FailsOnce>) -> String {
+    let term = inner(rt, bar);
     let (row, _) = term.cursor();
-    push_rows(text, &term.picture()?, usize::from(row))
+    let mut text = String::new(alloc);
+    let picture = term.picture().expect(rt, "granted");
+    push_rows(rt, &mut text, &picture, usize::from(row));
+    text
 }
 
 /// Appends the rows down to the last of these numbers, each ended by a newline.
-fn push_rows(text: &mut String, rows: &[String], last: usize) -> Result<(), Refusal> {
+fn push_rows(rt: &impl Abort, text: &mut String, rows: &[String], last: usize) {
     for row in rows.get(..=last).unwrap_or(rows) {
-        text.push_str(row.as_str())?;
-        text.push('\n')?;
+        text.push_str(row.as_str()).expect(rt, "granted");
+        text.push('\n').expect(rt, "granted");
     }
-    Ok(())
+}
+
+/// The screen shows what a failure left, and these rows below it.
+fn stands_below(rt: &impl Abort, bar: &Shown<FailsOnce>, left: String, rows: &str) {
+    let mut wanted = left;
+    wanted.push_str(rows).expect(rt, "granted");
+    same!(*rt; contents(rt, bar), wanted);
 }
 
 /// Makes the call, and answers what a failure left on the screen. After one, the call's rows stand below what it left.
@@ -55,51 +61,57 @@ fn stepped(
     bar: &mut Shown<FailsOnce>,
     call: (Step, &str),
     left: Option<String>,
-) -> Result<Option<String>, Fail> {
+) -> Option<String> {
     match made(bar, call.0) {
         Ok(drawn) => {
-            assert_eq!(rt; drawn, Drawn::Yes);
-            if let Some(mut wanted) = left {
-                wanted.push_str(call.1)?;
-                assert_eq!(rt; contents(alloc, bar)?.as_str(), wanted.as_str());
+            same!(*rt; drawn, Drawn::Yes);
+            if let Some(left) = left {
+                stands_below(rt, bar, left, call.1);
             }
-            Ok(None)
+            None
         }
         Err(refusal) => {
-            assert_eq!(rt; refusal, Refusal::Terminal(ErrorKind::BrokenPipe));
-            assert!(rt; left.is_none());
-            Ok(Some(rows_to_the_cursor(alloc, bar)?))
+            same!(*rt; refusal, Refusal::Terminal(ErrorKind::BrokenPipe));
+            same!(*rt; left, None);
+            Some(rows_to_the_cursor(rt, alloc, bar))
         }
     }
+}
+
+/// How many calls the terminal was given, and how many of them failed.
+fn calls_and_faults(rt: &impl Abort, bar: &Shown<FailsOnce>) -> (u64, u64) {
+    let term = bar.term().expect(rt, "a terminal");
+    (term.calls(), term.faults())
 }
 
 /// Runs the script and one more draw, and answers how many calls of the terminal the script made and how many of the
 /// script's own calls failed.
-fn run_failing_at(rt: &impl Abort, alloc: Global, failing: u64) -> Result<(u64, u64), Fail> {
-    let mut bar = bar_failing_at(alloc, "ab", failing)?;
+fn run_failing_at(rt: &impl Abort, alloc: Global, failing: u64) -> (u64, u64) {
+    let mut bar = bar_failing_at(rt, alloc, failing);
     let mut left: Option<String> = None;
     let mut failures: u64 = 0;
     for call in SCRIPT {
-        left = stepped(rt, alloc, &mut bar, call, left)?;
+        left = stepped(rt, alloc, &mut bar, call, left);
         if left.is_some() {
             failures = failures.saturating_add(1);
         }
     }
-    let calls = bar.term().map_or(0, |term| term.calls());
-    left = stepped(rt, alloc, &mut bar, (Step::Tick, "e"), left)?;
-    assert!(rt; left.is_none());
-    assert_eq!(rt; bar.term().map_or(0, |term| term.faults()), failures);
-    Ok((calls, failures))
+    let (calls, _) = calls_and_faults(rt, &bar);
+    let left = stepped(rt, alloc, &mut bar, (Step::Tick, "e"), left);
+    same!(*rt; left, None);
+    let (_, faults) = calls_and_faults(rt, &bar);
+    same!(*rt; faults, failures);
+    (calls, failures)
 }
 
 #[test]
 fn each_call_of_the_terminal_fails_once(rt: HostRuntime) {
-    let (calls, failures) = run_failing_at(&rt, rt.alloc(), 0).expect(&rt, "granted");
+    let (calls, failures) = run_failing_at(&rt, rt.alloc(), 0);
     same!(rt; failures, 0);
     holds!(rt; calls > 0);
     for failing in 1..=calls {
-        let (_, failures) = run_failing_at(&rt, rt.alloc(), failing).expect(&rt, "granted");
-        assert_eq!(rt; failures, 1, "where call {failing} fails");
+        let (_, failures) = run_failing_at(&rt, rt.alloc(), failing);
+        same!(rt; (failing, failures), (failing, 1));
     }
 }
 
@@ -115,51 +127,48 @@ fn draws_the_script<T: TermLike + Drop>(bar: &mut Shown<T>) -> bool {
     made(bar, Step::Log("国")) == Err(Refusal::TooWide)
 }
 
-fn plain_draws(alloc: Global) -> Result<bool, Fail> {
-    let mut plain = Shown::on(alloc, "ab", InMemoryTerm::new(alloc, 5, 1)?)?;
-    Ok(draws_the_script(&mut plain))
+/// A terminal of 5 rows and one column.
+fn small(rt: &impl Abort, alloc: Global) -> InMemoryTerm {
+    InMemoryTerm::new(alloc, 5, 1).expect(rt, "granted")
 }
 
-fn boxed_bar(alloc: Global) -> Result<Shown<Box<dyn TermLike + Drop>>, Fail> {
-    let inner = InMemoryTerm::new(alloc, 5, 1)?;
-    let term: Box<dyn TermLike + Drop> = Box::new(alloc, inner)?;
-    Ok(Shown::on(alloc, "ab", term)?)
+fn plain_bar(rt: &impl Abort, alloc: Global) -> Shown<InMemoryTerm> {
+    Shown::on(alloc, "ab", small(rt, alloc)).expect(rt, "granted")
 }
 
-fn boxed_draws(alloc: Global) -> Result<bool, Fail> {
-    let mut boxed = boxed_bar(alloc)?;
-    Ok(draws_the_script(&mut boxed))
+fn boxed_bar(rt: &impl Abort, alloc: Global) -> Shown<Boxed> {
+    let term: Boxed = Box::new(alloc, small(rt, alloc)).expect(rt, "granted");
+    Shown::on(alloc, "ab", term).expect(rt, "granted")
 }
 
 #[test]
 fn a_boxed_terminal_answers_as_the_plain_one(rt: HostRuntime) {
-    holds!(rt; plain_draws(rt.alloc()).expect(&rt, "granted"));
-    holds!(rt; boxed_draws(rt.alloc()).expect(&rt, "granted"));
+    let mut plain = plain_bar(&rt, rt.alloc());
+    holds!(rt; draws_the_script(&mut plain));
+    let mut boxed = boxed_bar(&rt, rt.alloc());
+    holds!(rt; draws_the_script(&mut boxed));
 }
 
 /// How often the bar's terminal has failed.
-fn faults(bar: &Shown<Box<dyn TermLike + Drop>>) -> u64 {
-    bar.term().map_or(0, |term| term.faults())
+fn faults(bar: &Shown<Boxed>) -> Option<u64> {
+    bar.term().map(|term| term.faults())
 }
 
-/// Whether a tick is drawn, a line fails and is counted, and the same line is drawn then.
-fn fails_once(bar: &mut Shown<Box<dyn TermLike + Drop>>) -> bool {
-    bar.tick(0) == Ok(Drawn::Yes)
-        && bar.println("l", 0) == Err(Refusal::Terminal(ErrorKind::BrokenPipe))
-        && faults(bar) == 1
-        && bar.println("l", 0) == Ok(Drawn::Yes)
-        && faults(bar) == 1
+/// A bar on a boxed terminal of which the fourth call fails.
+fn failing_bar(rt: &impl Abort, alloc: Global) -> Shown<Boxed> {
+    let inner = InMemoryTerm::new(alloc, 5, 10).expect(rt, "granted");
+    let term: Boxed = Box::new(alloc, FailsOnce::new(inner, 4)).expect(rt, "granted");
+    Shown::on(alloc, "ab", term).expect(rt, "granted")
 }
 
+/// A tick is drawn, a line fails and is counted, and the same line is drawn then.
 #[test]
 fn a_boxed_terminal_that_fails(rt: HostRuntime) {
-    let failing = FailsOnce::new(
-        InMemoryTerm::new(rt.alloc(), 5, 10).expect(&rt, "granted"),
-        4,
-    );
-    let term: Box<dyn TermLike + Drop> = Box::new(rt.alloc(), failing).expect(&rt, "granted");
-    let mut bar = Shown::on(rt.alloc(), "ab", term).expect(&rt, "granted");
-    holds!(rt; fails_once(&mut bar));
+    let mut bar = failing_bar(&rt, rt.alloc());
+    same!(rt; bar.tick(0), Ok(Drawn::Yes));
+    let broken = Err(Refusal::Terminal(ErrorKind::BrokenPipe));
+    same!(rt; (bar.println("l", 0), faults(&bar)), (broken, Some(1)));
+    same!(rt; (bar.println("l", 0), faults(&bar)), (Ok(Drawn::Yes), Some(1)));
 }
 
 // ---- memory is refused; tried with each allocation failing in turn
@@ -198,7 +207,7 @@ fn is_drawn_at_last(bar: &mut Shown<Term<Vec<u8>>>, step: Step, writes: bool) ->
 /// Each call of the script is drawn at last; all but one of them change a line, and write.
 fn draws_at_last(rt: &impl Abort, bar: &mut Shown<Term<Vec<u8>>>) {
     for (place, call) in SCRIPT.iter().enumerate() {
-        assert!(rt; is_drawn_at_last(bar, call.0, place != STILL));
+        holds!(*rt; is_drawn_at_last(bar, call.0, place != STILL));
     }
 }
 
@@ -245,7 +254,7 @@ fn is_drawn_or_refused(bar: &mut Shown<InMemoryTerm>, step: Step) -> bool {
 /// Each call of the script.
 fn draws_or_refuses(rt: &impl Abort, bar: &mut Shown<InMemoryTerm>) {
     for (step, _) in &SCRIPT {
-        assert!(rt; is_drawn_or_refused(bar, *step));
+        holds!(*rt; is_drawn_or_refused(bar, *step));
     }
 }
 

@@ -8,6 +8,7 @@ use indicatif_term::draw_target::{ProgressDrawTarget, RateLimiter};
 use indicatif_term::in_memory::InMemoryTerm;
 use indicatif_text::columns::{Drawn, Moment, Refusal};
 use std::alloc::Global;
+use std::process::Abort;
 
 /// The board's id.
 const BOARD_ID: u64 = 7;
@@ -19,10 +20,10 @@ const FIRST: BarId = BarId {
 };
 
 /// A bar that shows this, to be taken in.
-fn bar_saying(alloc: Global, text: &str) -> Result<Candidate<NoTracker>, Refusal> {
-    let style = ProgressStyle::with_template(alloc, text)?;
-    let bar = Box::new(alloc, BarState::styled(alloc, style, None, 0)?)?;
-    Ok(Candidate::New(Box::into_inner(bar)))
+fn bar_saying(rt: &impl Abort, alloc: Global, text: &str) -> Candidate<NoTracker> {
+    let style = ProgressStyle::with_template(alloc, text).expect(rt, "granted");
+    let bar = BarState::styled(alloc, style, None, 0).expect(rt, "granted");
+    Candidate::New(bar)
 }
 
 type Target = ProgressDrawTarget<InMemoryTerm>;
@@ -30,27 +31,24 @@ type Target = ProgressDrawTarget<InMemoryTerm>;
 type Recording = Recorded<NoTracker, InMemoryTerm>;
 
 /// A terminal of 4 rows and 10 columns.
-fn terminal(alloc: Global) -> Result<InMemoryTerm, Refusal> {
-    InMemoryTerm::new(alloc, 4, 10)
+fn terminal(rt: &impl Abort, alloc: Global) -> InMemoryTerm {
+    InMemoryTerm::new(alloc, 4, 10).expect(rt, "granted")
 }
 
 /// A board of the id 7 that keeps its history, in a box.
-fn recorded_on(alloc: Global, target: Target) -> Result<Box<Recording>, Refusal> {
-    Ok(Box::new(alloc, Recorded::new(alloc, target, BOARD_ID))?)
+fn recorded_on(rt: &impl Abort, alloc: Global, target: Target) -> Box<Recording> {
+    Box::new(alloc, Recorded::new(alloc, target, BOARD_ID)).expect(rt, "granted")
 }
 
 /// The same on a terminal that is drawn whenever it is asked.
-fn recorded(alloc: Global) -> Result<Box<Recording>, Refusal> {
-    match terminal(alloc) {
-        Ok(term) => recorded_on(alloc, Target::term_like(term)),
-        Err(refusal) => Err(refusal),
-    }
+fn recorded(rt: &impl Abort, alloc: Global) -> Box<Recording> {
+    recorded_on(rt, alloc, Target::term_like(terminal(rt, alloc)))
 }
 
 /// The same on a terminal that is drawn 20 times a second.
-fn recorded_rated(alloc: Global) -> Result<Box<Recording>, Refusal> {
-    let target = Target::term_like_with_hz(terminal(alloc)?, 20, 0)?;
-    recorded_on(alloc, target)
+fn recorded_rated(rt: &impl Abort, alloc: Global) -> Box<Recording> {
+    let target = Target::term_like_with_hz(terminal(rt, alloc), 20, 0).expect(rt, "granted");
+    recorded_on(rt, alloc, target)
 }
 
 /// What the board answers to a call; a bar that comes back is given up.
@@ -60,45 +58,42 @@ fn answer_of(record: &mut Recording, call: Call<NoTracker>, now: Moment) -> Answ
     answer
 }
 
-/// Whether the board that is cleared at the moment 5 answers this.
-fn is_cleared(record: &mut Recording, wanted: &Answer) -> bool {
-    answer_of(record, Call::Clear, 5) == *wanted
+/// That the board was cleared at the moment 5, with this answer, at this size.
+fn is_clear(rt: &impl Abort, entry: &Entry<NoTracker>, (answer, size): (&Answer, Option<Size>)) {
+    holds!(*rt; matches!(entry.call, Call::Clear));
+    same!(*rt; (entry.now, entry.size), (5, size));
+    same!(*rt; &entry.answer, answer);
 }
 
-/// Whether this is that the board was cleared at the moment 5, with this answer, at this size.
-fn is_clear(entry: &Entry<NoTracker>, answer: &Answer, size: Option<Size>) -> bool {
-    matches!(entry.call, Call::Clear)
-        && entry.now == 5
-        && entry.answer == *answer
-        && entry.size == size
-}
-
-/// Whether a clear is answered so, and this is all that is kept.
-fn records_a_clear(record: &mut Recording, answer: &Answer, size: Option<Size>) -> bool {
-    if !is_cleared(record, answer) {
-        return false;
-    }
-    match record.entries() {
-        [entry] => is_clear(entry, answer, size),
-        _ => false,
-    }
+/// A clear at the moment 5 is answered so, and this is all that is kept.
+fn records_a_clear(
+    rt: &impl Abort,
+    record: &mut Recording,
+    (answer, size): (&Answer, Option<Size>),
+) {
+    same!(*rt; &answer_of(record, Call::Clear, 5), answer);
+    same!(*rt; record.entries().len(), 1);
+    let entry = record.entries().first().expect(rt, "an entry");
+    is_clear(rt, entry, (answer, size));
 }
 
 #[test]
 fn an_entry_and_its_size(rt: HostRuntime) {
-    let mut record = recorded(rt.alloc()).expect(&rt, "granted");
+    let mut record = recorded(&rt, rt.alloc());
     let size = Size {
         columns: 10,
         rows: 4,
     };
-    holds!(rt; records_a_clear(&mut record, &Answer::Drawn(Drawn::Yes), Some(size)));
+    let answer = Answer::Drawn(Drawn::Yes);
+    records_a_clear(&rt, &mut record, (&answer, Some(size)));
 }
 
 /// A hidden target has no size.
 #[test]
 fn an_entry_where_nothing_is_shown(rt: HostRuntime) {
-    let mut record = recorded_on(rt.alloc(), Target::hidden()).expect(&rt, "granted");
-    holds!(rt; records_a_clear(&mut record, &Answer::Drawn(Drawn::Hidden), None));
+    let mut record = recorded_on(&rt, rt.alloc(), Target::hidden());
+    let answer = Answer::Drawn(Drawn::Hidden);
+    records_a_clear(&rt, &mut record, (&answer, None));
 }
 
 /// How many of 30 draws a limiter allows at the moment 0.
@@ -124,33 +119,29 @@ fn ticks(record: &mut Recording) -> Answer {
     answer_of(record, Call::Bar(FIRST, BarCommand::Tick), 0)
 }
 
-/// Takes a bar in, and tells whether it is drawn then.
-fn is_drawn(alloc: Global, record: &mut Recording) -> Result<bool, Refusal> {
-    match bar_saying(alloc, "a") {
-        Ok(candidate) => drop(takes_in(record, candidate)),
-        Err(refusal) => return Err(refusal),
-    }
-    Ok(ticks(record) == Answer::Drawn(Drawn::Yes))
+/// Takes a bar in, which is drawn then.
+fn takes_in_and_draws(rt: &impl Abort, alloc: Global, record: &mut Recording) {
+    drop(takes_in(record, bar_saying(rt, alloc, "a")));
+    same!(*rt; ticks(record), Answer::Drawn(Drawn::Yes));
 }
 
-/// Whether a board has this id, and allows so many draws at the moment 0.
-fn opens_with(record: &Recording, board_id: u64, draws: u32) -> bool {
+/// A board has this id, and allows so many draws at the moment 0.
+fn opens_with(rt: &impl Abort, record: &Recording, board_id: u64, draws: u32) {
     let opening = record.opening();
-    match &opening.limiter {
-        Some(limiter) => opening.board_id == board_id && allowed(limiter) == draws,
-        None => false,
-    }
+    let draws_allowed = opening.limiter.as_ref().map(|limiter| allowed(limiter));
+    same!(*rt; (opening.board_id, draws_allowed), (board_id, Some(draws)));
 }
 
 /// The limiter stays as the target came: 20 draws are in hand, though one was made.
 #[test]
 fn an_opening(rt: HostRuntime) {
-    let mut record = recorded_rated(rt.alloc()).expect(&rt, "granted");
-    holds!(rt; is_drawn(rt.alloc(), &mut record).expect(&rt, "granted") && opens_with(&record, 7, 20));
+    let mut record = recorded_rated(&rt, rt.alloc());
+    takes_in_and_draws(&rt, rt.alloc(), &mut record);
+    opens_with(&rt, &record, 7, 20);
 }
 
 #[test]
 fn an_opening_without_a_limit(rt: HostRuntime) {
-    let record = recorded(rt.alloc()).expect(&rt, "granted");
+    let record = recorded(&rt, rt.alloc());
     holds!(rt; record.opening().limiter.is_none());
 }

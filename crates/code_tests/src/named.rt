@@ -33,10 +33,10 @@ const OTHERS: [&str; 4] = [
 ];
 
 /// A bar at 5 of 10, made at 0.
-fn half(at: At) -> Result<Box<Bar>, Bad> {
-    let mut bar = bar_of(at, "{prefix}{pos}/{len}{msg}", Some(10))?;
+fn half(rt: &impl Abort, at: At) -> Box<Bar> {
+    let mut bar = bar_of(at, "{prefix}{pos}/{len}{msg}", Some(10)).expect(rt, "granted");
     bar.with_position(5, 0);
-    Ok(bar)
+    bar
 }
 
 /// Makes a command by its name.
@@ -91,16 +91,21 @@ fn apply(bar: &mut Bar, text: &str, alloc: Global) -> Result<Ask, Bad> {
     Ok(bar.apply(command, 0)?)
 }
 
-/// Whether two bars have reached the same, and say the same.
-fn are_same(one: &Bar, other: &Bar) -> bool {
-    let (state, beside) = (one.state(), other.state());
-    state.pos() == beside.pos()
-        && state.len() == beside.len()
-        && state.ticks() == beside.ticks()
-        && state.is_finished() == beside.is_finished()
-        && one.message() == other.message()
-        && one.prefix() == other.prefix()
-        && one.tab_width() == other.tab_width()
+/// What two bars have reached, and say, is the same.
+fn are_same(rt: &impl Abort, text: &str, (one, other): (&Bar, &Bar)) {
+    same!(*rt; (text, reached(one)), (text, reached(other)));
+    same!(*rt; (text, said(one)), (text, said(other)));
+}
+
+/// What a bar has reached: position, length, ticks, and whether it has ended.
+fn reached(bar: &Bar) -> (u64, Option<u64>, u64, bool) {
+    let state = bar.state();
+    (state.pos(), state.len(), state.ticks(), state.is_finished())
+}
+
+/// What a bar says: message, prefix, and spaces for a tab.
+fn said(bar: &Bar) -> (&str, &str, usize) {
+    (bar.message(), bar.prefix(), bar.tab_width())
 }
 
 /// Whether two answers are the same.
@@ -112,12 +117,13 @@ fn agreed<A: PartialEq + Copy + Drop>(one: Result<A, Bad>, other: Result<A, Bad>
     }
 }
 
-/// Whether a command by its name asks and leaves the same as its value.
-fn leaves_the_same(at: At, text: &str) -> Result<bool, Bad> {
-    let mut called = half(at)?;
-    let mut told = half(at)?;
+/// A command by its name asks and leaves the same as its value.
+fn leaves_the_same(rt: &impl Abort, at: At, text: &str) {
+    let mut called = half(rt, at);
+    let mut told = half(rt, at);
     let asked = agreed(obey(&mut called, text), apply(&mut told, text, at.alloc));
-    Ok(asked && are_same(&called, &told))
+    same!(*rt; (text, asked), (text, true));
+    are_same(rt, text, (&called, &told));
 }
 
 /// All commands pass a check.
@@ -130,7 +136,7 @@ fn all_pass(rt: &impl Abort, at: At, check: Check) {
 
 fn these_pass(rt: &impl Abort, at: At, check: Check, commands: &[&str]) {
     for text in commands {
-        assert!(rt; passes(at, check, text), "at {text}");
+        passes(rt, at, check, text);
     }
 }
 
@@ -143,17 +149,8 @@ fn each_passes(rt: &impl Abort, at: At, check: Check, (names, arguments): (&[&st
 
 fn passes_with(rt: &impl Abort, at: At, check: Check, (name, arguments): (&str, &[&str])) {
     for argument in arguments {
-        assert!(rt;
-            passes_so(at, check, name, argument),
-            "at {name} {argument}"
-        );
-    }
-}
-
-fn passes_so(at: At, check: Check, name: &str, argument: &str) -> bool {
-    match format!(in at.alloc; "{name} {argument}") {
-        Ok(text) => passes(at, check, text.as_str()),
-        Err(_) => false,
+        let text = format!(in at.alloc; "{name} {argument}").expect(rt, "granted");
+        passes(rt, at, check, text.as_str());
     }
 }
 
@@ -164,12 +161,11 @@ enum Check {
     Screens,
 }
 
-fn passes(at: At, check: Check, text: &str) -> bool {
-    let same = match check {
-        Check::Records => leaves_the_same(at, text),
-        Check::Screens => draws_the_same(at, text),
-    };
-    same.unwrap_or(false)
+fn passes(rt: &impl Abort, at: At, check: Check, text: &str) {
+    match check {
+        Check::Records => leaves_the_same(rt, at, text),
+        Check::Screens => draws_the_same(rt, at, text),
+    }
 }
 
 #[test]
@@ -183,10 +179,11 @@ fn commands_of_a_record_by_name(rt: HostRuntime) {
 
 // ---- the same on a terminal
 
-fn shown_half(at: At) -> Result<Box<Lone>, Bad> {
-    let bar = half(at)?;
-    let target = ProgressDrawTarget::term_like(InMemoryTerm::new(at.alloc, 3, 20)?);
-    at.boxed(LoneBar::new(Box::into_inner(bar), target))
+fn shown_half(rt: &impl Abort, at: At) -> Box<Lone> {
+    let term = InMemoryTerm::new(at.alloc, 3, 20).expect(rt, "granted");
+    let target = ProgressDrawTarget::term_like(term);
+    let bar = half(rt, at);
+    Box::new(at.alloc, LoneBar::new(Box::into_inner(bar), target)).expect(rt, "granted")
 }
 
 /// Makes a call by its name.
@@ -232,25 +229,24 @@ fn call(bar: &mut Lone, text: &str, alloc: Global) -> Result<Drawn, Bad> {
     Ok(bar.call(LoneCall::Bar(command), 0)?)
 }
 
-/// Whether the same stands on both terminals.
-fn show_the_same(one: &Lone, other: &Lone) -> Result<bool, Bad> {
-    match (one.term(), other.term()) {
-        (Some(one), Some(other)) => Ok(one.contents()?.as_str() == other.contents()?.as_str()),
-        _ => Ok(false),
-    }
+/// What stands on a bar's terminal.
+fn contents(rt: &impl Abort, bar: &Lone) -> String {
+    let term = bar.term().expect(rt, "a terminal");
+    term.contents().expect(rt, "granted")
 }
 
 fn record(bar: &Lone) -> &Bar {
     bar.bar()
 }
 
-/// Whether a call by its name draws and leaves the same as its value.
-fn draws_the_same(at: At, text: &str) -> Result<bool, Bad> {
-    let mut called = shown_half(at)?;
-    let mut told = shown_half(at)?;
+/// A call by its name draws and leaves the same as its value.
+fn draws_the_same(rt: &impl Abort, at: At, text: &str) {
+    let mut called = shown_half(rt, at);
+    let mut told = shown_half(rt, at);
     let drawn = agreed(draw(&mut called, text), call(&mut told, text, at.alloc));
-    let same = are_same(record(&called), record(&told));
-    Ok(drawn && same && show_the_same(&called, &told)?)
+    same!(*rt; (text, drawn), (text, true));
+    are_same(rt, text, (record(&called), record(&told)));
+    same!(*rt; contents(rt, &called), contents(rt, &told));
 }
 
 #[test]

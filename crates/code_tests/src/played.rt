@@ -46,6 +46,6 @@ fn files_of_rows(rt: HostRuntime) {
         ("given a -> b\n+ b -> b\n", (0, 2, 2)),
         ("+ b -> b\n", (1, 0, 2)),
     ] {
-        assert_eq!(rt; told(rt, text), Some(wanted), "of {text:?}");
+        same!(rt; (text, told(rt, text)), (text, Some(wanted)));
     }
 }

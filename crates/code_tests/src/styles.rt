@@ -14,7 +14,6 @@ use itoa::Buffer;
 use std::alloc::Global;
 use std::convert::AsStr;
 use std::process::Abort;
-use std::test::Fail;
 
 // ---- styles and bars in boxes, so that each way out of a function drops them by one call
 
@@ -22,64 +21,59 @@ type Look<K> = Box<ProgressStyle<K>>;
 
 type Told<K> = Box<BarState<K>>;
 
-fn look<K: ProgressTracker>(alloc: Global, template: &str) -> Result<Look<K>, Refusal> {
-    let style = ProgressStyle::with_template(alloc, template)?;
-    Ok(Box::new(alloc, style)?)
+fn look<K: ProgressTracker>(rt: &impl Abort, alloc: Global, template: &str) -> Look<K> {
+    let style = ProgressStyle::with_template(alloc, template).expect(rt, "granted");
+    Box::new(alloc, style).expect(rt, "granted")
 }
 
 /// The same style with this tracker.
 fn keyed<K: ProgressTracker>(
+    rt: &impl Abort,
     alloc: Global,
     look: Look<K>,
-    name: &str,
-    tracker: K,
-) -> Result<Look<K>, Refusal> {
-    let style = Box::into_inner(look).with_key(name, tracker)?;
-    Ok(Box::new(alloc, style)?)
+    (name, tracker): (&str, K),
+) -> Look<K> {
+    let style = Box::into_inner(look)
+        .with_key(name, tracker)
+        .expect(rt, "granted");
+    Box::new(alloc, style).expect(rt, "granted")
 }
 
-fn cloned<K: ProgressTracker>(alloc: Global, look: &Look<K>) -> Result<Look<K>, Refusal> {
-    Ok(Box::new(alloc, look.try_clone()?)?)
+fn cloned<K: ProgressTracker>(rt: &impl Abort, alloc: Global, look: &Look<K>) -> Look<K> {
+    let style = look.try_clone().expect(rt, "granted");
+    Box::new(alloc, style).expect(rt, "granted")
 }
 
 fn bar<K: ProgressTracker>(
+    rt: &impl Abort,
     alloc: Global,
     look: Look<K>,
     len: Option<u64>,
-) -> Result<Told<K>, Refusal> {
-    let bar = BarState::styled(alloc, Box::into_inner(look), len, 0)?;
-    Ok(Box::new(alloc, bar)?)
+) -> Told<K> {
+    let bar = BarState::styled(alloc, Box::into_inner(look), len, 0).expect(rt, "granted");
+    Box::new(alloc, bar).expect(rt, "granted")
 }
 
-/// The lines on so many columns, each with a newline behind it.
-fn lines<K: ProgressTracker>(
-    alloc: Global,
-    bar: &BarState<K>,
-    columns: u16,
-) -> Result<String, Refusal> {
-    let mut text = String::new(alloc);
-    push_lines(&mut text, &bar.lines(0, columns)?)?;
-    Ok(text)
-}
-
-fn push_lines(text: &mut String, lines: &[LineType]) -> Result<(), Refusal> {
-    for line in lines {
-        text.push_str(line.as_str())?;
-        text.push('\n')?;
-    }
-    Ok(())
-}
-
-/// The lines are these.
+/// The lines on so many columns, each with a newline behind it, are these.
 fn shows<K: ProgressTracker>(
     rt: &impl Abort,
     alloc: Global,
     bar: &BarState<K>,
     (columns, wanted): (u16, &str),
-) -> Result<(), Fail> {
-    let shown = lines(alloc, bar, columns)?;
-    assert_eq!(rt; shown.as_str(), wanted);
-    Ok(())
+) {
+    let lines = bar.lines(0, columns).expect(rt, "granted");
+    let text = joined(rt, alloc, &lines);
+    same!(*rt; text.as_str(), wanted);
+}
+
+/// These lines, each with a newline behind it.
+fn joined(rt: &impl Abort, alloc: Global, lines: &[LineType]) -> String {
+    let mut text = String::new(alloc);
+    for line in lines {
+        text.push_str(line.as_str()).expect(rt, "granted");
+        text.push('\n').expect(rt, "granted");
+    }
+    text
 }
 
 // ---- a text that stays
@@ -101,25 +95,28 @@ impl TellsText for Says {
 
 /// The same style with a tracker of this name that writes this text.
 fn saying(
+    rt: &impl Abort,
     alloc: Global,
     look: Look<FnTracker<Says>>,
     (name, text): (&str, &'static str),
-) -> Result<Look<FnTracker<Says>>, Refusal> {
-    let tracker = FnTracker::new(alloc, Says { alloc, text })?;
-    keyed(alloc, look, name, tracker)
+) -> Look<FnTracker<Says>> {
+    let tracker = FnTracker::new(alloc, Says { alloc, text }).expect(rt, "granted");
+    keyed(rt, alloc, look, (name, tracker))
 }
 
 /// A style of this template with a tracker of the name `t`, with colours or without.
 fn tracked(
+    rt: &impl Abort,
     alloc: Global,
-    template: &str,
-    text: &'static str,
+    (template, text): (&str, &'static str),
     colours: bool,
-) -> Result<Look<FnTracker<Says>>, Refusal> {
-    let look = saying(alloc, look(alloc, template)?, ("t", text))?;
-    let style = Box::into_inner(look).with_colors(colours)?;
-    let style = style.progress_chars("=>-")?;
-    Ok(Box::new(alloc, style)?)
+) -> Look<FnTracker<Says>> {
+    let look = saying(rt, alloc, look(rt, alloc, template), ("t", text));
+    let style = Box::into_inner(look)
+        .with_colors(colours)
+        .expect(rt, "granted");
+    let style = style.progress_chars("=>-").expect(rt, "granted");
+    Box::new(alloc, style).expect(rt, "granted")
 }
 
 /// A template, the text of its tracker, spaces for a tab, and the lines on 10 columns.
@@ -141,50 +138,55 @@ const SAID: [Said; 10] = [
 ];
 
 /// The lines of a bar of 4 are these.
-fn is_told(rt: &impl Abort, alloc: Global, row: &Said) -> Result<(), Fail> {
+fn is_told(rt: &impl Abort, alloc: Global, row: &Said) {
     let (template, text, tab, wanted) = *row;
-    let look = tracked(alloc, template, text, false)?;
-    let mut bar = bar(alloc, look, Some(4))?;
-    bar.set_tab_width(tab, 0)?;
-    shows(rt, alloc, &bar, (10, wanted))
+    let look = tracked(rt, alloc, (template, text), false);
+    let mut bar = bar(rt, alloc, look, Some(4));
+    bar.set_tab_width(tab, 0).expect(rt, "granted");
+    shows(rt, alloc, &bar, (10, wanted));
 }
 
 #[test]
 fn texts_of_trackers(rt: HostRuntime) {
     for row in &SAID {
-        is_told(&rt, rt.alloc(), row).expect(&rt, "granted");
+        is_told(&rt, rt.alloc(), row);
     }
 }
 
 /// A tracker in a style of its own, with colours or without, is shown so.
-fn shows_colours(rt: &impl Abort, alloc: Global, colours: bool, wanted: &str) -> Result<(), Fail> {
-    let look = tracked(alloc, "{t:^5.red.on_blue}", "XXX", colours)?;
-    let bar = bar(alloc, look, Some(4))?;
-    shows(rt, alloc, &bar, (80, wanted))
+fn shows_colours(rt: &impl Abort, alloc: Global, colours: bool, wanted: &str) {
+    let look = tracked(rt, alloc, ("{t:^5.red.on_blue}", "XXX"), colours);
+    let bar = bar(rt, alloc, look, Some(4));
+    shows(rt, alloc, &bar, (80, wanted));
 }
 
 #[test]
 fn a_tracker_in_colours(rt: HostRuntime) {
     let coloured = "\u{1B}[31m\u{1B}[44m XXX \u{1B}[0m\n";
-    shows_colours(&rt, rt.alloc(), true, coloured).expect(&rt, "granted");
-    shows_colours(&rt, rt.alloc(), false, " XXX \n")
+    shows_colours(&rt, rt.alloc(), true, coloured);
+    shows_colours(&rt, rt.alloc(), false, " XXX \n");
+}
+
+/// A terminal of 4 rows and 10 columns.
+fn target(rt: &impl Abort, alloc: Global) -> ProgressDrawTarget<InMemoryTerm> {
+    ProgressDrawTarget::term_like(InMemoryTerm::new(alloc, 4, 10).expect(rt, "granted"))
 }
 
 /// A bar on a terminal of 4 rows and 10 columns.
 fn on_terminal(
+    rt: &impl Abort,
     alloc: Global,
     bar: Told<FnTracker<Says>>,
-) -> Result<Box<LoneBar<FnTracker<Says>, InMemoryTerm>>, Refusal> {
-    let target = ProgressDrawTarget::term_like(InMemoryTerm::new(alloc, 4, 10)?);
-    Ok(Box::new(alloc, LoneBar::new(Box::into_inner(bar), target))?)
+) -> Box<LoneBar<FnTracker<Says>, InMemoryTerm>> {
+    let lone = LoneBar::new(Box::into_inner(bar), target(rt, alloc));
+    Box::new(alloc, lone).expect(rt, "granted")
 }
 
 /// What isn't a colour sequence is written as it is: the draw is made.
 #[test]
 fn a_sequence_of_another_kind_is_drawn(rt: HostRuntime) {
-    let look = tracked(rt.alloc(), "{t}", "\u{1B}[2J", false).expect(&rt, "granted");
-    let bar = bar(rt.alloc(), look, Some(4)).expect(&rt, "granted");
-    let mut drawn = on_terminal(rt.alloc(), bar).expect(&rt, "granted");
+    let look = tracked(&rt, rt.alloc(), ("{t}", "\u{1B}[2J"), false);
+    let mut drawn = on_terminal(&rt, rt.alloc(), bar(&rt, rt.alloc(), look, Some(4)));
     same!(rt; drawn.tick(0), Ok(Drawn::Yes));
 }
 
@@ -194,23 +196,19 @@ type Recording = Recorded<FnTracker<Says>, InMemoryTerm>;
 
 type OnBoard = Board<FnTracker<Says>, InMemoryTerm>;
 
-/// A terminal of 4 rows and 10 columns.
-fn target(alloc: Global) -> Result<ProgressDrawTarget<InMemoryTerm>, Refusal> {
-    Ok(ProgressDrawTarget::term_like(InMemoryTerm::new(alloc, 4, 10)?))
-}
-
 /// A bar whose tracker writes this text, with two spaces for a tab.
 fn insertion_of(
+    rt: &impl Abort,
     alloc: Global,
     text: &'static str,
-) -> Result<multi::Call<FnTracker<Says>>, Refusal> {
-    let look = tracked(alloc, "{t}", text, false)?;
-    let mut bar = bar(alloc, look, Some(4))?;
-    bar.with_tab_width(2, 0)?;
-    Ok(multi::Call::Insert {
+) -> multi::Call<FnTracker<Says>> {
+    let look = tracked(rt, alloc, ("{t}", text), false);
+    let mut bar = bar(rt, alloc, look, Some(4));
+    bar.with_tab_width(2, 0).expect(rt, "granted");
+    multi::Call::Insert {
         at: InsertLocation::End,
         candidate: Candidate::New(Box::into_inner(bar)),
-    })
+    }
 }
 
 /// What a board answers to a call; a bar that comes back is given up.
@@ -226,90 +224,96 @@ const FIRST: BarId = BarId {
     number: 0,
 };
 
-/// Whether a board takes such a bar in, and draws it.
-fn is_drawn(alloc: Global, board: &mut Recording, text: &'static str) -> Result<bool, Refusal> {
-    let taken = applied(board, insertion_of(alloc, text)?);
+/// A board takes such a bar in, and draws it.
+fn takes_in_and_draws(rt: &impl Abort, alloc: Global, board: &mut Recording, text: &'static str) {
+    let taken = applied(board, insertion_of(rt, alloc, text));
+    same!(*rt; taken, Answer::Id(FIRST));
     let drawn = applied(board, multi::Call::Bar(FIRST, BarCommand::Tick));
-    Ok(taken == Answer::Id(FIRST) && drawn == Answer::Drawn(Drawn::Yes))
+    same!(*rt; drawn, Answer::Drawn(Drawn::Yes));
 }
 
-/// Whether a board makes the calls of these entries with the same answers.
+/// A board makes the calls of these entries with the same answers.
 fn answers_so(
+    rt: &impl Abort,
     alloc: Global,
     board: &mut OnBoard,
     entries: &[Entry<FnTracker<Says>>],
-) -> Result<bool, Refusal> {
+) {
     for entry in entries {
-        if board.call(entry.call.try_clone(alloc)?, 0) != entry.answer {
-            return Ok(false);
-        }
+        let call = entry.call.try_clone(alloc).expect(rt, "granted");
+        same!(*rt; &board.call(call, 0), &entry.answer);
     }
-    Ok(true)
 }
 
-fn contents(term: Option<&InMemoryTerm>) -> Result<String, Refusal> {
-    match term {
-        Some(term) => term.contents(),
-        None => Err(Refusal::NotMember),
-    }
+fn contents(rt: &impl Abort, board: &OnBoard) -> String {
+    let term = board.term().expect(rt, "a terminal");
+    term.contents().expect(rt, "granted")
+}
+
+/// A board that keeps its history, and has drawn a bar whose tracker writes this text.
+fn recorded(rt: &impl Abort, alloc: Global, text: &'static str) -> Box<Recording> {
+    let board = Recorded::new(alloc, target(rt, alloc), 1);
+    let mut board = Box::new(alloc, board).expect(rt, "granted");
+    takes_in_and_draws(rt, alloc, &mut board, text);
+    board
+}
+
+/// What a fresh board shows that makes these calls with the same answers.
+fn shown_again(rt: &impl Abort, alloc: Global, entries: &[Entry<FnTracker<Says>>]) -> String {
+    same!(*rt; entries.len(), 2);
+    let board = Board::new(alloc, target(rt, alloc), 1);
+    let mut board = Box::new(alloc, board).expect(rt, "granted");
+    answers_so(rt, alloc, &mut board, entries);
+    contents(rt, &board)
 }
 
 /// What a board shows that keeps its history, where it draws a bar whose tracker writes this text, and a fresh board that makes the same
 /// calls answers and shows the same.
-fn recorded_shows(alloc: Global, text: &'static str) -> Result<String, Refusal> {
-    let mut recorded: Box<Recording> = Box::new(alloc, Recorded::new(alloc, target(alloc)?, 1))?;
-    let mut fresh: Box<OnBoard> = Box::new(alloc, Board::new(alloc, target(alloc)?, 1))?;
-    let drawn = is_drawn(alloc, &mut recorded, text)?;
-    let same = answers_so(alloc, &mut fresh, recorded.entries())?;
-    let shown = contents(recorded.board().term())?;
-    match drawn && same && recorded.entries().len() == 2 && shown == contents(fresh.term())? {
-        true => Ok(shown),
-        false => Err(Refusal::NotMember),
-    }
+fn recorded_shows(rt: &impl Abort, alloc: Global, text: &'static str) -> String {
+    let recorded = recorded(rt, alloc, text);
+    let shown = contents(rt, recorded.board());
+    let again = shown_again(rt, alloc, recorded.entries());
+    same!(*rt; again.as_str(), shown.as_str());
+    shown
 }
 
 /// A tracker's tab is two spaces and its newline parts two lines, on a board too.
 #[test]
 fn a_tab_and_a_newline_on_a_board(rt: HostRuntime) {
-    let shown = recorded_shows(rt.alloc(), "a\tb\nc").expect(&rt, "granted");
+    let shown = recorded_shows(&rt, rt.alloc(), "a\tb\nc");
     same!(rt; shown.as_str(), "a  b\nc");
 }
 
 /// What isn't a colour sequence is drawn on a board too; what it does to the terminal isn't claimed.
 #[test]
 fn a_sequence_of_another_kind_on_a_board(rt: HostRuntime) {
-    holds!(rt; recorded_shows(rt.alloc(), "\u{1B}[2J").is_ok());
+    drop(recorded_shows(&rt, rt.alloc(), "\u{1B}[2J"));
 }
 
 // ---- names of keys
 
 /// Trackers of the names of keys, and two of one name.
-fn named(alloc: Global) -> Result<Look<FnTracker<Says>>, Refusal> {
-    let look = look(alloc, "{pos}{wide_msg}{t}")?;
-    let look = saying(alloc, look, ("pos", "p"))?;
-    let look = saying(alloc, look, ("wide_msg", "w"))?;
-    let look = saying(alloc, look, ("t", "1"))?;
-    saying(alloc, look, ("t", "2"))
+fn named(rt: &impl Abort, alloc: Global) -> Look<FnTracker<Says>> {
+    let look = look(rt, alloc, "{pos}{wide_msg}{t}");
+    let look = saying(rt, alloc, look, ("pos", "p"));
+    let look = saying(rt, alloc, look, ("wide_msg", "w"));
+    let look = saying(rt, alloc, look, ("t", "1"));
+    saying(rt, alloc, look, ("t", "2"))
 }
 
 /// The line of a bar that looks so is this.
-fn shows_line(
-    rt: &impl Abort,
-    alloc: Global,
-    look: Look<FnTracker<Says>>,
-    wanted: &str,
-) -> Result<(), Fail> {
-    let bar = bar(alloc, look, None)?;
-    shows(rt, alloc, &bar, (80, wanted))
+fn shows_line(rt: &impl Abort, alloc: Global, look: Look<FnTracker<Says>>, wanted: &str) {
+    let bar = bar(rt, alloc, look, None);
+    shows(rt, alloc, &bar, (80, wanted));
 }
 
 /// A tracker comes before a key of its name, and before an earlier tracker of its name.
 #[test]
 fn names_of_trackers(rt: HostRuntime) {
-    let look = named(rt.alloc()).expect(&rt, "granted");
-    let clone = cloned(rt.alloc(), &look).expect(&rt, "granted");
-    shows_line(&rt, rt.alloc(), look, "pw2\n").expect(&rt, "granted");
-    shows_line(&rt, rt.alloc(), clone, "pw2\n")
+    let look = named(&rt, rt.alloc());
+    let clone = cloned(&rt, rt.alloc(), &look);
+    shows_line(&rt, rt.alloc(), look, "pw2\n");
+    shows_line(&rt, rt.alloc(), clone, "pw2\n");
 }
 
 // ---- a text that changes
@@ -346,9 +350,10 @@ impl ProgressTracker for Light {
 }
 
 /// A bar that shows whether it has ticked.
-fn lit(alloc: Global) -> Result<Told<Light>, Refusal> {
-    let look = keyed(alloc, look(alloc, "{light}")?, "light", Light { on: false })?;
-    bar(alloc, look, None)
+fn lit(rt: &impl Abort, alloc: Global) -> Told<Light> {
+    let look = look(rt, alloc, "{light}");
+    let look = keyed(rt, alloc, look, ("light", Light { on: false }));
+    bar(rt, alloc, look, None)
 }
 
 /// A call of a bar.
@@ -369,9 +374,9 @@ enum Step {
     Finish,
 }
 
-fn command(alloc: Global, call: Step) -> Result<BarCommand<Light>, Refusal> {
-    let message = String::from_str(alloc, "m")?;
-    Ok(match call {
+fn command(rt: &impl Abort, alloc: Global, call: Step) -> BarCommand<Light> {
+    let message = String::from_str(alloc, "m").expect(rt, "granted");
+    match call {
         Step::WithPosition => BarCommand::WithPosition(1),
         Step::ForceDraw => BarCommand::ForceDraw,
         Step::WithMessage => BarCommand::WithMessage(message),
@@ -385,7 +390,7 @@ fn command(alloc: Global, call: Step) -> Result<BarCommand<Light>, Refusal> {
         Step::SetTicker => BarCommand::SetTicker(true),
         Step::TickerTick => BarCommand::TickerTick,
         Step::Finish => BarCommand::Finish(ProgressFinish::AndLeave),
-    })
+    }
 }
 
 /// Calls one after another, and what the bar shows then. Each that updates the bar ticks its trackers; a reset resets them, and nothing
@@ -417,16 +422,17 @@ fn shows_after(
     alloc: Global,
     bar: &mut BarState<Light>,
     (call, wanted): (Step, &str),
-) -> Result<(), Fail> {
-    bar.apply(command(alloc, call)?, 0)?;
-    shows(rt, alloc, bar, (80, wanted))
+) {
+    let command = command(rt, alloc, call);
+    bar.apply(command, 0).expect(rt, "granted");
+    shows(rt, alloc, bar, (80, wanted));
 }
 
 #[test]
 fn ticks_and_resets_of_a_tracker(rt: HostRuntime) {
-    let mut bar = lit(rt.alloc()).expect(&rt, "granted");
+    let mut bar = lit(&rt, rt.alloc());
     for row in &CALLS {
-        shows_after(&rt, rt.alloc(), &mut bar, *row).expect(&rt, "granted");
+        shows_after(&rt, rt.alloc(), &mut bar, *row);
     }
 }
 
@@ -457,19 +463,20 @@ impl ProgressTracker for Left {
 }
 
 /// A bar of files that shows how many of 10 are left.
-fn counting(alloc: Global) -> Result<Told<Left>, Refusal> {
-    let look = keyed(alloc, look(alloc, "{msg} {left}")?, "left", Left { of: 10 })?;
-    let mut bar = bar(alloc, look, None)?;
-    bar.set_message("files", 0)?;
-    Ok(bar)
+fn counting(rt: &impl Abort, alloc: Global) -> Told<Left> {
+    let look = look(rt, alloc, "{msg} {left}");
+    let look = keyed(rt, alloc, look, ("left", Left { of: 10 }));
+    let mut bar = bar(rt, alloc, look, None);
+    bar.set_message("files", 0).expect(rt, "granted");
+    bar
 }
 
 /// It follows the position, and stays at 0 past the end.
 #[test]
 fn a_tracker_of_what_is_left(rt: HostRuntime) {
-    let mut bar = counting(rt.alloc()).expect(&rt, "granted");
+    let mut bar = counting(&rt, rt.alloc());
     for (position, wanted) in [(0, "files 10\n"), (3, "files 7\n"), (12, "files 0\n")] {
         bar.set_position(position, 0);
-        shows(&rt, rt.alloc(), &bar, (80, wanted)).expect(&rt, "granted");
+        shows(&rt, rt.alloc(), &bar, (80, wanted));
     }
 }

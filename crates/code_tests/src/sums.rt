@@ -1,8 +1,8 @@
 //! Workers that add to one sum: in two threads, on one, and divided among many.
-ghost use Rattle.std.specs.Prelude.{◌≡◌, ◌+◌, All, IfOk};
+ghost use Rattle.std.specs.Prelude.{◌≡◌, ◌+◌, All};
 
 use indicatif_board::done::{BarWorker, Done};
-use indicatif_text::columns::Refusal;
+use std::process::Abort;
 use std::thread::join;
 
 /// A worker that added 1 a thousand times, and the total that it read then.
@@ -85,23 +85,23 @@ fn a_sum_wraps_at_2_to_the_64(rt: HostRuntime) {
 }
 
 /// Splits a hundred times in a row; the worker of the k-th split that stays behind adds k. The one that was given last.
-fn last_of_a_hundred_splits(done: &Done, worker: BarWorker) -> Result<BarWorker, Refusal>
+fn last_of_a_hundred_splits(rt: &impl Abort, done: &Done, worker: BarWorker) -> BarWorker
     requires of { worker.adds_to ≡ done.now }
-    ensures of { IfOk result (λ last. last.adds_to ≡ done.now) }
+    ensures of { result.adds_to ≡ done.now }
 {
     let mut last = worker;
     for k in 0..100u64 {
-        let (mut own, given) = last.split(done)?;
+        let (mut own, given) = last.split(done).expect(rt, "granted");
         own.add(done, k);
         last = given;
     }
-    Ok(last)
+    last
 }
 
 #[test]
 fn a_hundred_splits_in_a_row(rt: HostRuntime) {
     let (done, worker) = Done::new(rt.alloc()).expect(&rt, "granted");
-    let mut last = last_of_a_hundred_splits(&done, worker).expect(&rt, "granted");
+    let mut last = last_of_a_hundred_splits(&rt, &done, worker);
     same!(rt; last.total(&done), 4950);
 }
 

@@ -5,6 +5,7 @@ use indicatif_term::term_like::TermLike;
 use indicatif_text::columns::{Clock, Refusal, StepClock};
 use std::alloc::Global;
 use std::io::ErrorKind;
+use std::process::Abort;
 
 type Target = ProgressDrawTarget<InMemoryTerm>;
 
@@ -12,14 +13,15 @@ fn hidden() -> Target {
     ProgressDrawTarget::hidden()
 }
 
-fn target(alloc: Global) -> Result<Target, Refusal> {
-    let term = InMemoryTerm::new(alloc, 2, 3)?;
-    Ok(ProgressDrawTarget::term_like(term))
+fn target(rt: &impl Abort, alloc: Global) -> Target {
+    let term = InMemoryTerm::new(alloc, 2, 3).expect(rt, "granted");
+    ProgressDrawTarget::term_like(term)
 }
 
 /// One that draws once a second.
-fn often(alloc: Global) -> Result<Target, Refusal> {
-    ProgressDrawTarget::term_like_with_hz(InMemoryTerm::new(alloc, 2, 3)?, 1, 0)
+fn often(rt: &impl Abort, alloc: Global) -> Target {
+    let term = InMemoryTerm::new(alloc, 2, 3).expect(rt, "granted");
+    ProgressDrawTarget::term_like_with_hz(term, 1, 0).expect(rt, "granted")
 }
 
 /// Whether a target gives an engine, and whether a limiter.
@@ -31,9 +33,9 @@ fn opened(alloc: Global, target: Target) -> (bool, bool) {
 #[test]
 fn engines_of_targets(rt: HostRuntime) {
     let alloc = rt.alloc();
-    same!(rt; opened(alloc, target(alloc).expect(&rt, "granted")), (true, false));
+    same!(rt; opened(alloc, target(&rt, alloc)), (true, false));
     same!(rt; opened(alloc, hidden()), (false, false));
-    same!(rt; opened(alloc, often(alloc).expect(&rt, "granted")), (true, true));
+    same!(rt; opened(alloc, often(&rt, alloc)), (true, true));
 }
 
 /// Rows and columns of a target's terminal, where it has one and no limiter.
@@ -59,7 +61,7 @@ fn taken_apart(setup: Setup<InMemoryTerm, StepClock>) -> (bool, Option<(u16, u16
 #[test]
 fn what_a_bar_is_made_with(rt: HostRuntime) {
     let setup = Setup {
-        target: target(rt.alloc()).expect(&rt, "granted"),
+        target: target(&rt, rt.alloc()),
         clock: StepClock { next: 5, step: 2 },
     };
     same!(rt; taken_apart(setup), (false, Some((2, 3)), 5));
@@ -106,7 +108,8 @@ fn goes_on(term: &InMemoryTerm) -> bool {
 fn want_of_memory(rt: HostRuntime) {
     match InMemoryTerm::new(rt.alloc(), 2, 4) {
         Ok(mut term) => {
-            holds!(rt; writes_all(&mut term) && goes_on(&term));
+            holds!(rt; writes_all(&mut term));
+            holds!(rt; goes_on(&term));
         }
         Err(refusal) => {
             same!(rt; refusal, Refusal::Memory);

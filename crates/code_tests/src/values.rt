@@ -5,22 +5,34 @@ ghost use Rattle.indicatif_bar.specs.Progress.{Progress};
 use bars_run::fault::Fault;
 use indicatif_bar::lone::LoneBar;
 use indicatif_bar::state::{Ask, BarState, Change, ProgressFinish, ProgressState, SpareLines};
-use indicatif_bar::style::{FnTracker, NoTracker, ProgressStyle, TellsText};
+use indicatif_bar::style::{FnTracker, NoTracker, ProgressStyle, ProgressTracker, TellsText};
 use indicatif_term::draw_target::{LineType, ProgressDrawTarget, Setup};
 use indicatif_term::in_memory::InMemoryTerm;
 use indicatif_term::term_like::TermLike;
 use indicatif_text::columns::{Clock, Drawn, Moment, Refusal, StepClock};
 use std::alloc::Global;
-use std::test::Fail;
+use std::convert::AsStr;
+use std::process::Abort;
 
 type Bar = BarState<NoTracker>;
 
 type Lone = LoneBar<NoTracker, InMemoryTerm>;
 
 /// A record of this length that shows its position, in a box: each way out of a function drops it by one call.
-fn plain_bar(alloc: Global, len: u64) -> Result<Box<Bar>, Refusal> {
-    let style = ProgressStyle::with_template(alloc, "{pos}")?;
-    Ok(Box::new(alloc, BarState::styled(alloc, style, Some(len), 0)?)?)
+fn plain_bar(rt: &impl Abort, alloc: Global, len: u64) -> Box<Bar> {
+    let style = ProgressStyle::with_template(alloc, "{pos}").expect(rt, "granted");
+    boxed(rt, alloc, style, Some(len))
+}
+
+/// A record that looks so.
+fn boxed<K: ProgressTracker>(
+    rt: &impl Abort,
+    alloc: Global,
+    style: ProgressStyle<K>,
+    len: Option<u64>,
+) -> Box<BarState<K>> {
+    let bar = BarState::styled(alloc, style, len, 0).expect(rt, "granted");
+    Box::new(alloc, bar).expect(rt, "granted")
 }
 
 fn position(bar: &Bar) -> u64 {
@@ -56,25 +68,19 @@ fn setup(rt: HostRuntime) {
 
 #[test]
 fn draw_target(rt: HostRuntime) {
-    let shown = ProgressDrawTarget::term_like(InMemoryTerm::new(rt.alloc(), 2, 5).expect(
-        &rt, "granted",
-    ));
+    let term = InMemoryTerm::new(rt.alloc(), 2, 5).expect(&rt, "granted");
+    let shown = ProgressDrawTarget::term_like(term);
     holds!(rt; !shown.is_hidden());
     same!(rt; shown.into_term().map(|term| term.width()), Some(5));
     let nowhere: ProgressDrawTarget<InMemoryTerm> = ProgressDrawTarget::hidden();
     holds!(rt; nowhere.is_hidden());
 }
 
-/// Whether a fault is written so.
-fn is_written(alloc: Global, fault: &Fault, wanted: &str) -> Result<bool, Fail> {
-    let text = fault.to_string(alloc)?;
-    Ok(text.as_str() == wanted)
-}
-
 #[test]
 fn fault(rt: HostRuntime) {
     let fault = Fault::Line(4, Refusal::NotMember);
-    holds!(rt; is_written(rt.alloc(), &fault, "bars: line 4: E9").expect(&rt, "granted"));
+    let text = fault.to_string(rt.alloc()).expect(&rt, "granted");
+    same!(rt; text.as_str(), "bars: line 4: E9");
     same!(rt; fault.status(), 1);
 }
 
@@ -95,66 +101,66 @@ impl TellsText for Always {
 }
 
 /// Tells `ready` always.
-fn ready(alloc: Global) -> Result<FnTracker<Always>, Refusal> {
-    let text = String::from_str(alloc, "ready")?;
-    FnTracker::new(alloc, Always { text })
+fn ready(rt: &impl Abort, alloc: Global) -> FnTracker<Always> {
+    let text = String::from_str(alloc, "ready").expect(rt, "granted");
+    FnTracker::new(alloc, Always { text }).expect(rt, "granted")
 }
 
 /// A bar that shows what this tells.
 fn telling(
+    rt: &impl Abort,
     alloc: Global,
     tracker: FnTracker<Always>,
-) -> Result<Box<BarState<FnTracker<Always>>>, Refusal> {
-    let style = ProgressStyle::with_template(alloc, "{word}!")?.with_key("word", tracker)?;
-    Ok(Box::new(alloc, BarState::styled(alloc, style, Some(10), 0)?)?)
+) -> Box<BarState<FnTracker<Always>>> {
+    let style = ProgressStyle::with_template(alloc, "{word}!").expect(rt, "granted");
+    let style = style.with_key("word", tracker).expect(rt, "granted");
+    boxed(rt, alloc, style, Some(10))
 }
 
-/// Whether this is its one line.
-fn shows(lines: &[LineType], wanted: &str) -> bool {
+/// This is the one line.
+fn is_shown(rt: &impl Abort, lines: &[LineType], wanted: &str) {
     match lines {
-        [line] => line.is_text(wanted),
-        _ => false,
+        [line] => same!(*rt; line.as_str(), wanted),
+        _ => same!(*rt; (wanted, lines.len()), (wanted, 1)),
     }
 }
 
 #[test]
 fn fn_tracker_and_tells_text(rt: HostRuntime) {
-    let bar = telling(rt.alloc(), ready(rt.alloc()).expect(&rt, "granted")).expect(&rt, "granted");
+    let bar = telling(&rt, rt.alloc(), ready(&rt, rt.alloc()));
     let lines = bar.lines(0, 80).expect(&rt, "granted");
-    holds!(rt; shows(&lines, "ready!"));
+    is_shown(&rt, &lines, "ready!");
 }
 
 // ---- room of lines
 
-/// Whether a bar's line in this room is this, and the room is kept.
-fn shows_in(bar: &Bar, spare: &mut SpareLines, wanted: &str) -> Result<bool, Refusal> {
-    let lines = bar.lines_in(spare, 0, 80)?;
-    let found = shows(&lines, wanted);
+/// A bar's line in this room is this, and the room is kept.
+fn shows_in(rt: &impl Abort, bar: &Bar, spare: &mut SpareLines, wanted: &str) {
+    let lines = bar.lines_in(spare, 0, 80).expect(rt, "granted");
+    is_shown(rt, &lines, wanted);
     spare.store(lines);
-    Ok(found)
 }
 
 fn advance(bar: &mut Bar, steps: u64) -> Ask {
     bar.inc(steps, 0)
 }
 
-/// Whether two bars have one room, and the lines that each has without it.
-fn share_a_room(alloc: Global, first: &mut Bar, second: &Bar) -> Result<bool, Refusal> {
-    let mut spare = SpareLines::new(alloc);
-    Ok(
-        shows_in(first, &mut spare, "0")?
-            && advance(first, 10) == Ask::Unforced
-            && shows_in(first, &mut spare, "10")?
-            && shows_in(second, &mut spare, "0")?
-            && shows(&first.lines(0, 80)?, "10"),
-    )
+/// Two bars have one room, and the lines that each has without it.
+fn share_a_room(rt: &impl Abort, first: &mut Bar, second: &Bar, spare: &mut SpareLines) {
+    shows_in(rt, first, spare, "0");
+    same!(*rt; advance(first, 10), Ask::Unforced);
+    shows_in(rt, first, spare, "10");
+    shows_in(rt, second, spare, "0");
+    let lines = first.lines(0, 80).expect(rt, "granted");
+    is_shown(rt, &lines, "10");
 }
 
 #[test]
 fn spare_lines(rt: HostRuntime) {
-    let mut first = plain_bar(rt.alloc(), 10).expect(&rt, "granted");
-    let second = plain_bar(rt.alloc(), 10).expect(&rt, "granted");
-    holds!(rt; share_a_room(rt.alloc(), &mut first, &second).expect(&rt, "granted"));
+    let mut first = plain_bar(&rt, rt.alloc(), 10);
+    let second = plain_bar(&rt, rt.alloc(), 10);
+    let mut spare = SpareLines::new(rt.alloc());
+    share_a_room(&rt, &mut first, &second, &mut spare);
 }
 
 // ---- closures
@@ -175,7 +181,7 @@ fn update_twice(bar: &mut Bar) -> Ask {
 
 #[test]
 fn an_update_of_a_record(rt: HostRuntime) {
-    let mut bar = plain_bar(rt.alloc(), 10).expect(&rt, "granted");
+    let mut bar = plain_bar(&rt, rt.alloc(), 10);
     bar.with_position(12, 0);
     same!(rt; update_twice(&mut bar), Ask::Unforced);
     same!(rt; (position(&bar), length(&bar)), (24, Some(25)));
@@ -192,25 +198,34 @@ fn update_next(bar: &mut Lone) -> Result<Drawn, Refusal> {
     )
 }
 
-fn shown_at(alloc: Global, place: u64) -> Result<Box<Lone>, Refusal> {
-    let mut bar = plain_bar(alloc, 25)?;
-    bar.with_position(place, 0);
-    let target = ProgressDrawTarget::term_like(InMemoryTerm::new(alloc, 3, 20)?);
-    Ok(Box::new(alloc, LoneBar::new(Box::into_inner(bar), target))?)
+/// A bar on a terminal of these rows and columns.
+fn on_terminal(
+    rt: &impl Abort,
+    alloc: Global,
+    bar: Box<Bar>,
+    (rows, columns): (u16, u16),
+) -> Box<Lone> {
+    let term = InMemoryTerm::new(alloc, rows, columns).expect(rt, "granted");
+    let target = ProgressDrawTarget::term_like(term);
+    Box::new(alloc, LoneBar::new(Box::into_inner(bar), target)).expect(rt, "granted")
 }
 
-fn stands(bar: &Lone, wanted: &str) -> Result<bool, Refusal> {
-    match bar.term() {
-        Some(term) => Ok(term.contents()?.as_str() == wanted),
-        None => Ok(false),
-    }
+fn shown_at(rt: &impl Abort, alloc: Global, place: u64) -> Box<Lone> {
+    let mut bar = plain_bar(rt, alloc, 25);
+    bar.with_position(place, 0);
+    on_terminal(rt, alloc, bar, (3, 20))
+}
+
+fn contents(rt: &impl Abort, bar: &Lone) -> String {
+    let term = bar.term().expect(rt, "a terminal");
+    term.contents().expect(rt, "granted")
 }
 
 #[test]
 fn an_update_of_a_lone_bar(rt: HostRuntime) {
-    let mut bar = shown_at(rt.alloc(), 23).expect(&rt, "granted");
+    let mut bar = shown_at(&rt, rt.alloc(), 23);
     same!(rt; update_next(&mut bar), Ok(Drawn::Yes));
-    holds!(rt; stands(&bar, "24").expect(&rt, "granted"));
+    same!(rt; contents(&rt, &bar).as_str(), "24");
 }
 
 /// Suspended round a closure that answers this number.
@@ -219,18 +234,17 @@ fn suspend(bar: &mut Lone, answer: u64) -> (u64, Result<Drawn, Refusal>) {
 }
 
 /// A bar of a character that is too wide for its one column.
-fn narrow(alloc: Global) -> Result<Box<Lone>, Refusal> {
-    let style = ProgressStyle::with_template(alloc, "国")?;
-    let bar = Box::new(alloc, BarState::styled(alloc, style, None, 0)?)?;
-    let target = ProgressDrawTarget::term_like(InMemoryTerm::new(alloc, 4, 1)?);
-    Ok(Box::new(alloc, LoneBar::new(Box::into_inner(bar), target))?)
+fn narrow(rt: &impl Abort, alloc: Global) -> Box<Lone> {
+    let style = ProgressStyle::with_template(alloc, "国").expect(rt, "granted");
+    let bar = boxed(rt, alloc, style, None);
+    on_terminal(rt, alloc, bar, (4, 1))
 }
 
 /// The closure's answer is handed on, also where the draw behind it is refused.
 #[test]
 fn an_answer_of_a_closure(rt: HostRuntime) {
-    let mut bar = shown_at(rt.alloc(), 23).expect(&rt, "granted");
+    let mut bar = shown_at(&rt, rt.alloc(), 23);
     same!(rt; suspend(&mut bar, 7), (7, Ok(Drawn::Yes)));
-    let mut bar = narrow(rt.alloc()).expect(&rt, "granted");
+    let mut bar = narrow(&rt, rt.alloc());
     same!(rt; suspend(&mut bar, 8), (8, Err(Refusal::TooWide)));
 }

@@ -32,9 +32,9 @@ impl Env for Started {
 
 /// The words are these.
 fn are_words(rt: &impl Abort, words: &[String], wanted: &[&str]) {
-    assert_eq!(rt; words.len(), wanted.len());
+    same!(*rt; words.len(), wanted.len());
     for (word, wanted) in words.iter().zip(wanted) {
-        assert_eq!(rt; word.as_str(), *wanted);
+        same!(*rt; word.as_str(), *wanted);
     }
 }
 

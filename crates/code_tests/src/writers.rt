@@ -9,7 +9,6 @@ use std::io;
 use std::io::{BufWriter, ErrorKind, Write};
 use std::process::Abort;
 use std::rc::Rc;
-use std::test::Fail;
 
 // ---- a writer that takes all
 
@@ -35,6 +34,11 @@ impl Write for CallCount {
 /// A bar behind a buffer.
 type Buffered = Shown<Term<BufWriter<CallCount>>>;
 
+fn buffered(rt: &impl Abort, alloc: Global) -> Buffered {
+    let writer = BufWriter::new(alloc, CallCount::default()).expect(rt, "granted");
+    Shown::on(alloc, "ab", Term::new(writer, 6, 10)).expect(rt, "granted")
+}
+
 /// How often the writer behind the buffer was written to, and flushed.
 fn writes_and_flushes(bar: &Buffered) -> Option<(u64, u64)> {
     let term = bar.term()?;
@@ -49,15 +53,14 @@ fn each_is_one_write(rt: &impl Abort, bar: &mut Buffered) {
         writes = writes.saturating_add(u64::from(place != STILL));
         flushes = flushes.saturating_add(1);
         let answer = (made(bar, call.0), writes_and_flushes(bar));
-        assert_eq!(rt; answer, (Ok(Drawn::Yes), Some((writes, flushes))));
+        same!(*rt; answer, (Ok(Drawn::Yes), Some((writes, flushes))));
     }
 }
 
 /// Behind a `BufWriter` each drawing that changes a line is one write; one that changes none makes none, as a call that is refused.
 #[test]
 fn a_drawing_is_one_write(rt: HostRuntime) {
-    let writer = BufWriter::new(rt.alloc(), CallCount::default()).expect(&rt, "granted");
-    let mut bar = Shown::on(rt.alloc(), "ab", Term::new(writer, 6, 10)).expect(&rt, "granted");
+    let mut bar = buffered(&rt, rt.alloc());
     each_is_one_write(&rt, &mut bar);
 }
 
@@ -82,16 +85,16 @@ impl Write for SharedCount {
 type Boxed = Box<dyn TermLike + Drop>;
 
 /// A terminal in a box that counts its flushes there.
-fn boxed(alloc: Global, count: &Rc<Cell<u64>>) -> Result<Boxed, Fail> {
-    let term = Term::new(SharedCount(count.clone()?), 6, 10);
-    Ok(Box::new(alloc, term)?)
+fn boxed(rt: &impl Abort, alloc: Global, count: &Rc<Cell<u64>>) -> Boxed {
+    let count = count.clone().expect(rt, "granted");
+    Box::new(alloc, Term::new(SharedCount(count), 6, 10)).expect(rt, "granted")
 }
 
 /// A line isn't flushed, and a flush is counted once.
 #[test]
 fn a_boxed_terminal_is_flushed_once(rt: HostRuntime) {
     let count = Rc::new(rt.alloc(), Cell::new(0)).expect(&rt, "granted");
-    let mut boxed = boxed(rt.alloc(), &count).expect(&rt, "granted");
+    let mut boxed = boxed(&rt, rt.alloc(), &count);
     same!(rt; (boxed.write_line("ab").is_ok(), count.get()), (true, 0));
     same!(rt; (boxed.flush().is_ok(), count.get()), (true, 1));
 }
@@ -102,19 +105,15 @@ fn each_is_flushed_once(rt: &impl Abort, bar: &mut Shown<Boxed>, count: &Cell<u6
     for (step, _) in &SCRIPT {
         flushes = flushes.saturating_add(1);
         let answer = (made(bar, *step), count.get());
-        assert_eq!(rt; answer, (Ok(Drawn::Yes), flushes));
+        same!(*rt; answer, (Ok(Drawn::Yes), flushes));
     }
 }
 
 #[test]
 fn a_boxed_terminal_is_flushed_once_a_drawing(rt: HostRuntime) {
     let count = Rc::new(rt.alloc(), Cell::new(0)).expect(&rt, "granted");
-    let mut bar = Shown::on(
-        rt.alloc(),
-        "ab",
-        boxed(rt.alloc(), &count).expect(&rt, "granted"),
-    )
-    .expect(&rt, "granted");
+    let boxed = boxed(&rt, rt.alloc(), &count);
+    let mut bar = Shown::on(rt.alloc(), "ab", boxed).expect(&rt, "granted");
     each_is_flushed_once(&rt, &mut bar, &count);
 }
 
@@ -172,147 +171,127 @@ impl Write for ByteWise {
     }
 }
 
-/// Whether the terminal has written these bytes, in so many calls of its writer, and counts so many faults.
-fn has_written(term: &Term<ByteWise>, bytes: &[u8], (calls, faults): (u64, u64)) -> bool {
-    term.writer().taken.as_slice() == bytes
-        && term.writer().calls == calls
-        && term.faults() == faults
+/// A bar behind such a writer.
+type Behind = Shown<Term<ByteWise>>;
+
+/// How many bytes the bar's writer took, how often it was called, and how many faults its terminal counts.
+fn taken_calls_and_faults(rt: &impl Abort, bar: &Behind) -> (u64, u64, u64) {
+    let term = bar.term().expect(rt, "a terminal");
+    let writer = term.writer();
+    (writer.taken.len() as u64, writer.calls, term.faults())
 }
 
 // ---- a bar behind such writers
 
 /// A bar that says `ab` behind this writer.
-fn bar_behind(alloc: Global, writer: ByteWise) -> Result<Shown<Term<ByteWise>>, Refusal> {
-    Shown::on(alloc, "ab", Term::new(writer, 20, 10))
+fn bar_behind(rt: &impl Abort, alloc: Global, writer: ByteWise) -> Behind {
+    Shown::on(alloc, "ab", Term::new(writer, 20, 10)).expect(rt, "granted")
 }
 
 /// Makes each call of the script.
-fn play<T: TermLike + Drop>(bar: &mut Shown<T>) -> Result<(), Refusal> {
+fn play<T: TermLike + Drop>(rt: &impl Abort, bar: &mut Shown<T>) {
     for (step, _) in &SCRIPT {
-        made(bar, *step)?;
+        same!(*rt; made(bar, *step), Ok(Drawn::Yes));
     }
-    Ok(())
 }
 
 /// The bytes that the script writes where nothing fails.
-fn bytes_of_the_script(alloc: Global) -> Result<Vec<u8>, Fail> {
-    let mut bar = Shown::on(alloc, "ab", Term::new(Vec::new(alloc), 20, 10))?;
-    play(&mut bar)?;
-    let term = bar.term().ok_or("no terminal")?;
-    Ok(Vec::from_slice(alloc, term.writer().as_slice())?)
-}
-
-/// Each call of the script is drawn.
-fn draws_all(rt: &impl Abort, bar: &mut Shown<Term<ByteWise>>) {
-    for (step, _) in &SCRIPT {
-        assert_eq!(rt; made(bar, *step), Ok(Drawn::Yes));
-    }
+fn bytes_of_the_script(rt: &impl Abort, alloc: Global) -> Vec<u8> {
+    let term = Term::new(Vec::new(alloc), 20, 10);
+    let mut bar = Shown::on(alloc, "ab", term).expect(rt, "granted");
+    play(rt, &mut bar);
+    let term = bar.term().expect(rt, "a terminal");
+    Vec::from_slice(alloc, term.writer()).expect(rt, "granted")
 }
 
 #[test]
 fn a_bar_behind_a_writer_of_one_byte_a_call(rt: HostRuntime) {
-    let bytes = bytes_of_the_script(rt.alloc()).expect(&rt, "granted");
-    let mut bar = bar_behind(rt.alloc(), ByteWise::steady(rt.alloc())).expect(&rt, "granted");
-    draws_all(&rt, &mut bar);
-    let term = bar.term().ok_or("no terminal").expect(&rt, "granted");
-    holds!(rt; has_written(term, &bytes, (bytes.len() as u64, 0)));
+    let bytes = bytes_of_the_script(&rt, rt.alloc());
+    let mut bar = bar_behind(&rt, rt.alloc(), ByteWise::steady(rt.alloc()));
+    play(&rt, &mut bar);
+    let count = bytes.len() as u64;
+    same!(rt; taken_calls_and_faults(&rt, &bar), (count, count, 0));
+    let term = bar.term().expect(&rt, "a terminal");
+    same!(rt; term.writer().taken.as_slice(), bytes.as_slice());
 }
 
 /// The rows down to the cursor's that these bytes show, each behind a newline.
-fn shown(alloc: Global, bytes: &[u8]) -> Result<String, Fail> {
-    let mut cells = Box::new(alloc, Cells::new(alloc, 20, 10)?)?;
+fn shown(rt: &impl Abort, alloc: Global, bytes: &[u8]) -> String {
+    let mut cells = Box::new(alloc, Cells::new(alloc, 20, 10).expect(rt, "granted")).expect(
+        rt, "granted",
+    );
     let mut text = String::new(alloc);
-    push_shown(&mut text, &mut cells, bytes)?;
-    Ok(text)
+    push_shown(rt, &mut text, &mut cells, bytes);
+    text
 }
 
-fn push_shown(text: &mut String, cells: &mut Cells, bytes: &[u8]) -> Result<(), Refusal> {
-    if let Err((_, refusal)) = cells.feed(bytes) {
-        return Err(refusal);
-    }
+fn push_shown(rt: &impl Abort, text: &mut String, cells: &mut Cells, bytes: &[u8]) {
+    cells.feed(bytes).expect(rt, "granted");
     let (row, _) = cells.cursor();
-    push_rows(text, &cells.picture()?, usize::from(row))
+    let picture = cells.picture().expect(rt, "granted");
+    push_rows(rt, text, &picture, usize::from(row));
 }
 
 /// Appends the rows down to the last of these numbers, each behind a newline.
-fn push_rows(text: &mut String, rows: &[String], last: usize) -> Result<(), Refusal> {
+fn push_rows(rt: &impl Abort, text: &mut String, rows: &[String], last: usize) {
     for row in rows.get(..=last).unwrap_or(rows) {
-        text.push('\n')?;
-        text.push_str(row.as_str())?;
+        text.push('\n').expect(rt, "granted");
+        text.push_str(row.as_str()).expect(rt, "granted");
     }
-    Ok(())
 }
 
-/// Whether these rows stand at the bottom of what the terminal's bytes show.
-fn shows_below(alloc: Global, term: &Term<ByteWise>, rows: &str) -> Result<bool, Fail> {
-    let below = format!(in alloc; "\n{rows}")?;
-    let shown = shown(alloc, &term.writer().taken)?;
-    Ok(shown.as_str().ends_with(below.as_str()))
+/// These rows stand at the bottom of what the terminal's bytes show.
+fn shows_below(rt: &impl Abort, alloc: Global, term: &Term<ByteWise>, rows: &str) {
+    let below = format!(in alloc; "\n{rows}").expect(rt, "granted");
+    let shown = shown(rt, alloc, &term.writer().taken);
+    let is_below = shown.as_str().ends_with(below.as_str());
+    same!(*rt; (rows, is_below), (rows, true));
 }
 
 /// Makes the call, and answers how often it failed: never, and its rows stand at the bottom; or once, after this many bytes.
 fn broken_calls(
     rt: &impl Abort,
     alloc: Global,
-    bar: &mut Shown<Term<ByteWise>>,
+    bar: &mut Behind,
     call: (Step, &str),
     at: usize,
-) -> Result<u64, Fail> {
+) -> u64 {
     let answer = made(bar, call.0);
-    let term = bar.term().ok_or("no terminal")?;
+    let term = bar.term().expect(rt, "a terminal");
     if answer == Ok(Drawn::Yes) {
-        assert!(rt; shows_below(alloc, term, call.1)?, "not {:?}", call.1);
-        return Ok(0);
+        shows_below(rt, alloc, term, call.1);
+        return 0;
     }
     let broken = Err(Refusal::Terminal(ErrorKind::BrokenPipe));
-    assert_eq!(rt; (answer, term.writer().taken.len()), (broken, at));
-    Ok(1)
-}
-
-/// Whether the terminal has counted so many faults, and its writer one call a byte and one a fault.
-fn has_counted(bar: &Shown<Term<ByteWise>>, failures: u64) -> bool {
-    match bar.term() {
-        Some(term) => {
-            let taken = term.writer().taken.len() as u64;
-            term.faults() == failures && term.writer().calls == taken.saturating_add(failures)
-        }
-        None => false,
-    }
+    same!(*rt; (answer, term.writer().taken.len()), (broken, at));
+    1
 }
 
 /// Runs the script and one more draw of this bar, and answers how many calls failed.
-fn play_broken_at(
-    rt: &impl Abort,
-    alloc: Global,
-    bar: &mut Shown<Term<ByteWise>>,
-    at: usize,
-) -> Result<u64, Fail> {
+fn play_broken_at(rt: &impl Abort, alloc: Global, bar: &mut Behind, at: usize) -> u64 {
     let mut failures: u64 = 0;
     for call in &SCRIPT {
-        let failed = broken_calls(rt, alloc, bar, *call, at)?;
+        let failed = broken_calls(rt, alloc, bar, *call, at);
         failures = failures.saturating_add(failed);
     }
-    let failed = broken_calls(rt, alloc, bar, (Step::Tick, "e"), at)?;
-    Ok(failures.saturating_add(failed))
+    let failed = broken_calls(rt, alloc, bar, (Step::Tick, "e"), at);
+    failures.saturating_add(failed)
 }
 
 /// The same behind a writer that fails once, after this many bytes: one call tells that failure, and of each other one the rows
-/// stand at the bottom, each as it was written.
-fn run_broken_at(rt: &impl Abort, alloc: Global, at: usize) -> Result<u64, Fail> {
-    let mut bar = bar_behind(alloc, ByteWise::failing(alloc, at))?;
-    let failures = play_broken_at(rt, alloc, &mut bar, at)?;
-    assert!(rt; has_counted(&bar, failures));
-    Ok(failures)
+/// stand at the bottom, each as it was written. The terminal counts that fault, and its writer one call a byte and one a fault.
+fn is_broken_once_at(rt: &impl Abort, alloc: Global, at: usize) {
+    let mut bar = bar_behind(rt, alloc, ByteWise::failing(alloc, at));
+    let failures = play_broken_at(rt, alloc, &mut bar, at);
+    same!(*rt; (at, failures), (at, 1));
+    let (taken, calls, faults) = taken_calls_and_faults(rt, &bar);
+    same!(*rt; (at, calls, faults), (at, taken.saturating_add(1), 1));
 }
 
 #[test]
 fn a_bar_behind_a_writer_that_fails(rt: HostRuntime) {
-    let bytes = bytes_of_the_script(rt.alloc()).expect(&rt, "granted");
+    let bytes = bytes_of_the_script(&rt, rt.alloc());
     for at in 0..bytes.len() {
-        assert_eq!(rt;
-            run_broken_at(&rt, rt.alloc(), at).expect(&rt, "granted"),
-            1,
-            "at {at}"
-        );
+        is_broken_once_at(&rt, rt.alloc(), at);
     }
 }
