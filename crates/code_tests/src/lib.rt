@@ -10,6 +10,7 @@
 //! - `played`: which lines of a file are rows, and which of them agree.
 //! - `styles`, `term`, `text`: keys of a template, what targets hand out, numbers and formatters. `words`: those of a command line.
 //! - `documented`: the examples of the libraries' documentation that say what comes.
+//! - `checks`: what `same!` and `holds!` call.
 #![tactic(auto)]
 
 /// Whether a value is the one that is wanted.
