@@ -1,4 +1,16 @@
-//! The examples of the libraries' documentation that say what comes.
+//! The examples of the libraries' documentation that say what comes. Those here have an assert in their comment.
+//!
+//! - `texts`: others of `indicatif_text`. `memory`, `engines`, `targets`: of `indicatif_term`.
+//! - `records`, `lone`: of `indicatif_bar`. `boards`, `histories`: of `indicatif_board`.
+mod boards;
+mod engines;
+mod histories;
+mod lone;
+mod memory;
+mod records;
+mod targets;
+mod texts;
+
 use bars_run::fault::Fault;
 use indicatif_bar::state::Ask;
 use indicatif_board::bridge::bridge_line;

@@ -7,11 +7,9 @@
 //! - `key`: a key of one's own in a template, on standard error. `still`: ten bars there, of which one goes on.
 //! - `reader`: standard input through a reader with a bar.
 //! - `guide`: the programs of the guide at the head of crate `indicatif`. `guide_key`: the one with a key of one's own.
-//! - `documented`: the examples of the four lower libraries' documentation comments. `documented_shared`: those of `indicatif`. These two
-//!   run last, and print no name.
+//! - `documented_shared`: the examples of the documentation comments of `indicatif`. It runs last, and prints no name.
 #![tactic(auto)]
 
-mod documented;
 mod documented_shared;
 mod download;
 mod fine;
@@ -45,7 +43,6 @@ fn main(rt: HostRuntime) -> Result<()> {
         reader::main(rt, &rt)?;
         print_name(&rt, "guide")?;
         guide::main(rt)?;
-        documented::main(&rt)?;
         return documented_shared::main(rt, &rt);
     };
     match name.as_str() {
@@ -54,7 +51,6 @@ fn main(rt: HostRuntime) -> Result<()> {
         "still" => still::main(rt, &rt),
         "reader" => reader::main(rt, &rt),
         "guide" => guide::main(rt),
-        "documented" => documented::main(&rt),
         "documented_shared" => documented_shared::main(rt, &rt),
         name => run(&rt, name),
     }

@@ -1,0 +1,173 @@
+//! Examples of a board and of sums.
+use indicatif_bar::state::BarState;
+use indicatif_bar::style::{NoTracker, ProgressStyle};
+use indicatif_board::bridge::emit;
+use indicatif_board::done::Done;
+use indicatif_board::multi::{Answer, BarId, Board, Call, Candidate, InsertLocation};
+use indicatif_term::draw_target::ProgressDrawTarget;
+use indicatif_term::in_memory::InMemoryTerm;
+use indicatif_text::columns::{Drawn, Refusal};
+use log::Level;
+use std::alloc::Global;
+use std::process::Abort;
+
+type Bars = Board<NoTracker, InMemoryTerm>;
+
+/// A terminal of 4 rows and 20 columns.
+fn terminal(rt: &impl Abort, alloc: Global) -> InMemoryTerm {
+    InMemoryTerm::new(alloc, 4, 20).expect(rt, "granted")
+}
+
+fn board_of(rt: &impl Abort, alloc: Global) -> Box<Bars> {
+    let target = ProgressDrawTarget::term_like(terminal(rt, alloc));
+    Box::new(alloc, Board::new(alloc, target, 1)).expect(rt, "granted")
+}
+
+/// A bar that shows this text.
+fn bar_saying(rt: &impl Abort, alloc: Global, text: &str) -> BarState<NoTracker> {
+    let style = ProgressStyle::with_template(alloc, text).expect(rt, "granted");
+    BarState::styled(alloc, style, None, 0).expect(rt, "granted")
+}
+
+/// A board's terminal shows this.
+fn shows(rt: &impl Abort, board: &Bars, contents: &str) {
+    let term = board.term().expect(rt, "no terminal");
+    same!(*rt; term.contents().expect(rt, "granted").as_str(), contents);
+}
+
+#[test]
+fn text_above_the_bars(rt: HostRuntime) {
+    let (alloc, now) = (rt.alloc(), 0);
+    let term = terminal(&rt, alloc);
+    let mut board: Board<NoTracker, _> = Board::new(alloc, ProgressDrawTarget::term_like(term), 1);
+    board.println("a.txt", now).expect(&rt, "granted");
+    shows(&rt, &board, "a.txt");
+}
+
+#[test]
+fn text_on_fewer_columns(rt: HostRuntime) {
+    let now = 0;
+    let mut board = board_of(&rt, rt.alloc());
+    board.println("hello", now).expect(&rt, "granted");
+    board.resize(4, 3).expect(&rt, "granted"); // it stands on two rows from now on: `hel`, `lo`
+    shows(&rt, &board, "hel\nlo");
+}
+
+#[test]
+fn emitted_line(rt: HostRuntime) {
+    let (alloc, now) = (rt.alloc(), 0);
+    let target = ProgressDrawTarget::term_like(terminal(&rt, alloc));
+    let mut board: Bars = Board::new(alloc, target, 1);
+    let drawn = emit(alloc, &mut board, Level::Error, "no such file", now).expect(&rt, "granted");
+    same!(rt; drawn, Drawn::Yes);
+    shows(&rt, &board, "ERROR no such file");
+}
+
+#[test]
+fn order_of_bars(rt: HostRuntime) {
+    let mut board = board_of(&rt, rt.alloc());
+    board.set_move_cursor(true);
+    take_in(&rt, rt.alloc(), &mut board);
+    turn_away(&rt, rt.alloc(), &mut board);
+    stack(&rt, rt.alloc(), &mut board);
+    same!(rt; board.order(), [0, 2, 1].as_slice());
+}
+
+/// Takes a bar in, which stays first when it is inserted there.
+fn take_in(rt: &impl Abort, alloc: Global, board: &mut Bars) -> BarId {
+    let bar = bar_saying(rt, alloc, "a");
+    let id = board
+        .add(Candidate::New(bar))
+        .map_err(|turned| turned.refusal)
+        .expect(rt, "granted");
+    holds!(*rt; board.insert(0, Candidate::Member(id)).is_ok_and(|again| again == id));
+    id
+}
+
+/// Refuses a bar behind one of another board.
+fn turn_away(rt: &impl Abort, alloc: Global, board: &mut Bars) {
+    let id = BarId {
+        board: 9,
+        number: 0,
+    };
+    let bar = bar_saying(rt, alloc, "b");
+    if let Err(turned) = board.insert_after(id, Candidate::New(bar)) {
+        let returned = turned.candidate;
+    }
+}
+
+/// Takes a bar in, and then one above it.
+fn stack(rt: &impl Abort, alloc: Global, board: &mut Bars) {
+    let now = 0;
+    let bar = bar_saying(rt, alloc, "lower");
+    let other = bar_saying(rt, alloc, "upper");
+    let first = board
+        .add(Candidate::New(bar))
+        .map_err(|turned| turned.refusal)
+        .expect(rt, "granted");
+    board.call(
+        Call::Insert {
+            at: InsertLocation::Before(first),
+            candidate: Candidate::New(other),
+        },
+        now,
+    );
+}
+
+#[test]
+fn bar_of_another_board(rt: HostRuntime) {
+    let mut board = board_of(&rt, rt.alloc());
+    let elsewhere = BarId {
+        board: 0,
+        number: 1,
+    };
+    holds!(rt; matches!(board.remove(elsewhere), Err(Refusal::ForeignBar)));
+}
+
+#[test]
+fn answers_of_calls(rt: HostRuntime) {
+    let now = 0;
+    let mut board = board_of(&rt, rt.alloc());
+    let id = take_in(&rt, rt.alloc(), &mut board);
+    log_and_clear(&rt, rt.alloc(), &mut board);
+    let (answer, removed) = board.apply(Call::Remove(id), now);
+    same!(rt; answer, Answer::Done);
+    holds!(rt; removed.is_some());
+    same!(rt; board.call(Call::Remove(id), now), Answer::Done);
+}
+
+fn log_and_clear(rt: &impl Abort, alloc: Global, board: &mut Bars) {
+    let now = 0;
+    let text = String::from_str(alloc, "log").expect(rt, "granted");
+    same!(*rt; board.call(Call::Log(text), now), Answer::Drawn(Drawn::Yes));
+    let answer = board.call(Call::Clear, now);
+    let again = answer.same();
+    same!(*rt; answer, Answer::Drawn(Drawn::Yes));
+    same!(*rt; again, Answer::Drawn(Drawn::Yes));
+}
+
+#[test]
+fn copy_of_a_call(rt: HostRuntime) {
+    let (alloc, call) = (rt.alloc(), Call::<NoTracker>::Redraw);
+    let again = call.try_clone(alloc).expect(&rt, "granted");
+    holds!(rt; matches!(again, Call::Redraw));
+}
+
+#[test]
+fn copy_of_a_candidate(rt: HostRuntime) {
+    let id = BarId {
+        board: 1,
+        number: 0,
+    };
+    let candidate = Candidate::<NoTracker>::Member(id);
+    let again = candidate.try_clone().expect(&rt, "granted");
+    holds!(rt; matches!(again, Candidate::Member(_)));
+}
+
+#[test]
+fn sum_of_a_worker(rt: HostRuntime) {
+    let alloc = rt.alloc();
+    let (done, mut worker) = Done::new(alloc).expect(&rt, "granted");
+    worker.add(&done, 5);
+    same!(rt; done.close(worker), 5);
+}

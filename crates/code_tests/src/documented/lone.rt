@@ -1,0 +1,113 @@
+//! Examples of a bar on its terminal.
+use indicatif_bar::lone::{LoneBar, LoneCall};
+use indicatif_bar::state::{BarCommand, BarState};
+use indicatif_bar::style::{NoTracker, ProgressStyle, Tracks};
+use indicatif_term::draw_target::ProgressDrawTarget;
+use indicatif_term::in_memory::InMemoryTerm;
+use indicatif_term::term_like::TermLike;
+use indicatif_text::columns::{Clock, Drawn, Moment, Refusal, StepClock};
+use std::alloc::Global;
+use std::process::Abort;
+
+type Bar = LoneBar<NoTracker, InMemoryTerm>;
+
+/// A bar's terminal shows this.
+fn shows(rt: &impl Abort, bar: &Bar, contents: &str) {
+    let term = bar.term().expect(rt, "no terminal");
+    same!(*rt; term.contents().expect(rt, "granted").as_str(), contents);
+}
+
+/// A bar on a terminal of 4 rows and 20 columns, a name above it.
+fn shown(rt: &impl Abort, alloc: Global) -> Box<Bar> {
+    let now = 0;
+    let term = InMemoryTerm::new(alloc, 4, 20).expect(rt, "granted");
+    let mut bar = LoneBar::new(
+        BarState::new(alloc, Some(10), now).expect(rt, "granted"),
+        ProgressDrawTarget::term_like(term),
+    );
+    bar.set_message("copying", now).expect(rt, "granted");
+    bar.println("a.txt", now).expect(rt, "granted");
+    Box::new(alloc, bar).expect(rt, "granted")
+}
+
+#[test]
+fn hidden_bar(rt: HostRuntime) {
+    let record = BarState::new(rt.alloc(), Some(10), 0).expect(&rt, "granted");
+    let mut bar: Bar = LoneBar::new(record, ProgressDrawTarget::hidden());
+    let drawn = bar.tick(0).expect(&rt, "granted");
+    same!(rt; drawn, Drawn::Hidden);
+}
+
+#[test]
+fn name_above_a_bar(rt: HostRuntime) {
+    let bar = shown(&rt, rt.alloc());
+    shows(&rt, &bar, "a.txt\n░░░░░░░░░░░░░░░ 0/10");
+}
+
+#[test]
+fn other_style(rt: HostRuntime) {
+    let (alloc, now) = (rt.alloc(), 0);
+    let mut bar = shown(&rt, alloc);
+    bar.set_move_cursor(true);
+    let style = ProgressStyle::with_template(alloc, "{pos} of {len}").expect(&rt, "granted");
+    let drawn = bar.with_style(style, now).expect(&rt, "granted");
+    same!(rt; drawn, Drawn::Limited);
+    let drawn = bar
+        .with_elapsed(3_000_000_000, 4_000_000_000)
+        .expect(&rt, "granted");
+    same!(rt; drawn, Drawn::Limited);
+    draws_now(&rt, &mut bar);
+    shows(&rt, &bar, "a.txt\n0 of 10");
+    let drawn = step(&mut bar, 6_000_000_000).expect(&rt, "granted");
+    same!(rt; drawn, Drawn::Yes);
+}
+
+/// Draws a bar at the moment that a clock tells.
+fn draws_now(rt: &impl Abort, bar: &mut Bar) {
+    let mut clock = StepClock {
+        next: 5_000_000_000,
+        step: 1,
+    };
+    let opened = clock.now();
+    same!(*rt; bar.tick(opened).expect(rt, "granted"), Drawn::Yes);
+}
+
+/// A step of a bar with any keys.
+fn step<K: Tracks, T: TermLike + Drop>(
+    bar: &mut LoneBar<K, T>,
+    now: Moment,
+) -> Result<Drawn, Refusal> {
+    bar.inc(1, now)
+}
+
+#[test]
+fn three_calls(rt: HostRuntime) {
+    let alloc = rt.alloc();
+    let mut bar = shown(&rt, alloc);
+    let log = LoneCall::Log(String::from_str(alloc, "a.txt").expect(&rt, "granted"));
+    let calls = vec![in alloc;
+        (LoneCall::Bar(BarCommand::Tick), 0),
+        (log, 0),
+        (LoneCall::Clear, 5),
+    ]
+    .expect(&rt, "granted");
+    let answers = bar.run(calls).expect(&rt, "granted");
+    let drawn = [Ok(Drawn::Yes), Ok(Drawn::Yes), Ok(Drawn::Yes)];
+    holds!(rt; answers.as_slice() == drawn.as_slice());
+    shows(&rt, &bar, "a.txt\na.txt");
+}
+
+/// A text of 13 columns, drawn on 10 of them, then on 5 and on 20.
+#[test]
+fn terminal_of_new_sizes(rt: HostRuntime) {
+    let (alloc, now) = (rt.alloc(), 0);
+    let style = ProgressStyle::with_template(alloc, "progress bars").expect(&rt, "granted");
+    let term = InMemoryTerm::new(alloc, 4, 10).expect(&rt, "granted");
+    let record = BarState::styled(alloc, style, None, now).expect(&rt, "granted");
+    let mut bar = LoneBar::new(record, ProgressDrawTarget::term_like(term));
+    bar.tick(now).expect(&rt, "granted");
+    bar.resize(4, 5).expect(&rt, "granted"); // `progress bars` stands on three rows: `progr`, `ess b`, `ars`
+    bar.resize(4, 20).expect(&rt, "granted"); // and still does
+    bar.tick(now).expect(&rt, "granted"); // stands on one row again
+    shows(&rt, &bar, "progress bars");
+}

@@ -1,0 +1,159 @@
+//! Examples of the terminals in memory: their contents, their cursor and their picture.
+use indicatif_term::in_memory::{Cells, InMemoryTerm};
+use indicatif_term::term_like::{Resize, TermLike};
+use std::process::Abort;
+
+/// Cells show this.
+fn cells_show(
+    rt: &impl Abort,
+    cells: &Cells,
+    contents: &str,
+    cursor: (u16, u16),
+    picture: &[&str],
+) {
+    same!(*rt; cells.contents().expect(rt, "granted").as_str(), contents);
+    same!(*rt; cells.cursor(), cursor);
+    are_rows(rt, &cells.picture().expect(rt, "granted"), picture);
+}
+
+/// A terminal shows this.
+fn shows(
+    rt: &impl Abort,
+    term: &InMemoryTerm,
+    contents: &str,
+    cursor: (u16, u16),
+    picture: &[&str],
+) {
+    same!(*rt; term.contents().expect(rt, "granted").as_str(), contents);
+    same!(*rt; term.cursor(), cursor);
+    are_rows(rt, &term.picture().expect(rt, "granted"), picture);
+}
+
+/// The rows of a picture are these.
+fn are_rows(rt: &impl Abort, rows: &[String], wanted: &[&str]) {
+    same!(*rt; rows.len(), wanted.len());
+    for (row, wanted) in rows.iter().zip(wanted) {
+        same!(*rt; row.as_str(), *wanted);
+    }
+}
+
+/// A terminal was given these calls since they were asked for.
+fn moved(rt: &impl Abort, term: &mut InMemoryTerm, moves: &str) {
+    same!(*rt; term.moves_since_last_check().as_str(), moves);
+}
+
+#[test]
+fn cells_after_bytes(rt: HostRuntime) {
+    let mut cells = Cells::new(rt.alloc(), 2, 4).expect(&rt, "granted");
+    cells.feed(b"ab\r\ncd\x1B[1A!").expect(&rt, "granted");
+    cells_show(&rt, &cells, "ab!\ncd", (0, 3), &["ab!", "cd"]);
+}
+
+#[test]
+fn many_cells(rt: HostRuntime) {
+    let cells = Cells::new(rt.alloc(), 65535, 65535).expect(&rt, "granted");
+    same!(rt; cells.contents().expect(&rt, "granted").as_str(), "");
+}
+
+#[test]
+fn cells_of_a_full_row(rt: HostRuntime) {
+    let mut cells = Cells::new(rt.alloc(), 2, 2).expect(&rt, "granted");
+    cells.feed(b"ab").expect(&rt, "granted");
+    cells_show(&rt, &cells, "ab", (0, 2), &["ab", ""]);
+}
+
+#[test]
+fn cells_of_a_scrolled_row(rt: HostRuntime) {
+    let mut cells = Cells::new(rt.alloc(), 1, 3).expect(&rt, "granted");
+    cells.feed(b"a\r\nb ").expect(&rt, "granted");
+    cells_show(&rt, &cells, "b", (0, 2), &["a", "b"]);
+}
+
+#[test]
+fn cells_with_written_spaces(rt: HostRuntime) {
+    let mut cells = Cells::new(rt.alloc(), 3, 3).expect(&rt, "granted");
+    cells.feed(b"a \r\n ").expect(&rt, "granted");
+    cells_show(&rt, &cells, "a\n", (1, 1), &["a", "", ""]);
+}
+
+#[test]
+fn cells_fed_with_half_a_character(rt: HostRuntime) {
+    let mut cells = Cells::new(rt.alloc(), 1, 4).expect(&rt, "granted");
+    cells.feed(b"\xE5\x9B").expect(&rt, "granted");
+    cells.feed(b"\xBD").expect(&rt, "granted");
+    cells_show(&rt, &cells, "国", (0, 2), &["国"]);
+}
+
+#[test]
+fn cells_of_new_sizes(rt: HostRuntime) {
+    let mut cells = Cells::new(rt.alloc(), 4, 10).expect(&rt, "granted");
+    cells.feed(b"progress b\r\nars").expect(&rt, "granted");
+    cells.resize(4, 5).expect(&rt, "granted");
+    let (contents, picture) = ("progr\ness b\nars", ["progr", "ess b", "ars", ""]);
+    cells_show(&rt, &cells, contents, (2, 3), &picture);
+    cells.resize(4, 20).expect(&rt, "granted");
+    cells_show(&rt, &cells, contents, (2, 3), &picture);
+}
+
+#[test]
+fn calls_of_a_terminal(rt: HostRuntime) {
+    let mut term = InMemoryTerm::new(rt.alloc(), 3, 10).expect(&rt, "granted");
+    term.write_line("one").expect(&rt, "granted");
+    term.write_str("two ").expect(&rt, "granted");
+    shows(&rt, &term, "one\ntwo", (1, 4), &["one", "two", ""]);
+    moved(&rt, &mut term, "Str(\"one\")\nNewLine\nStr(\"two \")\n");
+    term.move_cursor_up(2).expect(&rt, "granted");
+    term.write_line("a\tb").expect(&rt, "granted");
+    moved(&rt, &mut term, "Up(2)\nStr(\"a\\tb\")\nNewLine\n");
+    moved(&rt, &mut term, "");
+    term.write_str("abc").expect(&rt, "granted");
+    term.reset();
+    shows(&rt, &term, "", (0, 0), &["", "", ""]);
+    moved(&rt, &mut term, "");
+}
+
+#[test]
+fn new_terminal(rt: HostRuntime) {
+    let term = InMemoryTerm::new(rt.alloc(), 24, 80).expect(&rt, "granted");
+    same!(rt; term.contents().expect(&rt, "granted").as_str(), "");
+}
+
+#[test]
+fn written_spaces(rt: HostRuntime) {
+    let mut term = InMemoryTerm::new(rt.alloc(), 3, 5).expect(&rt, "granted");
+    term.write_str("a  \r\n\r\n ").expect(&rt, "granted");
+    shows(&rt, &term, "a\n\n", (2, 1), &["a", "", ""]);
+}
+
+#[test]
+fn cursor_behind_a_full_row(rt: HostRuntime) {
+    let mut term = InMemoryTerm::new(rt.alloc(), 2, 2).expect(&rt, "granted");
+    term.write_str("ab").expect(&rt, "granted");
+    shows(&rt, &term, "ab", (0, 2), &["ab", ""]);
+    term.write_str("c").expect(&rt, "granted");
+    shows(&rt, &term, "ab\nc", (1, 1), &["ab", "c"]);
+}
+
+#[test]
+fn row_that_left_at_the_top(rt: HostRuntime) {
+    let mut term = InMemoryTerm::new(rt.alloc(), 2, 3).expect(&rt, "granted");
+    term.write_str("a\r\nb\r\nc").expect(&rt, "granted");
+    shows(&rt, &term, "b\nc", (1, 1), &["a", "b", "c"]);
+}
+
+#[test]
+fn emptied_row(rt: HostRuntime) {
+    let mut term = InMemoryTerm::new(rt.alloc(), 2, 3).expect(&rt, "granted");
+    term.write_line("ab").expect(&rt, "granted");
+    term.move_cursor_up(1).expect(&rt, "granted");
+    term.clear_line().expect(&rt, "granted");
+    shows(&rt, &term, "", (0, 0), &["", ""]);
+}
+
+#[test]
+fn terminal_of_a_new_size(rt: HostRuntime) {
+    let mut term = InMemoryTerm::new(rt.alloc(), 4, 10).expect(&rt, "granted");
+    term.write_str("progress").expect(&rt, "granted");
+    term.resize(4, 5).expect(&rt, "granted");
+    shows(&rt, &term, "progr\ness", (0, 5), &["progr", "ess", "", ""]);
+}

@@ -1,0 +1,219 @@
+//! Examples of a bar's record, its style and its trackers.
+ghost use Rattle.std.specs.Prelude.{◌-◌, decimal, string_bytes};
+ghost use Rattle.indicatif_bar.specs.Trackers.{telling};
+
+use indicatif_bar::state::{
+    Ask, BarCommand, BarState, Change, ProgressFinish, ProgressState, SpareLines,
+};
+use indicatif_bar::style::{FnTracker, NoTracker, ProgressStyle, ProgressTracker, TellsText};
+use indicatif_term::draw_target::LineType;
+use indicatif_text::columns::{Moment, Refusal};
+use itoa::Buffer;
+use std::alloc::Global;
+use std::convert::AsStr;
+use std::process::Abort;
+
+fn style_of(rt: &impl Abort, alloc: Global) -> ProgressStyle<NoTracker> {
+    let style: ProgressStyle<NoTracker> = ProgressStyle::with_template(
+        alloc,
+        "{bar:10} {pos}/{len}",
+    ).expect(rt, "granted")
+        .progress_chars("=> ")
+        .expect(rt, "granted");
+    style
+}
+
+/// A bar of four steps, at this position.
+fn bar_at(rt: &impl Abort, alloc: Global, position: u64) -> Box<BarState<NoTracker>> {
+    let bar = BarState::styled(alloc, style_of(rt, alloc), Some(4), 0).expect(rt, "granted");
+    let mut bar = Box::new(alloc, bar).expect(rt, "granted");
+    bar.set_position(position, 0);
+    bar
+}
+
+/// These are one line, of this text.
+fn say(rt: &impl Abort, lines: &[LineType], text: &str) {
+    same!(*rt; lines.len(), 1);
+    for line in lines {
+        same!(*rt; line.as_str(), text);
+    }
+}
+
+#[test]
+fn first_step(rt: HostRuntime) {
+    let alloc = rt.alloc();
+    let style = style_of(&rt, alloc);
+    let mut bar = BarState::styled(alloc, style, Some(10), 0).expect(&rt, "granted");
+    let ask = bar.inc(1, 0);
+    same!(rt; ask, Ask::Unforced);
+}
+
+#[test]
+fn bar_without_keys_of_its_own(rt: HostRuntime) {
+    let (alloc, now) = (rt.alloc(), 0);
+    let bar = BarState::<NoTracker>::new(alloc, Some(10), now).expect(&rt, "granted");
+    same!(rt; bar.state().pos(), 0);
+}
+
+#[test]
+fn change_of_both_numbers(rt: HostRuntime) {
+    let mut bar = bar_at(&rt, rt.alloc(), 1);
+    bar.set_length(10, 0);
+    let change = Change {
+        pos: Some(3),
+        len: Some(4),
+    };
+    bar.apply(BarCommand::Update(change), 0)
+        .expect(&rt, "granted");
+    same!(rt; bar.state().pos(), 3);
+    same!(rt; bar.state().len(), Some(4));
+}
+
+#[test]
+fn command_and_its_copy(rt: HostRuntime) {
+    let (alloc, now) = (rt.alloc(), 0);
+    let mut bar = bar_at(&rt, alloc, 3);
+    let ask = bar.apply(BarCommand::Inc(2), now).expect(&rt, "granted");
+    same!(rt; bar.state().pos(), 5);
+    same!(rt; ask, Ask::Unforced);
+    let command = BarCommand::Inc(2);
+    let again = command.try_clone(alloc).expect(&rt, "granted");
+    bar.apply(again, now).expect(&rt, "granted");
+    same!(rt; bar.state().pos(), 7);
+}
+
+#[test]
+fn asks_of_draws(rt: HostRuntime) {
+    let now = 0;
+    let mut bar = bar_at(&rt, rt.alloc(), 3);
+    same!(rt; bar.tick(now), Ask::Unforced);
+    same!(rt; bar.force_draw(now), Ask::Forced);
+}
+
+#[test]
+fn rate_since_a_reset(rt: HostRuntime) {
+    let mut bar = bar_at(&rt, rt.alloc(), 0);
+    bar.set_position(2, 1_000_000_000);
+    bar.reset_eta(1_000_000_000);
+    bar.set_position(3, 2_000_000_000);
+    let rate = bar.state().per_sec(2_000_000_000);
+    same!(rt; rate.steps, 1);
+    same!(rt; rate.nanos, 1000000000);
+}
+
+#[test]
+fn copy_of_a_bar(rt: HostRuntime) {
+    let now = 0;
+    let mut bar = bar_at(&rt, rt.alloc(), 3);
+    let before = bar.try_clone().expect(&rt, "granted");
+    bar.inc(1, now);
+    same!(rt; before.state().pos(), 3);
+    same!(rt; bar.state().pos(), 4);
+}
+
+#[test]
+fn finish_that_leaves_the_bar(rt: HostRuntime) {
+    let now = 0;
+    let mut bar = bar_at(&rt, rt.alloc(), 3);
+    bar.with_finish(ProgressFinish::AndLeave, now);
+    bar.finish_using_style(now).expect(&rt, "granted");
+    same!(rt; bar.state().pos(), 4);
+    holds!(rt; bar.state().is_finished());
+}
+
+#[test]
+fn lines_in_the_room_of_others(rt: HostRuntime) {
+    let (alloc, now) = (rt.alloc(), 0);
+    let bar = bar_at(&rt, alloc, 4);
+    let mut spare = SpareLines::new(alloc);
+    let lines = bar.lines_in(&mut spare, now, 80).expect(&rt, "granted");
+    say(&rt, &lines, "========== 4/4");
+    let before = bar.lines_in(&mut spare, 0, 80).expect(&rt, "granted");
+    spare.store(before);
+    let lines = bar.lines_in(&mut spare, 1, 80).expect(&rt, "granted");
+    say(&rt, &lines, "========== 4/4");
+}
+
+#[test]
+fn style_made_from_another(rt: HostRuntime) {
+    let bar = bar_at(&rt, rt.alloc(), 4);
+    let style = bar
+        .style()
+        .try_clone()
+        .expect(&rt, "granted")
+        .template("{pos}")
+        .expect(&rt, "granted");
+    let other = BarState::styled(rt.alloc(), style, Some(10), 0).expect(&rt, "granted");
+    say(&rt, &other.lines(0, 80).expect(&rt, "granted"), "0");
+}
+
+/// Tells how many steps of so many are left.
+#[derive(Clone, Copy, Drop)]
+struct Left {
+    of: u64,
+}
+
+impl ProgressTracker for Left {
+    ghost means = { telling (λ left p now. decimal (left.of - p.position)) };
+
+    fn tick(&mut self, _state: &ProgressState, _now: Moment) {}
+
+    fn reset(&mut self, _state: &ProgressState, _now: Moment) {}
+
+    fn write(&self, state: &ProgressState, _now: Moment, out: &mut String) -> Result<(), Refusal> {
+        let mut digits = Buffer::new();
+        out.push_str(digits.format(self.of.saturating_sub(state.pos())))?;
+        Ok(())
+    }
+
+    fn try_clone(&self) -> Result<Left, Refusal> {
+        Ok(*self)
+    }
+}
+
+/// A bar of files of which three are done.
+#[test]
+fn key_with_a_number(rt: HostRuntime) {
+    let alloc = rt.alloc();
+    let style = ProgressStyle::with_template(alloc, "{msg} {left}")
+        .expect(&rt, "granted")
+        .with_key("left", Left { of: 10 })
+        .expect(&rt, "granted");
+    let mut bar = BarState::styled(alloc, style, None, 0).expect(&rt, "granted");
+    bar.set_message("files", 0).expect(&rt, "granted");
+    bar.set_position(3, 0);
+    say(&rt, &bar.lines(0, 80).expect(&rt, "granted"), "files 7");
+}
+
+/// Tells the same text always.
+#[derive(Drop)]
+struct Always {
+    text: String,
+}
+
+impl TellsText for Always {
+    ghost told_text = { λ always p now. string_bytes always.text };
+
+    fn tell(&self, _state: &ProgressState, _now: Moment) -> Result<String, Refusal> {
+        Ok(self.text.clone()?)
+    }
+}
+
+/// A bar that says that it is ready.
+#[test]
+fn key_with_a_text(rt: HostRuntime) {
+    let alloc = rt.alloc();
+    let tracker = FnTracker::new(
+        alloc,
+        Always {
+            text: String::from_str(alloc, "ready").expect(&rt, "granted"),
+        },
+    )
+    .expect(&rt, "granted");
+    let style = ProgressStyle::with_template(alloc, "{word}!")
+        .expect(&rt, "granted")
+        .with_key("word", tracker)
+        .expect(&rt, "granted");
+    let bar = BarState::styled(alloc, style, None, 0).expect(&rt, "granted");
+    say(&rt, &bar.lines(0, 80).expect(&rt, "granted"), "ready!");
+}
