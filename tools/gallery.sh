@@ -45,7 +45,6 @@ built() {
 }
 pages=("$@")
 built example_readme
-built example_threads spinner
 built examples fine
 built bars demo
 built meter --help

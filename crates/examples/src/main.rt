@@ -5,6 +5,8 @@
 //! - `formatters`: numbers as texts. `template`: the parts of a template. `terminal`: a bar on standard error. `sizes`: new sizes of a
 //!   terminal, passed on.
 //! - `key`: a key of one's own in a template, on standard error. `still`: ten bars there, of which one goes on.
+//! - With threads: `spinner`, which a thread ticks. `several`: three bars, each moved by a thread. `log_bridge`: lines of the crate `log` above
+//!   two bars, on standard error. `ported`: three programs of the Rust crate's documentation, carried over.
 //! - `reader`: standard input through a reader with a bar.
 //! - `guide`: the programs of the guide at the head of crate `indicatif`. `guide_key`: the one with a key of one's own.
 //! - `documented_shared`: the examples of the documentation comments of `indicatif`. It runs last, and prints no name.
@@ -18,10 +20,14 @@ mod formatters;
 mod guide;
 mod guide_key;
 mod key;
+mod log_bridge;
 mod logging;
+mod ported;
 mod reader;
 mod refusal;
+mod several;
 mod sizes;
+mod spinner;
 mod still;
 mod template;
 mod terminal;
@@ -39,6 +45,14 @@ fn main(rt: HostRuntime) -> Result<()> {
         key::main(rt, &rt)?;
         print_name(&rt, "still")?;
         still::main(rt, &rt)?;
+        print_name(&rt, "spinner")?;
+        spinner::main(rt)?;
+        print_name(&rt, "several")?;
+        several::main(rt)?;
+        print_name(&rt, "log_bridge")?;
+        log_bridge::main(rt, &rt)?;
+        print_name(&rt, "ported")?;
+        ported::main(rt, &rt)?;
         print_name(&rt, "reader")?;
         reader::main(rt, &rt)?;
         print_name(&rt, "guide")?;
@@ -49,6 +63,10 @@ fn main(rt: HostRuntime) -> Result<()> {
         "first" => first::main(rt),
         "key" => key::main(rt, &rt),
         "still" => still::main(rt, &rt),
+        "spinner" => spinner::main(rt),
+        "several" => several::main(rt),
+        "log_bridge" => log_bridge::main(rt, &rt),
+        "ported" => ported::main(rt, &rt),
         "reader" => reader::main(rt, &rt),
         "guide" => guide::main(rt),
         "documented_shared" => documented_shared::main(rt, &rt),
