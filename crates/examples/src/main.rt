@@ -7,12 +7,10 @@
 //! - `key`: a key of one's own in a template, on standard error. `still`: ten bars there, of which one goes on.
 //! - `reader`: standard input through a reader with a bar.
 //! - `guide`: the programs of the guide at the head of crate `indicatif`. `guide_key`: the one with a key of one's own.
-//! - `documented`: the examples of the four lower libraries' documentation comments. `documented_shared`: those of `indicatif`. These two
-//!   run last, and print no name.
+//! - `documented`: the examples of the four lower libraries' documentation comments. It runs last, and prints no name.
 #![tactic(auto)]
 
 mod documented;
-mod documented_shared;
 mod download;
 mod fine;
 mod first;
@@ -45,8 +43,7 @@ fn main(rt: HostRuntime) -> Result<()> {
         reader::main(rt, &rt)?;
         print_name(&rt, "guide")?;
         guide::main(rt)?;
-        documented::main(&rt)?;
-        return documented_shared::main(rt, &rt);
+        return documented::main(&rt);
     };
     match name.as_str() {
         "first" => first::main(rt),
@@ -55,7 +52,6 @@ fn main(rt: HostRuntime) -> Result<()> {
         "reader" => reader::main(rt, &rt),
         "guide" => guide::main(rt),
         "documented" => documented::main(&rt),
-        "documented_shared" => documented_shared::main(rt, &rt),
         name => run(&rt, name),
     }
 }
