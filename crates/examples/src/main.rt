@@ -9,10 +9,8 @@
 //!   two bars, on standard error. `ported`: three programs of the Rust crate's documentation, carried over.
 //! - `reader`: standard input through a reader with a bar.
 //! - `guide`: the programs of the guide at the head of crate `indicatif`. `guide_key`: the one with a key of one's own.
-//! - `documented_shared`: the examples of the documentation comments of `indicatif`. It runs last, and prints no name.
 #![tactic(auto)]
 
-mod documented_shared;
 mod download;
 mod fine;
 mod first;
@@ -56,8 +54,7 @@ fn main(rt: HostRuntime) -> Result<()> {
         print_name(&rt, "reader")?;
         reader::main(rt, &rt)?;
         print_name(&rt, "guide")?;
-        guide::main(rt)?;
-        return documented_shared::main(rt, &rt);
+        return guide::main(rt);
     };
     match name.as_str() {
         "first" => first::main(rt),
@@ -69,7 +66,6 @@ fn main(rt: HostRuntime) -> Result<()> {
         "ported" => ported::main(rt, &rt),
         "reader" => reader::main(rt, &rt),
         "guide" => guide::main(rt),
-        "documented_shared" => documented_shared::main(rt, &rt),
         name => run(&rt, name),
     }
 }

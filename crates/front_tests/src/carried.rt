@@ -7,8 +7,8 @@ use indicatif::{
 };
 use std::alloc::Global;
 use std::io;
+use std::process::Abort;
 use std::sync::Wait;
-use std::test::Fail;
 use std::thread::Threads;
 use std::vec::IntoIter;
 
@@ -239,33 +239,35 @@ fn it_can_wrap_a_parallel_iterator(rt: HostRuntime) {
 /// A text of 34 bytes.
 const READ: &str = "I am an implementation of io::Read";
 
-/// Whether a reader that a bar wraps gives all bytes.
-fn reads_all<R: Wait + Copy + Clone + Drop>(alloc: Global, bar: &Bar<R>) -> Result<bool, Fail> {
-    let mut reader = Box::new(alloc, bar.wrap_read(READ.as_bytes())?)?;
+/// What a reader that a bar wraps gives.
+fn read<R: Wait + Copy + Clone + Drop + Abort>(rt: &R, alloc: Global, bar: &Bar<R>) -> Vec<u8> {
+    let wrapped = bar.wrap_read(READ.as_bytes()).expect(rt, "granted");
+    let mut reader = Box::new(alloc, wrapped).expect(rt, "granted");
     let mut writer = Vec::new(alloc);
-    io::copy(&mut *reader, &mut writer)?;
-    Ok(writer.as_slice() == READ.as_bytes())
+    io::copy(&mut *reader, &mut writer).expect(rt, "granted");
+    writer
 }
 
 #[test]
 fn it_can_wrap_a_reader(rt: HostRuntime) {
     let bar = bar_of(rt, rt.alloc(), 34).expect(&rt, "granted");
-    holds!(rt; reads_all(rt.alloc(), &bar).expect(&rt, "granted"));
+    same!(rt; read(&rt, rt.alloc(), &bar).as_slice(), READ.as_bytes());
 }
 
 /// A text of 26 bytes.
 const TEXT_READ: &str = "implementation of io::Read";
 
 /// What a writer that a bar wraps has taken of that text.
-fn written<R: Wait + Copy + Clone + Drop>(alloc: Global, bar: &Bar<R>) -> Result<Vec<u8>, Fail> {
+fn written<R: Wait + Copy + Clone + Drop + Abort>(rt: &R, alloc: Global, bar: &Bar<R>) -> Vec<u8> {
     let mut reader = TEXT_READ.as_bytes();
-    let mut writer = Box::new(alloc, bar.wrap_write(Vec::new(alloc))?)?;
-    io::copy(&mut reader, &mut *writer)?;
-    Ok(Box::into_inner(writer).into_inner().0)
+    let wrapped = bar.wrap_write(Vec::new(alloc)).expect(rt, "granted");
+    let mut writer = Box::new(alloc, wrapped).expect(rt, "granted");
+    io::copy(&mut reader, &mut *writer).expect(rt, "granted");
+    Box::into_inner(writer).into_inner().0
 }
 
 #[test]
 fn it_can_wrap_a_writer(rt: HostRuntime) {
     let bar = bar_of(rt, rt.alloc(), 26).expect(&rt, "granted");
-    same!(rt; written(rt.alloc(), &bar).expect(&rt, "granted").as_slice(), TEXT_READ.as_bytes());
+    same!(rt; written(&rt, rt.alloc(), &bar).as_slice(), TEXT_READ.as_bytes());
 }

@@ -5,8 +5,6 @@ use indicatif::style::ProgressTracker;
 use indicatif::{BarState, FnTracker, Moment, ProgressState, ProgressStyle, Refusal, TellsText};
 use std::alloc::Global;
 use std::convert::AsStr;
-use std::process::Abort;
-use std::test::Fail;
 
 /// Tells this text.
 #[derive(Drop)]
@@ -63,31 +61,29 @@ fn is_line<K: ProgressTracker>(bar: &BarState<K>, wanted: &str) -> Result<bool, 
     })
 }
 
-/// The keys `foo` and `bar`.
-fn expands(rt: &impl Abort, alloc: Global, template: &str, wanted: &str) -> Result<(), Fail> {
+/// Whether the keys `foo` and `bar` make this of a template.
+fn expands(alloc: Global, template: &str, wanted: &str) -> Result<bool, Refusal> {
     let look = with_key(alloc, look_of(alloc, template, false)?, ("foo", "FOO"))?;
     let look = with_key(alloc, look, ("bar", "BAR"))?;
-    assert!(rt; shows(alloc, look, wanted)?);
-    Ok(())
+    shows(alloc, look, wanted)
 }
 
 #[test]
 fn test_expand_template(rt: HostRuntime) {
-    expands(&rt, rt.alloc(), "{{ {foo} {bar} }}", "{ FOO BAR }").expect(&rt, "granted");
+    let alloc = rt.alloc();
+    same!(rt; expands(alloc, "{{ {foo} {bar} }}", "{ FOO BAR }"), Ok(true));
     let json = r#"{ "foo": "{foo}", "bar": {bar} }"#;
-    expands(&rt, rt.alloc(), json, r#"{ "foo": "FOO", "bar": BAR }"#)
+    same!(rt; expands(alloc, json, r#"{ "foo": "FOO", "bar": BAR }"#), Ok(true));
 }
 
-/// The key `foo`.
+/// Whether the key `foo` makes this of a template, with colours or without.
 fn expands_flags(
-    rt: &impl Abort,
     alloc: Global,
     (template, colours): (&str, bool),
     wanted: &str,
-) -> Result<(), Fail> {
+) -> Result<bool, Refusal> {
     let look = with_key(alloc, look_of(alloc, template, colours)?, ("foo", "XXX"))?;
-    assert!(rt; shows(alloc, look, wanted)?, "at {template}");
-    Ok(())
+    shows(alloc, look, wanted)
 }
 
 #[test]
@@ -102,14 +98,15 @@ fn test_expand_template_flags(rt: HostRuntime) {
         ),
     ];
     for (template, wanted) in table {
-        expands_flags(&rt, rt.alloc(), (*template, true), *wanted).expect(&rt, "granted");
+        let expands = expands_flags(rt.alloc(), (*template, true), *wanted);
+        same!(rt; (*template, expands), (*template, Ok(true)));
     }
 }
 
 /// The crate tells two streams' colours apart; here a style is told whether it has colours.
 #[test]
 fn test_stderr_colors(rt: HostRuntime) {
-    expands_flags(&rt, rt.alloc(), ("{foo:.red.on_blue}", false), "XXX")
+    same!(rt; expands_flags(rt.alloc(), ("{foo:.red.on_blue}", false), "XXX"), Ok(true));
 }
 
 // ---- a text that changes
@@ -171,10 +168,10 @@ fn tracked(alloc: Global) -> Result<Box<BarState<TestTracker>>, Refusal> {
 #[test]
 fn test_stateful_tracker(rt: HostRuntime) {
     let mut bar = tracked(rt.alloc()).expect(&rt, "granted");
-    holds!(rt; is_line(&bar, "{  }").expect(&rt, "granted"));
+    same!(rt; is_line(&bar, "{  }"), Ok(true));
     bar.inc(1, 0);
-    holds!(rt; is_line(&bar, "{ 1 1 }").expect(&rt, "granted"));
+    same!(rt; is_line(&bar, "{ 1 1 }"), Ok(true));
     bar.reset(0);
-    holds!(rt; is_line(&bar, "{  }").expect(&rt, "granted"));
+    same!(rt; is_line(&bar, "{  }"), Ok(true));
     bar.finish_and_clear(0);
 }

@@ -3,12 +3,12 @@ use indicatif::Gate;
 use std::alloc::{AllocError, Global};
 use std::sync::atomic::{AtomicU64, Ordering};
 
-/// Holds nobody.
+/// Holds nobody. (This is the example of `Gate`.)
 #[derive(Drop)]
 pub struct Open;
 
 impl Gate for Open {
-    fn pass(&self, _piece: usize) {}
+    fn pass(&self, piece: usize) {}
 }
 
 /// Counts who passes.

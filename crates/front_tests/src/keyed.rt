@@ -15,9 +15,9 @@ use std::thread;
 
 /// Tells how many steps of so many are left.
 #[derive(Clone, Copy, Drop)]
-struct Left {
-    alloc: Global,
-    of: u64,
+pub struct Left {
+    pub alloc: Global,
+    pub of: u64,
 }
 
 impl ProgressTracker for Left {
@@ -43,7 +43,7 @@ impl ProgressTracker for Left {
 type Keyed<R> = ProgressBar<InMemoryTerm, StepClock, R, Left>;
 
 /// A board of such bars.
-type Several<R> = MultiProgress<InMemoryTerm, StepClock, R, Left>;
+pub type Several<R> = MultiProgress<InMemoryTerm, StepClock, R, Left>;
 
 fn setup(alloc: Global) -> Result<Setup<InMemoryTerm, StepClock>, Refusal> {
     Ok(Setup {

@@ -11,7 +11,7 @@
 //! - `machines`: what is asked of the machine. `made`: iterators that get a bar when they are wrapped.
 //! - `bridges`: lines of a log above a board's bars.
 //! - `carried`: tests of the crate `indicatif` that need code. `carried_tickers`: those of tickers. `carried_trackers`: those of trackers.
-//! - `counted`: threads that count for a bar.
+//! - `counted`: threads that count for a bar. `documented_shared`: the examples of the documentation comments.
 //! - `ticking`: a bar's ticker, looked at from outside. `intervals`: how often it ticks. `keyed`: shared bars with a key of the tests' own.
 //!   `odd_keys`: keys that write what no line holds.
 //! - `lists`: lists, block by block. `own_bars`: lists with a bar of their own. `pieces`: pieces in threads of their own. They use the bar
@@ -52,6 +52,8 @@ mod checks;
 mod closures;
 #[cfg(test)]
 mod counted;
+#[cfg(test)]
+mod documented_shared;
 #[cfg(test)]
 mod fronts;
 #[cfg(test)]

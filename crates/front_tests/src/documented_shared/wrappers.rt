@@ -1,0 +1,152 @@
+//! What a bar wraps.
+use crate::documented_shared::bars::{Bar, bar_of, setup_of};
+use futures::Stream;
+use indicatif::{
+    BarState, InMemoryTerm, LoneBar, Moves, NoTracker, OwnedBar, ProgressBarIter,
+    ProgressDrawTarget, ProgressIterator, Refusal, Setup, StepClock,
+};
+use std::alloc::{AllocError, Global};
+use std::io::{Read, Write};
+use std::sync::Wait;
+use tokio::io::{AsyncRead, AsyncWrite};
+
+type Own = OwnedBar<NoTracker, InMemoryTerm, StepClock>;
+
+#[test]
+fn the_first_item(rt: HostRuntime) {
+    let bar = bar_of(rt, rt.alloc());
+    let items = vec![in rt.alloc(); 7u64, 8].expect(&rt, "granted");
+    let mut wrapped = bar.wrap_iter(items.into_iter()).expect(&rt, "granted");
+    same!(rt; wrapped.next(), Some(7));
+}
+
+#[test]
+fn four_bytes_read(rt: HostRuntime) {
+    let bar = bar_of(rt, rt.alloc());
+    let mut wrapped = bar.wrap_read("abcdef".as_bytes()).expect(&rt, "granted");
+    let mut room = [0u8; 4];
+    same!(rt; wrapped.read(&mut room).expect(&rt, "granted"), 4);
+    same!(rt; bar.position(), 4);
+}
+
+#[test]
+fn three_bytes_written(rt: HostRuntime) {
+    let alloc = rt.alloc();
+    let bar = bar_of(rt, alloc);
+    let mut wrapped = bar.wrap_write(Vec::new(alloc)).expect(&rt, "granted");
+    same!(rt; wrapped.write(b"abc").expect(&rt, "granted"), 3);
+    same!(rt; bar.position(), 3);
+}
+
+/// A stream that a bar goes along with.
+pub fn streamed<S: Stream + Drop, R: Wait + Clone + Drop>(
+    bar: &Bar<R>,
+    stream: S,
+) -> Result<ProgressBarIter<S, Bar<R>>, AllocError> {
+    let mut wrapped = bar.wrap_stream(stream)?;
+    Ok(wrapped)
+}
+
+/// A reader that is polled.
+pub fn read_along<S: AsyncRead + Drop, R: Wait + Clone + Drop>(
+    bar: &Bar<R>,
+    socket: S,
+) -> Result<ProgressBarIter<S, Bar<R>>, AllocError> {
+    let mut wrapped = bar.wrap_async_read(socket)?;
+    Ok(wrapped)
+}
+
+/// A writer that is polled.
+pub fn written_along<S: AsyncWrite + Drop, R: Wait + Clone + Drop>(
+    bar: &Bar<R>,
+    socket: S,
+) -> Result<ProgressBarIter<S, Bar<R>>, AllocError> {
+    let mut wrapped = bar.wrap_async_write(socket)?;
+    Ok(wrapped)
+}
+
+/// A bar of its own, made from parts.
+fn own(state: BarState<NoTracker>, target: ProgressDrawTarget<InMemoryTerm>) -> Own {
+    let bar = OwnedBar::new(
+        LoneBar::new(state, target),
+        StepClock {
+            next: 0,
+            step: 1_000_000,
+        },
+    );
+    bar
+}
+
+/// A bar of two steps, of its own.
+fn own_of_two(alloc: Global) -> Result<Own, Refusal> {
+    let target = setup_of(alloc)?.target;
+    Ok(own(BarState::new(alloc, Some(2), 0)?, target))
+}
+
+/// Goes through all items, and gives the bar back.
+fn looped(bar: Own, items: Vec<u64>) -> Own {
+    let mut wrapped = ProgressBarIter::new(items.into_iter(), bar);
+    while let Some(item) = wrapped.next() {}
+    let (_, bar) = wrapped.into_inner();
+    bar
+}
+
+#[test]
+fn a_bar_of_its_own_behind_a_loop(rt: HostRuntime) {
+    let bar = own_of_two(rt.alloc()).expect(&rt, "granted");
+    let items = vec![in rt.alloc(); 1u64, 2].expect(&rt, "granted");
+    same!(rt; looped(bar, items).position(), 2);
+}
+
+/// The first item, and a bar of any kind that has gone on by it.
+fn first_of<P: Moves>(list: Vec<u64>, bar: P) -> (Option<u64>, P) {
+    let mut wrapped = ProgressBarIter::new(list.into_iter(), bar);
+    let first = wrapped.next();
+    let (_, bar) = wrapped.into_inner();
+    (first, bar)
+}
+
+#[test]
+fn a_bar_of_its_own_behind_the_first_item(rt: HostRuntime) {
+    let bar = own_of_two(rt.alloc()).expect(&rt, "granted");
+    let items = vec![in rt.alloc(); 7u64, 8].expect(&rt, "granted");
+    let (first, bar) = first_of(items, bar);
+    same!(rt; first, Some(7));
+    same!(rt; bar.position(), 1);
+}
+
+#[test]
+fn all_items_of_a_list(rt: HostRuntime) {
+    let alloc = rt.alloc();
+    let list = vec![in alloc; 1u64, 2].expect(&rt, "granted");
+    let term = InMemoryTerm::new(alloc, 4, 20).expect(&rt, "granted");
+    let clock = StepClock { next: 0, step: 1 };
+    let setup = Setup {
+        target: ProgressDrawTarget::term_like(term),
+        clock,
+    };
+    let mut wrapped = list
+        .into_iter()
+        .progress(alloc, setup)
+        .expect(&rt, "granted");
+    let mut count = 0u64;
+    while let Some(item) = wrapped.next() {
+        count = count.saturating_add(1);
+    }
+    same!(rt; count, 2);
+}
+
+#[test]
+fn the_first_item_of_a_list_of_known_length(rt: HostRuntime) {
+    let alloc = rt.alloc();
+    let list = vec![in alloc; 1u64, 2, 3].expect(&rt, "granted");
+    let setup = setup_of(alloc).expect(&rt, "granted");
+    let Some(mut wrapped) = list
+        .into_iter()
+        .try_progress(alloc, setup)
+        .expect(&rt, "granted")
+    else {
+        panic!(rt; "no bar is made")
+    };
+    same!(rt; wrapped.next(), Some(1));
+}
