@@ -1,10 +1,11 @@
 //! What is handed on by pauses, what crosses threads, a terminal in a box, a record's style, and what programmers are shown of a bar.
-use crate::fronts::{Bar, alone, bar_on, recorded, shows};
+use crate::fronts::{Bar, alone, bar_on, bar_shows, recorded};
 use indicatif::{
     BarState, Drawn, InMemoryTerm, NoTracker, ProgressBar, ProgressDrawTarget, ProgressStyle,
     Refusal, Setup, StepClock, TermLike,
 };
 use std::alloc::Global;
+use std::process::Abort;
 use std::sync::Wait;
 
 /// What the closure of a pause gives, and what the pause answers.
@@ -14,11 +15,11 @@ fn paused<R: Wait + Copy + Clone + Drop>(bar: &Bar<R>, value: u8) -> (u8, Result
 
 #[test]
 fn pauses_hand_values_on(rt: HostRuntime) {
-    let bar = alone(rt, rt.alloc(), "{pos}").expect(&rt, "granted");
+    let bar = alone(rt, rt.alloc(), "{pos}");
     same!(rt; paused(&bar, 7), (7, Ok(Drawn::Yes)));
-    holds!(rt; shows(&bar, "0"));
-    let board = recorded(rt, rt.alloc()).expect(&rt, "granted");
-    let bar = bar_on(&board, rt, rt.alloc(), "a").expect(&rt, "granted");
+    bar_shows(&rt, &bar, "0");
+    let board = recorded(rt, rt.alloc());
+    let bar = bar_on(&board, rt, rt.alloc(), "a");
     same!(rt; paused(&bar, 7), (7, Ok(Drawn::Yes)));
     same!(rt; board.suspend(|| 8u8).0, 8);
 }
@@ -27,7 +28,7 @@ fn crosses<X: Send + Sync>(_bar: &X) {}
 
 #[test]
 fn a_bar_crosses_threads(rt: HostRuntime) {
-    let bar = alone(rt, rt.alloc(), "{pos}").expect(&rt, "granted");
+    let bar = alone(rt, rt.alloc(), "{pos}");
     crosses(&bar);
     let weak = bar.downgrade().expect(&rt, "granted");
     crosses(&weak);
@@ -35,50 +36,38 @@ fn a_bar_crosses_threads(rt: HostRuntime) {
 
 type Boxed = Box<dyn TermLike + Drop>;
 
-fn boxed_setup(alloc: Global) -> Result<Setup<Boxed, StepClock>, Refusal> {
-    let term: Boxed = Box::new(alloc, InMemoryTerm::new(alloc, 4, 20)?)?;
-    Ok(Setup {
+fn boxed_setup<R: Abort>(rt: &R, alloc: Global) -> Setup<Boxed, StepClock> {
+    let term = InMemoryTerm::new(alloc, 4, 20).expect(rt, "granted");
+    let term: Boxed = Box::new(alloc, term).expect(rt, "granted");
+    Setup {
         target: ProgressDrawTarget::term_like(term),
         clock: StepClock { next: 0, step: 0 },
-    })
-}
-
-/// Two steps, and where the bar stands then.
-fn steps_two<R: Wait + Copy + Clone + Drop>(rt: R, alloc: Global) -> Result<(Drawn, u64), Refusal> {
-    let bar = ProgressBar::no_length(rt, alloc, boxed_setup(alloc)?)?;
-    Ok((bar.inc(2)?, bar.position()))
+    }
 }
 
 #[test]
 fn a_boxed_terminal(rt: HostRuntime) {
-    same!(rt; steps_two(rt, rt.alloc()), Ok((Drawn::Yes, 2)));
+    let setup = boxed_setup(&rt, rt.alloc());
+    let bar = ProgressBar::no_length(rt, rt.alloc(), setup).expect(&rt, "granted");
+    same!(rt; bar.inc(2), Ok(Drawn::Yes));
+    same!(rt; bar.position(), 2);
 }
 
-type Look = ProgressStyle<NoTracker>;
-
-/// A spinner of three texts and the message; the last text is for a finished bar.
-fn spinner(alloc: Global) -> Result<Look, Refusal> {
-    ProgressStyle::with_template(alloc, "{spinner} {msg}")?.tick_strings(&["-", "+", "ok"])
+/// A record in the style of a spinner of three texts and the message; the last text is for a finished bar.
+fn record<R: Abort>(rt: &R, alloc: Global) -> Box<BarState<NoTracker>> {
+    let style = ProgressStyle::with_template(alloc, "{spinner} {msg}").expect(rt, "granted");
+    let style = style.tick_strings(&["-", "+", "ok"]).expect(rt, "granted");
+    let bar = BarState::styled(alloc, style, None, 0).expect(rt, "granted");
+    Box::new(alloc, bar).expect(rt, "granted")
 }
 
-/// A record in the style of a spinner.
-fn record(alloc: Global) -> Result<Box<BarState<NoTracker>>, Refusal> {
-    let bar = BarState::styled(alloc, spinner(alloc)?, None, 0)?;
-    Ok(Box::new(alloc, bar)?)
-}
-
-/// A style with two other texts, made of this one.
-fn changed(alloc: Global, style: &Look) -> Result<Box<Look>, Refusal> {
-    let style = style.try_clone()?.tick_strings(&["1", "2"])?;
-    Ok(Box::new(alloc, style)?)
-}
-
-/// The style of a record is read, and what is made of it leaves the record as it is.
+/// The style of a record is read, and what is made of it, a style with two other texts, leaves the record as it is.
 #[test]
 fn a_style_of_a_record(rt: HostRuntime) {
-    let bar = record(rt.alloc()).expect(&rt, "granted");
+    let bar = record(&rt, rt.alloc());
     same!(rt; bar.style().get_tick_str(1), "+");
-    let other = changed(rt.alloc(), bar.style()).expect(&rt, "granted");
+    let other = bar.style().try_clone().expect(&rt, "granted");
+    let other = other.tick_strings(&["1", "2"]).expect(&rt, "granted");
     same!(rt; other.get_final_tick_str(), "2");
     same!(rt; bar.style().get_final_tick_str(), "ok");
 }
@@ -86,12 +75,15 @@ fn a_style_of_a_record(rt: HostRuntime) {
 /// What programmers are shown of a bar, as the crate shows it; of a wrapper its fields as well.
 #[test]
 fn debug_texts(rt: HostRuntime) {
-    let board = recorded(rt, rt.alloc()).expect(&rt, "granted");
-    same!(rt; format!(in rt.alloc(); "{:?}", *board).expect(&rt, "granted").as_str(), "MultiProgress");
-    let bar = alone(rt, rt.alloc(), "{pos}").expect(&rt, "granted");
-    same!(rt; format!(in rt.alloc(); "{bar:?}").expect(&rt, "granted").as_str(), "ProgressBar");
+    let alloc = rt.alloc();
+    let board = recorded(rt, alloc);
+    let text = format!(in alloc; "{:?}", *board).expect(&rt, "granted");
+    same!(rt; text.as_str(), "MultiProgress");
+    let bar = alone(rt, alloc, "{pos}");
+    let text = format!(in alloc; "{bar:?}").expect(&rt, "granted");
+    same!(rt; text.as_str(), "ProgressBar");
     let wrapped = bar.wrap_read("ab".as_bytes()).expect(&rt, "granted");
-    let text = format!(in rt.alloc(); "{wrapped:?}").expect(&rt, "granted");
+    let text = format!(in alloc; "{wrapped:?}").expect(&rt, "granted");
     let beginning = "ProgressBarIter { it: [97, 98], progress: ProgressBar, ";
     holds!(rt; text.as_str().starts_with(beginning));
 }

@@ -2,13 +2,14 @@
 //! the same picture.
 use crate::fronts::{Bar, Shared, bar_on, recorded};
 use crate::recordings::{Kind, Recording, counted, is_one_run};
+use crate::ticking::{tick_off, ticks_on, waits};
 use indicatif::{
     Drawn, Entry, InMemoryTerm, MultiProgressAlignment, NoTracker, RecordReader, Refusal,
 };
 use std::alloc::Global;
+use std::process::Abort;
 use std::sync::Wait;
 use std::thread::{self, Threads, join};
-use std::time::{Clock, Duration};
 
 // ---- texts from two threads
 
@@ -31,7 +32,7 @@ fn logged<R: Wait + Copy + Clone + Drop>(board: &Shared<R>) -> (u64, u64) {
 
 #[test]
 fn two_threads_log(rt: HostRuntime) {
-    let board = recorded(rt, rt.alloc()).expect(&rt, "granted");
+    let board = recorded(rt, rt.alloc());
     let drawn = join(
         &rt,
         || log_fifty(&board, "mine"),
@@ -40,7 +41,7 @@ fn two_threads_log(rt: HostRuntime) {
     same!(rt; drawn, (50, 50));
     same!(rt; counted(&board, Kind::Any), 100);
     same!(rt; logged(&board), (50, 50));
-    holds!(rt; is_one_run(&board, rt.alloc()));
+    is_one_run(rt, &board, rt.alloc());
 }
 
 // ---- a board in two threads
@@ -48,36 +49,35 @@ fn two_threads_log(rt: HostRuntime) {
 fn crosses<X: Send + Sync>(_board: &X) {}
 
 /// A bar on the board that is drawn, fifty texts, and the bar's end; how many texts were drawn.
-fn adds_and_logs<R: Wait + Copy + Clone + Drop>(
+fn adds_and_logs<R: Wait + Copy + Clone + Drop + Abort>(
     board: &Shared<R>,
     rt: R,
     alloc: Global,
     text: &str,
-) -> Result<u64, Refusal> {
-    let bar = bar_on(board, rt, alloc, text)?;
-    bar.tick()?;
+) -> u64 {
+    let bar = bar_on(board, rt, alloc, text);
+    same!(rt; bar.tick(), Ok(Drawn::Yes));
     let drawn = log_fifty(board, text);
-    bar.finish()?;
-    Ok(drawn)
+    same!(rt; bar.finish(), Ok(Drawn::Yes));
+    drawn
 }
 
 /// One owner of a board goes into another thread, and both add bars and log: each adds a bar, draws it, logs fifty texts, finishes the
 /// bar and drops it.
 #[test]
 fn a_board_crosses_threads(rt: HostRuntime) {
-    let board = recorded(rt, rt.alloc()).expect(&rt, "granted");
+    let board = recorded(rt, rt.alloc());
     crosses(&*board);
     let other = board.clone().expect(&rt, "granted");
-    let child = thread::spawn(&rt, move || {
-        adds_and_logs(&other, rt, rt.alloc(), "theirs").unwrap_or(0)
-    })
-    .expect(&rt, "granted");
-    let mine = adds_and_logs(&board, rt, rt.alloc(), "mine").unwrap_or(0);
+    let child = thread::spawn(&rt, move || adds_and_logs(&other, rt, rt.alloc(), "theirs")).expect(
+        &rt, "granted",
+    );
+    let mine = adds_and_logs(&board, rt, rt.alloc(), "mine");
     same!(rt; (mine, child.join(&rt)), (50, 50));
     same!(rt; logged(&board), (50, 50));
     let came_and_went = (counted(&board, Kind::Any), counted(&board, Kind::Gone));
     same!(rt; came_and_went, (108, 2));
-    holds!(rt; is_one_run(&board, rt.alloc()));
+    is_one_run(rt, &board, rt.alloc());
 }
 
 // ---- a thousand calls
@@ -124,55 +124,47 @@ struct Player<R: Wait + Copy + Clone + Drop> {
     removals: u64,
 }
 
-fn player_on<R: Wait + Copy + Clone + Drop>(
+fn player_on<R: Wait + Copy + Clone + Drop + Abort>(
     board: &Shared<R>,
     rt: R,
     alloc: Global,
-) -> Result<Box<Player<R>>, Refusal> {
-    let bar = bar_on(board, rt, alloc, "bar")?;
-    Ok(Box::new(alloc, Player { bar, removals: 0 })?)
+) -> Box<Player<R>> {
+    let bar = bar_on(board, rt, alloc, "bar");
+    Box::new(alloc, Player { bar, removals: 0 }).expect(&rt, "granted")
 }
 
-impl<R: Wait + Copy + Clone + Drop> Player<R> {
+impl<R: Wait + Copy + Clone + Drop + Abort> Player<R> {
     /// A bar in the place of the other, which leaves its board by its last owner's drop.
-    fn renew(&mut self, board: &Shared<R>, rt: R, alloc: Global) -> Result<(), Refusal> {
-        self.bar = bar_on(board, rt, alloc, "new")?;
-        Ok(())
+    fn renew(&mut self, board: &Shared<R>, rt: R, alloc: Global) {
+        self.bar = bar_on(board, rt, alloc, "new");
     }
 
     /// Takes the bar out of the order, tells it something while it stands alone, and takes it in before all others.
-    fn leave(&mut self, board: &Shared<R>) -> Result<(), Refusal> {
-        board.remove(&self.bar)?;
+    fn leave(&mut self, board: &Shared<R>, rt: R) {
+        same!(rt; board.remove(&self.bar), Ok(()));
         self.removals = self.removals.saturating_add(1);
         let _ = self.bar.set_message("moved");
-        self.bar = board.insert(0, self.bar.clone()?)?;
-        Ok(())
+        let owner = self.bar.clone().expect(&rt, "granted");
+        self.bar = board.insert(0, owner).expect(&rt, "granted");
     }
 
     /// A call by a number.
-    fn call(
-        &mut self,
-        board: &Shared<R>,
-        rt: R,
-        alloc: Global,
-        number: u64,
-    ) -> Result<(), Refusal> {
+    fn call(&mut self, board: &Shared<R>, rt: R, alloc: Global, number: u64) {
         match number {
             0..5 => board_call(board, number),
-            5 => self.renew(board, rt, alloc)?,
-            6 => self.leave(board)?,
+            5 => self.renew(board, rt, alloc),
+            6 => self.leave(board, rt),
             _ => bar_call(&self.bar, number.wrapping_sub(7)),
         }
-        Ok(())
     }
 }
 
 /// Takes a bar that several threads have out of the order, and in again.
-fn toss<R: Wait + Copy + Clone + Drop>(board: &Shared<R>, bar: &Bar<R>) -> Result<(), Refusal> {
-    board.remove(bar)?;
+fn toss<R: Wait + Copy + Clone + Drop + Abort>(board: &Shared<R>, rt: R, bar: &Bar<R>) {
+    same!(rt; board.remove(bar), Ok(()));
     let _ = bar.inc(1);
-    let _ = board.add(bar.clone()?)?;
-    Ok(())
+    let owner = bar.clone().expect(&rt, "granted");
+    let _ = board.add(owner).expect(&rt, "granted");
 }
 
 /// A board, and a bar of it that all threads have.
@@ -182,10 +174,10 @@ struct Stage<R: Wait + Copy + Clone + Drop> {
     common: Bar<R>,
 }
 
-fn stage_on<R: Wait + Copy + Clone + Drop>(rt: R, alloc: Global) -> Result<Box<Stage<R>>, Refusal> {
-    let board = Box::into_inner(recorded(rt, alloc)?);
-    let common = bar_on(&board, rt, alloc, "all")?;
-    Ok(Box::new(alloc, Stage { board, common })?)
+fn stage_on<R: Wait + Copy + Clone + Drop + Abort>(rt: R, alloc: Global) -> Box<Stage<R>> {
+    let board = Box::into_inner(recorded(rt, alloc));
+    let common = bar_on(&board, rt, alloc, "all");
+    Box::new(alloc, Stage { board, common }).expect(&rt, "granted")
 }
 
 /// A fixed generator of numbers: Marsaglia's xorshift of 64 bits, with the shifts 13, 7 and 17.
@@ -200,25 +192,25 @@ fn next(seed: &mut u64) -> u64 {
 
 /// Two hundred and fifty calls on a board and a bar of it, by the numbers of a generator, and some on a bar that other threads have
 /// too; how often the bar was taken out of the order.
-fn play<R: Wait + Copy + Clone + Drop>(
+fn play<R: Wait + Copy + Clone + Drop + Abort>(
     on: &Stage<R>,
     rt: R,
     alloc: Global,
     mut seed: u64,
-) -> Result<u64, Refusal> {
-    let mut player = player_on(&on.board, rt, alloc)?;
+) -> u64 {
+    let mut player = player_on(&on.board, rt, alloc);
     for _ in 0..250u32 {
         let number = next(&mut seed) % 21;
-        player.call(&on.board, rt, alloc, number)?;
+        player.call(&on.board, rt, alloc, number);
         if number == 9 {
-            toss(&on.board, &on.common)?;
+            toss(&on.board, rt, &on.common);
         }
     }
-    Ok(player.removals)
+    player.removals
 }
 
-/// The same in two threads; how often both took their bars out, 0 where one of them was refused something.
-fn play_two<R: Wait + Threads + Copy + Clone + Drop + Send + Sync>(
+/// The same in two threads; how often both took their bars out.
+fn play_two<R: Wait + Threads + Copy + Clone + Drop + Abort + Send + Sync>(
     on: &Stage<R>,
     rt: R,
     alloc: Global,
@@ -226,12 +218,12 @@ fn play_two<R: Wait + Threads + Copy + Clone + Drop + Send + Sync>(
 ) -> (u64, u64) {
     join(
         &rt,
-        || play(on, rt, alloc, seeds.0).unwrap_or(0),
-        || play(on, rt, alloc, seeds.1).unwrap_or(0),
+        || play(on, rt, alloc, seeds.0),
+        || play(on, rt, alloc, seeds.1),
     )
 }
 
-/// How often four threads took bars of their own out; `None` where one of them was refused something.
+/// How often four threads took bars of their own out; `None` where one of them did never.
 fn sum_of(one: (u64, u64), other: (u64, u64)) -> Option<u64> {
     let all = [one.0, one.1, other.0, other.1];
     let mut sum: u64 = 0;
@@ -247,7 +239,7 @@ fn sum_of(one: (u64, u64), other: (u64, u64)) -> Option<u64> {
 /// A thousand calls from four threads, with bars that are taken out and come back: the bar that all have is taken out too.
 #[test]
 fn a_thousand_calls(rt: HostRuntime) {
-    let on = stage_on(rt, rt.alloc()).expect(&rt, "granted");
+    let on = stage_on(rt, rt.alloc());
     let (one, other) = join(
         &rt,
         || play_two(&on, rt, rt.alloc(), (1, 2)),
@@ -256,28 +248,10 @@ fn a_thousand_calls(rt: HostRuntime) {
     let own = sum_of(one, other).unwrap_or(0);
     holds!(rt; own >= 20 && counted(&on.board, Kind::Remove) > own);
     holds!(rt; counted(&on.board, Kind::Any) >= 1000);
-    holds!(rt; is_one_run(&on.board, rt.alloc()));
+    is_one_run(rt, &on.board, rt.alloc());
 }
 
 // ---- a ticker
-
-/// Whether the bar ticks, by the last of 10,000 readings a millisecond apart.
-fn ticks<R: Wait + Clock + Copy + Clone + Drop>(rt: &R, bar: &Bar<R>) -> bool {
-    for _ in 0..10_000u32 {
-        if bar.ticks() > 0 {
-            return true;
-        }
-        thread::sleep(rt, Duration::from_millis(1));
-    }
-    false
-}
-
-/// Fifty turns of a millisecond: a ticker of a millisecond that goes on ticks meanwhile.
-fn waits<R: Clock>(rt: &R) {
-    for _ in 0..50u32 {
-        thread::sleep(rt, Duration::from_millis(1));
-    }
-}
 
 /// How often the bars' tickers ticked, and how often one was set and told off.
 fn of_tickers<R: Wait + Copy + Clone + Drop>(board: &Shared<R>) -> (u64, u64, u64) {
@@ -292,17 +266,15 @@ fn of_tickers<R: Wait + Copy + Clone + Drop>(board: &Shared<R>) -> (u64, u64, u6
 /// A board that is suspended beside a ticker draws again; the history has the ticker's ticks, and no more once it is told off.
 #[test]
 fn a_pause_beside_a_ticker(rt: HostRuntime) {
-    let on = stage_on(rt, rt.alloc()).expect(&rt, "granted");
-    on.common
-        .enable_steady_tick(1_000_000)
-        .expect(&rt, "granted");
-    holds!(rt; ticks(&rt, &on.common));
+    let on = stage_on(rt, rt.alloc());
+    same!(rt; on.common.enable_steady_tick(1_000_000), Ok(()));
+    holds!(rt; ticks_on(&rt, &on.common, 0));
     same!(rt; on.board.suspend(|| 7u8), (7, Ok(Drawn::Yes)));
-    on.common.disable_steady_tick().expect(&rt, "granted");
+    same!(rt; tick_off(&on.common), Ok(()));
     let ticked = on.common.ticks();
     waits(&rt);
     same!(rt; of_tickers(&on.board), (ticked, 1, 1));
-    holds!(rt; is_one_run(&on.board, rt.alloc()));
+    is_one_run(rt, &on.board, rt.alloc());
 }
 
 // ---- moments
@@ -337,12 +309,13 @@ fn are_at(entries: &[Entry<NoTracker>], moments: &[u64]) -> bool {
 /// reading, of which three of the bar's were made before it is taken in.
 #[test]
 fn moments_of_two_clocks(rt: HostRuntime) {
-    let board = recorded(rt, rt.alloc()).expect(&rt, "granted");
-    let bar = bar_on(&board, rt, rt.alloc(), "a").expect(&rt, "granted");
-    holds!(rt; bar.tick().is_ok() && board.println("l").is_ok());
-    holds!(rt; bar.println("m").is_ok() && board.clear().is_ok());
+    let board = recorded(rt, rt.alloc());
+    let bar = bar_on(&board, rt, rt.alloc(), "a");
+    holds!(rt; bar.tick().is_ok());
+    holds!(rt; board.println("l").is_ok());
+    holds!(rt; bar.println("m").is_ok());
+    holds!(rt; board.clear().is_ok());
     bar.release();
-    holds!(rt; board.with_record(MadeAt {
-            moments: &[0, 3, 1, 4, 2, 5]
-        }));
+    let moments = &[0, 3, 1, 4, 2, 5];
+    holds!(rt; board.with_record(MadeAt { moments }));
 }

@@ -1,5 +1,6 @@
 //! Tests of the crate `indicatif` 0.18.6 that need code, each under its own name and with its own values: bars and boards that are
 //! shared, and what a bar wraps. Most others are rows; docs/DIFFERENCES.md has a table of all.
+use crate::fronts::{Bar, Shared, board_shows};
 use indicatif::{
     InMemoryTerm, MaxRingBuf, Moves, MultiProgress, NoTracker, OwnedBar, ParallelProgressIterator,
     ProgressBar, ProgressBarIter, ProgressDrawTarget, ProgressIterator, ProgressStyle, Refusal,
@@ -12,56 +13,34 @@ use std::sync::Wait;
 use std::thread::Threads;
 use std::vec::IntoIter;
 
-/// A bar on a terminal in memory, whose clock stands still.
-type Bar<R> = ProgressBar<InMemoryTerm, StepClock, R>;
-
-/// A board on such a terminal.
-type Shared<R> = MultiProgress<InMemoryTerm, StepClock, R>;
-
 /// A terminal in memory of 10 rows and 80 columns, and its clock.
-fn setup(alloc: Global) -> Result<Setup<InMemoryTerm, StepClock>, Refusal> {
-    let term = InMemoryTerm::new(alloc, 10, 80)?;
-    Ok(Setup {
+pub fn setup<R: Abort>(rt: &R, alloc: Global) -> Setup<InMemoryTerm, StepClock> {
+    let term = InMemoryTerm::new(alloc, 10, 80).expect(rt, "granted");
+    Setup {
         target: ProgressDrawTarget::term_like(term),
         clock: StepClock { next: 0, step: 0 },
-    })
-}
-
-/// A bar of this length that stands alone.
-fn bar_of<R: Wait + Copy + Clone + Drop>(
-    rt: R,
-    alloc: Global,
-    len: u64,
-) -> Result<Bar<R>, Refusal> {
-    ProgressBar::new(rt, alloc, len, setup(alloc)?)
-}
-
-fn board_on<R: Wait + Copy + Clone + Drop>(rt: R, alloc: Global) -> Result<Shared<R>, Refusal> {
-    MultiProgress::new(rt, alloc, setup(alloc)?, 1)
-}
-
-/// A board that shows nothing, and a bar of 10 on it, whose other owner is dropped.
-fn bar_on<R: Wait + Copy + Clone + Drop>(
-    board: &Shared<R>,
-    rt: R,
-    alloc: Global,
-) -> Result<Bar<R>, Refusal> {
-    let bar = bar_of(rt, alloc, 10)?;
-    board.add(bar.clone()?)
-}
-
-/// What stands on a terminal.
-fn text_of(term: Option<&InMemoryTerm>) -> Option<String> {
-    match term {
-        Some(term) => term.contents().ok(),
-        None => None,
     }
 }
 
-/// Whether this text stands on a board's terminal.
-fn is_on_board<R: Wait + Copy + Clone + Drop>(board: &Shared<R>, wanted: &str) -> bool {
-    let text = board.with_term(|term| text_of(term));
-    text.is_some_and(|text| text.as_str() == wanted)
+/// A bar of this length that stands alone.
+fn bar_of<R: Wait + Copy + Clone + Drop + Abort>(rt: R, alloc: Global, len: u64) -> Bar<R> {
+    ProgressBar::new(rt, alloc, len, setup(&rt, alloc)).expect(&rt, "granted")
+}
+
+/// A board on such a terminal.
+pub fn board_on<R: Wait + Copy + Clone + Drop + Abort>(rt: R, alloc: Global) -> Shared<R> {
+    MultiProgress::new(rt, alloc, setup(&rt, alloc), 1).expect(&rt, "granted")
+}
+
+/// A board that shows nothing, and a bar of 10 on it, whose other owner is dropped.
+fn bar_on<R: Wait + Copy + Clone + Drop + Abort>(
+    board: &Shared<R>,
+    rt: R,
+    alloc: Global,
+) -> Bar<R> {
+    let bar = bar_of(rt, alloc, 10);
+    let owner = bar.clone().expect(&rt, "granted");
+    board.add(owner).expect(&rt, "granted")
 }
 
 // ---- bars and boards
@@ -69,20 +48,20 @@ fn is_on_board<R: Wait + Copy + Clone + Drop>(board: &Shared<R>, wanted: &str) -
 /// The crate's test says that nothing stops; here the bar stands on the board then.
 #[test]
 fn late_pb_drop(rt: HostRuntime) {
-    let board = board_on(rt, rt.alloc()).expect(&rt, "granted");
-    let bar = bar_on(&board, rt, rt.alloc()).expect(&rt, "granted");
+    let board = board_on(rt, rt.alloc());
+    let bar = bar_on(&board, rt, rt.alloc());
     holds!(rt; bar.tick().is_ok());
     let row = "░░░░░░░░░░░░░░░░░░░░░░░░░░░░░░░░░░░░░░░░░░░░░░░░░░░░░░░░░░░░░░░░░░░░░░░░░░░ 0/10";
-    holds!(rt; is_on_board(&board, row));
+    board_shows(&rt, &board, row);
 }
 
 fn crosses<X: Send + Sync>(_value: &X) {}
 
 #[test]
 fn progress_bar_sync_send(rt: HostRuntime) {
-    let bar = bar_of(rt, rt.alloc(), 1).expect(&rt, "granted");
+    let bar = bar_of(rt, rt.alloc(), 1);
     crosses(&bar);
-    let board = board_on(rt, rt.alloc()).expect(&rt, "granted");
+    let board = board_on(rt, rt.alloc());
     crosses(&board);
 }
 
@@ -94,7 +73,7 @@ fn is_there<R: Wait + Copy + Clone + Drop>(
 
 #[test]
 fn test_weak_pb(rt: HostRuntime) {
-    let bar = bar_of(rt, rt.alloc(), 0).expect(&rt, "granted");
+    let bar = bar_of(rt, rt.alloc(), 0);
     let weak = Box::new(rt.alloc(), bar.downgrade().expect(&rt, "granted")).expect(&rt, "granted");
     holds!(rt; is_there(&weak));
     drop(bar);
@@ -104,15 +83,14 @@ fn test_weak_pb(rt: HostRuntime) {
 /// The target that the bar had of its own is given up.
 #[test]
 fn multi_progress_println_bar_with_target(rt: HostRuntime) {
-    let board = board_on(rt, rt.alloc()).expect(&rt, "granted");
-    let bar = board
-        .add(bar_of(rt, rt.alloc(), 10).expect(&rt, "granted"))
-        .expect(&rt, "granted");
-    holds!(rt; is_on_board(&board, ""));
-    holds!(rt; bar.println("message printed :)").is_ok() && bar.inc(2).is_ok());
+    let board = board_on(rt, rt.alloc());
+    let bar = board.add(bar_of(rt, rt.alloc(), 10)).expect(&rt, "granted");
+    board_shows(&rt, &board, "");
+    holds!(rt; bar.println("message printed :)").is_ok());
+    holds!(rt; bar.inc(2).is_ok());
     let rows =
         "message printed :)\n███████████████░░░░░░░░░░░░░░░░░░░░░░░░░░░░░░░░░░░░░░░░░░░░░░░░░░░░░░░░░░░░ 2/10";
-    holds!(rt; is_on_board(&board, rows));
+    board_shows(&rt, &board, rows);
 }
 
 /// The greatest place, once these came behind what came before.
@@ -123,22 +101,21 @@ fn greatest(places: &mut MaxRingBuf<10>, new: &[u64]) -> u64 {
     places.max()
 }
 
-/// Whether ten places drive 100 out.
-fn forgets_100(places: &mut MaxRingBuf<10>) -> bool {
-    greatest(places, &[100]) == 100
-        && greatest(places, &[99, 98, 97, 96, 95, 94, 93, 92, 91, 90]) == 99
-}
-
+/// Ten places drive 100 out.
 #[test]
 fn test_max_ring_buf(rt: HostRuntime) {
-    holds!(rt; forgets_100(&mut MaxRingBuf::new()));
+    let mut places = MaxRingBuf::new();
+    same!(rt; greatest(&mut places, &[100]), 100);
+    let ten = [99, 98, 97, 96, 95, 94, 93, 92, 91, 90];
+    same!(rt; greatest(&mut places, &ten), 99);
 }
 
 // ---- what a bar wraps
 
 /// The list 1, 2, 3.
-fn three(alloc: Global) -> Result<IntoIter<u32>, Refusal> {
-    Ok(vec![in alloc; 1u32, 2, 3]?.into_iter())
+fn three<R: Abort>(rt: &R, alloc: Global) -> IntoIter<u32> {
+    let items = vec![in alloc; 1u32, 2, 3].expect(rt, "granted");
+    items.into_iter()
 }
 
 /// A list that is wrapped by a bar of its own.
@@ -162,78 +139,57 @@ fn doubled<P: Moves>(
     Ok(made)
 }
 
-/// Whether the items are 2, 4, 6.
-fn are_even(made: Result<Vec<u32>, Refusal>) -> bool {
-    made.is_ok_and(|made| made.as_slice() == [2, 4, 6].as_slice())
+/// Doubles the items of a list, which are 2, 4, 6 then.
+fn doubles<R: Abort, P: Moves>(
+    rt: &R,
+    alloc: Global,
+    list: &mut ProgressBarIter<IntoIter<u32>, P>,
+) {
+    let made = doubled(alloc, list).expect(rt, "granted");
+    same!(rt; made.as_slice(), [2, 4, 6].as_slice());
 }
 
-fn doubles(alloc: Global, list: Result<Owned, Refusal>) -> Result<bool, Refusal> {
-    let mut list = Box::new(alloc, list?)?;
-    Ok(are_even(doubled(alloc, &mut list)))
-}
-
-fn with_progress(alloc: Global) -> Result<Owned, Refusal> {
-    three(alloc)?.progress(alloc, setup(alloc)?)
-}
-
-fn with_count(alloc: Global) -> Result<Owned, Refusal> {
-    three(alloc)?.progress_count(alloc, 3, setup(alloc)?)
-}
-
-fn with_style(alloc: Global) -> Result<Owned, Refusal> {
-    three(alloc)?.progress_with_style(alloc, percents(alloc)?, setup(alloc)?)
-}
-
-/// A list that is wrapped by a shared bar.
-type Lent<R> = ProgressBarIter<IntoIter<u32>, Bar<R>>;
-
-fn with_bar<R: Wait + Copy + Clone + Drop>(rt: R, alloc: Global) -> Result<Box<Lent<R>>, Refusal> {
-    let bar = bar_of(rt, alloc, 3)?;
-    Ok(Box::new(alloc, three(alloc)?.progress_with(bar))?)
+/// The same of a list with a bar of its own.
+fn owned_doubles<R: Abort>(rt: &R, alloc: Global, list: Result<Owned, Refusal>) {
+    let mut list = Box::new(alloc, list.expect(rt, "granted")).expect(rt, "granted");
+    doubles(rt, alloc, &mut list);
 }
 
 #[test]
 fn it_can_wrap_an_iterator(rt: HostRuntime) {
     let alloc = rt.alloc();
-    holds!(rt; doubles(alloc, with_progress(alloc)).expect(&rt, "granted"));
-    holds!(rt; doubles(alloc, with_count(alloc)).expect(&rt, "granted"));
-    holds!(rt; doubles(alloc, with_style(alloc)).expect(&rt, "granted"));
-    let mut list = with_bar(rt, alloc).expect(&rt, "granted");
-    holds!(rt; are_even(doubled(alloc, &mut list)));
+    let list = three(&rt, alloc).progress(alloc, setup(&rt, alloc));
+    owned_doubles(&rt, alloc, list);
+    let list = three(&rt, alloc).progress_count(alloc, 3, setup(&rt, alloc));
+    owned_doubles(&rt, alloc, list);
+    let style = percents(alloc).expect(&rt, "granted");
+    let list = three(&rt, alloc).progress_with_style(alloc, style, setup(&rt, alloc));
+    owned_doubles(&rt, alloc, list);
+    let mut list = three(&rt, alloc).progress_with(bar_of(rt, alloc, 3));
+    doubles(&rt, alloc, &mut list);
 }
 
-/// The items of a list, each doubled by one of several threads.
-fn mapped<R: Threads + Sync, P: Moves>(
+/// Doubles the items of a list, each by one of several threads.
+fn maps<R: Threads + Sync + Abort, P: Moves>(
     rt: &R,
     alloc: Global,
     list: ProgressBarIter<&[u32], P>,
-) -> bool {
+) {
     let (made, _bar) = list.map_collect(rt, alloc, |x: &u32| x.wrapping_mul(2));
-    match made {
-        Ok(made) => made.as_slice() == [2, 4, 6].as_slice(),
-        Err(_) => false,
-    }
+    same!(rt; made.expect(rt, "granted").as_slice(), [2, 4, 6].as_slice());
 }
 
 #[test]
 fn it_can_wrap_a_parallel_iterator(rt: HostRuntime) {
     let alloc = rt.alloc();
     let items = [1u32, 2, 3];
-    let counted = items
-        .as_slice()
-        .progress_count(alloc, 3, setup(alloc).expect(&rt, "granted"))
-        .expect(&rt, "granted");
-    holds!(rt; mapped(&rt, alloc, counted));
-    let lent = items
-        .as_slice()
-        .progress_with(bar_of(rt, alloc, 3).expect(&rt, "granted"));
-    holds!(rt; mapped(&rt, alloc, lent));
+    let items = items.as_slice();
+    let list = items.progress_count(alloc, 3, setup(&rt, alloc));
+    maps(&rt, alloc, list.expect(&rt, "granted"));
+    maps(&rt, alloc, items.progress_with(bar_of(rt, alloc, 3)));
     let style = percents(alloc).expect(&rt, "granted");
-    let styled = items
-        .as_slice()
-        .progress_with_style(alloc, style, setup(alloc).expect(&rt, "granted"))
-        .expect(&rt, "granted");
-    holds!(rt; mapped(&rt, alloc, styled));
+    let list = items.progress_with_style(alloc, style, setup(&rt, alloc));
+    maps(&rt, alloc, list.expect(&rt, "granted"));
 }
 
 /// A text of 34 bytes.
@@ -250,7 +206,7 @@ fn read<R: Wait + Copy + Clone + Drop + Abort>(rt: &R, alloc: Global, bar: &Bar<
 
 #[test]
 fn it_can_wrap_a_reader(rt: HostRuntime) {
-    let bar = bar_of(rt, rt.alloc(), 34).expect(&rt, "granted");
+    let bar = bar_of(rt, rt.alloc(), 34);
     same!(rt; read(&rt, rt.alloc(), &bar).as_slice(), READ.as_bytes());
 }
 
@@ -268,6 +224,6 @@ fn written<R: Wait + Copy + Clone + Drop + Abort>(rt: &R, alloc: Global, bar: &B
 
 #[test]
 fn it_can_wrap_a_writer(rt: HostRuntime) {
-    let bar = bar_of(rt, rt.alloc(), 26).expect(&rt, "granted");
+    let bar = bar_of(rt, rt.alloc(), 26);
     same!(rt; written(&rt, rt.alloc(), &bar).as_slice(), TEXT_READ.as_bytes());
 }

@@ -5,6 +5,7 @@ use indicatif::style::ProgressTracker;
 use indicatif::{BarState, FnTracker, Moment, ProgressState, ProgressStyle, Refusal, TellsText};
 use std::alloc::Global;
 use std::convert::AsStr;
+use std::process::Abort;
 
 /// Tells this text.
 #[derive(Drop)]
@@ -23,67 +24,57 @@ impl TellsText for Says {
 
 type Telling = FnTracker<Says>;
 
-/// A style in a box: each way out of a function drops it by one call.
-type Look = Box<ProgressStyle<Telling>>;
-
-fn tracker(alloc: Global, text: &'static str) -> Result<Telling, Refusal> {
-    FnTracker::new(alloc, Says { alloc, text })
-}
+type Look = ProgressStyle<Telling>;
 
 /// The style with one key more, of this text.
-fn with_key(
+fn with_key<R: Abort>(
+    rt: &R,
     alloc: Global,
     look: Look,
     (name, text): (&str, &'static str),
-) -> Result<Look, Refusal> {
-    let style = Box::into_inner(look).with_key(name, tracker(alloc, text)?)?;
-    Ok(Box::new(alloc, style)?)
+) -> Look {
+    let tracker = FnTracker::new(alloc, Says { alloc, text }).expect(rt, "granted");
+    look.with_key(name, tracker).expect(rt, "granted")
 }
 
 /// The style of a template, with colours or without.
-fn look_of(alloc: Global, template: &str, colours: bool) -> Result<Look, Refusal> {
-    let style = ProgressStyle::with_template(alloc, template)?.with_colors(colours)?;
-    Ok(Box::new(alloc, style)?)
+fn look_of<R: Abort>(rt: &R, alloc: Global, template: &str, colours: bool) -> Look {
+    let look = ProgressStyle::with_template(alloc, template).expect(rt, "granted");
+    look.with_colors(colours).expect(rt, "granted")
 }
 
-/// Whether the one line of a bar of 10 in this style is this, on 80 columns.
-fn shows(alloc: Global, look: Look, wanted: &str) -> Result<bool, Refusal> {
-    let bar = BarState::styled(alloc, Box::into_inner(look), Some(10), 0)?;
-    let bar = Box::new(alloc, bar)?;
-    is_line(&bar, wanted)
+/// The one line of a bar of 10 in this style is this, on 80 columns.
+fn shows<R: Abort>(rt: &R, alloc: Global, look: Look, wanted: &str) {
+    let bar = BarState::styled(alloc, look, Some(10), 0).expect(rt, "granted");
+    is_line(rt, &bar, wanted);
 }
 
-fn is_line<K: ProgressTracker>(bar: &BarState<K>, wanted: &str) -> Result<bool, Refusal> {
-    let lines = bar.lines(0, 80)?;
-    Ok(match lines.as_slice() {
-        [line] => line.as_str() == wanted,
-        _ => false,
-    })
+fn is_line<R: Abort, K: ProgressTracker>(rt: &R, bar: &BarState<K>, wanted: &str) {
+    let lines = bar.lines(0, 80).expect(rt, "granted");
+    same!(rt; lines.len(), 1);
+    same!(rt; lines.first().expect(rt, "a line").as_str(), wanted);
 }
 
-/// Whether the keys `foo` and `bar` make this of a template.
-fn expands(alloc: Global, template: &str, wanted: &str) -> Result<bool, Refusal> {
-    let look = with_key(alloc, look_of(alloc, template, false)?, ("foo", "FOO"))?;
-    let look = with_key(alloc, look, ("bar", "BAR"))?;
-    shows(alloc, look, wanted)
+/// The keys `foo` and `bar` make this of a template.
+fn expands<R: Abort>(rt: &R, alloc: Global, template: &str, wanted: &str) {
+    let look = look_of(rt, alloc, template, false);
+    let look = with_key(rt, alloc, look, ("foo", "FOO"));
+    let look = with_key(rt, alloc, look, ("bar", "BAR"));
+    shows(rt, alloc, look, wanted);
 }
 
 #[test]
 fn test_expand_template(rt: HostRuntime) {
-    let alloc = rt.alloc();
-    same!(rt; expands(alloc, "{{ {foo} {bar} }}", "{ FOO BAR }"), Ok(true));
+    expands(&rt, rt.alloc(), "{{ {foo} {bar} }}", "{ FOO BAR }");
     let json = r#"{ "foo": "{foo}", "bar": {bar} }"#;
-    same!(rt; expands(alloc, json, r#"{ "foo": "FOO", "bar": BAR }"#), Ok(true));
+    expands(&rt, rt.alloc(), json, r#"{ "foo": "FOO", "bar": BAR }"#);
 }
 
-/// Whether the key `foo` makes this of a template, with colours or without.
-fn expands_flags(
-    alloc: Global,
-    (template, colours): (&str, bool),
-    wanted: &str,
-) -> Result<bool, Refusal> {
-    let look = with_key(alloc, look_of(alloc, template, colours)?, ("foo", "XXX"))?;
-    shows(alloc, look, wanted)
+/// The key `foo` makes this of a template, with colours or without.
+fn expands_flags<R: Abort>(rt: &R, alloc: Global, (template, colours): (&str, bool), wanted: &str) {
+    let look = look_of(rt, alloc, template, colours);
+    let look = with_key(rt, alloc, look, ("foo", "XXX"));
+    shows(rt, alloc, look, wanted);
 }
 
 #[test]
@@ -98,15 +89,14 @@ fn test_expand_template_flags(rt: HostRuntime) {
         ),
     ];
     for (template, wanted) in table {
-        let expands = expands_flags(rt.alloc(), (*template, true), *wanted);
-        same!(rt; (*template, expands), (*template, Ok(true)));
+        expands_flags(&rt, rt.alloc(), (*template, true), *wanted);
     }
 }
 
 /// The crate tells two streams' colours apart; here a style is told whether it has colours.
 #[test]
 fn test_stderr_colors(rt: HostRuntime) {
-    same!(rt; expands_flags(rt.alloc(), ("{foo:.red.on_blue}", false), "XXX"), Ok(true));
+    expands_flags(&rt, rt.alloc(), ("{foo:.red.on_blue}", false), "XXX");
 }
 
 // ---- a text that changes
@@ -152,26 +142,27 @@ impl ProgressTracker for TestTracker {
 }
 
 /// A bar of 1 that shows such a tracker.
-fn tracked(alloc: Global) -> Result<Box<BarState<TestTracker>>, Refusal> {
+fn tracked<R: Abort>(rt: &R, alloc: Global) -> Box<BarState<TestTracker>> {
     let tracker = TestTracker {
         alloc,
         ticked: false,
         len: 0,
         pos: 0,
     };
-    let style = ProgressStyle::with_template(alloc, "{{ {foo} }}")?.with_key("foo", tracker)?;
-    let style = Box::new(alloc, style.progress_chars("#>-")?)?;
-    let bar = BarState::styled(alloc, Box::into_inner(style), Some(1), 0)?;
-    Ok(Box::new(alloc, bar)?)
+    let style = ProgressStyle::with_template(alloc, "{{ {foo} }}").expect(rt, "granted");
+    let style = style.with_key("foo", tracker).expect(rt, "granted");
+    let style = style.progress_chars("#>-").expect(rt, "granted");
+    let bar = BarState::styled(alloc, style, Some(1), 0).expect(rt, "granted");
+    Box::new(alloc, bar).expect(rt, "granted")
 }
 
 #[test]
 fn test_stateful_tracker(rt: HostRuntime) {
-    let mut bar = tracked(rt.alloc()).expect(&rt, "granted");
-    same!(rt; is_line(&bar, "{  }"), Ok(true));
+    let mut bar = tracked(&rt, rt.alloc());
+    is_line(&rt, &bar, "{  }");
     bar.inc(1, 0);
-    same!(rt; is_line(&bar, "{ 1 1 }"), Ok(true));
+    is_line(&rt, &bar, "{ 1 1 }");
     bar.reset(0);
-    same!(rt; is_line(&bar, "{  }"), Ok(true));
+    is_line(&rt, &bar, "{  }");
     bar.finish_and_clear(0);
 }

@@ -1,29 +1,25 @@
 //! Bars that are shared, and the threads that count for them.
 ghost use Rattle.std.specs.Prelude.{◌≡◌};
 
+use crate::fronts::{Bar, bar_shows, setup};
 use crate::gates::Open;
 use indicatif::{
-    BarWorker, Done, InMemoryTerm, ParallelProgressIterator, ProgressBar, ProgressDrawTarget,
-    ProgressStyle, Refusal, Setup, StepClock, run_workers,
+    BarWorker, Done, ParallelProgressIterator, ProgressBar, ProgressStyle, run_workers,
 };
 use std::alloc::Global;
+use std::process::Abort;
 use std::sync::Wait;
 use std::thread::join;
 
-type Bar<R> = ProgressBar<InMemoryTerm, StepClock, R>;
-
 /// A bar without a length at this position, on a terminal of 4 rows and 20 columns.
-fn bar_at<R: Wait + Clone + Drop>(rt: R, alloc: Global, position: u64) -> Result<Bar<R>, Refusal> {
-    let setup = Setup {
-        target: ProgressDrawTarget::term_like(InMemoryTerm::new(alloc, 4, 20)?),
-        clock: StepClock { next: 0, step: 1 },
-    };
-    ProgressBar::no_length(rt, alloc, setup)?.with_position(position)
+fn bar_at<R: Wait + Copy + Clone + Drop + Abort>(rt: R, alloc: Global, position: u64) -> Bar<R> {
+    let bar = ProgressBar::no_length(rt, alloc, setup(&rt, alloc, 20)).expect(&rt, "granted");
+    bar.with_position(position).expect(&rt, "granted")
 }
 
 #[test]
 fn a_bar_absorbs_past_2_to_the_64(rt: HostRuntime) {
-    let bar = bar_at(rt, rt.alloc(), u64::MAX - 1).expect(&rt, "granted");
+    let bar = bar_at(rt, rt.alloc(), u64::MAX - 1);
     let (done, worker) = bar.worker().expect(&rt, "granted");
     let (mut first, mut second) = worker.split(&done).expect(&rt, "granted");
     first.add(&done, 1);
@@ -35,20 +31,11 @@ fn a_bar_absorbs_past_2_to_the_64(rt: HostRuntime) {
     holds!(rt; !bar.is_finished());
 }
 
-/// What stands on its terminal.
-fn contents<R: Wait + Clone + Drop>(bar: &Bar<R>) -> Option<String> {
-    bar.with_term(|term| match term {
-        Some(term) => term.contents().ok(),
-        None => None,
-    })
-}
-
 /// A total is no sum that ends: its worker goes on. The bar shows what was added once it has absorbed it.
 #[test]
 fn what_was_added_is_drawn(rt: HostRuntime) {
     let style = ProgressStyle::with_template(rt.alloc(), "{pos} done").expect(&rt, "granted");
     let bar = bar_at(rt, rt.alloc(), 0)
-        .expect(&rt, "granted")
         .with_style(style)
         .expect(&rt, "granted");
     let (done, mut worker) = bar.worker().expect(&rt, "granted");
@@ -57,7 +44,7 @@ fn what_was_added_is_drawn(rt: HostRuntime) {
     worker.add(&done, 2);
     holds!(rt; bar.absorb(done, worker).is_ok());
     holds!(rt; bar.force_draw().is_ok());
-    holds!(rt; contents(&bar).is_some_and(|text| text.as_str() == "42 done"));
+    bar_shows(&rt, &bar, "42 done");
 }
 
 /// Adds 1 a thousand times.
@@ -74,7 +61,7 @@ fn a_thousand_times(done: &Done, mut worker: BarWorker) -> BarWorker
 
 #[test]
 fn two_threads_count_for_a_bar(rt: HostRuntime) {
-    let bar = bar_at(rt, rt.alloc(), 5).expect(&rt, "granted");
+    let bar = bar_at(rt, rt.alloc(), 5);
     let (done, worker) = bar.worker().expect(&rt, "granted");
     let (mine, theirs) = worker.split(&done).expect(&rt, "granted");
     let (mine, theirs) = join(
@@ -96,11 +83,10 @@ fn pieces_over_a_shared_bar(rt: HostRuntime) {
         Vec::new(alloc),
     ]
     .expect(&rt, "granted");
-    let bar = bar_at(rt, alloc, 0).expect(&rt, "granted");
+    let bar = bar_at(rt, alloc, 0);
     let double = |x: &u32| x.wrapping_mul(2);
-    let made = run_workers(&rt, alloc, pieces.as_slice(), double, &Open, &bar).expect(
-        &rt, "granted",
-    );
+    let made = run_workers(&rt, alloc, pieces.as_slice(), double, &Open, &bar);
+    let made = made.expect(&rt, "granted");
     same!(rt; made[0].as_slice(), [2, 4].as_slice());
     same!(rt; made[1].as_slice(), [6].as_slice());
     holds!(rt; made[2].is_empty());
@@ -109,11 +95,10 @@ fn pieces_over_a_shared_bar(rt: HostRuntime) {
 
 #[test]
 fn a_list_over_a_shared_bar(rt: HostRuntime) {
-    let bar = bar_at(rt, rt.alloc(), 0).expect(&rt, "granted");
+    let bar = bar_at(rt, rt.alloc(), 0);
     let items = [1u32, 2, 3];
-    let list = items
-        .as_slice()
-        .progress_with(bar.clone().expect(&rt, "granted"));
+    let owner = bar.clone().expect(&rt, "granted");
+    let list = items.as_slice().progress_with(owner);
     let (made, other) = list.map_collect(&rt, rt.alloc(), |x: &u32| x.wrapping_mul(2));
     same!(rt; made.expect(&rt, "granted").as_slice(), [2, 4, 6].as_slice());
     other.release();

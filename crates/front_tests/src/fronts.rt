@@ -1,9 +1,12 @@
-//! Bars and boards for tests, on terminals in memory of 4 rows and 10 columns, by clocks that go on by 1 with each reading. Their
-//! calls have no clauses, so that a test of many calls is proved call by call.
+//! Bars and boards for tests, on terminals in memory of 4 rows and 10 columns, by clocks that go on by 1 with each reading; and what
+//! stands on such terminals. Their calls have no clauses, so that a test of many calls is proved call by call.
+use indicatif::style::Tracks;
 use indicatif::{
-    InMemoryTerm, MultiProgress, ProgressBar, ProgressDrawTarget, ProgressStyle, Refusal, StepClock,
+    Clock, InMemoryTerm, MultiProgress, ProgressBar, ProgressDrawTarget, ProgressStyle, Refusal,
+    Setup, StepClock,
 };
 use std::alloc::Global;
+use std::process::Abort;
 use std::sync::Wait;
 
 /// A bar that is shared.
@@ -17,49 +20,65 @@ pub fn target(alloc: Global) -> Result<ProgressDrawTarget<InMemoryTerm>, Refusal
     Ok(ProgressDrawTarget::term_like(InMemoryTerm::new(alloc, 4, 10)?))
 }
 
-fn clock() -> StepClock {
-    StepClock { next: 0, step: 1 }
+/// A terminal of 4 rows and so many columns, and a clock.
+pub fn setup<R: Abort>(rt: &R, alloc: Global, cols: u16) -> Setup<InMemoryTerm, StepClock> {
+    let term = InMemoryTerm::new(alloc, 4, cols).expect(rt, "granted");
+    Setup {
+        target: ProgressDrawTarget::term_like(term),
+        clock: StepClock { next: 0, step: 1 },
+    }
 }
 
 /// A board of the id 1 that keeps its history.
-pub fn recorded<R: Wait + Copy + Clone + Drop>(
-    rt: R,
-    alloc: Global,
-) -> Result<Box<Shared<R>>, Refusal> {
-    let board = MultiProgress::recorded(rt, alloc, target(alloc)?, clock(), 1)?;
-    Ok(Box::new(alloc, board)?)
+pub fn recorded<R: Wait + Copy + Clone + Drop + Abort>(rt: R, alloc: Global) -> Box<Shared<R>> {
+    let Setup { target, clock } = setup(&rt, alloc, 10);
+    let board = MultiProgress::recorded(rt, alloc, target, clock, 1).expect(&rt, "granted");
+    Box::new(alloc, board).expect(&rt, "granted")
 }
 
 /// A bar that stands alone, in the style of a template.
-pub fn alone<R: Wait + Copy + Clone + Drop>(
+pub fn alone<R: Wait + Copy + Clone + Drop + Abort>(
     rt: R,
     alloc: Global,
     template: &str,
-) -> Result<Bar<R>, Refusal> {
-    let style = ProgressStyle::with_template(alloc, template)?;
-    plain(rt, alloc)?.with_style(style)
-}
-
-fn plain<R: Wait + Copy + Clone + Drop>(rt: R, alloc: Global) -> Result<Bar<R>, Refusal> {
-    ProgressBar::with_draw_target(rt, alloc, None, target(alloc)?, clock())
+) -> Bar<R> {
+    let bar = ProgressBar::no_length(rt, alloc, setup(&rt, alloc, 10)).expect(&rt, "granted");
+    let style = ProgressStyle::with_template(alloc, template).expect(&rt, "granted");
+    bar.with_style(style).expect(&rt, "granted")
 }
 
 /// A bar behind all others of a board, whose one line is this text.
-pub fn bar_on<R: Wait + Copy + Clone + Drop>(
+pub fn bar_on<R: Wait + Copy + Clone + Drop + Abort>(
     board: &Shared<R>,
     rt: R,
     alloc: Global,
     text: &str,
-) -> Result<Bar<R>, Refusal> {
-    board.add(alone(rt, alloc, "{msg}")?.with_message(text)?)
+) -> Bar<R> {
+    let bar = alone(rt, alloc, "{msg}").with_message(text);
+    board.add(bar.expect(&rt, "granted")).expect(&rt, "granted")
 }
 
-/// What stands on a bar's terminal.
-pub fn shows<R: Wait + Copy + Clone + Drop>(bar: &Bar<R>, wanted: &str) -> bool {
-    let text = bar.with_term(|term| contents(term));
-    text.is_some_and(|text| text.as_str() == wanted)
-}
-
-fn contents(term: Option<&InMemoryTerm>) -> Option<String> {
+/// What stands on a terminal.
+pub fn contents(term: Option<&InMemoryTerm>) -> Option<String> {
     term?.contents().ok()
+}
+
+/// Ends the test where something else stands on a bar's terminal.
+pub fn bar_shows<C: Clock + Drop, R: Wait + Clone + Drop + Abort, K: Tracks>(
+    rt: &R,
+    bar: &ProgressBar<InMemoryTerm, C, R, K>,
+    wanted: &str,
+) {
+    let text = bar.with_term(|term| contents(term)).expect(rt, "granted");
+    same!(rt; text.as_str(), wanted);
+}
+
+/// Ends the test where something else stands on a board's terminal.
+pub fn board_shows<C: Clock + Drop, R: Wait + Clone + Drop + Abort, K: Tracks>(
+    rt: &R,
+    board: &MultiProgress<InMemoryTerm, C, R, K>,
+    wanted: &str,
+) {
+    let text = board.with_term(|term| contents(term)).expect(rt, "granted");
+    same!(rt; text.as_str(), wanted);
 }

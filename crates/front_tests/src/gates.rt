@@ -1,6 +1,7 @@
-//! Gates.
+//! Gates, and counts.
 use indicatif::Gate;
-use std::alloc::{AllocError, Global};
+use std::alloc::Global;
+use std::process::Abort;
 use std::sync::atomic::{AtomicU64, Ordering};
 
 /// Holds nobody. (This is the example of `Gate`.)
@@ -39,6 +40,15 @@ impl Gate for Waves {
     }
 }
 
+/// So many counts of 0.
+pub fn counts<R: Abort>(rt: &R, alloc: Global, count: u32) -> Vec<AtomicU64> {
+    let mut counts = Vec::new(alloc);
+    for _ in 0..count {
+        counts.push(AtomicU64::new(0)).expect(rt, "granted");
+    }
+    counts
+}
+
 /// Counts of each piece how often it passes.
 #[derive(Drop)]
 pub struct Roll {
@@ -47,12 +57,9 @@ pub struct Roll {
 
 impl Roll {
     /// For so many pieces.
-    pub fn of(alloc: Global, pieces: u32) -> Result<Roll, AllocError> {
-        let mut passed = Vec::new(alloc);
-        for _ in 0..pieces {
-            passed.push(AtomicU64::new(0))?;
-        }
-        Ok(Roll { passed })
+    pub fn of<R: Abort>(rt: &R, alloc: Global, pieces: u32) -> Roll {
+        let passed = counts(rt, alloc, pieces);
+        Roll { passed }
     }
 
     /// How often this piece has passed.

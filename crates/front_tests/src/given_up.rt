@@ -1,22 +1,25 @@
 //! What is given up: by threads of tickers that are told to end, and by calls that find no memory for another owner.
+use crate::fronts::setup;
 use crate::lent::{Count, Lent, first};
 use crate::ticking::{tick_off, ticks_on};
-use indicatif::{InMemoryTerm, ProgressBar, ProgressDrawTarget, Refusal, Setup, StepClock};
+use indicatif::{InMemoryTerm, ProgressBar, StepClock};
 use std::alloc::Global;
-use std::sync::Wait;
+use std::process::Abort;
+use std::sync::{Arc, Wait};
 use std::thread::Threads;
 use std::time::Duration;
 use std::{thread, time};
 
 type Bar<R> = ProgressBar<InMemoryTerm, StepClock, Lent<R>>;
 
-/// A bar with a runtime that is counted.
-fn bar_by<R: Wait + Copy + Drop>(lent: Lent<R>, alloc: Global) -> Result<Bar<R>, Refusal> {
-    let setup = Setup {
-        target: ProgressDrawTarget::term_like(InMemoryTerm::new(alloc, 4, 10)?),
-        clock: StepClock { next: 0, step: 1 },
-    };
-    ProgressBar::no_length(lent, alloc, setup)
+/// A bar with a runtime that is counted, and the count.
+fn counted_bar<R: Wait + Copy + Drop + Abort>(
+    rt: R,
+    alloc: Global,
+) -> (Bar<R>, Arc<Count, Global>) {
+    let (lent, count) = first(rt, alloc);
+    let bar = ProgressBar::no_length(lent, alloc, setup(&rt, alloc, 10));
+    (bar.expect(&rt, "granted"), count)
 }
 
 // ---- threads of tickers
@@ -24,14 +27,14 @@ fn bar_by<R: Wait + Copy + Drop>(lent: Lent<R>, alloc: Global) -> Result<Bar<R>,
 /// An hour.
 const HOUR: u64 = 3_600_000_000_000;
 
-/// Tells a ticker of an hour on; whether it has ticked. Its thread waits then.
-fn waits_for_an_hour<R: Wait + Threads + time::Clock + Copy + Drop + Send + 'static>(
+/// Tells a ticker of an hour on, which ticks. Its thread waits then.
+fn waits_for_an_hour<R: Wait + Threads + time::Clock + Copy + Drop + Abort + Send + 'static>(
     rt: &R,
     bar: &Bar<R>,
-) -> Result<bool, Refusal> {
+) {
     let before = bar.ticks();
-    bar.enable_steady_tick(HOUR)?;
-    Ok(ticks_on(rt, bar, before))
+    same!(rt; bar.enable_steady_tick(HOUR), Ok(()));
+    holds!(rt; ticks_on(rt, bar, before));
 }
 
 /// Whether so many runtimes are left, by the last of 10,000 looks a millisecond apart. The thread of a ticker has one.
@@ -49,14 +52,13 @@ fn comes_to<R: time::Clock>(rt: &R, count: &Count, left: u64) -> bool {
 /// takes its place, and where the bar's last owner is gone.
 #[test]
 fn threads_of_tickers_end(rt: HostRuntime) {
-    let (lent, count) = first(rt, rt.alloc()).expect(&rt, "granted");
-    let bar = bar_by(lent, rt.alloc()).expect(&rt, "granted");
-    holds!(rt; waits_for_an_hour(&rt, &bar).expect(&rt, "granted"));
+    let (bar, count) = counted_bar(rt, rt.alloc());
+    waits_for_an_hour(&rt, &bar);
     same!(rt; count.living(), 2);
-    tick_off(&bar).expect(&rt, "granted");
+    same!(rt; tick_off(&bar), Ok(()));
     holds!(rt; comes_to(&rt, &count, 1));
-    holds!(rt; waits_for_an_hour(&rt, &bar).expect(&rt, "granted"));
-    holds!(rt; waits_for_an_hour(&rt, &bar).expect(&rt, "granted"));
+    waits_for_an_hour(&rt, &bar);
+    waits_for_an_hour(&rt, &bar);
     holds!(rt; comes_to(&rt, &count, 2));
     drop(bar);
     holds!(rt; comes_to(&rt, &count, 0));
@@ -68,8 +70,7 @@ fn threads_of_tickers_end(rt: HostRuntime) {
 /// Nothing has changed then: the owner that is left is the last.
 #[test]
 fn no_memory_for_another_owner(rt: HostRuntime) {
-    let (lent, count) = first(rt, rt.alloc()).expect(&rt, "granted");
-    let bar = bar_by(lent, rt.alloc()).expect(&rt, "granted");
+    let (bar, count) = counted_bar(rt, rt.alloc());
     let weak = bar.downgrade().expect(&rt, "granted");
     count.refuse(true);
     holds!(rt; weak.upgrade().is_err());

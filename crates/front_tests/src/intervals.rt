@@ -43,10 +43,10 @@ fn pace_of<R: Wait + time::Clock + Copy + Clone + Drop>(
 
 #[test]
 fn a_ticker_keeps_its_interval(rt: HostRuntime) {
-    let bar = alone(rt, rt.alloc(), "{pos}").expect(&rt, "granted");
+    let bar = alone(rt, rt.alloc(), "{pos}");
     let opened = MachineClock::new(rt).now();
-    bar.enable_steady_tick(INTERVAL).expect(&rt, "granted");
+    same!(rt; bar.enable_steady_tick(INTERVAL), Ok(()));
     let pace = pace_of(&rt, &bar, opened);
-    bar.disable_steady_tick().expect(&rt, "granted");
+    same!(rt; bar.disable_steady_tick(), Ok(()));
     same!(rt; pace, Pace::Fair);
 }

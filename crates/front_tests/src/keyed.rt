@@ -3,13 +3,14 @@
 ghost use Rattle.std.specs.Prelude.{◌-◌, decimal};
 ghost use Rattle.indicatif_bar.specs.Trackers.{telling};
 
-use crate::fronts::target;
+use crate::fronts::{bar_shows, board_shows, contents, setup};
 use indicatif::style::ProgressTracker;
 use indicatif::{
     InMemoryTerm, Moment, MultiProgress, ProgressBar, ProgressIterator, ProgressState,
-    ProgressStyle, Refusal, Setup, StepClock,
+    ProgressStyle, Refusal, StepClock,
 };
 use std::alloc::Global;
+use std::process::Abort;
 use std::sync::Wait;
 use std::thread;
 
@@ -45,104 +46,87 @@ type Keyed<R> = ProgressBar<InMemoryTerm, StepClock, R, Left>;
 /// A board of such bars.
 pub type Several<R> = MultiProgress<InMemoryTerm, StepClock, R, Left>;
 
-fn setup(alloc: Global) -> Result<Setup<InMemoryTerm, StepClock>, Refusal> {
-    Ok(Setup {
-        target: target(alloc)?,
-        clock: StepClock { next: 0, step: 1 },
-    })
-}
-
 /// A style that shows a message, and how many of ten steps are left.
 fn style(alloc: Global) -> Result<ProgressStyle<Left>, Refusal> {
     let left = Left { alloc, of: 10 };
     ProgressStyle::with_template(alloc, "{msg} {left}")?.with_key("left", left)
 }
 
-fn files<R: Wait + Copy + Clone + Drop>(rt: R, alloc: Global) -> Result<Keyed<R>, Refusal> {
-    ProgressBar::styled(rt, alloc, style(alloc)?, Some(10), setup(alloc)?)?.with_message("files")
-}
-
-/// Whether this stands on the bar's terminal.
-fn shows<R: Wait + Copy + Clone + Drop>(bar: &Keyed<R>, wanted: &str) -> bool {
-    let text = bar.with_term(|term| contents(term));
-    text.is_some_and(|text| text.as_str() == wanted)
-}
-
-fn contents(term: Option<&InMemoryTerm>) -> Option<String> {
-    term?.contents().ok()
+fn files<R: Wait + Copy + Clone + Drop + Abort>(rt: R, alloc: Global) -> Keyed<R> {
+    let style = style(alloc).expect(&rt, "granted");
+    let bar = ProgressBar::styled(rt, alloc, style, Some(10), setup(&rt, alloc, 10));
+    let bar = bar.expect(&rt, "granted");
+    bar.with_message("files").expect(&rt, "granted")
 }
 
 /// It follows the position, whoever owns the bar, and stays at 0 past the end.
 #[test]
 fn what_is_left(rt: HostRuntime) {
-    let bar = files(rt, rt.alloc()).expect(&rt, "granted");
+    let bar = files(rt, rt.alloc());
     let other = bar.clone().expect(&rt, "granted");
     for (position, wanted) in [(0, "files 10"), (3, "files 7"), (12, "files 0")] {
-        other.set_position(position).expect(&rt, "granted");
-        assert!(rt; shows(&bar, wanted), "at {position}");
+        holds!(rt; other.set_position(position).is_ok());
+        bar_shows(&rt, &bar, wanted);
     }
 }
 
 /// Another thread moves the bar, and then the key with it.
 #[test]
 fn in_another_thread(rt: HostRuntime) {
-    let bar = files(rt, rt.alloc()).expect(&rt, "granted");
+    let bar = files(rt, rt.alloc());
     let other = bar.clone().expect(&rt, "granted");
     let moved = thread::spawn(&rt, move || other.inc(4)).expect(&rt, "granted");
     holds!(rt; moved.join(&rt).is_ok());
-    holds!(rt; shows(&bar, "files 6"));
+    bar_shows(&rt, &bar, "files 6");
 }
 
 /// A style that is told later, and one that was read of the bar, have the key too.
 #[test]
 fn another_style(rt: HostRuntime) {
-    let bar = files(rt, rt.alloc()).expect(&rt, "granted");
-    let told = bar
-        .style()
-        .expect(&rt, "granted")
-        .template("{left} of 10")
-        .expect(&rt, "granted");
-    bar.set_style(told).expect(&rt, "granted");
-    bar.set_position(1).expect(&rt, "granted");
-    holds!(rt; shows(&bar, "9 of 10"));
+    let bar = files(rt, rt.alloc());
+    let style = bar.style().expect(&rt, "granted");
+    let style = style.template("{left} of 10").expect(&rt, "granted");
+    holds!(rt; bar.set_style(style).is_ok());
+    holds!(rt; bar.set_position(1).is_ok());
+    bar_shows(&rt, &bar, "9 of 10");
+}
+
+/// A bar that a board makes, in that style.
+fn made_by<R: Wait + Copy + Clone + Drop + Abort>(
+    board: &Several<R>,
+    rt: R,
+    alloc: Global,
+) -> Keyed<R> {
+    let bar = board.new_bar(10).expect(&rt, "granted");
+    let style = style(alloc).expect(&rt, "granted");
+    let bar = bar.with_style(style).expect(&rt, "granted");
+    bar.with_message("a").expect(&rt, "granted")
 }
 
 /// The second of a board's two bars has moved by 2.
-fn two_on_a_board<R: Wait + Copy + Clone + Drop>(
-    rt: R,
-    alloc: Global,
-) -> Result<Option<String>, Refusal> {
-    let board: Several<R> = MultiProgress::keyed(rt, alloc, setup(alloc)?, 1)?;
-    let first = board
-        .new_bar(10)?
-        .with_style(style(alloc)?)?
-        .with_message("a")?;
-    let second = board.add(files(rt, alloc)?)?;
-    first.tick()?;
-    second.inc(2)?;
-    Ok(board.with_term(|term| contents(term)))
-}
-
 #[test]
 fn on_a_board(rt: HostRuntime) {
-    let shown = two_on_a_board(rt, rt.alloc()).expect(&rt, "granted");
-    holds!(rt; shown.is_some_and(|text| text.as_str() == "a 10\nfiles 8"));
+    let alloc = rt.alloc();
+    let board = MultiProgress::keyed(rt, alloc, setup(&rt, alloc, 10), 1).expect(&rt, "granted");
+    let first = made_by(&board, rt, alloc);
+    let second = board.add(files(rt, alloc)).expect(&rt, "granted");
+    holds!(rt; first.tick().is_ok());
+    holds!(rt; second.inc(2).is_ok());
+    board_shows(&rt, &board, "a 10\nfiles 8");
 }
 
 /// A loop over three items, with a bar of its own in that style.
-fn looped(alloc: Global) -> Result<Option<String>, Refusal> {
-    let items = vec![in alloc; 1u32, 2, 3]?.into_iter();
-    let mut wrapped = Box::new(
-        alloc,
-        items.progress_with_style(alloc, style(alloc)?, setup(alloc)?)?,
-    )?;
-    let _ = wrapped.next();
-    let _ = wrapped.next();
-    Ok(contents(wrapped.progress.bar().term()))
-}
-
 #[test]
 fn in_a_loop(rt: HostRuntime) {
-    let shown = looped(rt.alloc()).expect(&rt, "granted");
-    holds!(rt; shown.is_some_and(|text| text.as_str() == " 8"));
+    let alloc = rt.alloc();
+    let items = vec![in alloc; 1u32, 2, 3]
+        .expect(&rt, "granted")
+        .into_iter();
+    let style = style(alloc).expect(&rt, "granted");
+    let wrapped = items.progress_with_style(alloc, style, setup(&rt, alloc, 10));
+    let mut wrapped = Box::new(alloc, wrapped.expect(&rt, "granted")).expect(&rt, "granted");
+    let _ = wrapped.next();
+    let _ = wrapped.next();
+    let text = contents(wrapped.progress.bar().term()).expect(&rt, "granted");
+    same!(rt; text.as_str(), " 8");
 }

@@ -1,8 +1,8 @@
 //! A runtime of the tests' own, which passes everything on to the machine's. It counts how many of it there are, and refuses another
 //! one where it is told to.
-use indicatif::Refusal;
 use std::alloc::{AllocError, Global};
 use std::io;
+use std::process::Abort;
 use std::sync::atomic::{AtomicU64, Ordering};
 use std::sync::{Arc, Wait};
 use std::thread::Threads;
@@ -34,14 +34,14 @@ pub struct Lent<R: Drop> {
 }
 
 /// The first one, and its count.
-pub fn first<R: Drop>(rt: R, alloc: Global) -> Result<(Lent<R>, Arc<Count, Global>), Refusal> {
+pub fn first<R: Copy + Drop + Abort>(rt: R, alloc: Global) -> (Lent<R>, Arc<Count, Global>) {
     let count = Count {
         living: AtomicU64::new(1),
         refusing: AtomicU64::new(0),
     };
-    let count = Arc::new(alloc, count)?;
-    let own = Arc::try_clone(&count)?;
-    Ok((Lent { rt, count: own }, count))
+    let count = Arc::new(alloc, count).expect(&rt, "granted");
+    let own = Arc::try_clone(&count).expect(&rt, "granted");
+    (Lent { rt, count: own }, count)
 }
 
 impl<R: Copy + Drop> Clone for Lent<R> {

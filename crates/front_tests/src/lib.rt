@@ -1,11 +1,11 @@
 //! Tests of crate `indicatif` that need code: threads, closures, and types of their own. Expected values come from outside. A test that is
 //! only a list of calls is a row of `front_rows`.
 //!
-//! - `fronts`: bars and boards for tests, whose calls have no clauses. `recorded`: what a board has recorded.
+//! - `checks`: what a test expects. `fronts`: bars and boards for tests, and what they show. `recordings`: what a board has recorded.
 //! - `shown`: a terminal that others see. `owners`: what the last owner of a bar leaves there. `watched`: boards there, while a closure
 //!   runs, and where the cursor only moves. `bars`: bars in threads, pauses and bounds.
 //! - `boards`: boards that threads share. `records`: a board with its history that nobody shares.
-//! - `shared`: clocks of different openings, boards that make their bars, and threads at one bar. `ways`: each way to make a bar.
+//! - `shared`: boards that make their bars, what is said of a wrapper's bar, and threads at one bar. `ways`: each way to make a bar.
 //! - `closures`: what is done under a lock. `given_up`: what threads of tickers give up, and calls that find no memory, over a runtime
 //!   that is counted (`lent`).
 //! - `machines`: what is asked of the machine. `made`: iterators that get a bar when they are wrapped.

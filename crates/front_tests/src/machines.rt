@@ -10,6 +10,7 @@ use indicatif::{
 use std::alloc::Global;
 use std::cell::Cell;
 use std::io::{self, BufWriter, ErrorKind, Stderr};
+use std::process::Abort;
 use std::time::{self, Duration};
 
 // ---- terminals
@@ -52,40 +53,32 @@ fn goes_on(clock: &mut impl Clock) -> bool {
 #[test]
 fn a_terminal_of_which_is_told(rt: HostRuntime) {
     let Setup { target, mut clock } = setup_of(&rt, true, Some("xterm")).expect(&rt, "granted");
-    let size = size_of(target);
-    holds!(rt; size == Some((7, 40)) && goes_on(&mut clock));
-}
-
-/// Whether nothing is drawn on what was made.
-fn is_hidden<T: Drop>(
-    made: Result<Setup<T, MachineClock<HostRuntime>>, Refusal>,
-) -> Result<bool, Refusal> {
-    let setup = made?;
-    Ok(setup.target.is_hidden())
+    same!(rt; size_of(target), Some((7, 40)));
+    holds!(rt; goes_on(&mut clock));
 }
 
 #[test]
 fn a_terminal_that_is_hidden(rt: HostRuntime) {
-    holds!(rt; is_hidden(setup_of(&rt, false, Some("xterm"))).expect(&rt, "granted"));
-    holds!(rt; is_hidden(setup_of(&rt, true, Some("dumb"))).expect(&rt, "granted"));
-    holds!(rt; is_hidden(setup_of(&rt, true, None)).expect(&rt, "granted"));
+    for (attended, term) in [(false, Some("xterm")), (true, Some("dumb")), (true, None)] {
+        let setup = setup_of(&rt, attended, term).expect(&rt, "granted");
+        holds!(rt; setup.target.is_hidden());
+    }
 }
 
 /// Whether a bar is hidden by these facts: its stream is no terminal, or one without moves.
-fn is_hidden_by(found: Result<Facts, Refusal>) -> Result<bool, Refusal> {
-    let facts = found?;
+fn is_hidden_by(facts: &Facts) -> bool {
     match &facts.term {
-        Some(term) => Ok(!facts.attended || term.as_str() == "dumb"),
-        None => Ok(true),
+        Some(term) => !facts.attended || term.as_str() == "dumb",
+        None => true,
     }
 }
 
 #[test]
 fn the_programs_own_streams(rt: HostRuntime) {
-    let out = is_hidden_by(facts_of(&rt, &rt.stdout())).expect(&rt, "granted");
-    same!(rt; is_hidden(on_stdout(&rt)).expect(&rt, "granted"), out);
-    let err = is_hidden_by(facts_of(&rt, &rt.stderr())).expect(&rt, "granted");
-    same!(rt; is_hidden(on_stderr(&rt)).expect(&rt, "granted"), err);
+    let out = is_hidden_by(&facts_of(&rt, &rt.stdout()).expect(&rt, "granted"));
+    same!(rt; on_stdout(&rt).expect(&rt, "granted").target.is_hidden(), out);
+    let err = is_hidden_by(&facts_of(&rt, &rt.stderr()).expect(&rt, "granted"));
+    same!(rt; on_stderr(&rt).expect(&rt, "granted").target.is_hidden(), err);
     let setup = on_stream(&rt, rt.stderr()).expect(&rt, "granted");
     same!(rt; setup.target.is_hidden(), err);
     let board = board_on(rt, on_stderr(&rt).expect(&rt, "granted")).expect(&rt, "granted");
@@ -97,15 +90,14 @@ fn board_on<R: Shares>(rt: R, setup: StreamSetup<Stderr>) -> Result<StderrBoard<
     MultiProgress::new(rt, rt.alloc(), setup, 1)
 }
 
-/// Whether a bar with the message `x` has this one line in a style.
-fn shows(alloc: Global, style: ProgressStyle<NoTracker>, wanted: &str) -> Result<bool, Refusal> {
-    let mut bar = Box::new(alloc, BarState::styled(alloc, style, None, 0)?)?;
-    bar.set_message("x", 0)?;
-    let lines = bar.lines(0, 20)?;
-    Ok(match lines.as_slice() {
-        [line] => line.is_text(wanted),
-        _ => false,
-    })
+/// A bar with the message `x` has this one line in a style.
+fn shows<R: Abort>(rt: &R, alloc: Global, style: ProgressStyle<NoTracker>, wanted: &str) {
+    let bar = BarState::styled(alloc, style, None, 0).expect(rt, "granted");
+    let mut bar = Box::new(alloc, bar).expect(rt, "granted");
+    holds!(rt; bar.set_message("x", 0).is_ok());
+    let lines = bar.lines(0, 20).expect(rt, "granted");
+    same!(rt; lines.len(), 1);
+    holds!(rt; lines.first().is_some_and(|line| line.is_text(wanted)));
 }
 
 /// A style for standard error has colours where they are wanted there, and none elsewhere.
@@ -116,7 +108,7 @@ fn a_style_for_standard_error(rt: HostRuntime) {
         false => "x",
     };
     let style = style_on_stderr(&rt, "{msg:.red}").expect(&rt, "granted");
-    holds!(rt; shows(rt.alloc(), style, wanted).expect(&rt, "granted"));
+    shows(&rt, rt.alloc(), style, wanted);
 }
 
 // ---- a bar behind a writer
@@ -129,17 +121,12 @@ struct Timed {
 }
 
 /// A bar of a setup, made at the moment of its clock.
-fn bar_of(alloc: Global, setup: TerminalSetup<Vec<u8>>) -> Result<Timed, Refusal> {
+fn bar_of<R: Abort>(rt: &R, alloc: Global, setup: TerminalSetup<Vec<u8>>) -> Timed {
     let Setup { target, mut clock } = setup;
     let now = clock.now();
-    let state = BarState::new(alloc, None, now)?;
-    let bar = Box::new(alloc, LoneBar::new(state, target))?;
-    Ok(Timed { bar, now })
-}
-
-/// The bar of the documentation's example.
-fn bar_behind(rt: &HostRuntime) -> Result<Timed, Refusal> {
-    bar_of(rt.alloc(), setup_of(rt, true, Some("xterm"))?)
+    let state = BarState::new(alloc, None, now).expect(rt, "granted");
+    let bar = Box::new(alloc, LoneBar::new(state, target)).expect(rt, "granted");
+    Timed { bar, now }
 }
 
 /// A tick, whose call promises nothing here.
@@ -147,9 +134,11 @@ fn tick(timed: &mut Timed) -> Result<Drawn, Refusal> {
     timed.bar.tick(timed.now)
 }
 
+/// The bar of the documentation's example.
 #[test]
 fn behind_a_writer(rt: HostRuntime) {
-    let mut timed = bar_behind(&rt).expect(&rt, "granted");
+    let setup = setup_of(&rt, true, Some("xterm")).expect(&rt, "granted");
+    let mut timed = bar_of(&rt, rt.alloc(), setup);
     same!(rt; tick(&mut timed), Ok(Drawn::Yes));
 }
 

@@ -1,12 +1,14 @@
 //! Keys of the tests' own that write what no line holds, on a board that threads share and that keeps its history.
 ghost use Rattle.std.specs.Prelude.{codes};
 
-use crate::fronts::target;
+use crate::fronts::{contents, setup, target};
+use crate::recordings::answers_so;
 use indicatif::{
-    Board, Drawn, Entry, FnTracker, InMemoryTerm, Moment, MultiProgress, ProgressBar,
-    ProgressState, ProgressStyle, RecordReader, Recorded, Refusal, Setup, StepClock, TellsText,
+    Board, Drawn, FnTracker, InMemoryTerm, Moment, MultiProgress, ProgressBar, ProgressState,
+    ProgressStyle, RecordReader, Recorded, Refusal, StepClock, TellsText,
 };
 use std::alloc::Global;
+use std::process::Abort;
 use std::sync::Wait;
 
 /// Tells this text.
@@ -32,91 +34,67 @@ type Shared<R> = MultiProgress<InMemoryTerm, StepClock, R, Telling>;
 
 type Recording = Recorded<Telling, InMemoryTerm>;
 
-fn setup(alloc: Global) -> Result<Setup<InMemoryTerm, StepClock>, Refusal> {
-    Ok(Setup {
-        target: target(alloc)?,
-        clock: StepClock { next: 0, step: 1 },
-    })
-}
-
 /// A bar whose key writes this text, with two spaces for a tab.
-fn saying<R: Wait + Copy + Clone + Drop>(
+fn saying<R: Wait + Copy + Clone + Drop + Abort>(
     rt: R,
     alloc: Global,
     text: &'static str,
-) -> Result<Bar<R>, Refusal> {
-    let key = FnTracker::new(alloc, Says { alloc, text })?;
-    let style = ProgressStyle::with_template(alloc, "{t}")?.with_key("t", key)?;
-    ProgressBar::styled(rt, alloc, style, Some(4), setup(alloc)?)?.with_tab_width(2)
-}
-
-fn contents(term: Option<&InMemoryTerm>) -> Result<String, Refusal> {
-    match term {
-        Some(term) => term.contents(),
-        None => Err(Refusal::NotMember),
-    }
+) -> Bar<R> {
+    let key = FnTracker::new(alloc, Says { alloc, text }).expect(&rt, "granted");
+    let style = ProgressStyle::with_template(alloc, "{t}").expect(&rt, "granted");
+    let style = style.with_key("t", key).expect(&rt, "granted");
+    let bar = ProgressBar::styled(rt, alloc, style, Some(4), setup(&rt, alloc, 10));
+    bar.expect(&rt, "granted")
+        .with_tab_width(2)
+        .expect(&rt, "granted")
 }
 
 /// Makes the calls of a history on a fresh board, where they answer the same; what it shows then.
 #[derive(Drop)]
-struct PlaysAgain {
+struct PlaysAgain<R: Abort + Drop> {
+    rt: R,
     alloc: Global,
 }
 
-impl RecordReader<InMemoryTerm, Telling> for PlaysAgain {
-    type Found = Result<String, Refusal>;
+impl<R: Abort + Drop> RecordReader<InMemoryTerm, Telling> for PlaysAgain<R> {
+    type Found = String;
 
-    fn read(self, record: Option<&Recording>) -> Result<String, Refusal> {
-        match record {
-            Some(recorded) => played_again(self.alloc, recorded),
-            None => Err(Refusal::NotMember),
-        }
+    fn read(self, record: Option<&Recording>) -> String {
+        let recorded = record.expect(&self.rt, "a history");
+        played_again(&self.rt, self.alloc, recorded)
     }
 }
 
-fn played_again(alloc: Global, recorded: &Recording) -> Result<String, Refusal> {
-    let board = Board::new(alloc, target(alloc)?, recorded.opening().board_id);
-    let mut fresh = Box::new(alloc, board)?;
-    play(alloc, &mut fresh, recorded.entries())?;
-    contents(fresh.term())
-}
-
-fn play(
-    alloc: Global,
-    board: &mut Board<Telling, InMemoryTerm>,
-    entries: &[Entry<Telling>],
-) -> Result<(), Refusal> {
-    for entry in entries {
-        if board.call(entry.call.try_clone(alloc)?, entry.now) != entry.answer {
-            return Err(Refusal::NotMember);
-        }
-    }
-    Ok(())
+fn played_again<R: Abort>(rt: &R, alloc: Global, recorded: &Recording) -> String {
+    let target = target(alloc).expect(rt, "granted");
+    let board = Board::new(alloc, target, recorded.opening().board_id);
+    let mut fresh = Box::new(alloc, board).expect(rt, "granted");
+    answers_so(rt, &mut fresh, alloc, recorded.entries());
+    contents(fresh.term()).expect(rt, "a terminal")
 }
 
 /// What a board shows once it has drawn a bar whose key writes this text, and what a fresh board shows that makes the calls of its history.
-fn shown<R: Wait + Copy + Clone + Drop>(
+fn shown<R: Wait + Copy + Clone + Drop + Abort>(
     rt: R,
     alloc: Global,
     text: &'static str,
-) -> Result<(String, String), Refusal> {
-    let board: Box<Shared<R>> = Box::new(
-        alloc,
-        MultiProgress::keyed_recorded(rt, alloc, setup(alloc)?, 1)?,
-    )?;
-    let bar = board.add(saying(rt, alloc, text)?)?;
-    match bar.tick()? {
-        Drawn::Yes => {}
-        _ => return Err(Refusal::NotMember),
-    }
-    let shown = board.with_term(|term| contents(term))?;
-    Ok((shown, board.with_record(PlaysAgain { alloc })?))
+) -> (String, String) {
+    let board = MultiProgress::keyed_recorded(rt, alloc, setup(&rt, alloc, 10), 1);
+    let board: Box<Shared<R>> = Box::new(alloc, board.expect(&rt, "granted")).expect(
+        &rt, "granted",
+    );
+    let bar = board.add(saying(rt, alloc, text)).expect(&rt, "granted");
+    same!(rt; bar.tick(), Ok(Drawn::Yes));
+    let shown = board
+        .with_term(|term| contents(term))
+        .expect(&rt, "granted");
+    (shown, board.with_record(PlaysAgain { rt, alloc }))
 }
 
 /// A tab is two spaces, and a newline parts two lines.
 #[test]
 fn a_tab_and_a_newline(rt: HostRuntime) {
-    let (shown, again) = shown(rt, rt.alloc(), "a\tb\nc").expect(&rt, "granted");
+    let (shown, again) = shown(rt, rt.alloc(), "a\tb\nc");
     same!(rt; shown.as_str(), "a  b\nc");
     same!(rt; again.as_str(), "a  b\nc");
 }
@@ -124,6 +102,6 @@ fn a_tab_and_a_newline(rt: HostRuntime) {
 /// What isn't a colour sequence is drawn; what it does to the terminal isn't claimed.
 #[test]
 fn a_sequence_of_another_kind(rt: HostRuntime) {
-    let (shown, again) = shown(rt, rt.alloc(), "\u{1B}[2J").expect(&rt, "granted");
+    let (shown, again) = shown(rt, rt.alloc(), "\u{1B}[2J");
     same!(rt; shown, again);
 }

@@ -1,114 +1,115 @@
 //! What the last owner of a bar leaves, what stays on another target, and threads with owners of their own, on a terminal that others see.
 use crate::shown::{Bytes, Shown, is_seen, no_bytes, setup_on};
 use indicatif::{
-    Drawn, MultiProgress, ProgressBar, ProgressFinish, ProgressStyle, Refusal, StepClock, Term,
+    Drawn, MultiProgress, ProgressBar, ProgressFinish, ProgressStyle, StepClock, Term,
 };
 use std::alloc::Global;
+use std::process::Abort;
 use std::sync::Wait;
 use std::thread::{self, join};
 
 type Bar<R> = ProgressBar<Term<Shown<R>>, StepClock, R>;
 
 /// A bar on that terminal, of this template and a length of 10.
-fn bar_on<R: Wait + Copy + Clone + Drop>(
+fn bar_on<R: Wait + Copy + Clone + Drop + Abort>(
     rt: R,
     alloc: Global,
     bytes: &Bytes,
     template: &str,
-) -> Result<Bar<R>, Refusal> {
-    let style = ProgressStyle::with_template(alloc, template)?;
-    ProgressBar::new(rt, alloc, 10, setup_on(rt, bytes, 10)?)?.with_style(style)
+) -> Bar<R> {
+    let bar = ProgressBar::new(rt, alloc, 10, setup_on(rt, bytes, 10)).expect(&rt, "granted");
+    let style = ProgressStyle::with_template(alloc, template).expect(&rt, "granted");
+    bar.with_style(style).expect(&rt, "granted")
 }
 
 // ---- owners
 
 /// A bar on that terminal that is finished so once it has no owner.
-fn ending<R: Wait + Copy + Clone + Drop>(
+fn ending<R: Wait + Copy + Clone + Drop + Abort>(
     rt: R,
     alloc: Global,
     bytes: &Bytes,
     finish: ProgressFinish,
-) -> Result<Bar<R>, Refusal> {
-    bar_on(rt, alloc, bytes, "{pos}/{len}")?.with_finish(finish)
+) -> Bar<R> {
+    let bar = bar_on(rt, alloc, bytes, "{pos}/{len}");
+    bar.with_finish(finish).expect(&rt, "granted")
 }
 
 /// An owner that isn't the last leaves the bar as it is, and the last one finishes it by its stored finish.
 #[test]
 fn the_last_release_finishes(rt: HostRuntime) {
-    let bytes = no_bytes(rt.alloc()).expect(&rt, "granted");
-    let bar = ending(rt, rt.alloc(), &bytes, ProgressFinish::AndLeave).expect(&rt, "granted");
+    let bytes = no_bytes(&rt, rt.alloc());
+    let bar = ending(rt, rt.alloc(), &bytes, ProgressFinish::AndLeave);
     let other = bar.clone().expect(&rt, "granted");
     same!(rt; bar.set_position(3), Ok(Drawn::Yes));
     bar.release();
     holds!(rt; !other.is_finished());
-    same!(rt; is_seen(&rt, rt.alloc(), &bytes, "3/10"), Ok(true));
+    is_seen(&rt, rt.alloc(), &bytes, "3/10");
     other.release();
-    same!(rt; is_seen(&rt, rt.alloc(), &bytes, "10/10"), Ok(true));
+    is_seen(&rt, rt.alloc(), &bytes, "10/10");
 }
 
 /// Draws a bar, whose one owner is dropped at the end of the block.
-fn drawn_and_dropped<R: Wait + Copy + Clone + Drop>(
+fn drawn_and_dropped<R: Wait + Copy + Clone + Drop + Abort>(
     rt: R,
     alloc: Global,
     bytes: &Bytes,
     finish: ProgressFinish,
-) -> Result<Drawn, Refusal> {
-    let bar = ending(rt, alloc, bytes, finish)?;
-    bar.set_position(3)
+) {
+    let bar = ending(rt, alloc, bytes, finish);
+    same!(rt; bar.set_position(3), Ok(Drawn::Yes));
 }
 
 /// So does an owner that is dropped.
 #[test]
 fn the_last_drop_finishes(rt: HostRuntime) {
-    let bytes = no_bytes(rt.alloc()).expect(&rt, "granted");
-    let drawn = drawn_and_dropped(rt, rt.alloc(), &bytes, ProgressFinish::AndLeave);
-    same!(rt; drawn, Ok(Drawn::Yes));
-    same!(rt; is_seen(&rt, rt.alloc(), &bytes, "10/10"), Ok(true));
+    let bytes = no_bytes(&rt, rt.alloc());
+    drawn_and_dropped(rt, rt.alloc(), &bytes, ProgressFinish::AndLeave);
+    is_seen(&rt, rt.alloc(), &bytes, "10/10");
 }
 
 /// Where it is to be cleared, its row goes.
 #[test]
 fn the_last_drop_clears(rt: HostRuntime) {
-    let bytes = no_bytes(rt.alloc()).expect(&rt, "granted");
-    let drawn = drawn_and_dropped(rt, rt.alloc(), &bytes, ProgressFinish::AndClear);
-    same!(rt; drawn, Ok(Drawn::Yes));
-    same!(rt; is_seen(&rt, rt.alloc(), &bytes, ""), Ok(true));
+    let bytes = no_bytes(&rt, rt.alloc());
+    drawn_and_dropped(rt, rt.alloc(), &bytes, ProgressFinish::AndClear);
+    is_seen(&rt, rt.alloc(), &bytes, "");
     holds!(rt; !bytes.lock(&rt).is_empty());
 }
 
 // ---- another target
 
 /// A board on that terminal.
-fn board_on<R: Wait + Copy + Clone + Drop>(
+fn board_on<R: Wait + Copy + Clone + Drop + Abort>(
     rt: R,
     alloc: Global,
     bytes: &Bytes,
-) -> Result<MultiProgress<Term<Shown<R>>, StepClock, R>, Refusal> {
-    MultiProgress::new(rt, alloc, setup_on(rt, bytes, 10)?, 1)
+) -> MultiProgress<Term<Shown<R>>, StepClock, R> {
+    MultiProgress::new(rt, alloc, setup_on(rt, bytes, 10), 1).expect(&rt, "granted")
 }
 
 /// What a bar drew on its own target stays there: once it has another one, and once a board has taken it in.
 #[test]
 fn what_was_drawn_stays(rt: HostRuntime) {
-    let first = no_bytes(rt.alloc()).expect(&rt, "granted");
-    let bar = bar_on(rt, rt.alloc(), &first, "{pos}").expect(&rt, "granted");
+    let first = no_bytes(&rt, rt.alloc());
+    let bar = bar_on(rt, rt.alloc(), &first, "{pos}");
     same!(rt; bar.set_position(1), Ok(Drawn::Yes));
-    let second = no_bytes(rt.alloc()).expect(&rt, "granted");
-    let target = setup_on(rt, &second, 10).expect(&rt, "granted").target;
+    let second = no_bytes(&rt, rt.alloc());
+    let target = setup_on(rt, &second, 10).target;
     same!(rt; bar.set_draw_target(target), Ok(Drawn::Limited));
     same!(rt; bar.set_position(2), Ok(Drawn::Yes));
-    let third = no_bytes(rt.alloc()).expect(&rt, "granted");
-    let board = board_on(rt, rt.alloc(), &third).expect(&rt, "granted");
+    let third = no_bytes(&rt, rt.alloc());
+    let board = board_on(rt, rt.alloc(), &third);
     let bar = board.add(bar).expect(&rt, "granted");
     same!(rt; bar.set_position(3), Ok(Drawn::Yes));
-    same!(rt; is_seen(&rt, rt.alloc(), &first, "1"), Ok(true));
-    same!(rt; is_seen(&rt, rt.alloc(), &second, "2"), Ok(true));
-    same!(rt; is_seen(&rt, rt.alloc(), &third, "3"), Ok(true));
+    is_seen(&rt, rt.alloc(), &first, "1");
+    is_seen(&rt, rt.alloc(), &second, "2");
+    is_seen(&rt, rt.alloc(), &third, "3");
 }
 
 // ---- threads
 
-/// Ticks or advances, as often as is asked; how often it was refused.
+/// Advances, as often as is asked; how often it was refused.
 fn advance<R: Wait + Clone + Drop>(bar: &Bar<R>, times: u32) -> u64 {
     let mut refused: u64 = 0;
     for _ in 0..times {
@@ -121,8 +122,8 @@ fn advance<R: Wait + Clone + Drop>(bar: &Bar<R>, times: u32) -> u64 {
 
 #[test]
 fn threads_advance_through_clones(rt: HostRuntime) {
-    let bytes = no_bytes(rt.alloc()).expect(&rt, "granted");
-    let bar = bar_on(rt, rt.alloc(), &bytes, "{pos}").expect(&rt, "granted");
+    let bytes = no_bytes(&rt, rt.alloc());
+    let bar = bar_on(rt, rt.alloc(), &bytes, "{pos}");
     let other = bar.clone().expect(&rt, "granted");
     let third = bar.clone().expect(&rt, "granted");
     let child = thread::spawn(&rt, move || advance(&third, 500)).expect(&rt, "granted");
@@ -131,20 +132,20 @@ fn threads_advance_through_clones(rt: HostRuntime) {
     same!(rt; child.join(&rt), 0);
     same!(rt; bar.position(), 1000);
     same!(rt; bar.force_draw(), Ok(Drawn::Yes));
-    same!(rt; is_seen(&rt, rt.alloc(), &bytes, "1000"), Ok(true));
+    is_seen(&rt, rt.alloc(), &bytes, "1000");
 }
 
 /// A bar that says hello, ticks, says something longer and ticks in two threads.
 #[test]
 fn two_threads_tick(rt: HostRuntime) {
-    let bytes = no_bytes(rt.alloc()).expect(&rt, "granted");
-    let bar = bar_on(rt, rt.alloc(), &bytes, "{msg}").expect(&rt, "granted");
+    let bytes = no_bytes(&rt, rt.alloc());
+    let bar = bar_on(rt, rt.alloc(), &bytes, "{msg}");
     same!(rt; bar.set_message("hello"), Ok(Drawn::Yes));
     same!(rt; bar.tick(), Ok(Drawn::Yes));
     same!(rt; bar.set_message("progress bars"), Ok(Drawn::Yes));
     let other = bar.clone().expect(&rt, "granted");
     let ticked = join(&rt, || bar.tick().is_ok(), || other.tick().is_ok());
     same!(rt; ticked, (true, true));
-    same!(rt; is_seen(&rt, rt.alloc(), &bytes, "progress b\nars"), Ok(true));
+    is_seen(&rt, rt.alloc(), &bytes, "progress b\nars");
     same!(rt; bar.ticks(), 3);
 }

@@ -1,27 +1,29 @@
 //! Pieces in threads of their own.
 use crate::gates::{Open, Roll, Together, Turnstile, Waves};
-use crate::stepped::{Stepped, bar_at};
+use crate::stepped::bar_at;
 use indicatif::{Refusal, run_workers_with};
-use std::alloc::{AllocError, Global};
+use std::alloc::Global;
+use std::fmt::Debug;
+use std::process::Abort;
 use std::sync::atomic::{AtomicU64, Ordering};
 use std::thread::Threads;
 
 /// `count` pieces, in each of which the number 1 stands `items` times.
-fn pieces_of_ones(alloc: Global, count: u32, items: u32) -> Result<Vec<Vec<u32>>, AllocError> {
+fn pieces_of_ones<R: Abort>(rt: &R, alloc: Global, count: u32, items: u32) -> Vec<Vec<u32>> {
     let mut pieces = Vec::new(alloc);
     for _ in 0..count {
-        pieces.push(ones(alloc, items)?)?;
+        pieces.push(ones(rt, alloc, items)).expect(rt, "granted");
     }
-    Ok(pieces)
+    pieces
 }
 
 /// The number 1, so many times.
-fn ones(alloc: Global, items: u32) -> Result<Vec<u32>, AllocError> {
+fn ones<R: Abort>(rt: &R, alloc: Global, items: u32) -> Vec<u32> {
     let mut piece = Vec::new(alloc);
     for _ in 0..items {
-        piece.push(1u32)?;
+        piece.push(1u32).expect(rt, "granted");
     }
-    Ok(piece)
+    piece
 }
 
 #[test]
@@ -58,7 +60,7 @@ fn answers_stand_in_the_order_of_the_pieces(rt: HostRuntime) {
 
 #[test]
 fn no_piece_is_refused(rt: HostRuntime) {
-    let none = pieces_of_ones(rt.alloc(), 0, 0).expect(&rt, "granted");
+    let none = pieces_of_ones(&rt, rt.alloc(), 0, 0);
     let mut bar = bar_at(rt.alloc(), 7);
     let answer = run_workers_with(
         &rt,
@@ -75,7 +77,7 @@ fn no_piece_is_refused(rt: HostRuntime) {
 
 #[test]
 fn pieces_run_at_the_same_time(rt: HostRuntime) {
-    let pieces = pieces_of_ones(rt.alloc(), 2, 1).expect(&rt, "granted");
+    let pieces = pieces_of_ones(&rt, rt.alloc(), 2, 1);
     let mut bar = bar_at(rt.alloc(), 0);
     let gate = Together {
         second_came: AtomicU64::new(0),
@@ -95,34 +97,58 @@ fn pieces_run_at_the_same_time(rt: HostRuntime) {
     same!(rt; bar.position, 2);
 }
 
-/// So many pieces of so many items each, over a bar of the tests'; how many answers there are.
-fn answers_of<R: Threads + Sync>(
+/// How many answers there are.
+fn count(made: &[Vec<u32>]) -> usize {
+    let mut answers = 0usize;
+    for piece in made {
+        answers = answers.wrapping_add(piece.len());
+    }
+    answers
+}
+
+/// So many pieces of so many items each, over a bar at 5: the bar is advanced once, by all of them.
+fn all_are_answered<R: Threads + Sync + Abort>(
     rt: &R,
     alloc: Global,
     pieces: &[Vec<u32>],
-    bar: &mut Stepped,
-) -> Result<usize, Refusal> {
-    let made = run_workers_with(rt, alloc, pieces, |x: &u32| *x, &Open, bar)?;
-    let mut answers = 0usize;
-    for piece in made.iter() {
-        answers = answers.wrapping_add(piece.len());
-    }
-    Ok(answers)
+    items: u64,
+) {
+    let mut bar = bar_at(alloc, 5);
+    let made = run_workers_with(rt, alloc, pieces, |x: &u32| *x, &Open, &mut bar);
+    let made = made.expect(rt, "granted");
+    same!(rt; count(made.as_slice()) as u64, items);
+    same!(rt; bar.steps.as_slice(), [items].as_slice());
+    same!(rt; bar.position, items.wrapping_add(5));
+}
+
+#[test]
+fn one_piece_of_one_item(rt: HostRuntime) {
+    let pieces = pieces_of_ones(&rt, rt.alloc(), 1, 1);
+    all_are_answered(&rt, rt.alloc(), pieces.as_slice(), 1);
+}
+
+#[test]
+fn two_pieces_of_a_thousand_items(rt: HostRuntime) {
+    let pieces = pieces_of_ones(&rt, rt.alloc(), 2, 1000);
+    all_are_answered(&rt, rt.alloc(), pieces.as_slice(), 2000);
 }
 
 #[test]
 fn seventy_pieces(rt: HostRuntime) {
-    let pieces = pieces_of_ones(rt.alloc(), 70, 3).expect(&rt, "granted");
-    let mut bar = bar_at(rt.alloc(), 0);
-    same!(rt; answers_of(&rt, rt.alloc(), pieces.as_slice(), &mut bar).expect(&rt, "granted"),
-        210);
-    same!(rt; bar.steps.as_slice(), [210].as_slice());
+    let pieces = pieces_of_ones(&rt, rt.alloc(), 70, 3);
+    all_are_answered(&rt, rt.alloc(), pieces.as_slice(), 210);
+}
+
+#[test]
+fn four_pieces_of_a_million_items_in_all(rt: HostRuntime) {
+    let pieces = pieces_of_ones(&rt, rt.alloc(), 4, 250_000);
+    all_are_answered(&rt, rt.alloc(), pieces.as_slice(), 1_000_000);
 }
 
 /// Of six hundred pieces each runs once, and none of those behind the first 256 begins before these have begun.
 #[test]
 fn six_hundred_pieces(rt: HostRuntime) {
-    let pieces = pieces_of_ones(rt.alloc(), 600, 2).expect(&rt, "granted");
+    let pieces = pieces_of_ones(&rt, rt.alloc(), 600, 2);
     let mut bar = bar_at(rt.alloc(), 0);
     let gate = Waves {
         passed: AtomicU64::new(0),
@@ -138,28 +164,34 @@ fn six_hundred_pieces(rt: HostRuntime) {
     )
     .expect(&rt, "granted");
     same!(rt; made.len(), 600);
-    for answers in made.iter() {
-        same!(rt; answers.as_slice(), [2, 2].as_slice());
-    }
+    each_answers(&rt, made.as_slice(), 2u32);
     same!(rt; bar.steps.as_slice(), [1200].as_slice());
     same!(rt; gate.passed.load(Ordering::SeqCst), 600);
     same!(rt; gate.early.load(Ordering::SeqCst), 0);
 }
 
 /// So many pieces, each with its own number, twice.
-fn numbered(alloc: Global, count: u32) -> Result<Vec<Vec<u32>>, AllocError> {
+fn numbered<R: Abort>(rt: &R, alloc: Global, count: u32) -> Vec<Vec<u32>> {
     let mut pieces = Vec::new(alloc);
     for number in 0..count {
-        pieces.push(vec![in alloc; number, number]?)?;
+        let piece = vec![in alloc; number, number].expect(rt, "granted");
+        pieces.push(piece).expect(rt, "granted");
     }
-    Ok(pieces)
+    pieces
+}
+
+/// Each piece has this answer twice.
+fn each_answers<R: Abort, A: PartialEq + Debug + Copy + Drop>(rt: &R, made: &[Vec<A>], answer: A) {
+    for answers in made {
+        same!(rt; answers.as_slice(), [answer, answer].as_slice());
+    }
 }
 
 /// Each of three hundred pieces has passed the gate, by its own number and once, before its first item is met.
 #[test]
 fn each_piece_passes_before_its_items(rt: HostRuntime) {
-    let pieces = numbered(rt.alloc(), 300).expect(&rt, "granted");
-    let roll = Roll::of(rt.alloc(), 300).expect(&rt, "granted");
+    let pieces = numbered(&rt, rt.alloc(), 300);
+    let roll = Roll::of(&rt, rt.alloc(), 300);
     let mut bar = bar_at(rt.alloc(), 0);
     let made = run_workers_with(
         &rt,
@@ -171,34 +203,5 @@ fn each_piece_passes_before_its_items(rt: HostRuntime) {
     )
     .expect(&rt, "granted");
     same!(rt; made.len(), 300);
-    for answers in made.iter() {
-        same!(rt; answers.as_slice(), [1, 1].as_slice());
-    }
-}
-
-#[test]
-fn two_pieces_of_a_thousand_items(rt: HostRuntime) {
-    let pieces = pieces_of_ones(rt.alloc(), 2, 1000).expect(&rt, "granted");
-    let mut bar = bar_at(rt.alloc(), 5);
-    same!(rt; answers_of(&rt, rt.alloc(), pieces.as_slice(), &mut bar).expect(&rt, "granted"),
-        2000);
-    same!(rt; bar.position, 2005);
-}
-
-#[test]
-fn four_pieces_of_a_million_items_in_all(rt: HostRuntime) {
-    let pieces = pieces_of_ones(rt.alloc(), 4, 250_000).expect(&rt, "granted");
-    let mut bar = bar_at(rt.alloc(), 0);
-    same!(rt; answers_of(&rt, rt.alloc(), pieces.as_slice(), &mut bar).expect(&rt, "granted"),
-        1_000_000);
-    same!(rt; bar.steps.as_slice(), [1_000_000].as_slice());
-}
-
-#[test]
-fn one_piece_of_one_item(rt: HostRuntime) {
-    let pieces = pieces_of_ones(rt.alloc(), 1, 1).expect(&rt, "granted");
-    let mut bar = bar_at(rt.alloc(), 0);
-    same!(rt; answers_of(&rt, rt.alloc(), pieces.as_slice(), &mut bar).expect(&rt, "granted"),
-        1);
-    same!(rt; bar.steps.as_slice(), [1].as_slice());
+    each_answers(&rt, made.as_slice(), 1u64);
 }

@@ -1,10 +1,10 @@
 //! What a board has kept: how many calls of a kind, and whether a fresh board that makes them gives the same answers and the same
 //! picture.
 use crate::fronts::{Shared, target};
-use indicatif::{
-    BarCommand, Board, Call, Entry, InMemoryTerm, NoTracker, RecordReader, Recorded, Refusal,
-};
+use indicatif::style::Tracks;
+use indicatif::{BarCommand, Board, Call, Entry, InMemoryTerm, NoTracker, RecordReader, Recorded};
 use std::alloc::Global;
+use std::process::Abort;
 use std::sync::Wait;
 
 /// A board that keeps its history.
@@ -67,60 +67,55 @@ pub fn counted<R: Wait + Copy + Clone + Drop>(board: &Shared<R>, kind: Kind<'_>)
     board.with_record(kind)
 }
 
-/// Whether a board makes these calls with the same answers.
-pub fn answers_so(
-    board: &mut Board<NoTracker, InMemoryTerm>,
+/// A board makes these calls with the same answers.
+pub fn answers_so<R: Abort, K: Tracks>(
+    rt: &R,
+    board: &mut Board<K, InMemoryTerm>,
     alloc: Global,
-    entries: &[Entry<NoTracker>],
-) -> Result<bool, Refusal> {
+    entries: &[Entry<K>],
+) {
     for entry in entries {
-        let call = entry.call.try_clone(alloc)?;
-        if board.call(call, entry.now) != entry.answer {
-            return Ok(false);
-        }
-    }
-    Ok(true)
-}
-
-/// Whether two terminals show the same rows, those that have scrolled away too; two that aren't there do.
-pub fn same_rows(
-    one: Option<&InMemoryTerm>,
-    other: Option<&InMemoryTerm>,
-) -> Result<bool, Refusal> {
-    match (one, other) {
-        (Some(one), Some(other)) => Ok(one.picture()? == other.picture()?),
-        (None, None) => Ok(true),
-        _ => Ok(false),
+        let call = entry.call.try_clone(alloc).expect(rt, "granted");
+        let answer = board.call(call, entry.now);
+        same!(rt; &answer, &entry.answer);
     }
 }
 
-/// Whether a fresh board makes the calls that were kept with the same answers, and then shows the same rows.
+/// Two terminals show the same rows, those that have scrolled away too.
+pub fn show_the_same<R: Abort>(rt: &R, one: Option<&InMemoryTerm>, other: Option<&InMemoryTerm>) {
+    same!(rt; rows_of(rt, one), rows_of(rt, other));
+}
+
+fn rows_of<R: Abort>(rt: &R, term: Option<&InMemoryTerm>) -> Vec<String> {
+    let term = term.expect(rt, "a terminal");
+    term.picture().expect(rt, "granted")
+}
+
+/// A fresh board makes the calls that were kept with the same answers, and then shows the same rows.
 #[derive(Drop)]
-struct RunsAgain {
+struct RunsAgain<R: Abort + Drop> {
+    rt: R,
     alloc: Global,
 }
 
-impl RecordReader<InMemoryTerm, NoTracker> for RunsAgain {
-    type Found = bool;
+impl<R: Abort + Drop> RecordReader<InMemoryTerm, NoTracker> for RunsAgain<R> {
+    type Found = ();
 
-    fn read(self, record: Option<&Recording>) -> bool {
-        match record {
-            Some(recorded) => is_replayed(self.alloc, recorded) == Ok(true),
-            None => false,
-        }
+    fn read(self, record: Option<&Recording>) {
+        let recorded = record.expect(&self.rt, "a history");
+        runs_again(&self.rt, self.alloc, recorded);
     }
 }
 
-fn is_replayed(alloc: Global, recorded: &Recording) -> Result<bool, Refusal> {
-    let board = Board::new(alloc, target(alloc)?, recorded.opening().board_id);
-    let mut fresh = Box::new(alloc, board)?;
-    if !answers_so(&mut fresh, alloc, recorded.entries())? {
-        return Ok(false);
-    }
-    same_rows(fresh.term(), recorded.board().term())
+fn runs_again<R: Abort>(rt: &R, alloc: Global, recorded: &Recording) {
+    let target = target(alloc).expect(rt, "granted");
+    let board = Board::new(alloc, target, recorded.opening().board_id);
+    let mut fresh = Box::new(alloc, board).expect(rt, "granted");
+    answers_so(rt, &mut fresh, alloc, recorded.entries());
+    show_the_same(rt, fresh.term(), recorded.board().term());
 }
 
-/// Whether what a board has kept is one run: a fresh board that makes those calls gives the same answers, and shows the same.
-pub fn is_one_run<R: Wait + Copy + Clone + Drop>(board: &Shared<R>, alloc: Global) -> bool {
-    board.with_record(RunsAgain { alloc })
+/// What a board has kept is one run: a fresh board that makes those calls gives the same answers, and shows the same.
+pub fn is_one_run<R: Wait + Copy + Clone + Drop + Abort>(rt: R, board: &Shared<R>, alloc: Global) {
+    board.with_record(RunsAgain { rt, alloc });
 }

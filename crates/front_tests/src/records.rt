@@ -1,24 +1,25 @@
 //! Boards that keep their history: a fresh board that makes the calls that were kept gives the same answers and the same picture.
-use crate::recordings::{Recording, answers_so, same_rows};
+use crate::recordings::{Recording, answers_so, show_the_same};
 use indicatif::{
     Answer, BarCommand, BarId, BarState, Board, Call, Candidate, Drawn, Entry, InMemoryTerm,
     InsertLocation, NoTracker, ProgressDrawTarget, ProgressFinish, ProgressStyle, Recorded,
     Refusal, Size,
 };
 use std::alloc::Global;
+use std::process::Abort;
 use std::sync::{Mutex, Wait};
 use std::thread::join;
 
 /// A target on a terminal in memory of so many rows and 10 columns.
-fn target(alloc: Global, rows: u16) -> Result<ProgressDrawTarget<InMemoryTerm>, Refusal> {
-    let term = InMemoryTerm::new(alloc, rows, 10)?;
-    Ok(ProgressDrawTarget::term_like(term))
+fn target<R: Abort>(rt: &R, alloc: Global, rows: u16) -> ProgressDrawTarget<InMemoryTerm> {
+    let term = InMemoryTerm::new(alloc, rows, 10).expect(rt, "granted");
+    ProgressDrawTarget::term_like(term)
 }
 
 /// A board of the id 1 that keeps its history.
-fn recorded_on(alloc: Global, rows: u16) -> Result<Box<Recording>, Refusal> {
-    let recorded = Recorded::new(alloc, target(alloc, rows)?, 1);
-    Ok(Box::new(alloc, recorded)?)
+fn recorded_on<R: Abort>(rt: &R, alloc: Global, rows: u16) -> Box<Recording> {
+    let recorded = Recorded::new(alloc, target(rt, alloc, rows), 1);
+    Box::new(alloc, recorded).expect(rt, "granted")
 }
 
 /// A bar whose one line is this text.
@@ -71,30 +72,30 @@ fn is_named(bar: Option<BarState<NoTracker>>, wanted: &str) -> bool {
     }
 }
 
-/// Makes a call at the moment 0; whether it answers so, and hands a bar with this message back.
-fn answers(
+/// Makes a call at the moment 0, which answers so, and hands a bar with this message back.
+fn answers<R: Abort>(
+    rt: &R,
     alloc: Global,
     board: &mut Recording,
     asked: Asked,
     wanted: &(Answer, &str),
-) -> Result<bool, Refusal> {
-    let call = call_of(alloc, asked)?;
+) {
+    let call = call_of(alloc, asked).expect(rt, "granted");
     let (answer, bar) = board.apply(call, 0);
-    Ok(is_named(bar, wanted.1) && answer == wanted.0)
+    same!(rt; &answer, &wanted.0);
+    holds!(rt; is_named(bar, wanted.1));
 }
 
-/// Whether a board answers so, one call after another.
-fn all_answer(
+/// A board answers so, one call after another.
+fn all_answer<R: Abort>(
+    rt: &R,
     alloc: Global,
     board: &mut Recording,
     rows: &[(Asked, (Answer, &str))],
-) -> Result<bool, Refusal> {
+) {
     for row in rows {
-        if !answers(alloc, board, row.0, &row.1)? {
-            return Ok(false);
-        }
+        answers(rt, alloc, board, row.0, &row.1);
     }
-    Ok(true)
 }
 
 /// Whether these rows stand on a terminal, those that have scrolled away first, and nothing below.
@@ -111,24 +112,21 @@ fn has_rows(term: Option<&InMemoryTerm>, wanted: &[&str]) -> Result<bool, Refusa
     Ok(rows.len() >= wanted.len())
 }
 
-/// Whether each call was made on a terminal of this size.
-fn were_on(entries: &[Entry<NoTracker>], size: Size) -> bool {
+/// Each call was made on a terminal of this size.
+fn were_on<R: Abort>(rt: &R, entries: &[Entry<NoTracker>], size: Size) {
     for entry in entries {
-        if entry.size != Some(size) {
-            return false;
-        }
+        same!(rt; entry.size, Some(size));
     }
-    true
 }
 
-/// Whether a fresh board on a target of so many rows makes the calls that were kept with the same answers, and shows the same.
-fn is_replayed(alloc: Global, recorded: &Recording, rows: u16) -> Result<bool, Refusal> {
-    let board = Board::new(alloc, target(alloc, rows)?, recorded.opening().board_id);
-    let mut fresh = Box::new(alloc, board)?;
-    let same = answers_so(&mut fresh, alloc, recorded.entries())?;
-    let size = Size { columns: 10, rows };
-    let shown = same_rows(fresh.term(), recorded.board().term())?;
-    Ok(same && shown && were_on(recorded.entries(), size))
+/// A fresh board on a target of so many rows makes the calls that were kept with the same answers, and shows the same.
+fn is_replayed<R: Abort>(rt: &R, alloc: Global, recorded: &Recording, rows: u16) {
+    let board_id = recorded.opening().board_id;
+    let board = Board::new(alloc, target(rt, alloc, rows), board_id);
+    let mut fresh = Box::new(alloc, board).expect(rt, "granted");
+    answers_so(rt, &mut fresh, alloc, recorded.entries());
+    show_the_same(rt, fresh.term(), recorded.board().term());
+    were_on(rt, recorded.entries(), Size { columns: 10, rows });
 }
 
 const YES: Answer = Answer::Drawn(Drawn::Yes);
@@ -175,11 +173,11 @@ const RUN: [(Asked, (Answer, &str)); 9] = [
 
 #[test]
 fn what_was_recorded_is_one_run(rt: HostRuntime) {
-    let mut board = recorded_on(rt.alloc(), 2).expect(&rt, "granted");
-    same!(rt; all_answer(rt.alloc(), &mut board, &RUN), Ok(true));
+    let mut board = recorded_on(&rt, rt.alloc(), 2);
+    all_answer(&rt, rt.alloc(), &mut board, &RUN);
     same!(rt; board.entries().len(), 9);
     same!(rt; has_rows(board.board().term(), &["k", "l", "x", "y"]), Ok(true));
-    same!(rt; is_replayed(rt.alloc(), &board, 2), Ok(true));
+    is_replayed(&rt, rt.alloc(), &board, 2);
 }
 
 const FOREIGN: InsertLocation = InsertLocation::Before(BarId {
@@ -209,39 +207,24 @@ const BACK: [(Asked, (Answer, &str)); 4] = [
 
 #[test]
 fn bars_that_come_back(rt: HostRuntime) {
-    let mut board = recorded_on(rt.alloc(), 4).expect(&rt, "granted");
-    same!(rt; all_answer(rt.alloc(), &mut board, &BACK), Ok(true));
+    let mut board = recorded_on(&rt, rt.alloc(), 4);
+    all_answer(&rt, rt.alloc(), &mut board, &BACK);
     same!(rt; board.entries().len(), 4);
-    same!(rt; is_replayed(rt.alloc(), &board, 4), Ok(true));
+    is_replayed(&rt, rt.alloc(), &board, 4);
 }
 
-/// Logs a text under the lock; whether it was drawn.
-fn log_once<R: Wait>(
+/// Logs a text fifty times under the lock; it is drawn each time.
+fn log_fifty<R: Wait + Abort>(
     rt: &R,
     alloc: Global,
     board: &Mutex<Box<Recording>>,
     text: &'static str,
-) -> bool {
-    match call_of(alloc, Asked::Log(text)) {
-        Ok(call) => board.lock(rt).apply(call, 0).0 == YES,
-        Err(_) => false,
-    }
-}
-
-/// The same fifty times; how often it was drawn.
-fn log_fifty<R: Wait>(
-    rt: &R,
-    alloc: Global,
-    board: &Mutex<Box<Recording>>,
-    text: &'static str,
-) -> u64 {
-    let mut drawn: u64 = 0;
+) {
     for _ in 0..50u32 {
-        if log_once(rt, alloc, board, text) {
-            drawn = drawn.saturating_add(1);
-        }
+        let call = call_of(alloc, Asked::Log(text)).expect(rt, "granted");
+        let (answer, _) = board.lock(rt).apply(call, 0);
+        same!(rt; answer, YES);
     }
-    drawn
 }
 
 /// Whether each call that was kept logged a text.
@@ -256,15 +239,14 @@ fn are_logs(entries: &[Entry<NoTracker>]) -> bool {
 
 #[test]
 fn two_threads_log_on_one_board(rt: HostRuntime) {
-    let board = Mutex::new(recorded_on(rt.alloc(), 5).expect(&rt, "granted"));
-    let drawn = join(
+    let board = Mutex::new(recorded_on(&rt, rt.alloc(), 5));
+    join(
         &rt,
         || log_fifty(&rt, rt.alloc(), &board, "mine"),
         || log_fifty(&rt, rt.alloc(), &board, "theirs"),
     );
-    same!(rt; drawn, (50, 50));
     let recorded = board.lock(&rt);
     same!(rt; recorded.entries().len(), 100);
     holds!(rt; are_logs(recorded.entries()));
-    same!(rt; is_replayed(rt.alloc(), &recorded, 5), Ok(true));
+    is_replayed(&rt, rt.alloc(), &recorded, 5);
 }

@@ -2,6 +2,7 @@
 use indicatif::{Cells, ProgressDrawTarget, Refusal, Setup, StepClock, Term};
 use std::alloc::Global;
 use std::io::{self, Write};
+use std::process::Abort;
 use std::sync::{Arc, Mutex, Wait};
 
 /// A writer whose bytes stand under a lock.
@@ -29,25 +30,22 @@ impl<R: Wait + Drop> Write for Shown<R> {
 }
 
 /// No bytes as yet.
-pub fn no_bytes(alloc: Global) -> Result<Bytes, Refusal> {
-    let bytes = Vec::new(alloc);
-    Ok(Arc::new(alloc, Mutex::new(bytes))?)
+pub fn no_bytes<R: Abort>(rt: &R, alloc: Global) -> Bytes {
+    Arc::new(alloc, Mutex::new(Vec::new(alloc))).expect(rt, "granted")
 }
 
 /// That terminal, of 4 rows and so many columns, with a clock that goes on by 1 with each reading.
-pub fn setup_on<R: Wait + Drop>(
+pub fn setup_on<R: Wait + Drop + Abort>(
     rt: R,
     bytes: &Bytes,
     cols: u16,
-) -> Result<Setup<Term<Shown<R>>, StepClock>, Refusal> {
-    let writer = Shown {
-        bytes: Arc::try_clone(bytes)?,
-        rt,
-    };
-    Ok(Setup {
+) -> Setup<Term<Shown<R>>, StepClock> {
+    let bytes = Arc::try_clone(bytes).expect(&rt, "granted");
+    let writer = Shown { bytes, rt };
+    Setup {
         target: ProgressDrawTarget::term_like(Term::new(writer, 4, cols)),
         clock: StepClock { next: 0, step: 1 },
-    })
+    }
 }
 
 /// The window of 4 rows and 10 columns after these bytes.
@@ -60,17 +58,13 @@ fn seen<R: Wait>(rt: &R, alloc: Global, bytes: &Mutex<Vec<u8>>) -> Result<String
     }
 }
 
-/// Whether this stands in that window.
-pub fn is_seen<R: Wait>(
-    rt: &R,
-    alloc: Global,
-    bytes: &Mutex<Vec<u8>>,
-    wanted: &str,
-) -> Result<bool, Refusal> {
-    Ok(seen(rt, alloc, bytes)?.as_str() == wanted)
+/// Ends the test where something else stands in that window.
+pub fn is_seen<R: Wait + Abort>(rt: &R, alloc: Global, bytes: &Mutex<Vec<u8>>, wanted: &str) {
+    let text = seen(rt, alloc, bytes).expect(rt, "granted");
+    same!(rt; text.as_str(), wanted);
 }
 
-/// Whether these are the bytes.
-pub fn is_written<R: Wait>(rt: &R, bytes: &Mutex<Vec<u8>>, wanted: &str) -> bool {
-    bytes.lock(rt).as_slice() == wanted.as_bytes()
+/// Ends the test where the bytes are others.
+pub fn is_written<R: Wait + Abort>(rt: &R, bytes: &Mutex<Vec<u8>>, wanted: &str) {
+    same!(rt; bytes.lock(rt).as_slice(), wanted.as_bytes());
 }

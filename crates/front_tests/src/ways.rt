@@ -1,79 +1,54 @@
-//! Each way to make a bar: its length, and what its first draw shows, on 4 rows of 10 columns.
-use crate::fronts::{Bar, shows, target};
-use indicatif::{InMemoryTerm, ProgressBar, ProgressStyle, Refusal, Setup, StepClock};
-use std::alloc::Global;
+//! Each way to make a bar: its length, and what its first draw shows, on 4 rows of 10 columns. A hidden one is a row.
+use crate::fronts::{Bar, bar_shows, setup};
+use indicatif::{ProgressBar, ProgressStyle, Setup};
+use std::process::Abort;
 use std::sync::Wait;
 
-const CLOCK: StepClock = StepClock { next: 0, step: 1 };
-
-fn setup(alloc: Global) -> Result<Setup<InMemoryTerm, StepClock>, Refusal> {
-    Ok(Setup {
-        target: target(alloc)?,
-        clock: CLOCK,
-    })
-}
-
-/// Whether a bar has this length, and its first draw shows this.
-fn begins_so<R: Wait + Copy + Clone + Drop>(bar: &Bar<R>, len: Option<u64>, wanted: &str) -> bool {
-    bar.length() == len && bar.force_draw().is_ok() && shows(bar, wanted)
+/// A bar has this length, and its first draw shows this.
+fn begins_so<R: Wait + Copy + Clone + Drop + Abort>(
+    rt: R,
+    bar: &Bar<R>,
+    len: Option<u64>,
+    wanted: &str,
+) {
+    same!(rt; bar.length(), len);
+    holds!(rt; bar.force_draw().is_ok());
+    bar_shows(&rt, bar, wanted);
 }
 
 /// A bar of so many fills its row: of ten columns, four are the text's. One without a length shows its position in place of that.
 #[test]
 fn bars(rt: HostRuntime) {
-    let bar = ProgressBar::new(rt, rt.alloc(), 7, setup(rt.alloc()).expect(&rt, "granted")).expect(
-        &rt, "granted",
-    );
-    holds!(rt; begins_so(&bar, Some(7), "░░░░░░ 0/7"));
-    let bar = ProgressBar::no_length(
-        rt,
-        rt.alloc(),
-        setup(rt.alloc()).expect(&rt, "granted"),
-    ).expect(&rt, "granted");
-    holds!(rt; begins_so(&bar, None, "░░░░░░ 0/0"));
+    let alloc = rt.alloc();
+    let bar = ProgressBar::new(rt, alloc, 7, setup(&rt, alloc, 10)).expect(&rt, "granted");
+    begins_so(rt, &bar, Some(7), "░░░░░░ 0/7");
+    let bar = ProgressBar::no_length(rt, alloc, setup(&rt, alloc, 10)).expect(&rt, "granted");
+    begins_so(rt, &bar, None, "░░░░░░ 0/0");
 }
 
 #[test]
 fn bars_on_a_target(rt: HostRuntime) {
-    let on = target(rt.alloc()).expect(&rt, "granted");
-    let bar = ProgressBar::with_draw_target(rt, rt.alloc(), Some(7), on, CLOCK).expect(
-        &rt, "granted",
-    );
-    holds!(rt; begins_so(&bar, Some(7), "░░░░░░ 0/7"));
-    let on = target(rt.alloc()).expect(&rt, "granted");
-    let bar = ProgressBar::with_draw_target(rt, rt.alloc(), None, on, CLOCK).expect(&rt, "granted");
-    holds!(rt; begins_so(&bar, None, "░░░░░░ 0/0"));
+    let alloc = rt.alloc();
+    for (len, wanted) in [(Some(7), "░░░░░░ 0/7"), (None, "░░░░░░ 0/0")] {
+        let Setup { target, clock } = setup(&rt, alloc, 10);
+        let bar = ProgressBar::with_draw_target(rt, alloc, len, target, clock);
+        begins_so(rt, &bar.expect(&rt, "granted"), len, wanted);
+    }
 }
 
 /// The first text of a spinner is the crate's, and a message stands behind it.
 #[test]
 fn a_spinner(rt: HostRuntime) {
-    let bar = ProgressBar::new_spinner(rt, rt.alloc(), setup(rt.alloc()).expect(&rt, "granted"))
-        .expect(&rt, "granted")
-        .with_message("m")
-        .expect(&rt, "granted");
-    holds!(rt; begins_so(&bar, None, "⠁ m"));
+    let alloc = rt.alloc();
+    let bar = ProgressBar::new_spinner(rt, alloc, setup(&rt, alloc, 10)).expect(&rt, "granted");
+    let bar = bar.with_message("m").expect(&rt, "granted");
+    begins_so(rt, &bar, None, "⠁ m");
 }
 
 #[test]
 fn a_bar_of_a_style(rt: HostRuntime) {
-    let style = ProgressStyle::with_template(rt.alloc(), "{pos} of {len}").expect(&rt, "granted");
-    let bar = ProgressBar::styled(
-        rt,
-        rt.alloc(),
-        style,
-        Some(7),
-        setup(rt.alloc()).expect(&rt, "granted"),
-    )
-    .expect(&rt, "granted");
-    holds!(rt; begins_so(&bar, Some(7), "0 of 7"));
-}
-
-/// A hidden bar is a bar without a length that is drawn nowhere; on another target it is.
-#[test]
-fn a_hidden_bar(rt: HostRuntime) {
-    let bar: Bar<HostRuntime> = ProgressBar::hidden(rt, rt.alloc(), CLOCK).expect(&rt, "granted");
-    holds!(rt; bar.is_hidden());
-    holds!(rt; bar.set_draw_target(target(rt.alloc()).expect(&rt, "granted")).is_ok());
-    holds!(rt; begins_so(&bar, None, "░░░░░░ 0/0"));
+    let alloc = rt.alloc();
+    let style = ProgressStyle::with_template(alloc, "{pos} of {len}").expect(&rt, "granted");
+    let bar = ProgressBar::styled(rt, alloc, style, Some(7), setup(&rt, alloc, 10));
+    begins_so(rt, &bar.expect(&rt, "granted"), Some(7), "0 of 7");
 }
