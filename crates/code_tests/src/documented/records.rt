@@ -98,7 +98,7 @@ fn rate_since_a_reset(rt: HostRuntime) {
     bar.set_position(3, 2_000_000_000);
     let rate = bar.state().per_sec(2_000_000_000);
     same!(rt; rate.steps, 1);
-    same!(rt; rate.nanos, 1000000000);
+    same!(rt; rate.nanos, 1_000_000_000);
 }
 
 #[test]
