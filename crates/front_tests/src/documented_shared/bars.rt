@@ -1,6 +1,6 @@
 //! Shared bars.
 use indicatif::{
-    Drawn, InMemoryTerm, ProgressBar, ProgressDrawTarget, ProgressStyle, Refusal, Setup, StepClock,
+    Drawn, InMemoryTerm, ProgressBar, ProgressDrawTarget, ProgressStyle, Setup, StepClock,
 };
 use std::alloc::Global;
 use std::process::Abort;
@@ -12,22 +12,21 @@ pub type Bar<R> = ProgressBar<InMemoryTerm, StepClock, R>;
 /// What such a bar is made with: a terminal of 4 rows and 20 columns.
 pub type InMemory = Setup<InMemoryTerm, StepClock>;
 
-pub fn setup_of(alloc: Global) -> Result<InMemory, Refusal> {
-    let target = ProgressDrawTarget::term_like(InMemoryTerm::new(alloc, 4, 20)?);
-    Ok(Setup {
-        target,
+pub fn setup_of<R: Abort>(rt: &R, alloc: Global) -> InMemory {
+    let term = InMemoryTerm::new(alloc, 4, 20).expect(rt, "granted");
+    Setup {
+        target: ProgressDrawTarget::term_like(term),
         clock: StepClock {
             next: 0,
             step: 1_000_000,
         },
-    })
+    }
 }
 
 /// A bar that shows its position.
 pub fn bar_of<R: Wait + Copy + Clone + Drop + Abort>(rt: R, alloc: Global) -> Bar<R> {
     let style = ProgressStyle::with_template(alloc, "{pos}/{len}").expect(&rt, "granted");
-    let setup = setup_of(alloc).expect(&rt, "granted");
-    ProgressBar::new(rt, alloc, 100, setup)
+    ProgressBar::new(rt, alloc, 100, setup_of(&rt, alloc))
         .expect(&rt, "granted")
         .with_style(style)
         .expect(&rt, "granted")
@@ -36,7 +35,7 @@ pub fn bar_of<R: Wait + Copy + Clone + Drop + Abort>(rt: R, alloc: Global) -> Ba
 /// What one owner does, the other tells.
 #[test]
 fn two_owners(rt: HostRuntime) {
-    let setup = setup_of(rt.alloc()).expect(&rt, "granted");
+    let setup = setup_of(&rt, rt.alloc());
     let bar = ProgressBar::new(rt, rt.alloc(), 100, setup).expect(&rt, "granted");
     let other = bar.clone().expect(&rt, "granted");
     bar.inc(1).expect(&rt, "granted");

@@ -1,14 +1,13 @@
 //! What is asked of the machine.
 use indicatif::machine::{
-    MachineClock, Shares, StderrBar, StderrBoard, StreamSetup, StreamTerm, TerminalSetup, facts_of,
-    on_stderr, sized_target, style_on_stderr, told_setup, wants_colors,
+    MachineClock, Shares, StderrBar, StreamSetup, StreamTerm, TerminalSetup, facts_of, on_stderr,
+    sized_target, style_on_stderr, told_setup, wants_colors,
 };
 use indicatif::{
     BarState, Clock, Drawn, Facts, LoneBar, MultiProgress, NoTracker, OwnRows, ProgressBar,
     ProgressDrawTarget, ProgressIterator, ProgressStyle, Refusal, Resize, Term, TermLike,
 };
 use std::io::{Stderr, Stdout};
-use std::process::Abort;
 use std::thread::sleep;
 use std::time::Duration;
 
@@ -151,5 +150,5 @@ fn a_board_of_another_size(rt: HostRuntime) {
     board
         .set_draw_target(sized_target(&rt, rt.stderr(), 50, 132).expect(&rt, "granted"))
         .expect(&rt, "granted");
-    same!(rt; board.is_hidden(), true);
+    holds!(rt; board.is_hidden());
 }

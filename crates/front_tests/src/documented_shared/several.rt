@@ -28,7 +28,7 @@ fn named<R: AllocGlobal + Wait + Copy + Clone + Drop + Abort>(
 
 /// Such a board on a terminal in memory.
 fn board_of<R: AllocGlobal + Wait + Copy + Clone + Drop + Abort>(rt: R) -> Bars<R> {
-    let setup = setup_of(rt.alloc()).expect(&rt, "granted");
+    let setup = setup_of(&rt, rt.alloc());
     named(rt, setup, StepClock { next: 0, step: 1 })
 }
 
@@ -38,7 +38,7 @@ fn bars_of_a_board(rt: HostRuntime) {
     let clock = StepClock { next: 0, step: 1 };
     let bar = ProgressBar::hidden(rt, rt.alloc(), clock).expect(&rt, "granted");
     let bar = board.add(bar).expect(&rt, "granted");
-    same!(rt; bar.is_hidden(), false);
+    holds!(rt; !bar.is_hidden());
     let bar = board.new_bar(100).expect(&rt, "granted");
     same!(rt; bar.length(), Some(100));
 }

@@ -3,10 +3,11 @@ use crate::documented_shared::bars::{Bar, bar_of, setup_of};
 use futures::Stream;
 use indicatif::{
     BarState, InMemoryTerm, LoneBar, Moves, NoTracker, OwnedBar, ProgressBarIter,
-    ProgressDrawTarget, ProgressIterator, Refusal, Setup, StepClock,
+    ProgressDrawTarget, ProgressIterator, Setup, StepClock,
 };
-use std::alloc::{AllocError, Global};
+use std::alloc::Global;
 use std::io::{Read, Write};
+use std::process::Abort;
 use std::sync::Wait;
 use tokio::io::{AsyncRead, AsyncWrite};
 
@@ -39,34 +40,39 @@ fn three_bytes_written(rt: HostRuntime) {
 }
 
 /// A stream that a bar goes along with.
-pub fn streamed<S: Stream + Drop, R: Wait + Clone + Drop>(
+pub fn streamed<S: Stream + Drop, R: Wait + Clone + Drop + Abort>(
+    rt: &R,
     bar: &Bar<R>,
     stream: S,
-) -> Result<ProgressBarIter<S, Bar<R>>, AllocError> {
-    let mut wrapped = bar.wrap_stream(stream)?;
-    Ok(wrapped)
+) -> ProgressBarIter<S, Bar<R>> {
+    let mut wrapped = bar.wrap_stream(stream).expect(rt, "granted");
+    wrapped
 }
 
 /// A reader that is polled.
-pub fn read_along<S: AsyncRead + Drop, R: Wait + Clone + Drop>(
+pub fn read_along<S: AsyncRead + Drop, R: Wait + Clone + Drop + Abort>(
+    rt: &R,
     bar: &Bar<R>,
     socket: S,
-) -> Result<ProgressBarIter<S, Bar<R>>, AllocError> {
-    let mut wrapped = bar.wrap_async_read(socket)?;
-    Ok(wrapped)
+) -> ProgressBarIter<S, Bar<R>> {
+    let mut wrapped = bar.wrap_async_read(socket).expect(rt, "granted");
+    wrapped
 }
 
 /// A writer that is polled.
-pub fn written_along<S: AsyncWrite + Drop, R: Wait + Clone + Drop>(
+pub fn written_along<S: AsyncWrite + Drop, R: Wait + Clone + Drop + Abort>(
+    rt: &R,
     bar: &Bar<R>,
     socket: S,
-) -> Result<ProgressBarIter<S, Bar<R>>, AllocError> {
-    let mut wrapped = bar.wrap_async_write(socket)?;
-    Ok(wrapped)
+) -> ProgressBarIter<S, Bar<R>> {
+    let mut wrapped = bar.wrap_async_write(socket).expect(rt, "granted");
+    wrapped
 }
 
-/// A bar of its own, made from parts.
-fn own(state: BarState<NoTracker>, target: ProgressDrawTarget<InMemoryTerm>) -> Own {
+/// A bar of two steps, of its own, made from parts.
+fn own_of_two<R: Abort>(rt: &R, alloc: Global) -> Own {
+    let Setup { target, clock: _ } = setup_of(rt, alloc);
+    let state = BarState::new(alloc, Some(2), 0).expect(rt, "granted");
     let bar = OwnedBar::new(
         LoneBar::new(state, target),
         StepClock {
@@ -75,12 +81,6 @@ fn own(state: BarState<NoTracker>, target: ProgressDrawTarget<InMemoryTerm>) -> 
         },
     );
     bar
-}
-
-/// A bar of two steps, of its own.
-fn own_of_two(alloc: Global) -> Result<Own, Refusal> {
-    let target = setup_of(alloc)?.target;
-    Ok(own(BarState::new(alloc, Some(2), 0)?, target))
 }
 
 /// Goes through all items, and gives the bar back.
@@ -93,7 +93,7 @@ fn looped(bar: Own, items: Vec<u64>) -> Own {
 
 #[test]
 fn a_bar_of_its_own_behind_a_loop(rt: HostRuntime) {
-    let bar = own_of_two(rt.alloc()).expect(&rt, "granted");
+    let bar = own_of_two(&rt, rt.alloc());
     let items = vec![in rt.alloc(); 1u64, 2].expect(&rt, "granted");
     same!(rt; looped(bar, items).position(), 2);
 }
@@ -108,7 +108,7 @@ fn first_of<P: Moves>(list: Vec<u64>, bar: P) -> (Option<u64>, P) {
 
 #[test]
 fn a_bar_of_its_own_behind_the_first_item(rt: HostRuntime) {
-    let bar = own_of_two(rt.alloc()).expect(&rt, "granted");
+    let bar = own_of_two(&rt, rt.alloc());
     let items = vec![in rt.alloc(); 7u64, 8].expect(&rt, "granted");
     let (first, bar) = first_of(items, bar);
     same!(rt; first, Some(7));
@@ -140,7 +140,7 @@ fn all_items_of_a_list(rt: HostRuntime) {
 fn the_first_item_of_a_list_of_known_length(rt: HostRuntime) {
     let alloc = rt.alloc();
     let list = vec![in alloc; 1u64, 2, 3].expect(&rt, "granted");
-    let setup = setup_of(alloc).expect(&rt, "granted");
+    let setup = setup_of(&rt, alloc);
     let Some(mut wrapped) = list
         .into_iter()
         .try_progress(alloc, setup)
