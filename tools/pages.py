@@ -6,7 +6,8 @@ usage: tools/pages.py [--write]   (at the root of the repository)
 - Each row of a table of docs/TEMPLATES.md is one row of crates/rows/data/templates_page.txt, which `crates/rows` plays. Each key of
   crates/indicatif_bar/specs/Keys.antt has a row there, and each word of crates/indicatif_text/specs/StyleWords.antt stands on the page.
 - The README's program is that of crates/example_readme.
-- Each call, clause, law and file that a table of docs/PROVED.md names is there.
+- Each call, clause, law and file that a table of docs/PROVED.md names is there; so are the edit and the callers of each row of its table
+  of wrong bodies.
 - The same of docs/REFUSALS.md, which names each public call of the libraries: those of public types and traits, and free ones that a
   public path has. Of a trait's calls that a type makes it names those that answer a Result or an Option, with the trait or the type.
 - The table of refusals in docs/USING.md has the numbers and texts of crates/rows/data/refusals.txt, and all of them. Other pages that
@@ -210,6 +211,23 @@ def faults_of_proved():
     for cells, _, found, laws in rows_of(PROVED):
         for fault in faults_of_row(cells, found, laws):
             yield f"{PROVED}: {fault}"
+
+
+def faults_of_bodies():
+    """Whether each row of the table of wrong bodies names an edit that is kept, or goes on with the one above, and callers."""
+    edits = {path.stem for path in pathlib.Path("tools/edits").glob("*/*.edit")}
+    callers = {}
+    for path in pathlib.Path("crates/uses/src").glob("*.rt"):
+        for head in re.split(r"^(?=pub fn )", read(path), flags=re.M)[1:]:
+            callers[re.match(r"pub fn (\w+)", head)[1]] = {"", *re.findall(r"^ +ensures (\w+)", head, re.M)}
+    section = read(PROVED).partition("\n## Wrong bodies\n")[2].partition("\n## ")[0]
+    rows = [[cell.strip() for cell in line.strip("|").split("|")] for line in section.splitlines() if line.startswith("| ")]
+    for body, *_, named in rows[1:]:
+        if body and body.strip("`") not in edits:
+            yield f"{PROVED}: no edit {body} in tools/edits"
+        calls = re.findall(r"`(\w+)`(?:, clause `(\w+)`)?", named)
+        if not calls or any(clause not in callers.get(call, ()) for call, clause in calls):
+            yield f"{PROVED}: no such caller or clause in crates/uses: {named}"
 
 
 # What is left out of docs/REFUSALS.md: facts without a body of their own, and what prints (one sentence there is for all of it).
@@ -470,6 +488,7 @@ def words_of_sources():
             found |= {path.stem, *re.findall(r"\w+", path.read_text(encoding="utf-8", errors="replace"))}
     for path in [*filter(pathlib.Path.is_file, pathlib.Path("tools").iterdir()), pathlib.Path("crates.txt")]:
         found |= set(re.findall(r"\w+", read(path)))
+    found |= {path.stem for path in pathlib.Path("tools/edits").glob("*/*.edit")}
     return found
 
 
@@ -807,6 +826,7 @@ def main():
         faults.append("README.md has more than 90 lines")
     faults += faults_of_templates()
     faults += faults_of_proved()
+    faults += faults_of_bodies()
     faults += faults_of_refused()
     faults += faults_of_refusals()
     faults += faults_of_differences()

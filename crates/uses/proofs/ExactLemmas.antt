@@ -1,22 +1,23 @@
 -- What the answer of a clear, a log and a tick says of a lone bar or a board, and who leaves a board's order by a clear.
-use Rattle.std.proofs.Common.{◌≡◌, ℕ, List, [], ◌∷◌, ◌++◌, map, drop, Bool, true, false, refl, sym, ◌∙◌, ap, subst, inl, inr, Option, Some, Result, Ok, Err, if◌then◌else◌}
+use Rattle.std.proofs.Common.{◌≡◌, ℕ, List, [], ◌∷◌, ◌++◌, map, drop, Bool, true, false, refl, sym, ◌∙◌, ap, subst, inl, inr, Option, Some, None, Result, Ok, Err, if◌then◌else◌}
 use Rattle.std.specs.Prelude.{◌≢◌, ◌⊎◌, ◌==◌, ◌&&◌, ◌||◌, not, chars}
 use Rattle.std.proofs.lemmas.Bool.{cases_Bool, cond_both, false≢true, ne_eqb}
 use Rattle.std.proofs.lemmas.List.Folds.{list_any-append}
 use Rattle.indicatif_text.specs.Columns.{has_wide}
 use Rattle.indicatif_text.specs.declared.refusal.Refusal.{Refusal}
-use Rattle.indicatif_text.specs.declared.refusal.Refusal.TheVariants.{NoColumns, TooWide, Memory}
+use Rattle.indicatif_text.specs.declared.refusal.Refusal.TheVariants.{NoColumns, TooWide, Memory, ForeignBar, NotMember}
 use Rattle.indicatif_text.specs.declared.refusal.Drawn.{Drawn}
 use Rattle.indicatif_text.specs.declared.refusal.Drawn.TheVariants.{Yes, Limited, Hidden}
 use Rattle.indicatif_term.specs.Calls.{TermView}
 use Rattle.indicatif_term.specs.Frames.{all_lines, logged_lines, some_wide, text_lines}
 use Rattle.indicatif_term.specs.Engines.{is_failure}
 use Rattle.indicatif_bar.specs.declared.ask.Ask.{Ask}
-use Rattle.indicatif_bar.specs.declared.ask.Ask.TheVariants.{Unforced, Forced}
+use Rattle.indicatif_bar.specs.declared.ask.Ask.TheVariants.{No, Unforced, Forced}
 use Rattle.indicatif_bar.specs.Machines.{Target, target_of, Draw, Leads, is_no, comes_to_lines, drawn_by}
-use Rattle.indicatif_bar.specs.Kinds.{has_line}
+use Rattle.indicatif_term.specs.Limiters.{Limiter}
+use Rattle.indicatif_bar.specs.Kinds.{asked_of, has_line}
 use Rattle.indicatif_bar.specs.Runs.{wrote}
-use Rattle.indicatif_bar.specs.Says.{Decided, Says}
+use Rattle.indicatif_bar.specs.Says.{Decided, DecidedBy, Says}
 use Rattle.indicatif_bar.specs.Trackers.{Tracking}
 use Rattle.indicatif_bar.specs.Progress.{is_finished, is_hidden}
 use Rattle.indicatif_bar.specs.Commands.{BarRecord, TickerTick, obeyed}
@@ -25,9 +26,9 @@ use Rattle.indicatif_bar.specs.Bars.{bar_kind}
 use Rattle.indicatif_bar.specs.Lone.{LoneState, Obey, Log, Clear, draw_of_call, lone_frame}
 use Rattle.indicatif_bar.specs.LoneBars.{lone_bar}
 use Rattle.indicatif_board.specs.BoardBars.{board_bars}
-use Rattle.indicatif_board.specs.Boards.{BoardState, Clear as ClearBoard, says, drawn_of, drawn_of_said, draw_of, board}
+use Rattle.indicatif_board.specs.Boards.{BoardState, Id, Clear as ClearBoard, Tell, Refused, says, drawn_of, drawn_of_said, draw_of, draw_of_command, draws, or_refused, turned_away, board}
 use Rattle.indicatif_bar.specs.Kinds.{NoFrame}
-use Rattle.indicatif_board.specs.Members.{followers, order_of}
+use Rattle.indicatif_board.specs.Members.{Member, is_member, said_of, followers, order_of}
 
 -- no conjunction with a false side holds
 never_both : (a b : Bool) → b ≡ false → (a && b) ≡ true → ⊥
@@ -90,6 +91,52 @@ module _ {K : Type 0} (m : Tracking K) (now : ℕ) (s : LoneState (BarRecord K))
   unlimited w free e =
       let asked = is_asked (is_finished (obeyed m TickerTick s.bar now).0.progress) in
       elim ((w.decided (λ q. let z = sym e ∙ q in cc)).limited.0 e) [ inl unasked ↦ false≢true (sym asked ∙ unasked) | inr held ↦ false≢true (sym held.1 ∙ free) ]
+
+-- ---- a tick of a board's bar
+
+-- a bar that is a member is asked what it asks for, and not the default
+asked_there : (there owned rest : Bool) (its others : Ask) → is_no its ≡ false → (rest ≡ true → is_no others ≡ false) → (if there then owned else rest) ≡ true →
+    is_no (if there then its else others) ≡ false
+asked_there true owned rest its others one other e = one
+asked_there false owned rest its others one other e = other e
+
+-- without a limiter each draw is allowed
+is_free : (ask : Ask) (now : ℕ) (limiter : Option Limiter) → limiter ≡ None → (asked_of ask now limiter).0 ≡ true
+is_free No now limiter none = refl
+is_free Forced now limiter none = refl
+is_free Unforced now None none = refl
+is_free Unforced now (Some limiter) none = absurd (cc none)
+
+-- a bar that isn't turned away is a member
+is_there : (foreign there : Bool) → (if foreign then Some ForeignBar else if there then None else Some NotMember) ≡ None → there ≡ true
+is_there true there e = absurd (cc e)
+is_there false true e = refl
+is_there false false e = absurd (cc e)
+
+module _ {K : Type 0} (m : Tracking K) (board_id now : ℕ) (s : BoardState (BarRecord K)) (answer : Result Drawn Refusal) where
+  member_asks : (number : ℕ) (members : List (Member (BarRecord K))) → is_member number members ≡ true → is_no (said_of No (λ bar. (obeyed m TickerTick bar now).1) number members) ≡ false
+  member_asks number [] e = absurd (false≢true e)
+  member_asks number (x ∷ xs) e =
+      asked_there (x.number == number) (not x.dropped) (is_member number xs) (obeyed m TickerTick x.bar now).1 (said_of No (λ bar. (obeyed m TickerTick bar now).1) number xs)
+      (is_asked (is_finished (obeyed m TickerTick x.bar now).0.progress)) (member_asks number xs) e
+
+  -- a refusal isn't `Limited`
+  no_refusal : (e : Refusal) → says answer ≡ Refused e → answer ≡ Ok Limited → ⊥
+  no_refusal e w l = let q = sym (drawn_of_said answer) ∙ ap drawn_of w in let z = sym l ∙ q in cc
+
+  unlimited_draw : (target : Target) (away refused : Option Refusal) (d : Draw (BoardState (BarRecord K))) → (away ≡ None → is_no d.ask ≡ false) → d.allowed ≡ true →
+      DecidedBy (board (board_bars m) board_id) target (or_refused away (or_refused refused (draws d) s) s) (says answer) → answer ≡ Ok Limited → ⊥
+  unlimited_draw target (Some e) refused d asked free w l = no_refusal e w l
+  unlimited_draw target None (Some e) d asked free w l = no_refusal e w l
+  unlimited_draw target None None d asked free w l =
+      elim (w.limited.0 (drawn_of_said answer ∙ l)) [ inl unasked ↦ false≢true (sym (asked refl) ∙ unasked) | inr held ↦ false≢true (sym held.1 ∙ free) ]
+
+  pub unlimited_on : (id : Id) (old new : Option TermView) → Says (board (board_bars m) board_id) old new (Tell id TickerTick, now) s (says answer) → s.limiter ≡ None → answer ≡ Ok Limited → ⊥
+  unlimited_on id old new w free l =
+      let target = target_of old in
+      let d = draw_of_command (board_bars m) target id.number TickerTick now s in
+      unlimited_draw target (turned_away board_id id s) (said_of None (λ bar. (bar_kind m).refused TickerTick bar now) id.number s.members) d
+      (λ away. member_asks id.number s.members (is_there _ _ away)) (is_free d.ask now s.limiter free) (w.decided (λ q. let z = sym (drawn_of_said answer ∙ l) ∙ q in cc)) l
 
 -- ---- who leaves a board
 

@@ -85,6 +85,22 @@ pub fn tick_on<K: ProgressTracker, T: TermLike + Drop>(
     bar.ticker_tick(now)
 }
 
+/// A steady ticker's tick of a bar on a board that goes on at another terminal, without a limiter: it is never left out, though no
+/// draw is forced.
+pub fn tick_on_board<K: ProgressTracker, T: TermLike + Drop>(
+    board: &mut Board<K, T>,
+    id: BarId,
+    term: T,
+    now: Moment,
+) -> Result<Drawn, Refusal>
+    ensures { result ≢ Ok Drawn.Limited }
+{
+    let _in_some_state = board.order();
+    let _left = board.set_draw_target(ProgressDrawTarget::term_like(term));
+    what_a_board_answers::<K>();
+    board.command(id, BarCommand::TickerTick, now)
+}
+
 /// A command of a bar on a board. Each answer comes exactly where the definition of a call says, in a state that the board was in.
 pub fn tell_on<K: ProgressTracker, T: TermLike + Drop>(
     board: &mut Board<K, T>,

@@ -1,10 +1,12 @@
 //! Small callers of the libraries. Each is proved from the public contracts alone, which shows that these say enough.
 //!
 //! - `answers`: exact answers of a bar or a board that was lent.
-//! - `texts`: a line's rows, and an amount as text.
+//! - `texts`: a line's rows, an amount and a range as texts, and what is no template.
 //! - `drawings`: what a terminal shows after one drawing.
 //! - `runs`: what a terminal shows after a list of calls of a bar.
 //! - `boards`: what a terminal shows after a list of calls of a board.
+//! - `orders`: which bars stand in the order of a board.
+//! - `histories`: what a board's history holds of a call.
 //! - `fronts`: what is known of shared bars and boards, and of lists and pieces that threads work on.
 //! - `logs`: that a logged line stands, whatever is drawn after it.
 //! - `loops`: what a loop makes of the bar that shows its progress.
@@ -20,9 +22,11 @@ pub mod answers;
 pub mod boards;
 pub mod drawings;
 pub mod fronts;
+pub mod histories;
 pub mod lent;
 pub mod logs;
 pub mod loops;
+pub mod orders;
 pub mod plain;
 pub mod programs;
 pub mod runs;

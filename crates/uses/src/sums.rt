@@ -16,3 +16,14 @@ pub fn sum_of_two(alloc: Global, first: u64, second: u64) -> Result<u64, Refusal
     let whole = mine.join(theirs, &done);
     Ok(done.close(whole))
 }
+
+/// What the only worker of a sum reads once it added a number: that number, and not one more.
+pub fn read_back(alloc: Global, number: u64) -> Result<u64, Refusal>
+    ensures { IfOk result (λ read. read ≡ number) }
+{
+    let (done, mut worker) = Done::new(alloc)?;
+    worker.add(&done, number);
+    let read = worker.total(&done);
+    done.close(worker);
+    Ok(read)
+}
