@@ -1,9 +1,13 @@
 //! Shared bars with a key of one's own.
-use crate::documented_shared::bars::setup_of;
+use crate::documented_shared::bars::{InMemory, setup_of};
 use crate::keyed::{Left, Several};
-use indicatif::{MultiProgress, ProgressBar, ProgressStyle};
+use indicatif::{
+    InMemoryTerm, MultiProgress, ProgressBar, ProgressDrawTarget, ProgressStyle, Refusal, Setup,
+    StepClock,
+};
 use std::alloc::Global;
 use std::process::Abort;
+use std::sync::Wait;
 
 /// A template's style, with a key that tells how many of ten steps are left.
 fn style_of<R: Abort>(rt: &R, alloc: Global, template: &str) -> ProgressStyle<Left> {
@@ -21,12 +25,28 @@ fn a_bar_with_a_key(rt: HostRuntime) {
     same!(rt; bar.length(), Some(10));
 }
 
+fn setup(alloc: Global) -> Result<InMemory, Refusal> {
+    let term = InMemoryTerm::new(alloc, 4, 20)?;
+    Ok(Setup {
+        target: ProgressDrawTarget::term_like(term),
+        clock: StepClock { next: 0, step: 1 },
+    })
+}
+
+/// A board whose bars may have that key.
+fn board_of<R: Wait + Copy + Clone + Drop + Abort>(rt: R, alloc: Global) -> Several<R> {
+    let board: Several<R> = MultiProgress::keyed(
+        rt,
+        alloc,
+        setup(alloc).expect(&rt, "granted"),
+        1,
+    ).expect(&rt, "granted");
+    board
+}
+
 #[test]
 fn a_bar_with_a_key_on_a_board(rt: HostRuntime) {
-    let setup = setup_of(&rt, rt.alloc());
-    let board: Several<HostRuntime> = MultiProgress::keyed(rt, rt.alloc(), setup, 1).expect(
-        &rt, "granted",
-    );
+    let board = board_of(rt, rt.alloc());
     let style = style_of(&rt, rt.alloc(), "{left}");
     let bar = board
         .new_bar(10)
