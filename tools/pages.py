@@ -469,6 +469,7 @@ def words_of_sources():
             found |= {path.stem, *re.findall(r"\w+", path.read_text(encoding="utf-8", errors="replace"))}
     for path in [*filter(pathlib.Path.is_file, pathlib.Path("tools").iterdir()), pathlib.Path("crates.txt")]:
         found |= set(re.findall(r"\w+", read(path)))
+    found |= {path.stem for path in pathlib.Path("tools/edits").glob("*/*.edit")}
     return found
 
 

@@ -5,6 +5,7 @@
 //! - `drawings`: what a terminal shows after one drawing.
 //! - `runs`: what a terminal shows after a list of calls of a bar.
 //! - `boards`: what a terminal shows after a list of calls of a board.
+//! - `engines`: what engines show of fixed lines, and how often a limiter allows at once.
 //! - `fronts`: what is known of shared bars and boards, and of lists and pieces that threads work on.
 //! - `logs`: that a logged line stands, whatever is drawn after it.
 //! - `loops`: what a loop makes of the bar that shows its progress.
@@ -19,6 +20,7 @@
 pub mod answers;
 pub mod boards;
 pub mod drawings;
+pub mod engines;
 pub mod fronts;
 pub mod lent;
 pub mod logs;
