@@ -1,4 +1,5 @@
 mod CutLemmas
+mod EngineLemmas
 mod ExactLemmas
 mod LentLemmas
 mod LogLemmas

@@ -5,6 +5,7 @@
 //! - `drawings`: what a terminal shows after one drawing.
 //! - `runs`: what a terminal shows after a list of calls of a bar.
 //! - `boards`: what a terminal shows after a list of calls of a board.
+//! - `engines`: what engines show of fixed lines, and how often a limiter allows at once.
 //! - `orders`: which bars stand in the order of a board.
 //! - `histories`: what a board's history holds of a call.
 //! - `fronts`: what is known of shared bars and boards, and of lists and pieces that threads work on.
@@ -21,6 +22,7 @@
 pub mod answers;
 pub mod boards;
 pub mod drawings;
+pub mod engines;
 pub mod fronts;
 pub mod histories;
 pub mod lent;

@@ -1,0 +1,95 @@
+//! What engines show of fixed lines, also behind a failure; and how often a limiter allows at once.
+ghost use Rattle.std.specs.Prelude.{◌≡◌, ◌⊎◌, ◌++◌, ◌∷◌, [], ℕ, map, take, replicate, codes, false, IfOk, IfErr};
+ghost use Rattle.indicatif_term.specs.Calls.{State};
+ghost use Rattle.indicatif_term.specs.Engines.{Fits, engine_term};
+ghost use Rattle.indicatif_term.specs.Frames.{bar_lines};
+ghost use Rattle.indicatif_term.specs.Lists.{forgotten_lists, opening_lists};
+ghost use Rattle.indicatif_term.specs.Pictures.{picture_text, row_text};
+ghost use Rattle.indicatif_term.specs.Screen.{Screen};
+ghost use Rattle.indicatif_term.specs.Shows.{Rests};
+ghost use Rattle.indicatif_term.specs.Terminal.{Terminal, blank_terminal};
+
+use indicatif_term::draw_target::{Engine, Keep, MultiProgressAlignment, RateLimiter, Segment};
+use indicatif_term::in_memory::InMemoryTerm;
+use indicatif_term::laws::{a_new_terminal_is_an_opening, what_is_shown_is_read};
+use indicatif_term::term_like::TermLike;
+use indicatif_text::columns::Refusal;
+use std::io::ErrorKind;
+
+/// Logs `a.txt` above three lines on a new terminal of 4 rows and 5 columns, and draws two lines in their place. The second of these
+/// stands there already, fills its row and ends with a colour. Nothing is left of the other lines then.
+///
+/// Refused: `Memory`, also as the terminal's own failure.
+pub fn lines_in_place(
+    engine: &mut Engine<InMemoryTerm>,
+    first: &[Segment],
+    second: &[Segment],
+) -> Result<(), Refusal>
+    requires new { Fits engine.old opening_lists × ((engine_term engine.old).terminal ≡ blank_terminal 4 5) }
+    requires first { map bar_lines first.now
+        ≡ record { bar = 1; lines = codes "x" ∷ (codes "b.txt" ++ 0x1B ∷ codes "[0m") ∷ codes "z" ∷ [] } ∷ [] }
+    requires second { map bar_lines second.now
+        ≡ record { bar = 1; lines = codes "y" ∷ (codes "b.txt" ++ 0x1B ∷ codes "[0m") ∷ [] } ∷ [] }
+    ensures shown { IfOk result (λ _. (blank : ℕ) × (picture_text (engine_term engine.new).terminal.screen
+        ≡ codes "a.txt" ∷ codes "y" ∷ codes "b.txt" ∷ replicate blank [])) }
+    ensures refused { IfErr result (λ e. (e ≡ Refusal.Memory) ⊎ (e ≡ Refusal.Terminal ErrorKind.OutOfMemory)) }
+{
+    a_new_terminal_is_an_opening();
+    what_is_shown_is_read();
+    engine.log("a.txt", first, MultiProgressAlignment::Top)?;
+    engine.draw(second, 0, MultiProgressAlignment::Top)
+}
+
+/// Two bars at the bottom of a new terminal of 4 rows and 5 columns. The second is dropped while the first stands above it, and the first
+/// once it stands alone below two blank rows; then two more rows let one of these scroll away. It stays above `a.txt`, and nothing else
+/// does. Answers what became of the second bar's rows.
+pub fn rows_of_gone_bars(
+    engine: &mut Engine<InMemoryTerm>,
+    both: &[Segment],
+    first: &[Segment],
+    second: &[Segment],
+) -> Result<Keep, Refusal>
+    requires new { Fits engine.old opening_lists × ((engine_term engine.old).terminal ≡ blank_terminal 4 5) }
+    requires both { map bar_lines both.now
+        ≡ record { bar = 2; lines = codes "b" ∷ [] } ∷ record { bar = 1; lines = codes "x" ∷ codes "y" ∷ [] } ∷ [] }
+    requires first { map bar_lines first.now ≡ record { bar = 2; lines = codes "b" ∷ [] } ∷ [] }
+    requires second { map bar_lines second.now ≡ record { bar = 1; lines = codes "x" ∷ codes "y" ∷ [] } ∷ [] }
+    ensures { IfOk result (λ fate. (fate ≡ Keep.Behind) × (blank : ℕ) × (picture_text (engine_term engine.new).terminal.screen
+        ≡ [] ∷ codes "a.txt" ∷ [] ∷ [] ∷ codes "b" ∷ replicate blank [])) }
+{
+    a_new_terminal_is_an_opening();
+    what_is_shown_is_read();
+    engine.draw(both, 0, MultiProgressAlignment::Bottom)?;
+    let fate = engine.keep(1);
+    engine.draw(first, 0, MultiProgressAlignment::Bottom)?;
+    let _passed = engine.keep(2);
+    engine.draw(second, 0, MultiProgressAlignment::Bottom)?;
+    engine.log("a.txt", first, MultiProgressAlignment::Bottom)?;
+    Ok(fate)
+}
+
+/// Logs a name on a terminal of 4 rows and 10 columns that has failed. Where the end of a line and an emptied row lead it to an opening,
+/// the name stands on that row, and what stood above still does.
+pub fn name_behind_a_failure<T: TermLike + Drop>(engine: &mut Engine<T>) -> Result<(), Refusal>
+    requires failed { Fits engine.old forgotten_lists }
+    requires columns { (T.view (engine_term engine.old)).columns ≡ 10 }
+    requires rows { (T.view (engine_term engine.old)).rows ≡ 4 }
+    ensures { IfOk result (λ _. (opening : Screen) (t : Terminal) →
+        (T.view (engine_term engine.old)).told ≡ State t → Rests 10 4 opening forgotten_lists t →
+        (next : Terminal) × (blank : ℕ) × ((T.view (engine_term engine.new)).told ≡ State next)
+        × (picture_text next.screen ≡ map row_text (take opening.row opening.rows) ++ codes "a.txt" ∷ replicate blank [])) }
+{
+    what_is_shown_is_read();
+    engine.log("a.txt", &[], MultiProgressAlignment::Top)
+}
+
+/// Whether a limiter of 20 draws a second allows one more at the moment of its making, after 20: it doesn't.
+pub fn one_too_many() -> Result<bool, Refusal>
+    ensures { IfOk result (λ allowed. allowed ≡ false) }
+{
+    let mut limiter = RateLimiter::new(20, 0)?;
+    for _ in 0..20_u8 {
+        let _allowed = limiter.allow(0);
+    }
+    Ok(limiter.allow(0))
+}
