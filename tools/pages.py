@@ -214,7 +214,7 @@ def faults_of_proved():
 
 
 def faults_of_bodies():
-    """Whether each row of the table of wrong bodies names an edit that is kept, or goes on with the one above, and callers."""
+    """Whether each row of the tables of wrong bodies names an edit that is kept, or goes on with the one above, and callers."""
     edits = {path.stem for path in pathlib.Path("tools/edits").glob("*/*.edit")}
     callers = {}
     for path in pathlib.Path("crates/uses/src").glob("*.rt"):
@@ -222,7 +222,9 @@ def faults_of_bodies():
             callers[re.match(r"pub fn (\w+)", head)[1]] = {"", *re.findall(r"^ +ensures (\w+)", head, re.M)}
     section = read(PROVED).partition("\n## Wrong bodies\n")[2].partition("\n## ")[0]
     rows = [[cell.strip() for cell in line.strip("|").split("|")] for line in section.splitlines() if line.startswith("| ")]
-    for body, *_, named in rows[1:]:
+    for body, *_, named in rows:
+        if body == "Wrong body":
+            continue
         if body and body.strip("`") not in edits:
             yield f"{PROVED}: no edit {body} in tools/edits"
         calls = re.findall(r"`(\w+)`(?:, clause `(\w+)`)?", named)
