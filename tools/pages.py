@@ -25,7 +25,8 @@ usage: tools/pages.py [--write]   (at the root of the repository)
 - An indented block is one of these, lines of crates.txt, or commands. A line `$ printf 'LINES' | .. run ROWS COLS` is a row of
   crates/rows/data/program.txt, which gives the lines below it.
 - The lines of each example in a documentation comment of the libraries stand in one file of a program or a test that the gate runs: an
-  `assert_eq!(a, b)` as that or as `a == b`, an `assert!(a)` as that or as `a`; `{ .. }` stands for any block.
+  `assert_eq!(a, b)` as that, as `same!(rt; a, b)` or as `a == b`, an `assert!(a)` as that, as `holds!(rt; a)` or as `a`, an
+  `assert!(a == b)` also as `same!(rt; a, b)`, a `?` as that or as `.expect(&rt, "granted")`; `{ .. }` stands for any block.
 - What isn't compared here: blocks of `rust` (the Rust crate's code) and of `diagram`, other commands, and those of `gallery`, which
   have a picture that tools/gallery.sh compares.
 
@@ -718,10 +719,23 @@ def examples(text):
 
 
 def without_space(text):
-    """Code without comments, white space, and commas before a bracket; asserts without the runtime."""
+    """Code without comments, white space, and commas before a bracket; asserts without the runtime; a test's checks as asserts and `?`."""
     text = re.sub(r"(^|\s)//.*$", "", text, flags=re.M)
-    text = re.sub(r"(assert(?:_eq)?!\()rt;", r"\1", text)
-    return re.sub(r",([)\]}])", r"\1", re.sub(r"\s+", "", text))
+    text = re.sub(r",([)\]}])", r"\1", re.sub(r"\s+", "", text))
+    text = re.sub(r'\.expect\(&?rt,"granted"\)', "?", text)
+    text = re.sub(r"\bsame!\(\*?rt;", "assert_eq!(", text)
+    text = re.sub(r"\bholds!\(\*?rt;", "assert!(", text)
+    return re.sub(r"(assert(?:_eq)?!\()rt;", r"\1", text)
+
+
+def split_at(text, separator):
+    """The text before and behind the last separator that stands in no bracket, or None."""
+    depth, found = 0, None
+    for at, char in enumerate(text):
+        depth += (char in "([{") - (char in ")]}")
+        if depth == 0 and text.startswith(separator, at):
+            found = text[:at], text[at + len(separator) :]
+    return found
 
 
 def statements(block):
@@ -744,15 +758,15 @@ def spellings(statement):
     """The ways in which code may have a statement."""
     yield statement
     equal = re.fullmatch(r"assert_eq!\((.*)\)", statement)
-    if equal:
-        depth, cut = 0, 0
-        for at, char in enumerate(equal[1]):
-            depth += (char in "([{") - (char in ")]}")
-            cut = at if char == "," and depth == 0 else cut
-        yield equal[1][:cut] + "==" + equal[1][cut + 1 :]
+    sides = split_at(equal[1], ",") if equal else None
+    if sides:
+        yield "==".join(sides)
     holds = re.fullmatch(r"assert!\((.*)\)", statement)
     if holds:
         yield holds[1]
+    sides = split_at(holds[1], "==") if holds else None
+    if sides:
+        yield "assert_eq!({},{})".format(*sides)
 
 
 def is_in(statement, code):
