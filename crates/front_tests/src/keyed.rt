@@ -3,11 +3,11 @@
 ghost use Rattle.std.specs.Prelude.{◌-◌, decimal};
 ghost use Rattle.indicatif_bar.specs.Trackers.{telling};
 
-use crate::fronts::{bar_shows, board_shows, contents, setup};
+use crate::fronts::{bar_shows, board_shows, contents, target};
 use indicatif::style::ProgressTracker;
 use indicatif::{
     InMemoryTerm, Moment, MultiProgress, ProgressBar, ProgressIterator, ProgressState,
-    ProgressStyle, Refusal, StepClock,
+    ProgressStyle, Refusal, Setup, StepClock,
 };
 use std::alloc::Global;
 use std::process::Abort;
@@ -46,6 +46,13 @@ type Keyed<R> = ProgressBar<InMemoryTerm, StepClock, R, Left>;
 /// A board of such bars.
 pub type Several<R> = MultiProgress<InMemoryTerm, StepClock, R, Left>;
 
+fn setup(alloc: Global) -> Result<Setup<InMemoryTerm, StepClock>, Refusal> {
+    Ok(Setup {
+        target: target(alloc)?,
+        clock: StepClock { next: 0, step: 1 },
+    })
+}
+
 /// A style that shows a message, and how many of ten steps are left.
 fn style(alloc: Global) -> Result<ProgressStyle<Left>, Refusal> {
     let left = Left { alloc, of: 10 };
@@ -53,9 +60,9 @@ fn style(alloc: Global) -> Result<ProgressStyle<Left>, Refusal> {
 }
 
 fn files<R: Wait + Copy + Clone + Drop + Abort>(rt: R, alloc: Global) -> Keyed<R> {
+    let setup = setup(alloc).expect(&rt, "granted");
     let style = style(alloc).expect(&rt, "granted");
-    let bar = ProgressBar::styled(rt, alloc, style, Some(10), setup(&rt, alloc, 10));
-    let bar = bar.expect(&rt, "granted");
+    let bar = ProgressBar::styled(rt, alloc, style, Some(10), setup).expect(&rt, "granted");
     bar.with_message("files").expect(&rt, "granted")
 }
 
@@ -103,16 +110,24 @@ fn made_by<R: Wait + Copy + Clone + Drop + Abort>(
     bar.with_message("a").expect(&rt, "granted")
 }
 
-/// The second of a board's two bars has moved by 2.
-#[test]
-fn on_a_board(rt: HostRuntime) {
-    let alloc = rt.alloc();
-    let board = MultiProgress::keyed(rt, alloc, setup(&rt, alloc, 10), 1).expect(&rt, "granted");
+/// The second of a board's two bars moves by 2.
+fn shows_two<R: Wait + Copy + Clone + Drop + Abort>(rt: R, alloc: Global) {
+    let board: Several<R> = MultiProgress::keyed(
+        rt,
+        alloc,
+        setup(alloc).expect(&rt, "granted"),
+        1,
+    ).expect(&rt, "granted");
     let first = made_by(&board, rt, alloc);
     let second = board.add(files(rt, alloc)).expect(&rt, "granted");
     holds!(rt; first.tick().is_ok());
     holds!(rt; second.inc(2).is_ok());
     board_shows(&rt, &board, "a 10\nfiles 8");
+}
+
+#[test]
+fn on_a_board(rt: HostRuntime) {
+    shows_two(rt, rt.alloc());
 }
 
 /// A loop over three items, with a bar of its own in that style.
@@ -122,8 +137,9 @@ fn in_a_loop(rt: HostRuntime) {
     let items = vec![in alloc; 1u32, 2, 3]
         .expect(&rt, "granted")
         .into_iter();
+    let setup = setup(alloc).expect(&rt, "granted");
     let style = style(alloc).expect(&rt, "granted");
-    let wrapped = items.progress_with_style(alloc, style, setup(&rt, alloc, 10));
+    let wrapped = items.progress_with_style(alloc, style, setup);
     let mut wrapped = Box::new(alloc, wrapped.expect(&rt, "granted")).expect(&rt, "granted");
     let _ = wrapped.next();
     let _ = wrapped.next();
