@@ -149,8 +149,8 @@ fn templates(rt: HostRuntime) {
     same!(rt; Template::parse(alloc, "{{x}}").expect(&rt, "granted").part_count(), 1);
     let lines = Template::parse(alloc, "a\nb").expect(&rt, "granted");
     same!(rt; lines.part_count(), 3);
-    same!(rt; lines.part(2), Some(Part::Literal("b")));
-    same!(rt; lines.parts().next(), Some(Part::Literal("a")));
+    holds!(rt; lines.part(2) == Some(Part::Literal("b")));
+    holds!(rt; lines.parts().next() == Some(Part::Literal("a")));
     same!(rt; lines.parts().count(), 3);
     same!(rt; Template::of_bar(alloc).expect(&rt, "granted").part_count(), 5);
     same!(rt; Template::of_spinner(alloc).expect(&rt, "granted").part_count(), 3);

@@ -1,5 +1,6 @@
 //! Each command of a bar by its name, beside the same as a value: they answer the same and leave the same. What they answer and leave
 //! stands in rows.
+use crate::checks::{are_same, is_so};
 use indicatif_bar::lone::{LoneBar, LoneCall};
 use indicatif_bar::state::{Ask, BarState, Change};
 use indicatif_bar::style::NoTracker;
@@ -91,21 +92,18 @@ fn apply(bar: &mut Bar, text: &str, alloc: Global) -> Result<Ask, Bad> {
     Ok(bar.apply(command, 0)?)
 }
 
-/// What two bars have reached, and say, is the same.
-fn are_same(rt: &impl Abort, text: &str, (one, other): (&Bar, &Bar)) {
-    same!(*rt; (text, reached(one)), (text, reached(other)));
-    same!(*rt; (text, said(one)), (text, said(other)));
+/// Behind this command two bars have reached the same, and say the same.
+fn are_alike(rt: &impl Abort, text: &str, one: &Bar, other: &Bar) {
+    are_same(rt, text, reached(one), reached(other));
+    are_same(rt, text, one.message(), other.message());
+    are_same(rt, text, one.prefix(), other.prefix());
+    are_same(rt, text, one.tab_width(), other.tab_width());
 }
 
 /// What a bar has reached: position, length, ticks, and whether it has ended.
 fn reached(bar: &Bar) -> (u64, Option<u64>, u64, bool) {
     let state = bar.state();
     (state.pos(), state.len(), state.ticks(), state.is_finished())
-}
-
-/// What a bar says: message, prefix, and spaces for a tab.
-fn said(bar: &Bar) -> (&str, &str, usize) {
-    (bar.message(), bar.prefix(), bar.tab_width())
 }
 
 /// Whether two answers are the same.
@@ -122,8 +120,8 @@ fn leaves_the_same(rt: &impl Abort, at: At, text: &str) {
     let mut called = half(rt, at);
     let mut told = half(rt, at);
     let asked = agreed(obey(&mut called, text), apply(&mut told, text, at.alloc));
-    same!(*rt; (text, asked), (text, true));
-    are_same(rt, text, (&called, &told));
+    is_so(rt, text, asked);
+    are_alike(rt, text, &called, &told);
 }
 
 /// All commands pass a check.
@@ -244,9 +242,9 @@ fn draws_the_same(rt: &impl Abort, at: At, text: &str) {
     let mut called = shown_half(rt, at);
     let mut told = shown_half(rt, at);
     let drawn = agreed(draw(&mut called, text), call(&mut told, text, at.alloc));
-    same!(*rt; (text, drawn), (text, true));
-    are_same(rt, text, (record(&called), record(&told)));
-    same!(*rt; contents(rt, &called), contents(rt, &told));
+    is_so(rt, text, drawn);
+    are_alike(rt, text, record(&called), record(&told));
+    are_same(rt, text, contents(rt, &called), contents(rt, &told));
 }
 
 #[test]
