@@ -7,7 +7,7 @@ ghost use Rattle.bars_run.specs.Arguments.{is_number, number_below, size_spelled
 use indicatif_term::draw_target::MultiProgressAlignment;
 
 /// A terminal's size.
-#[derive(Clone, Copy, Debug, Drop, PartialEq, Eq)]
+#[derive(Clone, Copy, Drop)]
 pub struct Size {
     pub rows: u16,
     pub columns: u16,
@@ -25,7 +25,7 @@ impl Size {
 }
 
 /// A terminal's size, and where bars stand in what is taken back.
-#[derive(Clone, Copy, Debug, Drop, PartialEq, Eq)]
+#[derive(Clone, Copy, Drop)]
 pub struct Asked {
     pub size: Size,
     pub alignment: MultiProgressAlignment,

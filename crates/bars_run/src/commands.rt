@@ -7,7 +7,7 @@ use crate::arguments::{Size, is_digits};
 use std::str;
 
 /// A command of a line.
-#[derive(Clone, Copy, Debug, Drop, PartialEq, Eq)]
+#[derive(Clone, Copy, Drop)]
 pub enum Command<'a> {
     /// A bar that says this.
     Add(&'a str),
@@ -24,7 +24,7 @@ pub enum Command<'a> {
 }
 
 /// What is done to a bar.
-#[derive(Clone, Copy, Debug, Drop, PartialEq, Eq)]
+#[derive(Clone, Copy, Drop)]
 pub enum BarAction<'a> {
     /// It says this from now on.
     Message(&'a str),

@@ -16,7 +16,7 @@ const USAGE: &str = "usage: bars demo | bars run ROWS COLS [bottom]";
 /// assert_eq!(fault.to_string(alloc)?.as_str(), "bars: line 4: E9");
 /// assert_eq!(fault.status(), 1);
 /// ```
-#[derive(Clone, Copy, Debug, Drop, PartialEq, Eq)]
+#[derive(Clone, Copy, Drop)]
 pub enum Fault {
     /// Arguments that ask for nothing.
     Usage,

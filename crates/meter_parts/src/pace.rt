@@ -9,7 +9,7 @@ ghost use Rattle.meter_parts.specs.Pace.{piece_of, due_after};
 /// let mut pace = Pace::new(1000);
 /// pace.went(100, 0); // due after a tenth of a second
 /// ```
-#[derive(Clone, Copy, Debug, Drop)]
+#[derive(Clone, Copy, Drop)]
 pub struct Pace {
     rate: u64,
     due: u64,

@@ -8,7 +8,7 @@ ghost use Rattle.meter_parts.specs.Inside.Reads.{PassedSome};
 use std::io::{Error, ErrorKind, Read, Result as IoResult, Write};
 
 /// Where bytes that were handed on broke off.
-#[derive(Clone, Copy, Debug, Drop)]
+#[derive(Clone, Copy, Drop)]
 pub enum Broken {
     /// The input failed.
     Input(Error),

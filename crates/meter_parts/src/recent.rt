@@ -3,7 +3,7 @@ ghost use Rattle.std.specs.Prelude.{◌≡◌, ◌≤◌, ◌-◌, ◌+◌, ◌*
 ghost use Rattle.meter_parts.specs.Recent.{Samples, samples_after, rate_of, time_of};
 
 /// How much was done by a moment, in nanoseconds.
-#[derive(Clone, Copy, Debug, Drop, PartialEq, Eq)]
+#[derive(Clone, Copy, Drop)]
 pub struct Done {
     /// Bytes, or lines.
     pub count: u64,
@@ -20,7 +20,7 @@ pub struct Done {
 /// recent.went_on(now);
 /// recent.rate(now); // 3,000 a second
 /// ```
-#[derive(Clone, Copy, Debug, Drop)]
+#[derive(Clone, Copy, Drop)]
 pub struct Recent {
     /// From where the rate is counted.
     older: Done,

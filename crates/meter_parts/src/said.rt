@@ -64,7 +64,7 @@ pub fn lines_in(bytes: &[u8]) -> u64 {
 }
 
 /// A time of day, from its seconds: `14:05:09`. The options of a hole, as a width, are ignored.
-#[derive(Clone, Copy, Debug, Drop, PartialEq, Eq)]
+#[derive(Clone, Copy, Drop)]
 pub struct TimeOfDay(pub u64);
 
 impl Display for TimeOfDay {

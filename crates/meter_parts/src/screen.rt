@@ -8,7 +8,7 @@ use indicatif_text::columns::{Piece, columns, pieces, width};
 use std::io;
 
 /// One of several rows, on each of which another program draws: the number of the row, from 1, and how many there are.
-#[derive(Clone, Copy, Debug, Drop, PartialEq, Eq)]
+#[derive(Clone, Copy, Drop)]
 pub struct Row {
     number: u16,
     of: u16,

@@ -17,7 +17,9 @@ pub fn suspend(
 ) -> Result<(), Bad> {
     let text = unescaped(at.alloc, text)?;
     let (written, drawn) = suspended(board, screen.clone()?, text, at.now);
-    written.map_err(|_| Bad::Step)?;
+    if written.is_err() {
+        return Err(Bad::Step);
+    }
     got.answer(drawn);
     Ok(())
 }
