@@ -3,7 +3,6 @@ use crate::gates::{Open, Roll, Together, Turnstile, Waves};
 use crate::stepped::bar_at;
 use indicatif::{Refusal, run_workers_with};
 use std::alloc::Global;
-use std::fmt::Debug;
 use std::process::Abort;
 use std::sync::atomic::{AtomicU64, Ordering};
 use std::thread::Threads;
@@ -164,7 +163,9 @@ fn six_hundred_pieces(rt: HostRuntime) {
     )
     .expect(&rt, "granted");
     same!(rt; made.len(), 600);
-    each_answers(&rt, made.as_slice(), 2u32);
+    for answers in made.iter() {
+        same!(rt; answers.as_slice(), [2, 2].as_slice());
+    }
     same!(rt; bar.steps.as_slice(), [1200].as_slice());
     same!(rt; gate.passed.load(Ordering::SeqCst), 600);
     same!(rt; gate.early.load(Ordering::SeqCst), 0);
@@ -178,13 +179,6 @@ fn numbered<R: Abort>(rt: &R, alloc: Global, count: u32) -> Vec<Vec<u32>> {
         pieces.push(piece).expect(rt, "granted");
     }
     pieces
-}
-
-/// Each piece has this answer twice.
-fn each_answers<R: Abort, A: PartialEq + Debug + Copy + Drop>(rt: &R, made: &[Vec<A>], answer: A) {
-    for answers in made {
-        same!(rt; answers.as_slice(), [answer, answer].as_slice());
-    }
 }
 
 /// Each of three hundred pieces has passed the gate, by its own number and once, before its first item is met.
@@ -203,5 +197,7 @@ fn each_piece_passes_before_its_items(rt: HostRuntime) {
     )
     .expect(&rt, "granted");
     same!(rt; made.len(), 300);
-    each_answers(&rt, made.as_slice(), 1u64);
+    for answers in made.iter() {
+        same!(rt; answers.as_slice(), [1, 1].as_slice());
+    }
 }
