@@ -1,5 +1,5 @@
 //! What a board's history holds of a call.
-ghost use Rattle.std.specs.Prelude.{◌≡◌, ◌+◌, ◌%◌, ◌^◌, ◌⊎◌, Some, Err, IfOk};
+ghost use Rattle.std.specs.Prelude.{◌≡◌, ◌+◌, ◌%◌, ◌^◌, ◌⊎◌, ◌≢◌, Some, IfOk};
 ghost use Rattle.indicatif_bar.specs.Commands.{BarRecord};
 ghost use Rattle.indicatif_board.specs.Multi.{board_id_of, record_at};
 
@@ -25,6 +25,17 @@ pub fn kept_of_a_clear(alloc: Global) -> Result<usize, Refusal>
         Answer::Refused(refusal) => Err(refusal),
         _ => Ok(history.entries().len()),
     }
+}
+
+/// Takes the rows of a board with a history back. The board makes the call itself: so that is answered as a draw is, and never by `Done`.
+pub fn answer_of_a_clear<K: ProgressTracker, T: TermLike + Drop>(
+    history: &mut Recorded<K, T>,
+    now: Moment,
+) -> Answer
+    ensures { result ≢ Answer.Done }
+{
+    history.replays();
+    history.apply(Call::Clear, now).0
 }
 
 /// One more step of a bar on a board with a history. The board makes the call that it keeps, or memory was refused and nothing has
