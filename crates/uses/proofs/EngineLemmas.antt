@@ -83,7 +83,8 @@ stands_kept w h bar l e e' s same fits rests = record {
 
 -- what is read of it, once what the lists' rows read is known
 pub stands_read : (w h : ℕ) (l : Lists) (e : Engine MemoryTerm) (texts : List (List ℕ)) →
-    ((w h : ℕ) (opening : Screen) (l : Lists) (t : Terminal) → Shows w h opening l t → (blank : ℕ) × (picture_text t.screen ≡ map row_text (take opening.row opening.rows ++ all_rows w l) ++ replicate blank [])) →
+    ((w h : ℕ) (opening : Screen) (l : Lists) (t : Terminal) → Shows w h opening l t →
+    (blank : ℕ) × (picture_text t.screen ≡ map row_text (take opening.row opening.rows ++ all_rows w l) ++ replicate blank [])) →
     l.failed ≡ false → map row_text (all_rows w l) ≡ texts → Stands w h l e → (blank : ℕ) × (picture_text (engine_term e).terminal.screen ≡ texts ++ replicate blank [])
 stands_read w h l e texts law sound reads s =
     let read = law w h (blank_screen h w) l (engine_term e).terminal (s.rests.shows sound) in
@@ -213,7 +214,8 @@ name_read = refl
 -- a name logged behind a failure is read below the rows that stand
 pub name_behind : (v v' : TermView) (result : Result Unit Refusal) → v.columns ≡ 10 → v.rows ≡ 4 → Counted v v' result →
     Paints v v' (is_failure result) forgotten_lists (lists_after result forgotten_lists (logged v.columns v.rows false name [] forgotten_lists)) →
-    ((w h : ℕ) (opening : Screen) (l : Lists) (t : Terminal) → Shows w h opening l t → (blank : ℕ) × (picture_text t.screen ≡ map row_text (take opening.row opening.rows ++ all_rows w l) ++ replicate blank [])) →
+    ((w h : ℕ) (opening : Screen) (l : Lists) (t : Terminal) → Shows w h opening l t →
+    (blank : ℕ) × (picture_text t.screen ≡ map row_text (take opening.row opening.rows ++ all_rows w l) ++ replicate blank [])) →
     IfOk result (λ _. (opening : Screen) (t : Terminal) → v.told ≡ State t → Rests 10 4 opening forgotten_lists t →
     (next : Terminal) × (blank : ℕ) × (v'.told ≡ State next) × (picture_text next.screen ≡ map row_text (take opening.row opening.rows) ++ codes "a.txt" ∷ replicate blank []))
 name_behind v v' (Err e) columns rows counted paints law = tt
