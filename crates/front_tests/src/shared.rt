@@ -165,10 +165,15 @@ fn reads_all<T: Read, R: Wait + Clone + Drop>(
     Ok(sum)
 }
 
+/// 20,000 bytes. (They are made apart: an array of so many in the test itself is more than a check can hold.)
+fn many_bytes<R: Abort>(rt: &R, alloc: Global) -> Vec<u8> {
+    vec![in alloc; 7u8; 20_000].expect(rt, "granted")
+}
+
 /// Two threads read 20,000 bytes each through wrappers of one bar, which stands at 40,000 then.
 #[test]
 fn two_readers_of_one_bar_lose_no_byte(rt: HostRuntime) {
-    let bytes = [7u8; 20_000];
+    let bytes = many_bytes(&rt, rt.alloc());
     let bar = bar_on(rt, rt.alloc());
     let mut one = bar.wrap_read(bytes.as_slice()).expect(&rt, "granted");
     let mut other = bar.wrap_read(bytes.as_slice()).expect(&rt, "granted");
