@@ -4,7 +4,7 @@ use scripts::judged::judge::Finding;
 use std::alloc::{AllocError, AllocFailed};
 
 /// What doesn't hold of a run.
-#[derive(Clone, Copy, Debug, Drop, PartialEq, Eq)]
+#[derive(Clone, Copy, Debug, Drop)]
 pub enum Law {
     /// The same bytes give the same cells, however they are cut.
     Cut,
