@@ -62,11 +62,7 @@ fn notes_of(alloc: Global) -> Result<Notes, Finding> {
 }
 
 /// Plays a script, and notes what its calls do; whether there was memory for what plays it.
-fn note<R: Runs>(
-    stages: &Players<R>,
-    record: &Rc<Record>,
-    notes: &mut Notes,
-) -> Result<bool, Finding> {
+fn note<M: Stages>(stages: &M, record: &Rc<Record>, notes: &mut Notes) -> Result<bool, Finding> {
     let mut stage = match stages.on(record) {
         Ok(stage) => stage,
         Err(Refusal::Memory) => return Ok(false),
@@ -77,8 +73,7 @@ fn note<R: Runs>(
 }
 
 /// Plays a script, and judges it; once more where the judge finds no memory.
-fn played_by<R: Runs>(stages: &Players<R>, playing: Playing) -> Result<Where, Finding> {
-    let alloc = stages.rt.alloc();
+fn played_by<M: Stages>(alloc: Global, stages: &M, playing: Playing) -> Result<Where, Finding> {
     let record = record_of(alloc, room(playing.growing))?;
     let mut notes = notes_of(alloc)?;
     if !note(stages, &record, &mut notes)? {
@@ -122,7 +117,10 @@ pub const PLAYED: [(&str, Played); 7] = [
 pub fn found<R: Runs>(rt: R, played: Played, playing: Playing) -> Result<Where, Finding> {
     let size = playing.size;
     match played {
-        Played::Script(kind) => played_by(&Players { rt, kind, size }, playing),
+        Played::Script(kind) => {
+            let alloc = rt.alloc();
+            played_by(alloc, &Players { rt, kind, size }, playing)
+        }
         Played::Program => printing::refused(rt.alloc()),
     }
 }
