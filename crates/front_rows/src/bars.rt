@@ -43,7 +43,8 @@ impl Room {
         }
     }
 
-    fn setup(self, alloc: Global) -> Result<Setup<InMemoryTerm, RowClock>, Refusal> {
+    /// The same with a clock.
+    pub fn setup(self, alloc: Global) -> Result<Setup<InMemoryTerm, RowClock>, Refusal> {
         Ok(Setup {
             target: self.target(alloc)?,
             clock: self.clock,
@@ -52,7 +53,7 @@ impl Room {
 }
 
 /// What bars and boards are made with.
-#[derive(Clone, Copy, Drop)]
+#[derive(Drop)]
 pub struct Maker<R> {
     pub rt: R,
     pub alloc: Global,
@@ -61,24 +62,24 @@ pub struct Maker<R> {
 
 impl<R: Wait + Copy + Clone + Drop> Maker<R> {
     /// A board of this id that keeps no history.
-    pub fn board(self, board_id: u64) -> Result<Shared<R>, Refusal> {
+    pub fn board(&self, board_id: u64) -> Result<Shared<R>, Refusal> {
         let setup = self.room.setup(self.alloc)?;
         MultiProgress::new(self.rt, self.alloc, setup, board_id)
     }
 
     /// A board of this id that keeps its history.
-    pub fn recorded(self, board_id: u64) -> Result<Shared<R>, Refusal> {
+    pub fn recorded(&self, board_id: u64) -> Result<Shared<R>, Refusal> {
         let target = self.room.target(self.alloc)?;
         MultiProgress::recorded(self.rt, self.alloc, target, self.room.clock, board_id)
     }
 
     /// A bar of this length in the style of a template.
-    pub fn bar(self, len: Option<u64>, template: &str) -> Result<Bar<R>, Refusal> {
+    pub fn bar(&self, len: Option<u64>, template: &str) -> Result<Bar<R>, Refusal> {
         let style = ProgressStyle::with_template(self.alloc, template)?;
         self.plain(len)?.with_style(style)
     }
 
-    fn plain(self, len: Option<u64>) -> Result<Bar<R>, Refusal> {
+    fn plain(&self, len: Option<u64>) -> Result<Bar<R>, Refusal> {
         let setup = self.room.setup(self.alloc)?;
         match len {
             Some(len) => ProgressBar::new(self.rt, self.alloc, len, setup),
@@ -87,12 +88,12 @@ impl<R: Wait + Copy + Clone + Drop> Maker<R> {
     }
 
     /// A bar whose one line is its message, this text.
-    pub fn saying(self, text: &str) -> Result<Bar<R>, Refusal> {
+    pub fn saying(&self, text: &str) -> Result<Bar<R>, Refusal> {
         self.bar(None, "{msg}")?.with_message(text)
     }
 
     /// A bar that is hidden.
-    pub fn hidden(self) -> Result<Bar<R>, Refusal> {
+    pub fn hidden(&self) -> Result<Bar<R>, Refusal> {
         ProgressBar::hidden(self.rt, self.alloc, self.room.clock)
     }
 }
@@ -111,7 +112,7 @@ fn contents(term: Option<&InMemoryTerm>) -> Result<Option<String>, Refusal> {
 
 /// What stands on a bar's terminal; `nothing` where it has none.
 pub fn push_bar<R: Wait + Copy + Clone + Drop>(bar: &Bar<R>, got: &mut Got) -> Result<(), Bad> {
-    push_contents(bar.with_term(|term| contents(term)), got)
+    push_contents(bar.with_term(contents), got)
 }
 
 /// The same of a board.
@@ -119,7 +120,7 @@ pub fn push_board<R: Wait + Copy + Clone + Drop>(
     board: &Shared<R>,
     got: &mut Got,
 ) -> Result<(), Bad> {
-    push_contents(board.with_term(|term| contents(term)), got)
+    push_contents(board.with_term(contents), got)
 }
 
 fn push_contents(contents: Result<Option<String>, Refusal>, got: &mut Got) -> Result<(), Bad> {

@@ -9,10 +9,10 @@ use crate::bars::{Bar, Room, Target, spinner};
 use crate::clock::RowClock;
 use crate::fronts::room_of;
 use crate::history::{rows_of, same_rows};
-use crate::tell::{Told, tell};
+use crate::tell::{Told, further, tell};
 use indicatif::{
-    BarCommand, BarState, Change, Clock, InMemoryTerm, LoneBar, LoneCall, Moment, NoTracker,
-    ProgressBar, ProgressDrawTarget, ProgressState, ProgressStyle, Refusal, Setup,
+    BarCommand, BarState, Clock, InMemoryTerm, LoneBar, LoneCall, Moment, NoTracker, ProgressBar,
+    ProgressDrawTarget, ProgressStyle, Refusal, Setup,
 };
 use scripts::commands::{command, finish};
 use scripts::got::{Bad, Got};
@@ -84,10 +84,10 @@ impl<R: Wait + Copy + Clone + Drop> Both<R> {
         let mut words = rest;
         let room = room_of(&mut words)?;
         let mut clock = room.clock;
-        let shared = shared(rt, alloc, target(alloc, room, words)?, room.clock)?;
+        let lone = lone_bar(alloc, target(alloc, room, words)?, &mut clock)?;
         let both = Both {
-            shared,
-            lone: lone_bar(alloc, target(alloc, room, words)?, &mut clock)?,
+            shared: shared(rt, alloc, target(alloc, room, words)?, room.clock)?,
+            lone,
             clock,
             alloc,
             room,
@@ -104,7 +104,7 @@ impl<R: Wait + Copy + Clone + Drop> Both<R> {
 
     /// Whether both show the same.
     fn show_same(&self) -> bool {
-        let rows = self.shared.with_term(|term| rows_of(term));
+        let rows = self.shared.with_term(rows_of);
         same_rows(rows, rows_of(self.lone.term())) == Ok(true)
     }
 
@@ -313,14 +313,6 @@ fn tell_alone(bar: &mut Lone, alloc: Global, text: &str, now: Moment) -> Result<
 
 fn made(bar: &mut Lone, call: LoneCall<NoTracker>, now: Moment) -> Told {
     bar.call(call, now)
-}
-
-/// So much further than this state.
-fn further(state: &ProgressState, delta: u64) -> Change {
-    Change {
-        pos: Some(state.pos().wrapping_add(delta)),
-        len: None,
-    }
 }
 
 /// The call that a text spells.

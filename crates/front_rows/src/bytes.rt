@@ -12,7 +12,7 @@
 //!
 //! A failure is spelled as in `scripted`.
 use crate::counted::Counted;
-use crate::polls;
+use crate::polls::{Asked, nexts, poll};
 use crate::scripted::{Scripted, kind_name, script_of};
 use futures::test::MockTask;
 use indicatif::{Moves, ProgressBarIter};
@@ -79,11 +79,7 @@ pub fn step(over: &mut OverCounted, step: &str, got: &mut Got) -> Result<(), Bad
         _ => match step {
             "finished" => got.flag(bar.finished),
             "pos" => got.number(bar.position),
-            "stands" => {
-                got.number(bar.position);
-                got.text(" ");
-                got.number(bar.moves);
-            }
+            "stands" => bar.push(got),
             _ => return asks(over, step, got),
         },
     }
@@ -169,7 +165,7 @@ fn reads<P: Moves>(
     got: &mut Got,
 ) {
     if step.starts_with("poll") {
-        polls::reads(wrapped, task, room, got);
+        poll(wrapped, task, Asked::Read(room), got);
     } else if step.starts_with("read_exact") {
         match wrapped.read_exact(room) {
             Ok(()) => got.bytes(room),
@@ -188,7 +184,7 @@ fn writes<P: Moves>(
     got: &mut Got,
 ) {
     if step.starts_with("poll") {
-        polls::writes(wrapped, task, bytes, got);
+        poll(wrapped, task, Asked::Write(bytes), got);
     } else if step.starts_with("write_all") {
         push_done(wrapped.write_all(bytes), got);
     } else {
@@ -214,7 +210,7 @@ fn counts<P: Moves>(
     match name {
         "consume" => wrapped.consume(count),
         "drain" => drain(wrapped, count, got),
-        "poll_next" => polls::nexts(wrapped, task, count, got),
+        "poll_next" => nexts(wrapped, task, count, got),
         _ => return Err(Bad::Step),
     }
     Ok(())
@@ -235,9 +231,9 @@ fn bare<P: Moves>(
             Some(drawn) => got.answer(drawn),
             None => got.text("none"),
         },
-        "poll_next" => polls::nexts(wrapped, task, 1, got),
-        "poll_flush" => polls::flush(wrapped, task, got),
-        "poll_shutdown" => polls::shut_down(wrapped, task, got),
+        "poll_next" => poll(wrapped, task, Asked::Next, got),
+        "poll_flush" => poll(wrapped, task, Asked::Flush, got),
+        "poll_shutdown" => poll(wrapped, task, Asked::ShutDown, got),
         _ => return to_end(wrapped, alloc, name, got),
     }
     Ok(())

@@ -5,7 +5,7 @@ use scripts::row::next;
 use scripts::spelling::number;
 
 /// So many readings of a clock at one moment.
-#[derive(Clone, Copy, Debug, Default, Drop)]
+#[derive(Clone, Copy, Default, Drop)]
 pub struct Readings {
     count: u64,
     moment: Moment,
@@ -15,7 +15,7 @@ pub struct Readings {
 pub type Told = [Readings; 4];
 
 /// A clock that tells moments that it was told, and behind them goes on by steps.
-#[derive(Clone, Copy, Debug, Drop)]
+#[derive(Clone, Copy, Drop)]
 pub struct RowClock {
     pub told: Told,
     steps: StepClock,

@@ -1,5 +1,6 @@
 //! A bar that tells where it stands and counts its moves.
 use indicatif::{Drawn, Moves, Refusal};
+use scripts::got::Got;
 
 /// A bar without a length, so that finishing leaves its position.
 #[derive(Drop)]
@@ -17,6 +18,13 @@ impl Counted {
             finished: false,
             moves: 0,
         }
+    }
+
+    /// Appends where it stands, and how many moves it made.
+    pub fn push(&self, got: &mut Got) {
+        got.number(self.position);
+        got.text(" ");
+        got.number(self.moves);
     }
 }
 

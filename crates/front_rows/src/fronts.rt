@@ -34,7 +34,7 @@ use indicatif::{
     Drawn, InMemoryTerm, MultiProgressAlignment, ProgressDrawTarget, Refusal, WeakProgressBar,
 };
 use scripts::got::{Bad, Got};
-use scripts::row::next;
+use scripts::row::{headed, next};
 use scripts::spelling::{flag, number, optional, unescaped};
 use std::alloc::Global;
 use std::random::RandomSource;
@@ -114,10 +114,29 @@ impl<R: Wait + Copy + Clone + Drop> Fronts<R> {
         Ok(self.bars.push(bar)?)
     }
 
-    // ---- boards and owners
+    // ---- steps: what one of these functions doesn't know it passes on to the next
 
-    /// What is made from now on is paced or timed so; whether the step asks for that.
-    fn times_next(&mut self, step: &str) -> Result<bool, Bad> {
+    /// Makes a step that asks neither for a wrapper nor for a ticker.
+    fn plays(&mut self, step: &str, got: &mut Got) -> Result<(), Bad> {
+        match step {
+            "shows" => push_board(self.board()?, got)?,
+            "hidden" => got.flag(self.board()?.is_hidden()),
+            "order" => {
+                shown(self.board()?, self.look(Question::Order), got);
+            }
+            "adds" => self.push_added(got)?,
+            "board" | "recorded" => self.begins(step == "recorded")?,
+            "release" => self.goes()?.release(),
+            "drop" => drop(self.goes()?),
+            "never" => self.weak = WeakProgressBar::new(),
+            "upgrades" => got.flag(self.weak.upgrade()?.is_some()),
+            _ => return self.sets(step, got),
+        }
+        Ok(())
+    }
+
+    /// Sets what is made from now on, which board steps speak of, or which bar is the weak one.
+    fn sets(&mut self, step: &str, got: &mut Got) -> Result<(), Bad> {
         match step.split_once(' ') {
             Some(("rate", mut words)) => {
                 let hz = number(next(&mut words))?;
@@ -125,31 +144,33 @@ impl<R: Wait + Copy + Clone + Drop> Fronts<R> {
                 self.maker.room.pace = Some(Pace { hz, made });
             }
             Some(("moments", words)) => self.maker.room.clock.told = moments_of(words)?,
-            _ => return Ok(false),
+            Some(("on", board_id)) => self.on = number::<usize>(board_id)?.wrapping_sub(1),
+            Some(("weak", place)) => self.weak = self.bar(place)?.downgrade()?.clone()?,
+            _ => return self.comes(step, got),
         }
-        Ok(true)
+        Ok(())
     }
 
-    /// Another board; whether the step asks for that.
-    fn begins(&mut self, step: &str) -> Result<bool, Bad> {
-        let board_id = (self.boards.len() as u64).wrapping_add(1);
-        let board = match step {
-            "board" => self.maker.board(board_id)?,
-            "recorded" => self.maker.recorded(board_id)?,
-            _ => return Ok(false),
+    // ---- boards and owners
+
+    /// Another board, which keeps its history where it is recorded.
+    fn begins(&mut self, is_recorded: bool) -> Result<(), Bad> {
+        let count = self.boards.len();
+        let board_id = (count as u64).wrapping_add(1);
+        let board = match is_recorded {
+            true => self.maker.recorded(board_id)?,
+            false => self.maker.board(board_id)?,
         };
-        self.on = self.boards.len();
-        self.boards.push(board)?;
-        Ok(true)
+        self.on = count;
+        Ok(self.boards.push(board)?)
     }
 
-    /// A bar that stands alone, or another owner; whether the step asks for that.
-    fn comes(&mut self, step: &str) -> Result<bool, Bad> {
-        let Some(bar) = self.coming(step)? else {
-            return Ok(false);
-        };
-        self.store(bar)?;
-        Ok(true)
+    /// A bar that stands alone, or another owner.
+    fn comes(&mut self, step: &str, got: &mut Got) -> Result<(), Bad> {
+        match self.coming(step)? {
+            Some(bar) => self.store(bar),
+            None => self.takes_in(step, got),
+        }
     }
 
     fn coming(&self, step: &str) -> Result<Option<Bar<R>>, Bad> {
@@ -172,50 +193,31 @@ impl<R: Wait + Copy + Clone + Drop> Fronts<R> {
         Ok(self.maker.bar(len, template.as_str())?)
     }
 
-    /// An owner that goes; whether the step asks for that.
-    fn goes(&mut self, step: &str) -> Result<bool, Bad> {
-        match step {
-            "release" => self.last()?.release(),
-            "drop" => drop(self.last()?),
-            _ => return Ok(false),
-        }
+    /// The owner that goes.
+    fn goes(&mut self) -> Result<Bar<R>, Bad> {
         self.answer = Answered::Untold;
-        Ok(true)
+        self.last()
     }
 
     fn last(&mut self) -> Result<Bar<R>, Bad> {
         self.bars.pop().ok_or(Bad::Step)
     }
 
-    /// A weak bar; whether the step asks for that.
-    fn weakens(&mut self, step: &str, got: &mut Got) -> Result<bool, Bad> {
-        match step.split_once(' ') {
-            Some(("weak", place)) => self.weak = self.bar(place)?.downgrade()?.clone()?,
-            _ => match step {
-                "never" => self.weak = WeakProgressBar::new(),
-                "upgrades" => got.flag(self.weak.upgrade()?.is_some()),
-                _ => return Ok(false),
-            },
-        }
-        Ok(true)
-    }
-
     // ---- insertions
 
-    /// A bar taken in; whether the step asks for that.
-    fn takes_in(&mut self, step: &str) -> Result<bool, Bad> {
-        let (name, rest) = step.split_once(' ').unwrap_or((step, ""));
-        let mut words = rest;
+    /// A bar taken in.
+    fn takes_in(&mut self, step: &str, got: &mut Got) -> Result<(), Bad> {
+        let mut words = step;
+        let name = next(&mut words);
         let place = match name {
             "add" => "",
             "insert" | "back" | "before" | "after" => next(&mut words),
-            _ => return Ok(false),
+            _ => return self.settles(step, got),
         };
         let bar = self.entrant(words)?;
         let taken = self.taken(name, place, bar)?;
         self.answer = Answered::Answer(Ok(Drawn::Limited));
-        self.store(taken)?;
-        Ok(true)
+        self.store(taken)
     }
 
     /// The bar that a word says.
@@ -242,33 +244,46 @@ impl<R: Wait + Copy + Clone + Drop> Fronts<R> {
 
     // ---- calls of a board
 
-    /// A call of the board that neither draws nor lends; whether the step asks for that.
-    fn settles(&mut self, step: &str, got: &mut Got) -> Result<bool, Bad> {
+    /// A call of the board that neither draws nor lends.
+    fn settles(&mut self, step: &str, got: &mut Got) -> Result<(), Bad> {
         let answer = match step.split_once(' ') {
             Some(("remove", place)) => self.board()?.remove(self.bar(place)?),
-            Some(("on", board_id)) => {
-                let board_id: usize = number(board_id)?;
-                self.on = board_id.wrapping_sub(1);
-                return Ok(true);
-            }
             Some(("move", word)) => self.board()?.set_move_cursor(flag(word)?),
             _ => match step {
                 "top" => self.board()?.set_alignment(MultiProgressAlignment::Top),
                 "bottom" => self.board()?.set_alignment(MultiProgressAlignment::Bottom),
                 "turn" => self.turn(self.maker.room.target(self.maker.alloc)?)?,
                 "hide" => self.turn(ProgressDrawTarget::hidden())?,
-                _ => return Ok(false),
+                _ => return self.draws(step, got),
             },
         };
-        self.answer = Answered::Answer(match answer {
-            Ok(()) => Ok(Drawn::Limited),
-            Err(refusal) => Err(refusal),
-        });
+        self.settled(answer, got);
+        Ok(())
+    }
+
+    fn settled(&mut self, answer: Result<(), Refusal>, got: &mut Got) {
         match answer {
-            Ok(()) => got.text("done"),
-            Err(refusal) => got.refusal(refusal),
+            Ok(()) => {
+                self.answer = Answered::Answer(Ok(Drawn::Limited));
+                got.text("done");
+            }
+            Err(refusal) => {
+                self.answer = Answered::Answer(Err(refusal));
+                got.refusal(refusal);
+            }
         }
-        Ok(true)
+    }
+
+    /// A call of the board that draws.
+    fn draws(&mut self, step: &str, got: &mut Got) -> Result<(), Bad> {
+        let told = self.board_told(step)?;
+        self.answered(told, got);
+        Ok(())
+    }
+
+    fn answered(&mut self, told: Told, got: &mut Got) {
+        self.answer = Answered::Answer(told);
+        got.answer(told);
     }
 
     /// Another target for the board, by another owner of it.
@@ -312,25 +327,14 @@ impl<R: Wait + Copy + Clone + Drop> Fronts<R> {
 
     // ---- what is seen
 
-    /// Reads something of the board or of a bar; whether the step asks for that.
-    fn reads(&mut self, step: &str, got: &mut Got) -> Result<bool, Bad> {
-        match step.split_once(": ") {
-            Some(("adds", _)) | None => self.looks(step, got),
-            Some((place, rest)) => read(self.bar(place)?, rest, got),
+    /// Reads something of a bar, or makes a call of it.
+    fn reads(&mut self, place: &str, rest: &str, got: &mut Got) -> Result<(), Bad> {
+        if read(self.bar(place)?, rest, got)? {
+            return Ok(());
         }
-    }
-
-    fn looks(&mut self, step: &str, got: &mut Got) -> Result<bool, Bad> {
-        match step {
-            "shows" => push_board(self.board()?, got)?,
-            "hidden" => got.flag(self.board()?.is_hidden()),
-            "order" => {
-                shown(self.board()?, self.look(Question::Order), got);
-            }
-            "adds" => self.push_added(got)?,
-            _ => return Ok(false),
-        }
-        Ok(true)
+        let told = self.bar_told(place, rest)?;
+        self.answered(told, got);
+        Ok(())
     }
 
     fn look(&self, question: Question) -> Look {
@@ -365,22 +369,18 @@ fn dressed<R: Wait + Copy + Clone + Drop>(bar: &Bar<R>, other: &Bar<R>) -> Told 
 }
 
 impl<R: AllocGlobal + RandomSource + Wait + Copy + Clone + Drop> Fronts<R> {
-    /// Wraps something, or asks what is wrapped; whether the step asks for that.
-    fn wraps(&mut self, step: &str, got: &mut Got) -> Result<bool, Bad> {
-        let mut words = step;
-        let name = next(&mut words);
-        if name == "|" {
-            let wrapped = self.wrapped.as_mut().ok_or(Bad::Step)?;
-            asks(wrapped, words, got)?;
-            return Ok(true);
-        }
-        if !name.starts_with("wrap_") {
-            return Ok(false);
-        }
+    /// Asks what is wrapped.
+    fn asks(&mut self, step: &str, got: &mut Got) -> Result<(), Bad> {
+        asks(self.wrapped.as_mut().ok_or(Bad::Step)?, step, got)
+    }
+
+    /// Wraps something by the call of this name.
+    fn wraps(&mut self, name: &str, rest: &str) -> Result<(), Bad> {
+        let mut words = rest;
         let bar = self.bar(next(&mut words))?;
         let wrapped = wrapped(bar, name, script_of(self.maker.alloc, words)?)?;
         self.wrapped = Some(passed_over(&self.maker.rt, self.maker.alloc, wrapped)?);
-        Ok(true)
+        Ok(())
     }
 }
 
@@ -409,37 +409,29 @@ impl<
         if let Some(rest) = step.strip_prefix("adds ") {
             return self.adds_by(rest, got);
         }
-        if self.wraps(step, got)? {
-            return Ok(());
+        if let Some(rest) = step.strip_prefix("| ") {
+            return self.asks(rest, got);
         }
-        if self.reads(step, got)? || self.times_next(step)? || self.begins(step)? {
-            return Ok(());
+        let (name, rest) = headed(step);
+        if name.starts_with("wrap_") {
+            return self.wraps(name, rest);
         }
-        if self.comes(step)? || self.goes(step)? || self.takes_in(step)? {
-            return Ok(());
+        match step.split_once(": ") {
+            Some((place, rest)) => self.ticks(place, rest, got),
+            None if step == "history_rests" => self.history_rests(got),
+            None => self.plays(step, got),
         }
-        if self.weakens(step, got)? || self.settles(step, got)? || self.times(step, got)? {
-            return Ok(());
-        }
-        let told = self.told(step)?;
-        self.answer = Answered::Answer(told);
-        got.answer(told);
-        Ok(())
     }
 
-    /// Has to do with a bar's ticker; whether the step asks for that.
-    fn times(&mut self, step: &str, got: &mut Got) -> Result<bool, Bad> {
-        let Some((place, rest)) = step.split_once(": ") else {
-            return self.history_rests(step, got);
-        };
+    /// Has to do with a bar's ticker.
+    fn ticks(&mut self, place: &str, rest: &str, got: &mut Got) -> Result<(), Bad> {
         match rest.split_once(' ') {
             Some(("ticker", nanos)) => {
                 set_ticker(self.bar(place)?, nanos)?;
                 self.answer = Answered::Untold;
             }
             Some(("ticks_past", ticks)) => {
-                let before: u64 = number(ticks)?;
-                let before = before.saturating_add(self.noted);
+                let before = number::<u64>(ticks)?.saturating_add(self.noted);
                 got.flag(ticks_past(&self.maker.rt, self.bar(place)?, before));
             }
             _ => match rest {
@@ -447,23 +439,20 @@ impl<
                 "ticks_since" => got.number(self.bar(place)?.ticks().wrapping_sub(self.noted)),
                 "rests" => got.flag(rests(&self.maker.rt, self.bar(place)?)),
                 "comes_to_rest" => got.flag(comes_to_rest(&self.maker.rt, self.bar(place)?)),
-                _ => return Ok(false),
+                _ => return self.reads(place, rest, got),
             },
         }
-        Ok(true)
+        Ok(())
     }
 }
 
 impl<R: Wait + Clock + Copy + Clone + Drop> Fronts<R> {
-    /// Whether nothing is added to the board's history for 50 milliseconds; whether the step asks for that.
-    fn history_rests(&self, step: &str, got: &mut Got) -> Result<bool, Bad> {
-        if step != "history_rests" {
-            return Ok(false);
-        }
+    /// Whether nothing is added to the board's history for 50 milliseconds.
+    fn history_rests(&self, got: &mut Got) -> Result<(), Bad> {
         let before = self.recorded_calls()?;
         pause(&self.maker.rt);
         got.flag(self.recorded_calls()? == before);
-        Ok(true)
+        Ok(())
     }
 
     /// How many calls the board has recorded.

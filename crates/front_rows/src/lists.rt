@@ -55,7 +55,7 @@ pub fn step(list: &mut List, step: &str, got: &mut Got) -> Result<(), Bad> {
             None => got.text("none"),
         },
         "finished" => got.flag(wrapped.progress.finished),
-        "stands" => push_bar(&wrapped.progress, got),
+        "stands" => wrapped.progress.push(got),
         _ => return Err(Bad::Step),
     }
     Ok(())
@@ -67,7 +67,7 @@ fn unwraps(list: &mut List, got: &mut Got) -> Result<(), Bad> {
     };
     let (items, bar) = wrapped.into_inner();
     drop(items);
-    push_bar(&bar, got);
+    bar.push(got);
     Ok(())
 }
 
@@ -89,10 +89,4 @@ fn push_size(wrapped: &Wrapped, got: &mut Got) {
     }
     got.text(" ");
     got.number(wrapped.len());
-}
-
-fn push_bar(bar: &Counted, got: &mut Got) {
-    got.number(bar.position);
-    got.text(" ");
-    got.number(bar.moves);
 }

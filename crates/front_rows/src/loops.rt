@@ -4,7 +4,7 @@
 //! `style TEMPLATE`, or `made` (a bar of length 1 that was made before). Then `next`, `shows`, `last`, `pos`, `len`, `finished`, and what is
 //! said of the bar before it moves: `with_style TEMPLATE`, `with_prefix TEXT`, `with_message TEXT`, `with_position N`, `with_elapsed N`,
 //! `with_finish CALL`.
-use crate::bars::{Room, Target};
+use crate::bars::Room;
 use crate::clock::RowClock;
 use crate::fronts::room_of;
 use crate::lists::{items_of, push_item};
@@ -28,42 +28,34 @@ pub struct Looped {
     wrapped: Option<Box<Wrapped>>,
 }
 
-fn setup(alloc: Global, room: Room) -> Result<Setup<InMemoryTerm, RowClock>, Refusal> {
-    Ok(Setup {
-        target: room.target(alloc)?,
-        clock: room.clock,
-    })
-}
-
 /// A loop over these items.
 fn over(alloc: Global, how: &str, room: Room, items: IntoIter<u32>) -> Result<Wrapped, Bad> {
     match how.split_once(' ') {
         Some(("count", len)) => counting(alloc, number(len)?, room, items),
         Some(("style", template)) => styled(alloc, template, room, items),
-        None if how == "progress" => Ok(items.progress(alloc, setup(alloc, room)?)?),
-        None if how == "made" => Ok(made(alloc, room.target(alloc)?, room.clock, items)?),
+        None if how == "progress" => Ok(items.progress(alloc, room.setup(alloc)?)?),
+        None if how == "made" => Ok(made(alloc, room.setup(alloc)?, items)?),
         _ => Err(Bad::Step),
     }
 }
 
 fn counting(alloc: Global, len: u64, room: Room, items: IntoIter<u32>) -> Result<Wrapped, Bad> {
-    Ok(items.progress_count(alloc, len, setup(alloc, room)?)?)
+    Ok(items.progress_count(alloc, len, room.setup(alloc)?)?)
 }
 
 fn styled(alloc: Global, template: &str, room: Room, items: IntoIter<u32>) -> Result<Wrapped, Bad> {
     let style = ProgressStyle::with_template(alloc, template)?;
-    Ok(items.progress_with_style(alloc, style, setup(alloc, room)?)?)
+    Ok(items.progress_with_style(alloc, style, room.setup(alloc)?)?)
 }
 
 /// By a bar that was made before.
 fn made(
     alloc: Global,
-    target: Target,
-    clock: RowClock,
+    setup: Setup<InMemoryTerm, RowClock>,
     items: IntoIter<u32>,
 ) -> Result<Wrapped, Refusal> {
-    let bar = LoneBar::new(BarState::new(alloc, Some(1), 0)?, target);
-    Ok(ProgressBarIter::new(items, OwnedBar::new(bar, clock)))
+    let bar = LoneBar::new(BarState::new(alloc, Some(1), 0)?, setup.target);
+    Ok(ProgressBarIter::new(items, OwnedBar::new(bar, setup.clock)))
 }
 
 impl Looped {
@@ -90,7 +82,7 @@ impl Looped {
             return Err(Bad::Step);
         };
         match step {
-            "next" => push_item(next(wrapped), got),
+            "next" => push_item(wrapped.next(), got),
             "shows" => push_shown(wrapped, got)?,
             "last" => match wrapped.last_draw() {
                 Some(drawn) => got.answer(drawn),
@@ -114,10 +106,6 @@ impl Looped {
         self.wrapped = Some(Box::new(self.alloc, wrapped)?);
         Ok(())
     }
-}
-
-fn next(wrapped: &mut Wrapped) -> Option<u32> {
-    wrapped.next()
 }
 
 fn push_shown(wrapped: &Wrapped, got: &mut Got) -> Result<(), Bad> {

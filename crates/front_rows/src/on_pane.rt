@@ -52,8 +52,10 @@ impl OnPane {
     pub fn step(&mut self, step: &str, got: &mut Got) -> Result<(), Bad> {
         match headed(step) {
             ("others", text) => {
-                let shown = self.pane.show(unescaped(self.at.alloc, text)?.as_str());
-                shown.map_err(|_| Bad::Step)?;
+                let text = unescaped(self.at.alloc, text)?;
+                if self.pane.show(text.as_str()).is_err() {
+                    return Err(Bad::Step);
+                }
             }
             ("size", words) => self.resize(words)?,
             ("target", words) => self.go_on(words)?,
@@ -103,7 +105,11 @@ fn board_on(at: At, term: OwnRows<Term<Wire>>) -> Result<Box<Shown>, Bad> {
 
 /// The rows up to the last one that isn't empty.
 fn filled(rows: &[String]) -> &[String] {
-    let last = rows.iter().rposition(|row| !row.is_empty());
-    let count = last.map_or(0, |at| at.saturating_add(1));
+    let mut count: usize = 0;
+    for (at, row) in rows.iter().enumerate() {
+        if !row.is_empty() {
+            count = at.saturating_add(1);
+        }
+    }
     rows.get(..count).unwrap_or(rows)
 }

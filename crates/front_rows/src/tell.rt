@@ -38,8 +38,7 @@ pub fn tell<R: Wait + Copy + Clone + Drop>(
 
 /// Whether the call of this name takes a text.
 fn is_worded(name: &str) -> bool {
-    WORDED.iter().any(|it| *it == name)
-        || matches!(name, "log" | "set_style" | "with_style" | "template")
+    WORDED.contains(&name) || matches!(name, "log" | "set_style" | "with_style" | "template")
 }
 
 fn bare<R: Wait + Copy + Clone + Drop>(bar: &Bar<R>, name: &str) -> Result<Told, Bad> {
@@ -77,7 +76,7 @@ fn counted<R: Wait + Copy + Clone + Drop>(bar: &Bar<R>, name: &str, n: u64) -> R
 }
 
 /// So much further than this state.
-fn further(state: &ProgressState, delta: u64) -> Change {
+pub fn further(state: &ProgressState, delta: u64) -> Change {
     Change {
         pos: Some(state.pos().wrapping_add(delta)),
         len: None,

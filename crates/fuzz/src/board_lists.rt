@@ -22,22 +22,17 @@ fn board_on(alloc: Global, record: &Rc<Record>, setting: Setting) -> Result<OnWi
     Ok(board)
 }
 
+/// How many calls a list has at most.
+const MOST: usize = 40;
+
 fn random_calls(alloc: Global, numbers: &mut Numbers) -> Result<Calls, Law> {
     let mut calls = Vec::new(alloc);
     let mut now: Moment = 0;
-    for _ in 0..numbers.up_to(40) {
+    for _ in 0..numbers.up_to(MOST) {
         calls.push((board_call(alloc, numbers)?, now))?;
         now = numbers.moment(now);
     }
     Ok(calls)
-}
-
-fn copies(alloc: Global, calls: &Calls) -> Result<Calls, Law> {
-    let mut copies = Vec::new(alloc);
-    for (call, now) in calls {
-        copies.push((call.try_clone(alloc)?, *now))?;
-    }
-    Ok(copies)
 }
 
 /// What a call has to answer before anything is drawn.
@@ -83,10 +78,11 @@ struct Stage {
 impl Stage {
     fn new(alloc: Global, setting: Setting) -> Result<Stage, Law> {
         let record = setting.record(alloc)?;
+        let board = board_on(alloc, &record, setting)?;
         Ok(Stage {
             alloc,
             setting,
-            board: board_on(alloc, &record, setting)?,
+            board,
             watch: Watch::new(alloc, setting, record)?,
             came: 0,
             gone: Vec::new(alloc),
@@ -192,46 +188,67 @@ impl Stage {
     /// Each bar that came stands at most once.
     fn is_order(&self) -> bool {
         let order = self.board.order();
-        let mut bars = order.iter();
-        bars.all(|bar| *bar < self.came
-            && order.iter().filter(|other| **other == *bar).count() == 1)
+        for (at, bar) in order.iter().enumerate() {
+            let before = order.get(..at).unwrap_or(&[]);
+            if *bar >= self.came || before.contains(bar) {
+                return false;
+            }
+        }
+        true
     }
 
-    /// Makes a call that has to answer and to leave what it should; what it answers.
-    fn makes(&mut self, call: &Call<NoTracker>, now: Moment) -> Result<Answer, Law> {
+    /// Makes a call that has to answer so, and to leave what it should.
+    fn makes(&mut self, call: &Call<NoTracker>, now: Moment, in_run: &Answer) -> Held {
         let before = self.watch.point();
         let wanted = self.wanted(call, now);
         let answer = self.board.call(call.try_clone(self.alloc)?, now);
         let wrote = self.watch.looks(before)?;
+        Law::Replay.holds(answer == *in_run)?;
         self.is_right(wanted, &answer, wrote)?;
         self.notes(call, wanted, &answer, now)?;
-        if let Wanted::Draw = wanted {
-            self.watch.logged(logged_by(call), &drawn_of(&answer)?)?;
+        match wanted {
+            Wanted::Draw => self.watch.logged(logged_by(call), &drawn_of(&answer)?),
+            _ => Ok(()),
         }
-        Ok(answer)
     }
 
-    /// Each of these calls alone answers as it did in a run.
-    fn answers(&mut self, calls: &Calls, answers: &[Answer]) -> Held {
-        Law::Replay.holds(calls.len() == answers.len())?;
-        for ((call, now), wanted) in calls.iter().zip(answers.iter()) {
-            let answer = self.makes(call, *now)?;
-            Law::Replay.holds(answer == *wanted)?;
+    /// Makes the next call, which has to answer so.
+    fn goes_on(&mut self, numbers: &mut Numbers, now: Moment, in_run: &Answer) -> Held {
+        let call = board_call(self.alloc, numbers)?;
+        self.makes(&call, now, in_run)
+    }
+
+    /// Each call of a list alone answers as it did in a run.
+    fn answers(&mut self, numbers: &mut Numbers, answers: &[Answer]) -> Held {
+        Law::Replay.holds(numbers.up_to(MOST) == answers.len())?;
+        let mut now: Moment = 0;
+        for in_run in answers {
+            self.goes_on(numbers, now, in_run)?;
+            now = numbers.moment(now);
         }
         Ok(())
+    }
+
+    /// The calls of a list, one by one, answer and write what they did in a run of this board, and leave the same order.
+    fn repeats(
+        &mut self,
+        numbers: &mut Numbers,
+        answers: &[Answer],
+        (run, record): (&OnWire, &Rc<Record>),
+    ) -> Held {
+        self.answers(numbers, answers)?;
+        Law::Replay.holds(run.order() == self.board.order())?;
+        self.watch.has_bytes_of(record)
     }
 }
 
 /// A random list of calls of a board: in a run and one by one they answer and write the same, as they should.
 pub fn played(alloc: Global, numbers: &mut Numbers) -> Held {
     let setting = Setting::by(numbers);
-    let calls = random_calls(alloc, numbers)?;
-    let run_record = setting.record(alloc)?;
-    let mut run = board_on(alloc, &run_record, setting)?;
-    let answers = run.run(copies(alloc, &calls)?)?;
+    let mut again = numbers.again()?;
+    let record = setting.record(alloc)?;
+    let mut run = board_on(alloc, &record, setting)?;
+    let answers = run.run(random_calls(alloc, numbers)?)?;
     let mut stage = Stage::new(alloc, setting)?;
-    stage.answers(&calls, &answers)?;
-    Law::Replay.holds(run.order() == stage.board.order())?;
-    let run_watch = Watch::new(alloc, setting, run_record)?;
-    Law::Replay.holds(run_watch.bytes()? == stage.watch.bytes()?)
+    stage.repeats(&mut again, &answers, (&run, &record))
 }

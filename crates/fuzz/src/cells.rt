@@ -2,7 +2,7 @@
 use crate::law::{Held, Law};
 use crate::numbers::Numbers;
 use indicatif_term::in_memory::Cells;
-use indicatif_text::columns::{Refusal, columns};
+use indicatif_text::columns::columns;
 use std::alloc::Global;
 
 /// Sequences, characters of all widths, and beginnings of both.
@@ -68,12 +68,17 @@ fn feed(cells: &mut Cells, bytes: &[u8]) -> Held {
     }
 }
 
-/// Feeds bytes in random pieces.
-fn feed_cut(alloc: Global, numbers: &mut Numbers, cells: &mut Cells, bytes: &[u8]) -> Held {
+/// Feeds bytes in pieces, each of which ends behind a byte once in so many times.
+fn feed_cut(
+    alloc: Global,
+    numbers: &mut Numbers,
+    cells: &mut Cells,
+    (bytes, count): (&[u8], usize),
+) -> Held {
     let mut piece: Vec<u8> = Vec::new(alloc);
     for byte in bytes {
         piece.push(*byte)?;
-        if numbers.one_in(3) {
+        if numbers.one_in(count) {
             feed(cells, &piece)?;
             piece.clear();
         }
@@ -81,37 +86,30 @@ fn feed_cut(alloc: Global, numbers: &mut Numbers, cells: &mut Cells, bytes: &[u8
     feed(cells, &piece)
 }
 
-fn feed_each(cells: &mut Cells, bytes: &[u8]) -> Held {
-    for byte in bytes {
-        feed(cells, &[*byte])?;
-    }
-    Ok(())
-}
-
 /// Two terminals show the same, and so do their cursors.
-fn are_alike(one: &Cells, other: &Cells) -> Result<bool, Refusal> {
-    Ok(one.picture()? == other.picture()? && one.cursor() == other.cursor())
+fn are_alike(one: &Cells, other: &Cells) -> Held {
+    let same = one.picture()? == other.picture()? && one.cursor() == other.cursor();
+    Law::Cut.holds(same)
 }
 
 /// Rows and columns of a terminal.
 type Sizes = (u16, u16);
 
-/// How many rows have scrolled away.
-fn scrolled(picture: &[String], (rows, _): Sizes) -> usize {
-    picture.len().saturating_sub(usize::from(rows))
-}
-
-/// Whether these rows begin with so many of the others.
-fn begins_with(rows: &[String], front: &[String], count: usize) -> bool {
-    let mut pairs = rows.iter().zip(front.iter()).take(count);
-    count <= rows.len() && pairs.all(|(one, other)| one == other)
+/// The rows that have scrolled away.
+fn scrolled(picture: &[String], (rows, _): Sizes) -> &[String] {
+    let count = picture.len().saturating_sub(usize::from(rows));
+    picture.get(..count).unwrap_or(picture)
 }
 
 /// No row is too wide, and the cursor stands in the window.
 fn is_within(picture: &[String], cursor: (u16, u16), (rows, cols): Sizes) -> bool {
+    for text in picture {
+        if columns(text.as_str()) > usize::from(cols) {
+            return false;
+        }
+    }
     let (row, column) = cursor;
-    let mut widths = picture.iter().map(|row| columns(row.as_str()));
-    row < rows && column <= cols && widths.all(|width| width <= usize::from(cols))
+    row < rows && column <= cols
 }
 
 /// Feeds bytes in two halves: what has scrolled away behind the first stays, and all stands in the window.
@@ -120,9 +118,42 @@ fn feed_halves(cells: &mut Cells, (front, back): (&[u8], &[u8]), sizes: Sizes) -
     let before = cells.picture()?;
     feed(cells, back)?;
     let after = cells.picture()?;
-    let stays = begins_with(&after, &before, scrolled(&before, sizes));
-    Law::Scrolled.holds(stays)?;
+    Law::Scrolled.holds(after.starts_with(scrolled(&before, sizes)))?;
     Law::Window.holds(is_within(&after, cells.cursor(), sizes))
+}
+
+/// Bytes, a terminal that was fed with all of them at once, and its size.
+#[derive(Clone, Copy, Drop)]
+struct Input<'a> {
+    alloc: Global,
+    bytes: &'a [u8],
+    whole: &'a Cells,
+    sizes: Sizes,
+}
+
+impl Input<'_> {
+    /// The bytes give the same cells in two halves, parted at this place.
+    fn is_alike_in_halves(self, middle: usize) -> Held {
+        let front = self.bytes.get(..middle).unwrap_or(&[]);
+        let back = self.bytes.get(middle..).unwrap_or(&[]);
+        let mut cells = Cells::new(self.alloc, self.sizes.0, self.sizes.1)?;
+        feed_halves(&mut cells, (front, back), self.sizes)?;
+        are_alike(self.whole, &cells)
+    }
+
+    /// They do so in pieces, each of which ends behind a byte once in so many times.
+    fn is_alike_cut(self, numbers: &mut Numbers, count: usize) -> Held {
+        let mut cells = Cells::new(self.alloc, self.sizes.0, self.sizes.1)?;
+        feed_cut(self.alloc, numbers, &mut cells, (self.bytes, count))?;
+        are_alike(self.whole, &cells)
+    }
+
+    /// They do so in two halves, in random pieces and one by one.
+    fn is_alike(self, numbers: &mut Numbers, middle: usize) -> Held {
+        self.is_alike_in_halves(middle)?;
+        self.is_alike_cut(numbers, 3)?;
+        self.is_alike_cut(numbers, 1)
+    }
 }
 
 /// So many random bytes give the same cells whole, in two halves, in random pieces and one by one.
@@ -133,16 +164,13 @@ pub fn fed(alloc: Global, numbers: &mut Numbers, count: usize) -> Held {
         numbers.size(11).saturating_add(1),
     );
     let middle = numbers.below(count);
-    let front = bytes.get(..middle).unwrap_or(&[]);
-    let back = bytes.get(middle..).unwrap_or(&[]);
     let mut whole = Cells::new(alloc, sizes.0, sizes.1)?;
     feed(&mut whole, &bytes)?;
-    let mut halves = Cells::new(alloc, sizes.0, sizes.1)?;
-    feed_halves(&mut halves, (front, back), sizes)?;
-    let mut cut = Cells::new(alloc, sizes.0, sizes.1)?;
-    feed_cut(alloc, numbers, &mut cut, &bytes)?;
-    let mut each = Cells::new(alloc, sizes.0, sizes.1)?;
-    feed_each(&mut each, &bytes)?;
-    let same = are_alike(&whole, &halves)? && are_alike(&whole, &cut)? && are_alike(&whole, &each)?;
-    Law::Cut.holds(same)
+    let input = Input {
+        alloc,
+        bytes: &bytes,
+        whole: &whole,
+        sizes,
+    };
+    input.is_alike(numbers, middle)
 }

@@ -27,10 +27,13 @@ fn lone_on(
     Ok(lone)
 }
 
+/// How many calls a list has at most.
+const MOST: usize = 30;
+
 fn random_calls(alloc: Global, numbers: &mut Numbers) -> Result<Calls, Law> {
     let mut calls = Vec::new(alloc);
     let mut now: Moment = 0;
-    for _ in 0..numbers.up_to(30) {
+    for _ in 0..numbers.up_to(MOST) {
         calls.push((lone_call(alloc, numbers)?, now))?;
         now = numbers.moment(now);
     }
@@ -45,14 +48,6 @@ fn copy_of(alloc: Global, call: &LoneCall<NoTracker>) -> Result<LoneCall<NoTrack
     })
 }
 
-fn copies(alloc: Global, calls: &Calls) -> Result<Calls, Law> {
-    let mut copies = Vec::new(alloc);
-    for (call, now) in calls {
-        copies.push((copy_of(alloc, call)?, *now))?;
-    }
-    Ok(copies)
-}
-
 /// Whether this call is refused because of a time that is beyond its moment.
 fn is_beyond(call: &LoneCall<NoTracker>, now: Moment) -> bool {
     matches!(call, LoneCall::Bar(BarCommand::SetElapsed(nanos)) if *nanos > now)
@@ -65,6 +60,9 @@ fn logged_by(call: &LoneCall<NoTracker>) -> Option<&str> {
     }
 }
 
+/// What a call answers.
+type Said = Result<Drawn, Refusal>;
+
 /// A bar that makes calls one by one, what its terminal is given, and how often it was drawn without force.
 #[derive(Drop)]
 struct Stage {
@@ -76,58 +74,67 @@ struct Stage {
 }
 
 impl Stage {
-    /// Makes a call that has to answer and to leave what it should; what it answers.
-    fn makes(
-        &mut self,
-        call: &LoneCall<NoTracker>,
-        now: Moment,
-    ) -> Result<Result<Drawn, Refusal>, Law> {
+    fn new(alloc: Global, setting: Setting, bar: &BarState<NoTracker>) -> Result<Stage, Law> {
+        let record = setting.record(alloc)?;
+        let bar = lone_on(alloc, &record, setting, bar)?;
+        Ok(Stage {
+            alloc,
+            setting,
+            bar,
+            watch: Watch::new(alloc, setting, record)?,
+            draws: 0,
+        })
+    }
+
+    /// Makes a call that has to answer so, and to leave what it should.
+    fn makes(&mut self, call: &LoneCall<NoTracker>, now: Moment, wanted: Said) -> Held {
         let before = self.watch.point();
         let said = self.bar.call(copy_of(self.alloc, call)?, now);
         let wrote = self.watch.looks(before)?;
+        Law::Replay.holds(said == wanted)?;
         if is_beyond(call, now) {
-            Law::Answer.holds(said == Err(Refusal::ElapsedBeyondClock) && !wrote.has_bytes)?;
-            return Ok(said);
+            return Law::Answer.holds(said == Err(Refusal::ElapsedBeyondClock) && !wrote.has_bytes);
         }
         self.setting.draws(&said, wrote)?;
         if matches!(call, LoneCall::Bar(BarCommand::Tick)) && said == Ok(Drawn::Yes) {
             self.draws = self.draws.saturating_add(1);
             self.setting.allows(self.draws, now)?;
         }
-        self.watch.logged(logged_by(call), &said)?;
-        Ok(said)
+        self.watch.logged(logged_by(call), &said)
     }
 
-    /// Each of these calls alone answers as it did in a run.
-    fn answers(&mut self, calls: &Calls, answers: &[Result<Drawn, Refusal>]) -> Held {
-        Law::Replay.holds(calls.len() == answers.len())?;
-        for ((call, now), wanted) in calls.iter().zip(answers.iter()) {
-            let said = self.makes(call, *now)?;
-            Law::Replay.holds(said == *wanted)?;
+    /// Makes the next call, which has to answer so.
+    fn goes_on(&mut self, numbers: &mut Numbers, now: Moment, wanted: Said) -> Held {
+        let call = lone_call(self.alloc, numbers)?;
+        self.makes(&call, now, wanted)
+    }
+
+    /// Each call of a list alone answers as it did in a run.
+    fn answers(&mut self, numbers: &mut Numbers, answers: &[Said]) -> Held {
+        Law::Replay.holds(numbers.up_to(MOST) == answers.len())?;
+        let mut now: Moment = 0;
+        for wanted in answers {
+            self.goes_on(numbers, now, *wanted)?;
+            now = numbers.moment(now);
         }
         Ok(())
+    }
+
+    /// The calls of a list, one by one, answer and write what they did in a run.
+    fn repeats(&mut self, numbers: &mut Numbers, answers: &[Said], record: &Record) -> Held {
+        self.answers(numbers, answers)?;
+        self.watch.has_bytes_of(record)
     }
 }
 
 /// A random list of calls of a lone bar: in a run and one by one they answer and write the same, as they should.
 pub fn played(alloc: Global, numbers: &mut Numbers) -> Held {
     let setting = Setting::by(numbers);
-    let state = bar(alloc, numbers)?;
-    let calls = random_calls(alloc, numbers)?;
-    let run_record = setting.record(alloc)?;
-    let mut run = lone_on(alloc, &run_record, setting, &state)?;
-    let answers = run.run(copies(alloc, &calls)?)?;
+    let bar = bar(alloc, numbers)?;
+    let mut again = numbers.again()?;
     let record = setting.record(alloc)?;
-    let bar = lone_on(alloc, &record, setting, &state)?;
-    let watch = Watch::new(alloc, setting, record)?;
-    let mut stage = Stage {
-        alloc,
-        setting,
-        bar,
-        watch,
-        draws: 0,
-    };
-    stage.answers(&calls, &answers)?;
-    let run_watch = Watch::new(alloc, setting, run_record)?;
-    Law::Replay.holds(run_watch.bytes()? == stage.watch.bytes()?)
+    let mut run = lone_on(alloc, &record, setting, &bar)?;
+    let answers = run.run(random_calls(alloc, numbers)?)?;
+    let mut stage = Stage::new(alloc, setting, &bar)?;
+    stage.repeats(&mut again, &answers, &record)
 }

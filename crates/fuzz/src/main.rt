@@ -34,14 +34,14 @@ mod whole_frames;
 
 use crate::law::{Held, Tally};
 use crate::numbers::Numbers;
-use crate::player::Player;
+use crate::player::Plays;
 use crate::sweeps::sweep::Runs;
+use crate::threads::Random;
+use crate::tickers::TIMES;
 use anyhow::{Result, anyhow};
-use std::alloc::Global;
 use std::env::{self, Args, Env};
 use std::io;
 use std::process::ExitCode;
-use std::thread::join;
 
 /// The seed, how many runs of each kind are made, and how many calls each of four threads makes.
 #[derive(Clone, Copy, Drop)]
@@ -123,37 +123,54 @@ fn request<R: AllocGlobal + Env>(rt: &R) -> Result<Asked> {
     })
 }
 
-/// A kind of runs that are made by one thread.
+/// A kind of runs.
 #[derive(Clone, Copy, Drop)]
 enum Kind {
     Bytes,
     Templates,
     Lone,
     Board,
+    /// Each in four threads that make so many calls.
+    Threads(u64),
 }
 
 /// How many bytes a run feeds.
 const BYTES: usize = 1000;
 
 impl Kind {
-    /// Makes a run by these numbers.
-    fn plays(self, alloc: Global, numbers: &mut Numbers) -> Held {
+    /// Its name.
+    fn name(self) -> &'static str {
         match self {
-            Kind::Bytes => cells::fed(alloc, numbers, BYTES),
-            Kind::Templates => templates::parsed(alloc, numbers),
-            Kind::Lone => lone_lists::played(alloc, numbers),
-            Kind::Board => board_lists::played(alloc, numbers),
+            Kind::Bytes => "bytes by thousands",
+            Kind::Templates => "templates",
+            Kind::Lone => "lists of a lone bar",
+            Kind::Board => "lists of a board",
+            Kind::Threads(_) => "lists in four threads",
         }
     }
 
-    /// Makes so many runs, each by the numbers of a stream of its own.
-    fn all(self, alloc: Global, seed: u64, count: u64) -> Tally {
+    /// Makes the run of this number, by the numbers of a stream of its own.
+    fn plays<R: Plays>(self, rt: R, seed: u64, number: u64) -> Held {
+        let mut numbers = Numbers::new(seed, number);
+        match self {
+            Kind::Bytes => cells::fed(rt.alloc(), &mut numbers, BYTES),
+            Kind::Templates => templates::parsed(rt.alloc(), &mut numbers),
+            Kind::Lone => lone_lists::played(rt.alloc(), &mut numbers),
+            Kind::Board => board_lists::played(rt.alloc(), &mut numbers),
+            Kind::Threads(steps) => {
+                let seed = seed.wrapping_add(number);
+                threads::played(rt, Random { seed, steps })
+            }
+        }
+    }
+
+    /// Makes so many runs, and says what came of them; whether none broke a law.
+    fn all<R: Plays + Print>(self, rt: R, seed: u64, count: u64) -> Result<bool> {
         let mut tally = Tally::default();
         for number in 0..count {
-            let mut numbers = Numbers::new(seed, number);
-            tally.count(self.plays(alloc, &mut numbers));
+            tally.count(self.plays(rt, seed, number));
         }
-        tally
+        say(&rt, self.name(), tally)
     }
 }
 
@@ -167,74 +184,49 @@ fn say<R: Print>(rt: &R, name: &str, tally: Tally) -> Result<bool> {
     Ok(broken == 0)
 }
 
-/// Makes all runs of one thread; whether none broke a law.
-fn all_alone<R: AllocGlobal + Print>(rt: &R, counts: Counts) -> Result<bool> {
-    let Counts { seed, .. } = counts;
-    let alloc = rt.alloc();
-    let count = counts.bytes.div_ceil(BYTES as u64);
-    let bytes = say(
-        rt,
-        "bytes by thousands",
-        Kind::Bytes.all(alloc, seed, count),
-    )?;
-    let tally = Kind::Templates.all(alloc, seed, counts.templates);
-    let templates = say(rt, "templates", tally)?;
-    let lone = say(
-        rt,
-        "lists of a lone bar",
-        Kind::Lone.all(alloc, seed, counts.lone),
-    )?;
-    let board = say(
-        rt,
-        "lists of a board",
-        Kind::Board.all(alloc, seed, counts.board),
-    )?;
-    Ok(bytes && templates && lone && board)
+/// Makes all runs; whether none broke a law.
+fn make_runs<R: Plays + Print>(rt: R, counts: Counts) -> Result<bool> {
+    let kinds = [
+        (Kind::Bytes, counts.bytes.div_ceil(BYTES as u64)),
+        (Kind::Templates, counts.templates),
+        (Kind::Lone, counts.lone),
+        (Kind::Board, counts.board),
+        (Kind::Threads(counts.steps), counts.threads),
+    ];
+    let mut is_kept = true;
+    for (kind, count) in kinds {
+        is_kept &= kind.all(rt, counts.seed, count)?;
+    }
+    Ok(is_kept)
+}
+
+/// Plays random input; whether no law was broken.
+fn make_random<R: Plays + Print>(rt: R, counts: Counts) -> Result<bool> {
+    let is_kept = make_runs(rt, counts)?;
+    tickers::played(rt)?;
+    println!(rt; "one ticker: told on {TIMES} times, told off {TIMES} times")?;
+    Ok(is_kept)
 }
 
 /// What is asked for but random input.
-fn others<R: Runs + Print>(rt: R, asked: Asked) -> Result<()> {
+fn others<R: Runs + Print>(rt: &R, asked: Asked) -> Result<()> {
     match asked {
         Asked::Laws(_) => Ok(()),
         Asked::Sweeps(asked) => sweeps::run(rt, asked),
-        Asked::WholeFrames(asked) => whole_frames::run(&rt, asked),
+        Asked::WholeFrames(asked) => whole_frames::run(rt, asked),
         Asked::All(_) => {
             sweeps::run(rt, sweeps::USUAL)?;
-            whole_frames::run(&rt, whole_frames::USUAL)
+            whole_frames::run(rt, whole_frames::USUAL)
         }
     }
 }
 
 fn main(rt: HostRuntime) -> Result<ExitCode> {
     let asked = request(&rt)?;
-    let Some(counts) = asked.counts() else {
-        others(rt, asked)?;
-        return Ok(ExitCode::SUCCESS);
+    let is_kept = match asked.counts() {
+        Some(counts) => make_random(rt, counts)?,
+        None => true,
     };
-    let alone = all_alone(&rt, counts)?;
-    let mut tally = Tally::default();
-    for number in 0..counts.threads {
-        let seed = counts.seed.wrapping_add(number);
-        let board = threads::board_of(rt)?;
-        let bars = threads::bars_of(rt, &board)?;
-        let one = Player::new(&rt, &board, bars.as_slice(), 1);
-        let two = Player::new(&rt, &board, bars.as_slice(), 2);
-        let three = Player::new(&rt, &board, bars.as_slice(), 3);
-        let four = Player::new(&rt, &board, bars.as_slice(), 4);
-        let steps = counts.steps;
-        let front = || join(&rt, || one.plays(seed, steps), || two.plays(seed, steps));
-        let back = || join(&rt, || three.plays(seed, steps), || four.plays(seed, steps));
-        let ((first, second), (third, fourth)) = join(&rt, front, back);
-        let logged = [first, second, third, fourth];
-        tally.count(threads::judged(rt, &board, bars.as_slice(), logged));
-    }
-    let threads = say(&rt, "lists in four threads", tally)?;
-    let bar = tickers::bar_of(rt)?;
-    let (on, off) = join(&rt, || tickers::tell_on(&bar), || tickers::tell_off(&bar));
-    let (on, off) = (on?, off?);
-    bar.disable_steady_tick()?;
-    println!(rt; "one ticker: told on {on} times, told off {off} times")?;
-    others(rt, asked)?;
-    let is_kept = alone && threads;
+    others(&rt, asked)?;
     Ok(ExitCode::from(u8::from(!is_kept)))
 }

@@ -1,6 +1,9 @@
 //! Random numbers by a seed.
+ghost use Rattle.std.specs.Prelude.{◌<◌};
+
 use rand_core::utils::NextWord;
 use rand_pcg::Pcg32;
+use std::alloc::AllocError;
 
 /// Numbers one after another, which a seed and the number of a stream determine.
 #[derive(Drop)]
@@ -16,6 +19,12 @@ impl Numbers {
         }
     }
 
+    /// The same numbers again, from the next one on.
+    pub fn again(&self) -> Result<Numbers, AllocError> {
+        let words = self.words.clone()?;
+        Ok(Numbers { words })
+    }
+
     /// The next one.
     pub fn next(&mut self) -> u32 {
         self.words.next_word()
@@ -28,8 +37,11 @@ impl Numbers {
     }
 
     /// A number below this one; 0 where there is none.
-    pub fn below(&mut self, count: usize) -> usize {
-        self.next() as usize % count.max(1)
+    pub fn below(&mut self, count: usize) -> usize
+        ensures { 0 < count → result < count }
+    {
+        let word = self.next() as usize;
+        if count == 0 { 0 } else { word % count }
     }
 
     /// A number from 1 up to this one.

@@ -19,30 +19,23 @@ pub type Multi<R> = MultiProgress<InMemoryTerm, MachineClock<R>, R>;
 /// A millisecond.
 const OFTEN: u64 = 1_000_000;
 
-/// A thread with its number.
+/// A thread with its number, the seed of its numbers, and how many calls it makes.
 #[derive(Drop)]
 pub struct Player<'a, R: Plays> {
-    rt: &'a R,
-    board: &'a Multi<R>,
-    bars: &'a [Bar<R>],
-    number: u64,
+    pub rt: R,
+    pub board: &'a Multi<R>,
+    pub bars: &'a [Bar<R>],
+    pub number: u64,
+    pub seed: u64,
+    pub steps: u64,
 }
 
-impl<'a, R: Plays> Player<'a, R> {
-    pub fn new(rt: &'a R, board: &'a Multi<R>, bars: &'a [Bar<R>], number: u64) -> Player<'a, R> {
-        Player {
-            rt,
-            board,
-            bars,
-            number,
-        }
-    }
-
-    /// Makes so many calls by this seed, before some of which it waits for a while; how many lines it logged.
-    pub fn plays(&self, seed: u64, steps: u64) -> Result<u64, Refusal> {
-        let mut numbers = Numbers::new(seed, self.number);
+impl<R: Plays> Player<'_, R> {
+    /// Makes its calls, before some of which it waits for a while; how many lines it logged.
+    pub fn plays(&self) -> Result<u64, Refusal> {
+        let mut numbers = Numbers::new(self.seed, self.number);
         let mut logged: u64 = 0;
-        for step in 0..steps {
+        for step in 0..self.steps {
             self.waits(&mut numbers);
             let deed = Deed::of(numbers.below(16));
             if deed.logs() {
@@ -57,7 +50,7 @@ impl<'a, R: Plays> Player<'a, R> {
     fn waits(&self, numbers: &mut Numbers) {
         if numbers.one_in(3) {
             let nanos = u64::from(numbers.next() % 200_000);
-            sleep(self.rt, Duration::from_nanos(nanos));
+            sleep(&self.rt, Duration::from_nanos(nanos));
         }
     }
 
@@ -71,7 +64,10 @@ impl<'a, R: Plays> Player<'a, R> {
             Deed::TellOff => bar.disable_steady_tick(),
             Deed::ComeAndGo => self.comes_and_goes(),
             Deed::InAndOut => self.in_and_out(),
-            _ => self.draws(deed, bar, step).map(|_| ()),
+            _ => {
+                self.draws(deed, bar, step)?;
+                Ok(())
+            }
         }
     }
 
@@ -98,14 +94,13 @@ impl<'a, R: Plays> Player<'a, R> {
 
     /// A text of this thread at this step.
     fn text(&self, word: &str, step: u64) -> Result<String, Refusal> {
-        let made = format!(in self.rt.alloc(); "{word} {} {step}", self.number);
-        made.map_err(|_| Refusal::Memory)
+        Ok(format!(in self.rt.alloc(); "{word} {} {step}", self.number)?)
     }
 
     /// A bar that is on no board yet.
     fn another(&self) -> Result<Bar<R>, Refusal> {
-        let clock = MachineClock::new(*self.rt);
-        ProgressBar::hidden(*self.rt, self.rt.alloc(), clock)
+        let clock = MachineClock::new(self.rt);
+        ProgressBar::hidden(self.rt, self.rt.alloc(), clock)
     }
 
     /// A bar comes to the end of the board, ticks and steps, and goes with its ticker.

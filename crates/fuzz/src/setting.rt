@@ -123,11 +123,20 @@ pub struct Wrote {
 }
 
 /// The terminal behind a call, and who judges what it was given.
-#[derive(Drop)]
 pub struct Watch {
     alloc: Global,
     record: Rc<Record>,
     judge: Option<Judge>,
+}
+
+impl Drop for Watch {
+    fn drop(self) {
+        let Watch {
+            alloc: _,
+            record: _,
+            judge: _,
+        } = self;
+    }
 }
 
 impl Watch {
@@ -159,14 +168,11 @@ impl Watch {
         self.record.point()
     }
 
-    /// All that it took.
-    pub fn bytes(&self) -> Result<Vec<u8>, Law> {
-        let opening = Point {
-            bytes: 0,
-            calls: 0,
-            failures: 0,
-        };
-        Ok(self.record.since(self.alloc, opening)?)
+    /// It took all that another one did.
+    pub fn has_bytes_of(&self, other: &Record) -> Held {
+        let wanted = other.since(self.alloc, Point::default())?;
+        let bytes = self.record.since(self.alloc, Point::default())?;
+        Law::Replay.holds(bytes == wanted)
     }
 
     /// A text was logged, where that is so.

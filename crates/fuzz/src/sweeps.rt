@@ -19,10 +19,9 @@ mod printing;
 pub mod sweep;
 
 use crate::sweeps::kinds::{KINDS, Kind};
-use crate::sweeps::memory::{Growing, Judging, NAMES, Playing};
+use crate::sweeps::memory::{Growing, Judging, PLAYED, Played, Playing};
 use crate::sweeps::planted::PLANTED;
-use crate::sweeps::printing::Printed;
-use crate::sweeps::sweep::{LARGEST, Runs, Sweep, Tally};
+use crate::sweeps::sweep::{Case, LARGEST, Runs, Sweep, Tally};
 use anyhow::{Result, anyhow};
 use scripts::judged::judge::Finding;
 use scripts::judged::record::Size;
@@ -39,67 +38,54 @@ pub enum Telling {
 }
 
 /// Says what came of a sweep.
-fn say<R: Print>(rt: &R, telling: Telling, name: (&str, &str, &str), tally: Tally) -> Result<()> {
-    let runs = tally.runs;
-    let (kind, sweep, sizes) = name;
-    if let Some(finding) = tally.first {
-        println!(rt;
-            "{kind}, {sweep}{sizes}: {} of {runs} runs differ",
-            tally.differ
-        )?;
-        println!(rt; "  {finding:?}")?;
-        return Ok(());
-    }
+fn say<R: Print>(rt: &R, telling: Telling, tally: Tally) -> Result<()> {
+    let Tally { runs, differ, .. } = tally;
     match telling {
-        Telling::Verdicts => println!(rt; "{kind}, {sweep}{sizes}: as it should be")?,
-        Telling::Counts => {
-            println!(rt; "{kind}, {sweep}{sizes}: {runs} runs, all as they should be")?
-        }
+        _ if differ > 0 => println!(rt; "{differ} of {runs} runs differ")?,
+        Telling::Verdicts => println!(rt; "as it should be")?,
+        Telling::Counts => println!(rt; "{runs} runs, all as they should be")?,
+    }
+    if let Some((Case { size, plan, .. }, found)) = tally.first {
+        println!(rt; "  {size:?}, {plan:?}: {found:?}")?;
     }
     Ok(())
 }
 
-/// What is said of sweeps on terminals of each size.
-const EACH_SIZE: &str = " at each size";
+/// Makes a sweep of a script on terminals of each size.
+fn sweep_each_size<R: Runs + Print>(
+    rt: &R,
+    telling: Telling,
+    kind: Kind,
+    sweep: Sweep,
+) -> Result<()> {
+    print!(rt; "{}, {} at each size: ", kind.name(), sweep.name())?;
+    say(rt, telling, sweep.at_each_size(*rt, kind))
+}
 
 /// The sweeps of a script: at each size, and those of two calls on the largest terminal alone.
-fn swept<R: Runs + Print>(rt: &R, telling: Telling, kind: Kind) -> Result<()> {
+fn sweep_all<R: Runs + Print>(rt: &R, telling: Telling, kind: Kind) -> Result<()> {
     for sweep in [Sweep::EachCall, Sweep::EachByte, Sweep::FromEachCall] {
-        let tally = sweep.at_each_size(*rt, kind);
-        say(rt, telling, (kind.name(), sweep.name(), EACH_SIZE), tally)?;
+        sweep_each_size(rt, telling, kind, sweep)?;
     }
     let sweep = Sweep::EachPair;
-    let tally = sweep.at(*rt, kind, LARGEST);
-    say(rt, telling, (kind.name(), sweep.name(), ""), tally)
+    print!(rt; "{}, {}: ", kind.name(), sweep.name())?;
+    let mut tally = Tally::default();
+    sweep.at(*rt, kind, LARGEST, &mut tally);
+    say(rt, telling, tally)
 }
 
 /// The sweeps of two calls at each size.
-fn paired<R: Runs + Print>(rt: &R) -> Result<()> {
-    let sweep = Sweep::EachPair;
+fn sweep_pairs<R: Runs + Print>(rt: &R) -> Result<()> {
     for kind in KINDS {
-        let tally = sweep.at_each_size(*rt, kind);
-        say(
-            rt,
-            Telling::Counts,
-            (kind.name(), sweep.name(), EACH_SIZE),
-            tally,
-        )?;
+        sweep_each_size(rt, Telling::Counts, kind, Sweep::EachPair)?;
     }
     Ok(())
 }
 
 /// The sweeps of `bars run`.
-fn printed<R: AllocGlobal + Print>(rt: &R, telling: Telling) -> Result<()> {
-    let name = "bars run, each byte and each call of its output fail";
-    let Printed { runs, differ } = printing::each_failure(rt.alloc())?;
-    match telling {
-        _ if differ > 0 => println!(rt; "{name}{EACH_SIZE}: {differ} of {runs} runs differ")?,
-        Telling::Verdicts => println!(rt; "{name}{EACH_SIZE}: as it should be")?,
-        Telling::Counts => {
-            println!(rt; "{name}{EACH_SIZE}: {runs} runs, all as they should be")?
-        }
-    }
-    Ok(())
+fn sweep_program<R: AllocGlobal + Print>(rt: &R, telling: Telling) -> Result<()> {
+    print!(rt; "bars run, each byte and each call of its output fail at each size: ")?;
+    say(rt, telling, printing::each_failure(rt.alloc())?)
 }
 
 /// What is asked for.
@@ -109,8 +95,8 @@ pub enum Asked {
     Sweeps(Telling),
     /// Those of two calls at each size.
     Pairs,
-    /// The script of this number, once.
-    Memory(usize, Playing, Telling),
+    /// This, once.
+    Memory(Played, Playing, Telling),
     /// Nothing that there is.
     Nothing,
 }
@@ -118,16 +104,24 @@ pub enum Asked {
 /// What no word asks for: all sweeps but the longest.
 pub const USUAL: Asked = Asked::Sweeps(Telling::Verdicts);
 
-/// The number of the script of this name.
-fn number_of(name: &str) -> Option<usize> {
-    NAMES.iter().position(|other| *other == name)
+/// What is played by this name.
+fn played_by(name: &str) -> Option<Played> {
+    for (other, played) in PLAYED {
+        if name == other {
+            return Some(played);
+        }
+    }
+    None
+}
+
+/// The number that a word spells.
+fn spelled(word: Option<&str>) -> Option<u16> {
+    word?.parse().ok()
 }
 
 /// The size that is asked for; the largest where none is.
 fn size_of(rows: Option<&str>, cols: Option<&str>) -> Size {
-    let rows = rows.and_then(|rows| rows.parse().ok());
-    let cols = cols.and_then(|cols| cols.parse().ok());
-    match (rows, cols) {
+    match (spelled(rows), spelled(cols)) {
         (Some(rows), Some(cols)) => Size { rows, cols },
         _ => LARGEST,
     }
@@ -160,11 +154,14 @@ pub fn request(mut words: Args) -> Asked {
         growing,
         judging,
     };
-    match (text_of(&first), text_of(&script).and_then(number_of)) {
-        (None, _) => USUAL,
-        (Some("count"), _) => Asked::Sweeps(Telling::Counts),
-        (Some("pairs"), _) => Asked::Pairs,
-        (Some("memory"), Some(script)) => Asked::Memory(script, playing, telling),
+    match text_of(&first) {
+        None => USUAL,
+        Some("count") => Asked::Sweeps(Telling::Counts),
+        Some("pairs") => Asked::Pairs,
+        Some("memory") => match played_by(text_of(&script).unwrap_or("")) {
+            Some(played) => Asked::Memory(played, playing, telling),
+            None => Asked::Nothing,
+        },
         _ => Asked::Nothing,
     }
 }
@@ -180,51 +177,45 @@ fn say_found<R: Print>(rt: &R, telling: Telling, found: Result<Where, Finding>) 
 }
 
 /// Plays each script where memory is refused, once where nothing is.
-fn unrefused<R: Runs + Print>(rt: &R) -> Result<()> {
+fn play_unrefused<R: Runs + Print>(rt: &R) -> Result<()> {
     let playing = Playing {
         size: LARGEST,
         growing: Growing::Terminal,
         judging: Judging::Judged,
     };
-    for name in NAMES {
+    for (name, played) in PLAYED {
         print!(rt; "{name}, memory: ")?;
-        if let Some(found) = memory::found(*rt, name, playing) {
-            say_found(rt, Telling::Counts, found)?;
-        }
+        say_found(rt, Telling::Counts, memory::found(*rt, played, playing))?;
     }
     Ok(())
 }
 
 /// Says what the judge of refused memory finds of wrong bodies.
-fn wrong_bodies<R: AllocGlobal + Print>(rt: &R) -> Result<()> {
+fn play_wrong_bodies<R: Runs + Print>(rt: &R) -> Result<()> {
     for planted in PLANTED {
         print!(rt; "planted, {}: ", planted.name)?;
-        say_found(rt, Telling::Counts, planted::found(rt.alloc(), planted))?;
+        say_found(rt, Telling::Counts, planted::found(*rt, planted))?;
     }
     Ok(())
 }
 
 /// Makes all sweeps.
-fn all_swept<R: Runs + Print>(rt: &R, telling: Telling) -> Result<()> {
+fn sweep_kinds<R: Runs + Print>(rt: &R, telling: Telling) -> Result<()> {
     for kind in KINDS {
-        swept(rt, telling, kind)?;
+        sweep_all(rt, telling, kind)?;
     }
-    printed(rt, telling)?;
-    unrefused(rt)?;
-    wrong_bodies(rt)
+    sweep_program(rt, telling)?;
+    play_unrefused(rt)?;
+    play_wrong_bodies(rt)
 }
 
 /// Does what is asked for.
-pub fn run<R: Runs + Print>(rt: R, asked: Asked) -> Result<()> {
+pub fn run<R: Runs + Print>(rt: &R, asked: Asked) -> Result<()> {
     match asked {
-        Asked::Sweeps(telling) => all_swept(&rt, telling),
-        Asked::Pairs => paired(&rt),
-        Asked::Memory(script, playing, telling) => {
-            let name = NAMES.get(script).copied().unwrap_or("");
-            match memory::found(rt, name, playing) {
-                Some(found) => say_found(&rt, telling, found),
-                None => Ok(()),
-            }
+        Asked::Sweeps(telling) => sweep_kinds(rt, telling),
+        Asked::Pairs => sweep_pairs(rt),
+        Asked::Memory(played, playing, telling) => {
+            say_found(rt, telling, memory::found(*rt, played, playing))
         }
         Asked::Nothing => Err(anyhow!(
             "usage: fuzz sweeps [count | pairs | memory SCRIPT [grows | stays] [count | unjudged] [ROWS COLS]]"

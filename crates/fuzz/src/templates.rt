@@ -5,7 +5,7 @@ use crate::texts::{joined, message};
 use indicatif_bar::state::BarState;
 use indicatif_bar::style::{NoTracker, ProgressStyle};
 use indicatif_term::draw_target::LineType;
-use indicatif_text::columns::{Refusal, pieces};
+use indicatif_text::columns::{Moment, Refusal, pieces};
 use indicatif_text::template::{Part, Template, TemplateError};
 use std::alloc::Global;
 use std::convert::AsStr;
@@ -116,22 +116,28 @@ const CLUSTERS: [(&str, usize); 6] = [
     ("\u{2}", 0),
 ];
 
+/// Whether each of these widths is this one.
+fn are_all(widths: &[usize], width: usize) -> bool {
+    for other in widths {
+        if *other != width {
+            return false;
+        }
+    }
+    true
+}
+
 /// What refuses these clusters.
 fn cluster_refusal(widths: &[usize]) -> Option<Refusal> {
     match widths {
         [] | [_] => Some(Refusal::FewProgressChars),
-        [first, rest @ ..] if !rest.iter().all(|width| *width == *first) => {
-            Some(Refusal::UnequalWidths)
-        }
+        [first, rest @ ..] if !are_all(rest, *first) => Some(Refusal::UnequalWidths),
         [0, ..] => Some(Refusal::ZeroWidthChars),
         _ => None,
     }
 }
 
-/// A style with other clusters, which has to be made or refused as their rule says; the style as it was where it was refused.
-fn reclustered(alloc: Global, numbers: &mut Numbers, style: Style) -> Result<Style, Law> {
-    let mut chars = String::new(alloc);
-    let mut widths: Vec<usize> = Vec::new(alloc);
+/// Up to three clusters, and the columns of each.
+fn push_clusters(numbers: &mut Numbers, chars: &mut String, widths: &mut Vec<usize>) -> Held {
     for _ in 0..numbers.below(4) {
         let count = if numbers.one_in(2) { 3 } else { CLUSTERS.len() };
         let at = numbers.below(count);
@@ -139,29 +145,36 @@ fn reclustered(alloc: Global, numbers: &mut Numbers, style: Style) -> Result<Sty
         chars.push_str(cluster)?;
         widths.push(width)?;
     }
+    Ok(())
+}
+
+/// Gives a style other clusters, which has to be done or refused as their rule says.
+fn recluster(alloc: Global, numbers: &mut Numbers, style: &mut Style) -> Held {
+    let mut chars = String::new(alloc);
+    let mut widths: Vec<usize> = Vec::new(alloc);
+    push_clusters(numbers, &mut chars, &mut widths)?;
     let copy = style.try_clone()?;
     let wanted = cluster_refusal(&widths);
     match copy.progress_chars(chars.as_str()) {
         Ok(made) => {
-            Law::Builder.holds(wanted.is_none())?;
-            Ok(Box::new(alloc, made)?)
+            **style = made;
+            Law::Builder.holds(wanted.is_none())
         }
-        Err(found) => {
-            Law::Builder.holds(wanted == Some(found))?;
-            Ok(style)
-        }
+        Err(found) => Law::Builder.holds(wanted == Some(found)),
     }
 }
 
 /// The same with the texts of a spinner.
-fn respun(alloc: Global, numbers: &mut Numbers, style: Style) -> Result<Style, Law> {
+fn respin(numbers: &mut Numbers, style: &mut Style) -> Held {
     let strings = ["-", "", "国", "ab"];
     let count = numbers.below(5);
     let copy = style.try_clone()?;
     match copy.tick_strings(strings.get(..count).unwrap_or(&[])) {
-        Ok(style) if count > 1 => Ok(Box::new(alloc, style)?),
-        Err(Refusal::FewTicks) if count < 2 => Ok(style),
-        _ => Err(Law::Builder),
+        Ok(made) => {
+            **style = made;
+            Law::Builder.holds(count > 1)
+        }
+        Err(found) => Law::Builder.holds(found == Refusal::FewTicks && count < 2),
     }
 }
 
@@ -174,6 +187,12 @@ fn bar_of(alloc: Global, numbers: &mut Numbers, style: Style) -> Result<Bar, Law
     };
     let bar = BarState::styled(alloc, Box::into_inner(style), len, 0)?;
     let mut bar = Box::new(alloc, bar)?;
+    tell(alloc, numbers, &mut bar)?;
+    Ok(bar)
+}
+
+/// Brings a bar on its way.
+fn tell(alloc: Global, numbers: &mut Numbers, bar: &mut Bar) -> Held {
     bar.with_message(message(alloc, numbers)?.as_str(), 0)?;
     bar.with_prefix(message(alloc, numbers)?.as_str(), 0)?;
     bar.with_tab_width(numbers.below(6), 0)?;
@@ -181,7 +200,7 @@ fn bar_of(alloc: Global, numbers: &mut Numbers, style: Style) -> Result<Bar, Law
     for _ in 0..numbers.below(3) {
         bar.tick(0);
     }
-    Ok(bar)
+    Ok(())
 }
 
 /// The same bar in a copy of its style, with colours or without.
@@ -194,15 +213,22 @@ fn coloured(alloc: Global, bar: &Bar, colours: bool) -> Result<Bar, Law> {
 
 /// No line has a newline or a tab in it.
 fn are_lines(lines: &[LineType]) -> bool {
-    lines.iter().all(|line| {
+    for line in lines {
         let text = line.as_str();
-        !text.contains('\n') && !text.contains('\t')
-    })
+        if text.contains('\n') || text.contains('\t') {
+            return false;
+        }
+    }
+    true
 }
 
 fn are_same(lines: &[LineType], others: &[LineType]) -> bool {
-    let mut pairs = lines.iter().zip(others.iter());
-    lines.len() == others.len() && pairs.all(|(one, other)| one.as_str() == other.as_str())
+    for (one, other) in lines.iter().zip(others.iter()) {
+        if one.as_str() != other.as_str() {
+            return false;
+        }
+    }
+    lines.len() == others.len()
 }
 
 /// The lines without their colours, each with a newline behind it.
@@ -296,18 +322,42 @@ fn is_but_for_white_space(plain: &str, coloured: &str) -> bool {
     next.is_none()
 }
 
+/// When a bar is drawn, and on how many columns.
+type Place = (Moment, u16);
+
+/// The lines of the same bar with colours or without.
+fn coloured_lines(
+    alloc: Global,
+    bar: &Bar,
+    colours: bool,
+    (now, width): Place,
+) -> Result<Vec<LineType>, Law> {
+    let copy = coloured(alloc, bar, colours)?;
+    Ok(copy.lines(now, width)?)
+}
+
+/// Colours change no visible character.
+fn has_same_characters(
+    alloc: Global,
+    plain: &[LineType],
+    coloured: &[LineType],
+    leave: Leave,
+) -> Held {
+    let plain = visible(alloc, plain)?;
+    let coloured = visible(alloc, coloured)?;
+    Law::Colours.holds(leave.holds(plain.as_str(), coloured.as_str()))
+}
+
 /// A bar's lines on any width: they are lines, a copy of the style has the same, and colours change no visible character.
 fn is_laid_out(alloc: Global, numbers: &mut Numbers, bar: &Bar, leave: Leave) -> Held {
     let width = numbers.size(40);
     let now = numbers.next().into();
     let lines = bar.lines(now, width)?;
     Law::Line.holds(are_lines(&lines))?;
-    let plain = coloured(alloc, bar, false)?.lines(now, width)?;
+    let plain = coloured_lines(alloc, bar, false, (now, width))?;
     Law::Copy.holds(are_same(&lines, &plain))?;
-    let colours = coloured(alloc, bar, true)?.lines(now, width)?;
-    let plain = visible(alloc, &plain)?;
-    let colours = visible(alloc, &colours)?;
-    Law::Colours.holds(leave.holds(plain.as_str(), colours.as_str()))
+    let coloured = coloured_lines(alloc, bar, true, (now, width))?;
+    has_same_characters(alloc, &plain, &coloured, leave)
 }
 
 /// A template with a character of no columns at the end of each line.
@@ -325,29 +375,32 @@ fn ended(alloc: Global, text: &str) -> Result<String, Law> {
 
 /// The bar's lines by this template, if it is one.
 fn is_laid_out_by(alloc: Global, numbers: &mut Numbers, bar: &mut Bar, text: &str) -> Held {
-    let Ok(template) = Template::parse(alloc, text) else {
-        return Ok(());
+    let leave = match Template::parse(alloc, text) {
+        Ok(template) => Leave::of(&template),
+        Err(_) => return Ok(()),
     };
     let style = bar.style().try_clone()?.template(text)?;
     bar.with_style(style, 0)?;
-    is_laid_out(alloc, numbers, bar, Leave::of(&template))
+    is_laid_out(alloc, numbers, bar, leave)
 }
 
-/// A random text is a template or is refused, and a style says the same of it; the lines of a bar in this style are lines, and so are
-/// they where each line of the template ends in a character.
+/// The lines of a bar in this style are lines, and so are they where each line of the template ends in a character.
+fn is_styled_so(alloc: Global, numbers: &mut Numbers, mut style: Style, text: &str) -> Held {
+    recluster(alloc, numbers, &mut style)?;
+    respin(numbers, &mut style)?;
+    let mut bar = bar_of(alloc, numbers, style)?;
+    is_laid_out_by(alloc, numbers, &mut bar, text)?;
+    let ended = ended(alloc, text)?;
+    is_laid_out_by(alloc, numbers, &mut bar, ended.as_str())
+}
+
+/// A random text is a template or is refused, and a style says the same of it, and lays lines out as it should.
 pub fn parsed(alloc: Global, numbers: &mut Numbers) -> Held {
     let text = joined(alloc, numbers, &PIECES, 10)?;
     let refusal = refusal_of(alloc, text.as_str())?;
     has_a_fair_beginning(alloc, numbers, text.as_str(), refusal)?;
     match (style_of(alloc, text.as_str())?, refusal) {
-        (Ok(style), None) => {
-            let style = reclustered(alloc, numbers, style)?;
-            let style = respun(alloc, numbers, style)?;
-            let mut bar = bar_of(alloc, numbers, style)?;
-            is_laid_out_by(alloc, numbers, &mut bar, text.as_str())?;
-            let ended = ended(alloc, text.as_str())?;
-            is_laid_out_by(alloc, numbers, &mut bar, ended.as_str())
-        }
+        (Ok(style), None) => is_styled_so(alloc, numbers, style, text.as_str()),
         (Err(found), Some(wanted)) => Law::Style.holds(found == wanted),
         _ => Err(Law::Style),
     }

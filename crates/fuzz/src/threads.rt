@@ -1,12 +1,13 @@
 //! Random calls on a shared board, and what has to hold of it at the end.
 use crate::law::{Held, Law};
-use crate::player::{Bar, Multi, Plays};
+use crate::player::{Bar, Multi, Player, Plays};
 use indicatif::machine::MachineClock;
 use indicatif::{
     Board, Entry, InMemoryTerm, MultiProgress, NoTracker, ProgressBar, ProgressDrawTarget,
     RecordReader, Recorded, Refusal,
 };
 use std::alloc::Global;
+use std::thread::map_indices;
 
 /// How many bars stand on a board all the time.
 const BARS: u32 = 4;
@@ -21,13 +22,13 @@ fn target(alloc: Global) -> Result<ProgressDrawTarget<InMemoryTerm>, Refusal> {
 }
 
 /// A board that keeps its history.
-pub fn board_of<R: Plays>(rt: R) -> Result<Multi<R>, Refusal> {
+fn board_of<R: Plays>(rt: R) -> Result<Multi<R>, Refusal> {
     let clock = MachineClock::new(rt);
     MultiProgress::recorded(rt, rt.alloc(), target(rt.alloc())?, clock, BOARD_ID)
 }
 
 /// Its bars.
-pub fn bars_of<R: Plays>(rt: R, board: &Multi<R>) -> Result<Vec<Bar<R>>, Refusal> {
+fn bars_of<R: Plays>(rt: R, board: &Multi<R>) -> Result<Vec<Bar<R>>, Refusal> {
     let mut bars = Vec::new(rt.alloc());
     for _ in 0..BARS {
         let bar = ProgressBar::hidden(rt, rt.alloc(), MachineClock::new(rt))?;
@@ -107,19 +108,60 @@ impl RecordReader<InMemoryTerm, NoTracker> for RunsAgain {
     }
 }
 
-/// What four threads logged on a board stands there, and its history is one run.
-pub fn judged<R: Plays>(
+/// Random calls of threads on a board: their seed, and how many each makes.
+#[derive(Clone, Copy, Drop)]
+pub struct Random {
+    pub seed: u64,
+    pub steps: u64,
+}
+
+/// How many threads there are.
+const THREADS: usize = 4;
+
+/// What the thread of this number does, counted from 0; how many lines it logged.
+fn played_by<R: Plays>(
     rt: R,
     board: &Multi<R>,
     bars: &[Bar<R>],
-    logged: [Result<u64, Refusal>; 4],
-) -> Held {
-    let [one, two, three, four] = logged;
-    let logged = one?
-        .wrapping_add(two?)
-        .wrapping_add(three?)
-        .wrapping_add(four?);
+    (random, number): (Random, usize),
+) -> Result<u64, Refusal> {
+    let player = Player {
+        rt,
+        board,
+        bars,
+        number: (number as u64).wrapping_add(1),
+        seed: random.seed,
+        steps: random.steps,
+    };
+    player.plays()
+}
+
+/// Threads make random calls; how many lines they logged.
+fn logged_by_all<R: Plays>(
+    rt: R,
+    board: &Multi<R>,
+    bars: &[Bar<R>],
+    random: Random,
+) -> Result<u64, Refusal> {
+    let plays = |number: usize| played_by(rt, board, bars, (random, number));
+    let mut total: u64 = 0;
+    for logged in map_indices(&rt, rt.alloc(), THREADS, &plays)? {
+        total = total.wrapping_add(logged?);
+    }
+    Ok(total)
+}
+
+/// Threads make random calls of a board and its bars: what they logged stands there, and its history is one run.
+fn played_on<R: Plays>(rt: R, board: &Multi<R>, bars: &[Bar<R>], random: Random) -> Held {
+    let logged = logged_by_all(rt, board, bars, random)?;
     come_to_rest(bars)?;
     let alloc = rt.alloc();
     board.with_record(RunsAgain { alloc, logged })
+}
+
+/// Threads make random calls of a new board, as they should.
+pub fn played<R: Plays>(rt: R, random: Random) -> Held {
+    let board = board_of(rt)?;
+    let bars = bars_of(rt, &board)?;
+    played_on(rt, &board, &bars, random)
 }

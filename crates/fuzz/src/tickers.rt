@@ -2,15 +2,16 @@
 use crate::player::{Bar, Plays};
 use indicatif::machine::MachineClock;
 use indicatif::{InMemoryTerm, ProgressBar, ProgressDrawTarget, Refusal, Setup};
+use std::thread::map_indices;
 
 /// How often each thread calls.
-const TIMES: u64 = 200;
+pub const TIMES: u64 = 200;
 
 /// A millisecond.
 const OFTEN: u64 = 1_000_000;
 
 /// A bar on a terminal of 4 rows and 30 columns.
-pub fn bar_of<R: Plays>(rt: R) -> Result<Bar<R>, Refusal> {
+fn bar_of<R: Plays>(rt: R) -> Result<Bar<R>, Refusal> {
     let setup = Setup {
         target: ProgressDrawTarget::term_like(InMemoryTerm::new(rt.alloc(), 4, 30)?),
         clock: MachineClock::new(rt),
@@ -18,18 +19,28 @@ pub fn bar_of<R: Plays>(rt: R) -> Result<Bar<R>, Refusal> {
     ProgressBar::new(rt, rt.alloc(), 10, setup)
 }
 
-/// Tells the bar's ticker on, again and again; how often.
-pub fn tell_on<R: Plays>(bar: &Bar<R>) -> Result<u64, Refusal> {
+/// Tells the bar's ticker on, or off, again and again.
+fn tell<R: Plays>(bar: &Bar<R>, on: bool) -> Result<(), Refusal> {
     for _ in 0..TIMES {
-        bar.enable_steady_tick(OFTEN)?;
+        match on {
+            true => bar.enable_steady_tick(OFTEN)?,
+            false => bar.disable_steady_tick()?,
+        }
     }
-    Ok(TIMES)
+    Ok(())
 }
 
-/// Tells it off, again and again; how often.
-pub fn tell_off<R: Plays>(bar: &Bar<R>) -> Result<u64, Refusal> {
-    for _ in 0..TIMES {
-        bar.disable_steady_tick()?;
+/// One thread tells the bar's ticker on, and another off.
+fn tell_both<R: Plays>(rt: R, bar: &Bar<R>) -> Result<(), Refusal> {
+    let tells = |number: usize| tell(bar, number == 0);
+    for told in map_indices(&rt, rt.alloc(), 2, &tells)? {
+        told?;
     }
-    Ok(TIMES)
+    bar.disable_steady_tick()
+}
+
+/// Two threads tell the ticker of a new bar on and off; both come to an end.
+pub fn played<R: Plays>(rt: R) -> Result<(), Refusal> {
+    let bar = bar_of(rt)?;
+    tell_both(rt, &bar)
 }

@@ -1,17 +1,16 @@
 //! Random lists of calls to an engine, and to one whose cursor only moves, beside one that writes whole frames: rows and cursor have
 //! to be the same behind each call.
 //!
-//! - `whole`: the engine that writes whole frames. `calls`: random calls. `chance`: random numbers.
+//! - `whole`: the engine that writes whole frames. `calls`: random calls.
 //!
 //! `fuzz whole_frames` plays a thousand lists; `fuzz whole_frames SEED COUNT` so many by that seed. `fuzz whole_frames SEED COUNT bytes`
 //! prints, of each list, the terminal's rows and columns, and then what each of the three engines writes, as a text between quotes, a line
 //! each.
 mod calls;
-mod chance;
 mod whole;
 
+use crate::numbers::Numbers;
 use crate::whole_frames::calls::{Call, Frame};
-use crate::whole_frames::chance::Chance;
 use crate::whole_frames::whole::WholeFrames;
 use anyhow::Result;
 use indicatif_term::draw_target::{Engine, MultiProgressAlignment};
@@ -24,12 +23,24 @@ use std::env::Args;
 /// How many calls a list has.
 const CALLS: u32 = 16;
 
+/// The stream of random numbers.
+const STREAM: u64 = 54;
+
 /// The engines, each on a terminal of its own.
-#[derive(Drop)]
 struct Three<T: TermLike + Drop> {
     engine: Engine<T>,
     moving: Engine<T>,
     whole: WholeFrames<T>,
+}
+
+impl<T: TermLike + Drop> Drop for Three<T> {
+    fn drop(self) {
+        let Three {
+            engine: _,
+            moving: _,
+            whole: _,
+        } = self;
+    }
 }
 
 impl<T: TermLike + Drop> Three<T> {
@@ -46,27 +57,27 @@ impl<T: TermLike + Drop> Three<T> {
     /// Whether all answer the same to a call.
     fn agree(&mut self, call: &Call, frame: &Frame, alignment: MultiProgressAlignment) -> bool {
         let bars = frame.bars();
-        match call {
-            Call::Draw(pass) => {
-                let whole = self.whole.draw(bars, *pass, alignment);
-                self.engine.draw(bars, *pass, alignment) == whole
-                    && self.moving.draw(bars, *pass, alignment) == whole
-            }
-            Call::Log(text) => {
-                let text = text.as_str();
-                let whole = self.whole.log(text, bars, alignment);
-                self.engine.log(text, bars, alignment) == whole
-                    && self.moving.log(text, bars, alignment) == whole
-            }
-            Call::Clear => {
-                let whole = self.whole.clear();
-                self.engine.clear() == whole && self.moving.clear() == whole
-            }
-            Call::Keep(bar) => {
-                let whole = self.whole.keep(*bar);
-                self.engine.keep(*bar) == whole && self.moving.keep(*bar) == whole
-            }
-        }
+        let [engine, moving, whole] = match call {
+            Call::Draw(pass) => [
+                self.engine.draw(bars, *pass, alignment),
+                self.moving.draw(bars, *pass, alignment),
+                self.whole.draw(bars, *pass, alignment),
+            ],
+            Call::Log(text) => [
+                self.engine.log(text.as_str(), bars, alignment),
+                self.moving.log(text.as_str(), bars, alignment),
+                self.whole.log(text.as_str(), bars, alignment),
+            ],
+            Call::Clear => [self.engine.clear(), self.moving.clear(), self.whole.clear()],
+            Call::Keep(bar) => return self.keep_alike(*bar),
+        };
+        engine == whole && moving == whole
+    }
+
+    /// Whether all keep a bar, or none.
+    fn keep_alike(&mut self, bar: u64) -> bool {
+        let whole = self.whole.keep(bar);
+        self.engine.keep(bar) == whole && self.moving.keep(bar) == whole
     }
 }
 
@@ -88,9 +99,9 @@ struct Size {
     cols: u16,
 }
 
-fn size_by(chance: &mut Chance) -> Size {
-    let rows = 1 + chance.below(5) as u16;
-    let cols = 1 + chance.below(7) as u16;
+fn size_by(numbers: &mut Numbers) -> Size {
+    let rows = 1 + numbers.below(5) as u16;
+    let cols = 1 + numbers.below(7) as u16;
     Size { rows, cols }
 }
 
@@ -98,11 +109,14 @@ fn size_by(chance: &mut Chance) -> Size {
 fn step<T: TermLike + Drop>(
     three: &mut Three<T>,
     frame: &mut Frame,
-    chance: &mut Chance,
+    numbers: &mut Numbers,
 ) -> Result<bool, Refusal> {
-    frame.change(chance)?;
-    let alignment = chance.alignment();
-    let call = frame.call(chance)?;
+    frame.change(numbers)?;
+    let alignment = match numbers.below(4) {
+        0 => MultiProgressAlignment::Bottom,
+        _ => MultiProgressAlignment::Top,
+    };
+    let call = frame.call(numbers)?;
     let agreed = three.agree(&call, frame, alignment);
     frame.follow(&call);
     Ok(agreed)
@@ -117,20 +131,20 @@ fn in_memory(alloc: Global, size: Size) -> Result<Three<InMemoryTerm>, Refusal> 
 }
 
 /// Plays one list of calls; the number of the first one behind which they differ, from 1.
-fn played(alloc: Global, chance: &mut Chance) -> Result<Option<u32>, Refusal> {
-    let mut three = in_memory(alloc, size_by(chance))?;
+fn played(alloc: Global, numbers: &mut Numbers) -> Result<Option<u32>, Refusal> {
+    let mut three = in_memory(alloc, size_by(numbers))?;
     let mut frame = Frame::new(alloc);
-    first_difference(&mut three, &mut frame, chance)
+    first_difference(&mut three, &mut frame, numbers)
 }
 
 /// The number of the first call behind which they differ, from 1.
 fn first_difference(
     three: &mut Three<InMemoryTerm>,
     frame: &mut Frame,
-    chance: &mut Chance,
+    numbers: &mut Numbers,
 ) -> Result<Option<u32>, Refusal> {
     for at in 0..CALLS {
-        if !step(three, frame, chance)? || !is_same(three)? {
+        if !step(three, frame, numbers)? || !is_same(three)? {
             return Ok(Some(at + 1));
         }
     }
@@ -143,14 +157,14 @@ fn behind(alloc: Global, size: Size) -> Term<Vec<u8>> {
 }
 
 /// Plays one list of calls, and prints what each engine writes.
-fn print_written<R: AllocGlobal + Print>(rt: &R, chance: &mut Chance) -> Result<()> {
+fn print_written<R: AllocGlobal + Print>(rt: &R, numbers: &mut Numbers) -> Result<()> {
     let alloc = rt.alloc();
-    let size = size_by(chance);
+    let size = size_by(numbers);
     println!(rt; "{} {}", size.rows, size.cols)?;
     let term = behind(alloc, size);
     let mut three = Three::new(alloc, term, behind(alloc, size), behind(alloc, size));
     let mut frame = Frame::new(alloc);
-    print_calls(rt, &mut three, &mut frame, chance)
+    print_calls(rt, &mut three, &mut frame, numbers)
 }
 
 /// Plays the calls of a list, and prints what each engine wrote.
@@ -158,10 +172,10 @@ fn print_calls<R: Print>(
     rt: &R,
     three: &mut Three<Term<Vec<u8>>>,
     frame: &mut Frame,
-    chance: &mut Chance,
+    numbers: &mut Numbers,
 ) -> Result<()> {
     for _ in 0..CALLS {
-        step(three, frame, chance)?;
+        step(three, frame, numbers)?;
     }
     print_bytes(rt, three.engine.term())?;
     print_bytes(rt, three.moving.term())?;
@@ -214,25 +228,25 @@ pub fn request(mut words: Args) -> Asked {
 
 /// Does what is asked for.
 pub fn run<R: AllocGlobal + Print>(rt: &R, asked: Asked) -> Result<()> {
-    let mut chance = Chance::new(asked.seed);
+    let mut numbers = Numbers::new(asked.seed, STREAM);
     match asked.prints {
-        true => print_all(rt, &mut chance, asked.count),
-        false => compare(rt, &mut chance, asked.count),
+        true => print_all(rt, &mut numbers, asked.count),
+        false => compare(rt, &mut numbers, asked.count),
     }
 }
 
 /// Prints what so many lists write.
-fn print_all<R: AllocGlobal + Print>(rt: &R, chance: &mut Chance, count: u64) -> Result<()> {
+fn print_all<R: AllocGlobal + Print>(rt: &R, numbers: &mut Numbers, count: u64) -> Result<()> {
     for _ in 0..count {
-        print_written(rt, chance)?;
+        print_written(rt, numbers)?;
     }
     Ok(())
 }
 
 /// Plays so many lists, up to the first one in which the engines differ.
-fn compare<R: AllocGlobal + Print>(rt: &R, chance: &mut Chance, count: u64) -> Result<()> {
+fn compare<R: AllocGlobal + Print>(rt: &R, numbers: &mut Numbers, count: u64) -> Result<()> {
     for at in 0..count {
-        if let Some(call) = played(rt.alloc(), chance)? {
+        if let Some(call) = played(rt.alloc(), numbers)? {
             println!(rt; "list {at}: they differ behind call {call}")?;
             return Ok(());
         }

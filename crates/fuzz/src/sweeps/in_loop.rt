@@ -2,9 +2,8 @@
 use indicatif::{
     Drawn, NoTracker, OwnedBar, ProgressBarIter, ProgressDrawTarget, Refusal, Setup, StepClock,
 };
-use scripts::judged::played::Stage;
 use scripts::judged::record::Behind;
-use scripts::judged::script::{Said, Step};
+use scripts::judged::script::Said;
 use std::alloc::Global;
 use std::ops::Range;
 
@@ -27,15 +26,10 @@ impl InLoop {
         let items = Box::new(alloc, ProgressBarIter::new(0..5, bar))?;
         Ok(InLoop { items })
     }
-}
 
-impl Stage for InLoop {
-    fn make(&mut self, _step: Step) -> Said {
+    /// The next item.
+    pub fn goes_on(&mut self) -> Said {
         let _ = self.items.next();
         self.items.last_draw().unwrap_or(Ok(Drawn::Limited))
-    }
-
-    fn order(&self) -> &[u64] {
-        &[]
     }
 }

@@ -1,18 +1,20 @@
 //! What plays a script.
 use crate::sweeps::in_loop::InLoop;
 use crate::sweeps::on_shared::OnShared;
-use crate::sweeps::sweep::Case;
+use crate::sweeps::sweep::{Case, Runs};
+use indicatif_text::columns::Refusal;
 use scripts::judged::judge::{Finding, Judge};
 use scripts::judged::on_bar::OnBar;
 use scripts::judged::on_board::OnBoard;
 use scripts::judged::played::{Stage, played};
-use scripts::judged::record::{Point, Record};
-use scripts::judged::script::{BOARD, LONE, SHARED, SIZED_BOARD, SIZED_LONE, Step};
-use std::alloc::Global;
+use scripts::judged::record::{Behind, Point, Record, Size};
+use scripts::judged::refused::Stages;
+use scripts::judged::script::{BOARD, LONE, SHARED, SIZED_BOARD, SIZED_LONE, Said, Step};
+use std::rc::Rc;
 use std::sync::Wait;
 
 /// What plays a script.
-#[derive(Clone, Copy, Debug, Drop)]
+#[derive(Clone, Copy, Drop)]
 pub enum Kind {
     Board,
     /// A board whose cursor only moves.
@@ -38,7 +40,7 @@ pub const KINDS: [Kind; 7] = [
 ];
 
 /// The calls of a loop over five items, the last of which finds its end.
-pub const LOOP: [Step; 6] = [Step::Tick(0); 6];
+const LOOP: [Step; 6] = [Step::Tick(0); 6];
 
 impl Kind {
     /// Its name.
@@ -55,7 +57,7 @@ impl Kind {
     }
 
     /// Its script.
-    fn script(self) -> &'static [Step] {
+    pub fn script(self) -> &'static [Step] {
         match self {
             Kind::Board | Kind::Moving => &BOARD,
             Kind::Shared => &SHARED,
@@ -77,6 +79,71 @@ impl Kind {
     }
 }
 
+/// What makes the calls of a script.
+pub enum Player<R: Wait + Copy + Clone + Drop> {
+    Board(OnBoard<Behind>),
+    Bar(OnBar<Behind>),
+    Shared(OnShared<R>),
+    Loop(InLoop),
+}
+
+impl<R: Wait + Copy + Clone + Drop> Drop for Player<R> {
+    fn drop(self) {
+        match self {
+            Player::Board(_) => (),
+            Player::Bar(_) => (),
+            Player::Shared(_) => (),
+            Player::Loop(_) => (),
+        }
+    }
+}
+
+impl<R: Wait + Copy + Clone + Drop> Stage for Player<R> {
+    fn make(&mut self, step: Step) -> Said {
+        match self {
+            Player::Board(stage) => stage.make(step),
+            Player::Bar(stage) => stage.make(step),
+            Player::Shared(stage) => stage.make(step),
+            Player::Loop(stage) => stage.goes_on(),
+        }
+    }
+
+    fn order(&self) -> &[u64] {
+        match self {
+            Player::Board(stage) => stage.order(),
+            Player::Bar(_) | Player::Shared(_) | Player::Loop(_) => &[],
+        }
+    }
+}
+
+/// What makes the calls of scripts of a kind, on terminals of a size.
+#[derive(Drop)]
+pub struct Players<R> {
+    pub rt: R,
+    pub kind: Kind,
+    pub size: Size,
+}
+
+impl<R: Runs> Stages for Players<R> {
+    type Made = Player<R>;
+
+    fn on(&self, record: &Rc<Record>) -> Result<Player<R>, Refusal> {
+        let alloc = self.rt.alloc();
+        let term = self.size.terminal(record)?;
+        Ok(match self.kind {
+            Kind::Board | Kind::Sized => Player::Board(OnBoard::new(alloc, term)?),
+            Kind::Moving => Player::Board(OnBoard::moving(alloc, term)?),
+            Kind::Lone | Kind::SizedLone => Player::Bar(OnBar::new(alloc, term)?),
+            Kind::Shared => Player::Shared(OnShared::new(self.rt, term, record)?),
+            Kind::Loop => Player::Loop(InLoop::new(alloc, term)?),
+        })
+    }
+
+    fn script(&self) -> &'static [Step] {
+        self.kind.script()
+    }
+}
+
 /// What came of a run: how many of its calls failed, and what the writer was given.
 #[derive(Clone, Copy, Drop)]
 pub struct Outcome {
@@ -88,46 +155,23 @@ pub struct Outcome {
 const ROOM: usize = 4096;
 
 /// Plays a script on a terminal that fails as planned, and the draw behind it on one that doesn't.
-pub fn run<R: AllocGlobal + Wait + Copy + Clone + Drop>(
-    rt: R,
-    case: Case,
-) -> Result<Outcome, Finding> {
+pub fn run<R: Runs>(rt: R, case: Case) -> Result<Outcome, Finding> {
+    let Case { kind, size, .. } = case;
     let record = Record::new(rt.alloc(), case.plan, ROOM)?;
-    let term = case.size.terminal(&record)?;
-    match case.kind {
-        Kind::Board | Kind::Sized => {
-            let stage = OnBoard::new(rt.alloc(), term)?;
-            judged(rt.alloc(), stage, &record, case)
-        }
-        Kind::Moving => {
-            let stage = OnBoard::moving(rt.alloc(), term)?;
-            judged(rt.alloc(), stage, &record, case)
-        }
-        Kind::Lone | Kind::SizedLone => {
-            let stage = OnBar::new(rt.alloc(), term)?;
-            judged(rt.alloc(), stage, &record, case)
-        }
-        Kind::Shared => {
-            let stage = OnShared::new(rt, term, record.clone()?)?;
-            judged(rt.alloc(), stage, &record, case)
-        }
-        Kind::Loop => {
-            let stage = InLoop::new(rt.alloc(), term)?;
-            judged(rt.alloc(), stage, &record, case)
-        }
-    }
+    let mut judge = Judge::new(rt.alloc(), size, case.look)?;
+    let mut stage = Players { rt, kind, size }.on(&record)?;
+    judged(&mut stage, &record, kind, &mut judge)
 }
 
-fn judged<S: Stage + Drop>(
-    alloc: Global,
-    mut stage: S,
+fn judged<S: Stage>(
+    stage: &mut S,
     record: &Record,
-    case: Case,
+    kind: Kind,
+    judge: &mut Judge,
 ) -> Result<Outcome, Finding> {
-    let mut judge = Judge::new(alloc, case.size, case.look)?;
-    let failed = played(&mut stage, record, case.kind.script(), &mut judge)?;
+    let failed = played(stage, record, kind.script(), judge)?;
     let point = record.point();
     record.heal();
-    played(&mut stage, record, case.kind.last(), &mut judge)?;
+    played(stage, record, kind.last(), judge)?;
     Ok(Outcome { failed, point })
 }

@@ -1,99 +1,16 @@
 //! Scripts where memory may be refused once.
-use crate::sweeps::in_loop::InLoop;
-use crate::sweeps::kinds::LOOP;
-use crate::sweeps::on_shared::OnShared;
+use crate::sweeps::kinds::{Kind, Players};
 use crate::sweeps::printing;
 use crate::sweeps::sweep::Runs;
 use indicatif_text::columns::Refusal;
 use scripts::judged::judge::Finding;
-use scripts::judged::on_bar::OnBar;
-use scripts::judged::on_board::OnBoard;
-use scripts::judged::record::{Behind, Plan, Record, Size};
+use scripts::judged::record::{Plan, Record, Size};
 use scripts::judged::refused::{Notes, Run, Stages, Where, noted};
-use scripts::judged::script::{BOARD, LONE, SHARED, SIZED_BOARD, SIZED_LONE, Step};
 use std::alloc::Global;
 use std::rc::Rc;
 
 /// How many bytes the terminal's writer has room for from the first, where it takes no memory.
 const ROOM: usize = 4096;
-
-/// Boards on terminals of a size, and what they play.
-#[derive(Drop)]
-pub struct Boards {
-    pub alloc: Global,
-    pub size: Size,
-    pub script: &'static [Step],
-}
-
-impl Stages for Boards {
-    type Made = OnBoard<Behind>;
-
-    fn on(&self, record: &Rc<Record>) -> Result<OnBoard<Behind>, Refusal> {
-        OnBoard::new(self.alloc, self.size.terminal(record)?)
-    }
-
-    fn script(&self) -> &'static [Step] {
-        self.script
-    }
-}
-
-/// Lone bars on terminals of a size, and what they play.
-#[derive(Drop)]
-struct Bars {
-    alloc: Global,
-    size: Size,
-    script: &'static [Step],
-}
-
-impl Stages for Bars {
-    type Made = OnBar<Behind>;
-
-    fn on(&self, record: &Rc<Record>) -> Result<OnBar<Behind>, Refusal> {
-        OnBar::new(self.alloc, self.size.terminal(record)?)
-    }
-
-    fn script(&self) -> &'static [Step] {
-        self.script
-    }
-}
-
-/// Loops with a bar on terminals of a size.
-#[derive(Drop)]
-struct Loops {
-    alloc: Global,
-    size: Size,
-}
-
-impl Stages for Loops {
-    type Made = InLoop;
-
-    fn on(&self, record: &Rc<Record>) -> Result<InLoop, Refusal> {
-        InLoop::new(self.alloc, self.size.terminal(record)?)
-    }
-
-    fn script(&self) -> &'static [Step] {
-        &LOOP
-    }
-}
-
-/// Shared boards on terminals of a size.
-#[derive(Drop)]
-struct Shared<R: Drop> {
-    rt: R,
-    size: Size,
-}
-
-impl<R: Runs> Stages for Shared<R> {
-    type Made = OnShared<R>;
-
-    fn on(&self, record: &Rc<Record>) -> Result<OnShared<R>, Refusal> {
-        OnShared::new(self.rt, self.size.terminal(record)?, record.clone()?)
-    }
-
-    fn script(&self) -> &'static [Step] {
-        &SHARED
-    }
-}
 
 /// Where memory is taken and may be refused.
 #[derive(Clone, Copy, Drop)]
@@ -129,10 +46,11 @@ fn room(growing: Growing) -> usize {
     }
 }
 
-fn record_of(alloc: Global, growing: Growing) -> Result<Rc<Record>, Refusal> {
-    match Record::new(alloc, Plan::Never, room(growing)) {
+/// A record with this room of a terminal that doesn't fail; it is made once more where memory was refused.
+pub fn record_of(alloc: Global, room: usize) -> Result<Rc<Record>, Refusal> {
+    match Record::new(alloc, Plan::Never, room) {
         Ok(record) => Ok(record),
-        Err(_) => Record::new(alloc, Plan::Never, room(growing)),
+        Err(_) => Record::new(alloc, Plan::Never, room),
     }
 }
 
@@ -143,16 +61,24 @@ fn notes_of(alloc: Global) -> Result<Notes, Finding> {
     }
 }
 
-/// Plays a script, and judges it; once more where the judge finds no memory.
-fn played_by<M: Stages>(alloc: Global, stages: &M, playing: Playing) -> Result<Where, Finding> {
-    let record = record_of(alloc, playing.growing)?;
-    let mut notes = notes_of(alloc)?;
-    let mut stage = match stages.on(&record) {
+/// Plays a script, and notes what its calls do; whether there was memory for what plays it.
+fn note<M: Stages>(stages: &M, record: &Rc<Record>, notes: &mut Notes) -> Result<bool, Finding> {
+    let mut stage = match stages.on(record) {
         Ok(stage) => stage,
-        Err(Refusal::Memory) => return Ok(Where::Unmade),
+        Err(Refusal::Memory) => return Ok(false),
         Err(_) => return Err(Finding::Answer),
     };
-    noted(&mut stage, &record, stages.script(), &mut notes)?;
+    noted(&mut stage, record, stages.script(), notes)?;
+    Ok(true)
+}
+
+/// Plays a script, and judges it; once more where the judge finds no memory.
+fn played_by<M: Stages>(alloc: Global, stages: &M, playing: Playing) -> Result<Where, Finding> {
+    let record = record_of(alloc, room(playing.growing))?;
+    let mut notes = notes_of(alloc)?;
+    if !note(stages, &record, &mut notes)? {
+        return Ok(Where::Unmade);
+    }
     if let Judging::Unjudged = playing.judging {
         return Ok(Where::Nowhere);
     }
@@ -169,59 +95,32 @@ fn played_by<M: Stages>(alloc: Global, stages: &M, playing: Playing) -> Result<W
     }
 }
 
-/// What plays a script, by its name.
-pub const NAMES: [&str; 7] = [
-    "board",
-    "sized-board",
-    "lone",
-    "sized-lone",
-    "shared",
-    "loop",
-    "run",
+/// What is played: a script, or `bars run`.
+#[derive(Clone, Copy, Drop)]
+pub enum Played {
+    Script(Kind),
+    Program,
+}
+
+/// What is played, by its name.
+pub const PLAYED: [(&str, Played); 7] = [
+    ("board", Played::Script(Kind::Board)),
+    ("sized-board", Played::Script(Kind::Sized)),
+    ("lone", Played::Script(Kind::Lone)),
+    ("sized-lone", Played::Script(Kind::SizedLone)),
+    ("shared", Played::Script(Kind::Shared)),
+    ("loop", Played::Script(Kind::Loop)),
+    ("run", Played::Program),
 ];
 
-/// What a board's script came to.
-fn found_on_board(
-    alloc: Global,
-    script: &'static [Step],
-    playing: Playing,
-) -> Result<Where, Finding> {
+/// Where memory was refused in what is played.
+pub fn found<R: Runs>(rt: R, played: Played, playing: Playing) -> Result<Where, Finding> {
     let size = playing.size;
-    let boards = Boards {
-        alloc,
-        size,
-        script,
-    };
-    played_by(alloc, &boards, playing)
-}
-
-/// What a lone bar's script came to.
-fn found_on_bar(
-    alloc: Global,
-    script: &'static [Step],
-    playing: Playing,
-) -> Result<Where, Finding> {
-    let size = playing.size;
-    let bars = Bars {
-        alloc,
-        size,
-        script,
-    };
-    played_by(alloc, &bars, playing)
-}
-
-/// Where memory was refused in the script of a name; nothing where there is no such script.
-pub fn found<R: Runs>(rt: R, name: &str, playing: Playing) -> Option<Result<Where, Finding>> {
-    let alloc = rt.alloc();
-    let size = playing.size;
-    Some(match name {
-        "board" => found_on_board(alloc, &BOARD, playing),
-        "sized-board" => found_on_board(alloc, &SIZED_BOARD, playing),
-        "lone" => found_on_bar(alloc, &LONE, playing),
-        "sized-lone" => found_on_bar(alloc, &SIZED_LONE, playing),
-        "shared" => played_by(alloc, &Shared { rt, size }, playing),
-        "loop" => played_by(alloc, &Loops { alloc, size }, playing),
-        "run" => printing::refused(alloc),
-        _ => return None,
-    })
+    match played {
+        Played::Script(kind) => {
+            let alloc = rt.alloc();
+            played_by(alloc, &Players { rt, kind, size }, playing)
+        }
+        Played::Program => printing::refused(rt.alloc()),
+    }
 }

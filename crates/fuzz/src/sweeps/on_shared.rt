@@ -4,7 +4,6 @@ use indicatif::{
     ProgressStyle, Refusal, Setup, StepClock,
 };
 use scripts::judged::on_board::done;
-use scripts::judged::played::Stage;
 use scripts::judged::record::{Behind, Record};
 use scripts::judged::script::{Said, Step};
 use std::alloc::Global;
@@ -28,8 +27,10 @@ pub struct OnShared<R: Wait + Copy + Clone + Drop> {
 
 impl<R: AllocGlobal + Wait + Copy + Clone + Drop> OnShared<R> {
     /// A board without bars on this terminal.
-    pub fn new(rt: R, term: Behind, record: Rc<Record>) -> Result<OnShared<R>, Refusal> {
+    pub fn new(rt: R, term: Behind, record: &Rc<Record>) -> Result<OnShared<R>, Refusal> {
         let alloc = rt.alloc();
+        let record = record.clone()?;
+        let bars = Vec::with_capacity(alloc, 8)?;
         let setup = Setup {
             target: ProgressDrawTarget::term_like(term),
             clock: CLOCK,
@@ -38,7 +39,7 @@ impl<R: AllocGlobal + Wait + Copy + Clone + Drop> OnShared<R> {
             rt,
             alloc,
             board: MultiProgress::new(rt, alloc, setup, 1)?,
-            bars: Vec::with_capacity(alloc, 8)?,
+            bars,
             record,
         })
     }
@@ -110,10 +111,9 @@ impl<R: Wait + Copy + Clone + Drop> OnShared<R> {
             _ => Err(Refusal::NotMember),
         }
     }
-}
 
-impl<R: Wait + Copy + Clone + Drop> Stage for OnShared<R> {
-    fn make(&mut self, step: Step) -> Said {
+    /// Makes a call.
+    pub fn make(&mut self, step: Step) -> Said {
         match step {
             Step::Tick(bar) => self.bar(bar)?.tick(),
             Step::Message(bar, text) => self.bar(bar)?.set_message(text),
@@ -125,9 +125,5 @@ impl<R: Wait + Copy + Clone + Drop> Stage for OnShared<R> {
             Step::Suspend => self.board.suspend(|| ()).1,
             _ => done(self.settles(step)),
         }
-    }
-
-    fn order(&self) -> &[u64] {
-        &[]
     }
 }

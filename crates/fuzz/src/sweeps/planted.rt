@@ -1,13 +1,13 @@
 //! A board with a wrong body in one of its calls, so that it shows what the judge of refused memory finds.
-use crate::sweeps::memory::Boards;
-use crate::sweeps::sweep::LARGEST;
+use crate::sweeps::kinds::{Kind, Players};
+use crate::sweeps::sweep::{LARGEST, Runs};
 use indicatif_text::columns::{Drawn, Refusal};
 use scripts::judged::judge::Finding;
 use scripts::judged::on_board::OnBoard;
 use scripts::judged::played::Stage;
 use scripts::judged::record::{Behind, Plan, Record, Size, Wire};
 use scripts::judged::refused::{Notes, Run, Where, noted};
-use scripts::judged::script::{BOARD, SIZED_BOARD, Said, Step};
+use scripts::judged::script::{Said, Step};
 use std::alloc::Global;
 use std::io::Write;
 use std::rc::Rc;
@@ -23,11 +23,11 @@ enum Body {
     Makes(Step),
 }
 
-/// A wrong body of calls of a board's script: which calls these are, what each does, and what it answers.
+/// A wrong body of calls of a board's script: whose calls, which of them, what each does, and what it answers.
 #[derive(Clone, Copy, Drop)]
 pub struct Planted {
     pub name: &'static str,
-    script: &'static [Step],
+    kind: Kind,
     at: &'static [usize],
     body: Body,
     said: Said,
@@ -41,105 +41,105 @@ const REFUSED: Said = Err(Refusal::Memory);
 pub const PLANTED: [Planted; 15] = [
     Planted {
         name: "a draw does nothing",
-        script: &BOARD,
+        kind: Kind::Board,
         at: &[4],
         body: Body::Nothing,
         said: REFUSED,
     },
     Planted {
         name: "a message is set",
-        script: &BOARD,
+        kind: Kind::Board,
         at: &[8],
         body: Body::Makes(Step::Told(2, "c")),
         said: REFUSED,
     },
     Planted {
         name: "a draw writes a byte first",
-        script: &BOARD,
+        kind: Kind::Board,
         at: &[4],
         body: Body::Writes("\r"),
         said: REFUSED,
     },
     Planted {
         name: "a draw empties a row above",
-        script: &BOARD,
+        kind: Kind::Board,
         at: &[4],
         body: Body::Writes("\x1B[9A\r\x1B[2K"),
         said: REFUSED,
     },
     Planted {
         name: "a bar is taken in",
-        script: &BOARD,
+        kind: Kind::Board,
         at: &[2],
         body: Body::Makes(Step::Add("bb")),
         said: REFUSED,
     },
     Planted {
         name: "a bar is taken out",
-        script: &BOARD,
+        kind: Kind::Board,
         at: &[13],
         body: Body::Makes(Step::Remove(0)),
         said: REFUSED,
     },
     Planted {
         name: "a bar is told to keep its rows",
-        script: &BOARD,
+        kind: Kind::Board,
         at: &[10],
         body: Body::Makes(Step::Keep(1)),
         said: REFUSED,
     },
     Planted {
         name: "another message is set",
-        script: &BOARD,
+        kind: Kind::Board,
         at: &[8],
         body: Body::Makes(Step::Told(2, "z")),
         said: REFUSED,
     },
     Planted {
         name: "a log does nothing and says that it drew",
-        script: &BOARD,
+        kind: Kind::Board,
         at: &[6],
         body: Body::Nothing,
         said: Ok(Drawn::Yes),
     },
     Planted {
         name: "a size does nothing",
-        script: &SIZED_BOARD,
+        kind: Kind::Sized,
         at: &[2],
         body: Body::Nothing,
         said: REFUSED,
     },
     Planted {
         name: "a size is taken",
-        script: &SIZED_BOARD,
+        kind: Kind::Sized,
         at: &[2],
         body: Body::Makes(WIDE),
         said: REFUSED,
     },
     Planted {
         name: "two sizes do nothing",
-        script: &SIZED_BOARD,
+        kind: Kind::Sized,
         at: &[2, 7],
         body: Body::Nothing,
         said: REFUSED,
     },
     Planted {
         name: "sizes do nothing while rows are kept",
-        script: &SIZED_BOARD,
+        kind: Kind::Sized,
         at: &[29, 30],
         body: Body::Nothing,
         said: REFUSED,
     },
     Planted {
         name: "sizes do nothing, also once no row is kept",
-        script: &SIZED_BOARD,
+        kind: Kind::Sized,
         at: &[29, 30, 33],
         body: Body::Nothing,
         said: REFUSED,
     },
     Planted {
         name: "sizes are taken while rows are kept",
-        script: &SIZED_BOARD,
+        kind: Kind::Sized,
         at: &[29, 30],
         body: Body::Makes(WIDE),
         said: REFUSED,
@@ -191,27 +191,37 @@ impl Stage for OnPlanted {
 }
 
 /// What the judge of refused memory finds of a board's script with this body.
-pub fn found(alloc: Global, planted: Planted) -> Result<Where, Finding> {
-    let record = Record::new(alloc, Plan::Never, 4096)?;
-    let board = OnBoard::new(alloc, LARGEST.terminal(&record)?)?;
-    let mut stage = OnPlanted {
-        board,
-        record: record.clone()?,
-        planted,
-        made: 0,
-    };
-    let mut notes = Notes::new(alloc)?;
-    noted(&mut stage, &record, planted.script, &mut notes)?;
-    let run = Run {
-        alloc,
+pub fn found<R: Runs>(rt: R, planted: Planted) -> Result<Where, Finding> {
+    let record = Record::new(rt.alloc(), Plan::Never, 4096)?;
+    let mut notes = Notes::new(rt.alloc())?;
+    note(rt.alloc(), planted, &record, &mut notes)?;
+    let stages = Players {
+        rt,
+        kind: planted.kind,
         size: LARGEST,
-        stages: &Boards {
-            alloc,
-            size: LARGEST,
-            script: planted.script,
-        },
+    };
+    let run = Run {
+        alloc: rt.alloc(),
+        size: LARGEST,
+        stages: &stages,
         record: &record,
         notes: &notes,
     };
     run.judged()
+}
+
+/// Plays the script with this body, and notes what its calls do.
+fn note(
+    alloc: Global,
+    planted: Planted,
+    record: &Rc<Record>,
+    notes: &mut Notes,
+) -> Result<(), Finding> {
+    let mut stage = OnPlanted {
+        board: OnBoard::new(alloc, LARGEST.terminal(record)?)?,
+        record: record.clone()?,
+        planted,
+        made: 0,
+    };
+    noted(&mut stage, record, planted.kind.script(), notes)
 }

@@ -1,7 +1,9 @@
 //! `bars run` before an output that fails.
-use crate::sweeps::sweep::LARGEST;
+use crate::sweeps::memory::record_of;
+use crate::sweeps::sweep::{SIZES, Tally, size_of};
 use anyhow::Result;
 use bars_run::run_bars;
+use indicatif_text::columns::Refusal;
 use scripts::judged::judge::Finding;
 use scripts::judged::record::{Plan, Point, Record, Size, Wire};
 use scripts::judged::refused::Where;
@@ -21,12 +23,13 @@ const WIDE: Size = Size { rows: 4, cols: 10 };
 const ROOM: usize = 64;
 
 /// The program's words, for a terminal of this size.
-fn words(alloc: Global, size: Size) -> Result<Vec<String>> {
+fn words(alloc: Global, size: Size) -> Result<Vec<String>, Refusal> {
     let Size { rows, cols } = size;
+    let line = format!(in alloc; "run {rows} {cols}")?;
     let mut args = Vec::new(alloc);
-    args.push(String::from_str(alloc, "run")?)?;
-    args.push(format!(in alloc; "{rows}")?)?;
-    args.push(format!(in alloc; "{cols}")?)?;
+    for word in line.as_str().split(' ') {
+        args.push(String::from_str(alloc, word)?)?;
+    }
     Ok(args)
 }
 
@@ -69,74 +72,61 @@ impl Ran {
     }
 }
 
-/// How many runs there were, and how many of them weren't as they should be.
-#[derive(Clone, Copy, Default, Drop)]
-pub struct Printed {
-    pub runs: u64,
-    pub differ: u64,
+/// Counts a run where the output fails so.
+fn fails(
+    tally: &mut Tally,
+    alloc: Global,
+    (args, whole): (&[String], &Ran),
+    plan: Plan,
+) -> Result<()> {
+    let ran = Ran::new(alloc, args, plan)?;
+    let has_all_before = match plan {
+        Plan::Byte(byte) => ran.printed.len() == byte,
+        _ => true,
+    };
+    tally.count(has_all_before && ran.is_beginning_of(whole));
+    Ok(())
 }
 
-impl Printed {
-    fn count(&mut self, is_right: bool) {
-        self.runs = self.runs.saturating_add(1);
-        if !is_right {
-            self.differ = self.differ.saturating_add(1);
-        }
+/// Counts the runs where the output fails at each byte, at each call, and from each call on.
+fn fails_at_each(tally: &mut Tally, alloc: Global, (args, whole): (&[String], &Ran)) -> Result<()> {
+    for byte in 0..whole.point.bytes {
+        fails(tally, alloc, (args, whole), Plan::Byte(byte))?;
     }
+    for call in 1..=whole.point.calls {
+        fails(tally, alloc, (args, whole), Plan::Call(call))?;
+        fails(tally, alloc, (args, whole), Plan::From(call))?;
+    }
+    Ok(())
+}
 
-    /// The runs on a terminal of this size: one where nothing fails, and those where the output fails at each byte, at each call, and from
-    /// each call on.
-    fn at(&mut self, alloc: Global, size: Size) -> Result<Ran> {
-        let args = words(alloc, size)?;
-        let whole = Ran::new(alloc, &args, Plan::Never)?;
-        self.count(whole.is_whole());
-        for byte in 0..whole.point.bytes {
-            let ran = Ran::new(alloc, &args, Plan::Byte(byte))?;
-            self.count(ran.is_beginning_of(&whole) && ran.printed.len() == byte);
-        }
-        self.with_calls(alloc, &args, &whole)?;
-        Ok(whole)
-    }
-
-    fn with_calls(&mut self, alloc: Global, args: &[String], whole: &Ran) -> Result<()> {
-        for call in 1..=whole.point.calls {
-            let once = Ran::new(alloc, args, Plan::Call(call))?;
-            self.count(once.is_beginning_of(whole));
-            let always = Ran::new(alloc, args, Plan::From(call))?;
-            self.count(always.is_beginning_of(whole));
-        }
-        Ok(())
-    }
-
-    fn at_each_width(&mut self, alloc: Global, rows: u16) -> Result<()> {
-        for cols in 1..=LARGEST.cols {
-            self.at(alloc, Size { rows, cols })?;
-        }
-        Ok(())
-    }
+/// Counts the runs on a terminal of this size: one where nothing fails, which it gives, and those where the output fails.
+fn runs_at(tally: &mut Tally, alloc: Global, size: Size) -> Result<Ran> {
+    let args = words(alloc, size)?;
+    let whole = Ran::new(alloc, &args, Plan::Never)?;
+    tally.count(whole.is_whole());
+    fails_at_each(tally, alloc, (args.as_slice(), &whole))?;
+    Ok(whole)
 }
 
 /// All runs, on terminals of one to four rows and one to six columns, and on the wide one, where it prints what it should.
-pub fn each_failure(alloc: Global) -> Result<Printed> {
-    let mut printed = Printed::default();
-    for rows in 1..=LARGEST.rows {
-        printed.at_each_width(alloc, rows)?;
+pub fn each_failure(alloc: Global) -> Result<Tally> {
+    let mut tally = Tally::default();
+    for number in 0..SIZES {
+        runs_at(&mut tally, alloc, size_of(number))?;
     }
-    let whole = printed.at(alloc, WIDE)?;
-    printed.count(whole.printed.as_slice() == PRINTED);
-    Ok(printed)
+    let whole = runs_at(&mut tally, alloc, WIDE)?;
+    tally.count(whole.printed.as_slice() == PRINTED);
+    Ok(tally)
 }
 
 /// Where memory was refused in a run, in which the output has room for all: it prints that, or says which line it was, or that it was none.
 pub fn refused(alloc: Global) -> Result<Where, Finding> {
     let args = match words(alloc, WIDE) {
         Ok(args) => args,
-        Err(_) => words(alloc, WIDE).map_err(|_| Finding::Memory)?,
+        Err(_) => words(alloc, WIDE)?,
     };
-    let record = match Record::new(alloc, Plan::Never, ROOM) {
-        Ok(record) => record,
-        Err(_) => Record::new(alloc, Plan::Never, ROOM)?,
-    };
+    let record = record_of(alloc, ROOM)?;
     let mut said = again(Vec::with_capacity(alloc, ROOM), alloc)?;
     let mut output = Wire(record.clone()?);
     let status = run_bars(alloc, &args, COMMANDS, &mut output, &mut said);

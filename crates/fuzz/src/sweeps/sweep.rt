@@ -5,7 +5,7 @@ use scripts::judged::record::{Plan, Point, Size};
 use std::sync::Wait;
 
 /// A run: what plays its script, on a terminal of this size that fails so, and how closely it is looked at.
-#[derive(Clone, Copy, Debug, Drop)]
+#[derive(Clone, Copy, Drop)]
 pub struct Case {
     pub kind: Kind,
     pub size: Size,
@@ -30,7 +30,7 @@ impl Case {
     }
 }
 
-/// How many runs there were, how many weren't as they should be, and what the first of these was found to be.
+/// How many runs there were, how many weren't as they should be, and what the first of these was found to be where it is a script's.
 #[derive(Clone, Copy, Default, Drop)]
 pub struct Tally {
     pub runs: u64,
@@ -53,40 +53,33 @@ pub trait Runs: AllocGlobal + Wait + Copy + Clone + Drop {}
 impl<R: AllocGlobal + Wait + Copy + Clone + Drop> Runs for R {}
 
 impl Tally {
+    /// Counts a run.
+    pub fn count(&mut self, is_right: bool) {
+        self.runs = self.runs.saturating_add(1);
+        if !is_right {
+            self.differ = self.differ.saturating_add(1);
+        }
+    }
+
     /// Plays this case, and counts it; what the writer was given, nothing where the run isn't as it should be.
     fn plays<R: Runs>(&mut self, rt: R, case: Case) -> Point {
-        let outcome = run(rt, case);
-        self.runs = self.runs.saturating_add(1);
-        let found = match outcome {
-            Ok(outcome) if case.admits(outcome.failed) => return outcome.point,
+        let found = match run(rt, case) {
+            Ok(outcome) if case.admits(outcome.failed) => {
+                self.count(true);
+                return outcome.point;
+            }
             Ok(outcome) => Found::Failed(outcome.failed),
             Err(finding) => Found::Wrong(finding),
         };
-        self.differ = self.differ.saturating_add(1);
+        self.count(false);
         self.first = Some(self.first.unwrap_or((case, found)));
         Point::default()
     }
 
-    /// Plays this case where nothing fails, and looks behind each byte; what the writer was given.
-    fn unfailed<R: Runs>(&mut self, rt: R, case: Case) -> Point {
-        let look = Look::EachByte;
-        self.plays(
-            rt,
-            Case {
-                look,
-                ..case.by(Plan::Never)
-            },
-        )
-    }
-
-    fn and(self, other: Tally) -> Tally {
-        Tally {
-            runs: self.runs.saturating_add(other.runs),
-            differ: self.differ.saturating_add(other.differ),
-            first: match self.first {
-                Some(first) => Some(first),
-                None => other.first,
-            },
+    /// Makes the runs in which this call fails, and one behind it, each up to the last.
+    fn with_each_later<R: Runs>(&mut self, rt: R, case: Case, (first, last): (u64, u64)) {
+        for second in first.saturating_add(1)..=last {
+            self.plays(rt, case.by(Plan::Both(first, second)));
         }
     }
 }
@@ -106,6 +99,17 @@ pub enum Sweep {
 
 /// The size of the largest terminal.
 pub const LARGEST: Size = Size { rows: 4, cols: 6 };
+
+/// How many sizes terminals have: one to four rows, and one to six columns.
+pub const SIZES: u16 = 24;
+
+/// The size of a number below that.
+pub fn size_of(number: u16) -> Size {
+    Size {
+        rows: (number / LARGEST.cols).saturating_add(1),
+        cols: (number % LARGEST.cols).saturating_add(1),
+    }
+}
 
 impl Sweep {
     /// Its name.
@@ -131,75 +135,47 @@ impl Sweep {
     /// Makes the runs on terminals of one to four rows and of one to six columns.
     pub fn at_each_size<R: Runs>(self, rt: R, kind: Kind) -> Tally {
         let mut tally = Tally::default();
-        for rows in 1..=LARGEST.rows {
-            tally = tally.and(self.at_each_width(rt, kind, rows));
+        for number in 0..SIZES {
+            self.at(rt, kind, size_of(number), &mut tally);
         }
         tally
     }
 
-    fn at_each_width<R: Runs>(self, rt: R, kind: Kind, rows: u16) -> Tally {
-        let mut tally = Tally::default();
-        for cols in 1..=LARGEST.cols {
-            tally = tally.and(self.at(rt, kind, Size { rows, cols }));
-        }
-        tally
-    }
-
-    /// Makes the runs at one size.
-    pub fn at<R: Runs>(self, rt: R, kind: Kind, size: Size) -> Tally {
-        let case = Case {
+    /// Makes the runs at one size, and counts them.
+    pub fn at<R: Runs>(self, rt: R, kind: Kind, size: Size, tally: &mut Tally) {
+        let unfailed = Case {
             kind,
             size,
             plan: Plan::Never,
-            look: self.look(size),
+            look: Look::EachByte,
         };
+        let point = tally.plays(rt, unfailed);
+        let look = self.look(size);
+        let case = Case { look, ..unfailed };
         match self {
-            Sweep::EachCall => each_call(rt, case),
-            Sweep::EachByte => each_byte(rt, case),
-            Sweep::FromEachCall => from_each_call(rt, case),
-            Sweep::EachPair => each_pair(rt, case),
+            Sweep::EachCall | Sweep::FromEachCall => self.each(rt, case, point.calls, tally),
+            Sweep::EachByte => self.each(rt, case, point.bytes as u64, tally),
+            Sweep::EachPair => {
+                for first in 1..=point.calls {
+                    tally.with_each_later(rt, case, (first, point.calls));
+                }
+            }
         }
     }
-}
 
-fn each_call<R: Runs>(rt: R, case: Case) -> Tally {
-    let mut tally = Tally::default();
-    for call in 1..=tally.unfailed(rt, case).calls {
-        tally.plays(rt, case.by(Plan::Call(call)));
+    /// Makes the runs that fail at so many places.
+    fn each<R: Runs>(self, rt: R, case: Case, places: u64, tally: &mut Tally) {
+        for place in 0..places {
+            tally.plays(rt, case.by(self.plan(place)));
+        }
     }
-    tally
-}
 
-fn each_byte<R: Runs>(rt: R, case: Case) -> Tally {
-    let mut tally = Tally::default();
-    for byte in 0..tally.unfailed(rt, case).bytes {
-        tally.plays(rt, case.by(Plan::Byte(byte)));
+    /// How a terminal fails at a place, counted from 0.
+    fn plan(self, place: u64) -> Plan {
+        match self {
+            Sweep::EachByte => Plan::Byte(place as usize),
+            Sweep::FromEachCall => Plan::From(place.saturating_add(1)),
+            Sweep::EachCall | Sweep::EachPair => Plan::Call(place.saturating_add(1)),
+        }
     }
-    tally
-}
-
-fn from_each_call<R: Runs>(rt: R, case: Case) -> Tally {
-    let mut tally = Tally::default();
-    for call in 1..=tally.unfailed(rt, case).calls {
-        tally.plays(rt, case.by(Plan::From(call)));
-    }
-    tally
-}
-
-fn each_pair<R: Runs>(rt: R, case: Case) -> Tally {
-    let mut tally = Tally::default();
-    let calls = tally.unfailed(rt, case).calls;
-    for first in 1..=calls {
-        tally = tally.and(with_each_later(rt, case, (first, calls)));
-    }
-    tally
-}
-
-/// This call fails, and each one behind it up to the last.
-fn with_each_later<R: Runs>(rt: R, case: Case, (first, last): (u64, u64)) -> Tally {
-    let mut tally = Tally::default();
-    for second in first.saturating_add(1)..=last {
-        tally.plays(rt, case.by(Plan::Both(first, second)));
-    }
-    tally
 }

@@ -1,5 +1,5 @@
 //! Random frames, each like the one before, and calls.
-use crate::whole_frames::chance::Chance;
+use crate::numbers::Numbers;
 use indicatif_term::draw_target::{LineType, Segment};
 use indicatif_text::columns::Refusal;
 use std::alloc::Global;
@@ -37,25 +37,25 @@ impl Frame {
     }
 
     /// Changes it a little, or not at all.
-    pub fn change(&mut self, chance: &mut Chance) -> Result<(), Refusal> {
-        let at = chance.index(self.bars.len() + 1);
-        match chance.below(8) {
-            0 | 1 => self.add(at, chance),
+    pub fn change(&mut self, numbers: &mut Numbers) -> Result<(), Refusal> {
+        let at = numbers.below(self.bars.len() + 1);
+        match numbers.below(8) {
+            0 | 1 => self.add(at, numbers),
             2 => {
                 self.take(at);
                 Ok(())
             }
-            3 => self.lengthen(at, chance),
-            4 | 5 => self.rewrite(at, chance),
+            3 => self.lengthen(at, numbers),
+            4 | 5 => self.rewrite(at, numbers),
             _ => Ok(()),
         }
     }
 
     /// A new bar of up to three lines.
-    fn add(&mut self, at: usize, chance: &mut Chance) -> Result<(), Refusal> {
+    fn add(&mut self, at: usize, numbers: &mut Numbers) -> Result<(), Refusal> {
         let mut lines = Vec::new(self.alloc);
-        for _ in 0..chance.below(4) {
-            lines.push(line(self.alloc, chance)?)?;
+        for _ in 0..numbers.below(4) {
+            lines.push(line(self.alloc, numbers)?)?;
         }
         let bar = self.next;
         self.next = self.next.saturating_add(1);
@@ -72,10 +72,10 @@ impl Frame {
     }
 
     /// One more line of a bar.
-    fn lengthen(&mut self, at: usize, chance: &mut Chance) -> Result<(), Refusal> {
+    fn lengthen(&mut self, at: usize, numbers: &mut Numbers) -> Result<(), Refusal> {
         if at < self.bars.len() {
-            let line = line(self.alloc, chance)?;
-            let place = chance.index(self.bars[at].lines.len() + 1);
+            let line = line(self.alloc, numbers)?;
+            let place = numbers.below(self.bars[at].lines.len() + 1);
             let lines = &mut self.bars[at].lines;
             lines.insert(place.min(lines.len()), line)?;
         }
@@ -83,10 +83,10 @@ impl Frame {
     }
 
     /// Another text of a line.
-    fn rewrite(&mut self, at: usize, chance: &mut Chance) -> Result<(), Refusal> {
+    fn rewrite(&mut self, at: usize, numbers: &mut Numbers) -> Result<(), Refusal> {
         if at < self.bars.len() {
-            let line = line(self.alloc, chance)?;
-            let place = chance.index(self.bars[at].lines.len());
+            let line = line(self.alloc, numbers)?;
+            let place = numbers.below(self.bars[at].lines.len());
             if place < self.bars[at].lines.len() {
                 self.bars[at].lines[place] = line;
             }
@@ -95,15 +95,15 @@ impl Frame {
     }
 
     /// A call that suits it.
-    pub fn call(&mut self, chance: &mut Chance) -> Result<Call, Refusal> {
-        Ok(match chance.below(16) {
-            0 | 1 => Call::Log(text(self.alloc, chance)?),
+    pub fn call(&mut self, numbers: &mut Numbers) -> Result<Call, Refusal> {
+        Ok(match numbers.below(16) {
+            0 | 1 => Call::Log(text(self.alloc, numbers)?),
             2 => Call::Clear,
             3 => match self.bars.first() {
                 Some(bar) => Call::Keep(bar.bar),
                 None => Call::Keep(0),
             },
-            4 | 5 => Call::Draw(chance.index(self.bars.len() + 1)),
+            4 | 5 => Call::Draw(numbers.below(self.bars.len() + 1)),
             _ => Call::Draw(0),
         })
     }
@@ -123,29 +123,29 @@ impl Frame {
 }
 
 /// A line.
-fn line(alloc: Global, chance: &mut Chance) -> Result<LineType, Refusal> {
-    Ok(match chance.below(6) {
+fn line(alloc: Global, numbers: &mut Numbers) -> Result<LineType, Refusal> {
+    Ok(match numbers.below(6) {
         0 => LineType::Empty,
-        1 => LineType::Text(characters(alloc, chance)?),
-        _ => LineType::Bar(characters(alloc, chance)?),
+        1 => LineType::Text(characters(alloc, numbers)?),
+        _ => LineType::Bar(characters(alloc, numbers)?),
     })
 }
 
 /// A text of one line or two.
-fn text(alloc: Global, chance: &mut Chance) -> Result<String, Refusal> {
-    let mut text = characters(alloc, chance)?;
-    if chance.below(3) == 0 {
+fn text(alloc: Global, numbers: &mut Numbers) -> Result<String, Refusal> {
+    let mut text = characters(alloc, numbers)?;
+    if numbers.below(3) == 0 {
         text.push('\n')?;
-        text.push_str(characters(alloc, chance)?.as_str())?;
+        text.push_str(characters(alloc, numbers)?.as_str())?;
     }
     Ok(text)
 }
 
 /// Some characters: narrow, wide and joined ones, and colours. The first isn't a joined one.
-fn characters(alloc: Global, chance: &mut Chance) -> Result<String, Refusal> {
+fn characters(alloc: Global, numbers: &mut Numbers) -> Result<String, Refusal> {
     let mut text = String::new(alloc);
-    for at in 0..chance.below(10) {
-        text.push_str(match chance.below(12) {
+    for at in 0..numbers.below(10) {
+        text.push_str(match numbers.below(12) {
             0 | 1 => "国",
             2 if at > 0 => "a\u{308}",
             3 => "\u{1b}[31mr\u{1b}[0m",

@@ -13,10 +13,10 @@ struct BarRows {
     rows: usize,
 }
 
-/// What of a frame is shown: its lines, so many from the front, and how many rows each bar has of them.
+/// What of a frame is shown: lines from its front, and how many rows each bar has of them.
 #[derive(Drop)]
-struct Shown {
-    lines: usize,
+struct Shown<'a> {
+    lines: Vec<&'a str>,
     bars: Vec<BarRows>,
 }
 
@@ -51,6 +51,28 @@ impl<T: TermLike + Drop> WholeFrames<T> {
         &self.term
     }
 
+    /// Writes a frame in the place of the last rows, so many; above it a text of so many rows, if one is given.
+    fn replace(
+        &mut self,
+        taken: usize,
+        text: Option<(&str, usize)>,
+        frame: &[Segment],
+        alignment: MultiProgressAlignment,
+    ) -> Result<(), Refusal> {
+        let above = match text {
+            Some((_, rows)) => rows,
+            None => 0,
+        };
+        let shown = self.shown(frame)?;
+        let rows = total(&shown.bars);
+        let blanks = blanks(alignment, taken.saturating_sub(above), rows);
+        self.take_back(taken)?;
+        self.put(text, blanks, &shown.lines)?;
+        self.bars = shown.bars;
+        self.blanks = blanks;
+        Ok(())
+    }
+
     /// Draws a frame in the place of the live rows; the rows of its first bars, so many, are kept.
     pub fn draw(
         &mut self,
@@ -58,14 +80,8 @@ impl<T: TermLike + Drop> WholeFrames<T> {
         pass: usize,
         alignment: MultiProgressAlignment,
     ) -> Result<(), Refusal> {
-        let shown = self.shown(frame)?;
         let taken = self.live();
-        let rows = total(&shown.bars);
-        let blanks = blanks(alignment, taken, rows);
-        self.take_back(taken)?;
-        self.put(None, blanks, &lines_of(self.alloc, frame, shown.lines)?)?;
-        self.bars = shown.bars;
-        self.blanks = blanks;
+        self.replace(taken, None, frame, alignment)?;
         self.reach = self.reach.max(self.kept.saturating_add(self.live()));
         self.pass(frame, pass);
         let gone = self.kept.min(self.reach.saturating_sub(self.height()));
@@ -82,18 +98,8 @@ impl<T: TermLike + Drop> WholeFrames<T> {
         alignment: MultiProgressAlignment,
     ) -> Result<(), Refusal> {
         let above = self.rows_of_text(text)?;
-        let shown = self.shown(frame)?;
         let taken = self.kept.saturating_add(self.live());
-        let rows = total(&shown.bars);
-        let blanks = blanks(alignment, taken.saturating_sub(above), rows);
-        self.take_back(taken)?;
-        self.put(
-            Some(text),
-            blanks,
-            &lines_of(self.alloc, frame, shown.lines)?,
-        )?;
-        self.bars = shown.bars;
-        self.blanks = blanks;
+        self.replace(taken, Some((text, above)), frame, alignment)?;
         self.kept = 0;
         let reached = above.saturating_add(self.live());
         self.reach = self.reach.max(reached).saturating_sub(above);
@@ -111,14 +117,16 @@ impl<T: TermLike + Drop> WholeFrames<T> {
 
     /// Keeps the rows of a bar that is gone, if they are the first.
     pub fn keep(&mut self, bar: u64) -> Keep {
-        match self.bars.iter().position(|rows| rows.bar == bar) {
-            None => Keep::Absent,
-            Some(0) => {
-                self.keep_first();
-                Keep::Passed
-            }
-            Some(_) => Keep::Behind,
+        if self.is_first(bar) {
+            self.keep_first();
+            return Keep::Passed;
         }
+        for rows in &self.bars {
+            if rows.bar == bar {
+                return Keep::Behind;
+            }
+        }
+        Keep::Absent
     }
 
     /// The first bar's rows are kept, with the blanks above them.
@@ -174,27 +182,38 @@ impl<T: TermLike + Drop> WholeFrames<T> {
     }
 
     /// As many lines from the front as have at most the terminal's rows together.
-    fn shown(&self, frame: &[Segment]) -> Result<Shown, Refusal> {
+    fn shown<'a>(&self, frame: &'a [Segment]) -> Result<Shown<'a>, Refusal> {
         let mut shown = Shown {
-            lines: 0,
+            lines: Vec::new(self.alloc),
             bars: Vec::new(self.alloc),
         };
         let mut room = Some(self.height());
         for bar in frame {
-            let mut rows = 0_usize;
-            for line in &bar.lines {
-                let height = wrapped(line.as_str(), self.width())?.height;
-                room = room_behind(room, height);
-                if room.is_some() {
-                    shown.lines = shown.lines.saturating_add(1);
-                    rows = rows.saturating_add(height);
-                }
-            }
-            if rows > 0 {
-                shown.bars.push(BarRows { bar: bar.bar, rows })?;
-            }
+            self.show(bar, &mut room, &mut shown)?;
         }
         Ok(shown)
+    }
+
+    /// The same of a bar, in the room that is left.
+    fn show<'a>(
+        &self,
+        bar: &'a Segment,
+        room: &mut Option<usize>,
+        shown: &mut Shown<'a>,
+    ) -> Result<(), Refusal> {
+        let mut rows = 0_usize;
+        for line in &bar.lines {
+            let height = wrapped(line.as_str(), self.width())?.height;
+            *room = room_behind(*room, height);
+            if room.is_some() {
+                shown.lines.push(line.as_str())?;
+                rows = rows.saturating_add(height);
+            }
+        }
+        if rows > 0 {
+            shown.bars.push(BarRows { bar: bar.bar, rows })?;
+        }
+        Ok(())
     }
 
     /// Takes the last rows back, so many: the cursor is at the front of the first then.
@@ -215,8 +234,13 @@ impl<T: TermLike + Drop> WholeFrames<T> {
     }
 
     /// Writes lines, each on a row of its own, and fills the last row.
-    fn put(&mut self, text: Option<&str>, blanks: usize, lines: &[&str]) -> Result<(), Refusal> {
-        if let Some(text) = text {
+    fn put(
+        &mut self,
+        text: Option<(&str, usize)>,
+        blanks: usize,
+        lines: &[&str],
+    ) -> Result<(), Refusal> {
+        if let Some((text, _)) = text {
             self.put_text(text)?;
         }
         for _ in 0..blanks {
@@ -281,19 +305,6 @@ fn blanks(alignment: MultiProgressAlignment, taken: usize, rows: usize) -> usize
         MultiProgressAlignment::Bottom if rows > 0 => taken.saturating_sub(rows),
         _ => 0,
     }
-}
-
-/// The first lines of a frame.
-fn lines_of(alloc: Global, frame: &[Segment], count: usize) -> Result<Vec<&str>, Refusal> {
-    let mut lines = Vec::new(alloc);
-    for bar in frame {
-        for line in &bar.lines {
-            if lines.len() < count {
-                lines.push(line.as_str())?;
-            }
-        }
-    }
-    Ok(lines)
 }
 
 fn told(answer: io::Result<()>) -> Result<(), Refusal> {
