@@ -5,7 +5,8 @@
 //! - `shown`: a terminal that others see. `owners`: what the last owner of a bar leaves there. `watched`: boards there, while a closure
 //!   runs, and where the cursor only moves. `bars`: bars in threads, pauses and bounds.
 //! - `boards`: boards that threads share. `records`: a board with its history that nobody shares.
-//! - `shared`: boards that make their bars, what is said of a wrapper's bar, and threads at one bar. `ways`: each way to make a bar.
+//! - `shared`: boards that make their bars, what is said of a wrapper's bar, and threads at one bar. `readers`: two readers of one bar.
+//!   `ways`: each way to make a bar.
 //! - `closures`: what is done under a lock. `given_up`: what threads of tickers give up, and calls that find no memory, over a runtime
 //!   that is counted (`lent`).
 //! - `machines`: what is asked of the machine. `made`: iterators that get a bar when they are wrapped.
@@ -80,6 +81,8 @@ mod own_bars;
 mod owners;
 #[cfg(test)]
 mod pieces;
+#[cfg(test)]
+mod readers;
 #[cfg(test)]
 mod recordings;
 #[cfg(test)]

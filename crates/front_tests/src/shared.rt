@@ -2,11 +2,10 @@
 use crate::fronts::{Bar, Shared, bar_shows, board_shows, setup};
 use crate::ticking::{tick_off, ticks_on, waits};
 use indicatif::{
-    Drawn, InMemoryTerm, MultiProgress, ProgressBar, ProgressBarIter, ProgressDrawTarget,
-    ProgressFinish, ProgressStyle, Refusal, Setup, StepClock,
+    Drawn, InMemoryTerm, MultiProgress, ProgressBar, ProgressDrawTarget, ProgressFinish,
+    ProgressStyle, Refusal, Setup, StepClock,
 };
 use std::alloc::Global;
-use std::io::{self, Read};
 use std::process::Abort;
 use std::sync::Wait;
 use std::thread::{Threads, join};
@@ -147,38 +146,4 @@ fn a_ticker_that_is_replaced_wakes_none(rt: HostRuntime) {
     waits(&rt);
     holds!(rt; bar.ticks() <= 10);
     same!(rt; tick_off(&bar), Ok(()));
-}
-
-/// Reads to the end, seven bytes at a time.
-fn reads_all<T: Read, R: Wait + Clone + Drop>(
-    wrapped: &mut ProgressBarIter<T, Bar<R>>,
-) -> io::Result<u64> {
-    let mut room = [0u8; 7];
-    let mut sum: u64 = 0;
-    for _ in 0..10_000u32 {
-        let n = wrapped.read(&mut room)?;
-        if n == 0 {
-            break;
-        }
-        sum = sum.wrapping_add(n as u64);
-    }
-    Ok(sum)
-}
-
-/// 20,000 bytes. (They are made apart: an array of so many in the test itself is more than a check can hold.)
-fn many_bytes<R: Abort>(rt: &R, alloc: Global) -> Vec<u8> {
-    vec![in alloc; 7u8; 20_000].expect(rt, "granted")
-}
-
-/// Two threads read 20,000 bytes each through wrappers of one bar, which stands at 40,000 then.
-#[test]
-fn two_readers_of_one_bar_lose_no_byte(rt: HostRuntime) {
-    let bytes = many_bytes(&rt, rt.alloc());
-    let bar = bar_on(rt, rt.alloc());
-    let mut one = bar.wrap_read(bytes.as_slice()).expect(&rt, "granted");
-    let mut other = bar.wrap_read(bytes.as_slice()).expect(&rt, "granted");
-    let (first, second) = join(&rt, || reads_all(&mut one), || reads_all(&mut other));
-    same!(rt; first.expect(&rt, "granted"), 20_000);
-    same!(rt; second.expect(&rt, "granted"), 20_000);
-    same!(rt; bar.position(), 40_000);
 }
