@@ -29,7 +29,8 @@ pub fn play_file<
 >(rt: &R, path: &str) -> io::Result<Tally> {
     let lines = BufReader::new(rt.alloc(), fs::open(rt, path)?)?;
     let mut stage = Stage::new(*rt, rt.alloc());
-    let tally = play_lines(rt, path, lines, &mut stage)?;
+    let mut got = Got::new(rt.alloc());
+    let tally = play_lines(rt, path, lines, (&mut stage, &mut got))?;
     let Tally { passed, failed } = tally;
     println!(rt; "{path}: {passed} passed, {failed} failed")?;
     Ok(tally)
@@ -48,19 +49,18 @@ fn play_lines<
         + Send
         + 'static,
     L: BufRead + Drop,
->(rt: &R, path: &str, lines: L, stage: &mut Stage<R>) -> io::Result<Tally> {
-    let mut got = Got::new(rt.alloc());
+>(rt: &R, path: &str, lines: L, (stage, got): (&mut Stage<R>, &mut Got)) -> io::Result<Tally> {
     let mut tally = Tally::default();
     let mut number: u64 = 0;
     for line in lines.lines(rt.alloc()) {
         number = number.saturating_add(1);
         let line = line?;
         if let Some(row) = Row::of(line.as_str()) {
-            play_steps(row.steps, stage, &mut got);
-            let agrees = is_wanted(rt.alloc(), &got, row.wanted);
+            play_steps(row.steps, stage, got);
+            let agrees = is_wanted(rt.alloc(), got, row.wanted);
             tally.count(agrees);
             if !agrees {
-                print_row(rt, (path, number), row, &got)?;
+                print_row(rt, (path, number), row, got)?;
             }
         }
     }
