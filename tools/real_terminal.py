@@ -4,7 +4,7 @@
 usage: tools/real_terminal.py [FILE ..]
        tools/real_terminal.py lists SEED COUNT
        tools/real_terminal.py sizes SEED COUNT
-  FILE   files of crates/rows/data, by their names; `real_terminals.txt` and those of bars and boards if none is named
+  FILE   files of crates/rows/data, by their names; those of FILES below if none is named
   lists  so many random lists of calls: what the engine writes, what one writes whose cursor only moves, and what one writes that
          writes whole frames (`fuzz whole_frames`) is played to three panes. All rows, with those that scrolled away and with
          colours, and the cursor have to be the same

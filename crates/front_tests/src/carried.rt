@@ -32,27 +32,30 @@ pub fn board_on<R: Wait + Copy + Clone + Drop + Abort>(rt: R, alloc: Global) -> 
     MultiProgress::new(rt, alloc, setup(&rt, alloc), 1).expect(&rt, "granted")
 }
 
-/// A board that shows nothing, and a bar of 10 on it, whose other owner is dropped.
-fn bar_on<R: Wait + Copy + Clone + Drop + Abort>(
-    board: &Shared<R>,
-    rt: R,
-    alloc: Global,
-) -> Bar<R> {
-    let bar = bar_of(rt, alloc, 10);
-    let owner = bar.clone().expect(&rt, "granted");
-    board.add(owner).expect(&rt, "granted")
-}
-
 // ---- bars and boards
 
-/// The crate's test says that nothing stops; here the bar stands on the board then.
+/// The board is dropped before the bar, which was made before it. The crate's test says that nothing stops; here the bar stands on the
+/// board before.
 #[test]
 fn late_pb_drop(rt: HostRuntime) {
+    let bar = bar_of(rt, rt.alloc(), 10);
     let board = board_on(rt, rt.alloc());
-    let bar = bar_on(&board, rt, rt.alloc());
+    drop(board.add(bar.clone().expect(&rt, "granted")).expect(&rt, "granted"));
     holds!(rt; bar.tick().is_ok());
     let row = "░░░░░░░░░░░░░░░░░░░░░░░░░░░░░░░░░░░░░░░░░░░░░░░░░░░░░░░░░░░░░░░░░░░░░░░░░░░ 0/10";
     board_shows(&rt, &board, row);
+}
+
+#[test]
+fn multi_is_hidden(rt: HostRuntime) {
+    let hidden: Setup<InMemoryTerm, StepClock> = Setup {
+        target: ProgressDrawTarget::hidden(),
+        clock: StepClock { next: 0, step: 0 },
+    };
+    let board = MultiProgress::new(rt, rt.alloc(), hidden, 1).expect(&rt, "granted");
+    let bar = board.add(bar_of(rt, rt.alloc(), 100)).expect(&rt, "granted");
+    holds!(rt; board.is_hidden());
+    holds!(rt; bar.is_hidden());
 }
 
 fn crosses<X: Send + Sync>(_value: &X) {}

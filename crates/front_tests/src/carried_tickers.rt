@@ -129,13 +129,15 @@ fn staying<R: Wait + Threads + time::Clock + Copy + Clone + Drop + Abort + Send 
     spinner
 }
 
-/// Five spinners, one after another, each of which is dropped as the next comes.
+/// Five spinners, one after another, each of which is dropped once the next ticks.
 #[test]
 fn ticker_drop(rt: HostRuntime) {
     let board = board_on(rt, rt.alloc());
+    let mut kept: Option<Bar<HostRuntime>> = None;
     for number in 0..5u32 {
-        let _ = staying(&board, rt, rt.alloc(), number);
+        kept = Some(staying(&board, rt, rt.alloc(), number));
     }
+    drop(kept);
     let rows =
         "  doing stuff 0\n  doing stuff 1\n  doing stuff 2\n  doing stuff 3\n  doing stuff 4";
     board_shows(&rt, &board, rows);

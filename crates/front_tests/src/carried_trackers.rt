@@ -46,11 +46,11 @@ fn look_of<R: Abort>(rt: &R, alloc: Global, template: &str, colours: bool) -> Lo
 /// The one line of a bar of 10 in this style is this, on 80 columns.
 fn shows<R: Abort>(rt: &R, alloc: Global, look: Look, wanted: &str) {
     let bar = BarState::styled(alloc, look, Some(10), 0).expect(rt, "granted");
-    is_line(rt, &bar, wanted);
+    is_line(rt, &bar, 80, wanted);
 }
 
-fn is_line<R: Abort, K: ProgressTracker>(rt: &R, bar: &BarState<K>, wanted: &str) {
-    let lines = bar.lines(0, 80).expect(rt, "granted");
+fn is_line<R: Abort, K: ProgressTracker>(rt: &R, bar: &BarState<K>, width: u16, wanted: &str) {
+    let lines = bar.lines(0, width).expect(rt, "granted");
     same!(rt; lines.len(), 1);
     same!(rt; lines.first().expect(rt, "a line").as_str(), wanted);
 }
@@ -159,10 +159,10 @@ fn tracked<R: Abort>(rt: &R, alloc: Global) -> Box<BarState<TestTracker>> {
 #[test]
 fn test_stateful_tracker(rt: HostRuntime) {
     let mut bar = tracked(&rt, rt.alloc());
-    is_line(&rt, &bar, "{  }");
+    is_line(&rt, &bar, 16, "{  }");
     bar.inc(1, 0);
-    is_line(&rt, &bar, "{ 1 1 }");
+    is_line(&rt, &bar, 16, "{ 1 1 }");
     bar.reset(0);
-    is_line(&rt, &bar, "{  }");
+    is_line(&rt, &bar, 16, "{  }");
     bar.finish_and_clear(0);
 }

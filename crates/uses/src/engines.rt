@@ -1,9 +1,9 @@
 //! What engines show of fixed lines, also behind a failure; and how often a limiter allows at once.
-ghost use Rattle.std.specs.Prelude.{◌≡◌, ◌⊎◌, ◌++◌, ◌∷◌, [], ℕ, map, take, replicate, codes, false, IfOk, IfErr};
+ghost use Rattle.std.specs.Prelude.{◌≡◌, ◌⊎◌, ◌++◌, ◌∷◌, [], ℕ, map, take, replicate, codes, false, IsTrue, IfOk, IfErr};
 ghost use Rattle.indicatif_term.specs.Calls.{State};
 ghost use Rattle.indicatif_term.specs.Engines.{Fits, engine_term};
-ghost use Rattle.indicatif_term.specs.Frames.{bar_lines};
-ghost use Rattle.indicatif_term.specs.Lists.{forgotten_lists, opening_lists};
+ghost use Rattle.indicatif_term.specs.Frames.{bar_lines, is_fault};
+ghost use Rattle.indicatif_term.specs.Lists.{Lists, forgotten_lists, opening_lists};
 ghost use Rattle.indicatif_term.specs.Pictures.{picture_text, row_text};
 ghost use Rattle.indicatif_term.specs.Screen.{Screen};
 ghost use Rattle.indicatif_term.specs.Shows.{Rests};
@@ -81,6 +81,16 @@ pub fn name_behind_a_failure<T: TermLike + Drop>(engine: &mut Engine<T>) -> Resu
 {
     what_is_shown_is_read();
     engine.log("a.txt", &[], MultiProgressAlignment::Top)
+}
+
+/// Draws on an engine. Where its terminal fails, the engine remembers no line that it drew before.
+pub fn forgotten_by_a_failure<T: TermLike + Drop>(
+    engine: &mut Engine<T>,
+    frame: &[Segment],
+) -> Result<(), Refusal>
+    ensures { (lists : Lists) → Fits engine.old lists → IfErr result (λ e. IsTrue (is_fault e) → Fits engine.new forgotten_lists) }
+{
+    engine.draw(frame, 0, MultiProgressAlignment::Top)
 }
 
 /// Whether a limiter of 20 draws a second allows one more at the moment of its making, after 20: it doesn't.
