@@ -316,8 +316,25 @@ def public_calls(crate):
                 yield "", "", name
 
 
+PLAIN = re.compile(
+    r"pub fn (\w+)[^{}]*?\bensures \{ (?:\(self\.new, result\) ≡ (obeyed) |(Obeys) |(CanAnswer) K \(Lone\.Obey \()"
+)
+
+
+def plain_commands():
+    """The commands of a bar that need no row of their own: they are never refused as a bar's record makes them, and their clauses say that
+    they are refused as the others of their type."""
+    owners, found = ("BarState", "LoneBar", "ProgressBar"), set()
+    for crate in LIBRARIES:
+        for text in modules(crate).values():
+            for name, *clauses in PLAIN.findall(text):
+                found |= {(crate, owner, name) for owner, clause in zip(owners, clauses) if clause}
+    plain = {name for _, owner, name in found if owner == "BarState"}
+    return {call for call in found if call[2] in plain}
+
+
 def faults_of_refused():
-    named = set()
+    named = plain_commands()
     for cells, crates, found, laws in rows_of(REFUSALS):
         named |= {(crate, *call) for crate in crates for call in calls_of(cells[0])}
         for fault in faults_of_row([cells[0], cells[3], cells[3]], found, laws):

@@ -40,7 +40,11 @@ pub fn board_on<R: Wait + Copy + Clone + Drop + Abort>(rt: R, alloc: Global) -> 
 fn late_pb_drop(rt: HostRuntime) {
     let bar = bar_of(rt, rt.alloc(), 10);
     let board = board_on(rt, rt.alloc());
-    drop(board.add(bar.clone().expect(&rt, "granted")).expect(&rt, "granted"));
+    drop(
+        board
+            .add(bar.clone().expect(&rt, "granted"))
+            .expect(&rt, "granted"),
+    );
     holds!(rt; bar.tick().is_ok());
     let row = "░░░░░░░░░░░░░░░░░░░░░░░░░░░░░░░░░░░░░░░░░░░░░░░░░░░░░░░░░░░░░░░░░░░░░░░░░░░ 0/10";
     board_shows(&rt, &board, row);
@@ -53,7 +57,9 @@ fn multi_is_hidden(rt: HostRuntime) {
         clock: StepClock { next: 0, step: 0 },
     };
     let board = MultiProgress::new(rt, rt.alloc(), hidden, 1).expect(&rt, "granted");
-    let bar = board.add(bar_of(rt, rt.alloc(), 100)).expect(&rt, "granted");
+    let bar = board
+        .add(bar_of(rt, rt.alloc(), 100))
+        .expect(&rt, "granted");
     holds!(rt; board.is_hidden());
     holds!(rt; bar.is_hidden());
 }
