@@ -5,7 +5,7 @@ use crate::sink::{Sink, drawn_on, terminal};
 use anyhow::Result;
 use indicatif_bar::state::{BarCommand, BarState};
 use indicatif_bar::style::NoTracker;
-use indicatif_board::multi::{BarId, Board, Candidate, Turned};
+use indicatif_board::multi::{BarId, Board, Candidate};
 use indicatif_term::draw_target::{
     Engine, LineType, MultiProgressAlignment, ProgressDrawTarget, Segment,
 };
@@ -36,17 +36,12 @@ fn bar_at(alloc: Global, position: u64) -> Result<Candidate<NoTracker>, Refusal>
     Ok(Candidate::New(bar))
 }
 
-/// Why a bar was turned away.
-fn refusal(turned: Turned<NoTracker>) -> Refusal {
-    turned.refusal
-}
-
 /// Takes a bar in at this place, and answers its number. The board's contract is left behind here, and in `command`.
 #[inline(always)]
 fn insert(board: &mut Shown, index: usize, bar: Candidate<NoTracker>) -> Result<BarId, Refusal> {
     match board.insert(index, bar) {
         Ok(id) => Ok(id),
-        Err(turned) => Err(refusal(turned)),
+        Err(turned) => Err(turned.refusal),
     }
 }
 
