@@ -1,19 +1,32 @@
-//! Drawings of bars on a board, on a terminal of 24 rows and 80 columns; bars taken in; and calls on a board that shows nothing.
-use crate::measured::{Made, Measured, Work, measure};
-use crate::shown::{Sink, drawn_on, terminal};
+//! Drawings of bars on a board, on a terminal of 24 rows and 80 columns; bars taken in; calls on a board that shows nothing; and a frame.
+use crate::bar_benches::lines;
+use crate::measured::{Measured, started};
+use crate::sink::{Sink, drawn_on, terminal};
 use anyhow::Result;
 use indicatif_bar::state::{BarCommand, BarState};
 use indicatif_bar::style::NoTracker;
-use indicatif_board::multi::{BarId, Board, Candidate, Turned};
-use indicatif_term::draw_target::ProgressDrawTarget;
+use indicatif_board::multi::{BarId, Board, Candidate};
+use indicatif_term::draw_target::{
+    Engine, LineType, MultiProgressAlignment, ProgressDrawTarget, Segment,
+};
 use indicatif_term::term_like::Term;
 use indicatif_text::columns::Refusal;
 use std::alloc::Global;
 
-/// Bars on a board on the terminal, whose calls promise nothing here.
-#[derive(Drop)]
-struct ShownBoard {
-    board: Board<NoTracker, Term<Sink>>,
+/// A board on the terminal, or hidden.
+type Shown = Board<NoTracker, Term<Sink>>;
+
+/// What a board is called, again and again.
+#[derive(Clone, Copy)]
+pub enum BoardCalls {
+    /// A tick of one of ten bars, each in its turn: a drawing of all.
+    Draws,
+    /// A step and a tick of one of ten bars, each in its turn: a drawing of all, in which one line is another than before.
+    Steps,
+    /// A bar taken in at the head of so many, and out again.
+    Insertions(u64),
+    /// A tick of one of so many bars, each in its turn, on a hidden board.
+    HiddenTicks(u64),
 }
 
 /// A bar of 1,000 steps that stands at this one.
@@ -23,176 +36,125 @@ fn bar_at(alloc: Global, position: u64) -> Result<Candidate<NoTracker>, Refusal>
     Ok(Candidate::New(bar))
 }
 
-/// Why a bar was turned away.
-fn refusal(turned: Turned<NoTracker>) -> Refusal {
-    turned.refusal
-}
-
-impl ShownBoard {
-    /// A board without bars.
-    fn new(alloc: Global) -> ShownBoard {
-        ShownBoard {
-            board: Board::new(alloc, ProgressDrawTarget::term_like(terminal(alloc)), 1),
-        }
-    }
-
-    /// The same on a hidden target.
-    fn hidden(alloc: Global) -> ShownBoard {
-        ShownBoard {
-            board: Board::new(alloc, ProgressDrawTarget::hidden(), 1),
-        }
-    }
-
-    /// Takes a bar in.
-    fn add(&mut self, bar: Candidate<NoTracker>) -> Result<(), Refusal> {
-        match self.board.add(bar) {
-            Ok(_) => Ok(()),
-            Err(turned) => Err(refusal(turned)),
-        }
-    }
-
-    /// A step of a bar that isn't looked at, and a tick: a drawing.
-    #[inline(always)]
-    fn step(&mut self, number: u64) -> Result<(), Refusal> {
-        self.board
-            .command(BarId { board: 1, number }, BarCommand::Inc(1), 0)?;
-        self.tick(number)
-    }
-
-    /// A tick of a bar: a drawing.
-    #[inline(always)]
-    fn tick(&mut self, number: u64) -> Result<(), Refusal> {
-        self.board
-            .command(BarId { board: 1, number }, BarCommand::Tick, 0)?;
-        Ok(())
+/// Takes a bar in at this place, and answers its number. The board's contract is left behind here, and in `command`.
+#[inline(always)]
+fn insert(board: &mut Shown, index: usize, bar: Candidate<NoTracker>) -> Result<BarId, Refusal> {
+    match board.insert(index, bar) {
+        Ok(id) => Ok(id),
+        Err(turned) => Err(turned.refusal),
     }
 }
 
-/// A tick of one of ten bars, each in its turn: a drawing of all.
-impl Work for ShownBoard {
-    #[inline(always)]
-    fn once(&mut self, turn: u64) -> Result<(), Refusal> {
-        self.tick(turn % 10)
-    }
-
-    fn made(&self) -> Made {
-        drawn_on(self.board.term())
-    }
+/// A command of a bar.
+#[inline(always)]
+fn command(board: &mut Shown, number: u64, command: BarCommand<NoTracker>) -> Result<(), Refusal> {
+    board.command(BarId { board: 1, number }, command, 0)?;
+    Ok(())
 }
 
-/// Takes ten bars in.
-fn take_in_ten(alloc: Global, board: &mut ShownBoard) -> Result<(), Refusal> {
-    for number in 0..10u64 {
-        board.add(bar_at(alloc, number.saturating_mul(100))?)?;
+/// Takes so many bars in, each 100 steps further than the one before.
+fn take_in(alloc: Global, board: &mut Shown, bars: u64) -> Result<(), Refusal> {
+    for number in 0..bars {
+        let bar = bar_at(alloc, number.saturating_mul(100))?;
+        insert(board, usize::MAX, bar)?;
     }
     Ok(())
 }
 
-/// Draws each of ten bars.
-fn draw_ten(board: &mut ShownBoard) -> Result<(), Refusal> {
-    for number in 0..10u64 {
-        board.tick(number)?;
-    }
-    Ok(())
-}
-
-/// The drawings of a board of ten bars in the default style, each of which was drawn once.
-pub fn board_draw(rt: &HostRuntime, count: u64) -> Result<Measured> {
-    let mut board = Box::new(rt.alloc(), ShownBoard::new(rt.alloc()))?;
-    take_in_ten(rt.alloc(), &mut board)?;
-    draw_ten(&mut board)?;
-    measure(rt, &mut *board, count)
-}
-
-/// A step and a tick of one of ten bars, each in its turn: a drawing of all, in which one line is another than before.
-#[derive(Drop)]
-struct Steps<'a>(&'a mut ShownBoard);
-
-impl<'a> Work for Steps<'a> {
-    #[inline(always)]
-    fn once(&mut self, turn: u64) -> Result<(), Refusal> {
-        self.0.step(turn % 10)
-    }
-
-    fn made(&self) -> Made {
-        self.0.made()
-    }
-}
-
-/// The same board, one of whose bars goes on before each drawing.
-pub fn board_step(rt: &HostRuntime, count: u64) -> Result<Measured> {
-    let mut board = Box::new(rt.alloc(), ShownBoard::new(rt.alloc()))?;
-    take_in_ten(rt.alloc(), &mut board)?;
-    draw_ten(&mut board)?;
-    measure(rt, &mut Steps(&mut board), count)
-}
-
-/// Bars on a board, before which another is taken in, and taken out again.
-#[derive(Drop)]
-struct Entered {
-    alloc: Global,
-    shown: ShownBoard,
-}
-
-/// A bar taken in at the head, and out again. Nothing is drawn.
-impl Work for Entered {
-    #[inline(always)]
-    fn once(&mut self, turn: u64) -> Result<(), Refusal> {
-        match self.shown.board.insert(0, bar_at(self.alloc, turn)?) {
-            Ok(id) => {
-                self.shown.board.remove(id)?;
-                Ok(())
+/// Calls a board so many times.
+fn call(alloc: Global, board: &mut Shown, calls: BoardCalls, count: u64) -> Result<(), Refusal> {
+    match calls {
+        BoardCalls::Draws => {
+            for turn in 0..count {
+                command(board, turn % 10, BarCommand::Tick)?;
             }
-            Err(turned) => Err(refusal(turned)),
         }
-    }
-
-    fn made(&self) -> Made {
-        drawn_on(self.shown.board.term())
-    }
-}
-
-/// Takes so many bars in.
-fn take_in(alloc: Global, board: &mut ShownBoard, bars: u64) -> Result<(), Refusal> {
-    for position in 0..bars {
-        board.add(bar_at(alloc, position)?)?;
+        BoardCalls::Steps => {
+            for turn in 0..count {
+                command(board, turn % 10, BarCommand::Inc(1))?;
+                command(board, turn % 10, BarCommand::Tick)?;
+            }
+        }
+        BoardCalls::Insertions(_) => {
+            for turn in 0..count {
+                let id = insert(board, 0, bar_at(alloc, turn)?)?;
+                board.remove(id)?;
+            }
+        }
+        BoardCalls::HiddenTicks(bars) => {
+            for turn in 0..count {
+                command(board, turn.checked_rem(bars).unwrap_or(0), BarCommand::Tick)?;
+            }
+        }
     }
     Ok(())
 }
 
-/// Bars taken in at the head of a board of so many, each of them taken out again.
-pub fn board_insert(rt: &HostRuntime, count: u64, bars: u64) -> Result<Measured> {
+/// Takes in the bars that the calls want, draws them where the calls draw, and measures so many calls.
+fn timed(rt: &HostRuntime, board: &mut Shown, calls: BoardCalls, count: u64) -> Result<Measured> {
     let alloc = rt.alloc();
-    let shown = ShownBoard::new(alloc);
-    let mut entered = Box::new(alloc, Entered { alloc, shown })?;
-    take_in(alloc, &mut entered.shown, bars)?;
-    measure(rt, &mut *entered, count)
-}
-
-/// A board of so many bars.
-#[derive(Drop)]
-struct Crowd {
-    shown: ShownBoard,
-    bars: u64,
-}
-
-/// A tick of one of the bars, each in its turn.
-impl Work for Crowd {
-    #[inline(always)]
-    fn once(&mut self, turn: u64) -> Result<(), Refusal> {
-        self.shown.tick(turn.checked_rem(self.bars).unwrap_or(0))
+    let bars = match calls {
+        BoardCalls::Draws | BoardCalls::Steps => 10,
+        BoardCalls::Insertions(bars) | BoardCalls::HiddenTicks(bars) => bars,
+    };
+    take_in(alloc, board, bars)?;
+    if let BoardCalls::Draws | BoardCalls::Steps = calls {
+        call(alloc, board, BoardCalls::Draws, bars)?;
     }
-
-    fn made(&self) -> Made {
-        self.shown.made()
-    }
+    let start = started(rt);
+    call(alloc, board, calls, count)?;
+    Measured::since(rt, start, drawn_on(board.term()))
 }
 
-/// Ticks of the bars of a hidden board of so many.
-pub fn board_call(rt: &HostRuntime, count: u64, bars: u64) -> Result<Measured> {
-    let alloc = rt.alloc();
-    let shown = ShownBoard::hidden(alloc);
-    let mut crowd = Box::new(alloc, Crowd { shown, bars })?;
-    take_in(alloc, &mut crowd.shown, bars)?;
-    measure(rt, &mut *crowd, count)
+/// The calls of a board that is made for them, so many times.
+pub fn called(rt: &HostRuntime, calls: BoardCalls, count: u64) -> Result<Measured> {
+    let target = match calls {
+        BoardCalls::HiddenTicks(_) => ProgressDrawTarget::hidden(),
+        _ => ProgressDrawTarget::term_like(terminal(rt.alloc())),
+    };
+    timed(rt, &mut Board::new(rt.alloc(), target, 1), calls, count)
+}
+
+/// A bar of one line in a frame.
+fn segment(alloc: Global, bar: u64) -> Result<Segment, Refusal> {
+    let text = String::from_str(alloc, lines(0, 1))?;
+    let lines = vec![in alloc; LineType::Bar(text)]?;
+    Ok(Segment { bar, lines })
+}
+
+/// A frame of ten bars of one line each.
+fn frame_of_ten(alloc: Global) -> Result<Vec<Segment>, Refusal> {
+    let mut frame = Vec::new(alloc);
+    for bar in 0..10 {
+        frame.push(segment(alloc, bar)?)?;
+    }
+    Ok(frame)
+}
+
+/// Draws a frame so many times.
+fn draw(engine: &mut Engine<Term<Sink>>, frame: &[Segment], count: u64) -> Result<(), Refusal> {
+    for _ in 0..count {
+        engine.draw(frame, 0, MultiProgressAlignment::Top)?;
+    }
+    Ok(())
+}
+
+/// Draws a frame once, and then so many times.
+fn drawn(
+    rt: &HostRuntime,
+    engine: &mut Engine<Term<Sink>>,
+    frame: &[Segment],
+    count: u64,
+) -> Result<Measured> {
+    draw(engine, frame, 1)?;
+    let start = started(rt);
+    draw(engine, frame, count)?;
+    Measured::since(rt, start, drawn_on(Some(engine.term())))
+}
+
+/// Drawings of a frame of ten bars that was drawn once.
+pub fn board_frame(rt: &HostRuntime, count: u64) -> Result<Measured> {
+    let frame = frame_of_ten(rt.alloc())?;
+    let mut engine = Engine::new(rt.alloc(), terminal(rt.alloc()));
+    drawn(rt, &mut engine, &frame, count)
 }

@@ -1,114 +1,64 @@
 //! Bars that are shared, and work in several threads.
 ghost use Rattle.std.specs.Prelude.{◌≡◌, IfOk};
 
-use crate::measured::{Made, Measured};
-use crate::shown::{Sink, drawn, terminal};
-use anyhow::{Result, anyhow};
-use indicatif::machine::MachineClock;
+use crate::measured::{Made, Measured, started};
+use crate::sink::{Sink, drawn_on, terminal};
+use anyhow::Result;
+use indicatif::machine::{MachineClock, Shares};
 use indicatif::{
     BarWorker, Done, ParallelProgressIterator, ProgressBar, ProgressDrawTarget, Refusal, Setup,
     Term,
 };
-use std::alloc::{AllocError, Global};
-use std::sync::Wait;
-use std::thread::{Threads, join};
-use std::time::{Clock, Instant};
-
-/// The measurement of a name, if it is one of this module.
-pub fn run<R: Threads + Wait + Clock + Sync + Send + Copy + Clone + Drop>(
-    rt: &R,
-    alloc: Global,
-    name: &str,
-    count: u64,
-) -> Result<Option<Measured>> {
-    match name {
-        "inc_front" => Ok(Some(inc_front(rt, alloc, count)?)),
-        "inc_threads" => Ok(Some(inc_threads(rt, alloc, count)?)),
-        "worker_add" => Ok(Some(worker_add(rt, alloc, count)?)),
-        "parallel_map" => Ok(Some(parallel_map(rt, alloc, count)?)),
-        _ => Ok(None),
-    }
-}
+use std::thread::{Threads, join, map_indices};
 
 /// A bar under a lock, by the machine's clock.
 type Bar<R> = ProgressBar<Term<Sink>, MachineClock<R>, R>;
 
-/// A bar of this length, which draws 20 times a second.
-fn drawn_bar<R: Wait + Clock + Copy + Clone + Drop>(
+/// A bar of this length on this target.
+fn bar_on<R: Shares>(
     rt: &R,
-    alloc: Global,
+    target: ProgressDrawTarget<Term<Sink>>,
     len: u64,
 ) -> Result<Bar<R>, Refusal> {
-    let setup = Setup {
-        target: ProgressDrawTarget::term_like_with_hz(terminal(alloc), 20, 0)?,
-        clock: MachineClock::new(*rt),
-    };
-    ProgressBar::new(*rt, alloc, len, setup)
-}
-
-/// A bar of this length, which draws nothing.
-fn hidden_bar<R: Wait + Clock + Copy + Clone + Drop>(
-    rt: &R,
-    alloc: Global,
-    len: u64,
-) -> Result<Bar<R>, Refusal> {
-    let setup = Setup {
-        target: ProgressDrawTarget::hidden(),
-        clock: MachineClock::new(*rt),
-    };
-    ProgressBar::new(*rt, alloc, len, setup)
+    let clock = MachineClock::new(*rt);
+    ProgressBar::new(*rt, rt.alloc(), len, Setup { target, clock })
 }
 
 /// So many steps.
-fn steps<R: Wait + Clock + Copy + Clone + Drop>(bar: &Bar<R>, count: u64) -> Result<(), Refusal> {
+fn steps<R: Shares>(bar: &Bar<R>, count: u64) -> Result<(), Refusal> {
     for _ in 0..count {
         bar.inc(1)?;
     }
     Ok(())
 }
 
-/// Steps of a bar of so many that is shared, though nobody else steps it.
-fn inc_front<R: Wait + Clock + Copy + Clone + Drop>(
-    rt: &R,
-    alloc: Global,
-    count: u64,
-) -> Result<Measured> {
-    let bar = drawn_bar(rt, alloc, count)?;
-    let start = Instant::now(rt)?;
-    steps(&bar, count)?;
-    let made = bar.with_term(|term| term.map(drawn));
-    let made = made.ok_or(anyhow!("no terminal"))?;
-    Ok(Measured::since(rt, start, count, made)?)
+/// So many steps of a bar in one thread.
+fn in_front<R: Shares>(rt: &R, bar: &Bar<R>, count: u64) -> Result<Measured> {
+    let start = started(rt);
+    steps(bar, count)?;
+    Measured::since(rt, start, bar.with_term(drawn_on))
 }
 
-/// So many steps in each of two threads.
-fn steps_in_two<R: Threads + Wait + Clock + Sync + Send + Copy + Clone + Drop>(
-    rt: &R,
-    bar: &Bar<R>,
-    count: u64,
-) -> Result<(), Refusal> {
-    let (one, other) = join(rt, || steps(bar, count), || steps(bar, count));
-    one?;
-    other
+/// Steps of a bar of so many that is shared, though nobody else steps it. It draws 20 times a second.
+pub fn inc_front<R: Shares>(rt: &R, count: u64) -> Result<Measured> {
+    let target = ProgressDrawTarget::term_like_with_hz(terminal(rt.alloc()), 20, 0)?;
+    let bar = bar_on(rt, target, count)?;
+    in_front(rt, &bar, count)
+}
+
+/// So many steps of a bar in each of four threads.
+fn in_four<R: Shares>(rt: &R, bar: &Bar<R>, count: u64) -> Result<Measured> {
+    let start = started(rt);
+    for stepped in map_indices(rt, rt.alloc(), 4, &|_| steps(bar, count))? {
+        stepped?;
+    }
+    Measured::since(rt, start, Made::Sum(bar.position()))
 }
 
 /// So many steps of one hidden bar in each of four threads.
-fn inc_threads<R: Threads + Wait + Clock + Sync + Send + Copy + Clone + Drop>(
-    rt: &R,
-    alloc: Global,
-    count: u64,
-) -> Result<Measured> {
-    let bar = hidden_bar(rt, alloc, count)?;
-    let start = Instant::now(rt)?;
-    let (one, other) = join(
-        rt,
-        || steps_in_two(rt, &bar, count),
-        || steps_in_two(rt, &bar, count),
-    );
-    one?;
-    other?;
-    let made = Made::Sum(bar.position());
-    Ok(Measured::since(rt, start, count, made)?)
+pub fn inc_threads<R: Shares>(rt: &R, count: u64) -> Result<Measured> {
+    let bar = bar_on(rt, ProgressDrawTarget::hidden(), count)?;
+    in_four(rt, &bar, count)
 }
 
 /// Adds 1 so many times.
@@ -140,10 +90,10 @@ fn adds_in_two<R: Threads + Sync>(
 }
 
 /// Adds 1 so many times in each of four threads, to one sum.
-fn worker_add<R: Threads + Clock + Sync>(rt: &R, alloc: Global, count: u64) -> Result<Measured> {
-    let (done, worker) = Done::new(alloc)?;
+pub fn worker_add<R: Shares>(rt: &R, count: u64) -> Result<Measured> {
+    let (done, worker) = Done::new(rt.alloc())?;
     let (mine, theirs) = worker.split(&done)?;
-    let start = Instant::now(rt)?;
+    let start = started(rt);
     let sum = &done;
     let (mine, theirs) = join(
         rt,
@@ -155,51 +105,32 @@ fn worker_add<R: Threads + Clock + Sync>(rt: &R, alloc: Global, count: u64) -> R
         { adds_in_two(rt, sum, theirs, count) },
     );
     let whole = mine?.join(theirs?, &done);
-    let made = Made::Sum(done.close(whole));
-    Ok(Measured::since(rt, start, count, made)?)
-}
-
-/// The numbers below `count`.
-fn numbers(alloc: Global, count: u64) -> Result<Vec<u64>, AllocError> {
-    let mut items = Vec::new(alloc);
-    for k in 0..count {
-        items.push(k)?;
-    }
-    Ok(items)
-}
-
-/// The numbers, added.
-fn sum_of(numbers: &[u64]) -> u64 {
-    let mut sum: u64 = 0;
-    for n in numbers {
-        sum = sum.wrapping_add(*n);
-    }
-    sum
+    Measured::since(rt, start, Made::Sum(done.close(whole)))
 }
 
 /// A number made of each of these, with a bar.
-fn mapped<R: Threads + Wait + Clock + Sync + Copy + Clone + Drop>(
-    rt: &R,
-    alloc: Global,
-    items: &[u64],
-    bar: Bar<R>,
-) -> Result<Vec<u64>> {
+fn mapped<R: Shares>(rt: &R, items: &[u64], bar: Bar<R>) -> Result<Measured> {
+    let start = started(rt);
     let list = items.progress_with(bar);
-    let (made, _bar) = list.map_collect(rt, alloc, |x: &u64| x.wrapping_mul(2_654_435_761) >> 3);
-    Ok(made?)
+    let (made, _bar) = list.map_collect(
+        rt,
+        rt.alloc(),
+        |x: &u64| x.wrapping_mul(2_654_435_761) >> 3,
+    );
+    let measured = Measured::since(rt, start, Made::Sum(0))?;
+    let mut sum: u64 = 0;
+    for number in &made? {
+        sum = sum.wrapping_add(*number);
+    }
+    Ok(Measured {
+        made: Made::Sum(sum),
+        ..measured
+    })
 }
 
-/// A number made of each of so many, with a hidden bar.
-fn parallel_map<R: Threads + Wait + Clock + Sync + Copy + Clone + Drop>(
-    rt: &R,
-    alloc: Global,
-    count: u64,
-) -> Result<Measured> {
-    let items = numbers(alloc, count)?;
-    let bar = hidden_bar(rt, alloc, count)?;
-    let start = Instant::now(rt)?;
-    let made = mapped(rt, alloc, items.as_slice(), bar)?;
-    let mut measured = Measured::since(rt, start, count, Made::Sum(0))?;
-    measured.made = Made::Sum(sum_of(made.as_slice()));
-    Ok(measured)
+/// A number made of each of those below `count`, with a hidden bar.
+pub fn parallel_map<R: Shares>(rt: &R, count: u64) -> Result<Measured> {
+    let items: Vec<u64> = (0..count).collect(rt.alloc())?;
+    let bar = bar_on(rt, ProgressDrawTarget::hidden(), count)?;
+    mapped(rt, items.as_slice(), bar)
 }
