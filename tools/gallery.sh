@@ -44,6 +44,7 @@ built() {
   ln -s "$root/crates/$name/out/$name" "$folder/$name"
 }
 pages=("$@")
+built example_readme
 built examples fine
 built bars demo
 built meter --help

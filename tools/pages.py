@@ -5,7 +5,7 @@ usage: tools/pages.py [--write]   (at the root of the repository)
 
 - Each row of a table of docs/TEMPLATES.md is one row of crates/rows/data/templates_page.txt, which `crates/rows` plays. Each key of
   crates/indicatif_bar/specs/Keys.antt has a row there, and each word of crates/indicatif_text/specs/StyleWords.antt stands on the page.
-- The README's program is that of crates/examples/src/readme.rt.
+- The README's program is that of crates/example_readme.
 - Each call, clause, law and file that a table of docs/PROVED.md names is there; so are the edit and the callers of each row of its table
   of wrong bodies.
 - The same of docs/REFUSALS.md, which names each public call of the libraries: those of public types and traits, and free ones that a
@@ -681,11 +681,6 @@ def played(lines):
     return f"bars run {command[2]}: {command[1]} -> 0 {shown}"
 
 
-def as_module(lines):
-    """A program's lines as a module of `crates/examples` has them."""
-    return [re.sub(r"^fn main\(", "pub fn main(", line) for line in lines if line.strip() != "#![tactic(auto)]"]
-
-
 class Sources:
     """What blocks are compared with."""
 
@@ -699,7 +694,7 @@ class Sources:
         self.program = read("crates/rows/data/program.txt").splitlines()
 
     def has_code(self, lines):
-        if any(stands_in(block, it, True) for block in (lines, as_module(lines)) for it in self.code):
+        if any(stands_in(lines, it, True) for it in self.code):
             return True
         # with other line ends
         wanted = [without_space("\n".join(part)) for part in parts(lines)]
@@ -843,9 +838,9 @@ def main():
     faults = []
     if not ROWS.exists() or ROWS.read_text(encoding="utf-8") != rows:
         faults.append(f"{ROWS} has other rows than {PAGE}: run tools/pages.py --write, and play them")
-    texts = [read(it).replace("pub fn main(", "fn main(") for it in ("README.md", "crates/examples/src/readme.rt")]
+    texts = [read(it) for it in ("README.md", "crates/example_readme/src/main.rt")]
     if len({tuple(program(it, "use anyhow::Result;")) for it in texts}) != 1:
-        faults.append("README.md has another program than crates/examples/src/readme.rt")
+        faults.append("README.md has another program than crates/example_readme")
     if len(texts[0].splitlines()) > 90:
         faults.append("README.md has more than 90 lines")
     faults += faults_of_templates()

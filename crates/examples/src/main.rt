@@ -1,7 +1,6 @@
 //! Small programs, each a module with a `main` of its own. They run in turn, each under its name; `examples NAME` runs one of them.
 //!
-//! - `readme`: the README's program: a bar on standard error, hidden where that is no terminal. `first`: the same on a terminal in memory.
-//! - `wrapped`: a loop with a bar of its own. `download`: bytes, rate and time left.
+//! - `first`: a first program. `wrapped`: a loop with a bar of its own. `download`: bytes, rate and time left.
 //! - `fine`: a bar of fine characters. `logging`: lines above a bar (`examples log`). `refusal`: a call that is refused.
 //! - `formatters`: numbers as texts. `template`: the parts of a template. `terminal`: a bar on standard error. `sizes`: new sizes of a
 //!   terminal, passed on.
@@ -23,7 +22,6 @@ mod log_bridge;
 mod logging;
 mod ported;
 mod reader;
-mod readme;
 mod refusal;
 mod several;
 mod sizes;
@@ -37,17 +35,49 @@ use anyhow::Result;
 use std::env;
 
 fn main(rt: HostRuntime) -> Result<()> {
-    match env::args(&rt)?.nth(1) {
-        Some(name) => run(rt, name.as_str()),
-        None => run_all(rt),
+    let Some(name) = env::args(&rt)?.nth(1) else {
+        print_name(&rt, "first")?;
+        first::main(rt)?;
+        run_others(&rt)?;
+        print_name(&rt, "key")?;
+        key::main(rt, &rt)?;
+        print_name(&rt, "still")?;
+        still::main(rt, &rt)?;
+        print_name(&rt, "spinner")?;
+        spinner::main(rt)?;
+        print_name(&rt, "several")?;
+        several::main(rt)?;
+        print_name(&rt, "log_bridge")?;
+        log_bridge::main(rt, &rt)?;
+        print_name(&rt, "ported")?;
+        ported::main(rt, &rt)?;
+        print_name(&rt, "reader")?;
+        reader::main(rt, &rt)?;
+        print_name(&rt, "guide")?;
+        return guide::main(rt);
+    };
+    match name.as_str() {
+        "first" => first::main(rt),
+        "key" => key::main(rt, &rt),
+        "still" => still::main(rt, &rt),
+        "spinner" => spinner::main(rt),
+        "several" => several::main(rt),
+        "log_bridge" => log_bridge::main(rt, &rt),
+        "ported" => ported::main(rt, &rt),
+        "reader" => reader::main(rt, &rt),
+        "guide" => guide::main(rt),
+        name => run(&rt, name),
     }
 }
 
-/// Runs all of them, each under its name.
-fn run_all(rt: HostRuntime) -> Result<()> {
+fn print_name(rt: &HostRuntime, name: &str) -> Result<()> {
+    println!(rt; "== {name}")?;
+    Ok(())
+}
+
+/// Runs those that are lent the runtime.
+fn run_others(rt: &HostRuntime) -> Result<()> {
     for name in [
-        "readme",
-        "first",
         "wrapped",
         "download",
         "fine",
@@ -57,43 +87,25 @@ fn run_all(rt: HostRuntime) -> Result<()> {
         "template",
         "terminal",
         "sizes",
-        "key",
-        "still",
-        "spinner",
-        "several",
-        "log_bridge",
-        "ported",
-        "reader",
-        "guide",
     ] {
-        println!(rt; "== {name}")?;
+        print_name(rt, name)?;
         run(rt, name)?;
     }
     Ok(())
 }
 
 /// Runs the program of this name; nothing where there is none.
-fn run(rt: HostRuntime, name: &str) -> Result<()> {
+fn run(rt: &HostRuntime, name: &str) -> Result<()> {
     match name {
-        "readme" => readme::main(rt),
-        "first" => first::main(rt),
-        "wrapped" => wrapped::main(&rt),
-        "download" => download::main(&rt),
-        "fine" => fine::main(&rt),
-        "log" => logging::main(&rt),
-        "refusal" => refusal::main(&rt),
-        "formatters" => formatters::main(&rt),
-        "template" => template::main(&rt),
-        "terminal" => terminal::main(&rt),
-        "sizes" => sizes::main(&rt),
-        "key" => key::main(rt, &rt),
-        "still" => still::main(rt, &rt),
-        "spinner" => spinner::main(rt),
-        "several" => several::main(rt),
-        "log_bridge" => log_bridge::main(rt, &rt),
-        "ported" => ported::main(rt, &rt),
-        "reader" => reader::main(rt, &rt),
-        "guide" => guide::main(rt),
+        "wrapped" => wrapped::main(rt),
+        "download" => download::main(rt),
+        "fine" => fine::main(rt),
+        "log" => logging::main(rt),
+        "refusal" => refusal::main(rt),
+        "formatters" => formatters::main(rt),
+        "template" => template::main(rt),
+        "terminal" => terminal::main(rt),
+        "sizes" => sizes::main(rt),
         _ => Ok(()),
     }
 }
