@@ -4,10 +4,10 @@
 //! - `records`, `lone`: of `indicatif_bar`. `boards`, `histories`: of `indicatif_board`.
 mod boards;
 mod engines;
-mod histories;
+pub mod histories;
 mod lone;
 mod memory;
-mod records;
+pub mod records;
 mod targets;
 mod texts;
 
@@ -25,6 +25,7 @@ use indicatif_text::format::{
 };
 use indicatif_text::template::{Part, Template, TemplateError};
 use log::Level;
+use std::process::Abort;
 
 #[test]
 fn columns_of_texts(rt: HostRuntime) {
@@ -148,14 +149,19 @@ fn templates(rt: HostRuntime) {
     same!(rt; template.part_count(), 1);
     same!(rt; Template::parse(alloc, "{{x}}").expect(&rt, "granted").part_count(), 1);
     let lines = Template::parse(alloc, "a\nb").expect(&rt, "granted");
-    same!(rt; lines.part_count(), 3);
-    holds!(rt; lines.part(2) == Some(Part::Literal("b")));
-    holds!(rt; lines.parts().next() == Some(Part::Literal("a")));
-    same!(rt; lines.parts().count(), 3);
+    are_two_lines(&rt, &lines);
     same!(rt; Template::of_bar(alloc).expect(&rt, "granted").part_count(), 5);
     same!(rt; Template::of_spinner(alloc).expect(&rt, "granted").part_count(), 3);
     same!(rt; Template::parse(alloc, "{k:65536}").err(),
         Some(TemplateError::WidthTooLarge));
+}
+
+/// A template has the lines `a` and `b`.
+fn are_two_lines(rt: &impl Abort, lines: &Template) {
+    same!(*rt; lines.part_count(), 3);
+    holds!(*rt; lines.part(2) == Some(Part::Literal("b")));
+    holds!(*rt; lines.parts().next() == Some(Part::Literal("a")));
+    same!(*rt; lines.parts().count(), 3);
 }
 
 #[test]

@@ -88,19 +88,21 @@ fn calls_and_faults(rt: &impl Abort, bar: &Shown<FailsOnce>) -> (u64, u64) {
 /// script's own calls failed.
 fn run_failing_at(rt: &impl Abort, alloc: Global, failing: u64) -> (u64, u64) {
     let mut bar = bar_failing_at(rt, alloc, failing);
+    let run = run_on(rt, alloc, &mut bar);
+    same!(*rt; calls_and_faults(rt, &bar).1, run.1);
+    run
+}
+
+/// The same of this bar.
+fn run_on(rt: &impl Abort, alloc: Global, bar: &mut Shown<FailsOnce>) -> (u64, u64) {
     let mut left: Option<String> = None;
     let mut failures: u64 = 0;
-    for call in SCRIPT {
-        left = stepped(rt, alloc, &mut bar, call, left);
-        if left.is_some() {
-            failures = failures.saturating_add(1);
-        }
+    for call in &SCRIPT {
+        left = stepped(rt, alloc, bar, *call, left);
+        failures = failures.saturating_add(u64::from(left.is_some()));
     }
-    let (calls, _) = calls_and_faults(rt, &bar);
-    let left = stepped(rt, alloc, &mut bar, (Step::Tick, "e"), left);
-    same!(*rt; left, None);
-    let (_, faults) = calls_and_faults(rt, &bar);
-    same!(*rt; faults, failures);
+    let (calls, _) = calls_and_faults(rt, bar);
+    same!(*rt; stepped(rt, alloc, bar, (Step::Tick, "e"), left), None);
     (calls, failures)
 }
 
@@ -150,8 +152,8 @@ fn a_boxed_terminal_answers_as_the_plain_one(rt: HostRuntime) {
 }
 
 /// How often the bar's terminal has failed.
-fn faults(bar: &Shown<Boxed>) -> Option<u64> {
-    bar.term().map(|term| term.faults())
+fn faults<T: TermLike + Drop>(bar: &Shown<T>) -> Option<u64> {
+    Some(bar.term()?.faults())
 }
 
 /// A bar on a boxed terminal of which the fourth call fails.
@@ -174,7 +176,10 @@ fn a_boxed_terminal_that_fails(rt: HostRuntime) {
 // ---- memory is refused; tried with each allocation failing in turn
 
 fn bytes_written(bar: &Shown<Term<Vec<u8>>>) -> usize {
-    bar.term().map_or(0, |term| term.writer().len())
+    match bar.term() {
+        Some(term) => term.writer().len(),
+        None => 0,
+    }
 }
 
 /// What the bytes written so far show.
@@ -245,8 +250,7 @@ fn is_drawn_or_refused(bar: &mut Shown<InMemoryTerm>, step: Step) -> bool {
         Ok(drawn) => drawn == Drawn::Yes,
         Err(Refusal::Memory) => seen(bar) == before && made(bar, step) == Ok(Drawn::Yes),
         Err(refusal) => {
-            refusal == Refusal::Terminal(ErrorKind::OutOfMemory)
-                && bar.term().map_or(0, |term| term.faults()) == 1
+            refusal == Refusal::Terminal(ErrorKind::OutOfMemory) && faults(bar) == Some(1)
         }
     }
 }

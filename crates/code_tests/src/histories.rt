@@ -1,4 +1,5 @@
 //! A board that keeps its history: the examples of the documentation.
+use crate::documented::histories::terminal;
 use indicatif_bar::state::{BarCommand, BarState};
 use indicatif_bar::style::{NoTracker, ProgressStyle};
 use indicatif_board::multi::{
@@ -29,11 +30,6 @@ fn bar_saying(rt: &impl Abort, alloc: Global, text: &str) -> Candidate<NoTracker
 type Target = ProgressDrawTarget<InMemoryTerm>;
 
 type Recording = Recorded<NoTracker, InMemoryTerm>;
-
-/// A terminal of 4 rows and 10 columns.
-fn terminal(rt: &impl Abort, alloc: Global) -> InMemoryTerm {
-    InMemoryTerm::new(alloc, 4, 10).expect(rt, "granted")
-}
 
 /// A board of the id 7 that keeps its history, in a box.
 fn recorded_on(rt: &impl Abort, alloc: Global, target: Target) -> Box<Recording> {
@@ -128,8 +124,8 @@ fn takes_in_and_draws(rt: &impl Abort, alloc: Global, record: &mut Recording) {
 /// A board has this id, and allows so many draws at the moment 0.
 fn opens_with(rt: &impl Abort, record: &Recording, board_id: u64, draws: u32) {
     let opening = record.opening();
-    let draws_allowed = opening.limiter.as_ref().map(|limiter| allowed(limiter));
-    same!(*rt; (opening.board_id, draws_allowed), (board_id, Some(draws)));
+    let limiter = opening.limiter.as_ref().expect(rt, "a limiter");
+    same!(*rt; (opening.board_id, allowed(limiter)), (board_id, draws));
 }
 
 /// The limiter stays as the target came: 20 draws are in hand, though one was made.

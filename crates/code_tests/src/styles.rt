@@ -1,7 +1,7 @@
 //! Keys of a template that are the caller's own.
-ghost use Rattle.std.specs.Prelude.{true, false, if◌then◌else◌, codes, ◌-◌, decimal};
-ghost use Rattle.indicatif_bar.specs.Trackers.{telling};
+ghost use Rattle.std.specs.Prelude.{true, false, if◌then◌else◌, codes};
 
+use crate::documented::histories::terminal;
 use indicatif_bar::lone::LoneBar;
 use indicatif_bar::state::{BarCommand, BarState, ProgressFinish, ProgressState};
 use indicatif_bar::style::{FnTracker, ProgressStyle, ProgressTracker, TellsText};
@@ -10,7 +10,6 @@ use indicatif_board::multi::{Answer, BarId, Board, Candidate, Entry, InsertLocat
 use indicatif_term::draw_target::{LineType, ProgressDrawTarget};
 use indicatif_term::in_memory::InMemoryTerm;
 use indicatif_text::columns::{Drawn, Moment, Refusal};
-use itoa::Buffer;
 use std::alloc::Global;
 use std::convert::AsStr;
 use std::process::Abort;
@@ -169,7 +168,7 @@ fn a_tracker_in_colours(rt: HostRuntime) {
 
 /// A terminal of 4 rows and 10 columns.
 fn target(rt: &impl Abort, alloc: Global) -> ProgressDrawTarget<InMemoryTerm> {
-    ProgressDrawTarget::term_like(InMemoryTerm::new(alloc, 4, 10).expect(rt, "granted"))
+    ProgressDrawTarget::term_like(terminal(rt, alloc))
 }
 
 /// A bar on a terminal of 4 rows and 10 columns.
@@ -319,7 +318,7 @@ fn names_of_trackers(rt: HostRuntime) {
 // ---- a text that changes
 
 /// Whether the bar has ticked since its last reset.
-#[derive(Clone, Copy, Debug, Drop)]
+#[derive(Clone, Copy, Drop)]
 struct Light {
     on: bool,
 }
@@ -357,7 +356,7 @@ fn lit(rt: &impl Abort, alloc: Global) -> Told<Light> {
 }
 
 /// A call of a bar.
-#[derive(Clone, Copy, Debug, Drop)]
+#[derive(Clone, Copy, Drop)]
 enum Step {
     WithPosition,
     ForceDraw,
@@ -433,50 +432,5 @@ fn ticks_and_resets_of_a_tracker(rt: HostRuntime) {
     let mut bar = lit(&rt, rt.alloc());
     for row in &CALLS {
         shows_after(&rt, rt.alloc(), &mut bar, *row);
-    }
-}
-
-// ---- the tracker that the documentation of `ProgressTracker` shows
-
-/// Tells how many steps of so many are left.
-#[derive(Clone, Copy, Drop)]
-struct Left {
-    of: u64,
-}
-
-impl ProgressTracker for Left {
-    ghost means = { telling (λ left p now. decimal (left.of - p.position)) };
-
-    fn tick(&mut self, _state: &ProgressState, _now: Moment) {}
-
-    fn reset(&mut self, _state: &ProgressState, _now: Moment) {}
-
-    fn write(&self, state: &ProgressState, _now: Moment, out: &mut String) -> Result<(), Refusal> {
-        let mut digits = Buffer::new();
-        out.push_str(digits.format(self.of.saturating_sub(state.pos())))?;
-        Ok(())
-    }
-
-    fn try_clone(&self) -> Result<Left, Refusal> {
-        Ok(*self)
-    }
-}
-
-/// A bar of files that shows how many of 10 are left.
-fn counting(rt: &impl Abort, alloc: Global) -> Told<Left> {
-    let look = look(rt, alloc, "{msg} {left}");
-    let look = keyed(rt, alloc, look, ("left", Left { of: 10 }));
-    let mut bar = bar(rt, alloc, look, None);
-    bar.set_message("files", 0).expect(rt, "granted");
-    bar
-}
-
-/// It follows the position, and stays at 0 past the end.
-#[test]
-fn a_tracker_of_what_is_left(rt: HostRuntime) {
-    let mut bar = counting(&rt, rt.alloc());
-    for (position, wanted) in [(0, "files 10\n"), (3, "files 7\n"), (12, "files 0\n")] {
-        bar.set_position(position, 0);
-        shows(&rt, rt.alloc(), &bar, (80, wanted));
     }
 }

@@ -3,6 +3,9 @@ use indicatif_text::format::{
     BinaryBytes, DecimalBytes, FormattedDuration, HumanBytes, HumanCount, HumanDuration,
     HumanFloatCount, nearest,
 };
+use std::alloc::Global;
+use std::fmt::Display;
+use std::process::Abort;
 
 #[test]
 fn nearest_whole_numbers(rt: HostRuntime) {
@@ -10,19 +13,28 @@ fn nearest_whole_numbers(rt: HostRuntime) {
     same!(rt; nearest(5, 2), 2);
 }
 
+/// A formatter's text is this, whatever options its hole has.
+fn ignores_options<T: Display>(rt: &impl Abort, alloc: Global, shown: &T, wanted: &str) {
+    let text = format!(in alloc;
+        "{shown:>6}|{shown:>12}|{shown:<6}|{shown:^12}|{shown:06}|{shown:.1}"
+    );
+    for text in text.expect(rt, "granted").split('|') {
+        same!(*rt; text, wanted);
+    }
+}
+
 /// The options of a hole don't reach a formatter's text.
 #[test]
 fn options_of_a_hole_are_ignored(rt: HostRuntime) {
     let alloc = rt.alloc();
-    let bytes = format!(in alloc; "{:>6}|{:<6}|", HumanBytes(5), DecimalBytes(5));
-    same!(rt; bytes.expect(&rt, "granted").as_str(), "5 B|5 B|");
-    let counts = format!(in alloc; "{:>6}|{:06}|", HumanCount(5), BinaryBytes(5));
-    same!(rt; counts.expect(&rt, "granted").as_str(), "5|5 B|");
-    let durations = format!(in alloc; "{:>12}|{:^12}|", HumanDuration(0), FormattedDuration(0));
-    same!(rt; durations.expect(&rt, "granted").as_str(), "0 seconds|00:00:00|");
+    ignores_options(&rt, alloc, &HumanBytes(5), "5 B");
+    ignores_options(&rt, alloc, &DecimalBytes(5), "5 B");
+    ignores_options(&rt, alloc, &HumanCount(5), "5");
+    ignores_options(&rt, alloc, &BinaryBytes(5), "5 B");
+    ignores_options(&rt, alloc, &HumanDuration(0), "0 seconds");
+    ignores_options(&rt, alloc, &FormattedDuration(0), "00:00:00");
     let half = HumanFloatCount::new(1, 2).expect(&rt, "a divisor");
-    let halves = format!(in alloc; "{half:>6}|{half:.1}|");
-    same!(rt; halves.expect(&rt, "granted").as_str(), "0.5|0.5|");
+    ignores_options(&rt, alloc, &half, "0.5");
 }
 
 /// They do reach a text that was made before.

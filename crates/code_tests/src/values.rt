@@ -1,15 +1,16 @@
 //! What bars and targets hand out, and closures that are handed to them: the examples of the documentation, and some more.
-ghost use Rattle.std.specs.Prelude.{◌≡◌, ℕ, List, IfOk, IfErr, string_bytes};
+ghost use Rattle.std.specs.Prelude.{◌≡◌, ℕ, List, IfOk, IfErr};
 ghost use Rattle.indicatif_bar.specs.Progress.{Progress};
 
+use crate::documented::records::{Always, ready};
 use bars_run::fault::Fault;
 use indicatif_bar::lone::LoneBar;
-use indicatif_bar::state::{Ask, BarState, Change, ProgressFinish, ProgressState, SpareLines};
-use indicatif_bar::style::{FnTracker, NoTracker, ProgressStyle, ProgressTracker, TellsText};
+use indicatif_bar::state::{Ask, BarState, Change, ProgressFinish, SpareLines};
+use indicatif_bar::style::{FnTracker, NoTracker, ProgressStyle, ProgressTracker};
 use indicatif_term::draw_target::{LineType, ProgressDrawTarget, Setup};
 use indicatif_term::in_memory::InMemoryTerm;
 use indicatif_term::term_like::TermLike;
-use indicatif_text::columns::{Clock, Drawn, Moment, Refusal, StepClock};
+use indicatif_text::columns::{Clock, Drawn, Refusal, StepClock};
 use std::alloc::Global;
 use std::convert::AsStr;
 use std::process::Abort;
@@ -71,7 +72,8 @@ fn draw_target(rt: HostRuntime) {
     let term = InMemoryTerm::new(rt.alloc(), 2, 5).expect(&rt, "granted");
     let shown = ProgressDrawTarget::term_like(term);
     holds!(rt; !shown.is_hidden());
-    same!(rt; shown.into_term().map(|term| term.width()), Some(5));
+    let term = shown.into_term().expect(&rt, "a terminal");
+    same!(rt; term.width(), 5);
     let nowhere: ProgressDrawTarget<InMemoryTerm> = ProgressDrawTarget::hidden();
     holds!(rt; nowhere.is_hidden());
 }
@@ -85,26 +87,6 @@ fn fault(rt: HostRuntime) {
 }
 
 // ---- a tracker that tells a text
-
-/// Tells the same text always.
-#[derive(Drop)]
-struct Always {
-    text: String,
-}
-
-impl TellsText for Always {
-    ghost told_text = { λ always p now. string_bytes always.text };
-
-    fn tell(&self, _state: &ProgressState, _now: Moment) -> Result<String, Refusal> {
-        Ok(self.text.clone()?)
-    }
-}
-
-/// Tells `ready` always.
-fn ready(rt: &impl Abort, alloc: Global) -> FnTracker<Always> {
-    let text = String::from_str(alloc, "ready").expect(rt, "granted");
-    FnTracker::new(alloc, Always { text }).expect(rt, "granted")
-}
 
 /// A bar that shows what this tells.
 fn telling(

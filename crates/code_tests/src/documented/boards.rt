@@ -151,6 +151,8 @@ fn copy_of_a_call(rt: HostRuntime) {
     let (alloc, call) = (rt.alloc(), Call::<NoTracker>::Redraw);
     let again = call.try_clone(alloc).expect(&rt, "granted");
     holds!(rt; matches!(again, Call::Redraw));
+    drop(call);
+    drop(again);
 }
 
 #[test]

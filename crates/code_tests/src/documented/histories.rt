@@ -7,7 +7,7 @@ use std::alloc::Global;
 use std::process::Abort;
 
 /// A terminal of 4 rows and 10 columns.
-fn terminal(rt: &impl Abort, alloc: Global) -> InMemoryTerm {
+pub fn terminal(rt: &impl Abort, alloc: Global) -> InMemoryTerm {
     InMemoryTerm::new(alloc, 4, 10).expect(rt, "granted")
 }
 

@@ -78,6 +78,7 @@ fn command_and_its_copy(rt: HostRuntime) {
     same!(rt; ask, Ask::Unforced);
     let command = BarCommand::Inc(2);
     let again = command.try_clone(alloc).expect(&rt, "granted");
+    drop(command);
     bar.apply(again, now).expect(&rt, "granted");
     same!(rt; bar.state().pos(), 7);
 }
@@ -171,23 +172,38 @@ impl ProgressTracker for Left {
     }
 }
 
+/// A bar of files that shows how many of 10 are left.
+fn counting(rt: &impl Abort, alloc: Global) -> Box<BarState<Left>> {
+    let style = ProgressStyle::with_template(alloc, "{msg} {left}")
+        .expect(rt, "granted")
+        .with_key("left", Left { of: 10 })
+        .expect(rt, "granted");
+    let mut bar = BarState::styled(alloc, style, None, 0).expect(rt, "granted");
+    bar.set_message("files", 0).expect(rt, "granted");
+    Box::new(alloc, bar).expect(rt, "granted")
+}
+
 /// A bar of files of which three are done.
 #[test]
 fn key_with_a_number(rt: HostRuntime) {
-    let alloc = rt.alloc();
-    let style = ProgressStyle::with_template(alloc, "{msg} {left}")
-        .expect(&rt, "granted")
-        .with_key("left", Left { of: 10 })
-        .expect(&rt, "granted");
-    let mut bar = BarState::styled(alloc, style, None, 0).expect(&rt, "granted");
-    bar.set_message("files", 0).expect(&rt, "granted");
+    let mut bar = counting(&rt, rt.alloc());
     bar.set_position(3, 0);
     say(&rt, &bar.lines(0, 80).expect(&rt, "granted"), "files 7");
 }
 
+/// The key follows the position, and stays at 0 past the end.
+#[test]
+fn a_tracker_of_what_is_left(rt: HostRuntime) {
+    let mut bar = counting(&rt, rt.alloc());
+    for (position, wanted) in [(0, "files 10"), (3, "files 7"), (12, "files 0")] {
+        bar.set_position(position, 0);
+        say(&rt, &bar.lines(0, 80).expect(&rt, "granted"), wanted);
+    }
+}
+
 /// Tells the same text always.
 #[derive(Drop)]
-struct Always {
+pub struct Always {
     text: String,
 }
 
@@ -199,17 +215,23 @@ impl TellsText for Always {
     }
 }
 
+/// Tells `ready` always.
+pub fn ready(rt: &impl Abort, alloc: Global) -> FnTracker<Always> {
+    let tracker = FnTracker::new(
+        alloc,
+        Always {
+            text: String::from_str(alloc, "ready").expect(rt, "granted"),
+        },
+    )
+    .expect(rt, "granted");
+    tracker
+}
+
 /// A bar that says that it is ready.
 #[test]
 fn key_with_a_text(rt: HostRuntime) {
     let alloc = rt.alloc();
-    let tracker = FnTracker::new(
-        alloc,
-        Always {
-            text: String::from_str(alloc, "ready").expect(&rt, "granted"),
-        },
-    )
-    .expect(&rt, "granted");
+    let tracker = ready(&rt, alloc);
     let style = ProgressStyle::with_template(alloc, "{word}!")
         .expect(&rt, "granted")
         .with_key("word", tracker)
