@@ -46,16 +46,15 @@ impl OnScreen {
             return Ok(());
         }
         match headed(step) {
-            ("target", rest) => self.go_on(rest, at, got)?,
-            ("move", word) => self.board.set_move_cursor(flag(word)?),
-            ("size", words) => self.resize(words)?,
-            ("suspend", "") => suspend(&mut self.board, &self.screen, at.now, got)?,
-            ("suspend", text) => outside::suspend(&mut self.board, &self.screen, (text, at), got)?,
-            ("run", calls) => run(&mut self.board, calls, at, got)?,
-            ("call", text) => push_answer(called(&mut self.board, text, at)?, got),
-            _ => made(&mut self.board, step, at, got)?,
+            ("target", rest) => self.go_on(rest, at, got),
+            ("move", word) => moving(&mut self.board, word),
+            ("size", words) => self.resize(words),
+            ("suspend", "") => suspend(&mut self.board, &self.screen, at.now, got),
+            ("suspend", text) => outside::suspend(&mut self.board, &self.screen, (text, at), got),
+            ("run", calls) => run(&mut self.board, calls, at, got),
+            ("call", text) => call(&mut self.board, text, at, got),
+            _ => made(&mut self.board, step, at, got),
         }
-        Ok(())
     }
 
     /// `target ROWS COLS RATE`: goes on on a new screen, and tells what stands on the old one.
@@ -81,6 +80,12 @@ impl OnScreen {
 
 fn board_on(at: At, target: Box<Target>) -> Result<Box<Shown>, Bad> {
     at.boxed(Board::new(at.alloc, Box::into_inner(target), BOARD_ID))
+}
+
+/// `move yes` or `move no`: whether draws write over what stands by moves of the cursor alone.
+fn moving(board: &mut Shown, word: &str) -> Result<(), Bad> {
+    board.set_move_cursor(flag(word)?);
+    Ok(())
 }
 
 /// Sets where bars stand in what is taken back; nothing is as it was.
@@ -222,9 +227,10 @@ fn push_candidate(candidate: &Candidate<NoTracker>, got: &mut Got) {
 }
 
 /// Makes a call as a value.
-fn called(board: &mut Shown, text: &str, at: At) -> Result<Answer, Bad> {
+fn call(board: &mut Shown, text: &str, at: At, got: &mut Got) -> Result<(), Bad> {
     let call = board_call(at, text)?;
-    Ok(board.call(call, at.now))
+    push_answer(board.call(call, at.now), got);
+    Ok(())
 }
 
 fn suspended(board: &mut Shown, screen: &Screen, now: Moment) -> (Look, Answered) {

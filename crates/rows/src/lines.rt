@@ -133,22 +133,15 @@ fn look_of(layout: Layout<'_>, at: At) -> Result<Look, Bad> {
 
 fn bar_of(layout: Layout<'_>, at: At) -> Result<Box<Bar>, Bad> {
     let mut bar = in_style(look_of(layout, at)?, layout.len, at)?;
-    place(&mut bar, layout.tab, layout.position)?;
-    let message = unescaped(at.alloc, layout.message)?;
-    let prefix = unescaped(at.alloc, layout.prefix)?;
-    say(&mut bar, message.as_str(), prefix.as_str())?;
+    set_up(&mut bar, layout, at)?;
     Ok(bar)
 }
 
-fn place(bar: &mut Bar, tab: usize, position: u64) -> Result<(), Bad> {
-    bar.with_tab_width(tab, 0)?;
-    bar.with_position(position, 0);
-    Ok(())
-}
-
-fn say(bar: &mut Bar, message: &str, prefix: &str) -> Result<(), Bad> {
-    bar.with_message(message, 0)?;
-    bar.with_prefix(prefix, 0)?;
+fn set_up(bar: &mut Bar, layout: Layout<'_>, at: At) -> Result<(), Bad> {
+    bar.with_tab_width(layout.tab, 0)?;
+    bar.with_position(layout.position, 0);
+    bar.with_message(unescaped(at.alloc, layout.message)?.as_str(), 0)?;
+    bar.with_prefix(unescaped(at.alloc, layout.prefix)?.as_str(), 0)?;
     Ok(())
 }
 

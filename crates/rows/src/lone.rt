@@ -1,13 +1,14 @@
 //! A lone bar on a screen.
+use crate::records::new_bar;
 use indicatif_bar::lone::{LoneBar, LoneCall};
 use indicatif_bar::style::NoTracker;
 use indicatif_term::term_like::TermLike;
 use indicatif_text::columns::{Drawn, Moment, Refusal};
 use scripts::got::{Bad, Got};
-use scripts::lone::{Bar, bar_of, lone_call, read_bar, style_of};
-use scripts::row::{At, headed, next, timed};
+use scripts::lone::{Bar, lone_call, read_bar, style_of};
+use scripts::row::{At, headed, timed};
 use scripts::screen::{self, Behind, Look, Screen, Target};
-use scripts::spelling::{flag, number, optional};
+use scripts::spelling::{flag, number};
 use std::rc::Rc;
 
 type Lone = LoneBar<NoTracker, Behind>;
@@ -27,8 +28,7 @@ impl OnScreen {
     pub fn begin(rest: &str, at: At) -> Result<OnScreen, Bad> {
         let mut words = rest;
         let (screen, target) = screen::begin(&mut words, at)?;
-        let len = optional(next(&mut words))?;
-        let bar = lone_on(at, bar_of(at, words, len)?, target)?;
+        let bar = lone_on(at, new_bar(words, at)?, target)?;
         Ok(OnScreen { bar, screen })
     }
 
@@ -48,13 +48,13 @@ impl OnScreen {
         match headed(step) {
             ("hidden", "") => got.flag(self.bar.is_hidden()),
             ("faults", "") => push_faults(&self.bar, got),
-            ("target", rest) => self.go_on(rest, at, got)?,
-            ("move", word) => self.bar.set_move_cursor(flag(word)?),
-            ("size", words) => self.resize(words)?,
-            ("suspend", "") => suspend(&mut self.bar, &self.screen, at.now, got)?,
             ("suspend_bytes", "") => suspend_bytes(&mut self.bar, &self.screen, at.now, got),
-            ("run", calls) => run(&mut self.bar, calls, at, got)?,
-            _ => made(&mut self.bar, step, at, got)?,
+            ("move", word) => self.bar.set_move_cursor(flag(word)?),
+            ("target", rest) => return self.go_on(rest, at, got),
+            ("size", words) => return self.resize(words),
+            ("suspend", "") => return suspend(&mut self.bar, &self.screen, at.now, got),
+            ("run", calls) => return run(&mut self.bar, calls, at, got),
+            _ => return made(&mut self.bar, step, at, got),
         }
         Ok(())
     }

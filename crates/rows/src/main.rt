@@ -58,9 +58,13 @@ fn main(rt: HostRuntime) -> ExitCode {
 fn play_all(rt: HostRuntime) -> Result<Tally> {
     let mut tally = Tally::default();
     for path in env::args(&rt)?.skip(1) {
-        let mut stage = Stage::new(rt.alloc());
-        let played = play_file(&rt, path.as_str(), &mut stage);
-        tally = tally.and(played.context(format_args!("{path}"))?);
+        tally = tally.and(play(&rt, path.as_str())?);
     }
     Ok(tally)
+}
+
+/// Plays a file.
+fn play(rt: &HostRuntime, path: &str) -> Result<Tally> {
+    let mut stage = Stage::new(rt.alloc());
+    play_file(rt, path, &mut stage).context(format_args!("{path}"))
 }

@@ -167,14 +167,14 @@ impl OnNoted {
         }
         match headed(step) {
             ("move", word) => self.board.set_move_cursor(flag(word)?),
-            ("moves", "") => push_moves(&self.memory, got)?,
-            ("contents", "") => push_contents(&self.memory, got)?,
             ("clear", "") => got.answer(self.board.clear(at.now)),
             ("log", text) => {
                 let text = unescaped(at.alloc, text)?;
                 got.answer(self.board.println(text.as_str(), at.now));
             }
-            ("add", bar) => self.add(bar, at, got)?,
+            ("moves", "") => return push_moves(&self.memory, got),
+            ("contents", "") => return push_contents(&self.memory, got),
+            ("add", bar) => return self.add(bar, at, got),
             _ => return Err(Bad::Step),
         }
         Ok(())

@@ -58,12 +58,13 @@ impl Write for Output {
     }
 }
 
-/// The input's failure, and the outputs.
-#[derive(Drop)]
-struct Streams {
+/// How the input fails behind the commands, how many bytes each output takes, and whether the last flush fails.
+#[derive(Clone, Copy)]
+struct Limits {
     failure: Option<ErrorKind>,
-    out: Output,
-    err: Output,
+    printed: usize,
+    said: usize,
+    is_flush_failing: bool,
 }
 
 /// `bars [CHANGE ..] WORDS: COMMANDS`, with `\n` behind each command: `bars` with these words, parted by spaces, on these commands.
@@ -73,45 +74,40 @@ struct Streams {
 /// `flush=no`, the last flush fails; `said=no`, what was wrong can't be said. The word `alone`: no words, not even an empty one.
 pub fn played(rest: &str, at: At, got: &mut Got) -> Result<(), Bad> {
     let (words, commands) = rest.split_once(':').ok_or(Bad::Step)?;
+    let (limits, words) = limited(words)?;
     let commands = unescaped_bytes(at.alloc, commands.strip_prefix(' ').unwrap_or(commands))?;
-    let mut streams = plain_streams(at);
-    let words = changed(&mut streams, words)?;
-    let words = changed(&mut streams, words)?;
-    let words = changed(&mut streams, words)?;
-    let words = changed(&mut streams, words)?;
     let mut args = Vec::new(at.alloc);
     if words != "alone" {
         push_words(words, at, &mut args)?;
     }
-    run(&args, &commands, (streams, at), got);
+    run(&args, &commands, (limits, at), got);
     Ok(())
 }
 
-fn plain_streams(at: At) -> Streams {
-    Streams {
+/// The limits that up to four changes make, and the words that are left.
+fn limited(words: &str) -> Result<(Limits, &str), Bad> {
+    let mut words = words;
+    let mut limits = Limits {
         failure: None,
-        out: endless(at),
-        err: endless(at),
-    }
-}
-
-fn endless(at: At) -> Output {
-    Output {
-        written: Vec::new(at.alloc),
-        room: usize::MAX,
+        printed: usize::MAX,
+        said: usize::MAX,
         is_flush_failing: false,
+    };
+    for _ in 0..4 {
+        words = changed(&mut limits, words)?;
     }
+    Ok((limits, words))
 }
 
 /// Makes the change that the next word asks for, if it does; the words that are left.
-fn changed<'a>(streams: &mut Streams, words: &'a str) -> Result<&'a str, Bad> {
+fn changed<'a>(limits: &mut Limits, words: &'a str) -> Result<&'a str, Bad> {
     let (word, rest) = headed(words);
     match word.split_once('=') {
-        Some(("input", "BrokenPipe")) => streams.failure = Some(ErrorKind::BrokenPipe),
-        Some(("input", "OutOfMemory")) => streams.failure = Some(ErrorKind::OutOfMemory),
-        Some(("room", room)) => streams.out.room = number(room)?,
-        Some(("flush", "no")) => streams.out.is_flush_failing = true,
-        Some(("said", "no")) => streams.err.room = 0,
+        Some(("input", "BrokenPipe")) => limits.failure = Some(ErrorKind::BrokenPipe),
+        Some(("input", "OutOfMemory")) => limits.failure = Some(ErrorKind::OutOfMemory),
+        Some(("room", room)) => limits.printed = number(room)?,
+        Some(("flush", "no")) => limits.is_flush_failing = true,
+        Some(("said", "no")) => limits.said = 0,
         _ => return Ok(words),
     }
     Ok(rest)
@@ -124,15 +120,20 @@ fn push_words(words: &str, at: At, args: &mut Vec<String>) -> Result<(), Bad> {
     Ok(())
 }
 
-fn run(args: &[String], commands: &[u8], (streams, at): (Streams, At), got: &mut Got) {
-    let Streams {
-        failure,
-        mut out,
-        mut err,
-    } = streams;
+fn run(args: &[String], commands: &[u8], (limits, at): (Limits, At), got: &mut Got) {
     let input = Input {
         rest: commands,
-        failure,
+        failure: limits.failure,
+    };
+    let mut out = Output {
+        written: Vec::new(at.alloc),
+        room: limits.printed,
+        is_flush_failing: limits.is_flush_failing,
+    };
+    let mut err = Output {
+        written: Vec::new(at.alloc),
+        room: limits.said,
+        is_flush_failing: false,
     };
     got.number(run_bars(at.alloc, args, input, &mut out, &mut err));
     push_printed(" ", &out, got);

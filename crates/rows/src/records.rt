@@ -15,9 +15,7 @@ pub struct Record(pub Box<Bar>);
 impl Record {
     /// `record LEN BAR`.
     pub fn begin(rest: &str, at: At) -> Result<Record, Bad> {
-        let mut words = rest;
-        let len = optional(next(&mut words))?;
-        Ok(Record(bar_of(at, words, len)?))
+        Ok(Record(new_bar(rest, at)?))
     }
 
     /// Makes a command, and tells what it asks; or reads something of the bar.
@@ -28,6 +26,13 @@ impl Record {
         push_ask(asked(&mut self.0, step, at)?, got);
         Ok(())
     }
+}
+
+/// `LEN BAR`: a bar of this length, or of none.
+pub fn new_bar(rest: &str, at: At) -> Result<Box<Bar>, Bad> {
+    let mut words = rest;
+    let len = optional(next(&mut words))?;
+    bar_of(at, words, len)
 }
 
 fn asked(bar: &mut Bar, step: &str, at: At) -> Result<Ask, Bad> {

@@ -6,6 +6,26 @@ use scripts::row::{At, next};
 use scripts::spelling::unescaped;
 use std::io::ErrorKind;
 
+/// The refusals by their names, but for that of a character in a template.
+const NAMED: [(&str, Refusal); 16] = [
+    ("ZeroRate", Refusal::ZeroRate),
+    ("FewTicks", Refusal::FewTicks),
+    ("FewProgressChars", Refusal::FewProgressChars),
+    ("UnequalWidths", Refusal::UnequalWidths),
+    ("ZeroWidthChars", Refusal::ZeroWidthChars),
+    ("WidthTooLarge", Refusal::WidthTooLarge),
+    ("ForeignBar", Refusal::ForeignBar),
+    ("NotMember", Refusal::NotMember),
+    ("ElapsedBeyondClock", Refusal::ElapsedBeyondClock),
+    ("NoColumns", Refusal::NoColumns),
+    ("TooWide", Refusal::TooWide),
+    ("BrokenPipe", Refusal::Terminal(ErrorKind::BrokenPipe)),
+    ("Memory", Refusal::Memory),
+    ("ZeroSize", Refusal::ZeroSize),
+    ("ZeroPieces", Refusal::ZeroPieces),
+    ("RecordedTarget", Refusal::RecordedTarget),
+];
+
 /// Appends a refusal's number and its text: `refusal NAME`; `refusal Template C STATE`: of a character.
 pub fn told(rest: &str, at: At, got: &mut Got) -> Result<(), Bad> {
     let refusal = match rest.strip_prefix("Template ") {
@@ -56,23 +76,10 @@ fn state(name: &str) -> Result<TemplateState, Bad> {
 }
 
 fn named(name: &str) -> Result<Refusal, Bad> {
-    match name {
-        "ZeroRate" => Ok(Refusal::ZeroRate),
-        "FewTicks" => Ok(Refusal::FewTicks),
-        "FewProgressChars" => Ok(Refusal::FewProgressChars),
-        "UnequalWidths" => Ok(Refusal::UnequalWidths),
-        "ZeroWidthChars" => Ok(Refusal::ZeroWidthChars),
-        "WidthTooLarge" => Ok(Refusal::WidthTooLarge),
-        "ForeignBar" => Ok(Refusal::ForeignBar),
-        "NotMember" => Ok(Refusal::NotMember),
-        "ElapsedBeyondClock" => Ok(Refusal::ElapsedBeyondClock),
-        "NoColumns" => Ok(Refusal::NoColumns),
-        "TooWide" => Ok(Refusal::TooWide),
-        "BrokenPipe" => Ok(Refusal::Terminal(ErrorKind::BrokenPipe)),
-        "Memory" => Ok(Refusal::Memory),
-        "ZeroSize" => Ok(Refusal::ZeroSize),
-        "ZeroPieces" => Ok(Refusal::ZeroPieces),
-        "RecordedTarget" => Ok(Refusal::RecordedTarget),
-        _ => Err(Bad::Step),
+    for (named, refusal) in NAMED {
+        if named == name {
+            return Ok(refusal);
+        }
     }
+    Err(Bad::Step)
 }

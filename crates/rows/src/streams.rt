@@ -8,7 +8,7 @@ use indicatif_text::columns::{Drawn, Refusal};
 use scripts::got::{Bad, Got};
 use scripts::lone::bar_of;
 use scripts::row::{At, next};
-use scripts::spelling::{flag, number, optional, unescaped};
+use scripts::spelling::{flag, number, unescaped};
 
 /// A target on a stream of bytes.
 type Target = ProgressDrawTarget<Term<Vec<u8>>>;
@@ -21,7 +21,7 @@ pub fn asked(rest: &str, at: At, got: &mut Got) -> Result<(), Bad> {
     let facts = facts(&mut words, at)?;
     match name {
         "bar" => got.answer(ticked(facts, at)?),
-        _ => push_hidden(target(name, facts, (words, at))?, got),
+        _ => push_hidden(target(name, facts, (rate_of(words)?, at))?, got),
     }
     Ok(())
 }
@@ -42,18 +42,25 @@ fn facts(words: &mut &str, at: At) -> Result<Facts, Bad> {
     })
 }
 
-fn target(name: &str, facts: Facts, (rate, at): (&str, At)) -> Result<Target, Bad> {
+/// The rate that a word spells; none where there is no word, or `-`.
+fn rate_of(word: &str) -> Result<Option<u8>, Bad> {
+    match word {
+        "" | "-" => Ok(None),
+        _ => Ok(Some(number(word)?)),
+    }
+}
+
+fn target(name: &str, facts: Facts, (rate, at): (Option<u8>, At)) -> Result<Target, Bad> {
     let writer = Vec::new(at.alloc);
-    let rate = if rate.is_empty() { "-" } else { rate };
-    match (name, optional(rate)?) {
+    match (name, rate) {
         ("stdout", None) => Ok(ProgressDrawTarget::stdout(writer, facts, at.now)),
         ("stderr", None) => Ok(ProgressDrawTarget::stderr(writer, facts, at.now)),
-        ("stdout", _) => {
-            let made = ProgressDrawTarget::stdout_with_hz(writer, facts, number(rate)?, at.now);
+        ("stdout", Some(rate)) => {
+            let made = ProgressDrawTarget::stdout_with_hz(writer, facts, rate, at.now);
             Ok(made?)
         }
-        ("stderr", _) => {
-            let made = ProgressDrawTarget::stderr_with_hz(writer, facts, number(rate)?, at.now);
+        ("stderr", Some(rate)) => {
+            let made = ProgressDrawTarget::stderr_with_hz(writer, facts, rate, at.now);
             Ok(made?)
         }
         _ => Err(Bad::Step),

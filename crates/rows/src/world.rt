@@ -29,58 +29,50 @@ enum On {
     Style(styles::Styled),
 }
 
-/// Answers what needs no world; whether the step of this name asks for that.
-fn asked(name: &str, rest: &str, at: At, got: &mut Got) -> Result<bool, Bad> {
+/// Answers what needs no world; `None` where the step of this name asks for nothing of that.
+fn asked(name: &str, rest: &str, at: At, got: &mut Got) -> Option<Result<(), Bad>> {
     match name {
-        "bars" => program::played(rest, at, got)?,
-        "stream" => streams::asked(rest, at, got)?,
-        _ => return asked_of_texts(name, rest, at, got),
-    }
-    Ok(true)
-}
-
-/// Answers what is asked of texts, numbers and lines; whether the step of this name does.
-fn asked_of_texts(name: &str, rest: &str, at: At, got: &mut Got) -> Result<bool, Bad> {
-    match name {
-        "format" => formats::shown(rest, got)?,
+        "bars" => Some(program::played(rest, at, got)),
+        "stream" => Some(streams::asked(rest, at, got)),
+        "format" => Some(formats::shown(rest, got)),
         "columns" | "width" | "parameter" | "wrapped" | "range" | "pieces" | "plain" | "clock" => {
-            columns::measured(name, rest, at, got)?
+            Some(columns::measured(name, rest, at, got))
         }
-        "parse" => templates::parsed(rest, at, got)?,
+        "parse" => Some(templates::parsed(rest, at, got)),
         "painted" | "unpainted" | "opened" | "same_style" | "no_style" => {
-            templates::styled(name, rest, at, got)?
+            Some(templates::styled(name, rest, at, got))
         }
-        "refusal" => refusals::told(rest, at, got)?,
-        "template_error" => refusals::of_template(rest, at, got)?,
-        "limiter" => limiters::answers(rest, got)?,
-        "fed" => cells::shown(rest, at, got)?,
-        "is_text" => engines::is_text(rest, at, got)?,
-        "hides" => memory::hides(rest, at, got)?,
-        "said" | "placed" | "coloured" | "laid" => lines::shown(name, rest, at, got)?,
-        "runs" => runs::counted(rest, at, got)?,
-        _ => return Ok(false),
+        "refusal" => Some(refusals::told(rest, at, got)),
+        "template_error" => Some(refusals::of_template(rest, at, got)),
+        "limiter" => Some(limiters::answers(rest, got)),
+        "fed" => Some(cells::shown(rest, at, got)),
+        "is_text" => Some(engines::is_text(rest, at, got)),
+        "hides" => Some(memory::hides(rest, at, got)),
+        "said" | "placed" | "coloured" | "laid" => Some(lines::shown(name, rest, at, got)),
+        "runs" => Some(runs::counted(rest, at, got)),
+        _ => None,
     }
-    Ok(true)
 }
 
 /// The world that the step of this name begins.
 fn begun(name: &str, rest: &str, at: At) -> Result<Option<On>, Bad> {
-    match name {
-        "lone" => Ok(Some(On::Lone(lone::OnScreen::begin(rest, at)?))),
-        "record" => Ok(Some(On::Record(records::Record::begin(rest, at)?))),
-        "board" => Ok(Some(On::Board(boards::OnScreen::begin(rest, at)?))),
-        "recorded" => Ok(Some(On::Recorded(recorded::OnScreen::begin(rest, at)?))),
-        "term" => Ok(Some(On::Term(Terminal::begin(rest, at)?))),
-        "table" => Ok(Some(On::Slots(slots::Table::begin(at)?))),
-        "cells" => Ok(Some(On::Cells(cells::Fed::begin(rest, at)?))),
-        "memory" => Ok(Some(On::Memory(memory::Memory::begin(rest, at)?))),
-        "noted" => Ok(Some(On::Noted(noted::OnNoted::begin(rest, at)?))),
-        "engine" => Ok(Some(On::Engine(engines::Drawing::begin(rest, at)?))),
+    let on = match name {
+        "lone" => On::Lone(lone::OnScreen::begin(rest, at)?),
+        "record" => On::Record(records::Record::begin(rest, at)?),
+        "board" => On::Board(boards::OnScreen::begin(rest, at)?),
+        "recorded" => On::Recorded(recorded::OnScreen::begin(rest, at)?),
+        "term" => On::Term(Terminal::begin(rest, at)?),
+        "table" => On::Slots(slots::Table::begin(at)?),
+        "cells" => On::Cells(cells::Fed::begin(rest, at)?),
+        "memory" => On::Memory(memory::Memory::begin(rest, at)?),
+        "noted" => On::Noted(noted::OnNoted::begin(rest, at)?),
+        "engine" => On::Engine(engines::Drawing::begin(rest, at)?),
         "style" | "default_bar" | "default_spinner" => {
-            Ok(Some(On::Style(styles::Styled::begin(name, rest, at)?)))
+            On::Style(styles::Styled::begin(name, rest, at)?)
         }
-        _ => Ok(None),
-    }
+        _ => return Ok(None),
+    };
+    Ok(Some(on))
 }
 
 impl On {
@@ -171,9 +163,12 @@ impl World for Stage {
     fn play(&mut self, step: &str, got: &mut Got) -> Result<(), Bad> {
         let (step, moment) = timed(step);
         let (name, rest) = headed(step);
-        if asked(name, rest, self.at, got)? || self.begin(step, moment)? {
-            return Ok(());
+        if let Some(answered) = asked(name, rest, self.at, got) {
+            return answered;
         }
-        self.go_on(step, moment, got)
+        match self.begin(step, moment)? {
+            true => Ok(()),
+            false => self.go_on(step, moment, got),
+        }
     }
 }

@@ -119,12 +119,7 @@ fn with_argument(alloc: Global, name: &str, rest: &str) -> Result<Command, Bad> 
         "update" => updating(rest),
         "set_ticker" => Ok(BarCommand::SetTicker(flag(rest)?)),
         "set_style" => styled(alloc, rest),
-        "set_message"
-        | "set_prefix"
-        | "with_message"
-        | "with_prefix"
-        | "finish_with_message"
-        | "abandon_with_message" => saying(name, unescaped(alloc, rest)?),
+        _ if WORDED.contains(&name) => saying(name, unescaped(alloc, rest)?),
         _ => by_number(name, number(rest)?),
     }
 }

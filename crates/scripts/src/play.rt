@@ -72,6 +72,25 @@ struct Player<'a, W> {
 }
 
 impl<W: World> Player<'_, W> {
+    /// Plays a line, counts it if it is a row, and prints it if that differs.
+    fn plays<R: Print>(
+        &mut self,
+        rt: &R,
+        place: (&str, u64),
+        line: &str,
+        tally: &mut Tally,
+    ) -> io::Result<()> {
+        let Some(row) = Row::of(line) else {
+            return Ok(());
+        };
+        let agrees = self.agrees(row);
+        tally.count(agrees);
+        match agrees {
+            true => Ok(()),
+            false => print_row(rt, place, row, &self.got),
+        }
+    }
+
     /// Whether a row gives what it says; `got` has what it gave.
     fn agrees(&mut self, row: Row<'_>) -> bool {
         if let Some(steps) = row.steps.strip_prefix("given ") {
@@ -137,33 +156,26 @@ pub fn play_rows<R: Print + Alloc<A = Global>, L: BufRead + Drop, W: World>(
     lines: L,
     world: &mut W,
 ) -> io::Result<Tally> {
-    let player = Player {
+    let mut player = Player {
         alloc: rt.alloc(),
         world,
         got: Got::new(rt.alloc()),
         given: Given::new(rt.alloc()),
     };
-    play_lines(rt, path, lines, player)
+    play_lines(rt, path, lines, &mut player)
 }
 
 fn play_lines<R: Print + Alloc<A = Global>, L: BufRead + Drop, W: World>(
     rt: &R,
     path: &str,
     lines: L,
-    mut player: Player<'_, W>,
+    player: &mut Player<'_, W>,
 ) -> io::Result<Tally> {
     let mut tally = Tally::default();
     let mut number: u64 = 0;
     for line in lines.lines(rt.alloc()) {
         number = number.saturating_add(1);
-        let line = line?;
-        if let Some(row) = Row::of(line.as_str()) {
-            let agrees = player.agrees(row);
-            tally.count(agrees);
-            if !agrees {
-                print_row(rt, (path, number), row, &player.got)?;
-            }
-        }
+        player.plays(rt, (path, number), line?.as_str(), &mut tally)?;
     }
     Ok(tally)
 }

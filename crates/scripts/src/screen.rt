@@ -284,9 +284,13 @@ fn row(screen: &Screen, step: &str, got: &mut Got) -> Result<bool, Bad> {
 }
 
 /// The rows up to the last one that isn't empty.
-fn filled(rows: &[String]) -> &[String] {
-    let last = rows.iter().rposition(|row| !row.is_empty());
-    let count = last.map_or(0, |at| at.saturating_add(1));
+pub fn filled(rows: &[String]) -> &[String] {
+    let mut count: usize = 0;
+    for (at, row) in rows.iter().enumerate() {
+        if !row.is_empty() {
+            count = at.saturating_add(1);
+        }
+    }
     rows.get(..count).unwrap_or(rows)
 }
 
@@ -296,8 +300,10 @@ fn set(screen: &Screen, step: &str, at: At) -> Result<bool, Bad> {
     let mut limits = screen.limits.get();
     match headed(step) {
         ("feed", text) => {
-            let fed = screen.feed(&unescaped_bytes(at.alloc, text)?);
-            return fed.map(|()| true).map_err(|_| Bad::Step);
+            return match screen.feed(&unescaped_bytes(at.alloc, text)?) {
+                Ok(()) => Ok(true),
+                Err(_) => Err(Bad::Step),
+            };
         }
         ("takes", bytes) => limits.takes = number(bytes)?,
         ("fails_call", calls) => limits.fails_call = number(calls)?,

@@ -51,27 +51,23 @@ pub fn unescaped_bytes(alloc: Global, text: &str) -> Result<Vec<u8>, Bad> {
 }
 
 fn push_unescaped(text: &str, bytes: &mut Vec<u8>) -> Option<()> {
-    let mut parts = text.split('\\');
-    push(parts.next()?, bytes)?;
-    let mut is_doubled = false;
-    for part in parts {
-        is_doubled = push_part(part, is_doubled, bytes)?;
+    let mut is_plain = true;
+    for part in text.split('\\') {
+        is_plain = push_part(part, is_plain, bytes)?;
     }
-    if is_doubled { None } else { Some(()) }
+    if is_plain { None } else { Some(()) }
 }
 
-/// Appends what a backslash and the part behind it stand for; whether that is the first of two backslashes.
-fn push_part(part: &str, is_doubled: bool, bytes: &mut Vec<u8>) -> Option<bool> {
-    if is_doubled {
-        push(part, bytes)?;
-        return Some(false);
-    }
-    if part.is_empty() {
-        push("\\", bytes)?;
-        return Some(true);
-    }
-    push_escape(part, bytes)?;
-    Some(false)
+/// Appends a part: as it is if it is plain, else what it stands for behind a backslash. Whether the next part is plain, since it follows
+/// the second of two backslashes.
+fn push_part(part: &str, is_plain: bool, bytes: &mut Vec<u8>) -> Option<bool> {
+    let pushed = match (is_plain, part) {
+        (true, _) => push(part, bytes),
+        (false, "") => push("\\", bytes),
+        (false, _) => push_escape(part, bytes),
+    };
+    pushed?;
+    Some(!is_plain && part.is_empty())
 }
 
 fn push_escape(part: &str, bytes: &mut Vec<u8>) -> Option<()> {
@@ -80,12 +76,15 @@ fn push_escape(part: &str, bytes: &mut Vec<u8>) -> Option<()> {
         push_char(char::from_u32(hexadecimal(digits)?)?, bytes)?;
         return push(rest, bytes);
     }
-    let mut rest = part.chars();
-    match rest.next()? {
-        'x' => bytes.push(byte(rest.next()?, rest.next()?)?).ok()?,
-        letter => push_char(lettered(letter)?, bytes)?,
+    let (letter, rest) = part.split_at_checked(1)?;
+    if letter != "x" {
+        push_char(lettered(letter.chars().next()?)?, bytes)?;
+        return push(rest, bytes);
     }
-    push(rest.as_str(), bytes)
+    let (digits, rest) = rest.split_at_checked(2)?;
+    let byte = u8::try_from(hexadecimal(digits)?).ok()?;
+    bytes.push(byte).ok()?;
+    push(rest, bytes)
 }
 
 fn push(text: &str, bytes: &mut Vec<u8>) -> Option<()> {
@@ -104,12 +103,6 @@ fn hexadecimal(digits: &str) -> Option<u32> {
         number = number.saturating_mul(16).saturating_add(digit);
     }
     Some(number)
-}
-
-/// The byte of two hexadecimal digits.
-fn byte(high: char, low: char) -> Option<u8> {
-    let high = high.to_digit(16)?.saturating_mul(16);
-    u8::try_from(high.saturating_add(low.to_digit(16)?)).ok()
 }
 
 /// The character that a letter behind a backslash stands for.
@@ -132,10 +125,11 @@ pub struct Escaped<'a>(pub &'a str);
 impl fmt::Display for Escaped<'_> {
     fn fmt<W: fmt::Write>(&self, f: &mut fmt::Formatter<W>) -> fmt::Result {
         for c in self.0.chars() {
-            match escape_of(c) {
-                Some(escape) => f.write_str(escape)?,
-                None => f.write_char(c)?,
-            }
+            let written = match escape_of(c) {
+                Some(escape) => f.write_str(escape),
+                None => f.write_char(c),
+            };
+            written?;
         }
         Ok(())
     }

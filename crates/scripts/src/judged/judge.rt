@@ -1,11 +1,12 @@
 //! What has to hold of the bytes that were written: rows above stand at each of them.
 use super::record::Size;
+use crate::screen::filled;
 use indicatif_term::in_memory::Cells;
 use indicatif_text::columns::Refusal;
 use std::alloc::{AllocError, AllocFailed, Global};
 
 /// What is wrong with a run.
-#[derive(Clone, Copy, Debug, Drop, PartialEq, Eq)]
+#[derive(Clone, Copy, Debug, Drop)]
 pub enum Finding {
     /// A row above the bars isn't what it was.
     Above,
@@ -42,7 +43,7 @@ impl<V: Drop> From<AllocFailed<V>> for Finding {
 }
 
 /// How closely bytes are looked at.
-#[derive(Clone, Copy, Debug, Drop, PartialEq, Eq)]
+#[derive(Clone, Copy, Debug, Drop)]
 pub enum Look {
     /// Behind each of them.
     EachByte,
@@ -58,7 +59,6 @@ pub enum Look {
 const BEFORE: &str = "x\r\ny\r\n";
 
 /// What stands on a terminal, and which of its rows nothing may change.
-#[derive(Drop)]
 pub struct Judge {
     alloc: Global,
     size: Size,
@@ -67,6 +67,20 @@ pub struct Judge {
     above: Vec<String>,
     has_failed: bool,
     is_littered: bool,
+}
+
+impl Drop for Judge {
+    fn drop(self) {
+        let Judge {
+            alloc: _,
+            size: _,
+            look: _,
+            cells: _,
+            above: _,
+            has_failed: _,
+            is_littered: _,
+        } = self;
+    }
 }
 
 impl Judge {
@@ -111,12 +125,17 @@ impl Judge {
         if self.has_failed && !begins_anew(bytes, has_failed) {
             return Err(Finding::Beginning);
         }
-        match self.look {
-            Look::EachByte => self.reads_each(bytes)?,
-            Look::FromFailure if has_failed || self.is_littered => self.reads_each(bytes)?,
-            Look::AtFailure if has_failed || self.has_failed => self.reads_each(bytes)?,
-            _ => self.reads_all(bytes)?,
-        }
+        let is_looked_at_each = match self.look {
+            Look::EachByte => true,
+            Look::FromFailure => has_failed || self.is_littered,
+            Look::AtFailure => has_failed || self.has_failed,
+            Look::EachCall => false,
+        };
+        let read = match is_looked_at_each {
+            true => self.reads_each(bytes),
+            false => self.reads_all(bytes),
+        };
+        read?;
         self.has_failed = has_failed || self.has_failed && bytes.is_empty();
         if has_failed {
             self.is_littered = true;
@@ -136,7 +155,7 @@ impl Judge {
     fn reads_all(&mut self, bytes: &[u8]) -> Result<(), Finding> {
         self.feed(bytes)?;
         let picture = self.cells.picture()?;
-        match begins_with(&picture, &self.above) {
+        match picture.starts_with(&self.above) {
             true => Ok(()),
             false => Err(Finding::Above),
         }
@@ -164,8 +183,8 @@ impl Judge {
     /// The rows that stand, those among them that left the window, down to the last one that isn't empty.
     pub fn rows(&self) -> Result<Vec<String>, Finding> {
         let mut rows = self.cells.picture()?;
-        let last = rows.iter().rposition(|row| !row.is_empty());
-        rows.truncate(last.map_or(0, |at| at.saturating_add(1)));
+        let count = filled(&rows).len();
+        rows.truncate(count);
         Ok(rows)
     }
 
@@ -213,16 +232,11 @@ fn begins_anew(bytes: &[u8], has_failed: bool) -> bool {
     has_failed || bytes.is_empty() || bytes.starts_with(b"\r\n")
 }
 
-/// Whether these rows are the first ones.
-fn begins_with(rows: &[String], front: &[String]) -> bool {
-    front.len() <= rows.len() && front.iter().zip(rows).all(|(one, other)| one == other)
-}
-
 /// Where the first of these rows end that stand from this one on or later, as they are or at the front of others.
 fn end_of(picture: &[String], rows: &[String], from: usize, is_littered: bool) -> Option<usize> {
     for at in from..picture.len() {
         let rest = picture.get(at..)?;
-        if begins_with(rest, rows) || is_littered && fronts_are(rest, rows) {
+        if rest.starts_with(rows) || is_littered && fronts_are(rest, rows) {
             return at.checked_add(rows.len());
         }
     }
@@ -231,8 +245,12 @@ fn end_of(picture: &[String], rows: &[String], from: usize, is_littered: bool) -
 
 /// Whether these rows are fronts of the first ones.
 fn fronts_are(rows: &[String], fronts: &[String]) -> bool {
-    let mut pairs = fronts.iter().zip(rows);
-    fronts.len() <= rows.len() && pairs.all(|(front, row)| row.as_str().starts_with(front.as_str()))
+    for (front, row) in fronts.iter().zip(rows) {
+        if !row.as_str().starts_with(front.as_str()) {
+            return false;
+        }
+    }
+    fronts.len() <= rows.len()
 }
 
 /// Rows of letters and blanks, each cut into rows of so many columns, without the blanks at their ends.

@@ -4,7 +4,7 @@ use super::record::Size;
 use super::script::{Said, Step};
 use indicatif_bar::state::{BarCommand, BarState, ProgressFinish};
 use indicatif_bar::style::{NoTracker, ProgressStyle};
-use indicatif_board::multi::{BarId, Board, Candidate};
+use indicatif_board::multi::{BarId, Board, Candidate, Turned};
 use indicatif_term::draw_target::{MultiProgressAlignment, ProgressDrawTarget};
 use indicatif_term::term_like::Resize;
 use indicatif_text::columns::{Drawn, Refusal};
@@ -32,6 +32,14 @@ pub fn done(answer: Result<(), Refusal>) -> Said {
     match answer {
         Ok(()) => Ok(Drawn::Limited),
         Err(refusal) => Err(refusal),
+    }
+}
+
+/// What a call answers that takes a bar in.
+fn taken(answer: Result<BarId, Turned<NoTracker>>) -> Said {
+    match answer {
+        Ok(_) => Ok(Drawn::Limited),
+        Err(turned) => Err(turned.refusal),
     }
 }
 
@@ -69,18 +77,12 @@ impl<T: Resize + Drop> OnBoard<T> {
 
     fn add(&mut self, text: &str) -> Said {
         let candidate = self.candidate(text)?;
-        match self.board.add(candidate) {
-            Ok(_) => Ok(Drawn::Limited),
-            Err(turned) => Err(turned.refusal),
-        }
+        taken(self.board.add(candidate))
     }
 
     fn before(&mut self, anchor: u64, text: &str) -> Said {
         let candidate = self.candidate(text)?;
-        match self.board.insert_before(id(anchor), candidate) {
-            Ok(_) => Ok(Drawn::Limited),
-            Err(turned) => Err(turned.refusal),
-        }
+        taken(self.board.insert_before(id(anchor), candidate))
     }
 
     fn command(&mut self, bar: u64, command: BarCommand<NoTracker>) -> Said {

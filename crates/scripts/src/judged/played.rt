@@ -47,11 +47,11 @@ fn is_failing<S: Stage>(
     let has_failed = record.point().failures != before.failures;
     let bytes = record.since(judge.alloc(), before)?;
     judge.reads(&bytes, has_failed)?;
-    if has_failed {
-        failed(said, &order, stage.order())?;
-    } else {
-        succeeded(said, (step, &bytes), judge)?;
-    }
+    let held = match has_failed {
+        true => failed(said, &order, stage.order()),
+        false => succeeded(said, (step, &bytes), judge),
+    };
+    held?;
     Ok(has_failed)
 }
 

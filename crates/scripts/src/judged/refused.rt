@@ -24,7 +24,7 @@ pub trait Stages {
 }
 
 /// Where memory was refused, counted in calls from 0 on.
-#[derive(Clone, Copy, Debug, Drop, PartialEq, Eq)]
+#[derive(Clone, Copy, Drop)]
 pub enum Where {
     /// No call answered so.
     Nowhere,
@@ -89,9 +89,14 @@ impl Notes {
         Ok(self.calls.push(Note { said, point, end })?)
     }
 
+    /// What the last of so many calls did.
+    fn last_of(&self, calls: usize) -> Option<&Note> {
+        self.calls.get(calls.checked_sub(1)?)
+    }
+
     /// What the terminal was given before a call.
     fn before(&self, call: usize) -> Point {
-        match call.checked_sub(1).and_then(|last| self.calls.get(last)) {
+        match self.last_of(call) {
             Some(note) => note.point,
             None => Point::default(),
         }
@@ -99,13 +104,10 @@ impl Notes {
 
     /// The order behind so many calls.
     fn order(&self, calls: usize) -> &[u64] {
-        let Some(last) = calls.checked_sub(1) else {
+        let Some(note) = self.last_of(calls) else {
             return &[];
         };
-        let Some(note) = self.calls.get(last) else {
-            return &[];
-        };
-        let start = match last.checked_sub(1).and_then(|last| self.calls.get(last)) {
+        let start = match self.last_of(calls.saturating_sub(1)) {
             Some(note) => note.end,
             None => 0,
         };
@@ -173,7 +175,7 @@ impl Seen {
 }
 
 /// A script that was played, on a terminal of this size behind this record, and what its calls did.
-#[derive(Clone, Copy, Drop)]
+#[derive(Drop)]
 pub struct Run<'a, M> {
     pub alloc: Global,
     pub size: Size,
@@ -195,11 +197,11 @@ impl<M: Stages> Run<'_, M> {
     pub fn judged(&self) -> Result<Where, Finding> {
         let found = self.looked_at()?;
         let follows = match found {
-            Where::Call(at) | Where::Draw(at) => self.follows_a_refusal(at)?,
-            Where::Terminal(at) => self.follows_a_failure(at)?,
-            _ => self.is_like(0, None)?,
+            Where::Call(at) | Where::Draw(at) => self.follows_a_refusal(at),
+            Where::Terminal(at) => self.follows_a_failure(at),
+            _ => self.is_like(0, None),
         };
-        match follows {
+        match follows? {
             true => Ok(found),
             false => Err(Finding::Answer),
         }
@@ -227,25 +229,59 @@ impl<M: Stages> Run<'_, M> {
         let bytes = self.record.between(self.alloc, before, note.point)?;
         let has_failed = note.point.failures != before.failures;
         seen.judge.reads(&bytes, has_failed)?;
-        match (note.said, seen.found) {
+        self.look_behind(seen, (at, step), (note.said, has_failed), &bytes)
+    }
+
+    /// Looks at what a call answered, in which the writer failed or didn't, behind the bytes that it wrote.
+    fn look_behind(
+        &self,
+        seen: &mut Seen,
+        (at, step): (usize, Step),
+        (said, has_failed): (Said, bool),
+        bytes: &[u8],
+    ) -> Result<(), Finding> {
+        match (said, seen.found) {
             (Err(Refusal::Terminal(ErrorKind::OutOfMemory)), Where::Nowhere) if has_failed => {
-                self.leaves_the_order(at)?;
-                seen.found = Where::Terminal(at);
+                self.breaks(seen, at)
             }
-            (_, _) if has_failed => return Err(Finding::Answer),
-            (said, _) if said == step.wanted() => {
-                resized(said, (step, &bytes), &mut seen.judge)?;
-                log(&mut seen.judge, step, said)?;
-                self.keeps(seen, (at, step))?;
-            }
-            (Err(Refusal::Memory), _) => {
-                self.leaves_the_order(at)?;
-                is_unwritten(step, &bytes)?;
-                seen.found = self.refused(seen, at)?;
-            }
-            (_, Where::Call(_)) => {}
-            _ => return Err(Finding::Answer),
+            (_, _) if has_failed => Err(Finding::Answer),
+            (said, _) if said == step.wanted() => self.succeeds(seen, (at, step), said, bytes),
+            (Err(Refusal::Memory), _) => self.refuses(seen, (at, step), bytes),
+            (_, Where::Call(_)) => Ok(()),
+            _ => Err(Finding::Answer),
         }
+    }
+
+    /// The terminal's own memory was refused in this call.
+    fn breaks(&self, seen: &mut Seen, at: usize) -> Result<(), Finding> {
+        self.leaves_the_order(at)?;
+        seen.found = Where::Terminal(at);
+        Ok(())
+    }
+
+    /// A call answered what it does where nothing fails.
+    fn succeeds(
+        &self,
+        seen: &mut Seen,
+        (at, step): (usize, Step),
+        said: Said,
+        bytes: &[u8],
+    ) -> Result<(), Finding> {
+        resized(said, (step, bytes), &mut seen.judge)?;
+        log(&mut seen.judge, step, said)?;
+        self.keeps(seen, (at, step))
+    }
+
+    /// A call answered `Memory`.
+    fn refuses(
+        &self,
+        seen: &mut Seen,
+        (at, step): (usize, Step),
+        bytes: &[u8],
+    ) -> Result<(), Finding> {
+        self.leaves_the_order(at)?;
+        is_unwritten(step, bytes)?;
+        seen.found = self.refused(seen, at)?;
         Ok(())
     }
 
@@ -260,7 +296,7 @@ impl<M: Stages> Run<'_, M> {
     /// stands below the rows above. That draw may have been refused memory, if no call was by now.
     fn keeps(&self, seen: &mut Seen, (at, step): (usize, Step)) -> Result<(), Finding> {
         let has_no_line = matches!(step, Step::Redraw) && self.notes.order(at).is_empty();
-        if has_no_line && seen.found == Where::Nowhere {
+        if has_no_line && matches!(seen.found, Where::Nowhere) {
             seen.kept = seen.judge.end_below()?;
         }
         if step.takes_back() {
@@ -312,7 +348,12 @@ impl<M: Stages> Run<'_, M> {
     fn next_draw(&self, at: usize) -> Option<usize> {
         let script = self.stages.script();
         let from = at.saturating_add(1);
-        (from..script.len()).find(|at| script.get(*at).is_some_and(|step| step.draws()))
+        for at in from..script.len() {
+            if script.get(at)?.draws() {
+                return Some(at);
+            }
+        }
+        None
     }
 
     /// Whether a new stage answers the same and shows the same from this call on, and has the same order at the end. It makes the calls that
@@ -320,11 +361,24 @@ impl<M: Stages> Run<'_, M> {
     fn is_like(&self, from: usize, other: Option<(usize, Step)>) -> Result<bool, Finding> {
         let mine = self.own_calls(from)?;
         let calls = self.new_calls(from, other)?;
-        let fresh = self.fresh(&calls, Plan::Never)?;
-        let answers = self.notes.answers(self.alloc, &mine)?;
-        let wanted = fresh.notes.answers(self.alloc, &calls)?;
+        self.is_as_new(&mine, &calls)
+    }
+
+    /// Whether a new stage that makes the second calls answers and shows what the run does in the first, and has the same order at the end.
+    fn is_as_new(&self, mine: &[Turn], calls: &[Turn]) -> Result<bool, Finding> {
+        let fresh = self.fresh(calls, Plan::Never)?;
+        self.goes_as(&fresh, mine, calls)
+    }
+
+    fn goes_as(&self, fresh: &Fresh, mine: &[Turn], calls: &[Turn]) -> Result<bool, Finding> {
         let order = self.notes.order(mine.len()) == fresh.notes.order(calls.len());
-        Ok(answers == wanted && order && self.shows_as(&fresh, &mine, &calls)?)
+        Ok(order && self.answers_as(fresh, mine, calls)? && self.shows_as(fresh, mine, calls)?)
+    }
+
+    fn answers_as(&self, fresh: &Fresh, mine: &[Turn], calls: &[Turn]) -> Result<bool, Finding> {
+        let answers = self.notes.answers(self.alloc, mine)?;
+        let wanted = fresh.notes.answers(self.alloc, calls)?;
+        Ok(answers == wanted)
     }
 
     /// The calls of the run. Compared are those from this one on that weren't refused.
@@ -364,11 +418,16 @@ impl<M: Stages> Run<'_, M> {
 
     /// Whether the same stands behind the compared calls that drew, and behind the last one.
     fn shows_as(&self, fresh: &Fresh, mine: &[Turn], calls: &[Turn]) -> Result<bool, Finding> {
+        let shown = self.shown((self.record, self.notes), mine)?;
+        Ok(shown == self.shown((&fresh.record, &fresh.notes), calls)?)
+    }
+
+    /// What stands behind each of these calls that drew and is compared, and behind the last one.
+    fn shown(&self, played: (&Record, &Notes), calls: &[Turn]) -> Result<Pictures, Finding> {
         let mut judge = Judge::new(self.alloc, self.size, Look::EachCall)?;
-        let shown = pictures(&mut judge, (self.record, self.notes), mine)?;
-        let mut judge = Judge::new(self.alloc, self.size, Look::EachCall)?;
-        let wanted = pictures(&mut judge, (&fresh.record, &fresh.notes), calls)?;
-        Ok(shown == wanted)
+        let mut pictures = Vec::new(self.alloc);
+        push_pictures(&mut pictures, &mut judge, played, calls)?;
+        Ok(pictures)
     }
 
     /// Whether a new stage on a terminal that fails at the same call of its writer writes the same bytes, and answers the same but for the
@@ -377,9 +436,11 @@ impl<M: Stages> Run<'_, M> {
         let plan = Plan::Call(self.record.failed_call());
         let calls = self.own_calls(at.saturating_add(1))?;
         let fresh = self.fresh(&calls, plan)?;
-        let answers = self.notes.answers(self.alloc, &calls)?;
-        let wanted = fresh.notes.answers(self.alloc, &calls)?;
-        Ok(answers == wanted && self.bytes()? == fresh.bytes(self.alloc)?)
+        self.breaks_as(&fresh, &calls)
+    }
+
+    fn breaks_as(&self, fresh: &Fresh, calls: &[Turn]) -> Result<bool, Finding> {
+        Ok(self.answers_as(fresh, calls, calls)? && self.bytes()? == fresh.bytes(self.alloc)?)
     }
 
     /// What a new stage does that makes these calls.
@@ -415,25 +476,38 @@ impl Fresh {
 /// Rows that stand, one picture behind another.
 type Pictures = Vec<Vec<String>>;
 
-/// What stands behind each of these calls that drew and is compared, and behind the last one. What a bar's drop draws may be lost: the next
-/// draw shows it.
-fn pictures(
+/// Has the judge read what these calls wrote; appends what stands behind each of them that drew and is compared, and behind the last one.
+/// What a bar's drop draws may be lost: the next draw shows it.
+fn push_pictures(
+    pictures: &mut Pictures,
     judge: &mut Judge,
     (record, notes): (&Record, &Notes),
     calls: &[Turn],
-) -> Result<Pictures, Finding> {
-    let mut pictures = Vec::new(judge.alloc());
+) -> Result<(), Finding> {
     for (at, (note, call)) in notes.calls.iter().zip(calls.iter()).enumerate() {
-        let bytes = record.between(judge.alloc(), notes.before(at), note.point)?;
-        judge.takes(&bytes)?;
-        resized(note.said, (call.step, &[]), judge)?;
-        let has_drawn = note.said == Ok(Drawn::Yes) && !matches!(call.step, Step::Drop(_));
-        if call.is_compared && has_drawn {
-            pictures.push(judge.rows()?)?;
+        if is_shown(judge, record, (notes.before(at), note), call)? {
+            push_rows(pictures, judge)?;
         }
     }
-    pictures.push(judge.rows()?)?;
-    Ok(pictures)
+    push_rows(pictures, judge)
+}
+
+fn push_rows(pictures: &mut Pictures, judge: &Judge) -> Result<(), Finding> {
+    Ok(pictures.push(judge.rows()?)?)
+}
+
+/// Has the judge read what a call wrote from this point on; whether the call drew and is compared.
+fn is_shown(
+    judge: &mut Judge,
+    record: &Record,
+    (before, note): (Point, &Note),
+    call: &Turn,
+) -> Result<bool, Finding> {
+    let bytes = record.between(judge.alloc(), before, note.point)?;
+    judge.takes(&bytes)?;
+    resized(note.said, (call.step, &[]), judge)?;
+    let has_drawn = note.said == Ok(Drawn::Yes) && !matches!(call.step, Step::Drop(_));
+    Ok(call.is_compared && has_drawn)
 }
 
 /// The bytes of the calls that were noted.
