@@ -1,8 +1,9 @@
-//! Texts of formatters: `format FORMATTER VALUE`.
+//! Texts of formatters: `format FORMATTER VALUE`; and texts that say how many bytes: `--size TEXT`.
 use indicatif_text::format::{
     BinaryBytes, DecimalBytes, FormattedDuration, HumanBytes, HumanCount, HumanDuration,
     HumanFloatCount,
 };
+use meter_parts::bytes_said;
 use scripts::got::{Bad, Got};
 use scripts::row::headed;
 use scripts::spelling::number;
@@ -14,6 +15,14 @@ pub fn shown(rest: &str, got: &mut Got) -> Result<(), Bad> {
     match formatter.strip_prefix("HumanFloatCount") {
         Some(decimals) => push_quotient(decimals, value, got),
         None => push_number(formatter, number(value)?, got),
+    }
+}
+
+/// Appends how many bytes a text says, as the option `--size` of `meter` reads it; `-` where it says no number.
+pub fn size_said(text: &str, got: &mut Got) {
+    match bytes_said(text) {
+        Some(bytes) => got.number(bytes),
+        None => got.text("-"),
     }
 }
 

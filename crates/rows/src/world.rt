@@ -35,6 +35,7 @@ fn asked(name: &str, rest: &str, at: At, got: &mut Got) -> Option<Result<(), Bad
         "bars" => Some(program::played(rest, at, got)),
         "stream" => Some(streams::asked(rest, at, got)),
         "format" => Some(formats::shown(rest, got)),
+        "--size" => Some(Ok(formats::size_said(rest, got))),
         "columns" | "width" | "parameter" | "wrapped" | "range" | "pieces" | "plain" | "clock" => {
             Some(columns::measured(name, rest, at, got))
         }
