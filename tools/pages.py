@@ -46,7 +46,7 @@ BAR = ["40", None, "-", None, "8", "1500000", "6000000", "copying", "[1/3]", "10
 PROVED = pathlib.Path("docs/PROVED.md")
 REFUSALS = pathlib.Path("docs/REFUSALS.md")
 LIBRARIES = ["indicatif_text", "indicatif_term", "indicatif_bar", "indicatif_board", "indicatif"]
-PROGRAMS = ["bars_run", "meter_parts"]
+PROGRAMS = ["bars_run", "meter"]
 
 
 def read(path):
@@ -437,13 +437,10 @@ def said_options(page):
 
 
 def known_options(source):
-    """The options of the program, in the same way."""
-    for name, short in re.findall(r'valued\(alloc, "([\w-]+)", \'(\w)\'', source):
-        yield short, name, True
-    for name, short in re.findall(r'flag\(alloc, "([\w-]+)", \'(\w)\'', source):
-        yield short, name, False
-    for name in re.findall(r'\.long\("([\w-]+)"\)\.value_name', source):
-        yield "", name, True
+    """The options of the program, in the same way: the choices that aren't given as words."""
+    for name, given, short in re.findall(r'name: "([\w-]+)",\s+given: Given::(\w+)(?:\(\'(\w)\')?', source):
+        if given != "Words":
+            yield short, name, given != "Flag"
 
 
 def faults_of_meter():

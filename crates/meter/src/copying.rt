@@ -1,10 +1,12 @@
 //! Inputs handed on, one after another.
 use crate::arguments::{Asked, Begins, Manner, Timing, Unit};
 use crate::numbers::Numbers;
+use crate::pace::Pace;
+use crate::passing::{Broken, Gauge, pass_on};
+use crate::said::lines_in;
 use crate::shown::Bar;
 use indicatif::machine::MachineClock;
 use indicatif::{Clock, Refusal};
-use meter_parts::{Broken, Gauge, Pace, lines_in, pass_on};
 use std::fs::File;
 use std::io::{Error, Stdin, Stdout};
 use std::rt::Files;
@@ -98,8 +100,17 @@ impl<R: Wait + time::Clock + Copy + Drop> Watch<'_, R> {
             return;
         }
         self.has_begun = true;
-        if self.timing.begins == Begins::WithFirstByte {
+        if matches!(self.timing.begins, Begins::WithFirstByte) {
             let _ = self.bar.reset_elapsed();
+        }
+    }
+}
+
+impl<R: Eprint + Wait + time::Clock + Copy + Drop> Watch<'_, R> {
+    /// All went.
+    fn end(&mut self) {
+        if let Some(numbers) = &mut self.numbers {
+            numbers.end(self.rt);
         }
     }
 }
@@ -137,57 +148,45 @@ pub fn copy_all<R: Files + AllocGlobal + Eprint + Wait + time::Clock + Copy + Dr
     size: Option<u64>,
     bar: &Bar<R>,
 ) -> Result<Copied, Refusal> {
-    let mut watch = Watch::new(rt, bar, asked, size);
     let mut block = vec![in rt.alloc(); 0u8; FRONT + BUFFER]?;
-    let copied = copy_files(rt, streams, &asked.files, &mut watch, &mut block[FRONT..])?;
-    if let Some(numbers) = &mut watch.numbers {
-        numbers.end(rt);
-    }
-    Ok(copied)
-}
-
-/// Hands these files on, or standard input where there is none, until the output fails.
-fn copy_files<R: Files + AllocGlobal + Eprint + Wait + time::Clock + Copy + Drop>(
-    rt: &R,
-    streams: Streams,
-    files: &[&str],
-    watch: &mut Watch<'_, R>,
-    buffer: &mut [u8],
-) -> Result<Copied, Refusal> {
+    let mut watch = Watch::new(rt, bar, asked, size);
     let mut copied = Copied {
         faults: Vec::new(rt.alloc()),
         output: None,
     };
-    let files = if files.is_empty() { &["-"] } else { files };
-    for (input, name) in files.iter().enumerate() {
-        let came = copy_named(rt, streams, name, watch, buffer);
-        if copied.note(input, came)? {
-            break;
-        }
-    }
+    copied.copy_files(streams, &asked.files, &mut watch, &mut block[FRONT..])?;
     Ok(copied)
 }
 
 impl Copied {
-    /// Keeps what an input came to; whether the output failed.
-    fn note(&mut self, input: usize, came: Result<(), Broken>) -> Result<bool, Refusal> {
-        match came {
-            Ok(()) => Ok(false),
-            Err(Broken::Input(error)) => {
-                self.faults.push(Fault { input, error })?;
-                Ok(false)
-            }
-            Err(Broken::Output(error)) => {
-                self.output = Some(error);
-                Ok(true)
+    /// Hands these files on, or standard input where there is none, until the output fails, and keeps what fails.
+    ///
+    /// Refused: `Memory`.
+    fn copy_files<R: Files + Eprint + Wait + time::Clock + Copy + Drop>(
+        &mut self,
+        streams: Streams,
+        files: &[&str],
+        watch: &mut Watch<'_, R>,
+        buffer: &mut [u8],
+    ) -> Result<(), Refusal> {
+        let files = if files.is_empty() { &["-"] } else { files };
+        for (input, name) in files.iter().enumerate() {
+            match copy_named(streams, name, watch, buffer) {
+                Ok(()) => {}
+                Err(Broken::Input(error)) => self.faults.push(Fault { input, error })?,
+                Err(Broken::Output(error)) => {
+                    self.output = Some(error);
+                    break;
+                }
             }
         }
+        watch.end();
+        Ok(())
     }
 }
 
 /// Hands on the file of this name.
 fn copy_named<R: Files + Eprint + Wait + time::Clock + Copy + Drop>(
-    rt: &R,
     streams: Streams,
     name: &str,
     watch: &mut Watch<'_, R>,
@@ -200,7 +199,7 @@ fn copy_named<R: Files + Eprint + Wait + time::Clock + Copy + Drop>(
     if name == "-" {
         return pass_on(&mut input, &mut output, watch, buffer);
     }
-    match File::open(rt, name) {
+    match File::open(watch.rt, name) {
         Ok(mut file) => pass_on(&mut file, &mut output, watch, buffer),
         Err(error) => Err(Broken::Input(error)),
     }

@@ -12,12 +12,25 @@
 //! - `copying`: inputs handed on. `numbers`: numbers for other programs.
 //! - `shown`: the bar. `telling`: what it is told beside the count.
 //!
-//! What is proved apart stands in crate `meter_parts`.
+//! These have contracts that say what they do:
+//!
+//! - `passing`: bytes handed on from a reader to a writer (`pass_on`, `Gauge`).
+//! - `plain`: a text that a terminal can't take for a command (`plain_text`).
+//! - `screen`: a terminal whose width isn't known for sure (`Screen`).
+//! - `recent`: how fast it went lately (`Recent`).
+//! - `pace`: how fast bytes may go (`Pace`).
+//! - `said`: numbers that options say, and texts that are shown.
 #![tactic(auto)]
 
 mod arguments;
 mod copying;
 mod numbers;
+mod pace;
+mod passing;
+mod plain;
+mod recent;
+mod said;
+mod screen;
 mod shown;
 mod sizes;
 mod telling;
@@ -25,17 +38,17 @@ mod telling;
 use arguments::{Asked, Begins, Unasked, Unit};
 use copying::{Copied, Streams, copy_all};
 use indicatif::Refusal;
-use meter_parts::plain_text;
+use plain::plain_text;
 use shown::{Bar, bar_for};
 use sizes::size_of_all;
 use std::env::Env;
-use std::io::{ErrorKind, Stderr};
+use std::io::{Error, ErrorKind, Stderr};
 use std::process::ExitCode;
 use std::rt::Files;
 use std::sync::Wait;
 use std::thread::{Threads, join};
 use std::time::Clock;
-use telling::{Tale, tell_end, tell_until_finished};
+use telling::{tell_end, tell_until_finished};
 
 fn main(rt: HostRuntime) -> ExitCode {
     let words = match arguments::words_of(&rt) {
@@ -46,8 +59,9 @@ fn main(rt: HostRuntime) -> ExitCode {
         Ok(asked) => asked,
         Err(unasked) => return unanswered(&rt, &unasked),
     };
-    let Begun { bar, size } = match begun_by(&rt, rt.stderr(), &asked) {
-        Ok(shown) => shown,
+    let size = size_for(&rt, &asked);
+    let bar = match begun_by(&rt, rt.stderr(), &asked, size) {
+        Ok(bar) => bar,
         Err(refusal) => return refused(&rt, &refusal),
     };
     let streams = Streams {
@@ -59,7 +73,7 @@ fn main(rt: HostRuntime) -> ExitCode {
     } else {
         make_room(&rt, &asked);
         let copy = || copied_and_finished(&rt, streams, &asked, size, &bar);
-        let tell = || tell_until_finished(&rt, &bar, tale_of(&asked, size));
+        let tell = || tell_until_finished(&rt, &bar, &asked, size);
         let (copied, ()) = join(&rt, copy, tell);
         last_look(&rt, &asked, &bar);
         copied
@@ -70,39 +84,29 @@ fn main(rt: HostRuntime) -> ExitCode {
     }
 }
 
-/// A bar, and how much will come, if it is known.
-#[derive(Drop)]
-struct Begun<R: Wait + Clock + Copy + Drop> {
-    bar: Bar<R>,
-    size: Option<u64>,
+/// How much will come, if it is known.
+fn size_for<R: Files>(rt: &R, asked: &Asked<'_>) -> Option<u64> {
+    match (asked.size, asked.look.unit) {
+        (Some(size), _) => Some(size),
+        (None, Unit::Bytes) => size_of_all(rt, &asked.files),
+        (None, Unit::Lines) => None,
+    }
 }
 
 /// The bar that is asked for; it ticks where the time begins at once.
 ///
 /// Refused: `Memory`, and what a template is refused with.
-fn begun_by<
-    R: AllocGlobal + Env + Files + Wait + Threads + Clock + Sync + Copy + Drop + Send + 'static,
->(rt: &R, errors: Stderr, asked: &Asked<'_>) -> Result<Begun<R>, Refusal> {
-    let size = match (asked.size, asked.look.unit) {
-        (Some(size), _) => Some(size),
-        (None, Unit::Bytes) => size_of_all(rt, &asked.files),
-        (None, Unit::Lines) => None,
-    };
+fn begun_by<R: AllocGlobal + Env + Wait + Threads + Clock + Sync + Copy + Drop + Send + 'static>(
+    rt: &R,
+    errors: Stderr,
+    asked: &Asked<'_>,
+    size: Option<u64>,
+) -> Result<Bar<R>, Refusal> {
     let bar = bar_for(rt, errors, asked, size)?;
-    if asked.timing.begins == Begins::AtOnce && !bar.is_hidden() {
+    if matches!(asked.timing.begins, Begins::AtOnce) && !bar.is_hidden() {
         bar.enable_steady_tick(asked.timing.interval)?;
     }
-    Ok(Begun { bar, size })
-}
-
-/// What the bar is told beside the count.
-fn tale_of(asked: &Asked<'_>, size: Option<u64>) -> Tale {
-    Tale {
-        unit: asked.look.unit,
-        size,
-        interval: asked.timing.interval,
-        begins: asked.timing.begins,
-    }
+    Ok(bar)
 }
 
 /// Hands everything on, and finishes the bar where it stands.
@@ -149,15 +153,8 @@ fn last_look<R: AllocGlobal + Env + Files + Eprint + Wait + Clock + Copy + Drop>
 fn answered<R: AllocGlobal + Eprint>(rt: &R, asked: &Asked<'_>, copied: &Copied) -> ExitCode {
     for fault in &copied.faults {
         let name = asked.files.get(fault.input).copied().unwrap_or("-");
-        let error = fault.error;
-        match plain_text(
-            rt.alloc(),
-            if name == "-" { "standard input" } else { name },
-        ) {
-            Ok(name) => {
-                let _ = eprintln!(rt; "meter: {name}: {error}");
-            }
-            Err(_) => return refused(rt, &Refusal::Memory),
+        if let Err(refusal) = say_fault(rt, name, fault.error) {
+            return refused(rt, &refusal);
         }
     }
     match copied.output {
@@ -169,6 +166,18 @@ fn answered<R: AllocGlobal + Eprint>(rt: &R, asked: &Asked<'_>, copied: &Copied)
         None if copied.faults.is_empty() => ExitCode::SUCCESS,
         None => ExitCode::from(1),
     }
+}
+
+/// Says why the input of this name failed.
+///
+/// Refused: `Memory`.
+fn say_fault<R: AllocGlobal + Eprint>(rt: &R, name: &str, error: Error) -> Result<(), Refusal> {
+    let name = plain_text(
+        rt.alloc(),
+        if name == "-" { "standard input" } else { name },
+    )?;
+    let _ = eprintln!(rt; "meter: {name}: {error}");
+    Ok(())
 }
 
 /// The status where a bar was refused, and what is to be said of it: but for want of memory it was the template.

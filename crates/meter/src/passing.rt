@@ -1,0 +1,124 @@
+//! Bytes handed on.
+ghost use Rattle.std.specs.Prelude.{◌≡◌, ◌<◌, ◌≤◌, length, IfOk};
+ghost use Rattle.std.specs.Io.KnownBytes.{WriteAppends};
+ghost use Rattle.indicatif_term.specs.Writers.{AppendsAllOrFront};
+ghost use Rattle.meter.specs.Passing.{PassedAll};
+ghost use Rattle.meter.specs.Inside.Reads.{PassedSome};
+
+use std::io::{Error, ErrorKind, Read, Result as IoResult, Write};
+
+/// Where bytes that were handed on broke off.
+#[derive(Clone, Copy, Drop)]
+pub enum Broken {
+    /// The input failed.
+    Input(Error),
+    /// The output failed.
+    Output(Error),
+}
+
+/// What is told of the bytes as they go on, and holds them up. Nothing that it does changes a byte.
+pub trait Gauge {
+    /// How many of so many bytes are to go at once. It may wait first. Of 0 one goes all the same.
+    fn piece(&mut self, wanted: usize) -> usize;
+
+    /// These bytes went.
+    fn went(&mut self, bytes: &[u8]);
+
+    /// The input has nothing yet, or the output takes nothing: it waits a little.
+    fn rest(&mut self);
+}
+
+/// Hands all bytes of the input on to the output, unchanged and in their order, through a buffer. A call that is interrupted is made
+/// again, and so is one that would block, after a rest.
+///
+/// Broken off: where the input fails, after all that came went to the output; or where the output fails or takes no more. Through an
+/// empty buffer nothing is read, and the answer is `Input` with `InvalidInput`.
+pub fn pass_on<R: Read, W: Write, G: Gauge>(
+    input: &mut R,
+    output: &mut W,
+    gauge: &mut G,
+    buffer: &mut [u8],
+) -> Result<(), Broken>
+    ensures { PassedAll (R.remaining input.old) (R.remaining input.new) (W.contents output.old) (W.contents output.new) result }
+{
+    if buffer.is_empty() {
+        return Err(Broken::Input(Error::from(ErrorKind::InvalidInput)));
+    }
+    for _ in 0..u64::MAX {
+        match pass_some(input, output, gauge, buffer) {
+            Ok(true) => return Ok(()),
+            Ok(false) => {}
+            Err(broken) => return Err(broken),
+        }
+    }
+    Err(Broken::Output(Error::from(ErrorKind::TimedOut)))
+}
+
+/// Hands on what one read gives; whether the input is at its end.
+fn pass_some<R: Read, W: Write, G: Gauge>(
+    input: &mut R,
+    output: &mut W,
+    gauge: &mut G,
+    buffer: &mut [u8],
+) -> Result<bool, Broken>
+    requires { 0 < length buffer.old }
+    ensures passed { PassedSome (R.remaining input.old) (R.remaining input.new) (W.contents output.old) (W.contents output.new) result }
+    ensures buffer { length buffer.new ≡ length buffer.old }
+{
+    match input.read(buffer) {
+        Ok(0) => Ok(true),
+        Ok(n) => match write_all(output, gauge, &buffer[..n]) {
+            Ok(()) => Ok(false),
+            Err(e) => Err(Broken::Output(e)),
+        },
+        Err(e) => match e.kind() {
+            ErrorKind::Interrupted => Ok(false),
+            ErrorKind::WouldBlock => {
+                gauge.rest();
+                Ok(false)
+            }
+            _ => Err(Broken::Input(e)),
+        },
+    }
+}
+
+/// Writes all of these bytes, piece by piece, or a beginning of them where the output fails or takes no more.
+fn write_all<W: Write, G: Gauge>(output: &mut W, gauge: &mut G, bytes: &[u8]) -> IoResult<()>
+    ensures { AppendsAllOrFront (W.contents output.old) (W.contents output.new) bytes.now result }
+{
+    let mut rest = bytes;
+    for _ in 0..u64::MAX {
+        if rest.is_empty() {
+            return Ok(());
+        }
+        match write_some(output, gauge, rest) {
+            Ok(n) => rest = &rest[n..],
+            Err(e) => return Err(e),
+        }
+    }
+    Err(Error::from(ErrorKind::TimedOut))
+}
+
+/// Writes a piece of these bytes; how many of them went, 0 where the call is to be made again.
+fn write_some<W: Write, G: Gauge>(output: &mut W, gauge: &mut G, bytes: &[u8]) -> IoResult<usize>
+    requires { 0 < length bytes.now }
+    ensures bound { IfOk result (λ n. n ≤ length bytes.now) }
+    ensures went { WriteAppends (W.contents output.old) (W.contents output.new) result bytes.now }
+{
+    let piece = gauge.piece(bytes.len()).clamp(1, bytes.len());
+    match output.write(&bytes[..piece]) {
+        Ok(0) => Err(Error::from(ErrorKind::WriteZero)),
+        Ok(n) => {
+            gauge.went(&bytes[..n]);
+            Ok(n)
+        }
+        Err(e) => match e.kind() {
+            ErrorKind::Interrupted => Ok(0),
+            ErrorKind::WouldBlock => {
+                gauge.rest();
+                Ok(0)
+            }
+            _ => Err(e),
+        },
+    }
+}
