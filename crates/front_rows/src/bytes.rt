@@ -87,7 +87,7 @@ pub fn step(over: &mut OverCounted, step: &str, got: &mut Got) -> Result<(), Bad
 }
 
 /// Asks what is wrapped.
-pub fn asks<P: Moves>(over: &mut Over<P>, step: &str, got: &mut Got) -> Result<(), Bad> {
+pub fn asks<P: Moves + Drop>(over: &mut Over<P>, step: &str, got: &mut Got) -> Result<(), Bad> {
     if step == "written" {
         return unwraps(over, got);
     }
@@ -120,7 +120,7 @@ pub fn asks<P: Moves>(over: &mut Over<P>, step: &str, got: &mut Got) -> Result<(
 }
 
 /// Unwraps, and shows what was written.
-fn unwraps<P: Moves>(over: &mut Over<P>, got: &mut Got) -> Result<(), Bad> {
+fn unwraps<P: Moves + Drop>(over: &mut Over<P>, got: &mut Got) -> Result<(), Bad> {
     let Some(wrapped) = over.wrapped.take() else {
         return Err(Bad::Step);
     };
@@ -158,7 +158,7 @@ pub fn push_done(done: io::Result<()>, got: &mut Got) {
 
 // ---- calls
 
-fn reads<P: Moves>(
+fn reads<P: Moves + Drop>(
     wrapped: &mut Wrapped<P>,
     task: &MockTask,
     (step, room): (&str, &mut [u8]),
@@ -177,7 +177,7 @@ fn reads<P: Moves>(
     }
 }
 
-fn writes<P: Moves>(
+fn writes<P: Moves + Drop>(
     wrapped: &mut Wrapped<P>,
     task: &MockTask,
     (step, bytes): (&str, &[u8]),
@@ -201,7 +201,7 @@ fn seek_of(to: &str) -> Result<SeekFrom, Bad> {
     }
 }
 
-fn counts<P: Moves>(
+fn counts<P: Moves + Drop>(
     wrapped: &mut Wrapped<P>,
     task: &MockTask,
     (name, count): (&str, usize),
@@ -216,7 +216,7 @@ fn counts<P: Moves>(
     Ok(())
 }
 
-fn bare<P: Moves>(
+fn bare<P: Moves + Drop>(
     wrapped: &mut Wrapped<P>,
     task: &MockTask,
     (name, alloc): (&str, Global),
@@ -247,7 +247,7 @@ pub fn push_item(item: Option<u8>, got: &mut Got) {
     }
 }
 
-fn fill_buf<P: Moves>(wrapped: &mut Wrapped<P>, got: &mut Got) {
+fn fill_buf<P: Moves + Drop>(wrapped: &mut Wrapped<P>, got: &mut Got) {
     match wrapped.fill_buf() {
         Ok(bytes) => got.bytes(bytes),
         Err(e) => got.text(kind_name(e.kind())),
@@ -255,7 +255,7 @@ fn fill_buf<P: Moves>(wrapped: &mut Wrapped<P>, got: &mut Got) {
 }
 
 /// All that is left, or a line of it.
-fn to_end<P: Moves>(
+fn to_end<P: Moves + Drop>(
     wrapped: &mut Wrapped<P>,
     alloc: Global,
     name: &str,
@@ -276,7 +276,7 @@ fn to_end<P: Moves>(
     Ok(())
 }
 
-fn copy<P: Moves>(
+fn copy<P: Moves + Drop>(
     wrapped: &mut Wrapped<P>,
     name: &str,
     to: &mut Vec<u8>,
@@ -293,7 +293,7 @@ fn copy<P: Moves>(
 
 /// Reads of so many bytes until none come: how many reads gave any, and how many bytes, each the next of 0, 1, 2 and so on, modulo
 /// 256.
-fn drain<P: Moves>(wrapped: &mut Wrapped<P>, count: usize, got: &mut Got) {
+fn drain<P: Moves + Drop>(wrapped: &mut Wrapped<P>, count: usize, got: &mut Got) {
     let mut all = [0u8; 8];
     let Some(room) = all.get_mut(..count) else {
         return;

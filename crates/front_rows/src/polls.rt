@@ -22,11 +22,16 @@ pub enum Asked<'a> {
 }
 
 /// Polls once, and appends what that gives.
-pub fn poll<P: Moves>(wrapped: &mut Wrapped<P>, task: &MockTask, asked: Asked<'_>, got: &mut Got) {
+pub fn poll<P: Moves + Drop>(
+    wrapped: &mut Wrapped<P>,
+    task: &MockTask,
+    asked: Asked<'_>,
+    got: &mut Got,
+) {
     task.enter(|cx| push_polled(wrapped, cx, asked, got));
 }
 
-fn push_polled<P: Moves>(
+fn push_polled<P: Moves + Drop>(
     wrapped: &mut Wrapped<P>,
     cx: &mut Context<'_>,
     asked: Asked<'_>,
@@ -58,7 +63,12 @@ fn push_polled_done(polled: Poll<io::Result<()>>, got: &mut Got) {
 }
 
 /// So many polls of the stream, and what each gives.
-pub fn nexts<P: Moves>(wrapped: &mut Wrapped<P>, task: &MockTask, times: usize, got: &mut Got) {
+pub fn nexts<P: Moves + Drop>(
+    wrapped: &mut Wrapped<P>,
+    task: &MockTask,
+    times: usize,
+    got: &mut Got,
+) {
     for _ in 0..times {
         poll(wrapped, task, Asked::Next, got);
     }

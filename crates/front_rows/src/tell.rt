@@ -8,7 +8,7 @@
 //!
 //! What answers with the bar counts as `limited`, since it draws nothing.
 use crate::bars::{Bar, spinner};
-use indicatif::{Change, Drawn, Moves, ProgressFinish, ProgressState, Refusal};
+use indicatif::{Change, Drawn, Move, Moves, ProgressFinish, ProgressState, Refusal};
 use scripts::commands::{Told as _, WORDED, finish};
 use scripts::got::Bad;
 use scripts::spelling::{number, unescaped};
@@ -57,7 +57,7 @@ fn ending<R: Wait + Copy + Clone + Drop>(bar: &Bar<R>, name: &str) -> Result<Tol
 }
 
 fn at_end<R: Wait + Copy + Clone + Drop>(mut bar: Bar<R>) -> Told {
-    Moves::finish(&mut bar)
+    bar.make_move(Move::FinishAsStored)
 }
 
 fn numbered<R: Wait + Copy + Clone + Drop>(bar: &Bar<R>, name: &str, n: u64) -> Result<Told, Bad> {
@@ -92,8 +92,8 @@ fn absorb<R: Wait + Copy + Clone + Drop>(bar: &Bar<R>, n: u64) -> Told {
 /// A call with a number that takes an owner.
 fn moved<R: Wait + Copy + Clone + Drop>(mut bar: Bar<R>, name: &str, n: u64) -> Result<Told, Bad> {
     Ok(match name {
-        "advance" => Moves::advance(&mut bar, n),
-        "place" => Moves::place(&mut bar, n),
+        "advance" => bar.make_move(Move::Advance(n)),
+        "place" => bar.make_move(Move::PlaceAt(n)),
         "with_position" => is_given(bar.with_position(n)),
         "with_elapsed" => is_given(bar.with_elapsed(n)),
         "with_tab_width" => is_given(bar.with_tab_width(n as usize)),

@@ -136,7 +136,7 @@ fn percents(alloc: Global) -> Result<ProgressStyle<NoTracker>, Refusal> {
 }
 
 /// The items of a list, at most four, each doubled.
-fn doubled<P: Moves>(
+fn doubled<P: Moves + Drop>(
     alloc: Global,
     list: &mut ProgressBarIter<IntoIter<u32>, P>,
 ) -> Result<Vec<u32>, Refusal> {
@@ -149,7 +149,7 @@ fn doubled<P: Moves>(
 }
 
 /// Doubles the items of a list, which are 2, 4, 6 then.
-fn doubles<R: Abort, P: Moves>(
+fn doubles<R: Abort, P: Moves + Drop>(
     rt: &R,
     alloc: Global,
     list: &mut ProgressBarIter<IntoIter<u32>, P>,
@@ -179,7 +179,7 @@ fn it_can_wrap_an_iterator(rt: HostRuntime) {
 }
 
 /// Doubles the items of a list, each by one of several threads.
-fn maps<R: Threads + Sync + Abort, P: Moves>(
+fn maps<R: Threads + Sync + Abort, P: Moves + Drop>(
     rt: &R,
     alloc: Global,
     list: ProgressBarIter<&[u32], P>,

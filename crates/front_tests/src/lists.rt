@@ -3,8 +3,8 @@ use crate::fronts::Bar;
 use crate::gates::counts;
 use crate::stepped::bar_at;
 use indicatif::{
-    Drawn, Moves, ParallelProgressIterator, ProgressBar, ProgressDrawTarget, Refusal, Setup,
-    StepClock,
+    Drawn, Move, Moves, ParallelProgressIterator, ProgressBar, ProgressDrawTarget, Reading,
+    Refusal, Setup, StepClock,
 };
 use std::alloc::Global;
 use std::process::Abort;
@@ -167,18 +167,15 @@ struct Telling<'a> {
 }
 
 impl Moves for Telling<'_> {
-    fn advance(&mut self, n: u64) -> Result<Drawn, Refusal> {
-        self.steps.push(n)?;
-        self.place.fetch_add(n, Ordering::SeqCst);
-        Ok(Drawn::Limited)
-    }
-
-    fn place(&mut self, place: u64) -> Result<Drawn, Refusal> {
-        self.place.store(place, Ordering::SeqCst);
-        Ok(Drawn::Limited)
-    }
-
-    fn finish(&mut self) -> Result<Drawn, Refusal> {
+    fn make_move(&mut self, step: Move) -> Result<Drawn, Refusal> {
+        match step {
+            Move::Advance(n) => {
+                self.steps.push(n)?;
+                self.place.fetch_add(n, Ordering::SeqCst);
+            }
+            Move::PlaceAt(place) => self.place.store(place, Ordering::SeqCst),
+            Move::FinishAsStored => {}
+        }
         Ok(Drawn::Limited)
     }
 
@@ -186,12 +183,11 @@ impl Moves for Telling<'_> {
         true
     }
 
-    fn position(&self) -> u64 {
-        self.place.load(Ordering::SeqCst)
-    }
-
-    fn finished(&self) -> bool {
-        false
+    fn reading(&self) -> Reading {
+        Reading {
+            position: self.place.load(Ordering::SeqCst),
+            finished: false,
+        }
     }
 }
 
@@ -249,7 +245,7 @@ fn a_bar_moves_while_threads_work(rt: HostRuntime) {
     let list = items.as_slice().progress_with(bar);
     let (seen, bar) = list.map_collect(&rt, rt.alloc(), |_item: &u8| sees_a_move(&place));
     holds!(rt; seen.expect(&rt, "granted").contains(&true));
-    same!(rt; bar.position(), 40);
+    same!(rt; bar.reading().position, 40);
 }
 
 /// A shared bar of 40 on no terminal.
@@ -281,5 +277,5 @@ fn a_shared_bar_moves_within_a_block(rt: HostRuntime) {
     let list = items.as_slice().progress_with(owner);
     let (seen, _owner) = list.map_collect(&rt, rt.alloc(), |_item: &u8| sees_within(&bar));
     holds!(rt; seen.expect(&rt, "granted").contains(&true));
-    same!(rt; bar.position(), 40);
+    same!(rt; bar.reading().position, 40);
 }

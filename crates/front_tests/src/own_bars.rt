@@ -16,7 +16,7 @@ fn doubles<R: Threads + Sync + Abort>(rt: &R, alloc: Global, list: Result<Owned<
     let list = list.expect(rt, "granted");
     let (made, bar) = list.map_collect(rt, alloc, |x: &u32| x.wrapping_mul(2));
     same!(rt; made.expect(rt, "granted").as_slice(), [2, 4, 6].as_slice());
-    same!(rt; bar.position(), 3);
+    same!(rt; bar.reading().position, 3);
 }
 
 #[test]

@@ -1,5 +1,5 @@
 -- What is said of a shared bar is an answer that its call can have; and want of memory is one.
-use Rattle.std.proofs.Common.{◌≡◌, ◌⊎◌, ◌||◌, ℕ, true, inl, inr, refl, sym, subst, Option, Some, None, IfSome, Result, Ok, Err, MatchResult}
+use Rattle.std.proofs.Common.{◌≡◌, ◌⊎◌, ◌||◌, ℕ, inl, inr, refl, sym, subst, Option, Some, None, IfSome, Result, Ok, Err, MatchResult}
 use Rattle.indicatif_text.specs.declared.refusal.Refusal.{Refusal}
 use Rattle.indicatif_text.specs.declared.refusal.Refusal.TheVariants.{Memory, ForeignBar}
 use Rattle.indicatif_text.specs.declared.refusal.Drawn.{Drawn}

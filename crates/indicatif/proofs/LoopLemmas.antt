@@ -6,7 +6,9 @@ use Rattle.indicatif_text.specs.declared.refusal.Drawn.{Drawn}
 use Rattle.indicatif_text.specs.declared.refusal.Refusal.{Refusal}
 use Rattle.indicatif_text.specs.declared.refusal.Refusal.TheVariants.{Memory}
 use Rattle.indicatif.specs.declared.wrap.ProgressBarIter.{ProgressBarIter}
-use Rattle.indicatif.specs.Moves.{Standing, Move, Advance, FinishAsStored, Goes, after_bar_move}
+use Rattle.indicatif.specs.Moves.{Standing, Goes, after_bar_move}
+use Rattle.indicatif.specs.declared.moves.Move.{Move}
+use Rattle.indicatif.specs.declared.moves.Move.TheVariants.{Advance, FinishAsStored}
 use Rattle.indicatif.specs.Wrap.{inner_of, last_draw_of, CountsItem, NextGives}
 
 -- the bar at another position

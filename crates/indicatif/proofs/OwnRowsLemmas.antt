@@ -1,7 +1,6 @@
 -- One call of a terminal after another, and a failure handed on, where only the size and the faults are told.
-use Rattle.std.proofs.Common.{◌≡◌, ◌∙◌, ◌+◌, ◌%◌, ◌^◌, ℕ, List, [], Result, Ok, Err, refl, sym, ap, if◌then◌else◌}
+use Rattle.std.proofs.Common.{◌≡◌, ◌∙◌, ◌+◌, ◌%◌, ◌^◌, ℕ, List, [], Result, Ok, Err, refl, sym, ap}
 use Rattle.std.specs.Prelude.{IsErrAnd}
-use Rattle.std.specs.Result.{is_err}
 use Rattle.std.specs.IoError.{error_kind}
 use Rattle.std.specs.declared.io.Error.{Error}
 use Rattle.std.proofs.lemmas.Bool.{false≢true}

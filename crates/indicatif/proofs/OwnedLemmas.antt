@@ -15,7 +15,9 @@ use Rattle.indicatif_bar.specs.LoneBars.{lone_known, lone_bar, LoneIsIn, LoneLea
 use Rattle.indicatif_bar.proofs.RunLemmas.{headline}
 use Rattle.indicatif.specs.declared.owned.OwnedBar.{OwnedBar}
 use Rattle.indicatif.specs.declared.wrap.ProgressBarIter.{ProgressBarIter}
-use Rattle.indicatif.specs.Moves.{Standing, Move, Advance, PlaceAt, FinishAsStored, MovedAlong, AreOfLoop}
+use Rattle.indicatif.specs.Moves.{Standing, MovedAlong, AreOfLoop}
+use Rattle.indicatif.specs.declared.moves.Move.{Move}
+use Rattle.indicatif.specs.declared.moves.Move.TheVariants.{Advance, PlaceAt, FinishAsStored}
 use Rattle.indicatif.specs.Wrap.{CountsItem, NextGives}
 use Rattle.indicatif.specs.Owned.{lone_of, standing_of, command_of_move, Commanded, IsRun}
 

@@ -4,6 +4,8 @@ use Rattle.indicatif_text.specs.declared.refusal.Drawn.{Drawn}
 use Rattle.indicatif_text.specs.declared.refusal.Refusal.{Refusal}
 use Rattle.indicatif_text.specs.declared.refusal.Refusal.TheVariants.{Memory}
 use Rattle.indicatif.specs.Seek.{Seeks, after_move}
+use Rattle.indicatif.specs.declared.moves.Move.{Move}
+use Rattle.indicatif.specs.declared.moves.Move.TheVariants.{Advance, PlaceAt, FinishAsStored}
 
 -- where a bar stands, as far as moves go
 pub record Standing : Type 0 where
@@ -11,15 +13,6 @@ pub record Standing : Type 0 where
   pub finished : Bool
   -- where its stored finish puts the position, if it moves it
   pub ends_at : Option ℕ
-
--- what can be asked of a bar that stands for the progress of something else
-pub data Move : Type 0 where
-  -- the position goes on by n
-  Advance : (n : ℕ) → Move
-  -- the position becomes this place
-  PlaceAt : (place : ℕ) → Move
-  -- the bar is finished by its stored finish
-  FinishAsStored : Move
 
 -- where a bar stands after a move
 abbrev pub after_bar_move : Standing → Move → Standing

@@ -15,7 +15,9 @@ use Rattle.indicatif_bar.specs.Runs.{Runs, Headline}
 use Rattle.indicatif_bar.specs.Lone.{LoneState, LoneCall, Obey, opening_state}
 use Rattle.indicatif_bar.specs.LoneBars.{record_of, lone_terminal, lone_known, lone_bar, LoneIsIn, Obeys, ObeysOrNot, RefusesCommand}
 use Rattle.indicatif_bar.specs.declared.lone.LoneBar.{LoneBar}
-use Rattle.indicatif.specs.Moves.{Standing, Move, Advance, PlaceAt, FinishAsStored}
+use Rattle.indicatif.specs.Moves.{Standing}
+use Rattle.indicatif.specs.declared.moves.Move.{Move}
+use Rattle.indicatif.specs.declared.moves.Move.TheVariants.{Advance, PlaceAt, FinishAsStored}
 use Rattle.indicatif.specs.Wrap.{inner_of, wrapped_seeks, last_draw_of}
 use Rattle.indicatif.specs.declared.owned.OwnedBar.{OwnedBar}
 use Rattle.indicatif.specs.declared.wrap.ProgressBarIter.{ProgressBarIter}

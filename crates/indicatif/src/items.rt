@@ -2,7 +2,7 @@
 ghost use Rattle.std.specs.Prelude.{◌≡◌, Some, None, IfSome};
 ghost use Rattle.indicatif.specs.Wrap.{inner_of, CountsItem};
 
-use crate::moves::Moves;
+use crate::moves::{Move, Moves};
 use crate::wrap::ProgressBarIter;
 use std::iter::FusedIterator;
 
@@ -13,15 +13,15 @@ impl<T, P: Moves> ProgressBarIter<T, P> {
         ensures counted { CountsItem P.stands P.leads is_item self.old self.new }
     {
         if is_item {
-            self.last = Some(self.progress.advance(1));
-        } else if !self.progress.finished() {
-            self.last = Some(self.progress.finish());
+            self.last = Some(self.progress.make_move(Move::Advance(1)));
+        } else if !self.progress.reading().finished {
+            self.last = Some(self.progress.make_move(Move::FinishAsStored));
         }
     }
 }
 
 /// The inner one's items; each advances the bar by 1, and the end finishes a bar that isn't finished.
-impl<T: Iterator, P: Moves> Iterator for ProgressBarIter<T, P> {
+impl<T: Iterator, P: Moves + Drop> Iterator for ProgressBarIter<T, P> {
     ghost use Rattle.indicatif.specs.Wrap.{inner_of, NextGives};
 
     type Item = T::Item;
@@ -44,7 +44,7 @@ impl<T: Iterator, P: Moves> Iterator for ProgressBarIter<T, P> {
 }
 
 /// The same from the back.
-impl<T: DoubleEndedIterator, P: Moves> DoubleEndedIterator for ProgressBarIter<T, P> {
+impl<T: DoubleEndedIterator, P: Moves + Drop> DoubleEndedIterator for ProgressBarIter<T, P> {
     ghost use Rattle.indicatif.specs.Wrap.{inner_of, NextGives};
 
     ghost can_next_back = { λ s. T.can_next_back (inner_of s) };
@@ -59,11 +59,11 @@ impl<T: DoubleEndedIterator, P: Moves> DoubleEndedIterator for ProgressBarIter<T
 }
 
 /// As many as the inner one has left.
-impl<T: ExactSizeIterator, P: Moves> ExactSizeIterator for ProgressBarIter<T, P> {
+impl<T: ExactSizeIterator, P: Moves + Drop> ExactSizeIterator for ProgressBarIter<T, P> {
     fn len(&self) -> usize {
         self.it.len()
     }
 }
 
 /// Over an inner one that stays at its end.
-impl<T: FusedIterator, P: Moves> FusedIterator for ProgressBarIter<T, P> {}
+impl<T: FusedIterator, P: Moves + Drop> FusedIterator for ProgressBarIter<T, P> {}

@@ -4,7 +4,9 @@ ghost use Rattle.std.specs.Iterator.{YieldsThen};
 ghost use Rattle.indicatif_text.specs.declared.refusal.Drawn.{Drawn};
 ghost use Rattle.indicatif_text.specs.declared.refusal.Refusal.{Refusal};
 ghost use Rattle.indicatif_text.specs.declared.refusal.Refusal.TheVariants.{Memory};
-ghost use Rattle.indicatif.specs.Moves.{Move, Advance, FinishAsStored, after_bar_move, MovedAlong, AreOfLoop};
+ghost use Rattle.indicatif.specs.Moves.{after_bar_move, MovedAlong, AreOfLoop};
+ghost use Rattle.indicatif.specs.declared.moves.Move.{Move};
+ghost use Rattle.indicatif.specs.declared.moves.Move.TheVariants.{Advance, FinishAsStored};
 ghost use Rattle.indicatif.specs.Owned.{Commanded, IsRun};
 ghost use Rattle.indicatif.specs.Parallel.{Blocks};
 ghost use Rattle.indicatif.specs.declared.owned.OwnedBar.{OwnedBar};
@@ -44,7 +46,7 @@ pub fn a_seek_shows_its_place_at_least()
 /// where the finish was refused memory, as `last_draw` tells.
 ///
 /// The premise is what std says of a loop over a wrapper: `next` gave these items one after another, and then nothing.
-pub fn a_whole_loop<I: Iterator, P: Moves>()
+pub fn a_whole_loop<I: Iterator, P: Moves + Drop>()
     ensures { (items : List I.Item) (start end : ProgressBarIter I P) → YieldsThen ⟦<ProgressBarIter<I, P> as Iterator>⟧.next_gives start items None end →
         YieldsThen I.next_gives (inner_of start) items None (inner_of end)
         × IfSome (P.stands start.progress) (λ bar. bar.position < 2 ^ 64 → bar.finished ≡ false →
@@ -54,7 +56,7 @@ pub fn a_whole_loop<I: Iterator, P: Moves>()
 
 /// What a loop over all items asks of its bar: an advance by 1 for each item, one after another, then the finish, and nothing
 /// else; of a bar that was finished already no finish.
-pub fn the_moves_of_a_loop<I: Iterator, P: Moves>()
+pub fn the_moves_of_a_loop<I: Iterator, P: Moves + Drop>()
     ensures { (items : List I.Item) (start end : ProgressBarIter I P) → YieldsThen ⟦<ProgressBarIter<I, P> as Iterator>⟧.next_gives start items None end →
         (made : List (Move × Result Drawn Refusal)) × MovedAlong P.leads made start.progress end.progress × AreOfLoop (length items) (map (λ x. x.0) made) }
 {}

@@ -265,7 +265,7 @@ pub mod style;
 mod workers;
 mod wrap;
 
-pub use crate::moves::Moves;
+pub use crate::moves::{Move, Moves, Reading};
 pub use crate::own_rows::OwnRows;
 pub use crate::owned::OwnedBar;
 pub use crate::parallel::ParallelProgressIterator;

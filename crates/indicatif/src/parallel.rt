@@ -131,7 +131,7 @@ impl<'a, T> ParallelProgressIterator for &'a [T] {
 ///
 /// The bar comes back as it is then; it isn't finished. What a draw answered isn't told: an advance whose draw was refused is an
 /// advance all the same.
-impl<'a, T: Sync, P: Moves> ProgressBarIter<&'a [T], P> {
+impl<'a, T: Sync, P: Moves + Drop> ProgressBarIter<&'a [T], P> {
     /// What `f` answers at each item, in the list's order.
     ///
     /// ```

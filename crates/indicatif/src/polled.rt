@@ -13,7 +13,7 @@ use tokio::io::{AsyncRead, AsyncWrite};
 
 /// The inner one's bytes. A read that is ready places the bar behind them, also one that failed, behind none; one that is
 /// pending leaves it as it is.
-impl<T: AsyncRead, P: Moves> AsyncRead for ProgressBarIter<T, P> {
+impl<T: AsyncRead, P: Moves + Drop> AsyncRead for ProgressBarIter<T, P> {
     ghost needs = { λ s. T.needs (inner_of s) };
 
     ghost reads = { λ a xs b. T.reads (inner_of a) xs (inner_of b) };
@@ -50,7 +50,7 @@ impl<T: AsyncRead, P: Moves> AsyncRead for ProgressBarIter<T, P> {
 
 /// To the inner one. A write that is ready places the bar behind the bytes that were taken; one that failed or is pending
 /// leaves it as it is, and so do a flush and a shutdown.
-impl<T: AsyncWrite, P: Moves> AsyncWrite for ProgressBarIter<T, P> {
+impl<T: AsyncWrite, P: Moves + Drop> AsyncWrite for ProgressBarIter<T, P> {
     ghost needs = { λ s. T.needs (inner_of s) };
 
     ghost writes = { λ a xs b. T.writes (inner_of a) xs (inner_of b) };

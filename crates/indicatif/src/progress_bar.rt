@@ -43,7 +43,7 @@ pub use self::multi::{MultiProgress, RecordReader};
 use self::position_change::PositionChange;
 use self::text_command::TextCommand;
 pub use self::weak::WeakProgressBar;
-use crate::moves::Moves;
+use crate::moves::{Move, Moves, Reading};
 use crate::seek::SeekMax;
 use indicatif_bar::state::{BarCommand, Change, ProgressFinish, ProgressState};
 use indicatif_bar::style::{NoTracker, ProgressStyle, Tracks};
@@ -412,12 +412,12 @@ impl<T: TermLike + Drop, C: Clock + Drop, R: Wait + Clone + Drop, K: Tracks> Deb
 /// It tells nothing of where it stands, as others may move it meanwhile.
 impl<T: TermLike + Drop, C: Clock + Drop, R: Wait + Clone + Drop, K: Tracks> Moves
     for ProgressBar<T, C, R, K> {
-    fn advance(&mut self, n: u64) -> Result<Drawn, Refusal> {
-        self.inc(n)
-    }
-
-    fn place(&mut self, place: u64) -> Result<Drawn, Refusal> {
-        self.set_position(place)
+    fn make_move(&mut self, step: Move) -> Result<Drawn, Refusal> {
+        match step {
+            Move::Advance(n) => self.inc(n),
+            Move::PlaceAt(place) => self.set_position(place),
+            Move::FinishAsStored => self.finish_using_style(),
+        }
     }
 
     #[tactic(auto, using(crate::proofs::PlacedLemmas::untold_placed))]
@@ -428,20 +428,15 @@ impl<T: TermLike + Drop, C: Clock + Drop, R: Wait + Clone + Drop, K: Tracks> Mov
             .place_after(&self.rt, seeks, n)
     }
 
-    fn finish(&mut self) -> Result<Drawn, Refusal> {
-        self.finish_using_style()
-    }
-
     /// Its position isn't one that a contract could tell.
     fn stops_within_blocks(&self) -> bool {
         true
     }
 
-    fn position(&self) -> u64 {
-        ProgressBar::position(self)
-    }
-
-    fn finished(&self) -> bool {
-        self.is_finished()
+    fn reading(&self) -> Reading {
+        Reading {
+            position: self.position(),
+            finished: self.is_finished(),
+        }
     }
 }

@@ -5,7 +5,7 @@ ghost use Rattle.futures.specs.Runs.{After, Within};
 ghost use Rattle.futures.specs.Task.{Covers, Keeps};
 ghost use Rattle.indicatif.specs.Wrap.{inner_of, Polled, SameBar};
 
-use crate::moves::Moves;
+use crate::moves::{Move, Moves};
 use crate::wrap::ProgressBarIter;
 use futures::stream::Stream;
 use futures::task::{Context, Poll};
@@ -17,15 +17,15 @@ impl<T, P: Moves> ProgressBarIter<T, P> {
         ensures polled { Polled P.stands P.leads is_item self.old self.new }
     {
         self.last = if is_item {
-            Some(self.progress.advance(1))
+            Some(self.progress.make_move(Move::Advance(1)))
         } else {
-            Some(self.progress.finish())
+            Some(self.progress.make_move(Move::FinishAsStored))
         };
     }
 }
 
 /// The inner one's items; each advances the bar by 1, each end finishes it, and a poll that is pending leaves it as it is.
-impl<T: Stream, P: Moves> Stream for ProgressBarIter<T, P> {
+impl<T: Stream, P: Moves + Drop> Stream for ProgressBarIter<T, P> {
     type Item = T::Item;
 
     ghost can_poll = { λ s. T.can_poll (inner_of s) };

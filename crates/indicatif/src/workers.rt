@@ -6,7 +6,7 @@ ghost use Rattle.indicatif_board.specs.Done.{shares_of, added_by};
 ghost use Rattle.indicatif.specs.Workers.{items_in, Absorbed};
 ghost use Rattle.indicatif.specs.Inside.Pieces.{JobAt, IsEnded, CountsPieces};
 
-use crate::moves::Moves;
+use crate::moves::{Move, Moves};
 use crate::progress_bar::ProgressBar;
 use indicatif_bar::style::Tracks;
 use indicatif_board::done::{BarWorker, Done};
@@ -137,7 +137,7 @@ pub fn run_workers_with<
         return Err(Refusal::ZeroPieces);
     }
     let (answers, met) = in_waves(rt, alloc, pieces, &f, gate)?;
-    let _ = bar.advance(met);
+    let _ = bar.make_move(Move::Advance(met));
     answers.ok_or(Refusal::Memory)
 }
 

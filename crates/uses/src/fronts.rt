@@ -5,7 +5,8 @@ ghost use Rattle.indicatif_text.specs.declared.refusal.Drawn.TheVariants.{Limite
 ghost use Rattle.indicatif_bar.specs.Commands.{Inc};
 ghost use Rattle.indicatif_bar.specs.Lone.{Obey};
 ghost use Rattle.indicatif.specs.Fronts.{CanAnswer};
-ghost use Rattle.indicatif.specs.Moves.{Advance, after_bar_move};
+ghost use Rattle.indicatif.specs.Moves.{after_bar_move};
+ghost use Rattle.indicatif.specs.declared.moves.Move.TheVariants.{Advance};
 ghost use Rattle.indicatif.specs.Wrap.{inner_of};
 
 use indicatif::laws::blocks_add_up;
@@ -66,7 +67,7 @@ pub fn next_above<T: TermLike + Drop, C: Clock + Drop, R: Wait + Clone + Drop, K
 
 /// Each number of a list doubled, in order, by threads, whatever bar is moved; one that tells where it stands has gone on by as many
 /// as there are numbers, once each.
-pub fn doubled<R: Threads + Sync, P: Moves>(
+pub fn doubled<R: Threads + Sync, P: Moves + Drop>(
     rt: &R,
     alloc: Global,
     list: ProgressBarIter<&[u32], P>,

@@ -1,13 +1,17 @@
 //! What a loop makes of the bar that shows its progress.
 ghost use Rattle.std.specs.Prelude.{◌≡◌, ◌<◌, ◌^◌, Some, IfSome, IsTrue};
-ghost use Rattle.indicatif.specs.Moves.{Advance, after_bar_move};
+ghost use Rattle.indicatif.specs.Moves.{after_bar_move};
+ghost use Rattle.indicatif.specs.declared.moves.Move.TheVariants.{Advance};
 
 use indicatif::{Moves, ProgressBarIter};
 use std::vec::IntoIter;
 
 /// Passes over so many items of a list, and answers whether there were as many: then a bar that tells where it stands has gone on
 /// by their number.
-pub fn skip<T: Drop, P: Moves>(list: &mut ProgressBarIter<IntoIter<T>, P>, count: u64) -> bool
+pub fn skip<T: Drop, P: Moves + Drop>(
+    list: &mut ProgressBarIter<IntoIter<T>, P>,
+    count: u64,
+) -> bool
     ensures { IsTrue result → IfSome (P.stands list.old.progress) (λ bar. bar.position < 2 ^ 64 →
         P.stands list.new.progress ≡ Some (after_bar_move bar (Advance count))) }
 {

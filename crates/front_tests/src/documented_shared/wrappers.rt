@@ -95,11 +95,11 @@ fn looped(bar: Own, items: Vec<u64>) -> Own {
 fn a_bar_of_its_own_behind_a_loop(rt: HostRuntime) {
     let bar = own_of_two(&rt, rt.alloc());
     let items = vec![in rt.alloc(); 1u64, 2].expect(&rt, "granted");
-    same!(rt; looped(bar, items).position(), 2);
+    same!(rt; looped(bar, items).reading().position, 2);
 }
 
 /// The first item, and a bar of any kind that has gone on by it.
-fn first_of<P: Moves>(list: Vec<u64>, bar: P) -> (Option<u64>, P) {
+fn first_of<P: Moves + Drop>(list: Vec<u64>, bar: P) -> (Option<u64>, P) {
     let mut wrapped = ProgressBarIter::new(list.into_iter(), bar);
     let first = wrapped.next();
     let (_, bar) = wrapped.into_inner();
@@ -112,7 +112,7 @@ fn a_bar_of_its_own_behind_the_first_item(rt: HostRuntime) {
     let items = vec![in rt.alloc(); 7u64, 8].expect(&rt, "granted");
     let (first, bar) = first_of(items, bar);
     same!(rt; first, Some(7));
-    same!(rt; bar.position(), 1);
+    same!(rt; bar.reading().position, 1);
 }
 
 #[test]

@@ -1,5 +1,5 @@
 -- Answers at a part of a list.
-use Rattle.std.specs.Prelude.{ℕ, ◌-◌, ◌≤◌, List, length, take, drop}
+use Rattle.std.specs.Prelude.{◌-◌, ◌≤◌, List, length, take, drop}
 use Rattle.std.specs.List.{AllZip}
 use Rattle.indicatif.specs.declared.parallel.piece.Piece.{Piece}
 

@@ -17,13 +17,13 @@ use std::alloc::{AllocError, Global};
 use std::thread::{Threads, join};
 
 /// The answers of `f` at each item. The bar is moved while the threads work.
-pub fn map_in_threads<R: Threads + Sync, T: Sync, A: Send + Drop, F: Fn(&T) -> A + Sync, P: Moves>(
-    rt: &R,
-    alloc: Global,
-    items: &[T],
-    bar: P,
-    f: &F,
-) -> (Result<Vec<A>, Refusal>, P)
+pub fn map_in_threads<
+    R: Threads + Sync,
+    T: Sync,
+    A: Send + Drop,
+    F: Fn(&T) -> A + Sync,
+    P: Moves + Drop,
+>(rt: &R, alloc: Global, items: &[T], bar: P, f: &F) -> (Result<Vec<A>, Refusal>, P)
     requires { F.IsAlwaysCallable f.now }
     ensures list { IfOk result.0 (λ made. AllZip (FnReturnsAt F.Fn f.now) items.now made.items) }
     ensures bar { OnOk result.0 (Blocks P.stands P.leads bar (length items.now) result.1) }
@@ -64,7 +64,13 @@ fn whole<T, A: Drop, F: Fn(&T) -> A>(
 }
 
 // The answers at the parts that each thread took, and how far the bar was moved meanwhile.
-fn pieces_of_all<R: Threads + Sync, T: Sync, A: Send + Drop, F: Fn(&T) -> A + Sync, P: Moves>(
+fn pieces_of_all<
+    R: Threads + Sync,
+    T: Sync,
+    A: Send + Drop,
+    F: Fn(&T) -> A + Sync,
+    P: Moves + Drop,
+>(
     rt: &R,
     alloc: Global,
     items: &[T],
@@ -106,7 +112,7 @@ fn together<A: Drop>(
 }
 
 // The answers at the parts that the thread with the bar took. The bar is moved behind each part.
-fn own_pieces<T, A: Drop, F: Fn(&T) -> A, P: Moves>(
+fn own_pieces<T, A: Drop, F: Fn(&T) -> A, P: Moves + Drop>(
     alloc: Global,
     items: &[T],
     claims: &Claims,
@@ -126,7 +132,7 @@ fn own_pieces<T, A: Drop, F: Fn(&T) -> A, P: Moves>(
 }
 
 // The same of a bar that is lent.
-fn pieces_in_order<T, A: Drop, F: Fn(&T) -> A, P: Moves>(
+fn pieces_in_order<T, A: Drop, F: Fn(&T) -> A, P: Moves + Drop>(
     alloc: Global,
     items: &[T],
     claims: &Claims,

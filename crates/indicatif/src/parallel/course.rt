@@ -3,7 +3,7 @@ ghost use Rattle.std.specs.Prelude.{◌≡◌, ◌⊎◌, ◌≤◌, ◌<◌};
 ghost use Rattle.indicatif.specs.Inside.Courses.{GoesOn};
 ghost use Rattle.indicatif.specs.Parallel.{block_length};
 
-use crate::moves::Moves;
+use crate::moves::{Move, Moves};
 use crate::parallel::claims::{Claims, Part};
 use rayon::current_num_threads;
 use std::thread::Threads;
@@ -41,7 +41,7 @@ pub struct Course<P: Drop> {
     ghost most: { block ≤ block_length },
 }
 
-impl<P: Moves> Course<P> {
+impl<P: Moves + Drop> Course<P> {
     /// Before the first block of a list of so many items.
     pub fn new<R: Threads>(rt: &R, bar: P, items: usize) -> Course<P>
         ensures bar { result.bar ≡ bar }
@@ -63,7 +63,7 @@ impl<P: Moves> Course<P> {
     {
         let left = self.block - self.done % self.block;
         let n = left.min(item - self.done);
-        let _ = self.bar.advance(n as u64);
+        let _ = self.bar.make_move(Move::Advance(n as u64));
         self.done += n;
     }
 

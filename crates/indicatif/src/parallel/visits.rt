@@ -11,7 +11,7 @@ use rayon::current_num_threads;
 use std::thread::{Threads, join};
 
 /// Calls `f` with each item; the bar, which is moved while the threads work.
-pub fn visit_in_threads<R: Threads + Sync, T: Sync, F: Fn(&T) + Sync, P: Moves>(
+pub fn visit_in_threads<R: Threads + Sync, T: Sync, F: Fn(&T) + Sync, P: Moves + Drop>(
     rt: &R,
     items: &[T],
     bar: P,
@@ -27,7 +27,7 @@ pub fn visit_in_threads<R: Threads + Sync, T: Sync, F: Fn(&T) + Sync, P: Moves>(
 }
 
 // Calls `f` with each item; how far the bar was moved meanwhile.
-fn visited_by_all<R: Threads + Sync, T: Sync, F: Fn(&T) + Sync, P: Moves>(
+fn visited_by_all<R: Threads + Sync, T: Sync, F: Fn(&T) + Sync, P: Moves + Drop>(
     rt: &R,
     items: &[T],
     f: &F,
@@ -52,7 +52,7 @@ fn visited_by_all<R: Threads + Sync, T: Sync, F: Fn(&T) + Sync, P: Moves>(
 }
 
 // Calls `f` with the items of the parts that the thread with the bar takes. The bar is moved behind each part.
-fn own_visits<T, F: Fn(&T), P: Moves>(
+fn own_visits<T, F: Fn(&T), P: Moves + Drop>(
     items: &[T],
     claims: &Claims,
     f: &F,

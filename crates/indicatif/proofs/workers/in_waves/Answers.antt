@@ -1,4 +1,4 @@
-use Rattle.std.proofs.Common.{◌≡◌, ◌≤◌, ◌<◌, take, drop, length, ◌+◌, ◌-◌, ap, refl, arith}
+use Rattle.std.proofs.Common.{◌≡◌, ◌≤◌, take, drop, length, ◌+◌, ◌-◌, ap, refl, arith}
 use Rattle.std.specs.Fn.{FnReturnsAt}
 use Rattle.indicatif.proofs.WaveLemmas.{wave_more, no_wave, all_waves}
 use Rattle.indicatif.proofs.workers.in_waves.Goals as goal
