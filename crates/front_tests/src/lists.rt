@@ -277,5 +277,5 @@ fn a_shared_bar_moves_within_a_block(rt: HostRuntime) {
     let list = items.as_slice().progress_with(owner);
     let (seen, _owner) = list.map_collect(&rt, rt.alloc(), |_item: &u8| sees_within(&bar));
     holds!(rt; seen.expect(&rt, "granted").contains(&true));
-    same!(rt; bar.reading().position, 40);
+    same!(rt; bar.position(), 40);
 }

@@ -1,24 +1,10 @@
-//! Two threads that read through wrappers of one bar. (These functions have no bound `Abort`, and the test has ways out: with checks of one
-//! call each it is more than the prover can hold.)
-use indicatif::{
-    InMemoryTerm, ProgressBar, ProgressBarIter, ProgressDrawTarget, Refusal, Setup, StepClock,
-};
-use std::alloc::Global;
+//! Two threads that read through wrappers of one bar. (Each makes its own wrapper: a function that owns two is more than the prover can
+//! hold.)
+use crate::fronts::{Bar, setup};
+use indicatif::{ProgressBar, ProgressBarIter};
 use std::io::{self, Read};
 use std::sync::Wait;
-use std::test::Fail;
 use std::thread::join;
-
-type Bar<R> = ProgressBar<InMemoryTerm, StepClock, R>;
-
-/// A bar without a length.
-fn bar_on<R: Wait + Clone + Drop>(rt: R, alloc: Global) -> Result<Bar<R>, Refusal> {
-    let setup = Setup {
-        target: ProgressDrawTarget::term_like(InMemoryTerm::new(alloc, 4, 20)?),
-        clock: StepClock { next: 0, step: 1 },
-    };
-    ProgressBar::no_length(rt, alloc, setup)
-}
 
 /// Reads to the end, seven bytes at a time.
 fn reads_all<T: Read, R: Wait + Clone + Drop>(
@@ -36,16 +22,23 @@ fn reads_all<T: Read, R: Wait + Clone + Drop>(
     Ok(sum)
 }
 
+/// How many bytes a wrapper of the bar reads; `None` where it can't be made, or a read fails.
+fn reads_along<R: Wait + Clone + Drop>(bar: &Bar<R>, bytes: &[u8]) -> Option<u64> {
+    let mut wrapped = bar.wrap_read(bytes).ok()?;
+    reads_all(&mut wrapped).ok()
+}
+
 /// Two threads read 20,000 bytes each through wrappers of one bar, which stands at 40,000 then.
 #[test]
-fn two_readers_of_one_bar_lose_no_byte(rt: HostRuntime) -> Result<(), Fail> {
+fn two_readers_of_one_bar_lose_no_byte(rt: HostRuntime) {
     let bytes = [7u8; 20_000];
-    let bar = bar_on(rt, rt.alloc())?;
-    let mut one = bar.wrap_read(bytes.as_slice())?;
-    let mut other = bar.wrap_read(bytes.as_slice())?;
-    let (first, second) = join(&rt, || reads_all(&mut one), || reads_all(&mut other));
-    assert_eq!(rt; first?, 20_000);
-    assert_eq!(rt; second?, 20_000);
-    assert_eq!(rt; bar.position(), 40_000);
-    Ok(())
+    let setup = setup(&rt, rt.alloc(), 20);
+    let bar = ProgressBar::no_length(rt, rt.alloc(), setup).expect(&rt, "granted");
+    let read = join(
+        &rt,
+        || reads_along(&bar, &bytes),
+        || reads_along(&bar, &bytes),
+    );
+    same!(rt; read, (Some(20_000), Some(20_000)));
+    same!(rt; bar.position(), 40_000);
 }
