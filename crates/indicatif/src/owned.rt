@@ -106,6 +106,7 @@ impl<K: Tracks, T: TermLike + Drop, C: Clock + Drop> Moves for OwnedBar<K, T, C>
 
     ghost leads = { λ old move answer new. Commanded K.means T.view old move answer new };
 
+    #[inline(always)]
     fn make_move(&mut self, step: Move) -> Result<Drawn, Refusal> {
         let now = self.clock.now();
         match step {

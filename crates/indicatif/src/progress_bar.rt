@@ -412,6 +412,7 @@ impl<T: TermLike + Drop, C: Clock + Drop, R: Wait + Clone + Drop, K: Tracks> Deb
 /// It tells nothing of where it stands, as others may move it meanwhile.
 impl<T: TermLike + Drop, C: Clock + Drop, R: Wait + Clone + Drop, K: Tracks> Moves
     for ProgressBar<T, C, R, K> {
+    #[inline(always)]
     fn make_move(&mut self, step: Move) -> Result<Drawn, Refusal> {
         match step {
             Move::Advance(n) => self.inc(n),
