@@ -9,6 +9,11 @@ use crate::seek::SeekMax;
 use indicatif_text::columns::{Drawn, Refusal};
 
 /// What can be asked of a bar that something else moves.
+///
+/// ```
+/// bar.make_move(Move::Advance(1))?;
+/// bar.reading().position // 2, if it was 1
+/// ```
 #[derive(Debug, Clone, Copy)]
 pub enum Move {
     /// The position goes on by so much.
@@ -20,6 +25,10 @@ pub enum Move {
 }
 
 /// What is read of a bar that something else moves.
+///
+/// ```
+/// bar.reading().position // 1, behind the first item
+/// ```
 #[derive(Debug, Clone, Copy)]
 pub struct Reading {
     /// The position.

@@ -2,7 +2,7 @@
 use crate::documented_shared::bars::{Bar, bar_of, setup_of};
 use futures::Stream;
 use indicatif::{
-    BarState, InMemoryTerm, LoneBar, Moves, NoTracker, OwnedBar, ProgressBarIter,
+    BarState, InMemoryTerm, LoneBar, Move, Moves, NoTracker, OwnedBar, ProgressBarIter,
     ProgressDrawTarget, ProgressIterator, Setup, StepClock,
 };
 use std::alloc::Global;
@@ -110,9 +110,11 @@ fn first_of<P: Moves + Drop>(list: Vec<u64>, bar: P) -> (Option<u64>, P) {
 fn a_bar_of_its_own_behind_the_first_item(rt: HostRuntime) {
     let bar = own_of_two(&rt, rt.alloc());
     let items = vec![in rt.alloc(); 7u64, 8].expect(&rt, "granted");
-    let (first, bar) = first_of(items, bar);
+    let (first, mut bar) = first_of(items, bar);
     same!(rt; first, Some(7));
     same!(rt; bar.reading().position, 1);
+    bar.make_move(Move::Advance(1)).expect(&rt, "granted");
+    same!(rt; bar.reading().position, 2);
 }
 
 #[test]
