@@ -24,16 +24,6 @@ fn pauses_hand_values_on(rt: HostRuntime) {
     same!(rt; board.suspend(|| 8u8).0, 8);
 }
 
-fn crosses<X: Send + Sync>(_bar: &X) {}
-
-#[test]
-fn a_bar_crosses_threads(rt: HostRuntime) {
-    let bar = alone(rt, rt.alloc(), "{pos}");
-    crosses(&bar);
-    let weak = bar.downgrade().expect(&rt, "granted");
-    crosses(&weak);
-}
-
 type Boxed = Box<dyn TermLike + Drop>;
 
 fn boxed_setup<R: Abort>(rt: &R, alloc: Global) -> Setup<Boxed, StepClock> {

@@ -13,12 +13,6 @@ use std::process::Abort;
 use std::sync::Wait;
 use std::thread::{Threads, join};
 
-type Bridge<R> = LogBridge<InMemoryTerm, StepClock, R>;
-
-fn bridge_over<R: Wait + Copy + Clone + Drop + Abort>(rt: R, board: &Shared<R>) -> Bridge<R> {
-    LogBridge::new((*board).clone().expect(&rt, "granted"))
-}
-
 fn warn_twice<L: Log>(rt: &L) {
     warn!(rt; "low disk");
     error!(rt; "a\nb");
@@ -31,7 +25,8 @@ fn records_stand_above_the_bars(rt: HostRuntime) {
     let bar = bar_on(&board, rt, rt.alloc(), "x");
     same!(rt; bar.tick(), Ok(Drawn::Yes));
     let before = counted(&board, Kind::Any);
-    warn_twice(&Logged::new(rt, Level::Trace, bridge_over(rt, &board)));
+    let bridge = LogBridge::new((*board).clone().expect(&rt, "granted"));
+    warn_twice(&Logged::new(rt, Level::Trace, bridge));
     same!(rt; counted(&board, Kind::Any).wrapping_sub(before), 2);
     same!(rt; counted(&board, Kind::Log("WARN  low disk")), 1);
     same!(rt; counted(&board, Kind::Log("ERROR a\nb")), 1);
@@ -69,7 +64,8 @@ fn two_threads_log_through_a_bridge(rt: HostRuntime) {
     let board = recorded(rt, rt.alloc());
     let one = bar_on(&board, rt, rt.alloc(), "one");
     let other = bar_on(&board, rt, rt.alloc(), "other");
-    let log = Logged::new(rt, Level::Info, bridge_over(rt, &board));
+    let bridge = LogBridge::new((*board).clone().expect(&rt, "granted"));
+    let log = Logged::new(rt, Level::Info, bridge);
     log_beside_ticks(&rt, &log, (&one, &other));
     same!(rt; counted(&board, Kind::Log("INFO  mine")), 20);
     same!(rt; counted(&board, Kind::Log("INFO  theirs")), 20);
@@ -85,25 +81,20 @@ fn log_each_level<L: Log>(rt: &L) {
     error!(rt; "e\nf");
 }
 
-/// A filter lets warnings and errors through; a record that is dropped isn't missed.
-#[test]
-fn a_filter_drops_records(rt: HostRuntime) {
-    let board = recorded(rt, rt.alloc());
-    let bridge = bridge_over(rt, &board).with_filter(LevelFilter::Warn);
+/// A filter lets warnings and errors through; how many records were missed.
+fn filtered<R: Wait + Copy + Clone + Drop + Abort>(rt: R, board: &Shared<R>) -> u64 {
+    let bridge = LogBridge::new(board.clone().expect(&rt, "granted")).with_filter(
+        LevelFilter::Warn,
+    );
     let log = Logged::new(rt, Level::Trace, bridge);
     log_each_level(&log);
-    same!(rt; counted(&board, Kind::Any), 2);
-    same!(rt; counted(&board, Kind::Log("WARN  w")), 1);
-    same!(rt; log.sink().missed(), 0);
+    log.sink().missed()
 }
 
 /// The level may stand before each line of a text.
-#[test]
-fn a_level_stands_on_each_line(rt: HostRuntime) {
-    let board = recorded(rt, rt.alloc());
-    let bridge = LogBridge::with_form((*board).clone().expect(&rt, "granted"), LevelOnEachLine);
+fn on_each_line<R: Wait + Copy + Clone + Drop + Abort>(rt: R, board: &Shared<R>) {
+    let bridge = LogBridge::with_form(board.clone().expect(&rt, "granted"), LevelOnEachLine);
     log_each_level(&Logged::new(rt, Level::Trace, bridge));
-    same!(rt; counted(&board, Kind::Log("ERROR e\nERROR f")), 1);
 }
 
 /// A line of a caller's own form: the text alone.
@@ -116,12 +107,23 @@ impl LineForm for TextAlone {
     }
 }
 
-#[test]
-fn a_line_has_a_form_of_the_callers(rt: HostRuntime) {
-    let board = recorded(rt, rt.alloc());
-    let bridge = LogBridge::with_form((*board).clone().expect(&rt, "granted"), TextAlone);
+fn in_own_form<R: Wait + Copy + Clone + Drop + Abort>(rt: R, board: &Shared<R>) {
+    let bridge = LogBridge::with_form(board.clone().expect(&rt, "granted"), TextAlone);
     log_each_level(&Logged::new(rt, Level::Trace, bridge));
+}
+
+/// A record that a filter drops isn't missed. A line has the form of its bridge.
+#[test]
+fn filters_and_forms(rt: HostRuntime) {
+    let board = recorded(rt, rt.alloc());
+    same!(rt; filtered(rt, &board), 0);
+    same!(rt; counted(&board, Kind::Any), 2);
+    same!(rt; counted(&board, Kind::Log("WARN  w")), 1);
+    on_each_line(rt, &board);
+    same!(rt; counted(&board, Kind::Log("ERROR e\nERROR f")), 1);
+    in_own_form(rt, &board);
     same!(rt; counted(&board, Kind::Log("e\nf")), 1);
+    same!(rt; counted(&board, Kind::Any), 8);
 }
 
 // ---- a terminal that fails

@@ -1,13 +1,13 @@
 //! Tests of the crate `indicatif` 0.18.6 that need code, each under its own name and with its own values: bars and boards that are
 //! shared, and what a bar wraps. Most others are rows; docs/DIFFERENCES.md has a table of all.
-use crate::fronts::{Bar, Shared, board_shows};
+use crate::fronts::{Bar, Led, Shared, board_shows};
 use indicatif::{
     InMemoryTerm, MaxRingBuf, Moves, MultiProgress, NoTracker, OwnedBar, ParallelProgressIterator,
     ProgressBar, ProgressBarIter, ProgressDrawTarget, ProgressIterator, ProgressStyle, Refusal,
     Setup, StepClock,
 };
 use std::alloc::Global;
-use std::io;
+use std::io::{self, Read, Write};
 use std::process::Abort;
 use std::sync::Wait;
 use std::thread::Threads;
@@ -25,6 +25,13 @@ pub fn setup<R: Abort>(rt: &R, alloc: Global) -> Setup<InMemoryTerm, StepClock> 
 /// A bar of this length that stands alone.
 fn bar_of<R: Wait + Copy + Clone + Drop + Abort>(rt: R, alloc: Global, len: u64) -> Bar<R> {
     ProgressBar::new(rt, alloc, len, setup(&rt, alloc)).expect(&rt, "granted")
+}
+
+/// The same for generic code to move.
+fn led_of<R: Wait + Copy + Clone + Drop + Abort>(rt: R, alloc: Global, len: u64) -> Led<R> {
+    Led {
+        bar: bar_of(rt, alloc, len),
+    }
 }
 
 /// A board on such a terminal.
@@ -70,6 +77,8 @@ fn crosses<X: Send + Sync>(_value: &X) {}
 fn progress_bar_sync_send(rt: HostRuntime) {
     let bar = bar_of(rt, rt.alloc(), 1);
     crosses(&bar);
+    let weak = bar.downgrade().expect(&rt, "granted");
+    crosses(&weak);
     let board = board_on(rt, rt.alloc());
     crosses(&board);
 }
@@ -174,7 +183,7 @@ fn it_can_wrap_an_iterator(rt: HostRuntime) {
     let style = percents(alloc).expect(&rt, "granted");
     let list = three(&rt, alloc).progress_with_style(alloc, style, setup(&rt, alloc));
     owned_doubles(&rt, alloc, list);
-    let mut list = three(&rt, alloc).progress_with(bar_of(rt, alloc, 3));
+    let mut list = three(&rt, alloc).progress_with(led_of(rt, alloc, 3));
     doubles(&rt, alloc, &mut list);
 }
 
@@ -195,7 +204,7 @@ fn it_can_wrap_a_parallel_iterator(rt: HostRuntime) {
     let items = items.as_slice();
     let list = items.progress_count(alloc, 3, setup(&rt, alloc));
     maps(&rt, alloc, list.expect(&rt, "granted"));
-    maps(&rt, alloc, items.progress_with(bar_of(rt, alloc, 3)));
+    maps(&rt, alloc, items.progress_with(led_of(rt, alloc, 3)));
     let style = percents(alloc).expect(&rt, "granted");
     let list = items.progress_with_style(alloc, style, setup(&rt, alloc));
     maps(&rt, alloc, list.expect(&rt, "granted"));
@@ -204,35 +213,38 @@ fn it_can_wrap_a_parallel_iterator(rt: HostRuntime) {
 /// A text of 34 bytes.
 const READ: &str = "I am an implementation of io::Read";
 
-/// What a reader that a bar wraps gives.
-fn read<R: Wait + Copy + Clone + Drop + Abort>(rt: &R, alloc: Global, bar: &Bar<R>) -> Vec<u8> {
-    let wrapped = bar.wrap_read(READ.as_bytes()).expect(rt, "granted");
-    let mut reader = Box::new(alloc, wrapped).expect(rt, "granted");
+/// What a reader gives.
+fn read<R: Abort, I: Read>(rt: &R, alloc: Global, reader: &mut I) -> Vec<u8> {
     let mut writer = Vec::new(alloc);
-    io::copy(&mut *reader, &mut writer).expect(rt, "granted");
+    io::copy(reader, &mut writer).expect(rt, "granted");
     writer
 }
 
 #[test]
 fn it_can_wrap_a_reader(rt: HostRuntime) {
     let bar = bar_of(rt, rt.alloc(), 34);
-    same!(rt; read(&rt, rt.alloc(), &bar).as_slice(), READ.as_bytes());
+    let bytes = READ.as_bytes();
+    let mut wrapped = bar.wrap_read(bytes).expect(&rt, "granted");
+    same!(rt; read(&rt, rt.alloc(), &mut wrapped).as_slice(), bytes);
+    same!(rt; bar.position(), 34);
 }
 
 /// A text of 26 bytes.
 const TEXT_READ: &str = "implementation of io::Read";
 
-/// What a writer that a bar wraps has taken of that text.
-fn written<R: Wait + Copy + Clone + Drop + Abort>(rt: &R, alloc: Global, bar: &Bar<R>) -> Vec<u8> {
+/// Writes that text.
+fn write<R: Abort, O: Write>(rt: &R, writer: &mut O) {
     let mut reader = TEXT_READ.as_bytes();
-    let wrapped = bar.wrap_write(Vec::new(alloc)).expect(rt, "granted");
-    let mut writer = Box::new(alloc, wrapped).expect(rt, "granted");
-    io::copy(&mut reader, &mut *writer).expect(rt, "granted");
-    Box::into_inner(writer).into_inner().0
+    io::copy(&mut reader, writer).expect(rt, "granted");
 }
 
 #[test]
 fn it_can_wrap_a_writer(rt: HostRuntime) {
-    let bar = bar_of(rt, rt.alloc(), 26);
-    same!(rt; written(&rt, rt.alloc(), &bar).as_slice(), TEXT_READ.as_bytes());
+    let alloc = rt.alloc();
+    let bar = bar_of(rt, alloc, 26);
+    let mut wrapped = bar.wrap_write(Vec::new(alloc)).expect(&rt, "granted");
+    write(&rt, &mut wrapped);
+    let (written, _) = wrapped.into_inner();
+    same!(rt; written.as_slice(), TEXT_READ.as_bytes());
+    same!(rt; bar.position(), 26);
 }

@@ -1,7 +1,7 @@
 //! Bars that are shared, and the threads that count for them.
 ghost use Rattle.std.specs.Prelude.{◌≡◌};
 
-use crate::fronts::{Bar, bar_shows, setup};
+use crate::fronts::{Bar, bar_shows, led, setup};
 use crate::gates::Open;
 use indicatif::{
     BarWorker, Done, ParallelProgressIterator, ProgressBar, ProgressStyle, run_workers,
@@ -21,12 +21,12 @@ fn bar_at<R: Wait + Copy + Clone + Drop + Abort>(rt: R, alloc: Global, position:
 fn a_bar_absorbs_past_2_to_the_64(rt: HostRuntime) {
     let bar = bar_at(rt, rt.alloc(), u64::MAX - 1);
     let (done, worker) = bar.worker().expect(&rt, "granted");
-    let (mut first, mut second) = worker.split(&done).expect(&rt, "granted");
-    first.add(&done, 1);
-    second.add(&done, 2);
+    let (mut mine, mut theirs) = worker.split(&done).expect(&rt, "granted");
+    mine.add(&done, 1);
+    theirs.add(&done, 2);
     same!(rt; bar.position(), u64::MAX - 1);
-    let whole = first.join(second, &done);
-    holds!(rt; bar.absorb(done, whole).is_ok());
+    let whole = mine.join(theirs, &done);
+    bar.absorb(done, whole).expect(&rt, "granted");
     same!(rt; bar.position(), 1);
     holds!(rt; !bar.is_finished());
 }
@@ -84,9 +84,15 @@ fn pieces_over_a_shared_bar(rt: HostRuntime) {
     ]
     .expect(&rt, "granted");
     let bar = bar_at(rt, alloc, 0);
-    let double = |x: &u32| x.wrapping_mul(2);
-    let made = run_workers(&rt, alloc, pieces.as_slice(), double, &Open, &bar);
-    let made = made.expect(&rt, "granted");
+    let made = run_workers(
+        &rt,
+        alloc,
+        pieces.as_slice(),
+        |x: &u32| x.wrapping_mul(2),
+        &Open,
+        &bar,
+    )
+    .expect(&rt, "granted");
     same!(rt; made[0].as_slice(), [2, 4].as_slice());
     same!(rt; made[1].as_slice(), [6].as_slice());
     holds!(rt; made[2].is_empty());
@@ -95,13 +101,14 @@ fn pieces_over_a_shared_bar(rt: HostRuntime) {
 
 #[test]
 fn a_list_over_a_shared_bar(rt: HostRuntime) {
-    let bar = bar_at(rt, rt.alloc(), 0);
-    let items = [1u32, 2, 3];
-    let owner = bar.clone().expect(&rt, "granted");
-    let list = items.as_slice().progress_with(owner);
-    let (made, other) = list.map_collect(&rt, rt.alloc(), |x: &u32| x.wrapping_mul(2));
+    let alloc = rt.alloc();
+    let other = bar_at(rt, alloc, 0);
+    let bar = led(&rt, &other);
+    let numbers = [1u32, 2, 3];
+    let list = numbers.as_slice().progress_with(bar);
+    let (made, bar) = list.map_collect(&rt, alloc, |x: &u32| x.wrapping_mul(2));
     same!(rt; made.expect(&rt, "granted").as_slice(), [2, 4, 6].as_slice());
-    other.release();
-    same!(rt; bar.position(), 3);
-    holds!(rt; !bar.is_finished());
+    bar.bar.release();
+    same!(rt; other.position(), 3);
+    holds!(rt; !other.is_finished());
 }

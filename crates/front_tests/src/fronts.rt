@@ -2,15 +2,51 @@
 //! stands on such terminals. Their calls have no clauses, so that a test of many calls is proved call by call.
 use indicatif::style::Tracks;
 use indicatif::{
-    Clock, InMemoryTerm, MultiProgress, ProgressBar, ProgressDrawTarget, ProgressStyle, Refusal,
-    Setup, StepClock,
+    Clock, Drawn, InMemoryTerm, Move, Moves, MultiProgress, ProgressBar, ProgressDrawTarget,
+    ProgressStyle, Reading, Refusal, Setup, StepClock,
 };
 use std::alloc::Global;
+use std::ops::Deref;
 use std::process::Abort;
 use std::sync::Wait;
 
 /// A bar that is shared.
 pub type Bar<R> = ProgressBar<InMemoryTerm, StepClock, R>;
+
+/// A shared bar in a type of the tests' own, which moves as the bar does. Generic code that goes along with any bar is proved in a tenth of
+/// the time with it, since the prover compares an instance of a library's type by all that it owns.
+#[derive(Drop)]
+pub struct Led<R: Wait + Clone + Drop> {
+    pub bar: Bar<R>,
+}
+
+impl<R: Wait + Clone + Drop> Deref for Led<R> {
+    type Target = Bar<R>;
+
+    fn deref(&self) -> &Bar<R> {
+        &self.bar
+    }
+}
+
+impl<R: Wait + Clone + Drop> Moves for Led<R> {
+    fn make_move(&mut self, step: Move) -> Result<Drawn, Refusal> {
+        self.bar.make_move(step)
+    }
+
+    fn stops_within_blocks(&self) -> bool {
+        self.bar.stops_within_blocks()
+    }
+
+    fn reading(&self) -> Reading {
+        self.bar.reading()
+    }
+}
+
+/// Another owner of a bar.
+pub fn led<R: Wait + Copy + Clone + Drop + Abort>(rt: &R, bar: &Bar<R>) -> Led<R> {
+    let bar = bar.clone().expect(rt, "granted");
+    Led { bar }
+}
 
 /// A board that is shared.
 pub type Shared<R> = MultiProgress<InMemoryTerm, StepClock, R>;

@@ -66,31 +66,19 @@ fn files<R: Wait + Copy + Clone + Drop + Abort>(rt: R, alloc: Global) -> Keyed<R
     bar.with_message("files").expect(&rt, "granted")
 }
 
-/// It follows the position, whoever owns the bar, and stays at 0 past the end.
+/// It follows the position, whoever owns the bar, and stays at 0 past the end. Another thread moves the bar, and then the key with it. A style
+/// that is told later, and one that was read of the bar, have the key too.
 #[test]
 fn what_is_left(rt: HostRuntime) {
     let bar = files(rt, rt.alloc());
     let other = bar.clone().expect(&rt, "granted");
-    for (position, wanted) in [(0, "files 10"), (3, "files 7"), (12, "files 0")] {
+    for (position, wanted) in [(12, "files 0"), (3, "files 7"), (0, "files 10")] {
         holds!(rt; other.set_position(position).is_ok());
         bar_shows(&rt, &bar, wanted);
     }
-}
-
-/// Another thread moves the bar, and then the key with it.
-#[test]
-fn in_another_thread(rt: HostRuntime) {
-    let bar = files(rt, rt.alloc());
-    let other = bar.clone().expect(&rt, "granted");
     let moved = thread::spawn(&rt, move || other.inc(4)).expect(&rt, "granted");
     holds!(rt; moved.join(&rt).is_ok());
     bar_shows(&rt, &bar, "files 6");
-}
-
-/// A style that is told later, and one that was read of the bar, have the key too.
-#[test]
-fn another_style(rt: HostRuntime) {
-    let bar = files(rt, rt.alloc());
     let style = bar.style().expect(&rt, "granted");
     let style = style.template("{left} of 10").expect(&rt, "granted");
     holds!(rt; bar.set_style(style).is_ok());

@@ -1,5 +1,5 @@
 //! Lists in threads: the blocks that a bar goes on by, and what a bar that is shared shows within one.
-use crate::fronts::Bar;
+use crate::fronts::{Bar, led};
 use crate::gates::counts;
 use crate::stepped::bar_at;
 use indicatif::{
@@ -137,6 +137,11 @@ fn a_million_items(rt: HostRuntime) {
     same!(rt; bar.position, 1_000_000);
 }
 
+/// Counts an item as met.
+fn meet(times: &AtomicU64) {
+    times.fetch_add(1, Ordering::SeqCst);
+}
+
 /// Whether each of these counts is 1.
 fn are_met_once(counts: &[AtomicU64]) -> bool {
     for times in counts {
@@ -151,9 +156,7 @@ fn are_met_once(counts: &[AtomicU64]) -> bool {
 fn each_item_is_met_once(rt: HostRuntime) {
     let met = counts(&rt, rt.alloc(), 10_000);
     let list = met.as_slice().progress_with(bar_at(rt.alloc(), 0));
-    let (answer, bar) = list.for_each(&rt, |times: &AtomicU64| {
-        times.fetch_add(1, Ordering::SeqCst);
-    });
+    let (answer, bar) = list.for_each(&rt, |item: &AtomicU64| meet(item));
     same!(rt; answer, Ok(()));
     same!(rt; bar.steps.as_slice(), [4096, 4096, 1808].as_slice());
     holds!(rt; are_met_once(met.as_slice()));
@@ -273,8 +276,7 @@ fn sees_within<R: Wait + Clone + Drop>(bar: &Bar<R>) -> bool {
 fn a_shared_bar_moves_within_a_block(rt: HostRuntime) {
     let items = [0u8; 40];
     let bar = shared_bar(rt, rt.alloc());
-    let owner = bar.clone().expect(&rt, "granted");
-    let list = items.as_slice().progress_with(owner);
+    let list = items.as_slice().progress_with(led(&rt, &bar));
     let (seen, _owner) = list.map_collect(&rt, rt.alloc(), |_item: &u8| sees_within(&bar));
     holds!(rt; seen.expect(&rt, "granted").contains(&true));
     same!(rt; bar.position(), 40);

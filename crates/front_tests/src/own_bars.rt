@@ -19,27 +19,15 @@ fn doubles<R: Threads + Sync + Abort>(rt: &R, alloc: Global, list: Result<Owned<
     same!(rt; bar.reading().position, 3);
 }
 
+/// A bar of the list's length, one of another length, and one in a style of one's own.
 #[test]
-fn a_bar_of_the_lists_length(rt: HostRuntime) {
-    let items = [1u32, 2, 3];
-    let list = items
-        .as_slice()
-        .progress(rt.alloc(), setup(&rt, rt.alloc(), 20));
-    doubles(&rt, rt.alloc(), list);
-}
-
-#[test]
-fn a_bar_of_another_length(rt: HostRuntime) {
+fn lists_with_bars_of_their_own(rt: HostRuntime) {
     let items = [1u32, 2, 3];
     let items = items.as_slice();
+    let list = items.progress(rt.alloc(), setup(&rt, rt.alloc(), 20));
+    doubles(&rt, rt.alloc(), list);
     let list = items.progress_count(rt.alloc(), 5, setup(&rt, rt.alloc(), 20));
     doubles(&rt, rt.alloc(), list);
-}
-
-#[test]
-fn a_bar_in_a_style_of_ones_own(rt: HostRuntime) {
-    let items = [1u32, 2, 3];
-    let items = items.as_slice();
     let style = ProgressStyle::default_spinner(rt.alloc()).expect(&rt, "granted");
     let list = items.progress_with_style(rt.alloc(), style, setup(&rt, rt.alloc(), 20));
     doubles(&rt, rt.alloc(), list);

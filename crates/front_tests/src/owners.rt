@@ -60,17 +60,12 @@ fn drawn_and_dropped<R: Wait + Copy + Clone + Drop + Abort>(
     same!(rt; bar.set_position(3), Ok(Drawn::Yes));
 }
 
-/// So does an owner that is dropped.
+/// So does an owner that is dropped. Where it is to be cleared, its row goes.
 #[test]
 fn the_last_drop_finishes(rt: HostRuntime) {
     let bytes = no_bytes(&rt, rt.alloc());
     drawn_and_dropped(rt, rt.alloc(), &bytes, ProgressFinish::AndLeave);
     is_seen(&rt, rt.alloc(), &bytes, "10/10");
-}
-
-/// Where it is to be cleared, its row goes.
-#[test]
-fn the_last_drop_clears(rt: HostRuntime) {
     let bytes = no_bytes(&rt, rt.alloc());
     drawn_and_dropped(rt, rt.alloc(), &bytes, ProgressFinish::AndClear);
     is_seen(&rt, rt.alloc(), &bytes, "");

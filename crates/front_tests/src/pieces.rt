@@ -97,7 +97,7 @@ fn pieces_run_at_the_same_time(rt: HostRuntime) {
 }
 
 /// How many answers there are.
-fn count(made: &[Vec<u32>]) -> usize {
+fn answers_in(made: &[Vec<u32>]) -> usize {
     let mut answers = 0usize;
     for piece in made {
         answers = answers.wrapping_add(piece.len());
@@ -106,42 +106,34 @@ fn count(made: &[Vec<u32>]) -> usize {
 }
 
 /// So many pieces of so many items each, over a bar at 5: the bar is advanced once, by all of them.
-fn all_are_answered<R: Threads + Sync + Abort>(
-    rt: &R,
+fn all_are_answered<R: Copy + Threads + Sync + Abort>(
+    rt: R,
     alloc: Global,
-    pieces: &[Vec<u32>],
-    items: u64,
+    (count, items): (u32, u32),
 ) {
+    let pieces = pieces_of_ones(&rt, alloc, count, items);
     let mut bar = bar_at(alloc, 5);
-    let made = run_workers_with(rt, alloc, pieces, |x: &u32| *x, &Open, &mut bar);
-    let made = made.expect(rt, "granted");
-    same!(rt; count(made.as_slice()) as u64, items);
-    same!(rt; bar.steps.as_slice(), [items].as_slice());
-    same!(rt; bar.position, items.wrapping_add(5));
+    let made = run_workers_with(
+        &rt,
+        alloc,
+        pieces.as_slice(),
+        |x: &u32| x.wrapping_mul(2),
+        &Open,
+        &mut bar,
+    )
+    .expect(&rt, "granted");
+    let all = u64::from(count).wrapping_mul(u64::from(items));
+    same!(rt; answers_in(made.as_slice()) as u64, all);
+    same!(rt; bar.steps.as_slice(), [all].as_slice());
+    same!(rt; bar.position, all.wrapping_add(5));
 }
 
+/// One piece of one item; two of a thousand; seventy of three; and four of a million items in all.
 #[test]
-fn one_piece_of_one_item(rt: HostRuntime) {
-    let pieces = pieces_of_ones(&rt, rt.alloc(), 1, 1);
-    all_are_answered(&rt, rt.alloc(), pieces.as_slice(), 1);
-}
-
-#[test]
-fn two_pieces_of_a_thousand_items(rt: HostRuntime) {
-    let pieces = pieces_of_ones(&rt, rt.alloc(), 2, 1000);
-    all_are_answered(&rt, rt.alloc(), pieces.as_slice(), 2000);
-}
-
-#[test]
-fn seventy_pieces(rt: HostRuntime) {
-    let pieces = pieces_of_ones(&rt, rt.alloc(), 70, 3);
-    all_are_answered(&rt, rt.alloc(), pieces.as_slice(), 210);
-}
-
-#[test]
-fn four_pieces_of_a_million_items_in_all(rt: HostRuntime) {
-    let pieces = pieces_of_ones(&rt, rt.alloc(), 4, 250_000);
-    all_are_answered(&rt, rt.alloc(), pieces.as_slice(), 1_000_000);
+fn pieces_of_many_sizes(rt: HostRuntime) {
+    for sizes in [(1, 1), (2, 1000), (70, 3), (4, 250_000)] {
+        all_are_answered(rt, rt.alloc(), sizes);
+    }
 }
 
 /// Of six hundred pieces each runs once, and none of those behind the first 256 begins before these have begun.

@@ -2,10 +2,11 @@
 use crate::fronts::{Bar, Shared, bar_shows, board_shows, setup};
 use crate::ticking::{tick_off, ticks_on, waits};
 use indicatif::{
-    Drawn, InMemoryTerm, MultiProgress, ProgressBar, ProgressDrawTarget, ProgressFinish,
-    ProgressStyle, Refusal, Setup, StepClock,
+    Drawn, InMemoryTerm, MultiProgress, ProgressBar, ProgressBarIter, ProgressDrawTarget,
+    ProgressFinish, ProgressStyle, Refusal, Setup, StepClock,
 };
 use std::alloc::Global;
+use std::ops::Range;
 use std::process::Abort;
 use std::sync::Wait;
 use std::thread::{Threads, join};
@@ -51,26 +52,29 @@ fn a_board_makes_its_bars(rt: HostRuntime) {
     same!(rt; spinner.length(), None);
 }
 
+/// Tells the bar of a wrapper all that it can be told but its elapsed time.
+fn told<R: Wait + Clone + Drop>(
+    alloc: Global,
+    wrapped: ProgressBarIter<Range<u32>, Bar<R>>,
+) -> Result<ProgressBarIter<Range<u32>, Bar<R>>, Refusal> {
+    let style = ProgressStyle::with_template(alloc, "{prefix} {msg} {pos}")?;
+    wrapped
+        .with_style(style)?
+        .with_prefix("a")?
+        .with_message("b")?
+        .with_position(7)?
+        .with_finish(ProgressFinish::Abandon)
+}
+
 /// A wrapper's bar is told before it moves, and what is told is seen by its other owners.
 #[test]
 fn a_wrappers_bar_is_told(rt: HostRuntime) {
     let bar = bar_on(rt, rt.alloc());
-    let style = ProgressStyle::with_template(rt.alloc(), "{prefix} {msg} {pos}");
-    let mut wrapped = bar
-        .wrap_iter(0..3u32)
-        .expect(&rt, "granted")
-        .with_style(style.expect(&rt, "granted"))
-        .expect(&rt, "granted")
-        .with_prefix("a")
-        .expect(&rt, "granted")
-        .with_message("b")
-        .expect(&rt, "granted")
-        .with_position(7)
-        .expect(&rt, "granted")
-        .with_finish(ProgressFinish::Abandon)
-        .expect(&rt, "granted");
+    let items = 0..3u32;
+    let mut wrapped = bar.wrap_iter(items.into_iter()).expect(&rt, "granted");
+    let mut wrapped = told(rt.alloc(), wrapped).expect(&rt, "granted");
     same!(rt; bar.position(), 7);
-    for _ in &mut wrapped {}
+    while let Some(_item) = wrapped.next() {}
     same!(rt; bar.position(), 10);
     holds!(rt; bar.is_finished());
     bar_shows(&rt, &bar, "a b 10");

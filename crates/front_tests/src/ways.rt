@@ -16,7 +16,8 @@ fn begins_so<R: Wait + Copy + Clone + Drop + Abort>(
     bar_shows(&rt, bar, wanted);
 }
 
-/// A bar of so many fills its row: of ten columns, four are the text's. One without a length shows its position in place of that.
+/// A bar of so many fills its row: of ten columns, four are the text's. One without a length shows its position in place of that. The first
+/// text of a spinner is the crate's, and a message stands behind it.
 #[test]
 fn bars(rt: HostRuntime) {
     let alloc = rt.alloc();
@@ -24,30 +25,19 @@ fn bars(rt: HostRuntime) {
     begins_so(rt, &bar, Some(7), "░░░░░░ 0/7");
     let bar = ProgressBar::no_length(rt, alloc, setup(&rt, alloc, 10)).expect(&rt, "granted");
     begins_so(rt, &bar, None, "░░░░░░ 0/0");
-}
-
-#[test]
-fn bars_on_a_target(rt: HostRuntime) {
-    let alloc = rt.alloc();
-    for (len, wanted) in [(Some(7), "░░░░░░ 0/7"), (None, "░░░░░░ 0/0")] {
-        let Setup { target, clock } = setup(&rt, alloc, 10);
-        let bar = ProgressBar::with_draw_target(rt, alloc, len, target, clock);
-        begins_so(rt, &bar.expect(&rt, "granted"), len, wanted);
-    }
-}
-
-/// The first text of a spinner is the crate's, and a message stands behind it.
-#[test]
-fn a_spinner(rt: HostRuntime) {
-    let alloc = rt.alloc();
     let bar = ProgressBar::new_spinner(rt, alloc, setup(&rt, alloc, 10)).expect(&rt, "granted");
     let bar = bar.with_message("m").expect(&rt, "granted");
     begins_so(rt, &bar, None, "⠁ m");
 }
 
 #[test]
-fn a_bar_of_a_style(rt: HostRuntime) {
+fn bars_on_a_target_or_of_a_style(rt: HostRuntime) {
     let alloc = rt.alloc();
+    for (len, wanted) in [(Some(7), "░░░░░░ 0/7"), (None, "░░░░░░ 0/0")] {
+        let Setup { target, clock } = setup(&rt, alloc, 10);
+        let bar = ProgressBar::with_draw_target(rt, alloc, len, target, clock);
+        begins_so(rt, &bar.expect(&rt, "granted"), len, wanted);
+    }
     let style = ProgressStyle::with_template(alloc, "{pos} of {len}").expect(&rt, "granted");
     let bar = ProgressBar::styled(rt, alloc, style, Some(7), setup(&rt, alloc, 10));
     begins_so(rt, &bar.expect(&rt, "granted"), Some(7), "0 of 7");

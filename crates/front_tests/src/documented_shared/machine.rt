@@ -12,14 +12,10 @@ use std::thread::sleep;
 use std::time::Duration;
 
 #[test]
-fn a_clock_goes_on(rt: HostRuntime) {
+fn a_clock_and_facts(rt: HostRuntime) {
     let mut clock = MachineClock::new(rt);
     let opened = clock.now();
     holds!(rt; opened <= clock.now());
-}
-
-#[test]
-fn told_columns(rt: HostRuntime) {
     let mut facts = facts_of(&rt, &rt.stderr()).expect(&rt, "granted");
     facts.cols = 20;
     same!(rt; facts.cols, 20);
@@ -36,38 +32,22 @@ fn unnamed() -> Facts {
     }
 }
 
+/// Two letters, and what ends their row; a terminal without a name is hidden.
 #[test]
-fn an_unnamed_terminal_is_hidden(rt: HostRuntime) {
-    let facts = unnamed();
-    let setup: TerminalSetup<Stderr> = told_setup(&rt, rt.stderr(), facts).expect(&rt, "granted");
-    holds!(rt; setup.target.is_hidden());
-}
-
-#[test]
-fn unnamed_rows_of_its_own_are_hidden(rt: HostRuntime) {
-    let (writer, facts, now) = (Vec::new(rt.alloc()), unnamed(), 0);
-    let term = OwnRows::new(Term::new(writer, 24, 79));
-    let target = ProgressDrawTarget::term(term, facts, 20, now).expect(&rt, "granted");
-    holds!(rt; target.is_hidden());
-}
-
-/// Two letters, and what ends their row.
-#[test]
-fn bytes_of_a_line(rt: HostRuntime) {
+fn rows_of_their_own(rt: HostRuntime) {
+    let mut own = OwnRows::new(Term::new(Vec::new(rt.alloc()), 24, 79));
+    own.resize(50, 131).expect(&rt, "granted");
+    same!(rt; own.width(), 131);
     let writer: Vec<u8> = Vec::new(rt.alloc());
     let term = OwnRows::left_to_terminal(Term::new(writer, 24, 80));
     let mut own = term;
     own.write_line("ab").expect(&rt, "granted");
     let writer = own.term().writer();
     same!(rt; writer.len(), 4);
-}
-
-#[test]
-fn columns_told_anew(rt: HostRuntime) {
-    let writer: Vec<u8> = Vec::new(rt.alloc());
-    let mut own = OwnRows::new(Term::new(writer, 24, 79));
-    own.resize(50, 131).expect(&rt, "granted");
-    same!(rt; own.width(), 131);
+    let (writer, facts, now) = (Vec::new(rt.alloc()), unnamed(), 0);
+    let term = OwnRows::new(Term::new(writer, 24, 79));
+    let target = ProgressDrawTarget::term(term, facts, 20, now).expect(&rt, "granted");
+    holds!(rt; target.is_hidden());
 }
 
 /// How many bytes the last spinner text of a style has: it is a space.
@@ -76,8 +56,8 @@ fn last_spinner(style: &ProgressStyle<NoTracker>) -> usize {
 }
 
 #[test]
-fn a_style_with_colours(rt: HostRuntime) {
-    let style: ProgressStyle<NoTracker> = ProgressStyle::default_spinner(rt.alloc()).expect(
+fn a_style_for_standard_error(rt: HostRuntime) {
+    let style = style_on_stderr(&rt, "[{bar:40.cyan/blue}] {pos}/{len} {msg}").expect(
         &rt, "granted",
     );
     let style = style
@@ -86,24 +66,16 @@ fn a_style_with_colours(rt: HostRuntime) {
     same!(rt; last_spinner(&style), 1);
 }
 
-#[test]
-fn a_style_for_standard_error(rt: HostRuntime) {
-    let style = style_on_stderr(&rt, "[{bar:40.cyan/blue}] {pos}/{len} {msg}").expect(
-        &rt, "granted",
-    );
-    same!(rt; last_spinner(&style), 1);
-}
-
+/// A bar that isn't shared, by what is told of a terminal without a name, and by what the machine tells.
 #[test]
 fn a_lone_bar_on_standard_error(rt: HostRuntime) {
+    let facts = unnamed();
+    let setup: TerminalSetup<Stderr> = told_setup(&rt, rt.stderr(), facts).expect(&rt, "granted");
+    holds!(rt; setup.target.is_hidden());
     let bar = BarState::<NoTracker>::new(rt.alloc(), Some(3), 0).expect(&rt, "granted");
     let setup: StreamSetup<Stderr> = on_stderr(&rt).expect(&rt, "granted");
     let bar = LoneBar::new(bar, setup.target);
     same!(rt; bar.bar().state().pos(), 0);
-}
-
-#[test]
-fn a_list_on_standard_error(rt: HostRuntime) {
     let list = vec![in rt.alloc(); 7u64].expect(&rt, "granted");
     let mut wrapped = list
         .into_iter()
@@ -133,17 +105,14 @@ pub fn shown<R: Shares>(
     !bar.is_hidden()
 }
 
+/// A bar that goes on by three, and a board whose terminal gets another size.
 #[test]
-fn a_shared_bar_on_standard_error(rt: HostRuntime) {
+fn shared_bars_on_standard_error(rt: HostRuntime) {
     let setup = on_stderr(&rt).expect(&rt, "granted");
     let bar = ProgressBar::new(rt, rt.alloc(), 3, setup).expect(&rt, "granted");
     holds!(rt; copy(&bar).is_ok());
     work(&rt, &bar, 2).expect(&rt, "granted");
     same!(rt; bar.position(), 3);
-}
-
-#[test]
-fn a_board_of_another_size(rt: HostRuntime) {
     let setup = on_stderr(&rt).expect(&rt, "granted");
     let board = MultiProgress::new(rt, rt.alloc(), setup, 1).expect(&rt, "granted");
     board.clear().expect(&rt, "granted");
