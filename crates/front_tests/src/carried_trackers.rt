@@ -9,9 +9,9 @@ use std::process::Abort;
 
 /// Tells this text.
 #[derive(Drop)]
-struct Says {
-    alloc: Global,
-    text: &'static str,
+pub struct Says {
+    pub alloc: Global,
+    pub text: &'static str,
 }
 
 impl TellsText for Says {
@@ -22,7 +22,8 @@ impl TellsText for Says {
     }
 }
 
-type Telling = FnTracker<Says>;
+/// A key that tells it.
+pub type Telling = FnTracker<Says>;
 
 type Look = ProgressStyle<Telling>;
 

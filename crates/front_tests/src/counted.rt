@@ -1,7 +1,7 @@
 //! Bars that are shared, and the threads that count for them.
 ghost use Rattle.std.specs.Prelude.{◌≡◌};
 
-use crate::fronts::{Bar, bar_shows, led, setup};
+use crate::fronts::{Bar, another_of, bar_shows, setup};
 use crate::gates::Open;
 use indicatif::{
     BarWorker, Done, ParallelProgressIterator, ProgressBar, ProgressStyle, run_workers,
@@ -103,7 +103,7 @@ fn pieces_over_a_shared_bar(rt: HostRuntime) {
 fn a_list_over_a_shared_bar(rt: HostRuntime) {
     let alloc = rt.alloc();
     let other = bar_at(rt, alloc, 0);
-    let bar = led(&rt, &other);
+    let bar = another_of(&rt, &other);
     let numbers = [1u32, 2, 3];
     let list = numbers.as_slice().progress_with(bar);
     let (made, bar) = list.map_collect(&rt, alloc, |x: &u32| x.wrapping_mul(2));

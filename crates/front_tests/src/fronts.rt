@@ -43,7 +43,7 @@ impl<R: Wait + Clone + Drop> Moves for Led<R> {
 }
 
 /// Another owner of a bar.
-pub fn led<R: Wait + Copy + Clone + Drop + Abort>(rt: &R, bar: &Bar<R>) -> Led<R> {
+pub fn another_of<R: Wait + Copy + Clone + Drop + Abort>(rt: &R, bar: &Bar<R>) -> Led<R> {
     let bar = bar.clone().expect(rt, "granted");
     Led { bar }
 }

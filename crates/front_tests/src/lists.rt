@@ -1,5 +1,5 @@
 //! Lists in threads: the blocks that a bar goes on by, and what a bar that is shared shows within one.
-use crate::fronts::{Bar, led};
+use crate::fronts::{Bar, another_of};
 use crate::gates::counts;
 use crate::stepped::bar_at;
 use indicatif::{
@@ -276,7 +276,7 @@ fn sees_within<R: Wait + Clone + Drop>(bar: &Bar<R>) -> bool {
 fn a_shared_bar_moves_within_a_block(rt: HostRuntime) {
     let items = [0u8; 40];
     let bar = shared_bar(rt, rt.alloc());
-    let list = items.as_slice().progress_with(led(&rt, &bar));
+    let list = items.as_slice().progress_with(another_of(&rt, &bar));
     let (seen, _owner) = list.map_collect(&rt, rt.alloc(), |_item: &u8| sees_within(&bar));
     holds!(rt; seen.expect(&rt, "granted").contains(&true));
     same!(rt; bar.position(), 40);

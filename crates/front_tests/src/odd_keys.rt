@@ -1,32 +1,14 @@
 //! Keys of the tests' own that write what no line holds, on a board that threads share and that keeps its history.
-ghost use Rattle.std.specs.Prelude.{codes};
-
+use crate::carried_trackers::{Says, Telling};
 use crate::fronts::{contents, setup, target};
 use crate::recordings::answers_so;
 use indicatif::{
-    Board, Drawn, FnTracker, InMemoryTerm, Moment, MultiProgress, ProgressBar, ProgressState,
-    ProgressStyle, RecordReader, Recorded, Refusal, StepClock, TellsText,
+    Board, Drawn, FnTracker, InMemoryTerm, MultiProgress, ProgressBar, ProgressStyle, RecordReader,
+    Recorded, StepClock,
 };
 use std::alloc::Global;
 use std::process::Abort;
 use std::sync::Wait;
-
-/// Tells this text.
-#[derive(Drop)]
-struct Says {
-    alloc: Global,
-    text: &'static str,
-}
-
-impl TellsText for Says {
-    ghost told_text = { λ says p now. says.text.now };
-
-    fn tell(&self, _state: &ProgressState, _now: Moment) -> Result<String, Refusal> {
-        Ok(String::from_str(self.alloc, self.text)?)
-    }
-}
-
-type Telling = FnTracker<Says>;
 
 type Bar<R> = ProgressBar<InMemoryTerm, StepClock, R, Telling>;
 
