@@ -97,7 +97,10 @@ impl<'a> Words<'a> {
 
     /// The next word.
     pub fn word(&mut self) -> &'a str {
-        let (word, rest) = self.rest.split_once(self.parting).unwrap_or((self.rest, ""));
+        let (word, rest) = self
+            .rest
+            .split_once(self.parting)
+            .unwrap_or((self.rest, ""));
         self.rest = rest;
         word
     }
