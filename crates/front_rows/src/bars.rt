@@ -2,17 +2,79 @@
 use crate::clock::RowClock;
 use indicatif::{
     InMemoryTerm, Moment, MultiProgress, NoTracker, ProgressBar, ProgressDrawTarget, ProgressStyle,
-    Refusal, Setup,
+    Refusal, Setup, WeakProgressBar,
 };
 use scripts::got::{Bad, Got};
 use std::alloc::Global;
 use std::sync::Wait;
 
-/// A bar that is shared.
-pub type Bar<R> = ProgressBar<InMemoryTerm, RowClock, R>;
+/// A bar that is shared, as `indicatif` has it.
+pub type Front<R> = ProgressBar<InMemoryTerm, RowClock, R>;
 
-/// A board that is shared.
-pub type Shared<R> = MultiProgress<InMemoryTerm, RowClock, R>;
+/// An owner of such a bar. This is a type of its own, since what is generic (a list, a box, a `Result`) costs the prover much less over it.
+#[derive(Drop)]
+pub struct Bar<R: Wait + Copy + Clone + Drop>(pub Front<R>);
+
+/// What comes of a call that gives an owner.
+pub type Given<R> = Result<Front<R>, Refusal>;
+
+impl<R: Wait + Copy + Clone + Drop> Bar<R> {
+    /// The owner that came of a call.
+    pub fn given(given: Given<R>) -> Result<Bar<R>, Bad> {
+        match given {
+            Ok(bar) => Ok(Bar(bar)),
+            Err(refusal) => Err(Bad::Refused(refusal)),
+        }
+    }
+
+    /// Another owner.
+    pub fn other(&self) -> Result<Bar<R>, Bad> {
+        let other: Result<_, _> = self.0.clone();
+        match other {
+            Ok(bar) => Ok(Bar(bar)),
+            Err(_) => Err(Bad::Refused(Refusal::Memory)),
+        }
+    }
+}
+
+/// A bar without an owner.
+#[derive(Drop)]
+pub struct Weak<R: Wait + Copy + Clone + Drop>(WeakProgressBar<InMemoryTerm, RowClock, R>);
+
+impl<R: Wait + Copy + Clone + Drop> Weak<R> {
+    /// Of no bar.
+    pub fn never() -> Weak<R> {
+        Weak(WeakProgressBar::new())
+    }
+
+    /// A copy of that of this bar.
+    pub fn of(bar: &Front<R>) -> Result<Weak<R>, Bad> {
+        let Ok(weak) = bar.downgrade() else {
+            return Err(Bad::Refused(Refusal::Memory));
+        };
+        let copy: Result<_, _> = weak.clone();
+        match copy {
+            Ok(weak) => Ok(Weak(weak)),
+            Err(_) => Err(Bad::Refused(Refusal::Memory)),
+        }
+    }
+
+    /// An owner, if there are owners.
+    pub fn upgrade(&self) -> Result<Option<Bar<R>>, Bad> {
+        match self.0.upgrade() {
+            Ok(Some(bar)) => Ok(Some(Bar(bar))),
+            Ok(None) => Ok(None),
+            Err(_) => Err(Bad::Refused(Refusal::Memory)),
+        }
+    }
+}
+
+/// A board that is shared, as `indicatif` has it.
+pub type FrontBoard<R> = MultiProgress<InMemoryTerm, RowClock, R>;
+
+/// The same as a type of its own.
+#[derive(Drop)]
+pub struct Shared<R: Wait + Copy + Clone + Drop>(pub FrontBoard<R>);
 
 /// What is drawn on.
 pub type Target = ProgressDrawTarget<InMemoryTerm>;
@@ -61,40 +123,44 @@ pub struct Maker<R> {
 }
 
 impl<R: Wait + Copy + Clone + Drop> Maker<R> {
-    /// A board of this id that keeps no history.
-    pub fn board(&self, board_id: u64) -> Result<Shared<R>, Refusal> {
-        let setup = self.room.setup(self.alloc)?;
-        MultiProgress::new(self.rt, self.alloc, setup, board_id)
-    }
-
-    /// A board of this id that keeps its history.
-    pub fn recorded(&self, board_id: u64) -> Result<Shared<R>, Refusal> {
-        let target = self.room.target(self.alloc)?;
-        MultiProgress::recorded(self.rt, self.alloc, target, self.room.clock, board_id)
-    }
-
-    /// A bar of this length in the style of a template.
-    pub fn bar(&self, len: Option<u64>, template: &str) -> Result<Bar<R>, Refusal> {
-        let style = ProgressStyle::with_template(self.alloc, template)?;
-        self.plain(len)?.with_style(style)
-    }
-
-    fn plain(&self, len: Option<u64>) -> Result<Bar<R>, Refusal> {
-        let setup = self.room.setup(self.alloc)?;
-        match len {
-            Some(len) => ProgressBar::new(self.rt, self.alloc, len, setup),
-            None => ProgressBar::no_length(self.rt, self.alloc, setup),
+    /// A board of this id, which keeps its history if it is recorded.
+    pub fn board(&self, board_id: u64, is_recorded: bool) -> Result<Shared<R>, Bad> {
+        let Setup { target, clock } = self.room.setup(self.alloc)?;
+        let board = match is_recorded {
+            true => MultiProgress::recorded(self.rt, self.alloc, target, clock, board_id),
+            false => MultiProgress::new(self.rt, self.alloc, Setup { target, clock }, board_id),
+        };
+        match board {
+            Ok(board) => Ok(Shared(board)),
+            Err(refusal) => Err(Bad::Refused(refusal)),
         }
     }
 
+    /// A bar of this length in the style of a template.
+    pub fn bar(&self, len: Option<u64>, template: &str) -> Result<Bar<R>, Bad> {
+        let style = ProgressStyle::with_template(self.alloc, template)?;
+        let setup = self.room.setup(self.alloc)?;
+        let bar = match len {
+            Some(len) => ProgressBar::new(self.rt, self.alloc, len, setup),
+            None => ProgressBar::no_length(self.rt, self.alloc, setup),
+        };
+        Bar::given(match bar {
+            Ok(bar) => bar.with_style(style),
+            Err(refusal) => Err(refusal),
+        })
+    }
+
     /// A bar whose one line is its message, this text.
-    pub fn saying(&self, text: &str) -> Result<Bar<R>, Refusal> {
-        self.bar(None, "{msg}")?.with_message(text)
+    pub fn saying(&self, text: &str) -> Result<Bar<R>, Bad> {
+        match self.bar(None, "{msg}") {
+            Ok(bar) => Bar::given(bar.0.with_message(text)),
+            Err(bad) => Err(bad),
+        }
     }
 
     /// A bar that is hidden.
-    pub fn hidden(&self) -> Result<Bar<R>, Refusal> {
-        ProgressBar::hidden(self.rt, self.alloc, self.room.clock)
+    pub fn hidden(&self) -> Result<Bar<R>, Bad> {
+        Bar::given(ProgressBar::hidden(self.rt, self.alloc, self.room.clock))
     }
 }
 
@@ -103,30 +169,26 @@ pub fn spinner(alloc: Global, last: &str) -> Result<ProgressStyle<NoTracker>, Re
     ProgressStyle::with_template(alloc, "{spinner} {msg}")?.tick_strings(&["-", "+", last])
 }
 
-fn contents(term: Option<&InMemoryTerm>) -> Result<Option<String>, Refusal> {
+fn contents(term: Option<&InMemoryTerm>) -> Option<Result<String, Refusal>> {
     match term {
-        Some(term) => Ok(Some(term.contents()?)),
-        None => Ok(None),
+        Some(term) => Some(term.contents()),
+        None => None,
     }
 }
 
 /// What stands on a bar's terminal; `nothing` where it has none.
-pub fn push_bar<R: Wait + Copy + Clone + Drop>(bar: &Bar<R>, got: &mut Got) -> Result<(), Bad> {
+pub fn push_bar<R: Wait + Copy + Clone + Drop>(bar: &Front<R>, got: &mut Got) {
     push_contents(bar.with_term(contents), got)
 }
 
 /// The same of a board.
-pub fn push_board<R: Wait + Copy + Clone + Drop>(
-    board: &Shared<R>,
-    got: &mut Got,
-) -> Result<(), Bad> {
+pub fn push_board<R: Wait + Copy + Clone + Drop>(board: &FrontBoard<R>, got: &mut Got) {
     push_contents(board.with_term(contents), got)
 }
 
-fn push_contents(contents: Result<Option<String>, Refusal>, got: &mut Got) -> Result<(), Bad> {
-    match &contents? {
-        Some(text) => got.text(text.as_str()),
+fn push_contents(contents: Option<Result<String, Refusal>>, got: &mut Got) {
+    match contents {
+        Some(contents) => got.text_of(contents),
         None => got.text("nothing"),
     }
-    Ok(())
 }

@@ -17,7 +17,7 @@ use crate::scripted::{Scripted, kind_name, script_of};
 use futures::test::MockTask;
 use indicatif::{Moves, ProgressBarIter};
 use scripts::got::{Bad, Got};
-use scripts::row::next;
+use scripts::row::{Words, headed};
 use scripts::spelling::{number, unescaped};
 use std::alloc::Global;
 use std::io::{self, BufRead, Read, Seek, SeekFrom, Write};
@@ -62,72 +62,60 @@ pub fn begin<R: AllocGlobal + RandomSource>(
     alloc: Global,
     rest: &str,
 ) -> Result<Box<OverCounted>, Bad> {
-    let mut words = rest;
-    let position = number(next(&mut words))?;
-    let wrapped = ProgressBarIter::new(script_of(alloc, words)?, Counted::at(position));
+    let mut words = Words::of(rest);
+    let position = words.number();
+    let position = words.done(position)?;
+    let wrapped = ProgressBarIter::new(script_of(alloc, words.rest())?, Counted::at(position));
     passed_over(rt, alloc, wrapped)
 }
 
 /// Makes a step, or looks at the bar.
-pub fn step(over: &mut OverCounted, step: &str, got: &mut Got) -> Result<(), Bad> {
+pub fn step(over: &mut OverCounted, step: &str, got: &mut Got) {
     let Some(wrapped) = &mut over.wrapped else {
-        return Err(Bad::Step);
+        return got.bad(Bad::Step);
     };
     let bar = &mut wrapped.progress;
-    match step.split_once(' ') {
-        Some(("place", place)) => bar.position = number(place)?,
-        _ => match step {
-            "finished" => got.flag(bar.finished),
-            "pos" => got.number(bar.position),
-            "stands" => bar.push(got),
-            _ => return asks(over, step, got),
+    match (step, step.split_once(' ')) {
+        (_, Some(("place", place))) => match number(place) {
+            Ok(place) => bar.position = place,
+            Err(bad) => got.bad(bad),
         },
+        ("finished", _) => got.flag(bar.finished),
+        ("pos", _) => got.number(bar.position),
+        ("stands", _) => bar.push(got),
+        _ => asks(over, step, got),
     }
-    Ok(())
 }
 
 /// Asks what is wrapped.
-pub fn asks<P: Moves + Drop>(over: &mut Over<P>, step: &str, got: &mut Got) -> Result<(), Bad> {
-    if step == "written" {
-        return unwraps(over, got);
+pub fn asks<P: Moves + Drop>(over: &mut Over<P>, step: &str, got: &mut Got) {
+    match (step, step.split_once(' ')) {
+        ("written", _) => unwraps(over, got),
+        (_, Some(("write" | "write_all" | "poll_write", text))) => {
+            match unescaped(over.alloc, text) {
+                Ok(text) => writes(over, (step, text.as_bytes()), got),
+                Err(bad) => got.bad(bad),
+            }
+        }
+        (_, Some(("seek", to))) => seeks(over, to, got),
+        (_, Some((name, count))) => match number(count) {
+            Ok(count) => counts(over, (name, count), got),
+            Err(bad) => got.bad(bad),
+        },
+        (_, None) => bare(over, step, got),
     }
-    let Over {
-        wrapped,
-        room,
-        task,
-        alloc,
-    } = over;
-    let Some(wrapped) = wrapped else {
-        return Err(Bad::Step);
-    };
-    match step.split_once(' ') {
-        Some(("room", count)) => {
-            got.bytes(room.get(..number::<usize>(count)?).ok_or(Bad::Step)?);
-        }
-        Some(("read" | "read_exact" | "poll_read", count)) => {
-            let room = room.get_mut(..number::<usize>(count)?).ok_or(Bad::Step)?;
-            reads(wrapped, task, (step, room), got);
-        }
-        Some(("write" | "write_all" | "poll_write", text)) => {
-            let text = unescaped(*alloc, text)?;
-            writes(wrapped, task, (step, text.as_bytes()), got);
-        }
-        Some(("seek", to)) => push_number(wrapped.seek(seek_of(to)?), got),
-        Some((name, count)) => counts(wrapped, task, (name, number(count)?), got)?,
-        None => bare(wrapped, task, (step, *alloc), got)?,
-    }
-    Ok(())
 }
 
 /// Unwraps, and shows what was written.
-fn unwraps<P: Moves + Drop>(over: &mut Over<P>, got: &mut Got) -> Result<(), Bad> {
-    let Some(wrapped) = over.wrapped.take() else {
-        return Err(Bad::Step);
-    };
-    let (inner, bar) = wrapped.into_inner();
-    drop(bar);
-    got.bytes(inner.written());
-    Ok(())
+fn unwraps<P: Moves + Drop>(over: &mut Over<P>, got: &mut Got) {
+    match over.wrapped.take() {
+        Some(wrapped) => {
+            let (inner, bar) = wrapped.into_inner();
+            drop(bar);
+            got.bytes(inner.written());
+        }
+        None => got.bad(Bad::Step),
+    }
 }
 
 // ---- what came
@@ -158,74 +146,70 @@ pub fn push_done(done: io::Result<()>, got: &mut Got) {
 
 // ---- calls
 
-fn reads<P: Moves + Drop>(
-    wrapped: &mut Wrapped<P>,
-    task: &MockTask,
-    (step, room): (&str, &mut [u8]),
-    got: &mut Got,
-) {
-    if step.starts_with("poll") {
-        poll(wrapped, task, Asked::Read(room), got);
-    } else if step.starts_with("read_exact") {
-        match wrapped.read_exact(room) {
-            Ok(()) => got.bytes(room),
-            Err(e) => got.text(kind_name(e.kind())),
-        }
-    } else {
-        let read = wrapped.read(room);
-        push_read(read, room, got);
+fn writes<P: Moves + Drop>(over: &mut Over<P>, (step, bytes): (&str, &[u8]), got: &mut Got) {
+    let Some(wrapped) = &mut over.wrapped else {
+        return got.bad(Bad::Step);
+    };
+    match headed(step).0 {
+        "write" => push_number(wrapped.write(bytes), got),
+        "write_all" => push_done(wrapped.write_all(bytes), got),
+        _ => poll(wrapped, &over.task, Asked::Write(bytes), got),
     }
 }
 
-fn writes<P: Moves + Drop>(
-    wrapped: &mut Wrapped<P>,
-    task: &MockTask,
-    (step, bytes): (&str, &[u8]),
-    got: &mut Got,
-) {
-    if step.starts_with("poll") {
-        poll(wrapped, task, Asked::Write(bytes), got);
-    } else if step.starts_with("write_all") {
-        push_done(wrapped.write_all(bytes), got);
-    } else {
-        push_number(wrapped.write(bytes), got);
+fn seeks<P: Moves + Drop>(over: &mut Over<P>, to: &str, got: &mut Got) {
+    match (&mut over.wrapped, seek_of(to)) {
+        (Some(wrapped), Ok(to)) => push_number(wrapped.seek(to), got),
+        (None, _) => got.bad(Bad::Step),
+        (_, Err(bad)) => got.bad(bad),
     }
 }
 
 fn seek_of(to: &str) -> Result<SeekFrom, Bad> {
-    match to.split_once(' ') {
-        Some(("start", place)) => Ok(SeekFrom::Start(number(place)?)),
-        Some(("end", place)) => Ok(SeekFrom::End(number(place)?)),
-        Some(("current", place)) => Ok(SeekFrom::Current(number(place)?)),
+    let (name, place) = headed(to);
+    match name {
+        "start" => Ok(SeekFrom::Start(number(place)?)),
+        "end" => Ok(SeekFrom::End(number(place)?)),
+        "current" => Ok(SeekFrom::Current(number(place)?)),
         _ => Err(Bad::Step),
     }
 }
 
-fn counts<P: Moves + Drop>(
-    wrapped: &mut Wrapped<P>,
-    task: &MockTask,
-    (name, count): (&str, usize),
-    got: &mut Got,
-) -> Result<(), Bad> {
-    match name {
-        "consume" => wrapped.consume(count),
-        "drain" => drain(wrapped, count, got),
-        "poll_next" => nexts(wrapped, task, count, got),
-        _ => return Err(Bad::Step),
+/// A call with a number: a read into the front of the room, or so many.
+fn counts<P: Moves + Drop>(over: &mut Over<P>, (name, count): (&str, usize), got: &mut Got) {
+    let Some(wrapped) = &mut over.wrapped else {
+        return got.bad(Bad::Step);
+    };
+    match (name, over.room.get_mut(..count)) {
+        ("consume", _) => wrapped.consume(count),
+        ("drain", _) => drain(wrapped, count, got),
+        ("poll_next", _) => nexts(wrapped, &over.task, count, got),
+        ("room", Some(room)) => got.bytes(room),
+        ("read", Some(room)) => {
+            let read = wrapped.read(room);
+            push_read(read, room, got);
+        }
+        ("read_exact", Some(room)) => match wrapped.read_exact(room) {
+            Ok(()) => got.bytes(room),
+            Err(e) => got.text(kind_name(e.kind())),
+        },
+        ("poll_read", Some(room)) => poll(wrapped, &over.task, Asked::Read(room), got),
+        _ => got.bad(Bad::Step),
     }
-    Ok(())
 }
 
-fn bare<P: Moves + Drop>(
-    wrapped: &mut Wrapped<P>,
-    task: &MockTask,
-    (name, alloc): (&str, Global),
-    got: &mut Got,
-) -> Result<(), Bad> {
+fn bare<P: Moves + Drop>(over: &mut Over<P>, name: &str, got: &mut Got) {
+    let Some(wrapped) = &mut over.wrapped else {
+        return got.bad(Bad::Step);
+    };
+    let task = &over.task;
     match name {
         "position" => push_number(wrapped.stream_position(), got),
         "flush" => push_done(wrapped.flush(), got),
-        "fill_buf" => fill_buf(wrapped, got),
+        "fill_buf" => match wrapped.fill_buf() {
+            Ok(bytes) => got.bytes(bytes),
+            Err(e) => got.text(kind_name(e.kind())),
+        },
         "next" => push_item(Iterator::next(wrapped), got),
         "last" => match wrapped.last_draw() {
             Some(drawn) => got.answer(drawn),
@@ -234,9 +218,8 @@ fn bare<P: Moves + Drop>(
         "poll_next" => poll(wrapped, task, Asked::Next, got),
         "poll_flush" => poll(wrapped, task, Asked::Flush, got),
         "poll_shutdown" => poll(wrapped, task, Asked::ShutDown, got),
-        _ => return to_end(wrapped, alloc, name, got),
+        _ => to_end(wrapped, over.alloc, name, got),
     }
-    Ok(())
 }
 
 /// Appends an item, or `end`.
@@ -247,48 +230,20 @@ pub fn push_item(item: Option<u8>, got: &mut Got) {
     }
 }
 
-fn fill_buf<P: Moves + Drop>(wrapped: &mut Wrapped<P>, got: &mut Got) {
-    match wrapped.fill_buf() {
-        Ok(bytes) => got.bytes(bytes),
-        Err(e) => got.text(kind_name(e.kind())),
-    }
-}
-
 /// All that is left, or a line of it.
-fn to_end<P: Moves + Drop>(
-    wrapped: &mut Wrapped<P>,
-    alloc: Global,
-    name: &str,
-    got: &mut Got,
-) -> Result<(), Bad> {
+fn to_end<P: Moves + Drop>(wrapped: &mut Wrapped<P>, alloc: Global, name: &str, got: &mut Got) {
     let mut text = String::new(alloc);
     let mut bytes = Vec::new(alloc);
-    let count = match name {
-        "read_to_string" => wrapped.read_to_string(&mut text),
-        "read_line" => wrapped.read_line(&mut text),
-        "read_to_end" => wrapped.read_to_end(&mut bytes),
-        _ => return copy(wrapped, name, &mut bytes, got),
-    };
-    push_number(count, got);
+    match name {
+        "read_to_string" => push_number(wrapped.read_to_string(&mut text), got),
+        "read_line" => push_number(wrapped.read_line(&mut text), got),
+        "read_to_end" => push_number(wrapped.read_to_end(&mut bytes), got),
+        "copy" => push_number(io::copy(wrapped, &mut bytes), got),
+        _ => return got.bad(Bad::Step),
+    }
     got.text(" ");
     got.text(text.as_str());
     got.bytes(&bytes);
-    Ok(())
-}
-
-fn copy<P: Moves + Drop>(
-    wrapped: &mut Wrapped<P>,
-    name: &str,
-    to: &mut Vec<u8>,
-    got: &mut Got,
-) -> Result<(), Bad> {
-    if name != "copy" {
-        return Err(Bad::Step);
-    }
-    push_number(io::copy(wrapped, to), got);
-    got.text(" ");
-    got.bytes(to);
-    Ok(())
 }
 
 /// Reads of so many bytes until none come: how many reads gave any, and how many bytes, each the next of 0, 1, 2 and so on, modulo

@@ -1,8 +1,6 @@
 //! What clocks tell bars and boards: moments that a row says, also such as go back, and behind them steps.
 use indicatif::{Clock, Moment, StepClock};
-use scripts::got::Bad;
-use scripts::row::next;
-use scripts::spelling::number;
+use scripts::row::Words;
 
 /// So many readings of a clock at one moment.
 #[derive(Clone, Copy, Default, Drop)]
@@ -44,14 +42,13 @@ impl Clock for RowClock {
 }
 
 /// The readings that words say: how many, and the moment, of each.
-pub fn moments_of(words: &str) -> Result<Told, Bad> {
-    let mut words = words;
+pub fn moments_of(words: &mut Words<'_>) -> Told {
     let mut told = [Readings::default(); 4];
     for readings in &mut told {
-        if !words.is_empty() {
-            readings.count = number(next(&mut words))?;
-            readings.moment = number(next(&mut words))?;
+        if !words.rest().is_empty() {
+            readings.count = words.number();
+            readings.moment = words.number();
         }
     }
-    Ok(told)
+    told
 }

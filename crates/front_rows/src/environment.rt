@@ -4,9 +4,9 @@
 //! same of a target of this size there. A stream that is no terminal has `not` in front of its variables.
 use indicatif::machine::{StreamTerm, facts_of, on_stream, sized_target, wants_colors};
 use indicatif::{Facts, ProgressDrawTarget, TermLike};
-use scripts::got::{Bad, Got};
-use scripts::row::next;
-use scripts::spelling::{number, unescaped_bytes};
+use scripts::got::Got;
+use scripts::row::Words;
+use scripts::spelling::unescaped_bytes;
 use std::alloc::Global;
 use std::env::{Env, FillError};
 use std::io::{self, ErrorKind, IsTerminal, Write};
@@ -107,49 +107,60 @@ impl Write for Stream {
 }
 
 /// Appends what an environment says.
-pub fn said(alloc: Global, rest: &str, got: &mut Got) -> Result<(), Bad> {
+pub fn said(alloc: Global, rest: &str, got: &mut Got) {
     let told = Told { words: rest, alloc };
-    let facts = facts_of(&(told, alloc), &Stream::of(alloc, rest))?;
-    push_facts(&facts, got);
-    Ok(())
+    match facts_of(&(told, alloc), &Stream::of(alloc, rest)) {
+        Ok(facts) => push_facts(&facts, got),
+        Err(error) => got.bad(error.into()),
+    }
 }
 
 /// Appends whether an environment wants colours.
-pub fn wants(alloc: Global, rest: &str, got: &mut Got) -> Result<(), Bad> {
+pub fn wants(alloc: Global, rest: &str, got: &mut Got) {
     let told = Told { words: rest, alloc };
-    got.flag(wants_colors(&(told, alloc), &Stream::of(alloc, rest))?);
-    Ok(())
+    match wants_colors(&(told, alloc), &Stream::of(alloc, rest)) {
+        Ok(colours) => got.flag(colours),
+        Err(error) => got.bad(error.into()),
+    }
 }
 
 /// Appends what bars are made with on a stream.
-pub fn opens(alloc: Global, rest: &str, got: &mut Got) -> Result<(), Bad> {
+pub fn opens(alloc: Global, rest: &str, got: &mut Got) {
     let told = Told { words: rest, alloc };
-    let setup = on_stream(&(told, alloc), Stream::of(alloc, rest))?;
-    push_target(setup.target, got);
-    Ok(())
+    match on_stream(&(told, alloc), Stream::of(alloc, rest)) {
+        Ok(setup) => push_target(setup.target, got),
+        Err(error) => got.bad(error.into()),
+    }
 }
 
 /// Appends what a target is on a stream that is told its size.
-pub fn sizes(alloc: Global, rest: &str, got: &mut Got) -> Result<(), Bad> {
-    let mut words = rest;
-    let rows = number(next(&mut words))?;
-    let cols = number(next(&mut words))?;
+pub fn sizes(alloc: Global, rest: &str, got: &mut Got) {
+    let mut words = Words::of(rest);
+    let (rows, cols) = (words.number(), words.number());
+    match words.done(words.rest()) {
+        Ok(words) => push_sized(alloc, words, (rows, cols), got),
+        Err(bad) => got.bad(bad),
+    }
+}
+
+fn push_sized(alloc: Global, words: &str, (rows, cols): (u16, u16), got: &mut Got) {
     let told = Told { words, alloc };
-    let stream = Stream::of(alloc, words);
-    push_target(sized_target(&(told, alloc), stream, rows, cols)?, got);
-    Ok(())
+    match sized_target(&(told, alloc), Stream::of(alloc, words), rows, cols) {
+        Ok(target) => push_target(target, got),
+        Err(error) => got.bad(error.into()),
+    }
 }
 
 /// Appends a target's size, and who ends full rows there.
 fn push_target(target: ProgressDrawTarget<StreamTerm<Stream>>, got: &mut Got) {
     match target.into_term() {
-        Some(term) => push_term(term, got),
+        Some(mut term) => push_term(&mut term, got),
         None => got.text("hidden"),
     }
 }
 
 /// Appends a terminal's size, and who ends its full rows.
-fn push_term(term: StreamTerm<Stream>, got: &mut Got) {
+fn push_term(term: &mut StreamTerm<Stream>, got: &mut Got) {
     got.number(term.height());
     got.text(" ");
     got.number(term.width());
@@ -161,8 +172,7 @@ fn push_term(term: StreamTerm<Stream>, got: &mut Got) {
 }
 
 /// Whether a drawing begins with an escape sequence: that turns the terminal's own wrap off.
-fn turns_wrap_off(term: StreamTerm<Stream>) -> io::Result<bool> {
-    let mut term = term;
+fn turns_wrap_off(term: &mut StreamTerm<Stream>) -> io::Result<bool> {
     term.write_str("a")?;
     term.flush()?;
     let written = &term.term().writer().get_ref().bytes;

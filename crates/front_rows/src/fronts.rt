@@ -23,26 +23,26 @@
 //! - `shows`, `hidden`, `order`, `adds`: what is seen of the board; the calls that its history has gained since it was last asked.
 //!   `adds OWNER: CALL`: a call, and what it adds. Behind them stands `!answer` where the last of them is kept with another answer than
 //!   was given, and `!run` where a fresh board that makes all that were kept gives another answer or shows something else.
-use crate::bars::{Bar, Maker, Pace, Room, Shared, push_board};
-use crate::bytes::{Over, Wrapped, asks, passed_over};
+use crate::bars::{Bar, Front, FrontBoard, Maker, Pace, Room, Shared, Target, Weak, push_board};
+use crate::bytes::{Over, asks, passed_over};
 use crate::clock::{RowClock, moments_of};
 use crate::history::{Answered, Look, Question, shown};
 use crate::readings::read;
 use crate::scripted::{Scripted, script_of};
 use crate::tell::{Told, tell};
-use indicatif::{
-    Drawn, InMemoryTerm, MultiProgressAlignment, ProgressDrawTarget, Refusal, WeakProgressBar,
-};
+use indicatif::{Drawn, MultiProgressAlignment, ProgressDrawTarget, Refusal};
 use scripts::got::{Bad, Got};
-use scripts::row::{headed, next};
-use scripts::spelling::{flag, number, optional, unescaped};
+use scripts::row::{Words, headed};
+use scripts::spelling::{flag, number, unescaped};
 use std::alloc::Global;
 use std::random::RandomSource;
 use std::sync::Wait;
 use std::thread::{self, Threads};
 use std::time::{Clock, Duration};
 
-type Weak<R> = WeakProgressBar<InMemoryTerm, RowClock, R>;
+/// What a bar wraps, to be asked.
+#[derive(Drop)]
+struct Wrapped<R: Wait + Copy + Clone + Drop>(Box<Over<Front<R>>>);
 
 /// Boards and owners of bars.
 #[derive(Drop)]
@@ -52,26 +52,17 @@ pub struct Fronts<R: Wait + Copy + Clone + Drop> {
     on: usize,
     bars: Vec<Bar<R>>,
     weak: Weak<R>,
-    wrapped: Option<Box<Over<Bar<R>>>>,
+    wrapped: Option<Wrapped<R>>,
     looked_at: usize,
     answer: Answered,
     noted: u64,
 }
 
-/// The next two words as a size.
-pub fn size_of(words: &mut &str) -> Result<(u16, u16), Bad> {
-    let rows = number(next(words))?;
-    let cols = number(next(words))?;
-    Ok((rows, cols))
-}
-
 /// The next four words, `ROWS COLS FROM STEP`.
-pub fn room_of(words: &mut &str) -> Result<Room, Bad> {
-    let (rows, cols) = size_of(words)?;
-    let from = number(next(words))?;
-    let step = number(next(words))?;
-    let clock = RowClock::stepping(from, step);
-    Ok(Room {
+pub fn room_of(words: &mut Words<'_>) -> Result<Room, Bad> {
+    let (rows, cols) = (words.number(), words.number());
+    let clock = RowClock::stepping(words.number(), words.number());
+    words.done(Room {
         rows,
         cols,
         pace: None,
@@ -79,186 +70,262 @@ pub fn room_of(words: &mut &str) -> Result<Room, Bad> {
     })
 }
 
+/// Nothing as yet.
+pub fn begin<R: Wait + Copy + Clone + Drop>(
+    rt: R,
+    alloc: Global,
+    rest: &str,
+) -> Result<Box<Fronts<R>>, Bad> {
+    let room = room_of(&mut Words::of(rest))?;
+    let fronts = Fronts {
+        maker: Maker { rt, alloc, room },
+        boards: Vec::new(alloc),
+        on: 0,
+        bars: Vec::new(alloc),
+        weak: Weak::never(),
+        wrapped: None,
+        looked_at: 0,
+        answer: Answered::Untold,
+        noted: 0,
+    };
+    match Box::new(alloc, fronts) {
+        Ok(fronts) => Ok(fronts),
+        Err(_) => Err(Bad::Refused(Refusal::Memory)),
+    }
+}
+
 impl<R: Wait + Copy + Clone + Drop> Fronts<R> {
-    /// Nothing as yet.
-    pub fn begin(rt: R, alloc: Global, rest: &str) -> Result<Box<Fronts<R>>, Bad> {
-        let mut words = rest;
-        let room = room_of(&mut words)?;
-        let fronts = Fronts {
-            maker: Maker { rt, alloc, room },
-            boards: Vec::new(alloc),
-            on: 0,
-            bars: Vec::new(alloc),
-            weak: WeakProgressBar::new(),
-            wrapped: None,
-            looked_at: 0,
-            answer: Answered::Untold,
-            noted: 0,
+    /// The board that steps speak of.
+    fn board(&self) -> Option<&FrontBoard<R>> {
+        match self.boards.get(self.on) {
+            Some(board) => Some(&board.0),
+            None => None,
+        }
+    }
+
+    /// The owner of this number.
+    fn owner(&self, place: &str) -> Option<&Bar<R>> {
+        match number::<usize>(place) {
+            Ok(place) => self.bars.get(place),
+            Err(_) => None,
+        }
+    }
+
+    /// Its bar.
+    fn bar(&self, place: &str) -> Option<&Front<R>> {
+        match self.owner(place) {
+            Some(bar) => Some(&bar.0),
+            None => None,
+        }
+    }
+
+    /// Stores an owner that comes, or tells why none does.
+    fn store(&mut self, bar: Result<Bar<R>, Bad>, got: &mut Got) {
+        let stored = match bar {
+            Ok(bar) => match self.bars.push(bar) {
+                Ok(()) => Ok(()),
+                Err(_) => Err(Bad::Refused(Refusal::Memory)),
+            },
+            Err(bad) => Err(bad),
         };
-        Ok(Box::new(alloc, fronts)?)
-    }
-
-    fn board(&self) -> Result<&Shared<R>, Bad> {
-        self.boards.get(self.on).ok_or(Bad::Step)
-    }
-
-    fn bar(&self, place: &str) -> Result<&Bar<R>, Bad> {
-        self.bars.get(number::<usize>(place)?).ok_or(Bad::Step)
-    }
-
-    fn owner(&self, place: &str) -> Result<Bar<R>, Bad> {
-        Ok(self.bar(place)?.clone()?)
-    }
-
-    fn store(&mut self, bar: Bar<R>) -> Result<(), Bad> {
-        Ok(self.bars.push(bar)?)
+        if let Err(bad) = stored {
+            got.bad(bad);
+        }
     }
 
     // ---- steps: what one of these functions doesn't know it passes on to the next
 
-    /// Makes a step that asks neither for a wrapper nor for a ticker.
-    fn plays(&mut self, step: &str, got: &mut Got) -> Result<(), Bad> {
-        match step {
-            "shows" => push_board(self.board()?, got)?,
-            "hidden" => got.flag(self.board()?.is_hidden()),
-            "order" => {
-                shown(self.board()?, self.look(Question::Order), got);
-            }
-            "adds" => self.push_added(got)?,
-            "board" | "recorded" => self.begins(step == "recorded")?,
-            "release" => self.goes()?.release(),
-            "drop" => drop(self.goes()?),
-            "never" => self.weak = WeakProgressBar::new(),
-            "upgrades" => got.flag(self.weak.upgrade()?.is_some()),
-            _ => return self.sets(step, got),
+    /// Makes a step that asks neither for a wrapper nor for a bar's ticker.
+    fn play(&mut self, step: &str, got: &mut Got) {
+        match (step, step.split_once(' ')) {
+            ("board" | "recorded", _) => self.begins(step == "recorded", got),
+            ("release" | "drop", _) => self.goes(step == "release", got),
+            ("adds", _) => self.push_added(got),
+            ("never", _) => self.weak = Weak::never(),
+            ("upgrades", _) => match self.weak.upgrade() {
+                Ok(bar) => got.flag(bar.is_some()),
+                Err(bad) => got.bad(bad),
+            },
+            (_, Some(("rate" | "moments" | "on", _))) => self.sets(step, got),
+            (_, Some(("weak", place))) => match self.weak_of(place) {
+                Ok(weak) => self.weak = weak,
+                Err(bad) => got.bad(bad),
+            },
+            _ => match self.coming(step) {
+                Some(bar) => self.store(bar, got),
+                None => self.takes_in(step, got),
+            },
         }
-        Ok(())
     }
 
-    /// Sets what is made from now on, which board steps speak of, or which bar is the weak one.
-    fn sets(&mut self, step: &str, got: &mut Got) -> Result<(), Bad> {
-        match step.split_once(' ') {
-            Some(("rate", mut words)) => {
-                let hz = number(next(&mut words))?;
-                let made = number(next(&mut words))?;
-                self.maker.room.pace = Some(Pace { hz, made });
+    /// Sets what is made from now on, or which board steps speak of.
+    fn sets(&mut self, step: &str, got: &mut Got) {
+        let mut words = Words::of(step);
+        let mut room = self.maker.room;
+        let mut on = self.on;
+        match words.word() {
+            "rate" => {
+                room.pace = Some(Pace {
+                    hz: words.number(),
+                    made: words.number(),
+                });
             }
-            Some(("moments", words)) => self.maker.room.clock.told = moments_of(words)?,
-            Some(("on", board_id)) => self.on = number::<usize>(board_id)?.wrapping_sub(1),
-            Some(("weak", place)) => self.weak = self.bar(place)?.downgrade()?.clone()?,
-            _ => return self.comes(step, got),
+            "moments" => room.clock.told = moments_of(&mut words),
+            _ => on = words.last::<usize>().wrapping_sub(1),
         }
-        Ok(())
+        match words.done(()) {
+            Ok(()) => {
+                self.maker.room = room;
+                self.on = on;
+            }
+            Err(bad) => got.bad(bad),
+        }
     }
 
     // ---- boards and owners
 
     /// Another board, which keeps its history where it is recorded.
-    fn begins(&mut self, is_recorded: bool) -> Result<(), Bad> {
+    fn begins(&mut self, is_recorded: bool, got: &mut Got) {
         let count = self.boards.len();
         let board_id = (count as u64).wrapping_add(1);
-        let board = match is_recorded {
-            true => self.maker.recorded(board_id)?,
-            false => self.maker.board(board_id)?,
-        };
-        self.on = count;
-        Ok(self.boards.push(board)?)
-    }
-
-    /// A bar that stands alone, or another owner.
-    fn comes(&mut self, step: &str, got: &mut Got) -> Result<(), Bad> {
-        match self.coming(step)? {
-            Some(bar) => self.store(bar),
-            None => self.takes_in(step, got),
+        match self.maker.board(board_id, is_recorded) {
+            Ok(board) => {
+                self.on = count;
+                if self.boards.push(board).is_err() {
+                    got.bad(Bad::Refused(Refusal::Memory));
+                }
+            }
+            Err(bad) => got.bad(bad),
         }
     }
 
-    fn coming(&self, step: &str) -> Result<Option<Bar<R>>, Bad> {
-        Ok(Some(match step.split_once(' ') {
-            Some(("alone", text)) => self.maker.saying(text)?,
-            Some(("bar", rest)) => self.styled(rest)?,
-            Some(("own", place)) => self.owner(place)?,
-            _ => match step {
-                "hidden_bar" => self.maker.hidden()?,
-                "upgrade" => self.weak.upgrade()?.ok_or(Bad::Step)?,
-                _ => return Ok(None),
+    /// The last owner goes: it is given up, or dropped.
+    fn goes(&mut self, is_released: bool, got: &mut Got) {
+        self.answer = Answered::Untold;
+        match (self.bars.pop(), is_released) {
+            (Some(bar), true) => bar.0.release(),
+            (Some(bar), false) => drop(bar),
+            (None, _) => got.bad(Bad::Step),
+        }
+    }
+
+    fn weak_of(&self, place: &str) -> Result<Weak<R>, Bad> {
+        match self.bar(place) {
+            Some(bar) => Weak::of(bar),
+            None => Err(Bad::Step),
+        }
+    }
+
+    /// A bar that stands alone, or another owner, where the step asks for one.
+    fn coming(&self, step: &str) -> Option<Result<Bar<R>, Bad>> {
+        Some(match (step, step.split_once(' ')) {
+            ("hidden_bar", _) => self.maker.hidden(),
+            ("upgrade", _) => match self.weak.upgrade() {
+                Ok(Some(bar)) => Ok(bar),
+                Ok(None) => Err(Bad::Step),
+                Err(bad) => Err(bad),
             },
-        }))
+            (_, Some(("alone", text))) => self.maker.saying(text),
+            (_, Some(("bar", rest))) => self.styled(rest),
+            (_, Some(("own", place))) => self.another(place),
+            _ => return None,
+        })
     }
 
     fn styled(&self, rest: &str) -> Result<Bar<R>, Bad> {
-        let mut words = rest;
-        let len = optional(next(&mut words))?;
-        let template = unescaped(self.maker.alloc, words)?;
-        Ok(self.maker.bar(len, template.as_str())?)
+        let mut words = Words::of(rest);
+        let len = words.optional();
+        let template = words.text(self.maker.alloc)?;
+        self.maker.bar(len, template.as_str())
     }
 
-    /// The owner that goes.
-    fn goes(&mut self) -> Result<Bar<R>, Bad> {
-        self.answer = Answered::Untold;
-        self.last()
-    }
-
-    fn last(&mut self) -> Result<Bar<R>, Bad> {
-        self.bars.pop().ok_or(Bad::Step)
+    /// Another owner of the bar of this one.
+    fn another(&self, place: &str) -> Result<Bar<R>, Bad> {
+        match self.owner(place) {
+            Some(bar) => bar.other(),
+            None => Err(Bad::Step),
+        }
     }
 
     // ---- insertions
 
     /// A bar taken in.
-    fn takes_in(&mut self, step: &str, got: &mut Got) -> Result<(), Bad> {
-        let mut words = step;
-        let name = next(&mut words);
+    fn takes_in(&mut self, step: &str, got: &mut Got) {
+        let mut words = Words::of(step);
+        let name = words.word();
         let place = match name {
             "add" => "",
-            "insert" | "back" | "before" | "after" => next(&mut words),
+            "insert" | "back" | "before" | "after" => words.word(),
             _ => return self.settles(step, got),
         };
-        let bar = self.entrant(words)?;
-        let taken = self.taken(name, place, bar)?;
-        self.answer = Answered::Answer(Ok(Drawn::Limited));
-        self.store(taken)
+        let taken = match self.entrant(words.rest()) {
+            Ok(bar) => self.taken((name, place), bar),
+            Err(bad) => Err(bad),
+        };
+        if taken.is_ok() {
+            self.answer = Answered::Answer(Ok(Drawn::Limited));
+        }
+        self.store(taken, got);
     }
 
     /// The bar that a word says.
     fn entrant(&mut self, word: &str) -> Result<Bar<R>, Bad> {
-        if word == "<" {
-            return self.last();
-        }
-        match word.strip_prefix('=') {
-            Some(place) => self.owner(place),
-            None => Ok(self.maker.saying(word)?),
+        match (word, word.strip_prefix('=')) {
+            ("<", _) => match self.bars.pop() {
+                Some(bar) => Ok(bar),
+                None => Err(Bad::Step),
+            },
+            (_, Some(place)) => self.another(place),
+            (_, None) => self.maker.saying(word),
         }
     }
 
-    fn taken(&self, name: &str, place: &str, bar: Bar<R>) -> Result<Bar<R>, Bad> {
-        let board = self.board()?;
-        Ok(match name {
-            "insert" => board.insert(number(place)?, bar)?,
-            "back" => board.insert_from_back(number(place)?, bar)?,
-            "before" => board.insert_before(self.bar(place)?, bar)?,
-            "after" => board.insert_after(self.bar(place)?, bar)?,
-            _ => board.add(bar)?,
-        })
+    /// The owner that comes back from the board.
+    fn taken(&self, (name, place): (&str, &str), bar: Bar<R>) -> Result<Bar<R>, Bad> {
+        let Some(board) = self.board() else {
+            return Err(Bad::Step);
+        };
+        let given = match (name, number(place), self.bar(place)) {
+            ("insert", Ok(index), _) => board.insert(index, bar.0),
+            ("back", Ok(count), _) => board.insert_from_back(count, bar.0),
+            ("before", _, Some(anchor)) => board.insert_before(anchor, bar.0),
+            ("after", _, Some(anchor)) => board.insert_after(anchor, bar.0),
+            ("add", _, _) => board.add(bar.0),
+            _ => return Err(Bad::Step),
+        };
+        Bar::given(given)
     }
 
     // ---- calls of a board
 
     /// A call of the board that neither draws nor lends.
-    fn settles(&mut self, step: &str, got: &mut Got) -> Result<(), Bad> {
-        let answer = match step.split_once(' ') {
-            Some(("remove", place)) => self.board()?.remove(self.bar(place)?),
-            Some(("move", word)) => self.board()?.set_move_cursor(flag(word)?),
-            _ => match step {
-                "top" => self.board()?.set_alignment(MultiProgressAlignment::Top),
-                "bottom" => self.board()?.set_alignment(MultiProgressAlignment::Bottom),
-                "turn" => self.turn(self.maker.room.target(self.maker.alloc)?)?,
-                "hide" => self.turn(ProgressDrawTarget::hidden())?,
-                _ => return self.draws(step, got),
+    fn settles(&mut self, step: &str, got: &mut Got) {
+        let answer = match (self.board(), step, step.split_once(' ')) {
+            (Some(board), "top", _) => board.set_alignment(MultiProgressAlignment::Top),
+            (Some(board), "bottom", _) => board.set_alignment(MultiProgressAlignment::Bottom),
+            (Some(board), _, Some(("move", word))) => match flag(word) {
+                Ok(on) => board.set_move_cursor(on),
+                Err(bad) => return got.bad(bad),
             },
+            (Some(board), _, Some(("remove", place))) => match self.bar(place) {
+                Some(bar) => board.remove(bar),
+                None => return got.bad(Bad::Step),
+            },
+            (Some(board), "turn" | "hide", _) => match self.turned_to(step == "hide") {
+                Ok(target) => turn(board, target),
+                Err(refusal) => return got.bad(Bad::Refused(refusal)),
+            },
+            _ => return self.draws(step, got),
         };
         self.settled(answer, got);
-        Ok(())
+    }
+
+    /// Another target, or none.
+    fn turned_to(&self, is_hidden: bool) -> Result<Target, Refusal> {
+        match is_hidden {
+            true => Ok(ProgressDrawTarget::hidden()),
+            false => self.maker.room.target(self.maker.alloc),
+        }
     }
 
     fn settled(&mut self, answer: Result<(), Refusal>, got: &mut Got) {
@@ -274,68 +341,62 @@ impl<R: Wait + Copy + Clone + Drop> Fronts<R> {
         }
     }
 
-    /// A call of the board that draws.
-    fn draws(&mut self, step: &str, got: &mut Got) -> Result<(), Bad> {
-        let told = self.board_told(step)?;
-        self.answered(told, got);
-        Ok(())
-    }
-
-    fn answered(&mut self, told: Told, got: &mut Got) {
-        self.answer = Answered::Answer(told);
-        got.answer(told);
-    }
-
-    /// Another target for the board, by another owner of it.
-    fn turn(&self, target: ProgressDrawTarget<InMemoryTerm>) -> Result<Result<(), Refusal>, Bad> {
-        let board = self.board()?.clone()?;
-        Ok(board.set_draw_target(target))
-    }
-
-    /// What a call of the board that draws answers, or of a bar behind its owner's number.
-    fn told(&mut self, step: &str) -> Result<Told, Bad> {
-        match step.split_once(": ") {
-            Some((place, rest)) => self.bar_told(place, rest),
-            None => self.board_told(step),
+    /// Shows something of the board, or makes a call of it that draws.
+    fn draws(&mut self, step: &str, got: &mut Got) {
+        match (self.board(), step) {
+            (Some(board), "shows") => push_board(board, got),
+            (Some(board), "hidden") => got.flag(board.is_hidden()),
+            (Some(board), "order") => {
+                shown(board, self.look(Question::Order), got);
+            }
+            _ => {
+                let told = self.board_told(step);
+                self.answered(told, got);
+            }
         }
     }
 
+    /// Keeps what a call answered, and appends it.
+    fn answered(&mut self, told: Result<Told, Bad>, got: &mut Got) {
+        match told {
+            Ok(told) => {
+                self.answer = Answered::Answer(told);
+                got.answer(told);
+            }
+            Err(bad) => got.bad(bad),
+        }
+    }
+
+    /// What a call of the board that draws answers.
     fn board_told(&self, step: &str) -> Result<Told, Bad> {
-        match step.split_once(' ') {
-            Some(("log", text)) => {
-                let text = unescaped(self.maker.alloc, text)?;
-                Ok(self.board()?.println(text.as_str()))
-            }
-            _ => match step {
-                "clear" => Ok(self.board()?.clear()),
-                "suspend" => Ok(self.board()?.suspend(|| ()).1),
-                _ => Err(Bad::Step),
+        match (self.board(), step, step.split_once(' ')) {
+            (Some(board), "clear", _) => Ok(board.clear()),
+            (Some(board), "suspend", _) => Ok(board.suspend(|| ()).1),
+            (Some(board), _, Some(("log", text))) => match unescaped(self.maker.alloc, text) {
+                Ok(text) => Ok(board.println(text.as_str())),
+                Err(bad) => Err(bad),
             },
+            _ => Err(Bad::Step),
         }
     }
 
+    /// What a call of a bar answers.
     fn bar_told(&self, place: &str, rest: &str) -> Result<Told, Bad> {
-        match rest.split_once(' ') {
-            Some(("as", other)) => Ok(dressed(self.bar(place)?, self.bar(other)?)),
-            _ if rest == "target" => {
-                let target = self.maker.room.target(self.maker.alloc)?;
-                Ok(self.bar(place)?.set_draw_target(target))
-            }
-            _ => tell(self.bar(place)?, self.maker.alloc, rest),
+        match (self.bar(place), rest, rest.split_once(' ')) {
+            (None, _, _) => Err(Bad::Step),
+            (Some(bar), "target", _) => match self.turned_to(false) {
+                Ok(target) => Ok(bar.set_draw_target(target)),
+                Err(refusal) => Err(Bad::Refused(refusal)),
+            },
+            (Some(bar), _, Some(("as", other))) => match self.bar(other) {
+                Some(other) => Ok(dressed(bar, other)),
+                None => Err(Bad::Step),
+            },
+            (Some(bar), _, _) => tell(bar, self.maker.alloc, rest),
         }
     }
 
     // ---- what is seen
-
-    /// Reads something of a bar, or makes a call of it.
-    fn reads(&mut self, place: &str, rest: &str, got: &mut Got) -> Result<(), Bad> {
-        if read(self.bar(place)?, rest, got)? {
-            return Ok(());
-        }
-        let told = self.bar_told(place, rest)?;
-        self.answered(told, got);
-        Ok(())
-    }
 
     fn look(&self, question: Question) -> Look {
         Look {
@@ -346,119 +407,162 @@ impl<R: Wait + Copy + Clone + Drop> Fronts<R> {
     }
 
     /// The calls that the history has gained since it was last looked at.
-    fn push_added(&mut self, got: &mut Got) -> Result<(), Bad> {
+    fn push_added(&mut self, got: &mut Got) {
         let question = Question::Added {
             from: self.looked_at,
             answer: self.answer,
         };
-        self.looked_at = shown(self.board()?, self.look(question), got);
-        Ok(())
+        match self.board() {
+            Some(board) => self.looked_at = shown(board, self.look(question), got),
+            None => got.bad(Bad::Step),
+        }
     }
 
-    /// A call of a bar, whose answer is that of the entry that it adds.
-    fn adds_by(&mut self, step: &str, got: &mut Got) -> Result<(), Bad> {
-        self.answer = Answered::Answer(self.told(step)?);
-        self.push_added(got)
+    /// A call of a bar or of the board, whose answer is that of the entry that it adds.
+    fn adds_by(&mut self, step: &str, got: &mut Got) {
+        let told = match step.split_once(": ") {
+            Some((place, rest)) => self.bar_told(place, rest),
+            None => self.board_told(step),
+        };
+        match told {
+            Ok(told) => {
+                self.answer = Answered::Answer(told);
+                self.push_added(got);
+            }
+            Err(bad) => got.bad(bad),
+        }
+    }
+}
+
+/// Another target for a board, by another owner of it.
+fn turn<R: Wait + Copy + Clone + Drop>(
+    board: &FrontBoard<R>,
+    target: Target,
+) -> Result<(), Refusal> {
+    let other: Result<_, _> = board.clone();
+    match other {
+        Ok(board) => board.set_draw_target(target),
+        Err(_) => Err(Refusal::Memory),
     }
 }
 
 /// The bar, in the style of another one.
-fn dressed<R: Wait + Copy + Clone + Drop>(bar: &Bar<R>, other: &Bar<R>) -> Told {
-    let style = other.style()?;
-    bar.set_style(style)
+fn dressed<R: Wait + Copy + Clone + Drop>(bar: &Front<R>, other: &Front<R>) -> Told {
+    match other.style() {
+        Ok(style) => bar.set_style(style),
+        Err(refusal) => Err(refusal),
+    }
 }
 
 impl<R: AllocGlobal + RandomSource + Wait + Copy + Clone + Drop> Fronts<R> {
     /// Asks what is wrapped.
-    fn asks(&mut self, step: &str, got: &mut Got) -> Result<(), Bad> {
-        asks(self.wrapped.as_mut().ok_or(Bad::Step)?, step, got)
+    fn asks(&mut self, step: &str, got: &mut Got) {
+        match &mut self.wrapped {
+            Some(wrapped) => asks(&mut wrapped.0, step, got),
+            None => got.bad(Bad::Step),
+        }
     }
 
     /// Wraps something by the call of this name.
-    fn wraps(&mut self, name: &str, rest: &str) -> Result<(), Bad> {
-        let mut words = rest;
-        let bar = self.bar(next(&mut words))?;
-        let wrapped = wrapped(bar, name, script_of(self.maker.alloc, words)?)?;
-        self.wrapped = Some(passed_over(&self.maker.rt, self.maker.alloc, wrapped)?);
-        Ok(())
+    fn wraps(&mut self, name: &str, rest: &str, got: &mut Got) {
+        let (place, script) = headed(rest);
+        let wrapped = match (self.bar(place), script_of(self.maker.alloc, script)) {
+            (Some(bar), Ok(inner)) => wrapped(&self.maker, bar, (name, inner)),
+            (None, _) => Err(Bad::Step),
+            (_, Err(bad)) => Err(bad),
+        };
+        match wrapped {
+            Ok(wrapped) => self.wrapped = Some(wrapped),
+            Err(bad) => got.bad(bad),
+        }
     }
 }
 
-/// What a bar wraps.
-fn wrapped<R: Wait + Copy + Clone + Drop>(
-    bar: &Bar<R>,
-    name: &str,
-    inner: Scripted,
-) -> Result<Wrapped<Bar<R>>, Bad> {
-    Ok(match name {
-        "wrap_iter" => bar.wrap_iter(inner)?,
-        "wrap_read" => bar.wrap_read(inner)?,
-        "wrap_write" => bar.wrap_write(inner)?,
-        "wrap_stream" => bar.wrap_stream(inner)?,
-        "wrap_async_read" => bar.wrap_async_read(inner)?,
-        "wrap_async_write" => bar.wrap_async_write(inner)?,
+/// What a bar wraps by the call of a name, to be asked.
+fn wrapped<R: AllocGlobal + RandomSource + Wait + Copy + Clone + Drop>(
+    maker: &Maker<R>,
+    bar: &Front<R>,
+    (name, inner): (&str, Scripted),
+) -> Result<Wrapped<R>, Bad> {
+    let wrapped = match name {
+        "wrap_iter" => bar.wrap_iter(inner),
+        "wrap_read" => bar.wrap_read(inner),
+        "wrap_write" => bar.wrap_write(inner),
+        "wrap_stream" => bar.wrap_stream(inner),
+        "wrap_async_read" => bar.wrap_async_read(inner),
+        "wrap_async_write" => bar.wrap_async_write(inner),
         _ => return Err(Bad::Step),
-    })
+    };
+    let over = match wrapped {
+        Ok(wrapped) => passed_over(&maker.rt, maker.alloc, wrapped),
+        Err(_) => Err(Bad::Refused(Refusal::Memory)),
+    };
+    match over {
+        Ok(over) => Ok(Wrapped(over)),
+        Err(bad) => Err(bad),
+    }
 }
 
 impl<
     R: AllocGlobal + RandomSource + Wait + Threads + Clock + Copy + Clone + Drop + Send + 'static,
 > Fronts<R> {
     /// Makes a step, or reads something.
-    pub fn step(&mut self, step: &str, got: &mut Got) -> Result<(), Bad> {
-        if let Some(rest) = step.strip_prefix("adds ") {
-            return self.adds_by(rest, got);
-        }
-        if let Some(rest) = step.strip_prefix("| ") {
-            return self.asks(rest, got);
-        }
+    pub fn step(&mut self, step: &str, got: &mut Got) {
         let (name, rest) = headed(step);
-        if name.starts_with("wrap_") {
-            return self.wraps(name, rest);
-        }
-        match step.split_once(": ") {
-            Some((place, rest)) => self.ticks(place, rest, got),
-            None if step == "history_rests" => self.history_rests(got),
-            None => self.plays(step, got),
+        match (name, step.split_once(": ")) {
+            ("adds", _) if !rest.is_empty() => self.adds_by(rest, got),
+            ("|", _) => self.asks(rest, got),
+            ("history_rests", _) => self.history_rests(got),
+            _ if name.starts_with("wrap_") => self.wraps(name, rest, got),
+            (_, Some((place, rest))) => self.of_bar(place, rest, got),
+            (_, None) => self.play(step, got),
         }
     }
 
-    /// Has to do with a bar's ticker.
-    fn ticks(&mut self, place: &str, rest: &str, got: &mut Got) -> Result<(), Bad> {
-        match rest.split_once(' ') {
-            Some(("ticker", nanos)) => {
-                set_ticker(self.bar(place)?, nanos)?;
-                self.answer = Answered::Untold;
-            }
-            Some(("ticks_past", ticks)) => {
-                let before = number::<u64>(ticks)?.saturating_add(self.noted);
-                got.flag(ticks_past(&self.maker.rt, self.bar(place)?, before));
-            }
-            _ => match rest {
-                "note" => self.noted = self.bar(place)?.ticks(),
-                "ticks_since" => got.number(self.bar(place)?.ticks().wrapping_sub(self.noted)),
-                "rests" => got.flag(rests(&self.maker.rt, self.bar(place)?)),
-                "comes_to_rest" => got.flag(comes_to_rest(&self.maker.rt, self.bar(place)?)),
-                _ => return self.reads(place, rest, got),
+    /// Has to do with a bar's ticker, reads something of the bar, or makes a call of it.
+    fn of_bar(&mut self, place: &str, rest: &str, got: &mut Got) {
+        let rt = &self.maker.rt;
+        match (self.bar(place), rest, rest.split_once(' ')) {
+            (None, _, _) => got.bad(Bad::Step),
+            (Some(bar), "note", _) => self.noted = bar.ticks(),
+            (Some(bar), "ticks_since", _) => got.number(bar.ticks().wrapping_sub(self.noted)),
+            (Some(bar), "rests", _) => got.flag(rests(rt, bar)),
+            (Some(bar), "comes_to_rest", _) => got.flag(comes_to_rest(rt, bar)),
+            (Some(bar), _, Some(("ticks_past", ticks))) => match number::<u64>(ticks) {
+                Ok(ticks) => got.flag(ticks_past(rt, bar, ticks.saturating_add(self.noted))),
+                Err(bad) => got.bad(bad),
             },
+            (Some(bar), _, Some(("ticker", nanos))) => match set_ticker(bar, nanos) {
+                Ok(()) => self.answer = Answered::Untold,
+                Err(bad) => got.bad(bad),
+            },
+            (Some(bar), _, _) => {
+                if !read(bar, rest, got) {
+                    let told = self.bar_told(place, rest);
+                    self.answered(told, got);
+                }
+            }
         }
-        Ok(())
     }
 }
 
 impl<R: Wait + Clock + Copy + Clone + Drop> Fronts<R> {
     /// Whether nothing is added to the board's history for 50 milliseconds.
-    fn history_rests(&self, got: &mut Got) -> Result<(), Bad> {
-        let before = self.recorded_calls()?;
-        pause(&self.maker.rt);
-        got.flag(self.recorded_calls()? == before);
-        Ok(())
+    fn history_rests(&self, got: &mut Got) {
+        match self.board() {
+            Some(board) => {
+                let before = self.recorded_calls(board);
+                pause(&self.maker.rt);
+                got.flag(self.recorded_calls(board) == before);
+            }
+            None => got.bad(Bad::Step),
+        }
     }
 
     /// How many calls the board has recorded.
-    fn recorded_calls(&self) -> Result<usize, Bad> {
+    fn recorded_calls(&self, board: &FrontBoard<R>) -> usize {
         let look = self.look(Question::Order);
-        Ok(shown(self.board()?, look, &mut Got::new(self.maker.alloc)))
+        shown(board, look, &mut Got::new(self.maker.alloc))
     }
 }
 
@@ -471,17 +575,22 @@ fn pause<R: Clock>(rt: &R) {
 
 /// Tells a bar's ticker off, or on with this interval.
 fn set_ticker<R: Wait + Threads + Clock + Copy + Clone + Drop + Send + 'static>(
-    bar: &Bar<R>,
+    bar: &Front<R>,
     nanos: &str,
 ) -> Result<(), Bad> {
-    match nanos {
-        "off" => Ok(bar.disable_steady_tick()?),
-        nanos => Ok(bar.enable_steady_tick(number(nanos)?)?),
+    let set = match (nanos, number(nanos)) {
+        ("off", _) => bar.disable_steady_tick(),
+        (_, Ok(nanos)) => bar.enable_steady_tick(nanos),
+        (_, Err(bad)) => return Err(bad),
+    };
+    match set {
+        Ok(()) => Ok(()),
+        Err(refusal) => Err(Bad::Refused(refusal)),
     }
 }
 
 /// Whether the bar has ticked more often than so, by the last of 10,000 readings a millisecond apart.
-fn ticks_past<R: Wait + Clock + Copy + Clone + Drop>(rt: &R, bar: &Bar<R>, before: u64) -> bool {
+fn ticks_past<R: Wait + Clock + Copy + Clone + Drop>(rt: &R, bar: &Front<R>, before: u64) -> bool {
     for _ in 0..10_000u32 {
         if bar.ticks() > before {
             return true;
@@ -492,14 +601,14 @@ fn ticks_past<R: Wait + Clock + Copy + Clone + Drop>(rt: &R, bar: &Bar<R>, befor
 }
 
 /// Whether two readings of the ticks with 50 turns of a millisecond between them are equal.
-fn rests<R: Wait + Clock + Copy + Clone + Drop>(rt: &R, bar: &Bar<R>) -> bool {
+fn rests<R: Wait + Clock + Copy + Clone + Drop>(rt: &R, bar: &Front<R>) -> bool {
     let before = bar.ticks();
     pause(rt);
     bar.ticks() == before
 }
 
 /// Whether the bar ticks no more, by at most 500 such readings.
-fn comes_to_rest<R: Wait + Clock + Copy + Clone + Drop>(rt: &R, bar: &Bar<R>) -> bool {
+fn comes_to_rest<R: Wait + Clock + Copy + Clone + Drop>(rt: &R, bar: &Front<R>) -> bool {
     for _ in 0..500u32 {
         if rests(rt, bar) {
             return true;

@@ -1,5 +1,5 @@
 //! What a board has kept: its order, its calls, and whether a fresh board that makes them gives the same answers and the same picture.
-use crate::bars::{Room, Shared};
+use crate::bars::{FrontBoard, Room};
 use crate::entries::push_call;
 use crate::tell::Told;
 use indicatif::{
@@ -41,7 +41,11 @@ pub struct Seen {
 }
 
 /// Appends what a board answers to a question; how many calls it has kept.
-pub fn shown<R: Wait + Copy + Clone + Drop>(board: &Shared<R>, look: Look, got: &mut Got) -> usize {
+pub fn shown<R: Wait + Copy + Clone + Drop>(
+    board: &FrontBoard<R>,
+    look: Look,
+    got: &mut Got,
+) -> usize {
     let seen = board.with_record(look);
     got.text(seen.said.as_str());
     seen.recorded
@@ -101,15 +105,29 @@ fn is_answered(entry: Option<&Entry<NoTracker>>, wanted: Answered) -> bool {
     }
 }
 
+/// A fresh board.
+#[derive(Drop)]
+struct Fresh(Board<NoTracker, InMemoryTerm>);
+
 /// Whether a fresh board makes the calls that were kept with the same answers, and then shows the same rows.
 fn is_replayed(look: Look, recorded: &Recorded<NoTracker, InMemoryTerm>) -> Result<bool, Refusal> {
     let target = look.room.target(look.alloc)?;
-    let board = Board::new(look.alloc, target, recorded.opening().board_id);
-    let mut fresh = Box::new(look.alloc, board)?;
-    if !answers_so(&mut fresh, look.alloc, recorded.entries())? {
-        return Ok(false);
+    let fresh = Fresh(Board::new(look.alloc, target, recorded.opening().board_id));
+    match Box::new(look.alloc, fresh) {
+        Ok(mut fresh) => replays(&mut fresh.0, look.alloc, recorded),
+        Err(_) => Err(Refusal::Memory),
     }
-    same_rows(rows_of(fresh.term()), rows_of(recorded.board().term()))
+}
+
+fn replays(
+    fresh: &mut Board<NoTracker, InMemoryTerm>,
+    alloc: Global,
+    recorded: &Recorded<NoTracker, InMemoryTerm>,
+) -> Result<bool, Refusal> {
+    match answers_so(fresh, alloc, recorded.entries()) {
+        Ok(true) => same_rows(rows_of(fresh.term()), rows_of(recorded.board().term())),
+        unequal => unequal,
+    }
 }
 
 /// Whether a board makes these calls with the same answers.
@@ -133,13 +151,19 @@ pub type Rows = Result<Option<Vec<String>>, Refusal>;
 /// The rows of a terminal, if there is one.
 pub fn rows_of(term: Option<&InMemoryTerm>) -> Rows {
     match term {
-        Some(term) => Ok(Some(term.picture()?)),
+        Some(term) => match term.picture() {
+            Ok(rows) => Ok(Some(rows)),
+            Err(refusal) => Err(refusal),
+        },
         None => Ok(None),
     }
 }
 
 /// Whether two terminals show the same rows; two that aren't there do.
 pub fn same_rows(one: Rows, other: Rows) -> Result<bool, Refusal> {
-    let (one, other) = (one?, other?);
-    Ok(one == other)
+    match (one, other) {
+        (Ok(one), Ok(other)) => Ok(one == other),
+        (Err(refusal), _) => Err(refusal),
+        (_, Err(refusal)) => Err(refusal),
+    }
 }

@@ -5,7 +5,7 @@
 use crate::counted::Counted;
 use indicatif::{ProgressBarIter, ProgressIterator};
 use scripts::got::{Bad, Got};
-use scripts::row::next;
+use scripts::row::Words;
 use scripts::spelling::number;
 use std::alloc::Global;
 use std::vec::IntoIter;
@@ -29,9 +29,10 @@ pub fn items_of(alloc: Global, words: &str) -> Result<IntoIter<u32>, Bad> {
 
 /// A list, wrapped.
 pub fn begin(alloc: Global, rest: &str) -> Result<Box<List>, Bad> {
-    let mut words = rest;
-    let position = number(next(&mut words))?;
-    let wrapped = items_of(alloc, words)?.progress_with(Counted::at(position));
+    let mut words = Words::of(rest);
+    let position = words.number();
+    let position = words.done(position)?;
+    let wrapped = items_of(alloc, words.rest())?.progress_with(Counted::at(position));
     let list = List {
         wrapped: Some(wrapped),
     };
@@ -39,36 +40,31 @@ pub fn begin(alloc: Global, rest: &str) -> Result<Box<List>, Bad> {
 }
 
 /// Makes a step, or looks at the bar.
-pub fn step(list: &mut List, step: &str, got: &mut Got) -> Result<(), Bad> {
-    if step == "unwrap" {
-        return unwraps(list, got);
-    }
-    let Some(wrapped) = &mut list.wrapped else {
-        return Err(Bad::Step);
-    };
-    match step {
-        "next" => push_item(wrapped.next(), got),
-        "next_back" => push_item(wrapped.next_back(), got),
-        "size" => push_size(wrapped, got),
-        "last" => match wrapped.last_draw() {
+pub fn step(list: &mut List, step: &str, got: &mut Got) {
+    match (&mut list.wrapped, step) {
+        (_, "unwrap") => unwraps(list, got),
+        (Some(wrapped), "next") => push_item(wrapped.next(), got),
+        (Some(wrapped), "next_back") => push_item(wrapped.next_back(), got),
+        (Some(wrapped), "size") => push_size(wrapped, got),
+        (Some(wrapped), "last") => match wrapped.last_draw() {
             Some(drawn) => got.answer(drawn),
             None => got.text("none"),
         },
-        "finished" => got.flag(wrapped.progress.finished),
-        "stands" => wrapped.progress.push(got),
-        _ => return Err(Bad::Step),
+        (Some(wrapped), "finished") => got.flag(wrapped.progress.finished),
+        (Some(wrapped), "stands") => wrapped.progress.push(got),
+        _ => got.bad(Bad::Step),
     }
-    Ok(())
 }
 
-fn unwraps(list: &mut List, got: &mut Got) -> Result<(), Bad> {
-    let Some(wrapped) = list.wrapped.take() else {
-        return Err(Bad::Step);
-    };
-    let (items, bar) = wrapped.into_inner();
-    drop(items);
-    bar.push(got);
-    Ok(())
+fn unwraps(list: &mut List, got: &mut Got) {
+    match list.wrapped.take() {
+        Some(wrapped) => {
+            let (items, bar) = wrapped.into_inner();
+            drop(items);
+            bar.push(got);
+        }
+        None => got.bad(Bad::Step),
+    }
 }
 
 /// Appends an item, or `end`.

@@ -9,126 +9,176 @@ use crate::clock::RowClock;
 use crate::fronts::room_of;
 use crate::lists::{items_of, push_item};
 use indicatif::{
-    BarState, InMemoryTerm, LoneBar, NoTracker, OwnedBar, ProgressBarIter, ProgressIterator,
-    ProgressStyle, Refusal, Setup,
+    BarState, InMemoryTerm, LoneBar, NoTracker, OwnedBar, ProgressBarIter, ProgressFinish,
+    ProgressIterator, ProgressStyle, Refusal, Setup,
 };
 use scripts::commands::finish;
 use scripts::got::{Bad, Got};
 use scripts::lone::read_bar;
+use scripts::row::Words;
 use scripts::spelling::number;
 use std::alloc::Global;
 use std::vec::IntoIter;
 
+/// A list that is wrapped with a bar of its own.
 type Wrapped = ProgressBarIter<IntoIter<u32>, OwnedBar<NoTracker, InMemoryTerm, RowClock>>;
+
+/// The same as a type of its own.
+#[derive(Drop)]
+struct Loop(Wrapped);
 
 /// A loop; none once a call refused something and gave it up.
 #[derive(Drop)]
 pub struct Looped {
     alloc: Global,
-    wrapped: Option<Box<Wrapped>>,
+    wrapped: Option<Box<Loop>>,
+}
+
+/// How a list is wrapped.
+#[derive(Drop)]
+enum How {
+    Progress,
+    Count(u64),
+    Style(ProgressStyle<NoTracker>),
+    /// By a bar that was made before.
+    Made,
+}
+
+fn how_of(alloc: Global, how: &str) -> Result<How, Bad> {
+    match (how, how.split_once(' ')) {
+        ("progress", _) => Ok(How::Progress),
+        ("made", _) => Ok(How::Made),
+        (_, Some(("count", len))) => Ok(How::Count(number(len)?)),
+        (_, Some(("style", template))) => {
+            Ok(How::Style(ProgressStyle::with_template(alloc, template)?))
+        }
+        _ => Err(Bad::Step),
+    }
 }
 
 /// A loop over these items.
-fn over(alloc: Global, how: &str, room: Room, items: IntoIter<u32>) -> Result<Wrapped, Bad> {
-    match how.split_once(' ') {
-        Some(("count", len)) => counting(alloc, number(len)?, room, items),
-        Some(("style", template)) => styled(alloc, template, room, items),
-        None if how == "progress" => Ok(items.progress(alloc, room.setup(alloc)?)?),
-        None if how == "made" => Ok(made(alloc, room.setup(alloc)?, items)?),
-        _ => Err(Bad::Step),
-    }
-}
-
-fn counting(alloc: Global, len: u64, room: Room, items: IntoIter<u32>) -> Result<Wrapped, Bad> {
-    Ok(items.progress_count(alloc, len, room.setup(alloc)?)?)
-}
-
-fn styled(alloc: Global, template: &str, room: Room, items: IntoIter<u32>) -> Result<Wrapped, Bad> {
-    let style = ProgressStyle::with_template(alloc, template)?;
-    Ok(items.progress_with_style(alloc, style, room.setup(alloc)?)?)
-}
-
-/// By a bar that was made before.
-fn made(
+fn over(
     alloc: Global,
+    how: How,
     setup: Setup<InMemoryTerm, RowClock>,
     items: IntoIter<u32>,
 ) -> Result<Wrapped, Refusal> {
-    let bar = LoneBar::new(BarState::new(alloc, Some(1), 0)?, setup.target);
-    Ok(ProgressBarIter::new(items, OwnedBar::new(bar, setup.clock)))
+    match how {
+        How::Progress => items.progress(alloc, setup),
+        How::Count(len) => items.progress_count(alloc, len, setup),
+        How::Style(style) => items.progress_with_style(alloc, style, setup),
+        How::Made => match BarState::new(alloc, Some(1), 0) {
+            Ok(bar) => {
+                let bar = OwnedBar::new(LoneBar::new(bar, setup.target), setup.clock);
+                Ok(ProgressBarIter::new(items, bar))
+            }
+            Err(refusal) => Err(refusal),
+        },
+    }
+}
+
+fn boxed(alloc: Global, wrapped: Result<Wrapped, Refusal>) -> Result<Box<Loop>, Bad> {
+    match wrapped {
+        Ok(wrapped) => Ok(Box::new(alloc, Loop(wrapped))?),
+        Err(refusal) => Err(Bad::Refused(refusal)),
+    }
+}
+
+/// A loop.
+pub fn begin(alloc: Global, rest: &str) -> Result<Box<Looped>, Bad> {
+    let mut words = Words::of(rest);
+    let room = room_of(&mut words)?;
+    let wrapped = wrapped(alloc, room, words.rest())?;
+    let looped = Looped {
+        alloc,
+        wrapped: Some(wrapped),
+    };
+    Ok(Box::new(alloc, looped)?)
+}
+
+/// `HOW: ITEMS`, wrapped.
+fn wrapped(alloc: Global, room: Room, text: &str) -> Result<Box<Loop>, Bad> {
+    let (how, items) = text.split_once(": ").unwrap_or((text, ""));
+    let items = items_of(alloc, items)?;
+    let how = how_of(alloc, how)?;
+    let setup = room.setup(alloc)?;
+    boxed(alloc, over(alloc, how, setup, items))
 }
 
 impl Looped {
-    /// A loop.
-    pub fn begin(alloc: Global, rest: &str) -> Result<Box<Looped>, Bad> {
-        let mut words = rest;
-        let room = room_of(&mut words)?;
-        let (how, items) = words.split_once(": ").ok_or(Bad::Step)?;
-        let items = items_of(alloc, items)?;
-        let wrapped = Box::new(alloc, over(alloc, how, room, items)?)?;
-        let looped = Looped {
-            alloc,
-            wrapped: Some(wrapped),
-        };
-        Ok(Box::new(alloc, looped)?)
-    }
-
     /// Makes a step, or looks at the bar.
-    pub fn step(&mut self, step: &str, got: &mut Got) -> Result<(), Bad> {
-        if let Some((name, rest)) = step.split_once(' ') {
-            return self.tells(name, rest);
+    pub fn step(&mut self, step: &str, got: &mut Got) {
+        match (&mut self.wrapped, step.split_once(' ')) {
+            (_, Some(said)) => self.tell(said, got),
+            (Some(wrapped), None) => look(&mut wrapped.0, step, got),
+            (None, None) => got.bad(Bad::Step),
         }
-        let Some(wrapped) = &mut self.wrapped else {
-            return Err(Bad::Step);
-        };
-        match step {
-            "next" => push_item(wrapped.next(), got),
-            "shows" => push_shown(wrapped, got)?,
-            "last" => match wrapped.last_draw() {
-                Some(drawn) => got.answer(drawn),
-                None => got.text("none"),
-            },
-            _ => {
-                if !read_bar(wrapped.progress.bar().bar(), step, 0, got)? {
-                    return Err(Bad::Step);
-                }
-            }
-        }
-        Ok(())
     }
 
     /// Says something of the bar before it moves.
-    fn tells(&mut self, name: &str, rest: &str) -> Result<(), Bad> {
-        let Some(wrapped) = self.wrapped.take() else {
-            return Err(Bad::Step);
+    fn tell(&mut self, said: (&str, &str), got: &mut Got) {
+        let told = match (self.wrapped.take(), said_of(self.alloc, said)) {
+            (Some(wrapped), Ok(said)) => boxed(self.alloc, told(Box::into_inner(wrapped).0, said)),
+            (None, _) => Err(Bad::Step),
+            (_, Err(bad)) => Err(bad),
         };
-        let wrapped = told(Box::into_inner(wrapped), self.alloc, name, rest)?;
-        self.wrapped = Some(Box::new(self.alloc, wrapped)?);
-        Ok(())
+        match told {
+            Ok(wrapped) => self.wrapped = Some(wrapped),
+            Err(bad) => got.bad(bad),
+        }
     }
 }
 
-fn push_shown(wrapped: &Wrapped, got: &mut Got) -> Result<(), Bad> {
-    match wrapped.progress.bar().term() {
-        Some(term) => got.text(term.contents()?.as_str()),
-        None => got.text("nothing"),
+/// Goes on with a loop, or looks at its bar.
+fn look(wrapped: &mut Wrapped, step: &str, got: &mut Got) {
+    match step {
+        "next" => push_item(wrapped.next(), got),
+        "shows" => match wrapped.progress.bar().term() {
+            Some(term) => got.text_of(term.contents()),
+            None => got.text("nothing"),
+        },
+        "last" => match wrapped.last_draw() {
+            Some(drawn) => got.answer(drawn),
+            None => got.text("none"),
+        },
+        _ => {
+            if !read_bar(wrapped.progress.bar().bar(), step, 0, got) {
+                got.bad(Bad::Step);
+            }
+        }
     }
-    Ok(())
 }
 
-fn told(wrapped: Wrapped, alloc: Global, name: &str, rest: &str) -> Result<Wrapped, Bad> {
+/// What is said of a bar before it moves.
+#[derive(Drop)]
+enum Said<'a> {
+    Style(ProgressStyle<NoTracker>),
+    Prefix(&'a str),
+    Message(&'a str),
+    Position(u64),
+    Elapsed(u64),
+    Finish(ProgressFinish),
+}
+
+fn said_of<'a>(alloc: Global, (name, rest): (&str, &'a str)) -> Result<Said<'a>, Bad> {
     match name {
-        "with_style" => Ok(dressed(wrapped, alloc, rest)?),
-        "with_prefix" => Ok(wrapped.with_prefix(rest)?),
-        "with_message" => Ok(wrapped.with_message(rest)?),
-        "with_position" => Ok(wrapped.with_position(number(rest)?)),
-        "with_elapsed" => Ok(wrapped.with_elapsed(number(rest)?)?),
-        "with_finish" => Ok(wrapped.with_finish(finish(alloc, rest)?)),
+        "with_style" => Ok(Said::Style(ProgressStyle::with_template(alloc, rest)?)),
+        "with_prefix" => Ok(Said::Prefix(rest)),
+        "with_message" => Ok(Said::Message(rest)),
+        "with_position" => Ok(Said::Position(number(rest)?)),
+        "with_elapsed" => Ok(Said::Elapsed(number(rest)?)),
+        "with_finish" => Ok(Said::Finish(finish(alloc, rest)?)),
         _ => Err(Bad::Step),
     }
 }
 
-fn dressed(wrapped: Wrapped, alloc: Global, template: &str) -> Result<Wrapped, Refusal> {
-    let style = ProgressStyle::with_template(alloc, template)?;
-    wrapped.with_style(style)
+fn told(wrapped: Wrapped, said: Said<'_>) -> Result<Wrapped, Refusal> {
+    match said {
+        Said::Style(style) => wrapped.with_style(style),
+        Said::Prefix(text) => wrapped.with_prefix(text),
+        Said::Message(text) => wrapped.with_message(text),
+        Said::Position(position) => Ok(wrapped.with_position(position)),
+        Said::Elapsed(nanos) => wrapped.with_elapsed(nanos),
+        Said::Finish(finish) => Ok(wrapped.with_finish(finish)),
+    }
 }

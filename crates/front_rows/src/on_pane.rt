@@ -9,17 +9,18 @@
 //! - `rows`: what stands there, up to the last row that isn't empty. `wraps`: whether the wrap is on.
 //! - Any other step is a call of the board or of a bar.
 use crate::pane::{Pane, Wire};
-use indicatif::{Board, NoTracker, OwnRows, ProgressDrawTarget, Term};
+use indicatif::{Answer, Board, NoTracker, OwnRows, ProgressDrawTarget, Term};
 use scripts::boards::{BOARD_ID, board_call, push_answer};
 use scripts::got::{Bad, Got};
-use scripts::row::{At, headed, next};
-use scripts::screen::size;
+use scripts::row::{At, Words, headed};
+use scripts::screen::{push_filled, size};
 use scripts::spelling::{number, unescaped};
 use std::alloc::Global;
 use std::rc::Rc;
 
 /// The board.
-type Shown = Board<NoTracker, OwnRows<Term<Wire>>>;
+#[derive(Drop)]
+struct Shown(Board<NoTracker, OwnRows<Term<Wire>>>);
 
 /// The board, and what it is shown on.
 #[derive(Drop)]
@@ -29,87 +30,95 @@ pub struct OnPane {
     pane: Rc<Pane>,
 }
 
+/// A board without bars.
+pub fn begin(alloc: Global, name: &str, rest: &str) -> Result<Box<OnPane>, Bad> {
+    let at = At { alloc, now: 0 };
+    let mut words = Words::of(rest);
+    let told = (words.number(), words.number());
+    words.word();
+    let size = (words.number(), words.last());
+    let (rows, columns) = words.done(size)?;
+    let pane = Pane::new(alloc, rows, columns)?;
+    let term = Term::new(Wire(pane.clone()?), told.0, told.1);
+    let term = match name {
+        "trusted" => OwnRows::left_to_terminal(term),
+        _ => OwnRows::new(term),
+    };
+    let target = ProgressDrawTarget::term_like(term);
+    let board = at.boxed(Shown(Board::new(alloc, target, BOARD_ID)))?;
+    at.boxed(OnPane { at, board, pane })
+}
+
 impl OnPane {
-    /// A board without bars.
-    pub fn begin(alloc: Global, name: &str, rest: &str) -> Result<Box<OnPane>, Bad> {
-        let at = At { alloc, now: 0 };
-        let mut words = rest;
-        let rows = number(next(&mut words))?;
-        let columns = number(next(&mut words))?;
-        next(&mut words);
-        let pane = Pane::new(alloc, number(next(&mut words))?, number(words)?)?;
-        let term = Term::new(Wire(pane.clone()?), rows, columns);
-        let term = if name == "trusted" {
-            OwnRows::left_to_terminal(term)
-        } else {
-            OwnRows::new(term)
-        };
-        let board = board_on(at, term)?;
-        at.boxed(OnPane { at, board, pane })
-    }
-
     /// Makes a step, or reads something.
-    pub fn step(&mut self, step: &str, got: &mut Got) -> Result<(), Bad> {
+    pub fn step(&mut self, step: &str, got: &mut Got) {
         match headed(step) {
-            ("others", text) => {
-                let text = unescaped(self.at.alloc, text)?;
-                if self.pane.show(text.as_str()).is_err() {
-                    return Err(Bad::Step);
-                }
-            }
-            ("size", words) => self.resize(words)?,
-            ("target", words) => self.go_on(words)?,
-            ("pane", words) => {
-                let (rows, columns) = size(words)?;
-                self.pane.resize(rows, columns)?;
-            }
-            ("fails", writes) => self.pane.fail(number(writes)?),
+            ("size" | "target" | "pane", words) => self.resize(step, words, got),
+            ("others", text) => match unescaped(self.at.alloc, text) {
+                Ok(text) => self.write(text.as_str(), got),
+                Err(bad) => got.bad(bad),
+            },
+            ("fails", writes) => match number(writes) {
+                Ok(number) => self.pane.fail(number),
+                Err(bad) => got.bad(bad),
+            },
             ("wraps", "") => got.flag(self.pane.wraps()),
-            ("rows", "") => got.rows(filled(&self.pane.picture()?)),
-            _ => self.call(step, got)?,
+            ("rows", "") => push_filled(self.pane.picture(), got),
+            _ => self.call(step, got),
         }
-        Ok(())
     }
 
-    /// Tells the board another size.
-    fn resize(&mut self, words: &str) -> Result<(), Bad> {
-        let (rows, columns) = size(words)?;
-        Ok(self.board.resize(rows, columns)?)
+    /// Another program writes this text.
+    fn write(&self, text: &str, got: &mut Got) {
+        if self.pane.show(text).is_err() {
+            got.bad(Bad::Step);
+        }
+    }
+
+    /// Tells the board another size, gives it a target of this size, or gives it to the pane.
+    fn resize(&mut self, step: &str, words: &str, got: &mut Got) {
+        match (headed(step).0, size(words)) {
+            ("size", Ok((rows, columns))) => got.done(self.board.0.resize(rows, columns)),
+            ("target", Ok((rows, columns))) => self.go_on(rows, columns, got),
+            (_, Ok((rows, columns))) => got.done(self.pane.resize(rows, columns)),
+            (_, Err(bad)) => got.bad(bad),
+        }
     }
 
     /// Gives the board a target of this size.
-    fn go_on(&mut self, words: &str) -> Result<(), Bad> {
-        let (rows, columns) = size(words)?;
-        let term = Term::new(Wire(self.pane.clone()?), rows, columns);
-        let target = ProgressDrawTarget::term_like(OwnRows::left_to_terminal(term));
-        drop(self.board.set_draw_target(target));
-        Ok(())
+    fn go_on(&mut self, rows: u16, columns: u16, got: &mut Got) {
+        let pane: Result<_, _> = self.pane.clone();
+        match pane {
+            Ok(pane) => {
+                let term = OwnRows::left_to_terminal(Term::new(Wire(pane), rows, columns));
+                drop(
+                    self.board
+                        .0
+                        .set_draw_target(ProgressDrawTarget::term_like(term)),
+                );
+            }
+            Err(error) => got.bad(error.into()),
+        }
     }
 
     /// Makes a call, and appends what it answers.
-    fn call(&mut self, step: &str, got: &mut Got) -> Result<(), Bad> {
+    fn call(&mut self, step: &str, got: &mut Got) {
+        match self.run(step) {
+            Ok(answers) => push_answers(answers, got),
+            Err(bad) => got.bad(bad),
+        }
+    }
+
+    fn run(&mut self, step: &str) -> Result<Vec<Answer>, Bad> {
         let at = self.at;
-        let calls = vec![in at.alloc; (board_call(at, step)?, at.now)]?;
-        for answer in self.board.run(calls)? {
-            push_answer(answer, got);
-        }
-        Ok(())
+        let call = board_call(at, step)?;
+        let calls = vec![in at.alloc; (call, at.now)]?;
+        Ok(self.board.0.run(calls)?)
     }
 }
 
-/// A board without bars on this terminal.
-fn board_on(at: At, term: OwnRows<Term<Wire>>) -> Result<Box<Shown>, Bad> {
-    let target = ProgressDrawTarget::term_like(term);
-    at.boxed(Board::new(at.alloc, target, BOARD_ID))
-}
-
-/// The rows up to the last one that isn't empty.
-fn filled(rows: &[String]) -> &[String] {
-    let mut count: usize = 0;
-    for (at, row) in rows.iter().enumerate() {
-        if !row.is_empty() {
-            count = at.saturating_add(1);
-        }
+fn push_answers(answers: Vec<Answer>, got: &mut Got) {
+    for answer in answers {
+        push_answer(answer, got);
     }
-    rows.get(..count).unwrap_or(rows)
 }

@@ -4,7 +4,7 @@
 //! begins with neither moves nor seeks: `seek P` and `move P BYTES` give the place that is shown; `moves N BYTES` makes N moves from 0 on.
 use indicatif::{MaxRingBuf, SeekMax};
 use scripts::got::{Bad, Got};
-use scripts::row::next;
+use scripts::row::{Words, headed};
 use scripts::spelling::number;
 use std::alloc::Global;
 
@@ -16,28 +16,31 @@ pub enum Places {
     Seeks(SeekMax<5, 10>),
 }
 
-impl Places {
-    /// None as yet.
-    pub fn begin(alloc: Global, rest: &str) -> Result<Box<Places>, Bad> {
-        let places = match rest {
-            "10" => Places::Ten(MaxRingBuf::new()),
-            "1" => Places::One(MaxRingBuf::new()),
-            "seeks" => Places::Seeks(SeekMax::new()),
-            _ => return Err(Bad::Step),
-        };
-        Ok(Box::new(alloc, places)?)
-    }
+/// None as yet.
+pub fn begin(alloc: Global, rest: &str) -> Result<Box<Places>, Bad> {
+    let places = match rest {
+        "10" => Places::Ten(MaxRingBuf::new()),
+        "1" => Places::One(MaxRingBuf::new()),
+        "seeks" => Places::Seeks(SeekMax::new()),
+        _ => return Err(Bad::Step),
+    };
+    Ok(Box::new(alloc, places)?)
+}
 
+impl Places {
     /// Makes a step.
-    pub fn step(&mut self, step: &str, got: &mut Got) -> Result<(), Bad> {
-        let (name, rest) = step.split_once(' ').unwrap_or((step, ""));
-        got.number(match self {
-            Places::Ten(places) if name == "put" => greatest(places, rest)?,
-            Places::One(places) if name == "put" => greatest(places, rest)?,
-            Places::Seeks(seeks) => shown(seeks, name, rest)?,
-            _ => return Err(Bad::Step),
-        });
-        Ok(())
+    pub fn step(&mut self, step: &str, got: &mut Got) {
+        let (name, rest) = headed(step);
+        let place = match (self, name) {
+            (Places::Ten(places), "put") => greatest(places, rest),
+            (Places::One(places), "put") => greatest(places, rest),
+            (Places::Seeks(seeks), _) => shown(seeks, name, rest),
+            _ => Err(Bad::Step),
+        };
+        match place {
+            Ok(place) => got.number(place),
+            Err(bad) => got.bad(bad),
+        }
     }
 }
 
@@ -52,12 +55,12 @@ fn greatest<const N: usize>(places: &mut MaxRingBuf<N>, new: &str) -> Result<u64
 }
 
 fn shown(seeks: &mut SeekMax<5, 10>, name: &str, rest: &str) -> Result<u64, Bad> {
-    let mut words = rest;
-    let place = number(next(&mut words))?;
-    match name {
-        "seek" => Ok(seeks.update_seek(place)),
-        "move" => Ok(seeks.update_seq(place, number(words)?)),
-        "moves" => Ok(moved(seeks, place, number(words)?)),
+    let mut words = Words::of(rest);
+    let place = words.number();
+    match (name, words.done(place), number(words.rest())) {
+        ("seek", Ok(place), _) => Ok(seeks.update_seek(place)),
+        ("move", Ok(place), Ok(bytes)) => Ok(seeks.update_seq(place, bytes)),
+        ("moves", Ok(times), Ok(bytes)) => Ok(moved(seeks, times, bytes)),
         _ => Err(Bad::Step),
     }
 }

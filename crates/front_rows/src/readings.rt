@@ -1,51 +1,29 @@
 //! What a bar tells of itself: `shows`, `message`, `prefix`, `pos`, `len`, `ticks`, `finished`, `hidden`, `tab_width`, `eta`, `duration`,
 //! `elapsed`; `per_sec`, steps and the nanoseconds in which they came; `changed_style`, the last text of a style that was made of the
 //! bar's; and `readings`, all that is only read.
-use crate::bars::{Bar, push_bar};
-use indicatif::Refusal;
+use crate::bars::{Front, Weak, push_bar};
+use indicatif::{NoTracker, ProgressStyle, Refusal};
 use scripts::got::{Bad, Got};
 use scripts::lone::push_rate;
 use std::sync::Wait;
 
 /// Reads something of a bar; whether the text asks for that.
-pub fn read<R: Wait + Copy + Clone + Drop>(
-    bar: &Bar<R>,
-    text: &str,
-    got: &mut Got,
-) -> Result<bool, Bad> {
+pub fn read<R: Wait + Copy + Clone + Drop>(bar: &Front<R>, text: &str, got: &mut Got) -> bool {
     match text {
-        "shows" => push_bar(bar, got)?,
-        "message" => got.text(bar.message()?.as_str()),
-        "prefix" => got.text(bar.prefix()?.as_str()),
-        "changed_style" => push_changed(bar, got)?,
-        "readings" => read_all(bar)?,
-        _ => return Ok(read_number(bar, text, got)),
-    }
-    Ok(true)
-}
-
-/// A style with two other texts, made of the bar's.
-fn push_changed<R: Wait + Copy + Clone + Drop>(bar: &Bar<R>, got: &mut Got) -> Result<(), Refusal> {
-    let style = bar.style()?.try_clone()?.tick_strings(&["1", "2"])?;
-    got.text(style.get_final_tick_str());
-    Ok(())
-}
-
-fn read_number<R: Wait + Copy + Clone + Drop>(bar: &Bar<R>, text: &str, got: &mut Got) -> bool {
-    match text {
+        "shows" => push_bar(bar, got),
+        "message" => got.text_of(bar.message()),
+        "prefix" => got.text_of(bar.prefix()),
+        "changed_style" => push_changed(bar, got),
+        "readings" => match read_all(bar) {
+            Ok(()) => (),
+            Err(bad) => got.bad(bad),
+        },
         "pos" => got.number(bar.position()),
         "len" => got.optional(bar.length()),
         "ticks" => got.number(bar.ticks()),
         "finished" => got.flag(bar.is_finished()),
         "hidden" => got.flag(bar.is_hidden()),
         "tab_width" => got.number(bar.tab_width()),
-        _ => return read_time(bar, text, got),
-    }
-    true
-}
-
-fn read_time<R: Wait + Copy + Clone + Drop>(bar: &Bar<R>, text: &str, got: &mut Got) -> bool {
-    match text {
         "eta" => got.number(bar.eta()),
         "duration" => got.number(bar.duration()),
         "elapsed" => got.number(bar.elapsed()),
@@ -55,8 +33,24 @@ fn read_time<R: Wait + Copy + Clone + Drop>(bar: &Bar<R>, text: &str, got: &mut 
     true
 }
 
+/// Appends the last text of a style with two other texts, made of the bar's.
+fn push_changed<R: Wait + Copy + Clone + Drop>(bar: &Front<R>, got: &mut Got) {
+    let style = match bar.style() {
+        Ok(style) => changed(&style),
+        Err(refusal) => Err(refusal),
+    };
+    match style {
+        Ok(style) => got.text(style.get_final_tick_str()),
+        Err(refusal) => got.bad(Bad::Refused(refusal)),
+    }
+}
+
+fn changed(style: &ProgressStyle<NoTracker>) -> Result<ProgressStyle<NoTracker>, Refusal> {
+    style.try_clone()?.tick_strings(&["1", "2"])
+}
+
 /// Reads all that can be read.
-fn read_all<R: Wait + Copy + Clone + Drop>(bar: &Bar<R>) -> Result<(), Refusal> {
+fn read_all<R: Wait + Copy + Clone + Drop>(bar: &Front<R>) -> Result<(), Bad> {
     let _ = (bar.position(), bar.length(), bar.ticks());
     let _ = (bar.is_finished(), bar.is_hidden(), bar.tab_width());
     let _ = (bar.eta(), bar.duration(), bar.elapsed(), bar.per_sec());
@@ -64,6 +58,7 @@ fn read_all<R: Wait + Copy + Clone + Drop>(bar: &Bar<R>) -> Result<(), Refusal> 
     let _ = bar.prefix()?;
     let _ = bar.style()?;
     bar.with_term(|_| ());
-    let _ = bar.downgrade()?.upgrade()?;
+    let weak = Weak::of(bar)?;
+    let _ = weak.upgrade()?;
     Ok(())
 }

@@ -35,22 +35,23 @@ pub struct Scripted {
 /// `TEXT`, `#N` (N bytes that are 0, 1, 2 and so on, modulo 256) or `*N` (N times `x`); behind `, ` what the calls do.
 pub fn script_of(alloc: Global, rest: &str) -> Result<Scripted, Bad> {
     let (text, answers) = rest.split_once(", ").unwrap_or((rest, ""));
-    let bytes = bytes_of(alloc, text)?;
-    Ok(Scripted {
-        bytes: Cursor::new(bytes),
-        written: Vec::new(alloc),
-        answers: answers_of(alloc, answers)?,
-        calls: 0,
-    })
+    match (bytes_of(alloc, text), answers_of(alloc, answers)) {
+        (Ok(bytes), Ok(answers)) => Ok(Scripted {
+            bytes: Cursor::new(bytes),
+            written: Vec::new(alloc),
+            answers,
+            calls: 0,
+        }),
+        (Err(bad), _) => Err(bad),
+        (_, Err(bad)) => Err(bad),
+    }
 }
 
 fn bytes_of(alloc: Global, text: &str) -> Result<Vec<u8>, Bad> {
-    if let Some(count) = text.strip_prefix('#') {
-        return counting(alloc, number(count)?);
-    }
-    match text.strip_prefix('*') {
-        Some(count) => Ok(vec![in alloc; b'x'; number(count)?]?),
-        None => Ok(unescaped(alloc, text)?.into_bytes()),
+    match (text.strip_prefix('#'), text.strip_prefix('*')) {
+        (Some(count), _) => counting(alloc, number(count)?),
+        (_, Some(count)) => Ok(vec![in alloc; b'x'; number(count)?]?),
+        (None, None) => Ok(unescaped(alloc, text)?.into_bytes()),
     }
 }
 
@@ -73,15 +74,16 @@ fn answers_of(alloc: Global, words: &str) -> Result<Vec<Answer>, Bad> {
 }
 
 fn answer_of(word: &str) -> Result<Answer, Bad> {
-    match word {
-        "pending" => Ok(Answer::Pending),
-        "all" => Ok(Answer::Bytes(usize::MAX)),
-        "interrupted" => Ok(Answer::Fails(ErrorKind::Interrupted)),
-        "reset" => Ok(Answer::Fails(ErrorKind::ConnectionReset)),
-        "broken" => Ok(Answer::Fails(ErrorKind::BrokenPipe)),
-        "full" => Ok(Answer::Fails(ErrorKind::StorageFull)),
-        "timed_out" => Ok(Answer::Fails(ErrorKind::TimedOut)),
-        word => Ok(Answer::Bytes(number(word)?)),
+    match (word, number(word)) {
+        ("pending", _) => Ok(Answer::Pending),
+        ("all", _) => Ok(Answer::Bytes(usize::MAX)),
+        ("interrupted", _) => Ok(Answer::Fails(ErrorKind::Interrupted)),
+        ("reset", _) => Ok(Answer::Fails(ErrorKind::ConnectionReset)),
+        ("broken", _) => Ok(Answer::Fails(ErrorKind::BrokenPipe)),
+        ("full", _) => Ok(Answer::Fails(ErrorKind::StorageFull)),
+        ("timed_out", _) => Ok(Answer::Fails(ErrorKind::TimedOut)),
+        (_, Ok(count)) => Ok(Answer::Bytes(count)),
+        (_, Err(bad)) => Err(bad),
     }
 }
 

@@ -2,13 +2,14 @@
 //! `begun` and `step`; a question that needs no world is a module and a line in `asked`.
 use crate::beside::Pair;
 use crate::bytes::{self, OverCounted};
-use crate::environment;
 use crate::fronts::Fronts;
 use crate::lists::{self, List};
 use crate::loops::Looped;
 use crate::on_pane::OnPane;
 use crate::places::Places;
+use crate::{beside, environment, fronts, loops, on_pane, places};
 use scripts::got::{Bad, Got};
+use scripts::row::headed;
 use std::alloc::Global;
 use std::random::RandomSource;
 use std::sync::Wait;
@@ -47,19 +48,29 @@ impl<R: Wait + Copy + Clone + Drop> Stage<R> {
     }
 }
 
+/// What is played on from now on, if it could be made.
+macro_rules! on {
+    ($kind:ident, $made:expr) => {
+        match $made {
+            Ok(world) => Ok(On::$kind(world)),
+            Err(bad) => Err(bad),
+        }
+    };
+}
+
 impl<R: AllocGlobal + RandomSource + Wait + Copy + Clone + Drop> Stage<R> {
     /// The world that the step of this name begins.
-    fn begun(&self, name: &str, rest: &str) -> Result<Option<On<R>>, Bad> {
-        Ok(Some(match name {
-            "fronts" => On::Fronts(Fronts::begin(self.rt, self.alloc, rest)?),
-            "beside" => On::Beside(Pair::begin(self.rt, self.alloc)?),
-            "bytes" => On::Bytes(bytes::begin(&self.rt, self.alloc, rest)?),
-            "list" => On::List(lists::begin(self.alloc, rest)?),
-            "loop" => On::Loop(Looped::begin(self.alloc, rest)?),
-            "places" => On::Places(Places::begin(self.alloc, rest)?),
-            "told" | "trusted" => On::Pane(OnPane::begin(self.alloc, name, rest)?),
-            _ => return Ok(None),
-        }))
+    fn begun(&self, name: &str, rest: &str) -> Option<Result<On<R>, Bad>> {
+        Some(match name {
+            "fronts" => on!(Fronts, fronts::begin(self.rt, self.alloc, rest)),
+            "beside" => on!(Beside, beside::begin(self.rt, self.alloc)),
+            "bytes" => on!(Bytes, bytes::begin(&self.rt, self.alloc, rest)),
+            "list" => on!(List, lists::begin(self.alloc, rest)),
+            "loop" => on!(Loop, loops::begin(self.alloc, rest)),
+            "places" => on!(Places, places::begin(self.alloc, rest)),
+            "told" | "trusted" => on!(Pane, on_pane::begin(self.alloc, name, rest)),
+            _ => return None,
+        })
     }
 }
 
@@ -67,9 +78,9 @@ impl<
     R: AllocGlobal + RandomSource + Wait + Threads + Clock + Copy + Clone + Drop + Send + 'static,
 > On<R> {
     /// Makes a step, or reads something.
-    fn step(&mut self, step: &str, got: &mut Got) -> Result<(), Bad> {
+    fn step(&mut self, step: &str, got: &mut Got) {
         match self {
-            On::Nothing => Err(Bad::Step),
+            On::Nothing => got.bad(Bad::Step),
             On::Fronts(world) => world.step(step, got),
             On::Beside(world) => world.step(step, got),
             On::Bytes(world) => bytes::step(world, step, got),
@@ -85,21 +96,18 @@ impl<
     R: AllocGlobal + RandomSource + Wait + Threads + Clock + Copy + Clone + Drop + Send + 'static,
 > Stage<R> {
     /// Makes a step, and appends what it gives.
-    pub fn play(&mut self, step: &str, got: &mut Got) -> Result<(), Bad> {
-        let (name, rest) = step.split_once(' ').unwrap_or((step, ""));
+    pub fn play(&mut self, step: &str, got: &mut Got) {
+        let (name, rest) = headed(step);
         match name {
-            "environment" => return environment::said(self.alloc, rest, got),
-            "colours" => return environment::wants(self.alloc, rest, got),
-            "stream" => return environment::opens(self.alloc, rest, got),
-            "sized" => return environment::sizes(self.alloc, rest, got),
-            _ => (),
-        }
-        match self.begun(name, rest)? {
-            Some(on) => {
-                self.on = on;
-                Ok(())
-            }
-            None => self.on.step(step, got),
+            "environment" => environment::said(self.alloc, rest, got),
+            "colours" => environment::wants(self.alloc, rest, got),
+            "stream" => environment::opens(self.alloc, rest, got),
+            "sized" => environment::sizes(self.alloc, rest, got),
+            _ => match self.begun(name, rest) {
+                Some(Ok(on)) => self.on = on,
+                Some(Err(bad)) => got.bad(bad),
+                None => self.on.step(step, got),
+            },
         }
     }
 }

@@ -7,8 +7,10 @@
 //!   bar's own style with another template; `with_finish`: a call that finishes a bar.
 //!
 //! What answers with the bar counts as `limited`, since it draws nothing.
-use crate::bars::{Bar, spinner};
-use indicatif::{Change, Drawn, Move, Moves, ProgressFinish, ProgressState, Refusal};
+use crate::bars::{Front, spinner};
+use indicatif::{
+    Change, Drawn, Move, Moves, NoTracker, ProgressFinish, ProgressState, ProgressStyle, Refusal,
+};
 use scripts::commands::{Told as _, WORDED, finish};
 use scripts::got::Bad;
 use scripts::spelling::{number, unescaped};
@@ -19,20 +21,38 @@ use std::sync::Wait;
 /// What a call of a bar answers.
 pub type Told = Result<Drawn, Refusal>;
 
+/// A call that answers with the bar.
+#[derive(Drop)]
+enum Built<'a> {
+    Position(u64),
+    Elapsed(u64),
+    TabWidth(usize),
+    Message(&'a str),
+    Prefix(&'a str),
+    Style(ProgressStyle<NoTracker>),
+    Finish(ProgressFinish),
+}
+
 /// Makes the call that a text spells.
 pub fn tell<R: Wait + Copy + Clone + Drop>(
-    bar: &Bar<R>,
+    bar: &Front<R>,
     alloc: Global,
     text: &str,
 ) -> Result<Told, Bad> {
     match text.split_once(' ') {
         None => bare(bar, text),
-        Some(("with_finish", rest)) => Ok(with_finish(bar.clone()?, finish(alloc, rest)?)),
-        Some((name, rest)) if is_worded(name) => {
-            let text = unescaped(alloc, rest)?;
-            worded(bar, alloc, name, text.as_str())
-        }
-        Some((name, rest)) => numbered(bar, name, number(rest)?),
+        Some(("with_finish", rest)) => match finish(alloc, rest) {
+            Ok(finish) => Ok(build(bar, Built::Finish(finish))),
+            Err(bad) => Err(bad),
+        },
+        Some((name, rest)) if is_worded(name) => match unescaped(alloc, rest) {
+            Ok(text) => Ok(worded(bar, alloc, name, text.as_str())),
+            Err(bad) => Err(bad),
+        },
+        Some((name, rest)) => match number(rest) {
+            Ok(n) => numbered(bar, name, n),
+            Err(bad) => Err(bad),
+        },
     }
 }
 
@@ -41,38 +61,37 @@ fn is_worded(name: &str) -> bool {
     WORDED.contains(&name) || matches!(name, "log" | "set_style" | "with_style" | "template")
 }
 
-fn bare<R: Wait + Copy + Clone + Drop>(bar: &Bar<R>, name: &str) -> Result<Told, Bad> {
+fn bare<R: Wait + Copy + Clone + Drop>(bar: &Front<R>, name: &str) -> Result<Told, Bad> {
     match called_bare!(bar, name) {
         Some(told) => Ok(told),
-        None => ending(bar, name),
+        None if name == "suspend" => Ok(bar.suspend(|| ()).1),
+        None if name == "at_end" => Ok(moved(bar, Move::FinishAsStored)),
+        None => Err(Bad::Step),
     }
 }
 
-fn ending<R: Wait + Copy + Clone + Drop>(bar: &Bar<R>, name: &str) -> Result<Told, Bad> {
-    Ok(match name {
-        "suspend" => bar.suspend(|| ()).1,
-        "at_end" => at_end(bar.clone()?),
-        _ => return Err(Bad::Step),
-    })
-}
-
-fn at_end<R: Wait + Copy + Clone + Drop>(mut bar: Bar<R>) -> Told {
-    bar.make_move(Move::FinishAsStored)
-}
-
-fn numbered<R: Wait + Copy + Clone + Drop>(bar: &Bar<R>, name: &str, n: u64) -> Result<Told, Bad> {
+fn numbered<R: Wait + Copy + Clone + Drop>(
+    bar: &Front<R>,
+    name: &str,
+    n: u64,
+) -> Result<Told, Bad> {
     match called_with_number!(bar, name, n) {
         Some(told) => Ok(told),
         None => counted(bar, name, n),
     }
 }
 
-fn counted<R: Wait + Copy + Clone + Drop>(bar: &Bar<R>, name: &str, n: u64) -> Result<Told, Bad> {
-    Ok(match name {
-        "further" => bar.update(|state| further(state, n)),
-        "absorb" => absorb(bar, n),
-        _ => return moved(bar.clone()?, name, n),
-    })
+fn counted<R: Wait + Copy + Clone + Drop>(bar: &Front<R>, name: &str, n: u64) -> Result<Told, Bad> {
+    match name {
+        "further" => Ok(bar.update(|state| further(state, n))),
+        "absorb" => Ok(absorb(bar, n)),
+        "advance" => Ok(moved(bar, Move::Advance(n))),
+        "place" => Ok(moved(bar, Move::PlaceAt(n))),
+        "with_position" => Ok(build(bar, Built::Position(n))),
+        "with_elapsed" => Ok(build(bar, Built::Elapsed(n))),
+        "with_tab_width" => Ok(build(bar, Built::TabWidth(n as usize))),
+        _ => Err(Bad::Step),
+    }
 }
 
 /// So much further than this state.
@@ -83,73 +102,74 @@ pub fn further(state: &ProgressState, delta: u64) -> Change {
     }
 }
 
-fn absorb<R: Wait + Copy + Clone + Drop>(bar: &Bar<R>, n: u64) -> Told {
+fn absorb<R: Wait + Copy + Clone + Drop>(bar: &Front<R>, n: u64) -> Told {
     let (done, mut worker) = bar.worker()?;
     worker.add(&done, n);
     bar.absorb(done, worker)
 }
 
-/// A call with a number that takes an owner.
-fn moved<R: Wait + Copy + Clone + Drop>(mut bar: Bar<R>, name: &str, n: u64) -> Result<Told, Bad> {
-    Ok(match name {
-        "advance" => bar.make_move(Move::Advance(n)),
-        "place" => bar.make_move(Move::PlaceAt(n)),
-        "with_position" => is_given(bar.with_position(n)),
-        "with_elapsed" => is_given(bar.with_elapsed(n)),
-        "with_tab_width" => is_given(bar.with_tab_width(n as usize)),
-        _ => return Err(Bad::Step),
-    })
-}
-
-fn worded<R: Wait + Copy + Clone + Drop>(
-    bar: &Bar<R>,
-    alloc: Global,
-    name: &str,
-    text: &str,
-) -> Result<Told, Bad> {
-    match called_with_text!(bar, name, text) {
-        Some(told) => Ok(told),
-        None if name == "log" => Ok(bar.println(text)),
-        None => styled(bar, alloc, name, text),
+/// A move that something else makes, of another owner.
+fn moved<R: Wait + Copy + Clone + Drop>(bar: &Front<R>, step: Move) -> Told {
+    let other: Result<_, _> = bar.clone();
+    match other {
+        Ok(mut bar) => bar.make_move(step),
+        Err(_) => Err(Refusal::Memory),
     }
 }
 
-fn styled<R: Wait + Copy + Clone + Drop>(
-    bar: &Bar<R>,
-    alloc: Global,
-    name: &str,
-    text: &str,
-) -> Result<Told, Bad> {
-    match name {
-        "set_style" => Ok(set_style(bar, alloc, text)),
-        "template" => Ok(set_template(bar, text)),
-        "with_message" => Ok(is_given(bar.clone()?.with_message(text))),
-        "with_prefix" => Ok(is_given(bar.clone()?.with_prefix(text))),
-        _ => Ok(with_style(bar.clone()?, alloc, text)),
-    }
-}
-
-fn set_style<R: Wait + Copy + Clone + Drop>(bar: &Bar<R>, alloc: Global, last: &str) -> Told {
-    bar.set_style(spinner(alloc, last)?)
-}
-
-fn set_template<R: Wait + Copy + Clone + Drop>(bar: &Bar<R>, template: &str) -> Told {
-    let style = bar.style()?.template(template)?;
-    bar.set_style(style)
-}
-
-fn with_style<R: Wait + Copy + Clone + Drop>(bar: Bar<R>, alloc: Global, last: &str) -> Told {
-    let style = spinner(alloc, last)?;
-    is_given(bar.with_style(style))
-}
-
-fn with_finish<R: Wait + Copy + Clone + Drop>(bar: Bar<R>, finish: ProgressFinish) -> Told {
-    is_given(bar.with_finish(finish))
-}
-
-fn is_given<R: Wait + Copy + Clone + Drop>(bar: Result<Bar<R>, Refusal>) -> Told {
-    match bar {
+/// A call that answers with the bar, of another owner.
+fn build<R: Wait + Copy + Clone + Drop>(bar: &Front<R>, built: Built<'_>) -> Told {
+    let other: Result<_, _> = bar.clone();
+    let Ok(bar) = other else {
+        return Err(Refusal::Memory);
+    };
+    let given = match built {
+        Built::Position(n) => bar.with_position(n),
+        Built::Elapsed(n) => bar.with_elapsed(n),
+        Built::TabWidth(n) => bar.with_tab_width(n),
+        Built::Message(text) => bar.with_message(text),
+        Built::Prefix(text) => bar.with_prefix(text),
+        Built::Style(style) => bar.with_style(style),
+        Built::Finish(finish) => bar.with_finish(finish),
+    };
+    match given {
         Ok(_) => Ok(Drawn::Limited),
         Err(refusal) => Err(refusal),
     }
+}
+
+fn worded<R: Wait + Copy + Clone + Drop>(
+    bar: &Front<R>,
+    alloc: Global,
+    name: &str,
+    text: &str,
+) -> Told {
+    match called_with_text!(bar, name, text) {
+        Some(told) => told,
+        None => dressed(bar, alloc, name, text),
+    }
+}
+
+fn dressed<R: Wait + Copy + Clone + Drop>(
+    bar: &Front<R>,
+    alloc: Global,
+    name: &str,
+    text: &str,
+) -> Told {
+    match name {
+        "log" => bar.println(text),
+        "template" => set_template(bar, text),
+        "with_message" => build(bar, Built::Message(text)),
+        "with_prefix" => build(bar, Built::Prefix(text)),
+        _ => match (name, spinner(alloc, text)) {
+            ("set_style", Ok(style)) => bar.set_style(style),
+            (_, Ok(style)) => build(bar, Built::Style(style)),
+            (_, Err(refusal)) => Err(refusal),
+        },
+    }
+}
+
+fn set_template<R: Wait + Copy + Clone + Drop>(bar: &Front<R>, template: &str) -> Told {
+    let style = bar.style()?.template(template)?;
+    bar.set_style(style)
 }

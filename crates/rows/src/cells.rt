@@ -1,8 +1,10 @@
 //! The cell terminal, fed with bytes.
 use indicatif_term::in_memory::Cells;
+use indicatif_text::columns::Refusal;
 use scripts::got::{Bad, Got};
-use scripts::row::{At, next};
-use scripts::spelling::{number, unescaped_bytes};
+use scripts::row::{At, Words};
+use scripts::screen::push_filled;
+use scripts::spelling::unescaped_bytes;
 
 /// A cell terminal.
 #[derive(Drop)]
@@ -10,22 +12,30 @@ pub struct Fed {
     cells: Box<Cells>,
 }
 
-impl Fed {
-    /// `cells ROWS COLS`: a terminal with nothing on it.
-    pub fn begin(rest: &str, at: At) -> Result<Fed, Bad> {
-        let mut words = rest;
-        Ok(Fed {
-            cells: terminal(next_size(&mut words)?, at)?,
-        })
-    }
+/// `cells ROWS COLS`: a terminal with nothing on it.
+pub fn begin(rest: &str, at: At) -> Result<Fed, Bad> {
+    let size = next_size(&mut Words::of(rest))?;
+    let cells = terminal(size, at)?;
+    Ok(Fed { cells })
+}
 
+impl Fed {
     /// `feed BYTES`, `size ROWS COLS`, or what is read: `contents`, `picture`, `cursor`, `reading`.
-    pub fn step(&mut self, step: &str, at: At, got: &mut Got) -> Result<(), Bad> {
-        match step.split_once(' ') {
-            Some(("feed", rest)) => feed(&mut self.cells, &unescaped_bytes(at.alloc, rest)?),
-            Some(("size", rest)) => resize(&mut self.cells, rest),
-            None => read(&self.cells, step, got),
-            Some(_) => Err(Bad::Step),
+    pub fn step(&mut self, step: &str, at: At, got: &mut Got) {
+        match (step, step.split_once(' ')) {
+            ("reading", _) => push_reading(&self.cells, got),
+            ("contents", _) => got.text_of(self.cells.contents()),
+            ("picture", _) => got.rows_of(self.cells.picture()),
+            ("cursor", _) => push_cursor(self.cells.cursor(), got),
+            (_, Some(("feed", rest))) => match unescaped_bytes(at.alloc, rest) {
+                Ok(bytes) => got.done(feed(&mut self.cells, &bytes)),
+                Err(bad) => got.bad(bad),
+            },
+            (_, Some(("size", rest))) => match next_size(&mut Words::of(rest)) {
+                Ok((rows, cols)) => got.done(self.cells.resize(rows, cols)),
+                Err(bad) => got.bad(bad),
+            },
+            _ => got.bad(Bad::Step),
         }
     }
 }
@@ -34,39 +44,20 @@ impl Fed {
 pub type Size = (u16, u16);
 
 /// The size that the next words spell.
-pub fn next_size(words: &mut &str) -> Result<Size, Bad> {
-    let rows = number(next(words))?;
-    let cols = number(next(words))?;
-    Ok((rows, cols))
+pub fn next_size(words: &mut Words<'_>) -> Result<Size, Bad> {
+    let size = (words.number(), words.number());
+    words.done(size)
 }
 
-fn terminal(size: Size, at: At) -> Result<Box<Cells>, Bad> {
-    at.boxed(Cells::new(at.alloc, size.0, size.1)?)
+fn terminal((rows, cols): Size, at: At) -> Result<Box<Cells>, Bad> {
+    at.boxed(Cells::new(at.alloc, rows, cols)?)
 }
 
-fn feed(cells: &mut Cells, bytes: &[u8]) -> Result<(), Bad> {
+fn feed(cells: &mut Cells, bytes: &[u8]) -> Result<(), Refusal> {
     match cells.feed(bytes) {
         Ok(()) => Ok(()),
-        Err((_, refusal)) => Err(Bad::Refused(refusal)),
+        Err((_, refusal)) => Err(refusal),
     }
-}
-
-fn resize(cells: &mut Cells, rest: &str) -> Result<(), Bad> {
-    let mut words = rest;
-    let (rows, cols) = next_size(&mut words)?;
-    cells.resize(rows, cols)?;
-    Ok(())
-}
-
-fn read(cells: &Cells, what: &str, got: &mut Got) -> Result<(), Bad> {
-    match what {
-        "reading" => return push_reading(cells, got),
-        "contents" => got.text(cells.contents()?.as_str()),
-        "picture" => got.rows(&cells.picture()?),
-        "cursor" => push_cursor(cells.cursor(), got),
-        _ => return Err(Bad::Step),
-    }
-    Ok(())
 }
 
 /// Appends a row and a column.
@@ -78,74 +69,71 @@ pub fn push_cursor(cursor: (u16, u16), got: &mut Got) {
 
 /// Appends the picture without the empty rows at its end, the contents and the cursor, a tab between two, of `fed ROWS COLS BYTES`: fed
 /// byte by byte, and in two parts cut at each byte. Where a cut gives something else, it follows.
-pub fn shown(rest: &str, at: At, got: &mut Got) -> Result<(), Bad> {
-    let mut words = rest;
-    let size = next_size(&mut words)?;
-    let bytes = unescaped_bytes(at.alloc, words)?;
-    let cells = fed_singly(size, &bytes, at)?;
+pub fn shown(rest: &str, at: At, got: &mut Got) {
+    let mut words = Words::of(rest);
+    match (
+        next_size(&mut words),
+        unescaped_bytes(at.alloc, words.rest()),
+    ) {
+        (Ok(size), Ok(bytes)) => push_all(size, &bytes, at, got),
+        (Err(bad), _) => got.bad(bad),
+        (_, Err(bad)) => got.bad(bad),
+    }
+}
+
+fn push_all(size: Size, bytes: &[u8], at: At, got: &mut Got) {
     let mut reading = Got::new(at.alloc);
-    push_reading(&cells, &mut reading)?;
+    push_fed(size, bytes, (None, at), &mut reading);
     got.text(reading.as_str());
-    push_cuts(size, &bytes, (reading.as_str(), at), got)
+    push_cuts(size, bytes, (reading.as_str(), at), got);
 }
 
 /// Appends what is shown where the bytes are cut in two, for the first cut that shows something else.
-fn push_cuts(size: Size, bytes: &[u8], (wanted, at): (&str, At), got: &mut Got) -> Result<(), Bad> {
+fn push_cuts(size: Size, bytes: &[u8], (wanted, at): (&str, At), got: &mut Got) {
     let mut reading = Got::new(at.alloc);
     for cut in 0..bytes.len() {
         reading.clear();
-        let cells = fed_twice(size, bytes, cut, at)?;
-        push_reading(&cells, &mut reading)?;
+        push_fed(size, bytes, (Some(cut), at), &mut reading);
         if reading.as_str() != wanted {
-            got.number(format_args!("\ncut at {cut}: {}", reading.as_str()));
-            return Ok(());
+            return got.number(format_args!("\ncut at {cut}: {}", reading.as_str()));
         }
     }
-    Ok(())
 }
 
-fn fed_singly(size: Size, bytes: &[u8], at: At) -> Result<Box<Cells>, Bad> {
-    let mut cells = terminal(size, at)?;
-    for byte in bytes.chunks(1) {
-        feed(&mut cells, byte)?;
+/// Appends what a terminal shows that was fed with bytes: with two parts of them, or one by one.
+fn push_fed(size: Size, bytes: &[u8], (cut, at): (Option<usize>, At), got: &mut Got) {
+    match terminal(size, at) {
+        Ok(mut cells) => {
+            got.done(feed_parts(&mut cells, bytes, cut));
+            push_reading(&cells, got);
+        }
+        Err(bad) => got.bad(bad),
     }
-    Ok(cells)
 }
 
-fn fed_twice(size: Size, bytes: &[u8], cut: usize, at: At) -> Result<Box<Cells>, Bad> {
-    let mut cells = terminal(size, at)?;
-    let cut = cut.min(bytes.len());
-    feed(&mut cells, &bytes[..cut])?;
-    feed(&mut cells, &bytes[cut..])?;
-    Ok(cells)
+fn feed_parts(cells: &mut Cells, bytes: &[u8], cut: Option<usize>) -> Result<(), Refusal> {
+    match cut {
+        Some(cut) => {
+            let (front, rest) = bytes.split_at(cut.min(bytes.len()));
+            feed(cells, front)?;
+            feed(cells, rest)
+        }
+        None => feed_singly(cells, bytes),
+    }
+}
+
+fn feed_singly(cells: &mut Cells, bytes: &[u8]) -> Result<(), Refusal> {
+    for byte in bytes.chunks(1) {
+        feed(cells, byte)?;
+    }
+    Ok(())
 }
 
 /// Appends the picture without the empty rows at its end, the contents and the cursor, a tab between two.
-fn push_reading(cells: &Cells, got: &mut Got) -> Result<(), Bad> {
-    push_picture(&cells.picture()?, got);
+fn push_reading(cells: &Cells, got: &mut Got) {
+    push_filled(cells.picture(), got);
     got.text("\t");
-    got.text(cells.contents()?.as_str());
+    got.text_of(cells.contents());
     got.text("\t");
     push_cursor(cells.cursor(), got);
-    Ok(())
-}
-
-fn push_picture(picture: &[String], got: &mut Got) {
-    for row in picture.iter().take(height_of(picture)) {
-        got.text(row.as_str());
-        got.text("\n");
-    }
-}
-
-/// How many rows of a picture there are up to the last one that isn't empty.
-fn height_of(picture: &[String]) -> usize {
-    let mut height: usize = 0;
-    let mut count: usize = 0;
-    for row in picture {
-        count = count.saturating_add(1);
-        if !row.is_empty() {
-            height = count;
-        }
-    }
-    height
 }

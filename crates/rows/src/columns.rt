@@ -3,8 +3,8 @@ use indicatif_text::columns::{
     Clock, StepClock, columns, is_parameter, pieces, width, wrapped, write_ansi_range,
 };
 use scripts::got::{Bad, Got};
-use scripts::row::{At, next};
-use scripts::spelling::{number, unescaped};
+use scripts::row::{At, Words};
+use scripts::spelling::unescaped;
 
 /// Appends what is asked of a text, or what a clock tells.
 ///
@@ -13,32 +13,27 @@ use scripts::spelling::{number, unescaped};
 /// - `range START END TEXT`: what stands in these columns.
 /// - `pieces TEXT`: colours in brackets, what stands between them in braces; `plain TEXT`: what stands between them.
 /// - `clock NEXT STEP COUNT`: so many readings.
-pub fn measured(name: &str, rest: &str, at: At, got: &mut Got) -> Result<(), Bad> {
+pub fn measured(name: &str, rest: &str, at: At, got: &mut Got) {
     match name {
         "wrapped" => push_wrapped(rest, at, got),
         "range" => push_range(rest, at, got),
         "clock" => push_clock(rest, got),
-        _ => of_text(name, unescaped(at.alloc, rest)?.as_str(), got),
+        _ => match unescaped(at.alloc, rest) {
+            Ok(text) => of_text(name, text.as_str(), got),
+            Err(bad) => got.bad(bad),
+        },
     }
 }
 
-fn of_text(name: &str, text: &str, got: &mut Got) -> Result<(), Bad> {
-    match name {
-        "columns" => got.number(columns(text)),
-        "pieces" => push_pieces(text, got),
-        "plain" => push_plain(text, got),
-        _ => return of_character(name, text.chars().next().ok_or(Bad::Step)?, got),
+fn of_text(name: &str, text: &str, got: &mut Got) {
+    match (name, text.chars().next()) {
+        ("columns", _) => got.number(columns(text)),
+        ("pieces", _) => push_pieces(text, got),
+        ("plain", _) => push_plain(text, got),
+        ("width", Some(c)) => got.number(width(c)),
+        ("parameter", Some(c)) => got.flag(is_parameter(c)),
+        _ => got.bad(Bad::Step),
     }
-    Ok(())
-}
-
-fn of_character(name: &str, c: char, got: &mut Got) -> Result<(), Bad> {
-    match name {
-        "width" => got.number(width(c)),
-        "parameter" => got.flag(is_parameter(c)),
-        _ => return Err(Bad::Step),
-    }
-    Ok(())
 }
 
 fn push_pieces(text: &str, got: &mut Got) {
@@ -57,44 +52,57 @@ fn push_plain(text: &str, got: &mut Got) {
     }
 }
 
-fn push_wrapped(rest: &str, at: At, got: &mut Got) -> Result<(), Bad> {
-    let mut words = rest;
-    let width: usize = number(next(&mut words))?;
-    let text = unescaped(at.alloc, words)?;
-    let rows = wrapped(text.as_str(), width)?;
-    got.number(rows.height);
-    got.text(" ");
-    got.number(rows.last_line_width);
-    Ok(())
+fn push_wrapped(rest: &str, at: At, got: &mut Got) {
+    let mut words = Words::of(rest);
+    let width: usize = words.number();
+    match words.text(at.alloc) {
+        Ok(text) => push_rows(text.as_str(), width, got),
+        Err(bad) => got.bad(bad),
+    }
 }
 
-fn push_range(rest: &str, at: At, got: &mut Got) -> Result<(), Bad> {
-    let mut words = rest;
-    let start = number(next(&mut words))?;
-    let end = number(next(&mut words))?;
-    let text = unescaped(at.alloc, words)?;
-    Ok(write_ansi_range(text.as_str(), start, end, got.room())?)
+/// Appends how many rows a text takes, and the columns of the last one.
+fn push_rows(text: &str, width: usize, got: &mut Got) {
+    match wrapped(text, width) {
+        Ok(rows) => {
+            got.number(rows.height);
+            got.text(" ");
+            got.number(rows.last_line_width);
+        }
+        Err(refusal) => got.bad(Bad::Refused(refusal)),
+    }
 }
 
-fn push_clock(rest: &str, got: &mut Got) -> Result<(), Bad> {
-    let mut words = rest;
-    let mut clock = StepClock {
-        next: number(next(&mut words))?,
-        step: number(next(&mut words))?,
+fn push_range(rest: &str, at: At, got: &mut Got) {
+    let mut words = Words::of(rest);
+    let (start, end): (usize, usize) = (words.number(), words.number());
+    match words.text(at.alloc) {
+        Ok(text) => {
+            let done = write_ansi_range(text.as_str(), start, end, got.room());
+            got.done(done);
+        }
+        Err(bad) => got.bad(bad),
+    }
+}
+
+fn push_clock(rest: &str, got: &mut Got) {
+    let mut words = Words::of(rest);
+    let clock = StepClock {
+        next: words.number(),
+        step: words.number(),
     };
-    push_readings(&mut clock, number(next(&mut words))?, got);
-    Ok(())
+    let count: u8 = words.number();
+    match words.done(clock) {
+        Ok(mut clock) => push_readings(&mut clock, count, got),
+        Err(bad) => got.bad(bad),
+    }
 }
 
 fn push_readings(clock: &mut StepClock, count: u8, got: &mut Got) {
     let mut parting = "";
     for _ in 0..count {
         got.text(parting);
-        got.number(told(clock));
+        got.number(clock.now());
         parting = " ";
     }
-}
-
-fn told(clock: &mut StepClock) -> u64 {
-    clock.now()
 }

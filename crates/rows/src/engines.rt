@@ -2,7 +2,7 @@
 use indicatif_term::draw_target::{Engine, Keep, LineType, MultiProgressAlignment, Segment};
 use indicatif_term::term_like::TermLike;
 use scripts::got::{Bad, Got};
-use scripts::row::{At, headed, next};
+use scripts::row::{At, Words, headed};
 use scripts::screen::{self, Behind, Screen};
 use scripts::spelling::{flag, number, unescaped};
 use std::rc::Rc;
@@ -10,104 +10,110 @@ use std::rc::Rc;
 /// An engine on a screen.
 #[derive(Drop)]
 pub struct Drawing {
-    engine: Box<Engine<Behind>>,
+    engine: Engine<Behind>,
     screen: Rc<Screen>,
     alignment: MultiProgressAlignment,
 }
 
-impl Drawing {
-    /// `engine ROWS COLS top` or `bottom`.
-    pub fn begin(rest: &str, at: At) -> Result<Drawing, Bad> {
-        let mut words = rest;
-        let (screen, term) = screen::terminal(&mut words, at)?;
-        let alignment = alignment(words)?;
-        let engine = at.boxed(Engine::new(at.alloc, term))?;
-        Ok(Drawing {
-            engine,
-            screen,
-            alignment,
-        })
-    }
+/// `engine ROWS COLS top` or `bottom`.
+pub fn begin(rest: &str, at: At) -> Result<Box<Drawing>, Bad> {
+    let mut words = Words::of(rest);
+    let (screen, term) = screen::terminal(&mut words, at)?;
+    let alignment = match words.rest() {
+        "top" => MultiProgressAlignment::Top,
+        "bottom" => MultiProgressAlignment::Bottom,
+        _ => return Err(Bad::Step),
+    };
+    let engine = Engine::new(at.alloc, term);
+    at.boxed(Drawing {
+        engine,
+        screen,
+        alignment,
+    })
+}
 
+impl Drawing {
     /// `draw FRAME`; `pass N FRAME`, of which the first N bars pass; `log TEXT` and, behind a tab each, the frame's bars; `keep BAR`;
     /// `clear`; `move yes` or `move no`; `size ROWS COLS`, also of the screen; `faults`; or a look at the screen.
-    pub fn step(&mut self, step: &str, at: At, got: &mut Got) -> Result<(), Bad> {
-        if screen::look_at(&self.screen, step, at, got)? {
-            return Ok(());
+    pub fn step(&mut self, step: &str, at: At, got: &mut Got) {
+        if screen::look_at(&self.screen, step, at, got) {
+            return;
         }
         match headed(step) {
-            ("draw", rest) => self.draw(&frame(rest, at)?, 0),
-            ("pass", rest) => self.pass(rest, at),
-            ("log", rest) => self.log(rest, at),
-            ("keep", rest) => keep(&mut self.engine, number(rest)?, got),
-            ("clear", "") => clear(&mut self.engine),
-            ("move", word) => self.set_move_cursor(flag(word)?),
-            ("size", rest) => self.resize(rest),
-            ("faults", "") => {
-                got.number(self.engine.term().faults());
-                Ok(())
-            }
-            _ => Err(Bad::Step),
+            ("draw", rest) => self.draw(rest, 0, at, got),
+            ("pass", rest) => self.pass(rest, at, got),
+            ("log", rest) => self.log(rest, at, got),
+            ("keep", rest) => self.keep(rest, got),
+            ("clear", "") => got.done(self.engine.clear()),
+            ("move", word) => match flag(word) {
+                Ok(on) => self.engine.set_move_cursor(on),
+                Err(bad) => got.bad(bad),
+            },
+            ("size", rest) => self.resize(rest, got),
+            ("faults", "") => got.number(self.engine.term().faults()),
+            _ => got.bad(Bad::Step),
         }
     }
 
-    fn set_move_cursor(&mut self, on: bool) -> Result<(), Bad> {
-        self.engine.set_move_cursor(on);
-        Ok(())
+    fn resize(&mut self, rest: &str, got: &mut Got) {
+        match screen::size(rest) {
+            Ok((rows, cols)) => got.done(match self.engine.resize(rows, cols) {
+                Ok(()) => self.screen.resize(rows, cols),
+                Err(refusal) => Err(refusal),
+            }),
+            Err(bad) => got.bad(bad),
+        }
     }
 
-    fn resize(&mut self, rest: &str) -> Result<(), Bad> {
-        let (rows, cols) = screen::size(rest)?;
-        self.engine.resize(rows, cols)?;
-        Ok(self.screen.resize(rows, cols)?)
+    fn pass(&mut self, rest: &str, at: At, got: &mut Got) {
+        let mut words = Words::of(rest);
+        let pass = words.number();
+        match words.done(()) {
+            Ok(()) => self.draw(words.rest(), pass, at, got),
+            Err(bad) => got.bad(bad),
+        }
     }
 
-    fn draw(&mut self, frame: &[Segment], pass: usize) -> Result<(), Bad> {
-        Ok(self.engine.draw(frame, pass, self.alignment)?)
+    fn draw(&mut self, bars: &str, pass: usize, at: At, got: &mut Got) {
+        match frame(bars, at) {
+            Ok(frame) => got.done(self.engine.draw(&frame, pass, self.alignment)),
+            Err(bad) => got.bad(bad),
+        }
     }
 
-    fn pass(&mut self, rest: &str, at: At) -> Result<(), Bad> {
-        let mut words = rest;
-        let pass = number(next(&mut words))?;
-        self.draw(&frame(words, at)?, pass)
-    }
-
-    fn log(&mut self, rest: &str, at: At) -> Result<(), Bad> {
+    fn log(&mut self, rest: &str, at: At, got: &mut Got) {
         let (text, bars) = rest.split_once('\t').unwrap_or((rest, ""));
-        let text = unescaped(at.alloc, text)?;
-        let frame = frame(bars, at)?;
-        Ok(self.engine.log(text.as_str(), &frame, self.alignment)?)
+        match (unescaped(at.alloc, text), frame(bars, at)) {
+            (Ok(text), Ok(frame)) => {
+                got.done(self.engine.log(text.as_str(), &frame, self.alignment));
+            }
+            (Err(bad), _) => got.bad(bad),
+            (_, Err(bad)) => got.bad(bad),
+        }
     }
-}
 
-fn alignment(name: &str) -> Result<MultiProgressAlignment, Bad> {
-    match name {
-        "top" => Ok(MultiProgressAlignment::Top),
-        "bottom" => Ok(MultiProgressAlignment::Bottom),
-        _ => Err(Bad::Step),
+    fn keep(&mut self, bar: &str, got: &mut Got) {
+        match number(bar) {
+            Ok(bar) => got.text(match self.engine.keep(bar) {
+                Keep::Passed => "passed",
+                Keep::Behind => "behind",
+                Keep::Absent => "absent",
+            }),
+            Err(bad) => got.bad(bad),
+        }
     }
-}
-
-fn clear(engine: &mut Engine<Behind>) -> Result<(), Bad> {
-    Ok(engine.clear()?)
-}
-
-fn keep(engine: &mut Engine<Behind>, bar: u64, got: &mut Got) -> Result<(), Bad> {
-    got.text(match engine.keep(bar) {
-        Keep::Passed => "passed",
-        Keep::Behind => "behind",
-        Keep::Absent => "absent",
-    });
-    Ok(())
 }
 
 /// The frame of bars, a tab between two: `NUMBER LINES`.
 fn frame(bars: &str, at: At) -> Result<Vec<Segment>, Bad> {
     let mut frame = Vec::new(at.alloc);
-    if !bars.is_empty() {
-        push_bars(&mut frame, bars, at)?;
+    if bars.is_empty() {
+        return Ok(frame);
     }
-    Ok(frame)
+    match push_bars(&mut frame, bars, at) {
+        Ok(()) => Ok(frame),
+        Err(bad) => Err(bad),
+    }
 }
 
 fn push_bars(frame: &mut Vec<Segment>, bars: &str, at: At) -> Result<(), Bad> {
@@ -119,11 +125,14 @@ fn push_bars(frame: &mut Vec<Segment>, bars: &str, at: At) -> Result<(), Bad> {
 
 /// The lines of a bar, `|` between two: an empty one, `~` and a text, or a bar.
 fn segment(bar: &str, at: At) -> Result<Segment, Bad> {
-    let mut words = bar;
-    let bar = number(next(&mut words))?;
+    let mut words = Words::of(bar);
+    let bar = words.number();
+    let bar = words.done(bar)?;
     let mut lines = Vec::new(at.alloc);
-    push_lines(&mut lines, words, at)?;
-    Ok(Segment { bar, lines })
+    match push_lines(&mut lines, words.rest(), at) {
+        Ok(()) => Ok(Segment { bar, lines }),
+        Err(bad) => Err(bad),
+    }
 }
 
 fn push_lines(lines: &mut Vec<LineType>, words: &str, at: At) -> Result<(), Bad> {
@@ -134,20 +143,21 @@ fn push_lines(lines: &mut Vec<LineType>, words: &str, at: At) -> Result<(), Bad>
 }
 
 fn line_of(line: &str, at: At) -> Result<LineType, Bad> {
-    if line.is_empty() {
-        return Ok(LineType::Empty);
-    }
-    match line.strip_prefix('~') {
-        Some(text) => Ok(LineType::Text(unescaped(at.alloc, text)?)),
-        None => Ok(LineType::Bar(unescaped(at.alloc, line)?)),
+    match (line, line.strip_prefix('~')) {
+        ("", _) => Ok(LineType::Empty),
+        (_, Some(text)) => Ok(LineType::Text(unescaped(at.alloc, text)?)),
+        (_, None) => Ok(LineType::Bar(unescaped(at.alloc, line)?)),
     }
 }
 
 /// Appends whether the text of a line is this: `is_text LINE`, a tab, and a text.
-pub fn is_text(rest: &str, at: At, got: &mut Got) -> Result<(), Bad> {
-    let (line, text) = rest.split_once('\t').ok_or(Bad::Step)?;
-    let line = line_of(line, at)?;
-    let text = unescaped(at.alloc, text)?;
-    got.flag(line.is_text(text.as_str()));
-    Ok(())
+pub fn is_text(rest: &str, at: At, got: &mut Got) {
+    let Some((line, text)) = rest.split_once('\t') else {
+        return got.bad(Bad::Step);
+    };
+    match (line_of(line, at), unescaped(at.alloc, text)) {
+        (Ok(line), Ok(text)) => got.flag(line.is_text(text.as_str())),
+        (Err(bad), _) => got.bad(bad),
+        (_, Err(bad)) => got.bad(bad),
+    }
 }

@@ -10,23 +10,21 @@ use scripts::spelling::number;
 
 /// Appends what a formatter shows: `HumanBytes N`, and so on. `HumanDurationShort` is by `write_short`. A quotient is
 /// `HumanFloatCount NUM/DEN`, and by `with_decimals` `HumanFloatCount:N NUM/DEN`; `-` where there is none.
-pub fn shown(rest: &str, got: &mut Got) -> Result<(), Bad> {
+pub fn shown(rest: &str, got: &mut Got) {
     let (formatter, value) = headed(rest);
-    match formatter.strip_prefix("HumanFloatCount") {
-        Some(decimals) => push_quotient(decimals, value, got),
-        None => push_number(formatter, number(value)?, got),
+    match (formatter.strip_prefix("HumanFloatCount"), number(value)) {
+        (Some(decimals), _) => push_quotient(decimals, value, got),
+        (None, Ok(value)) => push_number(formatter, value, got),
+        (None, Err(bad)) => got.bad(bad),
     }
 }
 
 /// Appends how many bytes a text says, as the option `--size` of `meter` reads it; `-` where it says no number.
 pub fn size_said(text: &str, got: &mut Got) {
-    match bytes_said(text) {
-        Some(bytes) => got.number(bytes),
-        None => got.text("-"),
-    }
+    got.optional(bytes_said(text));
 }
 
-fn push_number(formatter: &str, value: u64, got: &mut Got) -> Result<(), Bad> {
+fn push_number(formatter: &str, value: u64, got: &mut Got) {
     match formatter {
         "BinaryBytes" => got.number(BinaryBytes(value)),
         "DecimalBytes" => got.number(DecimalBytes(value)),
@@ -34,37 +32,39 @@ fn push_number(formatter: &str, value: u64, got: &mut Got) -> Result<(), Bad> {
         "HumanBytes" => got.number(HumanBytes(value)),
         "HumanCount" => got.number(HumanCount(value)),
         "HumanDuration" => got.number(HumanDuration(value)),
-        "HumanDurationShort" => return short(HumanDuration(value), got),
-        _ => return Err(Bad::Step),
-    }
-    Ok(())
-}
-
-fn short(duration: HumanDuration, got: &mut Got) -> Result<(), Bad> {
-    Ok(duration.write_short(got.room())?)
-}
-
-fn push_quotient(decimals: &str, value: &str, got: &mut Got) -> Result<(), Bad> {
-    match quotient(value)? {
-        Some(count) => push_count(decimals, count, got),
-        None => {
-            got.text("-");
-            Ok(())
+        "HumanDurationShort" => {
+            let done = HumanDuration(value).write_short(got.room());
+            got.done(done);
         }
+        _ => got.bad(Bad::Step),
+    }
+}
+
+fn push_quotient(decimals: &str, value: &str, got: &mut Got) {
+    match quotient(value) {
+        Ok(Some(count)) => push_count(decimals, count, got),
+        Ok(None) => got.text("-"),
+        Err(bad) => got.bad(bad),
     }
 }
 
 fn quotient(value: &str) -> Result<Option<HumanFloatCount>, Bad> {
-    let (num, den) = value.split_once('/').ok_or(Bad::Step)?;
-    Ok(HumanFloatCount::new(number(num)?, number(den)?))
+    let (num, den) = value.split_once('/').unwrap_or((value, ""));
+    match (number(num), number(den)) {
+        (Ok(num), Ok(den)) => Ok(HumanFloatCount::new(num, den)),
+        _ => Err(Bad::Step),
+    }
 }
 
-fn push_count(decimals: &str, count: HumanFloatCount, got: &mut Got) -> Result<(), Bad> {
-    match decimals.strip_prefix(':') {
-        Some(decimals) => Ok(count.with_decimals(number(decimals)?, got.room())?),
-        None => {
-            got.number(count);
-            Ok(())
+fn push_count(decimals: &str, count: HumanFloatCount, got: &mut Got) {
+    let Some(decimals) = decimals.strip_prefix(':') else {
+        return got.number(count);
+    };
+    match number(decimals) {
+        Ok(decimals) => {
+            let done = count.with_decimals(decimals, got.room());
+            got.done(done);
         }
+        Err(bad) => got.bad(bad),
     }
 }

@@ -1,26 +1,26 @@
 //! What a limiter answers.
 use indicatif_term::draw_target::RateLimiter;
 use indicatif_text::columns::Moment;
-use scripts::got::{Bad, Got};
-use scripts::row::next;
+use scripts::got::Got;
+use scripts::row::Words;
 use scripts::spelling::number;
 
 /// Appends what a limiter answers at each moment, one after another, 1 where it allows: `limiter RATE MAKING MOMENT ..`.
-pub fn answers(rest: &str, got: &mut Got) -> Result<(), Bad> {
-    let mut words = rest;
-    let rate: u8 = number(next(&mut words))?;
-    let making: Moment = number(next(&mut words))?;
-    let mut limiter = RateLimiter::new(rate, making)?;
-    push_answers(&mut limiter, words, got)
-}
-
-fn push_answers(limiter: &mut RateLimiter, moments: &str, got: &mut Got) -> Result<(), Bad> {
-    for moment in moments.split_whitespace() {
-        got.text(answer(limiter, number(moment)?));
+pub fn answers(rest: &str, got: &mut Got) {
+    let mut words = Words::of(rest);
+    let (rate, making): (u8, Moment) = (words.number(), words.number());
+    match (words.done(()), RateLimiter::new(rate, making)) {
+        (Err(bad), _) => got.bad(bad),
+        (_, Err(refusal)) => got.refusal(refusal),
+        (_, Ok(mut limiter)) => push_answers(&mut limiter, words.rest(), got),
     }
-    Ok(())
 }
 
-fn answer(limiter: &mut RateLimiter, now: Moment) -> &'static str {
-    if limiter.allow(now) { "1" } else { "0" }
+fn push_answers(limiter: &mut RateLimiter, moments: &str, got: &mut Got) {
+    for moment in moments.split_whitespace() {
+        match number(moment) {
+            Ok(now) => got.text(if limiter.allow(now) { "1" } else { "0" }),
+            Err(bad) => return got.bad(bad),
+        }
+    }
 }

@@ -3,7 +3,7 @@ use crate::styles::{Look, in_style, with_colours, with_text};
 use indicatif_text::columns::Moment;
 use scripts::got::{Bad, Got};
 use scripts::lone::{Bar, push_lines, style_of};
-use scripts::row::{At, headed, next};
+use scripts::row::{At, Words, headed};
 use scripts::spelling::{number, optional, unescaped};
 
 /// A bar that is made at 0: how it looks, what it has reached and says, and where it is shown. Its texts have escapes.
@@ -38,32 +38,25 @@ enum Last {
 /// - `coloured`, before one of these: with colours.
 /// - `laid COLS  TEMPLATE  CHARS  COLOURS  TAB  POS  LEN  MESSAGE  PREFIX  NOW  FINISHED`: it ticks at the moment `NOW`. What is 1 is so,
 ///   and what is 0 isn't.
-pub fn shown(name: &str, rest: &str, at: At, got: &mut Got) -> Result<(), Bad> {
-    match name {
-        "coloured" => {
-            let (name, rest) = headed(rest);
-            push(brief(name, rest, true)?, at, got)
-        }
-        "laid" => push(whole(rest)?, at, got),
-        _ => push(brief(name, rest, false)?, at, got),
+pub fn shown(name: &str, rest: &str, at: At, got: &mut Got) {
+    let layout = match name {
+        "coloured" => brief(headed(rest), true),
+        "laid" => whole(rest),
+        _ => brief((name, rest), false),
+    };
+    match layout {
+        Ok(layout) => push(layout, at, got),
+        Err(bad) => got.bad(bad),
     }
 }
 
-/// The next field; the others are left.
-fn field<'a>(fields: &mut &'a str) -> &'a str {
-    let (field, rest) = fields.split_once('\t').unwrap_or((*fields, ""));
-    *fields = rest;
-    field
-}
-
 /// A bar of which a row says the most needed.
-fn brief<'a>(name: &str, rest: &'a str, colours: bool) -> Result<Layout<'a>, Bad> {
-    let mut fields = rest;
-    let columns = number(next(&mut fields))?;
-    let template = field(&mut fields);
-    let plain = Layout {
-        columns,
-        template,
+fn brief<'a>((name, rest): (&str, &'a str), colours: bool) -> Result<Layout<'a>, Bad> {
+    let (columns, rest) = headed(rest);
+    let mut fields = Words::in_fields(rest);
+    let mut layout = Layout {
+        columns: fields.value(number(columns), 0),
+        template: fields.word(),
         chars: "-",
         colours,
         tab: 8,
@@ -74,37 +67,40 @@ fn brief<'a>(name: &str, rest: &'a str, colours: bool) -> Result<Layout<'a>, Bad
         last: Last::Nothing,
     };
     match name {
-        "said" => Ok(Layout {
-            message: fields,
-            ..plain
-        }),
+        "said" => layout.message = fields.rest(),
         "placed" => {
-            let chars = field(&mut fields);
-            Ok(Layout {
-                chars,
-                position: number(next(&mut fields))?,
-                len: optional(fields)?,
-                ..plain
-            })
+            layout.chars = fields.word();
+            let (position, len) = headed(fields.rest());
+            layout.position = fields.value(number(position), 0);
+            layout.len = fields.value(optional(len), None);
         }
-        _ => Err(Bad::Step),
+        _ => fields.spoil(),
     }
+    fields.done(layout)
 }
 
+/// A bar of which a row says all.
 fn whole(rest: &str) -> Result<Layout<'_>, Bad> {
-    let mut fields = rest;
-    Ok(Layout {
-        columns: number(field(&mut fields))?,
-        template: field(&mut fields),
-        chars: field(&mut fields),
-        colours: is_set(field(&mut fields))?,
-        tab: number(field(&mut fields))?,
-        position: number(field(&mut fields))?,
-        len: optional(field(&mut fields))?,
-        message: field(&mut fields),
-        prefix: field(&mut fields),
-        last: Last::Tick(number(field(&mut fields))?, is_set(fields)?),
-    })
+    let mut fields = Words::in_fields(rest);
+    let layout = Layout {
+        columns: fields.number(),
+        template: fields.word(),
+        chars: fields.word(),
+        colours: next_set(&mut fields),
+        tab: fields.number(),
+        position: fields.number(),
+        len: fields.optional(),
+        message: fields.word(),
+        prefix: fields.word(),
+        last: Last::Tick(fields.number(), fields.value(is_set(fields.rest()), false)),
+    };
+    fields.done(layout)
+}
+
+/// Whether the next field is 1.
+fn next_set(fields: &mut Words<'_>) -> bool {
+    let flag = fields.word();
+    fields.value(is_set(flag), false)
 }
 
 fn is_set(flag: &str) -> Result<bool, Bad> {
@@ -115,26 +111,31 @@ fn is_set(flag: &str) -> Result<bool, Bad> {
     }
 }
 
-fn push(layout: Layout<'_>, at: At, got: &mut Got) -> Result<(), Bad> {
-    let mut bar = bar_of(layout, At { now: 0, ..at })?;
-    let now = end(&mut bar, layout.last);
-    push_lines(&bar, layout.columns, now, got)
+fn push(layout: Layout<'_>, at: At, got: &mut Got) {
+    match bar_of(layout, At { now: 0, ..at }) {
+        Ok(mut bar) => {
+            let now = end(&mut bar, layout.last);
+            push_lines(&bar, layout.columns, now, got);
+        }
+        Err(bad) => got.bad(bad),
+    }
+}
+
+fn bar_of(layout: Layout<'_>, at: At) -> Result<Box<Bar>, Bad> {
+    let mut bar = in_style(look_of(layout, at)?, layout.len, at)?;
+    match set_up(&mut bar, layout, at) {
+        Ok(()) => Ok(bar),
+        Err(bad) => Err(bad),
+    }
 }
 
 fn look_of(layout: Layout<'_>, at: At) -> Result<Look, Bad> {
     let look = style_of(at, layout.template)?;
     let look = with_colours(look, layout.colours, at)?;
-    if layout.chars == "-" {
-        return Ok(look);
+    match layout.chars {
+        "-" => Ok(look),
+        chars => with_text(look, ("progress_chars", chars), at),
     }
-    let chars = unescaped(at.alloc, layout.chars)?;
-    with_text(look, ("progress_chars", chars.as_str()), at)
-}
-
-fn bar_of(layout: Layout<'_>, at: At) -> Result<Box<Bar>, Bad> {
-    let mut bar = in_style(look_of(layout, at)?, layout.len, at)?;
-    set_up(&mut bar, layout, at)?;
-    Ok(bar)
 }
 
 fn set_up(bar: &mut Bar, layout: Layout<'_>, at: At) -> Result<(), Bad> {

@@ -7,14 +7,14 @@ ghost use Rattle.rows.specs.Noted.{noted_view};
 
 use crate::cells::next_size;
 use indicatif_bar::style::NoTracker;
-use indicatif_board::multi::Board;
+use indicatif_board::multi::{BarId, Board};
 use indicatif_term::draw_target::ProgressDrawTarget;
 use indicatif_term::in_memory::InMemoryTerm;
 use indicatif_term::term_like::TermLike;
 use scripts::boards::{BOARD_ID, candidate, of_bar};
 use scripts::commands::command;
 use scripts::got::{Bad, Got};
-use scripts::row::{At, headed};
+use scripts::row::{At, Words, headed};
 use scripts::spelling::{flag, unescaped};
 use std::cell::RefCell;
 use std::io;
@@ -135,72 +135,79 @@ impl TermLike for Noted {
 /// A board on such a terminal.
 #[derive(Drop)]
 pub struct OnNoted {
-    board: Box<Board<NoTracker, Noted>>,
+    board: Board<NoTracker, Noted>,
     memory: Rc<RefCell<InMemoryTerm>>,
 }
 
-impl OnNoted {
-    /// `noted ROWS COLS`.
-    pub fn begin(rest: &str, at: At) -> Result<OnNoted, Bad> {
-        let mut words = rest;
-        let (rows, cols) = next_size(&mut words)?;
-        let term = InMemoryTerm::new(at.alloc, rows, cols)?;
-        let memory = Rc::new(at.alloc, RefCell::new(term))?;
-        let term = Noted {
-            memory: memory.clone()?,
-            rows,
-            cols,
-            faults: 0,
-            kind: ErrorKind::Other,
-        };
-        let target = ProgressDrawTarget::term_like(term);
-        let board = at.boxed(Board::new(at.alloc, target, BOARD_ID))?;
-        Ok(OnNoted { board, memory })
-    }
+/// `noted ROWS COLS`.
+pub fn begin(rest: &str, at: At) -> Result<Box<OnNoted>, Bad> {
+    let (rows, cols) = next_size(&mut Words::of(rest))?;
+    let term = InMemoryTerm::new(at.alloc, rows, cols)?;
+    let memory = Rc::new(at.alloc, RefCell::new(term))?;
+    let term = Noted {
+        memory: memory.clone()?,
+        rows,
+        cols,
+        faults: 0,
+        kind: ErrorKind::Other,
+    };
+    let target = ProgressDrawTarget::term_like(term);
+    let board = Board::new(at.alloc, target, BOARD_ID);
+    at.boxed(OnNoted { board, memory })
+}
 
+impl OnNoted {
     /// `move yes` or `move no`; `add BAR`, `log TEXT`, `clear`; a command of a bar; or `moves`, the calls since they were last read, and
     /// `contents`.
-    pub fn step(&mut self, step: &str, at: At, got: &mut Got) -> Result<(), Bad> {
+    pub fn step(&mut self, step: &str, at: At, got: &mut Got) {
         if let Some((id, text)) = of_bar(step) {
-            got.answer(self.board.command(id, command(at.alloc, text)?, at.now));
-            return Ok(());
+            return self.tell(id, text, at, got);
         }
         match headed(step) {
-            ("move", word) => self.board.set_move_cursor(flag(word)?),
+            ("move", word) => match flag(word) {
+                Ok(on) => self.board.set_move_cursor(on),
+                Err(bad) => got.bad(bad),
+            },
             ("clear", "") => got.answer(self.board.clear(at.now)),
-            ("log", text) => {
-                let text = unescaped(at.alloc, text)?;
-                got.answer(self.board.println(text.as_str(), at.now));
-            }
-            ("moves", "") => return push_moves(&self.memory, got),
-            ("contents", "") => return push_contents(&self.memory, got),
-            ("add", bar) => return self.add(bar, at, got),
-            _ => return Err(Bad::Step),
+            ("log", text) => match unescaped(at.alloc, text) {
+                Ok(text) => got.answer(self.board.println(text.as_str(), at.now)),
+                Err(bad) => got.bad(bad),
+            },
+            ("moves", "") => push_moves(&self.memory, got),
+            ("contents", "") => push_contents(&self.memory, got),
+            ("add", bar) => self.add(bar, at, got),
+            _ => got.bad(Bad::Step),
         }
-        Ok(())
     }
 
-    fn add(&mut self, bar: &str, at: At, got: &mut Got) -> Result<(), Bad> {
-        match self.board.add(candidate(at, bar)?) {
-            Ok(id) => got.number(id.number),
-            Err(turned) => got.refusal(turned.refusal),
+    fn tell(&mut self, id: BarId, text: &str, at: At, got: &mut Got) {
+        match command(at.alloc, text) {
+            Ok(command) => got.answer(self.board.command(id, command, at.now)),
+            Err(bad) => got.bad(bad),
         }
-        Ok(())
+    }
+
+    fn add(&mut self, bar: &str, at: At, got: &mut Got) {
+        match candidate(at, bar) {
+            Ok(candidate) => match self.board.add(candidate) {
+                Ok(id) => got.number(id.number),
+                Err(turned) => got.refusal(turned.refusal),
+            },
+            Err(bad) => got.bad(bad),
+        }
     }
 }
 
-fn push_moves(memory: &RefCell<InMemoryTerm>, got: &mut Got) -> Result<(), Bad> {
-    let Ok(mut term) = memory.try_borrow_mut() else {
-        return Err(Bad::Step);
-    };
-    got.text(term.moves_since_last_check().as_str());
-    Ok(())
+fn push_moves(memory: &RefCell<InMemoryTerm>, got: &mut Got) {
+    match memory.try_borrow_mut() {
+        Ok(mut term) => got.text(term.moves_since_last_check().as_str()),
+        Err(_) => got.bad(Bad::Step),
+    }
 }
 
-fn push_contents(memory: &RefCell<InMemoryTerm>, got: &mut Got) -> Result<(), Bad> {
-    let Ok(term) = memory.try_borrow() else {
-        return Err(Bad::Step);
-    };
-    got.text(term.contents()?.as_str());
-    Ok(())
+fn push_contents(memory: &RefCell<InMemoryTerm>, got: &mut Got) {
+    match memory.try_borrow() {
+        Ok(term) => got.text_of(term.contents()),
+        Err(_) => got.bad(Bad::Step),
+    }
 }

@@ -1,7 +1,7 @@
 //! `bars run` over readers and writers: what it prints, what it says was wrong, and its status.
 use bars_run::run_bars;
 use scripts::got::{Bad, Got};
-use scripts::row::{At, headed};
+use scripts::row::{At, Words};
 use scripts::spelling::{number, unescaped_bytes};
 use std::io;
 use std::io::{Error, ErrorKind, Read, Write};
@@ -72,21 +72,27 @@ struct Limits {
 ///
 /// A change, of which each comes once at most, is `input=KIND`, which fails so behind the commands (`BrokenPipe` or `OutOfMemory`); `room=N`, so many bytes are printed;
 /// `flush=no`, the last flush fails; `said=no`, what was wrong can't be said. The word `alone`: no words, not even an empty one.
-pub fn played(rest: &str, at: At, got: &mut Got) -> Result<(), Bad> {
-    let (words, commands) = rest.split_once(':').ok_or(Bad::Step)?;
-    let (limits, words) = limited(words)?;
-    let commands = unescaped_bytes(at.alloc, commands.strip_prefix(' ').unwrap_or(commands))?;
-    let mut args = Vec::new(at.alloc);
-    if words != "alone" {
-        push_words(words, at, &mut args)?;
+pub fn played(rest: &str, at: At, got: &mut Got) {
+    let Some((words, commands)) = rest.split_once(':') else {
+        return got.bad(Bad::Step);
+    };
+    let commands = commands.strip_prefix(' ').unwrap_or(commands);
+    match (limited(words), unescaped_bytes(at.alloc, commands)) {
+        (Ok((limits, words)), Ok(commands)) => {
+            let mut args = Vec::new(at.alloc);
+            match push_words(words, at, &mut args) {
+                Ok(()) => run(&args, &commands, (limits, at), got),
+                Err(bad) => got.bad(bad),
+            }
+        }
+        (Err(bad), _) => got.bad(bad),
+        (_, Err(bad)) => got.bad(bad),
     }
-    run(&args, &commands, (limits, at), got);
-    Ok(())
 }
 
 /// The limits that up to four changes make, and the words that are left.
-fn limited(words: &str) -> Result<(Limits, &str), Bad> {
-    let mut words = words;
+fn limited(text: &str) -> Result<(Limits, &str), Bad> {
+    let mut words = Words::of(text);
     let mut limits = Limits {
         failure: None,
         printed: usize::MAX,
@@ -94,26 +100,30 @@ fn limited(words: &str) -> Result<(Limits, &str), Bad> {
         is_flush_failing: false,
     };
     for _ in 0..4 {
-        words = changed(&mut limits, words)?;
+        change(&mut limits, &mut words);
     }
-    Ok((limits, words))
+    words.done((limits, words.rest()))
 }
 
-/// Makes the change that the next word asks for, if it does; the words that are left.
-fn changed<'a>(limits: &mut Limits, words: &'a str) -> Result<&'a str, Bad> {
-    let (word, rest) = headed(words);
-    match word.split_once('=') {
+/// Makes the change that the next word asks for, if it does.
+fn change(limits: &mut Limits, words: &mut Words<'_>) {
+    let mut behind = *words;
+    match behind.word().split_once('=') {
         Some(("input", "BrokenPipe")) => limits.failure = Some(ErrorKind::BrokenPipe),
         Some(("input", "OutOfMemory")) => limits.failure = Some(ErrorKind::OutOfMemory),
-        Some(("room", room)) => limits.printed = number(room)?,
+        Some(("room", room)) => limits.printed = behind.value(number(room), 0),
         Some(("flush", "no")) => limits.is_flush_failing = true,
         Some(("said", "no")) => limits.said = 0,
-        _ => return Ok(words),
+        _ => return,
     }
-    Ok(rest)
+    *words = behind;
 }
 
+/// The words that `bars` is run with.
 fn push_words(words: &str, at: At, args: &mut Vec<String>) -> Result<(), Bad> {
+    if words == "alone" {
+        return Ok(());
+    }
     for word in words.split(' ') {
         args.push(String::from_str(at.alloc, word)?)?;
     }

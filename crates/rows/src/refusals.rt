@@ -2,7 +2,7 @@
 use indicatif_text::columns::{Refusal, TemplateState};
 use indicatif_text::template::TemplateError;
 use scripts::got::{Bad, Got};
-use scripts::row::{At, next};
+use scripts::row::{At, headed};
 use scripts::spelling::unescaped;
 use std::io::ErrorKind;
 
@@ -27,59 +27,72 @@ const NAMED: [(&str, Refusal); 16] = [
 ];
 
 /// Appends a refusal's number and its text: `refusal NAME`; `refusal Template C STATE`: of a character.
-pub fn told(rest: &str, at: At, got: &mut Got) -> Result<(), Bad> {
+pub fn told(rest: &str, at: At, got: &mut Got) {
     let refusal = match rest.strip_prefix("Template ") {
-        Some(rest) => unexpected(rest, at)?.into(),
-        None => named(rest)?,
+        Some(rest) => match unexpected(rest, at) {
+            Some(error) => Some(error.into()),
+            None => None,
+        },
+        None => named(rest),
     };
-    got.refusal(refusal);
-    got.text(" ");
-    got.number(refusal);
-    Ok(())
+    match refusal {
+        Some(refusal) => {
+            got.refusal(refusal);
+            got.text(" ");
+            got.number(refusal);
+        }
+        None => got.bad(Bad::Step),
+    }
 }
 
 /// Appends an error's text, and as what it is refused: `template_error NAME`, or `template_error C STATE`.
-pub fn of_template(rest: &str, at: At, got: &mut Got) -> Result<(), Bad> {
+pub fn of_template(rest: &str, at: At, got: &mut Got) {
     let error = match rest {
-        "WidthTooLarge" => TemplateError::WidthTooLarge,
-        "Memory" => TemplateError::Memory,
-        rest => unexpected(rest, at)?,
+        "WidthTooLarge" => Some(TemplateError::WidthTooLarge),
+        "Memory" => Some(TemplateError::Memory),
+        rest => unexpected(rest, at),
     };
-    got.number(error);
-    got.text(" ");
-    got.refusal(error.into());
-    Ok(())
-}
-
-fn unexpected(rest: &str, at: At) -> Result<TemplateError, Bad> {
-    let mut words = rest;
-    let next = character(next(&mut words), at)?;
-    Ok(TemplateError::Unexpected {
-        next,
-        state: state(words)?,
-    })
-}
-
-fn character(spelled: &str, at: At) -> Result<char, Bad> {
-    let text = unescaped(at.alloc, spelled)?;
-    text.as_str().chars().next().ok_or(Bad::Step)
-}
-
-fn state(name: &str) -> Result<TemplateState, Bad> {
-    match name {
-        "MaybeOpen" => Ok(TemplateState::MaybeOpen),
-        "DoubleClose" => Ok(TemplateState::DoubleClose),
-        "Align" => Ok(TemplateState::Align),
-        "Width" => Ok(TemplateState::Width),
-        _ => Err(Bad::Step),
+    match error {
+        Some(error) => {
+            got.number(error);
+            got.text(" ");
+            got.refusal(error.into());
+        }
+        None => got.bad(Bad::Step),
     }
 }
 
-fn named(name: &str) -> Result<Refusal, Bad> {
+/// The error of a character in a state.
+fn unexpected(rest: &str, at: At) -> Option<TemplateError> {
+    let (spelled, state) = headed(rest);
+    match (character(spelled, at), state_of(state)) {
+        (Some(next), Some(state)) => Some(TemplateError::Unexpected { next, state }),
+        _ => None,
+    }
+}
+
+fn character(spelled: &str, at: At) -> Option<char> {
+    match unescaped(at.alloc, spelled) {
+        Ok(text) => text.as_str().chars().next(),
+        Err(_) => None,
+    }
+}
+
+fn state_of(name: &str) -> Option<TemplateState> {
+    match name {
+        "MaybeOpen" => Some(TemplateState::MaybeOpen),
+        "DoubleClose" => Some(TemplateState::DoubleClose),
+        "Align" => Some(TemplateState::Align),
+        "Width" => Some(TemplateState::Width),
+        _ => None,
+    }
+}
+
+fn named(name: &str) -> Option<Refusal> {
     for (named, refusal) in NAMED {
         if named == name {
-            return Ok(refusal);
+            return Some(refusal);
         }
     }
-    Err(Bad::Step)
+    None
 }

@@ -1,18 +1,20 @@
 //! Long texts, told by their runs.
 use crate::{formats, lines};
-use scripts::got::{Bad, Got};
+use scripts::got::Got;
 use scripts::row::{At, headed};
 
 /// Appends what a step gives by its runs of one character, a space between two: how often, and the character. `runs STEP`.
-pub fn counted(rest: &str, at: At, got: &mut Got) -> Result<(), Bad> {
+pub fn counted(rest: &str, at: At, got: &mut Got) {
     let (name, rest) = headed(rest);
     let mut long = Got::new(at.alloc);
     match name {
-        "format" => formats::shown(rest, &mut long)?,
-        _ => lines::shown(name, rest, at, &mut long)?,
+        "format" => formats::shown(rest, &mut long),
+        _ => lines::shown(name, rest, at, &mut long),
     }
-    push_runs(long.as_str(), got);
-    Ok(())
+    match long.fault() {
+        None => push_runs(long.as_str(), got),
+        Some(bad) => got.bad(bad),
+    }
 }
 
 fn push_runs(text: &str, got: &mut Got) {

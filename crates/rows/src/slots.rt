@@ -2,31 +2,44 @@
 use crate::boards::push_slot;
 use indicatif_board::multi::MultiState;
 use scripts::got::{Bad, Got};
-use scripts::row::{At, headed};
-use scripts::spelling::number;
+use scripts::row::{At, Words};
 
 /// A table.
 #[derive(Drop)]
 pub struct Table(Box<MultiState>);
 
+/// `table`: one without bars.
+pub fn begin(at: At) -> Result<Table, Bad> {
+    match at.boxed(MultiState::new(at.alloc)) {
+        Ok(table) => Ok(Table(table)),
+        Err(bad) => Err(bad),
+    }
+}
+
 impl Table {
-    /// `table`: one without bars.
-    pub fn begin(at: At) -> Result<Table, Bad> {
-        Ok(Table(at.boxed(MultiState::new(at.alloc))?))
+    /// `insert PLACE`, `remove PLACE`, `remove_first COUNT`; `order`, `slots` in that order, `slot NUMBER`.
+    pub fn step(&mut self, step: &str, got: &mut Got) {
+        match step {
+            "order" => got.numbers(self.0.order()),
+            "slots" => push_slots(&self.0, got),
+            _ => self.by_number(step, got),
+        }
     }
 
-    /// `insert PLACE`, `remove PLACE`, `remove_first COUNT`; `order`, `slots` in that order, `slot NUMBER`.
-    pub fn step(&mut self, step: &str, got: &mut Got) -> Result<(), Bad> {
-        match headed(step) {
-            ("insert", place) => got.number(self.0.insert(number(place)?)?),
-            ("remove", place) => self.0.remove(number(place)?),
-            ("remove_first", count) => self.0.remove_first(number(count)?),
-            ("order", "") => got.numbers(self.0.order()),
-            ("slots", "") => push_slots(&self.0, got),
-            ("slot", bar) => push_slot(self.0.slot(number(bar)?), got),
-            _ => return Err(Bad::Step),
+    fn by_number(&mut self, step: &str, got: &mut Got) {
+        let mut words = Words::of(step);
+        let name = words.word();
+        let number: u64 = words.last();
+        match (words.done(name), number) {
+            (Ok("insert"), place) => match self.0.insert(place as usize) {
+                Ok(number) => got.number(number),
+                Err(refusal) => got.refusal(refusal),
+            },
+            (Ok("remove"), place) => self.0.remove(place as usize),
+            (Ok("remove_first"), count) => self.0.remove_first(count as usize),
+            (Ok("slot"), bar) => push_slot(self.0.slot(bar), got),
+            _ => got.bad(Bad::Step),
         }
-        Ok(())
     }
 }
 

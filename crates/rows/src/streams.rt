@@ -7,29 +7,40 @@ use indicatif_term::term_like::Term;
 use indicatif_text::columns::{Drawn, Refusal};
 use scripts::got::{Bad, Got};
 use scripts::lone::bar_of;
-use scripts::row::{At, next};
-use scripts::spelling::{flag, number, unescaped};
+use scripts::row::{At, Words};
+use scripts::spelling::{number, unescaped};
 
 /// A target on a stream of bytes.
 type Target = ProgressDrawTarget<Term<Vec<u8>>>;
 
 /// `stream NAME ATTENDED TERM`, where the name is `stdout`, `stderr` or `bar`, `-` is for no `TERM` and `''` for an empty one: whether a target there is
 /// hidden; of `bar` what a tick answers. Behind these a rate: one of so many draws a second.
-pub fn asked(rest: &str, at: At, got: &mut Got) -> Result<(), Bad> {
-    let mut words = rest;
-    let name = next(&mut words);
-    let facts = facts(&mut words, at)?;
-    match name {
-        "bar" => got.answer(ticked(facts, at)?),
-        _ => push_hidden(target(name, facts, (rate_of(words)?, at))?, got),
+pub fn asked(rest: &str, at: At, got: &mut Got) {
+    let mut words = Words::of(rest);
+    let name = words.word();
+    match (name, facts(&mut words, at)) {
+        ("bar", Ok(facts)) => match ticked(facts, at) {
+            Ok(answer) => got.answer(answer),
+            Err(bad) => got.bad(bad),
+        },
+        (_, Ok(facts)) => match target(name, facts, (words.rest(), at)) {
+            Ok(target) => got.text(if target.is_hidden() {
+                "hidden"
+            } else {
+                "shown"
+            }),
+            Err(bad) => got.bad(bad),
+        },
+        (_, Err(bad)) => got.bad(bad),
     }
-    Ok(())
 }
 
 /// Facts of a stream of 4 rows and 10 columns.
-fn facts(words: &mut &str, at: At) -> Result<Facts, Bad> {
-    let attended = flag(next(words))?;
-    let term = match next(words) {
+fn facts(words: &mut Words<'_>, at: At) -> Result<Facts, Bad> {
+    let attended = words.flag();
+    let name = words.word();
+    words.done(())?;
+    let term = match name {
         "-" => None,
         "''" => Some(String::new(at.alloc)),
         text => Some(unescaped(at.alloc, text)?),
@@ -50,29 +61,20 @@ fn rate_of(word: &str) -> Result<Option<u8>, Bad> {
     }
 }
 
-fn target(name: &str, facts: Facts, (rate, at): (Option<u8>, At)) -> Result<Target, Bad> {
+fn target(name: &str, facts: Facts, (rate, at): (&str, At)) -> Result<Target, Bad> {
+    let rate = rate_of(rate)?;
     let writer = Vec::new(at.alloc);
-    match (name, rate) {
+    let made = match (name, rate) {
         ("stdout", None) => Ok(ProgressDrawTarget::stdout(writer, facts, at.now)),
         ("stderr", None) => Ok(ProgressDrawTarget::stderr(writer, facts, at.now)),
-        ("stdout", Some(rate)) => {
-            let made = ProgressDrawTarget::stdout_with_hz(writer, facts, rate, at.now);
-            Ok(made?)
-        }
-        ("stderr", Some(rate)) => {
-            let made = ProgressDrawTarget::stderr_with_hz(writer, facts, rate, at.now);
-            Ok(made?)
-        }
-        _ => Err(Bad::Step),
+        ("stdout", Some(rate)) => ProgressDrawTarget::stdout_with_hz(writer, facts, rate, at.now),
+        ("stderr", Some(rate)) => ProgressDrawTarget::stderr_with_hz(writer, facts, rate, at.now),
+        _ => return Err(Bad::Step),
+    };
+    match made {
+        Ok(target) => Ok(target),
+        Err(refusal) => Err(Bad::Refused(refusal)),
     }
-}
-
-fn push_hidden(target: Target, got: &mut Got) {
-    got.text(if target.is_hidden() {
-        "hidden"
-    } else {
-        "shown"
-    });
 }
 
 /// What a tick of a bar answers on a terminal in memory that stands for the stream.

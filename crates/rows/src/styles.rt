@@ -16,34 +16,50 @@ pub struct Styled {
     look: Option<Look>,
 }
 
+/// `style TEMPLATE`, `default_bar` or `default_spinner`: a new style.
+pub fn begin(name: &str, rest: &str, at: At) -> Result<Styled, Bad> {
+    let look = match name {
+        "style" => style_of(at, rest),
+        "default_bar" => taken_up(at, ProgressStyle::default_bar(at.alloc)),
+        _ => taken_up(at, ProgressStyle::default_spinner(at.alloc)),
+    };
+    match look {
+        Ok(look) => Ok(Styled { look: Some(look) }),
+        Err(bad) => Err(bad),
+    }
+}
+
 impl Styled {
-    /// `style TEMPLATE`, `default_bar` or `default_spinner`: a new style.
-    pub fn begin(name: &str, rest: &str, at: At) -> Result<Styled, Bad> {
-        let look = match name {
-            "style" => style_of(at, rest)?,
-            "default_bar" => taken_up(at, ProgressStyle::default_bar(at.alloc))?,
-            _ => taken_up(at, ProgressStyle::default_spinner(at.alloc))?,
+    /// A builder, or what is read.
+    pub fn step(&mut self, step: &str, at: At, got: &mut Got) {
+        let (name, rest) = headed(step);
+        let is_read = match &self.look {
+            Some(look) => read(look, (name, rest), at, got),
+            None => false,
         };
-        Ok(Styled { look: Some(look) })
+        if !is_read {
+            self.build((name, rest), at, got);
+        }
     }
 
-    /// A builder, or what is read.
-    pub fn step(&mut self, step: &str, at: At, got: &mut Got) -> Result<(), Bad> {
-        let (name, rest) = headed(step);
-        if let Some(look) = &self.look {
-            if read(look, (name, rest), at, got)? {
-                return Ok(());
-            }
+    fn build(&mut self, step: (&str, &str), at: At, got: &mut Got) {
+        let built = match self.look.take() {
+            Some(look) => built(look, step, at),
+            None => Err(Bad::Step),
+        };
+        match built {
+            Ok(look) => self.look = Some(look),
+            Err(bad) => got.bad(bad),
         }
-        let look = self.look.take().ok_or(Bad::Step)?;
-        self.look = Some(built(look, (name, rest), at)?);
-        Ok(())
     }
 }
 
 /// What a builder made.
 fn taken_up(at: At, made: Result<ProgressStyle<NoTracker>, Refusal>) -> Result<Look, Bad> {
-    at.boxed(made?)
+    match made {
+        Ok(style) => at.boxed(style),
+        Err(refusal) => Err(Bad::Refused(refusal)),
+    }
 }
 
 /// The builder that a step spells: `template TEMPLATE`, `tick_chars CHARS`, `progress_chars CHARS`, `tick_strings` and behind a tab each
@@ -51,14 +67,19 @@ fn taken_up(at: At, made: Result<ProgressStyle<NoTracker>, Refusal>) -> Result<L
 fn built(look: Look, (name, rest): (&str, &str), at: At) -> Result<Look, Bad> {
     match name {
         "tick_strings" => with_tick_strings(look, rest, at),
-        "colours" => with_colours(look, flag(rest)?, at),
+        "colours" => match flag(rest) {
+            Ok(colours) => with_colours(look, colours, at),
+            Err(bad) => Err(bad),
+        },
         "clone" => taken_up(at, look.try_clone()),
-        _ => with_text(look, (name, unescaped(at.alloc, rest)?.as_str()), at),
+        _ => with_text(look, (name, rest), at),
     }
 }
 
-/// The same style with another template, other ticks or other characters of a bar.
+/// The same style with another template, other ticks or other characters of a bar, of a text with escapes.
 pub fn with_text(look: Look, (name, text): (&str, &str), at: At) -> Result<Look, Bad> {
+    let text = unescaped(at.alloc, text)?;
+    let text = text.as_str();
     match name {
         "template" => taken_up(at, Box::into_inner(look).template(text)),
         "tick_chars" => taken_up(at, Box::into_inner(look).tick_chars(text)),
@@ -68,7 +89,8 @@ pub fn with_text(look: Look, (name, text): (&str, &str), at: At) -> Result<Look,
 }
 
 fn with_tick_strings(look: Look, rest: &str, at: At) -> Result<Look, Bad> {
-    let texts = texts(rest, at)?;
+    let mut texts = Vec::new(at.alloc);
+    push_texts(&mut texts, rest, at)?;
     let mut strings = Vec::new(at.alloc);
     for text in &texts {
         strings.push(text.as_str())?;
@@ -76,13 +98,12 @@ fn with_tick_strings(look: Look, rest: &str, at: At) -> Result<Look, Bad> {
     taken_up(at, Box::into_inner(look).tick_strings(&strings))
 }
 
-/// The texts behind tabs.
-fn texts(rest: &str, at: At) -> Result<Vec<String>, Bad> {
-    let mut texts = Vec::new(at.alloc);
+/// Appends the texts behind tabs.
+fn push_texts(texts: &mut Vec<String>, rest: &str, at: At) -> Result<(), Bad> {
     for text in rest.split('\t').skip(1) {
         texts.push(unescaped(at.alloc, text)?)?;
     }
-    Ok(texts)
+    Ok(())
 }
 
 /// Reads of a style `tick TICKS` or `last_tick`, texts of its spinner, or `lines COLS`, those of a new bar of 10; whether the step
@@ -92,25 +113,27 @@ fn read(
     (name, rest): (&str, &str),
     at: At,
     got: &mut Got,
-) -> Result<bool, Bad> {
-    match name {
-        "tick" => got.text(look.get_tick_str(number(rest)?)),
-        "last_tick" => got.text(look.get_final_tick_str()),
-        "lines" => push_new_lines(look, number(rest)?, at, got)?,
-        _ => return Ok(false),
+) -> bool {
+    match (name, number::<u64>(rest)) {
+        ("last_tick", _) => got.text(look.get_final_tick_str()),
+        ("tick", Ok(ticks)) => got.text(look.get_tick_str(ticks)),
+        ("tick", Err(bad)) => got.bad(bad),
+        ("lines", _) => push_new_lines(look, rest, at, got),
+        _ => return false,
     }
-    Ok(true)
+    true
 }
 
-fn push_new_lines(
-    look: &ProgressStyle<NoTracker>,
-    columns: u16,
-    at: At,
-    got: &mut Got,
-) -> Result<(), Bad> {
-    let look = taken_up(at, look.try_clone())?;
-    let bar = in_style(look, Some(10), at)?;
-    push_lines(&bar, columns, at.now, got)
+fn push_new_lines(look: &ProgressStyle<NoTracker>, columns: &str, at: At, got: &mut Got) {
+    let bar = match taken_up(at, look.try_clone()) {
+        Ok(look) => in_style(look, Some(10), at),
+        Err(bad) => Err(bad),
+    };
+    match (number(columns), bar) {
+        (Ok(columns), Ok(bar)) => push_lines(&bar, columns, at.now, got),
+        (Err(bad), _) => got.bad(bad),
+        (_, Err(bad)) => got.bad(bad),
+    }
 }
 
 /// The same style with colours, or without.

@@ -1,43 +1,38 @@
 //! Templates, and the words of styles.
 use indicatif_text::columns::Style;
 use indicatif_text::template::{Alignment, Part, Template};
-use scripts::got::{Bad, Got};
-use scripts::row::{At, next};
+use scripts::got::Got;
+use scripts::row::{At, headed};
 use scripts::spelling::unescaped;
 
 /// Appends the parts of `parse TEMPLATE`, ` | ` between two: `L TEXT`, `N` for a newline, or `P KEY ALIGNMENT WIDTH ! STYLE STYLE`, with
 /// `-` for what isn't there and styles as the numbers that they write.
-pub fn parsed(rest: &str, at: At, got: &mut Got) -> Result<(), Bad> {
-    let text = unescaped(at.alloc, rest)?;
-    match Template::parse(at.alloc, text.as_str()) {
-        Ok(template) => push_parts(&template, at, got),
-        Err(error) => Err(Bad::Refused(error.into())),
+pub fn parsed(rest: &str, at: At, got: &mut Got) {
+    match unescaped(at.alloc, rest) {
+        Ok(text) => match Template::parse(at.alloc, text.as_str()) {
+            Ok(template) => push_parts(&template, at, got),
+            Err(error) => got.refusal(error.into()),
+        },
+        Err(bad) => got.bad(bad),
     }
 }
 
-fn push_parts(template: &Template, at: At, got: &mut Got) -> Result<(), Bad> {
-    let mut follows = false;
+fn push_parts(template: &Template, at: At, got: &mut Got) {
+    let mut parting = "";
     for part in template.parts() {
-        if follows {
-            got.text(" | ");
-        }
-        push_part(part, at, got)?;
-        follows = true;
+        got.text(parting);
+        push_part(part, at, got);
+        parting = " | ";
     }
-    Ok(())
 }
 
-fn push_part(part: Part<'_>, at: At, got: &mut Got) -> Result<(), Bad> {
+fn push_part(part: Part<'_>, at: At, got: &mut Got) {
     match part {
         Part::Literal(text) => {
             got.text("L ");
             got.text(text);
-            Ok(())
         }
-        Part::NewLine => {
-            got.text("N");
-            Ok(())
-        }
+        Part::NewLine => got.text("N"),
         Part::Placeholder {
             key,
             align,
@@ -50,8 +45,8 @@ fn push_part(part: Part<'_>, at: At, got: &mut Got) -> Result<(), Bad> {
             got.text(key);
             push_layout(align, width, got);
             got.text(if truncate { " !" } else { " -" });
-            push_numbers(style, at, got)?;
-            push_numbers(alternative, at, got)
+            push_numbers(style, at, got);
+            push_numbers(alternative, at, got);
         }
     }
 }
@@ -69,13 +64,14 @@ fn push_layout(align: Alignment, width: Option<u16>, got: &mut Got) {
 }
 
 /// Appends the numbers of a style, parted by commas: those that it writes round an empty text, but for the last.
-fn push_numbers(style: Option<Style>, at: At, got: &mut Got) -> Result<(), Bad> {
+fn push_numbers(style: Option<Style>, at: At, got: &mut Got) {
     let mut written = String::new(at.alloc);
-    if let Some(style) = style {
-        style.apply_to(true, "", &mut written)?;
-    }
+    let done = match style {
+        Some(style) => style.apply_to(true, "", &mut written),
+        None => Ok(()),
+    };
+    got.done(done);
     push_sequences(written.as_str(), got);
-    Ok(())
 }
 
 fn push_sequences(written: &str, got: &mut Got) {
@@ -100,32 +96,29 @@ fn push_sequences(written: &str, got: &mut Got) {
 /// - `painted WORDS TEXT`, `unpainted WORDS TEXT`: a text in this style, with colours and without.
 /// - `opened WORDS`: whether something is opened, and what is written.
 /// - `same_style WORDS WORDS`; `no_style WORDS`: whether the style is that of no words.
-pub fn styled(name: &str, rest: &str, at: At, got: &mut Got) -> Result<(), Bad> {
-    let mut rest = rest;
-    let style = Style::from_dotted_str(next(&mut rest));
-    match name {
-        "painted" => paint(style, true, unescaped(at.alloc, rest)?.as_str(), got),
-        "unpainted" => paint(style, false, unescaped(at.alloc, rest)?.as_str(), got),
-        "opened" => open(style, got),
-        "same_style" => {
-            got.flag(style == Style::from_dotted_str(rest));
-            Ok(())
-        }
-        "no_style" => {
-            got.flag(style == Style::new());
-            Ok(())
-        }
-        _ => Err(Bad::Step),
+pub fn styled(name: &str, rest: &str, at: At, got: &mut Got) {
+    let (words, rest) = headed(rest);
+    let style = Style::from_dotted_str(words);
+    match (name, unescaped(at.alloc, rest)) {
+        ("opened", _) => open(style, got),
+        ("same_style", _) => got.flag(style == Style::from_dotted_str(rest)),
+        ("no_style", _) => got.flag(style == Style::new()),
+        (_, Ok(text)) => paint(style, name == "painted", text.as_str(), got),
+        (_, Err(bad)) => got.bad(bad),
     }
 }
 
-fn paint(style: Style, colours: bool, text: &str, got: &mut Got) -> Result<(), Bad> {
-    Ok(style.apply_to(colours, text, got.room())?)
+fn paint(style: Style, colours: bool, text: &str, got: &mut Got) {
+    let done = style.apply_to(colours, text, got.room());
+    got.done(done);
 }
 
-fn open(style: Style, got: &mut Got) -> Result<(), Bad> {
-    let is_open = style.open(true, got.room())?;
-    got.text(" ");
-    got.flag(is_open);
-    Ok(())
+fn open(style: Style, got: &mut Got) {
+    match style.open(true, got.room()) {
+        Ok(is_open) => {
+            got.text(" ");
+            got.flag(is_open);
+        }
+        Err(refusal) => got.refusal(refusal),
+    }
 }

@@ -2,7 +2,7 @@
 use crate::cells::{next_size, push_cursor};
 use indicatif_term::term_like::{Resize, TermLike};
 use scripts::got::{Bad, Got};
-use scripts::row::{At, headed};
+use scripts::row::{At, Words, headed};
 use scripts::screen::{self, Behind, Screen};
 use scripts::spelling::{number, unescaped};
 use std::io;
@@ -15,74 +15,62 @@ pub struct Terminal {
     pub screen: Rc<Screen>,
 }
 
+/// `term ROWS COLS`.
+pub fn begin(rest: &str, at: At) -> Result<Terminal, Bad> {
+    match screen::terminal(&mut Words::of(rest), at) {
+        Ok((screen, term)) => Ok(Terminal { term, screen }),
+        Err(bad) => Err(bad),
+    }
+}
+
 impl Terminal {
-    /// `term ROWS COLS`.
-    pub fn begin(rest: &str, at: At) -> Result<Terminal, Bad> {
-        let mut words = rest;
-        let (screen, term) = screen::terminal(&mut words, at)?;
-        Ok(Terminal { term, screen })
-    }
-
     /// Makes a call, and tells `done` or how it failed; or looks at the screen.
-    pub fn step(&mut self, step: &str, at: At, got: &mut Got) -> Result<(), Bad> {
-        if screen::look_at(&self.screen, step, at, got)? {
-            return Ok(());
+    pub fn step(&mut self, step: &str, at: At, got: &mut Got) {
+        if screen::look_at(&self.screen, step, at, got) {
+            return;
         }
-        match headed(step) {
-            ("faults", "") => got.number(self.term.faults()),
-            ("size", "") => push_cursor((self.term.height(), self.term.width()), got),
-            ("size", rest) => return resize(&mut self.term, rest),
-            (name, rest) => push_done(called(&mut self.term, name, (rest, at))?, got),
+        match step {
+            "faults" => got.number(self.term.faults()),
+            "size" => push_cursor((self.term.height(), self.term.width()), got),
+            _ => call(&mut self.term, step, at, got),
         }
-        Ok(())
     }
 }
 
-/// `size ROWS COLS`.
-pub fn resize<T: Resize>(term: &mut T, rest: &str) -> Result<(), Bad> {
-    let mut words = rest;
-    let (rows, cols) = next_size(&mut words)?;
-    term.resize(rows, cols)?;
-    Ok(())
-}
-
-/// `up N`, `down N`, `right N`, `left N`, `text TEXT`, `line TEXT`, `clear_line`, `flush`.
-pub fn called<T: TermLike>(
-    term: &mut T,
-    name: &str,
-    (rest, at): (&str, At),
-) -> Result<io::Result<()>, Bad> {
-    match name {
-        "text" | "line" => {
-            let text = unescaped(at.alloc, rest)?;
-            Ok(wrote(term, name == "line", text.as_str()))
-        }
-        "clear_line" => Ok(term.clear_line()),
-        "flush" => Ok(term.flush()),
-        _ => moved(term, name, number(rest)?),
+/// Makes a call of a terminal, and appends `done`, or how it failed: `up N`, `down N`, `right N`, `left N`, `text TEXT`, `line TEXT`,
+/// `clear_line`, `flush`; or resizes it: `size ROWS COLS`.
+pub fn call<T: Resize>(term: &mut T, step: &str, at: At, got: &mut Got) {
+    let (name, rest) = headed(step);
+    match (name, number(rest)) {
+        ("size", _) => resize(term, rest, got),
+        ("clear_line", _) => push_done(term.clear_line(), got),
+        ("flush", _) => push_done(term.flush(), got),
+        ("text" | "line", _) => write(term, (name, rest), at, got),
+        ("up", Ok(count)) => push_done(term.move_cursor_up(count), got),
+        ("down", Ok(count)) => push_done(term.move_cursor_down(count), got),
+        ("right", Ok(count)) => push_done(term.move_cursor_right(count), got),
+        ("left", Ok(count)) => push_done(term.move_cursor_left(count), got),
+        _ => got.bad(Bad::Step),
     }
 }
 
-fn wrote<T: TermLike>(term: &mut T, is_line: bool, text: &str) -> io::Result<()> {
-    if is_line {
-        term.write_line(text)
-    } else {
-        term.write_str(text)
+fn resize<T: Resize>(term: &mut T, rest: &str, got: &mut Got) {
+    match next_size(&mut Words::of(rest)) {
+        Ok((rows, cols)) => got.done(term.resize(rows, cols)),
+        Err(bad) => got.bad(bad),
     }
 }
 
-fn moved<T: TermLike>(term: &mut T, way: &str, count: usize) -> Result<io::Result<()>, Bad> {
-    match way {
-        "up" => Ok(term.move_cursor_up(count)),
-        "down" => Ok(term.move_cursor_down(count)),
-        "right" => Ok(term.move_cursor_right(count)),
-        "left" => Ok(term.move_cursor_left(count)),
-        _ => Err(Bad::Step),
+fn write<T: TermLike>(term: &mut T, (name, text): (&str, &str), at: At, got: &mut Got) {
+    match (name, unescaped(at.alloc, text)) {
+        ("line", Ok(text)) => push_done(term.write_line(text.as_str()), got),
+        (_, Ok(text)) => push_done(term.write_str(text.as_str()), got),
+        (_, Err(bad)) => got.bad(bad),
     }
 }
 
 /// Appends `done`, or how a call failed.
-pub fn push_done(done: io::Result<()>, got: &mut Got) {
+fn push_done(done: io::Result<()>, got: &mut Got) {
     match done {
         Ok(()) => got.text("done"),
         Err(e) => got.kind(e.kind()),

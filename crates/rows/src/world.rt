@@ -3,7 +3,7 @@
 use crate::terminals::Terminal;
 use crate::{
     boards, cells, columns, engines, formats, limiters, lines, lone, memory, noted, program,
-    recorded, records, refusals, runs, slots, streams, styles, templates,
+    recorded, records, refusals, runs, slots, streams, styles, templates, terminals,
 };
 use indicatif_text::columns::Moment;
 use scripts::got::{Bad, Got};
@@ -16,71 +16,81 @@ use std::mem::replace;
 #[derive(Drop)]
 enum On {
     Nothing,
-    Lone(lone::OnScreen),
+    Lone(Box<lone::OnScreen>),
     Record(records::Record),
-    Board(boards::OnScreen),
-    Recorded(recorded::OnScreen),
+    Board(Box<boards::OnScreen>),
+    Recorded(Box<recorded::OnScreen>),
     Term(Terminal),
     Slots(slots::Table),
     Cells(cells::Fed),
     Memory(memory::Memory),
-    Noted(noted::OnNoted),
-    Engine(engines::Drawing),
+    Noted(Box<noted::OnNoted>),
+    Engine(Box<engines::Drawing>),
     Style(styles::Styled),
 }
 
-/// Answers what needs no world; `None` where the step of this name asks for nothing of that.
-fn asked(name: &str, rest: &str, at: At, got: &mut Got) -> Option<Result<(), Bad>> {
+/// Answers what needs no world; whether the step of this name asks for that.
+fn asked(name: &str, rest: &str, at: At, got: &mut Got) -> bool {
     match name {
-        "bars" => Some(program::played(rest, at, got)),
-        "stream" => Some(streams::asked(rest, at, got)),
-        "format" => Some(formats::shown(rest, got)),
-        "--size" => Some(Ok(formats::size_said(rest, got))),
+        "bars" => program::played(rest, at, got),
+        "stream" => streams::asked(rest, at, got),
+        "format" => formats::shown(rest, got),
+        "--size" => formats::size_said(rest, got),
         "columns" | "width" | "parameter" | "wrapped" | "range" | "pieces" | "plain" | "clock" => {
-            Some(columns::measured(name, rest, at, got))
+            columns::measured(name, rest, at, got)
         }
-        "parse" => Some(templates::parsed(rest, at, got)),
+        "parse" => templates::parsed(rest, at, got),
         "painted" | "unpainted" | "opened" | "same_style" | "no_style" => {
-            Some(templates::styled(name, rest, at, got))
+            templates::styled(name, rest, at, got)
         }
-        "refusal" => Some(refusals::told(rest, at, got)),
-        "template_error" => Some(refusals::of_template(rest, at, got)),
-        "limiter" => Some(limiters::answers(rest, got)),
-        "fed" => Some(cells::shown(rest, at, got)),
-        "is_text" => Some(engines::is_text(rest, at, got)),
-        "hides" => Some(memory::hides(rest, at, got)),
-        "said" | "placed" | "coloured" | "laid" => Some(lines::shown(name, rest, at, got)),
-        "runs" => Some(runs::counted(rest, at, got)),
-        _ => None,
+        "refusal" => refusals::told(rest, at, got),
+        "template_error" => refusals::of_template(rest, at, got),
+        "limiter" => limiters::answers(rest, got),
+        "fed" => cells::shown(rest, at, got),
+        "is_text" => engines::is_text(rest, at, got),
+        "hides" => memory::hides(rest, at, got),
+        "said" | "placed" | "coloured" | "laid" => lines::shown(name, rest, at, got),
+        "runs" => runs::counted(rest, at, got),
+        _ => return false,
     }
+    true
+}
+
+/// What is played on from now on, if it could be made.
+macro_rules! on {
+    ($kind:ident, $made:expr) => {
+        match $made {
+            Ok(world) => Ok(On::$kind(world)),
+            Err(bad) => Err(bad),
+        }
+    };
 }
 
 /// The world that the step of this name begins.
-fn begun(name: &str, rest: &str, at: At) -> Result<Option<On>, Bad> {
-    let on = match name {
-        "lone" => On::Lone(lone::OnScreen::begin(rest, at)?),
-        "record" => On::Record(records::Record::begin(rest, at)?),
-        "board" => On::Board(boards::OnScreen::begin(rest, at)?),
-        "recorded" => On::Recorded(recorded::OnScreen::begin(rest, at)?),
-        "term" => On::Term(Terminal::begin(rest, at)?),
-        "table" => On::Slots(slots::Table::begin(at)?),
-        "cells" => On::Cells(cells::Fed::begin(rest, at)?),
-        "memory" => On::Memory(memory::Memory::begin(rest, at)?),
-        "noted" => On::Noted(noted::OnNoted::begin(rest, at)?),
-        "engine" => On::Engine(engines::Drawing::begin(rest, at)?),
+fn begun(name: &str, rest: &str, at: At) -> Option<Result<On, Bad>> {
+    Some(match name {
+        "lone" => on!(Lone, lone::begin(rest, at)),
+        "record" => on!(Record, records::begin(rest, at)),
+        "board" => on!(Board, boards::begin(rest, at)),
+        "recorded" => on!(Recorded, recorded::begin(rest, at)),
+        "term" => on!(Term, terminals::begin(rest, at)),
+        "table" => on!(Slots, slots::begin(at)),
+        "cells" => on!(Cells, cells::begin(rest, at)),
+        "memory" => on!(Memory, memory::begin(rest, at)),
+        "noted" => on!(Noted, noted::begin(rest, at)),
+        "engine" => on!(Engine, engines::begin(rest, at)),
         "style" | "default_bar" | "default_spinner" => {
-            On::Style(styles::Styled::begin(name, rest, at)?)
-        }
-        _ => return Ok(None),
-    };
-    Ok(Some(on))
+            on!(Style, styles::begin(name, rest, at))
+        },
+        _ => return None,
+    })
 }
 
 impl On {
     /// Makes a step, or reads something.
-    fn step(&mut self, step: &str, at: At, got: &mut Got) -> Result<(), Bad> {
+    fn step(&mut self, step: &str, at: At, got: &mut Got) {
         match self {
-            On::Nothing => Err(Bad::Step),
+            On::Nothing => got.bad(Bad::Step),
             On::Lone(world) => world.step(step, at, got),
             On::Record(world) => world.step(step, at, got),
             On::Board(world) => world.step(step, at, got),
@@ -99,13 +109,8 @@ impl On {
     /// of a screen.
     fn turned(self, step: &str, at: At) -> Result<On, Bad> {
         match (self, headed(step)) {
-            (On::Record(record), ("shown", rest)) => {
-                Ok(On::Lone(lone::OnScreen::showing(record.0, rest, at)?))
-            }
-            (On::Lone(world), ("ended", "")) => {
-                let (term, screen) = world.ended()?;
-                Ok(On::Term(Terminal { term, screen }))
-            }
+            (On::Record(record), ("shown", rest)) => on!(Lone, lone::showing(record.0, rest, at)),
+            (On::Lone(world), ("ended", "")) => on!(Term, Box::into_inner(world).ended()),
             _ => Err(Bad::Step),
         }
     }
@@ -127,34 +132,31 @@ impl Stage {
         }
     }
 
-    /// Begins another world, where the step does; whether it does. It begins at this moment, or at 0.
-    fn begin(&mut self, step: &str, moment: Option<Moment>) -> Result<bool, Bad> {
+    /// Begins another world, at this moment or at 0, where the step does so; else goes on with what is there.
+    fn step(&mut self, step: &str, moment: Option<Moment>, got: &mut Got) {
         let (name, rest) = headed(step);
         let at = At {
             now: moment.unwrap_or(0),
             ..self.at
         };
-        match begun(name, rest, at)? {
-            Some(on) => {
+        match begun(name, rest, at) {
+            Some(Ok(on)) => {
                 self.on = on;
                 self.at = at;
-                Ok(true)
             }
-            None => Ok(false),
+            Some(Err(bad)) => got.bad(bad),
+            None => self.go_on(step, moment, got),
         }
     }
 
     /// Goes on with what is there, at this moment or that of the last step.
-    fn go_on(&mut self, step: &str, moment: Option<Moment>, got: &mut Got) -> Result<(), Bad> {
-        if let Some(now) = moment {
-            self.at.now = now;
-        }
+    fn go_on(&mut self, step: &str, moment: Option<Moment>, got: &mut Got) {
+        self.at.now = moment.unwrap_or(self.at.now);
         match headed(step).0 {
-            "ended" | "shown" => {
-                let on = replace(&mut self.on, On::Nothing);
-                self.on = on.turned(step, self.at)?;
-                Ok(())
-            }
+            "ended" | "shown" => match replace(&mut self.on, On::Nothing).turned(step, self.at) {
+                Ok(on) => self.on = on,
+                Err(bad) => got.bad(bad),
+            },
             _ => self.on.step(step, self.at, got),
         }
     }
@@ -164,12 +166,9 @@ impl World for Stage {
     fn play(&mut self, step: &str, got: &mut Got) -> Result<(), Bad> {
         let (step, moment) = timed(step);
         let (name, rest) = headed(step);
-        if let Some(answered) = asked(name, rest, self.at, got) {
-            return answered;
+        if !asked(name, rest, self.at, got) {
+            self.step(step, moment, got);
         }
-        match self.begin(step, moment)? {
-            true => Ok(()),
-            false => self.go_on(step, moment, got),
-        }
+        Ok(())
     }
 }

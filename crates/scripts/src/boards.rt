@@ -2,7 +2,7 @@
 use crate::commands::command;
 use crate::got::{Bad, Got};
 use crate::lone::bar_of;
-use crate::row::{At, next};
+use crate::row::{At, Words};
 use crate::spelling::{number, unescaped};
 use indicatif_bar::style::NoTracker;
 use indicatif_board::multi::{Answer, BarId, Call, Candidate, InsertLocation};
@@ -14,16 +14,12 @@ pub const BOARD_ID: u64 = 1;
 
 /// The bar of a number; that of another board behind `x`.
 pub fn bar_id(text: &str) -> Result<BarId, Bad> {
-    match text.strip_prefix('x') {
-        Some(rest) => Ok(BarId {
-            board: BOARD_ID + 1,
-            number: number(rest)?,
-        }),
-        None => Ok(BarId {
-            board: BOARD_ID,
-            number: number(text)?,
-        }),
-    }
+    let (board, digits) = match text.strip_prefix('x') {
+        Some(rest) => (BOARD_ID + 1, rest),
+        None => (BOARD_ID, text),
+    };
+    let number = number(digits)?;
+    Ok(BarId { board, number })
 }
 
 /// The bar that a step speaks of, as in `0: tick`, and what follows.
@@ -44,47 +40,54 @@ pub fn board_call(at: At, text: &str) -> Result<Call<NoTracker>, Bad> {
 }
 
 /// A call of a bar: `drop`, `remove`, `log TEXT`, or a command.
-pub fn bar_call(alloc: Global, id: BarId, text: &str) -> Result<Call<NoTracker>, Bad> {
-    match text {
-        "drop" => Ok(Call::Drop(id)),
-        "remove" => Ok(Call::Remove(id)),
-        _ => match text.split_once(' ') {
-            Some(("log", rest)) => Ok(Call::BarLog(id, unescaped(alloc, rest)?)),
-            _ => Ok(Call::Bar(id, command(alloc, text)?)),
-        },
+fn bar_call(alloc: Global, id: BarId, text: &str) -> Result<Call<NoTracker>, Bad> {
+    match (text, text.split_once(' ')) {
+        ("drop", _) => Ok(Call::Drop(id)),
+        ("remove", _) => Ok(Call::Remove(id)),
+        (_, Some(("log", rest))) => Ok(Call::BarLog(id, unescaped(alloc, rest)?)),
+        _ => Ok(Call::Bar(id, command(alloc, text)?)),
     }
 }
 
 fn call(at: At, text: &str) -> Result<Call<NoTracker>, Bad> {
-    match text.split_once(' ') {
-        Some(("log", rest)) => Ok(Call::Log(unescaped(at.alloc, rest)?)),
-        Some((name, rest)) => insertion(at, name, rest),
-        None => bare(text),
-    }
-}
-
-fn bare(text: &str) -> Result<Call<NoTracker>, Bad> {
-    match text {
-        "clear" => Ok(Call::Clear),
-        "redraw" => Ok(Call::Redraw),
-        "top" => Ok(Call::Align(MultiProgressAlignment::Top)),
-        "bottom" => Ok(Call::Align(MultiProgressAlignment::Bottom)),
+    match (text, text.split_once(' ')) {
+        ("clear", _) => Ok(Call::Clear),
+        ("redraw", _) => Ok(Call::Redraw),
+        ("top", _) => Ok(Call::Align(MultiProgressAlignment::Top)),
+        ("bottom", _) => Ok(Call::Align(MultiProgressAlignment::Bottom)),
+        (_, Some(("log", rest))) => Ok(Call::Log(unescaped(at.alloc, rest)?)),
+        (_, Some((name, rest))) => insertion(at, name, rest),
         _ => Err(Bad::Step),
     }
 }
 
 /// The place that a step names, as in `add BAR`, `insert N BAR`, `back N BAR`, `before N BAR` and `after N BAR`; and the bar.
 pub fn placed<'a>(name: &str, rest: &'a str) -> Result<(InsertLocation, &'a str), Bad> {
-    let mut words = rest;
+    let mut words = Words::of(rest);
     let place = match name {
         "add" => InsertLocation::End,
-        "insert" => InsertLocation::Index(number(next(&mut words))?),
-        "back" => InsertLocation::FromBack(number(next(&mut words))?),
-        "before" => InsertLocation::Before(bar_id(next(&mut words))?),
-        "after" => InsertLocation::After(bar_id(next(&mut words))?),
-        _ => return Err(Bad::Step),
+        "insert" => InsertLocation::Index(words.number()),
+        "back" => InsertLocation::FromBack(words.number()),
+        "before" => InsertLocation::Before(next_bar(&mut words)),
+        "after" => InsertLocation::After(next_bar(&mut words)),
+        _ => {
+            words.spoil();
+            InsertLocation::End
+        }
     };
-    Ok((place, words))
+    words.done((place, words.rest()))
+}
+
+/// The bar of the next word.
+fn next_bar(words: &mut Words<'_>) -> BarId {
+    let id = bar_id(words.word());
+    words.value(
+        id,
+        BarId {
+            board: BOARD_ID,
+            number: 0,
+        },
+    )
 }
 
 /// The call that takes in a bar.
@@ -99,14 +102,14 @@ fn insertion(at: At, name: &str, rest: &str) -> Result<Call<NoTracker>, Bad> {
 
 /// What is to be taken in: behind `=` a bar that may be there, or a new one, behind `len=LEN ` of that length.
 pub fn candidate(at: At, text: &str) -> Result<Candidate<NoTracker>, Bad> {
-    if let Some(rest) = text.strip_prefix("len=") {
-        let mut words = rest;
-        let len = number(next(&mut words))?;
-        return new_bar(at, words, Some(len));
-    }
-    match text.strip_prefix('=') {
-        Some(rest) => Ok(Candidate::Member(bar_id(rest)?)),
-        None => new_bar(at, text, None),
+    match (text.strip_prefix('='), text.strip_prefix("len=")) {
+        (Some(id), _) => Ok(Candidate::Member(bar_id(id)?)),
+        (_, Some(rest)) => {
+            let mut words = Words::of(rest);
+            let len = words.number();
+            new_bar(at, words.rest(), words.done(Some(len))?)
+        }
+        (None, None) => new_bar(at, text, None),
     }
 }
 

@@ -83,7 +83,10 @@ pub fn bare(name: &str) -> Result<Command, Bad> {
         "reset" => Ok(BarCommand::Reset),
         "finish_using_style" => Ok(BarCommand::FinishUsingStyle),
         "force_draw" => Ok(BarCommand::ForceDraw),
-        _ => Ok(BarCommand::Finish(plain_finish(name)?)),
+        _ => match plain_finish(name) {
+            Ok(finish) => Ok(BarCommand::Finish(finish)),
+            Err(bad) => Err(bad),
+        },
     }
 }
 
@@ -127,10 +130,13 @@ fn with_argument(alloc: Global, name: &str, rest: &str) -> Result<Command, Bad> 
 /// The style of a template; behind `chars=CHARS ` with these progress characters.
 fn styled(alloc: Global, text: &str) -> Result<Command, Bad> {
     let style = match text.strip_prefix("chars=") {
-        Some(rest) => with_chars(alloc, rest)?,
-        None => templated(alloc, text)?,
+        Some(rest) => with_chars(alloc, rest),
+        None => templated(alloc, text),
     };
-    Ok(BarCommand::SetStyle(style))
+    match style {
+        Ok(style) => Ok(BarCommand::SetStyle(style)),
+        Err(bad) => Err(bad),
+    }
 }
 
 fn with_chars(alloc: Global, text: &str) -> Result<ProgressStyle<NoTracker>, Bad> {
@@ -150,7 +156,10 @@ fn saying(name: &str, text: String) -> Result<Command, Bad> {
         "set_prefix" => Ok(BarCommand::SetPrefix(text)),
         "with_message" => Ok(BarCommand::WithMessage(text)),
         "with_prefix" => Ok(BarCommand::WithPrefix(text)),
-        _ => Ok(BarCommand::Finish(finish_saying(name, text)?)),
+        _ => match finish_saying(name, text) {
+            Ok(finish) => Ok(BarCommand::Finish(finish)),
+            Err(bad) => Err(bad),
+        },
     }
 }
 
@@ -176,11 +185,10 @@ fn updating(text: &str) -> Result<Command, Bad> {
     let Some((pos, len)) = text.split_once(' ') else {
         return Err(Bad::Step);
     };
-    let change = Change {
-        pos: optional(pos)?,
-        len: optional(len)?,
-    };
-    Ok(BarCommand::Update(change))
+    match (optional(pos), optional(len)) {
+        (Ok(pos), Ok(len)) => Ok(BarCommand::Update(Change { pos, len })),
+        _ => Err(Bad::Step),
+    }
 }
 
 // ---- calls by their names

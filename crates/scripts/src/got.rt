@@ -32,11 +32,12 @@ impl<V: Drop> From<AllocFailed<V>> for Bad {
     }
 }
 
-/// What steps gave, as one text: what each gave that gave something, parted by `; `. Want of memory is kept, and makes the row
-/// differ.
+/// What steps gave, as one text: what each gave that gave something, parted by `; `; also why one gave nothing, and the first such fault
+/// is remembered. Want of memory is kept, and makes the row differ.
 #[derive(Drop)]
 pub struct Got {
     text: String,
+    fault: Option<Bad>,
     is_new: bool,
     is_lost: bool,
 }
@@ -46,6 +47,7 @@ impl Got {
     pub fn new(alloc: Global) -> Got {
         Got {
             text: String::new(alloc),
+            fault: None,
             is_new: true,
             is_lost: false,
         }
@@ -54,6 +56,7 @@ impl Got {
     /// Nothing again.
     pub fn clear(&mut self) {
         self.text.clear();
+        self.fault = None;
         self.is_new = true;
         self.is_lost = false;
     }
@@ -66,6 +69,11 @@ impl Got {
     /// What the steps gave, without escapes.
     pub fn as_str(&self) -> &str {
         self.text.as_str()
+    }
+
+    /// Why the first step gave nothing that gave nothing.
+    pub fn fault(&self) -> Option<Bad> {
+        self.fault
     }
 
     /// Whether a part of it found no room.
@@ -92,6 +100,21 @@ impl Got {
             self.part();
             let done = self.text.push_str(text);
             self.note(done);
+        }
+    }
+
+    /// Appends a text, or why there is none.
+    pub fn text_of(&mut self, text: Result<String, Refusal>) {
+        match text {
+            Ok(text) => self.text(text.as_str()),
+            Err(refusal) => self.bad(Bad::Refused(refusal)),
+        }
+    }
+
+    /// Appends why a call was refused, if it was.
+    pub fn done(&mut self, done: Result<(), Refusal>) {
+        if let Err(refusal) = done {
+            self.bad(Bad::Refused(refusal));
         }
     }
 
@@ -151,6 +174,7 @@ impl Got {
 
     /// Appends why a step gives nothing.
     pub fn bad(&mut self, bad: Bad) {
+        self.fault = self.fault.or(Some(bad));
         match bad {
             Bad::Step => self.text("no such step"),
             Bad::Refused(refusal) => self.refusal(refusal),
@@ -162,6 +186,14 @@ impl Got {
         for row in rows {
             self.text(row.as_str());
             self.text("\n");
+        }
+    }
+
+    /// Appends texts, each with a newline behind it, or why there are none.
+    pub fn rows_of(&mut self, rows: Result<Vec<String>, Refusal>) {
+        match rows {
+            Ok(rows) => self.rows(&rows),
+            Err(refusal) => self.bad(Bad::Refused(refusal)),
         }
     }
 

@@ -4,8 +4,9 @@ use crate::got::{Bad, Got};
 use crate::row::At;
 use crate::spelling::{number, unescaped};
 use indicatif_bar::lone::LoneCall;
-use indicatif_bar::state::{Ask, BarState, ProgressState, Rate};
+use indicatif_bar::state::{Ask, BarState, Fraction, ProgressState, Rate};
 use indicatif_bar::style::{NoTracker, ProgressStyle};
+use indicatif_term::draw_target::LineType;
 use indicatif_text::columns::Moment;
 use std::alloc::Global;
 use std::convert::AsStr;
@@ -55,60 +56,69 @@ pub fn lone_call(alloc: Global, text: &str) -> Result<LoneCall<NoTracker>, Bad> 
 }
 
 /// Reads something of a bar's record; whether the text asks for that.
-pub fn read_bar(bar: &Bar, text: &str, now: Moment, got: &mut Got) -> Result<bool, Bad> {
+pub fn read_bar(bar: &Bar, text: &str, now: Moment, got: &mut Got) -> bool {
+    let state = bar.state();
     match text {
         "message" => got.text(bar.message()),
         "prefix" => got.text(bar.prefix()),
         "tab_width" => got.number(bar.tab_width()),
-        "state" => got.text(state_of(bar, now)?),
-        _ => return read_lines(bar, text, now, got),
-    }
-    Ok(true)
-}
-
-/// `lines COLS`: the lines, each with a newline behind it.
-fn read_lines(bar: &Bar, text: &str, now: Moment, got: &mut Got) -> Result<bool, Bad> {
-    match text.strip_prefix("lines ") {
-        Some(columns) => {
-            push_lines(bar, number(columns)?, now, got)?;
-            Ok(true)
-        }
-        None => Ok(read_state(bar.state(), text, now, got)),
-    }
-}
-
-/// Appends the lines on so many columns, each with a newline behind it.
-pub fn push_lines(bar: &Bar, columns: u16, now: Moment, got: &mut Got) -> Result<(), Bad> {
-    for line in &bar.lines(now, columns)? {
-        got.text(line.as_str());
-        got.text("\n");
-    }
-    Ok(())
-}
-
-/// `progress`, or of a finished bar whether it has lines: `visible`, `hidden`.
-fn state_of(bar: &Bar, now: Moment) -> Result<&'static str, Bad> {
-    if !bar.state().is_finished() {
-        return Ok("progress");
-    }
-    let lines = bar.lines(now, 1)?;
-    Ok(if lines.is_empty() {
-        "hidden"
-    } else {
-        "visible"
-    })
-}
-
-fn read_state(state: &ProgressState, text: &str, now: Moment, got: &mut Got) -> bool {
-    match text {
+        "state" => push_state(bar, now, got),
         "pos" => got.number(state.pos()),
         "len" => got.optional(state.len()),
         "ticks" => got.number(state.ticks()),
         "finished" => got.flag(state.is_finished()),
         "reached" => push_reached(state, got),
-        _ => return read_measures(state, text, now, got),
+        "fraction" => push_fraction(state.fraction(), got),
+        "rate" => push_rate(state.per_sec(now), got),
+        "per_sec" => push_speed(state.per_sec(now), got),
+        "eta" => got.number(state.eta(now)),
+        "duration" => got.number(state.duration(now)),
+        "elapsed" => got.number(state.elapsed(now)),
+        _ => return read_lines(bar, text, now, got),
     }
     true
+}
+
+/// `lines COLS`: the lines, each with a newline behind it.
+fn read_lines(bar: &Bar, text: &str, now: Moment, got: &mut Got) -> bool {
+    let Some(columns) = text.strip_prefix("lines ") else {
+        return false;
+    };
+    match number(columns) {
+        Ok(columns) => push_lines(bar, columns, now, got),
+        Err(bad) => got.bad(bad),
+    }
+    true
+}
+
+/// Appends the lines on so many columns, each with a newline behind it.
+pub fn push_lines(bar: &Bar, columns: u16, now: Moment, got: &mut Got) {
+    match bar.lines(now, columns) {
+        Ok(lines) => push_each(&lines, got),
+        Err(refusal) => got.refusal(refusal),
+    }
+}
+
+fn push_each(lines: &[LineType], got: &mut Got) {
+    for line in lines {
+        got.text(line.as_str());
+        got.text("\n");
+    }
+}
+
+/// `progress`, or of a finished bar whether it has lines: `visible`, `hidden`.
+fn push_state(bar: &Bar, now: Moment, got: &mut Got) {
+    match bar.state().is_finished() {
+        false => got.text("progress"),
+        true => match bar.lines(now, 1) {
+            Ok(lines) => got.text(if lines.is_empty() {
+                "hidden"
+            } else {
+                "visible"
+            }),
+            Err(refusal) => got.refusal(refusal),
+        },
+    }
 }
 
 /// Appends the position, the length, the ticks, and whether the bar is finished, parted by spaces.
@@ -122,22 +132,10 @@ fn push_reached(state: &ProgressState, got: &mut Got) {
     got.flag(state.is_finished());
 }
 
-fn read_measures(state: &ProgressState, text: &str, now: Moment, got: &mut Got) -> bool {
-    match text {
-        "fraction" => {
-            let fraction = state.fraction();
-            got.number(fraction.num);
-            got.text("/");
-            got.number(fraction.den);
-        }
-        "rate" => push_rate(state.per_sec(now), got),
-        "per_sec" => push_speed(state.per_sec(now), got),
-        "eta" => got.number(state.eta(now)),
-        "duration" => got.number(state.duration(now)),
-        "elapsed" => got.number(state.elapsed(now)),
-        _ => return false,
-    }
-    true
+fn push_fraction(fraction: Fraction, got: &mut Got) {
+    got.number(fraction.num);
+    got.text("/");
+    got.number(fraction.den);
 }
 
 /// Appends a rate: steps, `/`, nanoseconds.

@@ -1,11 +1,11 @@
 //! A terminal behind a writer: what stands on it can be read at any time, and its writer fails or takes little where that is asked.
 use crate::got::{Bad, Got};
-use crate::row::{At, headed, next};
+use crate::row::{At, Words, headed};
 use crate::spelling::{number, unescaped_bytes};
 use indicatif_term::draw_target::ProgressDrawTarget;
 use indicatif_term::in_memory::Cells;
 use indicatif_term::term_like::Term;
-use indicatif_text::columns::Refusal;
+use indicatif_text::columns::{Drawn, Refusal};
 use std::alloc::Global;
 use std::cell::{Cell, RefCell};
 use std::io;
@@ -58,6 +58,20 @@ pub struct Screen {
 pub struct Look {
     pub bytes: u64,
     pub contents: Result<String, Refusal>,
+}
+
+impl Look {
+    /// Appends what a call answered, and behind a space what stood on the screen, if anything.
+    pub fn push(self, answer: Result<Drawn, Refusal>, got: &mut Got) {
+        match self.contents {
+            Ok(contents) => {
+                got.answer(answer);
+                got.text(if contents.is_empty() { "" } else { " " });
+                got.text(contents.as_str());
+            }
+            Err(refusal) => got.bad(Bad::Refused(refusal)),
+        }
+    }
 }
 
 impl Screen {
@@ -215,13 +229,17 @@ impl Write for Wire {
 pub type Behind = Term<Wire>;
 
 /// What is drawn on.
-pub type Target = ProgressDrawTarget<Behind>;
+#[derive(Drop)]
+pub struct Target(pub ProgressDrawTarget<Behind>);
 
-/// A new screen of the next words, `ROWS COLS`, and the terminal before it. One that says it has no rows, or no columns, stands before a
-/// screen of one.
-pub fn terminal(words: &mut &str, at: At) -> Result<(Rc<Screen>, Behind), Bad> {
-    let rows: u16 = number(next(words))?;
-    let cols: u16 = number(next(words))?;
+/// A new screen of the next words, `ROWS COLS`, and the terminal before it.
+pub fn terminal(words: &mut Words<'_>, at: At) -> Result<(Rc<Screen>, Behind), Bad> {
+    let size = (words.number(), words.number());
+    before_screen(words.done(size)?, at)
+}
+
+/// A terminal before a new screen. One that says it has no rows, or no columns, stands before a screen of one.
+fn before_screen((rows, cols): (u16, u16), at: At) -> Result<(Rc<Screen>, Behind), Bad> {
     let screen = Screen::new(at.alloc, rows.max(1), cols.max(1))?;
     let wire = Wire(screen.clone()?);
     Ok((screen, Term::new(wire, rows, cols)))
@@ -229,58 +247,78 @@ pub fn terminal(words: &mut &str, at: At) -> Result<(Rc<Screen>, Behind), Bad> {
 
 /// The size that the words spell: `ROWS COLS`.
 pub fn size(words: &str) -> Result<(u16, u16), Bad> {
-    let mut words = words;
-    let rows = number(next(&mut words))?;
-    Ok((rows, number(words)?))
+    let mut words = Words::of(words);
+    let size = (words.number(), words.last());
+    words.done(size)
 }
 
 /// A new screen of the next words, `ROWS COLS RATE`, and the target that draws on it; a rate of 0 is none. `hidden`: a target that
 /// draws nowhere.
-pub fn begin(words: &mut &str, at: At) -> Result<(Rc<Screen>, Box<Target>), Bad> {
-    if let Some(rest) = words.strip_prefix("hidden") {
-        *words = rest.strip_prefix(' ').unwrap_or(rest);
+pub fn begin(words: &mut Words<'_>, at: At) -> Result<(Rc<Screen>, Target), Bad> {
+    let mut behind = *words;
+    if behind.word() == "hidden" {
+        *words = behind;
         let screen = Screen::new(at.alloc, 1, 1)?;
-        return Ok((screen, at.boxed(ProgressDrawTarget::hidden())?));
+        return Ok((screen, Target(ProgressDrawTarget::hidden())));
     }
-    let (screen, term) = terminal(words, at)?;
-    let target = target_of(at, term, number(next(words))?)?;
-    Ok((screen, target))
-}
-
-fn target_of(at: At, term: Behind, rate: u8) -> Result<Box<Target>, Bad> {
+    let size = (words.number(), words.number());
+    let rate = words.number();
+    let (screen, term) = before_screen(words.done(size)?, at)?;
     let target = match rate {
-        0 => ProgressDrawTarget::term_like(term),
-        rate => ProgressDrawTarget::term_like_with_hz(term, rate, at.now)?,
+        0 => Ok(ProgressDrawTarget::term_like(term)),
+        rate => ProgressDrawTarget::term_like_with_hz(term, rate, at.now),
     };
-    at.boxed(target)
+    match target {
+        Ok(target) => Ok((screen, Target(target))),
+        Err(refusal) => Err(Bad::Refused(refusal)),
+    }
 }
 
 /// Looks at a screen, puts bytes there, or has its writer fail; whether the step asks for that.
-pub fn look_at(screen: &Screen, step: &str, at: At, got: &mut Got) -> Result<bool, Bad> {
+pub fn look_at(screen: &Screen, step: &str, at: At, got: &mut Got) -> bool {
     match step {
-        "shows" => got.text(screen.contents()?.as_str()),
-        "picture" => got.rows(&screen.picture()?),
-        "rows" => got.rows(filled(&screen.picture()?)),
+        "shows" => got.text_of(screen.contents()),
+        "picture" => got.rows_of(screen.picture()),
+        "rows" => push_filled(screen.picture(), got),
         "cursor" => screen.push_cursor(got),
         "written" => screen.push_written(got),
         "bytes" => got.number(screen.counts.get().bytes),
         "writes" => got.number(screen.counts.get().writes),
         "flushes" => got.number(screen.counts.get().flushes),
-        "row_count" => got.number(screen.contents()?.as_str().split('\n').count()),
-        _ => return Ok(row(screen, step, got)? || set(screen, step, at)?),
+        "row_count" => push_count(screen.contents(), got),
+        _ => return set(screen, headed(step), at, got),
     }
-    Ok(true)
+    true
+}
+
+/// Appends how many rows a text has.
+fn push_count(contents: Result<String, Refusal>, got: &mut Got) {
+    match contents {
+        Ok(contents) => got.number(contents.as_str().split('\n').count()),
+        Err(refusal) => got.refusal(refusal),
+    }
 }
 
 /// `row N`: a row of what stands in the window, counted from 1; nothing past its end.
-fn row(screen: &Screen, step: &str, got: &mut Got) -> Result<bool, Bad> {
-    let ("row", at) = headed(step) else {
-        return Ok(false);
-    };
-    let before = number::<usize>(at)?.saturating_sub(1);
-    let contents = screen.contents()?;
-    got.text(contents.as_str().split('\n').nth(before).unwrap_or(""));
-    Ok(true)
+fn push_row(screen: &Screen, number_of_row: &str, got: &mut Got) {
+    match (number(number_of_row), screen.contents()) {
+        (Ok(row), Ok(contents)) => got.text(nth_row(contents.as_str(), row)),
+        (Err(bad), _) => got.bad(bad),
+        (_, Err(refusal)) => got.refusal(refusal),
+    }
+}
+
+fn nth_row(contents: &str, number: usize) -> &str {
+    let before = number.saturating_sub(1);
+    contents.split('\n').nth(before).unwrap_or("")
+}
+
+/// Appends the rows up to the last one that isn't empty.
+pub fn push_filled(rows: Result<Vec<String>, Refusal>, got: &mut Got) {
+    match rows {
+        Ok(rows) => got.rows(filled(&rows)),
+        Err(refusal) => got.refusal(refusal),
+    }
 }
 
 /// The rows up to the last one that isn't empty.
@@ -294,36 +332,59 @@ pub fn filled(rows: &[String]) -> &[String] {
     rows.get(..count).unwrap_or(rows)
 }
 
-/// `feed TEXT`: bytes from elsewhere. `takes N`: a call of the writer takes so many bytes at most. `fails_call N`: of its calls, flushes
-/// among them, the one of this number fails, counted from now on. `halts AT KIND TIMES`: calls halt when so many bytes were taken.
-fn set(screen: &Screen, step: &str, at: At) -> Result<bool, Bad> {
-    let mut limits = screen.limits.get();
-    match headed(step) {
-        ("feed", text) => {
-            return match screen.feed(&unescaped_bytes(at.alloc, text)?) {
-                Ok(()) => Ok(true),
-                Err(_) => Err(Bad::Step),
-            };
-        }
-        ("takes", bytes) => limits.takes = number(bytes)?,
-        ("fails_call", calls) => limits.fails_call = number(calls)?,
-        ("halts", rest) => set_halt(&mut limits, rest)?,
-        _ => return Ok(false),
+/// Tells a row, puts bytes there, or has the writer fail; whether the step asks for that.
+fn set(screen: &Screen, (name, rest): (&str, &str), at: At, got: &mut Got) -> bool {
+    match name {
+        "row" => push_row(screen, rest, got),
+        "feed" => feed(screen, rest, at, got),
+        _ => return limit(screen, name, rest, got),
     }
-    screen.limits.set(limits);
-    Ok(true)
+    true
 }
 
-/// `AT KIND TIMES`, where the kind is `nothing`, `BrokenPipe` or `Interrupted`.
-fn set_halt(limits: &mut Limits, rest: &str) -> Result<(), Bad> {
-    let mut words = rest;
-    limits.halts_at = number(next(&mut words))?;
-    limits.halt = match next(&mut words) {
+/// `feed TEXT`: bytes from elsewhere.
+fn feed(screen: &Screen, text: &str, at: At, got: &mut Got) {
+    match unescaped_bytes(at.alloc, text) {
+        Ok(bytes) => {
+            if screen.feed(&bytes).is_err() {
+                got.bad(Bad::Step);
+            }
+        }
+        Err(bad) => got.bad(bad),
+    }
+}
+
+/// `takes N`: a call of the writer takes so many bytes at most. `fails_call N`: of its calls, flushes among them, the one of this number
+/// fails, counted from now on. `halts AT KIND TIMES`: calls halt when so many bytes were taken.
+fn limit(screen: &Screen, name: &str, rest: &str, got: &mut Got) -> bool {
+    let mut words = Words::of(rest);
+    let mut limits = screen.limits.get();
+    match name {
+        "takes" => limits.takes = words.last(),
+        "fails_call" => limits.fails_call = words.last(),
+        "halts" => {
+            limits.halts_at = words.number();
+            limits.halt = next_halt(&mut words);
+            limits.halts = words.last();
+        }
+        _ => return false,
+    }
+    match words.done(()) {
+        Ok(()) => screen.limits.set(limits),
+        Err(bad) => got.bad(bad),
+    }
+    true
+}
+
+/// The way to halt that the next word says: `nothing`, `BrokenPipe` or `Interrupted`.
+fn next_halt(words: &mut Words<'_>) -> Halt {
+    match words.word() {
         "nothing" => Halt::Nothing,
         "BrokenPipe" => Halt::Failure(ErrorKind::BrokenPipe),
         "Interrupted" => Halt::Failure(ErrorKind::Interrupted),
-        _ => return Err(Bad::Step),
-    };
-    limits.halts = number(words)?;
-    Ok(())
+        _ => {
+            words.spoil();
+            Halt::Nothing
+        }
+    }
 }

@@ -1,6 +1,6 @@
 //! Numbers and escapes.
 use crate::got::Bad;
-use std::alloc::Global;
+use std::alloc::{AllocError, Global};
 use std::fmt;
 use std::str::FromStr;
 
@@ -17,9 +17,10 @@ where
 
 /// A number, or `-` for none.
 pub fn optional(text: &str) -> Result<Option<u64>, Bad> {
-    match text {
-        "-" => Ok(None),
-        text => Ok(Some(number(text)?)),
+    match (text, number(text)) {
+        ("-", _) => Ok(None),
+        (_, Ok(number)) => Ok(Some(number)),
+        (_, Err(bad)) => Err(bad),
     }
 }
 
@@ -35,74 +36,92 @@ pub fn flag(text: &str) -> Result<bool, Bad> {
 /// The text that escapes stand for: `\n`, `\t`, `\r`, `\0`, `\e`, `\s` for a space, `\u{HEX}` for a character, `\xHH` for a byte, and
 /// `\\`.
 pub fn unescaped(alloc: Global, text: &str) -> Result<String, Bad> {
-    match String::from_utf8(unescaped_bytes(alloc, text)?) {
-        Ok(text) => Ok(text),
-        Err(_) => Err(Bad::Step),
+    match unescaped_bytes(alloc, text) {
+        Ok(bytes) => match String::from_utf8(bytes) {
+            Ok(text) => Ok(text),
+            Err(_) => Err(Bad::Step),
+        },
+        Err(bad) => Err(bad),
     }
 }
 
 /// The bytes that they stand for, which may be no text.
 pub fn unescaped_bytes(alloc: Global, text: &str) -> Result<Vec<u8>, Bad> {
     let mut bytes = Vec::new(alloc);
-    match push_unescaped(text, &mut bytes) {
-        Some(()) => Ok(bytes),
-        None => Err(Bad::Step),
+    let mut place = Place::Plain;
+    for c in text.chars() {
+        place = read(place, c, &mut bytes);
+    }
+    match place {
+        Place::Plain => Ok(bytes),
+        _ => Err(Bad::Step),
     }
 }
 
-fn push_unescaped(text: &str, bytes: &mut Vec<u8>) -> Option<()> {
-    let mut is_plain = true;
-    for part in text.split('\\') {
-        is_plain = push_part(part, is_plain, bytes)?;
+/// Where in an escape one is, if in any.
+#[derive(Clone, Copy)]
+enum Place {
+    /// In none.
+    Plain,
+    /// Behind a backslash.
+    Begun,
+    /// Behind `\u`.
+    Named,
+    /// Behind `\u{` and digits of this number.
+    Number(u32),
+    /// Behind `\x`.
+    Byte,
+    /// Behind `\x` and this digit.
+    HalfByte(u32),
+    /// Behind what is no escape, or for what there was no memory.
+    Lost,
+}
+
+/// Reads a character at a place, and appends what ends with it.
+fn read(place: Place, c: char, bytes: &mut Vec<u8>) -> Place {
+    match (place, c) {
+        (Place::Plain, '\\') => Place::Begun,
+        (Place::Plain, c) => push(Some(c), bytes),
+        (Place::Begun, 'u') => Place::Named,
+        (Place::Begun, 'x') => Place::Byte,
+        (Place::Begun, c) => push(lettered(c), bytes),
+        (Place::Named, '{') => Place::Number(0),
+        (Place::Number(number), '}') => push(char::from_u32(number), bytes),
+        (Place::Number(_) | Place::Byte | Place::HalfByte(_), c) => read_digit(place, c, bytes),
+        _ => Place::Lost,
     }
-    if is_plain { None } else { Some(()) }
 }
 
-/// Appends a part: as it is if it is plain, else what it stands for behind a backslash. Whether the next part is plain, since it follows
-/// the second of two backslashes.
-fn push_part(part: &str, is_plain: bool, bytes: &mut Vec<u8>) -> Option<bool> {
-    let pushed = match (is_plain, part) {
-        (true, _) => push(part, bytes),
-        (false, "") => push("\\", bytes),
-        (false, _) => push_escape(part, bytes),
-    };
-    pushed?;
-    Some(!is_plain && part.is_empty())
-}
-
-fn push_escape(part: &str, bytes: &mut Vec<u8>) -> Option<()> {
-    if let Some(rest) = part.strip_prefix("u{") {
-        let (digits, rest) = rest.split_once('}')?;
-        push_char(char::from_u32(hexadecimal(digits)?)?, bytes)?;
-        return push(rest, bytes);
+fn read_digit(place: Place, c: char, bytes: &mut Vec<u8>) -> Place {
+    match (place, c.to_digit(16)) {
+        (Place::Number(number), Some(digit)) => {
+            Place::Number(number.saturating_mul(16).saturating_add(digit))
+        }
+        (Place::Byte, Some(digit)) => Place::HalfByte(digit),
+        (Place::HalfByte(first), Some(digit)) => {
+            match u8::try_from(first.saturating_mul(16).saturating_add(digit)) {
+                Ok(byte) => pushed(bytes.extend_from_slice(&[byte])),
+                Err(_) => Place::Lost,
+            }
+        }
+        _ => Place::Lost,
     }
-    let (letter, rest) = part.split_at_checked(1)?;
-    if letter != "x" {
-        push_char(lettered(letter.chars().next()?)?, bytes)?;
-        return push(rest, bytes);
-    }
-    let (digits, rest) = rest.split_at_checked(2)?;
-    let byte = u8::try_from(hexadecimal(digits)?).ok()?;
-    bytes.push(byte).ok()?;
-    push(rest, bytes)
 }
 
-fn push(text: &str, bytes: &mut Vec<u8>) -> Option<()> {
-    bytes.extend_from_slice(text.as_bytes()).ok()
-}
-
-fn push_char(c: char, bytes: &mut Vec<u8>) -> Option<()> {
+/// Appends a character, if there is one.
+fn push(c: Option<char>, bytes: &mut Vec<u8>) -> Place {
     let mut buffer = [0; 4];
-    push(c.encode_utf8(&mut buffer), bytes)
+    match c {
+        Some(c) => pushed(bytes.extend_from_slice(c.encode_utf8(&mut buffer).as_bytes())),
+        None => Place::Lost,
+    }
 }
 
-fn hexadecimal(digits: &str) -> Option<u32> {
-    let mut number: u32 = 0;
-    for digit in digits.chars() {
-        let digit = digit.to_digit(16)?;
-        number = number.saturating_mul(16).saturating_add(digit);
+fn pushed(done: Result<(), AllocError>) -> Place {
+    match done {
+        Ok(()) => Place::Plain,
+        Err(_) => Place::Lost,
     }
-    Some(number)
 }
 
 /// The character that a letter behind a backslash stands for.
@@ -114,6 +133,7 @@ fn lettered(letter: char) -> Option<char> {
         '0' => Some('\0'),
         'e' => Some('\u{1B}'),
         's' => Some(' '),
+        '\\' => Some('\\'),
         _ => None,
     }
 }
@@ -124,14 +144,16 @@ pub struct Escaped<'a>(pub &'a str);
 
 impl fmt::Display for Escaped<'_> {
     fn fmt<W: fmt::Write>(&self, f: &mut fmt::Formatter<W>) -> fmt::Result {
+        let mut written = Ok(());
         for c in self.0.chars() {
-            let written = match escape_of(c) {
-                Some(escape) => f.write_str(escape),
-                None => f.write_char(c),
-            };
-            written?;
+            if written.is_ok() {
+                written = match escape_of(c) {
+                    Some(escape) => f.write_str(escape),
+                    None => f.write_char(c),
+                };
+            }
         }
-        Ok(())
+        written
     }
 }
 

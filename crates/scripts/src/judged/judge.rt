@@ -43,7 +43,7 @@ impl<V: Drop> From<AllocFailed<V>> for Finding {
 }
 
 /// How closely bytes are looked at.
-#[derive(Clone, Copy, Debug, Drop)]
+#[derive(Clone, Copy, Drop)]
 pub enum Look {
     /// Behind each of them.
     EachByte,
@@ -60,7 +60,8 @@ const BEFORE: &str = "x\r\ny\r\n";
 
 /// What stands on a terminal, and which of its rows nothing may change.
 pub struct Judge {
-    alloc: Global,
+    /// Where it takes its memory.
+    pub alloc: Global,
     size: Size,
     look: Look,
     cells: Cells,
@@ -86,30 +87,26 @@ impl Drop for Judge {
 impl Judge {
     /// A terminal of this size on which two rows stand, with the cursor at the front of the next.
     pub fn new(alloc: Global, size: Size, look: Look) -> Result<Judge, Finding> {
+        let cells = Cells::new(alloc, size.rows, size.cols)?;
         let mut judge = Judge {
             alloc,
             size,
             look,
-            cells: Cells::new(alloc, size.rows, size.cols)?,
+            cells,
             above: Vec::new(alloc),
             has_failed: false,
             is_littered: false,
         };
-        judge.feed(BEFORE.as_bytes())?;
-        judge.keeps(2)?;
-        Ok(judge)
-    }
-
-    /// The allocator.
-    pub fn alloc(&self) -> Global {
-        self.alloc
-    }
-
-    fn feed(&mut self, bytes: &[u8]) -> Result<(), Finding> {
-        match self.cells.feed(bytes) {
-            Ok(()) => Ok(()),
-            Err(_) => Err(Finding::Memory),
+        match judge.begin() {
+            Ok(()) => Ok(judge),
+            Err(finding) => Err(finding),
         }
+    }
+
+    /// Two rows stand.
+    fn begin(&mut self) -> Result<(), Finding> {
+        self.takes(BEFORE.as_bytes())?;
+        self.keeps(2)
     }
 
     /// The first rows are those that nothing may change from now on.
@@ -153,7 +150,7 @@ impl Judge {
 
     /// Reads bytes, behind the last of which the rows above stand.
     fn reads_all(&mut self, bytes: &[u8]) -> Result<(), Finding> {
-        self.feed(bytes)?;
+        self.takes(bytes)?;
         let picture = self.cells.picture()?;
         match picture.starts_with(&self.above) {
             true => Ok(()),
@@ -177,7 +174,10 @@ impl Judge {
 
     /// Reads bytes of which nothing has to hold.
     pub fn takes(&mut self, bytes: &[u8]) -> Result<(), Finding> {
-        self.feed(bytes)
+        match self.cells.feed(bytes) {
+            Ok(()) => Ok(()),
+            Err(_) => Err(Finding::Memory),
+        }
     }
 
     /// The rows that stand, those among them that left the window, down to the last one that isn't empty.

@@ -19,13 +19,12 @@ pub struct OnBar<T: Drop> {
 impl<T: Resize + Drop> OnBar<T> {
     /// A bar that says `a` on this terminal.
     pub fn new(alloc: Global, term: T) -> Result<OnBar<T>, Refusal> {
+        let bar = saying(alloc, "a")?;
         let target = ProgressDrawTarget::term_like(term);
-        let bar = Box::new(alloc, LoneBar::new(saying(alloc, "a")?, target))?;
-        Ok(OnBar { bar })
-    }
-
-    fn suspend(&mut self) -> Said {
-        self.bar.suspend(0, || ()).1
+        match Box::new(alloc, LoneBar::new(bar, target)) {
+            Ok(bar) => Ok(OnBar { bar }),
+            Err(_) => Err(Refusal::Memory),
+        }
     }
 }
 
@@ -38,7 +37,7 @@ impl<T: Resize + Drop> Stage for OnBar<T> {
             Step::Finish(_) => self.bar.finish(0),
             Step::Log(text) | Step::BarLog(_, text) => self.bar.println(text, 0),
             Step::Clear => self.bar.clear(0),
-            Step::Suspend => self.suspend(),
+            Step::Suspend => self.bar.suspend(0, || ()).1,
             Step::Size(Size { rows, cols }) => done(self.bar.resize(rows, cols)),
             _ => Err(Refusal::NotMember),
         }

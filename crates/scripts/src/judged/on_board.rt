@@ -4,7 +4,7 @@ use super::record::Size;
 use super::script::{Said, Step};
 use indicatif_bar::state::{BarCommand, BarState, ProgressFinish};
 use indicatif_bar::style::{NoTracker, ProgressStyle};
-use indicatif_board::multi::{BarId, Board, Candidate, Turned};
+use indicatif_board::multi::{BarId, Board, Candidate};
 use indicatif_term::draw_target::{MultiProgressAlignment, ProgressDrawTarget};
 use indicatif_term::term_like::Resize;
 use indicatif_text::columns::{Drawn, Refusal};
@@ -35,14 +35,6 @@ pub fn done(answer: Result<(), Refusal>) -> Said {
     }
 }
 
-/// What a call answers that takes a bar in.
-fn taken(answer: Result<BarId, Turned<NoTracker>>) -> Said {
-    match answer {
-        Ok(_) => Ok(Drawn::Limited),
-        Err(turned) => Err(turned.refusal),
-    }
-}
-
 /// A bar that says this.
 pub fn saying(alloc: Global, text: &str) -> Result<BarState<NoTracker>, Refusal> {
     let style = ProgressStyle::with_template(alloc, "{msg}")?;
@@ -55,8 +47,10 @@ impl<T: Resize + Drop> OnBoard<T> {
     /// A board without bars on this terminal.
     pub fn new(alloc: Global, term: T) -> Result<OnBoard<T>, Refusal> {
         let target = ProgressDrawTarget::term_like(term);
-        let board = Box::new(alloc, Board::new(alloc, target, BOARD_ID))?;
-        Ok(OnBoard { alloc, board })
+        match Box::new(alloc, Board::new(alloc, target, BOARD_ID)) {
+            Ok(board) => Ok(OnBoard { alloc, board }),
+            Err(_) => Err(Refusal::Memory),
+        }
     }
 
     /// The same, whose draws write over what stands by moves of the cursor alone.
@@ -71,32 +65,31 @@ impl<T: Resize + Drop> OnBoard<T> {
         self.board.term()
     }
 
-    fn candidate(&self, text: &str) -> Result<Candidate<NoTracker>, Refusal> {
-        Ok(Candidate::New(saying(self.alloc, text)?))
-    }
-
-    fn add(&mut self, text: &str) -> Said {
-        let candidate = self.candidate(text)?;
-        taken(self.board.add(candidate))
-    }
-
-    fn before(&mut self, anchor: u64, text: &str) -> Said {
-        let candidate = self.candidate(text)?;
-        taken(self.board.insert_before(id(anchor), candidate))
+    /// A new bar that says this comes before another, or last.
+    fn add(&mut self, anchor: Option<u64>, text: &str) -> Said {
+        let candidate = Candidate::New(saying(self.alloc, text)?);
+        let taken = match anchor {
+            Some(anchor) => self.board.insert_before(id(anchor), candidate),
+            None => self.board.add(candidate),
+        };
+        match taken {
+            Ok(_) => Ok(Drawn::Limited),
+            Err(turned) => Err(turned.refusal),
+        }
     }
 
     fn command(&mut self, bar: u64, command: BarCommand<NoTracker>) -> Said {
         self.board.command(id(bar), command, 0)
     }
 
-    fn message(&mut self, bar: u64, text: &str) -> Said {
+    /// A bar says this, and is drawn or not.
+    fn say(&mut self, step: Step, bar: u64, text: &str) -> Said {
         let text = String::from_str(self.alloc, text)?;
-        self.command(bar, BarCommand::SetMessage(text))
-    }
-
-    fn told(&mut self, bar: u64, text: &str) -> Said {
-        let text = String::from_str(self.alloc, text)?;
-        self.command(bar, BarCommand::WithMessage(text))
+        let command = match step {
+            Step::Told(..) => BarCommand::WithMessage(text),
+            _ => BarCommand::SetMessage(text),
+        };
+        self.command(bar, command)
     }
 
     fn remove(&mut self, bar: u64) -> Said {
@@ -111,18 +104,14 @@ impl<T: Resize + Drop> OnBoard<T> {
         Ok(Drawn::Limited)
     }
 
-    fn suspend(&mut self) -> Said {
-        self.board.suspend(0, || ()).1
-    }
-
     fn of_all(&mut self, step: Step) -> Said {
         match step {
-            Step::Add(text) => self.add(text),
-            Step::Before(anchor, text) => self.before(anchor, text),
+            Step::Add(text) => self.add(None, text),
+            Step::Before(anchor, text) => self.add(Some(anchor), text),
             Step::Log(text) => self.board.println(text, 0),
             Step::Clear => self.board.clear(0),
             Step::Redraw => self.board.redraw(0),
-            Step::Suspend => self.suspend(),
+            Step::Suspend => self.board.suspend(0, || ()).1,
             Step::Bottom => self.align(MultiProgressAlignment::Bottom),
             Step::Top => self.align(MultiProgressAlignment::Top),
             Step::Size(Size { rows, cols }) => done(self.board.resize(rows, cols)),
@@ -135,8 +124,7 @@ impl<T: Resize + Drop> Stage for OnBoard<T> {
     fn make(&mut self, step: Step) -> Said {
         match step {
             Step::Tick(bar) => self.command(bar, BarCommand::Tick),
-            Step::Message(bar, text) => self.message(bar, text),
-            Step::Told(bar, text) => self.told(bar, text),
+            Step::Message(bar, text) | Step::Told(bar, text) => self.say(step, bar, text),
             Step::Keep(bar) => {
                 self.command(bar, BarCommand::WithFinish(ProgressFinish::AndLeave))
             }

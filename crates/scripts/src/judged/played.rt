@@ -42,10 +42,10 @@ fn is_failing<S: Stage>(
     judge: &mut Judge,
 ) -> Result<bool, Finding> {
     let before = record.point();
-    let order = copied(judge.alloc(), stage.order())?;
+    let order = copied(judge.alloc, stage.order())?;
     let said = stage.make(step);
     let has_failed = record.point().failures != before.failures;
-    let bytes = record.since(judge.alloc(), before)?;
+    let bytes = record.since(judge.alloc, before)?;
     judge.reads(&bytes, has_failed)?;
     let held = match has_failed {
         true => failed(said, &order, stage.order()),

@@ -98,7 +98,10 @@ impl Record {
         match self.taken.try_borrow() {
             Ok(taken) => {
                 let bytes = taken.get(from.bytes..to.bytes).unwrap_or(&[]);
-                Ok(Vec::from_slice(alloc, bytes)?)
+                match Vec::from_slice(alloc, bytes) {
+                    Ok(bytes) => Ok(bytes),
+                    Err(_) => Err(Refusal::Memory),
+                }
             }
             Err(_) => Err(Refusal::Memory),
         }

@@ -59,6 +59,14 @@ struct Note {
     end: usize,
 }
 
+/// Whether there was memory for all.
+fn found_room(has_found: bool) -> Result<(), Finding> {
+    match has_found {
+        true => Ok(()),
+        false => Err(Finding::Memory),
+    }
+}
+
 /// What the calls of a script did.
 #[derive(Drop)]
 pub struct Notes {
@@ -83,10 +91,11 @@ impl Notes {
         step: Step,
     ) -> Result<(), Finding> {
         let said = stage.make(step);
-        self.orders.extend_from_slice(stage.order())?;
+        let has_order = self.orders.extend_from_slice(stage.order()).is_ok();
         let end = self.orders.len();
         let point = record.point();
-        Ok(self.calls.push(Note { said, point, end })?)
+        let has_note = self.calls.push(Note { said, point, end }).is_ok();
+        found_room(has_order && has_note)
     }
 
     /// What the last of so many calls did.
@@ -125,12 +134,16 @@ impl Notes {
     /// The answers of those of these calls that are compared.
     fn answers(&self, alloc: Global, calls: &[Turn]) -> Result<Vec<Said>, Finding> {
         let mut answers = Vec::new(alloc);
+        let mut has_room = true;
         for (note, call) in self.calls.iter().zip(calls.iter()) {
             if call.is_compared {
-                answers.push(note.said)?;
+                has_room &= answers.push(note.said).is_ok();
             }
         }
-        Ok(answers)
+        match found_room(has_room) {
+            Ok(()) => Ok(answers),
+            Err(finding) => Err(finding),
+        }
     }
 }
 
@@ -384,36 +397,47 @@ impl<M: Stages> Run<'_, M> {
     /// The calls of the run. Compared are those from this one on that weren't refused.
     fn own_calls(&self, from: usize) -> Result<Vec<Turn>, Finding> {
         let mut calls = Vec::new(self.alloc);
+        let mut has_room = true;
         for (at, step) in self.stages.script().iter().enumerate() {
             let is_compared = from <= at && !self.notes.is_refused(at);
-            calls.push(Turn {
+            let turn = Turn {
                 step: *step,
                 is_compared,
-            })?;
+            };
+            has_room &= calls.push(turn).is_ok();
         }
-        Ok(calls)
+        match found_room(has_room) {
+            Ok(()) => Ok(calls),
+            Err(finding) => Err(finding),
+        }
     }
 
     /// The calls of the run that weren't refused, and before one of them another, if one is given. Compared are those from this one on.
     fn new_calls(&self, from: usize, other: Option<(usize, Step)>) -> Result<Vec<Turn>, Finding> {
         let mut calls = Vec::new(self.alloc);
+        let mut has_room = true;
         for (at, step) in self.stages.script().iter().enumerate() {
             if let Some((place, step)) = other {
                 if place == at {
-                    calls.push(Turn {
+                    let turn = Turn {
                         step,
                         is_compared: false,
-                    })?;
+                    };
+                    has_room &= calls.push(turn).is_ok();
                 }
             }
             if !self.notes.is_refused(at) {
-                calls.push(Turn {
+                let turn = Turn {
                     step: *step,
                     is_compared: from <= at,
-                })?;
+                };
+                has_room &= calls.push(turn).is_ok();
             }
         }
-        Ok(calls)
+        match found_room(has_room) {
+            Ok(()) => Ok(calls),
+            Err(finding) => Err(finding),
+        }
     }
 
     /// Whether the same stands behind the compared calls that drew, and behind the last one.
@@ -503,7 +527,7 @@ fn is_shown(
     (before, note): (Point, &Note),
     call: &Turn,
 ) -> Result<bool, Finding> {
-    let bytes = record.between(judge.alloc(), before, note.point)?;
+    let bytes = record.between(judge.alloc, before, note.point)?;
     judge.takes(&bytes)?;
     resized(note.said, (call.step, &[]), judge)?;
     let has_drawn = note.said == Ok(Drawn::Yes) && !matches!(call.step, Step::Drop(_));
