@@ -135,7 +135,7 @@ impl<'a, T: Sync, P: Moves + Drop> ProgressBarIter<&'a [T], P> {
     /// What `f` answers at each item, in the list's order.
     ///
     /// ```
-    /// let (squares, bar) = numbers.progress_with(bar).map_collect(&rt, alloc, |n: &u32| n.wrapping_mul(*n));
+    /// let (made, bar) = list.map_collect(&rt, alloc, |x: &u32| x.wrapping_mul(2)); // of 1, 2 and 3: 2, 4 and 6
     /// ```
     ///
     /// Refused: `Memory`, never for an empty list; the bar was advanced by blocks of items that were met before.
@@ -158,7 +158,7 @@ impl<'a, T: Sync, P: Moves + Drop> ProgressBarIter<&'a [T], P> {
     /// Calls `f` with each item once. It takes no memory, and always answers `Ok`.
     ///
     /// ```
-    /// let (_, bar) = paths.progress_with(bar).for_each(&rt, |path: &String| digest(path));
+    /// let (answer, bar) = list.for_each(&rt, |item: &AtomicU64| meet(item)); // `meet` may be called by several threads at once
     /// ```
     pub fn for_each<R: Threads + Sync, F: Fn(&T) + Sync + Drop>(
         self,

@@ -45,7 +45,7 @@ impl<T: TermLike + Drop, C: Clock + Drop, R: Wait + Clone + Drop, K: Tracks> Pro
     /// A reader that places the bar behind what was read.
     ///
     /// ```
-    /// let mut wrapped = bar.wrap_read("abcdef".as_bytes())?; // a read into 4 bytes: the position is 4
+    /// let mut wrapped = bar.wrap_read(bytes)?; // a read of 4 bytes: the position is 4
     /// ```
     ///
     /// Refused: want of memory, or of owners; the reader is given up.
