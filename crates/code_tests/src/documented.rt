@@ -7,7 +7,7 @@ mod engines;
 pub mod histories;
 mod lone;
 mod memory;
-pub mod records;
+mod records;
 mod targets;
 mod texts;
 

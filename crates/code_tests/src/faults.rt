@@ -1,6 +1,6 @@
 //! What a lone bar answers where each call of its terminal fails in turn, or where memory is refused; and boxed terminals.
 use crate::failing_term::FailsOnce;
-use crate::shown::{SCRIPT, STILL, Shown, Step, made};
+use crate::shown::{SCRIPT, STILL, Shown, Step};
 use indicatif_term::in_memory::{Cells, InMemoryTerm};
 use indicatif_term::term_like::{Term, TermLike};
 use indicatif_text::columns::{Drawn, Refusal};
@@ -19,19 +19,9 @@ fn bar_failing_at(rt: &impl Abort, alloc: Global, failing: u64) -> Shown<FailsOn
     Shown::on(alloc, "ab", FailsOnce::new(term, failing)).expect(rt, "granted")
 }
 
-/// The terminal in memory.
-fn inner<'a>(rt: &impl Abort, bar: &'a Shown<FailsOnce>) -> &'a InMemoryTerm {
-    bar.term().expect(rt, "a terminal").inner()
-}
-
-/// What stands on the screen.
-fn contents(rt: &impl Abort, bar: &Shown<FailsOnce>) -> String {
-    inner(rt, bar).contents().expect(rt, "granted")
-}
-
 /// The rows down to the cursor's, each ended by a newline.
 fn rows_to_the_cursor(rt: &impl Abort, alloc: Global, bar: &Shown<FailsOnce>) -> String {
-    let term = inner(rt, bar);
+    let term = bar.term().expect(rt, "a terminal").inner();
     let (row, _) = term.cursor();
     let mut text = String::new(alloc);
     let picture = term.picture().expect(rt, "granted");
@@ -51,7 +41,8 @@ fn push_rows(rt: &impl Abort, text: &mut String, rows: &[String], last: usize) {
 fn stands_below(rt: &impl Abort, bar: &Shown<FailsOnce>, left: String, rows: &str) {
     let mut wanted = left;
     wanted.push_str(rows).expect(rt, "granted");
-    same!(*rt; contents(rt, bar), wanted);
+    let term = bar.term().expect(rt, "a terminal").inner();
+    same!(*rt; term.contents().expect(rt, "granted"), wanted);
 }
 
 /// Makes the call, and answers what a failure left on the screen. After one, the call's rows stand below what it left.
@@ -62,7 +53,7 @@ fn stepped(
     call: (Step, &str),
     left: Option<String>,
 ) -> Option<String> {
-    match made(bar, call.0) {
+    match bar.makes(call.0) {
         Ok(drawn) => {
             same!(*rt; drawn, Drawn::Yes);
             if let Some(left) = left {
@@ -97,7 +88,7 @@ fn run_failing_at(rt: &impl Abort, alloc: Global, failing: u64) -> (u64, u64) {
 fn run_on(rt: &impl Abort, alloc: Global, bar: &mut Shown<FailsOnce>) -> (u64, u64) {
     let mut left: Option<String> = None;
     let mut failures: u64 = 0;
-    for call in &SCRIPT {
+    for call in SCRIPT {
         left = stepped(rt, alloc, bar, *call, left);
         failures = failures.saturating_add(u64::from(left.is_some()));
     }
@@ -119,14 +110,12 @@ fn each_call_of_the_terminal_fails_once(rt: HostRuntime) {
 
 // ---- a boxed terminal
 
-/// Whether a bar draws the script, and refuses a wide character.
-fn draws_the_script<T: TermLike + Drop>(bar: &mut Shown<T>) -> bool {
-    for (step, _) in &SCRIPT {
-        if made(bar, *step) != Ok(Drawn::Yes) {
-            return false;
-        }
+/// A bar draws the script, and refuses a wide character.
+fn draws_the_script<T: TermLike + Drop>(rt: &impl Abort, mut bar: Shown<T>) {
+    for (step, _) in SCRIPT {
+        same!(*rt; bar.makes(*step), Ok(Drawn::Yes));
     }
-    made(bar, Step::Log("国")) == Err(Refusal::TooWide)
+    same!(*rt; bar.makes(Step::Log("国")), Err(Refusal::TooWide));
 }
 
 /// A terminal of 5 rows and one column.
@@ -134,21 +123,21 @@ fn small(rt: &impl Abort, alloc: Global) -> InMemoryTerm {
     InMemoryTerm::new(alloc, 5, 1).expect(rt, "granted")
 }
 
-fn plain_bar(rt: &impl Abort, alloc: Global) -> Shown<InMemoryTerm> {
-    Shown::on(alloc, "ab", small(rt, alloc)).expect(rt, "granted")
-}
-
-fn boxed_bar(rt: &impl Abort, alloc: Global) -> Shown<Boxed> {
-    let term: Boxed = Box::new(alloc, small(rt, alloc)).expect(rt, "granted");
+/// A bar that says `ab` on this terminal, in a box.
+fn boxed_bar<T: TermLike + Drop + 'static>(
+    rt: &impl Abort,
+    alloc: Global,
+    term: T,
+) -> Shown<Boxed> {
+    let term: Boxed = Box::new(alloc, term).expect(rt, "granted");
     Shown::on(alloc, "ab", term).expect(rt, "granted")
 }
 
 #[test]
 fn a_boxed_terminal_answers_as_the_plain_one(rt: HostRuntime) {
-    let mut plain = plain_bar(&rt, rt.alloc());
-    holds!(rt; draws_the_script(&mut plain));
-    let mut boxed = boxed_bar(&rt, rt.alloc());
-    holds!(rt; draws_the_script(&mut boxed));
+    let plain = Shown::on(rt.alloc(), "ab", small(&rt, rt.alloc())).expect(&rt, "granted");
+    draws_the_script(&rt, plain);
+    draws_the_script(&rt, boxed_bar(&rt, rt.alloc(), small(&rt, rt.alloc())));
 }
 
 /// How often the bar's terminal has failed.
@@ -156,26 +145,28 @@ fn faults<T: TermLike + Drop>(bar: &Shown<T>) -> Option<u64> {
     Some(bar.term()?.faults())
 }
 
-/// A bar on a boxed terminal of which the fourth call fails.
-fn failing_bar(rt: &impl Abort, alloc: Global) -> Shown<Boxed> {
-    let inner = InMemoryTerm::new(alloc, 5, 10).expect(rt, "granted");
-    let term: Boxed = Box::new(alloc, FailsOnce::new(inner, 4)).expect(rt, "granted");
-    Shown::on(alloc, "ab", term).expect(rt, "granted")
+/// A tick is drawn, a line fails and is counted, and the same line is drawn then.
+fn fails_at_a_line<T: TermLike + Drop>(rt: &impl Abort, mut bar: Shown<T>) {
+    same!(*rt; bar.makes(Step::Tick), Ok(Drawn::Yes));
+    let broken = Err(Refusal::Terminal(ErrorKind::BrokenPipe));
+    same!(*rt; (bar.makes(Step::Log("l")), faults(&bar)), (broken, Some(1)));
+    same!(*rt; (bar.makes(Step::Log("l")), faults(&bar)), (Ok(Drawn::Yes), Some(1)));
 }
 
-/// A tick is drawn, a line fails and is counted, and the same line is drawn then.
+/// The fourth call of the terminal fails.
 #[test]
 fn a_boxed_terminal_that_fails(rt: HostRuntime) {
-    let mut bar = failing_bar(&rt, rt.alloc());
-    same!(rt; bar.tick(0), Ok(Drawn::Yes));
-    let broken = Err(Refusal::Terminal(ErrorKind::BrokenPipe));
-    same!(rt; (bar.println("l", 0), faults(&bar)), (broken, Some(1)));
-    same!(rt; (bar.println("l", 0), faults(&bar)), (Ok(Drawn::Yes), Some(1)));
+    let inner = InMemoryTerm::new(rt.alloc(), 5, 10).expect(&rt, "granted");
+    let bar = boxed_bar(&rt, rt.alloc(), FailsOnce::new(inner, 4));
+    fails_at_a_line(&rt, bar);
 }
 
 // ---- memory is refused; tried with each allocation failing in turn
 
-fn bytes_written(bar: &Shown<Term<Vec<u8>>>) -> usize {
+/// A bar whose terminal writes into memory.
+type OnBytes = Shown<Term<Vec<u8>>>;
+
+fn bytes_written(bar: &OnBytes) -> usize {
     match bar.term() {
         Some(term) => term.writer().len(),
         None => 0,
@@ -183,7 +174,7 @@ fn bytes_written(bar: &Shown<Term<Vec<u8>>>) -> usize {
 }
 
 /// What the bytes written so far show.
-fn shown_by_bytes(alloc: Global, bar: &Shown<Term<Vec<u8>>>) -> Result<String, Refusal> {
+fn shown_by_bytes(alloc: Global, bar: &OnBytes) -> Result<String, Refusal> {
     let mut cells = Cells::new(alloc, 6, 10)?;
     if let Some(term) = bar.term() {
         if let Err((_, refusal)) = cells.feed(term.writer()) {
@@ -194,30 +185,30 @@ fn shown_by_bytes(alloc: Global, bar: &Shown<Term<Vec<u8>>>) -> Result<String, R
 }
 
 /// A bar whose terminal takes no memory: its writer has room for the whole script.
-fn bar_with_room(alloc: Global) -> Result<Shown<Term<Vec<u8>>>, Refusal> {
+fn bar_with_room(alloc: Global) -> Result<OnBytes, Refusal> {
     let writer: Vec<u8> = Vec::with_capacity(alloc, 1024)?;
     Shown::on(alloc, "ab", Term::new(writer, 6, 10))
 }
 
 /// Whether a call is drawn: at once, or when it is made again, where memory was refused and not a byte was written; and whether it
 /// writes then, as it is to or not.
-fn is_drawn_at_last(bar: &mut Shown<Term<Vec<u8>>>, step: Step, writes: bool) -> bool {
+fn is_drawn_at_last(bar: &mut OnBytes, step: Step, writes: bool) -> bool {
     let before = bytes_written(bar);
-    let first = made(bar, step);
+    let first = bar.makes(step);
     let refused = first == Err(Refusal::Memory) && bytes_written(bar) == before;
-    let drawn = first == Ok(Drawn::Yes) || refused && made(bar, step) == Ok(Drawn::Yes);
+    let drawn = first == Ok(Drawn::Yes) || refused && bar.makes(step) == Ok(Drawn::Yes);
     drawn && (bytes_written(bar) > before) == writes
 }
 
 /// Each call of the script is drawn at last; all but one of them change a line, and write.
-fn draws_at_last(rt: &impl Abort, bar: &mut Shown<Term<Vec<u8>>>) {
+fn draws_at_last(rt: &impl Abort, bar: &mut OnBytes) {
     for (place, call) in SCRIPT.iter().enumerate() {
         holds!(*rt; is_drawn_at_last(bar, call.0, place != STILL));
     }
 }
 
 /// Whether a bar shows what the script leaves; where memory for that is refused nothing is known.
-fn shows_the_script(alloc: Global, bar: &Shown<Term<Vec<u8>>>) -> bool {
+fn shows_the_script(alloc: Global, bar: &OnBytes) -> bool {
     match shown_by_bytes(alloc, bar) {
         Ok(shown) => shown.as_str() == "l1\nl2\ne",
         Err(refusal) => refusal == Refusal::Memory,
@@ -246,9 +237,9 @@ fn seen(bar: &Shown<InMemoryTerm>) -> Option<(String, (u16, u16))> {
 /// which it counts.
 fn is_drawn_or_refused(bar: &mut Shown<InMemoryTerm>, step: Step) -> bool {
     let before = seen(bar);
-    match made(bar, step) {
+    match bar.makes(step) {
         Ok(drawn) => drawn == Drawn::Yes,
-        Err(Refusal::Memory) => seen(bar) == before && made(bar, step) == Ok(Drawn::Yes),
+        Err(Refusal::Memory) => seen(bar) == before && bar.makes(step) == Ok(Drawn::Yes),
         Err(refusal) => {
             refusal == Refusal::Terminal(ErrorKind::OutOfMemory) && faults(bar) == Some(1)
         }
@@ -257,7 +248,7 @@ fn is_drawn_or_refused(bar: &mut Shown<InMemoryTerm>, step: Step) -> bool {
 
 /// Each call of the script.
 fn draws_or_refuses(rt: &impl Abort, bar: &mut Shown<InMemoryTerm>) {
-    for (step, _) in &SCRIPT {
+    for (step, _) in SCRIPT {
         holds!(*rt; is_drawn_or_refused(bar, *step));
     }
 }

@@ -21,12 +21,12 @@ type Bar = BarState<NoTracker>;
 type Lone = LoneBar<NoTracker, InMemoryTerm>;
 
 /// What belongs with commands that have a number, or a text.
-const NUMBERS: [&str; 8] = ["0", "1", "2", "3", "4", "5", "20", "70"];
+const NUMBERS: &[&str] = &["0", "1", "2", "3", "4", "5", "20", "70"];
 
-const TEXTS: [&str; 1] = ["m"];
+const TEXTS: &[&str] = &["m"];
 
 /// Commands with what belongs to them alone.
-const OTHERS: [&str; 4] = [
+const OTHERS: &[&str] = &[
     "set_ticker yes",
     "set_ticker no",
     "update 2 4",
@@ -127,9 +127,9 @@ fn leaves_the_same(rt: &impl Abort, at: At, text: &str) {
 /// All commands pass a check.
 fn all_pass(rt: &impl Abort, at: At, check: Check) {
     these_pass(rt, at, check, &BARE);
-    these_pass(rt, at, check, &OTHERS);
-    each_passes(rt, at, check, (&NUMBERED, &NUMBERS));
-    each_passes(rt, at, check, (&WORDED, &TEXTS));
+    these_pass(rt, at, check, OTHERS);
+    each_passes(rt, at, check, (&NUMBERED, NUMBERS));
+    each_passes(rt, at, check, (&WORDED, TEXTS));
 }
 
 fn these_pass(rt: &impl Abort, at: At, check: Check, commands: &[&str]) {

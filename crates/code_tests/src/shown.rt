@@ -5,7 +5,7 @@ use indicatif_bar::state::BarState;
 use indicatif_bar::style::{NoTracker, ProgressStyle};
 use indicatif_term::draw_target::ProgressDrawTarget;
 use indicatif_term::term_like::TermLike;
-use indicatif_text::columns::{Drawn, Moment, Refusal};
+use indicatif_text::columns::{Drawn, Refusal};
 use std::alloc::Global;
 
 /// A bar on a terminal.
@@ -38,16 +38,13 @@ impl<T: TermLike + Drop> Shown<T> {
         self.bar.term()
     }
 
-    pub fn tick(&mut self, now: Moment) -> Result<Drawn, Refusal> {
-        self.bar.tick(now)
-    }
-
-    pub fn set_message(&mut self, text: &str, now: Moment) -> Result<Drawn, Refusal> {
-        self.bar.set_message(text, now)
-    }
-
-    pub fn println(&mut self, text: &str, now: Moment) -> Result<Drawn, Refusal> {
-        self.bar.println(text, now)
+    /// Makes a call.
+    pub fn makes(&mut self, step: Step) -> Result<Drawn, Refusal> {
+        match step {
+            Step::Tick => self.bar.tick(0),
+            Step::Message(text) => self.bar.set_message(text, 0),
+            Step::Log(text) => self.bar.println(text, 0),
+        }
     }
 }
 
@@ -60,7 +57,7 @@ pub enum Step {
 }
 
 /// The calls of a bar that first says `ab`, and the rows that each draw writes.
-pub const SCRIPT: [(Step, &str); 6] = [
+pub const SCRIPT: &[(Step, &str)] = &[
     (Step::Tick, "ab"),
     (Step::Log("l1"), "l1\nab"),
     (Step::Message("c\nd"), "c\nd"),
@@ -71,12 +68,3 @@ pub const SCRIPT: [(Step, &str); 6] = [
 
 /// The place in the script of the tick that changes no line: the log before it wrote all of them. Such a drawing writes nothing.
 pub const STILL: usize = 4;
-
-/// Makes the call.
-pub fn made<T: TermLike + Drop>(bar: &mut Shown<T>, step: Step) -> Result<Drawn, Refusal> {
-    match step {
-        Step::Tick => bar.tick(0),
-        Step::Message(text) => bar.set_message(text, 0),
-        Step::Log(text) => bar.println(text, 0),
-    }
-}

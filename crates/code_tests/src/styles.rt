@@ -60,19 +60,17 @@ fn shows<K: ProgressTracker>(
     bar: &BarState<K>,
     (columns, wanted): (u16, &str),
 ) {
-    let lines = bar.lines(0, columns).expect(rt, "granted");
-    let text = joined(rt, alloc, &lines);
-    same!(*rt; text.as_str(), wanted);
+    are_lines(rt, alloc, bar.lines(0, columns), wanted);
 }
 
-/// These lines, each with a newline behind it.
-fn joined(rt: &impl Abort, alloc: Global, lines: &[LineType]) -> String {
+/// These lines, each with a newline behind it, are this text.
+fn are_lines(rt: &impl Abort, alloc: Global, lines: Result<Vec<LineType>, Refusal>, wanted: &str) {
     let mut text = String::new(alloc);
-    for line in lines {
+    for line in &lines.expect(rt, "granted") {
         text.push_str(line.as_str()).expect(rt, "granted");
         text.push('\n').expect(rt, "granted");
     }
-    text
+    same!(*rt; text.as_str(), wanted);
 }
 
 // ---- a text that stays
@@ -123,7 +121,7 @@ type Said = (&'static str, &'static str, usize, &'static str);
 
 /// A tracker's text has its tabs expanded, its newlines part lines, its NULs are fillers, and what isn't a colour sequence
 /// counts by its characters.
-const SAID: [Said; 10] = [
+const SAID: &[Said] = &[
     ("{t}", "a\tb", 4, "a    b\n"),
     ("{t}", "a\tb\nc", 2, "a  b\nc\n"),
     ("{t:^5}|", "XXX", 8, " XXX |\n"),
@@ -147,7 +145,7 @@ fn is_told(rt: &impl Abort, alloc: Global, row: &Said) {
 
 #[test]
 fn texts_of_trackers(rt: HostRuntime) {
-    for row in &SAID {
+    for row in SAID {
         is_told(&rt, rt.alloc(), row);
     }
 }
@@ -373,17 +371,21 @@ enum Step {
     Finish,
 }
 
+/// What a message says.
+fn said(rt: &impl Abort, alloc: Global) -> String {
+    String::from_str(alloc, "m").expect(rt, "granted")
+}
+
 fn command(rt: &impl Abort, alloc: Global, call: Step) -> BarCommand<Light> {
-    let message = String::from_str(alloc, "m").expect(rt, "granted");
     match call {
         Step::WithPosition => BarCommand::WithPosition(1),
         Step::ForceDraw => BarCommand::ForceDraw,
-        Step::WithMessage => BarCommand::WithMessage(message),
+        Step::WithMessage => BarCommand::WithMessage(said(rt, alloc)),
         Step::Tick => BarCommand::Tick,
         Step::ResetEta => BarCommand::ResetEta,
         Step::ResetElapsed => BarCommand::ResetElapsed,
         Step::Reset => BarCommand::Reset,
-        Step::SetMessage => BarCommand::SetMessage(message),
+        Step::SetMessage => BarCommand::SetMessage(said(rt, alloc)),
         Step::Inc => BarCommand::Inc(1),
         Step::SetLength => BarCommand::SetLength(3),
         Step::SetTicker => BarCommand::SetTicker(true),
@@ -394,7 +396,7 @@ fn command(rt: &impl Abort, alloc: Global, call: Step) -> BarCommand<Light> {
 
 /// Calls one after another, and what the bar shows then. Each that updates the bar ticks its trackers; a reset resets them, and nothing
 /// else touches them.
-const CALLS: [(Step, &str); 18] = [
+const CALLS: &[(Step, &str)] = &[
     (Step::WithPosition, "off\n"),
     (Step::ForceDraw, "off\n"),
     (Step::WithMessage, "off\n"),
@@ -430,7 +432,7 @@ fn shows_after(
 #[test]
 fn ticks_and_resets_of_a_tracker(rt: HostRuntime) {
     let mut bar = lit(&rt, rt.alloc());
-    for row in &CALLS {
+    for row in CALLS {
         shows_after(&rt, rt.alloc(), &mut bar, *row);
     }
 }

@@ -2,11 +2,9 @@
 ghost use Rattle.std.specs.Prelude.{◌≡◌, ℕ, List, IfOk, IfErr};
 ghost use Rattle.indicatif_bar.specs.Progress.{Progress};
 
-use crate::documented::records::{Always, ready};
-use bars_run::fault::Fault;
 use indicatif_bar::lone::LoneBar;
 use indicatif_bar::state::{Ask, BarState, Change, ProgressFinish, SpareLines};
-use indicatif_bar::style::{FnTracker, NoTracker, ProgressStyle, ProgressTracker};
+use indicatif_bar::style::{NoTracker, ProgressStyle};
 use indicatif_term::draw_target::{LineType, ProgressDrawTarget, Setup};
 use indicatif_term::in_memory::InMemoryTerm;
 use indicatif_term::term_like::TermLike;
@@ -26,34 +24,19 @@ fn plain_bar(rt: &impl Abort, alloc: Global, len: u64) -> Box<Bar> {
 }
 
 /// A record that looks so.
-fn boxed<K: ProgressTracker>(
+fn boxed(
     rt: &impl Abort,
     alloc: Global,
-    style: ProgressStyle<K>,
+    style: ProgressStyle<NoTracker>,
     len: Option<u64>,
-) -> Box<BarState<K>> {
+) -> Box<Bar> {
     let bar = BarState::styled(alloc, style, len, 0).expect(rt, "granted");
     Box::new(alloc, bar).expect(rt, "granted")
 }
 
-fn position(bar: &Bar) -> u64 {
-    bar.state().pos()
-}
-
-fn length(bar: &Bar) -> Option<u64> {
-    bar.state().len()
-}
-
 #[test]
-fn asks(rt: HostRuntime) {
-    holds!(rt; Ask::No.is_no() && !Ask::Forced.is_no());
-    holds!(rt; Ask::Unforced.allows(&mut None, 0));
+fn finish_by_default(rt: HostRuntime) {
     holds!(rt; matches!(ProgressFinish::default(), ProgressFinish::AndClear));
-}
-
-/// What the clock tells.
-fn told(clock: &mut StepClock) -> u64 {
-    clock.now()
 }
 
 #[test]
@@ -62,9 +45,8 @@ fn setup(rt: HostRuntime) {
         target: ProgressDrawTarget::<InMemoryTerm>::hidden(),
         clock: StepClock { next: 0, step: 1 },
     };
-    holds!(rt; setup.target.is_hidden());
-    same!(rt; told(&mut setup.clock), 0);
-    same!(rt; told(&mut setup.clock), 1);
+    let told = [setup.clock.now(), setup.clock.now()];
+    same!(rt; (setup.target.is_hidden(), told), (true, [0, 1]));
 }
 
 #[test]
@@ -78,40 +60,12 @@ fn draw_target(rt: HostRuntime) {
     holds!(rt; nowhere.is_hidden());
 }
 
-#[test]
-fn fault(rt: HostRuntime) {
-    let fault = Fault::Line(4, Refusal::NotMember);
-    let text = fault.to_string(rt.alloc()).expect(&rt, "granted");
-    same!(rt; text.as_str(), "bars: line 4: E9");
-    same!(rt; fault.status(), 1);
-}
-
-// ---- a tracker that tells a text
-
-/// A bar that shows what this tells.
-fn telling(
-    rt: &impl Abort,
-    alloc: Global,
-    tracker: FnTracker<Always>,
-) -> Box<BarState<FnTracker<Always>>> {
-    let style = ProgressStyle::with_template(alloc, "{word}!").expect(rt, "granted");
-    let style = style.with_key("word", tracker).expect(rt, "granted");
-    boxed(rt, alloc, style, Some(10))
-}
-
 /// This is the one line.
 fn is_shown(rt: &impl Abort, lines: &[LineType], wanted: &str) {
     match lines {
         [line] => same!(*rt; line.as_str(), wanted),
         _ => same!(*rt; (wanted, lines.len()), (wanted, 1)),
     }
-}
-
-#[test]
-fn fn_tracker_and_tells_text(rt: HostRuntime) {
-    let bar = telling(&rt, rt.alloc(), ready(&rt, rt.alloc()));
-    let lines = bar.lines(0, 80).expect(&rt, "granted");
-    is_shown(&rt, &lines, "ready!");
 }
 
 // ---- room of lines
@@ -166,7 +120,7 @@ fn an_update_of_a_record(rt: HostRuntime) {
     let mut bar = plain_bar(&rt, rt.alloc(), 10);
     bar.with_position(12, 0);
     same!(rt; update_twice(&mut bar), Ask::Unforced);
-    same!(rt; (position(&bar), length(&bar)), (24, Some(25)));
+    same!(rt; (bar.state().pos(), bar.state().len()), (24, Some(25)));
 }
 
 /// One further than it is.

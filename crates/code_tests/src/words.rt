@@ -38,17 +38,19 @@ fn are_words(rt: &impl Abort, words: &[String], wanted: &[&str]) {
     }
 }
 
+/// What started a program, and its words behind its name; none where one of them is no text.
+const STARTED: &[(&[&[u8]], &[&str])] = &[
+    (&[b"bars", b"demo"], &["demo"]),
+    (&[], &[]),
+    (&[b"bars"], &[]),
+    (&[b"bars", b"run", b"2", b"10"], &["run", "2", "10"]),
+    (&[b"bars", b"\xff"], &[]),
+    (&[b"bars", b"demo", b"\xff"], &[]),
+];
+
 #[test]
 fn words_behind_the_name(rt: HostRuntime) {
-    let table: [(&'static [&'static [u8]], &[&str]); 6] = [
-        (&[b"bars", b"demo"], &["demo"]),
-        (&[], &[]),
-        (&[b"bars"], &[]),
-        (&[b"bars", b"run", b"2", b"10"], &["run", "2", "10"]),
-        (&[b"bars", b"\xff"], &[]),
-        (&[b"bars", b"demo", b"\xff"], &[]),
-    ];
-    for (started, wanted) in table {
+    for (started, wanted) in STARTED {
         let words = words(&(Started(started), rt.alloc())).expect(&rt, "granted");
         are_words(&rt, &words, wanted);
     }

@@ -1,5 +1,5 @@
 //! What a terminal hands on to its writer, and what it makes of the writer's answers.
-use crate::shown::{SCRIPT, STILL, Shown, Step, made};
+use crate::shown::{SCRIPT, STILL, Shown, Step};
 use indicatif_term::in_memory::Cells;
 use indicatif_term::term_like::{Term, TermLike};
 use indicatif_text::columns::{Drawn, Refusal};
@@ -34,11 +34,6 @@ impl Write for CallCount {
 /// A bar behind a buffer.
 type Buffered = Shown<Term<BufWriter<CallCount>>>;
 
-fn buffered(rt: &impl Abort, alloc: Global) -> Buffered {
-    let writer = BufWriter::new(alloc, CallCount::default()).expect(rt, "granted");
-    Shown::on(alloc, "ab", Term::new(writer, 6, 10)).expect(rt, "granted")
-}
-
 /// How often the writer behind the buffer was written to, and flushed.
 fn writes_and_flushes(bar: &Buffered) -> Option<(u64, u64)> {
     let term = bar.term()?;
@@ -47,21 +42,22 @@ fn writes_and_flushes(bar: &Buffered) -> Option<(u64, u64)> {
 }
 
 /// Each call of the script is drawn by one more flush, and by one more write where it changes a line.
-fn each_is_one_write(rt: &impl Abort, bar: &mut Buffered) {
+fn each_is_one_write(rt: &impl Abort, mut bar: Buffered) {
     let (mut writes, mut flushes): (u64, u64) = (0, 0);
     for (place, call) in SCRIPT.iter().enumerate() {
         writes = writes.saturating_add(u64::from(place != STILL));
         flushes = flushes.saturating_add(1);
-        let answer = (made(bar, call.0), writes_and_flushes(bar));
-        same!(*rt; answer, (Ok(Drawn::Yes), Some((writes, flushes))));
+        same!(*rt; bar.makes(call.0), Ok(Drawn::Yes));
+        same!(*rt; writes_and_flushes(&bar), Some((writes, flushes)));
     }
 }
 
 /// Behind a `BufWriter` each drawing that changes a line is one write; one that changes none makes none, as a call that is refused.
 #[test]
 fn a_drawing_is_one_write(rt: HostRuntime) {
-    let mut bar = buffered(&rt, rt.alloc());
-    each_is_one_write(&rt, &mut bar);
+    let writer = BufWriter::new(rt.alloc(), CallCount::default()).expect(&rt, "granted");
+    let bar = Shown::on(rt.alloc(), "ab", Term::new(writer, 6, 10)).expect(&rt, "granted");
+    each_is_one_write(&rt, bar);
 }
 
 // ---- a terminal in a box
@@ -100,12 +96,12 @@ fn a_boxed_terminal_is_flushed_once(rt: HostRuntime) {
 }
 
 /// Each call of the script is drawn, and flushed once.
-fn each_is_flushed_once(rt: &impl Abort, bar: &mut Shown<Boxed>, count: &Cell<u64>) {
+fn each_is_flushed_once<T: TermLike + Drop>(rt: &impl Abort, mut bar: Shown<T>, count: &Cell<u64>) {
     let mut flushes: u64 = 0;
-    for (step, _) in &SCRIPT {
+    for (step, _) in SCRIPT {
         flushes = flushes.saturating_add(1);
-        let answer = (made(bar, *step), count.get());
-        same!(*rt; answer, (Ok(Drawn::Yes), flushes));
+        same!(*rt; bar.makes(*step), Ok(Drawn::Yes));
+        same!(*rt; count.get(), flushes);
     }
 }
 
@@ -113,57 +109,44 @@ fn each_is_flushed_once(rt: &impl Abort, bar: &mut Shown<Boxed>, count: &Cell<u6
 fn a_boxed_terminal_is_flushed_once_a_drawing(rt: HostRuntime) {
     let count = Rc::new(rt.alloc(), Cell::new(0)).expect(&rt, "granted");
     let boxed = boxed(&rt, rt.alloc(), &count);
-    let mut bar = Shown::on(rt.alloc(), "ab", boxed).expect(&rt, "granted");
-    each_is_flushed_once(&rt, &mut bar, &count);
+    let bar = Shown::on(rt.alloc(), "ab", boxed).expect(&rt, "granted");
+    each_is_flushed_once(&rt, bar, &count);
 }
 
 // ---- a writer that takes one byte a call
 
-/// Takes one byte a call, and counts its calls. The first that comes when `at` bytes were taken fails with `BrokenPipe`, where one is to.
+/// How much a writer takes a call.
+#[derive(Clone, Copy, Drop)]
+enum Taking {
+    /// All that it is given.
+    All,
+    /// One byte.
+    Bytes,
+    /// One byte; the first call that comes when so many were taken fails with `BrokenPipe`.
+    BytesBut(usize),
+}
+
+/// Takes bytes, and counts its calls.
 #[derive(Drop)]
-struct ByteWise {
+struct Taker {
     taken: Vec<u8>,
     calls: u64,
-    at: usize,
-    fails: bool,
+    taking: Taking,
 }
 
-impl ByteWise {
-    /// One that never fails.
-    fn steady(alloc: Global) -> ByteWise {
-        ByteWise {
-            taken: Vec::new(alloc),
-            calls: 0,
-            at: 0,
-            fails: false,
-        }
-    }
-
-    /// One that fails once after this many bytes.
-    fn failing(alloc: Global, at: usize) -> ByteWise {
-        ByteWise {
-            taken: Vec::new(alloc),
-            calls: 0,
-            at,
-            fails: true,
-        }
-    }
-}
-
-impl Write for ByteWise {
+impl Write for Taker {
     fn write(&mut self, buf: &[u8]) -> io::Result<usize> {
         self.calls = self.calls.saturating_add(1);
-        if self.fails && self.taken.len() == self.at {
-            self.fails = false;
-            return Err(io::Error::from(ErrorKind::BrokenPipe));
-        }
-        match buf.first() {
-            Some(byte) => {
-                self.taken.push(*byte)?;
-                Ok(1)
+        let taken = match self.taking {
+            Taking::BytesBut(at) if self.taken.len() == at => {
+                self.taking = Taking::Bytes;
+                return Err(io::Error::from(ErrorKind::BrokenPipe));
             }
-            None => Ok(0),
-        }
+            Taking::All => buf,
+            _ => buf.get(..1).unwrap_or(buf),
+        };
+        self.taken.extend_from_slice(taken)?;
+        Ok(taken.len())
     }
 
     fn flush(&mut self) -> io::Result<()> {
@@ -172,76 +155,75 @@ impl Write for ByteWise {
 }
 
 /// A bar behind such a writer.
-type Behind = Shown<Term<ByteWise>>;
-
-/// How many bytes the bar's writer took, how often it was called, and how many faults its terminal counts.
-fn taken_calls_and_faults(rt: &impl Abort, bar: &Behind) -> (u64, u64, u64) {
-    let term = bar.term().expect(rt, "a terminal");
-    let writer = term.writer();
-    (writer.taken.len() as u64, writer.calls, term.faults())
-}
+type Behind = Shown<Term<Taker>>;
 
 // ---- a bar behind such writers
 
-/// A bar that says `ab` behind this writer.
-fn bar_behind(rt: &impl Abort, alloc: Global, writer: ByteWise) -> Behind {
+/// A bar that says `ab` behind a writer that takes so much.
+fn bar_behind(rt: &impl Abort, alloc: Global, taking: Taking) -> Behind {
+    let writer = Taker {
+        taken: Vec::new(alloc),
+        calls: 0,
+        taking,
+    };
     Shown::on(alloc, "ab", Term::new(writer, 20, 10)).expect(rt, "granted")
 }
 
-/// Makes each call of the script.
-fn play<T: TermLike + Drop>(rt: &impl Abort, bar: &mut Shown<T>) {
-    for (step, _) in &SCRIPT {
-        same!(*rt; made(bar, *step), Ok(Drawn::Yes));
+/// Makes each call of the script, and gives the terminal.
+fn played<'a, T: TermLike + Drop>(rt: &impl Abort, bar: &'a mut Shown<T>) -> &'a T {
+    for (step, _) in SCRIPT {
+        same!(*rt; bar.makes(*step), Ok(Drawn::Yes));
     }
+    bar.term().expect(rt, "a terminal")
 }
 
 /// The bytes that the script writes where nothing fails.
 fn bytes_of_the_script(rt: &impl Abort, alloc: Global) -> Vec<u8> {
-    let term = Term::new(Vec::new(alloc), 20, 10);
-    let mut bar = Shown::on(alloc, "ab", term).expect(rt, "granted");
-    play(rt, &mut bar);
-    let term = bar.term().expect(rt, "a terminal");
-    Vec::from_slice(alloc, term.writer()).expect(rt, "granted")
+    let mut bar = bar_behind(rt, alloc, Taking::All);
+    let bytes = &played(rt, &mut bar).writer().taken;
+    Vec::from_slice(alloc, bytes).expect(rt, "granted")
+}
+
+/// A terminal's writer was given these bytes one by one, without a fault.
+fn was_given_each(rt: &impl Abort, term: &Term<Taker>, bytes: &[u8]) {
+    let writer = term.writer();
+    same!(*rt; (writer.calls, term.faults()), (bytes.len() as u64, 0));
+    same!(*rt; writer.taken.as_slice(), bytes);
 }
 
 #[test]
 fn a_bar_behind_a_writer_of_one_byte_a_call(rt: HostRuntime) {
     let bytes = bytes_of_the_script(&rt, rt.alloc());
-    let mut bar = bar_behind(&rt, rt.alloc(), ByteWise::steady(rt.alloc()));
-    play(&rt, &mut bar);
-    let count = bytes.len() as u64;
-    same!(rt; taken_calls_and_faults(&rt, &bar), (count, count, 0));
-    let term = bar.term().expect(&rt, "a terminal");
-    same!(rt; term.writer().taken.as_slice(), bytes.as_slice());
+    let mut bar = bar_behind(&rt, rt.alloc(), Taking::Bytes);
+    was_given_each(&rt, played(&rt, &mut bar), &bytes);
 }
 
 /// The rows down to the cursor's that these bytes show, each behind a newline.
 fn shown(rt: &impl Abort, alloc: Global, bytes: &[u8]) -> String {
-    let mut cells = Box::new(alloc, Cells::new(alloc, 20, 10).expect(rt, "granted")).expect(
-        rt, "granted",
-    );
-    let mut text = String::new(alloc);
-    push_shown(rt, &mut text, &mut cells, bytes);
-    text
-}
-
-fn push_shown(rt: &impl Abort, text: &mut String, cells: &mut Cells, bytes: &[u8]) {
+    let mut cells = Cells::new(alloc, 20, 10).expect(rt, "granted");
     cells.feed(bytes).expect(rt, "granted");
     let (row, _) = cells.cursor();
-    let picture = cells.picture().expect(rt, "granted");
-    push_rows(rt, text, &picture, usize::from(row));
+    joined(rt, alloc, cells.picture(), usize::from(row))
 }
 
-/// Appends the rows down to the last of these numbers, each behind a newline.
-fn push_rows(rt: &impl Abort, text: &mut String, rows: &[String], last: usize) {
-    for row in rows.get(..=last).unwrap_or(rows) {
+/// The rows down to the last of these numbers, each behind a newline.
+fn joined(
+    rt: &impl Abort,
+    alloc: Global,
+    picture: Result<Vec<String>, Refusal>,
+    last: usize,
+) -> String {
+    let rows = picture.expect(rt, "granted");
+    let mut text = String::new(alloc);
+    for row in rows.get(..=last).unwrap_or(&rows) {
         text.push('\n').expect(rt, "granted");
         text.push_str(row.as_str()).expect(rt, "granted");
     }
+    text
 }
 
 /// These rows stand at the bottom of what the terminal's bytes show.
-fn shows_below(rt: &impl Abort, alloc: Global, term: &Term<ByteWise>, rows: &str) {
+fn shows_below(rt: &impl Abort, alloc: Global, term: &Term<Taker>, rows: &str) {
     let below = format!(in alloc; "\n{rows}").expect(rt, "granted");
     let shown = shown(rt, alloc, &term.writer().taken);
     let is_below = shown.as_str().ends_with(below.as_str());
@@ -256,7 +238,7 @@ fn broken_calls(
     call: (Step, &str),
     at: usize,
 ) -> u64 {
-    let answer = made(bar, call.0);
+    let answer = bar.makes(call.0);
     let term = bar.term().expect(rt, "a terminal");
     if answer == Ok(Drawn::Yes) {
         shows_below(rt, alloc, term, call.1);
@@ -270,7 +252,7 @@ fn broken_calls(
 /// Runs the script and one more draw of this bar, and answers how many calls failed.
 fn play_broken_at(rt: &impl Abort, alloc: Global, bar: &mut Behind, at: usize) -> u64 {
     let mut failures: u64 = 0;
-    for call in &SCRIPT {
+    for call in SCRIPT {
         let failed = broken_calls(rt, alloc, bar, *call, at);
         failures = failures.saturating_add(failed);
     }
@@ -281,11 +263,13 @@ fn play_broken_at(rt: &impl Abort, alloc: Global, bar: &mut Behind, at: usize) -
 /// The same behind a writer that fails once, after this many bytes: one call tells that failure, and of each other one the rows
 /// stand at the bottom, each as it was written. The terminal counts that fault, and its writer one call a byte and one a fault.
 fn is_broken_once_at(rt: &impl Abort, alloc: Global, at: usize) {
-    let mut bar = bar_behind(rt, alloc, ByteWise::failing(alloc, at));
+    let mut bar = bar_behind(rt, alloc, Taking::BytesBut(at));
     let failures = play_broken_at(rt, alloc, &mut bar, at);
     same!(*rt; (at, failures), (at, 1));
-    let (taken, calls, faults) = taken_calls_and_faults(rt, &bar);
-    same!(*rt; (at, calls, faults), (at, taken.saturating_add(1), 1));
+    let term = bar.term().expect(rt, "a terminal");
+    let writer = term.writer();
+    let calls = (writer.taken.len() as u64).saturating_add(1);
+    same!(*rt; (at, writer.calls, term.faults()), (at, calls, 1));
 }
 
 #[test]

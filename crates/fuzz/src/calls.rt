@@ -22,7 +22,7 @@ fn number(numbers: &mut Numbers) -> u64 {
 }
 
 fn style(alloc: Global, numbers: &mut Numbers) -> Result<ProgressStyle<NoTracker>, Law> {
-    let template = numbers.text_of(&TEMPLATES);
+    let template = numbers.text_of(TEMPLATES);
     Ok(ProgressStyle::with_template(alloc, template)?)
 }
 

@@ -6,7 +6,7 @@ use indicatif_text::columns::columns;
 use std::alloc::Global;
 
 /// Sequences, characters of all widths, and beginnings of both.
-const PIECES: [&[u8]; 32] = [
+const PIECES: &[&[u8]] = &[
     b"\r",
     b"\n",
     b"\r\n",

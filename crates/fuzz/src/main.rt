@@ -194,8 +194,8 @@ fn make_runs<R: Plays + Print>(rt: R, counts: Counts) -> Result<bool> {
         (Kind::Threads(counts.steps), counts.threads),
     ];
     let mut is_kept = true;
-    for (kind, count) in kinds {
-        is_kept &= kind.all(rt, counts.seed, count)?;
+    for (kind, count) in &kinds {
+        is_kept &= kind.all(rt, counts.seed, *count)?;
     }
     Ok(is_kept)
 }

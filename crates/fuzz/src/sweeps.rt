@@ -62,10 +62,13 @@ fn sweep_each_size<R: Runs + Print>(
     say(rt, telling, sweep.at_each_size(*rt, kind))
 }
 
+/// The sweeps that are made at each size.
+const AT_EACH_SIZE: &[Sweep] = &[Sweep::EachCall, Sweep::EachByte, Sweep::FromEachCall];
+
 /// The sweeps of a script: at each size, and those of two calls on the largest terminal alone.
 fn sweep_all<R: Runs + Print>(rt: &R, telling: Telling, kind: Kind) -> Result<()> {
-    for sweep in [Sweep::EachCall, Sweep::EachByte, Sweep::FromEachCall] {
-        sweep_each_size(rt, telling, kind, sweep)?;
+    for sweep in AT_EACH_SIZE {
+        sweep_each_size(rt, telling, kind, *sweep)?;
     }
     let sweep = Sweep::EachPair;
     print!(rt; "{}, {}: ", kind.name(), sweep.name())?;
@@ -77,7 +80,7 @@ fn sweep_all<R: Runs + Print>(rt: &R, telling: Telling, kind: Kind) -> Result<()
 /// The sweeps of two calls at each size.
 fn sweep_pairs<R: Runs + Print>(rt: &R) -> Result<()> {
     for kind in KINDS {
-        sweep_each_size(rt, Telling::Counts, kind, Sweep::EachPair)?;
+        sweep_each_size(rt, Telling::Counts, *kind, Sweep::EachPair)?;
     }
     Ok(())
 }
@@ -107,8 +110,8 @@ pub const USUAL: Asked = Asked::Sweeps(Telling::Verdicts);
 /// What is played by this name.
 fn played_by(name: &str) -> Option<Played> {
     for (other, played) in PLAYED {
-        if name == other {
-            return Some(played);
+        if name == *other {
+            return Some(*played);
         }
     }
     None
@@ -185,7 +188,7 @@ fn play_unrefused<R: Runs + Print>(rt: &R) -> Result<()> {
     };
     for (name, played) in PLAYED {
         print!(rt; "{name}, memory: ")?;
-        say_found(rt, Telling::Counts, memory::found(*rt, played, playing))?;
+        say_found(rt, Telling::Counts, memory::found(*rt, *played, playing))?;
     }
     Ok(())
 }
@@ -194,7 +197,7 @@ fn play_unrefused<R: Runs + Print>(rt: &R) -> Result<()> {
 fn play_wrong_bodies<R: Runs + Print>(rt: &R) -> Result<()> {
     for planted in PLANTED {
         print!(rt; "planted, {}: ", planted.name)?;
-        say_found(rt, Telling::Counts, planted::found(*rt, planted))?;
+        say_found(rt, Telling::Counts, planted::found(*rt, *planted))?;
     }
     Ok(())
 }
@@ -202,7 +205,7 @@ fn play_wrong_bodies<R: Runs + Print>(rt: &R) -> Result<()> {
 /// Makes all sweeps.
 fn sweep_kinds<R: Runs + Print>(rt: &R, telling: Telling) -> Result<()> {
     for kind in KINDS {
-        sweep_all(rt, telling, kind)?;
+        sweep_all(rt, telling, *kind)?;
     }
     sweep_program(rt, telling)?;
     play_unrefused(rt)?;

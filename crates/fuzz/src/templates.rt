@@ -11,7 +11,7 @@ use std::alloc::Global;
 use std::convert::AsStr;
 
 /// What templates are of, and what breaks them.
-const PIECES: [&str; 44] = [
+const PIECES: &[&str] = &[
     "{",
     "}",
     "{{",
@@ -107,7 +107,7 @@ fn style_of(alloc: Global, text: &str) -> Result<Result<Style, Refusal>, Law> {
 }
 
 /// Clusters, each with its columns.
-const CLUSTERS: [(&str, usize); 6] = [
+const CLUSTERS: &[(&str, usize)] = &[
     ("=", 1),
     (">", 1),
     ("-", 1),
@@ -164,12 +164,14 @@ fn recluster(alloc: Global, numbers: &mut Numbers, style: &mut Style) -> Held {
     }
 }
 
+/// Texts of a spinner.
+const TICKS: &[&str] = &["-", "", "国", "ab"];
+
 /// The same with the texts of a spinner.
 fn respin(numbers: &mut Numbers, style: &mut Style) -> Held {
-    let strings = ["-", "", "国", "ab"];
     let count = numbers.below(5);
     let copy = style.try_clone()?;
-    match copy.tick_strings(strings.get(..count).unwrap_or(&[])) {
+    match copy.tick_strings(TICKS.get(..count).unwrap_or(&[])) {
         Ok(made) => {
             **style = made;
             Law::Builder.holds(count > 1)
@@ -396,7 +398,7 @@ fn is_styled_so(alloc: Global, numbers: &mut Numbers, mut style: Style, text: &s
 
 /// A random text is a template or is refused, and a style says the same of it, and lays lines out as it should.
 pub fn parsed(alloc: Global, numbers: &mut Numbers) -> Held {
-    let text = joined(alloc, numbers, &PIECES, 10)?;
+    let text = joined(alloc, numbers, PIECES, 10)?;
     let refusal = refusal_of(alloc, text.as_str())?;
     has_a_fair_beginning(alloc, numbers, text.as_str(), refusal)?;
     match (style_of(alloc, text.as_str())?, refusal) {

@@ -18,7 +18,7 @@ pub fn joined(
 }
 
 /// What bars say: small letters, wide characters, marks behind a letter, colours, tabs and newlines.
-const SAID: [&str; 12] = [
+const SAID: &[&str] = &[
     "a",
     "b",
     "cd",
@@ -35,19 +35,19 @@ const SAID: [&str; 12] = [
 
 /// What a bar says.
 pub fn message(alloc: Global, numbers: &mut Numbers) -> Result<String, Law> {
-    joined(alloc, numbers, &SAID, 8)
+    joined(alloc, numbers, SAID, 8)
 }
 
 /// What is logged: capital letters, which stand nowhere else.
-const LOGGED: [&str; 6] = ["A", "B", "CD", "EFGHIJKLMN", "O", "\n"];
+const LOGGED: &[&str] = &["A", "B", "CD", "EFGHIJKLMN", "O", "\n"];
 
 /// A text to be logged.
 pub fn logged(alloc: Global, numbers: &mut Numbers) -> Result<String, Law> {
-    joined(alloc, numbers, &LOGGED, 5)
+    joined(alloc, numbers, LOGGED, 5)
 }
 
 /// Templates of bars on boards.
-pub const TEMPLATES: [&str; 10] = [
+pub const TEMPLATES: &[&str] = &[
     "{msg}",
     "{pos}/{len} {msg}",
     "{wide_bar} {pos}",

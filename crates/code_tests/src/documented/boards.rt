@@ -18,9 +18,9 @@ fn terminal(rt: &impl Abort, alloc: Global) -> InMemoryTerm {
     InMemoryTerm::new(alloc, 4, 20).expect(rt, "granted")
 }
 
-fn board_of(rt: &impl Abort, alloc: Global) -> Box<Bars> {
+fn board_of(rt: &impl Abort, alloc: Global) -> Bars {
     let target = ProgressDrawTarget::term_like(terminal(rt, alloc));
-    Box::new(alloc, Board::new(alloc, target, 1)).expect(rt, "granted")
+    Board::new(alloc, target, 1)
 }
 
 /// A bar that shows this text.
@@ -30,7 +30,7 @@ fn bar_saying(rt: &impl Abort, alloc: Global, text: &str) -> BarState<NoTracker>
 }
 
 /// A board's terminal shows this.
-fn shows(rt: &impl Abort, board: &Bars, contents: &str) {
+fn shows(rt: &impl Abort, board: Bars, contents: &str) {
     let term = board.term().expect(rt, "no terminal");
     same!(*rt; term.contents().expect(rt, "granted").as_str(), contents);
 }
@@ -41,7 +41,7 @@ fn text_above_the_bars(rt: HostRuntime) {
     let term = terminal(&rt, alloc);
     let mut board: Board<NoTracker, _> = Board::new(alloc, ProgressDrawTarget::term_like(term), 1);
     board.println("a.txt", now).expect(&rt, "granted");
-    shows(&rt, &board, "a.txt");
+    shows(&rt, board, "a.txt");
 }
 
 #[test]
@@ -50,17 +50,16 @@ fn text_on_fewer_columns(rt: HostRuntime) {
     let mut board = board_of(&rt, rt.alloc());
     board.println("hello", now).expect(&rt, "granted");
     board.resize(4, 3).expect(&rt, "granted"); // it stands on two rows from now on: `hel`, `lo`
-    shows(&rt, &board, "hel\nlo");
+    shows(&rt, board, "hel\nlo");
 }
 
 #[test]
 fn emitted_line(rt: HostRuntime) {
     let (alloc, now) = (rt.alloc(), 0);
-    let target = ProgressDrawTarget::term_like(terminal(&rt, alloc));
-    let mut board: Bars = Board::new(alloc, target, 1);
+    let mut board = board_of(&rt, alloc);
     let drawn = emit(alloc, &mut board, Level::Error, "no such file", now).expect(&rt, "granted");
     same!(rt; drawn, Drawn::Yes);
-    shows(&rt, &board, "ERROR no such file");
+    shows(&rt, board, "ERROR no such file");
 }
 
 #[test]

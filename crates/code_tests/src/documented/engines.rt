@@ -15,7 +15,7 @@ fn frame_of(rt: &impl Abort, alloc: Global, text: &str) -> Vec<Segment> {
 }
 
 /// This stands on the engine's terminal.
-fn shows(rt: &impl Abort, engine: &Engine<InMemoryTerm>, contents: &str) {
+fn shows(rt: &impl Abort, engine: Engine<InMemoryTerm>, contents: &str) {
     same!(*rt; engine.term().contents().expect(rt, "granted").as_str(), contents);
 }
 
@@ -38,8 +38,8 @@ fn drawn_logged_and_kept(rt: HostRuntime) {
     engine
         .log("done", &frame, MultiProgressAlignment::Top)
         .expect(&rt, "granted");
-    shows(&rt, &engine, "done\nfetch\ned");
     same!(rt; engine.keep(1), Keep::Passed);
+    shows(&rt, engine, "done\nfetch\ned");
 }
 
 #[test]
@@ -54,7 +54,7 @@ fn terminal_of_a_new_size(rt: HostRuntime) {
         .draw(&frame, 0, MultiProgressAlignment::Top)
         .expect(&rt, "granted");
     engine.resize(4, 5).expect(&rt, "granted");
-    shows(&rt, &engine, "fetch\ned");
+    shows(&rt, engine, "fetch\ned");
 }
 
 #[test]
@@ -69,7 +69,7 @@ fn shorter_frame_at_the_bottom(rt: HostRuntime) {
     engine
         .draw(&frame, 0, MultiProgressAlignment::Bottom)
         .expect(&rt, "granted");
-    shows(&rt, &engine, "\n\nx");
+    shows(&rt, engine, "\n\nx");
 }
 
 #[test]

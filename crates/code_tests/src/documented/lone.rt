@@ -12,7 +12,7 @@ use std::process::Abort;
 type Bar = LoneBar<NoTracker, InMemoryTerm>;
 
 /// A bar's terminal shows this.
-fn shows(rt: &impl Abort, bar: &Bar, contents: &str) {
+fn shows(rt: &impl Abort, bar: Box<Bar>, contents: &str) {
     let term = bar.term().expect(rt, "no terminal");
     same!(*rt; term.contents().expect(rt, "granted").as_str(), contents);
 }
@@ -40,8 +40,7 @@ fn hidden_bar(rt: HostRuntime) {
 
 #[test]
 fn name_above_a_bar(rt: HostRuntime) {
-    let bar = shown(&rt, rt.alloc());
-    shows(&rt, &bar, "a.txt\n░░░░░░░░░░░░░░░ 0/10");
+    shows(&rt, shown(&rt, rt.alloc()), "a.txt\n░░░░░░░░░░░░░░░ 0/10");
 }
 
 #[test]
@@ -52,14 +51,19 @@ fn other_style(rt: HostRuntime) {
     let style = ProgressStyle::with_template(alloc, "{pos} of {len}").expect(&rt, "granted");
     let drawn = bar.with_style(style, now).expect(&rt, "granted");
     same!(rt; drawn, Drawn::Limited);
+    draws_now(&rt, &mut bar);
+    shows(&rt, bar, "a.txt\n0 of 10");
+}
+
+#[test]
+fn elapsed_time(rt: HostRuntime) {
+    let mut bar = shown(&rt, rt.alloc());
     let drawn = bar
         .with_elapsed(3_000_000_000, 4_000_000_000)
         .expect(&rt, "granted");
     same!(rt; drawn, Drawn::Limited);
     draws_now(&rt, &mut bar);
-    shows(&rt, &bar, "a.txt\n0 of 10");
-    let drawn = step(&mut bar, 6_000_000_000).expect(&rt, "granted");
-    same!(rt; drawn, Drawn::Yes);
+    same!(rt; step(&mut bar, 6_000_000_000), Ok(Drawn::Yes));
 }
 
 /// Draws a bar at the moment that a clock tells.
@@ -80,34 +84,50 @@ fn step<K: Tracks, T: TermLike + Drop>(
     bar.inc(1, now)
 }
 
-#[test]
-fn three_calls(rt: HostRuntime) {
-    let alloc = rt.alloc();
-    let mut bar = shown(&rt, alloc);
-    let log = LoneCall::Log(String::from_str(alloc, "a.txt").expect(&rt, "granted"));
+/// A tick, a line and a clear.
+fn calls_of(rt: &impl Abort, alloc: Global) -> Vec<(LoneCall<NoTracker>, Moment)> {
+    let log = LoneCall::Log(String::from_str(alloc, "a.txt").expect(rt, "granted"));
     let calls = vec![in alloc;
         (LoneCall::Bar(BarCommand::Tick), 0),
         (log, 0),
         (LoneCall::Clear, 5),
     ]
-    .expect(&rt, "granted");
-    let answers = bar.run(calls).expect(&rt, "granted");
-    let drawn = [Ok(Drawn::Yes), Ok(Drawn::Yes), Ok(Drawn::Yes)];
-    holds!(rt; answers.as_slice() == drawn.as_slice());
-    shows(&rt, &bar, "a.txt\na.txt");
+    .expect(rt, "granted");
+    calls
 }
 
-/// A text of 13 columns, drawn on 10 of them, then on 5 and on 20.
+/// These are three, and each was drawn.
+fn are_drawn(rt: &impl Abort, answers: &[Result<Drawn, Refusal>]) {
+    let drawn = [Ok(Drawn::Yes), Ok(Drawn::Yes), Ok(Drawn::Yes)];
+    holds!(*rt; answers == drawn.as_slice());
+}
+
+#[test]
+fn three_calls(rt: HostRuntime) {
+    let mut bar = shown(&rt, rt.alloc());
+    let calls = calls_of(&rt, rt.alloc());
+    let answers = bar.run(calls).expect(&rt, "granted");
+    are_drawn(&rt, &answers);
+    shows(&rt, bar, "a.txt\na.txt");
+}
+
+/// A bar of a text of 13 columns on 10 of them.
+fn wide(rt: &impl Abort, alloc: Global) -> Box<Bar> {
+    let style = ProgressStyle::with_template(alloc, "progress bars").expect(rt, "granted");
+    let record = BarState::styled(alloc, style, None, 0).expect(rt, "granted");
+    let term = InMemoryTerm::new(alloc, 4, 10).expect(rt, "granted");
+    let bar = LoneBar::new(record, ProgressDrawTarget::term_like(term));
+    Box::new(alloc, bar).expect(rt, "granted")
+}
+
+/// It is drawn on 10 columns, then on 5 and on 20.
 #[test]
 fn terminal_of_new_sizes(rt: HostRuntime) {
-    let (alloc, now) = (rt.alloc(), 0);
-    let style = ProgressStyle::with_template(alloc, "progress bars").expect(&rt, "granted");
-    let term = InMemoryTerm::new(alloc, 4, 10).expect(&rt, "granted");
-    let record = BarState::styled(alloc, style, None, now).expect(&rt, "granted");
-    let mut bar = LoneBar::new(record, ProgressDrawTarget::term_like(term));
+    let now = 0;
+    let mut bar = wide(&rt, rt.alloc());
     bar.tick(now).expect(&rt, "granted");
     bar.resize(4, 5).expect(&rt, "granted"); // `progress bars` stands on three rows: `progr`, `ess b`, `ars`
     bar.resize(4, 20).expect(&rt, "granted"); // and still does
     bar.tick(now).expect(&rt, "granted"); // stands on one row again
-    shows(&rt, &bar, "progress bars");
+    shows(&rt, bar, "progress bars");
 }

@@ -33,10 +33,15 @@ fn bar_at(rt: &impl Abort, alloc: Global, position: u64) -> Box<BarState<NoTrack
 
 /// These are one line, of this text.
 fn say(rt: &impl Abort, lines: &[LineType], text: &str) {
-    same!(*rt; lines.len(), 1);
-    for line in lines {
-        same!(*rt; line.as_str(), text);
+    match lines {
+        [line] => same!(*rt; line.as_str(), text),
+        _ => same!(*rt; (text, lines.len()), (text, 1)),
     }
+}
+
+/// A bar's lines are one, of this text.
+fn says<K: ProgressTracker>(rt: &impl Abort, bar: &BarState<K>, text: &str) {
+    say(rt, &bar.lines(0, 80).expect(rt, "granted"), text);
 }
 
 #[test]
@@ -65,21 +70,32 @@ fn change_of_both_numbers(rt: HostRuntime) {
     };
     bar.apply(BarCommand::Update(change), 0)
         .expect(&rt, "granted");
-    same!(rt; bar.state().pos(), 3);
-    same!(rt; bar.state().len(), Some(4));
+    same!(rt; (bar.state().pos(), bar.state().len()), (3, Some(4)));
 }
 
 #[test]
-fn command_and_its_copy(rt: HostRuntime) {
-    let (alloc, now) = (rt.alloc(), 0);
-    let mut bar = bar_at(&rt, alloc, 3);
+fn command_as_a_value(rt: HostRuntime) {
+    let now = 0;
+    let mut bar = bar_at(&rt, rt.alloc(), 3);
     let ask = bar.apply(BarCommand::Inc(2), now).expect(&rt, "granted");
-    same!(rt; bar.state().pos(), 5);
-    same!(rt; ask, Ask::Unforced);
-    let command = BarCommand::Inc(2);
-    let again = command.try_clone(alloc).expect(&rt, "granted");
-    drop(command);
-    bar.apply(again, now).expect(&rt, "granted");
+    same!(rt; (bar.state().pos(), ask), (5, Ask::Unforced));
+}
+
+/// A copy of a command, which is given up.
+fn copy_of(
+    rt: &impl Abort,
+    alloc: Global,
+    command: BarCommand<NoTracker>,
+) -> BarCommand<NoTracker> {
+    let again = command.try_clone(alloc).expect(rt, "granted");
+    again
+}
+
+#[test]
+fn copy_of_a_command(rt: HostRuntime) {
+    let mut bar = bar_at(&rt, rt.alloc(), 5);
+    let again = copy_of(&rt, rt.alloc(), BarCommand::Inc(2));
+    bar.apply(again, 0).expect(&rt, "granted");
     same!(rt; bar.state().pos(), 7);
 }
 
@@ -98,8 +114,7 @@ fn rate_since_a_reset(rt: HostRuntime) {
     bar.reset_eta(1_000_000_000);
     bar.set_position(3, 2_000_000_000);
     let rate = bar.state().per_sec(2_000_000_000);
-    same!(rt; rate.steps, 1);
-    same!(rt; rate.nanos, 1_000_000_000);
+    same!(rt; (rate.steps, rate.nanos), (1, 1_000_000_000));
 }
 
 #[test]
@@ -108,8 +123,7 @@ fn copy_of_a_bar(rt: HostRuntime) {
     let mut bar = bar_at(&rt, rt.alloc(), 3);
     let before = bar.try_clone().expect(&rt, "granted");
     bar.inc(1, now);
-    same!(rt; before.state().pos(), 3);
-    same!(rt; bar.state().pos(), 4);
+    same!(rt; (before.state().pos(), bar.state().pos()), (3, 4));
 }
 
 #[test]
@@ -118,8 +132,7 @@ fn finish_that_leaves_the_bar(rt: HostRuntime) {
     let mut bar = bar_at(&rt, rt.alloc(), 3);
     bar.with_finish(ProgressFinish::AndLeave, now);
     bar.finish_using_style(now).expect(&rt, "granted");
-    same!(rt; bar.state().pos(), 4);
-    holds!(rt; bar.state().is_finished());
+    same!(rt; (bar.state().pos(), bar.state().is_finished()), (4, true));
 }
 
 #[test]
@@ -145,7 +158,7 @@ fn style_made_from_another(rt: HostRuntime) {
         .template("{pos}")
         .expect(&rt, "granted");
     let other = BarState::styled(rt.alloc(), style, Some(10), 0).expect(&rt, "granted");
-    say(&rt, &other.lines(0, 80).expect(&rt, "granted"), "0");
+    says(&rt, &other, "0");
 }
 
 /// Tells how many steps of so many are left.
@@ -183,27 +196,21 @@ fn counting(rt: &impl Abort, alloc: Global) -> Box<BarState<Left>> {
     Box::new(alloc, bar).expect(rt, "granted")
 }
 
-/// A bar of files of which three are done.
-#[test]
-fn key_with_a_number(rt: HostRuntime) {
-    let mut bar = counting(&rt, rt.alloc());
-    bar.set_position(3, 0);
-    say(&rt, &bar.lines(0, 80).expect(&rt, "granted"), "files 7");
-}
+/// How many files are done, and what the bar shows: the key follows the position, and stays at 0 past the end.
+const FILES: &[(u64, &str)] = &[(0, "files 10"), (3, "files 7"), (12, "files 0")];
 
-/// The key follows the position, and stays at 0 past the end.
 #[test]
 fn a_tracker_of_what_is_left(rt: HostRuntime) {
     let mut bar = counting(&rt, rt.alloc());
-    for (position, wanted) in [(0, "files 10"), (3, "files 7"), (12, "files 0")] {
-        bar.set_position(position, 0);
-        say(&rt, &bar.lines(0, 80).expect(&rt, "granted"), wanted);
+    for (position, wanted) in FILES {
+        bar.set_position(*position, 0);
+        says(&rt, &bar, wanted);
     }
 }
 
 /// Tells the same text always.
 #[derive(Drop)]
-pub struct Always {
+struct Always {
     text: String,
 }
 
@@ -216,7 +223,7 @@ impl TellsText for Always {
 }
 
 /// Tells `ready` always.
-pub fn ready(rt: &impl Abort, alloc: Global) -> FnTracker<Always> {
+fn ready(rt: &impl Abort, alloc: Global) -> FnTracker<Always> {
     let tracker = FnTracker::new(
         alloc,
         Always {
@@ -237,5 +244,5 @@ fn key_with_a_text(rt: HostRuntime) {
         .with_key("word", tracker)
         .expect(&rt, "granted");
     let bar = BarState::styled(alloc, style, None, 0).expect(&rt, "granted");
-    say(&rt, &bar.lines(0, 80).expect(&rt, "granted"), "ready!");
+    says(&rt, &bar, "ready!");
 }

@@ -29,7 +29,7 @@ pub enum Kind {
 }
 
 /// All of them.
-pub const KINDS: [Kind; 7] = [
+pub const KINDS: &[Kind] = &[
     Kind::Board,
     Kind::Moving,
     Kind::Sized,

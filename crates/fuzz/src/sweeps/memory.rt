@@ -103,7 +103,7 @@ pub enum Played {
 }
 
 /// What is played, by its name.
-pub const PLAYED: [(&str, Played); 7] = [
+pub const PLAYED: &[(&str, Played)] = &[
     ("board", Played::Script(Kind::Board)),
     ("sized-board", Played::Script(Kind::Sized)),
     ("lone", Played::Script(Kind::Lone)),

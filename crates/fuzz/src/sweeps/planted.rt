@@ -38,7 +38,7 @@ const REFUSED: Said = Err(Refusal::Memory);
 
 /// The first two do what a call may that finds no memory: nothing, or what it does before its draw. The last six are sizes: a draw of no line
 /// comes before those of the numbers 29 and 30, and before that of number 33 the kept rows have scrolled away.
-pub const PLANTED: [Planted; 15] = [
+pub const PLANTED: &[Planted] = &[
     Planted {
         name: "a draw does nothing",
         kind: Kind::Board,
