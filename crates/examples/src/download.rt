@@ -1,5 +1,6 @@
 //! Shows a download of 500,000 bytes a second: bytes, rate and time left, and what stands on the terminal at four moments.
-use anyhow::{Result, anyhow};
+use crate::shown::print;
+use anyhow::Result;
 use indicatif::{BarState, InMemoryTerm, LoneBar, NoTracker, ProgressDrawTarget, ProgressStyle};
 
 /// The file's length in bytes.
@@ -9,8 +10,7 @@ fn download(rt: &HostRuntime, bar: &mut LoneBar<NoTracker, InMemoryTerm>) -> Res
     for second in [0u32, 1, 3, 6] {
         let second = u64::from(second);
         bar.set_position(second * 500_000, second * 1_000_000_000)?;
-        let term = bar.term().ok_or(anyhow!("no terminal"))?;
-        println!(rt; "{}", term.contents()?)?;
+        print(rt, bar.term())?;
     }
     Ok(())
 }

@@ -1,23 +1,21 @@
 //! Shows a bar of fine characters: a cell is full, empty or one of seven parts, so that 14 columns tell 112 steps apart.
-use anyhow::{Result, anyhow};
+use crate::shown::print;
+use anyhow::Result;
 use indicatif::{BarState, InMemoryTerm, LoneBar, NoTracker, ProgressDrawTarget, ProgressStyle};
 
 fn fill(rt: &HostRuntime, bar: &mut LoneBar<NoTracker, InMemoryTerm>) -> Result<()> {
     for percent in [0u32, 1, 2, 7, 13, 30, 50, 64, 99, 100] {
         let done = u64::from(percent);
         bar.set_position(done, done * 1_000_000_000)?;
-        let term = bar.term().ok_or(anyhow!("no terminal"))?;
-        println!(rt; "{}", term.contents()?)?;
+        print(rt, bar.term())?;
     }
     Ok(())
 }
 
 pub fn main(rt: &HostRuntime) -> Result<()> {
-    let target = ProgressDrawTarget::term_like(InMemoryTerm::new(rt.alloc(), 2, 20)?);
     let style = ProgressStyle::with_template(rt.alloc(), "▕{wide_bar}▏{percent}%")?;
     let style = style.progress_chars("█▉▊▋▌▍▎▏ ")?;
-    fill(
-        rt,
-        &mut LoneBar::new(BarState::styled(rt.alloc(), style, Some(100), 0)?, target),
-    )
+    let bar = BarState::styled(rt.alloc(), style, Some(100), 0)?;
+    let target = ProgressDrawTarget::term_like(InMemoryTerm::new(rt.alloc(), 2, 20)?);
+    fill(rt, &mut LoneBar::new(bar, target))
 }

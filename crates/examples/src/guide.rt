@@ -1,11 +1,12 @@
 //! Shows the programs of the guide at the head of crate `indicatif`: a first bar, templates and keys of one's own, a board, a wrapper,
 //! and what goes wrong beside what goes right. Each prints what stands on a terminal in memory in the end.
 use crate::guide_key;
-use anyhow::{Result, anyhow};
+use crate::shown::{self, print};
+use anyhow::Result;
 use indicatif::style::Tracks;
 use indicatif::{
-    InMemoryTerm, MultiProgress, NoTracker, ProgressBar, ProgressDrawTarget, ProgressFinish,
-    ProgressStyle, Setup, StepClock,
+    InMemoryTerm, MultiProgress, NoTracker, ProgressBar, ProgressFinish, ProgressStyle, Refusal,
+    Setup, StepClock,
 };
 use std::alloc::Global;
 use std::sync::Wait;
@@ -15,10 +16,8 @@ pub type Bar<R, K = NoTracker> = ProgressBar<InMemoryTerm, StepClock, R, K>;
 type Several<R> = MultiProgress<InMemoryTerm, StepClock, R>;
 
 /// A terminal in memory of 5 rows and 30 columns, and a clock.
-pub fn setup(alloc: Global) -> Result<Setup<InMemoryTerm, StepClock>> {
-    let target = ProgressDrawTarget::term_like(InMemoryTerm::new(alloc, 5, 30)?);
-    let clock = StepClock { next: 0, step: 1 };
-    Ok(Setup { target, clock })
+pub fn setup(alloc: Global) -> Result<Setup<InMemoryTerm, StepClock>, Refusal> {
+    shown::setup(alloc, 5, 30)
 }
 
 /// Prints what stands on a bar's terminal.
@@ -27,16 +26,14 @@ pub fn show<R: Print + Wait + Copy + Drop, K: Tracks>(
     name: &str,
     bar: &Bar<R, K>,
 ) -> Result<()> {
-    let shown = bar.with_term(|term| term.map(|term| term.contents()));
-    println!(rt; "-- {name}\n{}", shown.ok_or(anyhow!("no terminal"))??)?;
-    Ok(())
+    println!(rt; "-- {name}")?;
+    bar.with_term(|term| print(&rt, term))
 }
 
 /// Prints what stands on a board's terminal.
 fn show_all<R: Print + Wait + Copy + Drop>(rt: R, name: &str, board: &Several<R>) -> Result<()> {
-    let shown = board.with_term(|term| term.map(|term| term.contents()));
-    println!(rt; "-- {name}\n{}", shown.ok_or(anyhow!("no terminal"))??)?;
-    Ok(())
+    println!(rt; "-- {name}")?;
+    board.with_term(|term| print(&rt, term))
 }
 
 fn first_bar<R: AllocGlobal + Print + Wait + Copy + Drop>(rt: R) -> Result<()> {
@@ -81,16 +78,11 @@ fn wrapper<R: AllocGlobal + Print + Wait + Copy + Drop>(rt: R) -> Result<()> {
     show(rt, "a wrapper", &bar)
 }
 
-fn message_unseen<R: AllocGlobal + Print + Wait + Copy + Drop>(rt: R) -> Result<()> {
+fn messages<R: AllocGlobal + Print + Wait + Copy + Drop>(rt: R) -> Result<()> {
     let setup = setup(rt.alloc())?;
     let bar = ProgressBar::new(rt, rt.alloc(), 3, setup)?;
     bar.set_message("a.txt")?; // draws, but `{wide_bar} {pos}/{len}` has no `{msg}`
-    show(rt, "a message without its key", &bar)
-}
-
-fn message_seen<R: AllocGlobal + Print + Wait + Copy + Drop>(rt: R) -> Result<()> {
-    let setup = setup(rt.alloc())?;
-    let bar = ProgressBar::new(rt, rt.alloc(), 3, setup)?;
+    show(rt, "a message without its key", &bar)?;
     bar.set_style(ProgressStyle::with_template(rt.alloc(), "{wide_bar} {msg}")?)?;
     bar.set_message("a.txt")?;
     show(rt, "a message with it", &bar)
@@ -143,8 +135,7 @@ fn logged<R: AllocGlobal + Print + Wait + Copy + Drop>(rt: R) -> Result<()> {
 }
 
 fn run_traps<R: AllocGlobal + Print + Wait + Copy + Drop>(rt: R) -> Result<()> {
-    message_unseen(rt)?;
-    message_seen(rt)?;
+    messages(rt)?;
     drawn_early(rt)?;
     drawn_late(rt)?;
     dropped_early(rt)?;

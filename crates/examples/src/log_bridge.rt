@@ -3,26 +3,40 @@
 use anyhow::Result;
 use indicatif::MultiProgress;
 use indicatif::bridge::LogBridge;
-use indicatif::machine::{Shares, on_stderr};
-use log::{Level, Logged, info, warn};
+use indicatif::machine::{Shares, StderrBar, on_stderr};
+use log::{Level, Log, Logged, info, warn};
+use std::sync::Wait;
 use std::thread::sleep;
-use std::time::Duration;
+use std::time::{Clock, Duration};
 
-pub fn main<R: Shares>(rt: R, host: &HostRuntime) -> Result<()> {
-    let board = MultiProgress::new(rt, rt.alloc(), on_stderr(host)?, 1)?;
-    let files = board.new_bar(3)?;
-    let work = board.new_spinner()?;
+fn log_copied<L: Log>(log: &L, name: &str) {
+    info!(log; "copied {name}");
+}
+
+fn copy<R: Wait + Clock + Copy + Drop, L: Log>(
+    rt: &R,
+    log: &L,
+    files: &StderrBar<R>,
+    work: &StderrBar<R>,
+) -> Result<()> {
     work.set_message("copying")?;
-    work.enable_steady_tick(50_000_000)?;
-    let log = Logged::new(rt, Level::Info, LogBridge::new(board.clone()?));
     for name in ["a.txt", "b.txt", "c.txt"] {
-        sleep(&rt, Duration::from_millis(200));
+        sleep(rt, Duration::from_millis(200));
         files.inc(1)?;
-        info!(log; "copied {name}");
+        log_copied(log, name);
     }
     warn!(log; "low disk");
     work.disable_steady_tick()?;
     work.finish_with_message("copied")?;
     files.finish()?;
     Ok(())
+}
+
+pub fn main<R: Shares>(rt: R, host: &HostRuntime) -> Result<()> {
+    let board = MultiProgress::new(rt, rt.alloc(), on_stderr(host)?, 1)?;
+    let files = board.new_bar(3)?;
+    let work = board.new_spinner()?;
+    work.enable_steady_tick(50_000_000)?;
+    let log = Logged::new(rt, Level::Info, LogBridge::new(board.clone()?));
+    copy(&rt, &log, &files, &work)
 }

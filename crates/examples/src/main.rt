@@ -9,6 +9,7 @@
 //!   two bars, on standard error. `ported`: three programs of the Rust crate's documentation, carried over.
 //! - `reader`: standard input through a reader with a bar.
 //! - `guide`: the programs of the guide at the head of crate `indicatif`. `guide_key`: the one with a key of one's own.
+//! - `shown`: the terminal in memory that some of these have, and how they print it.
 #![tactic(auto)]
 
 mod download;
@@ -24,6 +25,7 @@ mod ported;
 mod reader;
 mod refusal;
 mod several;
+mod shown;
 mod sizes;
 mod spinner;
 mod still;
@@ -32,80 +34,67 @@ mod terminal;
 mod wrapped;
 
 use anyhow::Result;
+use indicatif::machine::Shares;
 use std::env;
 
+/// The programs, as they run in turn.
+const NAMES: [&str; 18] = [
+    "first",
+    "wrapped",
+    "download",
+    "fine",
+    "log",
+    "refusal",
+    "formatters",
+    "template",
+    "terminal",
+    "sizes",
+    "key",
+    "still",
+    "spinner",
+    "several",
+    "log_bridge",
+    "ported",
+    "reader",
+    "guide",
+];
+
 fn main(rt: HostRuntime) -> Result<()> {
-    let Some(name) = env::args(&rt)?.nth(1) else {
-        print_name(&rt, "first")?;
-        first::main(rt)?;
-        run_others(&rt)?;
-        print_name(&rt, "key")?;
-        key::main(rt, &rt)?;
-        print_name(&rt, "still")?;
-        still::main(rt, &rt)?;
-        print_name(&rt, "spinner")?;
-        spinner::main(rt)?;
-        print_name(&rt, "several")?;
-        several::main(rt)?;
-        print_name(&rt, "log_bridge")?;
-        log_bridge::main(rt, &rt)?;
-        print_name(&rt, "ported")?;
-        ported::main(rt, &rt)?;
-        print_name(&rt, "reader")?;
-        reader::main(rt, &rt)?;
-        print_name(&rt, "guide")?;
-        return guide::main(rt);
-    };
-    match name.as_str() {
-        "first" => first::main(rt),
-        "key" => key::main(rt, &rt),
-        "still" => still::main(rt, &rt),
-        "spinner" => spinner::main(rt),
-        "several" => several::main(rt),
-        "log_bridge" => log_bridge::main(rt, &rt),
-        "ported" => ported::main(rt, &rt),
-        "reader" => reader::main(rt, &rt),
-        "guide" => guide::main(rt),
-        name => run(&rt, name),
+    match env::args(&rt)?.nth(1) {
+        Some(name) => run(rt, &rt, name.as_str()),
+        None => run_all(rt, &rt),
     }
 }
 
-fn print_name(rt: &HostRuntime, name: &str) -> Result<()> {
-    println!(rt; "== {name}")?;
-    Ok(())
-}
-
-/// Runs those that are lent the runtime.
-fn run_others(rt: &HostRuntime) -> Result<()> {
-    for name in [
-        "wrapped",
-        "download",
-        "fine",
-        "log",
-        "refusal",
-        "formatters",
-        "template",
-        "terminal",
-        "sizes",
-    ] {
-        print_name(rt, name)?;
-        run(rt, name)?;
+fn run_all<R: Shares + Print>(rt: R, host: &HostRuntime) -> Result<()> {
+    for name in NAMES {
+        println!(rt; "== {name}")?;
+        run(rt, host, name)?;
     }
     Ok(())
 }
 
 /// Runs the program of this name; nothing where there is none.
-fn run(rt: &HostRuntime, name: &str) -> Result<()> {
+fn run<R: Shares + Print>(rt: R, host: &HostRuntime, name: &str) -> Result<()> {
     match name {
-        "wrapped" => wrapped::main(rt),
-        "download" => download::main(rt),
-        "fine" => fine::main(rt),
-        "log" => logging::main(rt),
-        "refusal" => refusal::main(rt),
-        "formatters" => formatters::main(rt),
-        "template" => template::main(rt),
-        "terminal" => terminal::main(rt),
-        "sizes" => sizes::main(rt),
+        "first" => first::main(rt),
+        "wrapped" => wrapped::main(host),
+        "download" => download::main(host),
+        "fine" => fine::main(host),
+        "log" => logging::main(host),
+        "refusal" => refusal::main(host),
+        "formatters" => formatters::main(host),
+        "template" => template::main(host),
+        "terminal" => terminal::main(host),
+        "sizes" => sizes::main(host),
+        "key" => key::main(rt, host),
+        "still" => still::main(rt, host),
+        "spinner" => spinner::main(rt),
+        "several" => several::main(rt),
+        "log_bridge" => log_bridge::main(rt, host),
+        "ported" => ported::main(rt, host),
+        "reader" => reader::main(rt, host),
+        "guide" => guide::main(rt),
         _ => Ok(()),
     }
 }

@@ -1,12 +1,12 @@
 //! Hands standard input on to standard output, and shows on standard error how much went: `examples reader < FILE > OTHER`.
 use anyhow::Result;
 use indicatif::ProgressBar;
-use indicatif::machine::{Shares, on_stderr, style_on_stderr};
+use indicatif::machine::{Shares, StderrBar, on_stderr, style_on_stderr};
 use std::io;
 
 pub fn main<R: Shares>(rt: R, host: &HostRuntime) -> Result<()> {
     let style = style_on_stderr(host, "{spinner} {bytes} ({bytes_per_sec})")?;
-    let bar = ProgressBar::new_spinner(rt, rt.alloc(), on_stderr(host)?)?.with_style(style)?;
+    let bar: StderrBar<R> = ProgressBar::styled(rt, rt.alloc(), style, None, on_stderr(host)?)?;
     let mut reader = bar.wrap_read(host.stdin())?;
     io::copy(&mut reader, &mut host.stdout())?;
     bar.finish()?;

@@ -4,9 +4,9 @@ use anyhow::Result;
 use indicatif::machine::{Shares, StderrBar, StderrBoard, on_stderr};
 use indicatif::{MultiProgress, Refusal};
 
-fn nine_bars<R: Shares>(rt: R, board: &StderrBoard<R>) -> Result<Vec<StderrBar<R>>, Refusal> {
+fn ten_bars<R: Shares>(rt: R, board: &StderrBoard<R>) -> Result<Vec<StderrBar<R>>, Refusal> {
     let mut bars = Vec::new(rt.alloc());
-    for _ in 0..9u32 {
+    for _ in 0..10u32 {
         let bar = board.new_bar(100)?;
         bar.tick()?;
         bars.push(bar)?;
@@ -14,16 +14,21 @@ fn nine_bars<R: Shares>(rt: R, board: &StderrBoard<R>) -> Result<Vec<StderrBar<R
     Ok(bars)
 }
 
-pub fn main<R: Shares>(rt: R, host: &HostRuntime) -> Result<()> {
-    let board = MultiProgress::new(rt, rt.alloc(), on_stderr(host)?, 1)?;
-    let first = board.new_bar(100)?;
-    first.tick()?;
-    let others = nine_bars(rt, &board)?;
+fn go_on<R: Shares>(bar: &StderrBar<R>) -> Result<()> {
     for _ in 0..10u32 {
-        first.inc(1)?;
+        bar.inc(1)?;
     }
     for _ in 0..5u32 {
-        first.force_draw()?;
+        bar.force_draw()?;
     }
     Ok(())
+}
+
+pub fn main<R: Shares>(rt: R, host: &HostRuntime) -> Result<()> {
+    let board = MultiProgress::new(rt, rt.alloc(), on_stderr(host)?, 1)?;
+    let bars = ten_bars(rt, &board)?;
+    match bars.first() {
+        Some(first) => go_on(first),
+        None => Ok(()),
+    }
 }

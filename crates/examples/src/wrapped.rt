@@ -1,22 +1,27 @@
 //! Shows a loop over a list with a bar of its own: the terminal is printed after each item.
-use anyhow::{Result, anyhow};
+use crate::shown::{print, setup};
+use anyhow::Result;
 use indicatif::{
-    InMemoryTerm, ProgressDrawTarget, ProgressFinish, ProgressIterator, Setup, StepClock,
+    InMemoryTerm, NoTracker, OwnedBar, ProgressBarIter, ProgressFinish, ProgressIterator, StepClock,
 };
+use std::vec::IntoIter;
 
-pub fn main(rt: &HostRuntime) -> Result<()> {
-    let target = ProgressDrawTarget::term_like(InMemoryTerm::new(rt.alloc(), 4, 20)?);
-    let clock = StepClock { next: 0, step: 1 };
-    let list = vec![in rt.alloc(); 3u32, 4, 5]?.into_iter();
-    let wrapped = list.progress(rt.alloc(), Setup { target, clock })?;
-    let mut wrapped = Box::new(rt.alloc(), wrapped.with_finish(ProgressFinish::AndLeave))?;
+/// The list with its bar.
+type Wrapped = ProgressBarIter<IntoIter<u32>, OwnedBar<NoTracker, InMemoryTerm, StepClock>>;
+
+fn add_up(rt: &HostRuntime, list: &mut Wrapped) -> Result<()> {
     let mut sum: u32 = 0;
     for _ in 0..u64::MAX {
-        let Some(item) = wrapped.next() else { break };
+        let Some(item) = list.next() else { break };
         sum = sum.wrapping_add(item);
-        let term = wrapped.progress.bar().term().ok_or(anyhow!("no terminal"))?;
-        println!(rt; "{}", term.contents()?)?;
+        print(rt, list.progress.bar().term())?;
     }
     println!(rt; "sum {sum}")?;
     Ok(())
+}
+
+pub fn main(rt: &HostRuntime) -> Result<()> {
+    let list = vec![in rt.alloc(); 3u32, 4, 5]?.into_iter();
+    let wrapped = list.progress(rt.alloc(), setup(rt.alloc(), 4, 20)?)?;
+    add_up(rt, &mut wrapped.with_finish(ProgressFinish::AndLeave))
 }

@@ -1,7 +1,7 @@
 //! A download with its bytes, its rate and the time that is left.
 use anyhow::Result;
 use indicatif::ProgressBar;
-use indicatif::machine::{Shares, on_stderr, style_on_stderr};
+use indicatif::machine::{Shares, StderrBar, on_stderr, style_on_stderr};
 use std::thread::sleep;
 use std::time::Duration;
 
@@ -16,7 +16,8 @@ const PIECES: u64 = 104;
 
 pub fn main<R: Shares>(rt: R, host: &HostRuntime) -> Result<()> {
     let style = style_on_stderr(host, TEMPLATE)?.progress_chars("#>-")?;
-    let bar = ProgressBar::new(rt, rt.alloc(), TOTAL, on_stderr(host)?)?.with_style(style)?;
+    let setup = on_stderr(host)?;
+    let bar: StderrBar<R> = ProgressBar::styled(rt, rt.alloc(), style, Some(TOTAL), setup)?;
     for piece in 1..=PIECES {
         bar.set_position(piece.saturating_mul(PIECE).min(TOTAL))?;
         sleep(&rt, Duration::from_millis(12));
