@@ -3,27 +3,26 @@
 use anyhow::Result;
 use indicatif::MultiProgress;
 use indicatif::bridge::LogBridge;
-use indicatif::machine::{Shares, StderrBar, on_stderr};
-use log::{Level, Log, Logged, info, warn};
-use std::sync::Wait;
+use indicatif::machine::{MachineClock, Shares, StderrBar, StreamTerm, on_stderr};
+use log::{Level, Logged, info, warn};
+use std::io::Stderr;
 use std::thread::sleep;
-use std::time::{Clock, Duration};
+use std::time::Duration;
 
-fn log_copied<L: Log>(log: &L, name: &str) {
-    info!(log; "copied {name}");
-}
+type Logger<R> = Logged<R, LogBridge<StreamTerm<Stderr>, MachineClock<HostRuntime>, R>>;
 
-fn copy<R: Wait + Clock + Copy + Drop, L: Log>(
+fn copy<R: Shares>(
     rt: &R,
-    log: &L,
+    log: &Logger<R>,
     files: &StderrBar<R>,
     work: &StderrBar<R>,
 ) -> Result<()> {
     work.set_message("copying")?;
+    work.enable_steady_tick(50_000_000)?;
     for name in ["a.txt", "b.txt", "c.txt"] {
         sleep(rt, Duration::from_millis(200));
         files.inc(1)?;
-        log_copied(log, name);
+        info!(log; "copied {name}");
     }
     warn!(log; "low disk");
     work.disable_steady_tick()?;
@@ -36,7 +35,6 @@ pub fn main<R: Shares>(rt: R, host: &HostRuntime) -> Result<()> {
     let board = MultiProgress::new(rt, rt.alloc(), on_stderr(host)?, 1)?;
     let files = board.new_bar(3)?;
     let work = board.new_spinner()?;
-    work.enable_steady_tick(50_000_000)?;
     let log = Logged::new(rt, Level::Info, LogBridge::new(board.clone()?));
     copy(&rt, &log, &files, &work)
 }

@@ -247,10 +247,12 @@ fn push_calls(
 }
 
 fn push_answers(answers: Vec<Answer>, got: &mut Got) {
-    let mut parting = "";
+    let mut is_first = true;
     for answer in answers {
-        got.text(parting);
+        if !is_first {
+            got.text(" ");
+        }
         push_answer(answer, got);
-        parting = " ";
+        is_first = false;
     }
 }

@@ -18,11 +18,13 @@ pub fn parsed(rest: &str, at: At, got: &mut Got) {
 }
 
 fn push_parts(template: &Template, at: At, got: &mut Got) {
-    let mut parting = "";
+    let mut follows = false;
     for part in template.parts() {
-        got.text(parting);
+        if follows {
+            got.text(" | ");
+        }
         push_part(part, at, got);
-        parting = " | ";
+        follows = true;
     }
 }
 
